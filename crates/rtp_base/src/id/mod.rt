@@ -1,0 +1,5 @@
+//! Identifiers of streams and payloads.
+
+mod number;
+
+pub use number::{Pt, Ssrc};

@@ -1,0 +1,57 @@
+-- Words of two bytes, and a block at the front of bytes.
+use Rattle.std.proofs.Common.{◌≡◌, ℕ, ◌+◌, ◌-◌, ◌*◌, ◌<◌, ◌≤◌, List, [], ◌∷◌, ◌++◌, length, take, drop, get_or, refl, sym, ap, ◌∙◌, subst, arith, length-append, length-take, length-take-le, length-drop, add-zero}
+use Rattle.std.specs.Prelude.{slice_index, slice_range}
+use Rattle.std.proofs.lemmas.List.{get_or-take, get_or-drop, drop-take, take-take}
+use Rattle.std.specs.Int.{w16, w32, from_be_bytes}
+use Rattle.rtp_wire.specs.declared.ext.form.ExtensionsForm.{ExtensionsForm}
+use Rattle.rtp_wire.specs.Form.{IsFormWord}
+use Rattle.rtp_wire.specs.Block.{word_at, IsBlock}
+use Rattle.rtp_wire.specs.Reading.{HasBlock}
+
+-- a part of a front is that part of the whole
+pub slice_range-take : (xs : List ℕ) (a b n : ℕ) → a ≤ b → b ≤ n → slice_range (take n xs) a b ≡ slice_range xs a b
+slice_range-take xs a b n le fits =
+    let e : n ≡ a + (n - a) = omega arith in
+    let kept : drop a (take n xs) ≡ take (n - a) (drop a xs) =
+        ap (λ (k : ℕ). drop a (take k xs)) e ∙ drop-take a (n - a) xs in
+    ap (λ (ys : List ℕ). take (b - a) ys) kept ∙ take-take (b - a) (n - a) (drop a xs) (omega arith)
+
+-- a word by its two bytes
+pub word_at-cells : (bytes : List ℕ) (place : ℕ) → word_at bytes place ≡ slice_index bytes place * 256 + slice_index bytes (place + 1)
+word_at-cells bytes place =
+    let two : place + 2 - place ≡ 2 = omega arith in
+    rw (two, get_or-take 2 (drop place bytes) 0 0 (omega arith), get_or-take 2 (drop place bytes) 1 0 (omega arith), get_or-drop place bytes 0 0, get_or-drop place bytes 1 0, add-zero place) (omega arith)
+
+-- a word of four bytes by its bytes
+pub quad-cells : (bytes : List ℕ) (place : ℕ) → from_be_bytes w32 (slice_range bytes place (place + 4))
+    ≡ slice_index bytes place * 16777216 + slice_index bytes (place + 1) * 65536 + slice_index bytes (place + 2) * 256 + slice_index bytes (place + 3)
+quad-cells bytes place =
+    let four : place + 4 - place ≡ 4 = omega arith in
+    let part = drop place bytes in
+    rw (four, get_or-take 4 part 0 0 (omega arith), get_or-take 4 part 1 0 (omega arith), get_or-take 4 part 2 0 (omega arith), get_or-take 4 part 3 0 (omega arith),
+        get_or-drop place bytes 0 0, get_or-drop place bytes 1 0, get_or-drop place bytes 2 0, get_or-drop place bytes 3 0, add-zero place) (omega arith)
+
+pub word_at-take : (bytes : List ℕ) (place n : ℕ) → place + 2 ≤ n → word_at (take n bytes) place ≡ word_at bytes place
+word_at-take bytes place n fits =
+    ap (from_be_bytes w16) (slice_range-take bytes place (place + 2) n (omega arith) fits)
+
+-- a word of the first four bytes
+pub head_word : (bytes head : List ℕ) (place : ℕ) → head ≡ take 4 bytes → place + 1 < 4 → get_or head place 0 * 256 + get_or head (place + 1) 0 ≡ word_at bytes place
+head_word bytes head place is within =
+    sym (word_at-cells head place) ∙ ap (λ (xs : List ℕ). word_at xs place) is ∙ word_at-take bytes place 4 (omega arith)
+
+-- what the head says and the words that it counts are a block
+pub HasBlock-from_head : (bytes head after elements : List ℕ) (form : ExtensionsForm) (words : ℕ) → head ≡ take 4 bytes → after ≡ drop 4 bytes → 4 ≤ length bytes
+    → IsFormWord (word_at bytes 0) form → words ≡ word_at bytes 2 → 4 * words ≤ length after → elements ≡ take (4 * words) after → HasBlock bytes form elements
+HasBlock-from_head bytes head after elements form words head-is after-is long form-is words-is fits elements-is =
+    let len : length elements ≡ 4 * words = ap length elements-is ∙ length-take-le (4 * words) after fits in
+    let all : 4 + length elements ≤ length bytes = omega (arith, len, ap length after-is, length-drop 4 bytes) in
+    let n = 4 + length elements in
+    record {
+      fits = all;
+      is_block = record {
+        form_is = rw (word_at-take bytes 0 n (omega arith)) form-is;
+        words = rw (word_at-take bytes 2 n (omega arith), ← words-is) (length-take-le n bytes all ∙ ap (λ (k : ℕ). 4 + k) len);
+        elements_are = elements-is ∙ ap (take (4 * words)) after-is ∙ ap (λ (k : ℕ). take k (drop 4 bytes)) (sym len) ∙ sym (drop-take 4 (length elements) bytes);
+      };
+    }

@@ -1,0 +1,52 @@
+-- Flags of a byte, tested by a mask.
+use Rattle.std.proofs.Common.{◌≡◌, ℕ, zero, suc, ◌+◌, ◌*◌, ◌/◌, ◌%◌, ◌^◌, ◌<◌, ◌≤◌, Bool, true, false, nat_eq, eqb, bit_and, refl, sym, ap, ◌∙◌, inl, inr, arith}
+use Rattle.std.proofs.Math.Bool.{not}
+use Rattle.std.proofs.Math.Nat.{zero-mul, one-mul}
+use Rattle.std.proofs.lemmas.Bool.{cases_lt, ne_eqb}
+use Rattle.std.proofs.lemmas.Nat.{pow_pos, and_mask}
+use Rattle.std.proofs.lemmas.Nat.Bits.{and_pow, bit_at-lt}
+use Rattle.rtp_wire.specs.Header.{bit, IsFirstByte, IsSecondByte}
+
+-- one digit of base 2, by its test
+bit-digit : (digit worth : ℕ) → digit < 2 → 0 < worth → bit (not (nat_eq (digit * worth) 0)) ≡ digit
+bit-digit zero worth small above = rw (zero-mul worth) refl
+bit-digit (suc zero) worth small above = rw (one-mul worth, ne_eqb worth 0 (λ e. absurd (omega arith))) refl
+bit-digit (suc (suc digit)) worth small above = absurd (omega arith)
+
+-- a test by a mask of one bit gives that bit
+bit-mask : (n k : ℕ) → bit (not (nat_eq (bit_and n (2 ^ k)) 0)) ≡ n / 2 ^ k % 2
+bit-mask n k = ap (λ m. bit (not (nat_eq m 0))) (and_pow n k) ∙ bit-digit (n / 2 ^ k % 2) (2 ^ k) (bit_at-lt n k) (pow_pos k)
+
+-- the flags of a byte of version 2 are those that the masks test
+pub IsFirstByte-from_masks : (byte count : ℕ) → byte < 256 → byte / 64 ≡ 2 → count ≡ bit_and byte 15
+    → IsFirstByte byte (not (nat_eq (bit_and byte 32) 0)) (not (nat_eq (bit_and byte 16) 0)) count
+IsFirstByte-from_masks byte count fits version is =
+    let padding : bit (not (nat_eq (bit_and byte 32) 0)) ≡ byte / 32 % 2 = bit-mask byte 5 in
+    let extension : bit (not (nat_eq (bit_and byte 16) 0)) ≡ byte / 16 % 2 = bit-mask byte 4 in
+    let low : bit_and byte 15 ≡ byte % 16 = and_mask byte 4 in
+    record { sum = rw (padding, extension) (omega arith); few = omega arith }
+
+-- a bit is one flag's
+pub bit-once : (a b : Bool) → bit a ≡ bit b → a ≡ b
+bit-once false false e = refl
+bit-once false true e = absurd (omega arith)
+bit-once true false e = absurd (omega arith)
+bit-once true true e = refl
+
+-- the fields of a first byte, from the byte
+pub record HasFlags (byte : ℕ) (padding extension : Bool) (count : ℕ) : Type 0 where
+  pub version_is : byte / 64 ≡ 2
+  pub padding_is : bit padding ≡ byte / 32 % 2
+  pub extension_is : bit extension ≡ byte / 16 % 2
+  pub count_is : count ≡ byte % 16
+
+pub flags_from_first : (byte : ℕ) (padding extension : Bool) (count : ℕ) → IsFirstByte byte padding extension count → HasFlags byte padding extension count
+flags_from_first byte false false count is = let sum = is.sum in let few = is.few in record { version_is = omega arith; padding_is = omega arith; extension_is = omega arith; count_is = omega arith }
+flags_from_first byte false true count is = let sum = is.sum in let few = is.few in record { version_is = omega arith; padding_is = omega arith; extension_is = omega arith; count_is = omega arith }
+flags_from_first byte true false count is = let sum = is.sum in let few = is.few in record { version_is = omega arith; padding_is = omega arith; extension_is = omega arith; count_is = omega arith }
+flags_from_first byte true true count is = let sum = is.sum in let few = is.few in record { version_is = omega arith; padding_is = omega arith; extension_is = omega arith; count_is = omega arith }
+
+-- the fields of a second byte, from the byte
+pub fields_from_second : (byte : ℕ) (marker : Bool) (payload_type : ℕ) → IsSecondByte byte marker payload_type → (bit marker ≡ byte / 128) × (payload_type ≡ byte % 128)
+fields_from_second byte false payload_type is = let sum = is.sum in let few = is.few in (omega arith, omega arith)
+fields_from_second byte true payload_type is = let sum = is.sum in let few = is.few in (omega arith, omega arith)

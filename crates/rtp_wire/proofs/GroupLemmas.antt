@@ -1,0 +1,61 @@
+-- Groups of four bytes, one after the other.
+use Rattle.std.proofs.Common.{◌≡◌, ℕ, zero, suc, ◌+◌, ◌-◌, ◌*◌, ◌<◌, ◌≤◌, List, [], ◌∷◌, ◌++◌, length, map, replicate, get_or, set, take, drop, refl, sym, ap, ◌∙◌, append_assoc, length-append, length-drop, length-take, length-take-le, take_at, drop_at, take-add, arith}
+use Rattle.std.proofs.lemmas.List.{length-map, set_at, map_more, take-take, drop-take}
+use Rattle.std.specs.List.{concat, AllByRecursion}
+use Rattle.std.specs.Simd.{first_chunks}
+
+-- each group has four bytes
+abbrev pub AreFours : List (List ℕ) → Type 0
+AreFours groups = AllByRecursion (λ group. length group ≡ 4) groups
+
+fours : (k : ℕ) → 4 * suc k ≡ 4 + 4 * k
+fours k = omega arith
+
+pub concat-first_chunks : (k : ℕ) (xs : List ℕ) → concat (first_chunks 4 k xs) ≡ take (4 * k) xs
+concat-first_chunks zero xs = refl
+concat-first_chunks (suc k) xs =
+    ap (λ (ys : List ℕ). take 4 xs ++ ys) (concat-first_chunks k (drop 4 xs))
+    ∙ sym (take-add 4 (4 * k) xs) ∙ ap (λ (n : ℕ). take n xs) (sym (fours k))
+
+pub length-first_chunks : (k : ℕ) (xs : List ℕ) → length (first_chunks 4 k xs) ≡ k
+length-first_chunks zero xs = refl
+length-first_chunks (suc k) xs = ap suc (length-first_chunks k (drop 4 xs))
+
+pub AreFours-first_chunks : (k : ℕ) (xs : List ℕ) → 4 * k ≤ length xs → AreFours (first_chunks 4 k xs)
+AreFours-first_chunks zero xs fits = tt
+AreFours-first_chunks (suc k) xs fits =
+    (omega (arith, length-take 4 xs), AreFours-first_chunks k (drop 4 xs) (omega (arith, length-drop 4 xs)))
+
+pub length-concat : (groups : List (List ℕ)) → AreFours groups → length (concat groups) ≡ 4 * length groups
+length-concat [] four = refl
+length-concat (g ∷ gs) four = omega (arith, length-append g (concat gs), length-concat gs four.1, four.0)
+
+pub first_chunks-concat : (groups : List (List ℕ)) (rest : List ℕ) → AreFours groups → first_chunks 4 (length groups) (concat groups ++ rest) ≡ groups
+first_chunks-concat [] rest four = refl
+first_chunks-concat (g ∷ gs) rest four =
+    ap (λ (bytes : List ℕ). first_chunks 4 (suc (length gs)) bytes) (append_assoc g (concat gs) rest)
+    ∙ rw (take_at g (concat gs ++ rest) 4 four.0, drop_at g (concat gs ++ rest) 4 four.0)
+        (ap (λ (found : List (List ℕ)). g ∷ found) (first_chunks-concat gs rest four.1))
+
+-- one group more: its number goes into the first of the slots that are still zero
+pub set_slot : (f : List ℕ → ℕ) (groups : List (List ℕ)) (slots : List ℕ) (i n number : ℕ) → i < length groups → i < n
+    → number ≡ f (get_or groups i []) → slots ≡ map f (take i groups) ++ replicate (n - i) 0
+    → set slots i number ≡ map f (take (i + 1) groups) ++ replicate (n - (i + 1)) 0
+set_slot f groups slots i n number within room is so_far =
+    let front = map f (take i groups) in
+    let len : length front ≡ i = length-map (take i groups) f ∙ length-take-le i groups (omega arith) in
+    let free : replicate (n - i) 0 ≡ 0 ∷ replicate (n - (i + 1)) 0 =
+        let one : n - i ≡ suc (n - (i + 1)) = omega arith in ap (λ (k : ℕ). replicate k 0) one in
+    ap (λ (xs : List ℕ). set xs i number) (so_far ∙ ap (λ (ys : List ℕ). front ++ ys) free)
+    ∙ set_at front 0 (replicate (n - (i + 1)) 0) number i len
+    ∙ sym (append_assoc front (number ∷ []) (replicate (n - (i + 1)) 0))
+    ∙ ap (λ (xs : List ℕ). xs ++ replicate (n - (i + 1)) 0)
+        (ap (λ (v : ℕ). front ++ v ∷ []) is ∙ sym (map_more f groups i [] within))
+
+-- the groups of a front are those of the whole
+pub first_chunks-take : (k : ℕ) (xs : List ℕ) → first_chunks 4 k (take (4 * k) xs) ≡ first_chunks 4 k xs
+first_chunks-take zero xs = refl
+first_chunks-take (suc k) xs =
+    ap (λ (n : ℕ). first_chunks 4 (suc k) (take n xs)) (fours k)
+    ∙ rw (take-take 4 (4 + 4 * k) xs (omega arith), drop-take 4 (4 * k) xs)
+        (ap (λ (groups : List (List ℕ)). take 4 xs ∷ groups) (first_chunks-take k (drop 4 xs)))

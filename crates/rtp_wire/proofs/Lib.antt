@@ -1,0 +1,6 @@
+mod FlagLemmas
+mod GroupLemmas
+mod BlockLemmas
+mod HeaderLemmas
+mod PlaceLemmas
+mod ParseLemmas

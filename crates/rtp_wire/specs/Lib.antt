@@ -1,0 +1,8 @@
+-- What contracts rest on, from the bytes up.
+pub mod Form
+pub mod Values
+pub mod Block
+pub mod Header
+pub mod Refusal
+-- What the inside promises itself.
+pub mod Reading
