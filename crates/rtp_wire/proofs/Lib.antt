@@ -4,3 +4,5 @@ mod BlockLemmas
 mod HeaderLemmas
 mod PlaceLemmas
 mod ParseLemmas
+mod PlacingLemmas
+mod RoundTrip

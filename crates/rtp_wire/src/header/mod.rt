@@ -2,5 +2,6 @@
 
 mod parsing;
 mod rtp_header;
+mod writing;
 
 pub use rtp_header::RtpHeader;

@@ -1,0 +1,69 @@
+-- Bytes that are put into a buffer one behind the other.
+use Rattle.std.proofs.Common.{◌≡◌, ℕ, ◌+◌, ◌-◌, ◌*◌, ◌<◌, ◌≤◌, List, [], ◌∷◌, ◌++◌, length, take, drop, get_or, refl, sym, ap, ◌∙◌, arith, append_assoc, length-append, length-take-le, length-drop, take_at, drop_at, add-zero, zero-add}
+use Rattle.std.specs.List.{flat_map}
+use Rattle.std.specs.Int.{w32, to_be_bytes}
+use Rattle.std.proofs.lemmas.List.{append-nil, take-append-drop, drop-drop, take_more}
+use Rattle.std.proofs.lemmas.List.Concat.{flat_map-append}
+use Rattle.rtp_wire.specs.Placing.{placed}
+
+-- what `copy_from_slice` into a part leaves
+pub placed-copied : (buf bytes : List ℕ) (at : ℕ) → take at buf ++ (bytes ++ drop (at + length bytes - at) (drop at buf)) ≡ placed buf at bytes
+unfolding placed
+placed-copied buf bytes at =
+    let len : at + length bytes - at ≡ length bytes = omega arith in
+    ap (λ (rest : List ℕ). take at buf ++ (bytes ++ rest))
+        (ap (λ (k : ℕ). drop k (drop at buf)) len ∙ drop-drop (length bytes) at buf)
+
+pub length-placed : (buf bytes : List ℕ) (at : ℕ) → at + length bytes ≤ length buf → length (placed buf at bytes) ≡ length buf
+unfolding placed
+length-placed buf bytes at fits =
+    omega (arith, length-append (take at buf) (bytes ++ drop (at + length bytes) buf), length-append bytes (drop (at + length bytes) buf),
+      length-take-le at buf (omega arith), length-drop (at + length bytes) buf)
+
+pub placed-nil : (buf : List ℕ) (at : ℕ) → placed buf at [] ≡ buf
+unfolding placed
+placed-nil buf at = rw (add-zero at) (take-append-drop at buf)
+
+-- from the front on
+pub placed-front : (buf bytes : List ℕ) → placed buf 0 bytes ≡ bytes ++ drop (length bytes) buf
+unfolding placed
+placed-front buf bytes = rw (zero-add (length bytes)) refl
+
+-- two pieces in a row are one
+pub placed-placed : (buf xs ys : List ℕ) (at end : ℕ) → end ≡ at + length xs → end ≤ length buf → placed (placed buf at xs) end ys ≡ placed buf at (xs ++ ys)
+unfolding placed
+placed-placed buf xs ys at end is fits =
+    let front = take at buf ++ xs in
+    let rest = drop (at + length xs) buf in
+    let len : length front ≡ end = omega (arith, length-append (take at buf) xs, length-take-le at buf (omega arith)) in
+    let parts : take at buf ++ (xs ++ rest) ≡ front ++ rest = sym (append_assoc (take at buf) xs rest) in
+    let kept : take end (take at buf ++ (xs ++ rest)) ≡ front = ap (λ (zs : List ℕ). take end zs) parts ∙ take_at front rest end len in
+    let left : drop (end + length ys) (take at buf ++ (xs ++ rest)) ≡ drop (at + length (xs ++ ys)) buf =
+        sym (drop-drop (length ys) end (take at buf ++ (xs ++ rest)))
+        ∙ ap (λ (zs : List ℕ). drop (length ys) zs) (ap (λ (zs : List ℕ). drop end zs) parts ∙ drop_at front rest end len)
+        ∙ drop-drop (length ys) (at + length xs) buf
+        ∙ ap (λ (k : ℕ). drop k buf) (omega (arith, length-append xs ys)) in
+    ap (λ (zs : List ℕ). zs ++ (ys ++ drop (end + length ys) (take at buf ++ (xs ++ rest)))) kept
+    ∙ ap (λ (zs : List ℕ). front ++ (ys ++ zs)) left
+    ∙ append_assoc (take at buf) xs (ys ++ drop (at + length (xs ++ ys)) buf)
+    ∙ ap (λ (zs : List ℕ). take at buf ++ zs) (sym (append_assoc xs ys (drop (at + length (xs ++ ys)) buf)))
+
+-- the bytes of one number more
+pub flat_map-take_more : (f : ℕ → List ℕ) (xs : List ℕ) (i : ℕ) → i < length xs → flat_map f (take (i + 1) xs) ≡ flat_map f (take i xs) ++ f (get_or xs i 0)
+flat_map-take_more f xs i within =
+    ap (flat_map f) (take_more xs i 0 within) ∙ flat_map-append f (take i xs) (get_or xs i 0 ∷ [])
+    ∙ ap (λ (ys : List ℕ). flat_map f (take i xs) ++ ys) (append-nil (f (get_or xs i 0)))
+
+pub length-numbers : (xs : List ℕ) → length (flat_map (to_be_bytes w32) xs) ≡ 4 * length xs
+length-numbers [] = refl
+length-numbers (x ∷ xs) = omega (arith, length-append (to_be_bytes w32 x) (flat_map (to_be_bytes w32) xs), length-numbers xs)
+
+-- three pieces from the front on
+pub placed-three : (buf xs ys zs : List ℕ) (first second : ℕ) → first ≡ length xs → second ≡ first + length ys → second ≤ length buf
+    → placed (placed (placed buf 0 xs) first ys) second zs ≡ (xs ++ (ys ++ zs)) ++ drop (length (xs ++ (ys ++ zs))) buf
+placed-three buf xs ys zs first second first-is second-is fits =
+    let one : first ≡ 0 + length xs = omega arith in
+    let two : second ≡ 0 + length (xs ++ ys) = omega (arith, length-append xs ys) in
+    ap (λ (bytes : List ℕ). placed bytes second zs) (placed-placed buf xs ys 0 first one (omega arith))
+    ∙ placed-placed buf (xs ++ ys) zs 0 second two fits
+    ∙ ap (placed buf 0) (append_assoc xs ys zs) ∙ placed-front buf (xs ++ (ys ++ zs))
