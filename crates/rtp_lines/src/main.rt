@@ -1,0 +1,117 @@
+//! Prints the RTP headers of datagrams, each a line of hexadecimal on standard input.
+#![tactic(auto)]
+
+mod input;
+mod report;
+
+use input::Refusal;
+use report::HeaderLine;
+use rtp_wire::{ExtensionMap, RtpHeader};
+use std::alloc::{AllocError, Global};
+use std::io;
+use std::io::{BufWriter, ErrorKind, Read, Write};
+use std::process::ExitCode;
+
+/// How a run of the program ended.
+#[derive(Clone, Copy, Debug, PartialEq, Eq)]
+pub enum RunEnd {
+    /// Every line was a datagram, and was reported.
+    Done,
+    /// A line was none, and the output names the first such line.
+    BadLine,
+    /// Memory was refused, which is the last line of the output.
+    NoMemory,
+    /// A read or a write failed.
+    Io,
+}
+
+impl RunEnd {
+    // The exit status of the program.
+    fn status(self) -> u8 {
+        match self {
+            RunEnd::Done => 0,
+            RunEnd::Io => 1,
+            RunEnd::BadLine => 2,
+            RunEnd::NoMemory => 3,
+        }
+    }
+}
+
+impl From<AllocError> for RunEnd {
+    fn from(_: AllocError) -> Self {
+        RunEnd::NoMemory
+    }
+}
+
+// The end of a run whose read failed.
+fn unread(error: io::Error) -> RunEnd {
+    match error.kind() {
+        ErrorKind::OutOfMemory => RunEnd::NoMemory,
+        _ => RunEnd::Io,
+    }
+}
+
+// The end of a run whose write failed.
+fn unwritten(_: io::Error) -> RunEnd {
+    RunEnd::Io
+}
+
+// All that is left to read.
+fn read_all<R: Read>(alloc: Global, input: &mut R) -> Result<Vec<u8>, RunEnd> {
+    let mut text = Vec::new(alloc);
+    input.read_to_end(&mut text).map_err(unread)?;
+    Ok(text)
+}
+
+// Reports each datagram in order.
+fn report_all<W: Write>(
+    alloc: Global,
+    datagrams: &[Vec<u8>],
+    output: &mut W,
+) -> Result<(), RunEnd> {
+    let exts = ExtensionMap::empty();
+    let mut lines = BufWriter::new(alloc, output).map_err(|_| RunEnd::NoMemory)?;
+    for (index, datagram) in datagrams.iter().enumerate() {
+        let header = RtpHeader::parse(alloc, datagram, &exts)?;
+        let line = HeaderLine {
+            packet: index as u64 + 1,
+            header: header.as_ref(),
+        };
+        writeln!(lines, "{line}").map_err(unwritten)?;
+    }
+    lines.flush().map_err(unwritten)
+}
+
+// Reads all lines, and then reports them all, or the first that is refused.
+fn report_input<R: Read, W: Write>(
+    alloc: Global,
+    input: &mut R,
+    output: &mut W,
+) -> Result<(), RunEnd> {
+    let text = read_all(alloc, input)?;
+    match input::datagrams(alloc, &text) {
+        Ok(datagrams) => report_all(alloc, &datagrams, output),
+        Err(Refusal::NoMemory) => Err(RunEnd::NoMemory),
+        Err(Refusal::BadLine(number)) => {
+            writeln!(output, "line {number}: neither a map line nor hex").map_err(unwritten)?;
+            Err(RunEnd::BadLine)
+        }
+    }
+}
+
+/// Reads all input, and prints the header of each datagram.
+pub fn run<R: Read, W: Write>(alloc: Global, input: &mut R, output: &mut W) -> RunEnd {
+    match report_input(alloc, input, output) {
+        Ok(()) => RunEnd::Done,
+        Err(RunEnd::NoMemory) => match writeln!(output, "want of memory") {
+            Ok(()) => RunEnd::NoMemory,
+            Err(_) => RunEnd::Io,
+        },
+        Err(end) => end,
+    }
+}
+
+fn main(rt: HostRuntime) -> ExitCode {
+    let end = run(rt.alloc(), &mut rt.stdin(), &mut rt.stdout());
+    ExitCode::from(end.status())
+}

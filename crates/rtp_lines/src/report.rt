@@ -1,0 +1,50 @@
+//! The lines that are printed.
+
+use rtp_wire::RtpHeader;
+use std::fmt;
+
+/// What is printed of one datagram: its header, or that it has none.
+#[derive(Drop)]
+pub struct HeaderLine<'a> {
+    /// Which datagram it is, from 1.
+    pub packet: u64,
+    pub header: Option<&'a RtpHeader>,
+}
+
+// How a flag is printed.
+fn yes_or_no(flag: bool) -> &'static str {
+    if flag { "yes" } else { "no" }
+}
+
+// The fields that every header has, up to the source.
+fn write_stream<W: fmt::Write>(header: &RtpHeader, f: &mut fmt::Formatter<W>) -> fmt::Result {
+    let payload_type = header.payload_type;
+    let number = header.sequence_number;
+    let timestamp = header.timestamp;
+    let ssrc = header.ssrc;
+    write!(f, "pt {payload_type} seq {number} ts {timestamp} ssrc {ssrc}")
+}
+
+// The flags and the lengths.
+fn write_shape<W: fmt::Write>(header: &RtpHeader, f: &mut fmt::Formatter<W>) -> fmt::Result {
+    let marker = yes_or_no(header.marker);
+    let padding = yes_or_no(header.has_padding);
+    let extension = yes_or_no(header.has_extension);
+    let sources = header.csrc_count;
+    let len = header.header_len;
+    write!(f, " marker {marker} padding {padding} extension {extension} csrc {sources} header {len}")
+}
+
+impl fmt::Display for HeaderLine<'_> {
+    fn fmt<W: fmt::Write>(&self, f: &mut fmt::Formatter<W>) -> fmt::Result {
+        let packet = self.packet;
+        write!(f, "packet {packet}: ")?;
+        match self.header {
+            None => f.write_str("unreadable"),
+            Some(header) => {
+                write_stream(header, f)?;
+                write_shape(header, f)
+            }
+        }
+    }
+}
