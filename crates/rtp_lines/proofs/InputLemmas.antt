@@ -24,10 +24,10 @@ SoFar-more text rest after line bytes datagrams number first shorter decoded so_
   done = so_far.done ++ line ∷ [];
   in_order = so_far.in_order ∙ ap (λ (ls : List (List ℕ)). so_far.done ++ ls) first ∙ sym (append_assoc so_far.done (line ∷ []) (lines after));
   spelled =
-    map_push decode_of so_far.done line
-    ∙ ap (λ (rs : List (Result (List ℕ) FromHexError)). rs ++ decode_of line ∷ []) so_far.spelled
-    ∙ ap (λ (r : Result (List ℕ) FromHexError). map Ok datagrams ++ r ∷ []) decoded
-    ∙ sym (map_push Ok datagrams bytes);
+      map_push decode_of so_far.done line
+      ∙ ap (λ (rs : List (Result (List ℕ) FromHexError)). rs ++ decode_of line ∷ []) so_far.spelled
+      ∙ ap (λ (r : Result (List ℕ) FromHexError). map Ok datagrams ++ r ∷ []) decoded
+      ∙ sym (map_push Ok datagrams bytes);
   number_is = omega (arith, so_far.number_is, length_push so_far.done line);
   fits = let fits = so_far.fits in omega arith;
 }
@@ -46,7 +46,7 @@ IsOk-done : (done datagrams : List (List ℕ)) (k : ℕ) → k < length done →
 IsOk-done done datagrams k within spelled =
     let fits : k < length datagrams = omega (arith, sym (length-map done decode_of) ∙ ap length spelled ∙ length-map datagrams Ok) in
     subst IsOk (sym (sym (get_or-map decode_of done k [] (Ok []) within) ∙ ap (λ (rs : List (Result (List ℕ) FromHexError)). get_or rs k (Ok [])) spelled
-        ∙ get_or-map Ok datagrams k [] (Ok []) fits)) refl
+    ∙ get_or-map Ok datagrams k [] (Ok []) fits)) refl
 
 pub IsFirstBadLine-here : (text rest after line : List ℕ) (datagrams : List (List ℕ)) (number : ℕ) → lines rest ≡ line ∷ lines after
     → ((bytes : List ℕ) → decode_of line ≡ Ok bytes → ⊥) → SoFar text rest datagrams number → IsFirstBadLine text (number + 1)
@@ -57,11 +57,11 @@ IsFirstBadLine-here text rest after line datagrams number first bad so_far =
       number_is = refl;
       within = omega (arith, ap length all, length-append so_far.done (line ∷ lines after), so_far.number_is);
       bad = subst (λ (l : List ℕ). IsErr (decode_of l))
-        (sym (ap (λ (ls : List (List ℕ)). get_or ls number []) all ∙ get_or_at so_far.done line (lines after) [] number (sym so_far.number_is)))
-        (IsErr-from (decode_of line) bad);
+          (sym (ap (λ (ls : List (List ℕ)). get_or ls number []) all ∙ get_or_at so_far.done line (lines after) [] number (sym so_far.number_is)))
+          (IsErr-from (decode_of line) bad);
       good_before = λ k below.
-        let here : k < length so_far.done = omega (arith, so_far.number_is) in
-        subst (λ (l : List ℕ). IsOk (decode_of l))
+          let here : k < length so_far.done = omega (arith, so_far.number_is) in
+          subst (λ (l : List ℕ). IsOk (decode_of l))
           (sym (ap (λ (ls : List (List ℕ)). get_or ls k []) all ∙ get_or_append_left so_far.done (line ∷ lines after) [] k here))
           (IsOk-done so_far.done datagrams k here so_far.spelled);
     }

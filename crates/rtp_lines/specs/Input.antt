@@ -14,3 +14,11 @@ pub record IsFirstBadLine (text : List ℕ) (number : ℕ) : Type 0 where
   pub within : before < length (lines text)
   pub bad : IsErr (decode_of (slice_index_or (lines text) before []))
   pub good_before : (k : ℕ) → k < before → IsOk (decode_of (slice_index_or (lines text) k []))
+
+-- every line is hexadecimal
+abbrev pub IsHex : List ℕ → Type 0
+IsHex text = (datagrams : List (List ℕ)) × Spells text datagrams
+
+-- some line is not
+abbrev pub HasBadLine : List ℕ → Type 0
+HasBadLine text = (number : ℕ) × IsFirstBadLine text number

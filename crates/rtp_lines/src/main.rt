@@ -1,8 +1,14 @@
 //! Prints the RTP headers of datagrams, each a line of hexadecimal on standard input.
 #![tactic(auto)]
 
+ghost use Rattle.std.specs.Prelude.{◌≡◌, ◌≢◌, ◌⊎◌, List, ℕ, IfOk, IfErr, IfSome, OnOk};
+ghost use Rattle.rtp_lines.specs.Input.{IsHex, HasBadLine};
+ghost use Rattle.rtp_lines.specs.declared.RunEnd.TheVariants.{NoMemory};
+
 mod input;
 mod report;
+#[cfg(test)]
+mod tests;
 
 use input::Refusal;
 use report::HeaderLine;
@@ -38,13 +44,17 @@ impl RunEnd {
 }
 
 impl From<AllocError> for RunEnd {
+    ghost from_gives = { λ _ end. end ≡ NoMemory };
+
     fn from(_: AllocError) -> Self {
         RunEnd::NoMemory
     }
 }
 
 // The end of a run whose read failed.
-fn unread(error: io::Error) -> RunEnd {
+fn unread(error: io::Error) -> RunEnd
+    ensures { (result ≡ RunEnd.NoMemory) ⊎ (result ≡ RunEnd.Io) }
+{
     match error.kind() {
         ErrorKind::OutOfMemory => RunEnd::NoMemory,
         _ => RunEnd::Io,
@@ -52,23 +62,26 @@ fn unread(error: io::Error) -> RunEnd {
 }
 
 // The end of a run whose write failed.
-fn unwritten(_: io::Error) -> RunEnd {
+fn unwritten(_: io::Error) -> RunEnd
+    ensures { result ≡ RunEnd.Io }
+{
     RunEnd::Io
 }
 
 // All that is left to read.
-fn read_all<R: Read>(alloc: Global, input: &mut R) -> Result<Vec<u8>, RunEnd> {
+fn read_all<R: Read>(alloc: Global, input: &mut R) -> Result<Vec<u8>, RunEnd>
+    ensures text { IfOk result (λ text. IfSome (R.remaining input.old) (λ known. text.items ≡ known)) }
+    ensures failed { IfErr result (λ end. (end ≡ RunEnd.NoMemory) ⊎ (end ≡ RunEnd.Io)) }
+{
     let mut text = Vec::new(alloc);
     input.read_to_end(&mut text).map_err(unread)?;
     Ok(text)
 }
 
 // Reports each datagram in order.
-fn report_all<W: Write>(
-    alloc: Global,
-    datagrams: &[Vec<u8>],
-    output: &mut W,
-) -> Result<(), RunEnd> {
+fn report_all<W: Write>(alloc: Global, datagrams: &[Vec<u8>], output: &mut W) -> Result<(), RunEnd>
+    ensures { IfErr result (λ end. (end ≡ RunEnd.NoMemory) ⊎ (end ≡ RunEnd.Io)) }
+{
     let exts = ExtensionMap::empty();
     let mut lines = BufWriter::new(alloc, output).map_err(|_| RunEnd::NoMemory)?;
     for (index, datagram) in datagrams.iter().enumerate() {
@@ -87,7 +100,12 @@ fn report_input<R: Read, W: Write>(
     alloc: Global,
     input: &mut R,
     output: &mut W,
-) -> Result<(), RunEnd> {
+) -> Result<(), RunEnd>
+    ensures done { OnOk result (IfSome (R.remaining input.old) IsHex) }
+    ensures failed { IfErr result (λ end. end ≢ RunEnd.Done) }
+    ensures bad_line { IfErr result (λ end. end ≡ RunEnd.BadLine →
+        IfSome (R.remaining input.old) HasBadLine) }
+{
     let text = read_all(alloc, input)?;
     match input::datagrams(alloc, &text) {
         Ok(datagrams) => report_all(alloc, &datagrams, output),
@@ -99,8 +117,18 @@ fn report_input<R: Read, W: Write>(
     }
 }
 
-/// Reads all input, and prints the header of each datagram.
-pub fn run<R: Read, W: Write>(alloc: Global, input: &mut R, output: &mut W) -> RunEnd {
+/// Reads all input, and prints a line for each datagram in order: its header, or that it has none.
+/// A line of the input ends with LF or CR LF, and is a datagram in hexadecimal of either case; an
+/// empty one is the empty datagram.
+///
+/// The first line that is not hexadecimal is named by the whole output. Where memory is refused the
+/// output ends in a line that says so, behind whole lines of what would have been printed. A failed
+/// read prints nothing, and before a failed write stands a beginning of what would have been printed.
+pub fn run<R: Read, W: Write>(alloc: Global, input: &mut R, output: &mut W) -> RunEnd
+    // Where it is known what the reader gives.
+    ensures done { result ≡ RunEnd.Done → IfSome (R.remaining input.old) IsHex }
+    ensures bad_line { result ≡ RunEnd.BadLine → IfSome (R.remaining input.old) HasBadLine }
+{
     match report_input(alloc, input, output) {
         Ok(()) => RunEnd::Done,
         Err(RunEnd::NoMemory) => match writeln!(output, "want of memory") {

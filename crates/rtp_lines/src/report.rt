@@ -22,7 +22,10 @@ fn write_stream<W: fmt::Write>(header: &RtpHeader, f: &mut fmt::Formatter<W>) ->
     let number = header.sequence_number;
     let timestamp = header.timestamp;
     let ssrc = header.ssrc;
-    write!(f, "pt {payload_type} seq {number} ts {timestamp} ssrc {ssrc}")
+    write!(
+        f,
+        "pt {payload_type} seq {number} ts {timestamp} ssrc {ssrc}"
+    )
 }
 
 // The flags and the lengths.
@@ -32,7 +35,10 @@ fn write_shape<W: fmt::Write>(header: &RtpHeader, f: &mut fmt::Formatter<W>) -> 
     let extension = yes_or_no(header.has_extension);
     let sources = header.csrc_count;
     let len = header.header_len;
-    write!(f, " marker {marker} padding {padding} extension {extension} csrc {sources} header {len}")
+    write!(
+        f,
+        " marker {marker} padding {padding} extension {extension} csrc {sources} header {len}"
+    )
 }
 
 impl fmt::Display for HeaderLine<'_> {

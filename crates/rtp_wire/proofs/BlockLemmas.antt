@@ -1,11 +1,11 @@
 -- Words of two bytes, and a block at the front of bytes.
-use Rattle.std.proofs.Common.{◌≡◌, ℕ, ◌+◌, ◌-◌, ◌*◌, ◌<◌, ◌≤◌, List, [], ◌∷◌, ◌++◌, length, take, drop, get_or, refl, sym, ap, ◌∙◌, subst, arith, length-append, length-take, length-take-le, length-drop, add-zero}
+use Rattle.std.proofs.Common.{◌≡◌, ℕ, ◌+◌, ◌-◌, ◌*◌, ◌<◌, ◌≤◌, List, length, take, drop, get_or, sym, ap, ◌∙◌, arith, length-take-le, length-drop, add-zero}
 use Rattle.std.specs.Prelude.{slice_index, slice_range}
 use Rattle.std.proofs.lemmas.List.{get_or-take, get_or-drop, drop-take, take-take}
 use Rattle.std.specs.Int.{w16, w32, from_be_bytes}
 use Rattle.rtp_wire.specs.declared.ext.form.ExtensionsForm.{ExtensionsForm}
 use Rattle.rtp_wire.specs.Form.{IsFormWord}
-use Rattle.rtp_wire.specs.Block.{word_at, IsBlock}
+use Rattle.rtp_wire.specs.Block.{word_at}
 use Rattle.rtp_wire.specs.Reading.{HasBlock}
 
 -- a part of a front is that part of the whole
@@ -13,7 +13,7 @@ pub slice_range-take : (xs : List ℕ) (a b n : ℕ) → a ≤ b → b ≤ n →
 slice_range-take xs a b n le fits =
     let e : n ≡ a + (n - a) = omega arith in
     let kept : drop a (take n xs) ≡ take (n - a) (drop a xs) =
-        ap (λ (k : ℕ). drop a (take k xs)) e ∙ drop-take a (n - a) xs in
+    ap (λ (k : ℕ). drop a (take k xs)) e ∙ drop-take a (n - a) xs in
     ap (λ (ys : List ℕ). take (b - a) ys) kept ∙ take-take (b - a) (n - a) (drop a xs) (omega arith)
 
 -- a word by its two bytes
@@ -28,8 +28,18 @@ pub quad-cells : (bytes : List ℕ) (place : ℕ) → from_be_bytes w32 (slice_r
 quad-cells bytes place =
     let four : place + 4 - place ≡ 4 = omega arith in
     let part = drop place bytes in
-    rw (four, get_or-take 4 part 0 0 (omega arith), get_or-take 4 part 1 0 (omega arith), get_or-take 4 part 2 0 (omega arith), get_or-take 4 part 3 0 (omega arith),
-        get_or-drop place bytes 0 0, get_or-drop place bytes 1 0, get_or-drop place bytes 2 0, get_or-drop place bytes 3 0, add-zero place) (omega arith)
+    rw (
+      four,
+      get_or-take 4 part 0 0 (omega arith),
+      get_or-take 4 part 1 0 (omega arith),
+      get_or-take 4 part 2 0 (omega arith),
+      get_or-take 4 part 3 0 (omega arith),
+      get_or-drop place bytes 0 0,
+      get_or-drop place bytes 1 0,
+      get_or-drop place bytes 2 0,
+      get_or-drop place bytes 3 0,
+      add-zero place,
+    ) (omega arith)
 
 pub word_at-take : (bytes : List ℕ) (place n : ℕ) → place + 2 ≤ n → word_at (take n bytes) place ≡ word_at bytes place
 word_at-take bytes place n fits =

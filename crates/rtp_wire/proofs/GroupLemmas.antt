@@ -35,7 +35,7 @@ first_chunks-concat [] rest four = refl
 first_chunks-concat (g ∷ gs) rest four =
     ap (λ (bytes : List ℕ). first_chunks 4 (suc (length gs)) bytes) (append_assoc g (concat gs) rest)
     ∙ rw (take_at g (concat gs ++ rest) 4 four.0, drop_at g (concat gs ++ rest) 4 four.0)
-        (ap (λ (found : List (List ℕ)). g ∷ found) (first_chunks-concat gs rest four.1))
+    (ap (λ (found : List (List ℕ)). g ∷ found) (first_chunks-concat gs rest four.1))
 
 -- one group more: its number goes into the first of the slots that are still zero
 pub set_slot : (f : List ℕ → ℕ) (groups : List (List ℕ)) (slots : List ℕ) (i n number : ℕ) → i < length groups → i < n
@@ -45,12 +45,12 @@ set_slot f groups slots i n number within room is so_far =
     let front = map f (take i groups) in
     let len : length front ≡ i = length-map (take i groups) f ∙ length-take-le i groups (omega arith) in
     let free : replicate (n - i) 0 ≡ 0 ∷ replicate (n - (i + 1)) 0 =
-        let one : n - i ≡ suc (n - (i + 1)) = omega arith in ap (λ (k : ℕ). replicate k 0) one in
+    let one : n - i ≡ suc (n - (i + 1)) = omega arith in ap (λ (k : ℕ). replicate k 0) one in
     ap (λ (xs : List ℕ). set xs i number) (so_far ∙ ap (λ (ys : List ℕ). front ++ ys) free)
     ∙ set_at front 0 (replicate (n - (i + 1)) 0) number i len
     ∙ sym (append_assoc front (number ∷ []) (replicate (n - (i + 1)) 0))
     ∙ ap (λ (xs : List ℕ). xs ++ replicate (n - (i + 1)) 0)
-        (ap (λ (v : ℕ). front ++ v ∷ []) is ∙ sym (map_more f groups i [] within))
+    (ap (λ (v : ℕ). front ++ v ∷ []) is ∙ sym (map_more f groups i [] within))
 
 -- the groups of a front are those of the whole
 pub first_chunks-take : (k : ℕ) (xs : List ℕ) → first_chunks 4 k (take (4 * k) xs) ≡ first_chunks 4 k xs
@@ -58,4 +58,4 @@ first_chunks-take zero xs = refl
 first_chunks-take (suc k) xs =
     ap (λ (n : ℕ). first_chunks 4 (suc k) (take n xs)) (fours k)
     ∙ rw (take-take 4 (4 + 4 * k) xs (omega arith), drop-take 4 (4 * k) xs)
-        (ap (λ (groups : List (List ℕ)). take 4 xs ∷ groups) (first_chunks-take k (drop 4 xs)))
+    (ap (λ (groups : List (List ℕ)). take 4 xs ∷ groups) (first_chunks-take k (drop 4 xs)))

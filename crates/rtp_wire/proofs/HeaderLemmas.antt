@@ -1,21 +1,13 @@
 -- A header by the places of its parts: it is the header of the split, it is one, and what is refused has none.
-use Rattle.std.proofs.Common.{◌≡◌, ℕ, ◌+◌, ◌-◌, ◌*◌, ◌/◌, ◌%◌, ◌<◌, ◌≤◌, Bool, true, false, List, [], ◌∷◌, ◌++◌, length, take, drop, get_or, refl, sym, ap, ◌∙◌, subst, arith, append_assoc, length-append, length-take-le, length-drop, take_at, drop_at}
-use Rattle.std.specs.Prelude.{slice_index, slice_range, map, replicate}
-use Rattle.std.specs.Int.{w16, w32, from_be_bytes}
+use Rattle.std.proofs.Common.{◌≡◌, ℕ, ◌+◌, ◌*◌, ◌≤◌, List, ◌++◌, length, take, drop, refl, sym, ap, ◌∙◌, subst, arith, length-append, length-drop, take_at, drop_at}
 use Rattle.std.specs.List.{concat}
 use Rattle.std.specs.Simd.{first_chunks}
-use Rattle.std.proofs.lemmas.List.{take-append-drop, drop-drop, get_or-take}
-use Rattle.rtp_wire.specs.declared.ext.form.ExtensionsForm.{ExtensionsForm}
+use Rattle.std.proofs.lemmas.List.{take-append-drop, drop-drop}
 use Rattle.rtp_wire.specs.declared.ext.map.ExtensionMap.{ExtensionMap}
-use Rattle.rtp_wire.specs.declared.ext.values.ExtensionValues.{ExtensionValues}
 use Rattle.rtp_wire.specs.declared.header.rtp_header.RtpHeader.{RtpHeader}
-use Rattle.rtp_wire.specs.Form.{IsFormWord}
-use Rattle.rtp_wire.specs.Block.{word_at, IsBlock}
-use Rattle.rtp_wire.specs.Header.{bit, IsFirstByte, IsSecondByte, IsFixed, AreSources, IsWire}
-use Rattle.rtp_wire.specs.Refusal.{HasNoBlock, cut_head, unknown_form, cut_words, HasNoHeader, cut_fixed, other_version, cut_sources, no_block}
+use Rattle.rtp_wire.specs.Header.{IsFixed, AreSources, IsWire}
 use Rattle.rtp_wire.specs.Reading.{HasExtensionPart}
 use Rattle.rtp_wire.proofs.GroupLemmas.{concat-first_chunks, length-concat, first_chunks-concat}
-use Rattle.rtp_wire.proofs.BlockLemmas.{word_at-take}
 
 -- the parts of a header, counted from the front
 pub record IsPlaced (exts : ExtensionMap) (bytes : List ℕ) (h : RtpHeader) : Type 0 where
@@ -37,8 +29,8 @@ IsWire-from_places exts bytes h at =
       part = take at.part_len after;
       rest = drop at.part_len after;
       in_order =
-        sym (take-append-drop 12 bytes)
-        ∙ ap (λ (ys : List ℕ). take 12 bytes ++ ys)
+          sym (take-append-drop 12 bytes)
+          ∙ ap (λ (ys : List ℕ). take 12 bytes ++ ys)
           (sym (take-append-drop sources (drop 12 bytes))
           ∙ ap (λ (ys : List ℕ). ys ++ drop sources (drop 12 bytes)) (sym (concat-first_chunks h.csrc_count (drop 12 bytes)))
           ∙ ap (λ (ys : List ℕ). concat (first_chunks 4 h.csrc_count (drop 12 bytes)) ++ ys) (behind ∙ sym (take-append-drop at.part_len after)));
@@ -55,18 +47,18 @@ places_of exts bytes h wire =
     let behind = wire.part ++ wire.rest in
     let four = wire.sources_are.of_four in
     let fixed : take 12 bytes ≡ wire.fixed =
-        ap (λ (xs : List ℕ). take 12 xs) wire.in_order ∙ take_at wire.fixed (concat wire.groups ++ behind) 12 wire.fixed_is.twelve in
+    ap (λ (xs : List ℕ). take 12 xs) wire.in_order ∙ take_at wire.fixed (concat wire.groups ++ behind) 12 wire.fixed_is.twelve in
     let sources : drop 12 bytes ≡ concat wire.groups ++ behind =
-        ap (λ (xs : List ℕ). drop 12 xs) wire.in_order ∙ drop_at wire.fixed (concat wire.groups ++ behind) 12 wire.fixed_is.twelve in
+    ap (λ (xs : List ℕ). drop 12 xs) wire.in_order ∙ drop_at wire.fixed (concat wire.groups ++ behind) 12 wire.fixed_is.twelve in
     let groups_len : length (concat wire.groups) ≡ 4 * count =
-        length-concat wire.groups four ∙ ap (λ (k : ℕ). 4 * k) wire.sources_are.count_is in
+    length-concat wire.groups four ∙ ap (λ (k : ℕ). 4 * k) wire.sources_are.count_is in
     let groups : first_chunks 4 count (drop 12 bytes) ≡ wire.groups =
-        ap (λ (k : ℕ). first_chunks 4 k (drop 12 bytes)) (sym wire.sources_are.count_is)
-        ∙ ap (λ (xs : List ℕ). first_chunks 4 (length wire.groups) xs) sources ∙ first_chunks-concat wire.groups behind four in
+    ap (λ (k : ℕ). first_chunks 4 k (drop 12 bytes)) (sym wire.sources_are.count_is)
+    ∙ ap (λ (xs : List ℕ). first_chunks 4 (length wire.groups) xs) sources ∙ first_chunks-concat wire.groups behind four in
     let after : drop (12 + 4 * count) bytes ≡ behind =
-        sym (drop-drop (4 * count) 12 bytes) ∙ ap (λ (xs : List ℕ). drop (4 * count) xs) sources ∙ drop_at (concat wire.groups) behind (4 * count) groups_len in
+    sym (drop-drop (4 * count) 12 bytes) ∙ ap (λ (xs : List ℕ). drop (4 * count) xs) sources ∙ drop_at (concat wire.groups) behind (4 * count) groups_len in
     let all : length bytes ≡ 12 + (4 * count + length behind) =
-        ap length wire.in_order ∙ omega (arith, length-append wire.fixed (concat wire.groups ++ behind), length-append (concat wire.groups) behind, groups_len, wire.fixed_is.twelve) in
+    ap length wire.in_order ∙ omega (arith, length-append wire.fixed (concat wire.groups ++ behind), length-append (concat wire.groups) behind, groups_len, wire.fixed_is.twelve) in
     let parts : length behind ≡ length wire.part + length wire.rest = length-append wire.part wire.rest in
     record {
       fits = omega arith;
@@ -74,6 +66,6 @@ places_of exts bytes h wire =
       sources_are = subst (λ (xs : List (List ℕ)). AreSources xs count h.csrc) (sym groups) wire.sources_are;
       part_len = length wire.part;
       part_is = subst (λ (xs : List ℕ). HasExtensionPart exts h.has_extension xs h.ext_vals (length wire.part)) (sym after)
-        (record { fits = omega arith; is_part = rw (take_at wire.part wire.rest (length wire.part) refl) wire.part_is });
+          (record { fits = omega arith; is_part = rw (take_at wire.part wire.rest (length wire.part) refl) wire.part_is });
       header_len_is = omega (arith, wire.header_len_is);
     }

@@ -6,3 +6,4 @@ mod PlaceLemmas
 mod ParseLemmas
 mod PlacingLemmas
 mod RoundTrip
+mod StandardFacts

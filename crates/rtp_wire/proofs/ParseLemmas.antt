@@ -1,5 +1,5 @@
 -- What `parse` finds piece by piece is a header by its places, or a cause to refuse.
-use Rattle.std.proofs.Common.{◌≡◌, ℕ, ◌+◌, ◌-◌, ◌*◌, ◌/◌, ◌<◌, ◌≤◌, Bool, true, List, ◌++◌, length, take, drop, refl, sym, ap, ◌∙◌, subst, arith, length-take-le, length-drop}
+use Rattle.std.proofs.Common.{◌≡◌, ℕ, ◌+◌, ◌-◌, ◌*◌, ◌/◌, ◌<◌, ◌≤◌, Bool, true, List, ◌++◌, length, take, drop, sym, ap, ◌∙◌, subst, arith, length-take-le, length-drop}
 use Rattle.std.specs.Prelude.{map, replicate, slice_index}
 use Rattle.std.specs.Int.{w32, from_be_bytes}
 use Rattle.std.specs.Simd.{first_chunks}
@@ -38,7 +38,7 @@ IsPlaced-from_pieces exts buf fixed after sources behind groups h part_len cut f
     let quarter : length sources / 4 ≡ count = omega arith in
     let cut-out : sources ≡ take (4 * count) (drop 12 buf) = cut.sources_are ∙ ap (λ (xs : List ℕ). take (4 * count) xs) cut.after_is in
     let same : groups ≡ first_chunks 4 count (drop 12 buf) =
-        groups-are ∙ ap (λ (k : ℕ). first_chunks 4 k sources) quarter ∙ ap (λ (xs : List ℕ). first_chunks 4 count xs) cut-out ∙ first_chunks-take count (drop 12 buf) in
+    groups-are ∙ ap (λ (k : ℕ). first_chunks 4 k sources) quarter ∙ ap (λ (xs : List ℕ). first_chunks 4 count xs) cut-out ∙ first_chunks-take count (drop 12 buf) in
     let number : length groups ≡ count = ap length same ∙ length-first_chunks count (drop 12 buf) in
     record {
       fits = omega (arith, length-drop 12 buf, cut.long);
@@ -59,7 +59,7 @@ first-byte : (buf fixed : List ℕ) (padding extension : Bool) (count : ℕ) →
     → HasFlags (slice_index buf 0) padding extension count
 first-byte buf fixed padding extension count is first =
     subst (λ (byte : ℕ). HasFlags byte padding extension count)
-        (ap (λ (xs : List ℕ). slice_index xs 0) is ∙ get_or-take 12 buf 0 0 (omega arith)) (flags_from_first (slice_index fixed 0) padding extension count first)
+    (ap (λ (xs : List ℕ). slice_index xs 0) is ∙ get_or-take 12 buf 0 0 (omega arith)) (flags_from_first (slice_index fixed 0) padding extension count first)
 
 pub cut_sources-from_pieces : (buf fixed after : List ℕ) (padding extension : Bool) (count : ℕ) → fixed ≡ take 12 buf → after ≡ drop 12 buf → 12 ≤ length buf
     → IsFirstByte (slice_index fixed 0) padding extension count → length after < 4 * count → HasNoHeader buf
@@ -72,5 +72,5 @@ pub no_block-from_pieces : (buf fixed after sources behind : List ℕ) (padding 
 no_block-from_pieces buf fixed after sources behind padding extension count cut first set none =
     let flags = first-byte buf fixed padding extension count cut.fixed_is first in
     no_block (sym flags.extension_is ∙ ap bit set)
-        (subst (λ (k : ℕ). HasNoBlock (drop (12 + 4 * k) buf)) flags.count_is
-          (subst HasNoBlock (behind-drop buf fixed after sources behind count cut) none))
+    (subst (λ (k : ℕ). HasNoBlock (drop (12 + 4 * k) buf)) flags.count_is
+    (subst HasNoBlock (behind-drop buf fixed after sources behind count cut) none))

@@ -1,5 +1,5 @@
 -- A header that is placed in bytes is the only one, and bytes that are refused have none.
-use Rattle.std.proofs.Common.{◌≡◌, ℕ, ◌+◌, ◌*◌, ◌/◌, ◌%◌, ◌<◌, ◌≤◌, Bool, true, false, List, [], length, take, drop, refl, sym, ap, ◌∙◌, subst, arith, length-take-le, length-drop}
+use Rattle.std.proofs.Common.{◌≡◌, ℕ, ◌+◌, ◌*◌, ◌≤◌, Bool, true, false, List, length, take, drop, sym, ap, ◌∙◌, subst, arith, length-take-le}
 use Rattle.std.specs.Prelude.{slice_index, map, replicate, ◌++◌, ◌-◌}
 use Rattle.std.specs.Int.{w32, from_be_bytes}
 use Rattle.std.specs.Simd.{first_chunks}
@@ -10,7 +10,7 @@ use Rattle.rtp_wire.specs.declared.ext.values.ExtensionValues.{ExtensionValues}
 use Rattle.rtp_wire.specs.declared.header.rtp_header.RtpHeader.{RtpHeader}
 use Rattle.rtp_wire.specs.Form.{IsFormWord}
 use Rattle.rtp_wire.specs.Block.{word_at, IsBlock}
-use Rattle.rtp_wire.specs.Header.{bit, IsWire}
+use Rattle.rtp_wire.specs.Header.{IsWire}
 use Rattle.rtp_wire.specs.Refusal.{HasNoBlock, cut_head, unknown_form, cut_words, HasNoHeader, cut_fixed, other_version, cut_sources, no_block}
 use Rattle.rtp_wire.specs.Reading.{HasExtensionPart}
 use Rattle.rtp_wire.proofs.FlagLemmas.{bit-once, HasFlags, flags_from_first, fields_from_second}
@@ -23,9 +23,10 @@ block_len : (bytes elements : List ℕ) (form : ExtensionsForm) (n : ℕ) → n 
 block_len bytes elements form n fits is =
     let len : length (take n bytes) ≡ n = length-take-le n bytes fits in
     let words = is.words in
-    let four : 4 ≤ n = omega arith in
-    (sym len ∙ words ∙ ap (λ (k : ℕ). 4 + 4 * k) (word_at-take bytes 2 n (omega arith)),
-      subst (λ (k : ℕ). IsFormWord k form) (word_at-take bytes 0 n (omega arith)) is.form_is)
+    let four : 4 ≤ n = omega arith in (
+      sym len ∙ words ∙ ap (λ (k : ℕ). 4 + 4 * k) (word_at-take bytes 2 n (omega arith)),
+      subst (λ (k : ℕ). IsFormWord k form) (word_at-take bytes 0 n (omega arith)) is.form_is,
+    )
 
 -- what X announces has one length, and one value
 part_once : (exts : ExtensionMap) (extension : Bool) (bytes : List ℕ) (v v' : ExtensionValues) (n n' : ℕ)
@@ -34,9 +35,10 @@ part_once exts false bytes v v' n n' p q =
     let a : 0 ≡ n = sym (ap length p.is_part.0) ∙ length-take-le n bytes p.fits in
     let b : 0 ≡ n' = sym (ap length q.is_part.0) ∙ length-take-le n' bytes q.fits in
     (sym a ∙ b, p.is_part.1 ∙ sym q.is_part.1)
-part_once exts true bytes v v' n n' p q =
-    ((block_len bytes p.is_part.1 p.is_part.0 n p.fits p.is_part.2).0 ∙ sym (block_len bytes q.is_part.1 q.is_part.0 n' q.fits q.is_part.2).0,
-      p.is_part.3 ∙ sym q.is_part.3)
+part_once exts true bytes v v' n n' p q = (
+  (block_len bytes p.is_part.1 p.is_part.0 n p.fits p.is_part.2).0 ∙ sym (block_len bytes q.is_part.1 q.is_part.0 n' q.fits q.is_part.2).0,
+  p.is_part.3 ∙ sym q.is_part.3,
+)
 
 -- where no block begins, X announces nothing that is there
 no_part : (exts : ExtensionMap) (bytes : List ℕ) (v : ExtensionValues) (n : ℕ) → HasNoBlock bytes → HasExtensionPart exts true bytes v n → ⊥
@@ -51,7 +53,7 @@ no_part exts bytes v n (cut_words short) p =
 flags_of : (exts : ExtensionMap) (bytes : List ℕ) (h : RtpHeader) → IsPlaced exts bytes h → HasFlags (slice_index bytes 0) h.has_padding h.has_extension h.csrc_count
 flags_of exts bytes h at =
     subst (λ (byte : ℕ). HasFlags byte h.has_padding h.has_extension h.csrc_count) (get_or-take 12 bytes 0 0 (omega arith))
-        (flags_from_first _ h.has_padding h.has_extension h.csrc_count at.fixed_is.first_is)
+    (flags_from_first _ h.has_padding h.has_extension h.csrc_count at.fixed_is.first_is)
 
 refuses : (exts : ExtensionMap) (bytes : List ℕ) (h : RtpHeader) → HasNoHeader bytes → IsPlaced exts bytes h → ⊥
 refuses exts bytes h (cut_fixed short) at = let fits = at.fits in omega arith
@@ -63,7 +65,7 @@ refuses exts bytes h (no_block announced none) at =
     let set : h.has_extension ≡ true = bit-once h.has_extension true (flags.extension_is ∙ announced) in
     let none' = subst (λ (k : ℕ). HasNoBlock (drop (12 + 4 * k) bytes)) (sym flags.count_is) none in
     no_part exts (drop (12 + 4 * h.csrc_count) bytes) h.ext_vals at.part_len none'
-        (subst (λ (x : Bool). HasExtensionPart exts x (drop (12 + 4 * h.csrc_count) bytes) h.ext_vals at.part_len) set at.part_is)
+    (subst (λ (x : Bool). HasExtensionPart exts x (drop (12 + 4 * h.csrc_count) bytes) h.ext_vals at.part_len) set at.part_is)
 
 -- bytes that are refused begin with no header
 pub no_header : (exts : ExtensionMap) (bytes : List ℕ) (h : RtpHeader) → HasNoHeader bytes → IsWire exts bytes h → ⊥
@@ -100,10 +102,10 @@ one_header exts bytes h g at wire =
     let timestamp : h.timestamp ≡ g.timestamp = at.fixed_is.timestamp_is ∙ sym other.fixed_is.timestamp_is in
     let ssrc : h.ssrc ≡ g.ssrc = at.fixed_is.ssrc_is ∙ sym other.fixed_is.ssrc_is in
     let slots : h.csrc ≡ g.csrc =
-        at.sources_are.slots_are ∙ ap (λ (k : ℕ). map (from_be_bytes w32) (first_chunks 4 k (drop 12 bytes)) ++ replicate (15 - k) 0) count ∙ sym other.sources_are.slots_are in
+    at.sources_are.slots_are ∙ ap (λ (k : ℕ). map (from_be_bytes w32) (first_chunks 4 k (drop 12 bytes)) ++ replicate (15 - k) 0) count ∙ sym other.sources_are.slots_are in
     let parts = part_once exts h.has_extension (drop (12 + 4 * h.csrc_count) bytes) h.ext_vals g.ext_vals at.part_len other.part_len at.part_is
-        (subst (λ (k : ℕ). HasExtensionPart exts h.has_extension (drop (12 + 4 * k) bytes) g.ext_vals other.part_len) (sym count)
-        (subst (λ (x : Bool). HasExtensionPart exts x (drop (12 + 4 * g.csrc_count) bytes) g.ext_vals other.part_len) (sym extension) other.part_is)) in
+    (subst (λ (k : ℕ). HasExtensionPart exts h.has_extension (drop (12 + 4 * k) bytes) g.ext_vals other.part_len) (sym count)
+    (subst (λ (x : Bool). HasExtensionPart exts x (drop (12 + 4 * g.csrc_count) bytes) g.ext_vals other.part_len) (sym extension) other.part_is)) in
     let values : h.ext_vals ≡ g.ext_vals = parts.1 in
     let len : h.header_len ≡ g.header_len = at.header_len_is ∙ omega (arith, count, parts.0) ∙ sym other.header_len_is in
     same_header h g version padding extension count marker payload number timestamp ssrc slots values len

@@ -12,13 +12,18 @@ unfolding placed
 placed-copied buf bytes at =
     let len : at + length bytes - at ≡ length bytes = omega arith in
     ap (λ (rest : List ℕ). take at buf ++ (bytes ++ rest))
-        (ap (λ (k : ℕ). drop k (drop at buf)) len ∙ drop-drop (length bytes) at buf)
+    (ap (λ (k : ℕ). drop k (drop at buf)) len ∙ drop-drop (length bytes) at buf)
 
 pub length-placed : (buf bytes : List ℕ) (at : ℕ) → at + length bytes ≤ length buf → length (placed buf at bytes) ≡ length buf
 unfolding placed
 length-placed buf bytes at fits =
-    omega (arith, length-append (take at buf) (bytes ++ drop (at + length bytes) buf), length-append bytes (drop (at + length bytes) buf),
-      length-take-le at buf (omega arith), length-drop (at + length bytes) buf)
+    omega (
+      arith,
+      length-append (take at buf) (bytes ++ drop (at + length bytes) buf),
+      length-append bytes (drop (at + length bytes) buf),
+      length-take-le at buf (omega arith),
+      length-drop (at + length bytes) buf,
+    )
 
 pub placed-nil : (buf : List ℕ) (at : ℕ) → placed buf at [] ≡ buf
 unfolding placed
@@ -39,10 +44,10 @@ placed-placed buf xs ys at end is fits =
     let parts : take at buf ++ (xs ++ rest) ≡ front ++ rest = sym (append_assoc (take at buf) xs rest) in
     let kept : take end (take at buf ++ (xs ++ rest)) ≡ front = ap (λ (zs : List ℕ). take end zs) parts ∙ take_at front rest end len in
     let left : drop (end + length ys) (take at buf ++ (xs ++ rest)) ≡ drop (at + length (xs ++ ys)) buf =
-        sym (drop-drop (length ys) end (take at buf ++ (xs ++ rest)))
-        ∙ ap (λ (zs : List ℕ). drop (length ys) zs) (ap (λ (zs : List ℕ). drop end zs) parts ∙ drop_at front rest end len)
-        ∙ drop-drop (length ys) (at + length xs) buf
-        ∙ ap (λ (k : ℕ). drop k buf) (omega (arith, length-append xs ys)) in
+    sym (drop-drop (length ys) end (take at buf ++ (xs ++ rest)))
+    ∙ ap (λ (zs : List ℕ). drop (length ys) zs) (ap (λ (zs : List ℕ). drop end zs) parts ∙ drop_at front rest end len)
+    ∙ drop-drop (length ys) (at + length xs) buf
+    ∙ ap (λ (k : ℕ). drop k buf) (omega (arith, length-append xs ys)) in
     ap (λ (zs : List ℕ). zs ++ (ys ++ drop (end + length ys) (take at buf ++ (xs ++ rest)))) kept
     ∙ ap (λ (zs : List ℕ). front ++ (ys ++ zs)) left
     ∙ append_assoc (take at buf) xs (ys ++ drop (at + length (xs ++ ys)) buf)

@@ -2,7 +2,7 @@
 use Rattle.std.proofs.Common.{◌≡◌, ℕ, suc, get_or, ◌+◌, ◌-◌, ◌*◌, ◌^◌, ◌<◌, ◌≤◌, Bool, true, false, List, [], ◌∷◌, ◌++◌, length, take, drop, refl, sym, ap, ◌∙◌, arith, append_assoc, length-append, length-take-le}
 use Rattle.std.specs.Prelude.{map, replicate}
 use Rattle.std.specs.List.{flat_map, concat, AllByRecursion}
-use Rattle.std.specs.Int.{w16, w32, to_be_bytes, from_be_bytes}
+use Rattle.std.specs.Int.{w32, to_be_bytes, from_be_bytes}
 use Rattle.std.proofs.lemmas.List.{length-map}
 use Rattle.std.proofs.lemmas.Nat.{from_be_bytes-to_be_bytes_2, from_be_bytes-to_be_bytes_4}
 use Rattle.rtp_wire.specs.declared.ext.form.ExtensionsForm.TheVariants.{OneByte}
@@ -10,7 +10,7 @@ use Rattle.rtp_wire.specs.declared.ext.map.ExtensionMap.{ExtensionMap}
 use Rattle.rtp_wire.specs.declared.ext.values.ExtensionValues.{ExtensionValues}
 use Rattle.rtp_wire.specs.declared.header.rtp_header.RtpHeader.{RtpHeader}
 use Rattle.rtp_wire.specs.Block.{IsExtensionPart}
-use Rattle.rtp_wire.specs.Header.{IsFixed, AreSources, IsWire}
+use Rattle.rtp_wire.specs.Header.{IsFixed, IsWire}
 use Rattle.rtp_wire.specs.Placing.{placed}
 use Rattle.rtp_wire.specs.Written.{fixed_bytes, source_bytes, extension_bytes, wire_bytes, image_values, image_of}
 use Rattle.rtp_wire.proofs.GroupLemmas.{AreFours}
@@ -32,14 +32,14 @@ unfolding wire_bytes
 length-wire_bytes h exts within =
     let block = extension_bytes exts h.has_extension h.ext_vals in
     let sources : length (source_bytes h) ≡ 4 * h.csrc_count =
-        length-numbers (take h.csrc_count h.csrc) ∙ ap (λ (k : ℕ). 4 * k) (length-take-le h.csrc_count h.csrc within) in
+    length-numbers (take h.csrc_count h.csrc) ∙ ap (λ (k : ℕ). 4 * k) (length-take-le h.csrc_count h.csrc within) in
     omega (arith, length-append (fixed_bytes h) (source_bytes h ++ block), length-append (source_bytes h) block, sources)
 
 -- the header in front of what is left of a buffer
 wire_bytes-is : (h : RtpHeader) (exts : ExtensionMap) (buf : List ℕ)
     → (fixed_bytes h ++ (source_bytes h ++ extension_bytes exts h.has_extension h.ext_vals))
-        ++ drop (length (fixed_bytes h ++ (source_bytes h ++ extension_bytes exts h.has_extension h.ext_vals))) buf
-      ≡ wire_bytes h exts ++ drop (length (wire_bytes h exts)) buf
+    ++ drop (length (fixed_bytes h ++ (source_bytes h ++ extension_bytes exts h.has_extension h.ext_vals))) buf
+    ≡ wire_bytes h exts ++ drop (length (wire_bytes h exts)) buf
 unfolding wire_bytes
 wire_bytes-is h exts buf = refl
 
@@ -95,8 +95,8 @@ IsWire-written h exts rest fits =
       part = block;
       rest = rest;
       in_order =
-        append_assoc (fixed_bytes h) (source_bytes h ++ block) rest
-        ∙ ap (λ (ys : List ℕ). fixed_bytes h ++ ys)
+          append_assoc (fixed_bytes h) (source_bytes h ++ block) rest
+          ∙ ap (λ (ys : List ℕ). fixed_bytes h ++ ys)
           (append_assoc (source_bytes h) block rest ∙ ap (λ (ys : List ℕ). ys ++ (block ++ rest)) (sym (concat-numbers sources)));
       fixed_is = fixed-back h exts fits;
       sources_are = record {
@@ -124,6 +124,6 @@ wire_bytes-from_pieces h exts buf one two three fixed first second third within 
     let bytes-len : length (source_bytes h) ≡ 4 * length sources = length-numbers sources in
     let end : third ≡ length (wire_bytes h exts) = omega arith in
     let put : three ≡ (fixed_bytes h ++ (source_bytes h ++ block)) ++ drop (length (fixed_bytes h ++ (source_bytes h ++ block))) buf =
-        three-is ∙ rw (two-is, one-is, fixed-is)
-            (placed-three buf (fixed_bytes h) (source_bytes h) block first second (omega arith) (omega arith) (omega arith)) in
+    three-is ∙ rw (two-is, one-is, fixed-is)
+    (placed-three buf (fixed_bytes h) (source_bytes h) block first second (omega arith) (omega arith) (omega arith)) in
     (end, put ∙ wire_bytes-is h exts buf ∙ ap (λ (k : ℕ). wire_bytes h exts ++ drop k buf) (sym end))

@@ -1,5 +1,5 @@
 -- The RTP header as it is written (RFC 3550, 5.1; RFC 8285, 4), and the header that the written bytes are read as.
-use Rattle.std.specs.Prelude.{◌≡◌, ℕ, ◌+◌, ◌-◌, ◌*◌, ◌/◌, List, [], ◌∷◌, ◌++◌, length, take, replicate, Bool, true, false}
+use Rattle.std.specs.Prelude.{ℕ, ◌+◌, ◌-◌, ◌*◌, ◌/◌, List, [], ◌∷◌, ◌++◌, length, take, replicate, Bool, true, false}
 use Rattle.std.specs.List.{flat_map}
 use Rattle.std.specs.Int.{w16, w32, to_be_bytes}
 use Rattle.rtp_wire.specs.declared.ext.form.ExtensionsForm.{ExtensionsForm}
@@ -54,4 +54,3 @@ image_of h map = record h {
   ext_vals = image_values map h.has_extension h.ext_vals;
   header_len = length (wire_bytes h map);
 }
-

@@ -1,5 +1,7 @@
 //! Identifiers of streams and payloads.
 
-mod number;
+mod pt;
+mod ssrc;
 
-pub use number::{Pt, Ssrc};
+pub use pt::Pt;
+pub use ssrc::Ssrc;

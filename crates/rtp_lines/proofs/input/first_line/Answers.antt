@@ -1,5 +1,4 @@
-use Rattle.std.proofs.Common.{ap, sym, ◌∙◌, ◌∷◌, List, ℕ, ◌+◌}
-use Rattle.std.specs.Str.Lines.{lines}
+use Rattle.std.proofs.Common.{◌+◌}
 use Rattle.std.proofs.lemmas.List.{take_rest}
 use Rattle.rtp_lines.proofs.LineLemmas.{lines-feed, lines-last}
 use Rattle.rtp_lines.proofs.input.first_line.Goals as goal

@@ -6,4 +6,4 @@ use Rattle.rtp_wire.proofs.header.parsing.csrc_of.Goals as goal
 pub loop-slot-preserved : goal.loop-slot-preserved
 loop-slot-preserved c =
     set_slot (from_be_bytes w32) c.args.groups.now c.loop-slot.csrc c.loop-slot.slot 15 c.from_be_bytes.result
-        c.loop-slot-test.true (omega arith) c.from_be_bytes.ensures c.loop-slot.invariant
+    c.loop-slot-test.true (omega arith) c.from_be_bytes.ensures c.loop-slot.invariant

@@ -1,4 +1,3 @@
-use Rattle.std.proofs.Common.{ap, ◌∙◌}
 use Rattle.rtp_wire.proofs.PlacingLemmas.{placed-copied}
 use Rattle.rtp_wire.proofs.header.writing.put.Goals as goal
 

@@ -1,14 +1,12 @@
-use Rattle.std.proofs.Common.{arith, refl, sym, ap, ◌∙◌, subst, ◌≡◌, ℕ, ◌+◌, ◌*◌, List, length, length-take-le, true, Ok, Some, None}
+use Rattle.std.proofs.Common.{arith, refl, sym, ap, ◌∙◌, subst, ℕ, ◌+◌, length, length-take-le, Ok, Some}
 use Rattle.std.specs.Prelude.{slice_index}
 use Rattle.rtp_wire.specs.declared.header.rtp_header.RtpHeader.{RtpHeader}
-use Rattle.rtp_wire.specs.declared.ext.values.ExtensionValues.{ExtensionValues}
 use Rattle.rtp_wire.specs.Header.{IsSecondByte}
-use Rattle.rtp_wire.specs.Reading.{HasExtensionPart}
 use Rattle.rtp_wire.specs.Refusal.{HasNoHeader}
 use Rattle.rtp_wire.proofs.BlockLemmas.{word_at-cells, quad-cells}
 use Rattle.rtp_wire.proofs.HeaderLemmas.{IsPlaced, IsWire-from_places}
 use Rattle.rtp_wire.proofs.PlaceLemmas.{no_header, one_header}
-use Rattle.rtp_wire.proofs.ParseLemmas.{AreCut, IsPlaced-from_pieces, cut_sources-from_pieces, no_block-from_pieces}
+use Rattle.rtp_wire.proofs.ParseLemmas.{IsPlaced-from_pieces, cut_sources-from_pieces, no_block-from_pieces}
 use Rattle.rtp_wire.proofs.header.rtp_header.RtpHeader.parse.Goals as goal
 
 -- the sources are cut short
@@ -17,7 +15,7 @@ cut_sources_here c =
     let split = c.in-Some.ensures.cases in
     let flags = c.flags_of-flags.result in
     cut_sources-from_pieces c.args.buf.now c.in-Some.fixed.now c.in-Some.after.now flags.has_padding flags.has_extension flags.csrc_count
-        split.0 split.1 (omega (arith, split.2)) c.flags_of-flags.ensures c.in_default-split_at_checked.ensures.cases
+    split.0 split.1 (omega (arith, split.2)) c.flags_of-flags.ensures c.in_default-split_at_checked.ensures.cases
 
 -- X is set, and no block follows
 no_block_here : (c : goal.In_default-extension_part_len) → HasNoHeader c.args.buf.now
@@ -27,9 +25,9 @@ no_block_here c =
     let flags = c.flags_of-flags.result in
     let none = c.in_default-extension_part_len.ensures.refused in
     no_block-from_pieces c.args.buf.now c.in-Some.fixed.now c.in-Some.after.now c.in-Some-split_at_checked.sources.now c.in-Some-split_at_checked.after.now
-        flags.has_padding flags.has_extension flags.csrc_count
-        (record { long = omega (arith, split.2); fixed_is = split.0; after_is = split.1; room = parts.0; sources_are = parts.1; behind_is = parts.2 })
-        c.flags_of-flags.ensures none.0 none.1
+    flags.has_padding flags.has_extension flags.csrc_count
+    (record { long = omega (arith, split.2); fixed_is = split.0; after_is = split.1; room = parts.0; sources_are = parts.1; behind_is = parts.2 })
+    c.flags_of-flags.ensures none.0 none.1
 
 abbrev answer : goal.After-default → RtpHeader
 answer c = record {
@@ -53,19 +51,19 @@ placed c =
     let parts = c.in-Some-split_at_checked.ensures.cases in
     let fixed = c.in-Some.fixed.now in
     IsPlaced-from_pieces c.args.exts.now c.args.buf.now fixed c.in-Some.after.now c.in-Some-split_at_checked.sources.now c.in-Some-split_at_checked.after.now
-        c.as_chunks.result.0.now (answer c) c.in-Some-extension_part_len.part_len
-        (record { long = omega (arith, split.2); fixed_is = split.0; after_is = split.1; room = parts.0; sources_are = parts.1; behind_is = parts.2 })
-        (record {
-          twelve = ap length split.0 ∙ length-take-le 12 c.args.buf.now (omega (arith, split.2));
-          version_is = refl;
-          first_is = c.flags_of-flags.ensures;
-          second_is = subst (λ (k : ℕ). IsSecondByte (slice_index fixed 1) c.marker_and_type-marker.result.0 k) (sym c.from.ensures) c.marker_and_type-marker.ensures;
-          number_is = c.from_be_bytes.ensures ∙ sym (word_at-cells fixed 2);
-          timestamp_is = c.from_be_bytes-2.ensures ∙ sym (quad-cells fixed 4);
-          ssrc_is = c.from-2.ensures ∙ c.from_be_bytes-3.ensures ∙ sym (quad-cells fixed 8);
-        })
-        c.as_chunks.ensures.front c.csrc_of.ensures
-        c.in-Some-extension_part_len.ensures.found refl
+    c.as_chunks.result.0.now (answer c) c.in-Some-extension_part_len.part_len
+    (record { long = omega (arith, split.2); fixed_is = split.0; after_is = split.1; room = parts.0; sources_are = parts.1; behind_is = parts.2 })
+    (record {
+      twelve = ap length split.0 ∙ length-take-le 12 c.args.buf.now (omega (arith, split.2));
+      version_is = refl;
+      first_is = c.flags_of-flags.ensures;
+      second_is = subst (λ (k : ℕ). IsSecondByte (slice_index fixed 1) c.marker_and_type-marker.result.0 k) (sym c.from.ensures) c.marker_and_type-marker.ensures;
+      number_is = c.from_be_bytes.ensures ∙ sym (word_at-cells fixed 2);
+      timestamp_is = c.from_be_bytes-2.ensures ∙ sym (quad-cells fixed 4);
+      ssrc_is = c.from-2.ensures ∙ c.from_be_bytes-3.ensures ∙ sym (quad-cells fixed 8);
+    })
+    c.as_chunks.ensures.front c.csrc_of.ensures
+    c.in-Some-extension_part_len.ensures.found refl
 
 pub returns-in_default-split_at_checked-clause-only :
     goal.returns-in_default-split_at_checked-clause-only

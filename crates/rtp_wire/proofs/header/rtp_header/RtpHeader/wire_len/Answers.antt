@@ -1,4 +1,4 @@
-use Rattle.std.proofs.Common.{arith, ap, sym, ◌∙◌}
+use Rattle.std.proofs.Common.{arith}
 use Rattle.rtp_wire.proofs.RoundTrip.{length-wire_bytes}
 use Rattle.rtp_wire.proofs.header.rtp_header.RtpHeader.wire_len.Goals as goal
 

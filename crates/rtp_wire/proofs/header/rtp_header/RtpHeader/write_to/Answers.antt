@@ -1,4 +1,4 @@
-use Rattle.std.proofs.Common.{arith, ap, ◌≡◌, ℕ, ◌++◌, length, take, drop}
+use Rattle.std.proofs.Common.{arith, ap, ◌≡◌, ◌++◌, length, take, drop}
 use Rattle.std.proofs.lemmas.List.{length-take-le}
 use Rattle.rtp_wire.specs.Written.{wire_bytes}
 use Rattle.rtp_wire.proofs.RoundTrip.{length-wire_bytes, wire_bytes-from_pieces, IsWire-written, AllByRecursion-from_places}
@@ -10,22 +10,35 @@ put-end-requires c =
 
 pub put_sources-end-requires : goal.put_sources-end-requires
 put_sources-end-requires c =
-    omega (arith, c.requires.room, length-wire_bytes c.args.self.now c.args.exts.now (omega arith), ap length c.fixed_bytes.ensures.bytes,
-      c.put-end.ensures.end, length-take-le c.args.self.now.csrc_count c.args.self.now.csrc (omega arith))
+    omega (
+      arith,
+      c.requires.room,
+      length-wire_bytes c.args.self.now c.args.exts.now (omega arith),
+      ap length c.fixed_bytes.ensures.bytes,
+      c.put-end.ensures.end,
+      length-take-le c.args.self.now.csrc_count c.args.self.now.csrc (omega arith),
+    )
 
 pub put_extension-requires : goal.put_extension-requires
 put_extension-requires c =
-    omega (arith, c.requires.room, length-wire_bytes c.args.self.now c.args.exts.now (omega arith), ap length c.fixed_bytes.ensures.bytes,
-      c.put-end.ensures.end, c.put_sources-end.ensures.end, length-take-le c.args.self.now.csrc_count c.args.self.now.csrc (omega arith))
+    omega (
+      arith,
+      c.requires.room,
+      length-wire_bytes c.args.self.now c.args.exts.now (omega arith),
+      ap length c.fixed_bytes.ensures.bytes,
+      c.put-end.ensures.end,
+      c.put_sources-end.ensures.end,
+      length-take-le c.args.self.now.csrc_count c.args.self.now.csrc (omega arith),
+    )
 
 -- what was put, and where it ends
 all_put : (c : goal.After-slice_known-4-1) → (c.put_extension.result ≡ length (wire_bytes c.args.self.now c.args.exts.now))
     × (c.put_extension.new.buf ≡ wire_bytes c.args.self.now c.args.exts.now ++ drop c.put_extension.result c.args.buf.now)
 all_put c =
     wire_bytes-from_pieces c.args.self.now c.args.exts.now c.args.buf.now c.put-end.new.buf c.put_sources-end.new.buf c.put_extension.new.buf
-        c.fixed_bytes.result c.put-end.result c.put_sources-end.result c.put_extension.result (omega arith) c.requires.room c.fixed_bytes.ensures.bytes
-        c.put-end.ensures.written c.put-end.ensures.end c.put_sources-end.ensures.written c.put_sources-end.ensures.end
-        c.put_extension.ensures.written c.put_extension.ensures.end
+    c.fixed_bytes.result c.put-end.result c.put_sources-end.result c.put_extension.result (omega arith) c.requires.room c.fixed_bytes.ensures.bytes
+    c.put-end.ensures.written c.put-end.ensures.end c.put_sources-end.ensures.written c.put_sources-end.ensures.end
+    c.put_extension.ensures.written c.put_extension.ensures.end
 
 pub returns-clause-length : goal.returns-clause-length
 returns-clause-length c = (all_put c).0

@@ -1,0 +1,52 @@
+//! The synchronization source of a packet.
+
+ghost use Rattle.std.specs.Prelude.{◌≡◌};
+
+use std::fmt;
+use std::marker::Model;
+
+/// The synchronization source of a packet: which sender, and which of its streams
+/// (RFC 3550, 3 and 5.1). Each of the 2^32 numbers is one.
+#[derive(Clone, Copy, Debug, PartialEq, Eq, Hash, PartialOrd, Ord)]
+pub struct Ssrc {
+    number: u32,
+}
+
+impl Model for Ssrc {
+    ghost use Rattle.std.specs.Prelude.{ℕ};
+
+    ghost Value = { ℕ };
+
+    ghost view = { λ s. s.number };
+
+    ghost inverse = { λ n. record { number = n } };
+}
+
+impl From<u32> for Ssrc {
+    ghost from_gives = { λ number ssrc. ssrc ≡ number };
+
+    fn from(number: u32) -> Self {
+        Ssrc { number }
+    }
+}
+
+impl Ssrc {
+    /// The number itself.
+    pub fn get(self) -> u32
+        ensures { result ≡ self }
+    {
+        self.number
+    }
+}
+
+impl fmt::Display for Ssrc {
+    ghost use Rattle.std.specs.Prelude.{Some};
+    ghost use Rattle.std.specs.Fmt.{decimal};
+
+    ghost output = { λ s. Some (decimal s) };
+
+    fn fmt<W: fmt::Write>(&self, f: &mut fmt::Formatter<W>) -> fmt::Result {
+        let number = self.get();
+        write!(f, "{number}")
+    }
+}

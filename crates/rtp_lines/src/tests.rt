@@ -1,0 +1,221 @@
+//! What the program prints, over readers and writers in memory.
+
+use super::input::datagram;
+use super::{RunEnd, run};
+use std::alloc::Global;
+use std::io;
+use std::io::{Error, ErrorKind, Read, Write};
+use std::process::Abort;
+use std::test::Fail;
+
+const PLAIN: &[u8] = b"8021B798000027100000002C\n";
+
+const PLAIN_REPORT: &str = "packet 1: pt 33 seq 47000 ts 10000 ssrc 44 marker no padding no \
+extension no csrc 0 header 12\n";
+
+// An input, how its run ends, and what the run prints.
+const RUNS: [(&[u8], RunEnd, &str); 15] = [
+    (PLAIN, RunEnd::Done, PLAIN_REPORT),
+    (b"", RunEnd::Done, ""),
+    (
+        b"80\n\n",
+        RunEnd::Done,
+        "packet 1: unreadable\npacket 2: unreadable\n",
+    ),
+    (b"\r\n", RunEnd::Done, "packet 1: unreadable\n"),
+    // Lower case, and a last line without its line feed.
+    (b"8021b798000027100000002c", RunEnd::Done, PLAIN_REPORT),
+    // A carriage return goes with the line feed behind it, and with nothing else.
+    (b"8021B798000027100000002C\r\n", RunEnd::Done, PLAIN_REPORT),
+    (
+        b"80\r",
+        RunEnd::BadLine,
+        "line 1: neither a map line nor hex\n",
+    ),
+    (
+        b"80\r\r\n",
+        RunEnd::BadLine,
+        "line 1: neither a map line nor hex\n",
+    ),
+    // The first bad line is the whole output, whatever comes before and after it.
+    (
+        b"80\n80 21\nxyz\n",
+        RunEnd::BadLine,
+        "line 2: neither a map line nor hex\n",
+    ),
+    (
+        b"xyz",
+        RunEnd::BadLine,
+        "line 1: neither a map line nor hex\n",
+    ),
+    (
+        b"801\n",
+        RunEnd::BadLine,
+        "line 1: neither a map line nor hex\n",
+    ),
+    (
+        b"map 3 urn:x\n",
+        RunEnd::BadLine,
+        "line 1: neither a map line nor hex\n",
+    ),
+    // Every flag, two sources, and a block of one word.
+    (
+        b"B2E1FFFF0102030400000000000000640000006510000001AABBCCDD\n",
+        RunEnd::Done,
+        "packet 1: pt 97 seq 65535 ts 16909060 ssrc 0 marker yes padding yes extension yes csrc 2 header 28\n",
+    ),
+    // The same with its last byte gone.
+    (
+        b"B2E1FFFF0102030400000000000000640000006510000001AABBCC\n",
+        RunEnd::Done,
+        "packet 1: unreadable\n",
+    ),
+    // What follows the header is not looked at.
+    (
+        b"8021B798000027100000002CFFFFFFFF\n",
+        RunEnd::Done,
+        PLAIN_REPORT,
+    ),
+];
+
+#[test]
+fn runs(rt: HostRuntime) {
+    for (index, (input, end, printed)) in RUNS.into_iter().enumerate() {
+        let mut output = Vec::new(rt.alloc());
+        let mut rest = input;
+        assert_eq!(rt; run(rt.alloc(), &mut rest, &mut output), end, "at {index}");
+        assert_eq!(rt; output.as_slice(), printed.as_bytes(), "at {index}");
+    }
+}
+
+#[test]
+fn statuses(rt: HostRuntime) {
+    assert_eq!(rt; RunEnd::Done.status(), 0);
+    assert_eq!(rt; RunEnd::Io.status(), 1);
+    assert_eq!(rt; RunEnd::BadLine.status(), 2);
+    assert_eq!(rt; RunEnd::NoMemory.status(), 3);
+}
+
+#[test]
+fn datagrams_in_either_case(rt: HostRuntime) -> Result<(), Fail> {
+    let lines: [(&[u8], &[u8]); 3] = [
+        (b"", &[]),
+        (b"80ff", &[0x80, 0xFF]),
+        (b"80FF", &[0x80, 0xFF]),
+    ];
+    for (line, bytes) in lines {
+        let found = datagram(rt.alloc(), line)?.ok_or("hexadecimal")?;
+        assert_eq!(rt; found.as_slice(), bytes);
+    }
+    for line in [b"8".as_slice(), b"8g", b"80 21"] {
+        assert!(rt; datagram(rt.alloc(), line)?.is_none());
+    }
+    Ok(())
+}
+
+// A reader that gives one byte at a time, and fails at its read of this number.
+#[derive(Drop)]
+struct Trickle<'a> {
+    bytes: &'a [u8],
+    reads_left: usize,
+}
+
+impl Read for Trickle<'_> {
+    fn read(&mut self, buf: &mut [u8]) -> io::Result<usize> {
+        if self.reads_left == 0 {
+            return Err(Error::from(ErrorKind::Other));
+        }
+        self.reads_left -= 1;
+        let (Some(byte), Some(slot)) = (self.bytes.first(), buf.first_mut()) else {
+            return Ok(0);
+        };
+        *slot = *byte;
+        self.bytes = &self.bytes[1..];
+        Ok(1)
+    }
+}
+
+// A writer that takes one byte at a time, and fails at its write of this number.
+#[derive(Drop)]
+struct Narrow {
+    taken: Vec<u8>,
+    writes_left: usize,
+}
+
+impl Write for Narrow {
+    fn write(&mut self, buf: &[u8]) -> io::Result<usize> {
+        if self.writes_left == 0 {
+            return Err(Error::from(ErrorKind::Other));
+        }
+        self.writes_left -= 1;
+        let Some(byte) = buf.first() else {
+            return Ok(0);
+        };
+        self.taken.push(*byte)?;
+        Ok(1)
+    }
+
+    fn flush(&mut self) -> io::Result<()> {
+        Ok(())
+    }
+}
+
+#[test]
+fn slow_input_changes_nothing(rt: HostRuntime) {
+    let mut input = Trickle {
+        bytes: PLAIN,
+        reads_left: PLAIN.len() + 1,
+    };
+    let mut output = Vec::new(rt.alloc());
+    assert_eq!(rt; run(rt.alloc(), &mut input, &mut output), RunEnd::Done);
+    assert_eq!(rt; output.as_slice(), PLAIN_REPORT.as_bytes());
+}
+
+#[test]
+fn a_failed_read_prints_nothing(rt: HostRuntime) {
+    for reads_left in 0..PLAIN.len() + 1 {
+        let mut input = Trickle {
+            bytes: PLAIN,
+            reads_left,
+        };
+        let mut output = Vec::new(rt.alloc());
+        assert_eq!(rt;
+            run(rt.alloc(), &mut input, &mut output),
+            RunEnd::Io,
+            "at {reads_left}"
+        );
+        assert!(rt; output.is_empty(), "at {reads_left}");
+    }
+}
+
+// Runs the input into a writer that fails at each of its writes in turn.
+fn fails_at_each_write(rt: &impl Abort, alloc: Global, input: &[u8], printed: &str) {
+    for writes_left in 0..printed.len() {
+        let mut output = Narrow {
+            taken: Vec::new(alloc),
+            writes_left,
+        };
+        let mut rest = input;
+        assert_eq!(rt;
+            run(alloc, &mut rest, &mut output),
+            RunEnd::Io,
+            "at {writes_left}"
+        );
+        assert!(rt;
+            printed.as_bytes().starts_with(output.taken.as_slice()),
+            "at {writes_left}"
+        );
+        assert_eq!(rt; output.taken.len(), writes_left);
+    }
+}
+
+#[test]
+fn a_failed_write_leaves_a_beginning(rt: HostRuntime) {
+    fails_at_each_write(&rt, rt.alloc(), PLAIN, PLAIN_REPORT);
+    fails_at_each_write(
+        &rt,
+        rt.alloc(),
+        b"xyz",
+        "line 1: neither a map line nor hex\n",
+    );
+}

@@ -1,0 +1,7 @@
+//! Tests of the layer's crates against vectors that were made without them.
+#![tactic(auto)]
+
+#[cfg(test)]
+mod headers;
+#[cfg(test)]
+mod ids;

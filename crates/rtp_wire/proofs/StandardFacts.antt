@@ -1,0 +1,99 @@
+-- Worked rows, computed from the definitions.
+use Rattle.std.proofs.Common.{◌≡◌, ℕ, true, false, List, [], ◌∷◌, ◌++◌, length, replicate, refl, arith}
+use Rattle.rtp_wire.specs.declared.ext.form.ExtensionsForm.{ExtensionsForm}
+use Rattle.rtp_wire.specs.declared.ext.form.ExtensionsForm.TheVariants.{OneByte, TwoByte}
+use Rattle.rtp_wire.specs.declared.ext.map.ExtensionMap.{ExtensionMap}
+use Rattle.rtp_wire.specs.Form.{IsFormWord}
+use Rattle.rtp_wire.specs.Header.{IsWire, default_header}
+use Rattle.rtp_wire.specs.Refusal.{cut_head, unknown_form, cut_words, HasNoHeader, cut_fixed, other_version, cut_sources, no_block}
+use Rattle.rtp_wire.specs.Written.{wire_bytes, image_of}
+
+abbrev zeros : ℕ → List ℕ
+zeros n = replicate n 0
+
+-- a plain header of twelve bytes, with two bytes behind it
+plain_row : (exts : ExtensionMap) → IsWire exts (128 ∷ 33 ∷ 183 ∷ 152 ∷ 0 ∷ 0 ∷ 39 ∷ 16 ∷ 0 ∷ 0 ∷ 0 ∷ 44 ∷ 7 ∷ 7 ∷ [])
+    (record { version = 2; has_padding = false; has_extension = false; csrc_count = 0; marker = false; payload_type = 33; sequence_number = 47000; timestamp = 10000; ssrc = 44; csrc = zeros 15; ext_vals = record {}; header_len = 12 })
+plain_row exts = record {
+  fixed = 128 ∷ 33 ∷ 183 ∷ 152 ∷ 0 ∷ 0 ∷ 39 ∷ 16 ∷ 0 ∷ 0 ∷ 0 ∷ 44 ∷ [];
+  groups = [];
+  part = [];
+  rest = 7 ∷ 7 ∷ [];
+  in_order = refl;
+  fixed_is = record {
+    twelve = refl;
+    version_is = refl;
+    first_is = record { sum = refl; few = omega arith };
+    second_is = record { sum = refl; few = omega arith };
+    number_is = refl;
+    timestamp_is = refl;
+    ssrc_is = refl;
+  };
+  sources_are = record { count_is = refl; of_four = tt; slots_are = refl };
+  part_is = (refl, refl);
+  header_len_is = refl;
+}
+
+-- every flag, two sources, and a block of one word with application bits
+full_row : (exts : ExtensionMap) → IsWire exts (178 ∷ 225 ∷ 255 ∷ 255 ∷ 1 ∷ 2 ∷ 3 ∷ 4 ∷ 0 ∷ 0 ∷ 0 ∷ 0 ∷ 0 ∷ 0 ∷ 0 ∷ 100 ∷ 0 ∷ 0 ∷ 0 ∷ 101 ∷ 16 ∷ 5 ∷ 0 ∷ 1 ∷ 170 ∷ 187 ∷ 204 ∷ 221 ∷ [])
+    (record { version = 2; has_padding = true; has_extension = true; csrc_count = 2; marker = true; payload_type = 97; sequence_number = 65535; timestamp = 16909060; ssrc = 0; csrc = 100 ∷ 101 ∷ zeros 13; ext_vals = record {}; header_len = 28 })
+full_row exts = record {
+  fixed = 178 ∷ 225 ∷ 255 ∷ 255 ∷ 1 ∷ 2 ∷ 3 ∷ 4 ∷ 0 ∷ 0 ∷ 0 ∷ 0 ∷ [];
+  groups = (0 ∷ 0 ∷ 0 ∷ 100 ∷ []) ∷ (0 ∷ 0 ∷ 0 ∷ 101 ∷ []) ∷ [];
+  part = 16 ∷ 5 ∷ 0 ∷ 1 ∷ 170 ∷ 187 ∷ 204 ∷ 221 ∷ [];
+  rest = [];
+  in_order = refl;
+  fixed_is = record {
+    twelve = refl;
+    version_is = refl;
+    first_is = record { sum = refl; few = omega arith };
+    second_is = record { sum = refl; few = omega arith };
+    number_is = refl;
+    timestamp_is = refl;
+    ssrc_is = refl;
+  };
+  sources_are = record { count_is = refl; of_four = (refl, (refl, tt)); slots_are = refl };
+  part_is = (TwoByte, 170 ∷ 187 ∷ 204 ∷ 221 ∷ [], record { form_is = (omega arith, omega arith); words = refl; elements_are = refl }, refl);
+  header_len_is = refl;
+}
+
+-- the default header, with its block and without
+default_row : (exts : ExtensionMap) → wire_bytes default_header exts ≡ 144 ∷ 1 ∷ zeros 10 ++ 190 ∷ 222 ∷ 0 ∷ 0 ∷ []
+unfolding wire_bytes
+default_row exts = refl
+
+default_image : (exts : ExtensionMap) → image_of default_header exts ≡ default_header
+unfolding wire_bytes image_of
+default_image exts = refl
+
+bare_row : (exts : ExtensionMap) → wire_bytes (record default_header { has_extension = false }) exts ≡ 128 ∷ 1 ∷ zeros 10
+unfolding wire_bytes
+bare_row exts = refl
+
+-- fifteen sources make 76 bytes
+sources_row : (exts : ExtensionMap) → length (wire_bytes (record default_header { csrc_count = 15 }) exts) ≡ 76
+unfolding wire_bytes
+sources_row exts = refl
+
+-- a row for each cause of a refusal
+cut_fixed_row : HasNoHeader (zeros 11)
+cut_fixed_row = cut_fixed (omega arith)
+
+other_version_row : HasNoHeader (64 ∷ zeros 11)
+other_version_row = other_version (λ e. absurd (omega arith))
+
+cut_sources_row : HasNoHeader (129 ∷ zeros 11)
+cut_sources_row = cut_sources (omega arith)
+
+cut_head_row : HasNoHeader (144 ∷ zeros 11 ++ 190 ∷ 222 ∷ 0 ∷ [])
+cut_head_row = no_block refl (cut_head (omega arith))
+
+no_form : (form : ExtensionsForm) → IsFormWord 8192 form → ⊥
+no_form OneByte is = omega arith
+no_form TwoByte is = omega arith
+
+unknown_form_row : HasNoHeader (144 ∷ zeros 11 ++ 32 ∷ 0 ∷ 0 ∷ 0 ∷ [])
+unknown_form_row = no_block refl (unknown_form no_form)
+
+cut_words_row : HasNoHeader (144 ∷ zeros 11 ++ 190 ∷ 222 ∷ 0 ∷ 1 ∷ 16 ∷ 170 ∷ 0 ∷ [])
+cut_words_row = no_block refl (cut_words (omega arith))
