@@ -1,6 +1,10 @@
-//! The base of the RTP layer: the ids and numbers that packets carry.
+//! The base of the RTP layer: the ids and numbers that packets carry, and directions.
 #![tactic(auto)]
 
+mod dir;
+mod error;
 mod id;
 
-pub use id::{Pt, Ssrc};
+pub use dir::Direction;
+pub use error::RtpError;
+pub use id::{Mid, MidRid, Pt, Rid, SeqNo, SessionId, Ssrc, TwccClusterId, TwccSeq};

@@ -2,6 +2,8 @@
 #![tactic(auto)]
 
 #[cfg(test)]
+mod directions;
+#[cfg(test)]
 mod headers;
 #[cfg(test)]
 mod ids;

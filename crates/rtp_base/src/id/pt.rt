@@ -32,6 +32,13 @@ impl From<u8> for Pt {
 }
 
 impl Pt {
+    /// The payload type of this number, as `From`.
+    pub fn new_with_value(v: u8) -> Pt
+        ensures { result ≡ v }
+    {
+        Pt::from(v)
+    }
+
     /// The number itself.
     pub fn get(self) -> u8
         ensures { result ≡ self }

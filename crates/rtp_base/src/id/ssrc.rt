@@ -1,6 +1,6 @@
 //! The synchronization source of a packet.
 
-ghost use Rattle.std.specs.Prelude.{◌≡◌};
+ghost use Rattle.std.specs.Prelude.{◌≡◌, ◌↔◌, IsTrue};
 
 use std::fmt;
 use std::marker::Model;
@@ -36,6 +36,13 @@ impl Ssrc {
         ensures { result ≡ self }
     {
         self.number
+    }
+
+    /// Whether this is 0, the source that libwebrtc gives its probes before any media is sent.
+    pub fn is_probe(&self) -> bool
+        ensures { IsTrue result ↔ (self.now ≡ 0) }
+    {
+        self.get() == 0
     }
 }
 

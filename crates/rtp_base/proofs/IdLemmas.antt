@@ -1,0 +1,102 @@
+-- Ids as texts with spaces behind them.
+use Rattle.std.proofs.Common.{◌≡◌, ℕ, ◌-◌, ◌<◌, ◌≤◌, Bool, false, eqb, List, [], ◌∷◌, ◌++◌, length, map, take, drop, get_or, replicate, refl, sym, ap, ◌∙◌, subst, inl, inr, arith, length-append, length-take-le, take_at, drop_at}
+use Rattle.std.specs.Prelude.{IsUtf8}
+use Rattle.std.specs.List.{All, position_or_len}
+use Rattle.std.specs.Char.{is_ascii_alphanumeric}
+use Rattle.std.specs.Str.{chars}
+use Rattle.std.proofs.lemmas.Bool.{ne_eqb, cases_lt, cases_Bool, false≢true}
+use Rattle.std.proofs.lemmas.Bool.Decides.{nat_tests}
+use Rattle.std.proofs.lemmas.List.{get_or_append_left, get_or-append_right, get_or_past, get_or-replicate, length-replicate, take-append-drop, drop-replicate}
+use Rattle.std.proofs.lemmas.List.Elements.{All-nil, All-cons, All-take, All-head, All-tail, All-replicate}
+use Rattle.std.proofs.lemmas.List.Sums.{position_or_len_is}
+use Rattle.std.proofs.lemmas.Str.{IsUtf8-from_ascii}
+use Rattle.rtp_base.specs.Id.{id_char, id_text, padded, IsIdOf, before_padding, IsIdByte, IsIdArray}
+
+abbrev pub is_space : ℕ → Bool
+is_space b = eqb b 32
+
+-- a byte of an id is ASCII, and no space
+IsIdByte-ascii : (b : ℕ) → IsIdByte b → b < 128
+IsIdByte-ascii b is = grind (arith, nat_tests)
+
+IsIdByte-no_space : (b : ℕ) → IsIdByte b → is_space b ≡ false
+IsIdByte-no_space b is = ne_eqb b 32 (λ e. false≢true (subst IsIdByte e is))
+
+-- ---- where the padding begins
+
+pub position-space : (text : List ℕ) (spaces : ℕ) → All IsIdByte text → position_or_len is_space (text ++ replicate spaces 32) ≡ length text
+position-space text spaces is =
+    let all = text ++ replicate spaces 32 in
+    let len = length-append text (replicate spaces 32) in
+    position_or_len_is is_space all (length text) 0 (omega arith)
+    (λ k below. rw (get_or_append_left text (replicate spaces 32) 0 k below) (IsIdByte-no_space (get_or text k 0) (is k 0 below)))
+    (λ within.
+    let some : 0 < spaces = omega (arith, length-replicate {A = ℕ} spaces 32) in
+    let here : length text - length text ≡ 0 = omega arith in
+    rw (get_or-append_right text (replicate spaces 32) (length text) (length text) 0 refl (omega arith), here, get_or-replicate {A = ℕ} spaces 0 32 0 some) refl)
+
+pub before_padding-padded : (text : List ℕ) (spaces : ℕ) → All IsIdByte text → before_padding (text ++ replicate spaces 32) ≡ text
+before_padding-padded text spaces is =
+    ap (λ (n : ℕ). take n (text ++ replicate spaces 32)) (position-space text spaces is) ∙ take_at text (replicate spaces 32) (length text) refl
+
+-- ---- the test of an id's bytes
+
+-- spaces alone
+spaces-are : (bytes : List ℕ) → All (λ b. b ≡ 32) bytes → bytes ≡ replicate (length bytes) 32
+spaces-are [] are = refl
+spaces-are (b ∷ bs) are =
+    ap (λ (x : ℕ). x ∷ bs) (All-head (λ b. b ≡ 32) b bs are) ∙ ap (λ (xs : List ℕ). 32 ∷ xs) (spaces-are bs (All-tail (λ b. b ≡ 32) b bs are))
+
+pub IsIdArray-from_parts : (bytes : List ℕ) (n : ℕ) → All IsIdByte (take n bytes) → All (λ b. b ≡ 32) (drop n bytes) → IsIdArray bytes
+IsIdArray-from_parts bytes n text spaces = record {
+  text = take n bytes;
+  spaces = length (drop n bytes);
+  bytes_are = sym (take-append-drop n bytes) ∙ ap (λ (xs : List ℕ). take n bytes ++ xs) (spaces-are (drop n bytes) spaces);
+  text_is = text;
+}
+
+pub parts_of : (bytes : List ℕ) (n : ℕ) → n ≡ position_or_len is_space bytes → IsIdArray bytes → All IsIdByte (take n bytes) × All (λ b. b ≡ 32) (drop n bytes)
+parts_of bytes n here is =
+    let text = is.text in
+    let padding = replicate is.spaces 32 in
+    let len : length text ≡ n = sym (here ∙ ap (position_or_len is_space) is.bytes_are ∙ position-space text is.spaces is.text_is) in
+    let front : text ≡ take n bytes = sym (ap (take n) is.bytes_are ∙ take_at text padding n len) in
+    let back : padding ≡ drop n bytes = sym (ap (drop n) is.bytes_are ∙ drop_at text padding n len) in
+    (subst (All IsIdByte) front is.text_is, subst (All (λ b. b ≡ 32)) back (All-replicate (λ b. b ≡ 32) is.spaces 32 refl))
+
+-- the text of an id is UTF-8
+pub IsUtf8-text : (bytes : List ℕ) (n : ℕ) → n ≡ position_or_len is_space bytes → IsIdArray bytes → IsUtf8 (take n bytes)
+IsUtf8-text bytes n here is =
+    let text = take n bytes in
+    let each = (parts_of bytes n here is).0 in
+    IsUtf8-from_ascii text (λ i. elim (cases_lt i (length text)) [
+      | inl below ↦ IsIdByte-ascii (get_or text i 0) (each i 0 below)
+      | inr past ↦ rw (get_or_past text i 0 past) (omega arith)
+    ])
+
+-- ---- the text of an id, and spaces behind it
+
+IsIdByte-id_char : (c : ℕ) → IsIdByte (id_char c)
+IsIdByte-id_char c =
+    elim (cases_Bool (is_ascii_alphanumeric c)) [
+      | inl is ↦ rw (is, is) refl
+      | inr other ↦ rw other refl
+    ]
+
+IsIdByte-map : (cs : List ℕ) → All IsIdByte (map id_char cs)
+IsIdByte-map [] = All-nil IsIdByte
+IsIdByte-map (c ∷ cs) = All-cons IsIdByte (id_char c) (map id_char cs) (IsIdByte-id_char c) (IsIdByte-map cs)
+
+-- what was put in front of spaces is the id of the text
+pub IsIdOf-put : (size : ℕ) (text room : List ℕ) (len : ℕ) → len ≤ length room → length room ≡ size → take len room ≡ id_text size text
+    → drop len room ≡ drop len (replicate size 32) → IsIdOf size text room × IsIdArray room
+IsIdOf-put size text room len within size-is front back =
+    let it = id_text size text in
+    let each : All IsIdByte it = All-take IsIdByte size (map id_char (chars text)) (IsIdByte-map (chars text)) in
+    let len-is : length it ≡ len = sym (ap length front) ∙ length-take-le len room within in
+    let whole : room ≡ padded size it =
+    sym (take-append-drop len room) ∙ ap (λ (xs : List ℕ). xs ++ drop len room) front
+    ∙ ap (λ (xs : List ℕ). it ++ xs) (back ∙ drop-replicate len size 32 ∙ ap (λ (k : ℕ). replicate (size - k) 32) (sym len-is)) in (
+      record { kept = whole; text_is = ap before_padding whole ∙ before_padding-padded it (size - length it) each },
+      record { text = it; spaces = size - length it; bytes_are = whole; text_is = each },
+    )

@@ -1,0 +1,3 @@
+mod DirectionLemmas
+mod IdLemmas
+mod IdTextLemmas

@@ -1,0 +1,15 @@
+use Rattle.std.proofs.Common.{arith, sym}
+use Rattle.std.proofs.lemmas.Bool.{ne_eqb, eq-eqb}
+use Rattle.std.proofs.lemmas.List.Sums.{position_or_len_is}
+use Rattle.rtp_base.proofs.IdLemmas.{is_space}
+use Rattle.rtp_base.proofs.id.text.text_len.Goals as goal
+
+pub returns-in-Some-clause-place : goal.returns-in-Some-clause-place
+returns-in-Some-clause-place c =
+    let found = c.in-Some.ensures.found in
+    sym (position_or_len_is is_space c.args.bytes.now c.in-Some.place 0 (omega (arith, found.0))
+    (λ k below. ne_eqb _ 32 (found.2 k below)) (λ _. eq-eqb _ 32 found.1))
+
+pub returns-in-None-clause-place : goal.returns-in-None-clause-place
+returns-in-None-clause-place c =
+    sym (position_or_len_is is_space c.args.bytes.now _ 0 (omega arith) (λ k below. ne_eqb _ 32 (c.in-None.ensures.none k below)) (λ within. absurd (omega arith)))

@@ -1,0 +1,3 @@
+-- What contracts rest on.
+pub mod Id
+pub mod Direction

@@ -1,0 +1,96 @@
+//! The number of a packet.
+
+ghost use Rattle.std.specs.Prelude.{◌≡◌, ◌+◌, ◌*◌, ◌/◌, ◌%◌, ◌<◌, ◌↔◌, IsTrue};
+
+use super::wide::{follows, rollovers, wire_part};
+use std::fmt;
+use std::marker::Model;
+
+/// The number of an RTP packet in its stream, widened to 64 bits: the 16 bits of its header, and how
+/// often they have rolled over before it (RFC 3711, 3.3.1).
+#[derive(Clone, Copy, Debug, PartialEq, Eq, Hash, PartialOrd, Ord)]
+pub struct SeqNo {
+    number: u64,
+}
+
+impl Model for SeqNo {
+    ghost use Rattle.std.specs.Prelude.{ℕ};
+
+    ghost Value = { ℕ };
+
+    ghost view = { λ seq. seq.number };
+
+    ghost inverse = { λ n. record { number = n } };
+}
+
+impl From<u64> for SeqNo {
+    ghost from_gives = { λ number seq. seq ≡ number };
+
+    fn from(number: u64) -> Self {
+        SeqNo { number }
+    }
+}
+
+impl SeqNo {
+    /// The greatest number, 2^64 - 1.
+    pub const MAX: SeqNo = SeqNo { number: u64::MAX };
+
+    /// The number itself.
+    pub fn get(self) -> u64
+        ensures { result ≡ self }
+    {
+        self.number
+    }
+
+    /// Whether this is the greatest number.
+    pub fn is_max(&self) -> bool
+        ensures { IsTrue result ↔ (self.now ≡ u64.MAX) }
+    {
+        *self == Self::MAX
+    }
+
+    /// Whether `other` is the number right behind this one. Nothing is behind the greatest.
+    pub fn is_next(&self, other: SeqNo) -> bool
+        ensures { IsTrue result ↔ (other ≡ self.now + 1) }
+    {
+        follows(self.number, other.number)
+    }
+
+    /// Adds one, and answers the number before. It asks for a number below the greatest.
+    pub fn inc(&mut self) -> SeqNo
+        requires { self.old < u64.MAX }
+        ensures answer { result ≡ self.old }
+        ensures after { self.new ≡ self.old + 1 }
+    {
+        let before = *self;
+        self.number += 1;
+        before
+    }
+
+    /// The 16 bits that the RTP header carries.
+    pub fn as_u16(&self) -> u16
+        ensures { result ≡ self.now % 65536 }
+    {
+        wire_part(self.number)
+    }
+
+    /// How often the 16 bits have rolled over.
+    pub fn roc(&self) -> u64
+        ensures rollovers { result ≡ self.now / 65536 }
+        ensures whole { result * 65536 + self.now % 65536 ≡ self.now }
+    {
+        rollovers(self.number)
+    }
+}
+
+impl fmt::Display for SeqNo {
+    ghost use Rattle.std.specs.Prelude.{Some};
+    ghost use Rattle.std.specs.Fmt.{decimal};
+
+    ghost output = { λ seq. Some (decimal seq) };
+
+    fn fmt<W: fmt::Write>(&self, f: &mut fmt::Formatter<W>) -> fmt::Result {
+        let number = self.get();
+        write!(f, "{number}")
+    }
+}

@@ -1,0 +1,148 @@
+//! What the ids that are texts have in common, over their size.
+
+ghost use Rattle.std.specs.Prelude.{◌≡◌, ◌≢◌, ℕ, ◌<◌, ◌≤◌, ◌||◌, ◌↔◌, length, take, drop, slice_index, nat_lt, nat_le, IsTrue, IfSome, IfNone, All, ◌==◌};
+ghost use Rattle.std.specs.List.{position_or_len};
+ghost use Rattle.rtp_base.specs.Id.{id_char, id_text, before_padding, IsIdOf, IsIdByte, IsIdArray};
+
+use std::marker::Model;
+use std::str;
+
+/// The text of an id: letters, digits and underscores, and spaces behind them up to the size.
+#[derive(Clone, Copy, PartialEq, Eq, Hash, PartialOrd, Ord)]
+pub(super) struct IdText<const N: usize> {
+    bytes: [u8; N],
+}
+
+impl<const N: usize> Model for IdText<N> {
+    ghost use Rattle.std.specs.Prelude.{List, ℕ};
+    ghost use Rattle.rtp_base.specs.Id.{IsIdArray};
+
+    ghost Value = { List ℕ };
+
+    ghost view = { λ t. t.bytes };
+
+    ghost invariant = { λ t. IsIdArray t.bytes };
+
+    ghost inverse = { λ bytes. record { bytes = bytes } };
+}
+
+// Whether a byte of UTF-8 begins a character.
+fn begins_char(byte: u8) -> bool
+    ensures { result ≡ (nat_lt byte 128 || nat_le 192 byte) }
+{
+    byte < 128 || byte >= 192
+}
+
+// The byte that an id has for a character, by the byte that begins it.
+fn id_byte(byte: u8) -> u8
+    ensures { result ≡ id_char byte }
+{
+    if byte.is_ascii_alphanumeric() {
+        byte
+    } else {
+        b'_'
+    }
+}
+
+// Whether a byte may stand in an id.
+fn is_id_byte(byte: u8) -> bool
+    ensures { IsTrue result ↔ IsIdByte byte }
+{
+    byte.is_ascii_alphanumeric() || byte == b'_'
+}
+
+// Where the padding begins.
+fn first_space(bytes: &[u8]) -> Option<usize>
+    ensures found { IfSome result (λ place. (place < length bytes.now) × (slice_index bytes.now place ≡ 32)
+        × ((k : ℕ) → k < place → slice_index bytes.now k ≢ 32)) }
+    ensures none { IfNone result ((k : ℕ) → k < length bytes.now → slice_index bytes.now k ≢ 32) }
+{
+    bytes.iter().position(|byte| *byte == b' ')
+}
+
+// How long the text before the padding is.
+fn text_len(bytes: &[u8]) -> usize
+    ensures place { result ≡ position_or_len (λ b. b == 32) bytes.now }
+    ensures within { result ≤ length bytes.now }
+{
+    match first_space(bytes) {
+        Some(place) => place,
+        None => bytes.len(),
+    }
+}
+
+// Whether each byte may stand in an id.
+fn are_id_bytes(bytes: &[u8]) -> bool
+    ensures { IsTrue result ↔ All IsIdByte bytes.now }
+{
+    bytes.iter().all(|byte| is_id_byte(*byte))
+}
+
+// Whether each byte is a space.
+fn are_spaces(bytes: &[u8]) -> bool
+    ensures { IsTrue result ↔ All (λ b. b ≡ 32) bytes.now }
+{
+    bytes.iter().all(|byte| *byte == b' ')
+}
+
+// Whether the bytes are letters, digits and underscores, and behind them only spaces.
+fn is_padded_text(bytes: &[u8]) -> bool
+    ensures { IsTrue result ↔ IsIdArray bytes.now }
+{
+    let (text, spaces) = bytes.split_at(text_len(bytes));
+    are_id_bytes(text) && are_spaces(spaces)
+}
+
+// Puts the text of an id to the front of the bytes, and answers its length.
+fn put_text(text: &str, bytes: &mut [u8]) -> usize
+    ensures text { take result bytes.new ≡ id_text (length bytes.old) text.now }
+    ensures rest { drop result bytes.new ≡ drop result bytes.old }
+    ensures within { result ≤ length bytes.old }
+{
+    let mut len = 0;
+    for byte in text.as_bytes() {
+        if len == bytes.len() {
+            break;
+        }
+        if begins_char(*byte) {
+            bytes[len] = id_byte(*byte);
+            len += 1;
+        }
+    }
+    len
+}
+
+impl<const N: usize> IdText<N> {
+    // The id of a text.
+    pub(super) fn of(text: &str) -> Self
+        ensures { IsIdOf N text.now result }
+    {
+        let mut bytes = [b' '; N];
+        put_text(text, &mut bytes);
+        IdText { bytes }
+    }
+
+    // Whether the bytes are an id's.
+    pub(super) fn is_id_array(bytes: &[u8; N]) -> bool
+        ensures { IsTrue result ↔ IsIdArray bytes.now }
+    {
+        is_padded_text(bytes)
+    }
+
+    // The id of these bytes.
+    pub(super) fn from_array(bytes: [u8; N]) -> Self
+        requires { IsIdArray bytes }
+        ensures { result ≡ bytes.entry }
+    {
+        IdText { bytes }
+    }
+
+    // The text before the padding.
+    pub(super) fn as_str(&self) -> &str
+        ensures { result.now ≡ before_padding self.now }
+    {
+        let text = &self.bytes[..text_len(&self.bytes)];
+        // An id's bytes are ASCII.
+        unsafe { str::from_utf8_unchecked(text) }
+    }
+}
