@@ -1,3 +1,4 @@
 mod DirectionLemmas
 mod IdLemmas
 mod IdTextLemmas
+mod WindowLemmas

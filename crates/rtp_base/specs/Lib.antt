@@ -1,3 +1,4 @@
 -- What contracts rest on.
 pub mod Id
 pub mod Direction
+pub mod Window

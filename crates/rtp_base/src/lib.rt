@@ -4,7 +4,9 @@
 mod dir;
 mod error;
 mod id;
+mod seq_no_window;
 
 pub use dir::Direction;
 pub use error::RtpError;
 pub use id::{Mid, MidRid, Pt, Rid, SeqNo, SessionId, Ssrc, TwccClusterId, TwccSeq};
+pub use seq_no_window::SeqNoWindow;

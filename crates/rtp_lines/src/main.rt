@@ -1,4 +1,5 @@
-//! Prints the RTP headers of datagrams, each a line of hexadecimal on standard input.
+//! Prints the RTP headers of datagrams, each a line of hexadecimal on standard input, and which of
+//! them a receiver takes.
 #![tactic(auto)]
 
 ghost use Rattle.std.specs.Prelude.{◌≡◌, ◌≢◌, ◌⊎◌, List, ℕ, IfOk, IfErr, IfSome, OnOk};
@@ -11,8 +12,8 @@ mod report;
 mod tests;
 
 use input::Refusal;
-use report::HeaderLine;
-use rtp_wire::{ExtensionMap, RtpHeader};
+use report::{HeaderLine, VerdictLine};
+use rtp_wire::{ExtensionMap, RtpHeader, receive_run};
 use std::alloc::{AllocError, Global};
 use std::io;
 use std::io::{BufWriter, ErrorKind, Read, Write};
@@ -78,19 +79,25 @@ fn read_all<R: Read>(alloc: Global, input: &mut R) -> Result<Vec<u8>, RunEnd>
     Ok(text)
 }
 
-// Reports each datagram in order.
+// Reports each datagram in order: its header, and what a receiver says of it.
 fn report_all<W: Write>(alloc: Global, datagrams: &[Vec<u8>], output: &mut W) -> Result<(), RunEnd>
     ensures { IfErr result (λ end. (end ≡ RunEnd.NoMemory) ⊎ (end ≡ RunEnd.Io)) }
 {
     let exts = ExtensionMap::empty();
+    let verdicts = receive_run(alloc, datagrams, &exts)?;
     let mut lines = BufWriter::new(alloc, output).map_err(|_| RunEnd::NoMemory)?;
-    for (index, datagram) in datagrams.iter().enumerate() {
+    for (index, (datagram, verdict)) in datagrams.iter().zip(&verdicts).enumerate() {
+        let packet = index as u64 + 1;
         let header = RtpHeader::parse(alloc, datagram, &exts)?;
-        let line = HeaderLine {
-            packet: index as u64 + 1,
+        let header = HeaderLine {
+            packet,
             header: header.as_ref(),
         };
-        writeln!(lines, "{line}").map_err(unwritten)?;
+        let verdict = VerdictLine {
+            packet,
+            verdict: *verdict,
+        };
+        writeln!(lines, "{header}\n{verdict}").map_err(unwritten)?;
     }
     lines.flush().map_err(unwritten)
 }
@@ -117,7 +124,8 @@ fn report_input<R: Read, W: Write>(
     }
 }
 
-/// Reads all input, and prints a line for each datagram in order: its header, or that it has none.
+/// Reads all input, and prints two lines for each datagram in order: its header, or that it has none,
+/// and the verdict of a receiver that gets them all.
 /// A line of the input ends with LF or CR LF, and is a datagram in hexadecimal of either case; an
 /// empty one is the empty datagram.
 ///

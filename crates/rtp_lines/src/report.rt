@@ -1,6 +1,6 @@
 //! The lines that are printed.
 
-use rtp_wire::RtpHeader;
+use rtp_wire::{RtpHeader, Verdict};
 use std::fmt;
 
 /// What is printed of one datagram: its header, or that it has none.
@@ -51,6 +51,25 @@ impl fmt::Display for HeaderLine<'_> {
                 write_stream(header, f)?;
                 write_shape(header, f)
             }
+        }
+    }
+}
+
+/// What is printed of one datagram: what a receiver says of it.
+#[derive(Drop)]
+pub struct VerdictLine {
+    /// Which datagram it is, from 1.
+    pub packet: u64,
+    pub verdict: Verdict,
+}
+
+impl fmt::Display for VerdictLine {
+    fn fmt<W: fmt::Write>(&self, f: &mut fmt::Formatter<W>) -> fmt::Result {
+        let packet = self.packet;
+        match self.verdict {
+            Verdict::Taken(number) => write!(f, "verdict {packet}: taken {number}"),
+            Verdict::Refused => write!(f, "verdict {packet}: refused"),
+            Verdict::Unreadable => write!(f, "verdict {packet}: unreadable"),
         }
     }
 }

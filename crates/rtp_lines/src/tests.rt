@@ -11,18 +11,40 @@ use std::test::Fail;
 const PLAIN: &[u8] = b"8021B798000027100000002C\n";
 
 const PLAIN_REPORT: &str = "packet 1: pt 33 seq 47000 ts 10000 ssrc 44 marker no padding no \
-extension no csrc 0 header 12\n";
+extension no csrc 0 header 12\nverdict 1: taken 47000\n";
+
+// Two numbers in a row across a rollover, the first again, no header, and the number behind.
+const STREAM: &[u8] = b"8001FFFF0000000000000000\n800100000000000000000000\n\
+8001FFFF0000000000000000\n\n800100010000000000000000\n";
+
+const STREAM_REPORT: &str =
+    "packet 1: pt 1 seq 65535 ts 0 ssrc 0 marker no padding no extension no csrc 0 header 12
+verdict 1: taken 65535
+packet 2: pt 1 seq 0 ts 0 ssrc 0 marker no padding no extension no csrc 0 header 12
+verdict 2: taken 65536
+packet 3: pt 1 seq 65535 ts 0 ssrc 0 marker no padding no extension no csrc 0 header 12
+verdict 3: refused
+packet 4: unreadable
+verdict 4: unreadable
+packet 5: pt 1 seq 1 ts 0 ssrc 0 marker no padding no extension no csrc 0 header 12
+verdict 5: taken 65537
+";
 
 // An input, how its run ends, and what the run prints.
-const RUNS: [(&[u8], RunEnd, &str); 15] = [
+const RUNS: [(&[u8], RunEnd, &str); 16] = [
     (PLAIN, RunEnd::Done, PLAIN_REPORT),
+    (STREAM, RunEnd::Done, STREAM_REPORT),
     (b"", RunEnd::Done, ""),
     (
         b"80\n\n",
         RunEnd::Done,
-        "packet 1: unreadable\npacket 2: unreadable\n",
+        "packet 1: unreadable\nverdict 1: unreadable\npacket 2: unreadable\nverdict 2: unreadable\n",
     ),
-    (b"\r\n", RunEnd::Done, "packet 1: unreadable\n"),
+    (
+        b"\r\n",
+        RunEnd::Done,
+        "packet 1: unreadable\nverdict 1: unreadable\n",
+    ),
     // Lower case, and a last line without its line feed.
     (b"8021b798000027100000002c", RunEnd::Done, PLAIN_REPORT),
     // A carriage return goes with the line feed behind it, and with nothing else.
@@ -62,13 +84,13 @@ const RUNS: [(&[u8], RunEnd, &str); 15] = [
     (
         b"B2E1FFFF0102030400000000000000640000006510000001AABBCCDD\n",
         RunEnd::Done,
-        "packet 1: pt 97 seq 65535 ts 16909060 ssrc 0 marker yes padding yes extension yes csrc 2 header 28\n",
+        "packet 1: pt 97 seq 65535 ts 16909060 ssrc 0 marker yes padding yes extension yes csrc 2 header 28\nverdict 1: taken 65535\n",
     ),
     // The same with its last byte gone.
     (
         b"B2E1FFFF0102030400000000000000640000006510000001AABBCC\n",
         RunEnd::Done,
-        "packet 1: unreadable\n",
+        "packet 1: unreadable\nverdict 1: unreadable\n",
     ),
     // What follows the header is not looked at.
     (

@@ -7,3 +7,9 @@ mod directions;
 mod headers;
 #[cfg(test)]
 mod ids;
+#[cfg(test)]
+mod runs;
+#[cfg(test)]
+mod widenings;
+#[cfg(test)]
+mod windows;

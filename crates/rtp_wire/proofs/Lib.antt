@@ -7,3 +7,5 @@ mod ParseLemmas
 mod PlacingLemmas
 mod RoundTrip
 mod StandardFacts
+mod WideningLemmas
+mod ReceiveLemmas

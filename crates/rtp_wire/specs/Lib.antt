@@ -5,6 +5,11 @@ pub mod Block
 pub mod Header
 pub mod Refusal
 pub mod Written
+-- Numbers over time.
+pub mod Widening
+pub mod Verdicts
 -- What the inside promises itself.
 pub mod Reading
 pub mod Placing
+pub mod Turns
+pub mod Receiving

@@ -1,8 +1,11 @@
-//! RTP packet headers: from bytes to a header and back (RFC 3550, 5.1; RFC 8285).
+//! RTP packet headers: from bytes to a header and back (RFC 3550, 5.1; RFC 8285), and the numbers of
+//! the packets that a stream brings.
 #![tactic(auto)]
 
 mod ext;
 mod header;
+mod receive;
 
 pub use ext::{ExtensionMap, ExtensionValues, ExtensionsForm};
-pub use header::RtpHeader;
+pub use header::{RtpHeader, extend_u7, extend_u8, extend_u15, extend_u16, extend_u32};
+pub use receive::{Verdict, receive_run};
