@@ -1,3 +1,4 @@
+mod KindLemmas
 mod FlagLemmas
 mod GroupLemmas
 mod BlockLemmas

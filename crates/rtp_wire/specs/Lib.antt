@@ -1,5 +1,6 @@
 -- What contracts rest on, from the bytes up.
 pub mod Form
+pub mod Kind
 pub mod Values
 pub mod Block
 pub mod Header
@@ -9,6 +10,7 @@ pub mod Written
 pub mod Widening
 pub mod Verdicts
 -- What the inside promises itself.
+pub mod KindRow
 pub mod Reading
 pub mod Placing
 pub mod Turns

@@ -6,6 +6,6 @@ mod ext;
 mod header;
 mod receive;
 
-pub use ext::{ExtensionMap, ExtensionValues, ExtensionsForm};
+pub use ext::{Extension, ExtensionMap, ExtensionValues, ExtensionsForm, Uri};
 pub use header::{RtpHeader, extend_u7, extend_u8, extend_u15, extend_u16, extend_u32};
 pub use receive::{Verdict, receive_run};

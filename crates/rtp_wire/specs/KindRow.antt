@@ -1,0 +1,7 @@
+-- The table of the kinds as the code reads it.
+use Rattle.rtp_wire.specs.declared.ext.kind.Row.{Row}
+use Rattle.rtp_wire.specs.Kind.{Kind}
+
+-- what a row says of its kind
+abbrev pub kind_in : Row → Kind
+kind_in row = record { uri = row.uri.now; name = row.name.now; audio = row.audio; video = row.video }
