@@ -1,4 +1,5 @@
 mod KindLemmas
+mod MapLemmas
 mod FlagLemmas
 mod GroupLemmas
 mod BlockLemmas

@@ -1,6 +1,7 @@
 -- What contracts rest on, from the bytes up.
 pub mod Form
 pub mod Kind
+pub mod ExtensionMap
 pub mod Values
 pub mod Block
 pub mod Header
@@ -11,6 +12,7 @@ pub mod Widening
 pub mod Verdicts
 -- What the inside promises itself.
 pub mod KindRow
+pub mod Places
 pub mod Reading
 pub mod Placing
 pub mod Turns

@@ -1,18 +1,141 @@
 //! Which extension stands behind which id.
 
-ghost use Rattle.std.specs.Prelude.{◌≡◌};
+ghost use Rattle.std.specs.Prelude.{◌≡◌, ◌≢◌, ℕ, true, IfOk, IfSome, IfNone, map};
+ghost use Rattle.std.specs.Option.{option_copied};
+ghost use Rattle.rtp_wire.specs.ExtensionMap as spec;
 
-/// The extensions that two peers have agreed on, by their id (RFC 8285, 5). In this version
-/// nothing can be mapped yet, so a block's elements are measured and passed over.
-#[derive(Debug, Drop)]
-#[non_exhaustive]
-pub struct ExtensionMap {}
+use super::entry::Entry;
+use super::{Extension, slots};
+use std::alloc::{AllocError, Global};
+use std::array;
+use std::marker::Model;
+
+/// The greatest id that an element of the one-byte form can have (RFC 8285, 4.2).
+pub const MAX_ID_ONE_BYTE_FORM: u8 = 14;
+
+/// The greatest id that a map has room for.
+pub const MAX_ID: u8 = 16;
+
+/// The extensions that two peers have agreed on, by their id (RFC 8285, 5): a map from the ids 1 to
+/// [`MAX_ID`] to extensions. One extension may stand behind several ids. An entry is locked once a
+/// renegotiation has placed it, and a later one leaves it where it is.
+///
+/// Two maps are equal where they have equal entries behind the same ids, locked alike.
+#[derive(PartialEq, Eq, Drop)]
+pub struct ExtensionMap {
+    // What stands behind the ids from 1 on.
+    slots: [Option<Entry>; MAX_ID as usize],
+}
+
+impl Model for ExtensionMap {
+    ghost use Rattle.std.specs.Prelude.{◌≡◌, length};
+    ghost use Rattle.rtp_wire.specs.ExtensionMap.{Slots};
+    ghost use Rattle.rtp_wire.specs.declared.ext.map.TheConstants.{MAX_ID};
+
+    ghost Value = { Slots };
+
+    ghost view = { λ map. map.slots };
+
+    ghost invariant = { λ map. length map.slots ≡ MAX_ID };
+
+    ghost inverse = { λ slots. record { slots = slots } };
+}
 
 impl ExtensionMap {
     /// A map in which no id stands for an extension. Takes no memory.
     pub fn empty() -> Self
-        ensures { result ≡ record {} }
+        ensures { spec.IsEmpty result }
     {
-        ExtensionMap {}
+        ExtensionMap {
+            slots: array::from_fn(|_| None),
+        }
+    }
+
+    /// The ids that browsers offer for audio and video: 1 audio level, 2 absolute send time,
+    /// 3 transport sequence number, 4 mid, 10 stream id, 11 repaired stream id, 13 video
+    /// orientation. Nothing is locked. Takes no memory.
+    pub fn standard() -> Self
+        ensures items { spec.IsListing result (λ _. true) spec.standard_items }
+        ensures unlocked { spec.IsUnlocked result }
+    {
+        let mut exts = Self::empty();
+        exts.set(1, Extension::AudioLevel);
+        exts.set(2, Extension::AbsoluteSendTime);
+        exts.set(3, Extension::TransportSequenceNumber);
+        exts.set(4, Extension::RtpMid);
+        exts.set(10, Extension::RtpStreamId);
+        exts.set(11, Extension::RepairedRtpStreamId);
+        exts.set(13, Extension::VideoOrientation);
+        exts
+    }
+
+    /// Takes every extension out of the map.
+    pub fn clear(&mut self)
+        ensures { spec.IsEmpty self.new }
+    {
+        *self = Self::empty();
+    }
+
+    /// Puts the extension behind the id, unlocked, in place of what stood there. An id that the map
+    /// has no room for, 0 or one above [`MAX_ID`], changes nothing.
+    pub fn set(&mut self, id: u8, ext: Extension)
+        ensures within { spec.IsId id → spec.Sets self.old self.new id (spec.unlocked ext) }
+        ensures outside { (spec.IsId id → ⊥) → self.new ≡ self.old }
+    {
+        if let Some(slot) = slots::slot_of(id) {
+            self.slots[slot] = Some(Entry::from(ext));
+        }
+    }
+
+    /// The extension behind the id, and None where there is none or the map has no such id.
+    pub fn lookup(&self, id: u8) -> Option<&Extension>
+        ensures { option_copied result ≡ spec.extension_at self.now id }
+    {
+        slots::entry(&self.slots, id).map(|entry| &entry.extension)
+    }
+
+    /// The lowest id that stands for the extension.
+    pub fn id_of(&self, ext: Extension) -> Option<u8>
+        ensures found { IfSome result (spec.IsLowest self.now ext) }
+        ensures none { IfNone result (spec.IsUnmapped self.now ext) }
+    {
+        slots::id_of(&self.slots, &ext)
+    }
+
+    /// The entries of the extensions that go with audio, or else with video, all unlocked. Takes no
+    /// memory, since an unknown extension goes with neither.
+    pub fn cloned_with_type(&self, audio: bool) -> Self
+        ensures { (id : ℕ) →
+            spec.entry_at result id ≡ spec.of_medium audio (spec.entry_at self.now id) }
+    {
+        let mut exts = Self::empty();
+        slots::copy_of_medium(&self.slots, &mut exts.slots, audio);
+        exts
+    }
+
+    /// Takes up what the peer wants in a renegotiation, one step after another: for each pair the
+    /// extension is to stand behind the id. A pair whose id the map has no room for, or whose
+    /// extension isn't mapped, changes nothing. The lowest id of the extension counts. Where that
+    /// is the id, its entry is locked. Where it is another and locked, nothing changes. Else the
+    /// entry moves to the id and is locked there, and what stood there, locked or not, takes its
+    /// place.
+    pub fn remap(&mut self, steps: &[(u8, &Extension)])
+        ensures steps { spec.AreRemapped self.old (map (λ step. (step.0, step.1.now)) steps.now) self.new }
+        ensures renumbered { spec.IsRenumbered self.old self.new }
+    {
+        for (id, ext) in steps {
+            slots::remap(&mut self.slots, *id, ext);
+        }
+    }
+
+    /// The same map. Only the texts of unknown extensions take memory, and where that is refused
+    /// nothing is handed out.
+    pub fn clone(&self, alloc: Global) -> Result<Self, AllocError>
+        ensures same { IfOk result (λ copy. copy ≡ self.now) }
+        ensures known { spec.HasNoText self.now → result ≡ Ok self.now }
+    {
+        let mut copy = Self::empty();
+        slots::copy(alloc, &self.slots, &mut copy.slots)?;
+        Ok(copy)
     }
 }

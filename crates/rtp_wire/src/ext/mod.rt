@@ -1,13 +1,15 @@
 //! Header extensions: the kinds, the form of a block, what is mapped, and the values that were read.
 
+mod entry;
 mod form;
 mod kind;
 mod map;
+mod slots;
 mod uri;
 mod values;
 
 pub use form::ExtensionsForm;
 pub use kind::Extension;
-pub use map::ExtensionMap;
+pub use map::{ExtensionMap, MAX_ID, MAX_ID_ONE_BYTE_FORM};
 pub use uri::Uri;
 pub use values::ExtensionValues;

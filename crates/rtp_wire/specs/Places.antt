@@ -1,0 +1,10 @@
+-- The places of a map as the code goes through them: that of id 1 is place 0.
+use Rattle.std.specs.Prelude.{◌≡◌, ◌≢◌, ℕ, ◌<◌, length, Some, None, slice_index_or}
+use Rattle.rtp_wire.specs.declared.ext.kind.Extension.{Extension}
+use Rattle.rtp_wire.specs.ExtensionMap.{Slots, extension_of}
+
+-- the first place in which the extension stands
+pub record IsFirst (map : Slots) (extension : Extension) (place : ℕ) : Type 0 where
+  pub within : place < length map
+  pub here : extension_of (slice_index_or map place None) ≡ Some extension
+  pub before : (k : ℕ) → k < place → extension_of (slice_index_or map k None) ≢ Some extension

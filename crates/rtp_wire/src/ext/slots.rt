@@ -1,0 +1,131 @@
+//! The places of a map, one for each id from 1 on.
+
+ghost use Rattle.std.specs.Prelude.{◌≡◌, ◌≢◌, ◌↔◌, ℕ, ◌+◌, ◌<◌, length, slice_index_or, IsTrue, IsOk, IfOk, IfSome, IfNone, Some, None, map};
+ghost use Rattle.std.specs.Option.{option_copied, option_map};
+ghost use Rattle.rtp_wire.specs.ExtensionMap as spec;
+ghost use Rattle.rtp_wire.specs.Places.{IsFirst};
+
+use super::Extension;
+use super::entry::Entry;
+use super::map::MAX_ID;
+use std::alloc::{AllocError, Global};
+
+// The place of an id that the map has room for.
+pub(super) fn slot_of(id: u8) -> Option<usize>
+    ensures found { IfSome result (λ slot. (slot + 1 ≡ id) × (slot < MAX_ID)) }
+    ensures none { IfNone result (spec.IsId id → ⊥) }
+{
+    if (1..=MAX_ID).contains(&id) {
+        Some(usize::from(id) - 1)
+    } else {
+        None
+    }
+}
+
+// What stands in the place of an id.
+pub(super) fn entry(slots: &[Option<Entry>], id: u8) -> Option<&Entry>
+    requires { length slots.now ≡ MAX_ID }
+    ensures { option_copied result ≡ spec.entry_at slots.now id }
+{
+    slots.get(usize::from(id).checked_sub(1)?)?.as_ref()
+}
+
+// Whether this extension stands in the place.
+fn holds(slot: &Option<Entry>, ext: &Extension) -> bool
+    ensures { IsTrue result ↔ (spec.extension_of slot.now ≡ Some ext.now) }
+{
+    match slot {
+        Some(entry) => entry.extension == *ext,
+        None => false,
+    }
+}
+
+// The first place in which the extension stands.
+fn place_of(slots: &[Option<Entry>], ext: &Extension) -> Option<usize>
+    ensures found { IfSome result (IsFirst slots.now ext.now) }
+    ensures none { IfNone result (spec.IsUnmapped slots.now ext.now) }
+{
+    slots.iter().position(|slot| holds(slot, ext))
+}
+
+// The id of the first place in which the extension stands.
+pub(super) fn id_of(slots: &[Option<Entry>], ext: &Extension) -> Option<u8>
+    requires { length slots.now ≡ MAX_ID }
+    ensures found { IfSome result (spec.IsLowest slots.now ext.now) }
+    ensures none { IfNone result (spec.IsUnmapped slots.now ext.now) }
+{
+    let place = place_of(slots, ext)?;
+    Some(place as u8 + 1)
+}
+
+// Whether what stands in the place is locked there.
+fn is_locked(slot: &Option<Entry>) -> bool
+    ensures { IsTrue result ↔ spec.IsLocked slot.now }
+{
+    match slot {
+        Some(entry) => entry.locked,
+        None => false,
+    }
+}
+
+// Locks what stands in the place.
+fn lock(slot: &mut Option<Entry>)
+    ensures { slot.new ≡ option_map (λ entry. spec.locked entry.extension) slot.old }
+{
+    if let Some(entry) = slot {
+        entry.locked = true;
+    }
+}
+
+// What stands in the place where it is of this medium, unlocked.
+fn of_medium(slot: &Option<Entry>, audio: bool) -> Option<Entry>
+    ensures { result ≡ spec.of_medium audio slot.now }
+{
+    slot.as_ref()?.of_medium(audio)
+}
+
+// The entries of this medium, unlocked, in the places of another map.
+pub(super) fn copy_of_medium(from: &[Option<Entry>], to: &mut [Option<Entry>], audio: bool)
+    requires { length from.now ≡ length to.old }
+    ensures { to.new ≡ map (spec.of_medium audio) from.now }
+{
+    for (slot, kept) in to.iter_mut().zip(from) {
+        *slot = of_medium(kept, audio);
+    }
+}
+
+// One step of a renegotiation.
+pub(super) fn remap(slots: &mut [Option<Entry>], id: u8, ext: &Extension)
+    requires { length slots.old ≡ MAX_ID }
+    ensures step { spec.Remaps slots.old id ext.now slots.new }
+    ensures renumbered { spec.IsRenumbered slots.old slots.new }
+{
+    let Some(to) = slot_of(id) else { return };
+    let Some(from) = place_of(slots, ext) else {
+        return
+    };
+    if from != to && is_locked(&slots[from]) {
+        return;
+    }
+    lock(&mut slots[from]);
+    slots.swap(from, to);
+}
+
+// The same entries in the places of another map.
+pub(super) fn copy(
+    alloc: Global,
+    from: &[Option<Entry>],
+    to: &mut [Option<Entry>],
+) -> Result<(), AllocError>
+    requires { length from.now ≡ length to.old }
+    ensures same { IfOk result (λ _. to.new ≡ from.now) }
+    ensures known { spec.HasNoText from.now → IsOk result }
+{
+    for (slot, kept) in to.iter_mut().zip(from) {
+        *slot = match kept {
+            Some(entry) => Some(entry.clone(alloc)?),
+            None => None
+        };
+    }
+    Ok(())
+}
