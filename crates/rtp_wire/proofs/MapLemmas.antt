@@ -1,6 +1,8 @@
 -- The map of extension ids: what stands behind an id once places have changed.
-use Rattle.std.proofs.Common.{◌≡◌, ◌≢◌, ℕ, ◌+◌, ◌-◌, ◌<◌, ◌≤◌, ◌⊎◌, inl, inr, suc, zero, List, [], ◌∷◌, length, get_or, set, Bool, true, false, Option, Some, None, arith, ap, refl, sym, ◌∙◌, subst, get_or-set_same, get_or-set_other, ◌==◌, if◌then◌else◌}
-use Rattle.std.proofs.lemmas.List.{get_or_past, length-set}
+use Rattle.std.proofs.Common.{◌≡◌, ◌≢◌, ℕ, ◌+◌, ◌-◌, ◌<◌, ◌≤◌, ◌⊎◌, inl, inr, suc, zero, List, [], ◌∷◌, length, map, drop, get_or, set, Bool, true, false, Option, Some, None, arith, ap, refl, sym, ◌∙◌, subst, get_or-set_same, get_or-set_other, ◌==◌, if◌then◌else◌}
+use Rattle.std.proofs.lemmas.List.{get_or_past, length-map, length-set}
+use Rattle.std.proofs.Math.ListN.{get_or-map}
+use Rattle.std.proofs.Math.Seq.{drop-cons}
 use Rattle.std.proofs.lemmas.List.Edits.{Swapped, swapped_from_swap}
 use Rattle.std.specs.List.{swap}
 use Rattle.std.specs.Option.{option_map}
@@ -10,15 +12,15 @@ use Rattle.rtp_wire.specs.declared.ext.entry.Entry.{Entry}
 use Rattle.rtp_wire.specs.declared.ext.kind.Extension.{Extension}
 use Rattle.rtp_wire.specs.declared.ext.map.TheConstants.{MAX_ID}
 use Rattle.rtp_wire.specs.Places.{IsFirst}
-use Rattle.rtp_wire.specs.ExtensionMap.{Slots, IsEmpty, IsId, entry_at, extension_at, extension_of, Sets, Exchanges, IsRenumbered, IsLocked, IsLockedAt, locked, IsLowest, Remaps, out_of_range, not_mapped, same_place, locked_elsewhere, moved}
+use Rattle.rtp_wire.specs.ExtensionMap.{Slots, IsEmpty, IsId, entry_at, extension_at, extension_of, Sets, Exchanges, IsRenumbered, IsLocked, IsLockedAt, locked, IsLowest, Remaps, AreRemapped, out_of_range, not_mapped, same_place, locked_elsewhere, moved}
 
 -- nothing stands in a place where nothing does in any
 pub IsEmpty-from_each : (slots : Slots) → ((k : ℕ) → k < length slots → get_or slots k None ≡ None) → IsEmpty slots
 IsEmpty-from_each slots each zero = refl
 IsEmpty-from_each slots each (suc k) = elim (cases_lt k (length slots)) [
-    inl here ↦ each k here
+  | inl here ↦ each k here
   | inr past ↦ get_or_past slots k None past
-  ]
+]
 
 -- the id of a place is one more than the place
 pub entry_at-place : (slots : Slots) (k id : ℕ) → k + 1 ≡ id → entry_at slots id ≡ get_or slots k None
@@ -57,13 +59,13 @@ exchanged-other a b n isnt isnt_either = rw (ne_eqb n a isnt, ne_eqb n b isnt_ei
 
 exchanged-twice : (a b n : ℕ) → a ≢ b → exchanged a b (exchanged a b n) ≡ n
 exchanged-twice a b n apart = elim (eqb_tells n a) [
-    inl is ↦ ap (exchanged a b) (exchanged-first a b n is.1) ∙ (exchanged-second a b b (λ same. apart (sym same)) refl ∙ sym is.1)
+  | inl is ↦ ap (exchanged a b) (exchanged-first a b n is.1) ∙ (exchanged-second a b b (λ same. apart (sym same)) refl ∙ sym is.1)
   | inr isnt ↦ elim (eqb_tells n b) [
-        inl is ↦ ap (exchanged a b) (exchanged-second a b n isnt.1 is.1) ∙ (exchanged-first a b a refl ∙ sym is.1)
-      | inr isnt_either ↦
-            ap (exchanged a b) (exchanged-other a b n isnt.1 isnt_either.1) ∙ exchanged-other a b n isnt.1 isnt_either.1
-      ]
+    | inl is ↦ ap (exchanged a b) (exchanged-second a b n isnt.1 is.1) ∙ (exchanged-first a b a refl ∙ sym is.1)
+    | inr isnt_either ↦
+        ap (exchanged a b) (exchanged-other a b n isnt.1 isnt_either.1) ∙ exchanged-other a b n isnt.1 isnt_either.1
   ]
+]
 
 -- nothing changed
 pub IsRenumbered-same : (old new : Slots) → new ≡ old → IsRenumbered old new
@@ -99,13 +101,13 @@ IsRenumbered-locked old new id extension was sets = record {
   once = λ j. refl;
   onto = λ j. refl;
   extensions = λ j. elim (eqb_tells j id) [
-      inl is ↦ ap (extension_at new) is.1 ∙ (ap extension_of sets.this ∙ (sym was ∙ ap (extension_at old) (sym is.1)))
+    | inl is ↦ ap (extension_at new) is.1 ∙ (ap extension_of sets.this ∙ (sym was ∙ ap (extension_at old) (sym is.1)))
     | inr isnt ↦ ap extension_of (sets.others j isnt.1)
-    ];
+  ];
   locks = λ j is_locked. elim (eqb_tells j id) [
-      inl is ↦ locked-at new j extension (ap (entry_at new) is.1 ∙ sets.this)
+    | inl is ↦ locked-at new j extension (ap (entry_at new) is.1 ∙ sets.this)
     | inr isnt ↦ subst IsLocked (sym (sets.others j isnt.1)) is_locked
-    ];
+  ];
 }
 
 -- two entries change places, and the first is locked now
@@ -117,24 +119,24 @@ IsRenumbered-exchanged old new from to extension apart was change = record {
   once = λ j. exchanged-twice from to j apart;
   onto = λ j. exchanged-twice from to j apart;
   extensions = λ j. elim (eqb_tells j from) [
-      inl is ↦ ap (extension_at new) (exchanged-first from to j is.1)
-          ∙ (ap extension_of change.here ∙ (sym was ∙ ap (extension_at old) (sym is.1)))
+    | inl is ↦ ap (extension_at new) (exchanged-first from to j is.1)
+        ∙ (ap extension_of change.here ∙ (sym was ∙ ap (extension_at old) (sym is.1)))
     | inr isnt ↦ elim (eqb_tells j to) [
-          inl is ↦ ap (extension_at new) (exchanged-second from to j isnt.1 is.1)
-              ∙ (ap extension_of change.there ∙ ap (extension_at old) (sym is.1))
-        | inr isnt_either ↦ ap (extension_at new) (exchanged-other from to j isnt.1 isnt_either.1)
-              ∙ ap extension_of (change.others j isnt.1 isnt_either.1)
-        ]
-    ];
+      | inl is ↦ ap (extension_at new) (exchanged-second from to j isnt.1 is.1)
+          ∙ (ap extension_of change.there ∙ ap (extension_at old) (sym is.1))
+      | inr isnt_either ↦ ap (extension_at new) (exchanged-other from to j isnt.1 isnt_either.1)
+          ∙ ap extension_of (change.others j isnt.1 isnt_either.1)
+    ]
+  ];
   locks = λ j is_locked. elim (eqb_tells j from) [
-      inl is ↦ locked-at new _ extension (ap (entry_at new) (exchanged-first from to j is.1) ∙ change.here)
+    | inl is ↦ locked-at new _ extension (ap (entry_at new) (exchanged-first from to j is.1) ∙ change.here)
     | inr isnt ↦ elim (eqb_tells j to) [
-          inl is ↦ subst IsLocked
-              (ap (entry_at old) is.1 ∙ (sym change.there ∙ ap (entry_at new) (sym (exchanged-second from to j isnt.1 is.1)))) is_locked
-        | inr isnt_either ↦ subst IsLocked
-              (sym (change.others j isnt.1 isnt_either.1) ∙ ap (entry_at new) (sym (exchanged-other from to j isnt.1 isnt_either.1))) is_locked
-        ]
-    ];
+      | inl is ↦ subst IsLocked
+          (ap (entry_at old) is.1 ∙ (sym change.there ∙ ap (entry_at new) (sym (exchanged-second from to j isnt.1 is.1)))) is_locked
+      | inr isnt_either ↦ subst IsLocked
+          (sym (change.others j isnt.1 isnt_either.1) ∙ ap (entry_at new) (sym (exchanged-other from to j isnt.1 isnt_either.1))) is_locked
+    ]
+  ];
 }
 
 -- the first place in which an extension stands has its lowest id
@@ -170,48 +172,73 @@ pub IsStep-exchanged : (old new : Slots) (from to id : ℕ) (extension : Extensi
     → IsStep old new id extension
 IsStep-exchanged old new from to id extension long place within first free is =
     elim free [
-        inl same ↦
-            let sets : Sets old new id (locked extension) = record {
-                this = entry_at-place new to id place ∙ at_to;
-                others = entry_at-other old new to id place (λ k apart. elsewhere k (λ from_here. apart (from_here ∙ same)) apart);
-              } in
-            let mapped : extension_at old id ≡ Some extension =
-                ap (extension_at old) (omega (arith, place, same)) ∙ lowest.mapped in
-            record {
-              step = same_place is_id (subst (IsLowest old extension) (omega (arith, place, same)) lowest) sets;
-              renumbered = IsRenumbered-locked old new id extension mapped sets;
-            }
+      | inl same ↦
+          let sets : Sets old new id (locked extension) = record {
+            this = entry_at-place new to id place ∙ at_to;
+            others = entry_at-other old new to id place (λ k apart. elsewhere k (λ from_here. apart (from_here ∙ same)) apart);
+          } in
+          let mapped : extension_at old id ≡ Some extension =
+          ap (extension_at old) (omega (arith, place, same)) ∙ lowest.mapped in
+          record {
+            step = same_place is_id (subst (IsLowest old extension) (omega (arith, place, same)) lowest) sets;
+            renumbered = IsRenumbered-locked old new id extension mapped sets;
+          }
       | inr apart ↦
-            let exchange : Exchanges old new (from + 1) id extension = record {
-                here = entry_at-place new to id place ∙ at_to;
-                there = entry_at-place new from (from + 1) refl ∙ (at_from apart.0 ∙ sym (entry_at-place old to id place));
-                others = others;
-              } in
-            let apart_ids : from + 1 ≢ id = λ same. apart.0 (omega arith) in
-            record {
-              step = moved (from + 1) is_id lowest apart_ids
-                  (λ is_locked. apart.1 (subst IsLocked (entry_at-place old from (from + 1) refl) is_locked)) exchange;
-              renumbered = IsRenumbered-exchanged old new (from + 1) id extension apart_ids lowest.mapped exchange;
-            }
+          let exchange : Exchanges old new (from + 1) id extension = record {
+            here = entry_at-place new to id place ∙ at_to;
+            there = entry_at-place new from (from + 1) refl ∙ (at_from apart.0 ∙ sym (entry_at-place old to id place));
+            others = others;
+          } in
+          let apart_ids : from + 1 ≢ id = λ same. apart.0 (omega arith) in
+          record {
+            step = moved (from + 1) is_id lowest apart_ids
+                (λ is_locked. apart.1 (subst IsLocked (entry_at-place old from (from + 1) refl) is_locked)) exchange;
+            renumbered = IsRenumbered-exchanged old new (from + 1) id extension apart_ids lowest.mapped exchange;
+          }
     ]
   where
     is_id : IsId id
     is_id = (omega (arith, place), omega (arith, place, within))
+
     lowest : IsLowest old extension (from + 1)
     lowest = IsLowest-from_first old extension from first
+
     middle : Slots
     middle = set old from (Some (locked extension))
+
     swapped : Swapped (λ k. get_or middle k None) (λ k. get_or new k None) from to
     swapped = swapped_from_swap middle new from to None
         (omega (arith, first.within, length-set old from (Some (locked extension))))
         (omega (arith, long, within, length-set old from (Some (locked extension))))
         (is ∙ ap (λ entry. swap (set old from entry) from to) (lock-of (get_or old from None) extension first.here))
+
     at_to : get_or new to None ≡ Some (locked extension)
     at_to = swapped.1 ∙ get_or-set_same old from (Some (locked extension)) None first.within
+
     at_from : from ≢ to → get_or new from None ≡ get_or old to None
     at_from apart = swapped.0 ∙ get_or-set_other old from to (Some (locked extension)) None (λ same. apart (sym same))
+
     elsewhere : (k : ℕ) → k ≢ from → k ≢ to → get_or new k None ≡ get_or old k None
     elsewhere k not_from not_to = swapped.2 k not_from not_to ∙ get_or-set_other old from k (Some (locked extension)) None not_from
+
     others : (k : ℕ) → k ≢ from + 1 → k ≢ id → entry_at new k ≡ entry_at old k
     others zero not_from not_id = refl
     others (suc k) not_from not_id = elsewhere k (λ same. not_from (omega arith)) (λ same. not_id (omega arith))
+
+-- a step more at the front of those that are left
+pub AreRemapped-more : {X : Type 0} (f : X → ℕ × Extension) (steps : List X) (i : ℕ) (step : X) (old between new : Slots)
+    → i < length steps → step ≡ get_or steps i step → Remaps old (f step).0 (f step).1 between
+    → AreRemapped between (drop (i + 1) (map f steps)) new → AreRemapped old (drop i (map f steps)) new
+AreRemapped-more f steps i step old between new here is one rest =
+    let first : get_or (map f steps) i (f step) ≡ f step = get_or-map f steps i step ∙ ap f (sym is) in
+    let next : suc i ≡ i + 1 = omega arith in
+    let split : drop i (map f steps) ≡ f step ∷ drop (i + 1) (map f steps) =
+        drop-cons (map f steps) i (f step) (omega (arith, here, length-map steps f))
+        ∙ (ap (λ s. s ∷ drop (suc i) (map f steps)) first ∙ ap (λ (k : ℕ). f step ∷ drop k (map f steps)) next) in
+    subst (λ ss. AreRemapped old ss new) (sym split) (between, one, rest)
+
+-- what stands behind an id, once each place has been changed alike and an empty one stays so
+pub entry_at-map : (f : Option Entry → Option Entry) (slots : Slots) (id : ℕ) → f None ≡ None
+    → entry_at (map f slots) id ≡ f (entry_at slots id)
+entry_at-map f slots zero none = sym none
+entry_at-map f slots (suc k) none = ap (get_or (map f slots) k) (sym none) ∙ get_or-map f slots k None

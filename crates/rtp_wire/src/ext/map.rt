@@ -123,9 +123,7 @@ impl ExtensionMap {
         ensures steps { spec.AreRemapped self.old (map (λ step. (step.0, step.1.now)) steps.now) self.new }
         ensures renumbered { spec.IsRenumbered self.old self.new }
     {
-        for (id, ext) in steps {
-            slots::remap(&mut self.slots, *id, ext);
-        }
+        slots::remap(&mut self.slots, steps);
     }
 
     /// The same map. Only the texts of unknown extensions take memory, and where that is refused

@@ -2,6 +2,7 @@
 
 ghost use Rattle.std.specs.Prelude.{◌≡◌, ◌≢◌, ◌↔◌, ℕ, ◌+◌, ◌<◌, length, slice_index_or, IsTrue, IsOk, IfOk, IfSome, IfNone, Some, None, map};
 ghost use Rattle.std.specs.Option.{option_copied, option_map};
+ghost use Rattle.rtp_wire.specs.Kind.{IsKnown};
 ghost use Rattle.rtp_wire.specs.ExtensionMap as spec;
 ghost use Rattle.rtp_wire.specs.Places.{IsFirst};
 
@@ -89,13 +90,13 @@ pub(super) fn copy_of_medium(from: &[Option<Entry>], to: &mut [Option<Entry>], a
     requires { length from.now ≡ length to.old }
     ensures { to.new ≡ map (spec.of_medium audio) from.now }
 {
-    for (slot, kept) in to.iter_mut().zip(from) {
-        *slot = of_medium(kept, audio);
+    for (place, slot) in from.iter().enumerate() {
+        to[place] = of_medium(slot, audio);
     }
 }
 
 // One step of a renegotiation.
-pub(super) fn remap(slots: &mut [Option<Entry>], id: u8, ext: &Extension)
+fn remap_one(slots: &mut [Option<Entry>], id: u8, ext: &Extension)
     requires { length slots.old ≡ MAX_ID }
     ensures step { spec.Remaps slots.old id ext.now slots.new }
     ensures renumbered { spec.IsRenumbered slots.old slots.new }
@@ -111,6 +112,28 @@ pub(super) fn remap(slots: &mut [Option<Entry>], id: u8, ext: &Extension)
     slots.swap(from, to);
 }
 
+// The steps of a renegotiation, one after another.
+pub(super) fn remap(slots: &mut [Option<Entry>], steps: &[(u8, &Extension)])
+    requires { length slots.old ≡ MAX_ID }
+    ensures steps { spec.AreRemapped slots.old (map (λ step. (step.0, step.1.now)) steps.now) slots.new }
+    ensures renumbered { spec.IsRenumbered slots.old slots.new }
+{
+    for (id, ext) in steps {
+        remap_one(slots, *id, ext);
+    }
+}
+
+// The same as stands in the place.
+fn clone(alloc: Global, slot: &Option<Entry>) -> Result<Option<Entry>, AllocError>
+    ensures same { IfOk result (λ copy. copy ≡ slot.now) }
+    ensures known { ((ext : Extension) → spec.extension_of slot.now ≡ Some ext → IsKnown ext) → IsOk result }
+{
+    match slot {
+        Some(entry) => Ok(Some(entry.clone(alloc)?)),
+        None => Ok(None),
+    }
+}
+
 // The same entries in the places of another map.
 pub(super) fn copy(
     alloc: Global,
@@ -121,11 +144,8 @@ pub(super) fn copy(
     ensures same { IfOk result (λ _. to.new ≡ from.now) }
     ensures known { spec.HasNoText from.now → IsOk result }
 {
-    for (slot, kept) in to.iter_mut().zip(from) {
-        *slot = match kept {
-            Some(entry) => Some(entry.clone(alloc)?),
-            None => None
-        };
+    for (place, slot) in from.iter().enumerate() {
+        to[place] = clone(alloc, slot)?;
     }
     Ok(())
 }
