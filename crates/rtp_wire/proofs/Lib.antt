@@ -1,5 +1,6 @@
 mod KindLemmas
 mod MapLemmas
+mod ListingLemmas
 mod FlagLemmas
 mod GroupLemmas
 mod BlockLemmas
