@@ -22,10 +22,11 @@ All-weaker P Q xs weaker all = λ k d here. weaker (get_or xs k d) (all k d here
 -- one more at the end
 IsRising-snoc : (items : List (ℕ × Extension)) (item : ℕ × Extension) → IsRising items → All (λ i. i.0 < item.0) items → IsRising (items ++ item ∷ [])
 IsRising-snoc [] item rising below = (All-nil (λ later. item.0 < later.0), tt)
-IsRising-snoc (i ∷ items) item rising below =
-    (All-append (λ later. i.0 < later.0) items (item ∷ []) rising.0
-        (All-cons (λ later. i.0 < later.0) item [] (All-head (λ j. j.0 < item.0) i items below) (All-nil (λ later. i.0 < later.0))),
-    IsRising-snoc items item rising.1 (All-tail (λ j. j.0 < item.0) i items below))
+IsRising-snoc (i ∷ items) item rising below = (
+  All-append (λ later. i.0 < later.0) items (item ∷ []) rising.0
+      (All-cons (λ later. i.0 < later.0) item [] (All-head (λ j. j.0 < item.0) i items below) (All-nil (λ later. i.0 < later.0))),
+  IsRising-snoc items item rising.1 (All-tail (λ j. j.0 < item.0) i items below),
+)
 
 -- the items are those of the map, all below a bound and none locked
 pub record IsListed (slots : Slots) (items : List (ℕ × Extension)) (bound : ℕ) : Type 0 where
@@ -58,25 +59,31 @@ IsListed-set old new items bound id extension above listed sets = record {
       (All-weaker (λ item. item.0 < id) (λ item. item.0 < id + 1) items (λ item less. omega arith) below)
       (All-cons (λ item. item.0 < id + 1) (id, extension) [] (omega arith) (All-nil (λ item. item.0 < id + 1)));
   unlocked = λ j is_locked. elim (eqb_tells j id) [
-      inl is ↦ false≢true (subst IsLocked (ap (entry_at new) is.1 ∙ sets.this) is_locked)
+    | inl is ↦ false≢true (subst IsLocked (ap (entry_at new) is.1 ∙ sets.this) is_locked)
     | inr isnt ↦ listed.unlocked j (subst IsLocked (sets.others j isnt.1) is_locked)
-    ];
+  ];
 }
   where
     Mapped : ℕ × Extension → Type 0
     Mapped item = (extension_at new item.0 ≡ Some item.1) × (true ≡ true)
+
     below : All (λ item. item.0 < id) items
     below = All-weaker (λ item. item.0 < bound) (λ item. item.0 < id) items (λ item less. omega arith) listed.below
+
     mapped : All Mapped items
     mapped = λ k d here.
         let less : (get_or items k d).0 < id = below k d here in
         let was = listed.listing.mapped k d here in
         (ap extension_of (sets.others (get_or items k d).0 (λ same. omega arith)) ∙ was.0, refl)
+
     all : (j : ℕ) (x : Extension) → extension_at new j ≡ Some x → true ≡ true → Contains (items ++ (id, extension) ∷ []) (j, x)
     all j x is passes = elim (eqb_tells j id) [
-        inl same ↦ Contains-append_right items ((id, extension) ∷ []) (j, x) (0, omega arith,
-            ap (λ (k : ℕ). (k, extension)) (sym same.1) ∙ ap (λ e. (j, e)) (ap (λ found. unwrap_or found extension)
-                (sym (ap extension_of sets.this) ∙ (ap (extension_at new) (sym same.1) ∙ is))))
+      | inl same ↦ Contains-append_right items ((id, extension) ∷ []) (j, x) (
+        0,
+        omega arith,
+        ap (λ (k : ℕ). (k, extension)) (sym same.1) ∙ ap (λ e. (j, e)) (ap (λ found. unwrap_or found extension)
+            (sym (ap extension_of sets.this) ∙ (ap (extension_at new) (sym same.1) ∙ is))),
+      )
       | inr isnt ↦ Contains-append_left items ((id, extension) ∷ []) (j, x)
-            (listed.listing.all j x (ap extension_of (sym (sets.others j isnt.1)) ∙ is) refl)
-      ]
+          (listed.listing.all j x (ap extension_of (sym (sets.others j isnt.1)) ∙ is) refl)
+    ]

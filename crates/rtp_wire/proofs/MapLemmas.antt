@@ -233,8 +233,8 @@ AreRemapped-more f steps i step old between new here is one rest =
     let first : get_or (map f steps) i (f step) ≡ f step = get_or-map f steps i step ∙ ap f (sym is) in
     let next : suc i ≡ i + 1 = omega arith in
     let split : drop i (map f steps) ≡ f step ∷ drop (i + 1) (map f steps) =
-        drop-cons (map f steps) i (f step) (omega (arith, here, length-map steps f))
-        ∙ (ap (λ s. s ∷ drop (suc i) (map f steps)) first ∙ ap (λ (k : ℕ). f step ∷ drop k (map f steps)) next) in
+    drop-cons (map f steps) i (f step) (omega (arith, here, length-map steps f))
+    ∙ (ap (λ s. s ∷ drop (suc i) (map f steps)) first ∙ ap (λ (k : ℕ). f step ∷ drop k (map f steps)) next) in
     subst (λ ss. AreRemapped old ss new) (sym split) (between, one, rest)
 
 -- what stands behind an id, once each place has been changed alike and an empty one stays so

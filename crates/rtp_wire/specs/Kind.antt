@@ -1,5 +1,5 @@
 -- The kinds of header extension, and what is fixed for each.
-use Rattle.std.specs.Prelude.{ℕ, List, [], ◌∷◌, codes, Bool, true, false}
+use Rattle.std.specs.Prelude.{◌≡◌, ◌≢◌, ℕ, List, [], ◌∷◌, codes, Bool, true, false}
 use Rattle.rtp_wire.specs.declared.ext.kind.Extension.{Extension}
 use Rattle.rtp_wire.specs.declared.ext.kind.Extension.TheVariants.{AbsoluteSendTime, AbsoluteCaptureTime, AudioLevel, TransmissionTimeOffset, VideoOrientation, TransportSequenceNumber, PlayoutDelay, VideoContentType, VideoTiming, RtpStreamId, RepairedRtpStreamId, RtpMid, FrameMarking, ColorSpace, UnknownUri}
 
@@ -59,3 +59,8 @@ known_kinds =
 abbrev pub IsKnown : Extension → Type 0
 IsKnown (UnknownUri uri) = ⊥
 IsKnown kind = Unit {0}
+
+-- the extension that a URI names: the known kind whose URI it is, else the unknown one of this text
+pub record IsNamedBy (uri : List ℕ) (extension : Extension) : Type 0 where
+  pub known : (kind : Extension) → IsKnown kind → (kind_of kind).uri ≡ uri → extension ≡ kind
+  pub unknown : ((kind : Extension) → IsKnown kind → (kind_of kind).uri ≢ uri) → extension ≡ UnknownUri uri

@@ -8,6 +8,6 @@ use Rattle.rtp_wire.specs.declared.ext.values.ExtensionValues.{ExtensionValues}
 abbrev pub no_values : ExtensionValues
 no_values = record {}
 
--- the values that the element bytes of a block have under a map: none, since no extension can be mapped yet
+-- the values that the element bytes of a block have under an empty map: none
 abbrev pub AreValues : ExtensionMap → ExtensionsForm → List ℕ → ExtensionValues → Type 0
 AreValues map form elements values = values ≡ no_values

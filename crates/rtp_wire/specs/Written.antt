@@ -22,7 +22,7 @@ fixed_bytes h =
 abbrev pub source_bytes : RtpHeader → List ℕ
 source_bytes h = flat_map (to_be_bytes w32) (take h.csrc_count h.csrc)
 
--- the form that is chosen, and the element bytes with the zeros that fill the last word: under a map without extensions there are none
+-- the form that is chosen, and the element bytes with the zeros that fill the last word: under an empty map there are none
 abbrev pub written_form : ExtensionMap → ExtensionValues → ExtensionsForm
 written_form map values = OneByte
 

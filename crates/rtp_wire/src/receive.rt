@@ -2,6 +2,7 @@
 
 ghost use Rattle.std.specs.Prelude.{◌≡◌, ℕ, [], map, Option, IsOk, IfOk};
 ghost use Rattle.rtp_base.specs.Window.{Numbers};
+ghost use Rattle.rtp_wire.specs.ExtensionMap.{IsEmpty};
 ghost use Rattle.rtp_wire.specs.Verdicts.{IsLatest, IsVerdict, AreVerdicts, TakesOnce};
 ghost use Rattle.rtp_wire.specs.Receiving.{Holds, IsAnswer, taken_after};
 
@@ -61,6 +62,7 @@ fn verdict_on(
     exts: &ExtensionMap,
     window: &mut Option<SeqNoWindow>,
 ) -> Result<Verdict, AllocError>
+    requires { IsEmpty exts.now }
     ensures verdict { IfOk result (λ verdict. (taken : Numbers) → Holds window.old taken →
         IsVerdict exts.now taken datagram.now verdict) }
     ensures after { IfOk result (λ verdict. (taken : Numbers) → Holds window.old taken →
@@ -81,11 +83,14 @@ fn verdict_on(
 ///
 /// The datagrams are those of one sender. Nothing is authenticated here. The only memory is the
 /// list of the verdicts, made at once; where it is refused nothing is handed out.
+///
+/// It asks for an empty map, since no element is read yet: `exts.iter().next()` is None.
 pub fn receive_run(
     alloc: Global,
     datagrams: &[Vec<u8>],
     exts: &ExtensionMap,
 ) -> Result<Vec<Verdict>, AllocError>
+    requires empty { IsEmpty exts.now }
     ensures verdicts { IfOk result (λ found.
         AreVerdicts exts.now (map (λ d. d.items) datagrams.now) found.items) }
     ensures once { IfOk result (λ found. TakesOnce found.items) }

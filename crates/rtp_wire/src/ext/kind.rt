@@ -1,7 +1,7 @@
 //! The extensions, and what is fixed for each.
 
 ghost use Rattle.std.specs.Prelude.{◌≡◌, ◌≢◌, All, IfOk, IfErr, IfSome, IfNone};
-ghost use Rattle.rtp_wire.specs.Kind.{audio_and_video, audio_only, video_only, kind_of, known_kinds, IsKnown};
+ghost use Rattle.rtp_wire.specs.Kind.{audio_and_video, audio_only, video_only, kind_of, known_kinds, IsKnown, IsNamedBy};
 ghost use Rattle.rtp_wire.specs.KindRow.{kind_in};
 
 use super::Uri;
@@ -192,10 +192,9 @@ impl Extension {
     /// The extension that this URI names in SDP (`a=extmap`; RFC 8285, 5): the known kind whose URI
     /// it is, else an unknown one, which is the only case that takes memory.
     pub fn from_sdp_uri(alloc: Global, uri: &str) -> Result<Self, AllocError>
+        ensures named { IfOk result (IsNamedBy uri.now) }
         ensures known { (kind : Extension) → IsKnown kind → (kind_of kind).uri ≡ uri.now →
             result ≡ Ok kind }
-        ensures unknown { ((kind : Extension) → IsKnown kind → (kind_of kind).uri ≡ uri.now → ⊥) →
-            IfOk result (λ found. found ≡ Extension.UnknownUri uri.now) }
         ensures back { IfOk result (λ found. (kind_of found).uri ≡ uri.now) }
     {
         match known_by_uri(uri) {

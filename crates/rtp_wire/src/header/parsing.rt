@@ -2,6 +2,7 @@
 
 ghost use Rattle.std.specs.Prelude.{true, ◌↔◌, ◌≡◌, ℕ, ◌+◌, ◌-◌, ◌*◌, ◌/◌, ◌≤◌, ◌++◌, List, length, map, replicate, IsSome, IsOk, IfOk, IfSome, IfNone};
 ghost use Rattle.std.specs.Int.{w32, from_be_bytes};
+ghost use Rattle.rtp_wire.specs.ExtensionMap.{IsEmpty};
 ghost use Rattle.rtp_wire.specs.Reading.{HasBlock, HasExtensionPart};
 ghost use Rattle.rtp_wire.specs.Refusal.{HasNoBlock, HasNoHeader};
 ghost use Rattle.rtp_wire.specs.Values.{no_values};
@@ -81,11 +82,14 @@ impl RtpHeader {
     /// its head is cut short, its form is neither 0xBEDE nor 0x1000 to 0x100F, or it is longer than
     /// what is left (RFC 3550, 5.1 and 5.3.1; RFC 8285, 4). Whatever follows the header is not
     /// looked at. Nothing is allocated.
+    ///
+    /// It asks for an empty map, since no element is read yet: `exts.iter().next()` is None.
     pub fn parse(
         _alloc: Global,
         buf: &[u8],
         exts: &ExtensionMap,
     ) -> Result<Option<RtpHeader>, AllocError>
+        requires empty { IsEmpty exts.now }
         ensures succeeds { IsOk result }
 
         // What is answered is a header of these bytes, and each header of these bytes is answered.

@@ -3,6 +3,7 @@
 ghost use Rattle.std.specs.Prelude.{◌≡◌, ℕ, ◌+◌, ◌*◌, ◌%◌, ◌^◌, ◌<◌, ◌≤◌, ◌++◌, List, length, drop, slice_index};
 ghost use Rattle.std.specs.List.{flat_map};
 ghost use Rattle.std.specs.Int.{w32, to_be_bytes};
+ghost use Rattle.rtp_wire.specs.ExtensionMap.{IsEmpty};
 ghost use Rattle.rtp_wire.specs.Header.{IsWire, bit};
 ghost use Rattle.rtp_wire.specs.Placing.{placed};
 ghost use Rattle.rtp_wire.specs.Written.{fixed_bytes, source_bytes, extension_bytes, wire_bytes, image_of};
@@ -89,9 +90,11 @@ impl RtpHeader {
     }
 
     /// How many bytes [`write_to`](Self::write_to) writes under the map: a multiple of four, 12
-    /// with no sources and no block, and at most 4188. It asks for at most 15 sources.
+    /// with no sources and no block, and at most 4188. It asks for at most 15 sources, and for an
+    /// empty map, since no element is written yet: `exts.iter().next()` is None.
     pub fn wire_len(&self, exts: &ExtensionMap) -> usize
-        requires { self.now.csrc_count ≤ 15 }
+        requires sources { self.now.csrc_count ≤ 15 }
+        requires empty { IsEmpty exts.now }
         ensures length { result ≡ length (wire_bytes self.now exts.now) }
         ensures words { result % 4 ≡ 0 }
         ensures bound { result ≤ 4188 }
@@ -103,10 +106,12 @@ impl RtpHeader {
     /// behind them stay as they were (RFC 3550, 5.1). Version 2 is written whatever `version`
     /// holds, `header_len` and the slots behind the sources are not looked at, and a block is
     /// written where `has_extension` is set and nowhere else. It asks for a payload type of at most
-    /// 127, at most 15 sources, and a buffer of at least [`wire_len`](Self::wire_len).
+    /// 127, at most 15 sources, a buffer of at least [`wire_len`](Self::wire_len), and, since no
+    /// element is written yet, for an empty map: `exts.iter().next()` is None.
     pub fn write_to(&self, buf: &mut [u8], exts: &ExtensionMap) -> usize
         requires payload_type { self.now.payload_type ≤ 127 }
         requires sources { self.now.csrc_count ≤ 15 }
+        requires empty { IsEmpty exts.now }
         requires room { length (wire_bytes self.now exts.now) ≤ length buf.old }
         ensures written { buf.new ≡ wire_bytes self.now exts.now ++ drop result buf.old }
         ensures length { result ≡ length (wire_bytes self.now exts.now) }

@@ -6,5 +6,5 @@ use Rattle.rtp_wire.proofs.ext.slots.remap.Given as goal
 abbrev pub invariant-loop-id : goal.invariant-loop-id
 invariant-loop-id l =
     ((new : Slots) → AreRemapped l.slots (drop l.id-index (map (λ step. (step.0, step.1.now)) l.steps)) new
-        → AreRemapped l.initial.slots (map (λ step. (step.0, step.1.now)) l.steps) new)
+    → AreRemapped l.initial.slots (map (λ step. (step.0, step.1.now)) l.steps) new)
     × IsRenumbered l.initial.slots l.slots
