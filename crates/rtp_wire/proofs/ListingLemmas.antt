@@ -7,6 +7,8 @@ use Rattle.std.proofs.lemmas.List.Elements.{All-append, All-cons, All-nil, Conta
 use Rattle.std.specs.Option.{unwrap_or}
 use Rattle.rtp_wire.specs.declared.ext.kind.Extension.{Extension}
 use Rattle.rtp_wire.specs.declared.ext.entry.Entry.{Entry}
+use Rattle.rtp_wire.specs.Places.{items_from}
+use Rattle.rtp_wire.proofs.MapLemmas.{entry_at-place}
 use Rattle.rtp_wire.specs.ExtensionMap.{Slots, IsEmpty, entry_at, extension_at, extension_of, unlocked, Sets, IsLocked, IsUnlocked, IsRising, IsListing}
 
 -- the parts of a list of which all hold
@@ -87,3 +89,146 @@ IsListed-set old new items bound id extension above listed sets = record {
       | inr isnt ↦ Contains-append_left items ((id, extension) ∷ []) (j, x)
           (listed.listing.all j x (ap extension_of (sym (sets.others j isnt.1)) ∙ is) refl)
     ]
+
+-- an item of one of the places
+abbrev IsItem : ℕ → Slots → ℕ × Extension → Type 0
+IsItem passed left item = (k : ℕ) × (item.0 ≡ passed + k + 1) × (extension_of (get_or left k None) ≡ Some item.1)
+
+-- what the places give, by how many were passed before them
+record AreItems (passed : ℕ) (left : Slots) (items : List (ℕ × Extension)) : Type 0 where
+  rising : IsRising items
+  above : All (λ item. passed < item.0) items
+  here : All (IsItem passed left) items
+  all : (k : ℕ) (extension : Extension) → extension_of (get_or left k None) ≡ Some extension → Contains items (passed + k + 1, extension)
+
+-- an item of the places behind one
+IsItem-more : (passed : ℕ) (slot : Option Entry) (left : Slots) (item : ℕ × Extension) → IsItem (passed + 1) left item → IsItem passed (slot ∷ left) item
+IsItem-more passed slot left item found = (suc found.0, omega (arith, found.1), found.2)
+
+Contains-more : (passed : ℕ) (k : ℕ) (items : List (ℕ × Extension)) (extension : Extension)
+    → Contains items (passed + 1 + k + 1, extension) → Contains items (passed + suc k + 1, extension)
+Contains-more passed k items extension found =
+    let same : passed + 1 + k + 1 ≡ passed + suc k + 1 = omega arith in
+    subst (λ (n : ℕ). Contains items (n, extension)) same found
+
+AreItems-none : (passed : ℕ) (left : Slots) (items : List (ℕ × Extension)) → AreItems (passed + 1) left items → AreItems passed (None ∷ left) items
+AreItems-none passed left items rest = record {
+  rising = rest.rising;
+  above = All-weaker (λ item. passed + 1 < item.0) (λ item. passed < item.0) items (λ item less. omega arith) rest.above;
+  here = All-weaker (IsItem (passed + 1) left) (IsItem passed (None ∷ left)) items (IsItem-more passed None left) rest.here;
+  all = all;
+}
+  where
+    all : (k : ℕ) (extension : Extension) → extension_of (get_or (None ∷ left) k None) ≡ Some extension
+        → Contains items (passed + k + 1, extension)
+    all zero extension is = cc
+    all (suc k) extension is = Contains-more passed k items extension (rest.all k extension is)
+
+AreItems-some : (passed : ℕ) (entry : Entry) (left : Slots) (items : List (ℕ × Extension)) → AreItems (passed + 1) left items
+    → AreItems passed (Some entry ∷ left) ((passed + 1, entry.extension) ∷ items)
+AreItems-some passed entry left items rest = record {
+  rising = (rest.above, rest.rising);
+  above = All-cons (λ item. passed < item.0) (passed + 1, entry.extension) items (omega arith)
+      (All-weaker (λ item. passed + 1 < item.0) (λ item. passed < item.0) items (λ item less. omega arith) rest.above);
+  here = All-cons (IsItem passed (Some entry ∷ left)) (passed + 1, entry.extension) items (0, omega arith, refl)
+      (All-weaker (IsItem (passed + 1) left) (IsItem passed (Some entry ∷ left)) items (IsItem-more passed (Some entry) left) rest.here);
+  all = all;
+}
+  where
+    all : (k : ℕ) (extension : Extension) → extension_of (get_or (Some entry ∷ left) k None) ≡ Some extension
+        → Contains ((passed + 1, entry.extension) ∷ items) (passed + k + 1, extension)
+    all zero extension is =
+        let place : passed + 1 ≡ passed + 0 + 1 = omega arith in (
+          0,
+          omega arith,
+          ap (λ (n : ℕ). (n, entry.extension)) place
+              ∙ ap (λ e. (passed + 0 + 1, e)) (ap (λ found. unwrap_or found entry.extension) is),
+        )
+    all (suc k) extension is =
+        Contains-append_right ((passed + 1, entry.extension) ∷ []) items (passed + suc k + 1, extension)
+        (Contains-more passed k items extension (rest.all k extension is))
+
+items_from-items : (passed : ℕ) (left : Slots) → AreItems passed left (items_from passed left)
+items_from-items passed [] = record {
+  rising = tt;
+  above = All-nil (λ item. passed < item.0);
+  here = All-nil (IsItem passed []);
+  all = λ k extension is. cc;
+}
+items_from-items passed (None ∷ left) = AreItems-none passed left (items_from (passed + 1) left) (items_from-items (passed + 1) left)
+items_from-items passed (Some entry ∷ left) =
+    AreItems-some passed entry left (items_from (passed + 1) left) (items_from-items (passed + 1) left)
+
+-- the places of a map give its listing
+pub IsListing-from_places : (slots : Slots) → IsListing slots (λ _. true) (items_from 0 slots)
+IsListing-from_places slots =
+    let items = items_from-items 0 slots in
+    record {
+      rising = items.rising;
+      mapped = All-weaker (IsItem 0 slots) (λ item. (extension_at slots item.0 ≡ Some item.1) × (true ≡ true)) (items_from 0 slots)
+          (λ item found. (ap extension_of (entry_at-place slots found.0 item.0 (omega (arith, found.1))) ∙ found.2, refl)) items.here;
+      all = λ id extension is passes. all id extension is;
+    }
+  where
+    all : (id : ℕ) (extension : Extension) → extension_at slots id ≡ Some extension → Contains (items_from 0 slots) (id, extension)
+    all zero extension is = cc
+    all (suc k) extension is =
+        let place : 0 + k + 1 ≡ suc k = omega arith in
+        subst (λ (n : ℕ). Contains (items_from 0 slots) (n, extension)) place ((items_from-items 0 slots).all k extension is)
+
+-- a truth value is one of two
+true_or_false : (b : Bool) → (b ≡ true) ⊎ (b ≡ false)
+true_or_false true = inl refl
+true_or_false false = inr refl
+
+filter-yes : {X : Type 0} (p : X → Bool) (x : X) (xs : List X) → p x ≡ true → filter p (x ∷ xs) ≡ x ∷ filter p xs
+filter-yes p x xs passed = rw passed refl
+
+filter-no : {X : Type 0} (p : X → Bool) (x : X) (xs : List X) → p x ≡ false → filter p (x ∷ xs) ≡ filter p xs
+filter-no p x xs failed = rw failed refl
+
+-- what holds of all holds of those that pass, and so does the test
+All-filter : {X : Type 0} (p : X → Bool) (P : X → Type 0) (xs : List X) → All P xs → All (λ x. P x × (p x ≡ true)) (filter p xs)
+All-filter p P [] all = All-nil (λ x. P x × (p x ≡ true))
+All-filter p P (x ∷ xs) all =
+    let rest = All-filter p P xs (All-tail P x xs all) in
+    elim (true_or_false (p x)) [
+      | inl passed ↦ subst (All (λ y. P y × (p y ≡ true))) (sym (filter-yes p x xs passed))
+          (All-cons (λ y. P y × (p y ≡ true)) x (filter p xs) (All-head P x xs all, passed) rest)
+      | inr failed ↦ subst (All (λ y. P y × (p y ≡ true))) (sym (filter-no p x xs failed)) rest
+    ]
+
+Contains-filter : {X : Type 0} (p : X → Bool) (x : X) (xs : List X) → Contains xs x → p x ≡ true → Contains (filter p xs) x
+Contains-filter p x [] found passed = absurd (omega (arith, found.1))
+Contains-filter p x (y ∷ ys) (zero, here, is) passed =
+    subst (λ zs. Contains zs x) (sym (filter-yes p y ys (ap p is ∙ passed))) (0, omega arith, is)
+Contains-filter p x (y ∷ ys) (suc k, here, is) passed =
+    let rest = Contains-filter p x ys (k, omega arith, is) passed in
+    elim (true_or_false (p y)) [
+      | inl also ↦ subst (λ zs. Contains zs x) (sym (filter-yes p y ys also)) (Contains-append_right (y ∷ []) (filter p ys) x rest)
+      | inr failed ↦ subst (λ zs. Contains zs x) (sym (filter-no p y ys failed)) rest
+    ]
+
+IsRising-filter : (p : ℕ × Extension → Bool) (items : List (ℕ × Extension)) → IsRising items → IsRising (filter p items)
+IsRising-filter p [] rising = tt
+IsRising-filter p (item ∷ items) rising =
+    let rest = IsRising-filter p items rising.1 in
+    elim (true_or_false (p item)) [
+      | inl passed ↦ subst IsRising (sym (filter-yes p item items passed)) (
+        All-weaker (λ later. (item.0 < later.0) × (p later ≡ true)) (λ later. item.0 < later.0) (filter p items) (λ later both. both.0)
+            (All-filter p (λ later. item.0 < later.0) items rising.0),
+        rest,
+      )
+      | inr failed ↦ subst IsRising (sym (filter-no p item items failed)) rest
+    ]
+
+-- those that pass a test
+pub IsListing-filter : (slots : Slots) (passes : Extension → Bool) (items : List (ℕ × Extension)) → IsListing slots (λ _. true) items
+    → IsListing slots passes (filter (λ item. passes item.1) items)
+IsListing-filter slots passes items listing = record {
+  rising = IsRising-filter (λ item. passes item.1) items listing.rising;
+  mapped = All-weaker (λ item. ((extension_at slots item.0 ≡ Some item.1) × (true ≡ true)) × (passes item.1 ≡ true))
+      (λ item. (extension_at slots item.0 ≡ Some item.1) × (passes item.1 ≡ true)) (filter (λ item. passes item.1) items) (λ item both. (both.0.0, both.1))
+      (All-filter (λ item. passes item.1) (λ item. (extension_at slots item.0 ≡ Some item.1) × (true ≡ true)) items listing.mapped);
+  all = λ id extension is passed. Contains-filter (λ item. passes item.1) (id, extension) items (listing.all id extension is refl) passed;
+}

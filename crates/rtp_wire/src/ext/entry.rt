@@ -42,12 +42,7 @@ impl Entry {
     pub(super) fn of_medium(&self, audio: bool) -> Option<Self>
         ensures { result ≡ spec.of_medium audio (Some self.now) }
     {
-        let carried = if audio {
-            self.extension.is_audio()
-        } else {
-            self.extension.is_video()
-        };
-        if carried {
+        if self.extension.goes_with(audio) {
             self.extension.known_or_uri().ok().map(Entry::from)
         } else {
             None

@@ -2,6 +2,7 @@
 
 ghost use Rattle.std.specs.Prelude.{◌≡◌, ◌≢◌, All, IfOk, IfErr, IfSome, IfNone};
 ghost use Rattle.rtp_wire.specs.Kind.{audio_and_video, audio_only, video_only, kind_of, known_kinds, IsKnown, IsNamedBy};
+ghost use Rattle.rtp_wire.specs.ExtensionMap.{goes_with};
 ghost use Rattle.rtp_wire.specs.KindRow.{kind_in};
 
 use super::Uri;
@@ -225,6 +226,17 @@ impl Extension {
         ensures { result ≡ (kind_of self.now).video }
     {
         row_of(self).video
+    }
+
+    // Whether the extension goes with audio, or else with video.
+    pub(super) fn goes_with(&self, audio: bool) -> bool
+        ensures { result ≡ goes_with audio self.now }
+    {
+        if audio {
+            self.is_audio()
+        } else {
+            self.is_video()
+        }
     }
 
     // The same kind where it is known, which takes no memory; else the URI.

@@ -1,14 +1,14 @@
 //! Which extension stands behind which id.
 
-ghost use Rattle.std.specs.Prelude.{◌≡◌, ◌≢◌, ℕ, true, IfOk, IfSome, IfNone, map};
+ghost use Rattle.std.specs.Prelude.{◌≡◌, ◌≢◌, ℕ, true, false, IfOk, IfSome, IfNone, map};
 ghost use Rattle.std.specs.Option.{option_copied};
 ghost use Rattle.rtp_wire.specs.ExtensionMap as spec;
 
 use super::entry::Entry;
-use super::{Extension, slots};
+use super::{Extension, Iter, IterByMediaType, slots};
 use std::alloc::{AllocError, Global};
-use std::array;
 use std::marker::Model;
+use std::{array, fmt};
 
 /// The greatest id that an element of the one-byte form can have (RFC 8285, 4.2).
 pub const MAX_ID_ONE_BYTE_FORM: u8 = 14;
@@ -102,6 +102,35 @@ impl ExtensionMap {
         slots::id_of(&self.slots, &ext)
     }
 
+    /// The ids that stand for an extension, by rising id, each with its extension.
+    pub fn iter(&self) -> Iter<'_>
+        ensures { spec.IsListing self.now (λ _. true) result }
+    {
+        Iter::new(&self.slots)
+    }
+
+    /// The ids whose extensions go with audio, or else with video, by rising id, each with its
+    /// extension. Most extensions go with both, and an unknown one with neither.
+    pub fn iter_by_media_type(&self, audio: bool) -> IterByMediaType<'_>
+        ensures { spec.IsListing self.now (spec.goes_with audio) result }
+    {
+        IterByMediaType::new(self.iter(), audio)
+    }
+
+    /// The ids whose extensions go with audio, by rising id, each with its extension.
+    pub fn iter_audio(&self) -> IterByMediaType<'_>
+        ensures { spec.IsListing self.now (spec.goes_with true) result }
+    {
+        self.iter_by_media_type(true)
+    }
+
+    /// The ids whose extensions go with video, by rising id, each with its extension.
+    pub fn iter_video(&self) -> IterByMediaType<'_>
+        ensures { spec.IsListing self.now (spec.goes_with false) result }
+    {
+        self.iter_by_media_type(false)
+    }
+
     /// The entries of the extensions that go with audio, or else with video, all unlocked. Takes no
     /// memory, since an unknown extension goes with neither.
     pub fn cloned_with_type(&self, audio: bool) -> Self
@@ -135,5 +164,19 @@ impl ExtensionMap {
         let mut copy = Self::empty();
         slots::copy(alloc, &self.slots, &mut copy.slots)?;
         Ok(copy)
+    }
+}
+
+/// The entries by rising id, each as its number and the extension's text.
+impl fmt::Debug for ExtensionMap {
+    fn fmt<W: fmt::Write>(&self, f: &mut fmt::Formatter<W>) -> fmt::Result {
+        f.write_str("Extensions(")?;
+        for (index, (id, ext)) in self.iter().enumerate() {
+            if index > 0 {
+                f.write_str(", ")?;
+            }
+            write!(f, "{id}={ext}")?;
+        }
+        f.write_str(")")
     }
 }

@@ -2,6 +2,7 @@
 
 mod entry;
 mod form;
+mod iter;
 mod kind;
 mod map;
 mod slots;
@@ -9,6 +10,7 @@ mod uri;
 mod values;
 
 pub use form::ExtensionsForm;
+pub use iter::{Iter, IterByMediaType};
 pub use kind::Extension;
 pub use map::{ExtensionMap, MAX_ID, MAX_ID_ONE_BYTE_FORM};
 pub use uri::Uri;

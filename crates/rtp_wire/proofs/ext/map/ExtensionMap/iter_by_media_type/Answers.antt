@@ -1,0 +1,9 @@
+use Rattle.std.proofs.Common.{◌≡◌, true, sym, ap, ◌∙◌, subst}
+use Rattle.rtp_wire.specs.ExtensionMap as spec
+use Rattle.rtp_wire.proofs.ListingLemmas.{IsListing-filter}
+use Rattle.rtp_wire.proofs.ext.map.ExtensionMap.iter_by_media_type.Goals as goal
+
+pub returns : goal.returns
+returns c =
+    subst (spec.IsListing c.args.self.now (spec.goes_with c.args.audio)) (sym c.new.ensures)
+    (IsListing-filter c.args.self.now (spec.goes_with c.args.audio) _ c.iter.ensures)
