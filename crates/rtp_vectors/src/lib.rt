@@ -4,9 +4,13 @@
 #[cfg(test)]
 mod directions;
 #[cfg(test)]
+mod extensions;
+#[cfg(test)]
 mod headers;
 #[cfg(test)]
 mod ids;
+#[cfg(test)]
+mod maps;
 #[cfg(test)]
 mod runs;
 #[cfg(test)]

@@ -171,10 +171,12 @@ impl ExtensionMap {
 impl fmt::Debug for ExtensionMap {
     fn fmt<W: fmt::Write>(&self, f: &mut fmt::Formatter<W>) -> fmt::Result {
         f.write_str("Extensions(")?;
-        for (index, (id, ext)) in self.iter().enumerate() {
-            if index > 0 {
+        let mut is_first = true;
+        for (id, ext) in self.iter() {
+            if !is_first {
                 f.write_str(", ")?;
             }
+            is_first = false;
             write!(f, "{id}={ext}")?;
         }
         f.write_str(")")
