@@ -1,5 +1,5 @@
 -- The map of extension ids: what stands behind an id once places have changed.
-use Rattle.std.proofs.Common.{◌≡◌, ◌≢◌, ℕ, ◌+◌, ◌-◌, ◌<◌, ◌≤◌, ◌⊎◌, inl, inr, suc, zero, List, [], ◌∷◌, length, map, drop, get_or, set, Bool, true, false, Option, Some, None, arith, ap, refl, sym, ◌∙◌, subst, get_or-set_same, get_or-set_other, ◌==◌, if◌then◌else◌}
+use Rattle.std.proofs.Common.{◌≡◌, ◌≢◌, ℕ, ◌+◌, ◌<◌, ◌⊎◌, inl, inr, suc, zero, List, ◌∷◌, length, map, drop, get_or, set, Option, Some, None, arith, ap, refl, sym, ◌∙◌, subst, get_or-set_same, get_or-set_other, ◌==◌, if◌then◌else◌}
 use Rattle.std.proofs.lemmas.List.{get_or_past, length-map, length-set}
 use Rattle.std.proofs.Math.ListN.{get_or-map}
 use Rattle.std.proofs.Math.Seq.{drop-cons}
@@ -12,7 +12,7 @@ use Rattle.rtp_wire.specs.declared.ext.entry.Entry.{Entry}
 use Rattle.rtp_wire.specs.declared.ext.kind.Extension.{Extension}
 use Rattle.rtp_wire.specs.declared.ext.map.TheConstants.{MAX_ID}
 use Rattle.rtp_wire.specs.Places.{IsFirst}
-use Rattle.rtp_wire.specs.ExtensionMap.{Slots, IsEmpty, IsId, entry_at, extension_at, extension_of, Sets, Exchanges, IsRenumbered, IsLocked, IsLockedAt, locked, IsLowest, Remaps, AreRemapped, out_of_range, not_mapped, same_place, locked_elsewhere, moved}
+use Rattle.rtp_wire.specs.ExtensionMap.{Slots, IsEmpty, IsId, entry_at, extension_at, extension_of, Sets, Exchanges, IsRenumbered, IsLocked, IsLockedAt, locked, IsLowest, Remaps, AreRemapped, same_place, moved}
 
 -- nothing stands in a place where nothing does in any
 pub IsEmpty-from_each : (slots : Slots) → ((k : ℕ) → k < length slots → get_or slots k None ≡ None) → IsEmpty slots

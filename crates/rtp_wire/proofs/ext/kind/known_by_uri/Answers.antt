@@ -1,4 +1,4 @@
-use Rattle.std.proofs.Common.{◌≡◌, ◌≢◌, All, append_assoc, ◌∙◌, sym, ap, subst, ◌++◌}
+use Rattle.std.proofs.Common.{◌≢◌, All, append_assoc, ◌∙◌, sym, ap, subst, ◌++◌}
 use Rattle.std.proofs.lemmas.List.{append-nil, nil_from_length}
 use Rattle.std.specs.Cmp.Lexicographic.{other_text}
 use Rattle.rtp_wire.specs.Kind.{kind_of}

@@ -1,4 +1,4 @@
-use Rattle.std.proofs.Common.{◌≡◌, ◌+◌, None, arith, ap, refl, sym, ◌∙◌}
+use Rattle.std.proofs.Common.{◌+◌, None, ap, refl, sym, ◌∙◌}
 use Rattle.std.proofs.lemmas.List.{get_or_default}
 use Rattle.std.proofs.lemmas.Bool.{false≢true}
 use Rattle.rtp_wire.specs.ExtensionMap.{extension_of}

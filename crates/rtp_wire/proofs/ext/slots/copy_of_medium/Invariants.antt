@@ -1,4 +1,4 @@
-use Rattle.std.proofs.Common.{◌≡◌, take, map, length}
+use Rattle.std.proofs.Common.{◌≡◌, take, map}
 use Rattle.rtp_wire.specs.ExtensionMap as spec
 use Rattle.rtp_wire.proofs.ext.slots.copy_of_medium.Given as goal
 

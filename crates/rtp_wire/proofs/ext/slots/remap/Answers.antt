@@ -1,4 +1,4 @@
-use Rattle.std.proofs.Common.{◌≡◌, refl}
+use Rattle.std.proofs.Common.{refl}
 use Rattle.rtp_wire.proofs.MapLemmas.{IsRenumbered-same, IsRenumbered-then, AreRemapped-more}
 use Rattle.rtp_wire.proofs.ext.slots.remap.Goals as goal
 

@@ -1,4 +1,4 @@
-use Rattle.std.proofs.Common.{◌≡◌, drop, map}
+use Rattle.std.proofs.Common.{drop, map}
 use Rattle.rtp_wire.specs.ExtensionMap.{Slots, AreRemapped, IsRenumbered}
 use Rattle.rtp_wire.proofs.ext.slots.remap.Given as goal
 

@@ -1,4 +1,4 @@
-use Rattle.std.proofs.Common.{◌≡◌, ◌≢◌, ◌⊎◌, inl, inr, ap, refl, sym, ◌∙◌, subst, ◌+◌, arith, rules, None, get_or, set}
+use Rattle.std.proofs.Common.{inl, inr, ap, refl, sym, ◌∙◌, subst, ◌+◌, arith, None, set}
 use Rattle.std.proofs.lemmas.List.{get_or_default}
 use Rattle.std.proofs.Math.Bool.{false≢true}
 use Rattle.std.specs.List.{swap}

@@ -1,4 +1,4 @@
-use Rattle.std.proofs.Common.{◌≡◌, ◌<◌, length}
+use Rattle.std.proofs.Common.{◌≡◌, length}
 use Rattle.std.specs.List.{filter}
 use Rattle.rtp_wire.specs.ExtensionMap.{goes_with}
 use Rattle.rtp_wire.proofs.ext.iter.IterByMediaTypeIterator.next.Given as goal

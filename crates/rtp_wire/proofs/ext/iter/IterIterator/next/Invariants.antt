@@ -1,4 +1,4 @@
-use Rattle.std.proofs.Common.{◌≡◌, ◌+◌, ◌<◌, length}
+use Rattle.std.proofs.Common.{◌≡◌, ◌+◌, length}
 use Rattle.rtp_wire.specs.Places.{items_from}
 use Rattle.rtp_wire.specs.declared.ext.map.TheConstants.{MAX_ID}
 use Rattle.rtp_wire.proofs.ext.iter.IterIterator.next.Given as goal

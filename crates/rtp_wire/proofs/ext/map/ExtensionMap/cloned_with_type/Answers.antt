@@ -1,4 +1,4 @@
-use Rattle.std.proofs.Common.{◌≡◌, refl, ap, ◌∙◌}
+use Rattle.std.proofs.Common.{refl, ap, ◌∙◌}
 use Rattle.rtp_wire.specs.ExtensionMap as spec
 use Rattle.rtp_wire.proofs.MapLemmas.{entry_at-map}
 use Rattle.rtp_wire.proofs.ext.map.ExtensionMap.cloned_with_type.Goals as goal

@@ -1,4 +1,4 @@
-use Rattle.std.proofs.Common.{◌≡◌, ℕ, ◌<◌, get_or, None, rules, arith}
+use Rattle.std.proofs.Common.{None, rules, arith}
 use Rattle.rtp_wire.proofs.MapLemmas.{IsEmpty-from_each}
 use Rattle.rtp_wire.proofs.ext.map.ExtensionMap.empty.Goals as goal
 

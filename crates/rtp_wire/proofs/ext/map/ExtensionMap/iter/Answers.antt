@@ -1,4 +1,4 @@
-use Rattle.std.proofs.Common.{◌≡◌, true, sym, ap, ◌∙◌, subst}
+use Rattle.std.proofs.Common.{true, sym, ap, ◌∙◌, subst}
 use Rattle.rtp_wire.specs.ExtensionMap as spec
 use Rattle.rtp_wire.specs.Places.{items_from}
 use Rattle.rtp_wire.proofs.ListingLemmas.{IsListing-from_places}

@@ -1,4 +1,4 @@
-use Rattle.std.proofs.Common.{◌≡◌, true, sym, ap, ◌∙◌, subst}
+use Rattle.std.proofs.Common.{sym, subst}
 use Rattle.rtp_wire.specs.ExtensionMap as spec
 use Rattle.rtp_wire.proofs.ListingLemmas.{IsListing-filter}
 use Rattle.rtp_wire.proofs.ext.map.ExtensionMap.iter_by_media_type.Goals as goal

@@ -1,4 +1,4 @@
-use Rattle.std.proofs.Common.{◌≡◌, arith}
+use Rattle.std.proofs.Common.{arith}
 use Rattle.rtp_wire.specs.ExtensionMap as spec
 use Rattle.rtp_wire.proofs.ListingLemmas.{IsListed, IsListed-none, IsListed-set}
 use Rattle.rtp_wire.proofs.ext.map.ExtensionMap.standard.Goals as goal
