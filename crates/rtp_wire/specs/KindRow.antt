@@ -1,5 +1,5 @@
 -- The table of the kinds as the code reads it.
-use Rattle.rtp_wire.specs.declared.ext.kind.Row.{Row}
+use Rattle.rtp_wire.specs.declared.ext.table.Row.{Row}
 use Rattle.rtp_wire.specs.Kind.{Kind}
 
 -- what a row says of its kind

@@ -1,11 +1,11 @@
-//! The extensions, and what is fixed for each.
+//! The header extensions.
 
-ghost use Rattle.std.specs.Prelude.{◌≡◌, ◌≢◌, All, IfOk, IfErr, IfSome, IfNone};
-ghost use Rattle.rtp_wire.specs.Kind.{audio_and_video, audio_only, video_only, kind_of, known_kinds, IsKnown, IsNamedBy};
+ghost use Rattle.std.specs.Prelude.{◌≡◌, IfOk, IfErr};
+ghost use Rattle.rtp_wire.specs.Kind.{kind_of, IsKnown, IsNamedBy};
 ghost use Rattle.rtp_wire.specs.ExtensionMap.{goes_with};
-ghost use Rattle.rtp_wire.specs.KindRow.{kind_in};
 
 use super::Uri;
+use super::table::{known_by_uri, row_of};
 use std::alloc::{AllocError, Global};
 use std::fmt;
 
@@ -43,150 +43,6 @@ pub enum Extension {
     ColorSpace,
     /// An extension that this library doesn't know, by its URI. It is of no medium, and has no value.
     UnknownUri(Uri),
-}
-
-// What is fixed for a kind.
-#[derive(Clone, Copy)]
-struct Row<'a> {
-    uri: &'a str,
-    name: &'a str,
-    audio: bool,
-    video: bool,
-}
-
-fn audio_and_video<'a>(uri: &'a str, name: &'a str) -> Row<'a>
-    ensures { kind_in result ≡ audio_and_video uri.now name.now }
-{
-    Row {
-        uri,
-        name,
-        audio: true,
-        video: true,
-    }
-}
-
-fn audio_only<'a>(uri: &'a str, name: &'a str) -> Row<'a>
-    ensures { kind_in result ≡ audio_only uri.now name.now }
-{
-    Row {
-        uri,
-        name,
-        audio: true,
-        video: false,
-    }
-}
-
-fn video_only<'a>(uri: &'a str, name: &'a str) -> Row<'a>
-    ensures { kind_in result ≡ video_only uri.now name.now }
-{
-    Row {
-        uri,
-        name,
-        audio: false,
-        video: true,
-    }
-}
-
-// The table of the kinds.
-fn row_of(kind: &Extension) -> Row<'_>
-    ensures { kind_in result ≡ kind_of kind.now }
-{
-    match kind {
-        Extension::AbsoluteSendTime => audio_and_video(
-            "http://www.webrtc.org/experiments/rtp-hdrext/abs-send-time",
-            "abs-send-time",
-        ),
-        Extension::AbsoluteCaptureTime => audio_and_video(
-            "http://www.webrtc.org/experiments/rtp-hdrext/abs-capture-time",
-            "abs-capture-time",
-        ),
-        Extension::AudioLevel => audio_only(
-            "urn:ietf:params:rtp-hdrext:ssrc-audio-level",
-            "ssrc-audio-level",
-        ),
-        Extension::TransmissionTimeOffset => audio_and_video(
-            "urn:ietf:params:rtp-hdrext:toffset",
-            "toffset",
-        ),
-        Extension::VideoOrientation => video_only(
-            "urn:3gpp:video-orientation",
-            "video-orientation",
-        ),
-        Extension::TransportSequenceNumber => audio_and_video(
-            "http://www.ietf.org/id/draft-holmer-rmcat-transport-wide-cc-extensions-01",
-            "transport-wide-cc",
-        ),
-        Extension::PlayoutDelay => audio_and_video(
-            "http://www.webrtc.org/experiments/rtp-hdrext/playout-delay",
-            "playout-delay",
-        ),
-        Extension::VideoContentType => video_only(
-            "http://www.webrtc.org/experiments/rtp-hdrext/video-content-type",
-            "video-content-type",
-        ),
-        Extension::VideoTiming => video_only(
-            "http://www.webrtc.org/experiments/rtp-hdrext/video-timing",
-            "video-timing",
-        ),
-        Extension::RtpStreamId => audio_and_video(
-            "urn:ietf:params:rtp-hdrext:sdes:rtp-stream-id",
-            "rtp-stream-id",
-        ),
-        Extension::RepairedRtpStreamId => audio_and_video(
-            "urn:ietf:params:rtp-hdrext:sdes:repaired-rtp-stream-id",
-            "repaired-rtp-stream-id",
-        ),
-        Extension::RtpMid => audio_and_video("urn:ietf:params:rtp-hdrext:sdes:mid", "mid"),
-        Extension::FrameMarking => video_only(
-            "http://tools.ietf.org/html/draft-ietf-avtext-framemarking-07",
-            "frame-marking07",
-        ),
-        Extension::ColorSpace => video_only(
-            "http://www.webrtc.org/experiments/rtp-hdrext/color-space",
-            "color-space",
-        ),
-        Extension::UnknownUri(uri) => Row {
-            uri: uri.as_str(),
-            name: uri.as_str(),
-            audio: false,
-            video: false,
-        },
-    }
-}
-
-// The known kinds, each once.
-fn known() -> [Extension; 14]
-    ensures { result ≡ known_kinds }
-{
-    [
-        Extension::AbsoluteSendTime,
-        Extension::AbsoluteCaptureTime,
-        Extension::AudioLevel,
-        Extension::TransmissionTimeOffset,
-        Extension::VideoOrientation,
-        Extension::TransportSequenceNumber,
-        Extension::PlayoutDelay,
-        Extension::VideoContentType,
-        Extension::VideoTiming,
-        Extension::RtpStreamId,
-        Extension::RepairedRtpStreamId,
-        Extension::RtpMid,
-        Extension::FrameMarking,
-        Extension::ColorSpace,
-    ]
-}
-
-// The known kind whose URI this is.
-fn known_by_uri(uri: &str) -> Option<Extension>
-    ensures found { IfSome result (λ kind. IsKnown kind × ((kind_of kind).uri ≡ uri.now)) }
-    ensures none { IfNone result ((kind : Extension) → IsKnown kind → (kind_of kind).uri ≢ uri.now) }
-{
-    for kind in known() {
-        if kind.as_uri() == uri {
-            return Some(kind);
-        }
-    }
-    None
 }
 
 impl Extension {

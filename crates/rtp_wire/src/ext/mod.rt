@@ -6,6 +6,7 @@ mod iter;
 mod kind;
 mod map;
 mod slots;
+mod table;
 mod uri;
 mod values;
 

@@ -1,7 +1,7 @@
 use Rattle.std.proofs.Common.{◌≡◌, ◌≢◌, All, ◌++◌}
 use Rattle.std.specs.Array.Iter.{array_into_iter_items}
 use Rattle.rtp_wire.specs.Kind.{kind_of, known_kinds}
-use Rattle.rtp_wire.proofs.ext.kind.known_by_uri.Given as goal
+use Rattle.rtp_wire.proofs.ext.table.known_by_uri.Given as goal
 
 -- the kinds that are left follow those that were passed, none of which has the URI
 abbrev pub invariant-loop-kind : goal.invariant-loop-kind

@@ -3,7 +3,7 @@ use Rattle.std.proofs.lemmas.List.{append-nil, nil_from_length}
 use Rattle.std.specs.Cmp.Lexicographic.{other_text}
 use Rattle.rtp_wire.specs.Kind.{kind_of}
 use Rattle.rtp_wire.proofs.KindLemmas.{All-known, All-snoc}
-use Rattle.rtp_wire.proofs.ext.kind.known_by_uri.Goals as goal
+use Rattle.rtp_wire.proofs.ext.table.known_by_uri.Goals as goal
 
 pub loop-kind-preserved : goal.loop-kind-preserved
 loop-kind-preserved c =
