@@ -2,6 +2,7 @@
 
 use rtp_wire::{Extension, Uri};
 use std::alloc::{AllocError, Global};
+use std::process::Abort;
 
 // A kind, its URI, its text, and whether it goes with audio and with video.
 const KINDS: [(Extension, &str, &str, bool, bool); 14] = [
@@ -136,28 +137,30 @@ fn kinds_differ(rt: HostRuntime) {
     }
 }
 
+// The URI names an unknown extension, which has it for its text.
+fn check_unknown(rt: &impl Abort, alloc: Global, uri: &str) -> Result<(), AllocError> {
+    let ext = Extension::from_sdp_uri(alloc, uri)?;
+    assert!(rt; ext == unknown(alloc, uri)?, "{uri}");
+    assert_eq!(rt; ext.as_uri(), uri);
+    assert_eq!(rt; format!(in alloc; "{ext}")?.as_str(), uri);
+    assert!(rt; !ext.is_audio() && !ext.is_video(), "{uri}");
+    let copy = ext.clone(alloc)?;
+    assert!(rt; copy == ext, "{uri}");
+    Ok(())
+}
+
 #[test]
 fn unknown_uris(rt: HostRuntime) -> Result<(), AllocError> {
-    let uris = [
-        "urn:x",
-        "",
-        // Not yet a known kind.
-        "http://www.webrtc.org/experiments/rtp-hdrext/video-layers-allocation00",
-        // A known one with a letter more, one less, and in another case.
-        "urn:3gpp:video-orientation0",
-        "urn:3gpp:video-orientatio",
-        "URN:3gpp:video-orientation",
-        "urn:é€😀",
-    ];
-    for uri in uris {
-        let ext = Extension::from_sdp_uri(rt.alloc(), uri)?;
-        assert!(rt; ext == unknown(rt.alloc(), uri)?, "{uri}");
-        assert_eq!(rt; ext.as_uri(), uri);
-        assert_eq!(rt; format!(in rt.alloc(); "{ext}")?.as_str(), uri);
-        assert!(rt; !ext.is_audio() && !ext.is_video(), "{uri}");
-        let copy = ext.clone(rt.alloc())?;
-        assert!(rt; copy == ext, "{uri}");
-    }
+    check_unknown(&rt, rt.alloc(), "urn:x")?;
+    check_unknown(&rt, rt.alloc(), "")?;
+    check_unknown(&rt, rt.alloc(), "urn:é€😀")?;
+    // Not yet a known kind.
+    let allocation = "http://www.webrtc.org/experiments/rtp-hdrext/video-layers-allocation00";
+    check_unknown(&rt, rt.alloc(), allocation)?;
+    // A known one with a letter more, one less, and in another case.
+    check_unknown(&rt, rt.alloc(), "urn:3gpp:video-orientation0")?;
+    check_unknown(&rt, rt.alloc(), "urn:3gpp:video-orientatio")?;
+    check_unknown(&rt, rt.alloc(), "URN:3gpp:video-orientation")?;
     assert!(rt; unknown(rt.alloc(), "urn:x")? != unknown(rt.alloc(), "urn:y")?);
     assert!(rt; unknown(rt.alloc(), "mid")? != Extension::RtpMid);
     Ok(())

@@ -3,13 +3,19 @@
 use rtp_wire::{Extension, ExtensionMap, IterByMediaType, MAX_ID, MAX_ID_ONE_BYTE_FORM};
 use std::alloc::{AllocError, Global};
 
-// The map of these entries, none locked.
-fn map_of<const N: usize>(entries: [(u8, Extension); N]) -> ExtensionMap {
-    let mut map = ExtensionMap::empty();
-    for (id, ext) in entries {
-        map.set(id, ext);
-    }
+// The map with one more entry.
+fn with(mut map: ExtensionMap, id: u8, ext: Extension) -> ExtensionMap {
+    map.set(id, ext);
     map
+}
+
+// The map of one entry, and that of two.
+fn one(id: u8, ext: Extension) -> ExtensionMap {
+    with(ExtensionMap::empty(), id, ext)
+}
+
+fn two(id: u8, ext: Extension, next_id: u8, next: Extension) -> ExtensionMap {
+    with(one(id, ext), next_id, next)
 }
 
 // The text that a map is shown as.
@@ -91,7 +97,7 @@ fn media(rt: HostRuntime) -> Result<(), AllocError> {
         "Extensions(2=abs-send-time, \
 3=transport-wide-cc, 4=mid, 10=rtp-stream-id, 11=repaired-rtp-stream-id, 13=video-orientation)"
     );
-    let mut map = map_of([(3, Extension::ColorSpace), (9, Extension::AudioLevel)]);
+    let mut map = two(3, Extension::ColorSpace, 9, Extension::AudioLevel);
     map.set(5, Extension::from_sdp_uri(rt.alloc(), "urn:x")?);
     assert_eq!(rt;
         ids_of(rt.alloc(), map.iter_audio())?.as_slice(),
@@ -101,13 +107,13 @@ fn media(rt: HostRuntime) -> Result<(), AllocError> {
         ids_of(rt.alloc(), map.iter_video())?.as_slice(),
         [3].as_slice()
     );
-    assert!(rt; map.cloned_with_type(true) == map_of([(9, Extension::AudioLevel)]));
+    assert!(rt; map.cloned_with_type(true) == one(9, Extension::AudioLevel));
     Ok(())
 }
 
 #[test]
 fn iterators_end(rt: HostRuntime) {
-    let map = map_of([(16, Extension::RtpMid)]);
+    let map = one(16, Extension::RtpMid);
     let mut all = map.iter();
     assert!(rt; all.next() == Some((16, &Extension::RtpMid)));
     assert!(rt; all.next().is_none());
@@ -134,10 +140,12 @@ fn remapped_to_a_free_id(rt: HostRuntime) -> Result<(), AllocError> {
 
 #[test]
 fn remapped_crosswise(rt: HostRuntime) -> Result<(), AllocError> {
-    let mut map = map_of([
-        (12, Extension::TransportSequenceNumber),
-        (14, Extension::VideoOrientation),
-    ]);
+    let mut map = two(
+        12,
+        Extension::TransportSequenceNumber,
+        14,
+        Extension::VideoOrientation,
+    );
     map.remap(&[
         (12, &Extension::VideoOrientation),
         (14, &Extension::TransportSequenceNumber),
@@ -155,11 +163,16 @@ fn remapped_crosswise(rt: HostRuntime) -> Result<(), AllocError> {
 
 #[test]
 fn remapped_into_a_space(rt: HostRuntime) -> Result<(), AllocError> {
-    let mut map = map_of([
-        (3, Extension::TransportSequenceNumber),
-        (4, Extension::VideoOrientation),
-        (5, Extension::VideoContentType),
-    ]);
+    let mut map = with(
+        two(
+            3,
+            Extension::TransportSequenceNumber,
+            4,
+            Extension::VideoOrientation,
+        ),
+        5,
+        Extension::VideoContentType,
+    );
     map.remap(&[
         (12, &Extension::VideoOrientation),
         (14, &Extension::TransportSequenceNumber),
@@ -174,7 +187,7 @@ fn remapped_into_a_space(rt: HostRuntime) -> Result<(), AllocError> {
 
 #[test]
 fn what_stood_in_the_way_moves(rt: HostRuntime) -> Result<(), AllocError> {
-    let mut map = map_of([(1, Extension::AudioLevel), (2, Extension::RtpMid)]);
+    let mut map = two(1, Extension::AudioLevel, 2, Extension::RtpMid);
     map.remap(&[(2, &Extension::AudioLevel)]);
     assert_eq!(rt;
         text_of(rt.alloc(), &map)?.as_str(),
@@ -216,8 +229,8 @@ fn steps_that_change_nothing(rt: HostRuntime) {
 
 #[test]
 fn locks_count(rt: HostRuntime) -> Result<(), AllocError> {
-    let free = map_of([(1, Extension::AudioLevel)]);
-    let mut locked = map_of([(1, Extension::AudioLevel)]);
+    let free = one(1, Extension::AudioLevel);
+    let mut locked = one(1, Extension::AudioLevel);
     locked.remap(&[(1, &Extension::AudioLevel)]);
     assert!(rt; locked != free);
     assert!(rt; locked.clone(rt.alloc())? == locked);
