@@ -28,6 +28,7 @@ extension_of slot = option_map (λ entry. entry.extension) slot
 abbrev pub extension_at : Slots → ℕ → Option Extension
 extension_at map id = extension_of (entry_at map id)
 
+-- the entry of an extension that may be moved, and of one that is locked
 abbrev pub unlocked : Extension → Entry
 unlocked extension = record { extension = extension; locked = false }
 
@@ -117,7 +118,7 @@ pub record IsListing (map : Slots) (passes : Extension → Bool) (items : List (
   pub all : (id : ℕ) (extension : Extension) → extension_at map id ≡ Some extension → passes extension ≡ true
       → Contains items (id, extension)
 
--- what the standard map has, for audio and for video
+-- what the standard map has: the usual ids of the usual extensions, for audio and for video
 abbrev pub standard_items : List (ℕ × Extension)
 standard_items =
     (1, AudioLevel) ∷ (2, AbsoluteSendTime) ∷ (3, TransportSequenceNumber) ∷ (4, RtpMid)

@@ -10,6 +10,7 @@ pub record Kind : Type 0 where
   pub audio : Bool
   pub video : Bool
 
+-- a kind for both media, and for one
 abbrev pub audio_and_video : List ℕ → List ℕ → Kind
 audio_and_video uri name = record { uri = uri; name = name; audio = true; video = true }
 

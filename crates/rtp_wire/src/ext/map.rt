@@ -51,8 +51,8 @@ impl ExtensionMap {
         }
     }
 
-    /// The ids that browsers offer for audio and video: 1 audio level, 2 absolute send time,
-    /// 3 transport sequence number, 4 mid, 10 stream id, 11 repaired stream id, 13 video
+    /// The usual ids of the usual extensions, for audio and video: 1 audio level, 2 absolute send
+    /// time, 3 transport sequence number, 4 mid, 10 stream id, 11 repaired stream id, 13 video
     /// orientation. Nothing is locked. Takes no memory.
     pub fn standard() -> Self
         ensures items { spec.IsListing result (λ _. true) spec.standard_items }
