@@ -1,4 +1,5 @@
 mod DirectionLemmas
+mod FrequencyLemmas
 mod IdLemmas
 mod IdTextLemmas
 mod WindowLemmas

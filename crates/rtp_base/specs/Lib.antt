@@ -2,3 +2,4 @@
 pub mod Id
 pub mod Direction
 pub mod Window
+pub mod Frequency
