@@ -2,4 +2,5 @@ mod DirectionLemmas
 mod FrequencyLemmas
 mod IdLemmas
 mod IdTextLemmas
+mod MediaTimeLemmas
 mod WindowLemmas

@@ -3,3 +3,5 @@ pub mod Id
 pub mod Direction
 pub mod Window
 pub mod Frequency
+pub mod MediaTime
+pub mod OrderLaws

@@ -10,5 +10,5 @@ mod seq_no_window;
 pub use dir::Direction;
 pub use error::RtpError;
 pub use id::{Mid, MidRid, Pt, Rid, SeqNo, SessionId, Ssrc, TwccClusterId, TwccSeq};
-pub use mtime::{Frequency, ParseFrequencyError};
+pub use mtime::{Frequency, MediaTime, ParseFrequencyError};
 pub use seq_no_window::SeqNoWindow;
