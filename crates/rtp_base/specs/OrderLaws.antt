@@ -4,7 +4,7 @@ use Rattle.std.specs.declared.cmp.Ordering.{Ordering}
 use Rattle.std.specs.declared.cmp.Ordering.TheVariants.{Less, Equal, Greater}
 use Rattle.std.specs.Ordering.{MatchOrdering, nat_cmp, eq_by_cmp}
 use Rattle.std.specs.Cmp.{IsTotalOrder, IsEquivalence, IsPartialOrder, nat_cmp_total, nat_cmp_is, ranks, unsigned_ties, eq_by_cmp_equiv, po}
-use Rattle.std.proofs.Common.{refl, sym, ap, ◌∙◌, subst, arith}
+use Rattle.std.proofs.Common.{sym, ap, ◌∙◌, subst, arith}
 use Rattle.std.proofs.Math.Nat.{lt_of_mul-lt-mul_right, eq_of_mul-eq-mul_right, mul_right_comm}
 use Rattle.rtp_base.specs.MediaTime.{Fraction, per_second, fraction_eq, fraction_cmp}
 
@@ -36,20 +36,20 @@ pub fraction_total : IsTotalOrder fraction_cmp
 fraction_total = record {
   antisymm = λ a b. nat_cmp_total.antisymm (a.numer * per_second b) (b.numer * per_second a);
   trans = λ a b c p q.
-    let first : nat_cmp (a.numer * per_second c * per_second b) (b.numer * per_second a * per_second c) ≡ Less =
-    ap (λ (n : ℕ). nat_cmp n (b.numer * per_second a * per_second c)) (swapped a c b) ∙ over a b c ∙ p in
-    let second : nat_cmp (b.numer * per_second a * per_second c) (c.numer * per_second a * per_second b) ≡ Less =
-    ap (λ (n : ℕ). nat_cmp n (c.numer * per_second a * per_second b)) (swapped b a c)
-    ∙ ap (nat_cmp (b.numer * per_second c * per_second a)) (swapped c a b) ∙ over b c a ∙ q in
-    sym (over a c b) ∙ nat_cmp_total.trans _ (b.numer * per_second a * per_second c) _ first second;
+      let first : nat_cmp (a.numer * per_second c * per_second b) (b.numer * per_second a * per_second c) ≡ Less =
+      ap (λ (n : ℕ). nat_cmp n (b.numer * per_second a * per_second c)) (swapped a c b) ∙ over a b c ∙ p in
+      let second : nat_cmp (b.numer * per_second a * per_second c) (c.numer * per_second a * per_second b) ≡ Less =
+      ap (λ (n : ℕ). nat_cmp n (c.numer * per_second a * per_second b)) (swapped b a c)
+      ∙ ap (nat_cmp (b.numer * per_second c * per_second a)) (swapped c a b) ∙ over b c a ∙ q in
+      sym (over a c b) ∙ nat_cmp_total.trans _ (b.numer * per_second a * per_second c) _ first second;
   congr = λ a b c p.
-    let same : a.numer * per_second b ≡ b.numer * per_second a = level (a.numer * per_second b) (b.numer * per_second a) p in
-    let left : a.numer * per_second c * per_second b ≡ b.numer * per_second c * per_second a =
-    swapped a c b ∙ ap (λ (n : ℕ). n * per_second c) same ∙ swapped b a c in
-    sym (over a c b)
-    ∙ ap (λ (n : ℕ). nat_cmp n (c.numer * per_second a * per_second b)) left
-    ∙ ap (nat_cmp (b.numer * per_second c * per_second a)) (swapped c a b)
-    ∙ over b c a;
+      let same : a.numer * per_second b ≡ b.numer * per_second a = level (a.numer * per_second b) (b.numer * per_second a) p in
+      let left : a.numer * per_second c * per_second b ≡ b.numer * per_second c * per_second a =
+      swapped a c b ∙ ap (λ (n : ℕ). n * per_second c) same ∙ swapped b a c in
+      sym (over a c b)
+      ∙ ap (λ (n : ℕ). nat_cmp n (c.numer * per_second a * per_second b)) left
+      ∙ ap (nat_cmp (b.numer * per_second c * per_second a)) (swapped c a b)
+      ∙ over b c a;
 }
 
 pub fraction_ties : (a b : Fraction) → fraction_eq a b ≡ eq_by_cmp fraction_cmp a b

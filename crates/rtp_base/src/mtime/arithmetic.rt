@@ -2,19 +2,21 @@
 
 ghost use Rattle.std.specs.Prelude.{◌≡◌, ◌≤◌, ◌↔◌, IsNone, IfSome};
 ghost use Rattle.std.specs.Option.{SomeIff};
-ghost use Rattle.rtp_base.specs.MediaTime.{common, whole_ticks, in_ticks, IsLess, IsAtMost, BothFit, SumFits, sum_of, IsDifference};
+ghost use Rattle.rtp_base.specs.MediaTime.{common_frequency, whole_ticks, in_ticks, IsLess, IsAtMost, BothFit, SumFits, sum_of, IsDifference};
 
 use super::media_time::MediaTime;
 use std::ops::{Add, AddAssign, Sub, SubAssign};
 
 // Both times in ticks of the greater frequency, where they fit.
 fn at_common(left: MediaTime, right: MediaTime) -> Option<(MediaTime, MediaTime)>
-    ensures fits { SomeIff result (BothFit left right)
-        (in_ticks left (common left right), in_ticks right (common left right)) }
+    ensures fits { SomeIff result (BothFit left right) (
+      in_ticks left (common_frequency left right),
+      in_ticks right (common_frequency left right),
+    ) }
 
     // What is at most the other stays so in whole ticks.
-    ensures in_order { IsAtMost right left
-        → whole_ticks right (common left right) ≤ whole_ticks left (common left right) }
+    ensures in_order { IsAtMost right left → whole_ticks right (common_frequency left right)
+        ≤ whole_ticks left (common_frequency left right) }
 {
     let frequency = if left.denom() < right.denom() {
         right.frequency()

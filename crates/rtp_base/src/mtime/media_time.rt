@@ -75,45 +75,45 @@ impl MediaTime {
     }
 
     /// The time of this many microseconds.
-    pub fn from_micros(v: u64) -> MediaTime
-        ensures { result ≡ record { numer = v; denom = 1000000 } }
+    pub fn from_micros(micros: u64) -> MediaTime
+        ensures { result ≡ record { numer = micros; denom = 1000000 } }
     {
-        MediaTime::new(v, Frequency::MICROS)
+        MediaTime::new(micros, Frequency::MICROS)
     }
 
     /// The time of this many units of 2^-18 seconds.
-    pub fn from_fixed_point_6_18(v: u64) -> MediaTime
-        ensures { result ≡ record { numer = v; denom = 262144 } }
+    pub fn from_fixed_point_6_18(units: u64) -> MediaTime
+        ensures { result ≡ record { numer = units; denom = 262144 } }
     {
-        MediaTime::new(v, Frequency::FIXED_POINT_6_18)
+        MediaTime::new(units, Frequency::FIXED_POINT_6_18)
     }
 
     /// The time of this many ticks of a 90 kHz clock.
-    pub fn from_90khz(v: u64) -> MediaTime
-        ensures { result ≡ record { numer = v; denom = 90000 } }
+    pub fn from_90khz(ticks: u64) -> MediaTime
+        ensures { result ≡ record { numer = ticks; denom = 90000 } }
     {
-        MediaTime::new(v, Frequency::NINETY_KHZ)
+        MediaTime::new(ticks, Frequency::NINETY_KHZ)
     }
 
     /// The time of this many milliseconds.
-    pub fn from_millis(v: u64) -> MediaTime
-        ensures { result ≡ record { numer = v; denom = 1000 } }
+    pub fn from_millis(millis: u64) -> MediaTime
+        ensures { result ≡ record { numer = millis; denom = 1000 } }
     {
-        MediaTime::new(v, Frequency::MILLIS)
+        MediaTime::new(millis, Frequency::MILLIS)
     }
 
     /// The time of this many hundredths of a second.
-    pub fn from_hundredths(v: u64) -> MediaTime
-        ensures { result ≡ record { numer = v; denom = 100 } }
+    pub fn from_hundredths(hundredths: u64) -> MediaTime
+        ensures { result ≡ record { numer = hundredths; denom = 100 } }
     {
-        MediaTime::new(v, Frequency::HUNDREDTHS)
+        MediaTime::new(hundredths, Frequency::HUNDREDTHS)
     }
 
     /// The time of this many seconds.
-    pub fn from_secs(v: u64) -> MediaTime
-        ensures { result ≡ record { numer = v; denom = 1 } }
+    pub fn from_secs(secs: u64) -> MediaTime
+        ensures { result ≡ record { numer = secs; denom = 1 } }
     {
-        MediaTime::new(v, Frequency::SECONDS)
+        MediaTime::new(secs, Frequency::SECONDS)
     }
 
     /// Whether it is zero seconds, at any frequency.
