@@ -10,6 +10,8 @@ mod ids;
 #[cfg(test)]
 mod runs;
 #[cfg(test)]
+mod times;
+#[cfg(test)]
 mod widenings;
 #[cfg(test)]
 mod windows;
