@@ -1,5 +1,7 @@
 //! Frequencies, and times of media.
 
+ghost use Rattle.std.specs.Prelude.{◌≡◌, ◌<◌};
+
 use rtp_base::{Frequency, MediaTime, ParseFrequencyError};
 use std::cmp::Ordering;
 use std::test::Fail;
@@ -7,7 +9,9 @@ use std::test::Fail;
 const MOST: u64 = 18446744073709551615;
 
 // The time of this many ticks at a frequency above 0.
-fn at(numer: u64, hertz: u32) -> MediaTime {
+fn at(numer: u64, hertz: u32) -> MediaTime
+    ensures { 0 < hertz → result ≡ record { numer = numer; denom = hertz } }
+{
     MediaTime::new(numer, Frequency::new(hertz).unwrap_or(Frequency::SECONDS))
 }
 
@@ -145,24 +149,22 @@ fn order_of_times(rt: HostRuntime) {
 fn times_at_another_frequency(rt: HostRuntime) {
     let rebased = [
         ((MOST, 1), 2, None),
-        ((MOST, 2), 1, Some(9_223_372_036_854_775_807)),
-        ((10, 1), 90_000, Some(900_000)),
-        ((MOST, 90_000), 90_000, Some(MOST)),
-        ((2, 3), 1, Some(0)),
-        ((1, 90_000), 1_000_000, Some(11)),
+        ((MOST, 2), 1, Some((9_223_372_036_854_775_807, 1))),
+        ((10, 1), 90_000, Some((900_000, 90_000))),
+        ((MOST, 90_000), 90_000, Some((MOST, 90_000))),
+        ((2, 3), 1, Some((0, 1))),
+        ((1, 90_000), 1_000_000, Some((11, 1_000_000))),
         // One tick past 64 bits, and the last that fits.
         ((9_223_372_036_854_775_808, 1), 2, None),
         (
             (9_223_372_036_854_775_807, 1),
             2,
-            Some(18_446_744_073_709_551_614),
+            Some((18_446_744_073_709_551_614, 2)),
         ),
     ];
     for ((numer, hertz), target, ticks) in rebased {
-        let frequency = at(0, target).frequency();
-        let time = at(numer, hertz).checked_rebase(frequency);
-        assert_eq!(rt; time.map(|t| t.numer()), ticks);
-        assert!(rt; time.is_none_or(|t| t.denom() == target));
+        let found = at(numer, hertz).checked_rebase(at(0, target).frequency());
+        assert_eq!(rt; found.map(|t| parts(t)), ticks);
     }
 }
 
