@@ -8,22 +8,22 @@ pub record Fraction : Type 0 where
   pub numer : ℕ
   pub denom : ℕ
 
+-- how many ticks make a second; no time has 0, which counts as 1, so that the order is one of all
+-- fractions
+abbrev pub per_second : Fraction → ℕ
+per_second a = max 1 a.denom
+
 -- the first time is less: a/b is less than c/d where a times d is less than c times b
 abbrev pub IsLess : Fraction → Fraction → Type 0
-IsLess a b = a.numer * b.denom < b.numer * a.denom
+IsLess a b = a.numer * per_second b < b.numer * per_second a
 
 -- the first is at most the second
 abbrev pub IsAtMost : Fraction → Fraction → Type 0
-IsAtMost a b = a.numer * b.denom ≤ b.numer * a.denom
+IsAtMost a b = a.numer * per_second b ≤ b.numer * per_second a
 
 -- they are one time, at any frequencies
 abbrev pub IsSame : Fraction → Fraction → Type 0
-IsSame a b = a.numer * b.denom ≡ b.numer * a.denom
-
--- how many of its ticks make a second; no time has 0, which counts as 1, so that the order is one
--- of all fractions
-abbrev pub per_second : Fraction → ℕ
-per_second a = max 1 a.denom
+IsSame a b = a.numer * per_second b ≡ b.numer * per_second a
 
 -- whether they are one time
 abbrev pub fraction_eq : Fraction → Fraction → Bool

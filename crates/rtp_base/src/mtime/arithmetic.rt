@@ -46,7 +46,7 @@ impl MediaTime {
         ensures none { IsNone result ↔ IsLess self rhs }
         ensures found { IfSome result (IsDifference self rhs) }
     {
-        if self.cmp(&rhs).is_lt() {
+        if self < rhs {
             return None;
         }
         let (left, right) = at_common(self, rhs).unwrap();

@@ -2,7 +2,7 @@
 
 ghost use Rattle.std.specs.Prelude.{◌≡◌, ◌*◌, ◌↔◌, IsTrue, IfSome, refl};
 ghost use Rattle.std.specs.Cmp.{partial_equiv_from_equiv};
-ghost use Rattle.std.specs.Ordering.{MatchOrdering, as_partial_cmp};
+ghost use Rattle.std.specs.Ordering.{MatchOrdering, nat_cmp, as_partial_cmp};
 ghost use Rattle.rtp_base.specs.MediaTime.{IsLess, IsSame, per_second, fraction_eq, fraction_cmp};
 ghost use Rattle.rtp_base.specs.OrderLaws.{fraction_total, fraction_ties, fraction_eq_equiv, fraction_po};
 
@@ -29,6 +29,8 @@ impl PartialEq for MediaTime {
     fn eq(&self, other: &MediaTime) -> bool
         ensures answer { result ≡ fraction_eq self.now other.now }
         ensures same { IsTrue result ↔ IsSame self.now other.now }
+        ensures plain { IsTrue result
+            ↔ (self.now.numer * other.now.denom ≡ other.now.numer * self.now.denom) }
     {
         let (left, right) = across(*self, *other);
         left == right
@@ -64,6 +66,8 @@ impl Ord for MediaTime {
         ensures answer { result ≡ fraction_cmp self.now other.now }
         ensures order { MatchOrdering result (IsLess self.now other.now)
             (IsSame self.now other.now) (IsLess other.now self.now) }
+        ensures plain { result ≡ nat_cmp (self.now.numer * other.now.denom)
+            (other.now.numer * self.now.denom) }
     {
         let (left, right) = across(*self, *other);
         left.cmp(&right)
