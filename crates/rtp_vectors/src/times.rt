@@ -20,6 +20,17 @@ fn parts(time: MediaTime) -> (u64, u32) {
     (time.numer(), time.denom())
 }
 
+// The time between two, by a caller that knows nothing of them: each thing that `-` asks is tested.
+fn between(from: MediaTime, to: MediaTime) -> Option<MediaTime> {
+    let frequency = from.frequency().max(to.frequency());
+    from.checked_rebase(frequency)?;
+    to.checked_rebase(frequency)?;
+    if to < from {
+        return None;
+    }
+    Some(to - from)
+}
+
 #[test]
 fn frequencies(rt: HostRuntime) -> Result<(), Fail> {
     let constants = [
@@ -208,4 +219,10 @@ fn sums_and_differences(rt: HostRuntime) {
     // Both are 1 at 4 once they are cut, and still the first is less.
     assert_eq!(rt; quarter.checked_sub(third).map(|t| parts(t)), None);
     assert_eq!(rt; third.checked_sub(quarter).map(|t| parts(t)), Some((0, 4)));
+    assert_eq!(rt; between(ten, five).map(|t| parts(t)), None);
+    assert_eq!(rt;
+        between(five, at(1, 1)).map(|t| parts(t)),
+        Some((999_995, 1_000_000))
+    );
+    assert_eq!(rt; between(at(MOST, 1), at(MOST, 2)).map(|t| parts(t)), None);
 }
