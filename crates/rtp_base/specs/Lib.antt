@@ -4,4 +4,5 @@ pub mod Direction
 pub mod Window
 pub mod Frequency
 pub mod MediaTime
+-- For the prover alone.
 pub mod OrderLaws

@@ -21,15 +21,11 @@ IsLess a b = a.numer * per_second b < b.numer * per_second a
 abbrev pub IsAtMost : Fraction → Fraction → Type 0
 IsAtMost a b = a.numer * per_second b ≤ b.numer * per_second a
 
--- they are one time, at any frequencies
-abbrev pub IsSame : Fraction → Fraction → Type 0
-IsSame a b = a.numer * per_second b ≡ b.numer * per_second a
-
--- whether they are one time
+-- whether the two are one time
 abbrev pub fraction_eq : Fraction → Fraction → Bool
 fraction_eq a b = a.numer * per_second b == b.numer * per_second a
 
--- which of them is less
+-- which of the two is less
 abbrev pub fraction_cmp : Fraction → Fraction → Ordering
 fraction_cmp a b = nat_cmp (a.numer * per_second b) (b.numer * per_second a)
 

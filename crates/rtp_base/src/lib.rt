@@ -1,4 +1,4 @@
-//! The base of the RTP layer: the ids and numbers that packets carry, and directions.
+//! The base of the RTP layer: the ids and numbers that packets carry, directions, and times of media.
 #![tactic(auto)]
 
 mod dir;

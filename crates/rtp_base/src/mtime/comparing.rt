@@ -1,9 +1,9 @@
 //! Times in order, as fractions.
 
-ghost use Rattle.std.specs.Prelude.{◌≡◌, ◌*◌, ◌↔◌, IsTrue, IfSome, refl};
+ghost use Rattle.std.specs.Prelude.{◌≡◌, ◌*◌, ◌↔◌, IsTrue, refl};
 ghost use Rattle.std.specs.Cmp.{partial_equiv_from_equiv};
-ghost use Rattle.std.specs.Ordering.{MatchOrdering, nat_cmp, as_partial_cmp};
-ghost use Rattle.rtp_base.specs.MediaTime.{IsLess, IsSame, per_second, fraction_eq, fraction_cmp};
+ghost use Rattle.std.specs.Ordering.{nat_cmp, as_partial_cmp};
+ghost use Rattle.rtp_base.specs.MediaTime.{per_second, fraction_eq, fraction_cmp};
 ghost use Rattle.rtp_base.specs.OrderLaws.{fraction_total, fraction_ties, fraction_eq_equiv, fraction_po};
 
 use super::media_time::{MediaTime, product};
@@ -25,10 +25,9 @@ impl PartialEq for MediaTime {
 
     ghost laws = { partial_equiv_from_equiv fraction_eq_equiv };
 
-    /// Whether the two fractions are equal: `250` at 1000 is `1` at 4.
+    /// Whether the two fractions are equal, as 250 at 1000 is 1 at 4.
     fn eq(&self, other: &MediaTime) -> bool
         ensures answer { result ≡ fraction_eq self.now other.now }
-        ensures same { IsTrue result ↔ IsSame self.now other.now }
         ensures plain { IsTrue result
             ↔ (self.now.numer * other.now.denom ≡ other.now.numer * self.now.denom) }
     {
@@ -42,7 +41,7 @@ impl Eq for MediaTime {
 }
 
 impl PartialOrd for MediaTime {
-    ghost partial_cmp = { λ a b. as_partial_cmp fraction_cmp a b };
+    ghost partial_cmp = { as_partial_cmp fraction_cmp };
 
     ghost laws = { fraction_po };
 
@@ -61,11 +60,9 @@ impl Ord for MediaTime {
 
     ghost matches_eq = { fraction_ties };
 
-    /// The order of the two fractions, exactly.
+    /// The order of the two fractions, by their products across.
     fn cmp(&self, other: &MediaTime) -> Ordering
         ensures answer { result ≡ fraction_cmp self.now other.now }
-        ensures order { MatchOrdering result (IsLess self.now other.now)
-            (IsSame self.now other.now) (IsLess other.now self.now) }
         ensures plain { result ≡ nat_cmp (self.now.numer * other.now.denom)
             (other.now.numer * self.now.denom) }
     {
