@@ -38,9 +38,10 @@ impl MediaTime {
         Some(MediaTime::new(numer, left.frequency()))
     }
 
-    /// The difference, at the greater of the two frequencies, and None exactly where the first time
-    /// is less. Before they are subtracted, both are cut to whole ticks of that frequency. It asks
-    /// that their numbers fit 64 bits; [`checked_rebase`](Self::checked_rebase) of each tests it.
+    /// The difference, at the greater of the two frequencies, and None exactly where this time is
+    /// less than `rhs`. Both are first cut to whole ticks of that frequency. It asks that the ticks
+    /// of each fit 64 bits; [`checked_rebase`](Self::checked_rebase) of each to the greater
+    /// frequency tests it.
     pub fn checked_sub(self, rhs: MediaTime) -> Option<MediaTime>
         requires { BothFit self rhs }
         ensures none { IsNone result ↔ IsLess self rhs }
@@ -54,8 +55,8 @@ impl MediaTime {
         Some(MediaTime::new(numer, left.frequency()))
     }
 
-    /// The difference, as [`checked_sub`](Self::checked_sub), which asks the same, and zero seconds
-    /// where the first time is less.
+    /// The difference, as [`checked_sub`](Self::checked_sub), which asks the same, and
+    /// [`ZERO`](Self::ZERO) where this time is less than `rhs`.
     pub fn saturating_sub(self, rhs: MediaTime) -> MediaTime
         requires { BothFit self rhs }
         ensures zero { IsLess self rhs → result ≡ record { numer = 0; denom = 1 } }
@@ -85,7 +86,7 @@ impl AddAssign for MediaTime {
 
     ghost add_assign_gives = { λ a b sum. sum ≡ sum_of a b };
 
-    /// Adds the time, as `+`, which asks the same.
+    /// Adds `rhs`, as `+`, which asks the same.
     fn add_assign(&mut self, rhs: MediaTime) {
         *self = *self + rhs;
     }
@@ -99,7 +100,7 @@ impl Sub for MediaTime {
     ghost sub_gives = { IsDifference };
 
     /// The difference, as [`checked_sub`](Self::checked_sub), which asks the same. It also asks that
-    /// the first time is not less than the second, which `<` tests.
+    /// this time is not less than `rhs`, which `<` tests.
     fn sub(self, rhs: MediaTime) -> MediaTime {
         self.checked_sub(rhs).unwrap()
     }
@@ -110,7 +111,7 @@ impl SubAssign for MediaTime {
 
     ghost sub_assign_gives = { IsDifference };
 
-    /// Takes the time away, as `-`, which asks the same.
+    /// Takes `rhs` away, as `-`, which asks the same.
     fn sub_assign(&mut self, rhs: MediaTime) {
         *self = *self - rhs;
     }

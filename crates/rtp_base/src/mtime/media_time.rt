@@ -1,4 +1,4 @@
-//! A time as a number of ticks of a clock.
+//! Times as ticks of a clock.
 
 ghost use Rattle.std.specs.Prelude.{◌≡◌, ◌*◌, ◌<◌, ◌^◌, ◌↔◌, IsTrue};
 ghost use Rattle.std.specs.Option.{SomeIff};
@@ -7,11 +7,11 @@ ghost use Rattle.rtp_base.specs.MediaTime.{Fraction, IsLess, IsAtMost, whole_tic
 use super::frequency::Frequency;
 use std::marker::Model;
 
-/// A time on the timeline of a medium: so many ticks of a clock, as RTP timestamps count them
-/// (RFC 3550, 5.1). It is the fraction of a second with the ticks above the clock's frequency, and
-/// it never is below zero.
+/// A time on the timeline of a medium, in ticks of a clock, as RTP timestamps count them
+/// (RFC 3550, 5.1): the ticks divided by the clock's frequency, in seconds. It is never below zero.
 ///
-/// Two times are compared as fractions, exactly, whatever their frequencies are.
+/// Two times are compared as fractions, exactly, whatever their frequencies are. Their sum and
+/// their difference are whole ticks of the greater frequency.
 #[derive(Clone, Copy, Debug)]
 pub struct MediaTime {
     numer: u64,
@@ -81,7 +81,7 @@ impl MediaTime {
         MediaTime::new(micros, Frequency::MICROS)
     }
 
-    /// The time of this many units of 2^-18 seconds.
+    /// The time of this many units, of which 2^18 make a second.
     pub fn from_fixed_point_6_18(units: u64) -> MediaTime
         ensures { result ≡ record { numer = units; denom = 262144 } }
     {
