@@ -1,4 +1,6 @@
 mod DirectionLemmas
+mod FrequencyLemmas
 mod IdLemmas
 mod IdTextLemmas
+mod MediaTimeLemmas
 mod WindowLemmas

@@ -1,12 +1,14 @@
-//! The base of the RTP layer: the ids and numbers that packets carry, and directions.
+//! The base of the RTP layer: the ids and numbers that packets carry, directions, and times of media.
 #![tactic(auto)]
 
 mod dir;
 mod error;
 mod id;
+mod mtime;
 mod seq_no_window;
 
 pub use dir::Direction;
 pub use error::RtpError;
 pub use id::{Mid, MidRid, Pt, Rid, SeqNo, SessionId, Ssrc, TwccClusterId, TwccSeq};
+pub use mtime::{Frequency, MediaTime, ParseFrequencyError};
 pub use seq_no_window::SeqNoWindow;

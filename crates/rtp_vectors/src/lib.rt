@@ -14,6 +14,8 @@ mod maps;
 #[cfg(test)]
 mod runs;
 #[cfg(test)]
+mod times;
+#[cfg(test)]
 mod widenings;
 #[cfg(test)]
 mod windows;
