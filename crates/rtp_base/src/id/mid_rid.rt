@@ -29,6 +29,6 @@ impl MidRid {
         ensures { IsTrue result ↔ ((self.now.0 ≡ other.now.0)
             × ((self.now.1 ≡ None) ⊎ (self.now.1 ≡ other.now.1))) }
     {
-        self.0 == other.0 && (self.1.is_none() || self.1 == other.1)
+        self.mid() == other.mid() && (self.rid().is_none() || self.rid() == other.rid())
     }
 }

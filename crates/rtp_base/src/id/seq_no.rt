@@ -53,7 +53,7 @@ impl SeqNo {
     pub fn is_next(&self, other: SeqNo) -> bool
         ensures { IsTrue result ↔ (other ≡ self.now + 1) }
     {
-        follows(self.number, other.number)
+        follows(self.get(), other.get())
     }
 
     /// Adds one, and answers the number before. It asks for a number below the greatest.
@@ -63,7 +63,7 @@ impl SeqNo {
         ensures after { self.new ≡ self.old + 1 }
     {
         let before = *self;
-        self.number += 1;
+        *self = SeqNo::from(before.get() + 1);
         before
     }
 
@@ -71,7 +71,7 @@ impl SeqNo {
     pub fn as_u16(&self) -> u16
         ensures { result ≡ self.now % 65536 }
     {
-        wire_part(self.number)
+        wire_part(self.get())
     }
 
     /// How often the 16 bits have rolled over.
@@ -79,7 +79,7 @@ impl SeqNo {
         ensures rollovers { result ≡ self.now / 65536 }
         ensures whole { result * 65536 + self.now % 65536 ≡ self.now }
     {
-        rollovers(self.number)
+        rollovers(self.get())
     }
 }
 

@@ -43,7 +43,7 @@ impl TwccClusterId {
         ensures after { self.new ≡ (self.old + 1) % 2 ^ 64 }
     {
         let before = *self;
-        self.number = self.number.wrapping_add(1);
+        *self = TwccClusterId::from(before.get().wrapping_add(1));
         before
     }
 }
