@@ -3,4 +3,5 @@ mod FrequencyLemmas
 mod IdLemmas
 mod IdTextLemmas
 mod MediaTimeLemmas
+mod StandardFacts
 mod WindowLemmas
