@@ -1,0 +1,63 @@
+-- A map line and its parts.
+use Rattle.std.proofs.Common.{◌≡◌, ℕ, ◌+◌, ◌<◌, ◌≤◌, List, [], ◌∷◌, ◌++◌, length, take, drop, get_or, refl, sym, ap, ◌∙◌, arith, length-append}
+use Rattle.std.specs.Prelude.{◌≢◌, suc}
+use Rattle.std.specs.List.{All}
+use Rattle.std.specs.Str.{IsUtf8}
+use Rattle.std.specs.Str.Parse.{AllDigits}
+use Rattle.std.specs.Char.{IsAsciiDigit}
+use Rattle.std.proofs.lemmas.Fmt.{IsAscii-from_digits}
+use Rattle.std.proofs.lemmas.Str.{IsUtf8-from_ascii, digit_value_digit}
+use Rattle.std.proofs.lemmas.Str.Parse.{digit_at}
+use Rattle.std.proofs.lemmas.List.{get_or_at, get_or_append_left, take-append-drop, drop_more, get_or-take, length-take-le}
+use Rattle.std.proofs.lemmas.List.Elements.{All-from_get_or}
+use Rattle.std.proofs.Math.Seq.{take-append_seam, drop-append-add}
+use Rattle.rtp_lines.specs.MapLine.{IsMapLine}
+
+-- digits are text
+pub IsUtf8-digits : (digits : List ℕ) → AllDigits 10 digits → IsUtf8 digits
+IsUtf8-digits digits all = IsUtf8-from_ascii digits (IsAscii-from_digits digits all)
+
+-- no digit is a space
+pub no_space : (digits : List ℕ) → AllDigits 10 digits → All (λ byte. byte ≢ 32) digits
+no_space digits all = All-from_get_or (λ byte. byte ≢ 32) digits 0 (λ i below e. let range = digit_at digits i all below in absurd (omega (arith, range, e)))
+
+-- the bytes that are digits, in two words
+pub AllDigits-from : (text : List ℕ) → All IsAsciiDigit text → AllDigits 10 text
+AllDigits-from [] all = tt
+AllDigits-from (byte ∷ text) all =
+    let first : IsAsciiDigit byte = all 0 0 (omega arith) in
+    (omega (arith, digit_value_digit byte first, first), AllDigits-from text (λ k d below. all (suc k) d (omega arith)))
+
+pub All-digits : (text : List ℕ) → AllDigits 10 text → All IsAsciiDigit text
+All-digits text all = All-from_get_or IsAsciiDigit text 0 (λ i below. digit_at text i all below)
+
+-- the first space splits a text in one way
+pub first_space : (text before after : List ℕ) (at : ℕ) → at < length text → get_or text at 0 ≡ 32 → ((k : ℕ) → k < at → get_or text k 0 ≡ 32 → ⊥)
+    → All (λ byte. byte ≢ 32) before → text ≡ before ++ 32 ∷ after → (take at text ≡ before) × (drop (at + 1) text ≡ after)
+first_space text before after at within here none all split =
+    let there : get_or text (length before) 0 ≡ 32 = ap (λ (xs : List ℕ). get_or xs (length before) 0) split ∙ get_or_at before 32 after 0 (length before) refl in
+    let in_text : length before < length text = omega (arith, ap length split, length-append before (32 ∷ after)) in
+    let at_most : length before < at → ⊥ = λ (late : length before < at). none (length before) late there in
+    let at_least : at < length before → ⊥ = λ (early : at < length before).
+    all at 0 early (sym (get_or_append_left before (32 ∷ after) 0 at early) ∙ sym (ap (λ (xs : List ℕ). get_or xs at 0) split) ∙ here) in
+    let same : at ≡ length before = grind arith in
+    (rw (same, split) (take-append_seam before (32 ∷ after)), rw (same, split) (drop-append-add before (32 ∷ after) 1))
+
+-- a text with a space has a first one
+pub some_space : (text before after : List ℕ) → text ≡ before ++ 32 ∷ after → ((k : ℕ) → k < length text → get_or text k 0 ≡ 32 → ⊥) → ⊥
+some_space text before after split none =
+    none (length before) (omega (arith, ap length split, length-append before (32 ∷ after))) (ap (λ (xs : List ℕ). get_or xs (length before) 0) split ∙ get_or_at before 32 after 0 (length before) refl)
+
+-- behind `map ` a map line has its digits, a space and its URI
+pub behind_word : (line rest : List ℕ) (id : ℕ) (uri : List ℕ) (m : IsMapLine line id uri) → rest ≡ drop 4 line → rest ≡ m.digits ++ 32 ∷ uri
+behind_word line rest id uri m e = e ∙ ap (drop 4) m.in_order
+
+-- what stands before the first space has none
+pub at_space : (text : List ℕ) (at : ℕ) → at < length text → get_or text at 0 ≡ 32 → ((k : ℕ) → k < at → get_or text k 0 ≡ 32 → ⊥)
+    → All (λ byte. byte ≢ 32) (take at text) × (text ≡ take at text ++ 32 ∷ drop (at + 1) text)
+at_space text at within here none = (
+  All-from_get_or (λ byte. byte ≢ 32) (take at text) 0 (λ i below e.
+      let early : i < at = omega (arith, below, length-take-le at text (omega arith)) in
+      none i early (sym (get_or-take at text i 0 early) ∙ e)),
+  sym (take-append-drop at text) ∙ ap (λ (xs : List ℕ). take at text ++ xs) (drop_more text at 0 within ∙ ap (λ (b : ℕ). b ∷ drop (at + 1) text) here),
+)
