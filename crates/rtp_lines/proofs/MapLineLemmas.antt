@@ -3,7 +3,7 @@ use Rattle.std.proofs.Common.{◌≡◌, ℕ, ◌+◌, ◌<◌, ◌≤◌, List,
 use Rattle.std.specs.Prelude.{◌≢◌, suc}
 use Rattle.std.specs.List.{All}
 use Rattle.std.specs.Str.{IsUtf8}
-use Rattle.std.specs.Str.Parse.{AllDigits}
+use Rattle.std.specs.Str.Parse.{AllDigits, digits_value}
 use Rattle.std.specs.Char.{IsAsciiDigit}
 use Rattle.std.proofs.lemmas.Fmt.{IsAscii-from_digits}
 use Rattle.std.proofs.lemmas.Str.{IsUtf8-from_ascii, digit_value_digit}
@@ -31,17 +31,32 @@ AllDigits-from (byte ∷ text) all =
 pub All-digits : (text : List ℕ) → AllDigits 10 text → All IsAsciiDigit text
 All-digits text all = All-from_get_or IsAsciiDigit text 0 (λ i below. digit_at text i all below)
 
--- the first space splits a text in one way
+-- what stands before the first space has none
+pub at_space : (text : List ℕ) (at : ℕ) → at < length text → get_or text at 0 ≡ 32 → ((k : ℕ) → k < at → get_or text k 0 ≡ 32 → ⊥)
+    → All (λ byte. byte ≢ 32) (take at text) × (text ≡ take at text ++ 32 ∷ drop (at + 1) text)
+at_space text at within here none = (
+  All-from_get_or (λ byte. byte ≢ 32) (take at text) 0 (λ i below e.
+      let early : i < at = omega (arith, below, length-take-le at text (omega arith)) in
+      none i early (sym (get_or-take at text i 0 early) ∙ e)),
+  sym (take-append-drop at text) ∙ ap (λ (xs : List ℕ). take at text ++ xs) (drop_more text at 0 within ∙ ap (λ (b : ℕ). b ∷ drop (at + 1) text) here),
+)
+
+-- a text splits at its first space in one way
+one_split : (before after before' after' : List ℕ) → All (λ byte. byte ≢ 32) before → All (λ byte. byte ≢ 32) before' → before ++ 32 ∷ after ≡ before' ++ 32 ∷ after'
+    → (before ≡ before') × (after ≡ after')
+one_split [] after [] after' all all' same = (refl, ap (drop 1) same)
+one_split [] after (byte ∷ before') after' all all' same = absurd (all' 0 0 (omega arith) (cc))
+one_split (byte ∷ before) after [] after' all all' same = absurd (all 0 0 (omega arith) (cc))
+one_split (byte ∷ before) after (byte' ∷ before') after' all all' same =
+    let rest = one_split before after before' after' (λ k d below. all (suc k) d (omega arith)) (λ k d below. all' (suc k) d (omega arith)) (ap (drop 1) same) in
+    let here : byte ≡ byte' = cc in
+    (cc, rest.1)
+
 pub first_space : (text before after : List ℕ) (at : ℕ) → at < length text → get_or text at 0 ≡ 32 → ((k : ℕ) → k < at → get_or text k 0 ≡ 32 → ⊥)
     → All (λ byte. byte ≢ 32) before → text ≡ before ++ 32 ∷ after → (take at text ≡ before) × (drop (at + 1) text ≡ after)
 first_space text before after at within here none all split =
-    let there : get_or text (length before) 0 ≡ 32 = ap (λ (xs : List ℕ). get_or xs (length before) 0) split ∙ get_or_at before 32 after 0 (length before) refl in
-    let in_text : length before < length text = omega (arith, ap length split, length-append before (32 ∷ after)) in
-    let at_most : length before < at → ⊥ = λ (late : length before < at). none (length before) late there in
-    let at_least : at < length before → ⊥ = λ (early : at < length before).
-    all at 0 early (sym (get_or_append_left before (32 ∷ after) 0 at early) ∙ sym (ap (λ (xs : List ℕ). get_or xs at 0) split) ∙ here) in
-    let same : at ≡ length before = grind arith in
-    (rw (same, split) (take-append_seam before (32 ∷ after)), rw (same, split) (drop-append-add before (32 ∷ after) 1))
+    let found = at_space text at within here none in
+    one_split (take at text) (drop (at + 1) text) before after found.0 all (sym found.1 ∙ split)
 
 -- a text with a space has a first one
 pub some_space : (text before after : List ℕ) → text ≡ before ++ 32 ∷ after → ((k : ℕ) → k < length text → get_or text k 0 ≡ 32 → ⊥) → ⊥
@@ -52,12 +67,9 @@ some_space text before after split none =
 pub behind_word : (line rest : List ℕ) (id : ℕ) (uri : List ℕ) (m : IsMapLine line id uri) → rest ≡ drop 4 line → rest ≡ m.digits ++ 32 ∷ uri
 behind_word line rest id uri m e = e ∙ ap (drop 4) m.in_order
 
--- what stands before the first space has none
-pub at_space : (text : List ℕ) (at : ℕ) → at < length text → get_or text at 0 ≡ 32 → ((k : ℕ) → k < at → get_or text k 0 ≡ 32 → ⊥)
-    → All (λ byte. byte ≢ 32) (take at text) × (text ≡ take at text ++ 32 ∷ drop (at + 1) text)
-at_space text at within here none = (
-  All-from_get_or (λ byte. byte ≢ 32) (take at text) 0 (λ i below e.
-      let early : i < at = omega (arith, below, length-take-le at text (omega arith)) in
-      none i early (sym (get_or-take at text i 0 early) ∙ e)),
-  sym (take-append-drop at text) ∙ ap (λ (xs : List ℕ). take at text ++ xs) (drop_more text at 0 within ∙ ap (λ (b : ℕ). b ∷ drop (at + 1) text) here),
-)
+-- a line is a map line in one way
+pub one_reading : (line : List ℕ) (id id' : ℕ) (uri uri' : List ℕ) → IsMapLine line id uri → IsMapLine line id' uri' → (id ≡ id') × (uri ≡ uri')
+one_reading line id id' uri uri' m m' =
+    let parts = one_split m.digits uri m'.digits uri' (no_space m.digits m.digits_are.are_digits) (no_space m'.digits m'.digits_are.are_digits)
+    (ap (drop 4) (sym m.in_order ∙ m'.in_order)) in
+    (m.digits_are.value_is ∙ ap (digits_value 10) parts.0 ∙ sym m'.digits_are.value_is, parts.1)

@@ -7,6 +7,7 @@ use Rattle.hex.specs.declared.error.FromHexError.{FromHexError}
 use Rattle.hex.specs.declared.error.FromHexError.TheVariants.{InvalidHexCharacter, OddLength}
 use Rattle.rtp_wire.specs.ExtensionMap.{Slots}
 use Rattle.rtp_lines.specs.MapLine.{IsMapLine}
+use Rattle.rtp_lines.proofs.MapLineLemmas.{one_reading}
 use Rattle.rtp_lines.specs.Input.{Item, AreMapLines, AreHex, AreLines, AreMapped, IsStandard, IsMapOf, Spells, IsFirstBadLine, IsInput, HasBadLine}
 use Rattle.rtp_lines.specs.Front.{IsFront, IsFirstNotHex, MapsNoneFirst}
 
@@ -65,6 +66,54 @@ none_bad (line ∷ maps) (item ∷ items) others datagrams [] items' (other ∷ 
 none_bad (line ∷ maps) (item ∷ items) others datagrams (line' ∷ maps') [] others' datagrams' bad after are hex are' hex' same err no_map = absurd are'
 none_bad (line ∷ maps) (item ∷ items) others datagrams (line' ∷ maps') (item' ∷ items') others' datagrams' bad after are hex are' hex' same err no_map =
     none_bad maps items others datagrams maps' items' others' datagrams' bad after are.1 hex are'.1 hex' (ap (drop 1) same) err no_map
+
+abbrev decoded : List ℕ → Result (List ℕ) FromHexError
+decoded = Ok
+
+same_item : (id id' : ℕ) (uri uri' : List ℕ) → id ≡ id' → uri ≡ uri' → ◌≡◌ {A = Item} (id, uri) (id', uri')
+same_item id id' uri uri' same_id same_uri = cc
+
+-- two readings of some lines are one
+same_bytes : (datagrams datagrams' : List (List ℕ)) → map decoded datagrams ≡ map decoded datagrams' → datagrams ≡ datagrams'
+same_bytes [] [] same = refl
+same_bytes [] (bytes' ∷ datagrams') same = absurd (cc)
+same_bytes (bytes ∷ datagrams) [] same = absurd (cc)
+same_bytes (bytes ∷ datagrams) (bytes' ∷ datagrams') same =
+    let rest = same_bytes datagrams datagrams' (ap (drop 1) same) in
+    let here : bytes ≡ bytes' = cc in
+    cc
+
+same_lines : (maps : List (List ℕ)) (items : List Item) (others datagrams : List (List ℕ)) → (maps' : List (List ℕ)) (items' : List Item) (others' datagrams' : List (List ℕ))
+    → AreMapLines maps items → AreHex others datagrams → AreMapLines maps' items' → AreHex others' datagrams' → maps ++ others ≡ maps' ++ others'
+    → (items ≡ items') × (datagrams ≡ datagrams')
+same_lines [] [] others datagrams [] [] others' datagrams' are hex are' hex' same =
+    (refl, same_bytes datagrams datagrams' (sym hex ∙ ap (map decode_of) same ∙ hex'))
+same_lines [] (item ∷ items) others datagrams maps' items' others' datagrams' are hex are' hex' same = absurd are
+same_lines [] [] others datagrams [] (item ∷ items') others' datagrams' are hex are' hex' same = absurd are'
+same_lines [] [] others datagrams (line ∷ maps') [] others' datagrams' are hex are' hex' same = absurd are'
+same_lines [] [] others datagrams (line ∷ maps') (item ∷ items') others' datagrams' are hex are' hex' same =
+    let first = hex_first line (maps' ++ others') datagrams (subst (λ (ls : List (List ℕ)). AreHex ls datagrams) same hex) in
+    absurd (map_is_no_hex line item.0 item.1 first.0 are'.0 first.2)
+same_lines (line ∷ maps) [] others datagrams maps' items' others' datagrams' are hex are' hex' same = absurd are
+same_lines (line ∷ maps) (item ∷ items) others datagrams [] [] others' datagrams' are hex are' hex' same =
+    let first = hex_first line (maps ++ others) datagrams' (subst (λ (ls : List (List ℕ)). AreHex ls datagrams') (sym same) hex') in
+    absurd (map_is_no_hex line item.0 item.1 first.0 are.0 first.2)
+same_lines (line ∷ maps) (item ∷ items) others datagrams [] (item' ∷ items') others' datagrams' are hex are' hex' same = absurd are'
+same_lines (line ∷ maps) (item ∷ items) others datagrams (line' ∷ maps') [] others' datagrams' are hex are' hex' same = absurd are'
+same_lines (line ∷ maps) (item ∷ items) others datagrams (line' ∷ maps') (item' ∷ items') others' datagrams' are hex are' hex' same =
+    let here : line ≡ line' = cc in
+    let item_is = one_reading line' item.0 item'.0 item.1 item'.1 (subst (λ (l : List ℕ). IsMapLine l item.0 item.1) here are.0) are'.0 in
+    let rest = same_lines maps items others datagrams maps' items' others' datagrams' are.1 hex are'.1 hex' (ap (drop 1) same) in
+    let item_same : item ≡ item' = same_item item.0 item'.0 item.1 item'.1 item_is.0 item_is.1 in
+    (cc, rest.1)
+
+-- what was read is the only reading
+pub only_reading : (text : List ℕ) (exts : Slots) (found : List (List ℕ)) (items : List Item) (datagrams : List (List ℕ)) → Spells text exts found
+    → AreLines (lines text) items datagrams → (found ≡ datagrams) × IsMapOf items exts
+only_reading text exts found items datagrams spells reading =
+    let same = same_lines spells.lines_are.maps spells.items spells.lines_are.others found reading.maps items reading.others datagrams
+    spells.lines_are.are_maps spells.lines_are.spelled reading.are_maps reading.spelled (sym spells.lines_are.in_order ∙ reading.in_order) in
+    (same.1, subst (λ (is : List Item). IsMapOf is exts) same.0 spells.exts_are)
 
 -- an input has no bad line
 pub no_bad_line : (text : List ℕ) (items : List Item) (datagrams : List (List ℕ)) (number : ℕ) → AreLines (lines text) items datagrams → IsFirstBadLine text number → ⊥

@@ -4,7 +4,7 @@ ghost use Rattle.std.specs.Prelude.{◌≡◌, ◌+◌, ◌<◌, ◌^◌, List, 
 ghost use Rattle.std.specs.Str.Lines.{lines};
 ghost use Rattle.hex.specs.Hex.{decode_of};
 ghost use Rattle.rtp_lines.specs.declared.input.Refusal.TheVariants.{NoMemory};
-ghost use Rattle.rtp_lines.specs.Input.{AreHex, Spells, IsFirstBadLine, IsInput, HasBadLine};
+ghost use Rattle.rtp_lines.specs.Input.{Item, AreHex, AreLines, IsMapOf, Spells, IsFirstBadLine, IsInput, HasBadLine};
 ghost use Rattle.rtp_lines.specs.Front.{MapsFirst, MapsNoneFirst, IsFront, IsFirstNotHex};
 
 use super::line::first_line;
@@ -121,7 +121,13 @@ pub fn read_input(alloc: Global, text: &[u8]) -> Result<Input, Refusal>
     ensures bad_line { IfErr result (λ refusal. (n : ℕ) → refusal ≡ Refusal.BadLine n →
         IsFirstBadLine text.now n) }
 
-    // Nothing else refuses an input, or lets a bad line pass.
+    // The lines have no other reading.
+    ensures only { (items : List Item) (datagrams : List (List ℕ)) →
+        AreLines (lines text.now) items datagrams →
+        IfOk result (λ input. (map (λ v. v.items) input.datagrams.items ≡ datagrams)
+        × IsMapOf items input.exts) }
+
+    // Want of memory alone refuses an input, and no bad line passes.
     ensures taken { IsInput text.now → IfErr result (λ refusal. refusal ≡ NoMemory) }
     ensures refused { HasBadLine text.now → IsErr result }
 {

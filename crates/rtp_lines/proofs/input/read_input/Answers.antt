@@ -5,7 +5,7 @@ use Rattle.rtp_lines.specs.declared.input.Refusal.{Refusal}
 use Rattle.rtp_lines.specs.declared.input.Refusal.TheVariants.{BadLine, NoMemory}
 use Rattle.rtp_lines.specs.Input.{Spells, IsFirstBadLine}
 use Rattle.rtp_wire.specs.ExtensionMap.{Slots}
-use Rattle.rtp_lines.proofs.ReadLemmas.{no_bad_line, IsFirstBadLine-behind, Spells-standard, Spells-mapped}
+use Rattle.rtp_lines.proofs.ReadLemmas.{no_bad_line, IsFirstBadLine-behind, Spells-standard, Spells-mapped, only_reading}
 use Rattle.rtp_lines.proofs.input.read_input.Goals as goal
 use Rattle.rtp_lines.proofs.input.read_input.Goals.{then-count-eq0, else-count-eq0}
 
@@ -47,3 +47,7 @@ pub returns-clause-refused : goal.returns-clause-refused
 returns-clause-refused c bad =
     let spells = returns-clause-spelled c in
     absurd (no_bad_line c.args.text.now spells.items (map (λ (v : Vec ℕ). v.items) c.in_ok-datagrams.datagrams.items) bad.0 spells.lines_are bad.1)
+
+pub returns-clause-only : goal.returns-clause-only
+returns-clause-only c items datagrams reading =
+    only_reading c.args.text.now c.if-count-eq0.exts (map (λ (v : Vec ℕ). v.items) c.in_ok-datagrams.datagrams.items) items datagrams (returns-clause-spelled c) reading
