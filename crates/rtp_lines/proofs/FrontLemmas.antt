@@ -1,12 +1,11 @@
 -- The map lines at the front, and the map that they make.
-use Rattle.std.proofs.Common.{◌≡◌, ℕ, ◌+◌, ◌<◌, ◌≤◌, List, [], ◌∷◌, ◌++◌, length, map, refl, sym, ap, ◌∙◌, subst, arith, append_assoc, eqb, Bool, true, false}
-use Rattle.std.specs.Prelude.{◌≢◌, ◌==◌, ◌⊎◌, reverse, Option, Some, None, if◌then◌else◌}
-use Rattle.std.specs.List.{AllZip, find}
+use Rattle.std.proofs.Common.{◌≡◌, ℕ, ◌+◌, List, [], ◌∷◌, ◌++◌, refl, sym, ap, ◌∙◌, subst, arith, append_assoc, Bool, true, false}
+use Rattle.std.specs.Prelude.{◌==◌, Option, Some, if◌then◌else◌}
+use Rattle.std.specs.List.{find}
 use Rattle.std.specs.Str.Lines.{lines}
 use Rattle.std.proofs.lemmas.List.{reverse-append, length_push}
 use Rattle.std.proofs.lemmas.Bool.{eqb-true, eqb-false}
 use Rattle.rtp_wire.specs.declared.ext.kind.Extension.{Extension}
-use Rattle.rtp_wire.specs.declared.ext.entry.Entry.{Entry}
 use Rattle.rtp_wire.specs.Kind.{IsNamedBy}
 use Rattle.rtp_wire.specs.ExtensionMap.{Slots, entry_at, unlocked, IsEmpty, Sets}
 use Rattle.rtp_lines.specs.MapLine.{IsMapLine}

@@ -1,10 +1,10 @@
 //! What the input says: which extension each id stands for, and the datagrams.
 
-ghost use Rattle.std.specs.Prelude.{◌≡◌, ◌+◌, ◌<◌, ◌^◌, List, ℕ, length, map, IfOk, IfErr, IfSome, IfNone, IsSomeAnd, IsErr};
+ghost use Rattle.std.specs.Prelude.{◌≡◌, ◌+◌, ◌<◌, ◌^◌, List, ℕ, length, map, IfOk, IfErr, IfSome, IfNone, IsSomeAnd, IsErrAnd, ◌⊎◌};
 ghost use Rattle.std.specs.Str.Lines.{lines};
 ghost use Rattle.hex.specs.Hex.{decode_of};
 ghost use Rattle.rtp_lines.specs.declared.input.Refusal.TheVariants.{NoMemory};
-ghost use Rattle.rtp_lines.specs.Input.{Item, AreHex, AreLines, IsMapOf, Spells, IsFirstBadLine, IsInput, HasBadLine};
+ghost use Rattle.rtp_lines.specs.Input.{Item, AreHex, AreLines, IsMapOf, Spells, IsFirstBadLine, IsInput};
 ghost use Rattle.rtp_lines.specs.Front.{MapsFirst, MapsNoneFirst, IsFront, IsFirstNotHex};
 
 use super::line::first_line;
@@ -127,9 +127,10 @@ pub fn read_input(alloc: Global, text: &[u8]) -> Result<Input, Refusal>
         IfOk result (λ input. (map (λ v. v.items) input.datagrams.items ≡ datagrams)
         × IsMapOf items input.exts) }
 
-    // Want of memory alone refuses an input, and no bad line passes.
+    // Want of memory alone refuses an input, and comes before a bad line.
     ensures taken { IsInput text.now → IfErr result (λ refusal. refusal ≡ NoMemory) }
-    ensures refused { HasBadLine text.now → IsErr result }
+    ensures refused { (n : ℕ) → IsFirstBadLine text.now n → IsErrAnd result (λ refusal.
+        (refusal ≡ NoMemory) ⊎ (refusal ≡ Refusal.BadLine n)) }
 {
     let (exts, count, rest) = map_lines(alloc, text)?;
     let datagrams = datagrams(alloc, rest, count)?;

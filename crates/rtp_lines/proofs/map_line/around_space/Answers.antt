@@ -1,4 +1,3 @@
-use Rattle.std.proofs.Common.{◌+◌}
 use Rattle.std.proofs.lemmas.List.{take_rest}
 use Rattle.rtp_lines.proofs.MapLineLemmas.{at_space, first_space, some_space}
 use Rattle.rtp_lines.proofs.map_line.around_space.Goals as goal

@@ -1,6 +1,6 @@
 use Rattle.std.proofs.Common.{arith}
 use Rattle.std.proofs.lemmas.Grind.{common_steps}
-use Rattle.rtp_lines.proofs.MapLineLemmas.{All-digits, AllDigits-from, IsUtf8-digits}
+use Rattle.rtp_lines.proofs.MapLineLemmas.{All-digits, IsUtf8-digits}
 use Rattle.rtp_lines.proofs.map_line.id_of.Goals as goal
 
 pub returns-then-digits-gt3-clause-only : goal.returns-then-digits-gt3-clause-only
