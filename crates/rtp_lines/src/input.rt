@@ -127,7 +127,7 @@ pub fn read_input(alloc: Global, text: &[u8]) -> Result<Input, Refusal>
         IfOk result (λ input. (map (λ v. v.items) input.datagrams.items ≡ datagrams)
         × IsMapOf items input.exts) }
 
-    // Want of memory alone refuses an input, and comes before a bad line.
+    // Nothing but want of memory refuses an input, or stands for the number of a bad line.
     ensures taken { IsInput text.now → IfErr result (λ refusal. refusal ≡ NoMemory) }
     ensures refused { (n : ℕ) → IsFirstBadLine text.now n → IsErrAnd result (λ refusal.
         (refusal ≡ NoMemory) ⊎ (refusal ≡ Refusal.BadLine n)) }

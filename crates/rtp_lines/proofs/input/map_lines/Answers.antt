@@ -1,8 +1,9 @@
+use Rattle.std.proofs.Common.{rules}
 use Rattle.rtp_lines.proofs.FrontLemmas.{IsFront-none, IsFront-more}
 use Rattle.rtp_lines.proofs.input.map_lines.Goals as goal
 
 pub loop-id-init : goal.loop-id-init
-loop-id-init c = IsFront-none c.args.text.now c.empty-exts.result c.empty-exts.ensures
+loop-id-init c = search (rules, IsFront-none)
 
 pub loop-id-preserved : goal.loop-id-preserved
 loop-id-preserved c =
