@@ -6,7 +6,7 @@ use Rattle.std.specs.Str.{IsUtf8}
 use Rattle.std.specs.Str.Parse.{AllDigits, digits_value}
 use Rattle.std.specs.Char.{IsAsciiDigit}
 use Rattle.std.proofs.lemmas.Fmt.{IsAscii-from_digits}
-use Rattle.std.proofs.lemmas.Str.{IsUtf8-from_ascii, digit_value_digit}
+use Rattle.std.proofs.lemmas.Str.{IsUtf8-from_ascii}
 use Rattle.std.proofs.lemmas.Str.Parse.{digit_at}
 use Rattle.std.proofs.lemmas.List.{get_or_at, take-append-drop, drop_more, get_or-take, length-take-le}
 use Rattle.std.proofs.lemmas.List.Elements.{All-from_get_or}
@@ -20,13 +20,7 @@ IsUtf8-digits digits all = IsUtf8-from_ascii digits (IsAscii-from_digits digits 
 pub no_space : (digits : List ℕ) → AllDigits 10 digits → All (λ byte. byte ≢ 32) digits
 no_space digits all = All-from_get_or (λ byte. byte ≢ 32) digits 0 (λ i below e. let range = digit_at digits i all below in absurd (omega (arith, range, e)))
 
--- the bytes that are digits, in two words
-pub AllDigits-from : (text : List ℕ) → All IsAsciiDigit text → AllDigits 10 text
-AllDigits-from [] all = tt
-AllDigits-from (byte ∷ text) all =
-    let first : IsAsciiDigit byte = all 0 0 (omega arith) in
-    (omega (arith, digit_value_digit byte first, first), AllDigits-from text (λ k d below. all (suc k) d (omega arith)))
-
+-- the bytes that are digits, each by itself
 pub All-digits : (text : List ℕ) → AllDigits 10 text → All IsAsciiDigit text
 All-digits text all = All-from_get_or IsAsciiDigit text 0 (λ i below. digit_at text i all below)
 
@@ -60,7 +54,8 @@ first_space text before after at within here none all split =
 -- a text with a space has a first one
 pub some_space : (text before after : List ℕ) → text ≡ before ++ 32 ∷ after → ((k : ℕ) → k < length text → get_or text k 0 ≡ 32 → ⊥) → ⊥
 some_space text before after split none =
-    none (length before) (omega (arith, ap length split, length-append before (32 ∷ after))) (ap (λ (xs : List ℕ). get_or xs (length before) 0) split ∙ get_or_at before 32 after 0 (length before) refl)
+    let within : length before < length text = omega (arith, ap length split, length-append before (32 ∷ after)) in
+    none (length before) within (ap (λ (xs : List ℕ). get_or xs (length before) 0) split ∙ get_or_at before 32 after 0 (length before) refl)
 
 -- behind `map ` a map line has its digits, a space and its URI
 pub behind_word : (line rest : List ℕ) (id : ℕ) (uri : List ℕ) (m : IsMapLine line id uri) → rest ≡ drop 4 line → rest ≡ m.digits ++ 32 ∷ uri
