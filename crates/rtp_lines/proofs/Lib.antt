@@ -1,2 +1,5 @@
 mod LineLemmas
+mod MapLineLemmas
 mod InputLemmas
+mod FrontLemmas
+mod ReadLemmas

@@ -1,1 +1,3 @@
+pub mod MapLine
 pub mod Input
+pub mod Front

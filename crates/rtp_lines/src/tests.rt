@@ -1,5 +1,7 @@
 //! What the program prints, over readers and writers in memory.
 
+mod map_lines;
+
 use super::input::datagram;
 use super::{RunEnd, run};
 use std::alloc::Global;
@@ -75,11 +77,7 @@ const RUNS: [(&[u8], RunEnd, &str); 16] = [
         RunEnd::BadLine,
         "line 1: neither a map line nor hex\n",
     ),
-    (
-        b"map 3 urn:x\n",
-        RunEnd::BadLine,
-        "line 1: neither a map line nor hex\n",
-    ),
+    (b"map 3 urn:x\n", RunEnd::Done, ""),
     // Every flag, two sources, and a block of one word.
     (
         b"B2E1FFFF0102030400000000000000640000006510000001AABBCCDD\n",

@@ -1,7 +1,7 @@
 use Rattle.std.proofs.Common.{◌+◌}
 use Rattle.std.proofs.lemmas.List.{take_rest}
 use Rattle.rtp_lines.proofs.LineLemmas.{lines-feed, lines-last}
-use Rattle.rtp_lines.proofs.input.first_line.Goals as goal
+use Rattle.rtp_lines.proofs.line.first_line.Goals as goal
 
 pub returns-in-Some-clause-first : goal.returns-in-Some-clause-first
 returns-in-Some-clause-first c =

@@ -1,0 +1,35 @@
+//! The lines of a text.
+
+ghost use Rattle.std.specs.Prelude.{◌≡◌, ◌<◌, ◌∷◌, ◌≢◌, ℕ, length, slice_index, IfSome, IfNone};
+ghost use Rattle.std.specs.Str.Lines.{lines, strip_carriage_return};
+
+// A line without the carriage return that ends it, if one does.
+fn without_return(line: &[u8]) -> &[u8]
+    ensures { result.now ≡ strip_carriage_return line.now }
+{
+    match line {
+        [front @ .., b'\r'] => front,
+        _ => line,
+    }
+}
+
+/// Where the byte first is.
+pub fn position_of(text: &[u8], byte: u8) -> Option<usize>
+    ensures found { IfSome result (λ at. (at < length text.now) × (slice_index text.now at ≡ byte)
+        × ((k : ℕ) → k < at → slice_index text.now k ≢ byte)) }
+    ensures none { IfNone result ((k : ℕ) → k < length text.now → slice_index text.now k ≢ byte) }
+{
+    text.iter().position(|candidate| *candidate == byte)
+}
+
+/// The first line, without its ending, and what follows it.
+pub fn first_line(text: &[u8]) -> (&[u8], &[u8])
+    requires { 0 < length text.now }
+    ensures first { lines text.now ≡ result.0.now ∷ lines result.1.now }
+    ensures shorter { length result.1.now < length text.now }
+{
+    match position_of(text, b'\n') {
+        Some(end) => (without_return(&text[..end]), &text[end + 1..]),
+        None => (text, &[]),
+    }
+}
