@@ -42,7 +42,7 @@ IsMapped (Some item) entry = (extension : Extension) × IsNamedBy item.1 extensi
 abbrev pub AreMapped : List Item → Slots → Type 0
 AreMapped items exts = (id : ℕ) → IsMapped (last_for id items) (entry_at exts id)
 
--- the map that browsers offer
+-- the standard map: its listing, and nothing locked
 abbrev pub IsStandard : Slots → Type 0
 IsStandard exts = IsListing exts (λ _. true) standard_items × IsUnlocked exts
 

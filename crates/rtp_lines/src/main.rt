@@ -133,7 +133,8 @@ fn report_input<R: Read, W: Write>(
 /// A line of the input ends with LF or CR LF, and is a datagram in hexadecimal of either case; an
 /// empty one is the empty datagram. Before all datagrams lines `map ID URI` may stand, which say
 /// which extension an ID of one to three digits, from 1 to 16, stands for; the last one for an ID
-/// counts. Without them the standard map holds.
+/// counts. Without them the standard map holds. No extension is read yet, so the map changes nothing
+/// that is printed.
 ///
 /// The first line that is neither is named by the whole output. Where memory is refused the
 /// output ends in a line that says so, behind whole lines of what would have been printed. A failed
