@@ -13,6 +13,7 @@ pub mod Verdicts
 -- What the inside promises itself.
 pub mod KindRow
 pub mod Places
+pub mod EqualMaps
 pub mod Reading
 pub mod Placing
 pub mod Turns

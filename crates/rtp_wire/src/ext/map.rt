@@ -1,8 +1,9 @@
 //! Which extension stands behind which id.
 
-ghost use Rattle.std.specs.Prelude.{◌≡◌, ◌≢◌, ℕ, true, false, IfOk, IfSome, IfNone, map};
+ghost use Rattle.std.specs.Prelude.{◌≡◌, ◌≢◌, ◌↔◌, ℕ, true, false, IsTrue, IfOk, IfSome, IfNone, map};
 ghost use Rattle.std.specs.Option.{option_copied};
 ghost use Rattle.rtp_wire.specs.ExtensionMap as spec;
+ghost use Rattle.rtp_wire.specs.EqualMaps.{same_slots, same_slots-equiv};
 
 use super::entry::Entry;
 use super::{Extension, Iter, IterByMediaType, slots};
@@ -21,7 +22,7 @@ pub const MAX_ID: u8 = 16;
 /// renegotiation has placed it, and a later one leaves it where it is.
 ///
 /// Two maps are equal where they have equal entries behind the same ids, locked alike.
-#[derive(PartialEq, Eq, Drop)]
+#[derive(Drop)]
 pub struct ExtensionMap {
     // What stands behind the ids from 1 on.
     slots: [Option<Entry>; MAX_ID as usize],
@@ -39,6 +40,26 @@ impl Model for ExtensionMap {
     ghost invariant = { λ map. length map.slots ≡ MAX_ID };
 
     ghost inverse = { λ slots. record { slots = slots } };
+}
+
+impl PartialEq for ExtensionMap {
+    ghost use Rattle.std.specs.Cmp.{partial_equiv_from_equiv};
+
+    ghost eq = { same_slots };
+
+    ghost laws = { partial_equiv_from_equiv same_slots-equiv };
+
+    /// Whether the same ids stand for the same extensions, locked alike.
+    fn eq(&self, other: &ExtensionMap) -> bool
+        ensures answer { result ≡ same_slots self.now other.now }
+        ensures same { IsTrue result ↔ (self.now ≡ other.now) }
+    {
+        self.slots == other.slots
+    }
+}
+
+impl Eq for ExtensionMap {
+    ghost laws = { same_slots-equiv };
 }
 
 impl ExtensionMap {
