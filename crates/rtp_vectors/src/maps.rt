@@ -54,7 +54,9 @@ fn entries(rt: HostRuntime) -> Result<(), AllocError> {
     map.set(4, Extension::ColorSpace);
     assert_eq!(rt; map.id_of(Extension::RtpMid), Some(16));
     assert_eq!(rt; map.id_of(Extension::ColorSpace), Some(4));
+    assert!(rt; !map.is_empty());
     map.clear();
+    assert!(rt; map.is_empty());
     assert!(rt; map == ExtensionMap::empty());
     Ok(())
 }
@@ -75,6 +77,14 @@ fn standard(rt: HostRuntime) -> Result<(), AllocError> {
         STANDARD
     );
     Ok(())
+}
+
+#[test]
+fn emptiness(rt: HostRuntime) {
+    assert!(rt; ExtensionMap::empty().is_empty());
+    assert!(rt; !ExtensionMap::standard().is_empty());
+    assert!(rt; !one(1, Extension::RtpMid).is_empty());
+    assert!(rt; !one(16, Extension::RtpMid).is_empty());
 }
 
 // The ids of some entries, in the order in which they come.

@@ -84,7 +84,7 @@ fn verdict_on(
 /// The datagrams are those of one sender. Nothing is authenticated here. The only memory is the
 /// list of the verdicts, made at once; where it is refused nothing is handed out.
 ///
-/// It asks for an empty map, since no element is read yet: `exts.iter().next()` is None.
+/// It asks for an empty map, since no element is read yet: [`ExtensionMap::is_empty`] tests it.
 pub fn receive_run(
     alloc: Global,
     datagrams: &[Vec<u8>],

@@ -97,6 +97,13 @@ impl ExtensionMap {
         *self = Self::empty();
     }
 
+    /// Whether no id stands for an extension.
+    pub fn is_empty(&self) -> bool
+        ensures { IsTrue result ↔ spec.IsEmpty self.now }
+    {
+        slots::are_empty(&self.slots)
+    }
+
     /// Puts the extension behind the id, unlocked, in place of what stood there. An id that the map
     /// has no room for, 0 or one above [`MAX_ID`], changes nothing.
     pub fn set(&mut self, id: u8, ext: Extension)

@@ -1,6 +1,6 @@
 //! The places of a map, one for each id from 1 on.
 
-ghost use Rattle.std.specs.Prelude.{◌≡◌, ◌≢◌, ◌↔◌, ℕ, ◌+◌, ◌<◌, length, slice_index_or, IsTrue, IsOk, IfOk, IfSome, IfNone, Some, None, map};
+ghost use Rattle.std.specs.Prelude.{◌≡◌, ◌≢◌, ◌↔◌, ℕ, ◌+◌, ◌<◌, length, slice_index_or, IsTrue, IsOk, IfOk, IfSome, IfNone, Some, None, All, map};
 ghost use Rattle.std.specs.Option.{option_copied, option_map};
 ghost use Rattle.rtp_wire.specs.Kind.{IsKnown};
 ghost use Rattle.rtp_wire.specs.ExtensionMap as spec;
@@ -21,6 +21,13 @@ pub(super) fn slot_of(id: u8) -> Option<usize>
     } else {
         None
     }
+}
+
+// Whether nothing stands in any place.
+pub(super) fn are_empty(slots: &[Option<Entry>]) -> bool
+    ensures { IsTrue result ↔ All (λ slot. slot ≡ None) slots.now }
+{
+    slots.iter().all(|slot| slot.is_none())
 }
 
 // What stands in the place of an id.

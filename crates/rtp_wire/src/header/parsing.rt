@@ -83,7 +83,7 @@ impl RtpHeader {
     /// what is left (RFC 3550, 5.1 and 5.3.1; RFC 8285, 4). Whatever follows the header is not
     /// looked at. Nothing is allocated.
     ///
-    /// It asks for an empty map, since no element is read yet: `exts.iter().next()` is None.
+    /// It asks for an empty map, since no element is read yet: [`ExtensionMap::is_empty`] tests it.
     pub fn parse(
         _alloc: Global,
         buf: &[u8],

@@ -91,7 +91,7 @@ impl RtpHeader {
 
     /// How many bytes [`write_to`](Self::write_to) writes under the map: a multiple of four, 12
     /// with no sources and no block, and at most 4188. It asks for at most 15 sources, and for an
-    /// empty map, since no element is written yet: `exts.iter().next()` is None.
+    /// empty map, since no element is written yet: [`ExtensionMap::is_empty`] tests it.
     pub fn wire_len(&self, exts: &ExtensionMap) -> usize
         requires sources { self.now.csrc_count ≤ 15 }
         requires empty { IsEmpty exts.now }
@@ -107,7 +107,7 @@ impl RtpHeader {
     /// holds, `header_len` and the slots behind the sources are not looked at, and a block is
     /// written where `has_extension` is set and nowhere else. It asks for a payload type of at most
     /// 127, at most 15 sources, a buffer of at least [`wire_len`](Self::wire_len), and, since no
-    /// element is written yet, for an empty map: `exts.iter().next()` is None.
+    /// element is written yet, for an empty map: [`ExtensionMap::is_empty`] tests it.
     pub fn write_to(&self, buf: &mut [u8], exts: &ExtensionMap) -> usize
         requires payload_type { self.now.payload_type ≤ 127 }
         requires sources { self.now.csrc_count ≤ 15 }

@@ -11,6 +11,7 @@ slot_decides a b = search rules
 
 pub returns-clause-same : goal.returns-clause-same
 returns-clause-same c =
-    let decides = slice_eq-Decides slot_decides c.self.inside.slots c.other.inside.slots c.eq.result c.eq.ensures in
-    (λ equal. sym c.self.view_is ∙ (decides.0 equal ∙ c.other.view_is),
-    λ same. decides.1 (c.self.view_is ∙ (same ∙ sym c.other.view_is)))
+    let decides = slice_eq-Decides slot_decides c.self.inside.slots c.other.inside.slots c.eq.result c.eq.ensures in (
+      λ equal. sym c.self.view_is ∙ (decides.0 equal ∙ c.other.view_is),
+      λ same. decides.1 (c.self.view_is ∙ (same ∙ sym c.other.view_is)),
+    )
