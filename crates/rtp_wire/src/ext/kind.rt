@@ -21,7 +21,7 @@ pub enum Extension {
     AudioLevel,
     /// How long after its timestamp the packet was sent (RFC 5450).
     TransmissionTimeOffset,
-    /// How the receiver has to turn the picture (3GPP TS 26.114, 7.4.5).
+    /// How the receiver has to turn the picture (3GPP TS 26.114).
     VideoOrientation,
     /// The packet's number on its transport, over all streams, for congestion control.
     TransportSequenceNumber,
@@ -31,11 +31,11 @@ pub enum Extension {
     VideoContentType,
     /// When the frame was encoded, packetized and sent.
     VideoTiming,
-    /// The name of the stream in its media section (RFC 8852, 3.1).
+    /// The name of the stream in its media section (RFC 8852).
     RtpStreamId,
-    /// The name of the stream that this one repairs (RFC 8852, 3.2).
+    /// The name of the stream that this one repairs (RFC 8852).
     RepairedRtpStreamId,
-    /// The name of the media section (RFC 9143, 15.2).
+    /// The name of the media section (RFC 9143).
     RtpMid,
     /// Where frames begin and end, and which layer the packet is of.
     FrameMarking,
@@ -47,7 +47,8 @@ pub enum Extension {
 
 impl Extension {
     /// The extension that this URI names in SDP (`a=extmap`; RFC 8285, 5): the known kind whose URI
-    /// it is, else an unknown one, which is the only case that takes memory.
+    /// it is, else an unknown one, which is the only case that takes memory. Where that is refused
+    /// nothing is handed out.
     pub fn from_sdp_uri(alloc: Global, uri: &str) -> Result<Self, AllocError>
         ensures named { IfOk result (IsNamedBy uri.now) }
         ensures known { (kind : Extension) → IsKnown kind → (kind_of kind).uri ≡ uri.now →
