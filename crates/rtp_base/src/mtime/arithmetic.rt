@@ -39,9 +39,9 @@ impl MediaTime {
     }
 
     /// The difference, at the greater of the two frequencies, and None exactly where this time is
-    /// less than `rhs`. Both are first cut to whole ticks of that frequency. It asks that the ticks
-    /// of each fit 64 bits; [`checked_rebase`](Self::checked_rebase) of each to the greater
-    /// frequency tests it.
+    /// less than `rhs`, as fractions. Where it isn't, both are cut to whole ticks of that frequency
+    /// and subtracted. It asks that the ticks of each fit 64 bits;
+    /// [`checked_rebase`](Self::checked_rebase) of each to the greater frequency tests it.
     pub fn checked_sub(self, rhs: MediaTime) -> Option<MediaTime>
         requires { BothFit self rhs }
         ensures none { IsNone result ↔ IsLess self rhs }
