@@ -17,38 +17,38 @@ slice_range-take xs a b n le fits =
     ap (λ (ys : List ℕ). take (b - a) ys) kept ∙ take-take (b - a) (n - a) (drop a xs) (omega arith)
 
 -- a word by its two bytes
-pub word_at-cells : (bytes : List ℕ) (place : ℕ) → word_at bytes place ≡ slice_index bytes place * 256 + slice_index bytes (place + 1)
-word_at-cells bytes place =
-    let two : place + 2 - place ≡ 2 = omega arith in
-    rw (two, get_or-take 2 (drop place bytes) 0 0 (omega arith), get_or-take 2 (drop place bytes) 1 0 (omega arith), get_or-drop place bytes 0 0, get_or-drop place bytes 1 0, add-zero place) (omega arith)
+pub word_at-cells : (bytes : List ℕ) (offset : ℕ) → word_at bytes offset ≡ slice_index bytes offset * 256 + slice_index bytes (offset + 1)
+word_at-cells bytes offset =
+    let two : offset + 2 - offset ≡ 2 = omega arith in
+    rw (two, get_or-take 2 (drop offset bytes) 0 0 (omega arith), get_or-take 2 (drop offset bytes) 1 0 (omega arith), get_or-drop offset bytes 0 0, get_or-drop offset bytes 1 0, add-zero offset) (omega arith)
 
 -- a word of four bytes by its bytes
-pub quad-cells : (bytes : List ℕ) (place : ℕ) → from_be_bytes w32 (slice_range bytes place (place + 4))
-    ≡ slice_index bytes place * 16777216 + slice_index bytes (place + 1) * 65536 + slice_index bytes (place + 2) * 256 + slice_index bytes (place + 3)
-quad-cells bytes place =
-    let four : place + 4 - place ≡ 4 = omega arith in
-    let part = drop place bytes in
+pub quad-cells : (bytes : List ℕ) (offset : ℕ) → from_be_bytes w32 (slice_range bytes offset (offset + 4))
+    ≡ slice_index bytes offset * 16777216 + slice_index bytes (offset + 1) * 65536 + slice_index bytes (offset + 2) * 256 + slice_index bytes (offset + 3)
+quad-cells bytes offset =
+    let four : offset + 4 - offset ≡ 4 = omega arith in
+    let part = drop offset bytes in
     rw (
       four,
       get_or-take 4 part 0 0 (omega arith),
       get_or-take 4 part 1 0 (omega arith),
       get_or-take 4 part 2 0 (omega arith),
       get_or-take 4 part 3 0 (omega arith),
-      get_or-drop place bytes 0 0,
-      get_or-drop place bytes 1 0,
-      get_or-drop place bytes 2 0,
-      get_or-drop place bytes 3 0,
-      add-zero place,
+      get_or-drop offset bytes 0 0,
+      get_or-drop offset bytes 1 0,
+      get_or-drop offset bytes 2 0,
+      get_or-drop offset bytes 3 0,
+      add-zero offset,
     ) (omega arith)
 
-pub word_at-take : (bytes : List ℕ) (place n : ℕ) → place + 2 ≤ n → word_at (take n bytes) place ≡ word_at bytes place
-word_at-take bytes place n fits =
-    ap (from_be_bytes w16) (slice_range-take bytes place (place + 2) n (omega arith) fits)
+pub word_at-take : (bytes : List ℕ) (offset n : ℕ) → offset + 2 ≤ n → word_at (take n bytes) offset ≡ word_at bytes offset
+word_at-take bytes offset n fits =
+    ap (from_be_bytes w16) (slice_range-take bytes offset (offset + 2) n (omega arith) fits)
 
 -- a word of the first four bytes
-pub head_word : (bytes head : List ℕ) (place : ℕ) → head ≡ take 4 bytes → place + 1 < 4 → get_or head place 0 * 256 + get_or head (place + 1) 0 ≡ word_at bytes place
-head_word bytes head place is within =
-    sym (word_at-cells head place) ∙ ap (λ (xs : List ℕ). word_at xs place) is ∙ word_at-take bytes place 4 (omega arith)
+pub head_word : (bytes head : List ℕ) (offset : ℕ) → head ≡ take 4 bytes → offset + 1 < 4 → get_or head offset 0 * 256 + get_or head (offset + 1) 0 ≡ word_at bytes offset
+head_word bytes head offset is within =
+    sym (word_at-cells head offset) ∙ ap (λ (xs : List ℕ). word_at xs offset) is ∙ word_at-take bytes offset 4 (omega arith)
 
 -- what the head says and the words that it counts are a block
 pub HasBlock-from_head : (bytes head after elements : List ℕ) (form : ExtensionsForm) (words : ℕ) → head ≡ take 4 bytes → after ≡ drop 4 bytes → 4 ≤ length bytes

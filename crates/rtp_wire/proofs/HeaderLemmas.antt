@@ -10,7 +10,7 @@ use Rattle.rtp_wire.specs.Reading.{HasExtensionPart}
 use Rattle.rtp_wire.proofs.GroupLemmas.{concat-first_chunks, length-concat, first_chunks-concat}
 
 -- the parts of a header, counted from the front
-pub record IsPlaced (exts : ExtensionMap) (bytes : List ℕ) (h : RtpHeader) : Type 0 where
+pub record IsLaidOut (exts : ExtensionMap) (bytes : List ℕ) (h : RtpHeader) : Type 0 where
   pub fits : 12 + 4 * h.csrc_count ≤ length bytes
   pub fixed_is : IsFixed (take 12 bytes) h
   pub sources_are : AreSources (first_chunks 4 h.csrc_count (drop 12 bytes)) h.csrc_count h.csrc
@@ -18,8 +18,8 @@ pub record IsPlaced (exts : ExtensionMap) (bytes : List ℕ) (h : RtpHeader) : T
   pub part_is : HasExtensionPart exts h.has_extension (drop (12 + 4 * h.csrc_count) bytes) h.ext_vals part_len
   pub header_len_is : h.header_len ≡ 12 + 4 * h.csrc_count + part_len
 
-pub IsWire-from_places : (exts : ExtensionMap) (bytes : List ℕ) (h : RtpHeader) → IsPlaced exts bytes h → IsWire exts bytes h
-IsWire-from_places exts bytes h at =
+pub IsWire-from_layout : (exts : ExtensionMap) (bytes : List ℕ) (h : RtpHeader) → IsLaidOut exts bytes h → IsWire exts bytes h
+IsWire-from_layout exts bytes h at =
     let sources = 4 * h.csrc_count in
     let after = drop (12 + sources) bytes in
     let behind : drop sources (drop 12 bytes) ≡ after = drop-drop sources 12 bytes in
@@ -41,8 +41,8 @@ IsWire-from_places exts bytes h at =
     }
 
 -- the places of the parts of a split
-pub places_of : (exts : ExtensionMap) (bytes : List ℕ) (h : RtpHeader) → IsWire exts bytes h → IsPlaced exts bytes h
-places_of exts bytes h wire =
+pub layout_of : (exts : ExtensionMap) (bytes : List ℕ) (h : RtpHeader) → IsWire exts bytes h → IsLaidOut exts bytes h
+layout_of exts bytes h wire =
     let count = h.csrc_count in
     let behind = wire.part ++ wire.rest in
     let four = wire.sources_are.of_four in

@@ -5,9 +5,9 @@ mod FlagLemmas
 mod GroupLemmas
 mod BlockLemmas
 mod HeaderLemmas
-mod PlaceLemmas
+mod OneHeader
 mod ParseLemmas
-mod PlacingLemmas
+mod OverwritingLemmas
 mod RoundTrip
 mod StandardFacts
 mod WideningLemmas

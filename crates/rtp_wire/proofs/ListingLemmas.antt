@@ -7,8 +7,8 @@ use Rattle.std.proofs.lemmas.List.Elements.{All-append, All-cons, All-nil, Conta
 use Rattle.std.specs.Option.{unwrap_or}
 use Rattle.rtp_wire.specs.declared.ext.kind.Extension.{Extension}
 use Rattle.rtp_wire.specs.declared.ext.entry.Entry.{Entry}
-use Rattle.rtp_wire.specs.Places.{items_from}
-use Rattle.rtp_wire.proofs.MapLemmas.{entry_at-place}
+use Rattle.rtp_wire.specs.MapSlots.{items_from}
+use Rattle.rtp_wire.proofs.MapLemmas.{entry_at-slot}
 use Rattle.rtp_wire.specs.ExtensionMap.{Slots, IsEmpty, entry_at, extension_at, extension_of, unlocked, Sets, IsLocked, IsUnlocked, IsRising, IsListing}
 
 -- the parts of a list of which all hold
@@ -90,18 +90,18 @@ IsListed-set old new items bound id extension above listed sets = record {
           (listed.listing.all j x (ap extension_of (sym (sets.others j isnt.1)) ∙ is) refl)
     ]
 
--- an item of one of the places
+-- an item of one of the slots
 abbrev IsItem : ℕ → Slots → ℕ × Extension → Type 0
 IsItem passed left item = (k : ℕ) × (item.0 ≡ passed + k + 1) × (extension_of (get_or left k None) ≡ Some item.1)
 
--- what the places give, by how many were passed before them
+-- what the slots give, by how many were passed before them
 record AreItems (passed : ℕ) (left : Slots) (items : List (ℕ × Extension)) : Type 0 where
   rising : IsRising items
   above : All (λ item. passed < item.0) items
   here : All (IsItem passed left) items
   all : (k : ℕ) (extension : Extension) → extension_of (get_or left k None) ≡ Some extension → Contains items (passed + k + 1, extension)
 
--- an item of the places behind one
+-- an item of the slots behind one
 IsItem-more : (passed : ℕ) (slot : Option Entry) (left : Slots) (item : ℕ × Extension) → IsItem (passed + 1) left item → IsItem passed (slot ∷ left) item
 IsItem-more passed slot left item found = (suc found.0, omega (arith, found.1), found.2)
 
@@ -138,10 +138,10 @@ AreItems-some passed entry left items rest = record {
     all : (k : ℕ) (extension : Extension) → extension_of (get_or (Some entry ∷ left) k None) ≡ Some extension
         → Contains ((passed + 1, entry.extension) ∷ items) (passed + k + 1, extension)
     all zero extension is =
-        let place : passed + 1 ≡ passed + 0 + 1 = omega arith in (
+        let index : passed + 1 ≡ passed + 0 + 1 = omega arith in (
           0,
           omega arith,
-          ap (λ (n : ℕ). (n, entry.extension)) place
+          ap (λ (n : ℕ). (n, entry.extension)) index
               ∙ ap (λ e. (passed + 0 + 1, e)) (ap (λ found. unwrap_or found entry.extension) is),
         )
     all (suc k) extension is =
@@ -159,22 +159,22 @@ items_from-items passed (None ∷ left) = AreItems-none passed left (items_from 
 items_from-items passed (Some entry ∷ left) =
     AreItems-some passed entry left (items_from (passed + 1) left) (items_from-items (passed + 1) left)
 
--- the places of a map give its listing
-pub IsListing-from_places : (slots : Slots) → IsListing slots (λ _. true) (items_from 0 slots)
-IsListing-from_places slots =
+-- the slots of a map give its listing
+pub IsListing-from_slots : (slots : Slots) → IsListing slots (λ _. true) (items_from 0 slots)
+IsListing-from_slots slots =
     let items = items_from-items 0 slots in
     record {
       rising = items.rising;
       mapped = All-weaker (IsItem 0 slots) (λ item. (extension_at slots item.0 ≡ Some item.1) × (true ≡ true)) (items_from 0 slots)
-          (λ item found. (ap extension_of (entry_at-place slots found.0 item.0 (omega (arith, found.1))) ∙ found.2, refl)) items.here;
+          (λ item found. (ap extension_of (entry_at-slot slots found.0 item.0 (omega (arith, found.1))) ∙ found.2, refl)) items.here;
       all = λ id extension is passes. all id extension is;
     }
   where
     all : (id : ℕ) (extension : Extension) → extension_at slots id ≡ Some extension → Contains (items_from 0 slots) (id, extension)
     all zero extension is = cc
     all (suc k) extension is =
-        let place : 0 + k + 1 ≡ suc k = omega arith in
-        subst (λ (n : ℕ). Contains (items_from 0 slots) (n, extension)) place ((items_from-items 0 slots).all k extension is)
+        let index : 0 + k + 1 ≡ suc k = omega arith in
+        subst (λ (n : ℕ). Contains (items_from 0 slots) (n, extension)) index ((items_from-items 0 slots).all k extension is)
 
 -- a truth value is one of two
 true_or_false : (b : Bool) → (b ≡ true) ⊎ (b ≡ false)

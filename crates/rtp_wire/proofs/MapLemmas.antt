@@ -1,4 +1,4 @@
--- The map of extension ids: what stands behind an id once places have changed.
+-- The map of extension ids: what stands behind an id once slots have changed.
 use Rattle.std.proofs.Common.{◌≡◌, ◌≢◌, ℕ, ◌+◌, ◌<◌, ◌⊎◌, inl, inr, suc, zero, List, ◌∷◌, length, map, drop, get_or, set, Option, Some, None, arith, ap, refl, sym, ◌∙◌, subst, get_or-set_same, get_or-set_other, ◌==◌, if◌then◌else◌}
 use Rattle.std.proofs.lemmas.List.{get_or_past, length-map, length-set}
 use Rattle.std.proofs.Math.ListN.{get_or-map}
@@ -11,10 +11,10 @@ use Rattle.std.proofs.lemmas.Bool.Decides.{eqb_tells}
 use Rattle.rtp_wire.specs.declared.ext.entry.Entry.{Entry}
 use Rattle.rtp_wire.specs.declared.ext.kind.Extension.{Extension}
 use Rattle.rtp_wire.specs.declared.ext.map.TheConstants.{MAX_ID}
-use Rattle.rtp_wire.specs.Places.{IsFirst}
-use Rattle.rtp_wire.specs.ExtensionMap.{Slots, IsEmpty, IsId, entry_at, extension_at, extension_of, Sets, Exchanges, IsRenumbered, IsLocked, IsLockedAt, locked, IsLowest, Remaps, AreRemapped, same_place, moved}
+use Rattle.rtp_wire.specs.MapSlots.{IsFirst}
+use Rattle.rtp_wire.specs.ExtensionMap.{Slots, IsEmpty, IsId, entry_at, extension_at, extension_of, Sets, Exchanges, IsRenumbered, IsLocked, IsLockedAt, locked, IsLowest, Remaps, AreRemapped, same_slot, moved}
 
--- nothing stands in a place where nothing does in any
+-- nothing stands in a index where nothing does in any
 pub IsEmpty-from_each : (slots : Slots) → ((k : ℕ) → k < length slots → get_or slots k None ≡ None) → IsEmpty slots
 IsEmpty-from_each slots each zero = refl
 IsEmpty-from_each slots each (suc k) = elim (cases_lt k (length slots)) [
@@ -22,22 +22,22 @@ IsEmpty-from_each slots each (suc k) = elim (cases_lt k (length slots)) [
   | inr past ↦ get_or_past slots k None past
 ]
 
--- the id of a place is one more than the place
-pub entry_at-place : (slots : Slots) (k id : ℕ) → k + 1 ≡ id → entry_at slots id ≡ get_or slots k None
-entry_at-place slots k zero is = absurd (omega arith)
-entry_at-place slots k (suc j) is = ap (λ (place : ℕ). get_or slots place None) (omega arith)
+-- the id of a index is one more than the index
+pub entry_at-slot : (slots : Slots) (k id : ℕ) → k + 1 ≡ id → entry_at slots id ≡ get_or slots k None
+entry_at-slot slots k zero is = absurd (omega arith)
+entry_at-slot slots k (suc j) is = ap (λ (index : ℕ). get_or slots index None) (omega arith)
 
--- two lists that differ in one place
-pub entry_at-other : (slots new : Slots) (place id : ℕ) → place + 1 ≡ id
-    → ((k : ℕ) → k ≢ place → get_or new k None ≡ get_or slots k None)
+-- two lists that differ in one index
+pub entry_at-other : (slots new : Slots) (index id : ℕ) → index + 1 ≡ id
+    → ((k : ℕ) → k ≢ index → get_or new k None ≡ get_or slots k None)
     → (j : ℕ) → j ≢ id → entry_at new j ≡ entry_at slots j
-entry_at-other slots new place id is same zero other = refl
-entry_at-other slots new place id is same (suc j) other = same j (λ here. other (omega arith))
+entry_at-other slots new index id is same zero other = refl
+entry_at-other slots new index id is same (suc j) other = same j (λ here. other (omega arith))
 
--- one place is set
+-- one index is set
 pub Sets-set : (slots : Slots) (k id : ℕ) (entry : Entry) → k + 1 ≡ id → k < length slots → Sets slots (set slots k (Some entry)) id entry
 Sets-set slots k id entry is here = record {
-  this = entry_at-place _ k id is ∙ get_or-set_same slots k (Some entry) None here;
+  this = entry_at-slot _ k id is ∙ get_or-set_same slots k (Some entry) None here;
   others = entry_at-other slots (set slots k (Some entry)) k id is (λ j other. get_or-set_other slots k j (Some entry) None other);
 }
 
@@ -110,7 +110,7 @@ IsRenumbered-locked old new id extension was sets = record {
   ];
 }
 
--- two entries change places, and the first is locked now
+-- two entries change slots, and the first is locked now
 pub IsRenumbered-exchanged : (old new : Slots) (from to : ℕ) (extension : Extension) → from ≢ to
     → extension_at old from ≡ Some extension → Exchanges old new from to extension → IsRenumbered old new
 IsRenumbered-exchanged old new from to extension apart was change = record {
@@ -139,15 +139,15 @@ IsRenumbered-exchanged old new from to extension apart was change = record {
   ];
 }
 
--- the first place in which an extension stands has its lowest id
-pub IsLowest-from_first : (slots : Slots) (extension : Extension) (place : ℕ) → IsFirst slots extension place
-    → IsLowest slots extension (place + 1)
-IsLowest-from_first slots extension place first = record {
-  mapped = ap extension_of (entry_at-place slots place (place + 1) refl) ∙ first.here;
+-- the first index in which an extension stands has its lowest id
+pub IsLowest-from_first : (slots : Slots) (extension : Extension) (index : ℕ) → IsFirst slots extension index
+    → IsLowest slots extension (index + 1)
+IsLowest-from_first slots extension index first = record {
+  mapped = ap extension_of (entry_at-slot slots index (index + 1) refl) ∙ first.here;
   lowest = before;
 }
   where
-    before : (k : ℕ) → k < place + 1 → extension_at slots k ≢ Some extension
+    before : (k : ℕ) → k < index + 1 → extension_at slots k ≢ Some extension
     before zero below is = cc
     before (suc k) below is = first.before k (omega arith) is
 
@@ -165,40 +165,40 @@ pub record IsStep (old new : Slots) (id : ℕ) (extension : Extension) : Type 0 
 pub IsStep-same : (old : Slots) (id : ℕ) (extension : Extension) → Remaps old id extension old → IsStep old old id extension
 IsStep-same old id extension step = record { step = step; renumbered = IsRenumbered-same old old refl }
 
--- the entry of the first place is locked, and exchanged with what stands in the place of the id
+-- the entry of the first index is locked, and exchanged with what stands in the index of the id
 pub IsStep-exchanged : (old new : Slots) (from to id : ℕ) (extension : Extension) → length old ≡ MAX_ID → to + 1 ≡ id → to < MAX_ID
     → IsFirst old extension from → ((from ≡ to) ⊎ ((from ≢ to) × (IsLocked (get_or old from None) → ⊥)))
     → new ≡ swap (set old from (option_map (λ entry. locked entry.extension) (get_or old from None))) from to
     → IsStep old new id extension
-IsStep-exchanged old new from to id extension long place within first free is =
+IsStep-exchanged old new from to id extension long index within first free is =
     elim free [
       | inl same ↦
           let sets : Sets old new id (locked extension) = record {
-            this = entry_at-place new to id place ∙ at_to;
-            others = entry_at-other old new to id place (λ k apart. elsewhere k (λ from_here. apart (from_here ∙ same)) apart);
+            this = entry_at-slot new to id index ∙ at_to;
+            others = entry_at-other old new to id index (λ k apart. elsewhere k (λ from_here. apart (from_here ∙ same)) apart);
           } in
           let mapped : extension_at old id ≡ Some extension =
-          ap (extension_at old) (omega (arith, place, same)) ∙ lowest.mapped in
+          ap (extension_at old) (omega (arith, index, same)) ∙ lowest.mapped in
           record {
-            step = same_place is_id (subst (IsLowest old extension) (omega (arith, place, same)) lowest) sets;
+            step = same_slot is_id (subst (IsLowest old extension) (omega (arith, index, same)) lowest) sets;
             renumbered = IsRenumbered-locked old new id extension mapped sets;
           }
       | inr apart ↦
           let exchange : Exchanges old new (from + 1) id extension = record {
-            here = entry_at-place new to id place ∙ at_to;
-            there = entry_at-place new from (from + 1) refl ∙ (at_from apart.0 ∙ sym (entry_at-place old to id place));
+            here = entry_at-slot new to id index ∙ at_to;
+            there = entry_at-slot new from (from + 1) refl ∙ (at_from apart.0 ∙ sym (entry_at-slot old to id index));
             others = others;
           } in
           let apart_ids : from + 1 ≢ id = λ same. apart.0 (omega arith) in
           record {
             step = moved (from + 1) is_id lowest apart_ids
-                (λ is_locked. apart.1 (subst IsLocked (entry_at-place old from (from + 1) refl) is_locked)) exchange;
+                (λ is_locked. apart.1 (subst IsLocked (entry_at-slot old from (from + 1) refl) is_locked)) exchange;
             renumbered = IsRenumbered-exchanged old new (from + 1) id extension apart_ids lowest.mapped exchange;
           }
     ]
   where
     is_id : IsId id
-    is_id = (omega (arith, place), omega (arith, place, within))
+    is_id = (omega (arith, index), omega (arith, index, within))
 
     lowest : IsLowest old extension (from + 1)
     lowest = IsLowest-from_first old extension from first
@@ -237,7 +237,7 @@ AreRemapped-more f steps i step old between new here is one rest =
     ∙ (ap (λ s. s ∷ drop (suc i) (map f steps)) first ∙ ap (λ (k : ℕ). f step ∷ drop k (map f steps)) next) in
     subst (λ ss. AreRemapped old ss new) (sym split) (between, one, rest)
 
--- what stands behind an id, once each place has been changed alike and an empty one stays so
+-- what stands behind an id, once each index has been changed alike and an empty one stays so
 pub entry_at-map : (f : Option Entry → Option Entry) (slots : Slots) (id : ℕ) → f None ≡ None
     → entry_at (map f slots) id ≡ f (entry_at slots id)
 entry_at-map f slots zero none = sym none

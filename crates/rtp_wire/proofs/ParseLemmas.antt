@@ -7,11 +7,11 @@ use Rattle.std.proofs.lemmas.List.{drop-drop, get_or-take}
 use Rattle.rtp_wire.specs.declared.ext.map.ExtensionMap.{ExtensionMap}
 use Rattle.rtp_wire.specs.declared.header.rtp_header.RtpHeader.{RtpHeader}
 use Rattle.rtp_wire.specs.Header.{bit, IsFirstByte, IsFixed}
-use Rattle.rtp_wire.specs.Refusal.{HasNoBlock, HasNoHeader, cut_sources, no_block}
+use Rattle.rtp_wire.specs.NotAHeader.{NotABlock, NotAHeader, cut_sources, no_block}
 use Rattle.rtp_wire.specs.Reading.{HasExtensionPart}
 use Rattle.rtp_wire.proofs.FlagLemmas.{HasFlags, flags_from_first}
 use Rattle.rtp_wire.proofs.GroupLemmas.{AreFours-first_chunks, length-first_chunks, first_chunks-take}
-use Rattle.rtp_wire.proofs.HeaderLemmas.{IsPlaced}
+use Rattle.rtp_wire.proofs.HeaderLemmas.{IsLaidOut}
 
 -- the pieces that `parse` cuts off, one behind the other
 pub record AreCut (buf fixed after sources behind : List ℕ) (count : ℕ) : Type 0 where
@@ -27,11 +27,11 @@ behind-drop : (buf fixed after sources behind : List ℕ) (count : ℕ) → AreC
 behind-drop buf fixed after sources behind count cut =
     cut.behind_is ∙ ap (λ (xs : List ℕ). drop (4 * count) xs) cut.after_is ∙ drop-drop (4 * count) 12 buf
 
-pub IsPlaced-from_pieces : (exts : ExtensionMap) (buf fixed after sources behind : List ℕ) (groups : List (List ℕ)) (h : RtpHeader) (part_len : ℕ)
+pub IsLaidOut-from_pieces : (exts : ExtensionMap) (buf fixed after sources behind : List ℕ) (groups : List (List ℕ)) (h : RtpHeader) (part_len : ℕ)
     → AreCut buf fixed after sources behind h.csrc_count → IsFixed fixed h
     → groups ≡ first_chunks 4 (length sources / 4) sources → h.csrc ≡ map (from_be_bytes w32) groups ++ replicate (15 - length groups) 0
-    → HasExtensionPart exts h.has_extension behind h.ext_vals part_len → h.header_len ≡ 12 + length sources + part_len → IsPlaced exts buf h
-IsPlaced-from_pieces exts buf fixed after sources behind groups h part_len cut fixed-is groups-are slots-are part-is len-is =
+    → HasExtensionPart exts h.has_extension behind h.ext_vals part_len → h.header_len ≡ 12 + length sources + part_len → IsLaidOut exts buf h
+IsLaidOut-from_pieces exts buf fixed after sources behind groups h part_len cut fixed-is groups-are slots-are part-is len-is =
     let count = h.csrc_count in
     let room : 4 * count ≤ length (drop 12 buf) = subst (λ (xs : List ℕ). 4 * count ≤ length xs) cut.after_is cut.room in
     let sources-len : length sources ≡ 4 * count = ap length cut.sources_are ∙ length-take-le (4 * count) after cut.room in
@@ -62,15 +62,15 @@ first-byte buf fixed padding extension count is first =
     (ap (λ (xs : List ℕ). slice_index xs 0) is ∙ get_or-take 12 buf 0 0 (omega arith)) (flags_from_first (slice_index fixed 0) padding extension count first)
 
 pub cut_sources-from_pieces : (buf fixed after : List ℕ) (padding extension : Bool) (count : ℕ) → fixed ≡ take 12 buf → after ≡ drop 12 buf → 12 ≤ length buf
-    → IsFirstByte (slice_index fixed 0) padding extension count → length after < 4 * count → HasNoHeader buf
+    → IsFirstByte (slice_index fixed 0) padding extension count → length after < 4 * count → NotAHeader buf
 cut_sources-from_pieces buf fixed after padding extension count fixed-is after-is long first short =
     let flags = first-byte buf fixed padding extension count fixed-is first in
     cut_sources (omega (arith, flags.count_is, ap length after-is, length-drop 12 buf))
 
 pub no_block-from_pieces : (buf fixed after sources behind : List ℕ) (padding extension : Bool) (count : ℕ) → AreCut buf fixed after sources behind count
-    → IsFirstByte (slice_index fixed 0) padding extension count → extension ≡ true → HasNoBlock behind → HasNoHeader buf
+    → IsFirstByte (slice_index fixed 0) padding extension count → extension ≡ true → NotABlock behind → NotAHeader buf
 no_block-from_pieces buf fixed after sources behind padding extension count cut first set none =
     let flags = first-byte buf fixed padding extension count cut.fixed_is first in
     no_block (sym flags.extension_is ∙ ap bit set)
-    (subst (λ (k : ℕ). HasNoBlock (drop (12 + 4 * k) buf)) flags.count_is
-    (subst HasNoBlock (behind-drop buf fixed after sources behind count cut) none))
+    (subst (λ (k : ℕ). NotABlock (drop (12 + 4 * k) buf)) flags.count_is
+    (subst NotABlock (behind-drop buf fixed after sources behind count cut) none))

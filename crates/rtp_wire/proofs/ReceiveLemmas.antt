@@ -7,7 +7,7 @@ use Rattle.rtp_base.specs.Window.{Numbers, IsGreatest, Places, Accepts}
 use Rattle.rtp_wire.specs.declared.ext.map.ExtensionMap.{ExtensionMap}
 use Rattle.rtp_wire.specs.declared.receive.Verdict.{Verdict}
 use Rattle.rtp_wire.specs.declared.receive.Verdict.TheVariants.{Unreadable, Taken, Refused}
-use Rattle.rtp_wire.specs.Verdicts.{taken_by, IsLatest, IsFresh, IsVerdict, AreVerdicts, TakesOnce}
+use Rattle.rtp_wire.specs.Verdicts.{taken_by, IsHighest, IsFresh, IsVerdict, AreVerdicts, TakesOnce}
 use Rattle.rtp_wire.specs.Receiving.{Holds, taken_after}
 
 -- ---- fresh and accepted
@@ -15,18 +15,18 @@ use Rattle.rtp_wire.specs.Receiving.{Holds, taken_after}
 one_greatest : (taken : Numbers) (a b : ℕ) → IsGreatest taken a → IsGreatest taken b → a ≡ b
 one_greatest taken a b p q = let up = q.top a p.member in let down = p.top b q.member in omega arith
 
-pub IsFresh-accepted : (taken : Numbers) (latest : Option ℕ) (number : ℕ) → IsLatest taken latest → Accepts taken number → IsFresh taken latest number
+pub IsFresh-accepted : (taken : Numbers) (highest : Option ℕ) (number : ℕ) → IsHighest taken highest → Accepts taken number → IsFresh taken highest number
 IsFresh-accepted taken None number is accepted = tt
-IsFresh-accepted taken (Some latest) number is accepted =
-    let same = one_greatest taken latest accepted.greatest is accepted.is_greatest in
+IsFresh-accepted taken (Some highest) number is accepted =
+    let same = one_greatest taken highest accepted.greatest is accepted.is_greatest in
     elim accepted.above_or_new [
       | inl above ↦ (false_from_ne_true (taken number) (λ member. let top = is.top number member in absurd (omega arith)), omega arith)
       | inr new ↦ (new.1, let near = new.0 in omega arith)
     ]
 
-pub Accepts-fresh : (taken : Numbers) (latest : Option ℕ) (number greatest : ℕ) → IsGreatest taken greatest → IsLatest taken latest → IsFresh taken latest number → Accepts taken number
+pub Accepts-fresh : (taken : Numbers) (highest : Option ℕ) (number greatest : ℕ) → IsGreatest taken greatest → IsHighest taken highest → IsFresh taken highest number → Accepts taken number
 Accepts-fresh taken None number greatest some is fresh = absurd (false≢true (sym (is greatest) ∙ some.member))
-Accepts-fresh taken (Some latest) number greatest some is fresh = record { greatest = latest; is_greatest = is; above_or_new = inr (fresh.1, fresh.0) }
+Accepts-fresh taken (Some highest) number greatest some is fresh = record { greatest = highest; is_greatest = is; above_or_new = inr (fresh.1, fresh.0) }
 
 -- ---- one verdict more
 
@@ -104,9 +104,9 @@ taken_by-at (Taken t ∷ vs) (suc i) n below is = or_right (eqb n t) (taken_by v
 taken_by-at (Refused ∷ vs) (suc i) n below is = taken_by-at vs i n (omega arith) is
 taken_by-at (Unreadable ∷ vs) (suc i) n below is = taken_by-at vs i n (omega arith) is
 
-not_fresh : (taken : Numbers) (latest : Option ℕ) (number : ℕ) → taken number ≡ true → IsLatest taken latest → IsFresh taken latest number → ⊥
+not_fresh : (taken : Numbers) (highest : Option ℕ) (number : ℕ) → taken number ≡ true → IsHighest taken highest → IsFresh taken highest number → ⊥
 not_fresh taken None number is none fresh = false≢true (sym (none number) ∙ is)
-not_fresh taken (Some latest) number is some fresh = false≢true (sym fresh.0 ∙ is)
+not_fresh taken (Some highest) number is some fresh = false≢true (sym fresh.0 ∙ is)
 
 pub TakesOnce-verdicts : (exts : ExtensionMap) (datagrams : List (List ℕ)) (verdicts : List Verdict) → AreVerdicts exts datagrams verdicts → TakesOnce verdicts
 TakesOnce-verdicts exts datagrams verdicts are i j number before within first second =
@@ -115,4 +115,4 @@ TakesOnce-verdicts exts datagrams verdicts are i j number before within first se
     let is : taken_by earlier number ≡ true = taken_by-at earlier i number here (get_or-take j verdicts i Unreadable before ∙ first) in
     let verdict : IsVerdict exts (taken_by earlier) (get_or datagrams j []) (Taken number) =
     subst (IsVerdict exts (taken_by earlier) (get_or datagrams j [])) second (are.each j (omega (arith, are.as_many))) in
-    not_fresh (taken_by earlier) verdict.0 number is verdict.1.is_latest verdict.2
+    not_fresh (taken_by earlier) verdict.0 number is verdict.1.is_highest verdict.2

@@ -7,14 +7,14 @@ use Rattle.std.proofs.lemmas.List.{length-map}
 use Rattle.std.proofs.lemmas.Nat.{from_be_bytes-to_be_bytes_2, from_be_bytes-to_be_bytes_4}
 use Rattle.rtp_wire.specs.declared.ext.form.ExtensionsForm.TheVariants.{OneByte}
 use Rattle.rtp_wire.specs.declared.ext.map.ExtensionMap.{ExtensionMap}
-use Rattle.rtp_wire.specs.declared.ext.values.ExtensionValues.{ExtensionValues}
+use Rattle.rtp_wire.specs.declared.ext.value.values.ExtensionValues.{ExtensionValues}
 use Rattle.rtp_wire.specs.declared.header.rtp_header.RtpHeader.{RtpHeader}
 use Rattle.rtp_wire.specs.Block.{IsExtensionPart}
 use Rattle.rtp_wire.specs.Header.{IsFixed, IsWire}
-use Rattle.rtp_wire.specs.Placing.{placed}
+use Rattle.rtp_wire.specs.Overwriting.{overwritten}
 use Rattle.rtp_wire.specs.Written.{fixed_bytes, source_bytes, extension_bytes, wire_bytes, image_values, image_of}
 use Rattle.rtp_wire.proofs.GroupLemmas.{AreFours}
-use Rattle.rtp_wire.proofs.PlacingLemmas.{length-numbers, placed-three}
+use Rattle.rtp_wire.proofs.OverwritingLemmas.{length-numbers, overwritten-three}
 
 -- how large the fields of a header are that can be written
 pub record IsInRange (h : RtpHeader) : Type 0 where
@@ -60,9 +60,9 @@ numbers-back (x ∷ xs) fits =
     ∙ ap (λ (ys : List ℕ). x ∷ ys) (numbers-back xs fits.1)
 
 -- numbers that are in range at each place, one by one
-pub AllByRecursion-from_places : (xs : List ℕ) → ((i : ℕ) → get_or xs i 0 < 2 ^ 32) → AllByRecursion (λ x. x < 2 ^ 32) xs
-AllByRecursion-from_places [] fits = tt
-AllByRecursion-from_places (x ∷ xs) fits = (fits 0, AllByRecursion-from_places xs (λ i. fits (suc i)))
+pub AllByRecursion-from_each : (xs : List ℕ) → ((i : ℕ) → get_or xs i 0 < 2 ^ 32) → AllByRecursion (λ x. x < 2 ^ 32) xs
+AllByRecursion-from_each [] fits = tt
+AllByRecursion-from_each (x ∷ xs) fits = (fits 0, AllByRecursion-from_each xs (λ i. fits (suc i)))
 
 -- ---- the header
 
@@ -111,9 +111,9 @@ IsWire-written h exts rest fits =
 -- the pieces that are put one behind the other are the written header
 pub wire_bytes-from_pieces : (h : RtpHeader) (exts : ExtensionMap) (buf one two three fixed : List ℕ) (first second third : ℕ)
     → h.csrc_count ≤ length h.csrc → length (wire_bytes h exts) ≤ length buf → fixed ≡ fixed_bytes h
-    → one ≡ placed buf 0 fixed → first ≡ 0 + length fixed
-    → two ≡ placed one first (source_bytes h) → second ≡ first + 4 * length (take h.csrc_count h.csrc)
-    → three ≡ placed two second (extension_bytes exts h.has_extension h.ext_vals) → third ≡ second + length (extension_bytes exts h.has_extension h.ext_vals)
+    → one ≡ overwritten buf 0 fixed → first ≡ 0 + length fixed
+    → two ≡ overwritten one first (source_bytes h) → second ≡ first + 4 * length (take h.csrc_count h.csrc)
+    → three ≡ overwritten two second (extension_bytes exts h.has_extension h.ext_vals) → third ≡ second + length (extension_bytes exts h.has_extension h.ext_vals)
     → (third ≡ length (wire_bytes h exts)) × (three ≡ wire_bytes h exts ++ drop third buf)
 wire_bytes-from_pieces h exts buf one two three fixed first second third within room fixed-is one-is first-is two-is second-is three-is third-is =
     let sources = take h.csrc_count h.csrc in
@@ -125,5 +125,5 @@ wire_bytes-from_pieces h exts buf one two three fixed first second third within 
     let end : third ≡ length (wire_bytes h exts) = omega arith in
     let put : three ≡ (fixed_bytes h ++ (source_bytes h ++ block)) ++ drop (length (fixed_bytes h ++ (source_bytes h ++ block))) buf =
     three-is ∙ rw (two-is, one-is, fixed-is)
-    (placed-three buf (fixed_bytes h) (source_bytes h) block first second (omega arith) (omega arith) (omega arith)) in
+    (overwritten-three buf (fixed_bytes h) (source_bytes h) block first second (omega arith) (omega arith) (omega arith)) in
     (end, put ∙ wire_bytes-is h exts buf ∙ ap (λ (k : ℕ). wire_bytes h exts ++ drop k buf) (sym end))

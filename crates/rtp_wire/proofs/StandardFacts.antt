@@ -5,7 +5,7 @@ use Rattle.rtp_wire.specs.declared.ext.form.ExtensionsForm.TheVariants.{OneByte,
 use Rattle.rtp_wire.specs.declared.ext.map.ExtensionMap.{ExtensionMap}
 use Rattle.rtp_wire.specs.Form.{IsFormWord}
 use Rattle.rtp_wire.specs.Header.{IsWire, default_header}
-use Rattle.rtp_wire.specs.Refusal.{cut_head, unknown_form, cut_words, HasNoHeader, cut_fixed, other_version, cut_sources, no_block}
+use Rattle.rtp_wire.specs.NotAHeader.{cut_head, unknown_form, cut_words, NotAHeader, cut_fixed, other_version, cut_sources, no_block}
 use Rattle.rtp_wire.specs.Written.{wire_bytes, image_of}
 
 abbrev zeros : ℕ → List ℕ
@@ -76,24 +76,24 @@ unfolding wire_bytes
 sources_row exts = refl
 
 -- a row for each cause of a refusal
-cut_fixed_row : HasNoHeader (zeros 11)
+cut_fixed_row : NotAHeader (zeros 11)
 cut_fixed_row = cut_fixed (omega arith)
 
-other_version_row : HasNoHeader (64 ∷ zeros 11)
+other_version_row : NotAHeader (64 ∷ zeros 11)
 other_version_row = other_version (λ e. absurd (omega arith))
 
-cut_sources_row : HasNoHeader (129 ∷ zeros 11)
+cut_sources_row : NotAHeader (129 ∷ zeros 11)
 cut_sources_row = cut_sources (omega arith)
 
-cut_head_row : HasNoHeader (144 ∷ zeros 11 ++ 190 ∷ 222 ∷ 0 ∷ [])
+cut_head_row : NotAHeader (144 ∷ zeros 11 ++ 190 ∷ 222 ∷ 0 ∷ [])
 cut_head_row = no_block refl (cut_head (omega arith))
 
 no_form : (form : ExtensionsForm) → IsFormWord 8192 form → ⊥
 no_form OneByte is = omega arith
 no_form TwoByte is = omega arith
 
-unknown_form_row : HasNoHeader (144 ∷ zeros 11 ++ 32 ∷ 0 ∷ 0 ∷ 0 ∷ [])
+unknown_form_row : NotAHeader (144 ∷ zeros 11 ++ 32 ∷ 0 ∷ 0 ∷ 0 ∷ [])
 unknown_form_row = no_block refl (unknown_form no_form)
 
-cut_words_row : HasNoHeader (144 ∷ zeros 11 ++ 190 ∷ 222 ∷ 0 ∷ 1 ∷ 16 ∷ 170 ∷ 0 ∷ [])
+cut_words_row : NotAHeader (144 ∷ zeros 11 ++ 190 ∷ 222 ∷ 0 ∷ 1 ∷ 16 ∷ 170 ∷ 0 ∷ [])
 cut_words_row = no_block refl (cut_words (omega arith))

@@ -73,16 +73,16 @@ near_wrapped_after half turn front offset low is small down below all = omega ar
 -- ---- the three answers
 
 module _ (turn previous low : ℕ) (is : IsTurn turn) (fits : previous < 2 ^ 64) (below : low < turn) where
-  placed : InTurn turn previous is.turns
-  placed = in_turn turn previous is fits
+  overwritten : InTurn turn previous is.turns
+  overwritten = in_turn turn previous is fits
 
   half-is : turn / 2 ≡ is.half
   half-is = let h = is.halves in omega arith
 
   pub same_turn-near : low ≤ previous % turn + turn / 2 → previous % turn ≤ low + turn / 2 → IsNearby turn previous low (previous - previous % turn + low)
   same_turn-near up down =
-      let whole = placed.whole in
-      let room = placed.fits in
+      let whole = overwritten.whole in
+      let room = overwritten.fits in
       let at : previous - previous % turn + low ≡ previous / turn * turn + low = omega arith in
       let near = near_same is.half (previous / turn * turn) (previous % turn) low (half-small turn is) (omega (arith, half-is)) (omega (arith, half-is)) (omega arith) (omega arith) in
       IsNearby-at turn previous low (previous - previous % turn + low) (previous / turn) below at (omega arith) (rw half-is (elim near [
@@ -92,8 +92,8 @@ module _ (turn previous low : ℕ) (is : IsTurn turn) (fits : previous < 2 ^ 64)
 
   pub turn_before-near : previous % turn + turn / 2 < low → IsNearby turn previous low ((previous - previous % turn + low + (2 ^ 64 - turn)) % 2 ^ 64)
   turn_before-near up =
-      let whole = placed.whole in
-      let room = placed.fits in
+      let whole = overwritten.whole in
+      let room = overwritten.fits in
       elim (cases_lt 0 (previous / turn)) [
         | inl some ↦
             let before = (previous / turn - 1) * turn in
@@ -117,9 +117,9 @@ module _ (turn previous low : ℕ) (is : IsTurn turn) (fits : previous < 2 ^ 64)
 
   pub turn_after-near : low + turn / 2 < previous % turn → IsNearby turn previous low ((previous - previous % turn + low + turn) % 2 ^ 64)
   turn_after-near down =
-      let whole = placed.whole in
-      let room = placed.fits in
-      let inside = placed.below in
+      let whole = overwritten.whole in
+      let room = overwritten.fits in
+      let inside = overwritten.below in
       let front = previous / turn * turn in
       elim (cases_lt (suc (previous / turn)) is.turns) [
         | inl more ↦
@@ -131,7 +131,7 @@ module _ (turn previous low : ℕ) (is : IsTurn turn) (fits : previous < 2 ^ 64)
             IsNearby-at turn previous low _ (suc (previous / turn)) below at (omega arith)
             (inl (rw (at, half-is, next) (subst (λ (p : ℕ). distance p (front + turn + low) < is.half) whole near)))
         | inr last ↦
-            let end : suc (previous / turn) ≡ is.turns = let e = placed.before in omega arith in
+            let end : suc (previous / turn) ≡ is.turns = let e = overwritten.before in omega arith in
             let all : front + turn ≡ 2 ^ 64 = sym (suc-mul (previous / turn) turn) ∙ ap (λ (k : ℕ). k * turn) end ∙ is.whole in
             let at : (previous - previous % turn + low + turn) % 2 ^ 64 ≡ 0 * turn + low = omega (arith, zero-mul turn) in
             let near = near_wrapped_after is.half turn front (previous % turn) low is.halves (half-small turn is) (omega (arith, half-is)) inside all in

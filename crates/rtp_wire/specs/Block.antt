@@ -8,22 +8,24 @@ use Rattle.std.specs.Prelude.{◌≡◌, ℕ, ◌+◌, ◌*◌, List, [], length
 use Rattle.std.specs.Int.{w16, from_be_bytes}
 use Rattle.rtp_wire.specs.declared.ext.form.ExtensionsForm.{ExtensionsForm}
 use Rattle.rtp_wire.specs.declared.ext.map.ExtensionMap.{ExtensionMap}
-use Rattle.rtp_wire.specs.declared.ext.values.ExtensionValues.{ExtensionValues}
+use Rattle.rtp_wire.specs.declared.ext.value.values.ExtensionValues.{ExtensionValues}
 use Rattle.rtp_wire.specs.Form.{IsFormWord}
+use Rattle.rtp_wire.specs.Elements.{Element, AreElements}
 use Rattle.rtp_wire.specs.Values.{no_values, AreValues}
 
 -- the word in two bytes, the high one first
 abbrev pub word_at : List ℕ → ℕ → ℕ
-word_at bytes place = from_be_bytes w16 (slice_range bytes place (place + 2))
+word_at bytes offset = from_be_bytes w16 (slice_range bytes offset (offset + 2))
 
--- a block: the word of its form, the number of 32-bit words behind the head, and those words, the element bytes
-pub record IsBlock (block : List ℕ) (form : ExtensionsForm) (elements : List ℕ) : Type 0 where
+-- a block: the word of its form, the number of 32-bit words behind these four bytes, and those words, the body
+pub record IsBlock (block : List ℕ) (form : ExtensionsForm) (body : List ℕ) : Type 0 where
   pub form_is : IsFormWord (word_at block 0) form
   pub words : length block ≡ 4 + 4 * word_at block 2
-  pub elements_are : elements ≡ drop 4 block
+  pub body_is : body ≡ drop 4 block
 
--- what stands between the sources and the payload, and the values in it: nothing where X is clear, a block where it is set
+-- what stands between the CSRC list and the payload, and the values in it: nothing where X is clear, a block where it is set
 abbrev pub IsExtensionPart : ExtensionMap → Bool → List ℕ → ExtensionValues → Type 0
-IsExtensionPart map false part values = (part ≡ []) × (values ≡ no_values)
-IsExtensionPart map true part values =
-    (form : ExtensionsForm) × (elements : List ℕ) × IsBlock part form elements × AreValues map form elements values
+IsExtensionPart exts false part values = (part ≡ []) × (values ≡ no_values)
+IsExtensionPart exts true part values =
+    (form : ExtensionsForm) × (body : List ℕ) × (elements : List Element)
+    × IsBlock part form body × AreElements form body elements × AreValues exts elements no_values values

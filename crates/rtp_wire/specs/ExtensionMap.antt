@@ -61,7 +61,7 @@ IsLocked (Some entry) = entry.locked ≡ true
 abbrev pub IsLockedAt : Slots → ℕ → Type 0
 IsLockedAt map id = IsLocked (entry_at map id)
 
--- the entries behind two ids change places, the first of them locked now, and all others stay
+-- the entries behind two ids are exchanged, the first of them locked now, and all others stay
 pub record Exchanges (old new : Slots) (from to : ℕ) (extension : Extension) : Type 0 where
   pub here : entry_at new to ≡ Some (locked extension)
   pub there : entry_at new from ≡ entry_at old to
@@ -74,11 +74,11 @@ pub data Remaps (old : Slots) (id : ℕ) (extension : Extension) (new : Slots) :
   -- the extension isn't mapped here
   not_mapped : IsId id → IsUnmapped old extension → new ≡ old → Remaps old id extension new
   -- it is there already, and is locked there
-  same_place : IsId id → IsLowest old extension id → Sets old new id (locked extension) → Remaps old id extension new
+  same_slot : IsId id → IsLowest old extension id → Sets old new id (locked extension) → Remaps old id extension new
   -- it is locked elsewhere, and stays
   locked_elsewhere : (from : ℕ) → IsId id → IsLowest old extension from → from ≢ id → IsLockedAt old from → new ≡ old
       → Remaps old id extension new
-  -- it is free elsewhere: it moves to the id and is locked there, and what stood there takes its place
+  -- it is free elsewhere: it moves to the id and is locked there, and what stood there takes its slot
   moved : (from : ℕ) → IsId id → IsLowest old extension from → from ≢ id → (IsLockedAt old from → ⊥)
       → Exchanges old new from id extension → Remaps old id extension new
 
@@ -101,7 +101,7 @@ abbrev pub goes_with : Bool → Extension → Bool
 goes_with true extension = (kind_of extension).audio
 goes_with false extension = (kind_of extension).video
 
--- an entry of this medium, unlocked, and nothing in place of any other
+-- an entry of this medium, unlocked, and nothing instead of any other
 abbrev pub of_medium : Bool → Option Entry → Option Entry
 of_medium audio None = None
 of_medium audio (Some entry) = if goes_with audio entry.extension then Some (unlocked entry.extension) else None

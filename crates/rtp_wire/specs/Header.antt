@@ -12,6 +12,7 @@ use Rattle.std.specs.List.{concat, AllByRecursion}
 use Rattle.std.specs.Int.{w16, w32, from_be_bytes}
 use Rattle.rtp_wire.specs.declared.ext.map.ExtensionMap.{ExtensionMap}
 use Rattle.rtp_wire.specs.declared.header.rtp_header.RtpHeader.{RtpHeader}
+use Rattle.rtp_wire.specs.Values.{no_values}
 use Rattle.rtp_wire.specs.Block.{IsExtensionPart}
 
 -- a bit that is clear or set
@@ -70,6 +71,6 @@ default_header = record {
   timestamp = 0;
   ssrc = 0;
   csrc = replicate 15 0;
-  ext_vals = record {};
+  ext_vals = no_values;
   header_len = 16;
 }

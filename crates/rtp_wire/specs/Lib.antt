@@ -2,19 +2,22 @@
 pub mod Form
 pub mod Kind
 pub mod ExtensionMap
+pub mod Elements
 pub mod Values
 pub mod Block
 pub mod Header
-pub mod Refusal
+pub mod NotAHeader
+pub mod Spelling
 pub mod Written
 -- Numbers over time.
 pub mod Widening
 pub mod Verdicts
 -- What the inside promises itself.
-pub mod KindRow
-pub mod Places
+pub mod KindTable
+pub mod MapSlots
 pub mod EqualMaps
+pub mod ElementReading
 pub mod Reading
-pub mod Placing
+pub mod Overwriting
 pub mod Turns
 pub mod Receiving

@@ -2,7 +2,7 @@
 use Rattle.std.specs.Prelude.{ℕ, ◌+◌, ◌≤◌, List, length, take, Bool}
 use Rattle.rtp_wire.specs.declared.ext.form.ExtensionsForm.{ExtensionsForm}
 use Rattle.rtp_wire.specs.declared.ext.map.ExtensionMap.{ExtensionMap}
-use Rattle.rtp_wire.specs.declared.ext.values.ExtensionValues.{ExtensionValues}
+use Rattle.rtp_wire.specs.declared.ext.value.values.ExtensionValues.{ExtensionValues}
 use Rattle.rtp_wire.specs.Block.{IsBlock, IsExtensionPart}
 
 -- a block with these element bytes is at the front

@@ -12,9 +12,9 @@ Holds (Some window) taken = Keeps window taken
 
 -- what is said of a number, where these numbers are taken and this is the greatest of them
 abbrev pub IsAnswer : Numbers → Option ℕ → ℕ → Verdict → Type 0
-IsAnswer taken latest number (Taken n) = (n ≡ number) × IsFresh taken latest number
-IsAnswer taken latest number Refused = IsFresh taken latest number → ⊥
-IsAnswer taken latest number Unreadable = ⊥
+IsAnswer taken highest number (Taken n) = (n ≡ number) × IsFresh taken highest number
+IsAnswer taken highest number Refused = IsFresh taken highest number → ⊥
+IsAnswer taken highest number Unreadable = ⊥
 
 -- what is taken after a verdict
 abbrev pub taken_after : Numbers → Verdict → Numbers

@@ -16,9 +16,9 @@ taken_by (Refused ∷ verdicts) number = taken_by verdicts number
 taken_by (Unreadable ∷ verdicts) number = taken_by verdicts number
 
 -- the greatest of some numbers, if there are any
-abbrev pub IsLatest : Numbers → Option ℕ → Type 0
-IsLatest taken None = (n : ℕ) → taken n ≡ false
-IsLatest taken (Some greatest) = IsGreatest taken greatest
+abbrev pub IsHighest : Numbers → Option ℕ → Type 0
+IsHighest taken None = (n : ℕ) → taken n ≡ false
+IsHighest taken (Some greatest) = IsGreatest taken greatest
 
 -- the number may be taken: nothing is taken yet, or it isn't taken and isn't 128 or more below the greatest that is
 abbrev pub IsFresh : Numbers → Option ℕ → ℕ → Type 0
@@ -26,19 +26,19 @@ IsFresh taken None number = Unit {0}
 IsFresh taken (Some greatest) number = (taken number ≡ false) × (greatest < number + 128)
 
 -- the datagram begins with a header whose number, widened after the greatest taken one, is this
-pub record HasNumber (exts : ExtensionMap) (taken : Numbers) (latest : Option ℕ) (datagram : List ℕ) (number : ℕ) : Type 0 where
+pub record HasNumber (exts : ExtensionMap) (taken : Numbers) (highest : Option ℕ) (datagram : List ℕ) (number : ℕ) : Type 0 where
   pub header : RtpHeader
   pub wire : IsWire exts datagram header
-  pub is_latest : IsLatest taken latest
-  pub near : IsNear 16 latest header.sequence_number number
+  pub is_highest : IsHighest taken highest
+  pub near : IsNear 16 highest header.sequence_number number
 
 -- the verdict on a datagram, where these numbers were taken before it
 abbrev pub IsVerdict : ExtensionMap → Numbers → List ℕ → Verdict → Type 0
 IsVerdict exts taken datagram Unreadable = (header : RtpHeader) → IsWire exts datagram header → ⊥
 IsVerdict exts taken datagram (Taken number) =
-    (latest : Option ℕ) × HasNumber exts taken latest datagram number × IsFresh taken latest number
+    (highest : Option ℕ) × HasNumber exts taken highest datagram number × IsFresh taken highest number
 IsVerdict exts taken datagram Refused =
-    (latest : Option ℕ) × (number : ℕ) × HasNumber exts taken latest datagram number × (IsFresh taken latest number → ⊥)
+    (highest : Option ℕ) × (number : ℕ) × HasNumber exts taken highest datagram number × (IsFresh taken highest number → ⊥)
 
 -- a verdict for each datagram, after the numbers that the verdicts before it take
 pub record AreVerdicts (exts : ExtensionMap) (datagrams : List (List ℕ)) (verdicts : List Verdict) : Type 0 where
@@ -46,7 +46,7 @@ pub record AreVerdicts (exts : ExtensionMap) (datagrams : List (List ℕ)) (verd
   pub each : (i : ℕ) → i < length datagrams
       → IsVerdict exts (taken_by (take i verdicts)) (slice_index_or datagrams i []) (slice_index_or verdicts i Unreadable)
 
--- no number is taken at two places
+-- no number is taken at two positions of the run
 abbrev pub TakesOnce : List Verdict → Type 0
 TakesOnce verdicts = (i j number : ℕ) → i < j → j < length verdicts
     → slice_index_or verdicts i Unreadable ≡ Taken number → slice_index_or verdicts j Unreadable ≡ Taken number → ⊥

@@ -5,7 +5,7 @@ use Rattle.std.specs.Int.{w16, w32, to_be_bytes}
 use Rattle.rtp_wire.specs.declared.ext.form.ExtensionsForm.{ExtensionsForm}
 use Rattle.rtp_wire.specs.declared.ext.form.ExtensionsForm.TheVariants.{OneByte}
 use Rattle.rtp_wire.specs.declared.ext.map.ExtensionMap.{ExtensionMap}
-use Rattle.rtp_wire.specs.declared.ext.values.ExtensionValues.{ExtensionValues}
+use Rattle.rtp_wire.specs.declared.ext.value.values.ExtensionValues.{ExtensionValues}
 use Rattle.rtp_wire.specs.declared.header.rtp_header.RtpHeader.{RtpHeader}
 use Rattle.rtp_wire.specs.Form.{form_word}
 use Rattle.rtp_wire.specs.Values.{no_values}

@@ -3,7 +3,7 @@
 ghost use Rattle.std.specs.Prelude.{◌≡◌, ℕ, [], map, Option, IsOk, IfOk};
 ghost use Rattle.rtp_base.specs.Window.{Numbers};
 ghost use Rattle.rtp_wire.specs.ExtensionMap.{IsEmpty};
-ghost use Rattle.rtp_wire.specs.Verdicts.{IsLatest, IsVerdict, AreVerdicts, TakesOnce};
+ghost use Rattle.rtp_wire.specs.Verdicts.{IsHighest, IsVerdict, AreVerdicts, TakesOnce};
 ghost use Rattle.rtp_wire.specs.Receiving.{Holds, IsAnswer, taken_after};
 
 use crate::ext::ExtensionMap;
@@ -23,8 +23,8 @@ pub enum Verdict {
 }
 
 // The greatest number taken.
-fn latest_of(window: &Option<SeqNoWindow>) -> Option<SeqNo>
-    ensures { (taken : Numbers) → Holds window.now taken → IsLatest taken result }
+fn highest_of(window: &Option<SeqNoWindow>) -> Option<SeqNo>
+    ensures { (taken : Numbers) → Holds window.now taken → IsHighest taken result }
 {
     match window {
         None => None,
@@ -34,8 +34,8 @@ fn latest_of(window: &Option<SeqNoWindow>) -> Option<SeqNo>
 
 // Takes a number that may be taken, and says which it was.
 fn take(window: &mut Option<SeqNoWindow>, number: SeqNo) -> Verdict
-    ensures answer { (taken : Numbers) (latest : Option ℕ) → Holds window.old taken →
-        IsLatest taken latest → IsAnswer taken latest number result }
+    ensures answer { (taken : Numbers) (highest : Option ℕ) → Holds window.old taken →
+        IsHighest taken highest → IsAnswer taken highest number result }
     ensures after { (taken : Numbers) → Holds window.old taken →
         Holds window.new (taken_after taken result) }
 {
@@ -72,7 +72,7 @@ fn verdict_on(
     let Some(header) = RtpHeader::parse(alloc, datagram, exts)? else {
         return Ok(Verdict::Unreadable);
     };
-    let number = header.sequence_number(latest_of(window));
+    let number = header.sequence_number(highest_of(window));
     Ok(take(window, number))
 }
 

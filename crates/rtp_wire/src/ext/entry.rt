@@ -8,7 +8,7 @@ ghost use Rattle.rtp_wire.specs.ExtensionMap as spec;
 use super::Extension;
 use std::alloc::{AllocError, Global};
 
-/// An extension, and whether a renegotiation has placed it, and a wish for it no longer moves it.
+/// An extension, and whether a renegotiation has overwritten it, and a wish for it no longer moves it.
 #[derive(Debug, PartialEq, Eq, Drop)]
 pub(super) struct Entry {
     pub(super) extension: Extension,

@@ -4,7 +4,7 @@ ghost use Rattle.std.specs.Prelude.{◌≡◌, length};
 ghost use Rattle.std.specs.List.{filter};
 ghost use Rattle.std.specs.Iterator.{YieldsFirstBy, item_count};
 ghost use Rattle.rtp_wire.specs.ExtensionMap.{goes_with};
-ghost use Rattle.rtp_wire.specs.Places.{items_from};
+ghost use Rattle.rtp_wire.specs.MapSlots.{items_from};
 
 use super::Extension;
 use super::entry::Entry;
@@ -24,7 +24,7 @@ impl<'a> Model for Iter<'a> {
     ghost use Rattle.std.specs.Prelude.{◌≡◌, ℕ, ◌+◌, length, List};
     ghost use Rattle.rtp_wire.specs.declared.ext.kind.Extension.{Extension};
     ghost use Rattle.rtp_wire.specs.declared.ext.map.TheConstants.{MAX_ID};
-    ghost use Rattle.rtp_wire.specs.Places.{items_from};
+    ghost use Rattle.rtp_wire.specs.MapSlots.{items_from};
 
     ghost Value = { List (ℕ × Extension) };
 

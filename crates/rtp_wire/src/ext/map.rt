@@ -19,7 +19,7 @@ pub const MAX_ID: u8 = 16;
 
 /// The extensions that two peers have agreed on, by their id (RFC 8285, 5): a map from the ids 1 to
 /// [`MAX_ID`] to extensions. One extension may stand behind several ids. An entry is locked once a
-/// renegotiation has placed it: a later wish for its extension doesn't move it, though it gives way
+/// renegotiation has overwritten it: a later wish for its extension doesn't move it, though it gives way
 /// where its id is wanted for another.
 ///
 /// Two maps are equal where they have equal entries behind the same ids, locked alike.

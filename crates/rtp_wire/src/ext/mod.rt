@@ -1,5 +1,6 @@
 //! Header extensions: the kinds, the form of a block, what is mapped, and the values that were read.
 
+mod elements;
 mod entry;
 mod form;
 mod iter;
@@ -8,11 +9,12 @@ mod map;
 mod slots;
 mod table;
 mod uri;
-mod values;
+mod value;
 
+pub use elements::Elements;
 pub use form::ExtensionsForm;
 pub use iter::{Iter, IterByMediaType};
 pub use kind::Extension;
 pub use map::{ExtensionMap, MAX_ID, MAX_ID_ONE_BYTE_FORM};
 pub use uri::Uri;
-pub use values::ExtensionValues;
+pub use value::{AbsCaptureTime, ExtensionValues, VideoOrientation, VideoTiming};

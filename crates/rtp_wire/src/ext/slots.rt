@@ -1,17 +1,17 @@
-//! The places of a map, one for each id from 1 on.
+//! The slots of a map, one for each id from 1 on.
 
 ghost use Rattle.std.specs.Prelude.{◌≡◌, ◌≢◌, ◌↔◌, ℕ, ◌+◌, ◌<◌, length, slice_index_or, IsTrue, IsOk, IfOk, IfSome, IfNone, Some, None, All, map};
 ghost use Rattle.std.specs.Option.{option_copied, option_map};
 ghost use Rattle.rtp_wire.specs.Kind.{IsKnown};
 ghost use Rattle.rtp_wire.specs.ExtensionMap as spec;
-ghost use Rattle.rtp_wire.specs.Places.{IsFirst};
+ghost use Rattle.rtp_wire.specs.MapSlots.{IsFirst};
 
 use super::Extension;
 use super::entry::Entry;
 use super::map::MAX_ID;
 use std::alloc::{AllocError, Global};
 
-// The place of an id that the map has room for.
+// The index of an id that the map has room for.
 pub(super) fn slot_of(id: u8) -> Option<usize>
     ensures found { IfSome result (λ slot. (slot + 1 ≡ id) × (slot < MAX_ID)) }
     ensures none { IfNone result (spec.IsId id → ⊥) }
@@ -23,14 +23,14 @@ pub(super) fn slot_of(id: u8) -> Option<usize>
     }
 }
 
-// Whether nothing stands in any place.
+// Whether nothing stands in any index.
 pub(super) fn are_empty(slots: &[Option<Entry>]) -> bool
     ensures { IsTrue result ↔ All (λ slot. slot ≡ None) slots.now }
 {
     slots.iter().all(|slot| slot.is_none())
 }
 
-// What stands in the place of an id.
+// What stands in the index of an id.
 pub(super) fn entry(slots: &[Option<Entry>], id: u8) -> Option<&Entry>
     requires { length slots.now ≡ MAX_ID }
     ensures { option_copied result ≡ spec.entry_at slots.now id }
@@ -38,7 +38,7 @@ pub(super) fn entry(slots: &[Option<Entry>], id: u8) -> Option<&Entry>
     slots.get(usize::from(id).checked_sub(1)?)?.as_ref()
 }
 
-// Whether this extension stands in the place.
+// Whether this extension stands in the index.
 fn holds(slot: &Option<Entry>, ext: &Extension) -> bool
     ensures { IsTrue result ↔ (spec.extension_of slot.now ≡ Some ext.now) }
 {
@@ -48,25 +48,25 @@ fn holds(slot: &Option<Entry>, ext: &Extension) -> bool
     }
 }
 
-// The first place in which the extension stands.
-fn place_of(slots: &[Option<Entry>], ext: &Extension) -> Option<usize>
+// The first index in which the extension stands.
+fn slot_with(slots: &[Option<Entry>], ext: &Extension) -> Option<usize>
     ensures found { IfSome result (IsFirst slots.now ext.now) }
     ensures none { IfNone result (spec.IsUnmapped slots.now ext.now) }
 {
     slots.iter().position(|slot| holds(slot, ext))
 }
 
-// The id of the first place in which the extension stands.
+// The id of the first index in which the extension stands.
 pub(super) fn id_of(slots: &[Option<Entry>], ext: &Extension) -> Option<u8>
     requires { length slots.now ≡ MAX_ID }
     ensures found { IfSome result (spec.IsLowest slots.now ext.now) }
     ensures none { IfNone result (spec.IsUnmapped slots.now ext.now) }
 {
-    let place = place_of(slots, ext)?;
-    Some(place as u8 + 1)
+    let index = slot_with(slots, ext)?;
+    Some(index as u8 + 1)
 }
 
-// Whether what stands in the place is locked there.
+// Whether what stands in the index is locked there.
 fn is_locked(slot: &Option<Entry>) -> bool
     ensures { IsTrue result ↔ spec.IsLocked slot.now }
 {
@@ -76,7 +76,7 @@ fn is_locked(slot: &Option<Entry>) -> bool
     }
 }
 
-// Locks what stands in the place.
+// Locks what stands in the index.
 fn lock(slot: &mut Option<Entry>)
     ensures { slot.new ≡ option_map (λ entry. spec.locked entry.extension) slot.old }
 {
@@ -85,20 +85,20 @@ fn lock(slot: &mut Option<Entry>)
     }
 }
 
-// What stands in the place where it is of this medium, unlocked.
+// What stands in the index where it is of this medium, unlocked.
 fn of_medium(slot: &Option<Entry>, audio: bool) -> Option<Entry>
     ensures { result ≡ spec.of_medium audio slot.now }
 {
     slot.as_ref()?.of_medium(audio)
 }
 
-// The entries of this medium, unlocked, in the places of another map.
+// The entries of this medium, unlocked, in the slots of another map.
 pub(super) fn copy_of_medium(from: &[Option<Entry>], to: &mut [Option<Entry>], audio: bool)
     requires { length from.now ≡ length to.old }
     ensures { to.new ≡ map (spec.of_medium audio) from.now }
 {
-    for (place, slot) in from.iter().enumerate() {
-        to[place] = of_medium(slot, audio);
+    for (index, slot) in from.iter().enumerate() {
+        to[index] = of_medium(slot, audio);
     }
 }
 
@@ -109,7 +109,7 @@ fn remap_one(slots: &mut [Option<Entry>], id: u8, ext: &Extension)
     ensures renumbered { spec.IsRenumbered slots.old slots.new }
 {
     let Some(to) = slot_of(id) else { return };
-    let Some(from) = place_of(slots, ext) else {
+    let Some(from) = slot_with(slots, ext) else {
         return
     };
     if from != to && is_locked(&slots[from]) {
@@ -130,7 +130,7 @@ pub(super) fn remap(slots: &mut [Option<Entry>], steps: &[(u8, &Extension)])
     }
 }
 
-// The same as stands in the place.
+// The same as stands in the index.
 fn clone(alloc: Global, slot: &Option<Entry>) -> Result<Option<Entry>, AllocError>
     ensures same { IfOk result (λ copy. copy ≡ slot.now) }
     ensures known { ((ext : Extension) → spec.extension_of slot.now ≡ Some ext → IsKnown ext) → IsOk result }
@@ -141,7 +141,7 @@ fn clone(alloc: Global, slot: &Option<Entry>) -> Result<Option<Entry>, AllocErro
     }
 }
 
-// The same entries in the places of another map.
+// The same entries in the slots of another map.
 pub(super) fn copy(
     alloc: Global,
     from: &[Option<Entry>],
@@ -151,8 +151,8 @@ pub(super) fn copy(
     ensures same { IfOk result (λ _. to.new ≡ from.now) }
     ensures known { spec.HasNoText from.now → IsOk result }
 {
-    for (place, slot) in from.iter().enumerate() {
-        to[place] = clone(alloc, slot)?;
+    for (index, slot) in from.iter().enumerate() {
+        to[index] = clone(alloc, slot)?;
     }
     Ok(())
 }

@@ -2,7 +2,7 @@
 
 ghost use Rattle.std.specs.Prelude.{◌≡◌, ◌≢◌, IfSome, IfNone};
 ghost use Rattle.rtp_wire.specs.Kind.{audio_and_video, audio_only, video_only, kind_of, known_kinds, IsKnown};
-ghost use Rattle.rtp_wire.specs.KindRow.{kind_in};
+ghost use Rattle.rtp_wire.specs.KindTable.{kind_in};
 
 use super::Extension;
 

@@ -4,7 +4,7 @@ ghost use Rattle.std.specs.Prelude.{true, ◌↔◌, ◌≡◌, ℕ, ◌+◌, �
 ghost use Rattle.std.specs.Int.{w32, from_be_bytes};
 ghost use Rattle.rtp_wire.specs.ExtensionMap.{IsEmpty};
 ghost use Rattle.rtp_wire.specs.Reading.{HasBlock, HasExtensionPart};
-ghost use Rattle.rtp_wire.specs.Refusal.{HasNoBlock, HasNoHeader};
+ghost use Rattle.rtp_wire.specs.NotAHeader.{NotABlock, NotAHeader};
 ghost use Rattle.rtp_wire.specs.Values.{no_values};
 ghost use Rattle.rtp_wire.specs.Header.{IsFirstByte, IsSecondByte, IsWire};
 
@@ -55,7 +55,7 @@ fn csrc_of(groups: &[[u8; 4]]) -> [u32; 15]
 // The block at the front: its form and its element bytes.
 fn block_at(bytes: &[u8]) -> Option<(ExtensionsForm, &[u8])>
     ensures found { IfSome result (λ block. HasBlock bytes.now block.0 block.1.now) }
-    ensures refused { IfNone result (HasNoBlock bytes.now) }
+    ensures refused { IfNone result (NotABlock bytes.now) }
 {
     let (head, after) = bytes.split_first_chunk::<4>()?;
     let form = ExtensionsForm::parse([head[0], head[1]])?;
@@ -67,7 +67,7 @@ fn block_at(bytes: &[u8]) -> Option<(ExtensionsForm, &[u8])>
 // How many bytes stand between the sources and the payload, of the bytes behind the sources.
 fn extension_part_len(has_extension: bool, after: &[u8], exts: &ExtensionMap) -> Option<usize>
     ensures found { IfSome result (HasExtensionPart exts.now has_extension after.now no_values) }
-    ensures refused { IfNone result ((has_extension ≡ true) × HasNoBlock after.now) }
+    ensures refused { IfNone result ((has_extension ≡ true) × NotABlock after.now) }
 {
     if !has_extension {
         return Some(0);
@@ -97,7 +97,7 @@ impl RtpHeader {
         ensures only { (header : RtpHeader) → IsWire exts.now buf.now header → result ≡ Ok (Some header) }
 
         // The causes of a refusal, and there are no others.
-        ensures refused { (result ≡ Ok None) ↔ HasNoHeader buf.now }
+        ensures refused { (result ≡ Ok None) ↔ NotAHeader buf.now }
     {
         let Some((fixed, after)) = buf.split_first_chunk::<12>() else {
             return Ok(None);

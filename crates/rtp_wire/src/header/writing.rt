@@ -5,7 +5,7 @@ ghost use Rattle.std.specs.List.{flat_map};
 ghost use Rattle.std.specs.Int.{w32, to_be_bytes};
 ghost use Rattle.rtp_wire.specs.ExtensionMap.{IsEmpty};
 ghost use Rattle.rtp_wire.specs.Header.{IsWire, bit};
-ghost use Rattle.rtp_wire.specs.Placing.{placed};
+ghost use Rattle.rtp_wire.specs.Overwriting.{overwritten};
 ghost use Rattle.rtp_wire.specs.Written.{fixed_bytes, source_bytes, extension_bytes, wire_bytes, image_of};
 
 use super::RtpHeader;
@@ -14,7 +14,7 @@ use crate::ext::{ExtensionMap, ExtensionsForm};
 // Puts the bytes at a place of the buffer, and answers where they end.
 fn put(buf: &mut [u8], at: usize, bytes: &[u8]) -> usize
     requires { at + length bytes.now ≤ length buf.old }
-    ensures written { buf.new ≡ placed buf.old at bytes.now }
+    ensures written { buf.new ≡ overwritten buf.old at bytes.now }
     ensures end { result ≡ at + length bytes.now }
 {
     let end = at + bytes.len();
@@ -25,7 +25,7 @@ fn put(buf: &mut [u8], at: usize, bytes: &[u8]) -> usize
 // Puts four bytes for each source, and answers where they end.
 fn put_sources(buf: &mut [u8], at: usize, sources: &[u32]) -> usize
     requires { at + 4 * length sources.now ≤ length buf.old }
-    ensures written { buf.new ≡ placed buf.old at (flat_map (to_be_bytes w32) sources.now) }
+    ensures written { buf.new ≡ overwritten buf.old at (flat_map (to_be_bytes w32) sources.now) }
     ensures end { result ≡ at + 4 * length sources.now }
     ensures in_range { (i : ℕ) → slice_index sources.now i < 2 ^ 32 }
 {
@@ -78,7 +78,7 @@ impl RtpHeader {
         requires { at + length (extension_bytes exts.now self.now.has_extension self.now.ext_vals)
             ≤ length buf.old }
         ensures written { buf.new
-            ≡ placed buf.old at (extension_bytes exts.now self.now.has_extension self.now.ext_vals) }
+            ≡ overwritten buf.old at (extension_bytes exts.now self.now.has_extension self.now.ext_vals) }
         ensures end { result
             ≡ at + length (extension_bytes exts.now self.now.has_extension self.now.ext_vals) }
     {

@@ -2,7 +2,7 @@ use Rattle.std.proofs.Common.{arith, ap, sym, ◌∙◌, subst, ℕ, ◌*◌, ta
 use Rattle.std.proofs.Math.Nat.{sub-zero}
 use Rattle.std.proofs.lemmas.Option.{none-some}
 use Rattle.rtp_wire.specs.Form.{IsFormWord}
-use Rattle.rtp_wire.specs.Refusal.{unknown_form}
+use Rattle.rtp_wire.specs.NotAHeader.{unknown_form}
 use Rattle.rtp_wire.proofs.BlockLemmas.{head_word, HasBlock-from_head}
 use Rattle.rtp_wire.proofs.header.parsing.block_at.Goals as goal
 

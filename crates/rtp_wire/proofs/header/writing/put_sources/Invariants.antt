@@ -1,12 +1,12 @@
 use Rattle.std.proofs.Common.{◌≡◌, ℕ, List, ◌+◌, ◌*◌, take}
 use Rattle.std.specs.List.{flat_map}
 use Rattle.std.specs.Int.{w32, to_be_bytes}
-use Rattle.rtp_wire.specs.Placing.{placed}
+use Rattle.rtp_wire.specs.Overwriting.{overwritten}
 use Rattle.rtp_wire.proofs.header.writing.put_sources.Given as goal
 
 -- the sources so far are in place
 pub record SoFar (old new : List ℕ) (at end : ℕ) (sources : List ℕ) (done : ℕ) : Type 0 where
-  pub written : new ≡ placed old at (flat_map (to_be_bytes w32) (take done sources))
+  pub written : new ≡ overwritten old at (flat_map (to_be_bytes w32) (take done sources))
   pub ends : end ≡ at + 4 * done
 
 abbrev pub invariant-loop-source : goal.invariant-loop-source

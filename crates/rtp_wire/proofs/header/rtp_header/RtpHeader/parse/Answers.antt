@@ -2,15 +2,15 @@ use Rattle.std.proofs.Common.{arith, refl, sym, ap, ◌∙◌, subst, ℕ, ◌+�
 use Rattle.std.specs.Prelude.{slice_index}
 use Rattle.rtp_wire.specs.declared.header.rtp_header.RtpHeader.{RtpHeader}
 use Rattle.rtp_wire.specs.Header.{IsSecondByte}
-use Rattle.rtp_wire.specs.Refusal.{HasNoHeader}
+use Rattle.rtp_wire.specs.NotAHeader.{NotAHeader}
 use Rattle.rtp_wire.proofs.BlockLemmas.{word_at-cells, quad-cells}
-use Rattle.rtp_wire.proofs.HeaderLemmas.{IsPlaced, IsWire-from_places}
-use Rattle.rtp_wire.proofs.PlaceLemmas.{no_header, one_header}
-use Rattle.rtp_wire.proofs.ParseLemmas.{IsPlaced-from_pieces, cut_sources-from_pieces, no_block-from_pieces}
+use Rattle.rtp_wire.proofs.HeaderLemmas.{IsLaidOut, IsWire-from_layout}
+use Rattle.rtp_wire.proofs.OneHeader.{no_header, one_header}
+use Rattle.rtp_wire.proofs.ParseLemmas.{IsLaidOut-from_pieces, cut_sources-from_pieces, no_block-from_pieces}
 use Rattle.rtp_wire.proofs.header.rtp_header.RtpHeader.parse.Goals as goal
 
 -- the sources are cut short
-cut_sources_here : (c : goal.In_default-split_at_checked) → HasNoHeader c.args.buf.now
+cut_sources_here : (c : goal.In_default-split_at_checked) → NotAHeader c.args.buf.now
 cut_sources_here c =
     let split = c.in-Some.ensures.cases in
     let flags = c.flags_of-flags.result in
@@ -18,7 +18,7 @@ cut_sources_here c =
     split.0 split.1 (omega (arith, split.2)) c.flags_of-flags.ensures c.in_default-split_at_checked.ensures.cases
 
 -- X is set, and no block follows
-no_block_here : (c : goal.In_default-extension_part_len) → HasNoHeader c.args.buf.now
+no_block_here : (c : goal.In_default-extension_part_len) → NotAHeader c.args.buf.now
 no_block_here c =
     let split = c.in-Some.ensures.cases in
     let parts = c.in-Some-split_at_checked.ensures.cases in
@@ -45,12 +45,12 @@ answer c = record {
   header_len = 12 + length c.in-Some-split_at_checked.sources.now + c.in-Some-extension_part_len.part_len;
 }
 
-placed : (c : goal.After-default) → IsPlaced c.args.exts.now c.args.buf.now (answer c)
-placed c =
+overwritten : (c : goal.After-default) → IsLaidOut c.args.exts.now c.args.buf.now (answer c)
+overwritten c =
     let split = c.in-Some.ensures.cases in
     let parts = c.in-Some-split_at_checked.ensures.cases in
     let fixed = c.in-Some.fixed.now in
-    IsPlaced-from_pieces c.args.exts.now c.args.buf.now fixed c.in-Some.after.now c.in-Some-split_at_checked.sources.now c.in-Some-split_at_checked.after.now
+    IsLaidOut-from_pieces c.args.exts.now c.args.buf.now fixed c.in-Some.after.now c.in-Some-split_at_checked.sources.now c.in-Some-split_at_checked.after.now
     c.as_chunks.result.0.now (answer c) c.in-Some-extension_part_len.part_len
     (record { long = omega (arith, split.2); fixed_is = split.0; after_is = split.1; room = parts.0; sources_are = parts.1; behind_is = parts.2 })
     (record {
@@ -78,11 +78,11 @@ pub returns-in_default-extension_part_len-clause-refused :
 returns-in_default-extension_part_len-clause-refused c = (λ _. no_block_here c, λ _. refl)
 
 pub returns-clause-found : goal.returns-clause-found
-returns-clause-found c = IsWire-from_places c.args.exts.now c.args.buf.now (answer c) (placed c)
+returns-clause-found c = IsWire-from_layout c.args.exts.now c.args.buf.now (answer c) (overwritten c)
 
 pub returns-clause-only : goal.returns-clause-only
-returns-clause-only c header wire = ap (λ (h : RtpHeader). Ok (Some h)) (one_header c.args.exts.now c.args.buf.now (answer c) header (placed c) wire)
+returns-clause-only c header wire = ap (λ (h : RtpHeader). Ok (Some h)) (one_header c.args.exts.now c.args.buf.now (answer c) header (overwritten c) wire)
 
 pub returns-clause-refused : goal.returns-clause-refused
 returns-clause-refused c =
-    (λ e. absurd cc, λ none. absurd (no_header c.args.exts.now c.args.buf.now (answer c) none (IsWire-from_places c.args.exts.now c.args.buf.now (answer c) (placed c))))
+    (λ e. absurd cc, λ none. absurd (no_header c.args.exts.now c.args.buf.now (answer c) none (IsWire-from_layout c.args.exts.now c.args.buf.now (answer c) (overwritten c))))

@@ -1,7 +1,7 @@
 use Rattle.std.proofs.Common.{arith, ap, ◌≡◌, ◌++◌, length, take, drop}
 use Rattle.std.proofs.lemmas.List.{length-take-le}
 use Rattle.rtp_wire.specs.Written.{wire_bytes}
-use Rattle.rtp_wire.proofs.RoundTrip.{length-wire_bytes, wire_bytes-from_pieces, IsWire-written, AllByRecursion-from_places}
+use Rattle.rtp_wire.proofs.RoundTrip.{length-wire_bytes, wire_bytes-from_pieces, IsWire-written, AllByRecursion-from_each}
 use Rattle.rtp_wire.proofs.header.rtp_header.RtpHeader.write_to.Goals as goal
 
 pub put-end-requires : goal.put-end-requires
@@ -54,5 +54,5 @@ returns-clause-read_back c rest = IsWire-written c.args.self.now c.args.exts.now
   number = c.fixed_bytes.ensures.number;
   timestamp = c.fixed_bytes.ensures.timestamp;
   ssrc = c.fixed_bytes.ensures.ssrc;
-  sources = AllByRecursion-from_places (take c.args.self.now.csrc_count c.args.self.now.csrc) c.put_sources-end.ensures.in_range;
+  sources = AllByRecursion-from_each (take c.args.self.now.csrc_count c.args.self.now.csrc) c.put_sources-end.ensures.in_range;
 })

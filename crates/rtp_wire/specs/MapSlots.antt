@@ -1,15 +1,15 @@
--- The places of a map as the code goes through them: that of id 1 is place 0.
+-- The slots of a map as the code goes through them: that of id 1 is index 0.
 use Rattle.std.specs.Prelude.{◌≡◌, ◌≢◌, ℕ, ◌+◌, ◌<◌, List, [], ◌∷◌, length, Some, None, slice_index_or}
 use Rattle.rtp_wire.specs.declared.ext.kind.Extension.{Extension}
 use Rattle.rtp_wire.specs.ExtensionMap.{Slots, extension_of}
 
--- the first place in which the extension stands
-pub record IsFirst (map : Slots) (extension : Extension) (place : ℕ) : Type 0 where
-  pub within : place < length map
-  pub here : extension_of (slice_index_or map place None) ≡ Some extension
-  pub before : (k : ℕ) → k < place → extension_of (slice_index_or map k None) ≢ Some extension
+-- the first index in which the extension stands
+pub record IsFirst (map : Slots) (extension : Extension) (index : ℕ) : Type 0 where
+  pub within : index < length map
+  pub here : extension_of (slice_index_or map index None) ≡ Some extension
+  pub before : (k : ℕ) → k < index → extension_of (slice_index_or map k None) ≢ Some extension
 
--- what stands in the places, each with its id, once some places were passed
+-- what stands in the slots, each with its id, once some slots were passed
 abbrev pub items_from : ℕ → Slots → List (ℕ × Extension)
 items_from passed [] = []
 items_from passed (None ∷ left) = items_from (passed + 1) left

@@ -2,5 +2,5 @@
 use Rattle.std.specs.Prelude.{ℕ, ◌+◌, List, ◌++◌, length, take, drop}
 
 -- the buffer with these bytes at a place, and all others as they were
-unfoldable pub placed : List ℕ → ℕ → List ℕ → List ℕ
-placed buf at bytes = take at buf ++ (bytes ++ drop (at + length bytes) buf)
+unfoldable pub overwritten : List ℕ → ℕ → List ℕ → List ℕ
+overwritten buf at bytes = take at buf ++ (bytes ++ drop (at + length bytes) buf)

@@ -4,19 +4,19 @@ use Rattle.std.specs.List.{flat_map}
 use Rattle.std.specs.Int.{w32, to_be_bytes}
 use Rattle.std.proofs.lemmas.List.{append-nil, take-append-drop, drop-drop, take_more}
 use Rattle.std.proofs.lemmas.List.Concat.{flat_map-append}
-use Rattle.rtp_wire.specs.Placing.{placed}
+use Rattle.rtp_wire.specs.Overwriting.{overwritten}
 
 -- what `copy_from_slice` into a part leaves
-pub placed-copied : (buf bytes : List ℕ) (at : ℕ) → take at buf ++ (bytes ++ drop (at + length bytes - at) (drop at buf)) ≡ placed buf at bytes
-unfolding placed
-placed-copied buf bytes at =
+pub overwritten-copied : (buf bytes : List ℕ) (at : ℕ) → take at buf ++ (bytes ++ drop (at + length bytes - at) (drop at buf)) ≡ overwritten buf at bytes
+unfolding overwritten
+overwritten-copied buf bytes at =
     let len : at + length bytes - at ≡ length bytes = omega arith in
     ap (λ (rest : List ℕ). take at buf ++ (bytes ++ rest))
     (ap (λ (k : ℕ). drop k (drop at buf)) len ∙ drop-drop (length bytes) at buf)
 
-pub length-placed : (buf bytes : List ℕ) (at : ℕ) → at + length bytes ≤ length buf → length (placed buf at bytes) ≡ length buf
-unfolding placed
-length-placed buf bytes at fits =
+pub length-overwritten : (buf bytes : List ℕ) (at : ℕ) → at + length bytes ≤ length buf → length (overwritten buf at bytes) ≡ length buf
+unfolding overwritten
+length-overwritten buf bytes at fits =
     omega (
       arith,
       length-append (take at buf) (bytes ++ drop (at + length bytes) buf),
@@ -25,19 +25,19 @@ length-placed buf bytes at fits =
       length-drop (at + length bytes) buf,
     )
 
-pub placed-nil : (buf : List ℕ) (at : ℕ) → placed buf at [] ≡ buf
-unfolding placed
-placed-nil buf at = rw (add-zero at) (take-append-drop at buf)
+pub overwritten-nil : (buf : List ℕ) (at : ℕ) → overwritten buf at [] ≡ buf
+unfolding overwritten
+overwritten-nil buf at = rw (add-zero at) (take-append-drop at buf)
 
 -- from the front on
-pub placed-front : (buf bytes : List ℕ) → placed buf 0 bytes ≡ bytes ++ drop (length bytes) buf
-unfolding placed
-placed-front buf bytes = rw (zero-add (length bytes)) refl
+pub overwritten-front : (buf bytes : List ℕ) → overwritten buf 0 bytes ≡ bytes ++ drop (length bytes) buf
+unfolding overwritten
+overwritten-front buf bytes = rw (zero-add (length bytes)) refl
 
 -- two pieces in a row are one
-pub placed-placed : (buf xs ys : List ℕ) (at end : ℕ) → end ≡ at + length xs → end ≤ length buf → placed (placed buf at xs) end ys ≡ placed buf at (xs ++ ys)
-unfolding placed
-placed-placed buf xs ys at end is fits =
+pub overwritten-overwritten : (buf xs ys : List ℕ) (at end : ℕ) → end ≡ at + length xs → end ≤ length buf → overwritten (overwritten buf at xs) end ys ≡ overwritten buf at (xs ++ ys)
+unfolding overwritten
+overwritten-overwritten buf xs ys at end is fits =
     let front = take at buf ++ xs in
     let rest = drop (at + length xs) buf in
     let len : length front ≡ end = omega (arith, length-append (take at buf) xs, length-take-le at buf (omega arith)) in
@@ -64,11 +64,11 @@ length-numbers [] = refl
 length-numbers (x ∷ xs) = omega (arith, length-append (to_be_bytes w32 x) (flat_map (to_be_bytes w32) xs), length-numbers xs)
 
 -- three pieces from the front on
-pub placed-three : (buf xs ys zs : List ℕ) (first second : ℕ) → first ≡ length xs → second ≡ first + length ys → second ≤ length buf
-    → placed (placed (placed buf 0 xs) first ys) second zs ≡ (xs ++ (ys ++ zs)) ++ drop (length (xs ++ (ys ++ zs))) buf
-placed-three buf xs ys zs first second first-is second-is fits =
+pub overwritten-three : (buf xs ys zs : List ℕ) (first second : ℕ) → first ≡ length xs → second ≡ first + length ys → second ≤ length buf
+    → overwritten (overwritten (overwritten buf 0 xs) first ys) second zs ≡ (xs ++ (ys ++ zs)) ++ drop (length (xs ++ (ys ++ zs))) buf
+overwritten-three buf xs ys zs first second first-is second-is fits =
     let one : first ≡ 0 + length xs = omega arith in
     let two : second ≡ 0 + length (xs ++ ys) = omega (arith, length-append xs ys) in
-    ap (λ (bytes : List ℕ). placed bytes second zs) (placed-placed buf xs ys 0 first one (omega arith))
-    ∙ placed-placed buf (xs ++ ys) zs 0 second two fits
-    ∙ ap (placed buf 0) (append_assoc xs ys zs) ∙ placed-front buf (xs ++ (ys ++ zs))
+    ap (λ (bytes : List ℕ). overwritten bytes second zs) (overwritten-overwritten buf xs ys 0 first one (omega arith))
+    ∙ overwritten-overwritten buf (xs ++ ys) zs 0 second two fits
+    ∙ ap (overwritten buf 0) (append_assoc xs ys zs) ∙ overwritten-front buf (xs ++ (ys ++ zs))

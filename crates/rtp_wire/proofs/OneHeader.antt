@@ -1,4 +1,4 @@
--- A header that is placed in bytes is the only one, and bytes that are refused have none.
+-- A header that is overwritten in bytes is the only one, and bytes that are refused have none.
 use Rattle.std.proofs.Common.{◌≡◌, ℕ, ◌+◌, ◌*◌, ◌≤◌, Bool, true, false, List, length, take, drop, sym, ap, ◌∙◌, subst, arith, length-take-le}
 use Rattle.std.specs.Prelude.{slice_index, map, replicate, ◌++◌, ◌-◌}
 use Rattle.std.specs.Int.{w32, from_be_bytes}
@@ -6,16 +6,16 @@ use Rattle.std.specs.Simd.{first_chunks}
 use Rattle.std.proofs.lemmas.List.{get_or-take}
 use Rattle.rtp_wire.specs.declared.ext.form.ExtensionsForm.{ExtensionsForm}
 use Rattle.rtp_wire.specs.declared.ext.map.ExtensionMap.{ExtensionMap}
-use Rattle.rtp_wire.specs.declared.ext.values.ExtensionValues.{ExtensionValues}
+use Rattle.rtp_wire.specs.declared.ext.value.values.ExtensionValues.{ExtensionValues}
 use Rattle.rtp_wire.specs.declared.header.rtp_header.RtpHeader.{RtpHeader}
 use Rattle.rtp_wire.specs.Form.{IsFormWord}
 use Rattle.rtp_wire.specs.Block.{word_at, IsBlock}
 use Rattle.rtp_wire.specs.Header.{IsWire}
-use Rattle.rtp_wire.specs.Refusal.{HasNoBlock, cut_head, unknown_form, cut_words, HasNoHeader, cut_fixed, other_version, cut_sources, no_block}
+use Rattle.rtp_wire.specs.NotAHeader.{NotABlock, cut_head, unknown_form, cut_words, NotAHeader, cut_fixed, other_version, cut_sources, no_block}
 use Rattle.rtp_wire.specs.Reading.{HasExtensionPart}
 use Rattle.rtp_wire.proofs.FlagLemmas.{bit-once, HasFlags, flags_from_first, fields_from_second}
 use Rattle.rtp_wire.proofs.BlockLemmas.{word_at-take}
-use Rattle.rtp_wire.proofs.HeaderLemmas.{IsPlaced, places_of}
+use Rattle.rtp_wire.proofs.HeaderLemmas.{IsLaidOut, layout_of}
 
 -- how long a block at the front is, by its head
 block_len : (bytes elements : List ℕ) (form : ExtensionsForm) (n : ℕ) → n ≤ length bytes → IsBlock (take n bytes) form elements
@@ -41,7 +41,7 @@ part_once exts true bytes v v' n n' p q = (
 )
 
 -- where no block begins, X announces nothing that is there
-no_part : (exts : ExtensionMap) (bytes : List ℕ) (v : ExtensionValues) (n : ℕ) → HasNoBlock bytes → HasExtensionPart exts true bytes v n → ⊥
+no_part : (exts : ExtensionMap) (bytes : List ℕ) (v : ExtensionValues) (n : ℕ) → NotABlock bytes → HasExtensionPart exts true bytes v n → ⊥
 no_part exts bytes v n (cut_head short) p =
     let is = block_len bytes p.is_part.1 p.is_part.0 n p.fits p.is_part.2 in let fits = p.fits in omega (arith, is.0)
 no_part exts bytes v n (unknown_form unknown) p =
@@ -49,13 +49,13 @@ no_part exts bytes v n (unknown_form unknown) p =
 no_part exts bytes v n (cut_words short) p =
     let is = block_len bytes p.is_part.1 p.is_part.0 n p.fits p.is_part.2 in let fits = p.fits in omega (arith, is.0)
 
--- the flags of a placed header are those of the first byte
-flags_of : (exts : ExtensionMap) (bytes : List ℕ) (h : RtpHeader) → IsPlaced exts bytes h → HasFlags (slice_index bytes 0) h.has_padding h.has_extension h.csrc_count
+-- the flags of a overwritten header are those of the first byte
+flags_of : (exts : ExtensionMap) (bytes : List ℕ) (h : RtpHeader) → IsLaidOut exts bytes h → HasFlags (slice_index bytes 0) h.has_padding h.has_extension h.csrc_count
 flags_of exts bytes h at =
     subst (λ (byte : ℕ). HasFlags byte h.has_padding h.has_extension h.csrc_count) (get_or-take 12 bytes 0 0 (omega arith))
     (flags_from_first _ h.has_padding h.has_extension h.csrc_count at.fixed_is.first_is)
 
-refuses : (exts : ExtensionMap) (bytes : List ℕ) (h : RtpHeader) → HasNoHeader bytes → IsPlaced exts bytes h → ⊥
+refuses : (exts : ExtensionMap) (bytes : List ℕ) (h : RtpHeader) → NotAHeader bytes → IsLaidOut exts bytes h → ⊥
 refuses exts bytes h (cut_fixed short) at = let fits = at.fits in omega arith
 refuses exts bytes h (other_version other) at = other (flags_of exts bytes h at).version_is
 refuses exts bytes h (cut_sources short) at =
@@ -63,13 +63,13 @@ refuses exts bytes h (cut_sources short) at =
 refuses exts bytes h (no_block announced none) at =
     let flags = flags_of exts bytes h at in
     let set : h.has_extension ≡ true = bit-once h.has_extension true (flags.extension_is ∙ announced) in
-    let none' = subst (λ (k : ℕ). HasNoBlock (drop (12 + 4 * k) bytes)) (sym flags.count_is) none in
+    let none' = subst (λ (k : ℕ). NotABlock (drop (12 + 4 * k) bytes)) (sym flags.count_is) none in
     no_part exts (drop (12 + 4 * h.csrc_count) bytes) h.ext_vals at.part_len none'
     (subst (λ (x : Bool). HasExtensionPart exts x (drop (12 + 4 * h.csrc_count) bytes) h.ext_vals at.part_len) set at.part_is)
 
 -- bytes that are refused begin with no header
-pub no_header : (exts : ExtensionMap) (bytes : List ℕ) (h : RtpHeader) → HasNoHeader bytes → IsWire exts bytes h → ⊥
-no_header exts bytes h none wire = refuses exts bytes h none (places_of exts bytes h wire)
+pub no_header : (exts : ExtensionMap) (bytes : List ℕ) (h : RtpHeader) → NotAHeader bytes → IsWire exts bytes h → ⊥
+no_header exts bytes h none wire = refuses exts bytes h none (layout_of exts bytes h wire)
 
 -- a header by its fields
 unfoldable whole : ℕ → Bool → Bool → ℕ → Bool → ℕ → ℕ → ℕ → ℕ → List ℕ → ExtensionValues → ℕ → RtpHeader
@@ -85,9 +85,9 @@ same_header h g version padding extension count marker payload_type number times
     fields
 
 -- bytes begin with one header at most
-pub one_header : (exts : ExtensionMap) (bytes : List ℕ) (h g : RtpHeader) → IsPlaced exts bytes h → IsWire exts bytes g → h ≡ g
+pub one_header : (exts : ExtensionMap) (bytes : List ℕ) (h g : RtpHeader) → IsLaidOut exts bytes h → IsWire exts bytes g → h ≡ g
 one_header exts bytes h g at wire =
-    let other = places_of exts bytes g wire in
+    let other = layout_of exts bytes g wire in
     let a = flags_of exts bytes h at in
     let b = flags_of exts bytes g other in
     let second-a = fields_from_second _ h.marker h.payload_type at.fixed_is.second_is in

@@ -1,0 +1,71 @@
+//! The values that header extensions carry.
+
+use super::{AbsCaptureTime, VideoOrientation, VideoTiming};
+use rtp_base::{MediaTime, Mid, Rid};
+
+/// The values of a header's extensions (RFC 8285, 4). A field is `None` where the header carries no
+/// value of it.
+#[derive(Debug, PartialEq, Eq, Drop)]
+pub struct ExtensionValues {
+    /// The audio level in decibels relative to the overload point, -127 (silence) to 0 (loudest)
+    /// as read (RFC 6464, 3).
+    pub audio_level: Option<i8>,
+    /// Whether the packet's audio has voice (RFC 6464, 3).
+    pub voice_activity: Option<bool>,
+    /// How the receiver has to turn the picture.
+    pub video_orientation: Option<VideoOrientation>,
+    /// What the video shows: 0 a camera's picture, 1 a screen.
+    pub video_content_type: Option<u8>,
+    /// How long after the time of its RTP timestamp the packet was sent, in ticks of the stream's
+    /// clock (RFC 5450).
+    pub tx_time_offs: Option<u32>,
+    /// When the packet left its sender, in microseconds since the Unix epoch. As read it is known
+    /// modulo 64 seconds only, from 0 to 63,999,996.
+    pub abs_send_time: Option<u64>,
+    /// When the first frame in the packet was captured.
+    pub abs_capture_time: Option<AbsCaptureTime>,
+    /// The packet's number on its transport, over all streams.
+    pub transport_cc: Option<u16>,
+    /// The least time for which the receiver may hold the frame before it shows it.
+    pub play_delay_min: Option<MediaTime>,
+    /// The greatest such time.
+    pub play_delay_max: Option<MediaTime>,
+    /// When the frame was encoded, packetized and sent.
+    pub video_timing: Option<VideoTiming>,
+    /// The RTP stream id (RFC 8852).
+    pub rid: Option<Rid>,
+    /// The id of the stream that this one repairs (RFC 8852).
+    pub rid_repair: Option<Rid>,
+    /// The media section's identification tag (RFC 9143).
+    pub mid: Option<Mid>,
+    /// The frame marking: its first four bytes, the first in the high bits.
+    pub frame_mark: Option<u32>,
+}
+
+impl Default for ExtensionValues {
+    ghost use Rattle.std.specs.Prelude.{◌≡◌};
+    ghost use Rattle.rtp_wire.specs.Values.{no_values};
+
+    ghost is_default = { λ values. values ≡ no_values };
+
+    /// Every value is absent.
+    fn default() -> Self {
+        ExtensionValues {
+            audio_level: None,
+            voice_activity: None,
+            video_orientation: None,
+            video_content_type: None,
+            tx_time_offs: None,
+            abs_send_time: None,
+            abs_capture_time: None,
+            transport_cc: None,
+            play_delay_min: None,
+            play_delay_max: None,
+            video_timing: None,
+            rid: None,
+            rid_repair: None,
+            mid: None,
+            frame_mark: None,
+        }
+    }
+}
