@@ -8,6 +8,7 @@ pub mod Block
 pub mod Header
 pub mod NotAHeader
 pub mod Spelling
+pub mod WrittenBlock
 pub mod Written
 -- Numbers over time.
 pub mod Widening
