@@ -3,6 +3,7 @@ pub mod Form
 pub mod Kind
 pub mod ExtensionMap
 pub mod Elements
+pub mod HeaderValues
 pub mod Values
 pub mod Block
 pub mod Header
@@ -12,6 +13,7 @@ pub mod WrittenBlock
 pub mod Written
 -- Numbers over time.
 pub mod Widening
+pub mod Receiver
 pub mod Verdicts
 -- What the inside promises itself.
 pub mod KindTable
@@ -21,4 +23,3 @@ pub mod ElementReading
 pub mod Reading
 pub mod Overwriting
 pub mod Turns
-pub mod Receiving

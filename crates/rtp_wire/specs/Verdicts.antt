@@ -1,12 +1,34 @@
 -- What a receiver says of each datagram of a run (RFC 3711, 3.3.1 and 3.3.2).
-use Rattle.std.specs.Prelude.{◌≡◌, ℕ, ◌+◌, ◌<◌, List, [], ◌∷◌, length, take, false, ◌||◌, ◌==◌, Option, Some, None, slice_index_or}
-use Rattle.rtp_base.specs.Window.{Numbers, IsGreatest}
+use Rattle.std.specs.Prelude.{◌≡◌, ℕ, ◌<◌, List, [], ◌∷◌, length, take, false, ◌||◌, ◌==◌, Option, Some, None, slice_index_or}
+use Rattle.std.specs.List.{AllZip}
+use Rattle.rtp_base.specs.Window.{Numbers}
 use Rattle.rtp_wire.specs.declared.ext.map.ExtensionMap.{ExtensionMap}
 use Rattle.rtp_wire.specs.declared.header.rtp_header.RtpHeader.{RtpHeader}
-use Rattle.rtp_wire.specs.declared.receive.Verdict.{Verdict}
-use Rattle.rtp_wire.specs.declared.receive.Verdict.TheVariants.{Unreadable, Taken, Refused}
+use Rattle.rtp_wire.specs.declared.receive.verdict.Verdict.{Verdict}
+use Rattle.rtp_wire.specs.declared.receive.verdict.Verdict.TheVariants.{Unreadable, Taken, Refused}
 use Rattle.rtp_wire.specs.Header.{IsWire}
-use Rattle.rtp_wire.specs.Widening.{IsNear}
+use Rattle.rtp_wire.specs.Receiver.{IsNumberOf, IsJudged}
+
+-- what a run makes of a datagram: the source of its packet, and the 16 bits of the packet's number
+pub record Reading : Type 0 where
+  pub source : ℕ
+  pub low : ℕ
+
+-- the datagram begins with a header of this reading
+pub record Shows (exts : ExtensionMap) (datagram : List ℕ) (reading : Reading) : Type 0 where
+  pub header : RtpHeader
+  pub wire : IsWire exts datagram header
+  pub source_is : header.ssrc ≡ reading.source
+  pub low_is : header.sequence_number ≡ reading.low
+
+-- the reading of a datagram, and none where it begins with no header
+abbrev pub IsReading : ExtensionMap → List ℕ → Option Reading → Type 0
+IsReading exts datagram None = (header : RtpHeader) → IsWire exts datagram header → ⊥
+IsReading exts datagram (Some reading) = Shows exts datagram reading
+
+-- a reading for each datagram
+abbrev pub AreReadings : ExtensionMap → List (List ℕ) → List (Option Reading) → Type 0
+AreReadings exts datagrams readings = AllZip (IsReading exts) datagrams readings
 
 -- the numbers that some verdicts take
 abbrev pub taken_by : List Verdict → Numbers
@@ -15,38 +37,24 @@ taken_by (Taken t ∷ verdicts) number = (number == t) || taken_by verdicts numb
 taken_by (Refused ∷ verdicts) number = taken_by verdicts number
 taken_by (Unreadable ∷ verdicts) number = taken_by verdicts number
 
--- the greatest of some numbers, if there are any
-abbrev pub IsHighest : Numbers → Option ℕ → Type 0
-IsHighest taken None = (n : ℕ) → taken n ≡ false
-IsHighest taken (Some greatest) = IsGreatest taken greatest
+-- the verdict on a reading, where these numbers are taken before it
+abbrev pub IsVerdict : Numbers → Option Reading → Verdict → Type 0
+IsVerdict taken None verdict = verdict ≡ Unreadable
+IsVerdict taken (Some reading) verdict = (number : ℕ) × IsNumberOf taken reading.low number × IsJudged taken number verdict
 
--- the number may be taken: nothing is taken yet, or it isn't taken and isn't 128 or more below the greatest that is
-abbrev pub IsFresh : Numbers → Option ℕ → ℕ → Type 0
-IsFresh taken None number = Unit {0}
-IsFresh taken (Some greatest) number = (taken number ≡ false) × (greatest < number + 128)
+-- a verdict for each reading, after the numbers that the verdicts before it take
+pub record IsRun (readings : List (Option Reading)) (verdicts : List Verdict) : Type 0 where
+  pub as_many : length verdicts ≡ length readings
+  pub each : (i : ℕ) → i < length readings
+      → IsVerdict (taken_by (take i verdicts)) (slice_index_or readings i None) (slice_index_or verdicts i Unreadable)
 
--- the datagram begins with a header whose number, widened after the greatest taken one, is this
-pub record HasNumber (exts : ExtensionMap) (taken : Numbers) (highest : Option ℕ) (datagram : List ℕ) (number : ℕ) : Type 0 where
-  pub header : RtpHeader
-  pub wire : IsWire exts datagram header
-  pub is_highest : IsHighest taken highest
-  pub near : IsNear 16 highest header.sequence_number number
-
--- the verdict on a datagram, where these numbers were taken before it
-abbrev pub IsVerdict : ExtensionMap → Numbers → List ℕ → Verdict → Type 0
-IsVerdict exts taken datagram Unreadable = (header : RtpHeader) → IsWire exts datagram header → ⊥
-IsVerdict exts taken datagram (Taken number) =
-    (highest : Option ℕ) × HasNumber exts taken highest datagram number × IsFresh taken highest number
-IsVerdict exts taken datagram Refused =
-    (highest : Option ℕ) × (number : ℕ) × HasNumber exts taken highest datagram number × (IsFresh taken highest number → ⊥)
-
--- a verdict for each datagram, after the numbers that the verdicts before it take
+-- a verdict for each datagram, by its reading
 pub record AreVerdicts (exts : ExtensionMap) (datagrams : List (List ℕ)) (verdicts : List Verdict) : Type 0 where
-  pub as_many : length verdicts ≡ length datagrams
-  pub each : (i : ℕ) → i < length datagrams
-      → IsVerdict exts (taken_by (take i verdicts)) (slice_index_or datagrams i []) (slice_index_or verdicts i Unreadable)
+  pub readings : List (Option Reading)
+  pub are_readings : AreReadings exts datagrams readings
+  pub run : IsRun readings verdicts
 
--- no number is taken at two positions of the run
+-- no number is taken twice
 abbrev pub TakesOnce : List Verdict → Type 0
 TakesOnce verdicts = (i j number : ℕ) → i < j → j < length verdicts
     → slice_index_or verdicts i Unreadable ≡ Taken number → slice_index_or verdicts j Unreadable ≡ Taken number → ⊥

@@ -11,4 +11,4 @@ pub use ext::{
     IterByMediaType, MAX_ID, MAX_ID_ONE_BYTE_FORM, Uri, VideoOrientation, VideoTiming,
 };
 pub use header::{RtpHeader, extend_u7, extend_u8, extend_u15, extend_u16, extend_u32};
-pub use receive::{Verdict, receive_run};
+pub use receive::{Receiver, Verdict, receive_run};

@@ -1,0 +1,40 @@
+-- What one stream's receiver holds, and its rule for a number (RFC 3711, 3.3.1 and 3.3.2).
+use Rattle.std.specs.Prelude.{◌≡◌, ℕ, ◌⊎◌, false, Option, Some, None}
+use Rattle.rtp_base.specs.Window.{Numbers, Places, IsGreatest, Keeps, Accepts, including}
+use Rattle.rtp_wire.specs.Widening.{IsNear}
+use Rattle.rtp_wire.specs.declared.receive.verdict.Verdict.{Verdict}
+use Rattle.rtp_wire.specs.declared.receive.verdict.Verdict.TheVariants.{Unreadable, Taken, Refused}
+
+-- no number is in the set
+abbrev pub IsNothing : Numbers → Type 0
+IsNothing taken = (n : ℕ) → taken n ≡ false
+
+-- the highest number of a set, if it has any
+abbrev pub IsHighest : Numbers → Option ℕ → Type 0
+IsHighest taken None = IsNothing taken
+IsHighest taken (Some highest) = IsGreatest taken highest
+
+-- a receiver holds the set of the numbers that it has taken: none yet, or a replay window keeps them
+abbrev pub Holds : Option Places → Numbers → Type 0
+Holds None taken = IsNothing taken
+Holds (Some window) taken = Keeps window taken
+
+-- the extended sequence number of a packet with these 16 bits: the nearest to the highest number taken
+abbrev pub IsNumberOf : Numbers → ℕ → ℕ → Type 0
+IsNumberOf taken low number = (highest : Option ℕ) × IsHighest taken highest × IsNear 16 highest low number
+
+-- the number may be taken: no number is taken yet, or the replay window accepts it
+abbrev pub IsFresh : Numbers → ℕ → Type 0
+IsFresh taken number = IsNothing taken ⊎ Accepts taken number
+
+-- the verdict on a number, where these are taken before it
+abbrev pub IsJudged : Numbers → ℕ → Verdict → Type 0
+IsJudged taken number (Taken n) = (n ≡ number) × IsFresh taken number
+IsJudged taken number Refused = IsFresh taken number → ⊥
+IsJudged taken number Unreadable = ⊥
+
+-- what is taken after a verdict
+abbrev pub taken_after : Numbers → Verdict → Numbers
+taken_after taken (Taken number) = including taken number
+taken_after taken Refused = taken
+taken_after taken Unreadable = taken

@@ -1,0 +1,9 @@
+//! The receiving side: extended sequence numbers and replay protection.
+
+mod receiver;
+mod run;
+mod verdict;
+
+pub use receiver::Receiver;
+pub use run::receive_run;
+pub use verdict::Verdict;

@@ -1,0 +1,111 @@
+//! The receive state of one stream.
+
+ghost use Rattle.std.specs.Prelude.{◌≡◌, ◌↔◌, ℕ, Option, IsTrue};
+ghost use Rattle.rtp_base.specs.Window.{Numbers, including};
+ghost use Rattle.rtp_wire.specs.Receiver.{Holds, IsNothing, IsHighest, IsNumberOf, IsFresh, IsJudged, taken_after};
+
+use super::Verdict;
+use crate::header::RtpHeader;
+use rtp_base::{SeqNo, SeqNoWindow};
+use std::marker::Model;
+
+/// The receive state of one stream: nothing yet, or a replay window (RFC 3711, 3.3.2).
+///
+/// For SRTP the three steps are apart, so that a forged packet changes nothing: estimate the
+/// extended sequence number (the packet index) with [`number_of`](Self::number_of), test it with
+/// [`accepts`](Self::accepts), authenticate the packet, and then [`record`](Self::record) it. Where
+/// nothing is authenticated [`receive`](Self::receive) does all of it.
+///
+/// With the packets 65,534, 65,535 and 0 of a stream `receive` takes 65,534, 65,535 and 65,536; the
+/// same packets again are refused.
+#[derive(Debug, Drop)]
+pub struct Receiver {
+    window: Option<SeqNoWindow>,
+}
+
+impl Model for Receiver {
+    ghost use Rattle.std.specs.Prelude.{Option};
+    ghost use Rattle.rtp_base.specs.Window.{Places};
+
+    ghost Value = { Option Places };
+
+    ghost view = { λ receiver. receiver.window };
+}
+
+impl Receiver {
+    /// A receiver that has taken nothing yet.
+    pub fn new() -> Self
+        ensures { (taken : Numbers) → (Holds result taken ↔ IsNothing taken) }
+    {
+        Receiver { window: None }
+    }
+
+    /// The highest number taken, and `None` where nothing is taken yet.
+    pub fn highest(&self) -> Option<SeqNo>
+        ensures highest { (taken : Numbers) → Holds self.now taken → IsHighest taken result }
+
+        // Each receiver holds some set, so the clauses here always speak of something.
+        ensures some { (taken : Numbers) × Holds self.now taken }
+    {
+        self.window.as_ref().map(|window| window.max_seq())
+    }
+
+    /// The extended sequence number of a packet with this header: the one nearest to the highest
+    /// number taken (RFC 3711, 3.3.1), and the header's 16 bits where nothing is taken yet.
+    pub fn number_of(&self, header: &RtpHeader) -> SeqNo
+        ensures { (taken : Numbers) → Holds self.now taken →
+            IsNumberOf taken header.now.sequence_number result }
+    {
+        header.sequence_number(self.highest())
+    }
+
+    /// Whether the number may be taken: nothing is taken yet, or it is above the highest number
+    /// taken, or less than 128 below it and not taken.
+    pub fn accepts(&self, number: SeqNo) -> bool
+        ensures { (taken : Numbers) → Holds self.now taken → (IsTrue result ↔ IsFresh taken number) }
+    {
+        match &self.window {
+            None => true,
+            Some(window) => window.accepts(number),
+        }
+    }
+
+    /// Records that the number is taken, once its packet is known to be authentic. A number that
+    /// [`accepts`](Self::accepts) refuses changes nothing.
+    pub fn record(&mut self, number: SeqNo)
+        ensures { (taken : Numbers) → Holds self.old taken → Holds self.new (including taken number) }
+    {
+        match &mut self.window {
+            None => self.window = Some(SeqNoWindow::new(number)),
+            Some(window) => window.update(number),
+        }
+    }
+
+    /// The verdict on a packet with this header: taken, and then recorded, exactly when its
+    /// extended sequence number may be taken; refused, and then nothing changes, where not. It is
+    /// [`number_of`](Self::number_of), [`accepts`](Self::accepts) and [`record`](Self::record) in
+    /// one, where nothing is authenticated.
+    pub fn receive(&mut self, header: &RtpHeader) -> Verdict
+        ensures verdict { (taken : Numbers) → Holds self.old taken →
+            (number : ℕ) × IsNumberOf taken header.now.sequence_number number
+            × IsJudged taken number result }
+        ensures after { (taken : Numbers) → Holds self.old taken →
+            Holds self.new (taken_after taken result) }
+    {
+        let number = self.number_of(header);
+        if self.accepts(number) {
+            self.record(number);
+            Verdict::Taken(number)
+        } else {
+            Verdict::Refused
+        }
+    }
+
+    // The verdict on a datagram, by the header that it begins with.
+    pub(super) fn verdict_on(&mut self, header: Option<&RtpHeader>) -> Verdict {
+        match header {
+            None => Verdict::Unreadable,
+            Some(header) => self.receive(header),
+        }
+    }
+}

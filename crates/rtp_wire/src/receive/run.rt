@@ -1,0 +1,35 @@
+//! A receiver over a whole run of datagrams.
+
+ghost use Rattle.std.specs.Prelude.{◌≡◌, [], map, IsOk, IfOk};
+ghost use Rattle.rtp_wire.specs.Verdicts.{AreVerdicts, TakesOnce};
+
+use super::{Receiver, Verdict};
+use crate::ext::ExtensionMap;
+use crate::header::RtpHeader;
+use std::alloc::{AllocError, Global};
+
+/// The verdict on each datagram, in the order in which they came, by one [`Receiver`]: a datagram
+/// without a header is unreadable and changes nothing. The datagrams are those of one stream, and
+/// nothing is authenticated here.
+///
+/// The only memory is the list of the verdicts, made at once; where it is refused nothing is handed
+/// out.
+pub fn receive_run(
+    alloc: Global,
+    datagrams: &[Vec<u8>],
+    exts: &ExtensionMap,
+) -> Result<Vec<Verdict>, AllocError>
+    ensures verdicts { IfOk result (λ found.
+        AreVerdicts exts.now (map (λ d. d.items) datagrams.now) found.items) }
+    ensures once { IfOk result (λ found. TakesOnce found.items) }
+    ensures nothing { datagrams.now ≡ [] → IsOk result }
+{
+    let mut verdicts = Vec::with_capacity(alloc, datagrams.len())?;
+    let mut receiver = Receiver::new();
+    for datagram in datagrams {
+        let header = RtpHeader::parse(alloc, datagram, exts)?;
+        let verdict = receiver.verdict_on(header.as_ref());
+        verdicts.push_reserved(verdict);
+    }
+    Ok(verdicts)
+}
