@@ -1,3 +1,4 @@
+pub mod ValuesLaws
 mod KindLemmas
 mod MapLemmas
 mod ListingLemmas
