@@ -1,4 +1,5 @@
-pub mod ValuesLaws
+mod ValuesLaws
+mod ValueFacts
 mod KindLemmas
 mod MapLemmas
 mod ListingLemmas

@@ -29,14 +29,7 @@ Reads-one RepairedRtpStreamId bytes v w v_reads w_reads = IsSomeAnd-one 8 bytes 
 Reads-one RtpMid bytes v w v_reads w_reads = IsSomeAnd-one 16 bytes v.mid w.mid v_reads.1 w_reads.1
 Reads-one ColorSpace bytes v w v_reads w_reads = absurd v_reads
 Reads-one (UnknownUri uri) bytes v w v_reads w_reads = absurd v_reads
-Reads-one AbsoluteSendTime bytes v w v_reads w_reads = w_reads.1 ∙ sym v_reads.1
-Reads-one AbsoluteCaptureTime bytes v w v_reads w_reads = w_reads.1 ∙ sym v_reads.1
-Reads-one TransmissionTimeOffset bytes v w v_reads w_reads = w_reads.1 ∙ sym v_reads.1
-Reads-one VideoOrientation bytes v w v_reads w_reads = w_reads.1 ∙ sym v_reads.1
-Reads-one TransportSequenceNumber bytes v w v_reads w_reads = w_reads.1 ∙ sym v_reads.1
-Reads-one VideoContentType bytes v w v_reads w_reads = w_reads.1 ∙ sym v_reads.1
-Reads-one VideoTiming bytes v w v_reads w_reads = w_reads.1 ∙ sym v_reads.1
-Reads-one FrameMarking bytes v w v_reads w_reads = w_reads.1 ∙ sym v_reads.1
+Reads-one _ bytes v w v_reads w_reads = w_reads.1 ∙ sym v_reads.1
 
 -- the same fields say the same
 pub Reads-same : (kind : Extension) (bytes : List ℕ) (v w : ExtensionValues) → Reads kind bytes v → SameFields kind v w → Reads kind bytes w
@@ -47,14 +40,7 @@ Reads-same RepairedRtpStreamId bytes v w reads same = (reads.0, subst (λ rid. I
 Reads-same RtpMid bytes v w reads same = (reads.0, subst (λ mid. IsSomeAnd mid (IsIdOf 16 bytes)) (sym same) reads.1)
 Reads-same ColorSpace bytes v w reads same = absurd reads
 Reads-same (UnknownUri uri) bytes v w reads same = absurd reads
-Reads-same AbsoluteSendTime bytes v w reads same = (reads.0, same ∙ reads.1)
-Reads-same AbsoluteCaptureTime bytes v w reads same = (reads.0, same ∙ reads.1)
-Reads-same TransmissionTimeOffset bytes v w reads same = (reads.0, same ∙ reads.1)
-Reads-same VideoOrientation bytes v w reads same = (reads.0, same ∙ reads.1)
-Reads-same TransportSequenceNumber bytes v w reads same = (reads.0, same ∙ reads.1)
-Reads-same VideoContentType bytes v w reads same = (reads.0, same ∙ reads.1)
-Reads-same VideoTiming bytes v w reads same = (reads.0, same ∙ reads.1)
-Reads-same FrameMarking bytes v w reads same = (reads.0, same ∙ reads.1)
+Reads-same _ bytes v w reads same = (reads.0, same ∙ reads.1)
 
 -- what joins two values whose kind's fields are both those of a third
 SameFields-joined : (kind : Extension) (u v w : ExtensionValues) → SameFields kind u v → SameFields kind u w → SameFields kind v w
@@ -62,34 +48,14 @@ SameFields-joined AudioLevel u v w uv uw = (uw.0 ∙ sym uv.0, uw.1 ∙ sym uv.1
 SameFields-joined PlayoutDelay u v w uv uw = (uw.0 ∙ sym uv.0, uw.1 ∙ sym uv.1)
 SameFields-joined ColorSpace u v w uv uw = tt
 SameFields-joined (UnknownUri uri) u v w uv uw = tt
-SameFields-joined AbsoluteSendTime u v w uv uw = uw ∙ sym uv
-SameFields-joined AbsoluteCaptureTime u v w uv uw = uw ∙ sym uv
-SameFields-joined TransmissionTimeOffset u v w uv uw = uw ∙ sym uv
-SameFields-joined VideoOrientation u v w uv uw = uw ∙ sym uv
-SameFields-joined TransportSequenceNumber u v w uv uw = uw ∙ sym uv
-SameFields-joined VideoContentType u v w uv uw = uw ∙ sym uv
-SameFields-joined VideoTiming u v w uv uw = uw ∙ sym uv
-SameFields-joined RtpStreamId u v w uv uw = uw ∙ sym uv
-SameFields-joined RepairedRtpStreamId u v w uv uw = uw ∙ sym uv
-SameFields-joined RtpMid u v w uv uw = uw ∙ sym uv
-SameFields-joined FrameMarking u v w uv uw = uw ∙ sym uv
+SameFields-joined _ u v w uv uw = uw ∙ sym uv
 
 pub SameFields-refl : (kind : Extension) (v : ExtensionValues) → SameFields kind v v
 SameFields-refl AudioLevel v = (refl, refl)
 SameFields-refl PlayoutDelay v = (refl, refl)
 SameFields-refl ColorSpace v = tt
 SameFields-refl (UnknownUri uri) v = tt
-SameFields-refl AbsoluteSendTime v = refl
-SameFields-refl AbsoluteCaptureTime v = refl
-SameFields-refl TransmissionTimeOffset v = refl
-SameFields-refl VideoOrientation v = refl
-SameFields-refl TransportSequenceNumber v = refl
-SameFields-refl VideoContentType v = refl
-SameFields-refl VideoTiming v = refl
-SameFields-refl RtpStreamId v = refl
-SameFields-refl RepairedRtpStreamId v = refl
-SameFields-refl RtpMid v = refl
-SameFields-refl FrameMarking v = refl
+SameFields-refl _ v = refl
 
 pub SameFields-sym : (kind : Extension) (v w : ExtensionValues) → SameFields kind v w → SameFields kind w v
 SameFields-sym kind v w same = SameFields-joined kind v w v same (SameFields-refl kind v)
@@ -128,8 +94,8 @@ holds_or_not false decides = inr (not_from_Decides false decides refl)
 same_or_not : (a b : Extension) → (a ≡ b) ⊎ (a ≢ b)
 same_or_not a b = holds_or_not _ (extension_decides a b)
 
-Some-one : {a b : Extension} → Some a ≡ Some b → a ≡ b
-Some-one same = cc
+pub one_kind : {a b : Extension} → Some a ≡ Some b → a ≡ b
+one_kind same = cc
 
 -- before any element the values are the old ones
 pub AreValues-none : (exts : Slots) (old : ExtensionValues) → AreValues exts [] old old
@@ -163,7 +129,7 @@ AreValues-read exts done element kind old between new mapped reads others values
   | inl same ↦ subst (λ k. IsRead exts (done ++ element ∷ []) k old new) (sym same)
       (last done [] element refl mapped reads (All-nil (λ later. Carries exts kind later → ⊥)))
   | inr other ↦ IsRead-passed exts done element any old between new
-      (λ carries. other (Some-one (sym carries.0 ∙ mapped))) (others any other) (values any)
+      (λ carries. other (one_kind (sym carries.0 ∙ mapped))) (others any other) (values any)
 ]
 
 -- no element that carries the kind is among these
@@ -197,7 +163,7 @@ IsRead-one : (exts : Slots) (elements : List Element) (kind : Extension) (old v 
     → IsRead exts elements kind old v → IsRead exts elements kind old w → SameFields kind v w
 IsRead-one exts elements kind old v w (last before after x is mapped reads later) (last others rest y also y_mapped y_reads y_later) =
     let same = last_one (Carries exts kind) before after others rest x y (sym is ∙ also) (mapped, (v, reads)) (y_mapped, (w, y_reads))
-        later y_later in
+    later y_later in
     Reads-one kind x.1 v w reads (subst (λ e. Reads kind e.1 w) (sym same) y_reads)
 IsRead-one exts elements kind old v w (last before after x is mapped reads later) (none not_carried same) =
     absurd (carried exts elements before after x kind v is mapped reads not_carried)
@@ -233,7 +199,7 @@ AreValues-parsed exts done element kind old between new (Ok None) mapped ok foun
   where
     not_carried : (any : Extension) → Carries exts any element → ⊥
     not_carried any carries =
-        let same : any ≡ kind = Some-one (sym carries.0 ∙ mapped) in
+        let same : any ≡ kind = one_kind (sym carries.0 ∙ mapped) in
         let well_formed = subst (λ k. IsWellFormed k element.1) same carries.1 in
         let contradiction = only well_formed in
         cc
