@@ -1,3 +1,5 @@
+mod ValuesLaws
+mod ValueFacts
 mod KindLemmas
 mod MapLemmas
 mod ListingLemmas
