@@ -13,4 +13,5 @@ mod OverwritingLemmas
 mod RoundTrip
 mod StandardFacts
 mod WideningLemmas
-mod ReceiveLemmas
+mod ReceiverLemmas
+mod VerdictLemmas
