@@ -1,3 +1,4 @@
+mod ElementLemmas
 mod KindLemmas
 mod MapLemmas
 mod ListingLemmas

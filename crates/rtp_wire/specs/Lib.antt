@@ -3,6 +3,7 @@ pub mod Form
 pub mod Kind
 pub mod ExtensionMap
 pub mod Elements
+pub mod HeaderValues
 pub mod Values
 pub mod Block
 pub mod Header
