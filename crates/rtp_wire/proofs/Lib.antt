@@ -1,3 +1,4 @@
+mod ElementLemmas
 mod ValuesLaws
 mod ValueFacts
 mod KindLemmas
