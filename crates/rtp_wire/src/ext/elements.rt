@@ -74,9 +74,23 @@ fn first_element(bytes: &[u8], form: ExtensionsForm) -> Option<(u8, &[u8], &[u8]
 fn skip_padding(bytes: &[u8]) -> &[u8]
     ensures { result.now ≡ without_padding bytes.now }
 {
-    let mut rest = bytes;
+    let mut rest = skip_padding_words(bytes);
     while let Some((byte, after)) = rest.split_first() {
         if *byte != 0 {
+            return rest;
+        }
+        rest = after;
+    }
+    rest
+}
+
+// The bytes behind the padding at their front, as far as it goes in whole words of eight bytes.
+fn skip_padding_words(bytes: &[u8]) -> &[u8]
+    ensures { without_padding result.now ≡ without_padding bytes.now }
+{
+    let mut rest = bytes;
+    while let Some((word, after)) = rest.split_first_chunk::<8>() {
+        if u64::from_ne_bytes(*word) != 0 {
             return rest;
         }
         rest = after;
