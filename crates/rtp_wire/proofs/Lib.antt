@@ -11,6 +11,7 @@ mod HeaderLemmas
 mod OneHeader
 mod ParseLemmas
 mod OverwritingLemmas
+mod BlockWriting
 mod RoundTrip
 mod StandardFacts
 mod WideningLemmas

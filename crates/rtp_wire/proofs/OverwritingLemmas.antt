@@ -1,8 +1,8 @@
 -- Bytes that are put into a buffer one behind the other.
-use Rattle.std.proofs.Common.{◌≡◌, ℕ, ◌+◌, ◌-◌, ◌*◌, ◌<◌, ◌≤◌, List, [], ◌∷◌, ◌++◌, length, take, drop, get_or, refl, sym, ap, ◌∙◌, arith, append_assoc, length-append, length-take-le, length-drop, take_at, drop_at, add-zero, zero-add}
+use Rattle.std.proofs.Common.{◌≡◌, ℕ, ◌+◌, ◌-◌, ◌*◌, ◌<◌, ◌≤◌, List, [], ◌∷◌, ◌++◌, length, take, drop, get_or, replicate, refl, sym, ap, ◌∙◌, arith, append_assoc, length-append, length-take-le, length-drop, take_at, drop_at, add-zero, zero-add}
 use Rattle.std.specs.List.{flat_map}
 use Rattle.std.specs.Int.{w32, to_be_bytes}
-use Rattle.std.proofs.lemmas.List.{append-nil, take-append-drop, drop-drop, take_more}
+use Rattle.std.proofs.lemmas.List.{append-nil, length-replicate, take-append-drop, drop-drop, drop_all, take_rest, take_more}
 use Rattle.std.proofs.lemmas.List.Concat.{flat_map-append}
 use Rattle.rtp_wire.specs.Overwriting.{overwritten}
 
@@ -72,3 +72,35 @@ overwritten-three buf xs ys zs first second first-is second-is fits =
     ap (λ (bytes : List ℕ). overwritten bytes second zs) (overwritten-overwritten buf xs ys 0 first one (omega arith))
     ∙ overwritten-overwritten buf (xs ++ ys) zs 0 second two fits
     ∙ ap (overwritten buf 0) (append_assoc xs ys zs) ∙ overwritten-front buf (xs ++ (ys ++ zs))
+
+-- what a call that is lent the bytes from an offset on leaves, where it writes to their front
+pub overwritten-lent : (buf new bytes : List ℕ) (at count : ℕ) → at ≤ length buf → count ≡ length bytes
+    → new ≡ bytes ++ drop count (take (length buf - at) (drop at buf))
+    → take at buf ++ (new ++ drop (length buf - at) (drop at buf)) ≡ overwritten buf at bytes
+unfolding overwritten
+overwritten-lent buf new bytes at count fits count-is new-is =
+    let rest : drop (length buf - at) (drop at buf) ≡ [] = drop_all (length buf - at) (drop at buf) (omega (arith, length-drop at buf)) in
+    let behind : drop count (take (length buf - at) (drop at buf)) ≡ drop (at + length bytes) buf =
+    ap (drop count) (take_rest buf at) ∙ drop-drop count at buf ∙ ap (λ (k : ℕ). drop (at + k) buf) count-is in
+    ap (λ (ys : List ℕ). take at buf ++ (new ++ ys)) rest
+    ∙ ap (λ (ys : List ℕ). take at buf ++ ys) (append-nil new ∙ new-is ∙ ap (λ (ys : List ℕ). bytes ++ ys) behind)
+
+-- a piece in front of one that stands already
+pub overwritten-before : (buf xs ys : List ℕ) → length xs + length ys ≤ length buf
+    → overwritten (overwritten buf (length xs) ys) 0 xs ≡ overwritten buf 0 (xs ++ ys)
+unfolding overwritten
+overwritten-before buf xs ys fits =
+    let n = length xs in
+    let behind : drop (0 + n) (take n buf ++ (ys ++ drop (n + length ys) buf)) ≡ ys ++ drop (n + length ys) buf =
+    ap (λ (k : ℕ). drop k (take n buf ++ (ys ++ drop (n + length ys) buf))) (zero-add n)
+    ∙ drop_at (take n buf) (ys ++ drop (n + length ys) buf) n (length-take-le n buf (omega arith)) in
+    ap (λ (zs : List ℕ). xs ++ zs) behind ∙ sym (append_assoc xs ys (drop (n + length ys) buf))
+    ∙ ap (λ (k : ℕ). (xs ++ ys) ++ drop k buf) (omega (arith, length-append xs ys))
+
+-- what `fill` of a part leaves
+pub overwritten-filled : (buf new : List ℕ) (at count : ℕ) → new ≡ replicate count 0
+    → take at buf ++ (new ++ drop (at + count - at) (drop at buf)) ≡ overwritten buf at (replicate count 0)
+overwritten-filled buf new at count is =
+    ap (λ (k : ℕ). take at buf ++ (new ++ drop (at + k - at) (drop at buf))) (sym (length-replicate count 0))
+    ∙ ap (λ (ys : List ℕ). take at buf ++ (ys ++ drop (at + length {A = ℕ} (replicate count 0) - at) (drop at buf))) is
+    ∙ overwritten-copied buf (replicate count 0) at
