@@ -3,6 +3,7 @@ pub mod Form
 pub mod Kind
 pub mod ExtensionMap
 pub mod Elements
+pub mod HeaderValues
 pub mod Values
 pub mod Block
 pub mod Header
@@ -17,6 +18,7 @@ pub mod Verdicts
 pub mod KindTable
 pub mod MapSlots
 pub mod EqualMaps
+pub mod KindBytes
 pub mod ElementReading
 pub mod Reading
 pub mod Overwriting
