@@ -9,6 +9,7 @@ mod OneHeader
 mod ParseLemmas
 mod OverwritingLemmas
 mod RoundTrip
+mod ValueLemmas
 mod StandardFacts
 mod WideningLemmas
 mod ReceiveLemmas

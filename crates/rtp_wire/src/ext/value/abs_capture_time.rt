@@ -1,12 +1,13 @@
 //! Absolute capture time.
 
-ghost use Rattle.std.specs.Prelude.{◌≡◌};
+ghost use Rattle.std.specs.Prelude.{◌≡◌, ◌≤◌, ◌++◌, length, drop, Some};
 ghost use Rattle.rtp_wire.specs.declared.ext.kind.Extension.TheVariants.{AbsoluteCaptureTime};
 ghost use Rattle.rtp_wire.specs.KindBytes.{HasRead, HasRoom, HasWritten};
 ghost use Rattle.rtp_wire.specs.Values.{offset_of};
+ghost use Rattle.rtp_wire.specs.Spelling.{offset_bytes};
 
 use super::ExtensionValues;
-use super::front::{first_u64, put};
+use super::front::{first_u64, put_u64};
 
 /// When a frame was captured, by the clock of its capturer.
 #[derive(Clone, Copy, Debug, PartialEq, Eq)]
@@ -41,6 +42,15 @@ pub(super) fn read(buf: &[u8], ev: &mut ExtensionValues) -> Option<()>
     Some(())
 }
 
+// Puts the clock offset in eight bytes at the front of the buffer.
+fn put_offset(buf: &mut [u8], offset: i64)
+    requires room { 8 ≤ length buf.old }
+    ensures written { buf.new ≡ offset_bytes (Some offset) ++ drop 8 buf.old }
+    ensures back { offset_of (offset_bytes (Some offset)) ≡ Some offset }
+{
+    put_u64(buf, offset as u64);
+}
+
 // Writes the data of the kind, and returns their number of bytes.
 pub(super) fn write(buf: &mut [u8], ev: &ExtensionValues) -> Option<usize>
     requires room { HasRoom AbsoluteCaptureTime ev.now buf.old }
@@ -49,11 +59,10 @@ pub(super) fn write(buf: &mut [u8], ev: &ExtensionValues) -> Option<usize>
     let Some(time) = ev.abs_capture_time else {
         return None;
     };
-    let number = time.capture_time.to_be_bytes();
     let Some(offset) = time.clock_offset else {
-        return Some(put(buf, &number));
+        return Some(put_u64(buf, time.capture_time));
     };
-    put(&mut buf[8..], &offset.to_be_bytes());
-    put(buf, &number);
+    put_u64(buf, time.capture_time);
+    put_offset(&mut buf[8..], offset);
     Some(16)
 }

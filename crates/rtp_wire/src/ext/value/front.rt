@@ -47,11 +47,43 @@ pub(super) fn put(buf: &mut [u8], bytes: &[u8]) -> usize
     bytes.len()
 }
 
-// Puts the low three bytes of the number at the front of the buffer, and returns 3.
+// Puts the number in two bytes at the front of the buffer, and returns 2.
+pub(super) fn put_u16(buf: &mut [u8], number: u16) -> usize
+    requires room { 2 ≤ length buf.old }
+    ensures length { result ≡ 2 }
+    ensures written { buf.new ≡ bytes_of 2 number ++ drop 2 buf.old }
+    ensures back { number_of (bytes_of 2 number) ≡ number }
+{
+    put(buf, &number.to_be_bytes())
+}
+
+// Puts the number in three bytes at the front of the buffer, and returns 3.
 pub(super) fn put_u24(buf: &mut [u8], number: u32) -> usize
+    requires small { number < 2 ^ 24 }
     requires room { 3 ≤ length buf.old }
     ensures length { result ≡ 3 }
     ensures written { buf.new ≡ bytes_of 3 number ++ drop 3 buf.old }
+    ensures back { number_of (bytes_of 3 number) ≡ number }
 {
     put(buf, &number.to_be_bytes()[1..])
+}
+
+// Puts the number in four bytes at the front of the buffer, and returns 4.
+pub(super) fn put_u32(buf: &mut [u8], number: u32) -> usize
+    requires room { 4 ≤ length buf.old }
+    ensures length { result ≡ 4 }
+    ensures written { buf.new ≡ bytes_of 4 number ++ drop 4 buf.old }
+    ensures back { number_of (bytes_of 4 number) ≡ number }
+{
+    put(buf, &number.to_be_bytes())
+}
+
+// Puts the number in eight bytes at the front of the buffer, and returns 8.
+pub(super) fn put_u64(buf: &mut [u8], number: u64) -> usize
+    requires room { 8 ≤ length buf.old }
+    ensures length { result ≡ 8 }
+    ensures written { buf.new ≡ bytes_of 8 number ++ drop 8 buf.old }
+    ensures back { number_of (bytes_of 8 number) ≡ number }
+{
+    put(buf, &number.to_be_bytes())
 }

@@ -6,16 +6,15 @@ ghost use Rattle.rtp_wire.specs.KindBytes.{HasRead, HasRoom, HasWritten};
 use super::ExtensionValues;
 use super::front::put;
 use rtp_base::Mid;
-use std::str;
 
 // Reads the data of the kind.
 pub(super) fn read(buf: &[u8], ev: &mut ExtensionValues) -> Option<()>
     ensures { HasRead RtpMid buf.now ev.old ev.new result }
 {
-    let Ok(text) = str::from_utf8(buf) else {
+    let Some(mid) = Mid::from_utf8(buf) else {
         return None;
     };
-    ev.mid = Some(Mid::from(text));
+    ev.mid = Some(mid);
     Some(())
 }
 

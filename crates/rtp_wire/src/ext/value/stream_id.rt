@@ -6,16 +6,15 @@ ghost use Rattle.rtp_wire.specs.KindBytes.{HasRead, HasRoom, HasWritten};
 use super::ExtensionValues;
 use super::front::put;
 use rtp_base::Rid;
-use std::str;
 
 // Reads the data of a stream id.
 pub(super) fn read(buf: &[u8], ev: &mut ExtensionValues) -> Option<()>
     ensures { HasRead RtpStreamId buf.now ev.old ev.new result }
 {
-    let Ok(text) = str::from_utf8(buf) else {
+    let Some(rid) = Rid::from_utf8(buf) else {
         return None;
     };
-    ev.rid = Some(Rid::from(text));
+    ev.rid = Some(rid);
     Some(())
 }
 
@@ -34,10 +33,10 @@ pub(super) fn write(buf: &mut [u8], ev: &ExtensionValues) -> Option<usize>
 pub(super) fn read_repaired(buf: &[u8], ev: &mut ExtensionValues) -> Option<()>
     ensures { HasRead RepairedRtpStreamId buf.now ev.old ev.new result }
 {
-    let Ok(text) = str::from_utf8(buf) else {
+    let Some(rid_repair) = Rid::from_utf8(buf) else {
         return None;
     };
-    ev.rid_repair = Some(Rid::from(text));
+    ev.rid_repair = Some(rid_repair);
     Some(())
 }
 

@@ -4,7 +4,7 @@ ghost use Rattle.rtp_wire.specs.declared.ext.kind.Extension.TheVariants.{Transmi
 ghost use Rattle.rtp_wire.specs.KindBytes.{HasRead, HasRoom, HasWritten};
 
 use super::ExtensionValues;
-use super::front::{first_u32, put};
+use super::front::{first_u32, put_u32};
 
 // Reads the data of the kind.
 pub(super) fn read(buf: &[u8], ev: &mut ExtensionValues) -> Option<()>
@@ -23,5 +23,5 @@ pub(super) fn write(buf: &mut [u8], ev: &ExtensionValues) -> Option<usize>
     let Some(offset) = ev.tx_time_offs else {
         return None;
     };
-    Some(put(buf, &offset.to_be_bytes()))
+    Some(put_u32(buf, offset))
 }

@@ -4,7 +4,7 @@ ghost use Rattle.rtp_wire.specs.declared.ext.kind.Extension.TheVariants.{Transpo
 ghost use Rattle.rtp_wire.specs.KindBytes.{HasRead, HasRoom, HasWritten};
 
 use super::ExtensionValues;
-use super::front::{first_u16, put};
+use super::front::{first_u16, put_u16};
 
 // Reads the data of the kind.
 pub(super) fn read(buf: &[u8], ev: &mut ExtensionValues) -> Option<()>
@@ -23,5 +23,5 @@ pub(super) fn write(buf: &mut [u8], ev: &ExtensionValues) -> Option<usize>
     let Some(number) = ev.transport_cc else {
         return None;
     };
-    Some(put(buf, &number.to_be_bytes()))
+    Some(put_u16(buf, number))
 }

@@ -4,6 +4,7 @@ ghost use Rattle.std.specs.Prelude.{◌≡◌, ◌+◌, ◌≤◌, ◌<◌, leng
 ghost use Rattle.rtp_wire.specs.declared.ext.kind.Extension.TheVariants.{VideoTiming as TimingKind};
 ghost use Rattle.rtp_wire.specs.KindBytes.{HasRead, HasRoom, HasWritten};
 ghost use Rattle.rtp_wire.specs.Values.{number_of};
+ghost use Rattle.rtp_wire.specs.Spelling.{bytes_of};
 
 use super::ExtensionValues;
 use super::front::put;
@@ -48,6 +49,14 @@ pub(super) fn read(buf: &[u8], ev: &mut ExtensionValues) -> Option<()>
     Some(())
 }
 
+// The two bytes of a time.
+fn time_bytes(time: u16) -> [u8; 2]
+    ensures bytes { result ≡ bytes_of 2 time }
+    ensures back { number_of (bytes_of 2 time) ≡ time }
+{
+    time.to_be_bytes()
+}
+
 // Writes the data of the kind, and returns their number of bytes.
 pub(super) fn write(buf: &mut [u8], ev: &ExtensionValues) -> Option<usize>
     requires room { HasRoom TimingKind ev.now buf.old }
@@ -56,10 +65,10 @@ pub(super) fn write(buf: &mut [u8], ev: &ExtensionValues) -> Option<usize>
     let Some(timing) = ev.video_timing else {
         return None;
     };
-    let start = timing.encode_start.to_be_bytes();
-    let finish = timing.encode_finish.to_be_bytes();
-    let complete = timing.packetize_complete.to_be_bytes();
-    let left = timing.last_left_pacer.to_be_bytes();
+    let start = time_bytes(timing.encode_start);
+    let finish = time_bytes(timing.encode_finish);
+    let complete = time_bytes(timing.packetize_complete);
+    let left = time_bytes(timing.last_left_pacer);
     Some(put(buf, &[
         timing.flags,
         start[0],

@@ -1,0 +1,214 @@
+-- The data that a kind's values are written as, and what they are read as.
+use Rattle.std.proofs.Common.{◌≡◌, ℕ, ◌+◌, ◌*◌, ◌/◌, ◌%◌, ◌≤◌, ℤ, pos, neg_ℤ, Bool, true, false, List, [], ◌∷◌, ◌++◌, length, drop, Some, refl, sym, ap, ◌∙◌, arith, eq-eqb, length-take}
+use Rattle.std.specs.Prelude.{unsigned_abs, ◌==◌, map, IsUtf8}
+use Rattle.std.specs.Option.{option_map}
+use Rattle.std.specs.Str.{chars}
+use Rattle.std.proofs.lemmas.Bool.{ne_eqb}
+use Rattle.rtp_base.specs.MediaTime.{Fraction}
+use Rattle.rtp_base.specs.Id.{before_padding, id_char, IsIdOf}
+use Rattle.rtp_wire.specs.declared.ext.kind.Extension.{Extension}
+use Rattle.rtp_wire.specs.declared.ext.kind.Extension.TheVariants.{AbsoluteSendTime, AbsoluteCaptureTime, AudioLevel, TransmissionTimeOffset, VideoOrientation, TransportSequenceNumber, PlayoutDelay, VideoContentType, VideoTiming, RtpStreamId, RepairedRtpStreamId, RtpMid, FrameMarking}
+use Rattle.rtp_wire.specs.declared.ext.value.values.ExtensionValues.{ExtensionValues}
+use Rattle.rtp_wire.specs.declared.ext.value.abs_capture_time.AbsCaptureTime as capture
+use Rattle.rtp_wire.specs.declared.ext.value.video_timing.VideoTiming as timing
+use Rattle.rtp_wire.specs.declared.ext.value.video_orientation.VideoOrientation as orientation
+use Rattle.rtp_wire.specs.declared.ext.value.video_orientation.VideoOrientation.TheVariants.{Deg0, Deg90, Deg180, Deg270}
+use Rattle.rtp_wire.specs.Header.{bit}
+use Rattle.rtp_wire.specs.Values.{Reads, number_of, offset_of, orientation_of, hundredths}
+use Rattle.rtp_wire.specs.Spelling.{bytes_of, spelled_data, carried_values, send_ticks, delay_of, offset_bytes, orientation_bits, timing_bytes}
+use Rattle.rtp_wire.specs.KindBytes.{HasRoom, HasWritten}
+
+-- ---- what is written
+
+-- the data of the kind, and what they are read as
+pub record AreData (kind : Extension) (values : ExtensionValues) (bytes : List ℕ) : Type 0 where
+  pub spelled : spelled_data kind values ≡ Some bytes
+  pub read_back : Reads kind bytes (carried_values values)
+  pub few : length bytes ≤ 16
+
+module _ {kind : Extension} {values : ExtensionValues} {bytes : List ℕ} (are : AreData kind values bytes) where
+  pub room_for : (old : List ℕ) → HasRoom kind values old → length bytes ≤ length old
+  room_for old room = room bytes are.spelled
+
+  pub HasWritten-put : {old new : List ℕ} {result : ℕ} → result ≡ length bytes → new ≡ bytes ++ drop (length bytes) old → HasWritten kind values old new (Some result)
+  HasWritten-put len put = record {
+    length_is = ap Some len ∙ ap (option_map length) (sym are.spelled);
+    written = rw are.spelled put;
+    read_back = rw are.spelled are.read_back;
+    few = rw are.spelled are.few;
+  }
+
+-- ---- a byte read again
+
+abbrev pub level_byte : ℤ → Bool → ℕ
+level_byte level voice = bit voice * 128 + unsigned_abs level % 128
+
+level_again : (n : ℕ) (voice : Bool) → ((bit voice * 128 + n % 128) % 128 ≡ n % 128) × (((bit voice * 128 + n % 128) / 128 == 1) ≡ voice)
+level_again n false = (omega arith, ne_eqb _ 1 (omega arith))
+level_again n true = (omega arith, eq-eqb _ 1 (omega arith))
+
+orientation_again : (turn : orientation.VideoOrientation) → turn ≡ orientation_of (orientation_bits turn % 4)
+orientation_again Deg0 = refl
+orientation_again Deg90 = refl
+orientation_again Deg180 = refl
+orientation_again Deg270 = refl
+
+-- ---- kind by kind; `shown` is what the fields hold
+
+module _ {shown values : ExtensionValues} (same : shown ≡ values) where
+  pub spelled-send_time : {micros : ℕ} → shown.abs_send_time ≡ Some micros → spelled_data AbsoluteSendTime values ≡ Some (bytes_of 3 (send_ticks micros))
+  spelled-send_time is = rw (← same, is) refl
+
+  pub AreData-send_time : {micros : ℕ} → shown.abs_send_time ≡ Some micros → number_of (bytes_of 3 (send_ticks micros)) ≡ send_ticks micros
+      → AreData AbsoluteSendTime values (bytes_of 3 (send_ticks micros))
+  unfolding carried_values
+  AreData-send_time is back = record {
+    spelled = spelled-send_time is;
+    read_back = (omega arith, rw (← same, is) (ap (λ (ticks : ℕ). Some (ticks * 1000000 / 262144)) (sym back)));
+    few = omega arith;
+  }
+
+  pub spelled-transmission_offset : {offset : ℕ} → shown.tx_time_offs ≡ Some offset → spelled_data TransmissionTimeOffset values ≡ Some (bytes_of 4 offset)
+  spelled-transmission_offset is = rw (← same, is) refl
+
+  pub AreData-transmission_offset : {offset : ℕ} → shown.tx_time_offs ≡ Some offset → number_of (bytes_of 4 offset) ≡ offset → AreData TransmissionTimeOffset values (bytes_of 4 offset)
+  unfolding carried_values
+  AreData-transmission_offset is back = record {
+    spelled = spelled-transmission_offset is;
+    read_back = (omega arith, rw (← same, is) (ap Some (sym back)));
+    few = omega arith;
+  }
+
+  pub spelled-transport : {number : ℕ} → shown.transport_cc ≡ Some number → spelled_data TransportSequenceNumber values ≡ Some (bytes_of 2 number)
+  spelled-transport is = rw (← same, is) refl
+
+  pub AreData-transport : {number : ℕ} → shown.transport_cc ≡ Some number → number_of (bytes_of 2 number) ≡ number → AreData TransportSequenceNumber values (bytes_of 2 number)
+  unfolding carried_values
+  AreData-transport is back = record {
+    spelled = spelled-transport is;
+    read_back = (omega arith, rw (← same, is) (ap Some (sym back)));
+    few = omega arith;
+  }
+
+  pub spelled-frame_marking : {marking : ℕ} → shown.frame_mark ≡ Some marking → spelled_data FrameMarking values ≡ Some (bytes_of 4 marking)
+  spelled-frame_marking is = rw (← same, is) refl
+
+  pub AreData-frame_marking : {marking : ℕ} → shown.frame_mark ≡ Some marking → number_of (bytes_of 4 marking) ≡ marking → AreData FrameMarking values (bytes_of 4 marking)
+  unfolding carried_values
+  AreData-frame_marking is back = record {
+    spelled = spelled-frame_marking is;
+    read_back = (omega arith, rw (← same, is) (ap Some (sym back)));
+    few = omega arith;
+  }
+
+  pub spelled-content : {content : ℕ} → shown.video_content_type ≡ Some content → spelled_data VideoContentType values ≡ Some (content ∷ [])
+  spelled-content is = rw (← same, is) refl
+
+  pub AreData-content : {content : ℕ} → shown.video_content_type ≡ Some content → AreData VideoContentType values (content ∷ [])
+  unfolding carried_values
+  AreData-content is = record { spelled = spelled-content is; read_back = (omega arith, rw (← same, is) refl); few = omega arith }
+
+  pub spelled-orientation : {turn : orientation.VideoOrientation} → shown.video_orientation ≡ Some turn → spelled_data VideoOrientation values ≡ Some (orientation_bits turn ∷ [])
+  spelled-orientation is = rw (← same, is) refl
+
+  pub AreData-orientation : {turn : orientation.VideoOrientation} → shown.video_orientation ≡ Some turn → AreData VideoOrientation values (orientation_bits turn ∷ [])
+  unfolding carried_values
+  AreData-orientation {turn} is = record {
+    spelled = spelled-orientation is;
+    read_back = (omega arith, rw (← same, is) (ap Some (orientation_again turn)));
+    few = omega arith;
+  }
+
+  pub spelled-level : {level : ℤ} {voice : Bool} → shown.audio_level ≡ Some level → shown.voice_activity ≡ Some voice
+      → spelled_data AudioLevel values ≡ Some (level_byte level voice ∷ [])
+  spelled-level level-is voice-is = rw (← same, level-is, voice-is) refl
+
+  pub AreData-level : {level : ℤ} {voice : Bool} → shown.audio_level ≡ Some level → shown.voice_activity ≡ Some voice → AreData AudioLevel values (level_byte level voice ∷ [])
+  unfolding carried_values
+  AreData-level {level} {voice} level-is voice-is =
+      let again = level_again (unsigned_abs level) voice in
+      record {
+        spelled = spelled-level level-is voice-is;
+        read_back = (omega arith, rw (← same, level-is, voice-is) (ap (λ (n : ℕ). Some (neg_ℤ (pos n))) (sym again.0)), rw (← same, level-is, voice-is) (ap Some (sym again.1)));
+        few = omega arith;
+      }
+
+  pub spelled-delays : {min max : Fraction} → shown.play_delay_min ≡ Some min → shown.play_delay_max ≡ Some max
+      → spelled_data PlayoutDelay values ≡ Some (bytes_of 3 (delay_of min * 4096 + delay_of max))
+  spelled-delays min-is max-is = rw (← same, min-is, max-is) refl
+
+  pub AreData-delays : {min max : Fraction} → shown.play_delay_min ≡ Some min → shown.play_delay_max ≡ Some max
+      → number_of (bytes_of 3 (delay_of min * 4096 + delay_of max)) ≡ delay_of min * 4096 + delay_of max
+      → AreData PlayoutDelay values (bytes_of 3 (delay_of min * 4096 + delay_of max))
+  unfolding carried_values
+  AreData-delays {min} {max} min-is max-is back =
+      let high : number_of (bytes_of 3 (delay_of min * 4096 + delay_of max)) / 4096 ≡ delay_of min = omega arith in
+      let low : number_of (bytes_of 3 (delay_of min * 4096 + delay_of max)) % 4096 ≡ delay_of max = omega arith in
+      record {
+        spelled = spelled-delays min-is max-is;
+        read_back = (
+          omega arith,
+          rw (← same, min-is, max-is) (ap (λ (n : ℕ). Some (hundredths n)) (sym high)),
+          rw (← same, min-is, max-is) (ap (λ (n : ℕ). Some (hundredths n)) (sym low)),
+        );
+        few = omega arith;
+      }
+
+  pub spelled-timing : {t : timing.VideoTiming} → shown.video_timing ≡ Some t → spelled_data VideoTiming values ≡ Some (timing_bytes t)
+  spelled-timing is = rw (← same, is) refl
+
+  pub AreData-timing : {t : timing.VideoTiming} → shown.video_timing ≡ Some t
+      → number_of (bytes_of 2 t.encode_start) ≡ t.encode_start → number_of (bytes_of 2 t.encode_finish) ≡ t.encode_finish
+      → number_of (bytes_of 2 t.packetize_complete) ≡ t.packetize_complete → number_of (bytes_of 2 t.last_left_pacer) ≡ t.last_left_pacer
+      → AreData VideoTiming values (timing_bytes t)
+  unfolding carried_values
+  AreData-timing is start finish complete left = record {
+    spelled = spelled-timing is;
+    read_back = (omega arith, rw (← same, is) (cc));
+    few = omega arith;
+  }
+
+  pub spelled-capture : {t : capture.AbsCaptureTime} → shown.abs_capture_time ≡ Some t → spelled_data AbsoluteCaptureTime values ≡ Some (bytes_of 8 t.capture_time ++ offset_bytes t.clock_offset)
+  spelled-capture is = rw (← same, is) refl
+
+  pub AreData-capture : {t : capture.AbsCaptureTime} → shown.abs_capture_time ≡ Some t → number_of (bytes_of 8 t.capture_time) ≡ t.capture_time
+      → offset_of (offset_bytes t.clock_offset) ≡ t.clock_offset → AreData AbsoluteCaptureTime values (bytes_of 8 t.capture_time ++ offset_bytes t.clock_offset)
+  unfolding carried_values
+  AreData-capture {t} is word offset = record {
+    spelled = spelled-capture is;
+    read_back = (omega arith, rw (← same, is) (cc));
+    few = ?;
+  }
+
+  pub spelled-rid : {rid text : List ℕ} → shown.rid ≡ Some rid → text ≡ before_padding rid → spelled_data RtpStreamId values ≡ Some text
+  spelled-rid is text-is = rw (← same, is) (ap Some (sym text-is))
+
+  pub AreData-rid : {rid text : List ℕ} → shown.rid ≡ Some rid → text ≡ before_padding rid → IsUtf8 text → IsIdOf 8 text rid → AreData RtpStreamId values text
+  unfolding carried_values
+  AreData-rid {rid} is text-is utf8 back = record {
+    spelled = spelled-rid is text-is;
+    read_back = (utf8, rw (← same, is) back);
+    few = omega (arith, ap length (text-is ∙ back.text_is), length-take 8 (map id_char (chars _)));
+  }
+
+  pub spelled-repaired : {rid text : List ℕ} → shown.rid_repair ≡ Some rid → text ≡ before_padding rid → spelled_data RepairedRtpStreamId values ≡ Some text
+  spelled-repaired is text-is = rw (← same, is) (ap Some (sym text-is))
+
+  pub AreData-repaired : {rid text : List ℕ} → shown.rid_repair ≡ Some rid → text ≡ before_padding rid → IsUtf8 text → IsIdOf 8 text rid → AreData RepairedRtpStreamId values text
+  unfolding carried_values
+  AreData-repaired {rid} is text-is utf8 back = record {
+    spelled = spelled-repaired is text-is;
+    read_back = (utf8, rw (← same, is) back);
+    few = omega (arith, ap length (text-is ∙ back.text_is), length-take 8 (map id_char (chars _)));
+  }
+
+  pub spelled-mid : {mid text : List ℕ} → shown.mid ≡ Some mid → text ≡ before_padding mid → spelled_data RtpMid values ≡ Some text
+  spelled-mid is text-is = rw (← same, is) (ap Some (sym text-is))
+
+  pub AreData-mid : {mid text : List ℕ} → shown.mid ≡ Some mid → text ≡ before_padding mid → IsUtf8 text → IsIdOf 16 text mid → AreData RtpMid values text
+  unfolding carried_values
+  AreData-mid {mid} is text-is utf8 back = record {
+    spelled = spelled-mid is text-is;
+    read_back = (utf8, rw (← same, is) back);
+    few = omega (arith, ap length (text-is ∙ back.text_is), length-take 16 (map id_char (chars _)));
+  }
