@@ -1,9 +1,10 @@
 -- The data that a kind's values are written as, and what they are read as.
-use Rattle.std.proofs.Common.{◌≡◌, ℕ, ◌+◌, ◌*◌, ◌/◌, ◌%◌, ◌≤◌, ℤ, pos, neg_ℤ, Bool, true, false, List, [], ◌∷◌, ◌++◌, length, drop, Some, refl, sym, ap, ◌∙◌, arith, eq-eqb, length-take}
+use Rattle.std.proofs.Common.{◌≡◌, ℕ, ◌+◌, ◌*◌, ◌/◌, ◌%◌, ◌<◌, ◌≤◌, ℤ, pos, neg_ℤ, Bool, true, false, List, [], ◌∷◌, ◌++◌, length, drop, Option, Some, None, refl, sym, ap, ◌∙◌, arith, eq-eqb, length-take}
 use Rattle.std.specs.Prelude.{unsigned_abs, ◌==◌, map, IsUtf8}
 use Rattle.std.specs.Option.{option_map}
 use Rattle.std.specs.Str.{chars}
 use Rattle.std.proofs.lemmas.Bool.{ne_eqb}
+use Rattle.std.proofs.lemmas.Nat.{div-mul-add, mod-mul-add}
 use Rattle.rtp_base.specs.MediaTime.{Fraction}
 use Rattle.rtp_base.specs.Id.{before_padding, id_char, IsIdOf}
 use Rattle.rtp_wire.specs.declared.ext.kind.Extension.{Extension}
@@ -47,6 +48,19 @@ level_again : (n : ℕ) (voice : Bool) → ((bit voice * 128 + n % 128) % 128 �
 level_again n false = (omega arith, ne_eqb _ 1 (omega arith))
 level_again n true = (omega arith, eq-eqb _ 1 (omega arith))
 
+timing_again : (t : timing.VideoTiming) (start finish complete left : ℕ) → start ≡ t.encode_start → finish ≡ t.encode_finish
+    → complete ≡ t.packetize_complete → left ≡ t.last_left_pacer
+    → t ≡ record { flags = t.flags; encode_start = start; encode_finish = finish; packetize_complete = complete; last_left_pacer = left }
+timing_again t start finish complete left start-is finish-is complete-is left-is = rw (start-is, finish-is, complete-is, left-is) refl
+
+capture_again : (t : capture.AbsCaptureTime) (word : ℕ) (offset : Option ℤ) → word ≡ t.capture_time → offset ≡ t.clock_offset
+    → t ≡ record { capture_time = word; clock_offset = offset }
+capture_again t word offset word-is offset-is = rw (word-is, offset-is) refl
+
+length-offset_bytes : (offset : Option ℤ) → length (offset_bytes offset) ≤ 8
+length-offset_bytes None = omega arith
+length-offset_bytes (Some offset) = omega arith
+
 orientation_again : (turn : orientation.VideoOrientation) → turn ≡ orientation_of (orientation_bits turn % 4)
 orientation_again Deg0 = refl
 orientation_again Deg90 = refl
@@ -56,15 +70,15 @@ orientation_again Deg270 = refl
 -- ---- kind by kind; `shown` is what the fields hold
 
 module _ {shown values : ExtensionValues} (same : shown ≡ values) where
-  pub spelled-send_time : {micros : ℕ} → shown.abs_send_time ≡ Some micros → spelled_data AbsoluteSendTime values ≡ Some (bytes_of 3 (send_ticks micros))
-  spelled-send_time is = rw (← same, is) refl
+  pub spelled-send_time : {micros ticks : ℕ} → shown.abs_send_time ≡ Some micros → ticks ≡ send_ticks micros → spelled_data AbsoluteSendTime values ≡ Some (bytes_of 3 ticks)
+  spelled-send_time is ticks-is = rw (← same, is, ticks-is) refl
 
-  pub AreData-send_time : {micros : ℕ} → shown.abs_send_time ≡ Some micros → number_of (bytes_of 3 (send_ticks micros)) ≡ send_ticks micros
-      → AreData AbsoluteSendTime values (bytes_of 3 (send_ticks micros))
+  pub AreData-send_time : {micros ticks : ℕ} → shown.abs_send_time ≡ Some micros → ticks ≡ send_ticks micros → number_of (bytes_of 3 ticks) ≡ ticks
+      → AreData AbsoluteSendTime values (bytes_of 3 ticks)
   unfolding carried_values
-  AreData-send_time is back = record {
-    spelled = spelled-send_time is;
-    read_back = (omega arith, rw (← same, is) (ap (λ (ticks : ℕ). Some (ticks * 1000000 / 262144)) (sym back)));
+  AreData-send_time is ticks-is back = record {
+    spelled = spelled-send_time is ticks-is;
+    read_back = (omega arith, rw (← same, is) (ap (λ (ticks : ℕ). Some (ticks * 1000000 / 262144)) (sym (back ∙ ticks-is))));
     few = omega arith;
   }
 
@@ -119,37 +133,41 @@ module _ {shown values : ExtensionValues} (same : shown ≡ values) where
     few = omega arith;
   }
 
-  pub spelled-level : {level : ℤ} {voice : Bool} → shown.audio_level ≡ Some level → shown.voice_activity ≡ Some voice
-      → spelled_data AudioLevel values ≡ Some (level_byte level voice ∷ [])
-  spelled-level level-is voice-is = rw (← same, level-is, voice-is) refl
+  pub spelled-level : {level : ℤ} {voice : Bool} {byte : ℕ} → shown.audio_level ≡ Some level → shown.voice_activity ≡ Some voice → byte ≡ level_byte level voice
+      → spelled_data AudioLevel values ≡ Some (byte ∷ [])
+  spelled-level level-is voice-is byte-is = rw (← same, level-is, voice-is, byte-is) refl
 
-  pub AreData-level : {level : ℤ} {voice : Bool} → shown.audio_level ≡ Some level → shown.voice_activity ≡ Some voice → AreData AudioLevel values (level_byte level voice ∷ [])
+  pub AreData-level : {level : ℤ} {voice : Bool} {byte : ℕ} → shown.audio_level ≡ Some level → shown.voice_activity ≡ Some voice → byte ≡ level_byte level voice
+      → AreData AudioLevel values (byte ∷ [])
   unfolding carried_values
-  AreData-level {level} {voice} level-is voice-is =
+  AreData-level {level} {voice} level-is voice-is byte-is =
       let again = level_again (unsigned_abs level) voice in
       record {
-        spelled = spelled-level level-is voice-is;
-        read_back = (omega arith, rw (← same, level-is, voice-is) (ap (λ (n : ℕ). Some (neg_ℤ (pos n))) (sym again.0)), rw (← same, level-is, voice-is) (ap Some (sym again.1)));
+        spelled = spelled-level level-is voice-is byte-is;
+        read_back = (
+          omega arith,
+          rw (← same, level-is, voice-is, byte-is) (ap (λ (n : ℕ). Some (neg_ℤ (pos n))) (sym again.0)),
+          rw (← same, level-is, voice-is, byte-is) (ap Some (sym again.1)),
+        );
         few = omega arith;
       }
 
-  pub spelled-delays : {min max : Fraction} → shown.play_delay_min ≡ Some min → shown.play_delay_max ≡ Some max
-      → spelled_data PlayoutDelay values ≡ Some (bytes_of 3 (delay_of min * 4096 + delay_of max))
-  spelled-delays min-is max-is = rw (← same, min-is, max-is) refl
+  pub spelled-delays : {min max : Fraction} {least most : ℕ} → shown.play_delay_min ≡ Some min → shown.play_delay_max ≡ Some max
+      → least ≡ delay_of min → most ≡ delay_of max → spelled_data PlayoutDelay values ≡ Some (bytes_of 3 (least * 4096 + most))
+  spelled-delays min-is max-is least-is most-is = rw (← same, min-is, max-is, least-is, most-is) refl
 
-  pub AreData-delays : {min max : Fraction} → shown.play_delay_min ≡ Some min → shown.play_delay_max ≡ Some max
-      → number_of (bytes_of 3 (delay_of min * 4096 + delay_of max)) ≡ delay_of min * 4096 + delay_of max
-      → AreData PlayoutDelay values (bytes_of 3 (delay_of min * 4096 + delay_of max))
+  pub AreData-delays : {min max : Fraction} {least most : ℕ} → shown.play_delay_min ≡ Some min → shown.play_delay_max ≡ Some max
+      → least ≡ delay_of min → most ≡ delay_of max → number_of (bytes_of 3 (least * 4096 + most)) ≡ least * 4096 + most
+      → AreData PlayoutDelay values (bytes_of 3 (least * 4096 + most))
   unfolding carried_values
-  AreData-delays {min} {max} min-is max-is back =
-      let high : number_of (bytes_of 3 (delay_of min * 4096 + delay_of max)) / 4096 ≡ delay_of min = omega arith in
-      let low : number_of (bytes_of 3 (delay_of min * 4096 + delay_of max)) % 4096 ≡ delay_of max = omega arith in
+  AreData-delays {min} {max} {least} {most} min-is max-is least-is most-is back =
+      let below : most < 4096 = omega arith in
       record {
-        spelled = spelled-delays min-is max-is;
+        spelled = spelled-delays min-is max-is least-is most-is;
         read_back = (
           omega arith,
-          rw (← same, min-is, max-is) (ap (λ (n : ℕ). Some (hundredths n)) (sym high)),
-          rw (← same, min-is, max-is) (ap (λ (n : ℕ). Some (hundredths n)) (sym low)),
+          rw (← same, min-is, max-is) (ap (λ (n : ℕ). Some (hundredths n)) (sym (ap (λ (n : ℕ). n / 4096) back ∙ div-mul-add least 4096 most below ∙ least-is))),
+          rw (← same, min-is, max-is) (ap (λ (n : ℕ). Some (hundredths n)) (sym (ap (λ (n : ℕ). n % 4096) back ∙ mod-mul-add least 4096 most below ∙ most-is))),
         );
         few = omega arith;
       }
@@ -164,7 +182,7 @@ module _ {shown values : ExtensionValues} (same : shown ≡ values) where
   unfolding carried_values
   AreData-timing is start finish complete left = record {
     spelled = spelled-timing is;
-    read_back = (omega arith, rw (← same, is) (cc));
+    read_back = (omega arith, rw (← same, is) (ap Some (timing_again _ _ _ _ _ start finish complete left)));
     few = omega arith;
   }
 
@@ -176,8 +194,8 @@ module _ {shown values : ExtensionValues} (same : shown ≡ values) where
   unfolding carried_values
   AreData-capture {t} is word offset = record {
     spelled = spelled-capture is;
-    read_back = (omega arith, rw (← same, is) (cc));
-    few = ?;
+    read_back = (omega arith, rw (← same, is) (ap Some (capture_again _ _ _ word offset)));
+    few = omega (arith, length-offset_bytes t.clock_offset);
   }
 
   pub spelled-rid : {rid text : List ℕ} → shown.rid ≡ Some rid → text ≡ before_padding rid → spelled_data RtpStreamId values ≡ Some text
@@ -185,10 +203,10 @@ module _ {shown values : ExtensionValues} (same : shown ≡ values) where
 
   pub AreData-rid : {rid text : List ℕ} → shown.rid ≡ Some rid → text ≡ before_padding rid → IsUtf8 text → IsIdOf 8 text rid → AreData RtpStreamId values text
   unfolding carried_values
-  AreData-rid {rid} is text-is utf8 back = record {
+  AreData-rid {rid} {text} is text-is utf8 back = record {
     spelled = spelled-rid is text-is;
     read_back = (utf8, rw (← same, is) back);
-    few = omega (arith, ap length (text-is ∙ back.text_is), length-take 8 (map id_char (chars _)));
+    few = omega (arith, ap length (text-is ∙ back.text_is), length-take 8 (map id_char (chars text)));
   }
 
   pub spelled-repaired : {rid text : List ℕ} → shown.rid_repair ≡ Some rid → text ≡ before_padding rid → spelled_data RepairedRtpStreamId values ≡ Some text
@@ -196,10 +214,10 @@ module _ {shown values : ExtensionValues} (same : shown ≡ values) where
 
   pub AreData-repaired : {rid text : List ℕ} → shown.rid_repair ≡ Some rid → text ≡ before_padding rid → IsUtf8 text → IsIdOf 8 text rid → AreData RepairedRtpStreamId values text
   unfolding carried_values
-  AreData-repaired {rid} is text-is utf8 back = record {
+  AreData-repaired {rid} {text} is text-is utf8 back = record {
     spelled = spelled-repaired is text-is;
     read_back = (utf8, rw (← same, is) back);
-    few = omega (arith, ap length (text-is ∙ back.text_is), length-take 8 (map id_char (chars _)));
+    few = omega (arith, ap length (text-is ∙ back.text_is), length-take 8 (map id_char (chars text)));
   }
 
   pub spelled-mid : {mid text : List ℕ} → shown.mid ≡ Some mid → text ≡ before_padding mid → spelled_data RtpMid values ≡ Some text
@@ -207,8 +225,8 @@ module _ {shown values : ExtensionValues} (same : shown ≡ values) where
 
   pub AreData-mid : {mid text : List ℕ} → shown.mid ≡ Some mid → text ≡ before_padding mid → IsUtf8 text → IsIdOf 16 text mid → AreData RtpMid values text
   unfolding carried_values
-  AreData-mid {mid} is text-is utf8 back = record {
+  AreData-mid {mid} {text} is text-is utf8 back = record {
     spelled = spelled-mid is text-is;
     read_back = (utf8, rw (← same, is) back);
-    few = omega (arith, ap length (text-is ∙ back.text_is), length-take 16 (map id_char (chars _)));
+    few = omega (arith, ap length (text-is ∙ back.text_is), length-take 16 (map id_char (chars text)));
   }

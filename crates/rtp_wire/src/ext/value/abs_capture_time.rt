@@ -26,7 +26,7 @@ fn first_offset(bytes: &[u8]) -> Option<i64>
     let Some(number) = first_u64(bytes) else {
         return None;
     };
-    Some(number as i64)
+    Some(number.cast_signed())
 }
 
 // Reads the data of the kind.
@@ -48,7 +48,7 @@ fn put_offset(buf: &mut [u8], offset: i64)
     ensures written { buf.new ≡ offset_bytes (Some offset) ++ drop 8 buf.old }
     ensures back { offset_of (offset_bytes (Some offset)) ≡ Some offset }
 {
-    put_u64(buf, offset as u64);
+    put_u64(buf, offset.cast_unsigned());
 }
 
 // Writes the data of the kind, and returns their number of bytes.

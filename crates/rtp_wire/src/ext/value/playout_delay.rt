@@ -38,5 +38,5 @@ pub(super) fn write(buf: &mut [u8], ev: &ExtensionValues) -> Option<usize>
     let Some(max) = ev.play_delay_max else {
         return None;
     };
-    Some(put_u24(buf, delay_of(min) << 12 | delay_of(max)))
+    Some(put_u24(buf, delay_of(min) * 4096 + delay_of(max)))
 }
