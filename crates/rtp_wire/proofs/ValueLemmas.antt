@@ -1,5 +1,5 @@
 -- The data that a kind's values are written as, and what they are read as.
-use Rattle.std.proofs.Common.{◌≡◌, ℕ, ◌+◌, ◌*◌, ◌/◌, ◌%◌, ◌<◌, ◌≤◌, ℤ, pos, neg_ℤ, Bool, true, false, List, [], ◌∷◌, ◌++◌, length, drop, Option, Some, None, refl, sym, ap, ◌∙◌, arith, eq-eqb, length-take}
+use Rattle.std.proofs.Common.{◌≡◌, ℕ, ◌+◌, ◌*◌, ◌/◌, ◌%◌, ◌<◌, ◌≤◌, ℤ, pos, neg_ℤ, Bool, true, false, List, [], ◌∷◌, ◌++◌, length, drop, Option, Some, None, refl, sym, ap, ◌∙◌, subst, arith, eq-eqb, length-take}
 use Rattle.std.specs.Prelude.{unsigned_abs, ◌==◌, map, IsUtf8}
 use Rattle.std.specs.Option.{option_map}
 use Rattle.std.specs.Str.{chars}
@@ -122,14 +122,16 @@ module _ {shown values : ExtensionValues} (same : shown ≡ values) where
   unfolding carried_values
   AreData-content is = record { spelled = spelled-content is; read_back = (omega arith, rw (← same, is) refl); few = omega arith }
 
-  pub spelled-orientation : {turn : orientation.VideoOrientation} → shown.video_orientation ≡ Some turn → spelled_data VideoOrientation values ≡ Some (orientation_bits turn ∷ [])
-  spelled-orientation is = rw (← same, is) refl
+  pub spelled-orientation : {turn : orientation.VideoOrientation} {byte : ℕ} → shown.video_orientation ≡ Some turn → byte ≡ orientation_bits turn
+      → spelled_data VideoOrientation values ≡ Some (byte ∷ [])
+  spelled-orientation is byte-is = rw (← same, is, byte-is) refl
 
-  pub AreData-orientation : {turn : orientation.VideoOrientation} → shown.video_orientation ≡ Some turn → AreData VideoOrientation values (orientation_bits turn ∷ [])
+  pub AreData-orientation : {turn : orientation.VideoOrientation} {byte : ℕ} → shown.video_orientation ≡ Some turn → byte ≡ orientation_bits turn
+      → AreData VideoOrientation values (byte ∷ [])
   unfolding carried_values
-  AreData-orientation {turn} is = record {
-    spelled = spelled-orientation is;
-    read_back = (omega arith, rw (← same, is) (ap Some (orientation_again turn)));
+  AreData-orientation {turn} is byte-is = record {
+    spelled = spelled-orientation is byte-is;
+    read_back = (omega arith, rw (← same, is, byte-is) (ap Some (orientation_again turn)));
     few = omega arith;
   }
 
@@ -172,61 +174,54 @@ module _ {shown values : ExtensionValues} (same : shown ≡ values) where
         few = omega arith;
       }
 
-  pub spelled-timing : {t : timing.VideoTiming} → shown.video_timing ≡ Some t → spelled_data VideoTiming values ≡ Some (timing_bytes t)
-  spelled-timing is = rw (← same, is) refl
+  pub spelled-timing : {t : timing.VideoTiming} {bytes : List ℕ} → shown.video_timing ≡ Some t → bytes ≡ timing_bytes t → spelled_data VideoTiming values ≡ Some bytes
+  spelled-timing is bytes-are = rw (← same, is) (ap Some (sym bytes-are))
 
-  pub AreData-timing : {t : timing.VideoTiming} → shown.video_timing ≡ Some t
+  pub AreData-timing : {t : timing.VideoTiming} {bytes : List ℕ} → shown.video_timing ≡ Some t → bytes ≡ timing_bytes t
       → number_of (bytes_of 2 t.encode_start) ≡ t.encode_start → number_of (bytes_of 2 t.encode_finish) ≡ t.encode_finish
       → number_of (bytes_of 2 t.packetize_complete) ≡ t.packetize_complete → number_of (bytes_of 2 t.last_left_pacer) ≡ t.last_left_pacer
-      → AreData VideoTiming values (timing_bytes t)
+      → AreData VideoTiming values bytes
   unfolding carried_values
-  AreData-timing is start finish complete left = record {
-    spelled = spelled-timing is;
-    read_back = (omega arith, rw (← same, is) (ap Some (timing_again _ _ _ _ _ start finish complete left)));
-    few = omega arith;
+  AreData-timing is bytes-are start finish complete left = record {
+    spelled = spelled-timing is bytes-are;
+    read_back = rw bytes-are (omega arith, rw (← same, is) (ap Some (timing_again _ _ _ _ _ start finish complete left)));
+    few = rw bytes-are (omega arith);
   }
 
-  pub spelled-capture : {t : capture.AbsCaptureTime} → shown.abs_capture_time ≡ Some t → spelled_data AbsoluteCaptureTime values ≡ Some (bytes_of 8 t.capture_time ++ offset_bytes t.clock_offset)
-  spelled-capture is = rw (← same, is) refl
+  pub spelled-capture : {t : capture.AbsCaptureTime} {offset : Option ℤ} → shown.abs_capture_time ≡ Some t → t.clock_offset ≡ offset
+      → spelled_data AbsoluteCaptureTime values ≡ Some (bytes_of 8 t.capture_time ++ offset_bytes offset)
+  spelled-capture is offset-is = rw (← same, is, offset-is) refl
 
-  pub AreData-capture : {t : capture.AbsCaptureTime} → shown.abs_capture_time ≡ Some t → number_of (bytes_of 8 t.capture_time) ≡ t.capture_time
-      → offset_of (offset_bytes t.clock_offset) ≡ t.clock_offset → AreData AbsoluteCaptureTime values (bytes_of 8 t.capture_time ++ offset_bytes t.clock_offset)
+  pub AreData-capture : {t : capture.AbsCaptureTime} {offset : Option ℤ} → shown.abs_capture_time ≡ Some t → t.clock_offset ≡ offset
+      → number_of (bytes_of 8 t.capture_time) ≡ t.capture_time → offset_of (offset_bytes offset) ≡ offset
+      → AreData AbsoluteCaptureTime values (bytes_of 8 t.capture_time ++ offset_bytes offset)
   unfolding carried_values
-  AreData-capture {t} is word offset = record {
-    spelled = spelled-capture is;
-    read_back = (omega arith, rw (← same, is) (ap Some (capture_again _ _ _ word offset)));
-    few = omega (arith, length-offset_bytes t.clock_offset);
+  AreData-capture {t} {offset} is offset-is word back = record {
+    spelled = spelled-capture is offset-is;
+    read_back = (omega arith, rw (← same, is) (ap Some (capture_again _ _ _ word (back ∙ sym offset-is))));
+    few = omega (arith, length-offset_bytes offset);
   }
 
-  pub spelled-rid : {rid text : List ℕ} → shown.rid ≡ Some rid → text ≡ before_padding rid → spelled_data RtpStreamId values ≡ Some text
-  spelled-rid is text-is = rw (← same, is) (ap Some (sym text-is))
-
-  pub AreData-rid : {rid text : List ℕ} → shown.rid ≡ Some rid → text ≡ before_padding rid → IsUtf8 text → IsIdOf 8 text rid → AreData RtpStreamId values text
+  pub AreData-rid : {rid text bytes : List ℕ} → shown.rid ≡ Some rid → text ≡ before_padding rid → IsIdOf 8 text rid → bytes ≡ text → IsUtf8 bytes → AreData RtpStreamId values bytes
   unfolding carried_values
-  AreData-rid {rid} {text} is text-is utf8 back = record {
-    spelled = spelled-rid is text-is;
-    read_back = (utf8, rw (← same, is) back);
-    few = omega (arith, ap length (text-is ∙ back.text_is), length-take 8 (map id_char (chars text)));
+  AreData-rid {rid} {text} is text-is back bytes-are utf8 = record {
+    spelled = rw (← same, is) (ap Some (sym (bytes-are ∙ text-is)));
+    read_back = (utf8, rw (← same, is) (subst (λ (xs : List ℕ). IsIdOf 8 xs rid) (sym bytes-are) back));
+    few = omega (arith, ap length (bytes-are ∙ text-is ∙ back.text_is), length-take 8 (map id_char (chars text)));
   }
 
-  pub spelled-repaired : {rid text : List ℕ} → shown.rid_repair ≡ Some rid → text ≡ before_padding rid → spelled_data RepairedRtpStreamId values ≡ Some text
-  spelled-repaired is text-is = rw (← same, is) (ap Some (sym text-is))
-
-  pub AreData-repaired : {rid text : List ℕ} → shown.rid_repair ≡ Some rid → text ≡ before_padding rid → IsUtf8 text → IsIdOf 8 text rid → AreData RepairedRtpStreamId values text
+  pub AreData-repaired : {rid text bytes : List ℕ} → shown.rid_repair ≡ Some rid → text ≡ before_padding rid → IsIdOf 8 text rid → bytes ≡ text → IsUtf8 bytes → AreData RepairedRtpStreamId values bytes
   unfolding carried_values
-  AreData-repaired {rid} {text} is text-is utf8 back = record {
-    spelled = spelled-repaired is text-is;
-    read_back = (utf8, rw (← same, is) back);
-    few = omega (arith, ap length (text-is ∙ back.text_is), length-take 8 (map id_char (chars text)));
+  AreData-repaired {rid} {text} is text-is back bytes-are utf8 = record {
+    spelled = rw (← same, is) (ap Some (sym (bytes-are ∙ text-is)));
+    read_back = (utf8, rw (← same, is) (subst (λ (xs : List ℕ). IsIdOf 8 xs rid) (sym bytes-are) back));
+    few = omega (arith, ap length (bytes-are ∙ text-is ∙ back.text_is), length-take 8 (map id_char (chars text)));
   }
 
-  pub spelled-mid : {mid text : List ℕ} → shown.mid ≡ Some mid → text ≡ before_padding mid → spelled_data RtpMid values ≡ Some text
-  spelled-mid is text-is = rw (← same, is) (ap Some (sym text-is))
-
-  pub AreData-mid : {mid text : List ℕ} → shown.mid ≡ Some mid → text ≡ before_padding mid → IsUtf8 text → IsIdOf 16 text mid → AreData RtpMid values text
+  pub AreData-mid : {mid text bytes : List ℕ} → shown.mid ≡ Some mid → text ≡ before_padding mid → IsIdOf 16 text mid → bytes ≡ text → IsUtf8 bytes → AreData RtpMid values bytes
   unfolding carried_values
-  AreData-mid {mid} {text} is text-is utf8 back = record {
-    spelled = spelled-mid is text-is;
-    read_back = (utf8, rw (← same, is) back);
-    few = omega (arith, ap length (text-is ∙ back.text_is), length-take 16 (map id_char (chars text)));
+  AreData-mid {mid} {text} is text-is back bytes-are utf8 = record {
+    spelled = rw (← same, is) (ap Some (sym (bytes-are ∙ text-is)));
+    read_back = (utf8, rw (← same, is) (subst (λ (xs : List ℕ). IsIdOf 16 xs mid) (sym bytes-are) back));
+    few = omega (arith, ap length (bytes-are ∙ text-is ∙ back.text_is), length-take 16 (map id_char (chars text)));
   }

@@ -40,6 +40,13 @@ impl From<u8> for VideoOrientation {
     }
 }
 
+// The orientation in two bits.
+fn bits_of(orientation: VideoOrientation) -> u8
+    ensures { result ≡ orientation_bits orientation }
+{
+    orientation as u8
+}
+
 // Reads the data of the kind.
 pub(super) fn read(buf: &[u8], ev: &mut ExtensionValues) -> Option<()>
     ensures { HasRead OrientationKind buf.now ev.old ev.new result }
@@ -57,5 +64,5 @@ pub(super) fn write(buf: &mut [u8], ev: &ExtensionValues) -> Option<usize>
     let Some(orientation) = ev.video_orientation else {
         return None;
     };
-    Some(put(buf, &[orientation as u8]))
+    Some(put(buf, &[bits_of(orientation)]))
 }

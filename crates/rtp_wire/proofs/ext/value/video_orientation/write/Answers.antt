@@ -2,7 +2,7 @@ use Rattle.rtp_wire.proofs.ValueLemmas.{spelled-orientation, AreData-orientation
 use Rattle.rtp_wire.proofs.ext.value.video_orientation.write.Goals as goal
 
 pub put-requires : goal.put-requires
-put-requires c = record { room = c.requires.room _ (spelled-orientation c.ev.view_is c.in-Some.is) }
+put-requires c = record { room = c.requires.room _ (spelled-orientation c.ev.view_is c.in-Some.is c.bits_of.ensures) }
 
 pub returns : goal.returns
-returns c = HasWritten-put (AreData-orientation c.ev.view_is c.in-Some.is) c.put.ensures.length c.put.ensures.written
+returns c = HasWritten-put (AreData-orientation c.ev.view_is c.in-Some.is c.bits_of.ensures) c.put.ensures.length c.put.ensures.written
