@@ -9,6 +9,7 @@ use super::ExtensionValues;
 use super::front::{first_u24, put_u24};
 
 const MICROS_PER_SECOND: u64 = 1_000_000;
+
 const TICKS_PER_SECOND: u64 = 1 << 18;
 
 // The whole ticks of a time in microseconds, modulo 64 seconds.

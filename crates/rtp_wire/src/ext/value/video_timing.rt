@@ -69,19 +69,22 @@ pub(super) fn write(buf: &mut [u8], ev: &ExtensionValues) -> Option<usize>
     let finish = time_bytes(timing.encode_finish);
     let complete = time_bytes(timing.packetize_complete);
     let left = time_bytes(timing.last_left_pacer);
-    Some(put(buf, &[
-        timing.flags,
-        start[0],
-        start[1],
-        finish[0],
-        finish[1],
-        complete[0],
-        complete[1],
-        left[0],
-        left[1],
-        0,
-        0,
-        0,
-        0,
-    ]))
+    Some(put(
+        buf,
+        &[
+            timing.flags,
+            start[0],
+            start[1],
+            finish[0],
+            finish[1],
+            complete[0],
+            complete[1],
+            left[0],
+            left[1],
+            0,
+            0,
+            0,
+            0,
+        ],
+    ))
 }

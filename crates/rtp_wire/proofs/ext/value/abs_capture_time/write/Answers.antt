@@ -1,4 +1,4 @@
-use Rattle.std.proofs.Common.{◌≡◌, ℕ, ℤ, Option, Some, subst, rules, w64, to_z, of_z, FitsSigned, ◌-◌, ◌≤◌, List, [], ◌++◌, length, take, drop, refl, sym, ap, ◌∙◌, append_assoc, arith, take_at, drop_at, length-append, length-drop}
+use Rattle.std.proofs.Common.{◌≡◌, ℕ, ℤ, Option, Some, subst, rules, w64, to_z, of_z, FitsSigned, ◌-◌, List, ◌++◌, length, take, drop, refl, sym, ap, ◌∙◌, append_assoc, arith, take_at, drop_at, length-append, length-drop}
 use Rattle.std.proofs.lemmas.Int.{to_z-of_z}
 use Rattle.std.proofs.lemmas.List.{take_rest, take_all, drop_all, drop-drop, append-nil}
 use Rattle.rtp_wire.specs.Values.{offset_of}

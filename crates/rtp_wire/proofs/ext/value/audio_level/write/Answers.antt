@@ -8,9 +8,10 @@ byte_is level voice byte fits is = is ∙ ap (λ (z : ℤ). level_byte z voice) 
 
 pub put-requires : goal.put-requires
 put-requires c =
-    record { room = c.requires.room _ (spelled-level c.ev.view_is c.in-Some.is c.in-Some-voice_activity.is (byte_is _ _ _ (search rules) c.level_byte.ensures)) }
+    let fits : FitsSigned w8 c.in-Some.level = search rules in
+    record { room = c.requires.room _ (spelled-level c.ev.view_is c.in-Some.is c.in-Some-voice_activity.is (byte_is _ _ _ fits c.level_byte.ensures)) }
 
 pub returns : goal.returns
 returns c =
-    HasWritten-put (AreData-level c.ev.view_is c.in-Some.is c.in-Some-voice_activity.is (byte_is _ _ _ (search rules) c.level_byte.ensures))
-    c.put.ensures.length c.put.ensures.written
+    let fits : FitsSigned w8 c.in-Some.level = search rules in
+    HasWritten-put (AreData-level c.ev.view_is c.in-Some.is c.in-Some-voice_activity.is (byte_is _ _ _ fits c.level_byte.ensures)) c.put.ensures.length c.put.ensures.written
