@@ -1,9 +1,9 @@
 -- The data that a kind's values are written as, and what they are read as.
-use Rattle.std.proofs.Common.{◌≡◌, ℕ, ◌+◌, ◌*◌, ◌/◌, ◌%◌, ◌<◌, ◌≤◌, ℤ, pos, neg_ℤ, Bool, true, false, List, [], ◌∷◌, ◌++◌, length, drop, Option, Some, None, refl, sym, ap, ◌∙◌, subst, arith, eq-eqb, length-take}
+use Rattle.std.proofs.Common.{◌≡◌, ℕ, ◌+◌, ◌*◌, ◌/◌, ◌%◌, ◌<◌, ◌≤◌, ℤ, pos, neg_ℤ, Bool, true, false, List, [], ◌∷◌, ◌++◌, length, drop, Option, Some, None, refl, sym, ap, inl, inr, ◌∙◌, subst, arith, eq-eqb, length-take}
 use Rattle.std.specs.Prelude.{unsigned_abs, ◌==◌, map, IsUtf8}
-use Rattle.std.specs.Option.{option_map}
+use Rattle.std.specs.Option.{option_map, ForSome}
 use Rattle.std.specs.Str.{chars}
-use Rattle.std.proofs.lemmas.Bool.{ne_eqb}
+use Rattle.std.proofs.lemmas.Bool.{ne_eqb, cases_lt}
 use Rattle.std.proofs.lemmas.Nat.{div-mul-add, mod-mul-add}
 use Rattle.rtp_base.specs.MediaTime.{Fraction}
 use Rattle.rtp_base.specs.Id.{before_padding, id_char, IsIdOf}
@@ -16,8 +16,8 @@ use Rattle.rtp_wire.specs.declared.ext.value.video_orientation.VideoOrientation 
 use Rattle.rtp_wire.specs.declared.ext.value.video_orientation.VideoOrientation.TheVariants.{Deg0, Deg90, Deg180, Deg270}
 use Rattle.rtp_wire.specs.Header.{bit}
 use Rattle.rtp_wire.specs.Values.{Reads, number_of, offset_of, orientation_of, hundredths}
-use Rattle.rtp_wire.specs.Spelling.{bytes_of, spelled_data, carried_values, send_ticks, delay_of, offset_bytes, orientation_bits, timing_bytes}
-use Rattle.rtp_wire.specs.KindBytes.{HasRoom, HasWritten}
+use Rattle.rtp_wire.specs.Spelling.{bytes_of, spelled_data, HasRoom, carried_values, send_ticks, delay_of, offset_bytes, orientation_bits, timing_bytes}
+use Rattle.rtp_wire.specs.KindBytes.{HasWritten}
 
 -- ---- what is written
 
@@ -27,9 +27,14 @@ pub record AreData (kind : Extension) (values : ExtensionValues) (bytes : List �
   pub read_back : Reads kind bytes (carried_values values)
   pub few : length bytes ≤ 16
 
+pub room_of : {spelled : Option (List ℕ)} {bytes : List ℕ} → spelled ≡ Some bytes → length bytes ≤ 255
+    → (buf : List ℕ) → (length buf < 255 → ForSome spelled (λ some. length some ≤ length buf)) → length bytes ≤ length buf
+room_of {bytes} is few buf room =
+    elim (cases_lt (length buf) 255) [ inl below ↦ room below bytes is | inr enough ↦ omega arith ]
+
 module _ {kind : Extension} {values : ExtensionValues} {bytes : List ℕ} (are : AreData kind values bytes) where
-  pub room_for : (old : List ℕ) → HasRoom kind values old → length bytes ≤ length old
-  room_for old room = room bytes are.spelled
+  pub room_for : (buf : List ℕ) → HasRoom kind values buf → length bytes ≤ length buf
+  room_for buf room = let few = are.few in room_of are.spelled (omega arith) buf room
 
   pub HasWritten-put : {old new : List ℕ} {result : ℕ} → result ≡ length bytes → new ≡ bytes ++ drop (length bytes) old → HasWritten kind values old new (Some result)
   HasWritten-put len put = record {

@@ -1,6 +1,6 @@
 -- What reading and writing one kind promises.
 use Rattle.std.specs.Prelude.{◌≡◌, ℕ, ◌≤◌, List, [], ◌++◌, length, drop, unwrap_or, Option, IfSome, IfNone}
-use Rattle.std.specs.Option.{option_map, ForSome}
+use Rattle.std.specs.Option.{option_map}
 use Rattle.rtp_wire.specs.declared.ext.kind.Extension.{Extension}
 use Rattle.rtp_wire.specs.declared.ext.kind.Extension.TheVariants.{AbsoluteSendTime, AbsoluteCaptureTime, AudioLevel, TransmissionTimeOffset, VideoOrientation, TransportSequenceNumber, PlayoutDelay, VideoContentType, VideoTiming, RtpStreamId, RepairedRtpStreamId, RtpMid, FrameMarking, ColorSpace, UnknownUri}
 use Rattle.rtp_wire.specs.declared.ext.value.values.ExtensionValues.{ExtensionValues}
@@ -31,10 +31,6 @@ pub record HasRead {A : Type 0} (kind : Extension) (bytes : List ℕ) (old new :
   pub others : new ≡ with_fields kind old new
   pub refused : IfNone result (IsWellFormed kind bytes → ⊥)
   pub unchanged : IfNone result (new ≡ old)
-
--- the buffer has room for the kind's data
-abbrev pub HasRoom : Extension → ExtensionValues → List ℕ → Type 0
-HasRoom kind values buf = ForSome (spelled_data kind values) (λ bytes. length bytes ≤ length buf)
 
 -- what writing the data of a kind does: they stand at the front of the buffer, and they are read as the values that they carry
 pub record HasWritten (kind : Extension) (values : ExtensionValues) (old new : List ℕ) (result : Option ℕ) : Type 0 where

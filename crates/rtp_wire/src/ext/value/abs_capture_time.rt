@@ -2,9 +2,9 @@
 
 ghost use Rattle.std.specs.Prelude.{◌≡◌, ◌≤◌, ◌++◌, length, drop, Some};
 ghost use Rattle.rtp_wire.specs.declared.ext.kind.Extension.TheVariants.{AbsoluteCaptureTime};
-ghost use Rattle.rtp_wire.specs.KindBytes.{HasRead, HasRoom, HasWritten};
+ghost use Rattle.rtp_wire.specs.KindBytes.{HasRead, HasWritten};
 ghost use Rattle.rtp_wire.specs.Values.{offset_of};
-ghost use Rattle.rtp_wire.specs.Spelling.{offset_bytes};
+ghost use Rattle.rtp_wire.specs.Spelling.{HasRoom, offset_bytes};
 
 use super::ExtensionValues;
 use super::front::{first_u64, put_u64};

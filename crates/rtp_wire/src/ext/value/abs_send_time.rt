@@ -1,9 +1,9 @@
 //! Absolute send time: the low six bits of the seconds, and 18 bits behind the point.
 
 ghost use Rattle.std.specs.Prelude.{◌≡◌};
-ghost use Rattle.rtp_wire.specs.Spelling.{send_ticks};
+ghost use Rattle.rtp_wire.specs.Spelling.{HasRoom, send_ticks};
 ghost use Rattle.rtp_wire.specs.declared.ext.kind.Extension.TheVariants.{AbsoluteSendTime};
-ghost use Rattle.rtp_wire.specs.KindBytes.{HasRead, HasRoom, HasWritten};
+ghost use Rattle.rtp_wire.specs.KindBytes.{HasRead, HasWritten};
 
 use super::ExtensionValues;
 use super::front::{first_u24, put_u24};

@@ -3,7 +3,8 @@
 ghost use Rattle.std.specs.Prelude.{◌≡◌, ◌+◌, ◌*◌, ◌%◌, unsigned_abs};
 ghost use Rattle.rtp_wire.specs.Header.{bit};
 ghost use Rattle.rtp_wire.specs.declared.ext.kind.Extension.TheVariants.{AudioLevel};
-ghost use Rattle.rtp_wire.specs.KindBytes.{HasRead, HasRoom, HasWritten};
+ghost use Rattle.rtp_wire.specs.Spelling.{HasRoom};
+ghost use Rattle.rtp_wire.specs.KindBytes.{HasRead, HasWritten};
 
 use super::ExtensionValues;
 use super::front::put;

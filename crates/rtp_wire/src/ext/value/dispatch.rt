@@ -3,7 +3,7 @@
 ghost use Rattle.std.specs.Prelude.{◌≡◌, ◌≢◌, ℕ, ◌≤◌, [], ◌++◌, drop, length, unwrap_or, Some, None, IfOk, IfSome, IfNone, IsOk, IsSome, OnSome};
 ghost use Rattle.std.specs.Option.{option_map, ForSome};
 ghost use Rattle.rtp_wire.specs.Values.{Reads, SameFields, IsWellFormed};
-ghost use Rattle.rtp_wire.specs.Spelling.{spelled_data, carried_values};
+ghost use Rattle.rtp_wire.specs.Spelling.{spelled_data, carried_values, HasRoom};
 
 use super::{
     ExtensionValues, abs_capture_time, abs_send_time, audio_level, frame_marking, mid,
@@ -51,7 +51,7 @@ impl Extension {
     /// or returns `None` and changes nothing where a value that the kind needs is absent. The bytes
     /// behind the data stay as they were. It requires room for the data; 255 bytes always suffice.
     pub fn write_to(&self, buf: &mut [u8], ev: &ExtensionValues) -> Option<usize>
-        requires { ForSome (spelled_data self.now ev.now) (λ bytes. length bytes ≤ length buf.old) }
+        requires room { HasRoom self.now ev.now buf.old }
         ensures length { result ≡ option_map length (spelled_data self.now ev.now) }
         ensures written { buf.new ≡ unwrap_or (spelled_data self.now ev.now) []
             ++ drop (length (unwrap_or (spelled_data self.now ev.now) [])) buf.old }

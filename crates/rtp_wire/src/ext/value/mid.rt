@@ -1,7 +1,8 @@
 //! Media section id (RFC 9143): its text.
 
 ghost use Rattle.rtp_wire.specs.declared.ext.kind.Extension.TheVariants.{RtpMid};
-ghost use Rattle.rtp_wire.specs.KindBytes.{HasRead, HasRoom, HasWritten};
+ghost use Rattle.rtp_wire.specs.Spelling.{HasRoom};
+ghost use Rattle.rtp_wire.specs.KindBytes.{HasRead, HasWritten};
 
 use super::ExtensionValues;
 use super::front::put;

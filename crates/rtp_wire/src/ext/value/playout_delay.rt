@@ -1,9 +1,9 @@
 //! Playout delay: the least and the greatest, each in twelve bits of hundredths of a second.
 
 ghost use Rattle.std.specs.Prelude.{◌≡◌};
-ghost use Rattle.rtp_wire.specs.Spelling.{delay_of};
+ghost use Rattle.rtp_wire.specs.Spelling.{HasRoom, delay_of};
 ghost use Rattle.rtp_wire.specs.declared.ext.kind.Extension.TheVariants.{PlayoutDelay};
-ghost use Rattle.rtp_wire.specs.KindBytes.{HasRead, HasRoom, HasWritten};
+ghost use Rattle.rtp_wire.specs.KindBytes.{HasRead, HasWritten};
 
 use super::ExtensionValues;
 use super::front::{first_u24, put_u24};

@@ -1,7 +1,8 @@
 //! RTP stream id and repaired RTP stream id (RFC 8852): each an id's text.
 
 ghost use Rattle.rtp_wire.specs.declared.ext.kind.Extension.TheVariants.{RtpStreamId, RepairedRtpStreamId};
-ghost use Rattle.rtp_wire.specs.KindBytes.{HasRead, HasRoom, HasWritten};
+ghost use Rattle.rtp_wire.specs.Spelling.{HasRoom};
+ghost use Rattle.rtp_wire.specs.KindBytes.{HasRead, HasWritten};
 
 use super::ExtensionValues;
 use super::front::put;
@@ -45,8 +46,8 @@ pub(super) fn write_repaired(buf: &mut [u8], ev: &ExtensionValues) -> Option<usi
     requires room { HasRoom RepairedRtpStreamId ev.now buf.old }
     ensures { HasWritten RepairedRtpStreamId ev.now buf.old buf.new result }
 {
-    let Some(rid) = ev.rid_repair else {
+    let Some(rid_repair) = ev.rid_repair else {
         return None;
     };
-    Some(put(buf, rid.as_str().as_bytes()))
+    Some(put(buf, rid_repair.as_str().as_bytes()))
 }

@@ -1,7 +1,8 @@
 //! Transmission time offset (RFC 5450).
 
 ghost use Rattle.rtp_wire.specs.declared.ext.kind.Extension.TheVariants.{TransmissionTimeOffset};
-ghost use Rattle.rtp_wire.specs.KindBytes.{HasRead, HasRoom, HasWritten};
+ghost use Rattle.rtp_wire.specs.Spelling.{HasRoom};
+ghost use Rattle.rtp_wire.specs.KindBytes.{HasRead, HasWritten};
 
 use super::ExtensionValues;
 use super::front::{first_u32, put_u32};

@@ -1,7 +1,8 @@
 //! Transport-wide sequence number.
 
 ghost use Rattle.rtp_wire.specs.declared.ext.kind.Extension.TheVariants.{TransportSequenceNumber};
-ghost use Rattle.rtp_wire.specs.KindBytes.{HasRead, HasRoom, HasWritten};
+ghost use Rattle.rtp_wire.specs.Spelling.{HasRoom};
+ghost use Rattle.rtp_wire.specs.KindBytes.{HasRead, HasWritten};
 
 use super::ExtensionValues;
 use super::front::{first_u16, put_u16};

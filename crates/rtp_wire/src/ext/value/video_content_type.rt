@@ -1,7 +1,8 @@
 //! Video content type: one byte.
 
 ghost use Rattle.rtp_wire.specs.declared.ext.kind.Extension.TheVariants.{VideoContentType};
-ghost use Rattle.rtp_wire.specs.KindBytes.{HasRead, HasRoom, HasWritten};
+ghost use Rattle.rtp_wire.specs.Spelling.{HasRoom};
+ghost use Rattle.rtp_wire.specs.KindBytes.{HasRead, HasWritten};
 
 use super::ExtensionValues;
 use super::front::put;

@@ -2,9 +2,9 @@
 
 ghost use Rattle.std.specs.Prelude.{◌≡◌};
 ghost use Rattle.rtp_wire.specs.declared.ext.kind.Extension.TheVariants.{VideoOrientation as OrientationKind};
-ghost use Rattle.rtp_wire.specs.KindBytes.{HasRead, HasRoom, HasWritten};
+ghost use Rattle.rtp_wire.specs.KindBytes.{HasRead, HasWritten};
 ghost use Rattle.rtp_wire.specs.Values.{orientation_of};
-ghost use Rattle.rtp_wire.specs.Spelling.{orientation_bits};
+ghost use Rattle.rtp_wire.specs.Spelling.{HasRoom, orientation_bits};
 
 use super::ExtensionValues;
 use super::front::put;

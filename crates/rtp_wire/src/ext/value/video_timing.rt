@@ -2,9 +2,9 @@
 
 ghost use Rattle.std.specs.Prelude.{◌≡◌, ◌+◌, ◌≤◌, ◌<◌, length, slice_range};
 ghost use Rattle.rtp_wire.specs.declared.ext.kind.Extension.TheVariants.{VideoTiming as TimingKind};
-ghost use Rattle.rtp_wire.specs.KindBytes.{HasRead, HasRoom, HasWritten};
+ghost use Rattle.rtp_wire.specs.KindBytes.{HasRead, HasWritten};
 ghost use Rattle.rtp_wire.specs.Values.{number_of};
-ghost use Rattle.rtp_wire.specs.Spelling.{bytes_of};
+ghost use Rattle.rtp_wire.specs.Spelling.{HasRoom, bytes_of};
 
 use super::ExtensionValues;
 use super::front::put;
@@ -69,22 +69,20 @@ pub(super) fn write(buf: &mut [u8], ev: &ExtensionValues) -> Option<usize>
     let finish = time_bytes(timing.encode_finish);
     let complete = time_bytes(timing.packetize_complete);
     let left = time_bytes(timing.last_left_pacer);
-    Some(put(
-        buf,
-        &[
-            timing.flags,
-            start[0],
-            start[1],
-            finish[0],
-            finish[1],
-            complete[0],
-            complete[1],
-            left[0],
-            left[1],
-            0,
-            0,
-            0,
-            0,
-        ],
-    ))
+    let bytes = [
+        timing.flags,
+        start[0],
+        start[1],
+        finish[0],
+        finish[1],
+        complete[0],
+        complete[1],
+        left[0],
+        left[1],
+        0,
+        0,
+        0,
+        0,
+    ];
+    Some(put(buf, &bytes))
 }

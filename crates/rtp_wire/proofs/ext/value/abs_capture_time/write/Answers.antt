@@ -3,7 +3,7 @@ use Rattle.std.proofs.lemmas.Int.{to_z-of_z}
 use Rattle.std.proofs.lemmas.List.{take_rest, take_all, drop_all, drop-drop, append-nil}
 use Rattle.rtp_wire.specs.Values.{offset_of}
 use Rattle.rtp_wire.specs.Spelling.{bytes_of, offset_bytes}
-use Rattle.rtp_wire.proofs.ValueLemmas.{spelled-capture, AreData-capture, HasWritten-put}
+use Rattle.rtp_wire.proofs.ValueLemmas.{room_of, spelled-capture, AreData-capture, HasWritten-put}
 use Rattle.rtp_wire.proofs.ext.value.abs_capture_time.write.Goals as goal
 use borrow.Rule.Slice.PartMut.{put_mid}
 
@@ -18,18 +18,18 @@ put_behind word offset buf first second word-len offset-len first-is second-is =
     rw (len, front, behind, second-is, len, behind, take_all (length rest) rest (omega arith), drop_all (length rest) rest (omega arith), drop-drop 8 8 buf, append-nil (offset ++ drop 16 buf)) (sym (append_assoc word offset (drop 16 buf)))
 
 pub put_u64-requires : goal.put_u64-requires
-put_u64-requires c = record { room = c.requires.room _ (spelled-capture c.ev.view_is c.in-Some.is c.in_default-clock_offset.is) }
+put_u64-requires c = record { room = room_of (spelled-capture c.ev.view_is c.in-Some.is c.in_default-clock_offset.is) (omega arith) c.args.buf.now c.requires.room }
 
 pub returns-in_default-clock_offset : goal.returns-in_default-clock_offset
 returns-in_default-clock_offset c =
     HasWritten-put (AreData-capture c.ev.view_is c.in-Some.is c.in_default-clock_offset.is c.put_u64.ensures.back refl) c.put_u64.ensures.length c.put_u64.ensures.written
 
 pub put_u64-requires-2 : goal.put_u64-requires-2
-put_u64-requires-2 c = record { room = omega (arith, c.requires.room _ (spelled-capture c.ev.view_is c.in-Some.is c.in-Some-clock_offset.is)) }
+put_u64-requires-2 c = record { room = omega (arith, room_of (spelled-capture c.ev.view_is c.in-Some.is c.in-Some-clock_offset.is) (omega arith) c.args.buf.now c.requires.room) }
 
 pub put_offset-requires : goal.put_offset-requires
 put_offset-requires c =
-    let all = c.requires.room _ (spelled-capture c.ev.view_is c.in-Some.is c.in-Some-clock_offset.is) in
+    let all = room_of (spelled-capture c.ev.view_is c.in-Some.is c.in-Some-clock_offset.is) (omega arith) c.args.buf.now c.requires.room in
     record { room = rw take_rest (omega (arith, length-drop 8 c.put_u64-2.new.buf, all, c.put_u64-2.auto.buf)) }
 
 -- the clock offset as it is passed

@@ -1,7 +1,7 @@
-use Rattle.std.proofs.Common.{◌≡◌, ℕ, List, [], ◌∷◌, get_or, refl}
+use Rattle.std.proofs.Common.{arith, ◌≡◌, ℕ, List, [], ◌∷◌, get_or, refl}
 use Rattle.rtp_wire.specs.declared.ext.value.video_timing.VideoTiming as timing
 use Rattle.rtp_wire.specs.Spelling.{bytes_of, timing_bytes}
-use Rattle.rtp_wire.proofs.ValueLemmas.{spelled-timing, AreData-timing, HasWritten-put}
+use Rattle.rtp_wire.proofs.ValueLemmas.{room_of, spelled-timing, AreData-timing, HasWritten-put}
 use Rattle.rtp_wire.proofs.ext.value.video_timing.write.Goals as goal
 
 cells : (t : timing.VideoTiming) (start finish complete left : List ℕ) → start ≡ bytes_of 2 t.encode_start → finish ≡ bytes_of 2 t.encode_finish
@@ -15,7 +15,7 @@ put-requires c =
     let t = c.in-Some.timing in
     let are = cells t c.time_bytes-start.result c.time_bytes-finish.result c.time_bytes-complete.result c.time_bytes-left.result
     c.time_bytes-start.ensures.bytes c.time_bytes-finish.ensures.bytes c.time_bytes-complete.ensures.bytes c.time_bytes-left.ensures.bytes in
-    record { room = c.requires.room _ (spelled-timing c.ev.view_is c.in-Some.is are) }
+    record { room = room_of (spelled-timing c.ev.view_is c.in-Some.is are) (omega arith) c.args.buf.now c.requires.room }
 
 pub returns : goal.returns
 returns c =
