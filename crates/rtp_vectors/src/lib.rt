@@ -18,6 +18,8 @@ mod runs;
 #[cfg(test)]
 mod times;
 #[cfg(test)]
+mod values;
+#[cfg(test)]
 mod widenings;
 #[cfg(test)]
 mod windows;

@@ -13,6 +13,7 @@ mod ParseLemmas
 mod OverwritingLemmas
 mod BlockWriting
 mod RoundTrip
+mod ValueLemmas
 mod StandardFacts
 mod WideningLemmas
 mod ReceiverLemmas
