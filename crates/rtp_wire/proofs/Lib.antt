@@ -8,6 +8,7 @@ mod HeaderLemmas
 mod OneHeader
 mod ParseLemmas
 mod OverwritingLemmas
+mod WrittenBlockLemmas
 mod RoundTrip
 mod StandardFacts
 mod WideningLemmas

@@ -3,6 +3,7 @@ pub mod Form
 pub mod Kind
 pub mod ExtensionMap
 pub mod Elements
+pub mod HeaderValues
 pub mod Values
 pub mod Block
 pub mod Header
@@ -20,5 +21,6 @@ pub mod EqualMaps
 pub mod ElementReading
 pub mod Reading
 pub mod Overwriting
+pub mod ElementWriting
 pub mod Turns
 pub mod Receiving

@@ -3,6 +3,7 @@
 ghost use Rattle.std.specs.Prelude.{◌≡◌, ◌≢◌, ◌↔◌, ℕ, true, false, IsTrue, IfOk, IfSome, IfNone, map};
 ghost use Rattle.std.specs.Option.{option_copied};
 ghost use Rattle.rtp_wire.specs.ExtensionMap as spec;
+ghost use Rattle.rtp_wire.specs.MapSlots.{items_from};
 ghost use Rattle.rtp_wire.specs.EqualMaps.{same_slots, same_slots-equiv};
 
 use super::entry::Entry;
@@ -131,11 +132,18 @@ impl ExtensionMap {
         slots::id_of(&self.slots, &ext)
     }
 
+    // The mapped ids by rising id, each with its extension.
+    pub(super) fn items(&self) -> Iter<'_>
+        ensures { result ≡ items_from 0 self.now }
+    {
+        Iter::new(&self.slots)
+    }
+
     /// The ids that stand for an extension, by rising id, each with its extension.
     pub fn iter(&self) -> Iter<'_>
         ensures { spec.IsListing self.now (λ _. true) result }
     {
-        Iter::new(&self.slots)
+        self.items()
     }
 
     /// The ids whose extensions go with audio, or else with video, by rising id, each with its

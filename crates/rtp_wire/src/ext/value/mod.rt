@@ -2,6 +2,7 @@
 
 mod abs_capture_time;
 mod dispatch;
+mod lengths;
 mod values;
 mod video_orientation;
 mod video_timing;

@@ -2,6 +2,7 @@
 
 use super::{AbsCaptureTime, VideoOrientation, VideoTiming};
 use rtp_base::{MediaTime, Mid, Rid};
+use std::marker::Model;
 
 /// The values of a header's extensions (RFC 8285, 4). A field is `None` where the header carries no
 /// value of it.
@@ -40,6 +41,48 @@ pub struct ExtensionValues {
     pub mid: Option<Mid>,
     /// The frame marking: its first four bytes, the first in the high bits.
     pub frame_mark: Option<u32>,
+}
+
+impl Model for ExtensionValues {
+    ghost use Rattle.rtp_wire.specs.HeaderValues.{HeaderValues};
+
+    ghost Value = { HeaderValues };
+
+    ghost view = { λ values. record {
+      audio_level = values.audio_level;
+      voice_activity = values.voice_activity;
+      video_orientation = values.video_orientation;
+      video_content_type = values.video_content_type;
+      tx_time_offs = values.tx_time_offs;
+      abs_send_time = values.abs_send_time;
+      abs_capture_time = values.abs_capture_time;
+      transport_cc = values.transport_cc;
+      play_delay_min = values.play_delay_min;
+      play_delay_max = values.play_delay_max;
+      video_timing = values.video_timing;
+      rid = values.rid;
+      rid_repair = values.rid_repair;
+      mid = values.mid;
+      frame_mark = values.frame_mark;
+    } };
+
+    ghost inverse = { λ shown. record {
+      audio_level = shown.audio_level;
+      voice_activity = shown.voice_activity;
+      video_orientation = shown.video_orientation;
+      video_content_type = shown.video_content_type;
+      tx_time_offs = shown.tx_time_offs;
+      abs_send_time = shown.abs_send_time;
+      abs_capture_time = shown.abs_capture_time;
+      transport_cc = shown.transport_cc;
+      play_delay_min = shown.play_delay_min;
+      play_delay_max = shown.play_delay_max;
+      video_timing = shown.video_timing;
+      rid = shown.rid;
+      rid_repair = shown.rid_repair;
+      mid = shown.mid;
+      frame_mark = shown.frame_mark;
+    } };
 }
 
 impl Default for ExtensionValues {
