@@ -1,6 +1,6 @@
 //! The identifier of a media section.
 
-ghost use Rattle.std.specs.Prelude.{◌≡◌, ◌↔◌, IsTrue};
+ghost use Rattle.std.specs.Prelude.{◌≡◌, ◌↔◌, IsTrue, IsSome, IfSome, IsUtf8};
 ghost use Rattle.rtp_base.specs.Id.{before_padding, IsIdOf, IsIdArray};
 
 use super::text::IdText;
@@ -37,6 +37,18 @@ impl From<&str> for Mid {
 }
 
 impl Mid {
+    /// The id of the text that these bytes are in UTF-8, as by [`From<&str>`](Self::from), and `None`
+    /// where they are not UTF-8.
+    pub fn from_utf8(bytes: &[u8]) -> Option<Mid>
+        ensures found { IfSome result (IsIdOf 16 bytes.now) }
+        ensures some { IsSome result ↔ IsUtf8 bytes.now }
+    {
+        match IdText::from_utf8(bytes) {
+            Some(text) => Some(Mid { text }),
+            None => None,
+        }
+    }
+
     /// Whether these are an id's bytes: letters, digits and underscores, and behind them only
     /// spaces. It is the test of what [`from_array`](Self::from_array) asks.
     pub fn is_id_array(a: &[u8; 16]) -> bool
@@ -57,7 +69,10 @@ impl Mid {
 
     /// The text before the spaces, which may be empty.
     pub fn as_str(&self) -> &str
-        ensures { result.now ≡ before_padding self.now }
+        ensures text { result.now ≡ before_padding self.now }
+
+        // The id of this text is the same id.
+        ensures back { IsIdOf 16 result.now self.now }
     {
         self.text.as_str()
     }

@@ -1,6 +1,6 @@
 //! The identifier of a stream of a simulcast.
 
-ghost use Rattle.std.specs.Prelude.{◌≡◌, ◌↔◌, IsTrue};
+ghost use Rattle.std.specs.Prelude.{◌≡◌, ◌↔◌, IsTrue, IsSome, IfSome, IsUtf8};
 ghost use Rattle.rtp_base.specs.Id.{before_padding, IsIdOf, IsIdArray};
 
 use super::text::IdText;
@@ -37,6 +37,18 @@ impl From<&str> for Rid {
 }
 
 impl Rid {
+    /// The id of the text that these bytes are in UTF-8, as by [`From<&str>`](Self::from), and `None`
+    /// where they are not UTF-8.
+    pub fn from_utf8(bytes: &[u8]) -> Option<Rid>
+        ensures found { IfSome result (IsIdOf 8 bytes.now) }
+        ensures some { IsSome result ↔ IsUtf8 bytes.now }
+    {
+        match IdText::from_utf8(bytes) {
+            Some(text) => Some(Rid { text }),
+            None => None,
+        }
+    }
+
     /// Whether these are an id's bytes: letters, digits and underscores, and behind them only
     /// spaces. It is the test of what [`from_array`](Self::from_array) asks.
     pub fn is_id_array(a: &[u8; 8]) -> bool
@@ -57,7 +69,10 @@ impl Rid {
 
     /// The text before the spaces, which may be empty.
     pub fn as_str(&self) -> &str
-        ensures { result.now ≡ before_padding self.now }
+        ensures text { result.now ≡ before_padding self.now }
+
+        // The id of this text is the same id.
+        ensures back { IsIdOf 8 result.now self.now }
     {
         self.text.as_str()
     }

@@ -1,6 +1,6 @@
 //! What the ids that are texts have in common, over their size.
 
-ghost use Rattle.std.specs.Prelude.{◌≡◌, ◌≢◌, ℕ, ◌<◌, ◌≤◌, ◌||◌, ◌↔◌, length, take, drop, slice_index, nat_lt, nat_le, IsTrue, IfSome, IfNone, All, ◌==◌};
+ghost use Rattle.std.specs.Prelude.{◌≡◌, IsUtf8, ◌≢◌, ℕ, ◌<◌, ◌≤◌, ◌||◌, ◌↔◌, length, take, drop, slice_index, nat_lt, nat_le, IsTrue, IsSome, IfSome, IfNone, All, ◌==◌};
 ghost use Rattle.std.specs.List.{position_or_len};
 ghost use Rattle.rtp_base.specs.Id.{id_char, id_text, before_padding, IsIdOf, IsIdByte, IsIdArray};
 
@@ -122,6 +122,17 @@ impl<const N: usize> IdText<N> {
         IdText { bytes }
     }
 
+    // The id of a text in UTF-8.
+    pub(super) fn from_utf8(bytes: &[u8]) -> Option<Self>
+        ensures found { IfSome result (IsIdOf N bytes.now) }
+        ensures some { IsSome result ↔ IsUtf8 bytes.now }
+    {
+        match str::from_utf8(bytes) {
+            Ok(text) => Some(IdText::of(text)),
+            Err(_) => None,
+        }
+    }
+
     // Whether the bytes are an id's.
     pub(super) fn is_id_array(bytes: &[u8; N]) -> bool
         ensures { IsTrue result ↔ IsIdArray bytes.now }
@@ -139,7 +150,8 @@ impl<const N: usize> IdText<N> {
 
     // The text before the padding.
     pub(super) fn as_str(&self) -> &str
-        ensures { result.now ≡ before_padding self.now }
+        ensures text { result.now ≡ before_padding self.now }
+        ensures back { IsIdOf N result.now self.now }
     {
         let text = &self.bytes[..text_len(&self.bytes)];
         // An id's bytes are ASCII.
