@@ -70,6 +70,13 @@ form_for-cons values item items =
     ∙ either_if (nat_lt 14 item.0) (list_any (λ i. nat_lt 14 i.0) items) (has_no_data (spelled_data item.1 values))
     (list_any (λ element. length element.1 == 0) (elements_of values items)) TwoByte OneByte
 
+-- the next one decides, or is passed
+pub form_for-next : (values : ExtensionValues) (items more : List Item) (item : Item) (needs : Bool) → items ≡ item ∷ more
+    → needs ≡ (nat_lt 14 item.0 || has_no_data (spelled_data item.1 values))
+    → form_for values items ≡ (if needs then TwoByte else form_for values more)
+form_for-next values items more item needs split is =
+    ap (form_for values) split ∙ (form_for-cons values item more ∙ ap (λ (b : Bool). if b then TwoByte else form_for values more) (sym is))
+
 -- ---- what the form can carry
 
 -- a mapped id whose element the form can carry

@@ -1,11 +1,13 @@
 //! How long the data of an element are, by its kind.
 
-ghost use Rattle.std.specs.Prelude.{◌≡◌, ◌++◌, length};
+ghost use Rattle.std.specs.Prelude.{◌≡◌, ◌≤◌, ◌++◌, length, IfSome};
 ghost use Rattle.std.specs.Option.{option_map};
+ghost use Rattle.rtp_base.specs.Id.{before_padding};
 ghost use Rattle.rtp_wire.specs.Spelling.{spelled_data, bytes_of, offset_bytes, of_both};
 
 use super::{AbsCaptureTime, ExtensionValues};
 use crate::ext::Extension;
+use rtp_base::{Mid, Rid};
 
 // The length where the value is there.
 fn len_of<T>(value: &Option<T>, len: usize) -> Option<usize>
@@ -32,10 +34,26 @@ fn capture_len(time: &Option<AbsCaptureTime>) -> Option<usize>
     }
 }
 
+// The length of a text.
+fn mid_len(mid: &Mid) -> usize
+    ensures length { result ≡ length (before_padding mid.now) }
+    ensures few { result ≤ 16 }
+{
+    mid.as_str().len()
+}
+
+fn rid_len(rid: &Rid) -> usize
+    ensures length { result ≡ length (before_padding rid.now) }
+    ensures few { result ≤ 16 }
+{
+    rid.as_str().len()
+}
+
 impl Extension {
     // How many bytes [`write_to`](Self::write_to) writes, and None where it writes no element.
     pub(crate) fn data_len(&self, ev: &ExtensionValues) -> Option<usize>
-        ensures { result ≡ option_map length (spelled_data self.now ev.now) }
+        ensures length { result ≡ option_map length (spelled_data self.now ev.now) }
+        ensures few { IfSome result (λ len. len ≤ 16) }
     {
         match self {
             Extension::AbsoluteSendTime => len_of(&ev.abs_send_time, 3),
@@ -47,9 +65,9 @@ impl Extension {
             Extension::PlayoutDelay => len_of_both(&ev.play_delay_min, &ev.play_delay_max, 3),
             Extension::VideoContentType => len_of(&ev.video_content_type, 1),
             Extension::VideoTiming => len_of(&ev.video_timing, 13),
-            Extension::RtpStreamId => ev.rid.as_ref().map(|rid| rid.as_str().len()),
-            Extension::RepairedRtpStreamId => ev.rid_repair.as_ref().map(|rid| rid.as_str().len()),
-            Extension::RtpMid => ev.mid.as_ref().map(|mid| mid.as_str().len()),
+            Extension::RtpStreamId => ev.rid.as_ref().map(rid_len),
+            Extension::RepairedRtpStreamId => ev.rid_repair.as_ref().map(rid_len),
+            Extension::RtpMid => ev.mid.as_ref().map(mid_len),
             Extension::FrameMarking => len_of(&ev.frame_mark, 4),
             Extension::ColorSpace | Extension::UnknownUri(_) => None,
         }
