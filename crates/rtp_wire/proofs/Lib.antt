@@ -9,6 +9,7 @@ mod OneHeader
 mod ParseLemmas
 mod OverwritingLemmas
 mod WrittenBlockLemmas
+mod WrittenValuesLemmas
 mod RoundTrip
 mod StandardFacts
 mod WideningLemmas

@@ -1,5 +1,5 @@
 -- The entries of a map as a list by rising id.
-use Rattle.std.proofs.Common.{◌≡◌, ℕ, ◌+◌, ◌<◌, ◌≤◌, ◌⊎◌, inl, inr, suc, zero, List, [], ◌∷◌, ◌++◌, get_or, Bool, true, false, Option, Some, None, All, arith, ap, refl, sym, ◌∙◌, subst}
+use Rattle.std.proofs.Common.{◌≡◌, ℕ, ◌+◌, ◌<◌, ◌≤◌, ◌⊎◌, inl, inr, suc, zero, List, [], ◌∷◌, ◌++◌, length, get_or, Bool, true, false, Option, Some, None, All, arith, ap, refl, sym, ◌∙◌, subst}
 use Rattle.std.specs.List.{Contains, filter}
 use Rattle.std.proofs.lemmas.Bool.{false≢true}
 use Rattle.std.proofs.lemmas.Bool.Decides.{eqb_tells}
@@ -158,6 +158,12 @@ items_from-items passed [] = record {
 items_from-items passed (None ∷ left) = AreItems-none passed left (items_from (passed + 1) left) (items_from-items (passed + 1) left)
 items_from-items passed (Some entry ∷ left) =
     AreItems-some passed entry left (items_from (passed + 1) left) (items_from-items (passed + 1) left)
+
+-- there are no more items than slots
+pub length-items_from : (passed : ℕ) (left : Slots) → length (items_from passed left) ≤ length left
+length-items_from passed [] = omega arith
+length-items_from passed (None ∷ left) = omega (arith, length-items_from (passed + 1) left)
+length-items_from passed (Some entry ∷ left) = omega (arith, length-items_from (passed + 1) left)
 
 -- the slots of a map give its listing
 pub IsListing-from_slots : (slots : Slots) → IsListing slots (λ _. true) (items_from 0 slots)

@@ -4,11 +4,12 @@ use Rattle.std.specs.Prelude.{◌||◌, ◌==◌, nat_lt, if◌then◌else◌, I
 use Rattle.std.specs.List.{AllByRecursion, flat_map, filter_map, list_any, cons_option}
 use Rattle.std.specs.Option.{option_map, unwrap_or}
 use Rattle.std.proofs.lemmas.Bool.Decides.{nat_tests}
+use Rattle.std.proofs.lemmas.List.{append-nil}
 use Rattle.rtp_wire.specs.declared.ext.form.ExtensionsForm.{ExtensionsForm}
 use Rattle.rtp_wire.specs.declared.ext.form.ExtensionsForm.TheVariants.{OneByte, TwoByte}
 use Rattle.rtp_wire.specs.declared.ext.kind.Extension.{Extension}
 use Rattle.rtp_wire.specs.declared.ext.value.values.ExtensionValues.{ExtensionValues}
-use Rattle.rtp_wire.specs.Elements.{Element, IsElement, element_bytes}
+use Rattle.rtp_wire.specs.Elements.{Element, IsElement, element_bytes, IsPiece, piece_bytes, AreElements, ended}
 use Rattle.rtp_wire.specs.ElementWriting.{header_bytes, bytes_at, items_bytes, has_no_data, CanCarry, IsCarried}
 use Rattle.rtp_wire.specs.ExtensionMap.{Slots}
 use Rattle.rtp_wire.specs.MapSlots.{items_from}
@@ -157,6 +158,35 @@ header-append : (form : ExtensionsForm) (id : ℕ) (bytes : List ℕ) → header
 header-append OneByte id bytes = refl
 header-append TwoByte id bytes = refl
 
+pub length-header_bytes : (form : ExtensionsForm) (id len : ℕ) → length (header_bytes form id len) ≤ 2
+length-header_bytes OneByte id len = omega arith
+length-header_bytes TwoByte id len = omega arith
+
+pub length-element : (form : ExtensionsForm) (id header len : ℕ) (bytes : Option (List ℕ)) → Some len ≡ option_map length bytes
+    → header ≡ length (header_bytes form id len) → header + len ≡ length (bytes_at form id bytes)
+length-element form id header len None long is = cc
+length-element form id header len (Some bytes) long is =
+    let same : len ≡ length bytes = cc in
+    ap (λ (h : ℕ). h + len) is ∙ (ap (λ (l : ℕ). length (header_bytes form id l) + l) same ∙ sym (length-header form id bytes))
+
+length-carried : (form : ExtensionsForm) (values : ExtensionValues) (id : ℕ) (kind : Extension) (bytes : Option (List ℕ))
+    → IfSome bytes (λ b. IsElement form (id, b) × Reads kind b (carried_values values)) → length (bytes_at form id bytes) ≤ 257
+length-carried form values id kind None carried = omega arith
+length-carried OneByte values id kind (Some bytes) carried = let few = carried.0.2 in omega arith
+length-carried TwoByte values id kind (Some bytes) carried = let few = carried.0.2 in omega arith
+
+pub length-items : (form : ExtensionsForm) (values : ExtensionValues) (items : List Item) → AllByRecursion (IsCarried form values) items
+    → length (items_bytes form values items) ≤ 257 * length items
+length-items form values [] all = omega (arith, ap length (items_bytes-nil form values))
+length-items form values (item ∷ items) all =
+    omega (
+      arith,
+      ap length (items_bytes-cons form values item items),
+      length-append (bytes_at form item.0 (spelled_data item.1 values)) (items_bytes form values items),
+      length-carried form values item.0 item.1 (spelled_data item.1 values) all.0,
+      length-items form values items all.1,
+    )
+
 -- without room for a header there are no data
 pub none-without_room : (form : ExtensionsForm) (id : ℕ) (bytes : Option (List ℕ)) (header room : ℕ)
     → ((i l : ℕ) → header ≡ length (header_bytes form i l)) → length (bytes_at form id bytes) ≤ room → room < header → bytes ≡ None
@@ -233,6 +263,16 @@ pub IsUnderWay-start : (form : ExtensionsForm) (values : ExtensionValues) (old :
 IsUnderWay-start form values old items fit =
     record { makes = refl; ends = omega arith; long = refl; fit = fit; carried = λ all. all }
 
+-- there is room for the next one, and the form can carry it
+pub IsUnderWay-next : (form : ExtensionsForm) (values : ExtensionValues) (old buf : List ℕ) (items left more : List Item) (item : Item) (at : ℕ)
+    → IsUnderWay form values old buf items left at → left ≡ item ∷ more → length (items_bytes form values items) ≤ length old
+    → (at + length (bytes_at form item.0 (spelled_data item.1 values)) ≤ length buf) × IsFit form values item
+IsUnderWay-next form values old buf items left more item at before split room =
+    let bytes = ap length (ap (items_bytes form values) split ∙ items_bytes-cons form values item more) in (
+      omega (arith, before.ends, before.long, bytes, length-append (bytes_at form item.0 (spelled_data item.1 values)) (items_bytes form values more)),
+      (subst (AllByRecursion (IsFit form values)) split before.fit).0,
+    )
+
 -- the next one is written
 pub IsUnderWay-step : (form : ExtensionsForm) (values : ExtensionValues) (old buf new : List ℕ) (items left more : List Item) (item : Item) (at end : ℕ)
     → IsUnderWay form values old buf items left at → left ≡ item ∷ more → length (items_bytes form values items) ≤ length old
@@ -267,3 +307,58 @@ IsUnderWay-end form values old buf items left at before none =
       ∙ (before.makes ∙ overwritten-front old (items_bytes form values items))),
       before.carried (subst (AllByRecursion (IsCarried form values)) (sym none) tt),
     )
+
+-- ---- the elements of what was written
+
+pieces_of : List Element → ℕ → List (Option Element)
+pieces_of [] zero = []
+pieces_of [] (suc zeros) = None ∷ pieces_of [] zeros
+pieces_of (element ∷ elements) zeros = Some element ∷ pieces_of elements zeros
+
+pieces_of-pieces : (form : ExtensionsForm) (elements : List Element) (zeros : ℕ) → AllByRecursion (IsElement form) elements
+    → AllByRecursion (IsPiece form) (pieces_of elements zeros)
+unfolding pieces_of
+pieces_of-pieces form [] zero all = tt
+pieces_of-pieces form [] (suc zeros) all = (tt, pieces_of-pieces form [] zeros all)
+pieces_of-pieces form (element ∷ elements) zeros all = (all.0, pieces_of-pieces form elements zeros all.1)
+
+pieces_of-bytes : (form : ExtensionsForm) (elements : List Element) (zeros : ℕ)
+    → elements_bytes form elements ++ replicate zeros 0 ≡ flat_map (piece_bytes form) (pieces_of elements zeros)
+unfolding pieces_of
+pieces_of-bytes form [] zero = refl
+pieces_of-bytes form [] (suc zeros) = ap (λ (rest : List ℕ). 0 ∷ rest) (pieces_of-bytes form [] zeros)
+pieces_of-bytes form (element ∷ elements) zeros =
+    append_assoc (element_bytes form element) (elements_bytes form elements) (replicate zeros 0)
+    ∙ ap (λ (rest : List ℕ). element_bytes form element ++ rest) (pieces_of-bytes form elements zeros)
+
+pieces_of-elements : (elements : List Element) (zeros : ℕ) → elements ≡ filter_map (λ piece. piece) (pieces_of elements zeros)
+unfolding pieces_of
+pieces_of-elements [] zero = refl
+pieces_of-elements [] (suc zeros) = pieces_of-elements [] zeros
+pieces_of-elements (element ∷ elements) zeros = ap (λ (rest : List Element). element ∷ rest) (pieces_of-elements elements zeros)
+
+elements-carried : (form : ExtensionsForm) (values : ExtensionValues) (items : List Item) → AllByRecursion (IsCarried form values) items
+    → AllByRecursion (IsElement form) (elements_of values items)
+elements-carried form values [] all = tt
+elements-carried form values (item ∷ items) all =
+    element-carried form values item.0 item.1 (spelled_data item.1 values) (elements_of values items) all.0 (elements-carried form values items all.1)
+  where
+    element-carried : (form : ExtensionsForm) (values : ExtensionValues) (id : ℕ) (kind : Extension) (bytes : Option (List ℕ)) (rest : List Element)
+        → IfSome bytes (λ b. IsElement form (id, b) × Reads kind b (carried_values values)) → AllByRecursion (IsElement form) rest
+        → AllByRecursion (IsElement form) (cons_option (option_map (λ b. (id, b)) bytes) rest)
+    element-carried form values id kind None rest here all = all
+    element-carried form values id kind (Some bytes) rest here all = (here.0, all)
+
+-- and zeros behind them are padding
+pub AreElements-written : (form : ExtensionsForm) (exts : Slots) (values : ExtensionValues) (zeros : ℕ) → AllByRecursion (IsCarried form values) (items_from 0 exts)
+    → AreElements form (elements_bytes form (written_elements exts values) ++ replicate zeros 0) (written_elements exts values)
+AreElements-written form exts values zeros all =
+    let elements = written_elements exts values in
+    record {
+      pieces = pieces_of elements zeros;
+      tail = [];
+      are_pieces = pieces_of-pieces form elements zeros (elements-carried form values (items_from 0 exts) all);
+      is_tail = ended refl;
+      body_is = pieces_of-bytes form elements zeros ∙ sym (append-nil (flat_map (piece_bytes form) (pieces_of elements zeros)));
+      elements_are = pieces_of-elements elements zeros;
+    }

@@ -46,7 +46,8 @@ fn needs_two_bytes(id: u8, ext: &Extension, ev: &ExtensionValues) -> bool
 
 // How many bytes the element of a kind takes, 0 where a value that it needs is absent.
 fn element_len(form: ExtensionsForm, ext: &Extension, ev: &ExtensionValues) -> usize
-    ensures { (id : ℕ) → result ≡ length (bytes_at form id (spelled_data ext.now ev.now)) }
+    ensures length { (id : ℕ) → result ≡ length (bytes_at form id (spelled_data ext.now ev.now)) }
+    ensures few { result ≤ 257 }
 {
     match ext.data_len(ev) {
         Some(len) => header_len(form) + len,

@@ -1,6 +1,6 @@
 //! Which extension stands behind which id.
 
-ghost use Rattle.std.specs.Prelude.{◌≡◌, ◌≢◌, ◌↔◌, ℕ, true, false, IsTrue, IfOk, IfSome, IfNone, map};
+ghost use Rattle.std.specs.Prelude.{◌≡◌, ◌≢◌, ◌↔◌, ℕ, true, false, IsTrue, IfOk, IfSome, IfNone, map, length, ◌≤◌};
 ghost use Rattle.std.specs.Option.{option_copied};
 ghost use Rattle.rtp_wire.specs.ExtensionMap as spec;
 ghost use Rattle.rtp_wire.specs.MapSlots.{items_from};
@@ -134,7 +134,8 @@ impl ExtensionMap {
 
     // The mapped ids by rising id, each with its extension.
     pub(super) fn items(&self) -> Iter<'_>
-        ensures { result ≡ items_from 0 self.now }
+        ensures items { result ≡ items_from 0 self.now }
+        ensures few { length (items_from 0 self.now) ≤ MAX_ID }
     {
         Iter::new(&self.slots)
     }

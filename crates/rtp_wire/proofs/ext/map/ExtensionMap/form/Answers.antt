@@ -6,7 +6,7 @@ use Rattle.rtp_wire.proofs.ext.map.ExtensionMap.form.Goals as goal
 
 pub loop-id-init : goal.loop-id-init
 loop-id-init c =
-    ap (form_for c.args.ev.now) (c.into_iter-id-iterator.ensures.into_iter_gives ∙ c.items-id-items.ensures)
+    ap (form_for c.args.ev.now) (c.into_iter-id-iterator.ensures.into_iter_gives ∙ c.items-id-items.ensures.items)
     ∙ form_for-map c.args.self.now c.args.ev.now
 
 pub returns-then-needs_two_bytes : goal.returns-then-needs_two_bytes

@@ -4,4 +4,4 @@ use Rattle.rtp_wire.proofs.ListingLemmas.{IsListing-from_slots}
 use Rattle.rtp_wire.proofs.ext.map.ExtensionMap.iter.Goals as goal
 
 pub returns : goal.returns
-returns c = subst (spec.IsListing c.args.self.now (λ _. true)) (sym c.items.ensures) (IsListing-from_slots c.args.self.now)
+returns c = subst (spec.IsListing c.args.self.now (λ _. true)) (sym c.items.ensures.items) (IsListing-from_slots c.args.self.now)
