@@ -1,10 +1,9 @@
 use Rattle.std.proofs.Common.{arith, sym, ap, ◌∙◌, ◌≡◌, ◌≤◌, ◌++◌, length, drop, subst}
 use Rattle.std.specs.List.{AllByRecursion}
-use Rattle.rtp_wire.specs.ElementWriting.{items_bytes, bytes_at, IsCarried}
-use Rattle.rtp_wire.specs.Spelling.{spelled_data}
+use Rattle.rtp_wire.specs.ElementWriting.{items_bytes, IsCarried}
 use Rattle.rtp_wire.specs.MapSlots.{items_from}
 use Rattle.rtp_wire.specs.WrittenBlock.{written_elements, elements_bytes}
-use Rattle.rtp_wire.proofs.WrittenBlockLemmas.{IsUnderWay, IsUnderWay-start, IsUnderWay-next, IsUnderWay-step, IsUnderWay-end, IsFit, all_fit, items_bytes-written, length-items, AreElements-written}
+use Rattle.rtp_wire.proofs.WrittenBlockLemmas.{IsUnderWay, IsUnderWay-start, IsUnderWay-next, IsUnderWay-step, IsUnderWay-end, all_fit, items_bytes-written, length-items, AreElements-written}
 use Rattle.rtp_wire.proofs.WrittenValuesLemmas.{AreValues-written}
 use Rattle.rtp_wire.proofs.ext.map.ExtensionMap.write_to.Goals as goal
 
@@ -15,16 +14,12 @@ loop-id-init c =
     (sym (c.into_iter-id-iterator.ensures.into_iter_gives ∙ c.items-id-items.ensures.items))
     (IsUnderWay-start c.args.form c.args.ev.now c.args.buf.now (items_from 0 exts) (all_fit exts c.args.ev.now c.args.form c.requires.form))
 
--- what is known of the next element
-next : (c : goal.In-Some) →
-    (c.loop-id.at + length (bytes_at c.args.form c.in-Some.id (spelled_data c.in-Some.ext.now c.args.ev.now)) ≤ length c.loop-id.buf)
-    × IsFit c.args.form c.args.ev.now (c.in-Some.id, c.in-Some.ext.now)
-next c =
-    IsUnderWay-next _ _ _ _ (items_from 0 c.args.self.now) _ c.next.new.self (c.in-Some.id, c.in-Some.ext.now) c.loop-id.at c.loop-id.invariant c.in-Some.ensures.steps
-    (omega (arith, c.requires.room, ap length (items_bytes-written c.args.form c.args.self.now c.args.ev.now)))
-
 pub write_element-at-requires : goal.write_element-at-requires
-write_element-at-requires c = record { room = (next c).0; id = (next c).1.0; fits = (next c).1.1 }
+write_element-at-requires c =
+    let next = IsUnderWay-next _ _ _ _ (items_from 0 c.args.self.now) _ c.next.new.self (c.in-Some.id, c.in-Some.ext.now) c.loop-id.at
+    c.loop-id.invariant c.in-Some.ensures.steps
+    (omega (arith, c.requires.room, ap length (items_bytes-written c.args.form c.args.self.now c.args.ev.now))) in
+    record { room = next.0; id = next.1.0; fits = next.1.1 }
 
 pub loop-id-preserved : goal.loop-id-preserved
 loop-id-preserved c =
