@@ -13,7 +13,7 @@ use Rattle.rtp_wire.specs.Values.{AreValues, no_values}
 use Rattle.rtp_wire.specs.Block.{IsBlock, IsExtensionPart}
 use Rattle.rtp_wire.specs.Overwriting.{overwritten}
 use Rattle.rtp_wire.specs.WrittenBlock.{written_elements, form_of, elements_bytes, padding_of, body_bytes, block_bytes, image_values}
-use Rattle.rtp_wire.proofs.OverwritingLemmas.{overwritten-overwritten, overwritten-before, overwritten-front, overwritten-lent, length-overwritten}
+use Rattle.rtp_wire.proofs.OverwritingLemmas.{overwritten-overwritten, overwritten-before, overwritten-front, overwritten-rest, length-overwritten}
 
 pub length-body : (exts : ExtensionMap) (values : ExtensionValues) (n : ℕ) → n ≡ length (elements_bytes (form_of exts values) (written_elements exts values))
     → length (body_bytes exts values) ≡ n + padding_of n
@@ -85,7 +85,7 @@ block-put exts values buf one two three head form n len form-is is few room one-
     let whole : head ++ body_bytes exts values ≡ to_be_bytes w16 (form_word (form_of exts values)) ++ (to_be_bytes w16 (length (body_bytes exts values) / 4) ++ body_bytes exts values) =
     ap (λ (xs : List ℕ). xs ++ body_bytes exts values) made in
     three-is ∙ ap (λ (xs : List ℕ). overwritten xs 0 head) joined
-    ∙ overwritten-before buf head (body_bytes exts values) (omega (arith, size))
+    ∙ overwritten-before buf head (body_bytes exts values) 0 (length head) (omega arith) (omega (arith, size))
     ∙ overwritten-front buf (head ++ body_bytes exts values)
     ∙ ap (λ (k : ℕ). (head ++ body_bytes exts values) ++ drop k buf) (omega (arith, length-append head (body_bytes exts values), size))
     ∙ ap (λ (xs : List ℕ). xs ++ drop len buf) whole
@@ -106,8 +106,9 @@ row-put exts values buf new form n form-is len new-is fits =
     let size = length-block exts values n row_len in
     let row = elements_bytes (form_of exts values) elements in
     let put : take 4 buf ++ (new ++ drop (length buf - 4) (drop 4 buf)) ≡ overwritten buf 4 row =
-    overwritten-lent buf new row 4 n (omega arith) row_len
-    (new-is ∙ ap (λ (f : ExtensionsForm). elements_bytes f elements ++ drop n (take (length buf - 4) (drop 4 buf))) form-is) in
+    overwritten-rest buf new row 4 (omega (arith, size))
+    (new-is ∙ ap (λ (f : ExtensionsForm). elements_bytes f elements ++ drop n (take (length buf - 4) (drop 4 buf))) form-is
+    ∙ ap (λ (k : ℕ). row ++ drop k (take (length buf - 4) (drop 4 buf))) row_len) in
     record {
       row_len = row_len;
       put = put;

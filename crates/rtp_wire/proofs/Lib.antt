@@ -12,6 +12,8 @@ mod OneHeader
 mod ParseLemmas
 mod OverwritingLemmas
 mod BlockWriting
+mod WrittenBlockLemmas
+mod WrittenValuesLemmas
 mod RoundTrip
 mod ValueLemmas
 mod StandardFacts

@@ -23,4 +23,5 @@ pub mod KindBytes
 pub mod ElementReading
 pub mod Reading
 pub mod Overwriting
+pub mod ElementWriting
 pub mod Turns

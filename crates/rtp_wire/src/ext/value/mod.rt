@@ -11,6 +11,7 @@ mod playout_delay;
 mod stream_id;
 mod transmission_offset;
 mod transport_sequence_number;
+mod lengths;
 mod values;
 mod video_content_type;
 mod video_orientation;
