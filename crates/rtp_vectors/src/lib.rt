@@ -4,6 +4,8 @@
 #[cfg(test)]
 mod directions;
 #[cfg(test)]
+mod elements;
+#[cfg(test)]
 mod extensions;
 #[cfg(test)]
 mod headers;
