@@ -6,6 +6,8 @@ mod blocks;
 #[cfg(test)]
 mod directions;
 #[cfg(test)]
+mod elements;
+#[cfg(test)]
 mod extensions;
 #[cfg(test)]
 mod headers;

@@ -1,7 +1,7 @@
 -- The elements of a block's body, read from the front, are those that it has.
 use Rattle.std.proofs.Common.{◌≡◌, ◌≢◌, ℕ, zero, suc, ◌+◌, ◌-◌, ◌*◌, ◌/◌, ◌%◌, ◌^◌, ◌<◌, ◌≤◌, ◌⊎◌, inl, inr, List, [], ◌∷◌, ◌++◌, length, take, drop, replicate, Option, Some, None, le-ltb, lt-ltb, le-leb, add-one, get_or, append_assoc, length-append, take-append-drop, arith, refl, sym, ap, ◌∙◌, subst, Bor}
 use Rattle.std.specs.List.{AllByRecursion, IsFirstAndRest, IsSplitAt, flat_map, filter_map}
-use Rattle.std.specs.Int.{w64, byte_worth, from_le_bytes, sum_through}
+use Rattle.std.specs.Int.{w128, byte_worth, from_le_bytes, sum_through}
 use Rattle.std.proofs.Math.Nat.{one-le-pow, eq_of_mul-eq-mul_right, zero-mul}
 use Rattle.std.proofs.lemmas.Bool.{cases_lt, lt-leb}
 use Rattle.std.proofs.lemmas.List.{take_at, drop_at, length-replicate, length-take-le, nil_from_length}
@@ -105,7 +105,7 @@ pub without_padding-zero : (byte : ℕ) (bytes after : List ℕ) → IsFirstAndR
 unfolding without_padding
 without_padding-zero byte bytes after first is = ap without_padding (first.0 ∙ ap (λ b. b ∷ after) is)
 
--- words of eight bytes: where the number is 0, each byte is
+-- words of 16 bytes: where the number is 0, each byte is
 sum_through-zero : (f : ℕ → ℕ) (last i : ℕ) → sum_through f last ≡ 0 → i ≤ last → f i ≡ 0
 sum_through-zero f zero zero is within = is
 sum_through-zero f zero (suc i) is within = absurd (omega arith)
@@ -126,13 +126,13 @@ without_padding-zeros [] rest zeros = refl
 without_padding-zeros (byte ∷ word) rest zeros =
     ap (λ b. without_padding (b ∷ (word ++ rest))) (zeros 0 (omega arith)) ∙ without_padding-zeros word rest (λ i here. zeros (suc i) (omega arith))
 
-pub without_padding-word : (bytes word after : List ℕ) → (word ≡ take 8 bytes) × (after ≡ drop 8 bytes) × (length after + 8 ≡ length bytes) → from_le_bytes w64 word ≡ 0
+pub without_padding-word : (bytes word after : List ℕ) → (word ≡ take 16 bytes) × (after ≡ drop 16 bytes) × (length after + 16 ≡ length bytes) → from_le_bytes w128 word ≡ 0
     → without_padding bytes ≡ without_padding after
 without_padding-word bytes word after split zero_word =
-    let eight : length word ≡ 8 = ap length split.0 ∙ length-take-le 8 bytes (omega (arith, split.2)) in
-    let whole : bytes ≡ word ++ after = sym (take-append-drop 8 bytes) ∙ (ap (λ w. w ++ drop 8 bytes) (sym split.0) ∙ ap (λ b. word ++ b) (sym split.1)) in
+    let sixteen : length word ≡ 16 = ap length split.0 ∙ length-take-le 16 bytes (omega (arith, split.2)) in
+    let whole : bytes ≡ word ++ after = sym (take-append-drop 16 bytes) ∙ (ap (λ w. w ++ drop 16 bytes) (sym split.0) ∙ ap (λ b. word ++ b) (sym split.1)) in
     ap without_padding whole
-    ∙ without_padding-zeros word after (λ i here. byte_worth-zero i (get_or word i 0) (sum_through-zero (λ k. byte_worth k (get_or word k 0)) 7 i zero_word (omega arith)))
+    ∙ without_padding-zeros word after (λ i here. byte_worth-zero i (get_or word i 0) (sum_through-zero (λ k. byte_worth k (get_or word k 0)) 15 i zero_word (omega arith)))
 
 -- what code reads: an element in each form, and the end
 elements_left-one_byte : (byte : ℕ) (bytes : List ℕ) → 1 ≤ byte → byte < 240 → byte % 16 < length bytes

@@ -74,7 +74,20 @@ fn first_element(bytes: &[u8], form: ExtensionsForm) -> Option<(u8, &[u8], &[u8]
 fn skip_padding(bytes: &[u8]) -> &[u8]
     ensures { result.now ≡ without_padding bytes.now }
 {
-    let mut rest = skip_padding_words(bytes);
+    let Some((byte, after)) = bytes.split_first() else {
+        return bytes;
+    };
+    if *byte != 0 {
+        return bytes;
+    }
+    skip_zeros(skip_zero_words(after))
+}
+
+// The bytes behind the zeros at their front.
+fn skip_zeros(bytes: &[u8]) -> &[u8]
+    ensures { result.now ≡ without_padding bytes.now }
+{
+    let mut rest = bytes;
     while let Some((byte, after)) = rest.split_first() {
         if *byte != 0 {
             return rest;
@@ -84,13 +97,13 @@ fn skip_padding(bytes: &[u8]) -> &[u8]
     rest
 }
 
-// The bytes behind the padding at their front, as far as it goes in whole words of eight bytes.
-fn skip_padding_words(bytes: &[u8]) -> &[u8]
+// The bytes behind the zeros at their front, as far as they fill words of 16 bytes.
+fn skip_zero_words(bytes: &[u8]) -> &[u8]
     ensures { without_padding result.now ≡ without_padding bytes.now }
 {
     let mut rest = bytes;
-    while let Some((word, after)) = rest.split_first_chunk::<8>() {
-        if u64::from_ne_bytes(*word) != 0 {
+    while let Some((word, after)) = rest.split_first_chunk::<16>() {
+        if u128::from_ne_bytes(*word) != 0 {
             return rest;
         }
         rest = after;

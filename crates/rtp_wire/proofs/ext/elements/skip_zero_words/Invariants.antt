@@ -1,6 +1,6 @@
 use Rattle.std.proofs.Common.{◌≡◌, length}
 use Rattle.rtp_wire.specs.ElementReading.{without_padding}
-use Rattle.rtp_wire.proofs.ext.elements.skip_padding_words.Given as goal
+use Rattle.rtp_wire.proofs.ext.elements.skip_zero_words.Given as goal
 
 -- what was passed is padding
 abbrev pub invariant-loop-word : goal.invariant-loop-word

@@ -1,6 +1,6 @@
 use Rattle.std.proofs.Common.{sym, ◌∙◌}
 use Rattle.rtp_wire.proofs.ElementLemmas.{without_padding-word}
-use Rattle.rtp_wire.proofs.ext.elements.skip_padding_words.Goals as goal
+use Rattle.rtp_wire.proofs.ext.elements.skip_zero_words.Goals as goal
 
 pub loop-word-preserved : goal.loop-word-preserved
 loop-word-preserved c =

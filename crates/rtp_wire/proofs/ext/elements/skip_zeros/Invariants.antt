@@ -1,6 +1,6 @@
 use Rattle.std.proofs.Common.{◌≡◌, length}
 use Rattle.rtp_wire.specs.ElementReading.{without_padding}
-use Rattle.rtp_wire.proofs.ext.elements.skip_padding.Given as goal
+use Rattle.rtp_wire.proofs.ext.elements.skip_zeros.Given as goal
 
 -- what was passed is padding
 abbrev pub invariant-loop-byte : goal.invariant-loop-byte
