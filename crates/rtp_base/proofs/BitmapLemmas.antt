@@ -1,5 +1,5 @@
 -- What bits tested, set and shifted are, as truth values.
-use Rattle.std.proofs.Common.{◌≡◌, ◌≢◌, ◌+◌, ◌-◌, ◌*◌, ◌/◌, ◌%◌, ◌^◌, ◌<◌, ◌≤◌, ◌==◌, nat_eq, ℕ, Bool, true, false, ◌||◌, get_or, max, bit_and, bit_or, IsTrue, inl, inr, refl, sym, ap, ◌∙◌, arith}
+use Rattle.std.proofs.Common.{◌≡◌, ◌≢◌, ◌+◌, ◌-◌, ◌*◌, ◌/◌, ◌%◌, ◌^◌, ◌<◌, ◌≤◌, nat_eq, ℕ, Bool, true, false, ◌||◌, get_or, max, bit_and, bit_or, inl, inr, refl, sym, ap, ◌∙◌, arith}
 use Rattle.std.proofs.lemmas.Nat.{one_shl, div-add-mod', pow_pos}
 use Rattle.std.proofs.lemmas.Nat.Bits.{shr_and_one, and_pow, bit_at_or, bit_at-zero, bit_at-lt, bit_at_above, bit_at_ones, bit_at_cat_low, bit_at_cat_high, bit_at_set_same, bit_at_set_other}
 use Rattle.std.proofs.lemmas.List.FromFn.{get_or-map-range_with_len}
@@ -106,13 +106,13 @@ moved-first bits by =
 pub moved-between : (bits by k : ℕ) → 0 < k → k < by → k < 128 → get_or (bits_of (bit_or (bits * 2 ^ by % 2 ^ 128) 1)) k false ≡ false
 moved-between bits by k some before below =
     clear-at _ k below (
-      bit_at_or-one (bits * 2 ^ by % 2 ^ 128) k some ∙ bit_at-cut (bits * 2 ^ by) k below
-      ∙ ap (λ n. bit_at n k) (let e : bits * 2 ^ by ≡ bits * 2 ^ by + 0 = omega arith in e) ∙ bit_at_cat_low bits by 0 k before ∙ bit_at-zero k
+    bit_at_or-one (bits * 2 ^ by % 2 ^ 128) k some ∙ bit_at-cut (bits * 2 ^ by) k below
+    ∙ ap (λ n. bit_at n k) (let e : bits * 2 ^ by ≡ bits * 2 ^ by + 0 = omega arith in e) ∙ bit_at_cat_low bits by 0 k before ∙ bit_at-zero k
     )
 
 pub moved-before : (bits by k : ℕ) → 0 < by → by ≤ k → k < 128 → get_or (bits_of (bit_or (bits * 2 ^ by % 2 ^ 128) 1)) k false ≡ get_or (bits_of bits) (k - by) false
 moved-before bits by k some after below =
     same-at (bit_or (bits * 2 ^ by % 2 ^ 128) 1) bits k (k - by) below (omega arith) (
-      bit_at_or-one (bits * 2 ^ by % 2 ^ 128) k (omega arith) ∙ bit_at-cut (bits * 2 ^ by) k below
-      ∙ ap (λ n. bit_at n k) (let e : bits * 2 ^ by ≡ bits * 2 ^ by + 0 = omega arith in e) ∙ bit_at_cat_high bits by 0 k (pow_pos by) after
+    bit_at_or-one (bits * 2 ^ by % 2 ^ 128) k (omega arith) ∙ bit_at-cut (bits * 2 ^ by) k below
+    ∙ ap (λ n. bit_at n k) (let e : bits * 2 ^ by ≡ bits * 2 ^ by + 0 = omega arith in e) ∙ bit_at_cat_high bits by 0 k (pow_pos by) after
     )

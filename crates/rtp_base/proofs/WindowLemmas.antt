@@ -1,5 +1,5 @@
 -- Which sets a window keeps: as it is made, as a number is refused, and always some set.
-use Rattle.std.proofs.Common.{◌≡◌, ◌+◌, ◌-◌, ◌^◌, ◌<◌, ◌≤◌, ◌||◌, ◌==◌, nat_eq, ℕ, Bool, true, false, ◌&&◌, leb, ltb, List, get_or, IsTrue, inl, inr, refl, sym, ap, ◌∙◌, arith}
+use Rattle.std.proofs.Common.{◌≡◌, ◌+◌, ◌-◌, ◌^◌, ◌≤◌, nat_eq, ℕ, Bool, true, false, ◌&&◌, leb, ltb, List, get_or, inl, inr, refl, sym, ap, ◌∙◌, arith}
 use Rattle.std.proofs.lemmas.Bool.{le-leb, leb-true, lt-ltb, and_parts, or_cases, or_left, cases_Bool, cases_lt, cases_eq, eqb-true, eq-eqb, ne_eqb}
 use Rattle.rtp_base.specs.Window.{Numbers, WindowState, only, up_to, including, Keeps, Accepts}
 use Rattle.rtp_base.specs.Bitmap.{bits_of}
@@ -24,10 +24,10 @@ Keeps-up_to number = record {
 pub Keeps-refused : (window : WindowState) (taken : Numbers) (number : ℕ) → Keeps window taken → (Accepts taken number → ⊥) → Keeps window (including taken number)
 Keeps-refused window taken number keeps refused =
     let low : number ≤ window.greatest =
-      elim (cases_lt window.greatest number) [
-        | inl above ↦ absurd (refused (record { greatest = window.greatest; is_greatest = keeps.top; above_or_new = inl above }))
-        | inr low ↦ low
-      ]
+    elim (cases_lt window.greatest number) [
+      | inl above ↦ absurd (refused (record { greatest = window.greatest; is_greatest = keeps.top; above_or_new = inl above }))
+      | inr low ↦ low
+    ]
     in
     record {
       top = record {

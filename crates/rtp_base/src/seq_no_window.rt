@@ -59,7 +59,7 @@ fn set(bits: &mut u128, index: u64) -> bool
     ensures same { result ≡ false → bits.new ≡ bits.old }
     ensures after { (k : ℕ) → k < 128 →
         slice_index_or (bits_of bits.new) k false
-            ≡ (slice_index_or (bits_of bits.old) k false || k == index) }
+        ≡ (slice_index_or (bits_of bits.old) k false || k == index) }
 {
     let bit = 1 << index;
     if *bits & bit != 0 {
@@ -78,6 +78,10 @@ fn advanced(bits: u128, by: u64) -> u128
     ensures before { (k : ℕ) → by ≤ k → k < 128 →
         slice_index_or (bits_of result) k false ≡ slice_index_or (bits_of bits) (k - by) false }
 {
+    // Mostly the next number comes, and a shift by one is much cheaper than by a variable.
+    if by == 1 {
+        return bits << 1 | 1;
+    }
     if by < SIZE {
         return bits << by | 1;
     }
