@@ -3,7 +3,7 @@ use Rattle.std.proofs.Common.{◌≡◌, ℕ, zero, suc, ◌+◌, ◌<◌, Bool,
 use Rattle.std.specs.Prelude.{Option, Some, None}
 use Rattle.std.proofs.lemmas.Bool.{false_from_ne_true, eq-eqb, cases_lt, false≢true, or_left, or_right}
 use Rattle.std.proofs.lemmas.List.{take-append-le, take_at, get_or_append_left, get_or_at, length_push, get_or-take}
-use Rattle.rtp_base.specs.Window.{Numbers, IsGreatest, Places, Accepts}
+use Rattle.rtp_base.specs.Window.{Numbers, IsGreatest, WindowState, Accepts}
 use Rattle.rtp_wire.specs.declared.ext.map.ExtensionMap.{ExtensionMap}
 use Rattle.rtp_wire.specs.declared.receive.Verdict.{Verdict}
 use Rattle.rtp_wire.specs.declared.receive.Verdict.TheVariants.{Unreadable, Taken, Refused}
@@ -53,15 +53,15 @@ taken_by-push (Unreadable ∷ vs) Refused n = taken_by-push vs Refused n
 taken_by-push (Unreadable ∷ vs) Unreadable n = taken_by-push vs Unreadable n
 
 -- a window keeps a set that is the same number by number
-Holds-same : (window : Option Places) (a b : Numbers) → ((n : ℕ) → b n ≡ a n) → Holds window a → Holds window b
+Holds-same : (window : Option WindowState) (a b : Numbers) → ((n : ℕ) → b n ≡ a n) → Holds window a → Holds window b
 Holds-same None a b same holds = λ n. same n ∙ holds n
 Holds-same (Some window) a b same keeps = record {
   top = record { member = same window.greatest ∙ keeps.top.member; top = λ n is. keeps.top.top n (sym (same n) ∙ is) };
-  places = λ n low near. keeps.places n low near ∙ sym (same n);
+  recorded = λ n low near. keeps.recorded n low near ∙ sym (same n);
 }
 
 -- the verdicts so far, and what is held behind them
-pub record SoFar (exts : ExtensionMap) (datagrams : List (List ℕ)) (verdicts : List Verdict) (window : Option Places) (done : ℕ) : Type 0 where
+pub record SoFar (exts : ExtensionMap) (datagrams : List (List ℕ)) (verdicts : List Verdict) (window : Option WindowState) (done : ℕ) : Type 0 where
   pub many : length verdicts ≡ done
   pub each : (i : ℕ) → i < done → IsVerdict exts (taken_by (take i verdicts)) (get_or datagrams i []) (get_or verdicts i Unreadable)
   pub holds : Holds window (taken_by verdicts)
@@ -69,7 +69,7 @@ pub record SoFar (exts : ExtensionMap) (datagrams : List (List ℕ)) (verdicts :
 pub SoFar-none : (exts : ExtensionMap) (datagrams : List (List ℕ)) → SoFar exts datagrams [] None 0
 SoFar-none exts datagrams = record { many = refl; each = λ i below. absurd (omega arith); holds = λ n. refl }
 
-pub SoFar-more : (exts : ExtensionMap) (datagrams : List (List ℕ)) (verdicts : List Verdict) (verdict : Verdict) (before after : Option Places) (done : ℕ)
+pub SoFar-more : (exts : ExtensionMap) (datagrams : List (List ℕ)) (verdicts : List Verdict) (verdict : Verdict) (before after : Option WindowState) (done : ℕ)
     → IsVerdict exts (taken_by verdicts) (get_or datagrams done []) verdict → Holds after (taken_after (taken_by verdicts) verdict)
     → SoFar exts datagrams verdicts before done → SoFar exts datagrams (verdicts ++ verdict ∷ []) after (done + 1)
 SoFar-more exts datagrams verdicts verdict before after done is holds so_far =
@@ -91,7 +91,7 @@ SoFar-more exts datagrams verdicts verdict before after done is holds so_far =
       holds = Holds-same after (taken_after (taken_by verdicts) verdict) (taken_by all) (taken_by-push verdicts verdict) holds;
     }
 
-pub AreVerdicts-all : (exts : ExtensionMap) (datagrams : List (List ℕ)) (verdicts : List Verdict) (window : Option Places) (done : ℕ) → done ≡ length datagrams
+pub AreVerdicts-all : (exts : ExtensionMap) (datagrams : List (List ℕ)) (verdicts : List Verdict) (window : Option WindowState) (done : ℕ) → done ≡ length datagrams
     → SoFar exts datagrams verdicts window done → AreVerdicts exts datagrams verdicts
 AreVerdicts-all exts datagrams verdicts window done end so_far = record { as_many = so_far.many ∙ end; each = λ i below. so_far.each i (omega arith) }
 

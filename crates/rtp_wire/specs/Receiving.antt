@@ -1,12 +1,12 @@
 -- What a receiver holds between two datagrams: what the functions of `receive` promise each other.
 use Rattle.std.specs.Prelude.{◌≡◌, ℕ, false, Option, Some, None}
-use Rattle.rtp_base.specs.Window.{Numbers, Places, Keeps, including}
+use Rattle.rtp_base.specs.Window.{Numbers, WindowState, Keeps, including}
 use Rattle.rtp_wire.specs.Verdicts.{IsFresh}
 use Rattle.rtp_wire.specs.declared.receive.Verdict.{Verdict}
 use Rattle.rtp_wire.specs.declared.receive.Verdict.TheVariants.{Unreadable, Taken, Refused}
 
 -- nothing is taken yet, or a window keeps what is
-abbrev pub Holds : Option Places → Numbers → Type 0
+abbrev pub Holds : Option WindowState → Numbers → Type 0
 Holds None taken = (n : ℕ) → taken n ≡ false
 Holds (Some window) taken = Keeps window taken
 
