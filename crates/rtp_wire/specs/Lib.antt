@@ -16,5 +16,5 @@ pub mod Places
 pub mod EqualMaps
 pub mod Reading
 pub mod Placing
-pub mod Turns
+pub mod Moduli
 pub mod Receiving
