@@ -80,6 +80,9 @@ impl fmt::Display for Direction {
 
     ghost output = { λ direction. Some (direction_text direction) };
 
+    // The text is plain, whatever width and flags are set.
+    ghost styled_output = { λ direction _. Some (direction_text direction) };
+
     fn fmt<W: fmt::Write>(&self, f: &mut fmt::Formatter<W>) -> fmt::Result {
         f.write_str(match self {
             Direction::SendOnly => "sendonly",

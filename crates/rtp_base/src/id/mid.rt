@@ -68,12 +68,19 @@ impl fmt::Display for Mid {
 
     ghost output = { λ mid. Some (before_padding mid) };
 
+    // The text is plain, whatever width and flags are set.
+    ghost styled_output = { λ mid _. Some (before_padding mid) };
+
     fn fmt<W: fmt::Write>(&self, f: &mut fmt::Formatter<W>) -> fmt::Result {
         f.write_str(self.as_str())
     }
 }
 
 impl fmt::Debug for Mid {
+    ghost use Rattle.std.specs.Prelude.{Some, ◌++◌, codes};
+
+    ghost debug_output = { λ mid. Some (codes "Mid(" ++ before_padding mid ++ codes ")") };
+
     fn fmt<W: fmt::Write>(&self, f: &mut fmt::Formatter<W>) -> fmt::Result {
         let text = self.as_str();
         write!(f, "Mid({text})")

@@ -68,12 +68,19 @@ impl fmt::Display for Rid {
 
     ghost output = { λ rid. Some (before_padding rid) };
 
+    // The text is plain, whatever width and flags are set.
+    ghost styled_output = { λ rid _. Some (before_padding rid) };
+
     fn fmt<W: fmt::Write>(&self, f: &mut fmt::Formatter<W>) -> fmt::Result {
         f.write_str(self.as_str())
     }
 }
 
 impl fmt::Debug for Rid {
+    ghost use Rattle.std.specs.Prelude.{Some, ◌++◌, codes};
+
+    ghost debug_output = { λ rid. Some (codes "Rid(" ++ before_padding rid ++ codes ")") };
+
     fn fmt<W: fmt::Write>(&self, f: &mut fmt::Formatter<W>) -> fmt::Result {
         let text = self.as_str();
         write!(f, "Rid({text})")
