@@ -1,10 +1,10 @@
--- What contracts rest on.
+-- What public contracts cite.
 pub mod Id
 pub mod Direction
 pub mod Window
 pub mod Frequency
 pub mod MediaTime
--- What the inside promises itself.
+-- What private contracts cite.
 pub mod Bitmap
 -- For the prover alone.
 pub mod OrderLaws

@@ -1,4 +1,4 @@
-//! The replay window: which numbers of a stream were received, near the highest.
+//! The replay window: which packets of a stream were recorded, near the greatest number.
 
 ghost use Rattle.std.specs.Prelude.{◌≡◌, ℕ, ◌-◌, ◌<◌, ◌≤◌, ◌↔◌, Bool, true, false, ◌||◌, ◌==◌, slice_index_or, IsTrue};
 ghost use Rattle.rtp_base.specs.Window.{Numbers, window_size, only, up_to, including, IsGreatest, Keeps, Accepts};
@@ -11,10 +11,12 @@ use std::marker::Model;
 const SIZE: u64 = 128;
 
 /// The replay window of a stream (RFC 3711, 3.3.2): the greatest recorded number, and which of the
-/// 127 before it are recorded. A number further below counts as recorded.
+/// 127 numbers below it are recorded. Each number further below counts as recorded.
 ///
 /// The numbers are extended sequence numbers (the packet index of SRTP). That a number is accepted
-/// says nothing of who sent it: record a number once its packet is known to be authentic.
+/// says nothing about who sent the packet: where packets are authenticated, call
+/// [`accepts`](Self::accepts) before and [`update`](Self::update) after the authentication; where
+/// they aren't, [`take`](Self::take) is both in one.
 ///
 /// ```
 /// let mut window = SeqNoWindow::new(SeqNo::from(1000));
@@ -89,7 +91,8 @@ fn advanced(bits: u128, by: u64) -> u128
 }
 
 impl SeqNoWindow {
-    /// A window that has recorded this number alone.
+    /// Returns a window in which this number alone is recorded. The numbers before it may still
+    /// come.
     pub fn new(seq: SeqNo) -> Self
         ensures { Keeps result (only seq) }
     {
@@ -99,7 +102,8 @@ impl SeqNoWindow {
         }
     }
 
-    /// A window that has recorded every number up to this one.
+    /// Returns a window in which this number and every number below it are recorded: only greater
+    /// ones are accepted. It is for a receiver that goes on from a remembered number.
     pub fn new_after(seq: SeqNo) -> Self
         ensures { Keeps result (up_to seq) }
     {
@@ -109,18 +113,18 @@ impl SeqNoWindow {
         }
     }
 
-    /// The greatest recorded number.
+    /// Returns the greatest recorded number.
     pub fn max_seq(&self) -> SeqNo
         ensures greatest { (taken : Numbers) → Keeps self.now taken → IsGreatest taken result }
 
-        // Each window keeps some set, so the clauses here always speak of something.
+        // Each window keeps some set, so no clause on the sets that it keeps is empty.
         ensures some { (taken : Numbers) × Keeps self.now taken }
     {
         SeqNo::from(self.greatest)
     }
 
-    /// Whether the number may be taken: it is above the greatest, or less than 128 below it and not
-    /// recorded.
+    /// Returns whether the number is new to the window: it is above the greatest, or less than 128
+    /// below it and not recorded.
     pub fn accepts(&self, seq: SeqNo) -> bool
         ensures { (taken : Numbers) → Keeps self.now taken → (IsTrue result ↔ Accepts taken seq) }
     {
@@ -132,16 +136,16 @@ impl SeqNoWindow {
         below < SIZE && !is_set(self.recorded, below)
     }
 
-    /// Records the number. One that is 128 or more below the greatest changes nothing: it counts as
-    /// recorded already.
+    /// Records the number. One that is 128 or more below the greatest changes nothing, since it
+    /// counts as recorded.
     pub fn update(&mut self, seq: SeqNo)
         ensures { (taken : Numbers) → Keeps self.old taken → Keeps self.new (including taken seq) }
     {
         self.take(seq);
     }
 
-    /// Records the number if it is accepted. Returns what [`accepts`](SeqNoWindow::accepts) returns
-    /// for it; where that is false nothing changes.
+    /// Records the number if the window accepts it. Returns what [`accepts`](Self::accepts) returns
+    /// for it; where that is false, the same numbers stay recorded.
     pub fn take(&mut self, seq: SeqNo) -> bool
         ensures accepts { (taken : Numbers) → Keeps self.old taken →
             (IsTrue result ↔ Accepts taken seq) }

@@ -62,6 +62,7 @@ fn texts_of_ids(rt: HostRuntime) -> Result<(), Fail> {
         ("é-1", "__1"),
         ("", ""),
         ("a b", "a_b"),
+        ("audio-1", "audio_1"),
         // Characters of three and of four bytes.
         ("€x", "_x"),
         ("😀", "_"),
@@ -80,6 +81,7 @@ fn texts_of_ids(rt: HostRuntime) -> Result<(), Fail> {
     let rids = [
         ("abcdefghij", "abcdefgh"),
         ("hi", "hi"),
+        ("hi-res", "hi_res"),
         ("é1", "_1"),
         ("ééééééééé", "________"),
         ("", ""),
