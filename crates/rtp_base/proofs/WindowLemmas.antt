@@ -1,7 +1,7 @@
 -- Which sets a window keeps: as it is made, as a number is refused, and always some set.
 use Rattle.std.proofs.Common.{◌≡◌, ◌+◌, ◌-◌, ◌^◌, ◌≤◌, nat_eq, ℕ, Bool, true, false, ◌&&◌, leb, ltb, List, get_or, inl, inr, refl, sym, ap, ◌∙◌, arith}
 use Rattle.std.proofs.lemmas.Bool.{le-leb, leb-true, lt-ltb, and_parts, or_cases, or_left, cases_Bool, cases_lt, cases_eq, eqb-true, eq-eqb, ne_eqb}
-use Rattle.rtp_base.specs.Window.{Numbers, WindowState, only, up_to, including, Keeps, Accepts}
+use Rattle.rtp_base.specs.Window.{Numbers, WindowState, window_size, only, up_to, including, Keeps, Accepts}
 use Rattle.rtp_base.specs.Bitmap.{bits_of}
 use Rattle.rtp_base.proofs.BitmapLemmas.{or-none, or-already, one-first, one-others, ones-at}
 
@@ -48,7 +48,7 @@ Keeps-refused window taken number keeps refused =
 
 -- the numbers that are recorded
 shown : ℕ → List Bool → Numbers
-shown greatest recorded = λ n. leb n greatest && (ltb greatest (n + 128) && get_or recorded (greatest - n) false)
+shown greatest recorded = λ n. leb n greatest && (ltb greatest (n + window_size) && get_or recorded (greatest - n) false)
 
 pub Keeps-shown : (greatest : ℕ) (recorded : List Bool) → get_or recorded 0 false ≡ true
     → (taken : Numbers) × Keeps (record { greatest = greatest; recorded = recorded }) taken
@@ -57,9 +57,9 @@ Keeps-shown greatest recorded first = (
   shown greatest recorded,
   record {
     top = record {
-      member = rw (le-leb greatest greatest (omega arith), lt-ltb greatest (greatest + 128) (omega arith)) (let here : greatest - greatest ≡ 0 = omega arith in rw here first);
-      top = λ n is. leb-true n greatest (and_parts (leb n greatest) (ltb greatest (n + 128) && get_or recorded (greatest - n) false) is).0;
+      member = rw (le-leb greatest greatest (omega arith), lt-ltb greatest (greatest + window_size) (omega arith)) (let here : greatest - greatest ≡ 0 = omega arith in rw here first);
+      top = λ n is. leb-true n greatest (and_parts (leb n greatest) (ltb greatest (n + window_size) && get_or recorded (greatest - n) false) is).0;
     };
-    recorded = λ n low near. rw (le-leb n greatest low, lt-ltb greatest (n + 128) near) refl;
+    recorded = λ n low near. rw (le-leb n greatest low, lt-ltb greatest (n + window_size) near) refl;
   },
 )

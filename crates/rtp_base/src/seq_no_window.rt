@@ -1,7 +1,7 @@
 //! The replay window: which packets of a stream were recorded, near the greatest number.
 
 ghost use Rattle.std.specs.Prelude.{◌≡◌, ℕ, ◌-◌, ◌<◌, ◌≤◌, ◌↔◌, Bool, true, false, ◌||◌, ◌==◌, slice_index_or, IsTrue};
-ghost use Rattle.rtp_base.specs.Window.{Numbers, window_size, only, up_to, including, IsGreatest, Keeps, Accepts};
+ghost use Rattle.rtp_base.specs.Window.{Numbers, only, up_to, including, IsGreatest, Keeps, Accepts};
 ghost use Rattle.rtp_base.specs.Bitmap.{bits_of};
 
 use crate::id::SeqNo;
