@@ -43,9 +43,9 @@ fn widened(previous: Option<u64>, number: u64, bits: u32) -> u64
 }
 
 /// Extends a number of 7 bits to 64 bits: returns the number nearest to `previous`, modulo 2^64,
-/// that ends in the 7 bits of `number`. Of two that are 64 away, it is the one with the rollover
-/// count of `previous`. With no previous number, returns the 7 bits alone (RFC 3711, 3.3.1). The
-/// eighth bit of `number` is ignored.
+/// that ends in the 7 bits of `number`. Where two are equally near, 64 away on either side, it is
+/// the one with the rollover count of `previous`. With no previous number, returns the 7 bits alone
+/// (RFC 3711, 3.3.1). The eighth bit of `number` is ignored.
 pub fn extend_u7(previous: Option<u64>, number: u8) -> u64
     ensures near { IsNear 7 previous number result }
 
@@ -57,8 +57,9 @@ pub fn extend_u7(previous: Option<u64>, number: u8) -> u64
 }
 
 /// Extends a number of 8 bits to 64 bits: returns the number nearest to `previous`, modulo 2^64,
-/// that ends in the 8 bits of `number`. Of two that are 128 away, it is the one with the rollover
-/// count of `previous`. With no previous number, returns the 8 bits alone (RFC 3711, 3.3.1).
+/// that ends in the 8 bits of `number`. Where two are equally near, 128 away on either side, it is
+/// the one with the rollover count of `previous`. With no previous number, returns the 8 bits alone
+/// (RFC 3711, 3.3.1).
 pub fn extend_u8(previous: Option<u64>, number: u8) -> u64
     ensures near { IsNear 8 previous number result }
 
@@ -70,9 +71,9 @@ pub fn extend_u8(previous: Option<u64>, number: u8) -> u64
 }
 
 /// Extends a number of 15 bits to 64 bits: returns the number nearest to `previous`, modulo 2^64,
-/// that ends in the 15 bits of `number`. Of two that are 16384 away, it is the one with the
-/// rollover count of `previous`. With no previous number, returns the 15 bits alone (RFC 3711,
-/// 3.3.1). The sixteenth bit of `number` is ignored.
+/// that ends in the 15 bits of `number`. Where two are equally near, 16384 away on either side, it
+/// is the one with the rollover count of `previous`. With no previous number, returns the 15 bits
+/// alone (RFC 3711, 3.3.1). The sixteenth bit of `number` is ignored.
 pub fn extend_u15(previous: Option<u64>, number: u16) -> u64
     ensures near { IsNear 15 previous number result }
 
@@ -84,9 +85,9 @@ pub fn extend_u15(previous: Option<u64>, number: u16) -> u64
 }
 
 /// Extends a number of 16 bits to 64 bits: returns the number nearest to `previous`, modulo 2^64,
-/// that ends in the 16 bits of `number`. Of two that are 32768 away, it is the one with the
-/// rollover count of `previous`. With no previous number, returns the 16 bits alone (RFC 3711,
-/// 3.3.1).
+/// that ends in the 16 bits of `number`. Where two are equally near, 32768 away on either side, it
+/// is the one with the rollover count of `previous`. With no previous number, returns the 16 bits
+/// alone (RFC 3711, 3.3.1).
 ///
 /// ```
 /// assert_eq!(extend_u16(Some(65_535), 0), 65_536);
@@ -104,8 +105,9 @@ pub fn extend_u16(previous: Option<u64>, number: u16) -> u64
 }
 
 /// Extends a number of 32 bits to 64 bits: returns the number nearest to `previous`, modulo 2^64,
-/// that ends in the 32 bits of `number`. Of two that are 2^31 away, it is the one with the rollover
-/// count of `previous`. With no previous number, returns the 32 bits alone (RFC 3711, 3.3.1).
+/// that ends in the 32 bits of `number`. Where two are equally near, 2^31 away on either side, it
+/// is the one with the rollover count of `previous`. With no previous number, returns the 32 bits
+/// alone (RFC 3711, 3.3.1).
 pub fn extend_u32(previous: Option<u64>, number: u32) -> u64
     ensures near { IsNear 32 previous number result }
 
