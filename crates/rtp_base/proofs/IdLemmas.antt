@@ -1,4 +1,4 @@
--- Ids as texts with spaces behind them.
+-- Identifiers as texts filled up with spaces.
 use Rattle.std.proofs.Common.{◌≡◌, ℕ, ◌+◌, ◌-◌, ◌<◌, ◌≤◌, Bool, false, eqb, List, [], ◌∷◌, ◌++◌, length, map, take, drop, get_or, replicate, refl, sym, ap, ◌∙◌, subst, inl, inr, arith, length-append, length-take-le, take_at, drop_at}
 use Rattle.std.specs.Prelude.{IsUtf8}
 use Rattle.std.specs.List.{All, position_or_len}
@@ -75,7 +75,7 @@ IsUtf8-text bytes n here is =
       | inr past ↦ rw (get_or_past text i 0 past) (omega arith)
     ])
 
--- ---- the text of an id, and spaces behind it
+-- ---- the text of an identifier, filled up with spaces
 
 IsIdByte-id_char : (c : ℕ) → IsIdByte (id_char c)
 IsIdByte-id_char c =

@@ -24,4 +24,4 @@ pub mod ElementReading
 pub mod Reading
 pub mod Overwriting
 pub mod ElementWriting
-pub mod Turns
+pub mod Moduli
