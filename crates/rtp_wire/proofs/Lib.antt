@@ -1,4 +1,5 @@
 mod ElementLemmas
+mod ElementLemmasOfBodies
 mod KindLemmas
 mod MapLemmas
 mod ListingLemmas
