@@ -19,7 +19,7 @@ use Rattle.rtp_wire.specs.NotAHeader.{NotABlock, cut_head, unknown_form, cut_wor
 use Rattle.rtp_wire.specs.Reading.{HasExtensionPart}
 use Rattle.rtp_wire.proofs.FlagLemmas.{bit-once, HasFlags, flags_from_first, fields_from_second}
 use Rattle.rtp_wire.proofs.BlockLemmas.{word_at-take}
-use Rattle.rtp_wire.proofs.ElementLemmas.{AreElements-only}
+use Rattle.rtp_wire.proofs.ElementLemmasOfBodies.{AreElements-only}
 use Rattle.rtp_wire.proofs.ValuesLaws.{one_values}
 use Rattle.rtp_wire.proofs.HeaderLemmas.{IsLaidOut, layout_of}
 

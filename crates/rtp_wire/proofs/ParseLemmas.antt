@@ -8,7 +8,12 @@ use Rattle.rtp_wire.specs.declared.ext.map.ExtensionMap.{ExtensionMap}
 use Rattle.rtp_wire.specs.declared.header.rtp_header.RtpHeader.{RtpHeader}
 use Rattle.rtp_wire.specs.Header.{bit, IsFirstByte, IsFixed}
 use Rattle.rtp_wire.specs.NotAHeader.{NotABlock, NotAHeader, cut_sources, no_block}
-use Rattle.rtp_wire.specs.Reading.{HasExtensionPart}
+use Rattle.std.specs.Prelude.{Option, Some, None, Result, Ok, Err, IfOk, IfSome}
+use Rattle.std.specs.declared.alloc.AllocError.{AllocError}
+use Rattle.rtp_wire.specs.declared.ext.value.values.ExtensionValues.{ExtensionValues}
+use Rattle.rtp_wire.specs.Values.{no_values, AreValues}
+use Rattle.rtp_wire.specs.Block.{IsExtensionPart}
+use Rattle.rtp_wire.specs.Reading.{HasExtensionPart, ReadsBlock}
 use Rattle.rtp_wire.proofs.FlagLemmas.{HasFlags, flags_from_first}
 use Rattle.rtp_wire.proofs.GroupLemmas.{AreFours-first_chunks, length-first_chunks, first_chunks-take}
 use Rattle.rtp_wire.proofs.HeaderLemmas.{IsLaidOut}
@@ -74,3 +79,14 @@ no_block-from_pieces buf fixed after sources behind padding extension count cut 
     no_block (sym flags.extension_is ∙ ap bit set)
     (subst (λ (k : ℕ). NotABlock (drop (12 + 4 * k) buf)) flags.count_is
     (subst NotABlock (behind-drop buf fixed after sources behind count cut) none))
+
+-- a block that was read, where X is set and nothing was held before
+pub HasExtensionPart-read : (exts : ExtensionMap) (extension : Bool) (bytes : List ℕ) (old new : ExtensionValues) (read : Result (Option ℕ) AllocError) → extension ≡ true → old ≡ no_values
+    → IfOk read (λ answer. IfSome answer (λ len. ReadsBlock exts bytes len old new)) → IfOk read (λ answer. IfSome answer (λ len. HasExtensionPart exts extension bytes new len))
+HasExtensionPart-read exts extension bytes old new (Err e) set none reads = tt
+HasExtensionPart-read exts extension bytes old new (Ok None) set none reads = tt
+HasExtensionPart-read exts extension bytes old new (Ok (Some len)) set none reads = record {
+  fits = reads.fits;
+  is_part = subst (λ (x : Bool). IsExtensionPart exts x (take len bytes) new) (sym set)
+      (reads.form, reads.body, reads.elements, reads.is_block, reads.are_elements, subst (λ (v : ExtensionValues). AreValues exts reads.elements v new) none reads.are_values);
+}

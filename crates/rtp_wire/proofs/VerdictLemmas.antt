@@ -1,6 +1,8 @@
 -- Runs of datagrams: one verdict more, and that a number is taken once.
 use Rattle.std.proofs.Common.{◌≡◌, ℕ, zero, suc, ◌+◌, ◌<◌, ◌⊎◌, Bool, true, false, ◌||◌, eqb, List, [], ◌∷◌, ◌++◌, length, take, get_or, refl, sym, ap, ◌∙◌, subst, inl, inr, arith, length-take-le}
-use Rattle.std.specs.Prelude.{Option, Some, None}
+use Rattle.std.specs.Prelude.{Option, Some, None, IfSome}
+use Rattle.std.specs.Option.{option_map}
+use Rattle.std.proofs.lemmas.Option.{none-some}
 use Rattle.std.specs.List.{AllZip}
 use Rattle.std.proofs.lemmas.Bool.{eq-eqb, cases_lt, false≢true, or_left, or_right}
 use Rattle.std.proofs.lemmas.List.{take-append-le, take_at, get_or_append_left, get_or_at, length_push, get_or-take}
@@ -8,8 +10,10 @@ use Rattle.rtp_base.specs.Window.{Numbers, WindowState, Accepts}
 use Rattle.rtp_wire.specs.declared.ext.map.ExtensionMap.{ExtensionMap}
 use Rattle.rtp_wire.specs.declared.receive.verdict.Verdict.{Verdict}
 use Rattle.rtp_wire.specs.declared.receive.verdict.Verdict.TheVariants.{Unreadable, Taken, Refused}
+use Rattle.rtp_wire.specs.declared.header.rtp_header.RtpHeader.{RtpHeader}
+use Rattle.rtp_wire.specs.Header.{IsWire}
 use Rattle.rtp_wire.specs.Receiver.{Holds, IsFresh, taken_after}
-use Rattle.rtp_wire.specs.Verdicts.{Reading, IsReading, AreReadings, taken_by, IsVerdict, IsRun, AreVerdicts, TakesOnce}
+use Rattle.rtp_wire.specs.Verdicts.{Reading, reading_of, IsReading, AreReadings, taken_by, IsVerdict, IsRun, AreVerdicts, TakesOnce}
 use Rattle.rtp_wire.proofs.ReceiverLemmas.{not_nothing}
 
 -- ---- one verdict more
@@ -126,3 +130,9 @@ TakesOnce-run readings verdicts run i j number before within first second =
     let is : taken_by earlier number ≡ true = taken_by-at earlier i number here (get_or-take j verdicts i Unreadable before ∙ first) in
     taken_once (taken_by earlier) (get_or readings j None) number is
     (subst (IsVerdict (taken_by earlier) (get_or readings j None)) second (run.each j (omega (arith, run.as_many))))
+
+-- what `parse` returns is the reading of the datagram
+pub IsReading-parsed : (exts : ExtensionMap) (datagram : List ℕ) (answer : Option RtpHeader) → IfSome answer (IsWire exts datagram)
+    → ((header : RtpHeader) → IsWire exts datagram header → answer ≡ Some header) → IsReading exts datagram (option_map reading_of answer)
+IsReading-parsed exts datagram None found only = λ header wire. none-some header (only header wire)
+IsReading-parsed exts datagram (Some header) found only = record { header = header; wire = found; reading_is = refl }

@@ -73,6 +73,8 @@ impl ExtensionMap {
         requires { length (block_bytes self.now ev.now) ≤ length buf.old }
         ensures written { buf.new ≡ block_bytes self.now ev.now ++ drop result buf.old }
         ensures length { result ≡ length (block_bytes self.now ev.now) }
+        ensures words { result % 4 ≡ 0 }
+        ensures bound { result ≤ 4116 }
 
         // What was written is read as the image of the values.
         ensures read_back { IsExtensionPart self.now true (block_bytes self.now ev.now)

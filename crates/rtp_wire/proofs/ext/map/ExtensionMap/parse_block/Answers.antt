@@ -1,7 +1,7 @@
 use Rattle.std.proofs.Common.{arith}
 use Rattle.rtp_wire.specs.ElementReading.{elements_left}
 use Rattle.rtp_wire.proofs.BlockLemmas.{bytes-body}
-use Rattle.rtp_wire.proofs.ElementLemmas.{AreElements-found}
+use Rattle.rtp_wire.proofs.ElementLemmasOfBodies.{AreElements-found}
 use Rattle.rtp_wire.proofs.ext.map.ExtensionMap.parse_block.Goals as goal
 
 pub returns-clause-found : goal.returns-clause-found
