@@ -24,7 +24,10 @@ fn levels(rt: HostRuntime) -> Result<(), Fail> {
         assert!(rt; is_absent(&kind, &values), "{level}");
         values.voice_activity = Some(voice);
         assert!(rt; is_written(&kind, &values, &[byte]), "{level}");
-        assert_eq!(rt; kind.parse_value(rt.alloc(), &[byte], &mut values)?, Some(()));
+        assert_eq!(rt;
+            kind.parse_value(rt.alloc(), &[byte], &mut values)?,
+            Some(())
+        );
         assert_eq!(rt; values.audio_level, Some(again));
         assert_eq!(rt; values.voice_activity, Some(voice));
     }
@@ -99,7 +102,10 @@ fn capture_times(rt: HostRuntime) -> Result<(), Fail> {
                 }),
             "{len}"
         );
-        assert!(rt; is_written(&kind, &values, data.get(..written).unwrap_or(b"")), "{len}");
+        assert!(rt;
+            is_written(&kind, &values, data.get(..written).unwrap_or(b"")),
+            "{len}"
+        );
     }
     let mut values = ExtensionValues::default();
     values.abs_capture_time = Some(AbsCaptureTime {
@@ -133,7 +139,10 @@ fn orientations(rt: HostRuntime) -> Result<(), Fail> {
         }
     }
     for number in 4..=255u8 {
-        assert!(rt; VideoOrientation::from(number) == VideoOrientation::Deg0, "{number}");
+        assert!(rt;
+            VideoOrientation::from(number) == VideoOrientation::Deg0,
+            "{number}"
+        );
     }
     Ok(())
 }
@@ -145,10 +154,22 @@ fn delays(rt: HostRuntime) {
     let rows: [(MediaTime, MediaTime, &[u8; 3]); 5] = [
         (hundredths(4095), hundredths(1), b"\xFF\xF0\x01"),
         (hundredths(4096), hundredths(4097), b"\x00\x00\x01"),
-        (MediaTime::from_90khz(899), MediaTime::from_90khz(900), b"\x00\x00\x01"),
-        (MediaTime::from_millis(19), MediaTime::from_secs(40), b"\x00\x1F\xA0"),
+        (
+            MediaTime::from_90khz(899),
+            MediaTime::from_90khz(900),
+            b"\x00\x00\x01",
+        ),
+        (
+            MediaTime::from_millis(19),
+            MediaTime::from_secs(40),
+            b"\x00\x1F\xA0",
+        ),
         // 100 times 2^64 - 1 is 100 less than a multiple of 4096.
-        (MediaTime::from_secs(18446744073709551615), MediaTime::ZERO, b"\xF9\xC0\x00"),
+        (
+            MediaTime::from_secs(18446744073709551615),
+            MediaTime::ZERO,
+            b"\xF9\xC0\x00",
+        ),
     ];
     for (min, max, data) in rows {
         let mut values = ExtensionValues::default();
@@ -174,15 +195,25 @@ fn texts(rt: HostRuntime) -> Result<(), Fail> {
             return Err(Fail::from("the row can't be read"));
         };
         assert_eq!(rt; values.mid, Some(Mid::from(mid)));
-        assert!(rt; is_written(&Extension::RtpMid, &values, mid.as_bytes()), "{mid}");
+        assert!(rt;
+            is_written(&Extension::RtpMid, &values, mid.as_bytes()),
+            "{mid}"
+        );
         let Some(values) = read(rt.alloc(), &Extension::RepairedRtpStreamId, data)? else {
             return Err(Fail::from("the row can't be read"));
         };
         assert_eq!(rt; values.rid_repair, Some(Rid::from(rid)));
         assert!(rt; values.rid.is_none());
-        assert!(rt; is_written(&Extension::RepairedRtpStreamId, &values, rid.as_bytes()), "{rid}");
+        assert!(rt;
+            is_written(&Extension::RepairedRtpStreamId, &values, rid.as_bytes()),
+            "{rid}"
+        );
     }
-    for kind in [Extension::RtpMid, Extension::RtpStreamId, Extension::RepairedRtpStreamId] {
+    for kind in [
+        Extension::RtpMid,
+        Extension::RtpStreamId,
+        Extension::RepairedRtpStreamId,
+    ] {
         for data in [&b"\xFF"[..], b"a\xC3", b"0123456789abcdefg\xFF"] {
             assert!(rt; is_refused(rt.alloc(), &kind, data)?, "{kind}");
         }

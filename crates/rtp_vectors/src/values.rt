@@ -30,7 +30,11 @@ pub(crate) fn is_absent(kind: &Extension, values: &ExtensionValues) -> bool {
 
 // The values once the data were read into values that are all absent; None where they are not
 // well-formed.
-pub(crate) fn read(alloc: Global, kind: &Extension, data: &[u8]) -> Result<Option<ExtensionValues>, AllocError> {
+pub(crate) fn read(
+    alloc: Global,
+    kind: &Extension,
+    data: &[u8],
+) -> Result<Option<ExtensionValues>, AllocError> {
     let mut values = ExtensionValues::default();
     Ok(match kind.parse_value(alloc, data, &mut values)? {
         Some(()) => Some(values),
