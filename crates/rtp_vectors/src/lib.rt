@@ -14,6 +14,8 @@ mod headers;
 #[cfg(test)]
 mod ids;
 #[cfg(test)]
+mod kinds;
+#[cfg(test)]
 mod maps;
 #[cfg(test)]
 mod runs;

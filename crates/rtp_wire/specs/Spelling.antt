@@ -28,10 +28,12 @@ of_both f (Some x) (Some y) = Some (f x y)
 abbrev pub send_ticks : ℕ → ℕ
 send_ticks micros = micros * 262144 / 1000000 % 2 ^ 24
 
+-- a clock offset in eight bytes, in two's complement; nothing where it is absent
 abbrev pub offset_bytes : Option ℤ → List ℕ
 offset_bytes None = []
 offset_bytes (Some offset) = bytes_of 8 (cast_unsigned w64 offset)
 
+-- the two bits of an orientation
 abbrev pub orientation_bits : orientation.VideoOrientation → ℕ
 orientation_bits Deg0 = 0
 orientation_bits Deg270 = 1
