@@ -19,3 +19,5 @@ mod times;
 mod widenings;
 #[cfg(test)]
 mod windows;
+#[cfg(test)]
+mod written_blocks;

@@ -34,7 +34,7 @@ impl<'a> Model for Iter<'a> {
 }
 
 impl<'a> Iter<'a> {
-    // The entries in the places.
+    // The entries in the slots.
     pub(super) fn new(slots: &'a [Option<Entry>]) -> Self
         requires { length slots.now ≤ MAX_ID }
         ensures { result ≡ items_from 0 slots.now }
@@ -65,7 +65,7 @@ impl<'a> Iterator for Iter<'a> {
     }
 }
 
-/// The ids of a map whose extensions go with one medium, by rising id, each with its extension.
+/// The ids of a map whose extensions are for one medium, by rising id, each with its extension.
 #[derive(Debug, Drop)]
 pub struct IterByMediaType<'a> {
     all: Iter<'a>,
@@ -84,7 +84,7 @@ impl<'a> Model for IterByMediaType<'a> {
 }
 
 impl<'a> IterByMediaType<'a> {
-    // Those of the entries that go with audio, or else with video.
+    // Those of the entries that are for audio, or else for video.
     pub(super) fn new(all: Iter<'a>, audio: bool) -> Self
         ensures { result ≡ filter (λ item. goes_with audio item.1) all.entry }
     {

@@ -1,5 +1,5 @@
-use Rattle.std.proofs.Common.{arith, sym, ap, ◌∙◌, refl, [], ◌+◌, ◌-◌, ◌≤◌, ◌≡◌, ℕ, List, length, Option, None, Some}
-use Rattle.std.specs.Option.{option_map, unwrap_or}
+use Rattle.std.proofs.Common.{arith, sym, ap, ◌∙◌, refl, [], ◌+◌, ◌-◌, ◌≤◌, ◌≡◌, ℕ, length}
+use Rattle.std.specs.Option.{unwrap_or}
 use Rattle.std.proofs.lemmas.List.{take_rest, length-drop}
 use Rattle.rtp_wire.specs.ElementWriting.{bytes_at}
 use Rattle.rtp_wire.specs.Overwriting.{overwritten}

@@ -1,4 +1,4 @@
-use Rattle.std.proofs.Common.{arith, sym, ap, ◌∙◌, ◌≡◌, ◌≤◌, ◌++◌, length, drop, subst}
+use Rattle.std.proofs.Common.{arith, sym, ap, ◌∙◌, ◌≡◌, ◌++◌, length, drop, subst}
 use Rattle.std.specs.List.{AllByRecursion}
 use Rattle.rtp_wire.specs.ElementWriting.{items_bytes, IsCarried}
 use Rattle.rtp_wire.specs.MapSlots.{items_from}
