@@ -192,8 +192,7 @@ impl ExtensionMap {
     /// entry is locked. Where it is another and locked, nothing changes. Else the entry moves to
     /// the id and is locked there, and the entry of that id, locked or not, moves to the other.
     pub fn remap(&mut self, steps: &[(u8, &Extension)])
-        ensures steps {
-            spec.AreRemapped self.old (map (λ step. (step.0, step.1.now)) steps.now) self.new }
+        ensures steps { spec.AreRemapped self.old (map (λ step. (step.0, step.1.now)) steps.now) self.new }
         ensures renumbered { spec.IsRenumbered self.old self.new }
     {
         slots::remap(&mut self.slots, steps);

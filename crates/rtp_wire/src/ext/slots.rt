@@ -137,8 +137,7 @@ fn remap_one(slots: &mut [Option<Entry>], id: u8, ext: &Extension)
 // The steps of a renegotiation, one after another.
 pub(super) fn remap(slots: &mut [Option<Entry>], steps: &[(u8, &Extension)])
     requires { length slots.old ≡ MAX_ID }
-    ensures steps {
-        spec.AreRemapped slots.old (map (λ step. (step.0, step.1.now)) steps.now) slots.new }
+    ensures steps { spec.AreRemapped slots.old (map (λ step. (step.0, step.1.now)) steps.now) slots.new }
     ensures renumbered { spec.IsRenumbered slots.old slots.new }
 {
     for (id, ext) in steps {
@@ -149,8 +148,7 @@ pub(super) fn remap(slots: &mut [Option<Entry>], steps: &[(u8, &Extension)])
 // A copy of the slot.
 fn clone(alloc: Global, slot: &Option<Entry>) -> Result<Option<Entry>, AllocError>
     ensures same { IfOk result (λ copy. copy ≡ slot.now) }
-    ensures known {
-        ((ext : Extension) → spec.extension_of slot.now ≡ Some ext → IsKnown ext) → IsOk result }
+    ensures known { ((ext : Extension) → spec.extension_of slot.now ≡ Some ext → IsKnown ext) → IsOk result }
 {
     match slot {
         Some(entry) => Ok(Some(entry.clone(alloc)?)),

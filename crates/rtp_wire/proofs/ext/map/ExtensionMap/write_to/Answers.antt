@@ -32,7 +32,7 @@ loop-id-preserved c =
 ended : (c : goal.In-None) →
     (c.loop-id.at ≡ length (items_bytes c.args.form c.args.ev.now (items_from 0 c.args.self.now)))
     × (c.loop-id.buf ≡ items_bytes c.args.form c.args.ev.now (items_from 0 c.args.self.now)
-      ++ drop (length (items_bytes c.args.form c.args.ev.now (items_from 0 c.args.self.now))) c.args.buf.now)
+    ++ drop (length (items_bytes c.args.form c.args.ev.now (items_from 0 c.args.self.now))) c.args.buf.now)
     × AllByRecursion (IsCarried c.args.form c.args.ev.now) (items_from 0 c.args.self.now)
 ended c = IsUnderWay-end _ _ _ _ _ _ _ c.loop-id.invariant c.in-None.ensures.steps.0
 
