@@ -27,3 +27,5 @@ mod values;
 mod widenings;
 #[cfg(test)]
 mod windows;
+#[cfg(test)]
+mod written_blocks;

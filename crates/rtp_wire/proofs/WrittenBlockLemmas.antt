@@ -1,5 +1,5 @@
 -- The elements that a map writes: their bytes, and what those are read as.
-use Rattle.std.proofs.Common.{◌≡◌, ◌≢◌, ℕ, ◌+◌, ◌*◌, ◌<◌, ◌≤◌, ◌⊎◌, inl, inr, List, [], ◌∷◌, ◌++◌, length, take, drop, replicate, map, Bool, true, false, cond, ltb, eqb, Option, Some, None, refl, sym, ap, ◌∙◌, subst, arith, append_assoc, length-append, zero, suc}
+use Rattle.std.proofs.Common.{◌≡◌, ◌≢◌, ℕ, ◌+◌, ◌*◌, ◌<◌, ◌≤◌, ◌⊎◌, inl, inr, List, [], ◌∷◌, ◌++◌, length, drop, replicate, Bool, true, false, Option, Some, None, refl, sym, ap, ◌∙◌, subst, arith, append_assoc, length-append, zero, suc}
 use Rattle.std.specs.Prelude.{◌||◌, ◌==◌, nat_lt, if◌then◌else◌, IfSome}
 use Rattle.std.specs.List.{AllByRecursion, flat_map, filter_map, list_any, cons_option}
 use Rattle.std.specs.Option.{option_map, unwrap_or}
@@ -231,9 +231,9 @@ bytes_at-put form id len at start old data_put new (Some bytes) long start-is fi
     let both = length-header form id bytes in
     let start-at : start ≡ at + length (header_bytes form id (length bytes)) = start-is ∙ ap (λ (h : List ℕ). at + length h) header in (
       new-is ∙ ap (λ (b : List ℕ). overwritten b at (header_bytes form id len)) data-is
-      ∙ ap (overwritten (overwritten old start bytes) at) header
-      ∙ overwritten-before old (header_bytes form id (length bytes)) bytes at start start-at (omega arith)
-      ∙ ap (overwritten old at) (header-append form id bytes),
+          ∙ ap (overwritten (overwritten old start bytes) at) header
+          ∙ overwritten-before old (header_bytes form id (length bytes)) bytes at start start-at (omega arith)
+          ∙ ap (overwritten old at) (header-append form id bytes),
       omega arith,
     )
 
@@ -304,7 +304,7 @@ IsUnderWay-end form values old buf items left at before none =
     let bytes : items_bytes form values left ≡ [] = ap (items_bytes form values) none ∙ items_bytes-nil form values in (
       omega (arith, before.ends, ap length bytes),
       sym (overwritten-nil buf at) ∙ (ap (overwritten buf at) (sym bytes)
-      ∙ (before.makes ∙ overwritten-front old (items_bytes form values items))),
+          ∙ (before.makes ∙ overwritten-front old (items_bytes form values items))),
       before.carried (subst (AllByRecursion (IsCarried form values)) (sym none) tt),
     )
 

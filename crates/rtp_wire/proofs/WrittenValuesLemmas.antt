@@ -1,7 +1,7 @@
 -- What the elements that a map writes are read as.
 use Rattle.std.proofs.Common.{◌≡◌, ◌≢◌, ℕ, ◌⊎◌, inl, inr, List, [], ◌∷◌, ◌++◌, Bool, true, false, Option, Some, None, All, refl, sym, ap, ◌∙◌, subst, rules}
-use Rattle.std.specs.Prelude.{◌||◌, if◌then◌else◌, IfSome, IsSomeAnd, Decides}
-use Rattle.std.specs.List.{AllByRecursion, filter_map, list_any, cons_option}
+use Rattle.std.specs.Prelude.{◌||◌, IfSome, IsSomeAnd, Decides}
+use Rattle.std.specs.List.{AllByRecursion, list_any, cons_option}
 use Rattle.std.specs.Option.{option_map}
 use Rattle.std.proofs.lemmas.List.Elements.{All-cons, All-nil, recursion_from_All, filter_map-append}
 use Rattle.std.proofs.lemmas.List.Folds.{list_any-append}

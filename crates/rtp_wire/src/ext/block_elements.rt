@@ -68,7 +68,8 @@ fn write_element(
     requires room { at + length (bytes_at form id (spelled_data ext.now ev.now)) ≤ length buf.old }
     requires id { 1 ≤ id }
     requires fits { CanCarry form id (spelled_data ext.now ev.now) }
-    ensures written { buf.new ≡ overwritten buf.old at (bytes_at form id (spelled_data ext.now ev.now)) }
+    ensures written { buf.new
+        ≡ overwritten buf.old at (bytes_at form id (spelled_data ext.now ev.now)) }
     ensures end { result ≡ at + length (bytes_at form id (spelled_data ext.now ev.now)) }
     ensures carried { IsCarried form ev.now (id, ext.now) }
 {
@@ -113,11 +114,14 @@ impl ExtensionMap {
         len
     }
 
-    /// Writes an element for each mapped id whose kind has its values, by rising id, to the front of
-    /// the buffer and returns how many bytes they take; the bytes behind them stay as they were
+    /// Writes an element for each mapped id whose kind has its values, by rising id, to the front
+    /// of the buffer and returns how many bytes they take; the bytes behind them stay as they were
     /// (RFC 8285, 4.2 and 4.3). Two ids of one kind are both written. It requires the form that
     /// [`form`](Self::form) returns or the two-byte form, and a buffer of at least
     /// [`wire_len`](Self::wire_len) bytes.
+    ///
+    /// Under a map of 1 to the audio level a level of -43 with voice is written as `10 AB` (hex) in
+    /// the one-byte form, and as `01 01 AB` in the two-byte form.
     pub fn write_to(&self, buf: &mut [u8], ev: &ExtensionValues, form: ExtensionsForm) -> usize
         requires form { (form ≡ form_of self.now ev.now) ⊎ (form ≡ TwoByte) }
         requires room { length (elements_bytes form (written_elements self.now ev.now))

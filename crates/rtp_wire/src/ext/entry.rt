@@ -1,4 +1,4 @@
-//! What stands behind an id.
+//! What an id is mapped to.
 
 ghost use Rattle.std.specs.Prelude.{◌≡◌, ◌↔◌, true, false, IsTrue, IfOk, Some, None};
 ghost use Rattle.std.specs.Option.{option_map};
@@ -8,7 +8,8 @@ ghost use Rattle.rtp_wire.specs.ExtensionMap as spec;
 use super::Extension;
 use std::alloc::{AllocError, Global};
 
-/// An extension, and whether a renegotiation has overwritten it, and a wish for it no longer moves it.
+/// An extension, and whether it is locked: a renegotiation has overwritten it, and a later step for
+/// it doesn't move it.
 #[derive(Debug, PartialEq, Eq, Drop)]
 pub(super) struct Entry {
     pub(super) extension: Extension,
@@ -38,7 +39,7 @@ impl Entry {
         })
     }
 
-    // The same entry for those of this medium, unlocked.
+    // The same entry, unlocked, where it is for this medium.
     pub(super) fn of_medium(&self, audio: bool) -> Option<Self>
         ensures { result ≡ spec.of_medium audio (Some self.now) }
     {

@@ -65,7 +65,7 @@ impl<'a> Iterator for Iter<'a> {
     }
 }
 
-/// The ids of a map whose extensions go with one medium, by rising id, each with its extension.
+/// The ids of a map whose extensions are for one medium, by rising id, each with its extension.
 #[derive(Debug, Drop)]
 pub struct IterByMediaType<'a> {
     all: Iter<'a>,
@@ -84,7 +84,7 @@ impl<'a> Model for IterByMediaType<'a> {
 }
 
 impl<'a> IterByMediaType<'a> {
-    // Those of the entries that go with audio, or else with video.
+    // Those of the entries that are for audio, or else for video.
     pub(super) fn new(all: Iter<'a>, audio: bool) -> Self
         ensures { result ≡ filter (λ item. goes_with audio item.1) all.entry }
     {

@@ -1,4 +1,4 @@
-//! Which extension stands behind which id.
+//! Which id is mapped to which extension.
 
 ghost use Rattle.std.specs.Prelude.{◌≡◌, ◌≢◌, ◌↔◌, ℕ, true, false, IsTrue, IfOk, IfSome, IfNone, map, length, ◌≤◌};
 ghost use Rattle.std.specs.Option.{option_copied};
@@ -19,11 +19,11 @@ pub const MAX_ID_ONE_BYTE_FORM: u8 = 14;
 pub const MAX_ID: u8 = 16;
 
 /// The extensions that two peers have agreed on, by their id (RFC 8285, 5): a map from the ids 1 to
-/// [`MAX_ID`] to extensions. One extension may stand behind several ids. An entry is locked once a
-/// renegotiation has overwritten it: a later wish for its extension doesn't move it, though it gives way
-/// where its id is wanted for another.
+/// [`MAX_ID`] to extensions. Several ids may be mapped to one extension. An entry is locked once a
+/// renegotiation has overwritten it: a later step for its extension doesn't move it, though it is
+/// moved where a step for another extension has its id.
 ///
-/// Two maps are equal where they have equal entries behind the same ids, locked alike.
+/// Two maps are equal exactly when the same ids are mapped to the same extensions, locked alike.
 #[derive(Drop)]
 pub struct ExtensionMap {
     // What the ids from 1 on are mapped to.
@@ -53,7 +53,7 @@ impl PartialEq for ExtensionMap {
 
     ghost laws = { partial_equiv_from_equiv same_slots-equiv };
 
-    /// Whether the same ids stand for the same extensions, locked alike.
+    /// Whether the same ids are mapped to the same extensions, locked alike.
     fn eq(&self, other: &ExtensionMap) -> bool
         ensures answer { result ≡ same_slots self.now other.now }
         ensures same { IsTrue result ↔ (self.now ≡ other.now) }
@@ -67,7 +67,7 @@ impl Eq for ExtensionMap {
 }
 
 impl ExtensionMap {
-    /// A map in which no id stands for an extension. Takes no memory.
+    /// A map in which no id is mapped. Takes no memory.
     pub fn empty() -> Self
         ensures { spec.IsEmpty result }
     {
@@ -102,14 +102,14 @@ impl ExtensionMap {
         *self = Self::empty();
     }
 
-    /// Whether no id stands for an extension.
+    /// Whether no id is mapped.
     pub fn is_empty(&self) -> bool
         ensures { IsTrue result ↔ spec.IsEmpty self.now }
     {
         slots::are_empty(&self.slots)
     }
 
-    /// Puts the extension behind the id, unlocked, in place of what stood there. An id that the map
+    /// Maps the id to the extension, unlocked, instead of what it was mapped to. An id that the map
     /// has no room for, 0 or one above [`MAX_ID`], changes nothing.
     pub fn set(&mut self, id: u8, ext: Extension)
         ensures within { spec.IsId id → spec.Sets self.old self.new id (spec.unlocked ext) }
@@ -121,14 +121,15 @@ impl ExtensionMap {
         }
     }
 
-    /// The extension behind the id, and None where there is none or the map has no such id.
+    /// The extension that the id is mapped to, and `None` where there is none or the map has no room
+    /// for the id.
     pub fn lookup(&self, id: u8) -> Option<&Extension>
         ensures { option_copied result ≡ spec.extension_at self.now id }
     {
         slots::entry(&self.slots, id).map(|entry| &entry.extension)
     }
 
-    /// The lowest id that stands for the extension.
+    /// The lowest id that is mapped to the extension.
     pub fn id_of(&self, ext: Extension) -> Option<u8>
         ensures found { IfSome result (spec.IsLowest self.now ext) }
         ensures none { IfNone result (spec.IsUnmapped self.now ext) }
@@ -144,37 +145,37 @@ impl ExtensionMap {
         Iter::new(&self.slots[..usize::from(self.end)])
     }
 
-    /// The ids that stand for an extension, by rising id, each with its extension.
+    /// The mapped ids by rising id, each with its extension.
     pub fn iter(&self) -> Iter<'_>
         ensures { spec.IsListing self.now (λ _. true) result }
     {
         self.items()
     }
 
-    /// The ids whose extensions go with audio, or else with video, by rising id, each with its
-    /// extension. Most extensions go with both, and an unknown one with neither.
+    /// The ids whose extensions are for audio, or else for video, by rising id, each with its
+    /// extension. Most extensions are for both, and an unknown one is for neither.
     pub fn iter_by_media_type(&self, audio: bool) -> IterByMediaType<'_>
         ensures { spec.IsListing self.now (spec.goes_with audio) result }
     {
         IterByMediaType::new(self.iter(), audio)
     }
 
-    /// The ids whose extensions go with audio, by rising id, each with its extension.
+    /// The ids whose extensions are for audio, by rising id, each with its extension.
     pub fn iter_audio(&self) -> IterByMediaType<'_>
         ensures { spec.IsListing self.now (spec.goes_with true) result }
     {
         self.iter_by_media_type(true)
     }
 
-    /// The ids whose extensions go with video, by rising id, each with its extension.
+    /// The ids whose extensions are for video, by rising id, each with its extension.
     pub fn iter_video(&self) -> IterByMediaType<'_>
         ensures { spec.IsListing self.now (spec.goes_with false) result }
     {
         self.iter_by_media_type(false)
     }
 
-    /// The entries of the extensions that go with audio, or else with video, all unlocked. Takes no
-    /// memory, since an unknown extension goes with neither.
+    /// The entries of the extensions for audio, or else for video, all unlocked. Takes no memory,
+    /// since an unknown extension is for neither.
     pub fn cloned_with_type(&self, audio: bool) -> Self
         ensures { (id : ℕ) →
             spec.entry_at result id ≡ spec.of_medium audio (spec.entry_at self.now id) }
@@ -185,12 +186,11 @@ impl ExtensionMap {
         exts
     }
 
-    /// Takes up what the peer wants in a renegotiation, one step after another: for each pair the
-    /// extension is to stand behind the id. A pair whose id the map has no room for, or whose
-    /// extension isn't mapped, changes nothing. The lowest id of the extension counts. Where that
-    /// is the id, its entry is locked. Where it is another and locked, nothing changes. Else the
-    /// entry moves to the id and is locked there, and what stood there, locked or not, takes its
-    /// place.
+    /// Takes up the pairs of a renegotiation, one step after another: for each pair the peer maps
+    /// the id to the extension. A pair whose id the map has no room for, or whose extension isn't
+    /// mapped, changes nothing. The lowest id of the extension counts. Where that is the id, its
+    /// entry is locked. Where it is another and locked, nothing changes. Else the entry moves to
+    /// the id and is locked there, and the entry of that id, locked or not, moves to the other.
     pub fn remap(&mut self, steps: &[(u8, &Extension)])
         ensures steps { spec.AreRemapped self.old (map (λ step. (step.0, step.1.now)) steps.now) self.new }
         ensures renumbered { spec.IsRenumbered self.old self.new }

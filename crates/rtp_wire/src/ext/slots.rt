@@ -23,7 +23,7 @@ pub(super) fn slot_of(id: u8) -> Option<usize>
     }
 }
 
-// Whether nothing stands in any index.
+// Whether every slot is empty.
 pub(super) fn are_empty(slots: &[Option<Entry>]) -> bool
     ensures { IsTrue result ↔ All (λ slot. slot ≡ None) slots.now }
 {
@@ -45,7 +45,7 @@ pub(super) fn end(slots: &[Option<Entry>]) -> u8
     end
 }
 
-// What stands in the index of an id.
+// The entry of an id.
 pub(super) fn entry(slots: &[Option<Entry>], id: u8) -> Option<&Entry>
     requires { length slots.now ≡ MAX_ID }
     ensures { option_copied result ≡ spec.entry_at slots.now id }
@@ -53,7 +53,7 @@ pub(super) fn entry(slots: &[Option<Entry>], id: u8) -> Option<&Entry>
     slots.get(usize::from(id).checked_sub(1)?)?.as_ref()
 }
 
-// Whether this extension stands in the index.
+// Whether the slot holds this extension.
 fn holds(slot: &Option<Entry>, ext: &Extension) -> bool
     ensures { IsTrue result ↔ (spec.extension_of slot.now ≡ Some ext.now) }
 {
@@ -63,7 +63,7 @@ fn holds(slot: &Option<Entry>, ext: &Extension) -> bool
     }
 }
 
-// The first index in which the extension stands.
+// The first index whose slot holds the extension.
 fn slot_with(slots: &[Option<Entry>], ext: &Extension) -> Option<usize>
     ensures found { IfSome result (IsFirst slots.now ext.now) }
     ensures none { IfNone result (spec.IsUnmapped slots.now ext.now) }
@@ -71,7 +71,7 @@ fn slot_with(slots: &[Option<Entry>], ext: &Extension) -> Option<usize>
     slots.iter().position(|slot| holds(slot, ext))
 }
 
-// The id of the first index in which the extension stands.
+// The lowest id that is mapped to the extension.
 pub(super) fn id_of(slots: &[Option<Entry>], ext: &Extension) -> Option<u8>
     requires { length slots.now ≡ MAX_ID }
     ensures found { IfSome result (spec.IsLowest slots.now ext.now) }
@@ -81,7 +81,7 @@ pub(super) fn id_of(slots: &[Option<Entry>], ext: &Extension) -> Option<u8>
     Some(index as u8 + 1)
 }
 
-// Whether what stands in the index is locked there.
+// Whether the slot holds a locked entry.
 fn is_locked(slot: &Option<Entry>) -> bool
     ensures { IsTrue result ↔ spec.IsLocked slot.now }
 {
@@ -91,7 +91,7 @@ fn is_locked(slot: &Option<Entry>) -> bool
     }
 }
 
-// Locks what stands in the index.
+// Locks the entry of the slot.
 fn lock(slot: &mut Option<Entry>)
     ensures { slot.new ≡ option_map (λ entry. spec.locked entry.extension) slot.old }
 {
@@ -100,14 +100,14 @@ fn lock(slot: &mut Option<Entry>)
     }
 }
 
-// What stands in the index where it is of this medium, unlocked.
+// The slot's entry where it is for this medium, unlocked.
 fn of_medium(slot: &Option<Entry>, audio: bool) -> Option<Entry>
     ensures { result ≡ spec.of_medium audio slot.now }
 {
     slot.as_ref()?.of_medium(audio)
 }
 
-// The entries of this medium, unlocked, in the slots of another map.
+// Copies the entries for this medium, unlocked, into the slots of another map.
 pub(super) fn copy_of_medium(from: &[Option<Entry>], to: &mut [Option<Entry>], audio: bool)
     requires { length from.now ≡ length to.old }
     ensures { to.new ≡ map (spec.of_medium audio) from.now }
@@ -145,7 +145,7 @@ pub(super) fn remap(slots: &mut [Option<Entry>], steps: &[(u8, &Extension)])
     }
 }
 
-// The same as stands in the index.
+// A copy of the slot.
 fn clone(alloc: Global, slot: &Option<Entry>) -> Result<Option<Entry>, AllocError>
     ensures same { IfOk result (λ copy. copy ≡ slot.now) }
     ensures known { ((ext : Extension) → spec.extension_of slot.now ≡ Some ext → IsKnown ext) → IsOk result }
@@ -156,7 +156,7 @@ fn clone(alloc: Global, slot: &Option<Entry>) -> Result<Option<Entry>, AllocErro
     }
 }
 
-// The same entries in the slots of another map.
+// Copies the entries into the slots of another map.
 pub(super) fn copy(
     alloc: Global,
     from: &[Option<Entry>],

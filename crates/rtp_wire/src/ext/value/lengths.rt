@@ -25,7 +25,8 @@ fn len_of_both<A, B>(first: &Option<A>, second: &Option<B>, len: usize) -> Optio
 
 // The length of a capture time, which has its offset behind it where it is known.
 fn capture_len(time: &Option<AbsCaptureTime>) -> Option<usize>
-    ensures { result ≡ option_map (λ t. length (bytes_of 8 t.capture_time ++ offset_bytes t.clock_offset)) time.now }
+    ensures { result ≡ option_map
+        (λ t. length (bytes_of 8 t.capture_time ++ offset_bytes t.clock_offset)) time.now }
 {
     match time {
         Some(time) if time.clock_offset.is_some() => Some(16),

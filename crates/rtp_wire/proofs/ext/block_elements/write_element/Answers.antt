@@ -1,5 +1,5 @@
-use Rattle.std.proofs.Common.{arith, sym, ap, ◌∙◌, refl, [], ◌+◌, ◌-◌, ◌≤◌, ◌≡◌, ℕ, List, length, Option, None, Some}
-use Rattle.std.specs.Option.{option_map, unwrap_or}
+use Rattle.std.proofs.Common.{arith, sym, ap, ◌∙◌, refl, [], ◌+◌, ◌-◌, ◌≤◌, ◌≡◌, ℕ, length}
+use Rattle.std.specs.Option.{unwrap_or}
 use Rattle.std.proofs.lemmas.List.{take_rest, length-drop}
 use Rattle.rtp_wire.specs.ElementWriting.{bytes_at}
 use Rattle.rtp_wire.specs.Overwriting.{overwritten}
@@ -37,8 +37,11 @@ returns-in_default-clause-written c =
     let none = none-from_map (spelled_data c.args.ext.now c.args.ev.now) (sym c.in_default.is ∙ c.write_to.ensures.length) in
     let back = HasNone-from_none c.args.form c.args.ev.now c.args.buf.now c.args.at c.args.id c.args.ext.now none in
     let data_put = overwritten-rest c.args.buf.now c.write_to.new.buf (unwrap_or (spelled_data c.args.ext.now c.args.ev.now) [])
-    start (omega (arith, room-for_data c.args.form c.args.id (spelled_data c.args.ext.now c.args.ev.now) c.header_len-header_len.result
-    (length c.args.buf.now - c.args.at) c.header_len-header_len.ensures (omega (arith, c.requires.room)) c.if-buf-at.false)) c.write_to.ensures.written in
+    start (omega (
+      arith,
+      room-for_data c.args.form c.args.id (spelled_data c.args.ext.now c.args.ev.now) c.header_len-header_len.result
+          (length c.args.buf.now - c.args.at) c.header_len-header_len.ensures (omega (arith, c.requires.room)) c.if-buf-at.false,
+    )) c.write_to.ensures.written in
     data_put ∙ (ap (λ bytes. overwritten c.args.buf.now start (unwrap_or bytes [])) none
     ∙ (overwritten-nil c.args.buf.now start ∙ back.written))
 

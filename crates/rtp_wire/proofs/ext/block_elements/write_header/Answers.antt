@@ -1,6 +1,4 @@
-use Rattle.std.proofs.Common.{arith, ap, sym, ◌∙◌}
-use Rattle.rtp_wire.specs.Overwriting.{overwritten}
-use Rattle.rtp_wire.specs.ElementWriting.{header_bytes}
+use Rattle.std.proofs.Common.{arith}
 use Rattle.rtp_wire.proofs.OverwritingLemmas.{overwritten-set, overwritten-set_two}
 use Rattle.rtp_wire.proofs.ext.block_elements.write_header.Goals as goal
 

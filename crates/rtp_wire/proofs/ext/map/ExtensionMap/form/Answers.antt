@@ -1,6 +1,4 @@
-use Rattle.std.proofs.Common.{sym, ap, ◌∙◌, Bool, true, false}
-use Rattle.std.specs.Prelude.{if◌then◌else◌}
-use Rattle.rtp_wire.specs.declared.ext.form.ExtensionsForm.TheVariants.{TwoByte}
+use Rattle.std.proofs.Common.{sym, ap, ◌∙◌, true, false}
 use Rattle.rtp_wire.proofs.WrittenBlockLemmas.{form_for, form_for-map, form_for-nil, form_for-next}
 use Rattle.rtp_wire.proofs.ext.map.ExtensionMap.form.Goals as goal
 

@@ -1,7 +1,6 @@
-use Rattle.std.proofs.Common.{arith, sym, ap, ◌∙◌, ◌≡◌, ◌≤◌, ◌+◌, length, length-append}
+use Rattle.std.proofs.Common.{arith, ap, ◌∙◌, length, length-append}
 use Rattle.rtp_wire.specs.ElementWriting.{items_bytes, bytes_at}
 use Rattle.rtp_wire.specs.Spelling.{spelled_data}
-use Rattle.rtp_wire.specs.MapSlots.{items_from}
 use Rattle.rtp_wire.proofs.WrittenBlockLemmas.{items_bytes-nil, items_bytes-cons, items_bytes-written}
 use Rattle.rtp_wire.proofs.ext.map.ExtensionMap.wire_len.Goals as goal
 

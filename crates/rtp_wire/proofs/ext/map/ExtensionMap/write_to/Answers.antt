@@ -1,4 +1,4 @@
-use Rattle.std.proofs.Common.{arith, sym, ap, ◌∙◌, ◌≡◌, ◌≤◌, ◌++◌, length, drop, subst}
+use Rattle.std.proofs.Common.{arith, sym, ap, ◌∙◌, ◌≡◌, ◌++◌, length, drop, subst}
 use Rattle.std.specs.List.{AllByRecursion}
 use Rattle.rtp_wire.specs.ElementWriting.{items_bytes, IsCarried}
 use Rattle.rtp_wire.specs.MapSlots.{items_from}
@@ -32,7 +32,7 @@ loop-id-preserved c =
 ended : (c : goal.In-None) →
     (c.loop-id.at ≡ length (items_bytes c.args.form c.args.ev.now (items_from 0 c.args.self.now)))
     × (c.loop-id.buf ≡ items_bytes c.args.form c.args.ev.now (items_from 0 c.args.self.now)
-      ++ drop (length (items_bytes c.args.form c.args.ev.now (items_from 0 c.args.self.now))) c.args.buf.now)
+    ++ drop (length (items_bytes c.args.form c.args.ev.now (items_from 0 c.args.self.now))) c.args.buf.now)
     × AllByRecursion (IsCarried c.args.form c.args.ev.now) (items_from 0 c.args.self.now)
 ended c = IsUnderWay-end _ _ _ _ _ _ _ c.loop-id.invariant c.in-None.ensures.steps.0
 
