@@ -83,11 +83,11 @@ pub record SoFar (exts : ExtensionMap) (datagrams : List (List ℕ)) (verdicts :
   pub are : AreVerdicts exts datagrams verdicts
   pub holds : Holds receiver (taken_by verdicts)
 
-pub SoFar-none : (exts : ExtensionMap) (receiver : Option WindowState) → Holds receiver (taken_by []) → SoFar exts [] [] receiver
-SoFar-none exts receiver holds = record {
+pub SoFar-none : (exts : ExtensionMap) (verdicts : List Verdict) (receiver : Option WindowState) → verdicts ≡ [] → Holds receiver (taken_by []) → SoFar exts [] verdicts receiver
+SoFar-none exts verdicts receiver empty holds = subst (λ (vs : List Verdict). SoFar exts [] vs receiver) (sym empty) (record {
   are = record { readings = []; are_readings = tt; run = record { as_many = refl; each = λ i below. absurd (omega arith) } };
   holds = holds;
-}
+})
 
 pub SoFar-more : (exts : ExtensionMap) (datagrams : List (List ℕ)) (datagram : List ℕ) (reading : Option Reading) (verdicts : List Verdict) (verdict : Verdict) (before after : Option WindowState)
     → SoFar exts datagrams verdicts before → IsReading exts datagram reading → IsVerdict (taken_by verdicts) reading verdict

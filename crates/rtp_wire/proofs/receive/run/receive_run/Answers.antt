@@ -15,7 +15,7 @@ nothing n = refl
 
 pub loop-datagram-init : goal.loop-datagram-init
 loop-datagram-init c = (
-  SoFar-none _ c.new-receiver.result ((c.new-receiver.ensures (taken_by [])).1 nothing),
+  SoFar-none _ _ c.new-receiver.result c.in_ok-verdicts.ensures.items ((c.new-receiver.ensures (taken_by [])).1 nothing),
   c.in_ok-verdicts.ensures.exact,
   ap length c.in_ok-verdicts.ensures.items,
 )
