@@ -10,11 +10,15 @@ mod headers;
 #[cfg(test)]
 mod ids;
 #[cfg(test)]
+mod kinds;
+#[cfg(test)]
 mod maps;
 #[cfg(test)]
 mod runs;
 #[cfg(test)]
 mod times;
+#[cfg(test)]
+mod values;
 #[cfg(test)]
 mod widenings;
 #[cfg(test)]

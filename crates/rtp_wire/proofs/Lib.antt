@@ -11,6 +11,7 @@ mod OverwritingLemmas
 mod WrittenBlockLemmas
 mod WrittenValuesLemmas
 mod RoundTrip
+mod ValueLemmas
 mod StandardFacts
 mod WideningLemmas
 mod ReceiveLemmas

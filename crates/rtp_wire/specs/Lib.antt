@@ -18,6 +18,7 @@ pub mod Verdicts
 pub mod KindTable
 pub mod MapSlots
 pub mod EqualMaps
+pub mod KindBytes
 pub mod ElementReading
 pub mod Reading
 pub mod Overwriting

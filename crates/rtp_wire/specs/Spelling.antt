@@ -1,6 +1,6 @@
 -- The data that each kind's values are written as, and what they are read as again.
-use Rattle.std.specs.Prelude.{ℕ, zero, suc, ℤ, ◌+◌, ◌*◌, ◌/◌, ◌%◌, ◌^◌, List, [], ◌∷◌, ◌++◌, replicate, Bool, unsigned_abs, neg_ℤ, pos, Option, Some, None}
-use Rattle.std.specs.Option.{option_map}
+use Rattle.std.specs.Prelude.{ℕ, zero, suc, ℤ, ◌+◌, ◌*◌, ◌/◌, ◌%◌, ◌^◌, ◌<◌, ◌≤◌, List, [], ◌∷◌, ◌++◌, length, replicate, unsigned_abs, neg_ℤ, pos, Option, Some, None}
+use Rattle.std.specs.Option.{option_map, ForSome}
 use Rattle.std.specs.Int.{w64, cast_unsigned}
 use Rattle.rtp_base.specs.Id.{before_padding}
 use Rattle.rtp_base.specs.MediaTime.{Fraction, whole_ticks}
@@ -28,10 +28,12 @@ of_both f (Some x) (Some y) = Some (f x y)
 abbrev pub send_ticks : ℕ → ℕ
 send_ticks micros = micros * 262144 / 1000000 % 2 ^ 24
 
+-- a clock offset in eight bytes, in two's complement; nothing where it is absent
 abbrev pub offset_bytes : Option ℤ → List ℕ
 offset_bytes None = []
 offset_bytes (Some offset) = bytes_of 8 (cast_unsigned w64 offset)
 
+-- the two bits of an orientation
 abbrev pub orientation_bits : orientation.VideoOrientation → ℕ
 orientation_bits Deg0 = 0
 orientation_bits Deg270 = 1
@@ -68,6 +70,11 @@ spelled_data RtpMid values = option_map before_padding values.mid
 spelled_data FrameMarking values = option_map (bytes_of 4) values.frame_mark
 spelled_data ColorSpace values = None
 spelled_data (UnknownUri uri) values = None
+
+-- the buffer has room for the data: 255 bytes always suffice
+abbrev pub HasRoom : Extension → ExtensionValues → List ℕ → Type 0
+HasRoom kind values buf =
+    length buf < 255 → ForSome (spelled_data kind values) (λ bytes. length bytes ≤ length buf)
 
 -- what the written data are read as: a level's magnitude modulo 128, whole ticks of a send time modulo 64 seconds, whole hundredths of a delay modulo 4096, and every other value as it is
 unfoldable pub carried_values : ExtensionValues → ExtensionValues
