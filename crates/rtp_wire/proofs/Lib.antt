@@ -9,6 +9,7 @@ mod OneHeader
 mod ParseLemmas
 mod OverwritingLemmas
 mod WrittenBlockLemmas
+mod WrittenElementsLemmas
 mod WrittenValuesLemmas
 mod RoundTrip
 mod ValueLemmas
