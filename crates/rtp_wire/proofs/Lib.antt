@@ -14,6 +14,7 @@ mod ParseLemmas
 mod OverwritingLemmas
 mod BlockWriting
 mod WrittenBlockLemmas
+mod WrittenElementsLemmas
 mod WrittenValuesLemmas
 mod RoundTrip
 mod ValueLemmas

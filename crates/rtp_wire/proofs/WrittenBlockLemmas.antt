@@ -1,15 +1,14 @@
 -- The elements that a map writes: their bytes, and what those are read as.
-use Rattle.std.proofs.Common.{◌≡◌, ◌≢◌, ℕ, ◌+◌, ◌*◌, ◌<◌, ◌≤◌, ◌⊎◌, inl, inr, List, [], ◌∷◌, ◌++◌, length, drop, replicate, Bool, true, false, Option, Some, None, refl, sym, ap, ◌∙◌, subst, arith, append_assoc, length-append, zero, suc}
+use Rattle.std.proofs.Common.{◌≡◌, ◌≢◌, ℕ, ◌+◌, ◌*◌, ◌<◌, ◌≤◌, ◌⊎◌, inl, inr, List, [], ◌∷◌, ◌++◌, length, drop, Bool, true, false, Option, Some, None, refl, sym, ap, ◌∙◌, subst, arith, length-append}
 use Rattle.std.specs.Prelude.{◌||◌, ◌==◌, nat_lt, if◌then◌else◌, IfSome}
-use Rattle.std.specs.List.{AllByRecursion, flat_map, filter_map, list_any, cons_option}
+use Rattle.std.specs.List.{AllByRecursion, filter_map, list_any, cons_option}
 use Rattle.std.specs.Option.{option_map, unwrap_or}
 use Rattle.std.proofs.lemmas.Bool.Decides.{nat_tests}
-use Rattle.std.proofs.lemmas.List.{append-nil}
 use Rattle.rtp_wire.specs.declared.ext.form.ExtensionsForm.{ExtensionsForm}
 use Rattle.rtp_wire.specs.declared.ext.form.ExtensionsForm.TheVariants.{OneByte, TwoByte}
 use Rattle.rtp_wire.specs.declared.ext.kind.Extension.{Extension}
 use Rattle.rtp_wire.specs.declared.ext.value.values.ExtensionValues.{ExtensionValues}
-use Rattle.rtp_wire.specs.Elements.{Element, IsElement, element_bytes, IsPiece, piece_bytes, AreElements, ended}
+use Rattle.rtp_wire.specs.Elements.{Element, IsElement}
 use Rattle.rtp_wire.specs.ElementWriting.{header_bytes, bytes_at, items_bytes, has_no_data, CanCarry, IsCarried}
 use Rattle.rtp_wire.specs.ExtensionMap.{Slots}
 use Rattle.rtp_wire.specs.MapSlots.{items_from}
@@ -307,58 +306,3 @@ IsUnderWay-end form values old buf items left at before none =
           ∙ (before.makes ∙ overwritten-front old (items_bytes form values items))),
       before.carried (subst (AllByRecursion (IsCarried form values)) (sym none) tt),
     )
-
--- ---- the elements of what was written
-
-pieces_of : List Element → ℕ → List (Option Element)
-pieces_of [] zero = []
-pieces_of [] (suc zeros) = None ∷ pieces_of [] zeros
-pieces_of (element ∷ elements) zeros = Some element ∷ pieces_of elements zeros
-
-pieces_of-pieces : (form : ExtensionsForm) (elements : List Element) (zeros : ℕ) → AllByRecursion (IsElement form) elements
-    → AllByRecursion (IsPiece form) (pieces_of elements zeros)
-unfolding pieces_of
-pieces_of-pieces form [] zero all = tt
-pieces_of-pieces form [] (suc zeros) all = (tt, pieces_of-pieces form [] zeros all)
-pieces_of-pieces form (element ∷ elements) zeros all = (all.0, pieces_of-pieces form elements zeros all.1)
-
-pieces_of-bytes : (form : ExtensionsForm) (elements : List Element) (zeros : ℕ)
-    → elements_bytes form elements ++ replicate zeros 0 ≡ flat_map (piece_bytes form) (pieces_of elements zeros)
-unfolding pieces_of
-pieces_of-bytes form [] zero = refl
-pieces_of-bytes form [] (suc zeros) = ap (λ (rest : List ℕ). 0 ∷ rest) (pieces_of-bytes form [] zeros)
-pieces_of-bytes form (element ∷ elements) zeros =
-    append_assoc (element_bytes form element) (elements_bytes form elements) (replicate zeros 0)
-    ∙ ap (λ (rest : List ℕ). element_bytes form element ++ rest) (pieces_of-bytes form elements zeros)
-
-pieces_of-elements : (elements : List Element) (zeros : ℕ) → elements ≡ filter_map (λ piece. piece) (pieces_of elements zeros)
-unfolding pieces_of
-pieces_of-elements [] zero = refl
-pieces_of-elements [] (suc zeros) = pieces_of-elements [] zeros
-pieces_of-elements (element ∷ elements) zeros = ap (λ (rest : List Element). element ∷ rest) (pieces_of-elements elements zeros)
-
-elements-carried : (form : ExtensionsForm) (values : ExtensionValues) (items : List Item) → AllByRecursion (IsCarried form values) items
-    → AllByRecursion (IsElement form) (elements_of values items)
-elements-carried form values [] all = tt
-elements-carried form values (item ∷ items) all =
-    element-carried form values item.0 item.1 (spelled_data item.1 values) (elements_of values items) all.0 (elements-carried form values items all.1)
-  where
-    element-carried : (form : ExtensionsForm) (values : ExtensionValues) (id : ℕ) (kind : Extension) (bytes : Option (List ℕ)) (rest : List Element)
-        → IfSome bytes (λ b. IsElement form (id, b) × Reads kind b (carried_values values)) → AllByRecursion (IsElement form) rest
-        → AllByRecursion (IsElement form) (cons_option (option_map (λ b. (id, b)) bytes) rest)
-    element-carried form values id kind None rest here all = all
-    element-carried form values id kind (Some bytes) rest here all = (here.0, all)
-
--- and zeros behind them are padding
-pub AreElements-written : (form : ExtensionsForm) (exts : Slots) (values : ExtensionValues) (zeros : ℕ) → AllByRecursion (IsCarried form values) (items_from 0 exts)
-    → AreElements form (elements_bytes form (written_elements exts values) ++ replicate zeros 0) (written_elements exts values)
-AreElements-written form exts values zeros all =
-    let elements = written_elements exts values in
-    record {
-      pieces = pieces_of elements zeros;
-      tail = [];
-      are_pieces = pieces_of-pieces form elements zeros (elements-carried form values (items_from 0 exts) all);
-      is_tail = ended refl;
-      body_is = pieces_of-bytes form elements zeros ∙ sym (append-nil (flat_map (piece_bytes form) (pieces_of elements zeros)));
-      elements_are = pieces_of-elements elements zeros;
-    }
