@@ -120,8 +120,7 @@ IsFound-one_byte : (byte : ℕ) (bytes : List ℕ) → 1 ≤ byte → byte < 240
     → IsFound OneByte byte bytes (Some ((byte / 16, take (byte % 16 + 1) bytes), byte % 16 + 1))
 IsFound-one_byte byte bytes above low whole =
     let count : length (take (byte % 16 + 1) bytes) ≡ byte % 16 + 1 = length-take-le (byte % 16 + 1) bytes (omega arith) in
-    let head : byte ≡ byte / 16 * 16 + (length (take (byte % 16 + 1) bytes) - 1) = omega arith in
-    (
+    let head : byte ≡ byte / 16 * 16 + (length (take (byte % 16 + 1) bytes) - 1) = omega arith in (
       (omega arith, omega arith, omega arith, omega arith),
       ap (λ b. b ∷ bytes) head
           ∙ ap (λ rest. (byte / 16 * 16 + (length (take (byte % 16 + 1) bytes) - 1)) ∷ rest) (sym (take-append-drop (byte % 16 + 1) bytes)),
@@ -154,13 +153,12 @@ IsFound-at TwoByte byte (count ∷ bytes) above fits are = elim (cases_lt (lengt
   | inl cut ↦ subst (IsFound TwoByte byte (count ∷ bytes)) (sym (two_byte-cut byte count bytes cut))
       (IsTail-two_byte byte count bytes above fits (are 0) cut)
   | inr whole ↦ subst (IsFound TwoByte byte (count ∷ bytes)) (sym (two_byte-whole byte count bytes whole)) (
-    let total : length (take count bytes) ≡ count = length-take-le count bytes whole in
-    let small : count < 256 = are 0 in
-    (
-      (above, omega arith, omega arith),
-      ap (λ n. byte ∷ n ∷ bytes) (sym total)
-          ∙ ap (λ rest. byte ∷ length (take count bytes) ∷ rest) (sym (take-append-drop count bytes)),
-    ))
+      let total : length (take count bytes) ≡ count = length-take-le count bytes whole in
+      let small : count < 256 = are 0 in (
+        (above, omega arith, omega arith),
+        ap (λ n. byte ∷ n ∷ bytes) (sym total)
+            ∙ ap (λ rest. byte ∷ length (take count bytes) ∷ rest) (sym (take-append-drop count bytes)),
+      ))
 ]
 
 AreElements-in_front : (form : ExtensionsForm) (byte : ℕ) (bytes : List ℕ) (found : Option (Element × ℕ)) (behind : ℕ → List Element) → IsFound form byte bytes found

@@ -7,7 +7,7 @@ use Rattle.rtp_wire.specs.contracts.ext.entry.EntryPartialEq.TheImpl as entry_eq
 use Rattle.rtp_wire.specs.contracts.ext.entry.EntryEq.TheImpl.Laws.{laws-law}
 use Rattle.rtp_wire.specs.ExtensionMap.{Slots}
 
--- whether the same stands behind each id
+-- whether the same entry is in each slot
 abbrev pub same_slots : Slots → Slots → Bool
 same_slots = pointwise (option_eq (entry_eq.ghosts).eq)
 

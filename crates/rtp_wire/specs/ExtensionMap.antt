@@ -1,27 +1,26 @@
--- The map of extension ids: which extension stands behind which id, and which are locked there (RFC 8285, 5).
+-- The map of extension ids: which extension each id is mapped to, and which entries are locked (RFC 8285, 5).
 use Rattle.std.specs.Prelude.{◌≡◌, ◌≢◌, ℕ, ◌<◌, ◌≤◌, suc, zero, List, [], ◌∷◌, Bool, true, false, if◌then◌else◌, Option, Some, None, slice_index_or}
 use Rattle.std.specs.Option.{option_map}
 use Rattle.std.specs.List.{All, Contains}
-use Rattle.rtp_wire.specs.declared.ext.map.TheConstants.{MAX_ID}
 use Rattle.rtp_wire.specs.declared.ext.kind.Extension.{Extension}
 use Rattle.rtp_wire.specs.declared.ext.kind.Extension.TheVariants.{AudioLevel, AbsoluteSendTime, TransportSequenceNumber, RtpMid, RtpStreamId, RepairedRtpStreamId, VideoOrientation}
 use Rattle.rtp_wire.specs.declared.ext.entry.Entry.{Entry}
 use Rattle.rtp_wire.specs.Kind.{kind_of, IsKnown}
 
--- what a map shows: what stands behind the ids from 1 on
+-- what a map shows: a slot for each id from 1 on
 abbrev pub Slots : Type 0
 Slots = List (Option Entry)
 
--- an id that a map has room for
+-- an id that a map has a slot for
 abbrev pub IsId : ℕ → Type 0
-IsId id = (1 ≤ id) × (id ≤ MAX_ID)
+IsId id = (1 ≤ id) × (id ≤ 16)
 
--- what stands behind an id: an extension and whether it is locked there, or nothing
+-- the entry of an id: an extension and whether it is locked there, or nothing
 abbrev pub entry_at : Slots → ℕ → Option Entry
 entry_at map zero = None
 entry_at map (suc k) = slice_index_or map k None
 
--- the extension of an entry, and the extension behind an id
+-- the extension of an entry, and the extension that an id is mapped to
 abbrev pub extension_of : Option Entry → Option Extension
 extension_of slot = option_map (λ entry. entry.extension) slot
 
@@ -39,16 +38,16 @@ locked extension = record { extension = extension; locked = true }
 abbrev pub IsEmpty : Slots → Type 0
 IsEmpty map = (id : ℕ) → entry_at map id ≡ None
 
--- the id stands for the entry now, and every other id for what it stood for
+-- the id is mapped to the entry now, and every other id to what it was mapped to
 pub record Sets (old new : Slots) (id : ℕ) (entry : Entry) : Type 0 where
   pub this : entry_at new id ≡ Some entry
   pub others : (k : ℕ) → k ≢ id → entry_at new k ≡ entry_at old k
 
--- no id stands for the extension
+-- no id is mapped to the extension
 abbrev pub IsUnmapped : Slots → Extension → Type 0
 IsUnmapped map extension = (id : ℕ) → extension_at map id ≢ Some extension
 
--- the lowest id that stands for the extension
+-- the lowest id that is mapped to the extension
 pub record IsLowest (map : Slots) (extension : Extension) (id : ℕ) : Type 0 where
   pub mapped : extension_at map id ≡ Some extension
   pub lowest : (k : ℕ) → k < id → extension_at map k ≢ Some extension
@@ -61,13 +60,13 @@ IsLocked (Some entry) = entry.locked ≡ true
 abbrev pub IsLockedAt : Slots → ℕ → Type 0
 IsLockedAt map id = IsLocked (entry_at map id)
 
--- the entries behind two ids are exchanged, the first of them locked now, and all others stay
+-- the entries of two ids are exchanged, the first of them locked now, and all others stay
 pub record Exchanges (old new : Slots) (from to : ℕ) (extension : Extension) : Type 0 where
   pub here : entry_at new to ≡ Some (locked extension)
   pub there : entry_at new from ≡ entry_at old to
   pub others : (k : ℕ) → k ≢ from → k ≢ to → entry_at new k ≡ entry_at old k
 
--- one step of a renegotiation: the peer wants the extension behind the id
+-- one step of a renegotiation: the peer asks for the extension at the id
 pub data Remaps (old : Slots) (id : ℕ) (extension : Extension) (new : Slots) : Type 0 where
   -- the map has no such id
   out_of_range : (IsId id → ⊥) → new ≡ old → Remaps old id extension new
@@ -87,7 +86,7 @@ abbrev pub AreRemapped : Slots → List (ℕ × Extension) → Slots → Type 0
 AreRemapped old [] new = new ≡ old
 AreRemapped old (step ∷ steps) new = (between : Slots) × Remaps old step.0 step.1 between × AreRemapped between steps new
 
--- each id has one other, and its extension stands behind that one in the new map, locked where it was locked: so each extension has as many ids as before
+-- a one-to-one change of ids carries each extension to the new map, locked where it was locked: so each extension has as many ids as before
 pub record IsRenumbered (old new : Slots) : Type 0 where
   pub moved : ℕ → ℕ
   pub back : ℕ → ℕ
@@ -96,15 +95,15 @@ pub record IsRenumbered (old new : Slots) : Type 0 where
   pub extensions : (id : ℕ) → extension_at new (moved id) ≡ extension_at old id
   pub locks : (id : ℕ) → IsLockedAt old id → IsLockedAt new (moved id)
 
--- whether an extension goes with audio, or else with video
-abbrev pub goes_with : Bool → Extension → Bool
-goes_with true extension = (kind_of extension).audio
-goes_with false extension = (kind_of extension).video
+-- whether an extension is one of audio, or else of video
+abbrev pub is_of_medium : Bool → Extension → Bool
+is_of_medium true extension = (kind_of extension).audio
+is_of_medium false extension = (kind_of extension).video
 
--- an entry of this medium, unlocked, and nothing instead of any other
+-- an entry of audio, or else of video, unlocked, and nothing instead of any other
 abbrev pub of_medium : Bool → Option Entry → Option Entry
 of_medium audio None = None
-of_medium audio (Some entry) = if goes_with audio entry.extension then Some (unlocked entry.extension) else None
+of_medium audio (Some entry) = if is_of_medium audio entry.extension then Some (unlocked entry.extension) else None
 
 -- the ids rise
 abbrev pub IsRising : List (ℕ × Extension) → Type 0

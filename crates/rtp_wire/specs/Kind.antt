@@ -3,7 +3,7 @@ use Rattle.std.specs.Prelude.{◌≡◌, ◌≢◌, ℕ, List, [], ◌∷◌, co
 use Rattle.rtp_wire.specs.declared.ext.kind.Extension.{Extension}
 use Rattle.rtp_wire.specs.declared.ext.kind.Extension.TheVariants.{AbsoluteSendTime, AbsoluteCaptureTime, AudioLevel, TransmissionTimeOffset, VideoOrientation, TransportSequenceNumber, PlayoutDelay, VideoContentType, VideoTiming, RtpStreamId, RepairedRtpStreamId, RtpMid, FrameMarking, ColorSpace, UnknownUri}
 
--- what is fixed for a kind: the URI that names it in SDP, the text that it is shown as, and whether it goes with audio and with video
+-- what is fixed for a kind: the URI that names it in SDP, the text that it is shown as, and whether it is one of audio and of video
 pub record Kind : Type 0 where
   pub uri : List ℕ
   pub name : List ℕ
@@ -20,7 +20,7 @@ audio_only uri name = record { uri = uri; name = name; audio = true; video = fal
 abbrev pub video_only : List ℕ → List ℕ → Kind
 video_only uri name = record { uri = uri; name = name; audio = false; video = true }
 
--- the table of the kinds; an unknown one is shown as its URI, and goes with neither medium
+-- the table of the kinds; an unknown one is shown as its URI, and is one of neither
 abbrev pub kind_of : Extension → Kind
 kind_of AbsoluteSendTime = audio_and_video (codes "http://www.webrtc.org/experiments/rtp-hdrext/abs-send-time") (codes "abs-send-time")
 kind_of AbsoluteCaptureTime = audio_and_video (codes "http://www.webrtc.org/experiments/rtp-hdrext/abs-capture-time") (codes "abs-capture-time")

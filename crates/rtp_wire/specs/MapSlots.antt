@@ -3,7 +3,7 @@ use Rattle.std.specs.Prelude.{◌≡◌, ◌≢◌, ℕ, ◌+◌, ◌<◌, ◌�
 use Rattle.rtp_wire.specs.declared.ext.kind.Extension.{Extension}
 use Rattle.rtp_wire.specs.ExtensionMap.{Slots, extension_of}
 
--- the first index in which the extension stands
+-- the first index whose slot has the extension
 pub record IsFirst (map : Slots) (extension : Extension) (index : ℕ) : Type 0 where
   pub within : index < length map
   pub here : extension_of (slice_index_or map index None) ≡ Some extension
@@ -13,7 +13,7 @@ pub record IsFirst (map : Slots) (extension : Extension) (index : ℕ) : Type 0 
 abbrev pub AreEmptyFrom : Slots → ℕ → Type 0
 AreEmptyFrom map end = (index : ℕ) → end ≤ index → slice_index_or map index None ≡ None
 
--- what stands in the slots, each with its id, once some slots were passed
+-- the extensions in the slots, each with its id, once some slots were passed
 abbrev pub items_from : ℕ → Slots → List (ℕ × Extension)
 items_from passed [] = []
 items_from passed (None ∷ left) = items_from (passed + 1) left

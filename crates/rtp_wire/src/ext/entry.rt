@@ -43,7 +43,7 @@ impl Entry {
     pub(super) fn of_medium(&self, audio: bool) -> Option<Self>
         ensures { result ≡ spec.of_medium audio (Some self.now) }
     {
-        if self.extension.goes_with(audio) {
+        if self.extension.is_of_medium(audio) {
             self.extension.known_or_uri().ok().map(Entry::from)
         } else {
             None

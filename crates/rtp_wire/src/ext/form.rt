@@ -4,6 +4,9 @@ ghost use Rattle.std.specs.Prelude.{◌≡◌, IfSome};
 ghost use Rattle.std.specs.Int.{w16, from_be_bytes, to_be_bytes};
 ghost use Rattle.rtp_wire.specs.Form.{form_word, IsFormWord};
 
+/// The greatest id that an element of the one-byte form can have (RFC 8285, 4.2).
+pub const MAX_ID_ONE_BYTE_FORM: u8 = 14;
+
 /// How the elements of a header extension block are laid out (RFC 8285, 4.2 and 4.3).
 #[derive(Clone, Copy, Debug, PartialEq, Eq, Hash)]
 pub enum ExtensionsForm {

@@ -3,7 +3,7 @@
 ghost use Rattle.std.specs.Prelude.{◌≡◌, ◌≤◌, length};
 ghost use Rattle.std.specs.List.{filter};
 ghost use Rattle.std.specs.Iterator.{YieldsFirstBy, item_count};
-ghost use Rattle.rtp_wire.specs.ExtensionMap.{goes_with};
+ghost use Rattle.rtp_wire.specs.ExtensionMap.{is_of_medium};
 ghost use Rattle.rtp_wire.specs.MapSlots.{items_from};
 
 use super::Extension;
@@ -76,17 +76,17 @@ impl<'a> Model for IterByMediaType<'a> {
     ghost use Rattle.std.specs.Prelude.{ℕ, List};
     ghost use Rattle.std.specs.List.{filter};
     ghost use Rattle.rtp_wire.specs.declared.ext.kind.Extension.{Extension};
-    ghost use Rattle.rtp_wire.specs.ExtensionMap.{goes_with};
+    ghost use Rattle.rtp_wire.specs.ExtensionMap.{is_of_medium};
 
     ghost Value = { List (ℕ × Extension) };
 
-    ghost view = { λ iter. filter (λ item. goes_with iter.audio item.1) iter.all };
+    ghost view = { λ iter. filter (λ item. is_of_medium iter.audio item.1) iter.all };
 }
 
 impl<'a> IterByMediaType<'a> {
     // Those of the entries that are for audio, or else for video.
     pub(super) fn new(all: Iter<'a>, audio: bool) -> Self
-        ensures { result ≡ filter (λ item. goes_with audio item.1) all.entry }
+        ensures { result ≡ filter (λ item. is_of_medium audio item.1) all.entry }
     {
         IterByMediaType { all, audio }
     }
@@ -102,7 +102,7 @@ impl<'a> Iterator for IterByMediaType<'a> {
     fn next(&mut self) -> Option<(u8, &'a Extension)> {
         loop {
             let (id, ext) = self.all.next()?;
-            if ext.goes_with(self.audio) {
+            if ext.is_of_medium(self.audio) {
                 return Some((id, ext));
             }
         }

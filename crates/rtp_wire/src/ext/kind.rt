@@ -2,10 +2,10 @@
 
 ghost use Rattle.std.specs.Prelude.{◌≡◌, IfOk, IfErr};
 ghost use Rattle.rtp_wire.specs.Kind.{kind_of, IsKnown, IsNamedBy};
-ghost use Rattle.rtp_wire.specs.ExtensionMap.{goes_with};
+ghost use Rattle.rtp_wire.specs.ExtensionMap.{is_of_medium};
 
 use super::Uri;
-use super::table::{known_by_uri, row_of};
+use super::table::{kind_of, known_by_uri};
 use std::alloc::{AllocError, Global};
 use std::fmt;
 
@@ -68,26 +68,26 @@ impl Extension {
     pub fn as_uri(&self) -> &str
         ensures { result.now ≡ (kind_of self.now).uri }
     {
-        row_of(self).uri
+        kind_of(self).uri
     }
 
-    /// Whether the extension goes with audio.
+    /// Whether the extension is one of audio.
     pub fn is_audio(&self) -> bool
         ensures { result ≡ (kind_of self.now).audio }
     {
-        row_of(self).audio
+        kind_of(self).audio
     }
 
-    /// Whether the extension goes with video.
+    /// Whether the extension is one of video.
     pub fn is_video(&self) -> bool
         ensures { result ≡ (kind_of self.now).video }
     {
-        row_of(self).video
+        kind_of(self).video
     }
 
-    // Whether the extension goes with audio, or else with video.
-    pub(super) fn goes_with(&self, audio: bool) -> bool
-        ensures { result ≡ goes_with audio self.now }
+    // Whether the extension is one of audio, or else of video.
+    pub(super) fn is_of_medium(&self, audio: bool) -> bool
+        ensures { result ≡ is_of_medium audio self.now }
     {
         if audio {
             self.is_audio()
@@ -140,6 +140,6 @@ impl fmt::Display for Extension {
     ghost output = { λ kind. Some (kind_of kind).name };
 
     fn fmt<W: fmt::Write>(&self, f: &mut fmt::Formatter<W>) -> fmt::Result {
-        f.write_str(row_of(self).name)
+        f.write_str(kind_of(self).name)
     }
 }

@@ -12,9 +12,6 @@ use std::alloc::{AllocError, Global};
 use std::marker::Model;
 use std::{array, fmt};
 
-/// The greatest id that an element of the one-byte form can have (RFC 8285, 4.2).
-pub const MAX_ID_ONE_BYTE_FORM: u8 = 14;
-
 /// The greatest id that a map has room for.
 pub const MAX_ID: u8 = 16;
 
@@ -155,21 +152,21 @@ impl ExtensionMap {
     /// The ids whose extensions are for audio, or else for video, by rising id, each with its
     /// extension. Most extensions are for both, and an unknown one is for neither.
     pub fn iter_by_media_type(&self, audio: bool) -> IterByMediaType<'_>
-        ensures { spec.IsListing self.now (spec.goes_with audio) result }
+        ensures { spec.IsListing self.now (spec.is_of_medium audio) result }
     {
         IterByMediaType::new(self.iter(), audio)
     }
 
     /// The ids whose extensions are for audio, by rising id, each with its extension.
     pub fn iter_audio(&self) -> IterByMediaType<'_>
-        ensures { spec.IsListing self.now (spec.goes_with true) result }
+        ensures { spec.IsListing self.now (spec.is_of_medium true) result }
     {
         self.iter_by_media_type(true)
     }
 
     /// The ids whose extensions are for video, by rising id, each with its extension.
     pub fn iter_video(&self) -> IterByMediaType<'_>
-        ensures { spec.IsListing self.now (spec.goes_with false) result }
+        ensures { spec.IsListing self.now (spec.is_of_medium false) result }
     {
         self.iter_by_media_type(false)
     }

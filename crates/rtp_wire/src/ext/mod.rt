@@ -15,9 +15,9 @@ mod uri;
 mod value;
 
 pub use elements::Elements;
-pub use form::ExtensionsForm;
+pub use form::{ExtensionsForm, MAX_ID_ONE_BYTE_FORM};
 pub use iter::{Iter, IterByMediaType};
 pub use kind::Extension;
-pub use map::{ExtensionMap, MAX_ID, MAX_ID_ONE_BYTE_FORM};
+pub use map::{ExtensionMap, MAX_ID};
 pub use uri::Uri;
 pub use value::{AbsCaptureTime, ExtensionValues, VideoOrientation, VideoTiming};

@@ -8,17 +8,17 @@ use super::Extension;
 
 // What is fixed for a kind.
 #[derive(Clone, Copy)]
-pub(super) struct Row<'a> {
+pub(super) struct Kind<'a> {
     pub(super) uri: &'a str,
     pub(super) name: &'a str,
     pub(super) audio: bool,
     pub(super) video: bool,
 }
 
-fn audio_and_video<'a>(uri: &'a str, name: &'a str) -> Row<'a>
+fn audio_and_video<'a>(uri: &'a str, name: &'a str) -> Kind<'a>
     ensures { kind_in result ≡ audio_and_video uri.now name.now }
 {
-    Row {
+    Kind {
         uri,
         name,
         audio: true,
@@ -26,10 +26,10 @@ fn audio_and_video<'a>(uri: &'a str, name: &'a str) -> Row<'a>
     }
 }
 
-fn audio_only<'a>(uri: &'a str, name: &'a str) -> Row<'a>
+fn audio_only<'a>(uri: &'a str, name: &'a str) -> Kind<'a>
     ensures { kind_in result ≡ audio_only uri.now name.now }
 {
-    Row {
+    Kind {
         uri,
         name,
         audio: true,
@@ -37,10 +37,10 @@ fn audio_only<'a>(uri: &'a str, name: &'a str) -> Row<'a>
     }
 }
 
-fn video_only<'a>(uri: &'a str, name: &'a str) -> Row<'a>
+fn video_only<'a>(uri: &'a str, name: &'a str) -> Kind<'a>
     ensures { kind_in result ≡ video_only uri.now name.now }
 {
-    Row {
+    Kind {
         uri,
         name,
         audio: false,
@@ -49,7 +49,7 @@ fn video_only<'a>(uri: &'a str, name: &'a str) -> Row<'a>
 }
 
 // The table of the kinds.
-pub(super) fn row_of(kind: &Extension) -> Row<'_>
+pub(super) fn kind_of(kind: &Extension) -> Kind<'_>
     ensures { kind_in result ≡ kind_of kind.now }
 {
     match kind {
@@ -106,7 +106,7 @@ pub(super) fn row_of(kind: &Extension) -> Row<'_>
             "http://www.webrtc.org/experiments/rtp-hdrext/color-space",
             "color-space",
         ),
-        Extension::UnknownUri(uri) => Row {
+        Extension::UnknownUri(uri) => Kind {
             uri: uri.as_str(),
             name: uri.as_str(),
             audio: false,

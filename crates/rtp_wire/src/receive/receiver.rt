@@ -1,6 +1,6 @@
 //! The receive state of one stream.
 
-ghost use Rattle.std.specs.Prelude.{◌≡◌, ◌↔◌, ℕ, Option, IsTrue};
+ghost use Rattle.std.specs.Prelude.{◌≡◌, ◌↔◌, ℕ, Option, IsTrue, if◌then◌else◌};
 ghost use Rattle.std.specs.Option.{option_map, option_copied};
 ghost use Rattle.rtp_base.specs.Window.{Numbers, including};
 ghost use Rattle.rtp_wire.specs.Receiver.{Holds, IsNothing, IsHighest, IsNumberOf, IsFresh, IsJudged, taken_after};
@@ -98,11 +98,25 @@ impl Receiver {
             Holds self.new (taken_after taken result) }
     {
         let number = self.number_of(header);
-        if self.accepts(number) {
-            self.record(number);
+        if self.take(number) {
             Verdict::Taken(number)
         } else {
             Verdict::Refused
+        }
+    }
+
+    // Records the number where it may be taken, and returns whether it may.
+    fn take(&mut self, number: SeqNo) -> bool
+        ensures accepts { (taken : Numbers) → Holds self.old taken → (IsTrue result ↔ IsFresh taken number) }
+        ensures taken { (taken : Numbers) → Holds self.old taken →
+            Holds self.new (if result then including taken number else taken) }
+    {
+        match &mut self.window {
+            None => {
+                self.window = Some(SeqNoWindow::new(number));
+                true
+            }
+            Some(window) => window.take(number),
         }
     }
 

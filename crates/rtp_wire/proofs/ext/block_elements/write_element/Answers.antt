@@ -26,11 +26,11 @@ returns-then-buf-at-clause-carried c = (without_room c).carried
 pub write_to-requires : goal.write_to-requires
 write_to-requires c = record {
   room = λ short bytes is.
-    let start = c.args.at + c.header_len-header_len.result in
-    let room = room-for_data c.args.form c.args.id (spelled_data c.args.ext.now c.args.ev.now) c.header_len-header_len.result
-    (length c.args.buf.now - c.args.at) c.header_len-header_len.ensures (omega (arith, c.requires.room)) c.if-buf-at.false in
-    let long = rw is at room in
-    rw (take_rest c.args.buf.now start) (omega (arith, length-drop start c.args.buf.now, long, c.if-buf-at.false));
+      let start = c.args.at + c.header_len-header_len.result in
+      let room = room-for_data c.args.form c.args.id (spelled_data c.args.ext.now c.args.ev.now) c.header_len-header_len.result
+      (length c.args.buf.now - c.args.at) c.header_len-header_len.ensures (omega (arith, c.requires.room)) c.if-buf-at.false in
+      let long = rw is at room in
+      rw (take_rest c.args.buf.now start) (omega (arith, length-drop start c.args.buf.now, long, c.if-buf-at.false));
 }
 
 pub returns-in_default-clause-written : goal.returns-in_default-clause-written

@@ -45,8 +45,15 @@ put-requires c =
     let row = row-put c.args.self.now c.args.ev.now c.args.buf.now c.write_to-elements_len.new.buf c.form-form.result c.write_to-elements_len.result
     c.form-form.ensures c.write_to-elements_len.ensures.length c.write_to-elements_len.ensures.written c.requires in
     let head : length c.head_of.result ≡ 4 = ap length c.head_of.ensures in
-    omega (arith, head, row.room, row.long, ap length c.put_zeros-len.ensures.written, length-overwritten one (replicate (c.next_multiple_of-body_len.result - c.write_to-elements_len.result) 0) (4 + c.write_to-elements_len.result)
-    (omega (arith, c.next_multiple_of-body_len.ensures.value, row.room, row.long, length-replicate {A = ℕ} (c.next_multiple_of-body_len.result - c.write_to-elements_len.result) 0)))
+    omega (
+      arith,
+      head,
+      row.room,
+      row.long,
+      ap length c.put_zeros-len.ensures.written,
+      length-overwritten one (replicate (c.next_multiple_of-body_len.result - c.write_to-elements_len.result) 0) (4 + c.write_to-elements_len.result)
+          (omega (arith, c.next_multiple_of-body_len.ensures.value, row.room, row.long, length-replicate {A = ℕ} (c.next_multiple_of-body_len.result - c.write_to-elements_len.result) 0)),
+    )
 
 pub returns-clause-written : goal.returns-clause-written
 returns-clause-written c =
