@@ -120,7 +120,8 @@ fn put_ascii(text: &[u8], bytes: &mut [u8]) -> bool
     requires room { length text.now ≤ length bytes.old }
     ensures ascii { OnTrue result (IsAscii text.now) }
     ensures text { OnTrue result (take (length text.now) bytes.new ≡ map id_char text.now) }
-    ensures rest { OnTrue result (drop (length text.now) bytes.new ≡ drop (length text.now) bytes.old) }
+    ensures rest { OnTrue result
+        (drop (length text.now) bytes.new ≡ drop (length text.now) bytes.old) }
 {
     for (index, byte) in text.iter().enumerate() {
         if *byte >= 128 {
