@@ -1,12 +1,12 @@
 -- The text of an id, by the bytes of UTF-8.
 use Rattle.std.proofs.Common.{◌≡◌, ℕ, ◌+◌, ◌/◌, ◌<◌, ◌≤◌, ◌⊎◌, Bool, true, false, ◌||◌, cond, ltb, leb, List, [], ◌∷◌, ◌++◌, length, map, filter, take, drop, get_or, set, refl, sym, ap, ◌∙◌, inl, inr, arith, length-take-le, length-set, take_at}
 use Rattle.std.specs.Prelude.{IsUtf8}
-use Rattle.std.specs.Str.{chars}
+use Rattle.std.specs.Str.{chars, IsAscii}
 use Rattle.std.proofs.lemmas.Bool.{cases_lt, lt-ltb, le-ltb, le-leb, lt-leb}
 use Rattle.std.proofs.lemmas.Bool.Decides.{nat_tests}
-use Rattle.std.proofs.lemmas.List.{map-append, append-nil, take_more_set, take-append-drop, take_all, drop-drop, drop-set-lt}
+use Rattle.std.proofs.lemmas.List.{map-append, length-map, append-nil, take_more_set, take-append-drop, take_all, drop-drop, drop-set-lt}
 use Rattle.std.proofs.lemmas.List.Elements.{filter-append, filter_more}
-use Rattle.std.proofs.lemmas.Str.{chars-encodes}
+use Rattle.std.proofs.lemmas.Str.{chars-encodes, chars-IsAscii}
 use lib.Utf8.{encode, encodes, next}
 use Rattle.rtp_base.specs.Id.{id_char, id_text}
 
@@ -112,3 +112,15 @@ KeptSoFar-all text old room len done utf8 (inr end) so_far =
     let len-is : length (kept text) ≡ len = sym (ap length (so_far.front ∙ all)) ∙ length-take-le len room so_far.within in
     let within = so_far.within in omega arith in
     so_far.front ∙ all ∙ sym (take_all (length room) (kept text) short) ∙ ap (take (length room)) (kept-chars text utf8)
+
+-- ---- text that is ASCII
+
+-- the front of the room has what an id has for the bytes so far, which are ASCII, and the rest is as it was
+pub record AsciiSoFar (text old room : List ℕ) (done : ℕ) : Type 0 where
+  pub front : take done room ≡ map id_char (take done text)
+  pub rest : drop done room ≡ drop done old
+  pub low : (k : ℕ) → k < done → get_or text k 0 < 128
+
+pub id_text-ascii : (size : ℕ) (text : List ℕ) → IsAscii text → length text ≤ size → id_text size text ≡ map id_char text
+id_text-ascii size text ascii fits =
+    ap (λ (cs : List ℕ). take size (map id_char cs)) (chars-IsAscii text ascii) ∙ take_all size (map id_char text) (omega (arith, length-map text id_char))

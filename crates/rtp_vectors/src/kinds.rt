@@ -68,8 +68,8 @@ fn send_times(rt: HostRuntime) -> Result<(), Fail> {
         (4, b"\x00\x00\x01"),
         (1_000_000_000, b"\xA0\x00\x00"),
         (63_999_999, b"\xFF\xFF\xFF"),
-        // 2^64 - 1 microseconds are 18446744073709.551615 seconds: 45 above a multiple of 64, and 144602
-        // ticks.
+        // 2^64 - 1 microseconds are 18446744073709.551615 seconds: 45 above a multiple of 64, and
+        // 144602 ticks.
         (18446744073709551615, b"\xB6\x34\xDA"),
     ];
     for (micros, data) in written_rows {

@@ -1,7 +1,9 @@
 //! What `Mid` and `Rid` have in common: texts in a fixed number of bytes.
 
-ghost use Rattle.std.specs.Prelude.{◌≡◌, IsUtf8, ◌≢◌, ℕ, ◌<◌, ◌≤◌, ◌||◌, ◌↔◌, length, take, drop, slice_index, nat_lt, nat_le, IsTrue, IsSome, IfSome, IfNone, All, ◌==◌};
+ghost use Rattle.std.specs.Prelude.{◌≡◌, IsUtf8, ◌≢◌, ℕ, ◌<◌, ◌≤◌, ◌||◌, ◌↔◌, length, take, drop, slice_index, nat_lt, nat_le, IsTrue, map, IsSome, IfSome, IfNone, All, ◌==◌};
 ghost use Rattle.std.specs.List.{position_or_len};
+ghost use Rattle.std.specs.Bool.{OnTrue};
+ghost use Rattle.std.specs.Str.{IsAscii};
 ghost use Rattle.rtp_base.specs.Id.{id_char, id_text, before_padding, IsIdOf, IsIdByte, IsIdArray};
 
 use std::marker::Model;
@@ -112,6 +114,24 @@ fn put_text(text: &str, bytes: &mut [u8]) -> usize
     len
 }
 
+// Puts the text of an id to the front of the bytes, where all of the text is ASCII, and returns
+// whether it is.
+fn put_ascii(text: &[u8], bytes: &mut [u8]) -> bool
+    requires room { length text.now ≤ length bytes.old }
+    ensures ascii { OnTrue result (IsAscii text.now) }
+    ensures text { OnTrue result (take (length text.now) bytes.new ≡ map id_char text.now) }
+    ensures rest { OnTrue result
+        (drop (length text.now) bytes.new ≡ drop (length text.now) bytes.old) }
+{
+    for (index, byte) in text.iter().enumerate() {
+        if *byte >= 128 {
+            return false;
+        }
+        bytes[index] = id_byte(*byte);
+    }
+    true
+}
+
 impl<const N: usize> IdText<N> {
     // The identifier of a text.
     pub(super) fn of(text: &str) -> Self
@@ -127,6 +147,11 @@ impl<const N: usize> IdText<N> {
         ensures found { IfSome result (IsIdOf N bytes.now) }
         ensures some { IsSome result ↔ IsUtf8 bytes.now }
     {
+        let mut id = [b' '; N];
+        // Short ASCII text, which is UTF-8, is most of what comes.
+        if bytes.len() <= N && put_ascii(bytes, &mut id) {
+            return Some(IdText { bytes: id });
+        }
         match str::from_utf8(bytes) {
             Ok(text) => Some(IdText::of(text)),
             Err(_) => None,
