@@ -3,11 +3,12 @@
 use rtp_wire::{RtpHeader, Verdict};
 use std::fmt;
 
-/// What is printed of one datagram: its header, or that it has none.
+/// The line of one datagram's header, or that the datagram has none.
 #[derive(Drop)]
 pub struct HeaderLine<'a> {
-    /// Which datagram it is, from 1.
+    /// The number of the datagram, from 1.
     pub packet: u64,
+    /// Its header, `None` when it has none.
     pub header: Option<&'a RtpHeader>,
 }
 
@@ -16,7 +17,7 @@ fn yes_or_no(flag: bool) -> &'static str {
     if flag { "yes" } else { "no" }
 }
 
-// The fields that every header has, up to the source.
+// Payload type, sequence number, timestamp and SSRC.
 fn write_stream<W: fmt::Write>(header: &RtpHeader, f: &mut fmt::Formatter<W>) -> fmt::Result {
     let payload_type = header.payload_type;
     let number = header.sequence_number;
@@ -28,7 +29,7 @@ fn write_stream<W: fmt::Write>(header: &RtpHeader, f: &mut fmt::Formatter<W>) ->
     )
 }
 
-// The flags and the lengths.
+// The flags M, P and X, the number of CSRCs and the length of the header in bytes.
 fn write_shape<W: fmt::Write>(header: &RtpHeader, f: &mut fmt::Formatter<W>) -> fmt::Result {
     let marker = yes_or_no(header.marker);
     let padding = yes_or_no(header.has_padding);
@@ -55,10 +56,10 @@ impl fmt::Display for HeaderLine<'_> {
     }
 }
 
-/// What is printed of one datagram: what a receiver says of it.
+/// The line of a receiver's verdict on one datagram.
 #[derive(Drop)]
 pub struct VerdictLine {
-    /// Which datagram it is, from 1.
+    /// The number of the datagram, from 1.
     pub packet: u64,
     pub verdict: Verdict,
 }

@@ -2,8 +2,8 @@
 
 mod map_lines;
 
-use super::input::datagram;
-use super::{RunEnd, run};
+use crate::hex_line::datagram;
+use crate::run::{RunEnd, run};
 use std::alloc::Global;
 use std::io;
 use std::io::{Error, ErrorKind, Read, Write};

@@ -1,8 +1,8 @@
 //! Lines that map ids.
 
 use super::PLAIN_REPORT;
-use crate::input::{Refusal, read_input};
-use crate::{RunEnd, run};
+use crate::input::{InputError, read_input};
+use crate::run::{RunEnd, run};
 use rtp_wire::{Extension, ExtensionMap};
 use std::alloc::Global;
 use std::io::Write;
@@ -43,7 +43,7 @@ const REFUSED: [(&[u8], u64); 22] = [
 fn refused_lines(rt: HostRuntime) -> Result<(), Fail> {
     for (index, (input, number)) in REFUSED.into_iter().enumerate() {
         let refusal = read_input(rt.alloc(), input).err().ok_or("a refusal")?;
-        assert_eq!(rt; refusal, Refusal::BadLine(number), "at {index}");
+        assert_eq!(rt; refusal, InputError::BadLine(number), "at {index}");
         let mut output = Vec::new(rt.alloc());
         let mut rest = input;
         assert_eq!(rt;
