@@ -1,6 +1,6 @@
 -- The whole input: its front and its rest.
 use Rattle.std.proofs.Common.{◌≡◌, ℕ, ◌+◌, ◌<◌, List, [], ◌∷◌, ◌++◌, length, map, drop, Result, Ok, Err, refl, sym, ap, ◌∙◌, subst, arith, append_assoc, length-append, Bool, true, false}
-use Rattle.std.specs.Prelude.{◌==◌, IsErr, Option, Some, None, IfSome, if◌then◌else◌, ◌%◌}
+use Rattle.std.specs.Prelude.{◌==◌, IsErr, IsErrAnd, IfErr, Option, Some, None, IfSome, if◌then◌else◌, ◌%◌}
 use Rattle.std.specs.Str.Lines.{lines}
 use Rattle.hex.specs.Hex.{decode_of, decode_pairs}
 use Rattle.hex.specs.declared.error.FromHexError.{FromHexError}
@@ -10,6 +10,11 @@ use Rattle.rtp_lines.specs.MapLine.{IsMapLine}
 use Rattle.rtp_lines.proofs.MapLineLemmas.{one_reading}
 use Rattle.rtp_lines.specs.Input.{Item, AreMapLines, AreHex, AreLines, AreMapped, IsStandard, IsMapOf, Spells, IsFirstBadLine, IsInput, HasBadLine}
 use Rattle.rtp_lines.specs.Front.{IsFront, IsFirstNotHex, MapsNoneFirst}
+
+-- a fact on an error, from another on it
+pub if_err : {A E : Type 0} {P : E → Type 0} (r : Result A E) (Q : E → Type 0) → IsErrAnd r P → ((e : E) → P e → Q e) → IfErr r Q
+if_err (Ok x) Q p step = absurd p
+if_err (Err e) Q p step = step e p
 
 -- the first of some lines of hexadecimal, and the others
 hex_first : (line : List ℕ) (others datagrams : List (List ℕ)) → AreHex (line ∷ others) datagrams

@@ -1,7 +1,8 @@
 //! What the input says: the extension map, and the datagrams.
 
-ghost use Rattle.std.specs.Prelude.{◌≡◌, ◌+◌, ◌<◌, ◌^◌, List, ℕ, length, map, IfOk, IfErr, IfSome, IfNone, IsErrAnd, ◌⊎◌};
+ghost use Rattle.std.specs.Prelude.{◌≡◌, ◌+◌, ◌<◌, ◌^◌, List, ℕ, length, map, IfOk, IfErr, IfSome, IfNone, IsErr, IsErrAnd, ◌⊎◌};
 ghost use Rattle.std.specs.Str.Lines.{lines};
+ghost use Rattle.hex.specs.Hex.{decode_of};
 ghost use Rattle.rtp_lines.specs.declared.input.InputError.TheVariants.{NoMemory};
 ghost use Rattle.rtp_lines.specs.Input.{Item, AreHex, AreLines, IsMapOf, Spells, IsFirstBadLine, IsInput};
 ghost use Rattle.rtp_lines.specs.Front.{MapsFirst, MapsNoneFirst, IsFront, IsFirstNotHex};
@@ -76,6 +77,18 @@ fn map_lines(alloc: Global, text: &[u8]) -> Result<(ExtensionMap, u64, &[u8]), A
     Ok((exts, count, rest))
 }
 
+// The datagram of the line with this number.
+fn datagram_of(alloc: Global, line: &[u8], number: u64) -> Result<Vec<u8>, InputError>
+    ensures spelled { IfOk result (λ bytes. decode_of line.now ≡ Ok bytes.items) }
+    ensures bad_line { IfErr result (λ error. (n : ℕ) → error ≡ InputError.BadLine n →
+        (n ≡ number) × IsErr (decode_of line.now)) }
+{
+    match datagram(alloc, line)? {
+        Some(bytes) => Ok(bytes),
+        None => Err(InputError::BadLine(number)),
+    }
+}
+
 // The datagrams of the lines, in order. `lines_before` is the number of lines before the text.
 fn datagrams(alloc: Global, text: &[u8], lines_before: u64) -> Result<Vec<Vec<u8>>, InputError>
     requires { lines_before + length text.now < 2 ^ 64 }
@@ -89,10 +102,8 @@ fn datagrams(alloc: Global, text: &[u8], lines_before: u64) -> Result<Vec<Vec<u8
     while !rest.is_empty() {
         let (line, after) = first_line(rest);
         number += 1;
-        match datagram(alloc, line)? {
-            Some(bytes) => datagrams.push(bytes)?,
-            None => return Err(InputError::BadLine(number)),
-        }
+        let bytes = datagram_of(alloc, line, number)?;
+        datagrams.push(bytes)?;
         rest = after;
     }
     Ok(datagrams)

@@ -5,14 +5,9 @@ use Rattle.rtp_lines.specs.declared.input.InputError.{InputError}
 use Rattle.rtp_lines.specs.declared.input.InputError.TheVariants.{BadLine, NoMemory}
 use Rattle.rtp_lines.specs.Input.{Spells, IsFirstBadLine}
 use Rattle.rtp_wire.specs.ExtensionMap.{Slots}
-use Rattle.rtp_lines.proofs.ReadLemmas.{no_bad_line, one_bad_line, IsFirstBadLine-behind, Spells-standard, Spells-mapped, only_reading}
+use Rattle.rtp_lines.proofs.ReadLemmas.{if_err, no_bad_line, one_bad_line, IsFirstBadLine-behind, Spells-standard, Spells-mapped, only_reading}
 use Rattle.rtp_lines.proofs.input.read_input.Goals as goal
 use Rattle.rtp_lines.proofs.input.read_input.Goals.{then-count-eq0, else-count-eq0}
-
--- a fact on an error, from another on it
-if_err : {A E : Type 0} {P : E → Type 0} (r : Result A E) (Q : E → Type 0) → IsErrAnd r P → ((e : E) → P e → Q e) → IfErr r Q
-if_err (Ok x) Q p step = absurd p
-if_err (Err e) Q p step = step e p
 
 -- what is no bad line is want of memory
 if_err_not : {A : Type 0} {P : ℕ → Type 0} (r : Result A InputError) → ((n : ℕ) → P n → ⊥) → IfErr r (λ error. (n : ℕ) → error ≡ BadLine n → P n)
