@@ -8,7 +8,7 @@ use std::io::{Error, ErrorKind, Read, Write};
 use std::process::Abort;
 use std::test::Fail;
 
-// A reader that gives one byte at a time, and fails once it has done so many reads.
+// A reader that gives one byte at a time, and fails after `reads_left` reads.
 #[derive(Drop)]
 struct Trickle<'a> {
     bytes: &'a [u8],
@@ -31,7 +31,7 @@ impl Read for Trickle<'_> {
     }
 }
 
-// A writer that takes so many bytes at a time, and fails once it has done so many writes.
+// A writer that takes `width` bytes at a time, and fails after `writes_left` writes.
 #[derive(Drop)]
 struct Narrow {
     taken: Vec<u8>,

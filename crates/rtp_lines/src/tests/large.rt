@@ -52,7 +52,7 @@ fn a_failed_write_beyond_the_buffer(rt: HostRuntime) -> Result<(), Fail> {
     Ok(())
 }
 
-// A bad line behind many good ones, which are of either kind.
+// A bad line after many good ones of either kind.
 #[test]
 fn a_bad_line_after_many(rt: HostRuntime) -> Result<(), Fail> {
     for good in [100u32, 150, 300, 70_000] {

@@ -42,8 +42,8 @@ const REFUSED: [(&[u8], u64); 22] = [
 #[test]
 fn refused_lines(rt: HostRuntime) -> Result<(), Fail> {
     for (index, (input, number)) in REFUSED.into_iter().enumerate() {
-        let refusal = read_input(rt.alloc(), input).err().ok_or("a refusal")?;
-        assert_eq!(rt; refusal, InputError::BadLine(number), "at {index}");
+        let error = read_input(rt.alloc(), input).err().ok_or("an error")?;
+        assert_eq!(rt; error, InputError::BadLine(number), "at {index}");
         let mut output = Vec::new(rt.alloc());
         let mut rest = input;
         assert_eq!(rt;
