@@ -31,18 +31,23 @@ impl Read for Trickle<'_> {
     }
 }
 
-// A writer that takes `width` bytes at a time, and fails after `writes_left` writes.
+// A writer that takes `width` bytes at a time, and fails after `writes_left` writes: once, or from
+// then on.
 #[derive(Drop)]
 struct Narrow {
     taken: Vec<u8>,
     width: usize,
     writes_left: usize,
     kind: ErrorKind,
+    once: bool,
 }
 
 impl Write for Narrow {
     fn write(&mut self, buf: &[u8]) -> io::Result<usize> {
         if self.writes_left == 0 {
+            if self.once {
+                self.writes_left = usize::MAX;
+            }
             return Err(Error::from(self.kind));
         }
         self.writes_left -= 1;
@@ -83,6 +88,7 @@ fn a_byte_at_a_time_changes_nothing(rt: HostRuntime) {
             width: 1,
             writes_left: usize::MAX,
             kind: ErrorKind::Other,
+            once: false,
         };
         assert_eq!(rt; run(rt.alloc(), &mut input, &mut output), end, "at {index}");
         assert_eq!(rt; output.taken.as_slice(), printed.as_bytes(), "at {index}");
@@ -140,6 +146,7 @@ fn the_failed_write_of_want_of_memory(rt: HostRuntime) {
             width: 1,
             writes_left,
             kind: ErrorKind::Other,
+            once: false,
         };
         assert_eq!(rt;
             run(rt.alloc(), &mut input, &mut output),
@@ -165,23 +172,24 @@ pub fn fails_at_each_write(
 ) {
     assert!(rt; width > 0);
     for writes_left in 0..printed.len().div_ceil(width) {
-        let mut output = Narrow {
-            taken: Vec::new(alloc),
-            width,
-            writes_left,
-            kind,
-        };
-        let mut rest = input;
-        assert_eq!(rt;
-            run(alloc, &mut rest, &mut output),
-            RunEnd::Io,
-            "at {writes_left}"
-        );
-        assert!(rt;
-            printed.starts_with(output.taken.as_slice()),
-            "at {writes_left}"
-        );
-        assert!(rt; output.taken.len() >= writes_left, "at {writes_left}");
+        for once in [false, true] {
+            let mut output = Narrow {
+                taken: Vec::new(alloc),
+                width,
+                writes_left,
+                kind,
+                once,
+            };
+            let mut rest = input;
+            assert_eq!(rt;
+                run(alloc, &mut rest, &mut output),
+                RunEnd::Io,
+                "at {writes_left}"
+            );
+            let taken = output.taken.as_slice();
+            assert!(rt; printed.starts_with(taken), "at {writes_left}");
+            assert!(rt; taken.len() >= writes_left, "at {writes_left}");
+        }
     }
 }
 
