@@ -1,9 +1,9 @@
 //! The lines that are printed.
 
-use rtp_wire::{RtpHeader, Verdict};
+use rtp_wire::{ExtensionValues, RtpHeader, Verdict};
 use std::fmt;
 
-/// The line of one datagram's header, or that the datagram has none.
+/// The line of one datagram's header with the values of its extensions, or that it has none.
 #[derive(Drop)]
 pub struct HeaderLine<'a> {
     /// The number of the datagram, from 1.
@@ -42,6 +42,33 @@ fn write_shape<W: fmt::Write>(header: &RtpHeader, f: &mut fmt::Formatter<W>) -> 
     )
 }
 
+// The values of the extensions that the header carries. A text may be empty.
+fn write_values<W: fmt::Write>(values: &ExtensionValues, f: &mut fmt::Formatter<W>) -> fmt::Result {
+    if let Some(mid) = values.mid {
+        write!(f, " mid {mid}")?;
+    }
+    if let Some(rid) = values.rid {
+        write!(f, " rid {rid}")?;
+    }
+    if let Some(repaired) = values.rid_repair {
+        write!(f, " repaired {repaired}")?;
+    }
+    if let Some(level) = values.audio_level {
+        write!(f, " level {level}")?;
+    }
+    if let Some(voice) = values.voice_activity {
+        let voice = yes_or_no(voice);
+        write!(f, " voice {voice}")?;
+    }
+    if let Some(time) = values.abs_send_time {
+        write!(f, " send {time}")?;
+    }
+    if let Some(number) = values.transport_cc {
+        write!(f, " transport {number}")?;
+    }
+    Ok(())
+}
+
 impl fmt::Display for HeaderLine<'_> {
     fn fmt<W: fmt::Write>(&self, f: &mut fmt::Formatter<W>) -> fmt::Result {
         let packet = self.packet;
@@ -50,7 +77,8 @@ impl fmt::Display for HeaderLine<'_> {
             None => f.write_str("unreadable"),
             Some(header) => {
                 write_stream(header, f)?;
-                write_shape(header, f)
+                write_shape(header, f)?;
+                write_values(&header.ext_vals, f)
             }
         }
     }

@@ -4,9 +4,9 @@ ghost use Rattle.std.specs.Prelude.{◌≡◌, ◌≢◌, ◌⊎◌, IfOk, IfErr
 ghost use Rattle.rtp_lines.specs.Input.{IsInput, HasBadLine};
 ghost use Rattle.rtp_lines.specs.declared.run.RunEnd.TheVariants.{NoMemory};
 
-use super::input::{InputError, read_input};
+use super::input::{Input, InputError, read_input};
 use super::report::{HeaderLine, VerdictLine};
-use rtp_wire::{ExtensionMap, RtpHeader, receive_run};
+use rtp_wire::{Receiver, RtpHeader, Verdict};
 use std::alloc::{AllocError, Global};
 use std::io;
 use std::io::{BufWriter, ErrorKind, Read, Write};
@@ -73,24 +73,23 @@ fn read_all<R: Read>(alloc: Global, input: &mut R) -> Result<Vec<u8>, RunEnd>
 }
 
 // Prints the two lines of each datagram, in order.
-fn report_all<W: Write>(alloc: Global, datagrams: &[Vec<u8>], output: &mut W) -> Result<(), RunEnd>
+fn report_all<W: Write>(alloc: Global, input: &Input, output: &mut W) -> Result<(), RunEnd>
     ensures { IfErr result (λ end. (end ≡ RunEnd.NoMemory) ⊎ (end ≡ RunEnd.Io)) }
 {
-    // The library reads no extensions yet: the map of the input waits for its next version.
-    let exts = ExtensionMap::empty();
-    let verdicts = receive_run(alloc, datagrams, &exts)?;
+    let mut receiver = Receiver::new();
     let mut lines = BufWriter::new(alloc, output).map_err(|_| RunEnd::NoMemory)?;
-    for (index, (datagram, verdict)) in datagrams.iter().zip(&verdicts).enumerate() {
+    for (index, datagram) in input.datagrams.iter().enumerate() {
         let packet = index as u64 + 1;
-        let header = RtpHeader::parse(alloc, datagram, &exts)?;
+        let header = RtpHeader::parse(alloc, datagram, &input.exts)?;
+        let verdict = match &header {
+            Some(header) => receiver.receive(header),
+            None => Verdict::Unreadable,
+        };
         let header = HeaderLine {
             packet,
             header: header.as_ref(),
         };
-        let verdict = VerdictLine {
-            packet,
-            verdict: *verdict,
-        };
+        let verdict = VerdictLine { packet, verdict };
         writeln!(lines, "{header}\n{verdict}").map_err(unwritten)?;
     }
     lines.flush().map_err(unwritten)
@@ -109,7 +108,7 @@ fn report_input<R: Read, W: Write>(
 {
     let text = read_all(alloc, input)?;
     match read_input(alloc, &text) {
-        Ok(input) => report_all(alloc, &input.datagrams, output),
+        Ok(input) => report_all(alloc, &input, output),
         Err(InputError::NoMemory) => Err(RunEnd::NoMemory),
         Err(InputError::BadLine(number)) => {
             writeln!(output, "line {number}: neither a map line nor hex").map_err(unwritten)?;
@@ -118,14 +117,14 @@ fn report_input<R: Read, W: Write>(
     }
 }
 
-/// Reads all input, and prints two lines for each datagram in order: its RTP header, or that it has
-/// none, and the verdict of one receiver that gets all datagrams.
+/// Reads all input, and prints two lines for each datagram in order: its RTP header with the values
+/// of its extensions, or that it has none, and the verdict of one receiver that gets all datagrams.
 ///
 /// A line of the input ends with LF or CR LF; the last one may end without either. A line is a
 /// datagram in hexadecimal of either case, and an empty line is an empty datagram. Before all
 /// datagrams there may be lines `map ID URI`, which map an id of 1 to 16, in one to three digits, to
 /// the extension with this URI; the last line for an id counts. Without such lines the standard map
-/// is used. No extension is read yet, so the map changes nothing that is printed.
+/// is used.
 ///
 /// - `BadLine`: the whole output is one line that gives the number of the first bad line, from 1.
 /// - `NoMemory`: the last line of the output is `want of memory`; the lines before it are the first
