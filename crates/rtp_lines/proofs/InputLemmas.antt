@@ -38,12 +38,12 @@ AreHex-all text rest datagrams start number end so_far =
     ap (map decode_of) (so_far.in_order ∙ ap (λ (bytes : List ℕ). so_far.done ++ lines bytes) end ∙ append-nil so_far.done) ∙ so_far.spelled
 
 -- what is no Ok is an Err
-IsErr-from : (r : Result (List ℕ) FromHexError) → ((bytes : List ℕ) → r ≡ Ok bytes → ⊥) → IsErr r
+pub IsErr-from : (r : Result (List ℕ) FromHexError) → ((bytes : List ℕ) → r ≡ Ok bytes → ⊥) → IsErr r
 IsErr-from (Ok bytes) none = absurd (none bytes refl)
 IsErr-from (Err e) none = refl
 
 pub IsFirstNotHex-here : (text rest after line : List ℕ) (datagrams : List (List ℕ)) (start number : ℕ) → lines rest ≡ line ∷ lines after
-    → ((bytes : List ℕ) → decode_of line ≡ Ok bytes → ⊥) → SoFar text rest datagrams start number → IsFirstNotHex (lines text) start (number + 1)
+    → IsErr (decode_of line) → SoFar text rest datagrams start number → IsFirstNotHex (lines text) start (number + 1)
 IsFirstNotHex-here text rest after line datagrams start number first bad so_far = record {
   before = so_far.done;
   bad = line;
@@ -52,5 +52,5 @@ IsFirstNotHex-here text rest after line datagrams start number first bad so_far 
   number_is = omega (arith, so_far.number_is);
   datagrams = datagrams;
   good_before = so_far.spelled;
-  not_hex = IsErr-from (decode_of line) bad;
+  not_hex = bad;
 }

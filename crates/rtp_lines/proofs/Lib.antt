@@ -1,3 +1,4 @@
+mod HexLineLemmas
 mod LineLemmas
 mod MapLineLemmas
 mod InputLemmas

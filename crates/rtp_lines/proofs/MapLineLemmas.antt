@@ -24,7 +24,7 @@ no_space digits all = All-from_get_or (λ byte. byte ≢ 32) digits 0 (λ i belo
 pub All-digits : (text : List ℕ) → AllDigits 10 text → All IsAsciiDigit text
 All-digits text all = All-from_get_or IsAsciiDigit text 0 (λ i below. digit_at text i all below)
 
--- what stands before the first space has none
+-- the part before the first space has none
 pub at_space : (text : List ℕ) (at : ℕ) → at < length text → get_or text at 0 ≡ 32 → ((k : ℕ) → k < at → get_or text k 0 ≡ 32 → ⊥)
     → All (λ byte. byte ≢ 32) (take at text) × (text ≡ take at text ++ 32 ∷ drop (at + 1) text)
 at_space text at within here none = (
@@ -57,7 +57,7 @@ some_space text before after split none =
     let within : length before < length text = omega (arith, ap length split, length-append before (32 ∷ after)) in
     none (length before) within (ap (λ (xs : List ℕ). get_or xs (length before) 0) split ∙ get_or_at before 32 after 0 (length before) refl)
 
--- behind `map ` a map line has its digits, a space and its URI
+-- after `map ` a map line has its digits, a space and its URI
 pub behind_word : (line rest : List ℕ) (id : ℕ) (uri : List ℕ) (m : IsMapLine line id uri) → rest ≡ drop 4 line → rest ≡ m.digits ++ 32 ∷ uri
 behind_word line rest id uri m e = e ∙ ap (drop 4) m.in_order
 

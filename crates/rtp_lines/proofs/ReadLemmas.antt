@@ -1,6 +1,6 @@
 -- The whole input: its front and its rest.
 use Rattle.std.proofs.Common.{◌≡◌, ℕ, ◌+◌, ◌<◌, List, [], ◌∷◌, ◌++◌, length, map, drop, Result, Ok, Err, refl, sym, ap, ◌∙◌, subst, arith, append_assoc, length-append, Bool, true, false}
-use Rattle.std.specs.Prelude.{◌==◌, IsErr, Option, Some, None, IfSome, if◌then◌else◌, ◌%◌}
+use Rattle.std.specs.Prelude.{◌==◌, IsErr, IsErrAnd, IfErr, Option, Some, None, IfSome, if◌then◌else◌, ◌%◌}
 use Rattle.std.specs.Str.Lines.{lines}
 use Rattle.hex.specs.Hex.{decode_of, decode_pairs}
 use Rattle.hex.specs.declared.error.FromHexError.{FromHexError}
@@ -10,6 +10,11 @@ use Rattle.rtp_lines.specs.MapLine.{IsMapLine}
 use Rattle.rtp_lines.proofs.MapLineLemmas.{one_reading}
 use Rattle.rtp_lines.specs.Input.{Item, AreMapLines, AreHex, AreLines, AreMapped, IsStandard, IsMapOf, Spells, IsFirstBadLine, IsInput, HasBadLine}
 use Rattle.rtp_lines.specs.Front.{IsFront, IsFirstNotHex, MapsNoneFirst}
+
+-- a fact on an error, from another on it
+pub if_err : {A E : Type 0} {P : E → Type 0} (r : Result A E) (Q : E → Type 0) → IsErrAnd r P → ((e : E) → P e → Q e) → IfErr r Q
+if_err (Ok x) Q p step = absurd p
+if_err (Err e) Q p step = step e p
 
 -- the first of some lines of hexadecimal, and the others
 hex_first : (line : List ℕ) (others datagrams : List (List ℕ)) → AreHex (line ∷ others) datagrams
@@ -45,7 +50,7 @@ m_is_no_digit rest bytes e = two_errors (length (109 ∷ 97 ∷ rest) % 2 == 1) 
 map_is_no_hex : (line : List ℕ) (id : ℕ) (uri bytes : List ℕ) → IsMapLine line id uri → decode_of line ≡ Ok bytes → ⊥
 map_is_no_hex line id uri bytes is_map decoded = m_is_no_digit (112 ∷ 32 ∷ (is_map.digits ++ 32 ∷ uri)) bytes (subst (λ (l : List ℕ). decode_of l ≡ Ok bytes) is_map.in_order decoded)
 
--- no first bad line stands among lines that are as they should be
+-- there is no first bad line among well-formed lines
 none_bad : (maps : List (List ℕ)) (items : List Item) (others datagrams : List (List ℕ)) → (maps' : List (List ℕ)) (items' : List Item) (others' datagrams' : List (List ℕ))
     → (bad : List ℕ) (after : List (List ℕ)) → AreMapLines maps items → AreHex others datagrams → AreMapLines maps' items' → AreHex others' datagrams'
     → maps ++ others ≡ maps' ++ (others' ++ bad ∷ after) → IsErr (decode_of bad) → (datagrams' ≡ [] → (id : ℕ) (uri : List ℕ) → IsMapLine bad id uri → ⊥) → ⊥
@@ -152,7 +157,7 @@ one_bad_line text number number' bad bad' =
     let is' : number' ≡ length bad'.before + 1 = bad'.number_is in
     numbers number number' (length bad.before) (length bad'.before) is is' earlier later
 
--- the first bad line behind the front is the first of all
+-- the first bad line after the front is the first of all
 pub IsFirstBadLine-behind : (text rest : List ℕ) (exts : Slots) (count number : ℕ) → IsFront text exts count rest → MapsNoneFirst rest
     → IsFirstNotHex (lines rest) count number → IsFirstBadLine text number
 IsFirstBadLine-behind text rest exts count number front all bad = record {

@@ -17,7 +17,7 @@ pub record MapsFirst (text : List ℕ) (id : ℕ) (uri after : List ℕ) : Type 
 abbrev pub MapsNoneFirst : List ℕ → Type 0
 MapsNoneFirst text = (line : List ℕ) (others : List (List ℕ)) (id : ℕ) (uri : List ℕ) → lines text ≡ line ∷ others → IsMapLine line id uri → ⊥
 
--- so many map lines stand before the rest, and this is what they map
+-- the text is this number of map lines and then the rest, and this is what they map
 pub record IsFront (text : List ℕ) (exts : Slots) (count : ℕ) (rest : List ℕ) : Type 0 where
   pub maps : List (List ℕ)
   pub items : List Item
@@ -27,7 +27,7 @@ pub record IsFront (text : List ℕ) (exts : Slots) (count : ℕ) (rest : List �
   pub count_is : count ≡ length maps
   pub fits : count + length rest ≤ length text
 
--- the first line that is not hexadecimal has this number, where so many lines stand before the first one
+-- the first line that is not hexadecimal has this number, where the lines are counted from start + 1
 pub record IsFirstNotHex (all : List (List ℕ)) (start number : ℕ) : Type 0 where
   pub before : List (List ℕ)
   pub bad : List ℕ

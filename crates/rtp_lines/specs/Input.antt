@@ -1,4 +1,4 @@
--- What the lines of the input say: first which extension each id stands for, then the datagrams.
+-- What the lines of the input say: first the extension that each id is mapped to, then the datagrams.
 use Rattle.std.specs.Prelude.{◌≡◌, ℕ, ◌+◌, ◌==◌, List, [], ◌∷◌, ◌++◌, length, map, reverse, true, IsErr, Option, Some, None, Ok}
 use Rattle.std.specs.List.{AllZip, find}
 use Rattle.std.specs.Str.Lines.{lines}
@@ -13,7 +13,7 @@ use Rattle.rtp_lines.specs.MapLine.{IsMapLine}
 abbrev pub Item : Type 0
 Item = ℕ × List ℕ
 
--- each is a map line, with the item at its place
+-- each line is a map line, with the item of the same index
 abbrev pub AreMapLines : List (List ℕ) → List Item → Type 0
 AreMapLines maps items = AllZip (λ line item. IsMapLine line item.0 item.1) maps items
 
@@ -21,7 +21,7 @@ AreMapLines maps items = AllZip (λ line item. IsMapLine line item.0 item.1) map
 abbrev pub AreHex : List (List ℕ) → List (List ℕ) → Type 0
 AreHex all datagrams = map decode_of all ≡ map Ok datagrams
 
--- the lines are map lines with these items, and behind them hexadecimal of these datagrams
+-- the lines are map lines with these items, and after them hexadecimal of these datagrams
 pub record AreLines (all : List (List ℕ)) (items : List Item) (datagrams : List (List ℕ)) : Type 0 where
   pub maps : List (List ℕ)
   pub others : List (List ℕ)
@@ -33,12 +33,12 @@ pub record AreLines (all : List (List ℕ)) (items : List Item) (datagrams : Lis
 abbrev pub last_for : ℕ → List Item → Option Item
 last_for id items = find (λ item. item.0 == id) (reverse items)
 
--- what stands behind an id: the extension that the URI of its item names, unlocked, and nothing without an item
+-- what an id is mapped to: the extension that the URI of its item names, unlocked, and nothing without an item
 abbrev pub IsMapped : Option Item → Option Entry → Type 0
 IsMapped None entry = entry ≡ None
 IsMapped (Some item) entry = (extension : Extension) × IsNamedBy item.1 extension × (entry ≡ Some (unlocked extension))
 
--- behind each id stands what the last of the items for it says
+-- each id is mapped as the last of the items for it says
 abbrev pub AreMapped : List Item → Slots → Type 0
 AreMapped items exts = (id : ℕ) → IsMapped (last_for id items) (entry_at exts id)
 
@@ -70,7 +70,7 @@ pub record IsFirstBadLine (text : List ℕ) (number : ℕ) : Type 0 where
   pub not_hex : IsErr (decode_of bad)
   pub no_map : datagrams ≡ [] → (id : ℕ) (uri : List ℕ) → IsMapLine bad id uri → ⊥
 
--- every line is as it should be
+-- every line is a map line before all datagrams, or hexadecimal
 abbrev pub IsInput : List ℕ → Type 0
 IsInput text = (items : List Item) × (datagrams : List (List ℕ)) × AreLines (lines text) items datagrams
 

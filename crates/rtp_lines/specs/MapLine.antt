@@ -1,10 +1,10 @@
--- A line that says which extension an id stands for.
+-- A line that maps an id to an extension.
 use Rattle.std.specs.Prelude.{◌≡◌, ℕ, ◌≤◌, List, ◌∷◌, ◌++◌, length, codes}
 use Rattle.std.specs.Str.{IsUtf8}
 use Rattle.std.specs.Str.Parse.{AllDigits, digits_value}
 use Rattle.rtp_wire.specs.ExtensionMap.{IsId}
 
--- one to three decimal digits write this id, and a map has room for it
+-- one to three decimal digits write this id of a map
 pub record IsIdText (digits : List ℕ) (id : ℕ) : Type 0 where
   pub are_digits : AllDigits 10 digits
   pub some : 1 ≤ length digits

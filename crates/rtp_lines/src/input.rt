@@ -1,68 +1,54 @@
-//! What the input says: which extension each id stands for, and the datagrams.
+//! What the input says: the extension map, and the datagrams.
 
-ghost use Rattle.std.specs.Prelude.{◌≡◌, ◌+◌, ◌<◌, ◌^◌, List, ℕ, length, map, IfOk, IfErr, IfSome, IfNone, IsSomeAnd, IsErrAnd, ◌⊎◌};
+ghost use Rattle.std.specs.Prelude.{◌≡◌, ◌+◌, ◌<◌, ◌^◌, List, ℕ, length, map, IfOk, IfErr, IfSome, IfNone, IsErr, IsErrAnd, ◌⊎◌};
 ghost use Rattle.std.specs.Str.Lines.{lines};
 ghost use Rattle.hex.specs.Hex.{decode_of};
-ghost use Rattle.rtp_lines.specs.declared.input.Refusal.TheVariants.{NoMemory};
+ghost use Rattle.rtp_lines.specs.declared.input.InputError.TheVariants.{NoMemory};
 ghost use Rattle.rtp_lines.specs.Input.{Item, AreHex, AreLines, IsMapOf, Spells, IsFirstBadLine, IsInput};
 ghost use Rattle.rtp_lines.specs.Front.{MapsFirst, MapsNoneFirst, IsFront, IsFirstNotHex};
 
+use super::hex_line::datagram;
 use super::line::first_line;
 use super::map_line::map_line;
-use hex::FromHexError;
 use rtp_wire::{Extension, ExtensionMap};
 use std::alloc::{AllocError, AllocFailed, Global};
 
 /// What the lines of the input say.
 #[derive(Drop)]
 pub struct Input {
-    /// Which extension each id stands for.
+    /// The extension that each id is mapped to.
     pub exts: ExtensionMap,
-    /// The datagrams, in order.
+    /// The datagrams, in the order of their lines.
     pub datagrams: Vec<Vec<u8>>,
 }
 
-/// Why there is no input to go by.
+/// Why the input could not be read.
 #[derive(Clone, Copy, Debug, PartialEq, Eq)]
-pub enum Refusal {
-    /// The line of this number, from 1, is the first that is neither a map line before all
+pub enum InputError {
+    /// The line of this number, counted from 1, is the first that is neither a map line before all
     /// datagrams nor hexadecimal.
     BadLine(u64),
     /// Memory was refused.
     NoMemory,
 }
 
-impl From<AllocError> for Refusal {
-    ghost from_gives = { λ _ refusal. refusal ≡ NoMemory };
+impl From<AllocError> for InputError {
+    ghost from_gives = { λ _ error. error ≡ NoMemory };
 
     fn from(_: AllocError) -> Self {
-        Refusal::NoMemory
+        InputError::NoMemory
     }
 }
 
-impl<T: Drop> From<AllocFailed<T>> for Refusal {
-    ghost from_gives = { λ _ refusal. refusal ≡ NoMemory };
+impl<T: Drop> From<AllocFailed<T>> for InputError {
+    ghost from_gives = { λ _ error. error ≡ NoMemory };
 
     fn from(_: AllocFailed<T>) -> Self {
-        Refusal::NoMemory
+        InputError::NoMemory
     }
 }
 
-/// The bytes that a line of hexadecimal of either case spells, or None where it spells none: its
-/// length is odd, or a character of it is no digit.
-pub fn datagram(alloc: Global, line: &[u8]) -> Result<Option<Vec<u8>>, AllocError>
-    ensures found { IfOk result (λ answer. IfSome answer (λ bytes. decode_of line.now ≡ Ok bytes.items)) }
-    ensures only { (bytes : List ℕ) → decode_of line.now ≡ Ok bytes →
-        IfOk result (λ answer. IsSomeAnd answer (λ found. found.items ≡ bytes)) }
-{
-    match hex::decode(alloc, line) {
-        Ok(bytes) => Ok(Some(bytes)),
-        Err(FromHexError::OutOfMemory) => Err(AllocError),
-        Err(_) => Ok(None),
-    }
-}
-
-// The id and the URI of the first line, where it is a map line, and what follows it.
+// The id and the URI of the first line, when it is a map line, and the text after it.
 fn first_map_line(text: &[u8]) -> Option<(u8, &str, &[u8])>
     ensures found { IfSome result (λ found. MapsFirst text.now found.0 found.1.now found.2.now) }
     ensures none { IfNone result (MapsNoneFirst text.now) }
@@ -75,7 +61,7 @@ fn first_map_line(text: &[u8]) -> Option<(u8, &str, &[u8])>
     Some((id, uri, after))
 }
 
-// The map that the map lines at the front make, how many they are, and what follows them.
+// The map that the map lines at the front make, the number of these lines, and the text after them.
 fn map_lines(alloc: Global, text: &[u8]) -> Result<(ExtensionMap, u64, &[u8]), AllocError>
     ensures front { IfOk result (λ front. IsFront text.now front.0 front.1 front.2.now) }
     ensures all { IfOk result (λ front. MapsNoneFirst front.2.now) }
@@ -91,11 +77,23 @@ fn map_lines(alloc: Global, text: &[u8]) -> Result<(ExtensionMap, u64, &[u8]), A
     Ok((exts, count, rest))
 }
 
-// The datagrams that the lines spell, in order. So many lines stand before them.
-fn datagrams(alloc: Global, text: &[u8], lines_before: u64) -> Result<Vec<Vec<u8>>, Refusal>
+// The datagram of the line with this number.
+fn datagram_of(alloc: Global, line: &[u8], number: u64) -> Result<Vec<u8>, InputError>
+    ensures spelled { IfOk result (λ bytes. decode_of line.now ≡ Ok bytes.items) }
+    ensures bad_line { IfErr result (λ error. (n : ℕ) → error ≡ InputError.BadLine n →
+        (n ≡ number) × IsErr (decode_of line.now)) }
+{
+    match datagram(alloc, line)? {
+        Some(bytes) => Ok(bytes),
+        None => Err(InputError::BadLine(number)),
+    }
+}
+
+// The datagrams of the lines, in order. `lines_before` is the number of lines before the text.
+fn datagrams(alloc: Global, text: &[u8], lines_before: u64) -> Result<Vec<Vec<u8>>, InputError>
     requires { lines_before + length text.now < 2 ^ 64 }
     ensures spelled { IfOk result (λ found. AreHex (lines text.now) (map (λ v. v.items) found.items)) }
-    ensures bad_line { IfErr result (λ refusal. (n : ℕ) → refusal ≡ Refusal.BadLine n →
+    ensures bad_line { IfErr result (λ error. (n : ℕ) → error ≡ InputError.BadLine n →
         IsFirstNotHex (lines text.now) lines_before n) }
 {
     let mut datagrams = Vec::new(alloc);
@@ -104,21 +102,22 @@ fn datagrams(alloc: Global, text: &[u8], lines_before: u64) -> Result<Vec<Vec<u8
     while !rest.is_empty() {
         let (line, after) = first_line(rest);
         number += 1;
-        match datagram(alloc, line)? {
-            Some(bytes) => datagrams.push(bytes)?,
-            None => return Err(Refusal::BadLine(number)),
-        }
+        let bytes = datagram_of(alloc, line, number)?;
+        datagrams.push(bytes)?;
         rest = after;
     }
     Ok(datagrams)
 }
 
-/// Reads the map lines at the front, and then the datagrams. Where no map line came the map is the
+/// Reads the map lines at the front and then the datagrams. Without any map line the map is the
 /// standard one.
-pub fn read_input(alloc: Global, text: &[u8]) -> Result<Input, Refusal>
+///
+/// Returns `BadLine` with the first line that is neither, and `NoMemory` only when memory is refused.
+/// A line is read only after all lines before it.
+pub fn read_input(alloc: Global, text: &[u8]) -> Result<Input, InputError>
     ensures spelled { IfOk result (λ input.
         Spells text.now input.exts (map (λ v. v.items) input.datagrams.items)) }
-    ensures bad_line { IfErr result (λ refusal. (n : ℕ) → refusal ≡ Refusal.BadLine n →
+    ensures bad_line { IfErr result (λ error. (n : ℕ) → error ≡ InputError.BadLine n →
         IsFirstBadLine text.now n) }
 
     // The lines have no other reading.
@@ -127,10 +126,10 @@ pub fn read_input(alloc: Global, text: &[u8]) -> Result<Input, Refusal>
         IfOk result (λ input. (map (λ v. v.items) input.datagrams.items ≡ datagrams)
         × IsMapOf items input.exts) }
 
-    // Nothing but want of memory refuses an input, or stands for the number of a bad line.
-    ensures taken { IsInput text.now → IfErr result (λ refusal. refusal ≡ NoMemory) }
-    ensures refused { (n : ℕ) → IsFirstBadLine text.now n → IsErrAnd result (λ refusal.
-        (refusal ≡ NoMemory) ⊎ (refusal ≡ Refusal.BadLine n)) }
+    // An input without a bad line fails only for memory, and one with a bad line never succeeds.
+    ensures taken { IsInput text.now → IfErr result (λ error. error ≡ NoMemory) }
+    ensures refused { (n : ℕ) → IsFirstBadLine text.now n → IsErrAnd result (λ error.
+        (error ≡ NoMemory) ⊎ (error ≡ InputError.BadLine n)) }
 {
     let (exts, count, rest) = map_lines(alloc, text)?;
     let datagrams = datagrams(alloc, rest, count)?;

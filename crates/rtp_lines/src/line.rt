@@ -3,7 +3,7 @@
 ghost use Rattle.std.specs.Prelude.{◌≡◌, ◌<◌, ◌∷◌, ◌≢◌, ℕ, length, slice_index, IfSome, IfNone};
 ghost use Rattle.std.specs.Str.Lines.{lines, strip_carriage_return};
 
-// A line without the carriage return that ends it, if one does.
+// The line without the one CR that ends it, if any.
 fn without_return(line: &[u8]) -> &[u8]
     ensures { result.now ≡ strip_carriage_return line.now }
 {
@@ -13,7 +13,7 @@ fn without_return(line: &[u8]) -> &[u8]
     }
 }
 
-/// Where the byte first is.
+/// The index of the first byte of this value, `None` when there is none.
 pub fn position_of(text: &[u8], byte: u8) -> Option<usize>
     ensures found { IfSome result (λ at. (at < length text.now) × (slice_index text.now at ≡ byte)
         × ((k : ℕ) → k < at → slice_index text.now k ≢ byte)) }
@@ -22,7 +22,7 @@ pub fn position_of(text: &[u8], byte: u8) -> Option<usize>
     text.iter().position(|candidate| *candidate == byte)
 }
 
-/// The first line, without its ending, and what follows it.
+/// The first line without its LF or CR LF, and the text after it. Requires that the text is not empty.
 pub fn first_line(text: &[u8]) -> (&[u8], &[u8])
     requires { 0 < length text.now }
     ensures first { lines text.now ≡ result.0.now ∷ lines result.1.now }

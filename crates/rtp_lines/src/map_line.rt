@@ -1,4 +1,4 @@
-//! The lines that say which extension an id stands for.
+//! The lines that map an id to an extension.
 
 ghost use Rattle.std.specs.Prelude.{◌≡◌, ◌≢◌, ◌↔◌, ◌∷◌, ◌++◌, List, ℕ, All, IfSome, IsTrue, IsSomeAnd};
 ghost use Rattle.std.specs.Char.{IsAsciiDigit};
@@ -15,7 +15,7 @@ fn are_digits(text: &[u8]) -> bool
     text.iter().all(|byte| byte.is_ascii_digit())
 }
 
-// The id that one to three digits write, where a map has room for it.
+// The number that one to three digits write, when it is an id of a map.
 fn id_of(digits: &[u8]) -> Option<u8>
     ensures found { IfSome result (IsIdText digits.now) }
     ensures only { (id : ℕ) → IsIdText digits.now id → result ≡ Some id }
@@ -33,7 +33,7 @@ fn id_of(digits: &[u8]) -> Option<u8>
     Some(id)
 }
 
-// What stands before and behind the first space.
+// The parts before and after the first space.
 fn around_space(text: &[u8]) -> Option<(&[u8], &[u8])>
     ensures found { IfSome result (λ parts. All (λ byte. byte ≢ 32) parts.0.now
         × (text.now ≡ parts.0.now ++ 32 ∷ parts.1.now)) }
@@ -45,8 +45,9 @@ fn around_space(text: &[u8]) -> Option<(&[u8], &[u8])>
     Some((&text[..space], &text[space + 1..]))
 }
 
-/// The id and the URI of a map line: `map`, the id in one to three digits, and the URI, which is
-/// the rest of the line, one space between them. None where the line is none.
+/// The id and the URI of a map line, `None` when the line is no map line. A map line is `map`, an id
+/// from 1 to 16 in one to three digits, and a URI, with one space between them. The URI is the rest
+/// of the line, spaces included: one byte or more, in UTF-8.
 pub fn map_line(line: &[u8]) -> Option<(u8, &str)>
     ensures found { IfSome result (λ item. IsMapLine line.now item.0 item.1.now) }
     ensures only { (id : ℕ) (uri : List ℕ) → IsMapLine line.now id uri →

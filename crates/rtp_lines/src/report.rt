@@ -1,13 +1,14 @@
 //! The lines that are printed.
 
-use rtp_wire::{RtpHeader, Verdict};
+use rtp_wire::{ExtensionValues, RtpHeader, Verdict};
 use std::fmt;
 
-/// What is printed of one datagram: its header, or that it has none.
+/// The line of one datagram's header with the values of its extensions, or that it has none.
 #[derive(Drop)]
 pub struct HeaderLine<'a> {
-    /// Which datagram it is, from 1.
+    /// The number of the datagram, from 1.
     pub packet: u64,
+    /// Its header, `None` when it has none.
     pub header: Option<&'a RtpHeader>,
 }
 
@@ -16,7 +17,7 @@ fn yes_or_no(flag: bool) -> &'static str {
     if flag { "yes" } else { "no" }
 }
 
-// The fields that every header has, up to the source.
+// Payload type, sequence number, timestamp and SSRC.
 fn write_stream<W: fmt::Write>(header: &RtpHeader, f: &mut fmt::Formatter<W>) -> fmt::Result {
     let payload_type = header.payload_type;
     let number = header.sequence_number;
@@ -28,7 +29,7 @@ fn write_stream<W: fmt::Write>(header: &RtpHeader, f: &mut fmt::Formatter<W>) ->
     )
 }
 
-// The flags and the lengths.
+// The flags M, P and X, the number of CSRCs and the length of the header in bytes.
 fn write_shape<W: fmt::Write>(header: &RtpHeader, f: &mut fmt::Formatter<W>) -> fmt::Result {
     let marker = yes_or_no(header.marker);
     let padding = yes_or_no(header.has_padding);
@@ -41,6 +42,33 @@ fn write_shape<W: fmt::Write>(header: &RtpHeader, f: &mut fmt::Formatter<W>) -> 
     )
 }
 
+// The values of the extensions that the header carries. A text may be empty.
+fn write_values<W: fmt::Write>(values: &ExtensionValues, f: &mut fmt::Formatter<W>) -> fmt::Result {
+    if let Some(mid) = values.mid {
+        write!(f, " mid {mid}")?;
+    }
+    if let Some(rid) = values.rid {
+        write!(f, " rid {rid}")?;
+    }
+    if let Some(repaired) = values.rid_repair {
+        write!(f, " repaired {repaired}")?;
+    }
+    if let Some(level) = values.audio_level {
+        write!(f, " level {level}")?;
+    }
+    if let Some(voice) = values.voice_activity {
+        let voice = yes_or_no(voice);
+        write!(f, " voice {voice}")?;
+    }
+    if let Some(time) = values.abs_send_time {
+        write!(f, " send {time}")?;
+    }
+    if let Some(number) = values.transport_cc {
+        write!(f, " transport {number}")?;
+    }
+    Ok(())
+}
+
 impl fmt::Display for HeaderLine<'_> {
     fn fmt<W: fmt::Write>(&self, f: &mut fmt::Formatter<W>) -> fmt::Result {
         let packet = self.packet;
@@ -49,16 +77,17 @@ impl fmt::Display for HeaderLine<'_> {
             None => f.write_str("unreadable"),
             Some(header) => {
                 write_stream(header, f)?;
-                write_shape(header, f)
+                write_shape(header, f)?;
+                write_values(&header.ext_vals, f)
             }
         }
     }
 }
 
-/// What is printed of one datagram: what a receiver says of it.
+/// The line of a receiver's verdict on one datagram.
 #[derive(Drop)]
 pub struct VerdictLine {
-    /// Which datagram it is, from 1.
+    /// The number of the datagram, from 1.
     pub packet: u64,
     pub verdict: Verdict,
 }

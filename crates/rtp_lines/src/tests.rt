@@ -1,13 +1,13 @@
 //! What the program prints, over readers and writers in memory.
 
+mod failing;
+mod headers;
+mod large;
 mod map_lines;
+mod values;
 
-use super::input::datagram;
-use super::{RunEnd, run};
-use std::alloc::Global;
-use std::io;
-use std::io::{Error, ErrorKind, Read, Write};
-use std::process::Abort;
+use crate::hex_line::datagram;
+use crate::run::{RunEnd, run};
 use std::test::Fail;
 
 const PLAIN: &[u8] = b"8021B798000027100000002C\n";
@@ -15,7 +15,7 @@ const PLAIN: &[u8] = b"8021B798000027100000002C\n";
 const PLAIN_REPORT: &str = "packet 1: pt 33 seq 47000 ts 10000 ssrc 44 marker no padding no \
 extension no csrc 0 header 12\nverdict 1: taken 47000\n";
 
-// Two numbers in a row across a rollover, the first again, no header, and the number behind.
+// Two numbers in a row across a rollover, the first again, no header, and the next number.
 const STREAM: &[u8] = b"8001FFFF0000000000000000\n800100000000000000000000\n\
 8001FFFF0000000000000000\n\n800100010000000000000000\n";
 
@@ -49,7 +49,7 @@ const RUNS: [(&[u8], RunEnd, &str); 16] = [
     ),
     // Lower case, and a last line without its line feed.
     (b"8021b798000027100000002c", RunEnd::Done, PLAIN_REPORT),
-    // A carriage return goes with the line feed behind it, and with nothing else.
+    // A CR before the LF is part of the line's end, and any other CR of the line.
     (b"8021B798000027100000002C\r\n", RunEnd::Done, PLAIN_REPORT),
     (
         b"80\r",
@@ -131,111 +131,4 @@ fn datagrams_in_either_case(rt: HostRuntime) -> Result<(), Fail> {
         assert!(rt; datagram(rt.alloc(), line)?.is_none());
     }
     Ok(())
-}
-
-// A reader that gives one byte at a time, and fails at its read of this number.
-#[derive(Drop)]
-struct Trickle<'a> {
-    bytes: &'a [u8],
-    reads_left: usize,
-}
-
-impl Read for Trickle<'_> {
-    fn read(&mut self, buf: &mut [u8]) -> io::Result<usize> {
-        if self.reads_left == 0 {
-            return Err(Error::from(ErrorKind::Other));
-        }
-        self.reads_left -= 1;
-        let (Some(byte), Some(slot)) = (self.bytes.first(), buf.first_mut()) else {
-            return Ok(0);
-        };
-        *slot = *byte;
-        self.bytes = &self.bytes[1..];
-        Ok(1)
-    }
-}
-
-// A writer that takes one byte at a time, and fails at its write of this number.
-#[derive(Drop)]
-struct Narrow {
-    taken: Vec<u8>,
-    writes_left: usize,
-}
-
-impl Write for Narrow {
-    fn write(&mut self, buf: &[u8]) -> io::Result<usize> {
-        if self.writes_left == 0 {
-            return Err(Error::from(ErrorKind::Other));
-        }
-        self.writes_left -= 1;
-        let Some(byte) = buf.first() else {
-            return Ok(0);
-        };
-        self.taken.push(*byte)?;
-        Ok(1)
-    }
-
-    fn flush(&mut self) -> io::Result<()> {
-        Ok(())
-    }
-}
-
-#[test]
-fn slow_input_changes_nothing(rt: HostRuntime) {
-    let mut input = Trickle {
-        bytes: PLAIN,
-        reads_left: PLAIN.len() + 1,
-    };
-    let mut output = Vec::new(rt.alloc());
-    assert_eq!(rt; run(rt.alloc(), &mut input, &mut output), RunEnd::Done);
-    assert_eq!(rt; output.as_slice(), PLAIN_REPORT.as_bytes());
-}
-
-#[test]
-fn a_failed_read_prints_nothing(rt: HostRuntime) {
-    for reads_left in 0..PLAIN.len() + 1 {
-        let mut input = Trickle {
-            bytes: PLAIN,
-            reads_left,
-        };
-        let mut output = Vec::new(rt.alloc());
-        assert_eq!(rt;
-            run(rt.alloc(), &mut input, &mut output),
-            RunEnd::Io,
-            "at {reads_left}"
-        );
-        assert!(rt; output.is_empty(), "at {reads_left}");
-    }
-}
-
-// Runs the input into a writer that fails at each of its writes in turn.
-fn fails_at_each_write(rt: &impl Abort, alloc: Global, input: &[u8], printed: &str) {
-    for writes_left in 0..printed.len() {
-        let mut output = Narrow {
-            taken: Vec::new(alloc),
-            writes_left,
-        };
-        let mut rest = input;
-        assert_eq!(rt;
-            run(alloc, &mut rest, &mut output),
-            RunEnd::Io,
-            "at {writes_left}"
-        );
-        assert!(rt;
-            printed.as_bytes().starts_with(output.taken.as_slice()),
-            "at {writes_left}"
-        );
-        assert_eq!(rt; output.taken.len(), writes_left);
-    }
-}
-
-#[test]
-fn a_failed_write_leaves_a_beginning(rt: HostRuntime) {
-    fails_at_each_write(&rt, rt.alloc(), PLAIN, PLAIN_REPORT);
-    fails_at_each_write(
-        &rt,
-        rt.alloc(),
-        b"xyz",
-        "line 1: neither a map line nor hex\n",
-    );
 }

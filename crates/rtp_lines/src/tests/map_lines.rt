@@ -1,8 +1,8 @@
 //! Lines that map ids.
 
 use super::PLAIN_REPORT;
-use crate::input::{Refusal, read_input};
-use crate::{RunEnd, run};
+use crate::input::{InputError, read_input};
+use crate::run::{RunEnd, run};
 use rtp_wire::{Extension, ExtensionMap};
 use std::alloc::Global;
 use std::io::Write;
@@ -42,8 +42,8 @@ const REFUSED: [(&[u8], u64); 22] = [
 #[test]
 fn refused_lines(rt: HostRuntime) -> Result<(), Fail> {
     for (index, (input, number)) in REFUSED.into_iter().enumerate() {
-        let refusal = read_input(rt.alloc(), input).err().ok_or("a refusal")?;
-        assert_eq!(rt; refusal, Refusal::BadLine(number), "at {index}");
+        let error = read_input(rt.alloc(), input).err().ok_or("an error")?;
+        assert_eq!(rt; error, InputError::BadLine(number), "at {index}");
         let mut output = Vec::new(rt.alloc());
         let mut rest = input;
         assert_eq!(rt;
@@ -89,7 +89,7 @@ fn map_of(alloc: Global, text: &[u8]) -> Result<ExtensionMap, Fail> {
     Ok(input.exts)
 }
 
-// The map with these URIs behind these ids, and nothing else.
+// The map of these ids to these URIs, and of no other id.
 fn map_with(alloc: Global, entries: &[(u8, &str)]) -> Result<ExtensionMap, Fail> {
     let mut exts = ExtensionMap::empty();
     for (id, uri) in entries {
@@ -116,7 +116,7 @@ fn the_map_of_the_lines(rt: HostRuntime) -> Result<(), Fail> {
         (b"map 3 a\nmap 4 b\nmap 3 c\n", &[(3, "c"), (4, "b")]),
         // The rest of the line is the URI, spaces included.
         (b"map 1  x \n", &[(1, " x ")]),
-        // A carriage return goes with the line feed behind it alone.
+        // A CR before the LF is part of the line's end, and any other CR of the URI.
         (b"map 1 x\r\nmap 2 y\r", &[(1, "x"), (2, "y\r")]),
         (b"map 1 \xC3\xA9\n", &[(1, "é")]),
     ];
@@ -139,7 +139,7 @@ fn a_known_uri(rt: HostRuntime) -> Result<(), Fail> {
 }
 
 #[test]
-fn datagrams_behind_map_lines(rt: HostRuntime) -> Result<(), Fail> {
+fn datagrams_after_map_lines(rt: HostRuntime) -> Result<(), Fail> {
     let input = read_input(rt.alloc(), b"map 1 x\n80\n\n21\n")
         .ok()
         .ok_or("an input")?;
@@ -147,5 +147,25 @@ fn datagrams_behind_map_lines(rt: HostRuntime) -> Result<(), Fail> {
     assert_eq!(rt; input.datagrams[0].as_slice(), [0x80].as_slice());
     assert!(rt; input.datagrams[1].is_empty());
     assert_eq!(rt; input.datagrams[2].as_slice(), [0x21].as_slice());
+    Ok(())
+}
+
+// More map lines than ids, and more than one byte counts.
+#[test]
+fn many_map_lines(rt: HostRuntime) -> Result<(), Fail> {
+    for count in [17u32, 256, 1000] {
+        let mut text = Vec::new(rt.alloc());
+        let mut expected = ExtensionMap::empty();
+        for line in 0..count {
+            let id = (line % 16) as u8 + 1;
+            writeln!(text, "map {id} urn:x:{line}")?;
+            let uri = format!(in rt.alloc(); "urn:x:{line}")?;
+            expected.set(id, Extension::from_sdp_uri(rt.alloc(), uri.as_str())?);
+        }
+        assert!(rt;
+            map_of(rt.alloc(), text.as_slice())? == expected,
+            "of {count}"
+        );
+    }
     Ok(())
 }

@@ -1,36 +1,31 @@
 use Rattle.std.proofs.Common.{◌≡◌, ℕ, map, subst, sym, refl, ap, inl, inr, ◌∙◌}
 use Rattle.std.specs.Prelude.{Result, Ok, Err, IfErr, IsErr, IsErrAnd, ◌⊎◌}
 use Rattle.std.specs.Global.{Vec}
-use Rattle.rtp_lines.specs.declared.input.Refusal.{Refusal}
-use Rattle.rtp_lines.specs.declared.input.Refusal.TheVariants.{BadLine, NoMemory}
+use Rattle.rtp_lines.specs.declared.input.InputError.{InputError}
+use Rattle.rtp_lines.specs.declared.input.InputError.TheVariants.{BadLine, NoMemory}
 use Rattle.rtp_lines.specs.Input.{Spells, IsFirstBadLine}
 use Rattle.rtp_wire.specs.ExtensionMap.{Slots}
-use Rattle.rtp_lines.proofs.ReadLemmas.{no_bad_line, one_bad_line, IsFirstBadLine-behind, Spells-standard, Spells-mapped, only_reading}
+use Rattle.rtp_lines.proofs.ReadLemmas.{if_err, no_bad_line, one_bad_line, IsFirstBadLine-behind, Spells-standard, Spells-mapped, only_reading}
 use Rattle.rtp_lines.proofs.input.read_input.Goals as goal
 use Rattle.rtp_lines.proofs.input.read_input.Goals.{then-count-eq0, else-count-eq0}
 
--- a fact on an error, from another on it
-if_err : {A E : Type 0} {P : E → Type 0} (r : Result A E) (Q : E → Type 0) → IsErrAnd r P → ((e : E) → P e → Q e) → IfErr r Q
-if_err (Ok x) Q p step = absurd p
-if_err (Err e) Q p step = step e p
-
 -- what is no bad line is want of memory
-if_err_not : {A : Type 0} {P : ℕ → Type 0} (r : Result A Refusal) → ((n : ℕ) → P n → ⊥) → IfErr r (λ refusal. (n : ℕ) → refusal ≡ BadLine n → P n)
-    → IfErr r (λ refusal. refusal ≡ NoMemory)
+if_err_not : {A : Type 0} {P : ℕ → Type 0} (r : Result A InputError) → ((n : ℕ) → P n → ⊥) → IfErr r (λ error. (n : ℕ) → error ≡ BadLine n → P n)
+    → IfErr r (λ error. error ≡ NoMemory)
 if_err_not (Ok x) never bad = tt
 if_err_not (Err NoMemory) never bad = refl
 if_err_not (Err (BadLine n)) never bad = absurd (never n (bad n refl))
 
 -- a bad line that is named is this one
-err_is : {A : Type 0} {P : ℕ → Type 0} (r : Result A Refusal) (n : ℕ) → ((m : ℕ) → P m → m ≡ n) → IsErr r
-    → IfErr r (λ refusal. (m : ℕ) → refusal ≡ BadLine m → P m) → IsErrAnd r (λ refusal. (refusal ≡ NoMemory) ⊎ (refusal ≡ BadLine n))
+err_is : {A : Type 0} {P : ℕ → Type 0} (r : Result A InputError) (n : ℕ) → ((m : ℕ) → P m → m ≡ n) → IsErr r
+    → IfErr r (λ error. (m : ℕ) → error ≡ BadLine m → P m) → IsErrAnd r (λ error. (error ≡ NoMemory) ⊎ (error ≡ BadLine n))
 err_is (Ok x) n one err bad = absurd (cc)
 err_is (Err NoMemory) n one err bad = inl refl
 err_is (Err (BadLine m)) n one err bad = inr (ap BadLine (one m (bad m refl)))
 
 pub returns-in_err-datagrams-clause-bad_line : goal.returns-in_err-datagrams-clause-bad_line
 returns-in_err-datagrams-clause-bad_line c =
-    if_err c.from_residual-in_err-datagrams.result (λ refusal. (n : ℕ) → refusal ≡ BadLine n → IsFirstBadLine c.args.text.now n) c.from_residual-in_err-datagrams.ensures.1 (λ e same n is.
+    if_err c.from_residual-in_err-datagrams.result (λ error. (n : ℕ) → error ≡ BadLine n → IsFirstBadLine c.args.text.now n) c.from_residual-in_err-datagrams.ensures.1 (λ e same n is.
     IsFirstBadLine-behind c.args.text.now c.in_ok-exts.rest.now c.in_ok-exts.exts c.in_ok-exts.count n c.in_ok-exts.ensures.front c.in_ok-exts.ensures.all
     (c.in_err-datagrams.ensures.bad_line n (sym same ∙ is)))
 

@@ -1,7 +1,7 @@
 use Rattle.std.proofs.Common.{◌≡◌}
-use Rattle.rtp_lines.specs.declared.RunEnd.TheVariants.{Done, BadLine}
+use Rattle.rtp_lines.specs.declared.run.RunEnd.TheVariants.{Done, BadLine}
 use Rattle.rtp_lines.proofs.ReadLemmas.{input_has_none, bad_is_none}
-use Rattle.rtp_lines.proofs.run.Goals as goal
+use Rattle.rtp_lines.proofs.run.run.Goals as goal
 
 pub returns-in-Ok-clause-refused : goal.returns-in-Ok-clause-refused
 returns-in-Ok-clause-refused g c = bad_is_none (g.R.Read.remaining c.args.input.now) (Done ≡ Done) (λ e. c.in-Ok.ensures.done)

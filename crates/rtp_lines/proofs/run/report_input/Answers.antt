@@ -2,7 +2,7 @@ use Rattle.std.proofs.Common.{◌≡◌, ℕ, List, map, subst, ◌∙◌}
 use Rattle.std.specs.Prelude.{Option, Some, None, IfSome, Result, Ok, Err, OnOk}
 use Rattle.std.specs.Global.{Vec}
 use Rattle.rtp_lines.specs.Input.{IsInput, HasBadLine}
-use Rattle.rtp_lines.proofs.report_input.Goals as goal
+use Rattle.rtp_lines.proofs.run.report_input.Goals as goal
 
 -- a fact on a text that is known
 if_known : (o : Option (List ℕ)) (text text' : List ℕ) (Q : List ℕ → Type 0) → text' ≡ text → IfSome o (λ known. text ≡ known) → Q text' → IfSome o Q

@@ -1,0 +1,156 @@
+//! One run of the program: all input is read, and then reported.
+
+ghost use Rattle.std.specs.Prelude.{◌≡◌, ◌≢◌, ◌⊎◌, IfOk, IfErr, IfSome, OnOk};
+ghost use Rattle.rtp_lines.specs.Input.{IsInput, HasBadLine};
+ghost use Rattle.rtp_lines.specs.declared.run.RunEnd.TheVariants.{NoMemory};
+
+use super::input::{Input, InputError, read_input};
+use super::report::{HeaderLine, VerdictLine};
+use rtp_wire::{Receiver, RtpHeader, Verdict};
+use std::alloc::{AllocError, Global};
+use std::io;
+use std::io::{BufWriter, ErrorKind, Read, Write};
+
+/// How a run of the program ended.
+#[derive(Clone, Copy, Debug, PartialEq, Eq)]
+pub enum RunEnd {
+    /// Every line was well-formed, and every datagram was reported.
+    Done,
+    /// Some line was neither a map line before all datagrams nor hexadecimal. The output names the
+    /// first such line.
+    BadLine,
+    /// Memory was refused. The last line of the output says so.
+    NoMemory,
+    /// A read or a write failed.
+    Io,
+}
+
+impl RunEnd {
+    /// The exit status of the program.
+    pub fn status(self) -> u8 {
+        match self {
+            RunEnd::Done => 0,
+            RunEnd::Io => 1,
+            RunEnd::BadLine => 2,
+            RunEnd::NoMemory => 3,
+        }
+    }
+}
+
+impl From<AllocError> for RunEnd {
+    ghost from_gives = { λ _ end. end ≡ NoMemory };
+
+    fn from(_: AllocError) -> Self {
+        RunEnd::NoMemory
+    }
+}
+
+// The end of a run whose read failed.
+fn unread(error: io::Error) -> RunEnd
+    ensures { (result ≡ RunEnd.NoMemory) ⊎ (result ≡ RunEnd.Io) }
+{
+    match error.kind() {
+        ErrorKind::OutOfMemory => RunEnd::NoMemory,
+        _ => RunEnd::Io,
+    }
+}
+
+// The end of a run whose write failed.
+fn unwritten(_: io::Error) -> RunEnd
+    ensures { result ≡ RunEnd.Io }
+{
+    RunEnd::Io
+}
+
+// All that is left to read.
+fn read_all<R: Read>(alloc: Global, input: &mut R) -> Result<Vec<u8>, RunEnd>
+    ensures text { IfOk result (λ text. IfSome (R.remaining input.old) (λ known. text.items ≡ known)) }
+    ensures failed { IfErr result (λ end. (end ≡ RunEnd.NoMemory) ⊎ (end ≡ RunEnd.Io)) }
+{
+    let mut text = Vec::new(alloc);
+    input.read_to_end(&mut text).map_err(unread)?;
+    Ok(text)
+}
+
+// Prints the two lines of each datagram, in order.
+fn report_all<W: Write>(alloc: Global, input: &Input, output: &mut W) -> Result<(), RunEnd>
+    ensures { IfErr result (λ end. (end ≡ RunEnd.NoMemory) ⊎ (end ≡ RunEnd.Io)) }
+{
+    let mut receiver = Receiver::new();
+    let mut lines = BufWriter::new(alloc, output).map_err(|_| RunEnd::NoMemory)?;
+    for (index, datagram) in input.datagrams.iter().enumerate() {
+        let packet = index as u64 + 1;
+        let header = RtpHeader::parse(alloc, datagram, &input.exts)?;
+        let verdict = match &header {
+            Some(header) => receiver.receive(header),
+            None => Verdict::Unreadable,
+        };
+        let header = HeaderLine {
+            packet,
+            header: header.as_ref(),
+        };
+        let verdict = VerdictLine { packet, verdict };
+        writeln!(lines, "{header}\n{verdict}").map_err(unwritten)?;
+    }
+    lines.flush().map_err(unwritten)
+}
+
+// Reads all lines, and then reports all datagrams, or the first bad line.
+fn report_input<R: Read, W: Write>(
+    alloc: Global,
+    input: &mut R,
+    output: &mut W,
+) -> Result<(), RunEnd>
+    ensures done { OnOk result (IfSome (R.remaining input.old) IsInput) }
+    ensures failed { IfErr result (λ end. end ≢ RunEnd.Done) }
+    ensures bad_line { IfErr result (λ end. end ≡ RunEnd.BadLine →
+        IfSome (R.remaining input.old) HasBadLine) }
+{
+    let text = read_all(alloc, input)?;
+    match read_input(alloc, &text) {
+        Ok(input) => report_all(alloc, &input, output),
+        Err(InputError::NoMemory) => Err(RunEnd::NoMemory),
+        Err(InputError::BadLine(number)) => {
+            writeln!(output, "line {number}: neither a map line nor hex").map_err(unwritten)?;
+            Err(RunEnd::BadLine)
+        }
+    }
+}
+
+/// Reads all input, and prints two lines for each datagram in order: its RTP header with the values
+/// of its extensions, or that it has none, and the verdict of one receiver that gets all datagrams.
+///
+/// A line of the input ends with LF or CR LF; the last one may end without either. A line is a
+/// datagram in hexadecimal of either case, and an empty line is an empty datagram. Before all
+/// datagrams there may be lines `map ID URI`, which map an id of 1 to 16, in one to three digits, to
+/// the extension with this URI; the last line for an id counts. Without such lines the standard map
+/// is used.
+///
+/// - `BadLine`: the whole output is one line that gives the number of the first bad line, from 1.
+/// - `NoMemory`: the last line of the output is `want of memory`; the lines before it are the first
+///   ones of what would have been printed.
+/// - `Io`: after a failed read nothing is printed; before a failed write the output is a beginning
+///   of what would have been printed.
+///
+/// For example `8021B798000027100000002C` prints
+///
+/// ```text
+/// packet 1: pt 33 seq 47000 ts 10000 ssrc 44 marker no padding no extension no csrc 0 header 12
+/// verdict 1: taken 47000
+/// ```
+pub fn run<R: Read, W: Write>(alloc: Global, input: &mut R, output: &mut W) -> RunEnd
+    // Where it is known what the reader gives.
+    ensures done { result ≡ RunEnd.Done → IfSome (R.remaining input.old) IsInput }
+    ensures bad_line { result ≡ RunEnd.BadLine → IfSome (R.remaining input.old) HasBadLine }
+    ensures taken { IfSome (R.remaining input.old) (λ text. IsInput text → result ≢ RunEnd.BadLine) }
+    ensures refused { IfSome (R.remaining input.old) (λ text. HasBadLine text → result ≢ RunEnd.Done) }
+{
+    match report_input(alloc, input, output) {
+        Ok(()) => RunEnd::Done,
+        Err(RunEnd::NoMemory) => match writeln!(output, "want of memory") {
+            Ok(()) => RunEnd::NoMemory,
+            Err(_) => RunEnd::Io,
+        },
+        Err(end) => end,
+    }
+}

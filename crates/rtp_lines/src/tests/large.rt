@@ -1,0 +1,111 @@
+//! Inputs of many lines, and of long ones.
+
+use super::PLAIN_REPORT;
+use super::failing::fails_at_each_write;
+use crate::run::{RunEnd, run};
+use std::alloc::Global;
+use std::io::{ErrorKind, Write};
+use std::test::Fail;
+
+// The packets of the numbers from 1 to 101, and what is printed of them, which is more than the
+// program's buffer holds.
+fn many(alloc: Global) -> Result<(Vec<u8>, Vec<u8>), Fail> {
+    let mut input = Vec::new(alloc);
+    let mut printed = Vec::new(alloc);
+    for number in 1..102u16 {
+        writeln!(input, "8060{number:04X}0000000900000008")?;
+        write!(
+            printed,
+            "packet {number}: pt 96 seq {number} ts 9 ssrc 8 marker no padding no "
+        )?;
+        writeln!(
+            printed,
+            "extension no csrc 0 header 12\nverdict {number}: taken {number}"
+        )?;
+    }
+    Ok((input, printed))
+}
+
+#[test]
+fn many_datagrams(rt: HostRuntime) -> Result<(), Fail> {
+    let (input, printed) = many(rt.alloc())?;
+    let mut output = Vec::new(rt.alloc());
+    let mut rest = input.as_slice();
+    assert_eq!(rt; run(rt.alloc(), &mut rest, &mut output), RunEnd::Done);
+    assert_eq!(rt; output.as_slice(), printed.as_slice());
+    Ok(())
+}
+
+#[test]
+fn a_failed_write_beyond_the_buffer(rt: HostRuntime) -> Result<(), Fail> {
+    let (input, printed) = many(rt.alloc())?;
+    for width in [61, 500, 8192] {
+        fails_at_each_write(
+            &rt,
+            rt.alloc(),
+            input.as_slice(),
+            printed.as_slice(),
+            width,
+            ErrorKind::Other,
+        );
+    }
+    Ok(())
+}
+
+// A bad line after many good ones of either kind.
+#[test]
+fn a_bad_line_after_many(rt: HostRuntime) -> Result<(), Fail> {
+    for good in [100u32, 150, 300, 70_000] {
+        for line in [b"80\n".as_slice(), b"map 3 urn:x\n"] {
+            let mut input = Vec::new(rt.alloc());
+            for _ in 0..good {
+                input.extend_from_slice(line)?;
+            }
+            input.extend_from_slice(b"xyz\n80\nabc\n")?;
+            let number = u64::from(good) + 1;
+            let mut printed = Vec::new(rt.alloc());
+            writeln!(printed, "line {number}: neither a map line nor hex")?;
+            let mut output = Vec::new(rt.alloc());
+            let mut rest = input.as_slice();
+            assert_eq!(rt; run(rt.alloc(), &mut rest, &mut output), RunEnd::BadLine);
+            assert_eq!(rt; output.as_slice(), printed.as_slice());
+        }
+    }
+    Ok(())
+}
+
+// Packet k has the number 32,767 (k - 1), sent modulo 2^16. The first one above 2^32 is that of
+// packet 131,078: 32,767 times 131,077 is 4,295,000,059, which is 65,536 times 65,536 and 32,763.
+// The input is more than 3 MB.
+#[test]
+fn a_number_above_32_bits(rt: HostRuntime) -> Result<(), Fail> {
+    let mut input = Vec::new(rt.alloc());
+    let mut number = 0u16;
+    for _ in 0..131_078u32 {
+        writeln!(input, "8000{number:04X}0000000000000000")?;
+        number = number.wrapping_add(32_767);
+    }
+    let mut output = Vec::new(rt.alloc());
+    let mut rest = input.as_slice();
+    assert_eq!(rt; run(rt.alloc(), &mut rest, &mut output), RunEnd::Done);
+    let last =
+        b"\npacket 131078: pt 0 seq 32763 ts 0 ssrc 0 marker no padding no extension no csrc 0 \
+header 12\nverdict 131078: taken 4295000059\n";
+    assert!(rt; output.as_slice().ends_with(last));
+    Ok(())
+}
+
+// One line of more than 1 MB: a header and its payload.
+#[test]
+fn a_long_line(rt: HostRuntime) -> Result<(), Fail> {
+    let mut input = Vec::new(rt.alloc());
+    input.extend_from_slice(b"8021B798000027100000002C")?;
+    for _ in 0..600_000u32 {
+        input.extend_from_slice(b"FF")?;
+    }
+    let mut output = Vec::new(rt.alloc());
+    let mut rest = input.as_slice();
+    assert_eq!(rt; run(rt.alloc(), &mut rest, &mut output), RunEnd::Done);
+    assert_eq!(rt; output.as_slice(), PLAIN_REPORT.as_bytes());
+    Ok(())
+}
