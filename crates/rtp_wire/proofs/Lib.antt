@@ -1,3 +1,6 @@
+mod ElementLemmas
+mod ValuesLaws
+mod ValueFacts
 mod KindLemmas
 mod MapLemmas
 mod ListingLemmas
@@ -11,4 +14,5 @@ mod OverwritingLemmas
 mod RoundTrip
 mod StandardFacts
 mod WideningLemmas
-mod ReceiveLemmas
+mod ReceiverLemmas
+mod VerdictLemmas

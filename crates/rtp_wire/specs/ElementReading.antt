@@ -1,8 +1,31 @@
 -- The elements of bytes from the front on: what `Elements` holds.
-use Rattle.std.specs.Prelude.{ℕ, List, [], ◌∷◌}
+use Rattle.std.specs.Prelude.{ℕ, zero, suc, ◌+◌, ◌/◌, ◌%◌, List, [], ◌∷◌, length, take, Option, Some, None, nat_lt, nat_le, ◌&&◌, if◌then◌else◌}
 use Rattle.rtp_wire.specs.declared.ext.form.ExtensionsForm.{ExtensionsForm}
+use Rattle.rtp_wire.specs.declared.ext.form.ExtensionsForm.TheVariants.{OneByte, TwoByte}
 use Rattle.rtp_wire.specs.Elements.{Element}
 
--- a stand-in
-unfoldable pub elements_left : ExtensionsForm → List ℕ → List Element
-elements_left form bytes = []
+-- the element whose header begins with this byte, which is no padding, and how many of the bytes behind it are the element's; none where it ends reading
+abbrev pub element_at : ExtensionsForm → ℕ → List ℕ → Option (Element × ℕ)
+element_at OneByte byte bytes =
+    if nat_lt byte 240 && nat_lt (byte % 16) (length bytes)
+    then Some ((byte / 16, take (byte % 16 + 1) bytes), byte % 16 + 1)
+    else None
+element_at TwoByte byte [] = None
+element_at TwoByte byte (count ∷ bytes) =
+    if nat_le count (length bytes) then Some ((byte, take count bytes), count + 1) else None
+
+-- an element, and those behind the bytes that are its
+abbrev pub in_front : Option (Element × ℕ) → (ℕ → List Element) → List Element
+in_front None behind = []
+in_front (Some found) behind = found.0 ∷ behind found.1
+
+-- the elements of the bytes behind so many of them
+unfoldable pub elements_behind : ExtensionsForm → ℕ → List ℕ → List Element
+elements_behind form passed [] = []
+elements_behind form (suc passed) (byte ∷ bytes) = elements_behind form passed bytes
+elements_behind form zero (zero ∷ bytes) = elements_behind form zero bytes
+elements_behind form zero (suc byte ∷ bytes) = in_front (element_at form (suc byte) bytes) (λ taken. elements_behind form taken bytes)
+
+-- the elements of the bytes
+abbrev pub elements_left : ExtensionsForm → List ℕ → List Element
+elements_left form bytes = elements_behind form 0 bytes

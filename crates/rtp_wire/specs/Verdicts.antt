@@ -14,12 +14,15 @@ pub record Reading : Type 0 where
   pub source : ℕ
   pub low : ℕ
 
+-- the reading of a header
+abbrev pub reading_of : RtpHeader → Reading
+reading_of header = record { source = header.ssrc; low = header.sequence_number }
+
 -- the datagram begins with a header of this reading
 pub record Shows (exts : ExtensionMap) (datagram : List ℕ) (reading : Reading) : Type 0 where
   pub header : RtpHeader
   pub wire : IsWire exts datagram header
-  pub source_is : header.ssrc ≡ reading.source
-  pub low_is : header.sequence_number ≡ reading.low
+  pub reading_is : reading ≡ reading_of header
 
 -- the reading of a datagram, and none where it begins with no header
 abbrev pub IsReading : ExtensionMap → List ℕ → Option Reading → Type 0

@@ -1,8 +1,10 @@
 //! The receive state of one stream.
 
 ghost use Rattle.std.specs.Prelude.{◌≡◌, ◌↔◌, ℕ, Option, IsTrue};
+ghost use Rattle.std.specs.Option.{option_map, option_copied};
 ghost use Rattle.rtp_base.specs.Window.{Numbers, including};
 ghost use Rattle.rtp_wire.specs.Receiver.{Holds, IsNothing, IsHighest, IsNumberOf, IsFresh, IsJudged, taken_after};
+ghost use Rattle.rtp_wire.specs.Verdicts.{IsVerdict, reading_of};
 
 use super::Verdict;
 use crate::header::RtpHeader;
@@ -47,7 +49,10 @@ impl Receiver {
         // Each receiver holds some set, so the clauses here always speak of something.
         ensures some { (taken : Numbers) × Holds self.now taken }
     {
-        self.window.as_ref().map(|window| window.max_seq())
+        match &self.window {
+            None => None,
+            Some(window) => Some(window.max_seq()),
+        }
     }
 
     /// The extended sequence number of a packet with this header: the one nearest to the highest
@@ -102,7 +107,12 @@ impl Receiver {
     }
 
     // The verdict on a datagram, by the header that it begins with.
-    pub(super) fn verdict_on(&mut self, header: Option<&RtpHeader>) -> Verdict {
+    pub(super) fn verdict_on(&mut self, header: Option<&RtpHeader>) -> Verdict
+        ensures verdict { (taken : Numbers) → Holds self.old taken →
+            IsVerdict taken (option_map reading_of (option_copied header.entry)) result }
+        ensures after { (taken : Numbers) → Holds self.old taken →
+            Holds self.new (taken_after taken result) }
+    {
         match header {
             None => Verdict::Unreadable,
             Some(header) => self.receive(header),

@@ -1,0 +1,128 @@
+-- Runs of datagrams: one verdict more, and that a number is taken once.
+use Rattle.std.proofs.Common.{◌≡◌, ℕ, zero, suc, ◌+◌, ◌<◌, ◌⊎◌, Bool, true, false, ◌||◌, eqb, List, [], ◌∷◌, ◌++◌, length, take, get_or, refl, sym, ap, ◌∙◌, subst, inl, inr, arith, length-take-le}
+use Rattle.std.specs.Prelude.{Option, Some, None}
+use Rattle.std.specs.List.{AllZip}
+use Rattle.std.proofs.lemmas.Bool.{eq-eqb, cases_lt, false≢true, or_left, or_right}
+use Rattle.std.proofs.lemmas.List.{take-append-le, take_at, get_or_append_left, get_or_at, length_push, get_or-take}
+use Rattle.rtp_base.specs.Window.{Numbers, Places, Accepts}
+use Rattle.rtp_wire.specs.declared.ext.map.ExtensionMap.{ExtensionMap}
+use Rattle.rtp_wire.specs.declared.receive.verdict.Verdict.{Verdict}
+use Rattle.rtp_wire.specs.declared.receive.verdict.Verdict.TheVariants.{Unreadable, Taken, Refused}
+use Rattle.rtp_wire.specs.Receiver.{Holds, IsFresh, taken_after}
+use Rattle.rtp_wire.specs.Verdicts.{Reading, IsReading, AreReadings, taken_by, IsVerdict, IsRun, AreVerdicts, TakesOnce}
+use Rattle.rtp_wire.proofs.ReceiverLemmas.{not_nothing}
+
+-- ---- one verdict more
+
+or_assoc : (a b c : Bool) → (a || (b || c)) ≡ ((a || b) || c)
+or_assoc true b c = refl
+or_assoc false b c = refl
+
+or_false : (a : Bool) → (a || false) ≡ a
+or_false true = refl
+or_false false = refl
+
+taken_by-push : (verdicts : List Verdict) (verdict : Verdict) (n : ℕ) → taken_by (verdicts ++ verdict ∷ []) n ≡ taken_after (taken_by verdicts) verdict n
+taken_by-push [] (Taken t) n = or_false (eqb n t)
+taken_by-push [] Refused n = refl
+taken_by-push [] Unreadable n = refl
+taken_by-push (Taken s ∷ vs) (Taken t) n = ap (λ (b : Bool). eqb n s || b) (taken_by-push vs (Taken t) n) ∙ or_assoc (eqb n s) (taken_by vs n) (eqb n t)
+taken_by-push (Taken s ∷ vs) Refused n = ap (λ (b : Bool). eqb n s || b) (taken_by-push vs Refused n)
+taken_by-push (Taken s ∷ vs) Unreadable n = ap (λ (b : Bool). eqb n s || b) (taken_by-push vs Unreadable n)
+taken_by-push (Refused ∷ vs) (Taken t) n = taken_by-push vs (Taken t) n
+taken_by-push (Refused ∷ vs) Refused n = taken_by-push vs Refused n
+taken_by-push (Refused ∷ vs) Unreadable n = taken_by-push vs Unreadable n
+taken_by-push (Unreadable ∷ vs) (Taken t) n = taken_by-push vs (Taken t) n
+taken_by-push (Unreadable ∷ vs) Refused n = taken_by-push vs Refused n
+taken_by-push (Unreadable ∷ vs) Unreadable n = taken_by-push vs Unreadable n
+
+-- a window keeps a set that is the same number by number
+Holds-same : (window : Option Places) (a b : Numbers) → ((n : ℕ) → b n ≡ a n) → Holds window a → Holds window b
+Holds-same None a b same holds = λ n. same n ∙ holds n
+Holds-same (Some window) a b same keeps = record {
+  top = record { member = same window.greatest ∙ keeps.top.member; top = λ n is. keeps.top.top n (sym (same n) ∙ is) };
+  places = λ n low near. keeps.places n low near ∙ sym (same n);
+}
+
+-- a run with one reading more
+IsRun-more : (readings : List (Option Reading)) (verdicts : List Verdict) (reading : Option Reading) (verdict : Verdict) → IsRun readings verdicts
+    → IsVerdict (taken_by verdicts) reading verdict → IsRun (readings ++ reading ∷ []) (verdicts ++ verdict ∷ [])
+IsRun-more readings verdicts reading verdict run is =
+    let all = verdicts ++ verdict ∷ [] in
+    let given = readings ++ reading ∷ [] in
+    let many = length_push readings reading in
+    record {
+      as_many = length_push verdicts verdict ∙ ap (λ (k : ℕ). k + 1) run.as_many ∙ sym many;
+      each = λ i below. elim (cases_lt i (length readings)) [
+        | inl old ↦
+            let within : i < length verdicts = omega (arith, run.as_many) in
+            subst (λ (r : Option Reading). IsVerdict (taken_by (take i all)) r (get_or all i Unreadable)) (sym (get_or_append_left readings (reading ∷ []) None i old))
+            (subst (λ (v : Verdict). IsVerdict (taken_by (take i all)) (get_or readings i None) v) (sym (get_or_append_left verdicts (verdict ∷ []) Unreadable i within))
+            (subst (λ (vs : List Verdict). IsVerdict (taken_by vs) (get_or readings i None) (get_or verdicts i Unreadable)) (sym (take-append-le i verdicts (verdict ∷ []) (omega arith))) (run.each i old)))
+        | inr new ↦
+            let here : length readings ≡ i = omega (arith, many) in
+            let len : length verdicts ≡ i = run.as_many ∙ here in
+            subst (λ (r : Option Reading). IsVerdict (taken_by (take i all)) r (get_or all i Unreadable)) (sym (get_or_at readings reading [] None i here))
+            (subst (λ (v : Verdict). IsVerdict (taken_by (take i all)) reading v) (sym (get_or_at verdicts verdict [] Unreadable i len))
+            (subst (λ (vs : List Verdict). IsVerdict (taken_by vs) reading verdict) (sym (take_at verdicts (verdict ∷ []) i len)) is))
+      ];
+    }
+
+AllZip-more : {A B : Type 0} (R : A → B → Type 0) (xs : List A) (ys : List B) (x : A) (y : B) → AllZip R xs ys → R x y → AllZip R (xs ++ x ∷ []) (ys ++ y ∷ [])
+AllZip-more R [] [] x y all one = (one, tt)
+AllZip-more R [] (b ∷ ys) x y all one = absurd all
+AllZip-more R (a ∷ xs) [] x y all one = absurd all
+AllZip-more R (a ∷ xs) (b ∷ ys) x y all one = (all.0, AllZip-more R xs ys x y all.1 one)
+
+-- the verdicts on the datagrams so far, and what the receiver then holds
+pub record SoFar (exts : ExtensionMap) (datagrams : List (List ℕ)) (verdicts : List Verdict) (receiver : Option Places) : Type 0 where
+  pub are : AreVerdicts exts datagrams verdicts
+  pub holds : Holds receiver (taken_by verdicts)
+
+pub SoFar-none : (exts : ExtensionMap) (receiver : Option Places) → Holds receiver (taken_by []) → SoFar exts [] [] receiver
+SoFar-none exts receiver holds = record {
+  are = record { readings = []; are_readings = tt; run = record { as_many = refl; each = λ i below. absurd (omega arith) } };
+  holds = holds;
+}
+
+pub SoFar-more : (exts : ExtensionMap) (datagrams : List (List ℕ)) (datagram : List ℕ) (reading : Option Reading) (verdicts : List Verdict) (verdict : Verdict) (before after : Option Places)
+    → SoFar exts datagrams verdicts before → IsReading exts datagram reading → IsVerdict (taken_by verdicts) reading verdict
+    → Holds after (taken_after (taken_by verdicts) verdict) → SoFar exts (datagrams ++ datagram ∷ []) (verdicts ++ verdict ∷ []) after
+SoFar-more exts datagrams datagram reading verdicts verdict before after so_far read is holds = record {
+  are = record {
+    readings = so_far.are.readings ++ reading ∷ [];
+    are_readings = AllZip-more (IsReading exts) datagrams so_far.are.readings datagram reading so_far.are.are_readings read;
+    run = IsRun-more so_far.are.readings verdicts reading verdict so_far.are.run is;
+  };
+  holds = Holds-same after (taken_after (taken_by verdicts) verdict) (taken_by (verdicts ++ verdict ∷ [])) (taken_by-push verdicts verdict) holds;
+}
+
+-- ---- no number is taken twice
+
+taken_by-at : (verdicts : List Verdict) (i n : ℕ) → i < length verdicts → get_or verdicts i Unreadable ≡ Taken n → taken_by verdicts n ≡ true
+taken_by-at [] i n below is = absurd (omega arith)
+taken_by-at (v ∷ vs) zero n below is = ap (λ (w : Verdict). taken_by (w ∷ vs) n) is ∙ or_left (eqb n n) (taken_by vs n) (eq-eqb n n refl)
+taken_by-at (Taken t ∷ vs) (suc i) n below is = or_right (eqb n t) (taken_by vs n) (taken_by-at vs i n (omega arith) is)
+taken_by-at (Refused ∷ vs) (suc i) n below is = taken_by-at vs i n (omega arith) is
+taken_by-at (Unreadable ∷ vs) (suc i) n below is = taken_by-at vs i n (omega arith) is
+
+-- a number that is taken is not fresh
+not_fresh : (taken : Numbers) (number : ℕ) → taken number ≡ true → IsFresh taken number → ⊥
+not_fresh taken number is (inl none) = false≢true (sym (none number) ∙ is)
+not_fresh taken number is (inr accepted) = elim accepted.above_or_new [
+  | inl above ↦ let top = accepted.is_greatest.top number is in absurd (omega arith)
+  | inr new ↦ false≢true (sym new.1 ∙ is)
+]
+
+taken_once : (taken : Numbers) (reading : Option Reading) (number : ℕ) → taken number ≡ true → IsVerdict taken reading (Taken number) → ⊥
+taken_once taken None number is verdict = absurd cc
+taken_once taken (Some reading) number is verdict =
+    not_fresh taken verdict.0 (subst (λ (n : ℕ). taken n ≡ true) verdict.2.0 is) verdict.2.1
+
+pub TakesOnce-run : (readings : List (Option Reading)) (verdicts : List Verdict) → IsRun readings verdicts → TakesOnce verdicts
+TakesOnce-run readings verdicts run i j number before within first second =
+    let earlier = take j verdicts in
+    let here : i < length earlier = omega (arith, length-take-le j verdicts (omega arith)) in
+    let is : taken_by earlier number ≡ true = taken_by-at earlier i number here (get_or-take j verdicts i Unreadable before ∙ first) in
+    taken_once (taken_by earlier) (get_or readings j None) number is
+    (subst (IsVerdict (taken_by earlier) (get_or readings j None)) second (run.each j (omega (arith, run.as_many))))
