@@ -1,15 +1,16 @@
--- Ids as texts with spaces behind them.
-use Rattle.std.proofs.Common.{◌≡◌, ℕ, ◌-◌, ◌<◌, ◌≤◌, Bool, false, eqb, List, [], ◌∷◌, ◌++◌, length, map, take, drop, get_or, replicate, refl, sym, ap, ◌∙◌, subst, inl, inr, arith, length-append, length-take-le, take_at, drop_at}
+-- Identifiers as texts filled up with spaces.
+use Rattle.std.proofs.Common.{◌≡◌, ℕ, ◌+◌, ◌-◌, ◌<◌, ◌≤◌, Bool, false, eqb, List, [], ◌∷◌, ◌++◌, length, map, take, drop, get_or, replicate, refl, sym, ap, ◌∙◌, subst, inl, inr, arith, length-append, length-take-le, take_at, drop_at}
 use Rattle.std.specs.Prelude.{IsUtf8}
 use Rattle.std.specs.List.{All, position_or_len}
 use Rattle.std.specs.Char.{is_ascii_alphanumeric}
-use Rattle.std.specs.Str.{chars}
+use Rattle.std.specs.Str.{chars, IsAscii}
 use Rattle.std.proofs.lemmas.Bool.{ne_eqb, cases_lt, cases_Bool, false≢true}
 use Rattle.std.proofs.lemmas.Bool.Decides.{nat_tests}
-use Rattle.std.proofs.lemmas.List.{get_or_append_left, get_or-append_right, get_or_past, get_or-replicate, length-replicate, take-append-drop, drop-replicate}
+use Rattle.std.proofs.lemmas.List.{get_or_append_left, get_or-append_right, get_or_past, get_or-replicate, length-replicate, take-append-drop, drop-replicate, take_all}
 use Rattle.std.proofs.lemmas.List.Elements.{All-nil, All-cons, All-take, All-head, All-tail, All-replicate}
 use Rattle.std.proofs.lemmas.List.Sums.{position_or_len_is}
-use Rattle.std.proofs.lemmas.Str.{IsUtf8-from_ascii}
+use Rattle.std.proofs.lemmas.Str.{IsUtf8-from_ascii, chars-IsAscii}
+use Rattle.std.proofs.lemmas.Str.Ascii.{IsAscii-from_all}
 use Rattle.rtp_base.specs.Id.{id_char, id_text, padded, IsIdOf, before_padding, IsIdByte, IsIdArray}
 
 abbrev pub is_space : ℕ → Bool
@@ -74,7 +75,7 @@ IsUtf8-text bytes n here is =
       | inr past ↦ rw (get_or_past text i 0 past) (omega arith)
     ])
 
--- ---- the text of an id, and spaces behind it
+-- ---- the text of an identifier, filled up with spaces
 
 IsIdByte-id_char : (c : ℕ) → IsIdByte (id_char c)
 IsIdByte-id_char c =
@@ -100,3 +101,33 @@ IsIdOf-put size text room len within size-is front back =
       record { kept = whole; text_is = ap before_padding whole ∙ before_padding-padded it (size - length it) each },
       record { text = it; spaces = size - length it; bytes_are = whole; text_is = each },
     )
+
+-- ---- the text of an id, and its id
+
+id_char-id_byte : (b : ℕ) → IsIdByte b → id_char b ≡ b
+id_char-id_byte b is = grind (arith, nat_tests)
+
+map-id_char : (text : List ℕ) → All IsIdByte text → map id_char text ≡ text
+map-id_char [] is = refl
+map-id_char (b ∷ bs) is =
+    ap (λ (x : ℕ). x ∷ map id_char bs) (id_char-id_byte b (All-head IsIdByte b bs is))
+    ∙ ap (λ (xs : List ℕ). b ∷ xs) (map-id_char bs (All-tail IsIdByte b bs is))
+
+IsAscii-text : (text : List ℕ) → All IsIdByte text → IsAscii text
+IsAscii-text text is = IsAscii-from_all text (λ k d below. IsIdByte-ascii (get_or text k d) (is k d below))
+
+-- an id is that of its own text
+pub IsIdOf-text : (size : ℕ) (id : List ℕ) → length id ≡ size → IsIdArray id → IsIdOf size (before_padding id) id
+IsIdOf-text size id size-is is =
+    let text = is.text in
+    let before : before_padding id ≡ text = ap before_padding is.bytes_are ∙ before_padding-padded text is.spaces is.text_is in
+    let parts : length id ≡ length text + is.spaces =
+    ap length is.bytes_are ∙ length-append text (replicate is.spaces 32) ∙ ap (λ (k : ℕ). length text + k) (length-replicate {A = ℕ} is.spaces 32) in
+    let own : id_text size text ≡ text =
+    ap (take size) (ap (map id_char) (chars-IsAscii text (IsAscii-text text is.text_is)) ∙ map-id_char text is.text_is)
+    ∙ take_all size text (omega arith) in
+    let rest : size - length text ≡ is.spaces = omega arith in
+    subst (λ (xs : List ℕ). IsIdOf size xs id) (sym before) (record {
+      kept = is.bytes_are ∙ ap (λ (k : ℕ). text ++ replicate k 32) (sym rest) ∙ ap (padded size) (sym own);
+      text_is = before ∙ sym own;
+    })

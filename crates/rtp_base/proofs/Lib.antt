@@ -1,3 +1,4 @@
+mod BitmapLemmas
 mod DirectionLemmas
 mod FrequencyLemmas
 mod IdLemmas

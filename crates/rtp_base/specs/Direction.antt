@@ -1,9 +1,9 @@
--- The direction of a stream, as SDP names it (RFC 8866, 6.7).
+-- The direction of a media section or of a header extension, as SDP names it (RFC 8866, 6.7).
 use Rattle.std.specs.Prelude.{◌≡◌, ℕ, List, codes}
 use Rattle.rtp_base.specs.declared.dir.Direction.{Direction}
 use Rattle.rtp_base.specs.declared.dir.Direction.TheVariants.{SendOnly, RecvOnly, SendRecv, Inactive}
 
--- the name of the attribute
+-- the name of the SDP attribute
 abbrev pub direction_text : Direction → List ℕ
 direction_text SendOnly = codes "sendonly"
 direction_text RecvOnly = codes "recvonly"
@@ -17,7 +17,7 @@ opposite RecvOnly = SendOnly
 opposite SendRecv = SendRecv
 opposite Inactive = Inactive
 
--- the direction of this name, or Inactive where the text names none
+-- the direction that the text names, or Inactive where it names none
 pub record IsNamedBy (text : List ℕ) (direction : Direction) : Type 0 where
   pub named : (d : Direction) → text ≡ direction_text d → direction ≡ d
   pub otherwise : ((d : Direction) → text ≡ direction_text d → ⊥) → direction ≡ Inactive

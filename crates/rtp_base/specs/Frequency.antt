@@ -1,10 +1,10 @@
--- Frequencies as texts.
+-- The texts of frequencies.
 use Rattle.std.specs.Prelude.{◌≡◌, ℕ, ◌<◌, ◌^◌, ◌⊎◌, List, [], ◌++◌, length, codes}
 use Rattle.std.specs.Char.{IsAsciiDigit}
 use Rattle.std.specs.List.{All}
 use Rattle.std.specs.Str.Parse.{digits_value}
 
--- a plus or none, and behind it decimal digits, one or more, of a number from 1 to 2^32 - 1
+-- an optional plus, followed by one or more decimal digits of a number from 1 to 2^32 - 1
 pub record IsFrequencyText (text : List ℕ) (hertz : ℕ) : Type 0 where
   pub sign : List ℕ
   pub digits : List ℕ

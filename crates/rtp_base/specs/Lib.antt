@@ -1,8 +1,10 @@
--- What contracts rest on.
+-- What public contracts cite.
 pub mod Id
 pub mod Direction
 pub mod Window
 pub mod Frequency
 pub mod MediaTime
+-- What private contracts cite.
+pub mod Bitmap
 -- For the prover alone.
 pub mod OrderLaws

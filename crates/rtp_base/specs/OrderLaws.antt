@@ -1,4 +1,4 @@
--- For the prover: the order of media times is one. A reader may skip this file.
+-- For the prover: the order of media times is a total order. A reader may skip this file.
 use Rattle.std.specs.Prelude.{◌≡◌, ℕ, ◌<◌, ◌*◌, Some}
 use Rattle.std.specs.declared.cmp.Ordering.{Ordering}
 use Rattle.std.specs.declared.cmp.Ordering.TheVariants.{Less, Equal, Greater}

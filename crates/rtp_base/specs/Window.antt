@@ -1,4 +1,4 @@
--- The window of numbers that were taken (RFC 3711, 3.3.2).
+-- The replay window: the set of numbers that were taken, near its greatest (RFC 3711, 3.3.2).
 use Rattle.std.specs.Prelude.{◌≡◌, ℕ, ◌+◌, ◌-◌, ◌<◌, ◌≤◌, ◌⊎◌, List, Bool, false, ◌||◌, ◌==◌, nat_le, IsTrue, slice_index_or}
 
 -- a set of numbers is its test
@@ -15,24 +15,28 @@ up_to number = λ n. nat_le n number
 abbrev pub including : Numbers → ℕ → Numbers
 including taken number = λ n. taken n || n == number
 
+-- how many numbers the window tells apart: the greatest, and the 127 below it
+abbrev pub window_size : ℕ
+window_size = 128
+
 -- the greatest number of a set
 pub record IsGreatest (taken : Numbers) (number : ℕ) : Type 0 where
   pub member : IsTrue (taken number)
   pub top : (n : ℕ) → IsTrue (taken n) → n ≤ number
 
--- what a window shows: the greatest number, and for each distance below it from 0 to 127 whether the number there is recorded
-pub record Places : Type 0 where
+-- the state of a window: the greatest number, and at each index from 0 to 127 whether the greatest minus the index is recorded
+pub record WindowState : Type 0 where
   pub greatest : ℕ
   pub recorded : List Bool
 
--- the window keeps the set: the greatest is the set's, and what is recorded is the set from 127 below it on
-pub record Keeps (window : Places) (taken : Numbers) : Type 0 where
+-- the window keeps the set: both have the same greatest number, and of it and the 127 below it those are recorded that are in the set
+pub record Keeps (window : WindowState) (taken : Numbers) : Type 0 where
   pub top : IsGreatest taken window.greatest
-  pub places : (n : ℕ) → n ≤ window.greatest → window.greatest < n + 128
+  pub recorded : (n : ℕ) → n ≤ window.greatest → window.greatest < n + window_size
       → slice_index_or window.recorded (window.greatest - n) false ≡ taken n
 
 -- a number that may still be taken: it is above the greatest, or less than 128 below it and not in the set
 pub record Accepts (taken : Numbers) (number : ℕ) : Type 0 where
   pub greatest : ℕ
   pub is_greatest : IsGreatest taken greatest
-  pub above_or_new : (greatest < number) ⊎ ((greatest < number + 128) × (taken number ≡ false))
+  pub above_or_new : (greatest < number) ⊎ ((greatest < number + window_size) × (taken number ≡ false))

@@ -5,12 +5,13 @@ ghost use Rattle.rtp_base.specs.Direction.{direction_text, opposite, IsNamedBy};
 
 use std::fmt;
 
-/// Which way media or a header extension goes, seen from one side (RFC 8866, 6.7; RFC 8285, 5).
+/// The direction of a media section or of a header extension, as this side of the session sees it
+/// (RFC 8866, 6.7; RFC 8285, 5).
 #[derive(Clone, Copy, Debug, PartialEq, Eq)]
 pub enum Direction {
-    /// This side sends, and the other receives.
+    /// This side only sends.
     SendOnly,
-    /// This side receives, and the other sends.
+    /// This side only receives.
     RecvOnly,
     /// Both sides send and receive.
     SendRecv,
@@ -19,7 +20,8 @@ pub enum Direction {
 }
 
 impl Direction {
-    /// The direction as the other side sees it.
+    /// Returns the direction as the other side sees it: `SendOnly` and `RecvOnly` are exchanged,
+    /// and the other two stay.
     pub fn invert(&self) -> Self
         ensures answer { result ≡ opposite self.now }
         ensures twice { opposite result ≡ self.now }
@@ -31,7 +33,7 @@ impl Direction {
         }
     }
 
-    /// Whether this side sends.
+    /// Returns whether this side sends: true for `SendOnly` and `SendRecv`.
     pub fn is_sending(&self) -> bool
         ensures { IsTrue result
             ↔ ((self.now ≡ Direction.SendOnly) ⊎ (self.now ≡ Direction.SendRecv)) }
@@ -39,7 +41,7 @@ impl Direction {
         matches!(self, Direction::SendOnly | Direction::SendRecv)
     }
 
-    /// Whether this side receives.
+    /// Returns whether this side receives: true for `RecvOnly` and `SendRecv`.
     pub fn is_receiving(&self) -> bool
         ensures { IsTrue result
             ↔ ((self.now ≡ Direction.RecvOnly) ⊎ (self.now ≡ Direction.SendRecv)) }
@@ -47,9 +49,9 @@ impl Direction {
         matches!(self, Direction::RecvOnly | Direction::SendRecv)
     }
 
-    /// Whether this side counts as receiving while an SDP answer is made: where it receives, and
-    /// also where it is inactive, since the answer's list of formats is then made from the offer
-    /// (RFC 3264, 6.1).
+    /// Returns whether this side counts as receiving while an SDP answer is made: true where it
+    /// receives, and also for `Inactive`, because the formats of the answer are then taken from the
+    /// offer (RFC 3264, 6.1).
     pub fn sdp_is_receiving(&self) -> bool
         ensures { IsTrue result ↔ ((self.now ≡ Direction.RecvOnly)
             ⊎ ((self.now ≡ Direction.SendRecv) ⊎ (self.now ≡ Direction.Inactive))) }
@@ -64,7 +66,8 @@ impl Direction {
 impl From<&str> for Direction {
     ghost from_gives = { λ text direction. IsNamedBy text.now direction };
 
-    /// The direction that the text names, in lower case; Inactive for every other text.
+    /// Returns the direction that the text names, in lower case, and `Inactive` for every other
+    /// text.
     fn from(v: &str) -> Self {
         match v {
             "sendonly" => Direction::SendOnly,
@@ -79,6 +82,9 @@ impl fmt::Display for Direction {
     ghost use Rattle.std.specs.Prelude.{Some};
 
     ghost output = { λ direction. Some (direction_text direction) };
+
+    // The text is plain, whatever width and flags are set.
+    ghost styled_output = { λ direction _. Some (direction_text direction) };
 
     fn fmt<W: fmt::Write>(&self, f: &mut fmt::Formatter<W>) -> fmt::Result {
         f.write_str(match self {

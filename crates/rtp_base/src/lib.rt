@@ -1,4 +1,5 @@
-//! The base of the RTP layer: the ids and numbers that packets carry, directions, and times of media.
+//! The base of the RTP layer: identifiers, extended sequence numbers and the replay window,
+//! directions, and media times.
 #![tactic(auto)]
 
 mod dir;

@@ -1,96 +1,130 @@
-//! Which numbers of a stream were taken, near the greatest.
+//! The replay window: which packets of a stream were recorded, near the greatest number.
 
-ghost use Rattle.std.specs.Prelude.{◌≡◌, ℕ, ◌-◌, ◌<◌, ◌≤◌, ◌↔◌, Bool, false, slice_index_or, IsTrue};
+ghost use Rattle.std.specs.Prelude.{◌≡◌, ℕ, ◌-◌, ◌<◌, ◌≤◌, ◌↔◌, Bool, true, false, ◌||◌, ◌==◌, slice_index_or, IsTrue};
 ghost use Rattle.rtp_base.specs.Window.{Numbers, only, up_to, including, IsGreatest, Keeps, Accepts};
+ghost use Rattle.rtp_base.specs.Bitmap.{bits_of};
 
 use crate::id::SeqNo;
 use std::marker::Model;
 
 // How many numbers a window tells apart: the greatest, and those before it.
-const SIZE: usize = 128;
+const SIZE: u64 = 128;
 
-/// The numbers of a stream that were recorded, as far as it takes to refuse each a second time: the
-/// greatest, and which of the 127 before it (RFC 3711, 3.3.2). What is further behind counts as
-/// recorded.
+/// The replay window of a stream (RFC 3711, 3.3.2): the greatest recorded number, and which of the
+/// 127 numbers below it are recorded. Each number further below counts as recorded.
 ///
-/// That a number is accepted says nothing of who sent it: record a number once its packet is known
-/// to be authentic.
-#[derive(Clone, Copy, Debug)]
+/// The numbers are extended sequence numbers (the packet index of SRTP). That a number is accepted
+/// says nothing about who sent the packet: where packets are authenticated, call
+/// [`accepts`](Self::accepts) before and [`update`](Self::update) after the authentication; where
+/// they aren't, [`take`](Self::take) is both in one.
+///
+/// ```
+/// let mut window = SeqNoWindow::new(SeqNo::from(1000));
+/// assert!(window.accepts(SeqNo::from(873)));
+/// assert!(!window.accepts(SeqNo::from(872)));
+/// window.update(SeqNo::from(1001));
+/// assert!(!window.accepts(SeqNo::from(873)));
+/// assert!(window.take(SeqNo::from(999)));
+/// assert!(!window.take(SeqNo::from(999)));
+/// ```
+#[derive(Debug, Drop)]
 pub struct SeqNoWindow {
     greatest: u64,
-    // Whether the greatest less the index is recorded.
-    recorded: [bool; SIZE],
+    // Bit i says whether the greatest minus i is recorded.
+    recorded: u128,
 }
 
 impl Model for SeqNoWindow {
     ghost use Rattle.std.specs.Prelude.{◌≡◌, true, false, slice_index_or};
-    ghost use Rattle.rtp_base.specs.Window.{Places};
+    ghost use Rattle.rtp_base.specs.Window.{WindowState};
+    ghost use Rattle.rtp_base.specs.Bitmap.{bits_of};
 
-    ghost Value = { Places };
+    ghost Value = { WindowState };
 
-    ghost view = { λ w. record { greatest = w.greatest; recorded = w.recorded } };
+    ghost view = { λ w. record { greatest = w.greatest; recorded = bits_of w.recorded } };
 
-    ghost invariant = { λ w. slice_index_or w.recorded 0 false ≡ true };
-
-    ghost inverse = { λ p. record { greatest = p.greatest; recorded = p.recorded } };
+    ghost invariant = { λ w. slice_index_or (bits_of w.recorded) 0 false ≡ true };
 }
 
-// The same truth value everywhere.
-fn all(value: bool) -> [bool; SIZE]
-    ensures { (k : ℕ) → k < 128 → slice_index_or result k false ≡ value }
+// Whether the bit is set.
+fn is_set(bits: u128, index: u64) -> bool
+    requires { index < 128 }
+    ensures { result ≡ slice_index_or (bits_of bits) index false }
 {
-    [value; SIZE]
+    bits >> index & 1 == 1
 }
 
-// The places as a number that is greater by this much sees them.
-fn moved(recorded: &[bool; SIZE], by: u64) -> [bool; SIZE]
-    ensures between { (k : ℕ) → k < by → k < 128 → slice_index_or result k false ≡ false }
-    ensures before { (k : ℕ) → by ≤ k → k < 128 →
-        slice_index_or result k false ≡ slice_index_or recorded.now (k - by) false }
+// Sets the bit. Returns whether it was clear.
+fn set(bits: &mut u128, index: u64) -> bool
+    requires { index < 128 }
+    ensures clear { IsTrue result ↔ (slice_index_or (bits_of bits.old) index false ≡ false) }
+    ensures same { result ≡ false → bits.new ≡ bits.old }
+    ensures after { (k : ℕ) → k < 128 →
+        slice_index_or (bits_of bits.new) k false
+        ≡ (slice_index_or (bits_of bits.old) k false || k == index) }
 {
-    let mut moved = all(false);
-    if by < 128 {
-        let by = by as usize;
-        moved[by..].copy_from_slice(&recorded[..SIZE - by]);
+    let bit = 1 << index;
+    if *bits & bit != 0 {
+        return false;
     }
-    moved
+    *bits |= bit;
+    true
+}
+
+// The bits of a window whose greatest number grew by this much and is recorded.
+fn advanced(bits: u128, by: u64) -> u128
+    requires { 0 < by }
+    ensures first { slice_index_or (bits_of result) 0 false ≡ true }
+    ensures between { (k : ℕ) → 0 < k → k < by → k < 128 →
+        slice_index_or (bits_of result) k false ≡ false }
+    ensures before { (k : ℕ) → by ≤ k → k < 128 →
+        slice_index_or (bits_of result) k false ≡ slice_index_or (bits_of bits) (k - by) false }
+{
+    // Mostly the next number comes, and a shift by one is much cheaper than by a variable.
+    if by == 1 {
+        return bits << 1 | 1;
+    }
+    if by < SIZE {
+        return bits << by | 1;
+    }
+    1
 }
 
 impl SeqNoWindow {
-    /// A window that has recorded this number alone.
+    /// Returns a window in which this number alone is recorded. The numbers before it may still
+    /// come.
     pub fn new(seq: SeqNo) -> Self
         ensures { Keeps result (only seq) }
     {
-        let mut recorded = all(false);
-        recorded[0] = true;
         SeqNoWindow {
             greatest: seq.get(),
-            recorded,
+            recorded: 1,
         }
     }
 
-    /// A window that has recorded every number up to this one.
+    /// Returns a window in which this number and every number below it are recorded: only greater
+    /// ones are accepted. It is for a receiver that goes on from a remembered number.
     pub fn new_after(seq: SeqNo) -> Self
         ensures { Keeps result (up_to seq) }
     {
         SeqNoWindow {
             greatest: seq.get(),
-            recorded: all(true),
+            recorded: u128::MAX,
         }
     }
 
-    /// The greatest recorded number.
+    /// Returns the greatest recorded number.
     pub fn max_seq(&self) -> SeqNo
         ensures greatest { (taken : Numbers) → Keeps self.now taken → IsGreatest taken result }
 
-        // Each window keeps some set, so the clauses here always speak of something.
+        // Each window keeps some set, so no clause on the sets that it keeps is empty.
         ensures some { (taken : Numbers) × Keeps self.now taken }
     {
         SeqNo::from(self.greatest)
     }
 
-    /// Whether the number may be taken: it is above the greatest, or less than 128 below it and not
-    /// recorded.
+    /// Returns whether the number is new to the window: it is above the greatest, or less than 128
+    /// below it and not recorded.
     pub fn accepts(&self, seq: SeqNo) -> bool
         ensures { (taken : Numbers) → Keeps self.now taken → (IsTrue result ↔ Accepts taken seq) }
     {
@@ -98,32 +132,38 @@ impl SeqNoWindow {
         if number > self.greatest {
             return true;
         }
-        let behind = self.greatest - number;
-        behind < 128 && !self.recorded[behind as usize]
+        let below = self.greatest - number;
+        below < SIZE && !is_set(self.recorded, below)
     }
 
-    /// Records the number. One that is 128 or more below the greatest changes nothing: it counts as
-    /// recorded already.
+    /// Records the number. One that is 128 or more below the greatest changes nothing, since it
+    /// counts as recorded.
     pub fn update(&mut self, seq: SeqNo)
         ensures { (taken : Numbers) → Keeps self.old taken → Keeps self.new (including taken seq) }
     {
-        let number = seq.get();
-        if number > self.greatest {
-            self.advance(number);
-        } else if self.greatest - number < 128 {
-            let behind = self.greatest - number;
-            self.recorded[behind as usize] = true;
-        }
+        self.take(seq);
     }
 
-    // Makes the number the greatest, and records it.
-    fn advance(&mut self, number: u64)
-        requires { self.old.greatest < number }
-        ensures { (taken : Numbers) → Keeps self.old taken → Keeps self.new (including taken number) }
+    /// Records the number if the window accepts it. Returns what [`accepts`](Self::accepts) returns
+    /// for it; where that is false, the same numbers stay recorded.
+    pub fn take(&mut self, seq: SeqNo) -> bool
+        ensures accepts { (taken : Numbers) → Keeps self.old taken →
+            (IsTrue result ↔ Accepts taken seq) }
+        ensures recorded { (taken : Numbers) → Keeps self.old taken →
+            IsTrue result → Keeps self.new (including taken seq) }
+        ensures refused { (taken : Numbers) → Keeps self.old taken →
+            result ≡ false → Keeps self.new taken }
     {
-        let mut recorded = moved(&self.recorded, number - self.greatest);
-        recorded[0] = true;
-        self.recorded = recorded;
-        self.greatest = number;
+        let number = seq.get();
+        if number > self.greatest {
+            self.recorded = advanced(self.recorded, number - self.greatest);
+            self.greatest = number;
+            return true;
+        }
+        let below = self.greatest - number;
+        if below >= SIZE {
+            return false;
+        }
+        set(&mut self.recorded, below)
     }
 }

@@ -43,6 +43,7 @@ const DIRECTIONS: [(Direction, &str, Direction, bool, bool, bool); 4] = [
 fn directions(rt: HostRuntime) -> Result<(), Fail> {
     for (direction, name, opposite, sends, receives, counts) in DIRECTIONS {
         assert_eq!(rt; format!(in rt.alloc(); "{direction}")?.as_str(), name);
+        assert_eq!(rt; format!(in rt.alloc(); "{direction:>12}")?.as_str(), name);
         assert_eq!(rt; Direction::from(name), direction);
         assert_eq!(rt; direction.invert(), opposite);
         assert_eq!(rt; direction.is_sending(), sends, "{name}");

@@ -3,19 +3,46 @@
 use rtp_base::{Mid, MidRid, Pt, Rid, RtpError, SeqNo, SessionId, Ssrc, TwccClusterId, TwccSeq};
 use std::test::Fail;
 
+// Numbers of 64 bits and their texts.
+const WIDE: [(u64, &str); 4] = [
+    (0, "0"),
+    (95_000, "95000"),
+    (4_294_967_296, "4294967296"),
+    (18_446_744_073_709_551_615, "18446744073709551615"),
+];
+
+// Each text is plain digits, whatever width and flags are set.
 #[test]
 fn numbers_and_texts(rt: HostRuntime) -> Result<(), Fail> {
     for (number, text) in [(0, "0"), (44, "44"), (4294967295, "4294967295")] {
         let ssrc = Ssrc::from(number);
         assert_eq!(rt; ssrc.get(), number);
         assert_eq!(rt; format!(in rt.alloc(); "{ssrc}")?.as_str(), text);
-        // The text is plain, whatever width is set.
         assert_eq!(rt; format!(in rt.alloc(); "{ssrc:>12}")?.as_str(), text);
     }
     for (number, text) in [(0, "0"), (111, "111"), (255, "255")] {
         let pt = Pt::from(number);
         assert_eq!(rt; pt.get(), number);
         assert_eq!(rt; format!(in rt.alloc(); "{pt}")?.as_str(), text);
+        assert_eq!(rt; format!(in rt.alloc(); "{pt:8}")?.as_str(), text);
+    }
+    for (number, text) in WIDE {
+        let seq = SeqNo::from(number);
+        assert_eq!(rt; seq.get(), number);
+        assert_eq!(rt; format!(in rt.alloc(); "{seq}")?.as_str(), text);
+        assert_eq!(rt; format!(in rt.alloc(); "{seq:08}")?.as_str(), text);
+        let session = SessionId::from(number);
+        assert_eq!(rt; session.get(), number);
+        assert_eq!(rt; format!(in rt.alloc(); "{session}")?.as_str(), text);
+        assert_eq!(rt; format!(in rt.alloc(); "{session:<24}")?.as_str(), text);
+        let seq = TwccSeq::from(number);
+        assert_eq!(rt; seq.get(), number);
+        assert_eq!(rt; format!(in rt.alloc(); "{seq}")?.as_str(), text);
+        assert_eq!(rt; format!(in rt.alloc(); "{seq:8}")?.as_str(), text);
+        let cluster = TwccClusterId::from(number);
+        assert_eq!(rt; cluster.get(), number);
+        assert_eq!(rt; format!(in rt.alloc(); "{cluster}")?.as_str(), text);
+        assert_eq!(rt; format!(in rt.alloc(); "{cluster:>+24}")?.as_str(), text);
     }
     Ok(())
 }
@@ -35,6 +62,7 @@ fn texts_of_ids(rt: HostRuntime) -> Result<(), Fail> {
         ("é-1", "__1"),
         ("", ""),
         ("a b", "a_b"),
+        ("audio-1", "audio_1"),
         // Characters of three and of four bytes.
         ("€x", "_x"),
         ("😀", "_"),
@@ -48,10 +76,12 @@ fn texts_of_ids(rt: HostRuntime) -> Result<(), Fail> {
         let mid = Mid::from(text);
         assert_eq!(rt; mid.as_str(), kept, "{text}");
         assert_eq!(rt; format!(in rt.alloc(); "{mid}")?.as_str(), kept);
+        assert_eq!(rt; format!(in rt.alloc(); "{mid:>20}")?.as_str(), kept);
     }
     let rids = [
         ("abcdefghij", "abcdefgh"),
         ("hi", "hi"),
+        ("hi-res", "hi_res"),
         ("é1", "_1"),
         ("ééééééééé", "________"),
         ("", ""),
@@ -60,6 +90,7 @@ fn texts_of_ids(rt: HostRuntime) -> Result<(), Fail> {
         let rid = Rid::from(text);
         assert_eq!(rt; rid.as_str(), kept, "{text}");
         assert_eq!(rt; format!(in rt.alloc(); "{rid}")?.as_str(), kept);
+        assert_eq!(rt; format!(in rt.alloc(); "{rid:.1}")?.as_str(), kept);
     }
     assert_eq!(rt;
         format!(in rt.alloc(); "{:?}", Mid::from("xYj"))?.as_str(),
@@ -122,7 +153,6 @@ fn packet_numbers(rt: HostRuntime) -> Result<(), Fail> {
     let seq = SeqNo::from(95_000);
     assert_eq!(rt; seq.roc(), 1);
     assert_eq!(rt; seq.as_u16(), 29464);
-    assert_eq!(rt; format!(in rt.alloc(); "{seq}")?.as_str(), "95000");
     let five = SeqNo::from(5);
     assert!(rt; five.is_next(SeqNo::from(6)));
     assert!(rt; !five.is_next(SeqNo::from(5)) && !five.is_next(SeqNo::from(7)));
@@ -158,12 +188,6 @@ fn transport_numbers(rt: HostRuntime) -> Result<(), Fail> {
 fn other_numbers(rt: HostRuntime) -> Result<(), Fail> {
     assert!(rt; Ssrc::from(0).is_probe() && !Ssrc::from(1).is_probe());
     assert!(rt; Pt::new_with_value(200) == Pt::from(200));
-    let session = SessionId::from(18446744073709551615);
-    assert_eq!(rt; session.get(), 18446744073709551615);
-    assert_eq!(rt;
-        format!(in rt.alloc(); "{session}")?.as_str(),
-        "18446744073709551615"
-    );
     let error = RtpError::ParseHeader;
     assert_eq!(rt;
         format!(in rt.alloc(); "{error}")?.as_str(),

@@ -2,7 +2,11 @@
 #![tactic(auto)]
 
 #[cfg(test)]
+mod blocks;
+#[cfg(test)]
 mod directions;
+#[cfg(test)]
+mod elements;
 #[cfg(test)]
 mod extensions;
 #[cfg(test)]
@@ -15,6 +19,8 @@ mod maps;
 mod runs;
 #[cfg(test)]
 mod times;
+#[cfg(test)]
+mod values;
 #[cfg(test)]
 mod widenings;
 #[cfg(test)]

@@ -1,4 +1,4 @@
-//! Frequencies, and times of media.
+//! Frequencies, and media times.
 
 ghost use Rattle.std.specs.Prelude.{◌≡◌, ◌<◌};
 
@@ -20,7 +20,7 @@ fn parts(time: MediaTime) -> (u64, u32) {
     (time.numer(), time.denom())
 }
 
-// The time between two, by a caller that knows nothing of them: each thing that `-` asks is tested.
+// The time between two, by a caller that knows nothing of them: each precondition of `-` is tested.
 fn between(from: MediaTime, to: MediaTime) -> Option<MediaTime> {
     let frequency = from.frequency().max(to.frequency());
     from.checked_rebase(frequency)?;
@@ -43,6 +43,11 @@ fn frequencies(rt: HostRuntime) -> Result<(), Fail> {
         (Frequency::MILLIS, 1_000, "1000"),
         (Frequency::HUNDREDTHS, 100, "100"),
         (Frequency::SECONDS, 1, "1"),
+        (
+            at(0, 4_294_967_295).frequency(),
+            4_294_967_295,
+            "4294967295",
+        ),
     ];
     for (frequency, hertz, text) in constants {
         assert_eq!(rt; frequency.get(), hertz);
@@ -124,6 +129,15 @@ fn times_of_each_unit(rt: HostRuntime) {
     }
     assert_eq!(rt; parts(MediaTime::ZERO), (0, 1));
     assert!(rt; MediaTime::ZERO.is_zero() && at(0, 90_000).is_zero());
+}
+
+#[test]
+fn as_its_documentation_shows(rt: HostRuntime) {
+    let frame = MediaTime::from_millis(20);
+    assert_eq!(rt; frame.rebase(Frequency::FORTY_EIGHT_KHZ).numer(), 960);
+    assert!(rt; frame == MediaTime::from_90khz(1_800));
+    let sum = frame + MediaTime::from_90khz(1_800);
+    assert_eq!(rt; parts(sum), (3_600, 90_000));
 }
 
 #[test]

@@ -1,4 +1,4 @@
-//! The window of numbers that were taken.
+//! The replay window.
 
 use rtp_base::{SeqNo, SeqNoWindow};
 use std::alloc::AllocError;
@@ -7,7 +7,7 @@ use std::process::Abort;
 
 const GREATEST: u64 = 18446744073709551615;
 
-// Asks the window about numbers.
+// Each number is accepted or not, as it says.
 fn check(rt: &impl Abort, window: &SeqNoWindow, numbers: &[(u64, bool)]) {
     for (number, wanted) in numbers {
         let number = *number;
@@ -47,22 +47,24 @@ fn a_gap_is_filled_once(rt: HostRuntime) {
     assert_eq!(rt; window.max_seq().get(), 65537);
 }
 
-#[test]
-fn the_last_place(rt: HostRuntime) {
+// 138 and 137 are recorded, and then this number.
+fn after_138_and_137(number: u64) -> SeqNoWindow {
     let mut window = SeqNoWindow::new(SeqNo::from(138));
     window.update(SeqNo::from(137));
-    let mut far = window;
-    let mut farther = window;
-    window.update(SeqNo::from(266));
+    window.update(SeqNo::from(number));
+    window
+}
+
+#[test]
+fn the_end_of_the_window(rt: HostRuntime) {
     check(
         &rt,
-        &window,
+        &after_138_and_137(266),
         &[(138, false), (266, false), (265, true), (139, true)],
     );
-    far.update(SeqNo::from(267));
     check(
         &rt,
-        &far,
+        &after_138_and_137(267),
         &[
             (138, false),
             (139, false),
@@ -71,15 +73,17 @@ fn the_last_place(rt: HostRuntime) {
             (140, true),
         ],
     );
-    farther.update(SeqNo::from(4294967434));
-    let wanted = [
-        (138, false),
-        (4294967306, false),
-        (4294967434, false),
-        (4294967433, true),
-        (4294967307, true),
-    ];
-    check(&rt, &farther, &wanted);
+    check(
+        &rt,
+        &after_138_and_137(4294967434),
+        &[
+            (138, false),
+            (4294967306, false),
+            (4294967434, false),
+            (4294967433, true),
+            (4294967307, true),
+        ],
+    );
 }
 
 #[test]
@@ -91,7 +95,7 @@ fn what_falls_out_stays_refused(rt: HostRuntime) {
     check(&rt, &window, &[(10, false), (11, true)]);
     window.update(SeqNo::from(11));
     check(&rt, &window, &[(11, false)]);
-    // It is 128 behind, and changes nothing.
+    // It is 128 below the greatest, and changes nothing.
     window.update(SeqNo::from(10));
     assert_eq!(rt; window.max_seq().get(), 138);
     check(&rt, &window, &[(12, true), (138, false)]);
@@ -134,6 +138,80 @@ fn at_the_greatest_number(rt: HostRuntime) {
     );
 }
 
+// Each number is taken or not, as it says, one after another.
+fn check_taking(rt: &impl Abort, window: &mut SeqNoWindow, numbers: &[(u64, bool)]) {
+    for (number, wanted) in numbers {
+        let number = *number;
+        assert_eq!(rt; window.take(SeqNo::from(number)), *wanted, "at {number}");
+    }
+}
+
+#[test]
+fn a_number_is_taken_once(rt: HostRuntime) {
+    let mut window = SeqNoWindow::new(SeqNo::from(1000));
+    let numbers = [
+        (1000, false),
+        (873, true),
+        (873, false),
+        (872, false),
+        (1001, true),
+        (1001, false),
+        // It is 128 below the greatest now.
+        (873, false),
+        (874, true),
+        (1000, false),
+        (999, true),
+        (999, false),
+    ];
+    check_taking(&rt, &mut window, &numbers);
+    assert_eq!(rt; window.max_seq().get(), 1001);
+    // 127 further, 128 further, and further than that.
+    check_taking(
+        &rt,
+        &mut window,
+        &[(1128, true), (1001, false), (1002, true)],
+    );
+    check_taking(
+        &rt,
+        &mut window,
+        &[(1256, true), (1128, false), (1129, true)],
+    );
+    check_taking(
+        &rt,
+        &mut window,
+        &[(5000, true), (4873, true), (4872, false)],
+    );
+    check(&rt, &window, &[(5000, false), (4873, false), (4874, true)]);
+}
+
+#[test]
+fn numbers_are_taken_after_one_to_resume_from(rt: HostRuntime) {
+    let mut window = SeqNoWindow::new_after(SeqNo::from(200));
+    let numbers = [
+        (200, false),
+        (73, false),
+        (72, false),
+        (203, true),
+        (201, true),
+        (201, false),
+        (202, true),
+        (200, false),
+    ];
+    check_taking(&rt, &mut window, &numbers);
+    assert_eq!(rt; window.max_seq().get(), 203);
+}
+
+#[test]
+fn as_its_documentation_shows(rt: HostRuntime) {
+    let mut window = SeqNoWindow::new(SeqNo::from(1000));
+    assert!(rt; window.accepts(SeqNo::from(873)));
+    assert!(rt; !window.accepts(SeqNo::from(872)));
+    window.update(SeqNo::from(1001));
+    assert!(rt; !window.accepts(SeqNo::from(873)));
+    assert!(rt; window.take(SeqNo::from(999)));
+    assert!(rt; !window.take(SeqNo::from(999)));
+}
+
 // The number this far from another, held within the numbers that there are.
 fn moved(number: u64, by: i64) -> u64 {
     if by < 0 {
@@ -143,12 +221,18 @@ fn moved(number: u64, by: i64) -> u64 {
     }
 }
 
+// Whether the number is above the greatest, or at most 127 below it and not in the set.
+fn is_new(taken: &BTreeSet<u64>, greatest: u64, number: u64) -> bool {
+    (number > greatest || greatest - number <= 127) && !taken.contains(&number)
+}
+
 const STEPS: [i64; 12] = [1, 63, -1, 64, -64, 65, -127, -128, 127, 128, 129, 0];
 
 #[test]
 fn the_window_is_a_set(rt: HostRuntime) -> Result<(), AllocError> {
     for first in [0, 65500, 18446744073709541615] {
         let mut window = SeqNoWindow::new(SeqNo::from(first));
+        let mut taking = SeqNoWindow::new(SeqNo::from(first));
         let mut taken = BTreeSet::new(rt.alloc());
         taken.insert(first)?;
         let mut greatest = first;
@@ -156,18 +240,20 @@ fn the_window_is_a_set(rt: HostRuntime) -> Result<(), AllocError> {
             for step in STEPS {
                 let number = moved(greatest, step);
                 window.update(SeqNo::from(number));
+                assert_eq!(rt;
+                    taking.take(SeqNo::from(number)),
+                    is_new(&taken, greatest, number),
+                    "{greatest}, {step}"
+                );
                 taken.insert(number)?;
                 greatest = greatest.max(number);
                 assert_eq!(rt; window.max_seq().get(), greatest);
+                assert_eq!(rt; taking.max_seq().get(), greatest);
                 for offset in -130..3 {
                     let number = moved(greatest, offset);
-                    let near = number > greatest || greatest - number <= 127;
-                    let wanted = near && !taken.contains(&number);
-                    assert_eq!(rt;
-                        window.accepts(SeqNo::from(number)),
-                        wanted,
-                        "{greatest}, {offset}"
-                    );
+                    let wanted = is_new(&taken, greatest, number);
+                    check(&rt, &window, &[(number, wanted)]);
+                    check(&rt, &taking, &[(number, wanted)]);
                 }
             }
         }

@@ -1,11 +1,12 @@
 -- Words of two bytes, and a block at the front of bytes.
-use Rattle.std.proofs.Common.{◌≡◌, ℕ, ◌+◌, ◌-◌, ◌*◌, ◌<◌, ◌≤◌, List, length, take, drop, get_or, sym, ap, ◌∙◌, arith, length-take-le, length-drop, add-zero}
+use Rattle.std.proofs.Common.{◌≡◌, ℕ, ◌+◌, ◌-◌, ◌*◌, ◌<◌, ◌≤◌, List, length, take, drop, get_or, sym, ap, ◌∙◌, arith, length-take, length-take-le, length-drop, add-zero, inl, inr}
 use Rattle.std.specs.Prelude.{slice_index, slice_range}
-use Rattle.std.proofs.lemmas.List.{get_or-take, get_or-drop, drop-take, take-take}
+use Rattle.std.proofs.lemmas.Bool.{cases_lt}
+use Rattle.std.proofs.lemmas.List.{get_or-take, get_or-drop, get_or_past, drop-take, take-take}
 use Rattle.std.specs.Int.{w16, w32, from_be_bytes}
 use Rattle.rtp_wire.specs.declared.ext.form.ExtensionsForm.{ExtensionsForm}
 use Rattle.rtp_wire.specs.Form.{IsFormWord}
-use Rattle.rtp_wire.specs.Block.{word_at}
+use Rattle.rtp_wire.specs.Block.{word_at, IsBlock}
 use Rattle.rtp_wire.specs.Reading.{HasBlock}
 
 -- a part of a front is that part of the whole
@@ -62,6 +63,18 @@ HasBlock-from_head bytes head after elements form words head-is after-is long fo
       is_block = record {
         form_is = rw (word_at-take bytes 0 n (omega arith)) form-is;
         words = rw (word_at-take bytes 2 n (omega arith), ← words-is) (length-take-le n bytes all ∙ ap (λ (k : ℕ). 4 + k) len);
-        elements_are = elements-is ∙ ap (take (4 * words)) after-is ∙ ap (λ (k : ℕ). take k (drop 4 bytes)) (sym len) ∙ sym (drop-take 4 (length elements) bytes);
+        body_is = elements-is ∙ ap (take (4 * words)) after-is ∙ ap (λ (k : ℕ). take k (drop 4 bytes)) (sym len) ∙ sym (drop-take 4 (length elements) bytes);
       };
     }
+
+-- the bytes of a block's body are bytes
+bytes-take : (n : ℕ) (xs : List ℕ) → ((i : ℕ) → get_or xs i 0 < 256) → (i : ℕ) → get_or (take n xs) i 0 < 256
+bytes-take n xs fits i = elim (cases_lt i n) [
+  | inl within ↦ rw (get_or-take n xs i 0 within) (fits i)
+  | inr past ↦ rw (get_or_past (take n xs) i 0 (omega (arith, length-take n xs))) (omega arith)
+]
+
+pub bytes-body : (bytes body : List ℕ) (form : ExtensionsForm) (n : ℕ) → IsBlock (take n bytes) form body → ((i : ℕ) → get_or bytes i 0 < 256)
+    → (i : ℕ) → get_or body i 0 < 256
+bytes-body bytes body form n is fits i =
+    rw (is.body_is, get_or-drop 4 (take n bytes) i 0) (bytes-take n bytes fits (4 + i))

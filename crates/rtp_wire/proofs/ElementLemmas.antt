@@ -1,12 +1,14 @@
 -- The elements of a block's body, read from the front, are those that it has.
-use Rattle.std.proofs.Common.{◌≡◌, ◌≢◌, ℕ, zero, suc, ◌+◌, ◌-◌, ◌*◌, ◌/◌, ◌%◌, ◌<◌, ◌≤◌, ◌⊎◌, inl, inr, List, [], ◌∷◌, ◌++◌, length, take, drop, replicate, Option, Some, None, le-ltb, lt-ltb, le-leb, add-one, get_or, append_assoc, length-append, take-append-drop, arith, refl, sym, ap, ◌∙◌, subst}
-use Rattle.std.specs.List.{AllByRecursion, flat_map, filter_map}
+use Rattle.std.proofs.Common.{◌≡◌, ◌≢◌, ℕ, zero, suc, ◌+◌, ◌-◌, ◌*◌, ◌/◌, ◌%◌, ◌^◌, ◌<◌, ◌≤◌, ◌⊎◌, inl, inr, List, [], ◌∷◌, ◌++◌, length, take, drop, replicate, Option, Some, None, le-ltb, lt-ltb, le-leb, add-one, get_or, append_assoc, length-append, take-append-drop, arith, refl, sym, ap, ◌∙◌, subst, Bor}
+use Rattle.std.specs.List.{AllByRecursion, IsFirstAndRest, IsSplitAt, flat_map, filter_map}
+use Rattle.std.specs.Int.{w128, byte_worth, from_le_bytes, sum_through}
+use Rattle.std.proofs.Math.Nat.{one-le-pow, eq_of_mul-eq-mul_right, zero-mul}
 use Rattle.std.proofs.lemmas.Bool.{cases_lt, lt-leb}
-use Rattle.std.proofs.lemmas.List.{take_at, drop_at, length-replicate, length-take-le}
+use Rattle.std.proofs.lemmas.List.{take_at, drop_at, length-replicate, length-take-le, nil_from_length}
 use Rattle.rtp_wire.specs.declared.ext.form.ExtensionsForm.{ExtensionsForm}
 use Rattle.rtp_wire.specs.declared.ext.form.ExtensionsForm.TheVariants.{OneByte, TwoByte}
 use Rattle.rtp_wire.specs.Elements.{Element, IsElement, element_bytes, IsPiece, piece_bytes, IsTail, ended, cut_short, stopped, AreElements}
-use Rattle.rtp_wire.specs.ElementReading.{element_at, in_front, elements_behind, elements_left}
+use Rattle.rtp_wire.specs.ElementReading.{without_padding, IsUnpadded, element_at, in_front, elements_behind, elements_left, IsFirst}
 
 -- the elements behind some bytes are those of what is left without them
 elements_behind-drop : (form : ExtensionsForm) (passed : ℕ) (bytes : List ℕ) → elements_behind form passed bytes ≡ elements_left form (drop passed bytes)
@@ -16,11 +18,11 @@ elements_behind-drop form (suc passed) [] = refl
 elements_behind-drop form (suc passed) (byte ∷ bytes) = elements_behind-drop form passed bytes
 
 -- nothing is left, padding, and a byte that is none
-pub elements_left-none : (form : ExtensionsForm) → elements_left form [] ≡ []
+elements_left-none : (form : ExtensionsForm) → elements_left form [] ≡ []
 unfolding elements_behind
 elements_left-none form = refl
 
-pub elements_left-padding : (form : ExtensionsForm) (bytes : List ℕ) → elements_left form (0 ∷ bytes) ≡ elements_left form bytes
+elements_left-padding : (form : ExtensionsForm) (bytes : List ℕ) → elements_left form (0 ∷ bytes) ≡ elements_left form bytes
 unfolding elements_behind
 elements_left-padding form bytes = refl
 
@@ -59,26 +61,137 @@ two_byte-whole id count bytes whole = rw (le-leb count (length bytes) whole, add
 two_byte-cut : (id count : ℕ) (bytes : List ℕ) → length bytes < count → element_at TwoByte id (count ∷ bytes) ≡ None
 two_byte-cut id count bytes cut = rw (lt-leb count (length bytes) cut) refl
 
+-- padding at the front has no elements, and what is behind it begins with none
+elements_left-unpadded : (form : ExtensionsForm) (bytes : List ℕ) → elements_left form bytes ≡ elements_left form (without_padding bytes)
+unfolding elements_behind without_padding
+elements_left-unpadded form [] = refl
+elements_left-unpadded form (zero ∷ bytes) = elements_left-unpadded form bytes
+elements_left-unpadded form (suc byte ∷ bytes) = refl
+
+pub IsUnpadded-behind : (bytes : List ℕ) → IsUnpadded (without_padding bytes)
+unfolding without_padding
+IsUnpadded-behind [] = refl
+IsUnpadded-behind (zero ∷ bytes) = IsUnpadded-behind bytes
+IsUnpadded-behind (suc byte ∷ bytes) = refl
+
+pub IsFirst-padded : (form : ExtensionsForm) (bytes behind : List ℕ) (first : Option (ℕ × Bor (List ℕ) × Bor (List ℕ))) → behind ≡ without_padding bytes
+    → IsFirst form behind first → IsFirst form bytes first
+IsFirst-padded form bytes behind None is first = elements_left-unpadded form bytes ∙ (ap (elements_left form) (sym is) ∙ first)
+IsFirst-padded form bytes behind (Some element) is first = elements_left-unpadded form bytes ∙ (ap (elements_left form) (sym is) ∙ first)
+
+length-without_padding : (bytes : List ℕ) → length (without_padding bytes) ≤ length bytes
+unfolding without_padding
+length-without_padding [] = omega arith
+length-without_padding (zero ∷ bytes) = omega (arith, length-without_padding bytes)
+length-without_padding (suc byte ∷ bytes) = omega arith
+
+IsUnpadded-head : (byte : ℕ) (bytes : List ℕ) → IsUnpadded (byte ∷ bytes) → 1 ≤ byte
+unfolding without_padding
+IsUnpadded-head zero bytes is = absurd (omega (arith, length-without_padding bytes, ap length is))
+IsUnpadded-head (suc byte) bytes is = omega arith
+
+-- the padding as code passes it
+pub without_padding-none : (bytes : List ℕ) → length bytes ≡ 0 → without_padding bytes ≡ bytes
+unfolding without_padding
+without_padding-none [] none = refl
+without_padding-none (byte ∷ bytes) none = absurd (omega arith)
+
+pub without_padding-other : (byte : ℕ) (bytes after : List ℕ) → IsFirstAndRest bytes byte after → byte ≢ 0 → without_padding bytes ≡ bytes
+unfolding without_padding
+without_padding-other zero bytes after first other = absurd (other refl)
+without_padding-other (suc byte) bytes after first other = ap without_padding first.0 ∙ sym first.0
+
+pub without_padding-zero : (byte : ℕ) (bytes after : List ℕ) → IsFirstAndRest bytes byte after → byte ≡ 0 → without_padding bytes ≡ without_padding after
+unfolding without_padding
+without_padding-zero byte bytes after first is = ap without_padding (first.0 ∙ ap (λ b. b ∷ after) is)
+
+-- words of 16 bytes: where the number is 0, each byte is
+sum_through-zero : (f : ℕ → ℕ) (last i : ℕ) → sum_through f last ≡ 0 → i ≤ last → f i ≡ 0
+sum_through-zero f zero zero is within = is
+sum_through-zero f zero (suc i) is within = absurd (omega arith)
+sum_through-zero f (suc last) i is within = elim (cases_lt i (suc last)) [
+  | inl before ↦ sum_through-zero f last i (omega arith) (omega arith)
+  | inr here ↦ let same : i ≡ suc last = omega arith in ap f same ∙ omega arith
+]
+
+byte_worth-zero : (i byte : ℕ) → byte_worth i byte ≡ 0 → byte ≡ 0
+byte_worth-zero zero byte is = is
+byte_worth-zero (suc i) byte is =
+    let above : 1 ≤ 256 ^ suc i = one-le-pow (suc i) 256 (omega arith) in
+    eq_of_mul-eq-mul_right (256 ^ suc i) (omega arith) byte 0 (is ∙ sym (zero-mul (256 ^ suc i)))
+
+without_padding-zeros : (word rest : List ℕ) → ((i : ℕ) → i < length word → get_or word i 0 ≡ 0) → without_padding (word ++ rest) ≡ without_padding rest
+unfolding without_padding
+without_padding-zeros [] rest zeros = refl
+without_padding-zeros (byte ∷ word) rest zeros =
+    ap (λ b. without_padding (b ∷ (word ++ rest))) (zeros 0 (omega arith)) ∙ without_padding-zeros word rest (λ i here. zeros (suc i) (omega arith))
+
+pub without_padding-word : (bytes word after : List ℕ) → (word ≡ take 16 bytes) × (after ≡ drop 16 bytes) × (length after + 16 ≡ length bytes) → from_le_bytes w128 word ≡ 0
+    → without_padding bytes ≡ without_padding after
+without_padding-word bytes word after split zero_word =
+    let sixteen : length word ≡ 16 = ap length split.0 ∙ length-take-le 16 bytes (omega (arith, split.2)) in
+    let whole : bytes ≡ word ++ after = sym (take-append-drop 16 bytes) ∙ (ap (λ w. w ++ drop 16 bytes) (sym split.0) ∙ ap (λ b. word ++ b) (sym split.1)) in
+    ap without_padding whole
+    ∙ without_padding-zeros word after (λ i here. byte_worth-zero i (get_or word i 0) (sum_through-zero (λ k. byte_worth k (get_or word k 0)) 15 i zero_word (omega arith)))
+
 -- what code reads: an element in each form, and the end
-pub elements_left-one_byte : (byte : ℕ) (bytes : List ℕ) → 1 ≤ byte → byte < 240 → byte % 16 < length bytes
+elements_left-one_byte : (byte : ℕ) (bytes : List ℕ) → 1 ≤ byte → byte < 240 → byte % 16 < length bytes
     → elements_left OneByte (byte ∷ bytes) ≡ (byte / 16, take (byte % 16 + 1) bytes) ∷ elements_left OneByte (drop (byte % 16 + 1) bytes)
 elements_left-one_byte byte bytes above low whole =
     elements_left-some OneByte byte bytes (byte / 16, take (byte % 16 + 1) bytes) (byte % 16 + 1) above (one_byte-whole byte bytes low whole)
 
-pub elements_left-one_byte_end : (byte : ℕ) (bytes : List ℕ) → 1 ≤ byte → (240 ≤ byte) ⊎ (length bytes ≤ byte % 16) → elements_left OneByte (byte ∷ bytes) ≡ []
+elements_left-one_byte_end : (byte : ℕ) (bytes : List ℕ) → 1 ≤ byte → (240 ≤ byte) ⊎ (length bytes ≤ byte % 16) → elements_left OneByte (byte ∷ bytes) ≡ []
 elements_left-one_byte_end byte bytes above (inl high) = elements_left-end OneByte byte bytes above (one_byte-stops byte bytes high)
 elements_left-one_byte_end byte bytes above (inr cut) = elements_left-end OneByte byte bytes above (one_byte-cut byte bytes cut)
 
-pub elements_left-two_byte : (id count : ℕ) (bytes : List ℕ) → 1 ≤ id → count ≤ length bytes
+elements_left-two_byte : (id count : ℕ) (bytes : List ℕ) → 1 ≤ id → count ≤ length bytes
     → elements_left TwoByte (id ∷ count ∷ bytes) ≡ (id, take count bytes) ∷ elements_left TwoByte (drop count bytes)
 elements_left-two_byte id count bytes above whole =
     elements_left-some TwoByte id (count ∷ bytes) (id, take count bytes) (suc count) above (two_byte-whole id count bytes whole)
 
-pub elements_left-two_byte_cut : (id count : ℕ) (bytes : List ℕ) → 1 ≤ id → length bytes < count → elements_left TwoByte (id ∷ count ∷ bytes) ≡ []
+elements_left-two_byte_cut : (id count : ℕ) (bytes : List ℕ) → 1 ≤ id → length bytes < count → elements_left TwoByte (id ∷ count ∷ bytes) ≡ []
 elements_left-two_byte_cut id count bytes above cut = elements_left-end TwoByte id (count ∷ bytes) above (two_byte-cut id count bytes cut)
 
-pub elements_left-two_byte_end : (id : ℕ) → 1 ≤ id → elements_left TwoByte (id ∷ []) ≡ []
+elements_left-two_byte_end : (id : ℕ) → 1 ≤ id → elements_left TwoByte (id ∷ []) ≡ []
 elements_left-two_byte_end id above = elements_left-end TwoByte id [] above refl
+
+-- the same of bytes without padding at their front, as code splits them
+pub nothing_left : (form : ExtensionsForm) (bytes : List ℕ) → length bytes ≡ 0 → elements_left form bytes ≡ []
+nothing_left form bytes none = ap (elements_left form) (nil_from_length bytes none) ∙ elements_left-none form
+
+pub one_byte_read : (head : ℕ) (bytes after front back : List ℕ) → IsUnpadded bytes → IsFirstAndRest bytes head after → head < 240 → IsSplitAt after (head % 16 + 1) front back
+    → elements_left OneByte bytes ≡ (head / 16, front) ∷ elements_left OneByte back
+one_byte_read head bytes after front back unpadded first low split =
+    let above : 1 ≤ head = IsUnpadded-head head after (subst IsUnpadded first.0 unpadded) in
+    ap (elements_left OneByte) first.0 ∙ (elements_left-one_byte head after above low (omega (arith, split.0))
+    ∙ (ap (λ b. (head / 16, b) ∷ elements_left OneByte (drop (head % 16 + 1) after)) (sym split.1)
+    ∙ ap (λ b. (head / 16, front) ∷ elements_left OneByte b) (sym split.2)))
+
+pub one_byte_end : (head : ℕ) (bytes after : List ℕ) → IsUnpadded bytes → IsFirstAndRest bytes head after → (240 ≤ head) ⊎ (length after < head % 16 + 1)
+    → elements_left OneByte bytes ≡ []
+one_byte_end head bytes after unpadded first (inl high) =
+    ap (elements_left OneByte) first.0 ∙ elements_left-one_byte_end head after (IsUnpadded-head head after (subst IsUnpadded first.0 unpadded)) (inl high)
+one_byte_end head bytes after unpadded first (inr cut) =
+    ap (elements_left OneByte) first.0 ∙ elements_left-one_byte_end head after (IsUnpadded-head head after (subst IsUnpadded first.0 unpadded)) (inr (omega arith))
+
+pub two_byte_read : (id count : ℕ) (bytes second after front back : List ℕ) → IsUnpadded bytes → IsFirstAndRest bytes id second → IsFirstAndRest second count after
+    → IsSplitAt after count front back → elements_left TwoByte bytes ≡ (id, front) ∷ elements_left TwoByte back
+two_byte_read id count bytes second after front back unpadded first next split =
+    let above : 1 ≤ id = IsUnpadded-head id second (subst IsUnpadded first.0 unpadded) in
+    ap (elements_left TwoByte) first.0 ∙ (ap (λ b. elements_left TwoByte (id ∷ b)) next.0 ∙ (elements_left-two_byte id count after above split.0
+    ∙ (ap (λ b. (id, b) ∷ elements_left TwoByte (drop count after)) (sym split.1)
+    ∙ ap (λ b. (id, front) ∷ elements_left TwoByte b) (sym split.2))))
+
+pub two_byte_cut : (id count : ℕ) (bytes second after : List ℕ) → IsUnpadded bytes → IsFirstAndRest bytes id second → IsFirstAndRest second count after
+    → length after < count → elements_left TwoByte bytes ≡ []
+two_byte_cut id count bytes second after unpadded first next cut =
+    let above : 1 ≤ id = IsUnpadded-head id second (subst IsUnpadded first.0 unpadded) in
+    ap (elements_left TwoByte) first.0 ∙ (ap (λ b. elements_left TwoByte (id ∷ b)) next.0 ∙ elements_left-two_byte_cut id count after above cut)
+
+pub two_byte_end : (id : ℕ) (bytes second : List ℕ) → IsUnpadded bytes → IsFirstAndRest bytes id second → length second ≡ 0 → elements_left TwoByte bytes ≡ []
+two_byte_end id bytes second unpadded first none =
+    let above : 1 ≤ id = IsUnpadded-head id second (subst IsUnpadded first.0 unpadded) in
+    ap (elements_left TwoByte) first.0 ∙ (ap (λ b. elements_left TwoByte (id ∷ b)) (nil_from_length second none) ∙ elements_left-two_byte_end id above)
 
 -- no list of elements but the one that is read: a whole element, a tail, and all pieces
 elements_left-element : (form : ExtensionsForm) (element : Element) (rest : List ℕ) → IsElement form element

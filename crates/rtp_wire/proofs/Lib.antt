@@ -11,7 +11,11 @@ mod HeaderLemmas
 mod OneHeader
 mod ParseLemmas
 mod OverwritingLemmas
+mod BlockWriting
+mod WrittenBlockLemmas
+mod WrittenValuesLemmas
 mod RoundTrip
+mod ValueLemmas
 mod StandardFacts
 mod WideningLemmas
 mod ReceiverLemmas

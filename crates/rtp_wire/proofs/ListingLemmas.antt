@@ -1,5 +1,5 @@
 -- The entries of a map as a list by rising id.
-use Rattle.std.proofs.Common.{◌≡◌, ℕ, ◌+◌, ◌<◌, ◌≤◌, ◌⊎◌, inl, inr, suc, zero, List, [], ◌∷◌, ◌++◌, get_or, Bool, true, false, Option, Some, None, All, arith, ap, refl, sym, ◌∙◌, subst}
+use Rattle.std.proofs.Common.{◌≡◌, ℕ, ◌+◌, ◌<◌, ◌≤◌, ◌⊎◌, inl, inr, suc, zero, List, [], ◌∷◌, ◌++◌, length, take, get_or, Bool, true, false, Option, Some, None, All, arith, ap, refl, sym, ◌∙◌, subst}
 use Rattle.std.specs.List.{Contains, filter}
 use Rattle.std.proofs.lemmas.Bool.{false≢true}
 use Rattle.std.proofs.lemmas.Bool.Decides.{eqb_tells}
@@ -7,7 +7,7 @@ use Rattle.std.proofs.lemmas.List.Elements.{All-append, All-cons, All-nil, Conta
 use Rattle.std.specs.Option.{unwrap_or}
 use Rattle.rtp_wire.specs.declared.ext.kind.Extension.{Extension}
 use Rattle.rtp_wire.specs.declared.ext.entry.Entry.{Entry}
-use Rattle.rtp_wire.specs.MapSlots.{items_from}
+use Rattle.rtp_wire.specs.MapSlots.{items_from, AreEmptyFrom}
 use Rattle.rtp_wire.proofs.MapLemmas.{entry_at-slot}
 use Rattle.rtp_wire.specs.ExtensionMap.{Slots, IsEmpty, entry_at, extension_at, extension_of, unlocked, Sets, IsLocked, IsUnlocked, IsRising, IsListing}
 
@@ -158,6 +158,28 @@ items_from-items passed [] = record {
 items_from-items passed (None ∷ left) = AreItems-none passed left (items_from (passed + 1) left) (items_from-items (passed + 1) left)
 items_from-items passed (Some entry ∷ left) =
     AreItems-some passed entry left (items_from (passed + 1) left) (items_from-items (passed + 1) left)
+
+items_from-empty : (passed : ℕ) (left : Slots) → AreEmptyFrom left 0 → items_from passed left ≡ []
+items_from-empty passed [] empty = refl
+items_from-empty passed (None ∷ left) empty =
+    items_from-empty (passed + 1) left (λ index above. empty (suc index) (omega arith))
+items_from-empty passed (Some entry ∷ left) empty = let first = empty 0 (omega arith) in cc
+
+-- the slots up to one from which on nothing stands give all
+pub items_from-take : (passed : ℕ) (left : Slots) (end : ℕ) → AreEmptyFrom left end → items_from passed (take end left) ≡ items_from passed left
+items_from-take passed left zero empty = sym (items_from-empty passed left empty)
+items_from-take passed [] (suc end) empty = refl
+items_from-take passed (None ∷ left) (suc end) empty =
+    items_from-take (passed + 1) left end (λ index above. empty (suc index) (omega arith))
+items_from-take passed (Some entry ∷ left) (suc end) empty =
+    ap (λ (rest : List (ℕ × Extension)). (passed + 1, entry.extension) ∷ rest)
+    (items_from-take (passed + 1) left end (λ index above. empty (suc index) (omega arith)))
+
+-- there are no more items than slots
+pub length-items_from : (passed : ℕ) (left : Slots) → length (items_from passed left) ≤ length left
+length-items_from passed [] = omega arith
+length-items_from passed (None ∷ left) = omega (arith, length-items_from (passed + 1) left)
+length-items_from passed (Some entry ∷ left) = omega (arith, length-items_from (passed + 1) left)
 
 -- the slots of a map give its listing
 pub IsListing-from_slots : (slots : Slots) → IsListing slots (λ _. true) (items_from 0 slots)

@@ -1,5 +1,5 @@
 -- A header that is overwritten in bytes is the only one, and bytes that are refused have none.
-use Rattle.std.proofs.Common.{◌≡◌, ℕ, ◌+◌, ◌*◌, ◌≤◌, Bool, true, false, List, length, take, drop, sym, ap, ◌∙◌, subst, arith, length-take-le}
+use Rattle.std.proofs.Common.{◌≡◌, ℕ, ◌+◌, ◌*◌, ◌≤◌, Bool, true, false, List, length, take, drop, refl, sym, ap, ◌∙◌, subst, arith, length-take-le}
 use Rattle.std.specs.Prelude.{slice_index, map, replicate, ◌++◌, ◌-◌}
 use Rattle.std.specs.Int.{w32, from_be_bytes}
 use Rattle.std.specs.Simd.{first_chunks}
@@ -8,25 +8,44 @@ use Rattle.rtp_wire.specs.declared.ext.form.ExtensionsForm.{ExtensionsForm}
 use Rattle.rtp_wire.specs.declared.ext.map.ExtensionMap.{ExtensionMap}
 use Rattle.rtp_wire.specs.declared.ext.value.values.ExtensionValues.{ExtensionValues}
 use Rattle.rtp_wire.specs.declared.header.rtp_header.RtpHeader.{RtpHeader}
+use Rattle.rtp_wire.specs.declared.ext.form.ExtensionsForm.TheVariants.{OneByte, TwoByte}
 use Rattle.rtp_wire.specs.Form.{IsFormWord}
+use Rattle.rtp_wire.specs.Elements.{Element, AreElements}
+use Rattle.rtp_wire.specs.ElementReading.{elements_left}
+use Rattle.rtp_wire.specs.Values.{no_values, AreValues}
 use Rattle.rtp_wire.specs.Block.{word_at, IsBlock}
 use Rattle.rtp_wire.specs.Header.{IsWire}
 use Rattle.rtp_wire.specs.NotAHeader.{NotABlock, cut_head, unknown_form, cut_words, NotAHeader, cut_fixed, other_version, cut_sources, no_block}
 use Rattle.rtp_wire.specs.Reading.{HasExtensionPart}
 use Rattle.rtp_wire.proofs.FlagLemmas.{bit-once, HasFlags, flags_from_first, fields_from_second}
 use Rattle.rtp_wire.proofs.BlockLemmas.{word_at-take}
+use Rattle.rtp_wire.proofs.ElementLemmas.{AreElements-only}
+use Rattle.rtp_wire.proofs.ValuesLaws.{one_values}
 use Rattle.rtp_wire.proofs.HeaderLemmas.{IsLaidOut, layout_of}
 
 -- how long a block at the front is, by its head
-block_len : (bytes elements : List ℕ) (form : ExtensionsForm) (n : ℕ) → n ≤ length bytes → IsBlock (take n bytes) form elements
+block_len : (bytes body : List ℕ) (form : ExtensionsForm) (n : ℕ) → n ≤ length bytes → IsBlock (take n bytes) form body
     → (n ≡ 4 + 4 * word_at bytes 2) × IsFormWord (word_at bytes 0) form
-block_len bytes elements form n fits is =
+block_len bytes body form n fits is =
     let len : length (take n bytes) ≡ n = length-take-le n bytes fits in
     let words = is.words in
     let four : 4 ≤ n = omega arith in (
       sym len ∙ words ∙ ap (λ (k : ℕ). 4 + 4 * k) (word_at-take bytes 2 n (omega arith)),
       subst (λ (k : ℕ). IsFormWord k form) (word_at-take bytes 0 n (omega arith)) is.form_is,
     )
+
+-- a word is that of one form
+one_form : (word : ℕ) (f g : ExtensionsForm) → IsFormWord word f → IsFormWord word g → f ≡ g
+one_form word OneByte OneByte a b = refl
+one_form word OneByte TwoByte a b = absurd (omega (arith, b.0, b.1))
+one_form word TwoByte OneByte a b = absurd (omega (arith, a.0, a.1))
+one_form word TwoByte TwoByte a b = refl
+
+-- a body has one list of elements
+one_list : (f g : ExtensionsForm) (b c : List ℕ) (d e : List Element) → f ≡ g → b ≡ c → AreElements f b d → AreElements g c e → d ≡ e
+one_list f g b c d e forms bodies at-d at-e =
+    AreElements-only f b d at-d ∙ ap (λ (form : ExtensionsForm). elements_left form b) forms
+    ∙ ap (elements_left g) bodies ∙ sym (AreElements-only g c e at-e)
 
 -- what X announces has one length, and one value
 part_once : (exts : ExtensionMap) (extension : Bool) (bytes : List ℕ) (v v' : ExtensionValues) (n n' : ℕ)
@@ -35,19 +54,23 @@ part_once exts false bytes v v' n n' p q =
     let a : 0 ≡ n = sym (ap length p.is_part.0) ∙ length-take-le n bytes p.fits in
     let b : 0 ≡ n' = sym (ap length q.is_part.0) ∙ length-take-le n' bytes q.fits in
     (sym a ∙ b, p.is_part.1 ∙ sym q.is_part.1)
-part_once exts true bytes v v' n n' p q = (
-  (block_len bytes p.is_part.1 p.is_part.0 n p.fits p.is_part.2).0 ∙ sym (block_len bytes q.is_part.1 q.is_part.0 n' q.fits q.is_part.2).0,
-  p.is_part.3 ∙ sym q.is_part.3,
-)
+part_once exts true bytes v v' n n' p q =
+    let a = block_len bytes p.is_part.1 p.is_part.0 n p.fits p.is_part.3 in
+    let b = block_len bytes q.is_part.1 q.is_part.0 n' q.fits q.is_part.3 in
+    let same : n ≡ n' = a.0 ∙ sym b.0 in
+    let forms = one_form (word_at bytes 0) p.is_part.0 q.is_part.0 a.1 b.1 in
+    let bodies : p.is_part.1 ≡ q.is_part.1 = p.is_part.3.body_is ∙ ap (λ (k : ℕ). drop 4 (take k bytes)) same ∙ sym q.is_part.3.body_is in
+    let lists = one_list p.is_part.0 q.is_part.0 p.is_part.1 q.is_part.1 p.is_part.2 q.is_part.2 forms bodies p.is_part.4 q.is_part.4 in
+    (same, one_values exts q.is_part.2 no_values v v' (subst (λ (es : List Element). AreValues exts es no_values v) lists p.is_part.5) q.is_part.5)
 
 -- where no block begins, X announces nothing that is there
 no_part : (exts : ExtensionMap) (bytes : List ℕ) (v : ExtensionValues) (n : ℕ) → NotABlock bytes → HasExtensionPart exts true bytes v n → ⊥
 no_part exts bytes v n (cut_head short) p =
-    let is = block_len bytes p.is_part.1 p.is_part.0 n p.fits p.is_part.2 in let fits = p.fits in omega (arith, is.0)
+    let is = block_len bytes p.is_part.1 p.is_part.0 n p.fits p.is_part.3 in let fits = p.fits in omega (arith, is.0)
 no_part exts bytes v n (unknown_form unknown) p =
-    unknown p.is_part.0 (block_len bytes p.is_part.1 p.is_part.0 n p.fits p.is_part.2).1
+    unknown p.is_part.0 (block_len bytes p.is_part.1 p.is_part.0 n p.fits p.is_part.3).1
 no_part exts bytes v n (cut_words short) p =
-    let is = block_len bytes p.is_part.1 p.is_part.0 n p.fits p.is_part.2 in let fits = p.fits in omega (arith, is.0)
+    let is = block_len bytes p.is_part.1 p.is_part.0 n p.fits p.is_part.3 in let fits = p.fits in omega (arith, is.0)
 
 -- the flags of a overwritten header are those of the first byte
 flags_of : (exts : ExtensionMap) (bytes : List ℕ) (h : RtpHeader) → IsLaidOut exts bytes h → HasFlags (slice_index bytes 0) h.has_padding h.has_extension h.csrc_count

@@ -1,8 +1,8 @@
 -- Bytes that are put into a buffer one behind the other.
-use Rattle.std.proofs.Common.{◌≡◌, ℕ, ◌+◌, ◌-◌, ◌*◌, ◌<◌, ◌≤◌, List, [], ◌∷◌, ◌++◌, length, take, drop, get_or, refl, sym, ap, ◌∙◌, arith, append_assoc, length-append, length-take-le, length-drop, take_at, drop_at, add-zero, zero-add}
+use Rattle.std.proofs.Common.{◌≡◌, ℕ, ◌+◌, ◌-◌, ◌*◌, ◌<◌, ◌≤◌, List, [], ◌∷◌, ◌++◌, length, take, drop, get_or, replicate, refl, sym, ap, ◌∙◌, arith, append_assoc, length-append, length-take-le, length-drop, take_at, drop_at, set, suc, add-zero, zero-add}
 use Rattle.std.specs.List.{flat_map}
 use Rattle.std.specs.Int.{w32, to_be_bytes}
-use Rattle.std.proofs.lemmas.List.{append-nil, take-append-drop, drop-drop, take_more}
+use Rattle.std.proofs.lemmas.List.{append-nil, length-replicate, take-append-drop, drop-drop, take_more, take-take, take-append-le, take_rest, drop_all, set_split}
 use Rattle.std.proofs.lemmas.List.Concat.{flat_map-append}
 use Rattle.rtp_wire.specs.Overwriting.{overwritten}
 
@@ -72,3 +72,54 @@ overwritten-three buf xs ys zs first second first-is second-is fits =
     ap (λ (bytes : List ℕ). overwritten bytes second zs) (overwritten-overwritten buf xs ys 0 first one (omega arith))
     ∙ overwritten-overwritten buf (xs ++ ys) zs 0 second two fits
     ∙ ap (overwritten buf 0) (append_assoc xs ys zs) ∙ overwritten-front buf (xs ++ (ys ++ zs))
+
+-- one number is put
+pub overwritten-set : (buf : List ℕ) (at x : ℕ) → at < length buf → set buf at x ≡ overwritten buf at (x ∷ [])
+unfolding overwritten
+overwritten-set buf at x within =
+    let next : suc at ≡ at + length (x ∷ []) = omega arith in
+    set_split buf at x within ∙ ap (λ (k : ℕ). take at buf ++ (x ∷ drop k buf)) next
+
+-- and another behind it
+pub overwritten-set_two : (buf : List ℕ) (at x y : ℕ) → at + 2 ≤ length buf → set (set buf at x) (at + 1) y ≡ overwritten buf at (x ∷ y ∷ [])
+overwritten-set_two buf at x y within =
+    let long = length-overwritten buf (x ∷ []) at (omega arith) in
+    ap (λ (b : List ℕ). set b (at + 1) y) (overwritten-set buf at x (omega arith))
+    ∙ (overwritten-set (overwritten buf at (x ∷ [])) (at + 1) y (omega arith)
+    ∙ overwritten-overwritten buf (x ∷ []) (y ∷ []) at (at + 1) (omega arith) (omega arith))
+
+-- what a call leaves that writes to the front of the rest of a buffer
+pub overwritten-rest : (buf new bytes : List ℕ) (at : ℕ) → at + length bytes ≤ length buf
+    → new ≡ bytes ++ drop (length bytes) (take (length buf - at) (drop at buf))
+    → take at buf ++ (new ++ drop (length buf - at) (drop at buf)) ≡ overwritten buf at bytes
+unfolding overwritten
+overwritten-rest buf new bytes at within is =
+    let none = drop_all (length buf - at) (drop at buf) (omega (arith, length-drop at buf)) in
+    ap (λ (rest : List ℕ). take at buf ++ (new ++ rest)) none
+    ∙ ap (λ (rest : List ℕ). take at buf ++ rest) (append-nil new ∙ is
+    ∙ ap (λ (rest : List ℕ). bytes ++ rest) (ap (drop (length bytes)) (take_rest buf at) ∙ drop-drop (length bytes) at buf))
+
+-- two pieces in a row, the second of which was put first
+pub overwritten-before : (buf xs ys : List ℕ) (at end : ℕ) → end ≡ at + length xs → end + length ys ≤ length buf
+    → overwritten (overwritten buf end ys) at xs ≡ overwritten buf at (xs ++ ys)
+unfolding overwritten
+overwritten-before buf xs ys at end is fits =
+    let rest = ys ++ drop (end + length ys) buf in
+    let len : length (take end buf) ≡ end = length-take-le end buf (omega arith) in
+    let front : take at (take end buf ++ rest) ≡ take at buf =
+    take-append-le at (take end buf) rest (omega arith) ∙ take-take at end buf (omega arith) in
+    let behind : drop (at + length xs) (take end buf ++ rest) ≡ rest =
+    ap (λ (k : ℕ). drop k (take end buf ++ rest)) (sym is) ∙ drop_at (take end buf) rest end len in
+    let last : end + length ys ≡ at + length (xs ++ ys) = omega (arith, length-append xs ys) in
+    ap (λ (zs : List ℕ). zs ++ (xs ++ drop (at + length xs) (take end buf ++ rest))) front
+    ∙ ap (λ (zs : List ℕ). take at buf ++ (xs ++ zs)) behind
+    ∙ ap (λ (zs : List ℕ). take at buf ++ zs) (sym (append_assoc xs ys (drop (end + length ys) buf))
+    ∙ ap (λ (k : ℕ). (xs ++ ys) ++ drop k buf) last)
+
+-- what `fill` of a part leaves
+pub overwritten-filled : (buf new : List ℕ) (at count : ℕ) → new ≡ replicate count 0
+    → take at buf ++ (new ++ drop (at + count - at) (drop at buf)) ≡ overwritten buf at (replicate count 0)
+overwritten-filled buf new at count is =
+    ap (λ (k : ℕ). take at buf ++ (new ++ drop (at + k - at) (drop at buf))) (sym (length-replicate count 0))
+    ∙ ap (λ (ys : List ℕ). take at buf ++ (ys ++ drop (at + length {A = ℕ} (replicate count 0) - at) (drop at buf))) is
+    ∙ overwritten-copied buf (replicate count 0) at

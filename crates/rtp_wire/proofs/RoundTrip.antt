@@ -5,14 +5,13 @@ use Rattle.std.specs.List.{flat_map, concat, AllByRecursion}
 use Rattle.std.specs.Int.{w32, to_be_bytes, from_be_bytes}
 use Rattle.std.proofs.lemmas.List.{length-map}
 use Rattle.std.proofs.lemmas.Nat.{from_be_bytes-to_be_bytes_2, from_be_bytes-to_be_bytes_4}
-use Rattle.rtp_wire.specs.declared.ext.form.ExtensionsForm.TheVariants.{OneByte}
 use Rattle.rtp_wire.specs.declared.ext.map.ExtensionMap.{ExtensionMap}
 use Rattle.rtp_wire.specs.declared.ext.value.values.ExtensionValues.{ExtensionValues}
 use Rattle.rtp_wire.specs.declared.header.rtp_header.RtpHeader.{RtpHeader}
 use Rattle.rtp_wire.specs.Block.{IsExtensionPart}
 use Rattle.rtp_wire.specs.Header.{IsFixed, IsWire}
 use Rattle.rtp_wire.specs.Overwriting.{overwritten}
-use Rattle.rtp_wire.specs.Written.{fixed_bytes, source_bytes, extension_bytes, wire_bytes, image_values, image_of}
+use Rattle.rtp_wire.specs.Written.{fixed_bytes, source_bytes, extension_bytes, wire_bytes, carried_image, image_of}
 use Rattle.rtp_wire.proofs.GroupLemmas.{AreFours}
 use Rattle.rtp_wire.proofs.OverwritingLemmas.{length-numbers, overwritten-three}
 
@@ -26,10 +25,10 @@ pub record IsInRange (h : RtpHeader) : Type 0 where
   pub ssrc : h.ssrc < 2 ^ 32
   pub sources : AllByRecursion (λ source. source < 2 ^ 32) (take h.csrc_count h.csrc)
 
-pub length-wire_bytes : (h : RtpHeader) (exts : ExtensionMap) → h.csrc_count ≤ length h.csrc
-    → length (wire_bytes h exts) ≡ 12 + 4 * h.csrc_count + length (extension_bytes exts h.has_extension h.ext_vals)
+pub length-wire_bytes : (exts : ExtensionMap) (h : RtpHeader) → h.csrc_count ≤ length h.csrc
+    → length (wire_bytes exts h) ≡ 12 + 4 * h.csrc_count + length (extension_bytes exts h.has_extension h.ext_vals)
 unfolding wire_bytes
-length-wire_bytes h exts within =
+length-wire_bytes exts h within =
     let block = extension_bytes exts h.has_extension h.ext_vals in
     let sources : length (source_bytes h) ≡ 4 * h.csrc_count =
     length-numbers (take h.csrc_count h.csrc) ∙ ap (λ (k : ℕ). 4 * k) (length-take-le h.csrc_count h.csrc within) in
@@ -39,7 +38,7 @@ length-wire_bytes h exts within =
 wire_bytes-is : (h : RtpHeader) (exts : ExtensionMap) (buf : List ℕ)
     → (fixed_bytes h ++ (source_bytes h ++ extension_bytes exts h.has_extension h.ext_vals))
     ++ drop (length (fixed_bytes h ++ (source_bytes h ++ extension_bytes exts h.has_extension h.ext_vals))) buf
-    ≡ wire_bytes h exts ++ drop (length (wire_bytes h exts)) buf
+    ≡ wire_bytes exts h ++ drop (length (wire_bytes exts h)) buf
 unfolding wire_bytes
 wire_bytes-is h exts buf = refl
 
@@ -59,19 +58,14 @@ numbers-back (x ∷ xs) fits =
     ap (λ (y : ℕ). y ∷ map (from_be_bytes w32) (map (to_be_bytes w32) xs)) (from_be_bytes-to_be_bytes_4 x fits.0)
     ∙ ap (λ (ys : List ℕ). x ∷ ys) (numbers-back xs fits.1)
 
--- numbers that are in range at each place, one by one
+-- numbers that are in range, one by one
 pub AllByRecursion-from_each : (xs : List ℕ) → ((i : ℕ) → get_or xs i 0 < 2 ^ 32) → AllByRecursion (λ x. x < 2 ^ 32) xs
 AllByRecursion-from_each [] fits = tt
 AllByRecursion-from_each (x ∷ xs) fits = (fits 0, AllByRecursion-from_each xs (λ i. fits (suc i)))
 
 -- ---- the header
 
-part-back : (exts : ExtensionMap) (extension : Bool) (values : ExtensionValues)
-    → IsExtensionPart exts extension (extension_bytes exts extension values) (image_values exts extension values)
-part-back exts false values = (refl, refl)
-part-back exts true values = (OneByte, [], record { form_is = refl; words = refl; elements_are = refl }, refl)
-
-fixed-back : (h : RtpHeader) (exts : ExtensionMap) → IsInRange h → IsFixed (fixed_bytes h) (image_of h exts)
+fixed-back : (h : RtpHeader) (exts : ExtensionMap) → IsInRange h → IsFixed (fixed_bytes h) (image_of exts h)
 unfolding image_of
 fixed-back h exts fits = record {
   twelve = refl;
@@ -83,9 +77,11 @@ fixed-back h exts fits = record {
   ssrc_is = sym (from_be_bytes-to_be_bytes_4 h.ssrc fits.ssrc);
 }
 
-pub IsWire-written : (h : RtpHeader) (exts : ExtensionMap) (rest : List ℕ) → IsInRange h → IsWire exts (wire_bytes h exts ++ rest) (image_of h exts)
+pub IsWire-written : (h : RtpHeader) (exts : ExtensionMap) (rest : List ℕ) → IsInRange h
+    → IsExtensionPart exts h.has_extension (extension_bytes exts h.has_extension h.ext_vals) (carried_image exts h.has_extension h.ext_vals)
+    → IsWire exts (wire_bytes exts h ++ rest) (image_of exts h)
 unfolding wire_bytes image_of
-IsWire-written h exts rest fits =
+IsWire-written h exts rest fits part =
     let sources = take h.csrc_count h.csrc in
     let block = extension_bytes exts h.has_extension h.ext_vals in
     let number : length sources ≡ h.csrc_count = length-take-le h.csrc_count h.csrc (omega (arith, fits.count, fits.slots)) in
@@ -104,26 +100,26 @@ IsWire-written h exts rest fits =
         of_four = AreFours-numbers sources;
         slots_are = ap (λ (xs : List ℕ). xs ++ replicate (15 - h.csrc_count) 0) (sym (numbers-back sources fits.sources));
       };
-      part_is = part-back exts h.has_extension h.ext_vals;
-      header_len_is = sym (length-append (wire_bytes h exts) rest);
+      part_is = part;
+      header_len_is = sym (length-append (wire_bytes exts h) rest);
     }
 
 -- the pieces that are put one behind the other are the written header
 pub wire_bytes-from_pieces : (h : RtpHeader) (exts : ExtensionMap) (buf one two three fixed : List ℕ) (first second third : ℕ)
-    → h.csrc_count ≤ length h.csrc → length (wire_bytes h exts) ≤ length buf → fixed ≡ fixed_bytes h
+    → h.csrc_count ≤ length h.csrc → length (wire_bytes exts h) ≤ length buf → fixed ≡ fixed_bytes h
     → one ≡ overwritten buf 0 fixed → first ≡ 0 + length fixed
     → two ≡ overwritten one first (source_bytes h) → second ≡ first + 4 * length (take h.csrc_count h.csrc)
     → three ≡ overwritten two second (extension_bytes exts h.has_extension h.ext_vals) → third ≡ second + length (extension_bytes exts h.has_extension h.ext_vals)
-    → (third ≡ length (wire_bytes h exts)) × (three ≡ wire_bytes h exts ++ drop third buf)
+    → (third ≡ length (wire_bytes exts h)) × (three ≡ wire_bytes exts h ++ drop third buf)
 wire_bytes-from_pieces h exts buf one two three fixed first second third within room fixed-is one-is first-is two-is second-is three-is third-is =
     let sources = take h.csrc_count h.csrc in
     let block = extension_bytes exts h.has_extension h.ext_vals in
-    let len = length-wire_bytes h exts within in
+    let len = length-wire_bytes exts h within in
     let twelve : length fixed ≡ 12 = ap length fixed-is in
     let number : length sources ≡ h.csrc_count = length-take-le h.csrc_count h.csrc within in
     let bytes-len : length (source_bytes h) ≡ 4 * length sources = length-numbers sources in
-    let end : third ≡ length (wire_bytes h exts) = omega arith in
+    let end : third ≡ length (wire_bytes exts h) = omega arith in
     let put : three ≡ (fixed_bytes h ++ (source_bytes h ++ block)) ++ drop (length (fixed_bytes h ++ (source_bytes h ++ block))) buf =
     three-is ∙ rw (two-is, one-is, fixed-is)
     (overwritten-three buf (fixed_bytes h) (source_bytes h) block first second (omega arith) (omega arith) (omega arith)) in
-    (end, put ∙ wire_bytes-is h exts buf ∙ ap (λ (k : ℕ). wire_bytes h exts ++ drop k buf) (sym end))
+    (end, put ∙ wire_bytes-is h exts buf ∙ ap (λ (k : ℕ). wire_bytes exts h ++ drop k buf) (sym end))

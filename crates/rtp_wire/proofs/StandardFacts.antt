@@ -1,19 +1,25 @@
 -- Worked rows, computed from the definitions.
-use Rattle.std.proofs.Common.{◌≡◌, ℕ, true, false, List, [], ◌∷◌, ◌++◌, length, replicate, refl, arith}
+use Rattle.std.proofs.Common.{◌≡◌, ℕ, None, true, false, List, [], ◌∷◌, ◌++◌, length, replicate, refl, arith}
 use Rattle.rtp_wire.specs.declared.ext.form.ExtensionsForm.{ExtensionsForm}
 use Rattle.rtp_wire.specs.declared.ext.form.ExtensionsForm.TheVariants.{OneByte, TwoByte}
 use Rattle.rtp_wire.specs.declared.ext.map.ExtensionMap.{ExtensionMap}
 use Rattle.rtp_wire.specs.Form.{IsFormWord}
 use Rattle.rtp_wire.specs.Header.{IsWire, default_header}
 use Rattle.rtp_wire.specs.NotAHeader.{cut_head, unknown_form, cut_words, NotAHeader, cut_fixed, other_version, cut_sources, no_block}
+use Rattle.rtp_wire.specs.ExtensionMap.{Slots}
+use Rattle.rtp_wire.specs.Spelling.{carried_values}
+use Rattle.rtp_wire.specs.WrittenBlock.{block_bytes, image_values}
 use Rattle.rtp_wire.specs.Written.{wire_bytes, image_of}
+use Rattle.rtp_wire.specs.Elements.{ended}
+use Rattle.rtp_wire.specs.Values.{no_values}
+use Rattle.rtp_wire.proofs.ValuesLaws.{AreValues-none}
 
 abbrev zeros : ℕ → List ℕ
 zeros n = replicate n 0
 
 -- a plain header of twelve bytes, with two bytes behind it
 plain_row : (exts : ExtensionMap) → IsWire exts (128 ∷ 33 ∷ 183 ∷ 152 ∷ 0 ∷ 0 ∷ 39 ∷ 16 ∷ 0 ∷ 0 ∷ 0 ∷ 44 ∷ 7 ∷ 7 ∷ [])
-    (record { version = 2; has_padding = false; has_extension = false; csrc_count = 0; marker = false; payload_type = 33; sequence_number = 47000; timestamp = 10000; ssrc = 44; csrc = zeros 15; ext_vals = record {}; header_len = 12 })
+    (record { version = 2; has_padding = false; has_extension = false; csrc_count = 0; marker = false; payload_type = 33; sequence_number = 47000; timestamp = 10000; ssrc = 44; csrc = zeros 15; ext_vals = no_values; header_len = 12 })
 plain_row exts = record {
   fixed = 128 ∷ 33 ∷ 183 ∷ 152 ∷ 0 ∷ 0 ∷ 39 ∷ 16 ∷ 0 ∷ 0 ∷ 0 ∷ 44 ∷ [];
   groups = [];
@@ -34,13 +40,13 @@ plain_row exts = record {
   header_len_is = refl;
 }
 
--- every flag, two sources, and a block of one word with application bits
-full_row : (exts : ExtensionMap) → IsWire exts (178 ∷ 225 ∷ 255 ∷ 255 ∷ 1 ∷ 2 ∷ 3 ∷ 4 ∷ 0 ∷ 0 ∷ 0 ∷ 0 ∷ 0 ∷ 0 ∷ 0 ∷ 100 ∷ 0 ∷ 0 ∷ 0 ∷ 101 ∷ 16 ∷ 5 ∷ 0 ∷ 1 ∷ 170 ∷ 187 ∷ 204 ∷ 221 ∷ [])
-    (record { version = 2; has_padding = true; has_extension = true; csrc_count = 2; marker = true; payload_type = 97; sequence_number = 65535; timestamp = 16909060; ssrc = 0; csrc = 100 ∷ 101 ∷ zeros 13; ext_vals = record {}; header_len = 28 })
+-- every flag, two sources, and a block of one word of padding with application bits
+full_row : (exts : ExtensionMap) → IsWire exts (178 ∷ 225 ∷ 255 ∷ 255 ∷ 1 ∷ 2 ∷ 3 ∷ 4 ∷ 0 ∷ 0 ∷ 0 ∷ 0 ∷ 0 ∷ 0 ∷ 0 ∷ 100 ∷ 0 ∷ 0 ∷ 0 ∷ 101 ∷ 16 ∷ 5 ∷ 0 ∷ 1 ∷ 0 ∷ 0 ∷ 0 ∷ 0 ∷ [])
+    (record { version = 2; has_padding = true; has_extension = true; csrc_count = 2; marker = true; payload_type = 97; sequence_number = 65535; timestamp = 16909060; ssrc = 0; csrc = 100 ∷ 101 ∷ zeros 13; ext_vals = no_values; header_len = 28 })
 full_row exts = record {
   fixed = 178 ∷ 225 ∷ 255 ∷ 255 ∷ 1 ∷ 2 ∷ 3 ∷ 4 ∷ 0 ∷ 0 ∷ 0 ∷ 0 ∷ [];
   groups = (0 ∷ 0 ∷ 0 ∷ 100 ∷ []) ∷ (0 ∷ 0 ∷ 0 ∷ 101 ∷ []) ∷ [];
-  part = 16 ∷ 5 ∷ 0 ∷ 1 ∷ 170 ∷ 187 ∷ 204 ∷ 221 ∷ [];
+  part = 16 ∷ 5 ∷ 0 ∷ 1 ∷ 0 ∷ 0 ∷ 0 ∷ 0 ∷ [];
   rest = [];
   in_order = refl;
   fixed_is = record {
@@ -53,27 +59,38 @@ full_row exts = record {
     ssrc_is = refl;
   };
   sources_are = record { count_is = refl; of_four = (refl, (refl, tt)); slots_are = refl };
-  part_is = (TwoByte, 170 ∷ 187 ∷ 204 ∷ 221 ∷ [], record { form_is = (omega arith, omega arith); words = refl; elements_are = refl }, refl);
+  part_is = (
+    TwoByte,
+    0 ∷ 0 ∷ 0 ∷ 0 ∷ [],
+    [],
+    record { form_is = (omega arith, omega arith); words = refl; body_is = refl },
+    record { pieces = None ∷ None ∷ None ∷ None ∷ []; tail = []; are_pieces = (tt, (tt, (tt, (tt, tt)))); is_tail = ended refl; body_is = refl; elements_are = refl },
+    AreValues-none exts no_values,
+  );
   header_len_is = refl;
 }
 
+-- a map in which nothing is mapped
+abbrev nothing_mapped : Slots
+nothing_mapped = replicate 16 None
+
 -- the default header, with its block and without
-default_row : (exts : ExtensionMap) → wire_bytes default_header exts ≡ 144 ∷ 1 ∷ zeros 10 ++ 190 ∷ 222 ∷ 0 ∷ 0 ∷ []
-unfolding wire_bytes
-default_row exts = refl
+default_row : wire_bytes nothing_mapped default_header ≡ 144 ∷ 1 ∷ zeros 10 ++ 190 ∷ 222 ∷ 0 ∷ 0 ∷ []
+unfolding wire_bytes block_bytes
+default_row = refl
 
-default_image : (exts : ExtensionMap) → image_of default_header exts ≡ default_header
-unfolding wire_bytes image_of
-default_image exts = refl
+default_image : image_of nothing_mapped default_header ≡ default_header
+unfolding wire_bytes block_bytes image_of image_values carried_values
+default_image = refl
 
-bare_row : (exts : ExtensionMap) → wire_bytes (record default_header { has_extension = false }) exts ≡ 128 ∷ 1 ∷ zeros 10
+bare_row : (exts : ExtensionMap) → wire_bytes exts (record default_header { has_extension = false }) ≡ 128 ∷ 1 ∷ zeros 10
 unfolding wire_bytes
 bare_row exts = refl
 
 -- fifteen sources make 76 bytes
-sources_row : (exts : ExtensionMap) → length (wire_bytes (record default_header { csrc_count = 15 }) exts) ≡ 76
-unfolding wire_bytes
-sources_row exts = refl
+sources_row : length (wire_bytes nothing_mapped (record default_header { csrc_count = 15 })) ≡ 76
+unfolding wire_bytes block_bytes
+sources_row = refl
 
 -- a row for each cause of a refusal
 cut_fixed_row : NotAHeader (zeros 11)

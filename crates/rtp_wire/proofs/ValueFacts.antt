@@ -1,5 +1,5 @@
 -- Worked rows of blocks, computed from the definitions.
-use Rattle.std.proofs.Common.{◌≡◌, ◌≢◌, ℕ, List, [], ◌∷◌, ◌++◌, replicate, Bool, true, false, ℤ, neg_ℤ, pos, Option, Some, None, arith, refl, sym, ◌∙◌, subst}
+use Rattle.std.proofs.Common.{◌≡◌, ◌≢◌, ℕ, [], ◌∷◌, replicate, Bool, true, false, ℤ, neg_ℤ, pos, Some, None, arith, refl, sym, ◌∙◌, subst}
 use Rattle.rtp_wire.specs.declared.ext.form.ExtensionsForm.TheVariants.{OneByte, TwoByte}
 use Rattle.rtp_wire.specs.declared.ext.kind.Extension.{Extension}
 use Rattle.rtp_wire.specs.declared.ext.kind.Extension.TheVariants.{AudioLevel}
@@ -16,6 +16,17 @@ cut_row = record {
   tail = 55 ∷ 0 ∷ [];
   are_pieces = ((omega arith, omega arith, omega arith, omega arith), tt);
   is_tail = cut_short (3, replicate 8 0) (replicate 7 0) (omega arith, omega arith, omega arith, omega arith) (λ e. cc) (λ e. cc) refl;
+  body_is = refl;
+  elements_are = refl;
+}
+
+-- two elements, and nothing behind them
+two_row : AreElements OneByte (80 ∷ 133 ∷ 16 ∷ 5 ∷ []) ((5, 133 ∷ []) ∷ (1, 5 ∷ []) ∷ [])
+two_row = record {
+  pieces = Some (5, 133 ∷ []) ∷ Some (1, 5 ∷ []) ∷ [];
+  tail = [];
+  are_pieces = ((omega arith, omega arith, omega arith, omega arith), ((omega arith, omega arith, omega arith, omega arith), tt));
+  is_tail = ended refl;
   body_is = refl;
   elements_are = refl;
 }

@@ -4,7 +4,7 @@ use Rattle.std.specs.Prelude.{Option, Some, None}
 use Rattle.std.specs.List.{AllZip}
 use Rattle.std.proofs.lemmas.Bool.{eq-eqb, cases_lt, false≢true, or_left, or_right}
 use Rattle.std.proofs.lemmas.List.{take-append-le, take_at, get_or_append_left, get_or_at, length_push, get_or-take}
-use Rattle.rtp_base.specs.Window.{Numbers, Places, Accepts}
+use Rattle.rtp_base.specs.Window.{Numbers, WindowState, Accepts}
 use Rattle.rtp_wire.specs.declared.ext.map.ExtensionMap.{ExtensionMap}
 use Rattle.rtp_wire.specs.declared.receive.verdict.Verdict.{Verdict}
 use Rattle.rtp_wire.specs.declared.receive.verdict.Verdict.TheVariants.{Unreadable, Taken, Refused}
@@ -37,11 +37,11 @@ taken_by-push (Unreadable ∷ vs) Refused n = taken_by-push vs Refused n
 taken_by-push (Unreadable ∷ vs) Unreadable n = taken_by-push vs Unreadable n
 
 -- a window keeps a set that is the same number by number
-Holds-same : (window : Option Places) (a b : Numbers) → ((n : ℕ) → b n ≡ a n) → Holds window a → Holds window b
+Holds-same : (window : Option WindowState) (a b : Numbers) → ((n : ℕ) → b n ≡ a n) → Holds window a → Holds window b
 Holds-same None a b same holds = λ n. same n ∙ holds n
 Holds-same (Some window) a b same keeps = record {
   top = record { member = same window.greatest ∙ keeps.top.member; top = λ n is. keeps.top.top n (sym (same n) ∙ is) };
-  places = λ n low near. keeps.places n low near ∙ sym (same n);
+  recorded = λ n low near. keeps.recorded n low near ∙ sym (same n);
 }
 
 -- a run with one reading more
@@ -75,17 +75,17 @@ AllZip-more R (a ∷ xs) [] x y all one = absurd all
 AllZip-more R (a ∷ xs) (b ∷ ys) x y all one = (all.0, AllZip-more R xs ys x y all.1 one)
 
 -- the verdicts on the datagrams so far, and what the receiver then holds
-pub record SoFar (exts : ExtensionMap) (datagrams : List (List ℕ)) (verdicts : List Verdict) (receiver : Option Places) : Type 0 where
+pub record SoFar (exts : ExtensionMap) (datagrams : List (List ℕ)) (verdicts : List Verdict) (receiver : Option WindowState) : Type 0 where
   pub are : AreVerdicts exts datagrams verdicts
   pub holds : Holds receiver (taken_by verdicts)
 
-pub SoFar-none : (exts : ExtensionMap) (receiver : Option Places) → Holds receiver (taken_by []) → SoFar exts [] [] receiver
+pub SoFar-none : (exts : ExtensionMap) (receiver : Option WindowState) → Holds receiver (taken_by []) → SoFar exts [] [] receiver
 SoFar-none exts receiver holds = record {
   are = record { readings = []; are_readings = tt; run = record { as_many = refl; each = λ i below. absurd (omega arith) } };
   holds = holds;
 }
 
-pub SoFar-more : (exts : ExtensionMap) (datagrams : List (List ℕ)) (datagram : List ℕ) (reading : Option Reading) (verdicts : List Verdict) (verdict : Verdict) (before after : Option Places)
+pub SoFar-more : (exts : ExtensionMap) (datagrams : List (List ℕ)) (datagram : List ℕ) (reading : Option Reading) (verdicts : List Verdict) (verdict : Verdict) (before after : Option WindowState)
     → SoFar exts datagrams verdicts before → IsReading exts datagram reading → IsVerdict (taken_by verdicts) reading verdict
     → Holds after (taken_after (taken_by verdicts) verdict) → SoFar exts (datagrams ++ datagram ∷ []) (verdicts ++ verdict ∷ []) after
 SoFar-more exts datagrams datagram reading verdicts verdict before after so_far read is holds = record {

@@ -1,50 +1,50 @@
--- The nearest number, over a turn.
+-- The number that is nearest to the previous one, modulo a modulus.
 use Rattle.std.proofs.Common.{◌≡◌, ℕ, suc, ◌+◌, ◌-◌, ◌*◌, ◌/◌, ◌%◌, ◌^◌, ◌<◌, ◌≤◌, ◌⊎◌, refl, sym, ap, ◌∙◌, subst, inl, inr, arith, zero-add}
-use Rattle.std.proofs.Math.Nat.{suc-mul, zero-mul, mul_comm, pow-suc}
+use Rattle.std.proofs.Math.Nat.{suc-mul, zero-mul, add-mul, mod-eq_of_lt, mul_comm, pow-suc}
 use Rattle.std.proofs.lemmas.Nat.{div-add-mod', mod_below, div_below, mul-le, mod-mul-add, div-mul-add, pow_pos, pow-add}
-use Rattle.std.proofs.lemmas.Bool.{cases_lt, cases_order}
+use Rattle.std.proofs.lemmas.Bool.{cases_lt, cases_eq, cases_order}
 use Rattle.std.specs.Prelude.{Option, Some, None, IfSome}
 use Rattle.rtp_wire.specs.Widening.{distance, IsNearest, IsNear, IsClose}
-use Rattle.rtp_wire.specs.Turns.{IsTurn, IsNearby}
+use Rattle.rtp_wire.specs.Moduli.{IsModulus, IsNearby}
 
--- the turns before a number below 2^64, and its place in its turn
-record InTurn (turn number turns : ℕ) : Type 0 where
-  pub whole : number / turn * turn + number % turn ≡ number
-  pub below : number % turn < turn
-  pub before : number / turn < turns
-  pub fits : number / turn * turn + turn ≤ 2 ^ 64
+-- a number below 2^64 by its rollover count and its low bits
+record IsSplit (modulus number rollovers : ℕ) : Type 0 where
+  pub whole : number / modulus * modulus + number % modulus ≡ number
+  pub below : number % modulus < modulus
+  pub before : number / modulus < rollovers
+  pub fits : number / modulus * modulus + modulus ≤ 2 ^ 64
 
-in_turn : (turn number : ℕ) (is : IsTurn turn) → number < 2 ^ 64 → InTurn turn number is.turns
-in_turn turn number is fits =
-    let some : 0 < turn = let some = is.some in omega (arith, is.halves) in
-    let before : number / turn < is.turns = div_below number turn is.turns some (omega (arith, is.whole)) in
-    let next : suc (number / turn) * turn ≤ is.turns * turn = mul-le (suc (number / turn)) turn is.turns turn (omega arith) (omega arith) in
+split : (modulus number : ℕ) (is : IsModulus modulus) → number < 2 ^ 64 → IsSplit modulus number is.rollovers
+split modulus number is fits =
+    let some : 0 < modulus = let some = is.some in omega (arith, is.halves) in
+    let before : number / modulus < is.rollovers = div_below number modulus is.rollovers some (omega (arith, is.whole)) in
+    let next : suc (number / modulus) * modulus ≤ is.rollovers * modulus = mul-le (suc (number / modulus)) modulus is.rollovers modulus (omega arith) (omega arith) in
     record {
-      whole = div-add-mod' number turn;
-      below = mod_below number turn some;
+      whole = div-add-mod' number modulus;
+      below = mod_below number modulus some;
       before = before;
-      fits = omega (arith, suc-mul (number / turn) turn, is.whole, next);
+      fits = omega (arith, suc-mul (number / modulus) modulus, is.whole, next);
     }
 
--- a quarter of the circle at most
-half-small : (turn : ℕ) (is : IsTurn turn) → 4 * is.half ≤ 2 ^ 64
-half-small turn is =
-    let two : 2 * turn ≤ is.turns * turn = mul-le 2 turn is.turns turn is.many (omega arith) in
+-- half of the modulus is at most a quarter of 2^64
+half-small : (modulus : ℕ) (is : IsModulus modulus) → 4 * is.half ≤ 2 ^ 64
+half-small modulus is =
+    let two : 2 * modulus ≤ is.rollovers * modulus = mul-le 2 modulus is.rollovers modulus is.many (omega arith) in
     omega (arith, is.halves, is.whole, two)
 
--- a number of some turns and the low bits, near to the previous one
-IsNearby-at : (turn previous low number turns : ℕ) → low < turn → number ≡ turns * turn + low → number < 2 ^ 64
-    → (distance previous number < turn / 2) ⊎ ((distance previous number ≡ turn / 2) × (turns ≡ previous / turn)) → IsNearby turn previous low number
-IsNearby-at turn previous low number turns below is fits near = record {
+-- a number of this rollover count and these low bits, near to the previous one
+IsNearby-at : (modulus previous low number rollovers : ℕ) → low < modulus → number ≡ rollovers * modulus + low → number < 2 ^ 64
+    → (distance previous number < modulus / 2) ⊎ ((distance previous number ≡ modulus / 2) × (rollovers ≡ previous / modulus)) → IsNearby modulus previous low number
+IsNearby-at modulus previous low number rollovers below is fits near = record {
   fits = fits;
-  ends = ap (λ (n : ℕ). n % turn) is ∙ mod-mul-add turns turn low below;
+  ends = ap (λ (n : ℕ). n % modulus) is ∙ mod-mul-add rollovers modulus low below;
   near = elim near [
     | inl closer ↦ inl closer
-    | inr (half, same) ↦ inr (half, ap (λ (n : ℕ). n / turn) is ∙ div-mul-add turns turn low below ∙ same)
+    | inr (half, same) ↦ inr (half, ap (λ (n : ℕ). n / modulus) is ∙ div-mul-add rollovers modulus low below ∙ same)
   ];
 }
 
--- ---- distances, over plain numbers: `front` is where the turn of the previous number begins
+-- ---- distances, over plain numbers: `front` is the previous number without its low bits
 
 near_same : (half front offset low : ℕ) → 4 * half ≤ 2 ^ 64 → low ≤ offset + half → offset ≤ low + half → front + offset < 2 ^ 64 → front + low < 2 ^ 64
     → (distance (front + offset) (front + low) < half) ⊎ (distance (front + offset) (front + low) ≡ half)
@@ -54,125 +54,204 @@ near_same half front offset low small up down here there =
       | inr far ↦ inr (omega arith)
     ]
 
-near_before : (half turn before offset low : ℕ) → turn ≡ 2 * half → 4 * half ≤ 2 ^ 64 → offset + half < low → low < turn → before + turn + offset < 2 ^ 64
-    → distance (before + turn + offset) (before + low) < half
-near_before half turn before offset low is small up below fits = omega arith
+near_before : (half modulus before offset low : ℕ) → modulus ≡ 2 * half → 4 * half ≤ 2 ^ 64 → offset + half < low → low < modulus → before + modulus + offset < 2 ^ 64
+    → distance (before + modulus + offset) (before + low) < half
+near_before half modulus before offset low is small up below fits = omega arith
 
-near_wrapped_before : (half turn last offset low : ℕ) → turn ≡ 2 * half → 4 * half ≤ 2 ^ 64 → offset + half < low → low < turn → last + turn ≡ 2 ^ 64
+near_wrapped_before : (half modulus last offset low : ℕ) → modulus ≡ 2 * half → 4 * half ≤ 2 ^ 64 → offset + half < low → low < modulus → last + modulus ≡ 2 ^ 64
     → distance offset (last + low) < half
-near_wrapped_before half turn last offset low is small up below all = omega arith
+near_wrapped_before half modulus last offset low is small up below all = omega arith
 
-near_after : (half turn front offset low : ℕ) → turn ≡ 2 * half → 4 * half ≤ 2 ^ 64 → low + half < offset → offset < turn → front + turn + low < 2 ^ 64
-    → distance (front + offset) (front + turn + low) < half
-near_after half turn front offset low is small down below fits = omega arith
+near_after : (half modulus front offset low : ℕ) → modulus ≡ 2 * half → 4 * half ≤ 2 ^ 64 → low + half < offset → offset < modulus → front + modulus + low < 2 ^ 64
+    → distance (front + offset) (front + modulus + low) < half
+near_after half modulus front offset low is small down below fits = omega arith
 
-near_wrapped_after : (half turn front offset low : ℕ) → turn ≡ 2 * half → 4 * half ≤ 2 ^ 64 → low + half < offset → offset < turn → front + turn ≡ 2 ^ 64
+near_wrapped_after : (half modulus front offset low : ℕ) → modulus ≡ 2 * half → 4 * half ≤ 2 ^ 64 → low + half < offset → offset < modulus → front + modulus ≡ 2 ^ 64
     → distance (front + offset) low < half
-near_wrapped_after half turn front offset low is small down below all = omega arith
+near_wrapped_after half modulus front offset low is small down below all = omega arith
 
 -- ---- the three answers
 
-module _ (turn previous low : ℕ) (is : IsTurn turn) (fits : previous < 2 ^ 64) (below : low < turn) where
-  overwritten : InTurn turn previous is.turns
-  overwritten = in_turn turn previous is fits
+module _ (modulus previous low : ℕ) (is : IsModulus modulus) (fits : previous < 2 ^ 64) (below : low < modulus) where
+  placed : IsSplit modulus previous is.rollovers
+  placed = split modulus previous is fits
 
-  half-is : turn / 2 ≡ is.half
+  half-is : modulus / 2 ≡ is.half
   half-is = let h = is.halves in omega arith
 
-  pub same_turn-near : low ≤ previous % turn + turn / 2 → previous % turn ≤ low + turn / 2 → IsNearby turn previous low (previous - previous % turn + low)
-  same_turn-near up down =
-      let whole = overwritten.whole in
-      let room = overwritten.fits in
-      let at : previous - previous % turn + low ≡ previous / turn * turn + low = omega arith in
-      let near = near_same is.half (previous / turn * turn) (previous % turn) low (half-small turn is) (omega (arith, half-is)) (omega (arith, half-is)) (omega arith) (omega arith) in
-      IsNearby-at turn previous low (previous - previous % turn + low) (previous / turn) below at (omega arith) (rw half-is (elim near [
-        | inl less ↦ inl (rw at (subst (λ (p : ℕ). distance p (previous / turn * turn + low) < is.half) whole less))
-        | inr just ↦ inr (rw at (subst (λ (p : ℕ). distance p (previous / turn * turn + low) ≡ is.half) whole just), refl)
+  pub same_rollover-near : low ≤ previous % modulus + modulus / 2 → previous % modulus ≤ low + modulus / 2 → IsNearby modulus previous low (previous - previous % modulus + low)
+  same_rollover-near up down =
+      let whole = placed.whole in
+      let room = placed.fits in
+      let at : previous - previous % modulus + low ≡ previous / modulus * modulus + low = omega arith in
+      let near = near_same is.half (previous / modulus * modulus) (previous % modulus) low (half-small modulus is) (omega (arith, half-is)) (omega (arith, half-is)) (omega arith) (omega arith) in
+      IsNearby-at modulus previous low (previous - previous % modulus + low) (previous / modulus) below at (omega arith) (rw half-is (elim near [
+        | inl less ↦ inl (rw at (subst (λ (p : ℕ). distance p (previous / modulus * modulus + low) < is.half) whole less))
+        | inr just ↦ inr (rw at (subst (λ (p : ℕ). distance p (previous / modulus * modulus + low) ≡ is.half) whole just), refl)
       ]))
 
-  pub turn_before-near : previous % turn + turn / 2 < low → IsNearby turn previous low ((previous - previous % turn + low + (2 ^ 64 - turn)) % 2 ^ 64)
-  turn_before-near up =
-      let whole = overwritten.whole in
-      let room = overwritten.fits in
-      elim (cases_lt 0 (previous / turn)) [
+  pub rollover_before-near : previous % modulus + modulus / 2 < low → IsNearby modulus previous low ((previous - previous % modulus + low + (2 ^ 64 - modulus)) % 2 ^ 64)
+  rollover_before-near up =
+      let whole = placed.whole in
+      let room = placed.fits in
+      elim (cases_lt 0 (previous / modulus)) [
         | inl some ↦
-            let before = (previous / turn - 1) * turn in
-            let one : before + turn ≡ previous / turn * turn = sym (ap (λ (k : ℕ). k * turn) (let e : previous / turn ≡ suc (previous / turn - 1) = omega arith in e) ∙ suc-mul (previous / turn - 1) turn) in
-            let at : (previous - previous % turn + low + (2 ^ 64 - turn)) % 2 ^ 64 ≡ before + low = omega arith in
-            let here : before + turn + previous % turn ≡ previous = omega arith in
-            let near = near_before is.half turn before (previous % turn) low is.halves (half-small turn is) (omega (arith, half-is)) below (omega arith) in
-            IsNearby-at turn previous low _ (previous / turn - 1) below at (omega arith)
+            let before = (previous / modulus - 1) * modulus in
+            let one : before + modulus ≡ previous / modulus * modulus = sym (ap (λ (k : ℕ). k * modulus) (let e : previous / modulus ≡ suc (previous / modulus - 1) = omega arith in e) ∙ suc-mul (previous / modulus - 1) modulus) in
+            let at : (previous - previous % modulus + low + (2 ^ 64 - modulus)) % 2 ^ 64 ≡ before + low = omega arith in
+            let here : before + modulus + previous % modulus ≡ previous = omega arith in
+            let near = near_before is.half modulus before (previous % modulus) low is.halves (half-small modulus is) (omega (arith, half-is)) below (omega arith) in
+            IsNearby-at modulus previous low _ (previous / modulus - 1) below at (omega arith)
             (inl (rw (at, half-is) (subst (λ (p : ℕ). distance p (before + low) < is.half) here near)))
         | inr none ↦
-            let first : previous / turn ≡ 0 = omega arith in
-            let start : previous / turn * turn ≡ 0 = ap (λ (k : ℕ). k * turn) first ∙ zero-mul turn in
-            let last = (is.turns - 1) * turn in
-            let all : last + turn ≡ 2 ^ 64 = sym (ap (λ (k : ℕ). k * turn) (let many = is.many in let e : is.turns ≡ suc (is.turns - 1) = omega arith in e) ∙ suc-mul (is.turns - 1) turn) ∙ is.whole in
-            let at : (previous - previous % turn + low + (2 ^ 64 - turn)) % 2 ^ 64 ≡ last + low = omega arith in
-            let here : previous % turn ≡ previous = omega arith in
-            let near = near_wrapped_before is.half turn last (previous % turn) low is.halves (half-small turn is) (omega (arith, half-is)) below all in
-            IsNearby-at turn previous low _ (is.turns - 1) below at (omega arith)
+            let first : previous / modulus ≡ 0 = omega arith in
+            let start : previous / modulus * modulus ≡ 0 = ap (λ (k : ℕ). k * modulus) first ∙ zero-mul modulus in
+            let last = (is.rollovers - 1) * modulus in
+            let all : last + modulus ≡ 2 ^ 64 = sym (ap (λ (k : ℕ). k * modulus) (let many = is.many in let e : is.rollovers ≡ suc (is.rollovers - 1) = omega arith in e) ∙ suc-mul (is.rollovers - 1) modulus) ∙ is.whole in
+            let at : (previous - previous % modulus + low + (2 ^ 64 - modulus)) % 2 ^ 64 ≡ last + low = omega arith in
+            let here : previous % modulus ≡ previous = omega arith in
+            let near = near_wrapped_before is.half modulus last (previous % modulus) low is.halves (half-small modulus is) (omega (arith, half-is)) below all in
+            IsNearby-at modulus previous low _ (is.rollovers - 1) below at (omega arith)
             (inl (rw (at, half-is) (subst (λ (p : ℕ). distance p (last + low) < is.half) here near)))
       ]
 
-  pub turn_after-near : low + turn / 2 < previous % turn → IsNearby turn previous low ((previous - previous % turn + low + turn) % 2 ^ 64)
-  turn_after-near down =
-      let whole = overwritten.whole in
-      let room = overwritten.fits in
-      let inside = overwritten.below in
-      let front = previous / turn * turn in
-      elim (cases_lt (suc (previous / turn)) is.turns) [
+  pub rollover_after-near : low + modulus / 2 < previous % modulus → IsNearby modulus previous low ((previous - previous % modulus + low + modulus) % 2 ^ 64)
+  rollover_after-near down =
+      let whole = placed.whole in
+      let room = placed.fits in
+      let inside = placed.below in
+      let front = previous / modulus * modulus in
+      elim (cases_lt (suc (previous / modulus)) is.rollovers) [
         | inl more ↦
-            let next : suc (previous / turn) * turn ≡ front + turn = suc-mul (previous / turn) turn in
-            let over : suc (suc (previous / turn)) * turn ≤ is.turns * turn = mul-le (suc (suc (previous / turn))) turn is.turns turn (omega arith) (omega arith) in
-            let fits' : front + turn + turn ≤ 2 ^ 64 = omega (arith, suc-mul (suc (previous / turn)) turn, is.whole, over, next) in
-            let at : (previous - previous % turn + low + turn) % 2 ^ 64 ≡ suc (previous / turn) * turn + low = omega arith in
-            let near = near_after is.half turn front (previous % turn) low is.halves (half-small turn is) (omega (arith, half-is)) inside (omega arith) in
-            IsNearby-at turn previous low _ (suc (previous / turn)) below at (omega arith)
-            (inl (rw (at, half-is, next) (subst (λ (p : ℕ). distance p (front + turn + low) < is.half) whole near)))
+            let next : suc (previous / modulus) * modulus ≡ front + modulus = suc-mul (previous / modulus) modulus in
+            let over : suc (suc (previous / modulus)) * modulus ≤ is.rollovers * modulus = mul-le (suc (suc (previous / modulus))) modulus is.rollovers modulus (omega arith) (omega arith) in
+            let fits' : front + modulus + modulus ≤ 2 ^ 64 = omega (arith, suc-mul (suc (previous / modulus)) modulus, is.whole, over, next) in
+            let at : (previous - previous % modulus + low + modulus) % 2 ^ 64 ≡ suc (previous / modulus) * modulus + low = omega arith in
+            let near = near_after is.half modulus front (previous % modulus) low is.halves (half-small modulus is) (omega (arith, half-is)) inside (omega arith) in
+            IsNearby-at modulus previous low _ (suc (previous / modulus)) below at (omega arith)
+            (inl (rw (at, half-is, next) (subst (λ (p : ℕ). distance p (front + modulus + low) < is.half) whole near)))
         | inr last ↦
-            let end : suc (previous / turn) ≡ is.turns = let e = overwritten.before in omega arith in
-            let all : front + turn ≡ 2 ^ 64 = sym (suc-mul (previous / turn) turn) ∙ ap (λ (k : ℕ). k * turn) end ∙ is.whole in
-            let at : (previous - previous % turn + low + turn) % 2 ^ 64 ≡ 0 * turn + low = omega (arith, zero-mul turn) in
-            let near = near_wrapped_after is.half turn front (previous % turn) low is.halves (half-small turn is) (omega (arith, half-is)) inside all in
-            IsNearby-at turn previous low _ 0 below at (omega (arith, zero-mul turn))
-            (inl (rw (at, half-is, zero-mul turn, zero-add low) (subst (λ (p : ℕ). distance p low < is.half) whole near)))
+            let end : suc (previous / modulus) ≡ is.rollovers = let e = placed.before in omega arith in
+            let all : front + modulus ≡ 2 ^ 64 = sym (suc-mul (previous / modulus) modulus) ∙ ap (λ (k : ℕ). k * modulus) end ∙ is.whole in
+            let at : (previous - previous % modulus + low + modulus) % 2 ^ 64 ≡ 0 * modulus + low = omega (arith, zero-mul modulus) in
+            let near = near_wrapped_after is.half modulus front (previous % modulus) low is.halves (half-small modulus is) (omega (arith, half-is)) inside all in
+            IsNearby-at modulus previous low _ 0 below at (omega (arith, zero-mul modulus))
+            (inl (rw (at, half-is, zero-mul modulus, zero-add low) (subst (λ (p : ℕ). distance p low < is.half) whole near)))
       ]
+
+-- ---- how far after the previous number the next one stands that has the low bits
+
+-- `ahead` is that distance
+pub IsAhead : (modulus previous low ahead : ℕ) → Type 0
+IsAhead modulus previous low ahead =
+    ((previous % modulus ≤ low) × (ahead ≡ low - previous % modulus)) ⊎ ((low < previous % modulus) × (ahead ≡ low + modulus - previous % modulus))
+
+module _ (modulus previous low : ℕ) (is : IsModulus modulus) (fits : previous < 2 ^ 64) (below : low < modulus) where
+  rest-is : (count : ℕ) → count ≤ is.rollovers → (is.rollovers - count) * modulus + count * modulus ≡ 2 ^ 64
+  rest-is count few = sym (add-mul (is.rollovers - count) count modulus) ∙ ap (λ (k : ℕ). k * modulus) (let e : is.rollovers - count + count ≡ is.rollovers = omega arith in e) ∙ is.whole
+
+  pub IsAhead-computed : IsAhead modulus previous low ((low + (2 ^ 64 - previous)) % 2 ^ 64 % modulus)
+  unfolding IsAhead
+  IsAhead-computed =
+      let at = split modulus previous is fits in
+      let whole = at.whole in
+      let inside = at.below in
+      let before = at.before in
+      let rollovers = previous / modulus in
+      elim (cases_lt low (previous % modulus)) [
+        | inl down ↦
+            let rest = (is.rollovers - suc rollovers) * modulus in
+            let all = rest-is (suc rollovers) (omega arith) in
+            let e : (low + (2 ^ 64 - previous)) % 2 ^ 64 ≡ rest + (low + modulus - previous % modulus) = omega (arith, all, suc-mul rollovers modulus) in
+            inr (down, ap (λ (n : ℕ). n % modulus) e ∙ mod-mul-add (is.rollovers - suc rollovers) modulus (low + modulus - previous % modulus) (omega arith))
+        | inr up ↦ inl (
+          up,
+          elim (cases_lt 0 rollovers) [
+            | inl some ↦
+                let rest = (is.rollovers - rollovers) * modulus in
+                let all = rest-is rollovers (omega arith) in
+                let one : 1 * modulus ≤ rollovers * modulus = mul-le 1 modulus rollovers modulus (omega arith) (omega arith) in
+                let e : (low + (2 ^ 64 - previous)) % 2 ^ 64 ≡ rest + (low - previous % modulus) = omega (arith, all, one) in
+                ap (λ (n : ℕ). n % modulus) e ∙ mod-mul-add (is.rollovers - rollovers) modulus (low - previous % modulus) (omega arith)
+            | inr none ↦
+                let start : rollovers * modulus ≡ 0 = ap (λ (k : ℕ). k * modulus) (let e : rollovers ≡ 0 = omega arith in e) ∙ zero-mul modulus in
+                let e : (low + (2 ^ 64 - previous)) % 2 ^ 64 ≡ low - previous % modulus = omega (arith, start) in
+                ap (λ (n : ℕ). n % modulus) e ∙ mod-eq_of_lt (omega arith)
+          ],
+        )
+      ]
+
+  -- the number so far ahead is nearest if it is less than half of the modulus ahead, or just half and of the same rollover count
+  pub IsNearby-ahead : (ahead : ℕ) → IsAhead modulus previous low ahead → (ahead < modulus / 2) ⊎ ((ahead ≡ modulus / 2) × (previous % modulus < modulus / 2))
+      → IsNearby modulus previous low ((previous + ahead) % 2 ^ 64)
+  unfolding IsAhead
+  IsNearby-ahead ahead (inl same) near =
+      let at = split modulus previous is fits in
+      let up = same.0 in
+      let e : (previous + ahead) % 2 ^ 64 ≡ previous - previous % modulus + low = omega (arith, same.1, at.whole, at.fits) in
+      rw e (same_rollover-near modulus previous low is fits below (elim near [ inl less ↦ omega (arith, same.1) | inr just ↦ omega (arith, same.1, just.0) ]) (omega arith))
+  IsNearby-ahead ahead (inr after) near =
+      let at = split modulus previous is fits in
+      let down = after.0 in
+      let halves = is.halves in
+      let e : (previous + ahead) % 2 ^ 64 ≡ (previous - previous % modulus + low + modulus) % 2 ^ 64 = omega (arith, after.1, at.whole, at.below) in
+      rw e (rollover_after-near modulus previous low is fits below (elim near [ inl less ↦ omega (arith, after.1, at.below) | inr just ↦ absurd (omega (arith, after.1, at.below, just.0, just.1)) ]))
+
+  -- otherwise the one before it is
+  pub IsNearby-behind : (ahead : ℕ) → IsAhead modulus previous low ahead → modulus / 2 ≤ ahead → (ahead ≡ modulus / 2 → modulus / 2 ≤ previous % modulus)
+      → IsNearby modulus previous low (((previous + ahead) % 2 ^ 64 + (2 ^ 64 - modulus)) % 2 ^ 64)
+  unfolding IsAhead
+  IsNearby-behind ahead (inl same) far tie =
+      let at = split modulus previous is fits in
+      let up = same.0 in
+      let halves = is.halves in
+      let e : ((previous + ahead) % 2 ^ 64 + (2 ^ 64 - modulus)) % 2 ^ 64 ≡ (previous - previous % modulus + low + (2 ^ 64 - modulus)) % 2 ^ 64 = omega (arith, same.1, at.whole, at.fits) in
+      rw e (rollover_before-near modulus previous low is fits below (elim (cases_eq ahead (modulus / 2)) [
+        | inl just ↦ absurd (let high = tie just in omega (arith, same.1, just, high))
+        | inr more ↦ omega (arith, same.1, more)
+      ]))
+  IsNearby-behind ahead (inr after) far tie =
+      let at = split modulus previous is fits in
+      let down = after.0 in
+      let halves = is.halves in
+      let room = at.fits in
+      let e : ((previous + ahead) % 2 ^ 64 + (2 ^ 64 - modulus)) % 2 ^ 64 ≡ previous - previous % modulus + low = omega (arith, after.1, at.whole, at.below) in
+      rw e (same_rollover-near modulus previous low is fits below (omega arith) (omega (arith, after.1, at.below)))
 
 -- ---- there is one nearest number
 
-near-le : (turn previous number : ℕ) {P : Type 0} → (distance previous number < turn / 2) ⊎ ((distance previous number ≡ turn / 2) × P) → distance previous number ≤ turn / 2
-near-le turn previous number (inl less) = omega arith
-near-le turn previous number (inr just) = let half = just.0 in omega arith
+near-le : (modulus previous number : ℕ) {P : Type 0} → (distance previous number < modulus / 2) ⊎ ((distance previous number ≡ modulus / 2) × P) → distance previous number ≤ modulus / 2
+near-le modulus previous number (inl less) = omega arith
+near-le modulus previous number (inr just) = let half = just.0 in omega arith
 
--- two numbers a turn or more apart, both ways round, can't both be nearer than half a turn
-apart : (turn half previous a b : ℕ) → turn ≡ 2 * half → 4 * half ≤ 2 ^ 64 → previous < 2 ^ 64 → a < 2 ^ 64 → b < 2 ^ 64 → a + turn ≤ b → b + turn ≤ a + 2 ^ 64
+-- two numbers that are the modulus or more apart, both ways round, can't both be nearer than half of it
+apart : (modulus half previous a b : ℕ) → modulus ≡ 2 * half → 4 * half ≤ 2 ^ 64 → previous < 2 ^ 64 → a < 2 ^ 64 → b < 2 ^ 64 → a + modulus ≤ b → b + modulus ≤ a + 2 ^ 64
     → distance previous a ≤ half → distance previous b ≤ half → (half ≤ distance previous a) × (half ≤ distance previous b)
-apart turn half previous a b is small p-fits a-fits b-fits up round near-a near-b = (omega arith, omega arith)
+apart modulus half previous a b is small p-fits a-fits b-fits up round near-a near-b = (omega arith, omega arith)
 
-module _ (turn previous low : ℕ) (is : IsTurn turn) (fits : previous < 2 ^ 64) where
-  -- of two numbers in different turns, one is too far
-  later : (a b : ℕ) → IsNearby turn previous low a → IsNearby turn previous low b → a / turn < b / turn → ⊥
+module _ (modulus previous low : ℕ) (is : IsModulus modulus) (fits : previous < 2 ^ 64) where
+  -- of two numbers with different rollover counts, one is too far
+  later : (a b : ℕ) → IsNearby modulus previous low a → IsNearby modulus previous low b → a / modulus < b / modulus → ⊥
   later a b near-a near-b before =
-      let at-a = in_turn turn a is near-a.fits in
-      let at-b = in_turn turn b is near-b.fits in
+      let at-a = split modulus a is near-a.fits in
+      let at-b = split modulus b is near-b.fits in
       let halves = is.halves in
-      let half : turn / 2 ≡ is.half = omega arith in
-      let step : suc (a / turn) * turn ≤ b / turn * turn = mul-le (suc (a / turn)) turn (b / turn) turn before (omega arith) in
-      let up : a + turn ≤ b = omega (arith, step, suc-mul (a / turn) turn, at-a.whole, at-b.whole, near-a.ends, near-b.ends) in
-      let round : b + turn ≤ a + 2 ^ 64 = omega (arith, at-b.fits, at-a.whole, at-b.whole, near-a.ends, near-b.ends) in
-      let both = apart turn is.half previous a b is.halves (half-small turn is) fits near-a.fits near-b.fits up round
-      (omega (arith, near-le turn previous a near-a.near)) (omega (arith, near-le turn previous b near-b.near)) in
-      let same-a : a / turn ≡ previous / turn = elim near-a.near [ inl less ↦ absurd (omega (arith, both.0)) | inr just ↦ just.1 ] in
-      let same-b : b / turn ≡ previous / turn = elim near-b.near [ inl less ↦ absurd (omega (arith, both.1)) | inr just ↦ just.1 ] in
+      let half : modulus / 2 ≡ is.half = omega arith in
+      let step : suc (a / modulus) * modulus ≤ b / modulus * modulus = mul-le (suc (a / modulus)) modulus (b / modulus) modulus before (omega arith) in
+      let up : a + modulus ≤ b = omega (arith, step, suc-mul (a / modulus) modulus, at-a.whole, at-b.whole, near-a.ends, near-b.ends) in
+      let round : b + modulus ≤ a + 2 ^ 64 = omega (arith, at-b.fits, at-a.whole, at-b.whole, near-a.ends, near-b.ends) in
+      let both = apart modulus is.half previous a b is.halves (half-small modulus is) fits near-a.fits near-b.fits up round
+      (omega (arith, near-le modulus previous a near-a.near)) (omega (arith, near-le modulus previous b near-b.near)) in
+      let same-a : a / modulus ≡ previous / modulus = elim near-a.near [ inl less ↦ absurd (omega (arith, both.0)) | inr just ↦ just.1 ] in
+      let same-b : b / modulus ≡ previous / modulus = elim near-b.near [ inl less ↦ absurd (omega (arith, both.1)) | inr just ↦ just.1 ] in
       omega arith
 
-  pub one_nearby : (a b : ℕ) → IsNearby turn previous low a → IsNearby turn previous low b → a ≡ b
+  pub one_nearby : (a b : ℕ) → IsNearby modulus previous low a → IsNearby modulus previous low b → a ≡ b
   one_nearby a b near-a near-b =
-      elim (cases_order (a / turn) (b / turn)) [
+      elim (cases_order (a / modulus) (b / modulus)) [
         | inl same ↦
-            sym (div-add-mod' a turn) ∙ ap (λ (k : ℕ). k * turn + a % turn) same
-            ∙ ap (λ (k : ℕ). b / turn * turn + k) (near-a.ends ∙ sym near-b.ends) ∙ div-add-mod' b turn
+            sym (div-add-mod' a modulus) ∙ ap (λ (k : ℕ). k * modulus + a % modulus) same
+            ∙ ap (λ (k : ℕ). b / modulus * modulus + k) (near-a.ends ∙ sym near-b.ends) ∙ div-add-mod' b modulus
         | inr (inl before) ↦ absurd (later a b near-a near-b before)
         | inr (inr after) ↦ absurd (later b a near-b near-a after)
       ]
@@ -182,30 +261,30 @@ module _ (turn previous low : ℕ) (is : IsTurn turn) (fits : previous < 2 ^ 64)
 half-pow : (bits : ℕ) → 0 < bits → 2 ^ bits ≡ 2 * 2 ^ (bits - 1)
 half-pow bits some = let e : bits ≡ suc (bits - 1) = omega arith in ap (λ (k : ℕ). 2 ^ k) e ∙ pow-suc 2 (bits - 1) ∙ mul_comm (2 ^ (bits - 1)) 2
 
-pub IsTurn-pow : (bits : ℕ) → 0 < bits → bits ≤ 32 → IsTurn (2 ^ bits)
-IsTurn-pow bits some few = record {
+pub IsModulus-pow : (bits : ℕ) → 0 < bits → bits ≤ 32 → IsModulus (2 ^ bits)
+IsModulus-pow bits some few = record {
   half = 2 ^ (bits - 1);
   halves = half-pow bits some;
   some = pow_pos (bits - 1);
-  turns = 2 ^ (64 - bits);
+  rollovers = 2 ^ (64 - bits);
   whole = sym (pow-add 2 (64 - bits) bits) ∙ (let e : 64 - bits + bits ≡ 64 = omega arith in ap (λ (k : ℕ). 2 ^ k) e);
   many = let one : 1 ≤ 2 ^ (64 - bits - 1) = pow_pos (64 - bits - 1) in omega (arith, half-pow (64 - bits) (omega arith), one);
 }
 
-half-turn : (bits : ℕ) → 0 < bits → 2 ^ bits / 2 ≡ 2 ^ (bits - 1)
-half-turn bits some = omega (arith, half-pow bits some)
+half-modulus : (bits : ℕ) → 0 < bits → 2 ^ bits / 2 ≡ 2 ^ (bits - 1)
+half-modulus bits some = omega (arith, half-pow bits some)
 
-pub IsNearest-from_turn : (bits previous low number : ℕ) → 0 < bits → IsNearby (2 ^ bits) previous (low % 2 ^ bits) number → IsNearest bits previous low number
-IsNearest-from_turn bits previous low number some near = record { fits = near.fits; ends = near.ends; near = rw (half-turn bits some) at near.near }
+pub IsNearest-from_modulus : (bits previous low number : ℕ) → 0 < bits → IsNearby (2 ^ bits) previous (low % 2 ^ bits) number → IsNearest bits previous low number
+IsNearest-from_modulus bits previous low number some near = record { fits = near.fits; ends = near.ends; near = rw (half-modulus bits some) at near.near }
 
 pub IsNearby-from_bits : (bits previous low number : ℕ) → 0 < bits → IsNearest bits previous low number → IsNearby (2 ^ bits) previous (low % 2 ^ bits) number
-IsNearby-from_bits bits previous low number some near = record { fits = near.fits; ends = near.ends; near = rw (half-turn bits some) near.near }
+IsNearby-from_bits bits previous low number some near = record { fits = near.fits; ends = near.ends; near = rw (half-modulus bits some) near.near }
 
 -- what is nearest is the only one
 pub only_near : (bits : ℕ) (previous : Option ℕ) (low a b : ℕ) → 0 < bits → bits ≤ 32 → IfSome previous (λ p. p < 2 ^ 64) → IsNear bits previous low a → IsNear bits previous low b → a ≡ b
 only_near bits None low a b some few fits near-a near-b = near-a ∙ sym near-b
 only_near bits (Some previous) low a b some few fits near-a near-b =
-    one_nearby (2 ^ bits) previous (low % 2 ^ bits) (IsTurn-pow bits some few) fits a b
+    one_nearby (2 ^ bits) previous (low % 2 ^ bits) (IsModulus-pow bits some few) fits a b
     (IsNearby-from_bits bits previous low a some near-a) (IsNearby-from_bits bits previous low b some near-b)
 
 -- what is close is nearest

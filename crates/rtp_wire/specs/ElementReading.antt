@@ -1,8 +1,19 @@
 -- The elements of bytes from the front on: what `Elements` holds.
-use Rattle.std.specs.Prelude.{ℕ, zero, suc, ◌+◌, ◌/◌, ◌%◌, List, [], ◌∷◌, length, take, Option, Some, None, nat_lt, nat_le, ◌&&◌, if◌then◌else◌}
+use Rattle.std.specs.Prelude.{◌≡◌, ℕ, zero, suc, ◌+◌, ◌/◌, ◌%◌, List, [], ◌∷◌, length, take, Option, Some, None, nat_lt, nat_le, ◌&&◌, if◌then◌else◌}
+use Rattle.std.specs.Borrow.{Bor}
 use Rattle.rtp_wire.specs.declared.ext.form.ExtensionsForm.{ExtensionsForm}
 use Rattle.rtp_wire.specs.declared.ext.form.ExtensionsForm.TheVariants.{OneByte, TwoByte}
 use Rattle.rtp_wire.specs.Elements.{Element}
+
+-- the bytes behind the padding at their front
+unfoldable pub without_padding : List ℕ → List ℕ
+without_padding [] = []
+without_padding (zero ∷ bytes) = without_padding bytes
+without_padding (suc byte ∷ bytes) = suc byte ∷ bytes
+
+-- no padding at their front
+abbrev pub IsUnpadded : List ℕ → Type 0
+IsUnpadded bytes = without_padding bytes ≡ bytes
 
 -- the element whose header begins with this byte, which is no padding, and how many of the bytes behind it are the element's; none where it ends reading
 abbrev pub element_at : ExtensionsForm → ℕ → List ℕ → Option (Element × ℕ)
@@ -29,3 +40,8 @@ elements_behind form zero (suc byte ∷ bytes) = in_front (element_at form (suc 
 -- the elements of the bytes
 abbrev pub elements_left : ExtensionsForm → List ℕ → List Element
 elements_left form bytes = elements_behind form 0 bytes
+
+-- what is first read: an element, its data and the bytes behind it, or that there is none
+abbrev pub IsFirst : ExtensionsForm → List ℕ → Option (ℕ × Bor (List ℕ) × Bor (List ℕ)) → Type 0
+IsFirst form bytes None = elements_left form bytes ≡ []
+IsFirst form bytes (Some first) = elements_left form bytes ≡ (first.0, first.1.now) ∷ elements_left form first.2.now

@@ -19,7 +19,9 @@ pub mod Verdicts
 pub mod KindTable
 pub mod MapSlots
 pub mod EqualMaps
+pub mod KindBytes
 pub mod ElementReading
 pub mod Reading
 pub mod Overwriting
-pub mod Turns
+pub mod ElementWriting
+pub mod Moduli

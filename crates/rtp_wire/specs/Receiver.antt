@@ -1,6 +1,6 @@
 -- What one stream's receiver holds, and its rule for a number (RFC 3711, 3.3.1 and 3.3.2).
 use Rattle.std.specs.Prelude.{◌≡◌, ℕ, ◌⊎◌, false, Option, Some, None}
-use Rattle.rtp_base.specs.Window.{Numbers, Places, IsGreatest, Keeps, Accepts, including}
+use Rattle.rtp_base.specs.Window.{Numbers, WindowState, IsGreatest, Keeps, Accepts, including}
 use Rattle.rtp_wire.specs.Widening.{IsNear}
 use Rattle.rtp_wire.specs.declared.receive.verdict.Verdict.{Verdict}
 use Rattle.rtp_wire.specs.declared.receive.verdict.Verdict.TheVariants.{Unreadable, Taken, Refused}
@@ -15,7 +15,7 @@ IsHighest taken None = IsNothing taken
 IsHighest taken (Some highest) = IsGreatest taken highest
 
 -- a receiver holds the set of the numbers that it has taken: none yet, or a replay window keeps them
-abbrev pub Holds : Option Places → Numbers → Type 0
+abbrev pub Holds : Option WindowState → Numbers → Type 0
 Holds None taken = IsNothing taken
 Holds (Some window) taken = Keeps window taken
 

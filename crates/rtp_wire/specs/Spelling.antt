@@ -1,6 +1,6 @@
 -- The data that each kind's values are written as, and what they are read as again.
-use Rattle.std.specs.Prelude.{ℕ, zero, suc, ℤ, ◌+◌, ◌*◌, ◌/◌, ◌%◌, ◌^◌, List, [], ◌∷◌, ◌++◌, replicate, Bool, unsigned_abs, neg_ℤ, pos, Option, Some, None}
-use Rattle.std.specs.Option.{option_map}
+use Rattle.std.specs.Prelude.{ℕ, zero, suc, ℤ, ◌+◌, ◌*◌, ◌/◌, ◌%◌, ◌^◌, ◌<◌, ◌≤◌, List, [], ◌∷◌, ◌++◌, length, replicate, unsigned_abs, neg_ℤ, pos, Option, Some, None}
+use Rattle.std.specs.Option.{option_map, ForSome}
 use Rattle.std.specs.Int.{w64, cast_unsigned}
 use Rattle.rtp_base.specs.Id.{before_padding}
 use Rattle.rtp_base.specs.MediaTime.{Fraction, whole_ticks}
@@ -68,6 +68,11 @@ spelled_data RtpMid values = option_map before_padding values.mid
 spelled_data FrameMarking values = option_map (bytes_of 4) values.frame_mark
 spelled_data ColorSpace values = None
 spelled_data (UnknownUri uri) values = None
+
+-- the buffer has room for the data: 255 bytes always suffice
+abbrev pub HasRoom : Extension → ExtensionValues → List ℕ → Type 0
+HasRoom kind values buf =
+    length buf < 255 → ForSome (spelled_data kind values) (λ bytes. length bytes ≤ length buf)
 
 -- what the written data are read as: a level's magnitude modulo 128, whole ticks of a send time modulo 64 seconds, whole hundredths of a delay modulo 4096, and every other value as it is
 unfoldable pub carried_values : ExtensionValues → ExtensionValues

@@ -1,5 +1,5 @@
 -- What the data of an element say, by its kind, and the values of a block.
-use Rattle.std.specs.Prelude.{◌≡◌, ◌≢◌, ℕ, ℤ, ◌+◌, ◌*◌, ◌/◌, ◌%◌, ◌^◌, ◌≤◌, List, [], ◌∷◌, ◌++◌, length, take, drop, slice_index, slice_range, Bool, ◌==◌, nat_le, if◌then◌else◌, neg_ℤ, pos, Option, Some, None, IsSomeAnd, All}
+use Rattle.std.specs.Prelude.{◌≡◌, ℕ, ℤ, ◌+◌, ◌*◌, ◌/◌, ◌%◌, ◌^◌, ◌≤◌, List, [], ◌∷◌, ◌++◌, length, take, drop, slice_index, slice_range, ◌==◌, nat_le, if◌then◌else◌, neg_ℤ, pos, Option, Some, None, IsSomeAnd, All}
 use Rattle.std.specs.Int.{w64, cast_signed}
 use Rattle.std.specs.Str.{IsUtf8}
 use Rattle.rtp_base.specs.Id.{IsIdOf}
@@ -7,7 +7,6 @@ use Rattle.rtp_base.specs.MediaTime.{Fraction}
 use Rattle.rtp_wire.specs.declared.ext.kind.Extension.{Extension}
 use Rattle.rtp_wire.specs.declared.ext.kind.Extension.TheVariants.{AbsoluteSendTime, AbsoluteCaptureTime, AudioLevel, TransmissionTimeOffset, VideoOrientation, TransportSequenceNumber, PlayoutDelay, VideoContentType, VideoTiming, RtpStreamId, RepairedRtpStreamId, RtpMid, FrameMarking, ColorSpace, UnknownUri}
 use Rattle.rtp_wire.specs.declared.ext.value.values.ExtensionValues.{ExtensionValues}
-use Rattle.rtp_wire.specs.declared.ext.value.abs_capture_time.AbsCaptureTime.{AbsCaptureTime}
 use Rattle.rtp_wire.specs.declared.ext.value.video_orientation.VideoOrientation as orientation
 use Rattle.rtp_wire.specs.declared.ext.value.video_orientation.VideoOrientation.TheVariants.{Deg0, Deg90, Deg180, Deg270}
 use Rattle.rtp_wire.specs.Elements.{Element}

@@ -1,22 +1,22 @@
--- A number of 64 bits by its low bits, from the number before it (RFC 3711, 3.3.1 and appendix A).
+-- The extended number of 64 bits by the low bits that the wire carries, from a previous extended number (RFC 3711, 3.3.1 and appendix A).
 use Rattle.std.specs.Prelude.{◌≡◌, ℕ, ◌-◌, ◌/◌, ◌%◌, ◌^◌, ◌<◌, ◌⊎◌, min, max, Option, Some, None}
 
--- how far apart two numbers are, round the circle of 2^64 of them
+-- how far apart two numbers are, modulo 2^64
 abbrev pub distance : ℕ → ℕ → ℕ
 distance a b = min (max a b - min a b) (2 ^ 64 - (max a b - min a b))
 
--- the number ends in the low bits, and of all that do it is the nearest to the previous one: less than half a turn of those bits away, or just half a turn away and with the rollover count of the previous one
+-- the number ends in the low bits, and of all that do it is the nearest to the previous one: less than half of the low bits' number space away, or just half of it and with the rollover count of the previous one
 pub record IsNearest (bits previous low number : ℕ) : Type 0 where
   pub fits : number < 2 ^ 64
   pub ends : number % 2 ^ bits ≡ low % 2 ^ bits
   pub near : (distance previous number < 2 ^ (bits - 1)) ⊎ ((distance previous number ≡ 2 ^ (bits - 1)) × (number / 2 ^ bits ≡ previous / 2 ^ bits))
 
--- what the low bits are widened to: with nothing before them, to themselves
+-- the extended number: with no previous number it is the low bits alone
 abbrev pub IsNear : ℕ → Option ℕ → ℕ → ℕ → Type 0
 IsNear bits None low number = number ≡ low % 2 ^ bits
 IsNear bits (Some previous) low number = IsNearest bits previous low number
 
--- the number that ends in the low bits and is less than half a turn away from the previous one, if there is one
+-- the number ends in the low bits and is less than half of their number space away from the previous one, if there is one
 abbrev pub IsClose : ℕ → Option ℕ → ℕ → ℕ → Type 0
 IsClose bits None low number = ⊥
 IsClose bits (Some previous) low number = (number < 2 ^ 64) × (number % 2 ^ bits ≡ low % 2 ^ bits) × (distance previous number < 2 ^ (bits - 1))

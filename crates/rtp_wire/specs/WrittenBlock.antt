@@ -1,14 +1,19 @@
 -- The elements of a block as they are written (RFC 8285, 4.2 and 4.3).
-use Rattle.std.specs.Prelude.{ℕ, ◌+◌, List, length, Bool, ◌||◌, ◌==◌, nat_lt, if◌then◌else◌, Option, Some, None}
+use Rattle.std.specs.Prelude.{ℕ, ◌+◌, ◌-◌, ◌/◌, ◌%◌, List, ◌++◌, length, replicate, Bool, ◌||◌, ◌==◌, nat_lt, if◌then◌else◌, Option, Some, None}
 use Rattle.std.specs.Option.{option_map}
 use Rattle.std.specs.List.{flat_map, filter_map, list_any}
+use Rattle.std.specs.Int.{w16, to_be_bytes}
+use Rattle.rtp_wire.specs.Form.{form_word}
 use Rattle.rtp_wire.specs.declared.ext.form.ExtensionsForm.{ExtensionsForm}
 use Rattle.rtp_wire.specs.declared.ext.form.ExtensionsForm.TheVariants.{OneByte, TwoByte}
 use Rattle.rtp_wire.specs.declared.ext.value.values.ExtensionValues.{ExtensionValues}
+use Rattle.rtp_wire.specs.declared.ext.kind.Extension.{Extension}
+use Rattle.rtp_wire.specs.declared.ext.kind.Extension.TheVariants.{AbsoluteSendTime, AbsoluteCaptureTime, AudioLevel, TransmissionTimeOffset, VideoOrientation, TransportSequenceNumber, PlayoutDelay, VideoContentType, VideoTiming, RtpStreamId, RepairedRtpStreamId, RtpMid, FrameMarking}
+use Rattle.rtp_wire.specs.contracts.ext.kind.ExtensionPartialEq.TheImpl as kind_eq
 use Rattle.rtp_wire.specs.ExtensionMap.{Slots}
 use Rattle.rtp_wire.specs.MapSlots.{items_from}
 use Rattle.rtp_wire.specs.Elements.{Element, element_bytes}
-use Rattle.rtp_wire.specs.Spelling.{spelled_data}
+use Rattle.rtp_wire.specs.Spelling.{spelled_data, carried_values}
 
 -- an element for each mapped id by rising id, where its kind has data to write
 abbrev pub written_elements : Slots → ExtensionValues → List Element
@@ -24,3 +29,49 @@ form_of exts values =
 -- the elements in a row
 abbrev pub elements_bytes : ExtensionsForm → List Element → List ℕ
 elements_bytes form elements = flat_map (element_bytes form) elements
+
+-- whether some id is mapped to the kind
+abbrev pub is_mapped : Slots → Extension → Bool
+is_mapped exts kind = list_any (λ item. (kind_eq.ghosts).eq item.1 kind) (items_from 0 exts)
+
+-- a value where its kind is mapped, and nothing where it isn't
+abbrev pub where_mapped : {A : Type 0} → Slots → Extension → Option A → Option A
+where_mapped exts kind value = if is_mapped exts kind then value else None
+
+-- what the written elements are read as: the values that the data of each mapped kind carry, and every other value absent
+unfoldable pub image_values : Slots → ExtensionValues → ExtensionValues
+image_values exts values =
+    let carried = carried_values values in
+    record {
+      audio_level = where_mapped exts AudioLevel carried.audio_level;
+      voice_activity = where_mapped exts AudioLevel carried.voice_activity;
+      video_orientation = where_mapped exts VideoOrientation carried.video_orientation;
+      video_content_type = where_mapped exts VideoContentType carried.video_content_type;
+      tx_time_offs = where_mapped exts TransmissionTimeOffset carried.tx_time_offs;
+      abs_send_time = where_mapped exts AbsoluteSendTime carried.abs_send_time;
+      abs_capture_time = where_mapped exts AbsoluteCaptureTime carried.abs_capture_time;
+      transport_cc = where_mapped exts TransportSequenceNumber carried.transport_cc;
+      play_delay_min = where_mapped exts PlayoutDelay carried.play_delay_min;
+      play_delay_max = where_mapped exts PlayoutDelay carried.play_delay_max;
+      video_timing = where_mapped exts VideoTiming carried.video_timing;
+      rid = where_mapped exts RtpStreamId carried.rid;
+      rid_repair = where_mapped exts RepairedRtpStreamId carried.rid_repair;
+      mid = where_mapped exts RtpMid carried.mid;
+      frame_mark = where_mapped exts FrameMarking carried.frame_mark;
+    }
+
+-- as many bytes as the last word lacks
+abbrev pub padding_of : ℕ → ℕ
+padding_of len = (4 - len % 4) % 4
+
+-- the elements, and zeros that fill the last word
+abbrev pub body_bytes : Slots → ExtensionValues → List ℕ
+body_bytes exts values =
+    let bytes = elements_bytes (form_of exts values) (written_elements exts values) in
+    bytes ++ replicate (padding_of (length bytes)) 0
+
+-- a block: the word of its form, the number of its words, and its body
+unfoldable pub block_bytes : Slots → ExtensionValues → List ℕ
+block_bytes exts values =
+    to_be_bytes w16 (form_word (form_of exts values))
+    ++ (to_be_bytes w16 (length (body_bytes exts values) / 4) ++ body_bytes exts values)

@@ -4,6 +4,7 @@
 
 mod ext;
 mod header;
+mod put;
 mod receive;
 
 pub use ext::{

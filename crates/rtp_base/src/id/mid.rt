@@ -1,14 +1,20 @@
-//! The identifier of a media section.
+//! The identification tag of a media section.
 
-ghost use Rattle.std.specs.Prelude.{◌≡◌, ◌↔◌, IsTrue};
+ghost use Rattle.std.specs.Prelude.{◌≡◌, ◌↔◌, IsTrue, IsSome, IfSome, IsUtf8};
 ghost use Rattle.rtp_base.specs.Id.{before_padding, IsIdOf, IsIdArray};
 
 use super::text::IdText;
 use std::fmt;
 use std::marker::Model;
 
-/// The identification tag of a media section, which SDP carries as `a=mid` (RFC 5888, 4), in 16 bytes.
-/// Ids are ordered by their bytes.
+/// The identification tag of a media section, which SDP carries as `a=mid` (RFC 5888, 4). It is
+/// kept in 16 bytes: ASCII letters, digits and underscores, filled up with spaces. Tags are ordered
+/// by these bytes.
+///
+/// ```
+/// assert_eq!(Mid::from("audio-1").as_str(), "audio_1");
+/// assert_eq!(Mid::from("0123456789abcdefg").as_str(), "0123456789abcdef");
+/// ```
 #[derive(Clone, Copy, PartialEq, Eq, Hash, PartialOrd, Ord)]
 pub struct Mid {
     text: IdText<16>,
@@ -27,8 +33,8 @@ impl Model for Mid {
 impl From<&str> for Mid {
     ghost from_gives = { λ text mid. IsIdOf 16 text.now mid };
 
-    /// Each character of the text that is no ASCII letter or digit becomes one underscore; then the
-    /// first 16 are kept, and spaces fill the rest.
+    /// Replaces each character that is no ASCII letter or digit by one underscore, also the `-`
+    /// that SDP allows, keeps the first 16, and fills up with spaces.
     fn from(v: &str) -> Self {
         Mid {
             text: IdText::of(v),
@@ -37,15 +43,28 @@ impl From<&str> for Mid {
 }
 
 impl Mid {
-    /// Whether these are an id's bytes: letters, digits and underscores, and behind them only
-    /// spaces. It is the test of what [`from_array`](Self::from_array) asks.
+    /// Returns the identifier of the text that the bytes spell in UTF-8, as
+    /// [`From<&str>`](Self::from) makes it, and `None` exactly when they are not UTF-8.
+    pub fn from_utf8(bytes: &[u8]) -> Option<Mid>
+        ensures found { IfSome result (IsIdOf 16 bytes.now) }
+        ensures some { IsSome result ↔ IsUtf8 bytes.now }
+    {
+        match IdText::from_utf8(bytes) {
+            Some(text) => Some(Mid { text }),
+            None => None,
+        }
+    }
+
+    /// Returns whether the bytes are letters, digits and underscores, followed by spaces only. This
+    /// tests the precondition of [`from_array`](Self::from_array).
     pub fn is_id_array(a: &[u8; 16]) -> bool
         ensures { IsTrue result ↔ IsIdArray a.now }
     {
         IdText::is_id_array(a)
     }
 
-    /// The id of these bytes. It asks for an id's bytes.
+    /// Returns the identifier of these bytes. Precondition: [`is_id_array`](Self::is_id_array)
+    /// returns true for them.
     pub fn from_array(a: [u8; 16]) -> Mid
         requires { IsIdArray a }
         ensures { result ≡ a }
@@ -55,9 +74,12 @@ impl Mid {
         }
     }
 
-    /// The text before the spaces, which may be empty.
+    /// Returns the text without the spaces at its end. It may be empty.
     pub fn as_str(&self) -> &str
-        ensures { result.now ≡ before_padding self.now }
+        ensures text { result.now ≡ before_padding self.now }
+
+        // The id of this text is the same id.
+        ensures back { IsIdOf 16 result.now self.now }
     {
         self.text.as_str()
     }
@@ -68,12 +90,19 @@ impl fmt::Display for Mid {
 
     ghost output = { λ mid. Some (before_padding mid) };
 
+    // The text is plain, whatever width and flags are set.
+    ghost styled_output = { λ mid _. Some (before_padding mid) };
+
     fn fmt<W: fmt::Write>(&self, f: &mut fmt::Formatter<W>) -> fmt::Result {
         f.write_str(self.as_str())
     }
 }
 
 impl fmt::Debug for Mid {
+    ghost use Rattle.std.specs.Prelude.{Some, ◌++◌, codes};
+
+    ghost debug_output = { λ mid. Some (codes "Mid(" ++ before_padding mid ++ codes ")") };
+
     fn fmt<W: fmt::Write>(&self, f: &mut fmt::Formatter<W>) -> fmt::Result {
         let text = self.as_str();
         write!(f, "Mid({text})")

@@ -1,4 +1,4 @@
-//! A media section, and a stream of it.
+//! A media section and one of its streams.
 
 ghost use Rattle.std.specs.Prelude.{◌≡◌, ◌⊎◌, ◌↔◌, IsTrue};
 
@@ -9,22 +9,23 @@ use super::{Mid, Rid};
 pub struct MidRid(pub Mid, pub Option<Rid>);
 
 impl MidRid {
-    /// The media section.
+    /// Returns the media section.
     pub fn mid(&self) -> Mid
         ensures { result ≡ self.now.0 }
     {
         self.0
     }
 
-    /// The stream, if one is named.
+    /// Returns the stream, if one is named.
     pub fn rid(&self) -> Option<Rid>
         ensures { result ≡ self.now.1 }
     {
         self.1
     }
 
-    /// Whether `other` is of this media section, and of this stream if one is named here. It is not
-    /// symmetric: without a stream this fits every stream of its section, and none of them fits it.
+    /// Returns whether `other` is of this media section and, if a stream is named here, of that
+    /// stream. It is not symmetric: a section without a stream equals each of its streams, and none
+    /// of them equals it.
     pub fn special_equals(&self, other: &MidRid) -> bool
         ensures { IsTrue result ↔ ((self.now.0 ≡ other.now.0)
             × ((self.now.1 ≡ None) ⊎ (self.now.1 ≡ other.now.1))) }

@@ -1,4 +1,4 @@
-//! Identifiers of media, streams, payloads and packets.
+//! Identifiers of media sections, streams, payloads and packets.
 
 mod mid;
 mod mid_rid;

@@ -5,9 +5,9 @@ ghost use Rattle.std.specs.Prelude.{◌≡◌};
 use std::fmt;
 use std::marker::Model;
 
-/// The payload type of a packet: which codec and parameters, as signalled out of band
-/// (RFC 3550, 5.1). The wire holds 0 to 127; a greater number is kept as it is given, and
-/// no header can be written with it.
+/// The payload type (PT) of a packet, which stands for a codec and its parameters as they were
+/// signalled (RFC 3550, 5.1). The header has 7 bits for it: a number above 127 is kept as it is
+/// given, but no header can be written with it.
 #[derive(Clone, Copy, Debug, PartialEq, Eq, Hash, PartialOrd, Ord)]
 pub struct Pt {
     number: u8,
@@ -32,14 +32,14 @@ impl From<u8> for Pt {
 }
 
 impl Pt {
-    /// The payload type of this number, as `From`.
+    /// Returns the payload type of this number, as `From` does.
     pub fn new_with_value(v: u8) -> Pt
         ensures { result ≡ v }
     {
         Pt::from(v)
     }
 
-    /// The number itself.
+    /// Returns the number.
     pub fn get(self) -> u8
         ensures { result ≡ self }
     {

@@ -1,14 +1,20 @@
 //! The identifier of a stream of a simulcast.
 
-ghost use Rattle.std.specs.Prelude.{◌≡◌, ◌↔◌, IsTrue};
+ghost use Rattle.std.specs.Prelude.{◌≡◌, ◌↔◌, IsTrue, IsSome, IfSome, IsUtf8};
 ghost use Rattle.rtp_base.specs.Id.{before_padding, IsIdOf, IsIdArray};
 
 use super::text::IdText;
 use std::fmt;
 use std::marker::Model;
 
-/// The identifier of one stream of a simulcast, which SDP carries as `a=rid` (RFC 8851, 4), in 8
-/// bytes.
+/// The identifier of one stream of a simulcast, which SDP carries as `a=rid` (RFC 8851, 4; its
+/// syntax is in section 10). It is kept in 8 bytes: ASCII letters, digits and underscores, filled
+/// up with spaces.
+///
+/// ```
+/// assert_eq!(Rid::from("hi-res").as_str(), "hi_res");
+/// assert_eq!(Rid::from("abcdefghij").as_str(), "abcdefgh");
+/// ```
 #[derive(Clone, Copy, PartialEq, Eq, Hash)]
 pub struct Rid {
     text: IdText<8>,
@@ -27,8 +33,8 @@ impl Model for Rid {
 impl From<&str> for Rid {
     ghost from_gives = { λ text rid. IsIdOf 8 text.now rid };
 
-    /// Each character of the text that is no ASCII letter or digit becomes one underscore; then the
-    /// first 8 are kept, and spaces fill the rest.
+    /// Replaces each character that is no ASCII letter or digit by one underscore, also the `-`
+    /// that SDP allows, keeps the first 8, and fills up with spaces.
     fn from(v: &str) -> Self {
         Rid {
             text: IdText::of(v),
@@ -37,15 +43,28 @@ impl From<&str> for Rid {
 }
 
 impl Rid {
-    /// Whether these are an id's bytes: letters, digits and underscores, and behind them only
-    /// spaces. It is the test of what [`from_array`](Self::from_array) asks.
+    /// Returns the identifier of the text that the bytes spell in UTF-8, as
+    /// [`From<&str>`](Self::from) makes it, and `None` exactly when they are not UTF-8.
+    pub fn from_utf8(bytes: &[u8]) -> Option<Rid>
+        ensures found { IfSome result (IsIdOf 8 bytes.now) }
+        ensures some { IsSome result ↔ IsUtf8 bytes.now }
+    {
+        match IdText::from_utf8(bytes) {
+            Some(text) => Some(Rid { text }),
+            None => None,
+        }
+    }
+
+    /// Returns whether the bytes are letters, digits and underscores, followed by spaces only. This
+    /// tests the precondition of [`from_array`](Self::from_array).
     pub fn is_id_array(a: &[u8; 8]) -> bool
         ensures { IsTrue result ↔ IsIdArray a.now }
     {
         IdText::is_id_array(a)
     }
 
-    /// The id of these bytes. It asks for an id's bytes.
+    /// Returns the identifier of these bytes. Precondition: [`is_id_array`](Self::is_id_array)
+    /// returns true for them.
     pub fn from_array(a: [u8; 8]) -> Rid
         requires { IsIdArray a }
         ensures { result ≡ a }
@@ -55,9 +74,12 @@ impl Rid {
         }
     }
 
-    /// The text before the spaces, which may be empty.
+    /// Returns the text without the spaces at its end. It may be empty.
     pub fn as_str(&self) -> &str
-        ensures { result.now ≡ before_padding self.now }
+        ensures text { result.now ≡ before_padding self.now }
+
+        // The id of this text is the same id.
+        ensures back { IsIdOf 8 result.now self.now }
     {
         self.text.as_str()
     }
@@ -68,12 +90,19 @@ impl fmt::Display for Rid {
 
     ghost output = { λ rid. Some (before_padding rid) };
 
+    // The text is plain, whatever width and flags are set.
+    ghost styled_output = { λ rid _. Some (before_padding rid) };
+
     fn fmt<W: fmt::Write>(&self, f: &mut fmt::Formatter<W>) -> fmt::Result {
         f.write_str(self.as_str())
     }
 }
 
 impl fmt::Debug for Rid {
+    ghost use Rattle.std.specs.Prelude.{Some, ◌++◌, codes};
+
+    ghost debug_output = { λ rid. Some (codes "Rid(" ++ before_padding rid ++ codes ")") };
+
     fn fmt<W: fmt::Write>(&self, f: &mut fmt::Formatter<W>) -> fmt::Result {
         let text = self.as_str();
         write!(f, "Rid({text})")

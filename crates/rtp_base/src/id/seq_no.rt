@@ -1,4 +1,4 @@
-//! The number of a packet.
+//! The extended sequence number of a packet.
 
 ghost use Rattle.std.specs.Prelude.{◌≡◌, ◌+◌, ◌*◌, ◌/◌, ◌%◌, ◌<◌, ◌↔◌, IsTrue};
 
@@ -6,8 +6,8 @@ use super::wide::{follows, rollovers, wire_part};
 use std::fmt;
 use std::marker::Model;
 
-/// The number of an RTP packet in its stream, widened to 64 bits: the 16 bits of its header, and how
-/// often they have rolled over before it (RFC 3711, 3.3.1).
+/// The extended sequence number of an RTP packet, in 64 bits (the packet index of SRTP): the low 16
+/// bits are those of its header, and the bits above them are the rollover count (RFC 3711, 3.3.1).
 #[derive(Clone, Copy, Debug, PartialEq, Eq, Hash, PartialOrd, Ord)]
 pub struct SeqNo {
     number: u64,
@@ -35,28 +35,29 @@ impl SeqNo {
     /// The greatest number, 2^64 - 1.
     pub const MAX: SeqNo = SeqNo { number: u64::MAX };
 
-    /// The number itself.
+    /// Returns the number.
     pub fn get(self) -> u64
         ensures { result ≡ self }
     {
         self.number
     }
 
-    /// Whether this is the greatest number.
+    /// Returns whether this is the greatest number.
     pub fn is_max(&self) -> bool
         ensures { IsTrue result ↔ (self.now ≡ u64.MAX) }
     {
         *self == Self::MAX
     }
 
-    /// Whether `other` is the number right behind this one. Nothing is behind the greatest.
+    /// Returns whether `other` is this number plus one. No number is next to the greatest.
     pub fn is_next(&self, other: SeqNo) -> bool
         ensures { IsTrue result ↔ (other ≡ self.now + 1) }
     {
         follows(self.get(), other.get())
     }
 
-    /// Adds one, and answers the number before. It asks for a number below the greatest.
+    /// Adds one, and returns the number as it was. Precondition: the number is below the greatest,
+    /// 2^64 - 1.
     pub fn inc(&mut self) -> SeqNo
         requires { self.old < u64.MAX }
         ensures answer { result ≡ self.old }
@@ -67,14 +68,14 @@ impl SeqNo {
         before
     }
 
-    /// The 16 bits that the RTP header carries.
+    /// Returns the low 16 bits, which the RTP header carries.
     pub fn as_u16(&self) -> u16
         ensures { result ≡ self.now % 65536 }
     {
         wire_part(self.get())
     }
 
-    /// How often the 16 bits have rolled over.
+    /// Returns the rollover count: how often the low 16 bits have rolled over.
     pub fn roc(&self) -> u64
         ensures rollovers { result ≡ self.now / 65536 }
         ensures whole { result * 65536 + self.now % 65536 ≡ self.now }

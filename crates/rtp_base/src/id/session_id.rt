@@ -5,7 +5,7 @@ ghost use Rattle.std.specs.Prelude.{◌≡◌};
 use std::fmt;
 use std::marker::Model;
 
-/// The identifier of an SDP session, as its offer and answer carry it (RFC 8866, 5.2).
+/// The identifier of an SDP session, which its `o=` line carries (RFC 8866, 5.2).
 #[derive(Clone, Copy, Debug, PartialEq, Eq, Hash, PartialOrd, Ord)]
 pub struct SessionId {
     number: u64,
@@ -30,7 +30,7 @@ impl From<u64> for SessionId {
 }
 
 impl SessionId {
-    /// The number itself.
+    /// Returns the number.
     pub fn get(self) -> u64
         ensures { result ≡ self }
     {

@@ -5,8 +5,8 @@ ghost use Rattle.std.specs.Prelude.{◌≡◌, ◌↔◌, IsTrue};
 use std::fmt;
 use std::marker::Model;
 
-/// The synchronization source of a packet: which sender, and which of its streams
-/// (RFC 3550, 3 and 5.1). Each of the 2^32 numbers is one.
+/// The synchronization source (SSRC) of a packet, which identifies one stream of one sender in a
+/// session (RFC 3550, 3 and 5.1). Each number of 32 bits is one.
 #[derive(Clone, Copy, Debug, PartialEq, Eq, Hash, PartialOrd, Ord)]
 pub struct Ssrc {
     number: u32,
@@ -31,14 +31,14 @@ impl From<u32> for Ssrc {
 }
 
 impl Ssrc {
-    /// The number itself.
+    /// Returns the number.
     pub fn get(self) -> u32
         ensures { result ≡ self }
     {
         self.number
     }
 
-    /// Whether this is 0, the source that libwebrtc gives its probes before any media is sent.
+    /// Returns whether this is 0, the source of the probes that libwebrtc sends before any media.
     pub fn is_probe(&self) -> bool
         ensures { IsTrue result ↔ (self.now ≡ 0) }
     {

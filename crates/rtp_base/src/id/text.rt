@@ -1,13 +1,13 @@
-//! What the ids that are texts have in common, over their size.
+//! What `Mid` and `Rid` have in common: texts in a fixed number of bytes.
 
-ghost use Rattle.std.specs.Prelude.{◌≡◌, ◌≢◌, ℕ, ◌<◌, ◌≤◌, ◌||◌, ◌↔◌, length, take, drop, slice_index, nat_lt, nat_le, IsTrue, IfSome, IfNone, All, ◌==◌};
+ghost use Rattle.std.specs.Prelude.{◌≡◌, IsUtf8, ◌≢◌, ℕ, ◌<◌, ◌≤◌, ◌||◌, ◌↔◌, length, take, drop, slice_index, nat_lt, nat_le, IsTrue, IsSome, IfSome, IfNone, All, ◌==◌};
 ghost use Rattle.std.specs.List.{position_or_len};
 ghost use Rattle.rtp_base.specs.Id.{id_char, id_text, before_padding, IsIdOf, IsIdByte, IsIdArray};
 
 use std::marker::Model;
 use std::str;
 
-/// The text of an id: letters, digits and underscores, and spaces behind them up to the size.
+/// The text of an identifier: letters, digits and underscores, filled up with spaces to `N` bytes.
 #[derive(Clone, Copy, PartialEq, Eq, Hash, PartialOrd, Ord)]
 pub(super) struct IdText<const N: usize> {
     bytes: [u8; N],
@@ -33,7 +33,7 @@ fn begins_char(byte: u8) -> bool
     byte < 128 || byte >= 192
 }
 
-// The byte that an id has for a character, by the byte that begins it.
+// The byte that an identifier keeps for a character, by the first byte of the character.
 fn id_byte(byte: u8) -> u8
     ensures { result ≡ id_char byte }
 {
@@ -44,34 +44,34 @@ fn id_byte(byte: u8) -> u8
     }
 }
 
-// Whether a byte may stand in an id.
+// Whether the byte is a letter, a digit or an underscore.
 fn is_id_byte(byte: u8) -> bool
     ensures { IsTrue result ↔ IsIdByte byte }
 {
     byte.is_ascii_alphanumeric() || byte == b'_'
 }
 
-// Where the padding begins.
+// The index of the first space, which begins the padding.
 fn first_space(bytes: &[u8]) -> Option<usize>
-    ensures found { IfSome result (λ place. (place < length bytes.now) × (slice_index bytes.now place ≡ 32)
-        × ((k : ℕ) → k < place → slice_index bytes.now k ≢ 32)) }
+    ensures found { IfSome result (λ index. (index < length bytes.now) × (slice_index bytes.now index ≡ 32)
+        × ((k : ℕ) → k < index → slice_index bytes.now k ≢ 32)) }
     ensures none { IfNone result ((k : ℕ) → k < length bytes.now → slice_index bytes.now k ≢ 32) }
 {
     bytes.iter().position(|byte| *byte == b' ')
 }
 
-// How long the text before the padding is.
+// The length of the text before the padding.
 fn text_len(bytes: &[u8]) -> usize
-    ensures place { result ≡ position_or_len (λ b. b == 32) bytes.now }
+    ensures index { result ≡ position_or_len (λ b. b == 32) bytes.now }
     ensures within { result ≤ length bytes.now }
 {
     match first_space(bytes) {
-        Some(place) => place,
+        Some(index) => index,
         None => bytes.len(),
     }
 }
 
-// Whether each byte may stand in an id.
+// Whether each byte is a letter, a digit or an underscore.
 fn are_id_bytes(bytes: &[u8]) -> bool
     ensures { IsTrue result ↔ All IsIdByte bytes.now }
 {
@@ -85,7 +85,7 @@ fn are_spaces(bytes: &[u8]) -> bool
     bytes.iter().all(|byte| *byte == b' ')
 }
 
-// Whether the bytes are letters, digits and underscores, and behind them only spaces.
+// Whether the bytes are letters, digits and underscores, followed by spaces only.
 fn is_padded_text(bytes: &[u8]) -> bool
     ensures { IsTrue result ↔ IsIdArray bytes.now }
 {
@@ -93,7 +93,7 @@ fn is_padded_text(bytes: &[u8]) -> bool
     are_id_bytes(text) && are_spaces(spaces)
 }
 
-// Puts the text of an id to the front of the bytes, and answers its length.
+// Writes what an identifier keeps of the text to the front of the bytes. Returns its length.
 fn put_text(text: &str, bytes: &mut [u8]) -> usize
     ensures text { take result bytes.new ≡ id_text (length bytes.old) text.now }
     ensures rest { drop result bytes.new ≡ drop result bytes.old }
@@ -113,7 +113,7 @@ fn put_text(text: &str, bytes: &mut [u8]) -> usize
 }
 
 impl<const N: usize> IdText<N> {
-    // The id of a text.
+    // The identifier of a text.
     pub(super) fn of(text: &str) -> Self
         ensures { IsIdOf N text.now result }
     {
@@ -122,14 +122,25 @@ impl<const N: usize> IdText<N> {
         IdText { bytes }
     }
 
-    // Whether the bytes are an id's.
+    // The identifier of a text in UTF-8.
+    pub(super) fn from_utf8(bytes: &[u8]) -> Option<Self>
+        ensures found { IfSome result (IsIdOf N bytes.now) }
+        ensures some { IsSome result ↔ IsUtf8 bytes.now }
+    {
+        match str::from_utf8(bytes) {
+            Ok(text) => Some(IdText::of(text)),
+            Err(_) => None,
+        }
+    }
+
+    // Whether the bytes are those of an identifier.
     pub(super) fn is_id_array(bytes: &[u8; N]) -> bool
         ensures { IsTrue result ↔ IsIdArray bytes.now }
     {
         is_padded_text(bytes)
     }
 
-    // The id of these bytes.
+    // The identifier of these bytes.
     pub(super) fn from_array(bytes: [u8; N]) -> Self
         requires { IsIdArray bytes }
         ensures { result ≡ bytes.entry }
@@ -139,10 +150,11 @@ impl<const N: usize> IdText<N> {
 
     // The text before the padding.
     pub(super) fn as_str(&self) -> &str
-        ensures { result.now ≡ before_padding self.now }
+        ensures text { result.now ≡ before_padding self.now }
+        ensures back { IsIdOf N result.now self.now }
     {
         let text = &self.bytes[..text_len(&self.bytes)];
-        // An id's bytes are ASCII.
+        // The bytes of an identifier are ASCII.
         unsafe { str::from_utf8_unchecked(text) }
     }
 }

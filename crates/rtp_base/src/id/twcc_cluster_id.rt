@@ -5,7 +5,8 @@ ghost use Rattle.std.specs.Prelude.{◌≡◌, ◌+◌, ◌%◌, ◌^◌};
 use std::fmt;
 use std::marker::Model;
 
-/// The identifier of a cluster of probing packets, by which feedback on them is told apart.
+/// The identifier of a cluster of probing packets, which tells the feedback on different clusters
+/// apart.
 #[derive(Clone, Copy, Debug, PartialEq, Eq, Hash, Default)]
 pub struct TwccClusterId {
     number: u64,
@@ -30,14 +31,14 @@ impl From<u64> for TwccClusterId {
 }
 
 impl TwccClusterId {
-    /// The number itself.
+    /// Returns the number.
     pub fn get(self) -> u64
         ensures { result ≡ self }
     {
         self.number
     }
 
-    /// Adds one, or goes on from the greatest to 0, and answers the number before.
+    /// Adds one, and returns the identifier as it was. After the greatest number comes 0.
     pub fn inc(&mut self) -> TwccClusterId
         ensures answer { result ≡ self.old }
         ensures after { self.new ≡ (self.old + 1) % 2 ^ 64 }

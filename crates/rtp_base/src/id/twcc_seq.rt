@@ -1,4 +1,4 @@
-//! The number of a packet in transport-wide congestion control.
+//! The transport-wide sequence number of a packet.
 
 ghost use Rattle.std.specs.Prelude.{◌≡◌, ◌+◌, ◌*◌, ◌/◌, ◌%◌, ◌<◌, ◌↔◌, IsTrue};
 
@@ -6,8 +6,9 @@ use super::wide::{follows, rollovers, wire_part};
 use std::fmt;
 use std::marker::Model;
 
-/// The number of a packet in transport-wide congestion control, which counts all streams of a
-/// transport together and apart from their own numbers, widened to 64 bits.
+/// The extended sequence number of a packet in transport-wide congestion control, in 64 bits. It
+/// counts the packets of all streams of a transport together, apart from the streams' own sequence
+/// numbers.
 #[derive(Clone, Copy, Debug, PartialEq, Eq, Hash, PartialOrd, Ord, Default)]
 pub struct TwccSeq {
     number: u64,
@@ -32,21 +33,22 @@ impl From<u64> for TwccSeq {
 }
 
 impl TwccSeq {
-    /// The number itself.
+    /// Returns the number.
     pub fn get(self) -> u64
         ensures { result ≡ self }
     {
         self.number
     }
 
-    /// Whether `other` is the number right behind this one. Nothing is behind the greatest.
+    /// Returns whether `other` is this number plus one. No number is next to the greatest.
     pub fn is_next(&self, other: TwccSeq) -> bool
         ensures { IsTrue result ↔ (other ≡ self.now + 1) }
     {
         follows(self.get(), other.get())
     }
 
-    /// Adds one, and answers the number before. It asks for a number below the greatest.
+    /// Adds one, and returns the number as it was. Precondition: the number is below the greatest,
+    /// 2^64 - 1.
     pub fn inc(&mut self) -> TwccSeq
         requires { self.old < u64.MAX }
         ensures answer { result ≡ self.old }
@@ -57,14 +59,14 @@ impl TwccSeq {
         before
     }
 
-    /// The 16 bits that the header extension carries.
+    /// Returns the low 16 bits, which the header extension carries.
     pub fn as_u16(&self) -> u16
         ensures { result ≡ self.now % 65536 }
     {
         wire_part(self.get())
     }
 
-    /// How often the 16 bits have rolled over.
+    /// Returns the rollover count: how often the low 16 bits have rolled over.
     pub fn roc(&self) -> u64
         ensures rollovers { result ≡ self.now / 65536 }
         ensures whole { result * 65536 + self.now % 65536 ≡ self.now }

@@ -1,4 +1,4 @@
-//! What the numbers that are wider than their wire have in common.
+//! What the extended sequence numbers have in common.
 
 ghost use Rattle.std.specs.Prelude.{◌≡◌, ◌+◌, ◌/◌, ◌%◌, ◌↔◌, IsTrue};
 
@@ -9,14 +9,14 @@ pub(super) fn follows(first: u64, second: u64) -> bool
     first.checked_add(1) == Some(second)
 }
 
-// The low 16 bits.
+// The low 16 bits, which are on the wire.
 pub(super) fn wire_part(number: u64) -> u16
     ensures { result ≡ number % 65536 }
 {
     (number & 0xFFFF) as u16
 }
 
-// The bits above the low 16.
+// The rollover count: the bits above the low 16.
 pub(super) fn rollovers(number: u64) -> u64
     ensures { result ≡ number / 65536 }
 {

@@ -1,4 +1,4 @@
-//! Sums and differences of times, at the greater of their frequencies.
+//! Sums and differences of media times, at the greater of their frequencies.
 
 ghost use Rattle.std.specs.Prelude.{◌≡◌, ◌≤◌, ◌↔◌, IsNone, IfSome};
 ghost use Rattle.std.specs.Option.{SomeIff};
@@ -7,14 +7,14 @@ ghost use Rattle.rtp_base.specs.MediaTime.{common_frequency, whole_ticks, in_tic
 use super::media_time::MediaTime;
 use std::ops::{Add, AddAssign, Sub, SubAssign};
 
-// Both times in ticks of the greater frequency, where they fit.
+// Both times in whole ticks of the greater frequency, where these fit 64 bits.
 fn at_common(left: MediaTime, right: MediaTime) -> Option<(MediaTime, MediaTime)>
     ensures fits { SomeIff result (BothFit left right) (
       in_ticks left (common_frequency left right),
       in_ticks right (common_frequency left right),
     ) }
 
-    // What is at most the other stays so in whole ticks.
+    // A time that is at most the other is so in whole ticks too.
     ensures in_order { IsAtMost right left → whole_ticks right (common_frequency left right)
         ≤ whole_ticks left (common_frequency left right) }
 {
@@ -29,7 +29,8 @@ fn at_common(left: MediaTime, right: MediaTime) -> Option<(MediaTime, MediaTime)
 }
 
 impl MediaTime {
-    /// The sum, as `+`, and None where its ticks do not fit. It is the test of what `+` asks.
+    /// Returns the sum as `+` does, or `None` where its ticks do not fit 64 bits: `Some` exactly
+    /// where the precondition of `+` holds.
     pub fn checked_add(self, rhs: MediaTime) -> Option<MediaTime>
         ensures { SomeIff result (SumFits self rhs) (sum_of self rhs) }
     {
@@ -38,9 +39,9 @@ impl MediaTime {
         Some(MediaTime::new(numer, left.frequency()))
     }
 
-    /// The difference, at the greater of the two frequencies, and None exactly where this time is
-    /// less than `rhs`, as fractions. Where it isn't, both are cut to whole ticks of that frequency
-    /// and subtracted. It asks that the ticks of each fit 64 bits;
+    /// Returns the difference in ticks of the greater of the two frequencies, both times rounded
+    /// down to whole ticks of it, or `None` exactly where this time is less than `rhs` as a
+    /// fraction. Precondition: the ticks of each time at that frequency fit 64 bits;
     /// [`checked_rebase`](Self::checked_rebase) of each to the greater frequency tests it.
     pub fn checked_sub(self, rhs: MediaTime) -> Option<MediaTime>
         requires { BothFit self rhs }
@@ -55,8 +56,8 @@ impl MediaTime {
         Some(MediaTime::new(numer, left.frequency()))
     }
 
-    /// The difference, as [`checked_sub`](Self::checked_sub), which asks the same, and
-    /// [`ZERO`](Self::ZERO) where this time is less than `rhs`.
+    /// Returns the difference as [`checked_sub`](Self::checked_sub) does, under the same
+    /// precondition, and [`ZERO`](Self::ZERO) where this time is less than `rhs`.
     pub fn saturating_sub(self, rhs: MediaTime) -> MediaTime
         requires { BothFit self rhs }
         ensures zero { IsLess self rhs → result ≡ record { numer = 0; denom = 1 } }
@@ -73,8 +74,8 @@ impl Add for MediaTime {
 
     ghost add_gives = { λ a b sum. sum ≡ sum_of a b };
 
-    /// The sum, at the greater of the two frequencies: both times are cut to whole ticks of it, and
-    /// these are added. It asks that the sum of the ticks fits 64 bits;
+    /// Returns the sum in ticks of the greater of the two frequencies: both times are rounded down
+    /// to whole ticks of it and added. Precondition: the sum of the ticks fits 64 bits;
     /// [`checked_add`](Self::checked_add) tests it.
     fn add(self, rhs: MediaTime) -> MediaTime {
         self.checked_add(rhs).unwrap()
@@ -86,7 +87,7 @@ impl AddAssign for MediaTime {
 
     ghost add_assign_gives = { λ a b sum. sum ≡ sum_of a b };
 
-    /// Adds `rhs`, as `+`, which asks the same.
+    /// Adds `rhs`, under the precondition of `+`.
     fn add_assign(&mut self, rhs: MediaTime) {
         *self = *self + rhs;
     }
@@ -99,8 +100,8 @@ impl Sub for MediaTime {
 
     ghost sub_gives = { IsDifference };
 
-    /// The difference, as [`checked_sub`](Self::checked_sub), which asks the same. It also asks that
-    /// this time is not less than `rhs`, which `<` tests.
+    /// Returns the difference as [`checked_sub`](Self::checked_sub) does. Preconditions: that of
+    /// `checked_sub`, and this time is not less than `rhs`, which `<` tests.
     fn sub(self, rhs: MediaTime) -> MediaTime {
         self.checked_sub(rhs).unwrap()
     }
@@ -111,7 +112,7 @@ impl SubAssign for MediaTime {
 
     ghost sub_assign_gives = { IsDifference };
 
-    /// Takes `rhs` away, as `-`, which asks the same.
+    /// Subtracts `rhs`, under the preconditions of `-`.
     fn sub_assign(&mut self, rhs: MediaTime) {
         *self = *self - rhs;
     }

@@ -1,4 +1,4 @@
-//! Times in order, as fractions.
+//! The order of media times, as fractions.
 
 ghost use Rattle.std.specs.Prelude.{◌≡◌, ◌*◌, ◌↔◌, IsTrue, refl};
 ghost use Rattle.std.specs.Cmp.{partial_equiv_from_equiv};
@@ -9,7 +9,7 @@ ghost use Rattle.rtp_base.specs.OrderLaws.{fraction_total, fraction_ties, fracti
 use super::media_time::{MediaTime, product};
 use std::cmp::Ordering;
 
-// The numerators of the two times over one denominator.
+// The numerators of the two times over their common denominator.
 fn across(left: MediaTime, right: MediaTime) -> (u128, u128)
     ensures plain { result ≡ (left.numer * right.denom, right.numer * left.denom) }
     ensures total { result ≡ (left.numer * per_second right, right.numer * per_second left) }
@@ -25,7 +25,7 @@ impl PartialEq for MediaTime {
 
     ghost laws = { partial_equiv_from_equiv fraction_eq_equiv };
 
-    /// Whether the two fractions are equal, as 250 at 1000 is 1 at 4.
+    /// Returns whether the two times are equal as fractions: 250 at 1000 equals 1 at 4.
     fn eq(&self, other: &MediaTime) -> bool
         ensures answer { result ≡ fraction_eq self.now other.now }
         ensures plain { IsTrue result
@@ -45,7 +45,7 @@ impl PartialOrd for MediaTime {
 
     ghost laws = { fraction_po };
 
-    /// The order of the two fractions, which is never None.
+    /// Returns the order of the two times as fractions, which is never `None`.
     fn partial_cmp(&self, other: &MediaTime) -> Option<Ordering> {
         Some(self.cmp(other))
     }
@@ -60,7 +60,7 @@ impl Ord for MediaTime {
 
     ghost matches_eq = { fraction_ties };
 
-    /// The order of the two fractions, by their products across.
+    /// Returns the order of the two times as fractions, by their products across in 128 bits.
     fn cmp(&self, other: &MediaTime) -> Ordering
         ensures answer { result ≡ fraction_cmp self.now other.now }
         ensures plain { result ≡ nat_cmp (self.now.numer * other.now.denom)

@@ -1,4 +1,4 @@
-//! How often in a second a clock ticks.
+//! The frequency of a media clock.
 
 ghost use Rattle.std.specs.Prelude.{◌≡◌, ℕ, ◌<◌, IfOk, Ok};
 ghost use Rattle.std.specs.Option.{SomeIff};
@@ -9,8 +9,8 @@ use std::marker::Model;
 use std::str::FromStr;
 use thiserror::Error;
 
-/// The frequency of a media clock in hertz, 1 to 2^32 - 1. SDP tells that of each payload type
-/// (RFC 8866, 6.6), and RTP timestamps count at it (RFC 3550, 5.1).
+/// The frequency of a media clock in hertz, 1 to 2^32 - 1. SDP gives that of each payload type (RFC
+/// 8866, 6.6), and RTP timestamps count the ticks of it (RFC 3550, 5.1).
 #[derive(Clone, Copy, Debug, PartialEq, Eq, Hash, PartialOrd, Ord)]
 pub struct Frequency {
     hertz: u32,
@@ -29,34 +29,35 @@ impl Model for Frequency {
 }
 
 impl Frequency {
-    /// Microseconds in a second.
+    /// 1 MHz, whose ticks are microseconds.
     pub const MICROS: Frequency = Frequency { hertz: 1_000_000 };
 
-    /// The units of a fixed-point number with 18 bits behind the point, 2^18 in a second.
+    /// 2^18 Hz, whose ticks are the units of a fixed-point number of seconds with 18 bits after the
+    /// point.
     pub const FIXED_POINT_6_18: Frequency = Frequency { hertz: 262_144 };
 
-    /// The clock of most video, 90 kHz (RFC 3551, 5).
+    /// 90 kHz, the clock of most video (RFC 3551, 5).
     pub const NINETY_KHZ: Frequency = Frequency { hertz: 90_000 };
 
-    /// The clock of Opus, 48 kHz (RFC 7587, 4.1).
+    /// 48 kHz, the clock of Opus (RFC 7587, 4.1).
     pub const FORTY_EIGHT_KHZ: Frequency = Frequency { hertz: 48_000 };
 
-    /// A clock of 16 kHz, as of wideband speech.
+    /// 16 kHz, as for wideband speech.
     pub const SIXTEEN_KHZ: Frequency = Frequency { hertz: 16_000 };
 
-    /// The clock of telephone speech, 8 kHz (RFC 3551, 4.5).
+    /// 8 kHz, the clock of telephone speech (RFC 3551, 4.5).
     pub const EIGHT_KHZ: Frequency = Frequency { hertz: 8_000 };
 
-    /// Milliseconds in a second.
+    /// 1 kHz, whose ticks are milliseconds.
     pub const MILLIS: Frequency = Frequency { hertz: 1_000 };
 
-    /// Hundredths of a second.
+    /// 100 Hz, whose ticks are hundredths of a second.
     pub const HUNDREDTHS: Frequency = Frequency { hertz: 100 };
 
-    /// Whole seconds.
+    /// 1 Hz, whose ticks are seconds.
     pub const SECONDS: Frequency = Frequency { hertz: 1 };
 
-    /// The frequency of this many hertz, and None for 0.
+    /// Returns the frequency of this many hertz, or `None` for 0.
     pub fn new(hertz: u32) -> Option<Frequency>
         ensures { SomeIff result (0 < hertz) hertz }
     {
@@ -66,7 +67,7 @@ impl Frequency {
         Some(Frequency { hertz })
     }
 
-    /// The number of hertz, which is above 0.
+    /// Returns the number of hertz, which is at least 1.
     pub fn get(self) -> u32
         ensures value { result ≡ self }
         ensures positive { 0 < result }
@@ -75,7 +76,7 @@ impl Frequency {
     }
 }
 
-/// The text is no frequency.
+/// The text is not a frequency.
 #[derive(Clone, Copy, Debug, PartialEq, Eq, Error)]
 #[error("not a frequency")]
 pub struct ParseFrequencyError;
@@ -83,12 +84,12 @@ pub struct ParseFrequencyError;
 impl FromStr for Frequency {
     type Err = ParseFrequencyError;
 
-    // Each frequency that is answered is the text's, and where the text is one's, it is answered.
+    // A frequency that is returned is the text's, and each text of a frequency returns it.
     ghost from_str_gives = { λ text result. IfOk result (IsFrequencyText text)
         × ((hertz : ℕ) → IsFrequencyText text hertz → result ≡ Ok hertz) };
 
-    /// Reads decimal digits, and before them a plus or nothing. Zeros may lead. Any other text, and
-    /// a number that is 0 or past 2^32 - 1, is an error.
+    /// Reads decimal digits, with an optional plus before them; leading zeros are allowed. Returns
+    /// an error for every other text, for 0, and for a number above 2^32 - 1.
     fn from_str(s: &str) -> Result<Frequency, ParseFrequencyError> {
         match s.parse::<u32>() {
             Ok(hertz) => Frequency::new(hertz).ok_or(ParseFrequencyError),

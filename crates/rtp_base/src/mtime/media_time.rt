@@ -1,4 +1,4 @@
-//! Times as ticks of a clock.
+//! Media times as ticks of a clock.
 
 ghost use Rattle.std.specs.Prelude.{◌≡◌, ◌*◌, ◌<◌, ◌^◌, ◌↔◌, IsTrue};
 ghost use Rattle.std.specs.Option.{SomeIff};
@@ -7,11 +7,19 @@ ghost use Rattle.rtp_base.specs.MediaTime.{Fraction, IsLess, IsAtMost, whole_tic
 use super::frequency::Frequency;
 use std::marker::Model;
 
-/// A time on the timeline of a medium, in ticks of a clock, as RTP timestamps count them
-/// (RFC 3550, 5.1): the ticks divided by the clock's frequency, in seconds. It is never below zero.
+/// A media time as a number of ticks of a clock, the way RTP timestamps count it (RFC 3550, 5.1):
+/// the ticks divided by the clock's frequency are the time in seconds. It is never negative.
 ///
-/// Two times are compared as fractions, exactly, whatever their frequencies are. Their sum and
-/// their difference are whole ticks of the greater frequency.
+/// Times are compared exactly, as fractions, whatever their frequencies are. A sum or a difference
+/// has whole ticks of the greater of the two frequencies.
+///
+/// ```
+/// let frame = MediaTime::from_millis(20);
+/// assert_eq!(frame.rebase(Frequency::FORTY_EIGHT_KHZ).numer(), 960);
+/// assert!(frame == MediaTime::from_90khz(1_800));
+/// let sum = frame + MediaTime::from_90khz(1_800);
+/// assert_eq!((sum.numer(), sum.denom()), (3_600, 90_000));
+/// ```
 #[derive(Clone, Copy, Debug)]
 pub struct MediaTime {
     numer: u64,
@@ -28,7 +36,7 @@ impl Model for MediaTime {
     ghost inverse = { λ a. record { numer = a.numer; frequency = a.denom } };
 }
 
-// The product, which has room in 128 bits.
+// The product, which always fits 128 bits.
 pub(super) fn product(numer: u64, hertz: u32) -> u128
     ensures { result ≡ numer * hertz }
 {
@@ -42,7 +50,7 @@ impl MediaTime {
         frequency: Frequency::SECONDS,
     };
 
-    /// The time of this many ticks at a frequency.
+    /// Returns the time of this many ticks at a frequency.
     pub fn new(numer: u64, denom: Frequency) -> MediaTime
         ensures { result ≡ record { numer = numer; denom = denom } }
     {
@@ -52,14 +60,14 @@ impl MediaTime {
         }
     }
 
-    /// The number of ticks.
+    /// Returns the number of ticks.
     pub fn numer(self) -> u64
         ensures { result ≡ self.numer }
     {
         self.numer
     }
 
-    /// The ticks in a second, which are above 0.
+    /// Returns the number of ticks in a second, which is at least 1.
     pub fn denom(self) -> u32
         ensures value { result ≡ self.denom }
         ensures positive { 0 < result }
@@ -67,64 +75,64 @@ impl MediaTime {
         self.frequency.get()
     }
 
-    /// The frequency of the ticks.
+    /// Returns the frequency of the ticks.
     pub fn frequency(self) -> Frequency
         ensures { result ≡ self.denom }
     {
         self.frequency
     }
 
-    /// The time of this many microseconds.
+    /// Returns the time of this many microseconds.
     pub fn from_micros(micros: u64) -> MediaTime
         ensures { result ≡ record { numer = micros; denom = 1000000 } }
     {
         MediaTime::new(micros, Frequency::MICROS)
     }
 
-    /// The time of this many units, of which 2^18 make a second.
+    /// Returns the time of this many units of 2^-18 seconds.
     pub fn from_fixed_point_6_18(units: u64) -> MediaTime
         ensures { result ≡ record { numer = units; denom = 262144 } }
     {
         MediaTime::new(units, Frequency::FIXED_POINT_6_18)
     }
 
-    /// The time of this many ticks of a 90 kHz clock.
+    /// Returns the time of this many ticks of a 90 kHz clock.
     pub fn from_90khz(ticks: u64) -> MediaTime
         ensures { result ≡ record { numer = ticks; denom = 90000 } }
     {
         MediaTime::new(ticks, Frequency::NINETY_KHZ)
     }
 
-    /// The time of this many milliseconds.
+    /// Returns the time of this many milliseconds.
     pub fn from_millis(millis: u64) -> MediaTime
         ensures { result ≡ record { numer = millis; denom = 1000 } }
     {
         MediaTime::new(millis, Frequency::MILLIS)
     }
 
-    /// The time of this many hundredths of a second.
+    /// Returns the time of this many hundredths of a second.
     pub fn from_hundredths(hundredths: u64) -> MediaTime
         ensures { result ≡ record { numer = hundredths; denom = 100 } }
     {
         MediaTime::new(hundredths, Frequency::HUNDREDTHS)
     }
 
-    /// The time of this many seconds.
+    /// Returns the time of this many seconds.
     pub fn from_secs(secs: u64) -> MediaTime
         ensures { result ≡ record { numer = secs; denom = 1 } }
     {
         MediaTime::new(secs, Frequency::SECONDS)
     }
 
-    /// Whether it is zero seconds, at any frequency.
+    /// Returns whether the time is zero, at any frequency.
     pub fn is_zero(self) -> bool
         ensures { IsTrue result ↔ (self.numer ≡ 0) }
     {
         self.numer == 0
     }
 
-    // How many whole ticks of this frequency the time holds: never more than the time, and less than
-    // one tick is left over.
+    // The time in whole ticks of this frequency, rounded down: not above the time, and less than one
+    // tick below it.
     fn ticks_at(self, frequency: Frequency) -> u128
         ensures ticks { result ≡ whole_ticks self frequency }
         ensures not_above { IsAtMost (in_ticks self frequency) self }
@@ -137,8 +145,8 @@ impl MediaTime {
         product(self.numer, to) / u128::from(from)
     }
 
-    /// The same time in ticks of this frequency, as [`rebase`](Self::rebase), and None where their
-    /// number is past 64 bits. It is the test of what `rebase` asks.
+    /// Returns the time as [`rebase`](Self::rebase) does, or `None` where the number of ticks does
+    /// not fit 64 bits: `Some` exactly where the precondition of `rebase` holds.
     pub fn checked_rebase(self, frequency: Frequency) -> Option<MediaTime>
         ensures { SomeIff result (whole_ticks self frequency < 2 ^ 64) (in_ticks self frequency) }
     {
@@ -148,8 +156,8 @@ impl MediaTime {
         }
     }
 
-    /// The same time in ticks of this frequency, without the part of a tick that is left over. It
-    /// asks that the number of ticks fits 64 bits; [`checked_rebase`](Self::checked_rebase) tests it.
+    /// Returns the time in whole ticks of this frequency, rounded down. Precondition: the number of
+    /// ticks fits 64 bits; [`checked_rebase`](Self::checked_rebase) tests it.
     pub fn rebase(self, frequency: Frequency) -> MediaTime
         requires fits { whole_ticks self frequency < 2 ^ 64 }
         ensures ticks { result ≡ in_ticks self frequency }
@@ -160,8 +168,8 @@ impl MediaTime {
         MediaTime { numer, frequency }
     }
 
-    /// The number of whole microseconds. It asks that it fits 64 bits;
-    /// [`checked_rebase`](Self::checked_rebase) to [`Frequency::MICROS`] tests it.
+    /// Returns the time in whole microseconds, rounded down. Precondition: their number fits 64
+    /// bits; [`checked_rebase`](Self::checked_rebase) to [`Frequency::MICROS`] tests it.
     pub fn as_micros(self) -> u64
         requires fits { whole_ticks self 1000000 < 2 ^ 64 }
         ensures { result ≡ whole_ticks self 1000000 }

@@ -1,4 +1,4 @@
-//! Times of media, and the frequencies that they are counted at.
+//! Media times, and the frequencies of their clocks.
 
 mod arithmetic;
 mod comparing;

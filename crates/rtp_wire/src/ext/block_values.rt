@@ -8,12 +8,15 @@ use super::{Elements, ExtensionMap, ExtensionValues, ExtensionsForm};
 use std::alloc::{AllocError, Global};
 
 impl ExtensionMap {
-    /// Reads the body of a block, the bytes behind its length word, into the values (RFC 8285, 4.2
-    /// and 4.3). The fields of each kind are those of the last element that has well-formed data and
-    /// whose id is mapped to the kind; where there is no such element they stay as they were. An
-    /// element that is malformed for its kind, or whose id is mapped to nothing, changes no field
-    /// and spoils no neighbour, and an element that is cut short at the end of the body is passed
-    /// over. Takes no memory.
+    /// Reads the elements of a block's body, the bytes that follow its length word, into the values
+    /// (RFC 8285, 4.2 and 4.3). The fields of each kind become those of the last element whose id is
+    /// mapped to the kind and whose data are well-formed for it. Where there is no such element,
+    /// they stay as they were. An element that is malformed for its kind, is cut short at the end
+    /// of the body, or has an id that is mapped to nothing changes no field, and its neighbours are
+    /// read all the same. Takes no memory.
+    ///
+    /// With id 1 mapped to the audio level, the body `10 AA 37 00` of the one-byte form sets a level
+    /// of -42 with voice. The element of id 3 is cut short.
     pub fn parse(
         &self,
         alloc: Global,

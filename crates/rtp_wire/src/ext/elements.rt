@@ -1,10 +1,10 @@
 //! The elements of a block, one after another.
 
-ghost use Rattle.std.specs.Prelude.{◌≡◌, ◌≤◌, List, [], ◌∷◌, length, slice_index, MatchOption};
+ghost use Rattle.std.specs.Prelude.{◌≡◌, List};
 ghost use Rattle.std.specs.Iterator.{YieldsFirstBy, item_count};
 ghost use Rattle.rtp_wire.specs.declared.ext.form.ExtensionsForm.TheVariants.{OneByte, TwoByte};
 ghost use Rattle.rtp_wire.specs.Elements.{Element, AreElements};
-ghost use Rattle.rtp_wire.specs.ElementReading.{elements_left};
+ghost use Rattle.rtp_wire.specs.ElementReading.{elements_left, without_padding, IsUnpadded, IsFirst};
 
 use super::ExtensionsForm;
 use std::marker::Model;
@@ -48,13 +48,9 @@ impl<'a> Iterator for Elements<'a> {
 
     ghost remaining = { item_count (λ left. left) };
 
+    #[tactic(auto, unfolding(crate::specs::ElementReading::elements_behind))]
     fn next(&mut self) -> Option<(u8, &'a [u8])> {
-        let bytes = skip_padding(self.left);
-        let first = match self.form {
-            ExtensionsForm::OneByte => first_of_one_byte(bytes),
-            ExtensionsForm::TwoByte => first_of_two_byte(bytes),
-        };
-        let Some((id, data, left)) = first else {
+        let Some((id, data, left)) = first_element(self.left, self.form) else {
             self.left = &[];
             return None;
         };
@@ -63,31 +59,63 @@ impl<'a> Iterator for Elements<'a> {
     }
 }
 
-// The bytes behind the padding that they begin with.
-fn skip_padding(bytes: &[u8]) -> &[u8]
-    ensures others { length result.now ≤ 0 ⊎ 1 ≤ slice_index result.now 0 }
-    ensures same { (form : ExtensionsForm) → elements_left form bytes.now ≡
-        elements_left form result.now }
+// The first element of bytes, and what is left behind it; None where reading ends before one.
+fn first_element(bytes: &[u8], form: ExtensionsForm) -> Option<(u8, &[u8], &[u8])>
+    ensures { IsFirst form bytes.now result }
 {
-    let mut rest = bytes;
-    loop {
-        if rest.is_empty() {
-            return rest;
-        }
-        if rest[0] != 0 {
-            return rest;
-        }
-        rest = &rest[1..];
+    let bytes = skip_padding(bytes);
+    match form {
+        ExtensionsForm::OneByte => first_of_one_byte(bytes),
+        ExtensionsForm::TwoByte => first_of_two_byte(bytes),
     }
 }
 
-// The first element in the one-byte form of bytes that begin with no padding, and what is left
-// behind it; None where reading ends.
+// The bytes behind the padding at their front.
+fn skip_padding(bytes: &[u8]) -> &[u8]
+    ensures { result.now ≡ without_padding bytes.now }
+{
+    let Some((byte, after)) = bytes.split_first() else {
+        return bytes;
+    };
+    if *byte != 0 {
+        return bytes;
+    }
+    skip_zeros(skip_zero_words(after))
+}
+
+// The bytes behind the zeros at their front.
+fn skip_zeros(bytes: &[u8]) -> &[u8]
+    ensures { result.now ≡ without_padding bytes.now }
+{
+    let mut rest = bytes;
+    while let Some((byte, after)) = rest.split_first() {
+        if *byte != 0 {
+            return rest;
+        }
+        rest = after;
+    }
+    rest
+}
+
+// The bytes behind the zeros at their front, as far as they fill words of 16 bytes.
+fn skip_zero_words(bytes: &[u8]) -> &[u8]
+    ensures { without_padding result.now ≡ without_padding bytes.now }
+{
+    let mut rest = bytes;
+    while let Some((word, after)) = rest.split_first_chunk::<16>() {
+        if u128::from_ne_bytes(*word) != 0 {
+            return rest;
+        }
+        rest = after;
+    }
+    rest
+}
+
+// The first element of bytes in the one-byte form, and what is left behind it; None where reading
+// ends.
 fn first_of_one_byte(bytes: &[u8]) -> Option<(u8, &[u8], &[u8])>
-    requires { length bytes.now ≤ 0 ⊎ 1 ≤ slice_index bytes.now 0 }
-    ensures { MatchOption result (elements_left OneByte bytes.now ≡ [])
-        (λ first. elements_left OneByte bytes.now
-            ≡ (first.0, first.1.now) ∷ elements_left OneByte first.2.now) }
+    requires { IsUnpadded bytes.now }
+    ensures { IsFirst OneByte bytes.now result }
 {
     let (head, after) = bytes.split_first()?;
     if *head >= 240 {
@@ -97,13 +125,11 @@ fn first_of_one_byte(bytes: &[u8]) -> Option<(u8, &[u8], &[u8])>
     Some((*head / 16, data, left))
 }
 
-// The first element in the two-byte form of bytes that begin with no padding, and what is left
-// behind it; None where reading ends.
+// The first element of bytes in the two-byte form, and what is left behind it; None where reading
+// ends.
 fn first_of_two_byte(bytes: &[u8]) -> Option<(u8, &[u8], &[u8])>
-    requires { length bytes.now ≤ 0 ⊎ 1 ≤ slice_index bytes.now 0 }
-    ensures { MatchOption result (elements_left TwoByte bytes.now ≡ [])
-        (λ first. elements_left TwoByte bytes.now
-            ≡ (first.0, first.1.now) ∷ elements_left TwoByte first.2.now) }
+    requires { IsUnpadded bytes.now }
+    ensures { IsFirst TwoByte bytes.now result }
 {
     let (id, after) = bytes.split_first()?;
     let (len, after) = after.split_first()?;

@@ -1,6 +1,6 @@
 //! The entries of a map, one after another.
 
-ghost use Rattle.std.specs.Prelude.{◌≡◌, length};
+ghost use Rattle.std.specs.Prelude.{◌≡◌, ◌≤◌, length};
 ghost use Rattle.std.specs.List.{filter};
 ghost use Rattle.std.specs.Iterator.{YieldsFirstBy, item_count};
 ghost use Rattle.rtp_wire.specs.ExtensionMap.{goes_with};
@@ -14,14 +14,14 @@ use std::marker::Model;
 /// The ids of a map by rising id, each with its extension.
 #[derive(Debug, Drop)]
 pub struct Iter<'a> {
-    // The places that are left.
+    // The slots that are left.
     left: &'a [Option<Entry>],
     // How many were passed.
     passed: u8,
 }
 
 impl<'a> Model for Iter<'a> {
-    ghost use Rattle.std.specs.Prelude.{◌≡◌, ℕ, ◌+◌, length, List};
+    ghost use Rattle.std.specs.Prelude.{ℕ, ◌+◌, ◌≤◌, length, List};
     ghost use Rattle.rtp_wire.specs.declared.ext.kind.Extension.{Extension};
     ghost use Rattle.rtp_wire.specs.declared.ext.map.TheConstants.{MAX_ID};
     ghost use Rattle.rtp_wire.specs.MapSlots.{items_from};
@@ -30,13 +30,13 @@ impl<'a> Model for Iter<'a> {
 
     ghost view = { λ iter. items_from iter.passed iter.left.now };
 
-    ghost invariant = { λ iter. iter.passed + length iter.left.now ≡ MAX_ID };
+    ghost invariant = { λ iter. iter.passed + length iter.left.now ≤ MAX_ID };
 }
 
 impl<'a> Iter<'a> {
     // The entries in the places.
     pub(super) fn new(slots: &'a [Option<Entry>]) -> Self
-        requires { length slots.now ≡ MAX_ID }
+        requires { length slots.now ≤ MAX_ID }
         ensures { result ≡ items_from 0 slots.now }
     {
         Iter {

@@ -1,8 +1,9 @@
 //! Which extension stands behind which id.
 
-ghost use Rattle.std.specs.Prelude.{◌≡◌, ◌≢◌, ◌↔◌, ℕ, true, false, IsTrue, IfOk, IfSome, IfNone, map};
+ghost use Rattle.std.specs.Prelude.{◌≡◌, ◌≢◌, ◌↔◌, ℕ, true, false, IsTrue, IfOk, IfSome, IfNone, map, length, ◌≤◌};
 ghost use Rattle.std.specs.Option.{option_copied};
 ghost use Rattle.rtp_wire.specs.ExtensionMap as spec;
+ghost use Rattle.rtp_wire.specs.MapSlots.{items_from};
 ghost use Rattle.rtp_wire.specs.EqualMaps.{same_slots, same_slots-equiv};
 
 use super::entry::Entry;
@@ -25,22 +26,24 @@ pub const MAX_ID: u8 = 16;
 /// Two maps are equal where they have equal entries behind the same ids, locked alike.
 #[derive(Drop)]
 pub struct ExtensionMap {
-    // What stands behind the ids from 1 on.
+    // What the ids from 1 on are mapped to.
     slots: [Option<Entry>; MAX_ID as usize],
+    // An id above which none is mapped, so that a walk can end there.
+    end: u8,
 }
 
 impl Model for ExtensionMap {
-    ghost use Rattle.std.specs.Prelude.{◌≡◌, length};
+    ghost use Rattle.std.specs.Prelude.{◌≡◌, ◌≤◌, length};
     ghost use Rattle.rtp_wire.specs.ExtensionMap.{Slots};
+    ghost use Rattle.rtp_wire.specs.MapSlots.{AreEmptyFrom};
     ghost use Rattle.rtp_wire.specs.declared.ext.map.TheConstants.{MAX_ID};
 
     ghost Value = { Slots };
 
     ghost view = { λ map. map.slots };
 
-    ghost invariant = { λ map. length map.slots ≡ MAX_ID };
-
-    ghost inverse = { λ slots. record { slots = slots } };
+    ghost invariant = { λ map. (length map.slots ≡ MAX_ID) × (map.end ≤ MAX_ID)
+        × AreEmptyFrom map.slots map.end };
 }
 
 impl PartialEq for ExtensionMap {
@@ -70,6 +73,7 @@ impl ExtensionMap {
     {
         ExtensionMap {
             slots: array::from_fn(|_| None),
+            end: 0,
         }
     }
 
@@ -113,6 +117,7 @@ impl ExtensionMap {
     {
         if let Some(slot) = slots::slot_of(id) {
             self.slots[slot] = Some(Entry::from(ext));
+            self.end = self.end.max(id);
         }
     }
 
@@ -131,11 +136,19 @@ impl ExtensionMap {
         slots::id_of(&self.slots, &ext)
     }
 
+    // The mapped ids by rising id, each with its extension.
+    pub(super) fn items(&self) -> Iter<'_>
+        ensures items { result ≡ items_from 0 self.now }
+        ensures few { length (items_from 0 self.now) ≤ MAX_ID }
+    {
+        Iter::new(&self.slots[..usize::from(self.end)])
+    }
+
     /// The ids that stand for an extension, by rising id, each with its extension.
     pub fn iter(&self) -> Iter<'_>
         ensures { spec.IsListing self.now (λ _. true) result }
     {
-        Iter::new(&self.slots)
+        self.items()
     }
 
     /// The ids whose extensions go with audio, or else with video, by rising id, each with its
@@ -168,6 +181,7 @@ impl ExtensionMap {
     {
         let mut exts = Self::empty();
         slots::copy_of_medium(&self.slots, &mut exts.slots, audio);
+        exts.end = slots::end(&exts.slots);
         exts
     }
 
@@ -182,6 +196,7 @@ impl ExtensionMap {
         ensures renumbered { spec.IsRenumbered self.old self.new }
     {
         slots::remap(&mut self.slots, steps);
+        self.end = slots::end(&self.slots);
     }
 
     /// The same map. Only the texts of unknown extensions take memory, and where that is refused
@@ -192,6 +207,7 @@ impl ExtensionMap {
     {
         let mut copy = Self::empty();
         slots::copy(alloc, &self.slots, &mut copy.slots)?;
+        copy.end = slots::end(&copy.slots);
         Ok(copy)
     }
 }

@@ -1,5 +1,7 @@
 //! Header extensions: the kinds, the form of a block, what is mapped, and the values that were read.
 
+mod block;
+mod block_elements;
 mod block_values;
 mod elements;
 mod entry;

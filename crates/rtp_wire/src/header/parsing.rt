@@ -2,14 +2,13 @@
 
 ghost use Rattle.std.specs.Prelude.{true, ◌↔◌, ◌≡◌, ℕ, ◌+◌, ◌-◌, ◌*◌, ◌/◌, ◌≤◌, ◌++◌, List, length, map, replicate, IsSome, IsOk, IfOk, IfSome, IfNone};
 ghost use Rattle.std.specs.Int.{w32, from_be_bytes};
-ghost use Rattle.rtp_wire.specs.ExtensionMap.{IsEmpty};
-ghost use Rattle.rtp_wire.specs.Reading.{HasBlock, HasExtensionPart};
+ghost use Rattle.rtp_wire.specs.Reading.{HasExtensionPart};
 ghost use Rattle.rtp_wire.specs.NotAHeader.{NotABlock, NotAHeader};
 ghost use Rattle.rtp_wire.specs.Values.{no_values};
 ghost use Rattle.rtp_wire.specs.Header.{IsFirstByte, IsSecondByte, IsWire};
 
 use super::RtpHeader;
-use crate::ext::{ExtensionMap, ExtensionValues, ExtensionsForm};
+use crate::ext::{ExtensionMap, ExtensionValues};
 use rtp_base::{Pt, Ssrc};
 use std::alloc::{AllocError, Global};
 
@@ -52,51 +51,55 @@ fn csrc_of(groups: &[[u8; 4]]) -> [u32; 15]
     csrc
 }
 
-// The block at the front: its form and its element bytes.
-fn block_at(bytes: &[u8]) -> Option<(ExtensionsForm, &[u8])>
-    ensures found { IfSome result (λ block. HasBlock bytes.now block.0 block.1.now) }
-    ensures refused { IfNone result (NotABlock bytes.now) }
-{
-    let (head, after) = bytes.split_first_chunk::<4>()?;
-    let form = ExtensionsForm::parse([head[0], head[1]])?;
-    let words = u16::from_be_bytes([head[2], head[3]]);
-    let elements = after.get(..4 * usize::from(words))?;
-    Some((form, elements))
-}
-
-// How many bytes stand between the sources and the payload, of the bytes behind the sources.
-fn extension_part_len(has_extension: bool, after: &[u8], exts: &ExtensionMap) -> Option<usize>
-    ensures found { IfSome result (HasExtensionPart exts.now has_extension after.now no_values) }
-    ensures refused { IfNone result ((has_extension ≡ true) × NotABlock after.now) }
+// How many bytes stand between the CSRC list and the payload, of the bytes behind the CSRC list;
+// the values in them are read.
+fn extension_part_len(
+    alloc: Global,
+    has_extension: bool,
+    after: &[u8],
+    exts: &ExtensionMap,
+    ev: &mut ExtensionValues,
+) -> Result<Option<usize>, AllocError>
+    requires { ev.old ≡ no_values }
+    ensures succeeds { IsOk result }
+    ensures found { IfOk result (λ answer. IfSome answer (λ len.
+        HasExtensionPart exts.now has_extension after.now ev.new len)) }
+    ensures refused { IfOk result (λ answer. IfNone answer
+        ((has_extension ≡ true) × NotABlock after.now)) }
 {
     if !has_extension {
-        return Some(0);
+        return Ok(Some(0));
     }
-    let (_, elements) = block_at(after)?;
-    Some(4 + elements.len())
+    exts.parse_block(alloc, after, ev)
 }
 
 impl RtpHeader {
-    /// The header that the bytes begin with, or None where they begin with none: under 12 bytes, a
-    /// version other than 2, sources that are cut short, or a set X that no block follows, since
-    /// its head is cut short, its form is neither 0xBEDE nor 0x1000 to 0x100F, or it is longer than
-    /// what is left (RFC 3550, 5.1 and 5.3.1; RFC 8285, 4). Whatever follows the header is not
-    /// looked at. Nothing is allocated.
+    /// Returns the header that the bytes begin with, with the values of its extensions under the
+    /// map (RFC 3550, 5.1 and 5.3.1; RFC 8285, 4.2 and 4.3). Whatever follows the header is not
+    /// looked at, and nothing is allocated.
     ///
-    /// It asks for an empty map, since no element is read yet: [`ExtensionMap::is_empty`] tests it.
+    /// Returns `None` exactly when no header begins there: under 12 bytes, a version other than 2, a
+    /// CSRC list that is cut short, or a set X bit that no block follows, since the block's first
+    /// four bytes are cut short, its form is neither 0xBEDE nor 0x1000 to 0x100F, or it is longer
+    /// than what is left. No element refuses a header: one that is malformed, cut short or unknown
+    /// is passed over.
+    ///
+    /// The twenty bytes `90 21 B7 98 00 00 27 10 00 00 00 2C BE DE 00 01 30 2A 00 00`, under a map of
+    /// 3 to the audio level, are a header of payload type 33, sequence number 47,000, timestamp
+    /// 10,000 and SSRC 44, with an audio level of -42 without voice, and `header_len` is 20.
     pub fn parse(
-        _alloc: Global,
+        alloc: Global,
         buf: &[u8],
         exts: &ExtensionMap,
     ) -> Result<Option<RtpHeader>, AllocError>
-        requires empty { IsEmpty exts.now }
         ensures succeeds { IsOk result }
 
-        // What is answered is a header of these bytes, and each header of these bytes is answered.
+        // What is returned is a header of these bytes, and each header of these bytes is returned.
         ensures found { IfOk result (λ answer. IfSome answer (IsWire exts.now buf.now)) }
-        ensures only { (header : RtpHeader) → IsWire exts.now buf.now header → result ≡ Ok (Some header) }
+        ensures only { (header : RtpHeader) → IsWire exts.now buf.now header →
+            IfOk result (λ answer. answer ≡ Some header) }
 
-        // The causes of a refusal, and there are no others.
+        // The causes for which no header is returned, and there are no others.
         ensures refused { (result ≡ Ok None) ↔ NotAHeader buf.now }
     {
         let Some((fixed, after)) = buf.split_first_chunk::<12>() else {
@@ -109,7 +112,15 @@ impl RtpHeader {
         let Some((sources, after)) = after.split_at_checked(4 * flags.csrc_count) else {
             return Ok(None);
         };
-        let Some(part_len) = extension_part_len(flags.has_extension, after, exts) else {
+        let mut ext_vals = ExtensionValues::default();
+        let Some(part_len) = extension_part_len(
+            alloc,
+            flags.has_extension,
+            after,
+            exts,
+            &mut ext_vals,
+        )?
+        else {
             return Ok(None);
         };
         let (marker, payload_type) = marker_and_type(fixed[1]);
@@ -125,7 +136,7 @@ impl RtpHeader {
             timestamp: u32::from_be_bytes([fixed[4], fixed[5], fixed[6], fixed[7]]),
             ssrc: Ssrc::from(u32::from_be_bytes([fixed[8], fixed[9], fixed[10], fixed[11]])),
             csrc: csrc_of(groups),
-            ext_vals: ExtensionValues::default(),
+            ext_vals,
             header_len: 12 + sources.len() + part_len,
         }))
     }

@@ -1,33 +1,32 @@
-//! From the low bits of a number to all 64.
+//! The extended sequence number from the low bits that the wire carries.
 
 ghost use Rattle.std.specs.Prelude.{◌≡◌, ℕ, ◌^◌, ◌<◌, ◌≤◌};
 ghost use Rattle.rtp_wire.specs.Widening.{IsNear, IsClose};
-ghost use Rattle.rtp_wire.specs.Turns.{IsTurn, IsNearby};
+ghost use Rattle.rtp_wire.specs.Moduli.{IsModulus, IsNearby};
 
 use super::RtpHeader;
 use rtp_base::SeqNo;
 
-// The number nearest to the previous one among those that end in the low bits, of which there are
-// `turn`.
-fn nearest(previous: u64, low: u64, turn: u64) -> u64
-    requires turns { IsTurn turn }
-    requires below { low < turn }
-    ensures near { IsNearby turn previous low result }
+// The number nearest to the previous one, modulo 2^64, among those that are `low` modulo `modulus`.
+fn nearest(previous: u64, low: u64, modulus: u64) -> u64
+    requires is_modulus { IsModulus modulus }
+    requires below { low < modulus }
+    ensures near { IsNearby modulus previous low result }
     ensures in_range { previous < 2 ^ 64 }
 {
-    let half = turn / 2;
-    let offset = previous % turn;
-    let same_turn = previous - offset + low;
-    if offset + half < low {
-        return same_turn.wrapping_sub(turn);
+    let half = modulus / 2;
+    let ahead = low.wrapping_sub(previous) % modulus;
+    let number = previous.wrapping_add(ahead);
+    if ahead < half {
+        return number;
     }
-    if low + half < offset {
-        return same_turn.wrapping_add(turn);
+    if ahead == half && previous % modulus < half {
+        return number;
     }
-    same_turn
+    number.wrapping_sub(modulus)
 }
 
-// The number of 64 bits for the low ones, as the calls below have it.
+// The number nearest to the previous one that ends in these low bits; with none, the low bits alone.
 fn widened(previous: Option<u64>, number: u64, bits: u32) -> u64
     requires some { 0 < bits }
     requires few { bits ≤ 32 }
@@ -35,73 +34,84 @@ fn widened(previous: Option<u64>, number: u64, bits: u32) -> u64
     ensures only { (n : ℕ) → IsNear bits previous number n → result ≡ n }
     ensures close { (n : ℕ) → IsClose bits previous number n → result ≡ n }
 {
-    let turn = 1 << bits;
-    let low = number % turn;
+    let modulus = 1 << bits;
+    let low = number % modulus;
     match previous {
         None => low,
-        Some(previous) => nearest(previous, low, turn),
+        Some(previous) => nearest(previous, low, modulus),
     }
 }
 
-/// The number nearest to the previous one, round 2^64, among those that end in the low
-/// 7 bits; half a turn of them away to either side, the one with the previous one's rollover
-/// count. With no previous number, the 7 bits alone (RFC 3711, 3.3.1).
+/// Extends a number of 7 bits to 64 bits: returns the number nearest to `previous`, modulo 2^64,
+/// that ends in the 7 bits of `number`. Where two are equally near, 64 away on either side, it is
+/// the one with the rollover count of `previous`. With no previous number, returns the 7 bits alone
+/// (RFC 3711, 3.3.1). The eighth bit of `number` is ignored.
 pub fn extend_u7(previous: Option<u64>, number: u8) -> u64
     ensures near { IsNear 7 previous number result }
 
-    // No other number is so, and one that is less than half a turn away is this one.
+    // No other number meets `near`, and one that ends in these bits and is less than 64 away does.
     ensures only { (n : ℕ) → IsNear 7 previous number n → result ≡ n }
     ensures close { (n : ℕ) → IsClose 7 previous number n → result ≡ n }
 {
     widened(previous, u64::from(number), 7)
 }
 
-/// The number nearest to the previous one, round 2^64, among those that end in these
-/// 8 bits; half a turn of them away to either side, the one with the previous one's rollover
-/// count. With no previous number, the 8 bits alone (RFC 3711, 3.3.1).
+/// Extends a number of 8 bits to 64 bits: returns the number nearest to `previous`, modulo 2^64,
+/// that ends in the 8 bits of `number`. Where two are equally near, 128 away on either side, it is
+/// the one with the rollover count of `previous`. With no previous number, returns the 8 bits alone
+/// (RFC 3711, 3.3.1).
 pub fn extend_u8(previous: Option<u64>, number: u8) -> u64
     ensures near { IsNear 8 previous number result }
 
-    // No other number is so, and one that is less than half a turn away is this one.
+    // No other number meets `near`, and one that ends in these bits and is less than 128 away does.
     ensures only { (n : ℕ) → IsNear 8 previous number n → result ≡ n }
     ensures close { (n : ℕ) → IsClose 8 previous number n → result ≡ n }
 {
     widened(previous, u64::from(number), 8)
 }
 
-/// The number nearest to the previous one, round 2^64, among those that end in the low
-/// 15 bits; half a turn of them away to either side, the one with the previous one's rollover
-/// count. With no previous number, the 15 bits alone (RFC 3711, 3.3.1).
+/// Extends a number of 15 bits to 64 bits: returns the number nearest to `previous`, modulo 2^64,
+/// that ends in the 15 bits of `number`. Where two are equally near, 16384 away on either side, it
+/// is the one with the rollover count of `previous`. With no previous number, returns the 15 bits
+/// alone (RFC 3711, 3.3.1). The sixteenth bit of `number` is ignored.
 pub fn extend_u15(previous: Option<u64>, number: u16) -> u64
     ensures near { IsNear 15 previous number result }
 
-    // No other number is so, and one that is less than half a turn away is this one.
+    // No other number meets `near`, and one that ends in these bits and is less than 16384 away does.
     ensures only { (n : ℕ) → IsNear 15 previous number n → result ≡ n }
     ensures close { (n : ℕ) → IsClose 15 previous number n → result ≡ n }
 {
     widened(previous, u64::from(number), 15)
 }
 
-/// The number nearest to the previous one, round 2^64, among those that end in these
-/// 16 bits; half a turn of them away to either side, the one with the previous one's rollover
-/// count. With no previous number, the 16 bits alone (RFC 3711, 3.3.1).
+/// Extends a number of 16 bits to 64 bits: returns the number nearest to `previous`, modulo 2^64,
+/// that ends in the 16 bits of `number`. Where two are equally near, 32768 away on either side, it
+/// is the one with the rollover count of `previous`. With no previous number, returns the 16 bits
+/// alone (RFC 3711, 3.3.1).
+///
+/// ```
+/// assert_eq!(extend_u16(Some(65_535), 0), 65_536);
+/// assert_eq!(extend_u16(Some(65_538), 1), 65_537);
+/// assert_eq!(extend_u16(None, 1), 1);
+/// ```
 pub fn extend_u16(previous: Option<u64>, number: u16) -> u64
     ensures near { IsNear 16 previous number result }
 
-    // No other number is so, and one that is less than half a turn away is this one.
+    // No other number meets `near`, and one that ends in these bits and is less than 32768 away does.
     ensures only { (n : ℕ) → IsNear 16 previous number n → result ≡ n }
     ensures close { (n : ℕ) → IsClose 16 previous number n → result ≡ n }
 {
     widened(previous, u64::from(number), 16)
 }
 
-/// The number nearest to the previous one, round 2^64, among those that end in these
-/// 32 bits; half a turn of them away to either side, the one with the previous one's rollover
-/// count. With no previous number, the 32 bits alone (RFC 3711, 3.3.1).
+/// Extends a number of 32 bits to 64 bits: returns the number nearest to `previous`, modulo 2^64,
+/// that ends in the 32 bits of `number`. Where two are equally near, 2^31 away on either side, it
+/// is the one with the rollover count of `previous`. With no previous number, returns the 32 bits
+/// alone (RFC 3711, 3.3.1).
 pub fn extend_u32(previous: Option<u64>, number: u32) -> u64
     ensures near { IsNear 32 previous number result }
 
-    // No other number is so, and one that is less than half a turn away is this one.
+    // No other number meets `near`, and one that ends in these bits and is less than 2^31 away does.
     ensures only { (n : ℕ) → IsNear 32 previous number n → result ≡ n }
     ensures close { (n : ℕ) → IsClose 32 previous number n → result ≡ n }
 {
@@ -109,8 +119,8 @@ pub fn extend_u32(previous: Option<u64>, number: u32) -> u64
 }
 
 impl RtpHeader {
-    /// The packet's number in its stream: the 16 bits of the header, widened after the previous
-    /// number as [`extend_u16`] does.
+    /// The extended sequence number of the packet: the 16 bits of the header, extended by
+    /// [`extend_u16`] after the previous number.
     pub fn sequence_number(&self, previous: Option<SeqNo>) -> SeqNo
         ensures near { IsNear 16 previous self.now.sequence_number result }
         ensures only { (n : ℕ) → IsNear 16 previous self.now.sequence_number n → result ≡ n }

@@ -27,9 +27,9 @@ pub struct Receiver {
 
 impl Model for Receiver {
     ghost use Rattle.std.specs.Prelude.{Option};
-    ghost use Rattle.rtp_base.specs.Window.{Places};
+    ghost use Rattle.rtp_base.specs.Window.{WindowState};
 
-    ghost Value = { Option Places };
+    ghost Value = { Option WindowState };
 
     ghost view = { λ receiver. receiver.window };
 }

@@ -3,9 +3,13 @@
 ghost use Rattle.std.specs.Prelude.{◌≡◌, ◌≢◌, ℕ, ◌≤◌, [], ◌++◌, drop, length, unwrap_or, Some, None, IfOk, IfSome, IfNone, IsOk, IsSome, OnSome};
 ghost use Rattle.std.specs.Option.{option_map, ForSome};
 ghost use Rattle.rtp_wire.specs.Values.{Reads, SameFields, IsWellFormed};
-ghost use Rattle.rtp_wire.specs.Spelling.{spelled_data, carried_values};
+ghost use Rattle.rtp_wire.specs.Spelling.{spelled_data, carried_values, HasRoom};
 
-use super::ExtensionValues;
+use super::{
+    ExtensionValues, abs_capture_time, abs_send_time, audio_level, frame_marking, mid,
+    playout_delay, stream_id, transmission_offset, transport_sequence_number, video_content_type,
+    video_orientation, video_timing,
+};
 use crate::ext::Extension;
 use std::alloc::{AllocError, Global};
 
@@ -25,15 +29,29 @@ impl Extension {
         ensures only { IsWellFormed self.now buf.now → result ≡ Ok (Some (record {})) }
         ensures unchanged { result ≡ Ok None → ev.new ≡ ev.old }
     {
-        let _ev = ev;
-        Ok(None)
+        Ok(match self {
+            Extension::AbsoluteSendTime => abs_send_time::read(buf, ev),
+            Extension::AbsoluteCaptureTime => abs_capture_time::read(buf, ev),
+            Extension::AudioLevel => audio_level::read(buf, ev),
+            Extension::TransmissionTimeOffset => transmission_offset::read(buf, ev),
+            Extension::VideoOrientation => video_orientation::read(buf, ev),
+            Extension::TransportSequenceNumber => transport_sequence_number::read(buf, ev),
+            Extension::PlayoutDelay => playout_delay::read(buf, ev),
+            Extension::VideoContentType => video_content_type::read(buf, ev),
+            Extension::VideoTiming => video_timing::read(buf, ev),
+            Extension::RtpStreamId => stream_id::read(buf, ev),
+            Extension::RepairedRtpStreamId => stream_id::read_repaired(buf, ev),
+            Extension::RtpMid => mid::read(buf, ev),
+            Extension::FrameMarking => frame_marking::read(buf, ev),
+            Extension::ColorSpace | Extension::UnknownUri(_) => None,
+        })
     }
 
     /// Writes the data of this kind's element to the front of the buffer and returns their length,
     /// or returns `None` and changes nothing where a value that the kind needs is absent. The bytes
     /// behind the data stay as they were. It requires room for the data; 255 bytes always suffice.
     pub fn write_to(&self, buf: &mut [u8], ev: &ExtensionValues) -> Option<usize>
-        requires { ForSome (spelled_data self.now ev.now) (λ bytes. length bytes ≤ length buf.old) }
+        requires room { HasRoom self.now ev.now buf.old }
         ensures length { result ≡ option_map length (spelled_data self.now ev.now) }
         ensures written { buf.new ≡ unwrap_or (spelled_data self.now ev.now) []
             ++ drop (length (unwrap_or (spelled_data self.now ev.now) [])) buf.old }
@@ -43,6 +61,21 @@ impl Extension {
             Reads self.now bytes (carried_values ev.now)) }
         ensures few { IfSome (spelled_data self.now ev.now) (λ bytes. length bytes ≤ 16) }
     {
-        None
+        match self {
+            Extension::AbsoluteSendTime => abs_send_time::write(buf, ev),
+            Extension::AbsoluteCaptureTime => abs_capture_time::write(buf, ev),
+            Extension::AudioLevel => audio_level::write(buf, ev),
+            Extension::TransmissionTimeOffset => transmission_offset::write(buf, ev),
+            Extension::VideoOrientation => video_orientation::write(buf, ev),
+            Extension::TransportSequenceNumber => transport_sequence_number::write(buf, ev),
+            Extension::PlayoutDelay => playout_delay::write(buf, ev),
+            Extension::VideoContentType => video_content_type::write(buf, ev),
+            Extension::VideoTiming => video_timing::write(buf, ev),
+            Extension::RtpStreamId => stream_id::write(buf, ev),
+            Extension::RepairedRtpStreamId => stream_id::write_repaired(buf, ev),
+            Extension::RtpMid => mid::write(buf, ev),
+            Extension::FrameMarking => frame_marking::write(buf, ev),
+            Extension::ColorSpace | Extension::UnknownUri(_) => None,
+        }
     }
 }

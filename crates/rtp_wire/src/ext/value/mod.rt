@@ -1,8 +1,19 @@
 //! The values of header extensions: a file for each kind, with its bytes in both directions.
 
 mod abs_capture_time;
+mod abs_send_time;
+mod audio_level;
 mod dispatch;
+mod frame_marking;
+mod front;
+mod mid;
+mod playout_delay;
+mod stream_id;
+mod transmission_offset;
+mod transport_sequence_number;
+mod lengths;
 mod values;
+mod video_content_type;
 mod video_orientation;
 mod video_timing;
 

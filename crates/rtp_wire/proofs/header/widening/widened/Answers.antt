@@ -1,19 +1,19 @@
 use Rattle.std.proofs.Common.{arith, subst, ℕ, ◌≡◌, ◌*◌, ◌%◌, ◌^◌}
 use Rattle.std.proofs.lemmas.Nat.{one_shl}
-use Rattle.rtp_wire.specs.Turns.{IsNearby}
+use Rattle.rtp_wire.specs.Moduli.{IsNearby}
 use Rattle.rtp_wire.specs.Widening.{IsNear}
-use Rattle.rtp_wire.proofs.WideningLemmas.{IsTurn-pow, IsNearest-from_turn, only_near, IsNear-close}
+use Rattle.rtp_wire.proofs.WideningLemmas.{IsModulus-pow, IsNearest-from_modulus, only_near, IsNear-close}
 use Rattle.rtp_wire.proofs.header.widening.widened.Goals as goal
 
-pub nearest-requires-clause-turns : goal.nearest-requires-clause-turns
-nearest-requires-clause-turns c = rw (one_shl c.args.bits 64 (omega arith)) (IsTurn-pow c.args.bits c.requires.some c.requires.few)
+pub nearest-requires-clause-is_modulus : goal.nearest-requires-clause-is_modulus
+nearest-requires-clause-is_modulus c = rw (one_shl c.args.bits 64 (omega arith)) (IsModulus-pow c.args.bits c.requires.some c.requires.few)
 
 -- what was found is near
 near_here : (c : goal.After-nearest) → IsNear c.args.bits c.args.previous c.args.number c.nearest.result
 near_here c =
-    let turn : 1 * 2 ^ c.args.bits % 2 ^ 64 ≡ 2 ^ c.args.bits = one_shl c.args.bits 64 (omega arith) in
-    rw c.in-Some.is (IsNearest-from_turn c.args.bits c.in-Some.previous c.args.number c.nearest.result c.requires.some
-    (subst (λ (t : ℕ). IsNearby t c.in-Some.previous (c.args.number % t) c.nearest.result) turn c.nearest.ensures.near))
+    let modulus : 1 * 2 ^ c.args.bits % 2 ^ 64 ≡ 2 ^ c.args.bits = one_shl c.args.bits 64 (omega arith) in
+    rw c.in-Some.is (IsNearest-from_modulus c.args.bits c.in-Some.previous c.args.number c.nearest.result c.requires.some
+    (subst (λ (t : ℕ). IsNearby t c.in-Some.previous (c.args.number % t) c.nearest.result) modulus c.nearest.ensures.near))
 
 pub returns-in-Some-clause-only : goal.returns-in-Some-clause-only
 returns-in-Some-clause-only c n near =

@@ -1,5 +1,14 @@
-use Rattle.rtp_base.proofs.IdLemmas.{IsUtf8-text}
+use Rattle.std.proofs.Common.{ℕ, List, take, sym, ap, ◌∙◌, subst}
+use Rattle.rtp_base.specs.Id.{IsIdOf}
+use Rattle.rtp_base.proofs.IdLemmas.{IsUtf8-text, IsIdOf-text}
 use Rattle.rtp_base.proofs.id.text.IdText.as_str.Goals as goal
 
 pub from_utf8_unchecked-requires : goal.from_utf8_unchecked-requires
-from_utf8_unchecked-requires g c = IsUtf8-text c.self.inside.bytes c.text_len.result c.text_len.ensures.place c.self.invariant
+from_utf8_unchecked-requires g c = IsUtf8-text c.self.inside.bytes c.text_len.result c.text_len.ensures.index c.self.invariant
+
+pub returns-clause-back : goal.returns-clause-back
+returns-clause-back g c =
+    let id = c.self.inside.bytes in
+    subst (IsIdOf g.row.N c.from_utf8_unchecked.result.now) c.self.view_is
+    (subst (λ (text : List ℕ). IsIdOf g.row.N text id) (ap (λ (k : ℕ). take k id) (sym c.text_len.ensures.index) ∙ sym c.from_utf8_unchecked.ensures)
+    (IsIdOf-text g.row.N id c.self.told c.self.invariant))

@@ -2,7 +2,6 @@ use Rattle.std.proofs.Common.{ap, sym, ◌∙◌, subst, map, ℕ, List, Bor}
 use Rattle.std.specs.Option.{option_copied}
 use Rattle.std.proofs.lemmas.List.{map-append}
 use Rattle.std.proofs.lemmas.Iterator.Consumers.{YieldsList-from_first, YieldsList-end}
-use Rattle.rtp_wire.specs.Elements.{Element}
 use Rattle.rtp_wire.specs.Values.{AreValues}
 use Rattle.rtp_wire.proofs.ValuesLaws.{AreValues-none, AreValues-passed, AreValues-parsed}
 use Rattle.rtp_wire.proofs.ext.map.ExtensionMap.parse.Goals as goal

@@ -3,4 +3,4 @@ use Rattle.rtp_wire.proofs.RoundTrip.{length-wire_bytes}
 use Rattle.rtp_wire.proofs.header.rtp_header.RtpHeader.wire_len.Goals as goal
 
 pub returns-clause-length : goal.returns-clause-length
-returns-clause-length c = omega (arith, length-wire_bytes c.args.self.now c.args.exts.now (omega arith), c.extension_len.ensures)
+returns-clause-length c = omega (arith, length-wire_bytes c.args.exts.now c.args.self.now (omega arith), c.extension_len.ensures.length)

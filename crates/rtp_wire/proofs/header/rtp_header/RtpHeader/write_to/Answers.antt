@@ -6,14 +6,14 @@ use Rattle.rtp_wire.proofs.header.rtp_header.RtpHeader.write_to.Goals as goal
 
 pub put-end-requires : goal.put-end-requires
 put-end-requires c =
-    omega (arith, c.requires.room, length-wire_bytes c.args.self.now c.args.exts.now (omega arith), ap length c.fixed_bytes.ensures.bytes)
+    omega (arith, c.requires.room, length-wire_bytes c.args.exts.now c.args.self.now (omega arith), ap length c.fixed_bytes.ensures.bytes)
 
 pub put_sources-end-requires : goal.put_sources-end-requires
 put_sources-end-requires c =
     omega (
       arith,
       c.requires.room,
-      length-wire_bytes c.args.self.now c.args.exts.now (omega arith),
+      length-wire_bytes c.args.exts.now c.args.self.now (omega arith),
       ap length c.fixed_bytes.ensures.bytes,
       c.put-end.ensures.end,
       length-take-le c.args.self.now.csrc_count c.args.self.now.csrc (omega arith),
@@ -24,7 +24,7 @@ put_extension-requires c =
     omega (
       arith,
       c.requires.room,
-      length-wire_bytes c.args.self.now c.args.exts.now (omega arith),
+      length-wire_bytes c.args.exts.now c.args.self.now (omega arith),
       ap length c.fixed_bytes.ensures.bytes,
       c.put-end.ensures.end,
       c.put_sources-end.ensures.end,
@@ -32,8 +32,8 @@ put_extension-requires c =
     )
 
 -- what was put, and where it ends
-all_put : (c : goal.After-slice_known-4-1) → (c.put_extension.result ≡ length (wire_bytes c.args.self.now c.args.exts.now))
-    × (c.put_extension.new.buf ≡ wire_bytes c.args.self.now c.args.exts.now ++ drop c.put_extension.result c.args.buf.now)
+all_put : (c : goal.After-slice_known-4-1) → (c.put_extension.result ≡ length (wire_bytes c.args.exts.now c.args.self.now))
+    × (c.put_extension.new.buf ≡ wire_bytes c.args.exts.now c.args.self.now ++ drop c.put_extension.result c.args.buf.now)
 all_put c =
     wire_bytes-from_pieces c.args.self.now c.args.exts.now c.args.buf.now c.put-end.new.buf c.put_sources-end.new.buf c.put_extension.new.buf
     c.fixed_bytes.result c.put-end.result c.put_sources-end.result c.put_extension.result (omega arith) c.requires.room c.fixed_bytes.ensures.bytes
@@ -55,4 +55,4 @@ returns-clause-read_back c rest = IsWire-written c.args.self.now c.args.exts.now
   timestamp = c.fixed_bytes.ensures.timestamp;
   ssrc = c.fixed_bytes.ensures.ssrc;
   sources = AllByRecursion-from_each (take c.args.self.now.csrc_count c.args.self.now.csrc) c.put_sources-end.ensures.in_range;
-})
+}) c.put_extension.ensures.read_back

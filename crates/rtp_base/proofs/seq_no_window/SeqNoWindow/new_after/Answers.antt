@@ -1,0 +1,12 @@
+use Rattle.std.proofs.Common.{ℕ, ◌-◌, ◌^◌, arith, subst}
+use Rattle.rtp_base.specs.Window.{up_to, Keeps}
+use Rattle.rtp_base.specs.Bitmap.{bits_of}
+use Rattle.rtp_base.proofs.BitmapLemmas.{ones-at}
+use Rattle.rtp_base.proofs.WindowLemmas.{Keeps-up_to}
+use Rattle.rtp_base.proofs.seq_no_window.SeqNoWindow.new_after.Goals as goal
+
+pub invariant_of-result : goal.invariant_of-result
+invariant_of-result c = ones-at 0 (omega arith)
+
+pub returns : goal.returns
+returns c = subst (λ (n : ℕ). Keeps (record { greatest = c.get.result; recorded = bits_of (2 ^ 128 - 1) }) (up_to n)) c.get.ensures (Keeps-up_to c.get.result)

@@ -1,0 +1,116 @@
+//! The elements of header extension blocks, lent one by one.
+
+use rtp_wire::{Elements, ExtensionsForm};
+use std::alloc::{AllocError, Global};
+use std::process::Abort;
+
+use ExtensionsForm::{OneByte, TwoByte};
+
+// A block of 65,535 words: as many as its header can announce.
+const LONGEST: usize = 262_140;
+
+// The block has these elements in order, and none once they have ended.
+fn check(rt: &impl Abort, form: ExtensionsForm, block: &[u8], wanted: &[(u8, &[u8])]) {
+    let mut elements = Elements::new(block, form);
+    for (id, bytes) in wanted {
+        assert_eq!(rt; elements.next(), Some((*id, *bytes)));
+    }
+    for _ in 0..3 {
+        assert_eq!(rt; elements.next(), None);
+    }
+}
+
+#[test]
+fn one_byte_headers(rt: HostRuntime) {
+    check(&rt, OneByte, &[], &[]);
+    let block = [0x10, 0xAA, 0x01, 0x10, 0x05, 0xF0, 0x00];
+    check(&rt, OneByte, &block, &[(1, &[0xAA]), (0, &[0x10, 0x05])]);
+    check(&rt, OneByte, &[0x00, 0x00, 0x37, 0x00], &[]);
+    check(&rt, OneByte, &[0x10], &[]);
+    let block = [0x10, 0xAA, 0x10, 0x05];
+    check(&rt, OneByte, &block, &[(1, &[0xAA]), (1, &[0x05])]);
+    let block = [0xE2, 0x00, 0x00, 0x64];
+    check(&rt, OneByte, &block, &[(14, &[0x00, 0x00, 0x64])]);
+    let block = [0xE3, 0x00, 0x00, 0x00, 0x64, 0x00, 0x00, 0x00];
+    check(&rt, OneByte, &block, &[(14, &[0x00, 0x00, 0x00, 0x64])]);
+}
+
+// An element that is cut short, and any byte of id 15, end what is read of the block.
+#[test]
+fn ends_in_the_one_byte_form(rt: HostRuntime) {
+    check(&rt, OneByte, &[0x10, 0xAA, 0x37, 0x00], &[(1, &[0xAA])]);
+    for last in 0xF0..=0xFF {
+        check(&rt, OneByte, &[last, 0x10, 0xAA], &[]);
+        let block = [0x10, 0xAA, last, 0x00, 0x10, 0x05, 0x00, 0x00];
+        check(&rt, OneByte, &block, &[(1, &[0xAA])]);
+    }
+}
+
+// An id of 0 with data is an element like any other.
+#[test]
+fn id_0_in_the_one_byte_form(rt: HostRuntime) {
+    let block = [0x01, 0x10, 0x05, 0x10, 0xAA, 0x00, 0x00, 0x00];
+    check(&rt, OneByte, &block, &[(0, &[0x10, 0x05]), (1, &[0xAA])]);
+}
+
+#[test]
+fn two_byte_headers(rt: HostRuntime) {
+    check(&rt, TwoByte, &[], &[]);
+    let block = [0x01, 0x00, 0x0F, 0x01, 0x2A];
+    check(&rt, TwoByte, &block, &[(1, &[]), (15, &[0x2A])]);
+    check(&rt, TwoByte, &[0x01, 0x02, 0xAA], &[]);
+    check(&rt, TwoByte, &[0x01], &[]);
+    check(&rt, TwoByte, &[0xFF, 0x01, 0x07, 0x00, 0x02], &[(255, &[0x07])]);
+    let block = [0xF0, 0x01, 0x05, 0x00, 0x10, 0x02, 0x00, 0x01];
+    check(&rt, TwoByte, &block, &[(240, &[0x05]), (16, &[0x00, 0x01])]);
+}
+
+// Padding of any length before an element and behind it.
+#[test]
+fn padding(rt: HostRuntime) -> Result<(), AllocError> {
+    for count in 0..=40usize {
+        let mut block = vec![in rt.alloc(); 0u8; count]?;
+        check(&rt, OneByte, &block, &[]);
+        check(&rt, TwoByte, &block, &[]);
+        block.extend_from_slice(&[0x20, 0x01])?;
+        check(&rt, OneByte, &block, &[(2, &[0x01])]);
+        block.extend_from_slice(&[0x00; 40])?;
+        check(&rt, OneByte, &block, &[(2, &[0x01])]);
+        check(&rt, TwoByte, &block, &[(32, &[0x00])]);
+    }
+    Ok(())
+}
+
+// How many elements a block has that repeats one pattern, and how many bytes of data they have.
+fn totals(
+    alloc: Global,
+    form: ExtensionsForm,
+    first: u8,
+    others: &[u8],
+) -> Result<(u64, u64), AllocError> {
+    let mut block = Vec::with_capacity(alloc, LONGEST)?;
+    while block.len() + others.len() < LONGEST {
+        block.push(first)?;
+        block.extend_from_slice(others)?;
+    }
+    let mut count = 0u64;
+    let mut bytes = 0u64;
+    for (_, data) in Elements::new(&block, form) {
+        count = count.wrapping_add(1);
+        bytes = bytes.wrapping_add(data.len() as u64);
+    }
+    Ok((count, bytes))
+}
+
+#[test]
+fn longest_blocks(rt: HostRuntime) -> Result<(), AllocError> {
+    let alloc = rt.alloc();
+    assert_eq!(&rt; totals(alloc, OneByte, 0, &[])?, (0, 0));
+    assert_eq!(&rt; totals(alloc, TwoByte, 0, &[])?, (0, 0));
+    assert_eq!(&rt; totals(alloc, OneByte, 0x10, &[0xAA])?, (131_070, 131_070));
+    assert_eq!(&rt; totals(alloc, TwoByte, 0x01, &[0x00])?, (131_070, 0));
+    assert_eq!(&rt; totals(alloc, OneByte, 0x4F, &[0x61; 16])?, (15_420, 246_720));
+    assert_eq!(&rt; totals(alloc, OneByte, 0xFF, &[])?, (0, 0));
+    assert_eq!(&rt; totals(alloc, TwoByte, 0xFF, &[])?, (1_020, 260_100));
+    Ok(())
+}
