@@ -1,4 +1,4 @@
--- A header by the places of its parts: it is the header of the split, it is one, and what is refused has none.
+-- A header by the offsets of its parts: it is the header of the split, it is one, and what is refused has none.
 use Rattle.std.proofs.Common.{◌≡◌, ℕ, ◌+◌, ◌*◌, ◌≤◌, List, ◌++◌, length, take, drop, refl, sym, ap, ◌∙◌, subst, arith, length-append, length-drop, take_at, drop_at}
 use Rattle.std.specs.List.{concat}
 use Rattle.std.specs.Simd.{first_chunks}
@@ -40,7 +40,7 @@ IsWire-from_layout exts bytes h at =
       header_len_is = omega (arith, at.header_len_is, at.part_is.fits, at.fits, length-drop at.part_len after, length-drop (12 + sources) bytes);
     }
 
--- the places of the parts of a split
+-- the offsets of the parts of a split
 pub layout_of : (exts : ExtensionMap) (bytes : List ℕ) (h : RtpHeader) → IsWire exts bytes h → IsLaidOut exts bytes h
 layout_of exts bytes h wire =
     let count = h.csrc_count in

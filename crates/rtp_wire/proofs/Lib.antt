@@ -1,6 +1,7 @@
 mod ElementLemmas
 mod ValuesLaws
 mod ValueFacts
+mod ElementLemmasOfBodies
 mod KindLemmas
 mod MapLemmas
 mod ListingLemmas

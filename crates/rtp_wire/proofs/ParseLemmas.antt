@@ -1,4 +1,4 @@
--- What `parse` finds piece by piece is a header by its places, or a cause to refuse.
+-- What `parse` finds piece by piece is a header, or a cause to refuse.
 use Rattle.std.proofs.Common.{◌≡◌, ℕ, ◌+◌, ◌-◌, ◌*◌, ◌/◌, ◌<◌, ◌≤◌, Bool, true, List, ◌++◌, length, take, drop, sym, ap, ◌∙◌, subst, arith, length-take-le, length-drop}
 use Rattle.std.specs.Prelude.{map, replicate, slice_index}
 use Rattle.std.specs.Int.{w32, from_be_bytes}

@@ -3,7 +3,7 @@
 -- one-byte header               two-byte header
 --  0 1 2 3 4 5 6 7               0                   1
 -- |   ID  | L - 1 | data        |      ID       |     L         | data
-use Rattle.std.specs.Prelude.{◌≡◌, ◌≢◌, ℕ, ◌+◌, ◌-◌, ◌*◌, ◌<◌, ◌≤◌, List, [], ◌∷◌, ◌++◌, length, Option, Some, None}
+use Rattle.std.specs.Prelude.{◌≡◌, ◌≢◌, ℕ, ◌+◌, ◌-◌, ◌*◌, ◌≤◌, List, [], ◌∷◌, ◌++◌, length, Option, Some, None}
 use Rattle.std.specs.List.{AllByRecursion, flat_map, filter_map}
 use Rattle.rtp_wire.specs.declared.ext.form.ExtensionsForm.{ExtensionsForm}
 use Rattle.rtp_wire.specs.declared.ext.form.ExtensionsForm.TheVariants.{OneByte, TwoByte}

@@ -9,8 +9,8 @@ use std::marker::Model;
 use std::str::FromStr;
 use thiserror::Error;
 
-/// The frequency of a media clock in hertz, 1 to 2^32 - 1. SDP gives that of each payload type (RFC
-/// 8866, 6.6), and RTP timestamps count the ticks of it (RFC 3550, 5.1).
+/// The frequency of a media clock in hertz, 1 to 2^32 - 1. SDP gives that of each payload type
+/// (RFC 8866, 6.6), and RTP timestamps count the ticks of it (RFC 3550, 5.1).
 #[derive(Clone, Copy, Debug, PartialEq, Eq, Hash, PartialOrd, Ord)]
 pub struct Frequency {
     hertz: u32,

@@ -4,13 +4,21 @@ ghost use Rattle.std.specs.Prelude.{◌≡◌, List};
 ghost use Rattle.std.specs.Iterator.{YieldsFirstBy, item_count};
 ghost use Rattle.rtp_wire.specs.declared.ext.form.ExtensionsForm.TheVariants.{OneByte, TwoByte};
 ghost use Rattle.rtp_wire.specs.Elements.{Element, AreElements};
-ghost use Rattle.rtp_wire.specs.ElementReading.{elements_left, without_padding, IsUnpadded, IsFirst};
+ghost use Rattle.rtp_wire.specs.ElementReading.{without_padding, IsUnpadded, IsFirst};
 
 use super::ExtensionsForm;
 use std::marker::Model;
 
-/// The elements of a block, as pairs of an id and its data, lent from the block (RFC 8285, 4.2 and
-/// 4.3).
+/// The elements of a block in order, as pairs of an id and its data, which are lent from the block
+/// (RFC 8285, 4.2 and 4.3).
+///
+/// Ids are 0 to 14 with 1 to 16 bytes of data in the one-byte form, and 1 to 255 with 0 to 255
+/// bytes in the two-byte form. Padding, each byte 0 where an element could begin, is passed over.
+/// An element that is cut short ends the elements, and so does a byte of id 15 in the one-byte
+/// form, whatever follows it; from then on `next` returns `None`. It takes no memory.
+///
+/// The body `10 AA 01 10 05 F0 00` (hexadecimal) in the one-byte form has the elements 1 with `AA`
+/// and 0 with `10 05`; in the two-byte form `01 00 0F 01 2A` has 1 without data and 15 with `2A`.
 #[derive(Debug, Drop)]
 pub struct Elements<'a> {
     // The bytes that are left.
@@ -121,7 +129,11 @@ fn first_of_one_byte(bytes: &[u8]) -> Option<(u8, &[u8], &[u8])>
     if *head >= 240 {
         return None;
     }
-    let (data, left) = after.split_at_checked(usize::from(*head % 16) + 1)?;
+    let last = usize::from(*head % 16);
+    if after.len() <= last {
+        return None;
+    }
+    let (data, left) = after.split_at(last + 1);
     Some((*head / 16, data, left))
 }
 

@@ -34,7 +34,7 @@ impl<'a> Model for Iter<'a> {
 }
 
 impl<'a> Iter<'a> {
-    // The entries in the places.
+    // The entries in the slots.
     pub(super) fn new(slots: &'a [Option<Entry>]) -> Self
         requires { length slots.now ≤ MAX_ID }
         ensures { result ≡ items_from 0 slots.now }

@@ -1,5 +1,4 @@
-use Rattle.std.proofs.Common.{inl, inr, sym, subst, ap, ◌+◌, ◌<◌}
-use Rattle.std.specs.List.{IsSplitAt}
+use Rattle.std.proofs.Common.{inl, inr, sym, subst, ◌+◌, ◌%◌, ◌<◌, ◌≤◌, length, arith}
 use Rattle.rtp_wire.specs.declared.ext.form.ExtensionsForm.TheVariants.{OneByte}
 use Rattle.rtp_wire.specs.ElementReading.{IsFirst}
 use Rattle.rtp_wire.proofs.ElementLemmas.{nothing_left, one_byte_read, one_byte_end}
@@ -12,12 +11,18 @@ returns-in_err-head c =
 pub returns-then-head-ge240 : goal.returns-then-head-ge240
 returns-then-head-ge240 c = one_byte_end _ _ _ c.requires c.in_ok-head.ensures.cases (inl c.if-head-ge240.true)
 
-pub returns-in_err-data : goal.returns-in_err-data
-returns-in_err-data c =
-    subst (IsFirst OneByte c.args.bytes.now) (sym c.from_residual-in_err-data.ensures)
-    (one_byte_end c.in_ok-head.head.now _ _ c.requires c.in_ok-head.ensures.cases (inr (rw c.from.ensures at c.in_err-data.ensures.cases)))
+pub returns-then-after-last : goal.returns-then-after-last
+returns-then-after-last c =
+    let cut : length c.in_ok-head.after.now < c.in_ok-head.head.now % 16 + 1 = omega arith in
+    one_byte_end c.in_ok-head.head.now _ _ c.requires c.in_ok-head.ensures.cases (inr cut)
 
 pub returns : goal.returns
 returns c =
-    one_byte_read c.in_ok-head.head.now _ _ _ _ c.requires c.in_ok-head.ensures.cases c.if-head-ge240.false
-    (rw c.from.ensures at c.in_ok-data.ensures.cases)
+    let within : c.in_ok-head.head.now % 16 + 1 ≤ length c.in_ok-head.after.now = omega arith in
+    one_byte_read c.in_ok-head.head.now _ _ _ _ c.requires c.in_ok-head.ensures.cases c.if-head-ge240.false (
+      within,
+      rw c.from-last.ensures at c.split_at.ensures.front,
+      rw c.from-last.ensures at c.split_at.ensures.back,
+      rw c.from-last.ensures at c.split_at.ensures.front_len,
+      rw c.from-last.ensures at c.split_at.ensures.back_len,
+    )

@@ -1,5 +1,5 @@
 use Rattle.std.proofs.Common.{arith}
-use Rattle.rtp_wire.proofs.ElementLemmas.{AreElements-found, AreElements-only}
+use Rattle.rtp_wire.proofs.ElementLemmasOfBodies.{AreElements-found, AreElements-only}
 use Rattle.rtp_wire.proofs.ext.elements.Elements.new.Goals as goal
 
 pub returns-clause-found : goal.returns-clause-found
