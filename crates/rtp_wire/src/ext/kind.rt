@@ -139,6 +139,9 @@ impl fmt::Display for Extension {
 
     ghost output = { λ kind. Some (kind_of kind).name };
 
+    // The text is plain, whatever width and flags are set.
+    ghost styled_output = { λ kind _. Some (kind_of kind).name };
+
     fn fmt<W: fmt::Write>(&self, f: &mut fmt::Formatter<W>) -> fmt::Result {
         f.write_str(kind_of(self).name)
     }

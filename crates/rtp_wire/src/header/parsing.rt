@@ -99,6 +99,10 @@ impl RtpHeader {
         ensures only { (header : RtpHeader) → IsWire exts.now buf.now header →
             IfOk result (λ answer. answer ≡ Some header) }
 
+        // So the payload is the bytes from `header_len` on.
+        ensures within { IfOk result (λ answer. IfSome answer (λ header.
+            header.header_len ≤ length buf.now)) }
+
         // The causes for which no header is returned, and there are no others.
         ensures refused { (result ≡ Ok None) ↔ NotAHeader buf.now }
     {

@@ -78,6 +78,10 @@ returns-in_default-2-clause-refused c = (λ _. no_block_here c, λ _. refl)
 pub returns-clause-found : goal.returns-clause-found
 returns-clause-found c = IsWire-from_layout c.args.exts.now c.args.buf.now (answer c) (laid_out c)
 
+pub returns-clause-within : goal.returns-clause-within
+returns-clause-within c =
+    let wire = IsWire-from_layout c.args.exts.now c.args.buf.now (answer c) (laid_out c) in omega (arith, wire.header_len_is)
+
 pub returns-clause-only : goal.returns-clause-only
 returns-clause-only c header wire = ap (λ (h : RtpHeader). Some h) (one_header c.args.exts.now c.args.buf.now (answer c) header (laid_out c) wire)
 
