@@ -1,12 +1,14 @@
 //! Equality.
 
 ghost use Rattle.std.specs.Prelude.{◌≡◌, ◌↔◌, IsTrue};
+ghost use Rattle.rtp_uses.specs.Equality.{AreSameValues, AreSameHeaders};
 
 use rtp_base::{
     Direction, Frequency, Mid, MidRid, Pt, Rid, SeqNo, SessionId, Ssrc, TwccClusterId, TwccSeq,
 };
 use rtp_wire::{
-    AbsCaptureTime, Extension, ExtensionsForm, Verdict, VideoOrientation, VideoTiming,
+    AbsCaptureTime, Extension, ExtensionValues, ExtensionsForm, RtpHeader, Verdict,
+    VideoOrientation, VideoTiming,
 };
 
 /// Sources are equal exactly when their numbers are.
@@ -124,6 +126,20 @@ pub fn is_same_capture_time(a: AbsCaptureTime, b: AbsCaptureTime) -> bool
 /// Verdicts are equal exactly when they are of one kind, with the same number where it is taken.
 pub fn is_same_verdict(a: Verdict, b: Verdict) -> bool
     ensures { IsTrue result ↔ (a ≡ b) }
+{
+    a == b
+}
+
+/// Values are equal exactly when each field is; playout delays are compared as fractions.
+pub fn is_same_values(a: &ExtensionValues, b: &ExtensionValues) -> bool
+    ensures { IsTrue result ↔ AreSameValues a.now b.now }
+{
+    a == b
+}
+
+/// Headers are equal exactly when each field is, and the values of their extensions are.
+pub fn is_same_header(a: &RtpHeader, b: &RtpHeader) -> bool
+    ensures { IsTrue result ↔ AreSameHeaders a.now b.now }
 {
     a == b
 }
