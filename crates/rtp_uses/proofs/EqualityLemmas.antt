@@ -59,7 +59,7 @@ sources a b = slice_eq-Decides unsigned_Decides a b _ refl
 pub values : (a b : HeaderValues) → Decides ((values_eq.ghosts).eq a b) (AreSameValues a b)
 values a b =
     Decides-like _
-    (λ d. record { audio_level = d.0; voice_activity = d.1.0; video_orientation = d.1.1.0; video_content_type = d.1.1.1.0; tx_time_offs = d.1.1.1.1.0; abs_send_time = d.1.1.1.1.1.0; abs_capture_time = d.1.1.1.1.1.1.0; transport_cc = d.1.1.1.1.1.1.1.0; play_delay_min = d.1.1.1.1.1.1.1.1.0; play_delay_max = d.1.1.1.1.1.1.1.1.1.0; video_timing = d.1.1.1.1.1.1.1.1.1.1.0; rid = d.1.1.1.1.1.1.1.1.1.1.1.0; rid_repair = d.1.1.1.1.1.1.1.1.1.1.1.1.0; mid = d.1.1.1.1.1.1.1.1.1.1.1.1.1.0; frame_mark = d.1.1.1.1.1.1.1.1.1.1.1.1.1.1; })
+    (λ d. record { audio_level = d.0; voice_activity = d.1.0; video_orientation = d.1.1.0; video_content_type = d.1.1.1.0; tx_time_offs = d.1.1.1.1.0; abs_send_time = d.1.1.1.1.1.0; abs_capture_time = d.1.1.1.1.1.1.0; transport_cc = d.1.1.1.1.1.1.1.0; play_delay_min = d.1.1.1.1.1.1.1.1.0; play_delay_max = d.1.1.1.1.1.1.1.1.1.0; video_timing = d.1.1.1.1.1.1.1.1.1.1.0; rid = d.1.1.1.1.1.1.1.1.1.1.1.0; rid_repair = d.1.1.1.1.1.1.1.1.1.1.1.1.0; mid = d.1.1.1.1.1.1.1.1.1.1.1.1.1.0; frame_mark = d.1.1.1.1.1.1.1.1.1.1.1.1.1.1 })
     (λ same. (same.audio_level, (same.voice_activity, (same.video_orientation, (same.video_content_type, (same.tx_time_offs, (same.abs_send_time, (same.abs_capture_time, (same.transport_cc, (same.play_delay_min, (same.play_delay_max, (same.video_timing, (same.rid, (same.rid_repair, (same.mid, same.frame_mark)))))))))))))))
     (Decides-and _ _ (options signed_Decides a.audio_level b.audio_level)
     (Decides-and _ _ (options booleans_Decides a.voice_activity b.voice_activity)
@@ -81,7 +81,7 @@ values a b =
 pub headers : (a b : RtpHeader) → Decides ((header_eq.ghosts).eq a b) (AreSameHeaders a b)
 headers a b =
     Decides-like _
-    (λ d. record { version = d.0; has_padding = d.1.0; has_extension = d.1.1.0; csrc_count = d.1.1.1.0; marker = d.1.1.1.1.0; payload_type = d.1.1.1.1.1.0; sequence_number = d.1.1.1.1.1.1.0; timestamp = d.1.1.1.1.1.1.1.0; ssrc = d.1.1.1.1.1.1.1.1.0; csrc = d.1.1.1.1.1.1.1.1.1.0; ext_vals = d.1.1.1.1.1.1.1.1.1.1.0; header_len = d.1.1.1.1.1.1.1.1.1.1.1; })
+    (λ d. record { version = d.0; has_padding = d.1.0; has_extension = d.1.1.0; csrc_count = d.1.1.1.0; marker = d.1.1.1.1.0; payload_type = d.1.1.1.1.1.0; sequence_number = d.1.1.1.1.1.1.0; timestamp = d.1.1.1.1.1.1.1.0; ssrc = d.1.1.1.1.1.1.1.1.0; csrc = d.1.1.1.1.1.1.1.1.1.0; ext_vals = d.1.1.1.1.1.1.1.1.1.1.0; header_len = d.1.1.1.1.1.1.1.1.1.1.1 })
     (λ same. (same.version, (same.has_padding, (same.has_extension, (same.csrc_count, (same.marker, (same.payload_type, (same.sequence_number, (same.timestamp, (same.ssrc, (same.csrc, (same.ext_vals, same.header_len))))))))))))
     (Decides-and _ _ (unsigned_Decides a.version b.version)
     (Decides-and _ _ (booleans_Decides a.has_padding b.has_padding)

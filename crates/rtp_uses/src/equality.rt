@@ -124,10 +124,10 @@ pub fn is_same_capture_time(a: AbsCaptureTime, b: AbsCaptureTime) -> bool
 }
 
 /// Verdicts are equal exactly when they are of one kind, with the same number where it is taken.
-pub fn is_same_verdict(a: Verdict, b: Verdict) -> bool
-    ensures { IsTrue result ↔ (a ≡ b) }
+pub fn is_same_verdict(left: Verdict, right: Verdict) -> bool
+    ensures { IsTrue result ↔ (left ≡ right) }
 {
-    a == b
+    left == right
 }
 
 /// Values are equal exactly when each field is; playout delays are compared as fractions.

@@ -6,4 +6,6 @@ pub mod equality;
 pub mod headers;
 pub mod numbers;
 pub mod receiving;
+#[cfg(test)]
+mod tests;
 pub mod times;
