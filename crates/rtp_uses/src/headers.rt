@@ -1,0 +1,50 @@
+//! Headers, and the values of their extensions.
+
+ghost use Rattle.std.specs.Prelude.{◌≡◌, ◌↔◌, ◌≤◌, length, drop, Ok, Some, None, IfOk, IfSome};
+ghost use Rattle.rtp_wire.specs.Header.{IsWire};
+ghost use Rattle.rtp_wire.specs.NotAHeader.{NotAHeader};
+ghost use Rattle.rtp_wire.specs.Values.{orientation_of};
+ghost use Rattle.rtp_wire.specs.Written.{wire_bytes, image_of};
+
+use rtp_wire::{ExtensionMap, RtpHeader, VideoOrientation};
+use std::alloc::{AllocError, Global};
+
+/// The orientation of the number is 270 degrees for 1, 180 for 2, 90 for 3, and 0 for every other.
+pub fn orientation(number: u8) -> VideoOrientation
+    ensures { result ≡ orientation_of number }
+{
+    VideoOrientation::from(number)
+}
+
+/// The payload of a packet begins where its header ends, which is never behind the packet's end.
+pub fn payload<'a>(
+    alloc: Global,
+    packet: &'a [u8],
+    exts: &ExtensionMap,
+) -> Result<Option<&'a [u8]>, AllocError>
+    ensures found { IfOk result (λ answer. IfSome answer (λ payload.
+        (header : RtpHeader) × IsWire exts.now packet.now header
+        × (payload.now ≡ drop header.header_len packet.now))) }
+    ensures refused { (result ≡ Ok None) ↔ NotAHeader packet.now }
+{
+    let Some(header) = RtpHeader::parse(alloc, packet, exts)? else {
+        return Ok(None);
+    };
+    Ok(Some(&packet[header.header_len..]))
+}
+
+/// A header that is written and read back is its image.
+pub fn written_and_read(
+    alloc: Global,
+    header: &RtpHeader,
+    buf: &mut [u8],
+    exts: &ExtensionMap,
+) -> Result<Option<RtpHeader>, AllocError>
+    requires payload_type { header.now.payload_type ≤ 127 }
+    requires sources { header.now.csrc_count ≤ 15 }
+    requires room { length (wire_bytes exts.now header.now) ≤ length buf.old }
+    ensures { result ≡ Ok (Some (image_of exts.now header.now)) }
+{
+    header.write_to(buf, exts);
+    RtpHeader::parse(alloc, buf, exts)
+}

@@ -1,0 +1,76 @@
+//! The values and the order of numbers.
+
+ghost use Rattle.std.specs.Prelude.{◌≡◌, ◌-◌, ◌^◌, ◌<◌, ◌↔◌, IsTrue};
+
+use rtp_base::{Pt, SeqNo, SessionId, Ssrc, TwccClusterId, TwccSeq};
+use rtp_wire::{MAX_ID, MAX_ID_ONE_BYTE_FORM};
+
+/// The greatest extended sequence number is 2^64 - 1.
+pub fn greatest_seq_no() -> SeqNo
+    ensures { result ≡ 2 ^ 64 - 1 }
+{
+    SeqNo::MAX
+}
+
+/// The default transport-wide sequence number is 0.
+pub fn default_twcc_seq() -> TwccSeq
+    ensures { result ≡ 0 }
+{
+    TwccSeq::default()
+}
+
+/// The default identifier of a cluster is 0.
+pub fn default_twcc_cluster_id() -> TwccClusterId
+    ensures { result ≡ 0 }
+{
+    TwccClusterId::default()
+}
+
+/// A map has room for the ids up to 16.
+pub fn greatest_id() -> u8
+    ensures { result ≡ 16 }
+{
+    MAX_ID
+}
+
+/// The ids of the one-byte form are at most 14 (RFC 8285, 4.2).
+pub fn greatest_id_of_one_byte_form() -> u8
+    ensures { result ≡ 14 }
+{
+    MAX_ID_ONE_BYTE_FORM
+}
+
+/// Sources are ordered by their numbers.
+pub fn is_less_ssrc(a: Ssrc, b: Ssrc) -> bool
+    ensures { IsTrue result ↔ (a < b) }
+{
+    a < b
+}
+
+/// Payload types are ordered by their numbers.
+pub fn is_less_pt(a: Pt, b: Pt) -> bool
+    ensures { IsTrue result ↔ (a < b) }
+{
+    a < b
+}
+
+/// Session identifiers are ordered by their numbers.
+pub fn is_less_session_id(a: SessionId, b: SessionId) -> bool
+    ensures { IsTrue result ↔ (a < b) }
+{
+    a < b
+}
+
+/// Extended sequence numbers are ordered as numbers.
+pub fn is_less_seq_no(a: SeqNo, b: SeqNo) -> bool
+    ensures { IsTrue result ↔ (a < b) }
+{
+    a < b
+}
+
+/// Transport-wide sequence numbers are ordered as numbers.
+pub fn is_less_twcc_seq(a: TwccSeq, b: TwccSeq) -> bool
+    ensures { IsTrue result ↔ (a < b) }
+{
+    a < b
+}
