@@ -41,7 +41,7 @@ fn write_header(buf: &mut [u8], at: usize, form: ExtensionsForm, id: u8, len: u8
 fn needs_two_bytes(id: u8, ext: &Extension, ev: &ExtensionValues) -> bool
     ensures { result ≡ (nat_lt 14 id || has_no_data (spelled_data ext.now ev.now)) }
 {
-    id > MAX_ID_ONE_BYTE_FORM || ext.data_len(ev) == Some(0)
+    id > MAX_ID_ONE_BYTE_FORM || ext.has_empty_data(ev)
 }
 
 // How many bytes the element of a kind takes, 0 where a value that it needs is absent.

@@ -3,6 +3,7 @@
 ghost use Rattle.std.specs.Prelude.{◌≡◌, ◌≤◌, ◌++◌, length, IfSome};
 ghost use Rattle.std.specs.Option.{option_map};
 ghost use Rattle.rtp_base.specs.Id.{before_padding};
+ghost use Rattle.rtp_wire.specs.ElementWriting.{has_no_data};
 ghost use Rattle.rtp_wire.specs.Spelling.{spelled_data, bytes_of, offset_bytes, of_both};
 
 use super::{AbsCaptureTime, ExtensionValues};
@@ -50,7 +51,39 @@ fn rid_len(rid: &Rid) -> usize
     rid.as_str().len()
 }
 
+// Whether the id is there, and its text is empty.
+fn is_empty_rid(rid: &Option<Rid>) -> bool
+    ensures { result ≡ has_no_data (option_map before_padding rid.now) }
+{
+    match rid {
+        Some(rid) => rid.as_str().is_empty(),
+        None => false,
+    }
+}
+
+// Whether the id is there, and its text is empty.
+fn is_empty_mid(mid: &Option<Mid>) -> bool
+    ensures { result ≡ has_no_data (option_map before_padding mid.now) }
+{
+    match mid {
+        Some(mid) => mid.as_str().is_empty(),
+        None => false,
+    }
+}
+
 impl Extension {
+    // Whether [`write_to`](Self::write_to) writes data of no bytes, which only a text can have.
+    pub(crate) fn has_empty_data(&self, ev: &ExtensionValues) -> bool
+        ensures { result ≡ has_no_data (spelled_data self.now ev.now) }
+    {
+        match self {
+            Extension::RtpStreamId => is_empty_rid(&ev.rid),
+            Extension::RepairedRtpStreamId => is_empty_rid(&ev.rid_repair),
+            Extension::RtpMid => is_empty_mid(&ev.mid),
+            _ => false,
+        }
+    }
+
     // How many bytes [`write_to`](Self::write_to) writes, and None where it writes no element.
     pub(crate) fn data_len(&self, ev: &ExtensionValues) -> Option<usize>
         ensures length { result ≡ option_map length (spelled_data self.now ev.now) }
