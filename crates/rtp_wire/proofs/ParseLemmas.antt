@@ -1,5 +1,5 @@
 -- What `parse` finds piece by piece is a header, or a cause to refuse.
-use Rattle.std.proofs.Common.{◌≡◌, ℕ, ◌+◌, ◌-◌, ◌*◌, ◌/◌, ◌<◌, ◌≤◌, Bool, true, List, ◌++◌, length, take, drop, sym, ap, ◌∙◌, subst, arith, length-take-le, length-drop}
+use Rattle.std.proofs.Common.{◌≡◌, ℕ, ◌+◌, ◌-◌, ◌*◌, ◌/◌, ◌<◌, ◌≤◌, Bool, true, false, refl, List, ◌++◌, length, take, drop, sym, ap, ◌∙◌, subst, arith, length-take-le, length-drop}
 use Rattle.std.specs.Prelude.{map, replicate, slice_index}
 use Rattle.std.specs.Int.{w32, from_be_bytes}
 use Rattle.std.specs.Simd.{first_chunks}
@@ -8,11 +8,8 @@ use Rattle.rtp_wire.specs.declared.ext.map.ExtensionMap.{ExtensionMap}
 use Rattle.rtp_wire.specs.declared.header.rtp_header.RtpHeader.{RtpHeader}
 use Rattle.rtp_wire.specs.Header.{bit, IsFirstByte, IsFixed}
 use Rattle.rtp_wire.specs.NotAHeader.{NotABlock, NotAHeader, cut_sources, no_block}
-use Rattle.std.specs.Prelude.{Option, Some, None, Result, Ok, Err, IfOk, IfSome}
-use Rattle.std.specs.declared.alloc.AllocError.{AllocError}
 use Rattle.rtp_wire.specs.declared.ext.value.values.ExtensionValues.{ExtensionValues}
 use Rattle.rtp_wire.specs.Values.{no_values, AreValues}
-use Rattle.rtp_wire.specs.Block.{IsExtensionPart}
 use Rattle.rtp_wire.specs.Reading.{HasExtensionPart, ReadsBlock}
 use Rattle.rtp_wire.proofs.FlagLemmas.{HasFlags, flags_from_first}
 use Rattle.rtp_wire.proofs.GroupLemmas.{AreFours-first_chunks, length-first_chunks, first_chunks-take}
@@ -80,13 +77,23 @@ no_block-from_pieces buf fixed after sources behind padding extension count cut 
     (subst (λ (k : ℕ). NotABlock (drop (12 + 4 * k) buf)) flags.count_is
     (subst NotABlock (behind-drop buf fixed after sources behind count cut) none))
 
--- a block that was read, where X is set and nothing was held before
-pub HasExtensionPart-read : (exts : ExtensionMap) (extension : Bool) (bytes : List ℕ) (old new : ExtensionValues) (read : Result (Option ℕ) AllocError) → extension ≡ true → old ≡ no_values
-    → IfOk read (λ answer. IfSome answer (λ len. ReadsBlock exts bytes len old new)) → IfOk read (λ answer. IfSome answer (λ len. HasExtensionPart exts extension bytes new len))
-HasExtensionPart-read exts extension bytes old new (Err e) set none reads = tt
-HasExtensionPart-read exts extension bytes old new (Ok None) set none reads = tt
-HasExtensionPart-read exts extension bytes old new (Ok (Some len)) set none reads = record {
+-- a block that was read, where nothing was held before
+pub HasExtensionPart-read : (exts : ExtensionMap) (bytes : List ℕ) (old new : ExtensionValues) (len : ℕ) → old ≡ no_values → ReadsBlock exts bytes len old new → HasExtensionPart exts true bytes new len
+HasExtensionPart-read exts bytes old new len none reads = record {
   fits = reads.fits;
-  is_part = subst (λ (x : Bool). IsExtensionPart exts x (take len bytes) new) (sym set)
-      (reads.form, reads.body, reads.elements, reads.is_block, reads.are_elements, subst (λ (v : ExtensionValues). AreValues exts reads.elements v new) none reads.are_values);
+  is_part = (reads.form, reads.body, reads.elements, reads.is_block, reads.are_elements, subst (λ (v : ExtensionValues). AreValues exts reads.elements v new) none reads.are_values);
 }
+
+-- where X is clear there is nothing
+pub HasExtensionPart-none : (exts : ExtensionMap) (bytes : List ℕ) (values : ExtensionValues) → values ≡ no_values → HasExtensionPart exts false bytes values 0
+HasExtensionPart-none exts bytes values none = record { fits = omega arith; is_part = (refl, none) }
+
+-- what `parse` made of a header by its facts: one header, within the bytes, and no cause to return none
+pub IsLaidOut-made : (exts : ExtensionMap) (buf fixed after sources behind : List ℕ) (h : RtpHeader) (part_len : ℕ) (extension : Bool) (count : ℕ)
+    → AreCut buf fixed after sources behind count → IsFixed fixed h → h.has_extension ≡ extension → h.csrc_count ≡ count
+    → h.csrc ≡ map (from_be_bytes w32) (first_chunks 4 (length sources / 4) sources) ++ replicate (15 - length (first_chunks 4 (length sources / 4) sources)) 0
+    → HasExtensionPart exts extension behind h.ext_vals part_len → h.header_len ≡ 12 + length sources + part_len → IsLaidOut exts buf h
+IsLaidOut-made exts buf fixed after sources behind h part_len extension count cut fixed-is set counted slots part len =
+    IsLaidOut-from_pieces exts buf fixed after sources behind (first_chunks 4 (length sources / 4) sources) h part_len
+    (subst (λ (k : ℕ). AreCut buf fixed after sources behind k) (sym counted) cut) fixed-is refl slots
+    (subst (λ (x : Bool). HasExtensionPart exts x behind h.ext_vals part_len) (sym set) part) len

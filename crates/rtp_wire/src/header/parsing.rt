@@ -1,11 +1,10 @@
 //! From bytes to a header.
 
-ghost use Rattle.std.specs.Prelude.{true, ◌↔◌, ◌≡◌, ℕ, ◌+◌, ◌-◌, ◌*◌, ◌/◌, ◌≤◌, ◌++◌, List, length, map, replicate, IsSome, IsOk, IfOk, IfSome, IfNone};
+ghost use Rattle.std.specs.Prelude.{◌↔◌, ◌≡◌, ◌+◌, ◌-◌, ◌*◌, ◌/◌, ◌^◌, ◌<◌, ◌≤◌, ◌++◌, length, map, replicate, slice_index, IsSome, IsOk, IfOk, IfSome, IfNone};
 ghost use Rattle.std.specs.Int.{w32, from_be_bytes};
-ghost use Rattle.rtp_wire.specs.Reading.{HasExtensionPart};
-ghost use Rattle.rtp_wire.specs.NotAHeader.{NotABlock, NotAHeader};
-ghost use Rattle.rtp_wire.specs.Values.{no_values};
-ghost use Rattle.rtp_wire.specs.Header.{IsFirstByte, IsSecondByte, IsWire};
+ghost use Rattle.std.specs.Simd.{first_chunks};
+ghost use Rattle.rtp_wire.specs.NotAHeader.{NotAHeader};
+ghost use Rattle.rtp_wire.specs.Header.{IsFirstByte, IsSecondByte, IsFixed, IsWire};
 
 use super::RtpHeader;
 use crate::ext::{ExtensionMap, ExtensionValues};
@@ -51,26 +50,45 @@ fn csrc_of(groups: &[[u8; 4]]) -> [u32; 15]
     csrc
 }
 
-// How many bytes stand between the CSRC list and the payload, of the bytes behind the CSRC list;
-// the values in them are read.
-fn extension_part_len(
-    alloc: Global,
-    has_extension: bool,
-    after: &[u8],
-    exts: &ExtensionMap,
-    ev: &mut ExtensionValues,
-) -> Result<Option<usize>, AllocError>
-    requires { ev.old ≡ no_values }
-    ensures succeeds { IsOk result }
-    ensures found { IfOk result (λ answer. IfSome answer (λ len.
-        HasExtensionPart exts.now has_extension after.now ev.new len)) }
-    ensures refused { IfOk result (λ answer. IfNone answer
-        ((has_extension ≡ true) × NotABlock after.now)) }
+// The header of these twelve bytes and this CSRC list, with the values of its block, which takes so
+// many bytes.
+#[inline(always)]
+fn header_of(
+    fixed: &[u8; 12],
+    flags: Flags,
+    sources: &[u8],
+    ext_vals: ExtensionValues,
+    part_len: usize,
+) -> RtpHeader
+    requires version { slice_index fixed.now 0 / 64 ≡ 2 }
+    requires flags { IsFirstByte (slice_index fixed.now 0)
+        flags.has_padding flags.has_extension flags.csrc_count }
+    requires few { length sources.now ≤ 60 }
+    requires fits { 12 + length sources.now + part_len < 2 ^ 64 }
+    ensures fixed { IsFixed fixed.now result }
+    ensures extension { result.has_extension ≡ flags.has_extension }
+    ensures count { result.csrc_count ≡ flags.csrc_count }
+    ensures sources { let groups = first_chunks 4 (length sources.now / 4) sources.now in
+        result.csrc ≡ map (from_be_bytes w32) groups ++ replicate (15 - length groups) 0 }
+    ensures values { result.ext_vals ≡ ext_vals }
+    ensures length { result.header_len ≡ 12 + length sources.now + part_len }
 {
-    if !has_extension {
-        return Ok(Some(0));
+    let (marker, payload_type) = marker_and_type(fixed[1]);
+    let (groups, _) = sources.as_chunks::<4>();
+    RtpHeader {
+        version: 2,
+        has_padding: flags.has_padding,
+        has_extension: flags.has_extension,
+        csrc_count: flags.csrc_count,
+        marker,
+        payload_type: Pt::from(payload_type),
+        sequence_number: u16::from_be_bytes([fixed[2], fixed[3]]),
+        timestamp: u32::from_be_bytes([fixed[4], fixed[5], fixed[6], fixed[7]]),
+        ssrc: Ssrc::from(u32::from_be_bytes([fixed[8], fixed[9], fixed[10], fixed[11]])),
+        csrc: csrc_of(groups),
+        ext_vals,
+        header_len: 12 + sources.len() + part_len,
     }
-    exts.parse_block(alloc, after, ev)
 }
 
 impl RtpHeader {
@@ -116,32 +134,14 @@ impl RtpHeader {
         let Some((sources, after)) = after.split_at_checked(4 * flags.csrc_count) else {
             return Ok(None);
         };
+        if !flags.has_extension {
+            let no_values = ExtensionValues::default();
+            return Ok(Some(header_of(fixed, flags, sources, no_values, 0)));
+        }
         let mut ext_vals = ExtensionValues::default();
-        let Some(part_len) = extension_part_len(
-            alloc,
-            flags.has_extension,
-            after,
-            exts,
-            &mut ext_vals,
-        )?
-        else {
+        let Some(block_len) = exts.parse_block(alloc, after, &mut ext_vals)? else {
             return Ok(None);
         };
-        let (marker, payload_type) = marker_and_type(fixed[1]);
-        let (groups, _) = sources.as_chunks::<4>();
-        Ok(Some(RtpHeader {
-            version: 2,
-            has_padding: flags.has_padding,
-            has_extension: flags.has_extension,
-            csrc_count: flags.csrc_count,
-            marker,
-            payload_type: Pt::from(payload_type),
-            sequence_number: u16::from_be_bytes([fixed[2], fixed[3]]),
-            timestamp: u32::from_be_bytes([fixed[4], fixed[5], fixed[6], fixed[7]]),
-            ssrc: Ssrc::from(u32::from_be_bytes([fixed[8], fixed[9], fixed[10], fixed[11]])),
-            csrc: csrc_of(groups),
-            ext_vals,
-            header_len: 12 + sources.len() + part_len,
-        }))
+        Ok(Some(header_of(fixed, flags, sources, ext_vals, block_len)))
     }
 }

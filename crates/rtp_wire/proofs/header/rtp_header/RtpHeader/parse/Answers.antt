@@ -1,15 +1,16 @@
-use Rattle.std.proofs.Common.{arith, refl, sym, ap, ◌∙◌, subst, ℕ, ◌+◌, length, length-take-le, Ok, Some}
-use Rattle.std.specs.Prelude.{slice_index}
+use Rattle.std.proofs.Common.{arith, true, false, refl, sym, ap, ◌∙◌, subst, ℕ, ◌≡◌, ◌*◌, List, Bool, Ok, Some}
+use Rattle.std.proofs.lemmas.Bool.{not-true, not-false}
+use Rattle.rtp_wire.specs.declared.ext.value.values.ExtensionValues.{ExtensionValues}
 use Rattle.rtp_wire.specs.declared.header.rtp_header.RtpHeader.{RtpHeader}
-use Rattle.rtp_wire.specs.Header.{IsSecondByte}
 use Rattle.rtp_wire.specs.NotAHeader.{NotAHeader}
-use Rattle.rtp_wire.proofs.BlockLemmas.{word_at-cells, quad-cells}
+use Rattle.rtp_wire.specs.Reading.{HasExtensionPart}
+use Rattle.rtp_wire.specs.Values.{no_values}
 use Rattle.rtp_wire.proofs.HeaderLemmas.{IsLaidOut, IsWire-from_layout}
 use Rattle.rtp_wire.proofs.OneHeader.{no_header, one_header}
-use Rattle.rtp_wire.proofs.ParseLemmas.{IsLaidOut-from_pieces, cut_sources-from_pieces, no_block-from_pieces}
+use Rattle.rtp_wire.proofs.ParseLemmas.{IsLaidOut-made, HasExtensionPart-none, HasExtensionPart-read, cut_sources-from_pieces, no_block-from_pieces}
 use Rattle.rtp_wire.proofs.header.rtp_header.RtpHeader.parse.Goals as goal
 
--- the sources are cut short
+-- the CSRC list is cut short
 cut_sources_here : (c : goal.In_default-split_at_checked) → NotAHeader c.args.buf.now
 cut_sources_here c =
     let split = c.in-Some.ensures.cases in
@@ -23,47 +24,42 @@ no_block_here c =
     let split = c.in-Some.ensures.cases in
     let parts = c.in-Some-split_at_checked.ensures.cases in
     let flags = c.flags_of-flags.result in
-    let none = rw c.in_default-2.is at c.in_ok-part_len.ensures.refused in
     no_block-from_pieces c.args.buf.now c.in-Some.fixed.now c.in-Some.after.now c.in-Some-split_at_checked.sources.now c.in-Some-split_at_checked.after.now
     flags.has_padding flags.has_extension flags.csrc_count
     (record { long = omega (arith, split.2); fixed_is = split.0; after_is = split.1; room = parts.0; sources_are = parts.1; behind_is = parts.2 })
-    c.flags_of-flags.ensures none.0 none.1
+    c.flags_of-flags.ensures (not-false _ c.if-not-flags.false) (rw c.in_default-2.is at c.in_ok-block_len.ensures.refused)
 
-abbrev answer : goal.After-csrc_of → RtpHeader
-answer c = record {
-  version = 2;
-  has_padding = c.flags_of-flags.result.has_padding;
-  has_extension = c.flags_of-flags.result.has_extension;
-  csrc_count = c.flags_of-flags.result.csrc_count;
-  marker = c.marker_and_type-marker.result.0;
-  payload_type = c.from.result;
-  sequence_number = c.from_be_bytes.result;
-  timestamp = c.from_be_bytes-2.result;
-  ssrc = c.from-2.result;
-  csrc = c.csrc_of.result;
-  ext_vals = c.extension_part_len.new.ev;
-  header_len = 12 + length c.in-Some-split_at_checked.sources.now + c.in-Some-2.part_len;
-}
-
-laid_out : (c : goal.After-csrc_of) → IsLaidOut c.args.exts.now c.args.buf.now (answer c)
-laid_out c =
+-- a header without a block
+plain : (c : goal.After-header_of) → IsLaidOut c.args.exts.now c.args.buf.now c.header_of.result
+plain c =
     let split = c.in-Some.ensures.cases in
     let parts = c.in-Some-split_at_checked.ensures.cases in
-    let fixed = c.in-Some.fixed.now in
-    IsLaidOut-from_pieces c.args.exts.now c.args.buf.now fixed c.in-Some.after.now c.in-Some-split_at_checked.sources.now c.in-Some-split_at_checked.after.now
-    c.as_chunks.result.0.now (answer c) c.in-Some-2.part_len
+    let flags = c.flags_of-flags.result in
+    let exts = c.args.exts.now in
+    let behind = c.in-Some-split_at_checked.after.now in
+    let clear : flags.has_extension ≡ false = not-true _ c.if-not-flags.true in
+    IsLaidOut-made exts c.args.buf.now c.in-Some.fixed.now c.in-Some.after.now c.in-Some-split_at_checked.sources.now behind c.header_of.result 0 flags.has_extension flags.csrc_count
     (record { long = omega (arith, split.2); fixed_is = split.0; after_is = split.1; room = parts.0; sources_are = parts.1; behind_is = parts.2 })
-    (record {
-      twelve = ap length split.0 ∙ length-take-le 12 c.args.buf.now (omega (arith, split.2));
-      version_is = refl;
-      first_is = c.flags_of-flags.ensures;
-      second_is = subst (λ (k : ℕ). IsSecondByte (slice_index fixed 1) c.marker_and_type-marker.result.0 k) (sym c.from.ensures) c.marker_and_type-marker.ensures;
-      number_is = c.from_be_bytes.ensures ∙ sym (word_at-cells fixed 2);
-      timestamp_is = c.from_be_bytes-2.ensures ∙ sym (quad-cells fixed 4);
-      ssrc_is = c.from-2.ensures ∙ c.from_be_bytes-3.ensures ∙ sym (quad-cells fixed 8);
-    })
-    c.as_chunks.ensures.front c.csrc_of.ensures
-    (rw c.in-Some-2.is at c.in_ok-part_len.ensures.found) refl
+    c.header_of.ensures.fixed c.header_of.ensures.extension c.header_of.ensures.count c.header_of.ensures.sources
+    (subst (λ (x : Bool). HasExtensionPart exts x behind c.header_of.result.ext_vals 0) (sym clear)
+    (HasExtensionPart-none exts behind c.header_of.result.ext_vals (c.header_of.ensures.values ∙ c.default-no_values.ensures)))
+    c.header_of.ensures.length
+
+-- a header with a block
+extended : (c : goal.After-header_of-2) → IsLaidOut c.args.exts.now c.args.buf.now c.header_of-2.result
+extended c =
+    let split = c.in-Some.ensures.cases in
+    let parts = c.in-Some-split_at_checked.ensures.cases in
+    let flags = c.flags_of-flags.result in
+    let exts = c.args.exts.now in
+    let behind = c.in-Some-split_at_checked.after.now in
+    IsLaidOut-made exts c.args.buf.now c.in-Some.fixed.now c.in-Some.after.now c.in-Some-split_at_checked.sources.now behind c.header_of-2.result c.in-Some-2.block_len flags.has_extension flags.csrc_count
+    (record { long = omega (arith, split.2); fixed_is = split.0; after_is = split.1; room = parts.0; sources_are = parts.1; behind_is = parts.2 })
+    c.header_of-2.ensures.fixed c.header_of-2.ensures.extension c.header_of-2.ensures.count c.header_of-2.ensures.sources
+    (subst (λ (x : Bool). HasExtensionPart exts x behind c.header_of-2.result.ext_vals c.in-Some-2.block_len) (sym (not-false _ c.if-not-flags.false))
+    (subst (λ (v : ExtensionValues). HasExtensionPart exts true behind v c.in-Some-2.block_len) (sym c.header_of-2.ensures.values)
+    (HasExtensionPart-read exts behind c.default-ext_vals.result c.parse_block.new.ev c.in-Some-2.block_len c.default-ext_vals.ensures (rw c.in-Some-2.is at c.in_ok-block_len.ensures.found))))
+    c.header_of-2.ensures.length
 
 pub returns-in_default-split_at_checked-clause-only :
     goal.returns-in_default-split_at_checked-clause-only
@@ -75,16 +71,22 @@ returns-in_default-2-clause-only c header wire = absurd (no_header c.args.exts.n
 pub returns-in_default-2-clause-refused : goal.returns-in_default-2-clause-refused
 returns-in_default-2-clause-refused c = (λ _. no_block_here c, λ _. refl)
 
-pub returns-clause-found : goal.returns-clause-found
-returns-clause-found c = IsWire-from_layout c.args.exts.now c.args.buf.now (answer c) (laid_out c)
+pub returns-then-not-flags-clause-found : goal.returns-then-not-flags-clause-found
+returns-then-not-flags-clause-found c = IsWire-from_layout c.args.exts.now c.args.buf.now c.header_of.result (plain c)
 
-pub returns-clause-within : goal.returns-clause-within
-returns-clause-within c =
-    let wire = IsWire-from_layout c.args.exts.now c.args.buf.now (answer c) (laid_out c) in omega (arith, wire.header_len_is)
+pub returns-then-not-flags-clause-only : goal.returns-then-not-flags-clause-only
+returns-then-not-flags-clause-only c header wire = ap (λ (h : RtpHeader). Some h) (one_header c.args.exts.now c.args.buf.now c.header_of.result header (plain c) wire)
+
+pub returns-then-not-flags-clause-refused : goal.returns-then-not-flags-clause-refused
+returns-then-not-flags-clause-refused c =
+    (λ e. absurd cc, λ none. absurd (no_header c.args.exts.now c.args.buf.now c.header_of.result none (IsWire-from_layout c.args.exts.now c.args.buf.now c.header_of.result (plain c))))
+
+pub returns-clause-found : goal.returns-clause-found
+returns-clause-found c = IsWire-from_layout c.args.exts.now c.args.buf.now c.header_of-2.result (extended c)
 
 pub returns-clause-only : goal.returns-clause-only
-returns-clause-only c header wire = ap (λ (h : RtpHeader). Some h) (one_header c.args.exts.now c.args.buf.now (answer c) header (laid_out c) wire)
+returns-clause-only c header wire = ap (λ (h : RtpHeader). Some h) (one_header c.args.exts.now c.args.buf.now c.header_of-2.result header (extended c) wire)
 
 pub returns-clause-refused : goal.returns-clause-refused
 returns-clause-refused c =
-    (λ e. absurd cc, λ none. absurd (no_header c.args.exts.now c.args.buf.now (answer c) none (IsWire-from_layout c.args.exts.now c.args.buf.now (answer c) (laid_out c))))
+    (λ e. absurd cc, λ none. absurd (no_header c.args.exts.now c.args.buf.now c.header_of-2.result none (IsWire-from_layout c.args.exts.now c.args.buf.now c.header_of-2.result (extended c))))
