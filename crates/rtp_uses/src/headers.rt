@@ -1,6 +1,6 @@
 //! Headers, and the values of their extensions.
 
-ghost use Rattle.std.specs.Prelude.{◌≡◌, ◌↔◌, ◌≤◌, length, drop, Ok, Some, None, IfOk, IfSome};
+ghost use Rattle.std.specs.Prelude.{◌≡◌, ◌↔◌, ◌≤◌, length, drop, Ok, Some, None, IsOk, IfOk, IfSome};
 ghost use Rattle.rtp_wire.specs.Header.{IsWire};
 ghost use Rattle.rtp_wire.specs.NotAHeader.{NotAHeader};
 ghost use Rattle.rtp_wire.specs.Values.{orientation_of};
@@ -22,6 +22,7 @@ pub fn payload<'a>(
     packet: &'a [u8],
     exts: &ExtensionMap,
 ) -> Result<Option<&'a [u8]>, AllocError>
+    ensures succeeds { IsOk result }
     ensures found { IfOk result (λ answer. IfSome answer (λ payload.
         (header : RtpHeader) × IsWire exts.now packet.now header
         × (payload.now ≡ drop header.header_len packet.now))) }

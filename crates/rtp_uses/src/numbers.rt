@@ -1,9 +1,12 @@
-//! The values and the order of numbers.
+//! Constants and defaults, and the order of numbers and ids.
 
 ghost use Rattle.std.specs.Prelude.{◌≡◌, ◌-◌, ◌^◌, ◌<◌, ◌↔◌, IsTrue};
+ghost use Rattle.std.specs.Ordering.{nat_cmp};
+ghost use Rattle.std.specs.Cmp.Lexicographic.{slice_cmp};
 
-use rtp_base::{Pt, SeqNo, SessionId, Ssrc, TwccClusterId, TwccSeq};
+use rtp_base::{Mid, Pt, SeqNo, SessionId, Ssrc, TwccClusterId, TwccSeq};
 use rtp_wire::{MAX_ID, MAX_ID_ONE_BYTE_FORM};
+use std::cmp::Ordering;
 
 /// The greatest extended sequence number is 2^64 - 1.
 pub fn greatest_seq_no() -> SeqNo
@@ -73,4 +76,11 @@ pub fn is_less_twcc_seq(a: TwccSeq, b: TwccSeq) -> bool
     ensures { IsTrue result ↔ (a < b) }
 {
     a < b
+}
+
+/// Media sections are ordered by their bytes.
+pub fn order_of_mids(a: &Mid, b: &Mid) -> Ordering
+    ensures { result ≡ slice_cmp nat_cmp a.now b.now }
+{
+    a.cmp(b)
 }

@@ -9,6 +9,7 @@ use rtp_wire::{
     AbsCaptureTime, Extension, ExtensionMap, ExtensionValues, ExtensionsForm, Receiver, RtpHeader,
     Verdict, VideoOrientation, VideoTiming,
 };
+use std::cmp::Ordering;
 use std::test::Fail;
 
 const TIMING: VideoTiming = VideoTiming {
@@ -38,6 +39,10 @@ fn numbers_and_their_order(rt: HostRuntime) -> Result<(), Fail> {
     assert!(rt; numbers::is_less_pt(Pt::from(33), Pt::from(111)));
     assert!(rt; !numbers::is_less_session_id(SessionId::from(9), SessionId::from(8)));
     assert!(rt; !numbers::is_less_seq_no(SeqNo::from(65_536), SeqNo::from(65_535)));
+    assert_eq!(rt;
+        numbers::order_of_mids(&Mid::from("audio"), &Mid::from("video")),
+        Ordering::Less
+    );
     assert!(rt; numbers::is_less_twcc_seq(TwccSeq::from(65_535), TwccSeq::from(65_536)));
     Ok(())
 }
