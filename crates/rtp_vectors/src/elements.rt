@@ -1,10 +1,9 @@
 //! The elements of header extension blocks, lent one by one.
 
+use ExtensionsForm::{OneByte, TwoByte};
 use rtp_wire::{Elements, ExtensionsForm};
 use std::alloc::{AllocError, Global};
 use std::process::Abort;
-
-use ExtensionsForm::{OneByte, TwoByte};
 
 // A block of 65,535 words: as many as its header can announce.
 const LONGEST: usize = 262_140;
@@ -60,7 +59,12 @@ fn two_byte_headers(rt: HostRuntime) {
     check(&rt, TwoByte, &block, &[(1, &[]), (15, &[0x2A])]);
     check(&rt, TwoByte, &[0x01, 0x02, 0xAA], &[]);
     check(&rt, TwoByte, &[0x01], &[]);
-    check(&rt, TwoByte, &[0xFF, 0x01, 0x07, 0x00, 0x02], &[(255, &[0x07])]);
+    check(
+        &rt,
+        TwoByte,
+        &[0xFF, 0x01, 0x07, 0x00, 0x02],
+        &[(255, &[0x07])],
+    );
     let block = [0xF0, 0x01, 0x05, 0x00, 0x10, 0x02, 0x00, 0x01];
     check(&rt, TwoByte, &block, &[(240, &[0x05]), (16, &[0x00, 0x01])]);
 }
@@ -109,7 +113,10 @@ fn longest_blocks(rt: HostRuntime) -> Result<(), AllocError> {
     assert_eq!(&rt; totals(alloc, TwoByte, 0, &[])?, (0, 0));
     assert_eq!(&rt; totals(alloc, OneByte, 0x10, &[0xAA])?, (131_070, 131_070));
     assert_eq!(&rt; totals(alloc, TwoByte, 0x01, &[0x00])?, (131_070, 0));
-    assert_eq!(&rt; totals(alloc, OneByte, 0x4F, &[0x61; 16])?, (15_420, 246_720));
+    assert_eq!(&rt;
+        totals(alloc, OneByte, 0x4F, &[0x61; 16])?,
+        (15_420, 246_720)
+    );
     assert_eq!(&rt; totals(alloc, OneByte, 0xFF, &[])?, (0, 0));
     assert_eq!(&rt; totals(alloc, TwoByte, 0xFF, &[])?, (1_020, 260_100));
     Ok(())
