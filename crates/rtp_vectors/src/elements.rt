@@ -1,10 +1,9 @@
 //! The elements of header extension blocks, lent one by one.
 
+use ExtensionsForm::{OneByte, TwoByte};
 use rtp_wire::{Elements, ExtensionsForm};
 use std::alloc::{AllocError, Global};
 use std::process::Abort;
-
-use ExtensionsForm::{OneByte, TwoByte};
 
 // A block of 65,535 words: as many as its header can announce.
 const LONGEST: usize = 262_140;
@@ -60,7 +59,12 @@ fn two_byte_headers(rt: HostRuntime) {
     check(&rt, TwoByte, &block, &[(1, &[]), (15, &[0x2A])]);
     check(&rt, TwoByte, &[0x01, 0x02, 0xAA], &[]);
     check(&rt, TwoByte, &[0x01], &[]);
-    check(&rt, TwoByte, &[0xFF, 0x01, 0x07, 0x00, 0x02], &[(255, &[0x07])]);
+    check(
+        &rt,
+        TwoByte,
+        &[0xFF, 0x01, 0x07, 0x00, 0x02],
+        &[(255, &[0x07])],
+    );
     let block = [0xF0, 0x01, 0x05, 0x00, 0x10, 0x02, 0x00, 0x01];
     check(&rt, TwoByte, &block, &[(240, &[0x05]), (16, &[0x00, 0x01])]);
 }
@@ -81,18 +85,20 @@ fn padding(rt: HostRuntime) -> Result<(), AllocError> {
     Ok(())
 }
 
-// How many elements a block has that repeats one pattern, and how many bytes of data they have.
+// How many elements a longest block has that repeats one pattern, and how many bytes of data they
+// have.
 fn totals(
+    rt: &impl Abort,
     alloc: Global,
     form: ExtensionsForm,
-    first: u8,
-    others: &[u8],
+    pattern: &[u8],
+    times: usize,
 ) -> Result<(u64, u64), AllocError> {
     let mut block = Vec::with_capacity(alloc, LONGEST)?;
-    while block.len() + others.len() < LONGEST {
-        block.push(first)?;
-        block.extend_from_slice(others)?;
+    for _ in 0..times {
+        block.extend_from_slice(pattern)?;
     }
+    assert_eq!(rt; block.len(), LONGEST);
     let mut count = 0u64;
     let mut bytes = 0u64;
     for (_, data) in Elements::new(&block, form) {
@@ -104,13 +110,18 @@ fn totals(
 
 #[test]
 fn longest_blocks(rt: HostRuntime) -> Result<(), AllocError> {
-    let alloc = rt.alloc();
-    assert_eq!(&rt; totals(alloc, OneByte, 0, &[])?, (0, 0));
-    assert_eq!(&rt; totals(alloc, TwoByte, 0, &[])?, (0, 0));
-    assert_eq!(&rt; totals(alloc, OneByte, 0x10, &[0xAA])?, (131_070, 131_070));
-    assert_eq!(&rt; totals(alloc, TwoByte, 0x01, &[0x00])?, (131_070, 0));
-    assert_eq!(&rt; totals(alloc, OneByte, 0x4F, &[0x61; 16])?, (15_420, 246_720));
-    assert_eq!(&rt; totals(alloc, OneByte, 0xFF, &[])?, (0, 0));
-    assert_eq!(&rt; totals(alloc, TwoByte, 0xFF, &[])?, (1_020, 260_100));
+    let rows: [(ExtensionsForm, &[u8], usize, (u64, u64)); 7] = [
+        (OneByte, &[0], LONGEST, (0, 0)),
+        (TwoByte, &[0], LONGEST, (0, 0)),
+        (OneByte, &[0x10, 0xAA], 131_070, (131_070, 131_070)),
+        (TwoByte, &[0x01, 0x00], 131_070, (131_070, 0)),
+        (OneByte, b"\x4Fabcdefghijklmnop", 15_420, (15_420, 246_720)),
+        (OneByte, &[0xFF], LONGEST, (0, 0)),
+        (TwoByte, &[0xFF], LONGEST, (1_020, 260_100)),
+    ];
+    for (form, pattern, times, wanted) in rows {
+        let found = totals(&rt, rt.alloc(), form, pattern, times)?;
+        assert_eq!(rt; found, wanted, "{form:?}, {pattern:?}");
+    }
     Ok(())
 }

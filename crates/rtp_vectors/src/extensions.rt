@@ -4,7 +4,7 @@ use rtp_wire::{Extension, Uri};
 use std::alloc::{AllocError, Global};
 use std::process::Abort;
 
-// A kind, its URI, its text, and whether it goes with audio and with video.
+// A kind, its URI, its text, and whether audio and video streams have it.
 const KINDS: [(Extension, &str, &str, bool, bool); 14] = [
     (
         Extension::AbsoluteSendTime,
@@ -154,6 +154,9 @@ fn unknown_uris(rt: HostRuntime) -> Result<(), AllocError> {
     check_unknown(&rt, rt.alloc(), "urn:x")?;
     check_unknown(&rt, rt.alloc(), "")?;
     check_unknown(&rt, rt.alloc(), "urn:é€😀")?;
+    let longest = format!(in rt.alloc(); "urn:{:->251}", "")?;
+    assert_eq!(rt; longest.len(), 255);
+    check_unknown(&rt, rt.alloc(), &longest)?;
     // Not yet a known kind.
     let allocation = "http://www.webrtc.org/experiments/rtp-hdrext/video-layers-allocation00";
     check_unknown(&rt, rt.alloc(), allocation)?;

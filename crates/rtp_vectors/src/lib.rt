@@ -10,13 +10,21 @@ mod elements;
 #[cfg(test)]
 mod extensions;
 #[cfg(test)]
-mod headers;
+mod fixtures;
+#[cfg(test)]
+mod headers_read;
+#[cfg(test)]
+mod headers_with_values;
+#[cfg(test)]
+mod headers_written;
 #[cfg(test)]
 mod ids;
 #[cfg(test)]
 mod kinds;
 #[cfg(test)]
 mod maps;
+#[cfg(test)]
+mod receivers;
 #[cfg(test)]
 mod runs;
 #[cfg(test)]

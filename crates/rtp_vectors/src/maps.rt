@@ -1,5 +1,6 @@
 //! Maps of extension ids, and what renegotiations make of them.
 
+use crate::fixtures::{one, two};
 use rtp_wire::{Extension, ExtensionMap, IterByMediaType, MAX_ID, MAX_ID_ONE_BYTE_FORM};
 use std::alloc::{AllocError, Global};
 
@@ -7,15 +8,6 @@ use std::alloc::{AllocError, Global};
 fn with(mut map: ExtensionMap, id: u8, ext: Extension) -> ExtensionMap {
     map.set(id, ext);
     map
-}
-
-// The map of one entry, and that of two.
-fn one(id: u8, ext: Extension) -> ExtensionMap {
-    with(ExtensionMap::empty(), id, ext)
-}
-
-fn two(id: u8, ext: Extension, next_id: u8, next: Extension) -> ExtensionMap {
-    with(one(id, ext), next_id, next)
 }
 
 // The text that a map is shown as.
@@ -44,6 +36,10 @@ fn entries(rt: HostRuntime) -> Result<(), AllocError> {
         "Extensions(1=ssrc-audio-level, 4=mid)"
     );
     map.set(16, Extension::RtpMid);
+    assert_eq!(rt;
+        text_of(rt.alloc(), &map)?.as_str(),
+        "Extensions(1=ssrc-audio-level, 4=mid, 16=mid)"
+    );
     assert!(rt; map.lookup(4) == Some(&Extension::RtpMid));
     assert!(rt; map.lookup(16) == Some(&Extension::RtpMid));
     for id in [0, 2, 3, 15, 17, 255] {
@@ -266,5 +262,21 @@ fn copies(rt: HostRuntime) -> Result<(), AllocError> {
         map.id_of(Extension::from_sdp_uri(rt.alloc(), "urn:y")?),
         None
     );
+    Ok(())
+}
+
+#[test]
+fn sixteen_texts_of_their_own(rt: HostRuntime) -> Result<(), AllocError> {
+    let mut map = ExtensionMap::empty();
+    for id in 1..=MAX_ID {
+        let uri = format!(in rt.alloc(); "urn:{id}")?;
+        map.set(id, Extension::from_sdp_uri(rt.alloc(), &uri)?);
+    }
+    let copy = map.clone(rt.alloc())?;
+    assert!(rt; copy == map);
+    for id in 1..=MAX_ID {
+        let uri = format!(in rt.alloc(); "urn:{id}")?;
+        assert_eq!(rt; copy.lookup(id).map(|ext| ext.as_uri()), Some(uri.as_str()));
+    }
     Ok(())
 }

@@ -5,14 +5,60 @@ use rtp_wire::{ExtensionMap, Verdict, receive_run};
 use std::alloc::{AllocError, Global};
 use std::process::Abort;
 
+// The numbers of a stream's packets, in the order in which they come, and as what each one is taken:
+// none where it is refused.
+pub(crate) const RUNS: [(&[u16], &[Option<u64>]); 11] = [
+    (&[], &[]),
+    (
+        &[65534, 65535, 0, 65534, 65535, 0],
+        &[Some(65534), Some(65535), Some(65536), None, None, None],
+    ),
+    // Back past number 0.
+    (&[2, 65535, 3], &[Some(2), Some(18446744073709551615), None]),
+    // 127 and 128 below the highest number taken.
+    (&[1000, 873, 872, 873], &[Some(1000), Some(873), None, None]),
+    (
+        &[5, 132, 5, 4, 6],
+        &[Some(5), Some(132), None, None, Some(6)],
+    ),
+    // A number is widened after the highest one taken, whatever came last.
+    (
+        &[0, 32768, 0, 65535, 32767, 32766],
+        &[Some(0), Some(32768), None, Some(65535), None, Some(98302)],
+    ),
+    (
+        &[0, 30000, 60000, 24464],
+        &[Some(0), Some(30000), Some(60000), Some(90000)],
+    ),
+    // One number again and again.
+    (&[0, 0], &[Some(0), None]),
+    (
+        &[7, 7, 7, 8, 7, 8],
+        &[Some(7), None, None, Some(8), None, None],
+    ),
+    (
+        &[65535, 65535, 0, 0],
+        &[Some(65535), None, Some(65536), None],
+    ),
+    // In any order, each number is taken once.
+    (
+        &[102, 100, 101, 100, 102, 101],
+        &[Some(102), Some(100), Some(101), None, None, None],
+    ),
+];
+
+// What is said of a packet that is taken as this number, or refused.
+pub(crate) fn verdict(taken: Option<u64>) -> Verdict {
+    match taken {
+        Some(number) => Verdict::Taken(SeqNo::from(number)),
+        None => Verdict::Refused,
+    }
+}
+
 // A plain header of this number.
 fn datagram(alloc: Global, number: u16) -> Result<Vec<u8>, AllocError> {
     let [high, low] = number.to_be_bytes();
     Ok(vec![in alloc; 0x80, 1, high, low, 0, 0, 0, 0, 0, 0, 0, 0]?)
-}
-
-fn taken(number: u64) -> Verdict {
-    Verdict::Taken(SeqNo::from(number))
 }
 
 // Runs plain headers, and a datagram without one where there is no number.
@@ -35,63 +81,59 @@ fn check(
 }
 
 #[test]
-fn no_datagrams(rt: HostRuntime) -> Result<(), AllocError> {
-    check(&rt, rt.alloc(), &[], &[])?;
-    check(&rt, rt.alloc(), &[None], &[Verdict::Unreadable])
+fn verdicts_differ(rt: HostRuntime) {
+    let verdicts = [
+        Verdict::Unreadable,
+        Verdict::Refused,
+        verdict(Some(0)),
+        verdict(Some(1)),
+        verdict(Some(65536)),
+    ];
+    for (index, one) in verdicts.iter().enumerate() {
+        for (other_index, other) in verdicts.iter().enumerate() {
+            assert!(rt; (one == other) == (index == other_index));
+        }
+    }
 }
 
 #[test]
-fn across_a_rollover(rt: HostRuntime) -> Result<(), AllocError> {
+fn runs_of_one_stream(rt: HostRuntime) -> Result<(), AllocError> {
+    for (numbers, taken) in RUNS {
+        let numbers = numbers
+            .iter()
+            .map(|number| Some(*number))
+            .collect::<Vec<_>>(rt.alloc())?;
+        let wanted = taken
+            .iter()
+            .map(|taken| verdict(*taken))
+            .collect::<Vec<_>>(rt.alloc())?;
+        check(&rt, rt.alloc(), &numbers, &wanted)?;
+    }
+    Ok(())
+}
+
+// A datagram without a header changes nothing.
+#[test]
+fn unreadable_datagrams(rt: HostRuntime) -> Result<(), AllocError> {
+    check(&rt, rt.alloc(), &[None], &[Verdict::Unreadable])?;
     let numbers = [Some(65535), Some(0), Some(65535), None, Some(1)];
     let wanted = [
-        taken(65535),
-        taken(65536),
+        verdict(Some(65535)),
+        verdict(Some(65536)),
         Verdict::Refused,
         Verdict::Unreadable,
-        taken(65537),
+        verdict(Some(65537)),
     ];
     check(&rt, rt.alloc(), &numbers, &wanted)
 }
 
 #[test]
-fn back_past_number_0(rt: HostRuntime) -> Result<(), AllocError> {
-    let numbers = [Some(2), Some(65535), Some(3)];
-    let wanted = [taken(2), taken(18446744073709551615), Verdict::Refused];
-    check(&rt, rt.alloc(), &numbers, &wanted)
-}
-
-#[test]
-fn behind_by_127_and_by_128(rt: HostRuntime) -> Result<(), AllocError> {
-    let numbers = [Some(1000), Some(873), Some(872), Some(873)];
-    let wanted = [taken(1000), taken(873), Verdict::Refused, Verdict::Refused];
-    check(&rt, rt.alloc(), &numbers, &wanted)
-}
-
-// A number is widened after the greatest taken, whatever came last.
-#[test]
-fn after_the_greatest_taken(rt: HostRuntime) -> Result<(), AllocError> {
-    let numbers = [
-        Some(0),
-        Some(32768),
-        Some(0),
-        Some(65535),
-        Some(32767),
-        Some(32766),
-    ];
-    let wanted = [
-        taken(0),
-        taken(32768),
-        Verdict::Refused,
-        taken(65535),
-        Verdict::Refused,
-        taken(98302),
-    ];
-    check(&rt, rt.alloc(), &numbers, &wanted)
-}
-
-#[test]
-fn three_turns(rt: HostRuntime) -> Result<(), AllocError> {
-    let numbers = [Some(0), Some(30000), Some(60000), Some(24464)];
-    let wanted = [taken(0), taken(30000), taken(60000), taken(90000)];
+fn a_thousand_datagrams(rt: HostRuntime) -> Result<(), AllocError> {
+    let mut numbers = Vec::new(rt.alloc());
+    let mut wanted = Vec::new(rt.alloc());
+    for number in 65_000..66_000u64 {
+        numbers.push(Some((number % 65_536) as u16))?;
+        wanted.push(verdict(Some(number)))?;
+    }
     check(&rt, rt.alloc(), &numbers, &wanted)
 }

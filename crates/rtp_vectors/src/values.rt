@@ -2,8 +2,8 @@
 
 ghost use Rattle.std.specs.Prelude.{◌≡◌, length};
 
-use rtp_base::{MediaTime, Mid, Rid};
-use rtp_wire::{AbsCaptureTime, Extension, ExtensionValues, VideoOrientation, VideoTiming};
+use crate::fixtures::full;
+use rtp_wire::{Extension, ExtensionValues};
 use std::alloc::{AllocError, Global};
 use std::test::Fail;
 
@@ -48,37 +48,7 @@ pub(crate) fn is_refused(alloc: Global, kind: &Extension, data: &[u8]) -> Result
     Ok(kind.parse_value(alloc, data, &mut values)?.is_none() && values == full())
 }
 
-// The values with every field set, as the rows of `full_rows` have them.
-fn full() -> ExtensionValues {
-    ExtensionValues {
-        audio_level: Some(-43),
-        voice_activity: Some(true),
-        video_orientation: Some(VideoOrientation::Deg90),
-        video_content_type: Some(1),
-        tx_time_offs: Some(100),
-        abs_send_time: Some(40_000_000),
-        abs_capture_time: Some(AbsCaptureTime {
-            capture_time: 0x0102030405060708,
-            clock_offset: Some(-1),
-        }),
-        transport_cc: Some(258),
-        play_delay_min: Some(MediaTime::from_hundredths(100)),
-        play_delay_max: Some(MediaTime::from_hundredths(200)),
-        video_timing: Some(VideoTiming {
-            flags: 1,
-            encode_start: 2,
-            encode_finish: 3,
-            packetize_complete: 4,
-            last_left_pacer: 5,
-        }),
-        rid: Some(Rid::from("hi")),
-        rid_repair: Some(Rid::from("lo")),
-        mid: Some(Mid::from("a-b")),
-        frame_mark: Some(1),
-    }
-}
-
-// The data of each kind for the values of `full`.
+// The data of each kind for the values with every field set.
 const FULL: [(Extension, &[u8]); 13] = [
     (Extension::AbsoluteSendTime, b"\xA0\x00\x00"),
     (

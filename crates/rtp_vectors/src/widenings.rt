@@ -59,11 +59,11 @@ const SIXTEEN: [(Option<u64>, u16, u64); 13] = [
     // A smaller number is no rollover by itself.
     (Some(65_538), 1, 65_537),
     (Some(65_500), 2, 65_538),
-    // Half a turn away, and just more.
+    // Half of the sequence number space away, and one more.
     (Some(0), 32_768, 32_768),
     (Some(0), 32_769, 18446744073709518849),
     (Some(98_304), 0, 65_536),
-    // Back past 0, and on past the greatest.
+    // Back past 0, and on past the greatest number.
     (Some(2), 65_535, 18446744073709551615),
     (Some(18446744073709551615), 2, 2),
 ];

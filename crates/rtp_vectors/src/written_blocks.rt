@@ -4,11 +4,9 @@ ghost use Rattle.std.specs.Prelude.{◌≡◌, ◌⊎◌};
 ghost use Rattle.rtp_wire.specs.declared.ext.form.ExtensionsForm.TheVariants.{TwoByte};
 ghost use Rattle.rtp_wire.specs.WrittenBlock.{form_of};
 
-use rtp_base::{MediaTime, Mid, Rid};
-use rtp_wire::{
-    AbsCaptureTime, Extension, ExtensionMap, ExtensionValues, ExtensionsForm, VideoOrientation,
-    VideoTiming,
-};
+use crate::fixtures::{full, level, one, two};
+use rtp_base::{Mid, Rid};
+use rtp_wire::{AbsCaptureTime, Extension, ExtensionMap, ExtensionValues, ExtensionsForm};
 use std::alloc::Global;
 use std::test::Fail;
 
@@ -40,89 +38,57 @@ fn two_byte(alloc: Global, map: &ExtensionMap, ev: &ExtensionValues) -> Result<V
     written(alloc, map, ev, ExtensionsForm::TwoByte)
 }
 
-// The map of one entry, and that of two.
-fn one(id: u8, ext: Extension) -> ExtensionMap {
-    let mut map = ExtensionMap::empty();
-    map.set(id, ext);
-    map
-}
-
-fn two(id: u8, ext: Extension, next_id: u8, next: Extension) -> ExtensionMap {
-    let mut map = one(id, ext);
-    map.set(next_id, next);
-    map
-}
-
-// The values of an audio level.
-fn level(level: i8, voice: bool) -> ExtensionValues {
-    ExtensionValues {
-        audio_level: Some(level),
-        voice_activity: Some(voice),
-        ..ExtensionValues::default()
-    }
-}
-
+// Each kind under an id of its own: the element of the values with every field set, which are read
+// back one by one.
 #[test]
-fn delays_and_times(rt: HostRuntime) -> Result<(), Fail> {
-    let delays = ExtensionValues {
-        play_delay_min: Some(MediaTime::from_hundredths(100)),
-        play_delay_max: Some(MediaTime::from_hundredths(200)),
-        ..ExtensionValues::default()
-    };
-    let map = one(2, Extension::PlayoutDelay);
-    assert_eq!(rt; elements(rt.alloc(), &map, &delays)?.as_slice(), [0x22, 0x06, 0x40, 0xC8].as_slice());
-
-    let captured = |clock_offset| ExtensionValues {
-        abs_capture_time: Some(AbsCaptureTime {
-            capture_time: 0x0102_0304_0506_0708,
-            clock_offset,
-        }),
-        ..ExtensionValues::default()
-    };
-    let map = one(5, Extension::AbsoluteCaptureTime);
-    let plain = hex::decode(rt.alloc(), "570102030405060708")?;
-    assert_eq!(rt; elements(rt.alloc(), &map, &captured(None))?.as_slice(), plain.as_slice());
-    let offset = hex::decode(rt.alloc(), "5f0102030405060708ffffffffffffffff")?;
-    assert_eq!(rt; elements(rt.alloc(), &map, &captured(Some(-1)))?.as_slice(), offset.as_slice());
-
-    let timing = ExtensionValues {
-        video_timing: Some(VideoTiming {
-            flags: 1,
-            encode_start: 2,
-            encode_finish: 3,
-            packetize_complete: 4,
-            last_left_pacer: 5,
-        }),
-        ..ExtensionValues::default()
-    };
-    let map = one(7, Extension::VideoTiming);
-    let expected = hex::decode(rt.alloc(), "7c01000200030004000500000000")?;
-    assert_eq!(rt; elements(rt.alloc(), &map, &timing)?.as_slice(), expected.as_slice());
+fn each_kind(rt: HostRuntime) -> Result<(), Fail> {
+    let rows = [
+        (1, Extension::AudioLevel, "10ab"),
+        (2, Extension::PlayoutDelay, "220640c8"),
+        (3, Extension::TransportSequenceNumber, "310102"),
+        (4, Extension::RtpMid, "42615f62"),
+        (
+            5,
+            Extension::AbsoluteCaptureTime,
+            "5f0102030405060708ffffffffffffffff",
+        ),
+        (7, Extension::VideoTiming, "7c01000200030004000500000000"),
+        (8, Extension::VideoContentType, "8001"),
+        (9, Extension::FrameMarking, "9300000001"),
+        (10, Extension::RtpStreamId, "a16869"),
+        (11, Extension::RepairedRtpStreamId, "b16c6f"),
+        (12, Extension::AbsoluteSendTime, "c2a00000"),
+        (13, Extension::VideoOrientation, "d003"),
+        (14, Extension::TransmissionTimeOffset, "e300000064"),
+    ];
+    let mut values = ExtensionValues::default();
+    for (id, ext, text) in rows {
+        let map = one(id, ext);
+        let bytes = hex::decode(rt.alloc(), text)?;
+        let written = elements(rt.alloc(), &map, &full())?;
+        assert_eq!(rt; written.as_slice(), bytes.as_slice(), "{text}");
+        map.parse(rt.alloc(), &bytes, ExtensionsForm::OneByte, &mut values)?;
+    }
+    assert!(rt; values == full());
     Ok(())
 }
 
 #[test]
-fn numbers(rt: HostRuntime) -> Result<(), Fail> {
-    let map = one(1, Extension::AudioLevel);
-    assert_eq!(rt; elements(rt.alloc(), &map, &level(0, true))?.as_slice(), [0x10, 0x80].as_slice());
-    let number = ExtensionValues {
-        transport_cc: Some(258),
-        ..ExtensionValues::default()
+fn a_level_of_0_and_a_capture_time_without_offset(rt: HostRuntime) -> Result<(), Fail> {
+    let map = two(1, Extension::AudioLevel, 5, Extension::AbsoluteCaptureTime);
+    let expected = ExtensionValues {
+        abs_capture_time: Some(AbsCaptureTime {
+            capture_time: 0x0102_0304_0506_0708,
+            clock_offset: None,
+        }),
+        ..level(0, true)
     };
-    let map = one(3, Extension::TransportSequenceNumber);
-    assert_eq!(rt; elements(rt.alloc(), &map, &number)?.as_slice(), [0x31, 1, 2].as_slice());
-    let turned = ExtensionValues {
-        video_orientation: Some(VideoOrientation::Deg90),
-        ..ExtensionValues::default()
-    };
-    let map = one(13, Extension::VideoOrientation);
-    assert_eq!(rt; elements(rt.alloc(), &map, &turned)?.as_slice(), [0xD0, 3].as_slice());
-    let marked = ExtensionValues {
-        frame_mark: Some(1),
-        ..ExtensionValues::default()
-    };
-    let map = one(9, Extension::FrameMarking);
-    assert_eq!(rt; elements(rt.alloc(), &map, &marked)?.as_slice(), [0x93, 0, 0, 0, 1].as_slice());
+    let bytes = hex::decode(rt.alloc(), "1080570102030405060708")?;
+    let written = elements(rt.alloc(), &map, &expected)?;
+    assert_eq!(rt; written.as_slice(), bytes.as_slice());
+    let mut values = ExtensionValues::default();
+    map.parse(rt.alloc(), &bytes, ExtensionsForm::OneByte, &mut values)?;
+    assert!(rt; values == expected);
     Ok(())
 }
 
@@ -134,7 +100,10 @@ fn texts(rt: HostRuntime) -> Result<(), Fail> {
         ..ExtensionValues::default()
     };
     let map = one(4, Extension::RtpMid);
-    assert_eq!(rt; elements(rt.alloc(), &map, &named)?.as_slice(), [0x42, b'a', b'_', b'b'].as_slice());
+    assert_eq!(rt;
+        elements(rt.alloc(), &map, &named)?.as_slice(),
+        [0x42, b'a', b'_', b'b'].as_slice()
+    );
 
     // The one-byte form has no element without data.
     let unnamed = ExtensionValues {
@@ -142,10 +111,16 @@ fn texts(rt: HostRuntime) -> Result<(), Fail> {
         ..ExtensionValues::default()
     };
     assert_eq!(rt; map.form(&unnamed), ExtensionsForm::TwoByte);
-    assert_eq!(rt; elements(rt.alloc(), &map, &unnamed)?.as_slice(), [4, 0].as_slice());
+    assert_eq!(rt;
+        elements(rt.alloc(), &map, &unnamed)?.as_slice(),
+        [4, 0].as_slice()
+    );
     let map = one(10, Extension::RtpStreamId);
     assert_eq!(rt; map.form(&unnamed), ExtensionsForm::OneByte);
-    assert_eq!(rt; elements(rt.alloc(), &map, &named)?.as_slice(), [0xA0, b'x'].as_slice());
+    assert_eq!(rt;
+        elements(rt.alloc(), &map, &named)?.as_slice(),
+        [0xA0, b'x'].as_slice()
+    );
     Ok(())
 }
 
@@ -157,10 +132,16 @@ fn ids_above_14(rt: HostRuntime) -> Result<(), Fail> {
     };
     let low = one(4, Extension::AbsoluteSendTime);
     assert_eq!(rt; low.form(&sent), ExtensionsForm::OneByte);
-    assert_eq!(rt; elements(rt.alloc(), &low, &sent)?.as_slice(), [0x42, 0xA0, 0, 0].as_slice());
+    assert_eq!(rt;
+        elements(rt.alloc(), &low, &sent)?.as_slice(),
+        [0x42, 0xA0, 0, 0].as_slice()
+    );
     let high = one(16, Extension::AbsoluteSendTime);
     assert_eq!(rt; high.form(&sent), ExtensionsForm::TwoByte);
-    assert_eq!(rt; elements(rt.alloc(), &high, &sent)?.as_slice(), [0x10, 3, 0xA0, 0, 0].as_slice());
+    assert_eq!(rt;
+        elements(rt.alloc(), &high, &sent)?.as_slice(),
+        [0x10, 3, 0xA0, 0, 0].as_slice()
+    );
 
     let captured = ExtensionValues {
         abs_capture_time: Some(AbsCaptureTime {
@@ -172,12 +153,21 @@ fn ids_above_14(rt: HostRuntime) -> Result<(), Fail> {
     let map = one(16, Extension::AbsoluteCaptureTime);
     assert_eq!(rt; map.form(&captured), ExtensionsForm::TwoByte);
     let expected = hex::decode(rt.alloc(), "10100102030405060708ffffffffc521974f")?;
-    assert_eq!(rt; elements(rt.alloc(), &map, &captured)?.as_slice(), expected.as_slice());
+    assert_eq!(rt;
+        elements(rt.alloc(), &map, &captured)?.as_slice(),
+        expected.as_slice()
+    );
 
     // The id counts, whether there is a value or not.
     let map = one(15, Extension::AudioLevel);
-    assert_eq!(rt; map.form(&ExtensionValues::default()), ExtensionsForm::TwoByte);
-    assert_eq!(rt; elements(rt.alloc(), &map, &level(-43, false))?.as_slice(), [15, 1, 43].as_slice());
+    assert_eq!(rt;
+        map.form(&ExtensionValues::default()),
+        ExtensionsForm::TwoByte
+    );
+    assert_eq!(rt;
+        elements(rt.alloc(), &map, &level(-43, false))?.as_slice(),
+        [15, 1, 43].as_slice()
+    );
     Ok(())
 }
 
@@ -197,9 +187,15 @@ fn several(rt: HostRuntime) -> Result<(), Fail> {
     let mut map = two(4, Extension::RtpMid, 3, Extension::TransportSequenceNumber);
     map.set(1, Extension::AudioLevel);
     let expected = hex::decode(rt.alloc(), "10ab3100024278596a")?;
-    assert_eq!(rt; elements(rt.alloc(), &map, &values)?.as_slice(), expected.as_slice());
+    assert_eq!(rt;
+        elements(rt.alloc(), &map, &values)?.as_slice(),
+        expected.as_slice()
+    );
     let expected = hex::decode(rt.alloc(), "0101ab03020002040378596a")?;
-    assert_eq!(rt; two_byte(rt.alloc(), &map, &values)?.as_slice(), expected.as_slice());
+    assert_eq!(rt;
+        two_byte(rt.alloc(), &map, &values)?.as_slice(),
+        expected.as_slice()
+    );
     Ok(())
 }
 
@@ -208,7 +204,10 @@ fn nothing(rt: HostRuntime) -> Result<(), Fail> {
     let values = level(-43, true);
     assert!(rt; elements(rt.alloc(), &ExtensionMap::empty(), &values)?.is_empty());
     let standard = ExtensionMap::standard();
-    assert_eq!(rt; standard.form(&ExtensionValues::default()), ExtensionsForm::OneByte);
+    assert_eq!(rt;
+        standard.form(&ExtensionValues::default()),
+        ExtensionsForm::OneByte
+    );
     assert!(rt; elements(rt.alloc(), &standard, &ExtensionValues::default())?.is_empty());
     let no_voice = ExtensionValues {
         voice_activity: None,

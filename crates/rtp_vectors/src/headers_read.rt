@@ -1,7 +1,8 @@
-//! Headers as bytes, read and written.
+//! Headers, read from bytes.
 
+use crate::fixtures::spoken;
 use rtp_base::{Pt, Ssrc};
-use rtp_wire::{ExtensionMap, ExtensionsForm, RtpHeader};
+use rtp_wire::{ExtensionMap, ExtensionValues, ExtensionsForm, RtpHeader};
 use std::alloc::{AllocError, Global};
 use std::test::Fail;
 
@@ -10,117 +11,67 @@ const PACKET: &str = "b06fb798000027102e5715f9bede0004\
 10aa22fe206a3100004278596a000000\
 0102030400000000000000000000000c";
 
+// The same with other values, and with the elements of the first in the two-byte form.
+const OTHER_VALUES: &str = "b06fb79900002ee02e5715f9bede0004\
+10ab22fe86d03100024278596a000000\
+0102030400000000000000000000000c";
+
+const TWO_BYTE_FORM: &str = "b06fb798000027102e5715f910010005\
+0101aa0203fe206a03020000040378596a000000\
+0102030400000000000000000000000c";
+
 fn parse(alloc: Global, bytes: &[u8]) -> Result<Option<RtpHeader>, AllocError> {
     RtpHeader::parse(alloc, bytes, &ExtensionMap::empty())
 }
 
-// What is written of a header that fits into a buffer of ones.
-fn written(alloc: Global, header: &RtpHeader) -> Result<Vec<u8>, Fail> {
-    let exts = ExtensionMap::empty();
-    if header.payload_type.get() > 127 || header.csrc_count > 15 {
-        return Err(Fail::from("the header can't be written"));
-    }
-    let len = header.wire_len(&exts);
-    let mut buf = vec![in alloc; 255u8; len + 3]?;
-    let end = header.write_to(&mut buf, &exts);
-    if end != len || !buf.ends_with(&[255, 255, 255]) {
-        return Err(Fail::from("more or less was written than was said"));
-    }
-    buf.truncate(end);
-    Ok(buf)
-}
-
-#[test]
-fn plain_header(rt: HostRuntime) -> Result<(), Fail> {
-    let bytes = hex::decode(rt.alloc(), "8021B798000027100000002C")?;
-    let header = parse(rt.alloc(), &bytes)?.ok_or("a header")?;
-    let fields = RtpHeader {
+// What such a packet's header has.
+fn header(number: u16, timestamp: u32, ext_vals: ExtensionValues, header_len: usize) -> RtpHeader {
+    RtpHeader {
         version: 2,
-        has_padding: false,
-        has_extension: false,
+        has_padding: true,
+        has_extension: true,
         csrc_count: 0,
         marker: false,
-        payload_type: Pt::from(33),
-        sequence_number: 47000,
-        timestamp: 10000,
-        ssrc: Ssrc::from(44),
+        payload_type: Pt::from(111),
+        sequence_number: number,
+        timestamp,
+        ssrc: Ssrc::from(777459193),
         csrc: [0; 15],
-        ext_vals: Default::default(),
-        header_len: 12,
-    };
-    assert!(rt; header == fields);
-    assert_eq!(rt; written(rt.alloc(), &header)?.as_slice(), bytes.as_slice());
-    Ok(())
+        ext_vals,
+        header_len,
+    }
 }
 
 #[test]
-fn default_header(rt: HostRuntime) -> Result<(), Fail> {
-    let header = RtpHeader::default();
-    let bytes = written(rt.alloc(), &header)?;
-    assert_eq!(rt;
-        bytes.as_slice(),
-        [144, 1, 0, 0, 0, 0, 0, 0, 0, 0, 0, 0, 190, 222, 0, 0].as_slice()
-    );
-    assert!(rt; parse(rt.alloc(), &bytes)?.ok_or("a header")? == header);
-    Ok(())
-}
-
-#[test]
-fn default_header_without_block(rt: HostRuntime) -> Result<(), Fail> {
-    let mut header = RtpHeader::default();
-    header.has_extension = false;
-    let bytes = written(rt.alloc(), &header)?;
-    assert_eq!(rt;
-        bytes.as_slice(),
-        [128, 1, 0, 0, 0, 0, 0, 0, 0, 0, 0, 0].as_slice()
-    );
-    let read = parse(rt.alloc(), &bytes)?.ok_or("a header")?;
-    assert_eq!(rt; read.header_len, 12);
-    header.header_len = 12;
-    assert!(rt; read == header);
-    Ok(())
-}
-
-#[test]
-fn sources(rt: HostRuntime) -> Result<(), Fail> {
-    let mut header = RtpHeader::default();
-    header.version = 0;
-    header.csrc_count = 3;
-    header.csrc = [
-        100, 305419896, 4294967295, 7, 7, 7, 7, 7, 7, 7, 7, 7, 7, 7, 7,
+fn packets(rt: HostRuntime) -> Result<(), Fail> {
+    let rows = [
+        (PACKET, header(47000, 10000, spoken(-42, 63_531_654, 0), 32)),
+        (
+            OTHER_VALUES,
+            header(47001, 12000, spoken(-43, 63_631_652, 2), 32),
+        ),
+        (
+            TWO_BYTE_FORM,
+            header(47000, 10000, spoken(-42, 63_531_654, 0), 36),
+        ),
     ];
-    let bytes = written(rt.alloc(), &header)?;
-    let wanted = "930100000000000000000000\
-0000006412345678FFFFFFFF\
-BEDE0000";
-    assert_eq!(rt;
-        bytes.as_slice(),
-        hex::decode(rt.alloc(), wanted)?.as_slice()
-    );
-    let read = parse(rt.alloc(), &bytes)?.ok_or("a header")?;
-    assert_eq!(rt; read.version, 2);
-    assert_eq!(rt; read.csrc_count, 3);
-    assert_eq!(rt;
-        read.csrc,
-        [
-            100, 305419896, 4294967295, 0, 0, 0, 0, 0, 0, 0, 0, 0, 0, 0, 0
-        ]
-    );
-    assert_eq!(rt; read.header_len, 28);
+    let map = ExtensionMap::standard();
+    for (text, wanted) in rows {
+        let bytes = hex::decode(rt.alloc(), text)?;
+        let read = RtpHeader::parse(rt.alloc(), &bytes, &map)?.ok_or("a header")?;
+        assert!(rt; read == wanted, "{text}");
+    }
     Ok(())
 }
 
+// Whatever follows the header is not looked at.
 #[test]
-fn most_sources(rt: HostRuntime) -> Result<(), Fail> {
-    let mut header = RtpHeader::default();
-    header.csrc_count = 15;
-    let bytes = written(rt.alloc(), &header)?;
-    assert_eq!(rt; bytes.len(), 76);
-    assert_eq!(rt; bytes.first(), Some(&159));
-    let read = parse(rt.alloc(), &bytes)?.ok_or("a header")?;
-    assert_eq!(rt; read.header_len, 76);
-    let cut_source = bytes.get(..71).ok_or("71 bytes")?;
-    assert!(rt; parse(rt.alloc(), cut_source)?.is_none());
+fn a_long_datagram(rt: HostRuntime) -> Result<(), Fail> {
+    let mut bytes = hex::decode(rt.alloc(), PACKET)?;
+    bytes.resize(1500, 0x10)?;
+    let read = RtpHeader::parse(rt.alloc(), &bytes, &ExtensionMap::standard())?;
+    let read = read.ok_or("a header")?;
+    assert!(rt; read == header(47000, 10000, spoken(-42, 63_531_654, 0), 32));
     Ok(())
 }
 
@@ -198,17 +149,13 @@ fn every_front_of_a_packet(rt: HostRuntime) -> Result<(), Fail> {
     let bytes = hex::decode(rt.alloc(), PACKET)?;
     assert_eq!(rt; bytes.len(), 48);
     for len in 0..49 {
-        let header = parse(rt.alloc(), &bytes[..len])?;
+        let read = parse(rt.alloc(), &bytes[..len])?;
         if len < 32 {
-            assert!(rt; header.is_none(), "at {len}");
+            assert!(rt; read.is_none(), "at {len}");
         } else {
-            let header = header.ok_or("a header")?;
-            assert_eq!(rt; header.header_len, 32);
-            assert!(rt; header.has_padding && header.has_extension && !header.marker);
-            assert_eq!(rt; header.payload_type, Pt::from(111));
-            assert_eq!(rt; header.sequence_number, 47000);
-            assert_eq!(rt; header.timestamp, 10000);
-            assert_eq!(rt; header.ssrc, Ssrc::from(777459193));
+            // Nothing is mapped.
+            let wanted = header(47000, 10000, ExtensionValues::default(), 32);
+            assert!(rt; read.ok_or("a header")? == wanted, "at {len}");
         }
     }
     Ok(())
