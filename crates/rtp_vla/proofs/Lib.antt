@@ -1,0 +1,2 @@
+pub mod LebLemmas
+pub mod LebPlacingLemmas

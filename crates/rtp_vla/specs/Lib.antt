@@ -1,0 +1,6 @@
+-- What contracts rest on, from the bytes up.
+pub mod Leb
+pub mod Allocation
+-- What the inside promises itself.
+pub mod LebReading
+pub mod LebPlacing

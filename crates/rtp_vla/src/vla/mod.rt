@@ -1,0 +1,11 @@
+//! The layers that a sender of video keeps active: which simulcast streams it sends, their layers,
+//! and their rates and resolutions (the header extension `video-layers-allocation00`).
+
+mod allocation;
+mod leb;
+
+pub use allocation::{
+    ResolutionAndFramerate, SimulcastStreamAllocation, SpatialLayerAllocation,
+    TemporalLayerAllocation, URI, VideoLayersAllocation,
+};
+pub use leb::{encode_leb_u63, parse_leb_u63};
