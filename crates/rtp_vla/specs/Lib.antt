@@ -4,3 +4,4 @@ pub mod Allocation
 -- What the inside promises itself.
 pub mod LebReading
 pub mod LebPlacing
+pub mod AllocationEqual
