@@ -1,2 +1,3 @@
 pub mod LebLemmas
 pub mod LebPlacingLemmas
+pub mod AllocationReadingLemmas

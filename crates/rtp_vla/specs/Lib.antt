@@ -5,3 +5,4 @@ pub mod Allocation
 pub mod LebReading
 pub mod LebPlacing
 pub mod AllocationEqual
+pub mod AllocationReading

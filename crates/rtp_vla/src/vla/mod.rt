@@ -3,6 +3,7 @@
 
 mod allocation;
 mod leb;
+mod parsing;
 
 pub use allocation::{
     ResolutionAndFramerate, SimulcastStreamAllocation, SpatialLayerAllocation,
