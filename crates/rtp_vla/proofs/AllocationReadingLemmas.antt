@@ -1,16 +1,19 @@
 -- The parts of an allocation, read one after another.
-use Rattle.std.proofs.Common.{◌≡◌, ℕ, zero, suc, ◌+◌, ◌-◌, ◌*◌, ◌/◌, ◌%◌, ◌^◌, ◌<◌, ◌≤◌, ◌&&◌, ◌↔◌, List, [], ◌∷◌, ◌++◌, length, take, drop, get_or, Bool, true, false, leb, eqb, refl, sym, ap, ◌∙◌, subst, arith, bit_and, add-one}
-use Rattle.std.proofs.lemmas.Bool.{agree_below_at, and_parts, eqb-true, leb-true}
-use Rattle.std.proofs.lemmas.List.{take_more, append_assoc}
+use Rattle.std.proofs.Common.{◌≡◌, ℕ, zero, suc, ◌+◌, ◌-◌, ◌*◌, ◌/◌, ◌%◌, ◌^◌, ◌<◌, ◌≤◌, ◌&&◌, ◌↔◌, ◌⊎◌, inl, inr, ⊎_elim, List, [], ◌∷◌, ◌++◌, length, take, drop, get_or, Bool, true, false, leb, eqb, refl, sym, ap, ◌∙◌, subst, arith, bit_and, add-one}
+use Rattle.std.specs.Bool.{OnTrue}
+use Rattle.std.proofs.Math.Nat.{pow-suc}
+use Rattle.std.proofs.lemmas.Bool.{agree_below_at, and_parts, eqb-true, leb-true, ne_eqb}
+use Rattle.std.proofs.lemmas.List.{take_more, drop_more, append_assoc, append-nil, length-drop, length-take-le, get_or-take}
 use Rattle.std.proofs.lemmas.Nat.{and_mask}
 use Rattle.std.specs.Int.Count.{ones}
 use Rattle.rtp_vla.specs.LebReading.{leb_value, leb_rest}
-use Rattle.rtp_vla.specs.AllocationReading.{quarters, marks_of, marked, active_in, rates_of, after_rates, FitResolutions, rate_count}
+use Rattle.rtp_vla.specs.AllocationReading.{quarters, bits_of, marks_of, marked, active_in, idle_layer, dealt, Deals, DealsOn, rates_of, after_rates, resolution_in, after_resolution, FitResolutions, layers_read, rate_count}
+use Rattle.rtp_vla.specs.Allocation.{Layer, Stream}
 
 -- ---- Masks and counts
 
 agrees : (mask : ℕ) → mask ≤ 15 → (eqb (ones mask) (active_in mask) && leb (ones mask) 4) ≡ true
-unfolding marks_of
+unfolding marks_of ones
 agrees mask few = agree_below_at (λ m. eqb (ones m) (active_in m) && leb (ones m) 4) (λ m. true) 16 mask refl (omega arith)
 
 pub ones-active_in : (mask : ℕ) → mask ≤ 15 → (ones mask ≡ active_in mask) × (ones mask ≤ 4)
@@ -89,3 +92,105 @@ fits_first count (x ∷ y ∷ z ∷ u ∷ v ∷ bytes) field next f n long =
 
 pub fits_left : (count i : ℕ) (bytes : List ℕ) (All : Type 0) → i < count → (FitResolutions (count - i) bytes ↔ All) → (FitResolutions (suc (count - (i + 1))) bytes ↔ All)
 fits_left count i bytes All within h = subst (λ (n : ℕ). FitResolutions n bytes ↔ All) (one_less count i within) h
+
+-- ---- One layer after another
+
+pub length-layers_read : (counts rates resolutions : List ℕ) → length (layers_read counts rates resolutions) ≡ length counts
+length-layers_read [] rates resolutions = refl
+length-layers_read (count ∷ counts) rates resolutions = ap suc (length-layers_read counts (after_rates (suc count) rates) (after_resolution resolutions))
+
+pub FitResolutions-next : (count : ℕ) (bytes : List ℕ) → FitResolutions (suc count) bytes → FitResolutions 1 bytes × FitResolutions count (after_resolution bytes)
+FitResolutions-next count [] fit = (tt, FitResolutions-short count [] (omega arith))
+FitResolutions-next count (x ∷ []) fit = (tt, FitResolutions-short count (x ∷ []) (omega arith))
+FitResolutions-next count (x ∷ y ∷ []) fit = (tt, FitResolutions-short count (x ∷ y ∷ []) (omega arith))
+FitResolutions-next count (x ∷ y ∷ z ∷ []) fit = (tt, FitResolutions-short count (x ∷ y ∷ z ∷ []) (omega arith))
+FitResolutions-next count (x ∷ y ∷ z ∷ u ∷ []) fit = (tt, FitResolutions-short count (x ∷ y ∷ z ∷ u ∷ []) (omega arith))
+FitResolutions-next count (x ∷ y ∷ z ∷ u ∷ v ∷ bytes) fit = ((fit.0, fit.1, tt), fit.2)
+
+-- the layers behind so many counts, of so many
+abbrev pub layers_from : ℕ → ℕ → List ℕ → List ℕ → List ℕ → List Layer
+layers_from next active counts rates resolutions = layers_read (drop next (take active (quarters counts))) rates resolutions
+
+pub left_to_read : (next active : ℕ) (counts rates resolutions : List ℕ) → active ≤ 4 * length counts → length (layers_from next active counts rates resolutions) ≡ active - next
+left_to_read next active counts rates resolutions within =
+    length-layers_read (drop next (take active (quarters counts))) rates resolutions
+    ∙ length-drop next (take active (quarters counts)) ∙ ap (λ (n : ℕ). n - next) (length-take-le active (quarters counts) (omega (arith, length-quarters counts)))
+
+pub layers_from-next : (next active count : ℕ) (counts rates resolutions : List ℕ) → active ≤ 4 * length counts → next < active → count ≡ get_or (quarters counts) next 0
+    → layers_from next active counts rates resolutions
+    ≡ record { temporal_layers = rates_of (count + 1) rates; resolution_and_framerate = resolution_in resolutions }
+    ∷ layers_from (next + 1) active counts (after_rates (count + 1) rates) (after_resolution resolutions)
+layers_from-next next active count counts rates resolutions within before is =
+    let len : length (take active (quarters counts)) ≡ active = length-take-le active (quarters counts) (omega (arith, length-quarters counts)) in
+    let first : get_or (take active (quarters counts)) next 0 ≡ count = get_or-take active (quarters counts) next 0 before ∙ sym is in
+    let split : drop next (take active (quarters counts)) ≡ count ∷ drop (next + 1) (take active (quarters counts)) =
+    drop_more (take active (quarters counts)) next 0 (omega arith) ∙ ap (λ (n : ℕ). n ∷ drop (next + 1) (take active (quarters counts))) first in
+    ap (λ (cs : List ℕ). layers_read cs rates resolutions) split
+    ∙ ap (λ (n : ℕ). record { temporal_layers = rates_of n rates; resolution_and_framerate = resolution_in resolutions }
+      ∷ layers_from (next + 1) active counts (after_rates n rates) (after_resolution resolutions)) (sym (add-one count))
+
+-- ---- Layers dealt by a mask
+
+zero_or_more : (n : ℕ) → (n ≡ 0) ⊎ (0 < n)
+zero_or_more zero = inl refl
+zero_or_more (suc n) = inr (omega arith)
+
+bits_of-zero : (room : ℕ) → bits_of room 0 ≡ []
+bits_of-zero zero = refl
+bits_of-zero (suc room) = refl
+
+bits_of-above : (room mask : ℕ) → 0 < mask → bits_of (suc room) mask ≡ eqb (mask % 2) 1 ∷ bits_of room (mask / 2)
+bits_of-above room mask some = rw (ne_eqb mask 0 (λ none. absurd (omega arith))) refl
+
+bits_of-room : (room mask : ℕ) → mask < 2 ^ room → bits_of (suc room) mask ≡ bits_of room mask
+bits_of-room zero mask below =
+    let none : mask ≡ 0 = omega arith in
+    ap (bits_of 1) none
+bits_of-room (suc room) mask below =
+    ⊎_elim
+    (λ none. ap (bits_of (suc (suc room))) none ∙ ap (bits_of (suc room)) (sym none))
+    (λ some.
+    bits_of-above (suc room) mask some
+    ∙ ap (λ (bits : List Bool). eqb (mask % 2) 1 ∷ bits) (bits_of-room room (mask / 2) (omega (arith, pow-suc 2 room)))
+    ∙ sym (bits_of-above room mask some))
+    (zero_or_more mask)
+
+pub marks_of-none : marks_of 0 ≡ []
+unfolding marks_of
+marks_of-none = refl
+
+pub marks_of-more : (mask : ℕ) → mask ≤ 15 → 0 < mask → marks_of mask ≡ eqb (mask % 2) 1 ∷ marks_of (mask / 2)
+unfolding marks_of
+marks_of-more mask few some =
+    bits_of-above 3 mask some ∙ ap (λ (bits : List Bool). eqb (mask % 2) 1 ∷ bits) (sym (bits_of-room 3 (mask / 2) (omega arith)))
+
+deals_one : (marks : List Bool) (b : Bool) (items old new all rest : List Layer) (layer : Layer) → Deals b old layer new → DealsOn items (b ∷ marks) old all rest
+    → DealsOn (items ++ layer ∷ []) marks new all rest
+deals_one marks true items old new all rest layer is h = record {
+  stream = append_assoc items (layer ∷ []) (dealt marks new) ∙ ap (λ (xs : List Layer). items ++ dealt (true ∷ marks) xs) (sym is) ∙ h.stream;
+  others = (let one : suc (marked marks) ≡ 1 + marked marks = omega arith in ap (λ (n : ℕ). drop n (layer ∷ new)) one) ∙ ap (drop (1 + marked marks)) (sym is) ∙ h.others;
+  enough = omega (arith, h.enough, ap length is);
+}
+deals_one marks false items old new all rest layer (idle, same) h = record {
+  stream = append_assoc items (layer ∷ []) (dealt marks new) ∙ ap (λ (x : Layer). items ++ x ∷ dealt marks new) idle ∙ ap (λ (xs : List Layer). items ++ idle_layer ∷ dealt marks xs) same ∙ h.stream;
+  others = ap (drop (marked marks)) same ∙ h.others;
+  enough = omega (arith, h.enough, ap length same);
+}
+
+pub deals_more : (mask : ℕ) (items old new all rest : List Layer) (layer : Layer) → mask ≤ 15 → 0 < mask → Deals (eqb (mask % 2) 1) old layer new → DealsOn items (marks_of mask) old all rest
+    → DealsOn (items ++ layer ∷ []) (marks_of (mask / 2)) new all rest
+deals_more mask items old new all rest layer few some deals h =
+    deals_one (marks_of (mask / 2)) (eqb (mask % 2) 1) items old new all rest layer deals (rw (marks_of-more mask few some) at h)
+
+active_one : (b : Bool) (marks : List Bool) (len : ℕ) → marked (b ∷ marks) ≤ len → OnTrue b (1 ≤ len)
+active_one true marks len enough = omega arith
+active_one false marks len enough = tt
+
+pub active_next : (mask len : ℕ) → mask ≤ 15 → 0 < mask → active_in mask ≤ len → OnTrue (eqb (mask % 2) 1) (1 ≤ len)
+active_next mask len few some enough = active_one (eqb (mask % 2) 1) (marks_of (mask / 2)) len (rw (marks_of-more mask few some) at enough)
+
+pub deals_all : (mask : ℕ) (items left all rest : List Layer) → mask ≡ 0 → DealsOn items (marks_of mask) left all rest → (items ≡ all) × (left ≡ rest)
+deals_all mask items left all rest none h =
+    let marks : marks_of mask ≡ [] = ap marks_of none ∙ marks_of-none in
+    let done : DealsOn items [] left all rest = rw marks at h in
+    (sym (append-nil items) ∙ done.stream, done.others)

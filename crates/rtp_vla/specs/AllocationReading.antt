@@ -42,6 +42,17 @@ dealt (false ∷ marks) layers = idle_layer ∷ dealt marks layers
 dealt (true ∷ marks) [] = []
 dealt (true ∷ marks) (layer ∷ layers) = layer ∷ dealt marks layers
 
+-- the layer that is dealt: the next one where it is marked
+abbrev pub Deals : Bool → List Layer → Layer → List Layer → Type 0
+Deals true old layer new = old ≡ layer ∷ new
+Deals false old layer new = (layer ≡ idle_layer) × (new ≡ old)
+
+-- the layers that were dealt, and those that the marks still deal, are all of them
+pub record DealsOn (items : List Layer) (marks : List Bool) (layers : List Layer) (all rest : List Layer) : Type 0 where
+  pub stream : items ++ dealt marks layers ≡ all
+  pub others : drop (marked marks) layers ≡ rest
+  pub enough : marked marks ≤ length layers
+
 -- a stream for each mask
 abbrev pub dealt_streams : List ℕ → List Layer → List Stream
 dealt_streams [] layers = []

@@ -3,7 +3,8 @@
 
 mod allocation;
 mod leb;
-mod parsing;
+mod layers;
+mod parts;
 
 pub use allocation::{
     ResolutionAndFramerate, SimulcastStreamAllocation, SpatialLayerAllocation,

@@ -1,6 +1,6 @@
 use Rattle.std.proofs.Common.{◌≡◌, ◌-◌, ◌++◌}
 use Rattle.rtp_vla.specs.AllocationReading.{rates_of, after_rates}
-use Rattle.rtp_vla.proofs.vla.parsing.rates_at.Given as goal
+use Rattle.rtp_vla.proofs.vla.parts.rates_at.Given as goal
 
 -- the rates so far and those that are left are all of them
 abbrev pub invariant-loop-i : goal.invariant-loop-i

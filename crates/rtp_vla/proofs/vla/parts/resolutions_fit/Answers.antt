@@ -1,7 +1,7 @@
 use Rattle.std.proofs.Common.{◌≡◌, ◌≤◌, length, refl, arith}
 use Rattle.std.proofs.lemmas.Bool.{false≢true}
 use Rattle.rtp_vla.proofs.AllocationReadingLemmas.{FitResolutions-short, fits_first, fits_left}
-use Rattle.rtp_vla.proofs.vla.parsing.resolutions_fit.Goals as goal
+use Rattle.rtp_vla.proofs.vla.parts.resolutions_fit.Goals as goal
 
 pub returns-in_default : goal.returns-in_default
 returns-in_default c = (λ _. c.loop-i.invariant.0 (FitResolutions-short _ c.loop-i.behind.now c.in_default.ensures.cases), λ _. refl)

@@ -1,5 +1,5 @@
 use Rattle.rtp_vla.proofs.AllocationReadingLemmas.{ones-active_in}
-use Rattle.rtp_vla.proofs.vla.parsing.active_in.Goals as goal
+use Rattle.rtp_vla.proofs.vla.parts.active_in.Goals as goal
 
 pub returns-clause-active : goal.returns-clause-active
 returns-clause-active c = (ones-active_in c.args.mask c.requires).0

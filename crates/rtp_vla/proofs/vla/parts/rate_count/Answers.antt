@@ -1,7 +1,7 @@
 use Rattle.std.proofs.Common.{◌<◌, length, arith}
 use Rattle.rtp_vla.specs.AllocationReading.{quarters}
 use Rattle.rtp_vla.proofs.AllocationReadingLemmas.{length-quarters, rate_count-more}
-use Rattle.rtp_vla.proofs.vla.parsing.rate_count.Goals as goal
+use Rattle.rtp_vla.proofs.vla.parts.rate_count.Goals as goal
 
 pub loop-i-preserved : goal.loop-i-preserved
 loop-i-preserved c =

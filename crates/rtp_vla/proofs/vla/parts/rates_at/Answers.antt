@@ -1,7 +1,7 @@
 use Rattle.std.proofs.Common.{◌≡◌}
 use Rattle.rtp_vla.proofs.AllocationReadingLemmas.{after_rates-more, rates_of-more}
 use Rattle.rtp_vla.proofs.LebLemmas.{ReadsLeb-read}
-use Rattle.rtp_vla.proofs.vla.parsing.rates_at.Goals as goal
+use Rattle.rtp_vla.proofs.vla.parts.rates_at.Goals as goal
 
 pub loop-i-preserved : goal.loop-i-preserved
 loop-i-preserved c =

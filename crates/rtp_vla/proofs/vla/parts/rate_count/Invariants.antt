@@ -1,6 +1,6 @@
 use Rattle.std.proofs.Common.{◌≡◌, ◌*◌, ◌≤◌, take}
 use Rattle.rtp_vla.specs.AllocationReading.{rate_count, quarters}
-use Rattle.rtp_vla.proofs.vla.parsing.rate_count.Given as goal
+use Rattle.rtp_vla.proofs.vla.parts.rate_count.Given as goal
 
 -- the rates of the counts so far, at most four each
 abbrev pub invariant-loop-i : goal.invariant-loop-i

@@ -1,20 +1,15 @@
-//! From bytes to an allocation.
+//! The parts of an allocation, each read by itself.
 
-ghost use Rattle.std.specs.Prelude.{◌≡◌, ◌↔◌, ℕ, ◌+◌, ◌*◌, ◌/◌, ◌<◌, ◌≤◌, ◌++◌, ◌∷◌, [], length, take, drop, slice_index, Some, IsTrue, IsOk, IfOk, OnOk, IfSome, IfNone};
+ghost use Rattle.std.specs.Prelude.{◌≡◌, ◌↔◌, ℕ, ◌+◌, ◌*◌, ◌/◌, ◌<◌, ◌≤◌, length, take, slice_index, Some, IsTrue, IfOk, IfSome, IfNone};
 ghost use Rattle.std.specs.List.{AllByRecursion};
-ghost use Rattle.rtp_vla.specs.Allocation.{Allocation, Layer, Means, IsPacked, AreMasks};
 ghost use Rattle.rtp_vla.specs.AllocationReading as reading;
 
-use super::allocation::{
-    ResolutionAndFramerate, SimulcastStreamAllocation, SpatialLayerAllocation,
-    TemporalLayerAllocation, VideoLayersAllocation,
-};
+use super::allocation::{ResolutionAndFramerate, TemporalLayerAllocation};
 use super::leb::parse_leb_u63;
 use std::alloc::{AllocError, Global};
-use std::marker::Model;
 
 // So many rates, and the bytes behind them.
-fn rates_at(
+pub(super) fn rates_at(
     alloc: Global,
     bytes: &[u8],
     count: usize,
@@ -78,24 +73,25 @@ fn resolutions_fit(bytes: &[u8], count: usize) -> bool
     true
 }
 
-// The resolution at the front, where there are five bytes.
-fn resolution_at(bytes: &[u8]) -> Option<(ResolutionAndFramerate, &[u8])>
+// The resolution at the front, where there are five bytes, and the bytes behind it.
+pub(super) fn resolution_at(bytes: &[u8]) -> (Option<ResolutionAndFramerate>, &[u8])
     requires { reading.FitResolutions 1 bytes.now }
-    ensures some { IfSome result (λ read. (reading.resolution_in bytes.now ≡ Some read.0)
-        × (reading.after_resolution bytes.now ≡ read.1.now)) }
-    ensures none { IfNone result (length bytes.now < 5) }
+    ensures resolution { result.0 ≡ reading.resolution_in bytes.now }
+    ensures behind { result.1.now ≡ reading.after_resolution bytes.now }
 {
-    let (field, behind) = bytes.split_first_chunk::<5>()?;
+    let Some((field, behind)) = bytes.split_first_chunk::<5>() else {
+        return (None, bytes);
+    };
     let resolution = ResolutionAndFramerate {
         width: next_of(field[0], field[1]),
         height: next_of(field[2], field[3]),
         framerate: field[4],
     };
-    Some((resolution, behind))
+    (Some(resolution), behind)
 }
 
 // One of the counts, four of which stand in each byte.
-fn count_at(bytes: &[u8], i: usize) -> u8
+pub(super) fn count_at(bytes: &[u8], i: usize) -> u8
     requires { i < 4 * length bytes.now }
     ensures count { result ≡ slice_index (reading.quarters bytes.now) i }
     ensures few { result ≤ 3 }

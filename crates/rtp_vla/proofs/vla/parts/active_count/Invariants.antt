@@ -1,6 +1,6 @@
 use Rattle.std.proofs.Common.{◌≡◌, ◌*◌, ◌≤◌, take}
 use Rattle.rtp_vla.specs.AllocationReading.{active_count}
-use Rattle.rtp_vla.proofs.vla.parsing.active_count.Given as goal
+use Rattle.rtp_vla.proofs.vla.parts.active_count.Given as goal
 
 -- the layers of the masks so far, at most four each
 abbrev pub invariant-loop-mask : goal.invariant-loop-mask

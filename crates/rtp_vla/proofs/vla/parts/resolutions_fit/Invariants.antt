@@ -1,6 +1,6 @@
 use Rattle.std.proofs.Common.{◌-◌, ◌↔◌}
 use Rattle.rtp_vla.specs.AllocationReading.{FitResolutions}
-use Rattle.rtp_vla.proofs.vla.parsing.resolutions_fit.Given as goal
+use Rattle.rtp_vla.proofs.vla.parts.resolutions_fit.Given as goal
 
 -- those so far fit
 abbrev pub invariant-loop-i : goal.invariant-loop-i
