@@ -7,7 +7,7 @@ use Rattle.std.proofs.lemmas.List.{take_more, drop_more, append_assoc, append-ni
 use Rattle.std.proofs.lemmas.Nat.{and_mask}
 use Rattle.std.specs.Int.Count.{ones}
 use Rattle.rtp_vla.specs.LebReading.{leb_value, leb_rest}
-use Rattle.rtp_vla.specs.AllocationReading.{quarters, bits_of, marks_of, marked, active_in, idle_layer, dealt, Deals, DealsOn, rates_of, after_rates, resolution_in, after_resolution, FitResolutions, layers_read, rate_count}
+use Rattle.rtp_vla.specs.AllocationReading.{halves, quarters, bits_of, marks_of, marked, active_in, idle_layer, dealt, Deals, DealsOn, rates_of, after_rates, resolution_in, after_resolution, FitResolutions, layers_read, rate_count}
 use Rattle.rtp_vla.specs.Allocation.{Layer, Stream}
 
 -- ---- Masks and counts
@@ -36,6 +36,24 @@ get_or-quarters (byte ∷ bytes) (suc (suc (suc (suc i)))) within =
 
 pub count_read : (bytes : List ℕ) (i : ℕ) → i < 4 * length bytes → bit_and (get_or bytes (i / 4) 0 / 2 ^ (6 - 2 * (i % 4))) 3 ≡ get_or (quarters bytes) i 0
 count_read bytes i within = and_mask (get_or bytes (i / 4) 0 / 2 ^ (6 - 2 * (i % 4))) 2 ∙ sym (get_or-quarters bytes i within)
+
+get_or-halves : (bytes : List ℕ) (i : ℕ) → i < 2 * length bytes → get_or (halves bytes) i 0 ≡ get_or bytes (i / 2) 0 / 2 ^ (4 - 4 * (i % 2)) % 16
+get_or-halves [] i within = absurd (omega arith)
+get_or-halves (byte ∷ bytes) zero within = refl
+get_or-halves (byte ∷ bytes) (suc zero) within = ap (λ (n : ℕ). n % 16) (omega arith)
+get_or-halves (byte ∷ bytes) (suc (suc i)) within =
+    let row : suc (suc i) / 2 ≡ suc (i / 2) = omega arith in
+    let column : suc (suc i) % 2 ≡ i % 2 = omega arith in
+    get_or-halves bytes i (omega arith)
+    ∙ ap (λ (k : ℕ). get_or (byte ∷ bytes) k 0 / 2 ^ (4 - 4 * (i % 2)) % 16) (sym row)
+    ∙ ap (λ (k : ℕ). get_or (byte ∷ bytes) (suc (suc i) / 2) 0 / 2 ^ (4 - 4 * k) % 16) (sym column)
+
+pub half_read : (bytes : List ℕ) (i : ℕ) → i < 2 * length bytes → bit_and (get_or bytes (i / 2) 0 / 2 ^ (4 - 4 * (i % 2))) 15 ≡ get_or (halves bytes) i 0
+half_read bytes i within = and_mask (get_or bytes (i / 2) 0 / 2 ^ (4 - 4 * (i % 2))) 4 ∙ sym (get_or-halves bytes i within)
+
+pub length-halves : (bytes : List ℕ) → length (halves bytes) ≡ 2 * length bytes
+length-halves [] = refl
+length-halves (byte ∷ bytes) = omega (arith, length-halves bytes)
 
 pub length-quarters : (bytes : List ℕ) → length (quarters bytes) ≡ 4 * length bytes
 length-quarters [] = refl
@@ -131,15 +149,15 @@ layers_from-next next active count counts rates resolutions within before is =
 
 -- ---- Layers dealt by a mask
 
-zero_or_more : (n : ℕ) → (n ≡ 0) ⊎ (0 < n)
+pub zero_or_more : (n : ℕ) → (n ≡ 0) ⊎ (0 < n)
 zero_or_more zero = inl refl
 zero_or_more (suc n) = inr (omega arith)
 
-bits_of-zero : (room : ℕ) → bits_of room 0 ≡ []
+pub bits_of-zero : (room : ℕ) → bits_of room 0 ≡ []
 bits_of-zero zero = refl
 bits_of-zero (suc room) = refl
 
-bits_of-above : (room mask : ℕ) → 0 < mask → bits_of (suc room) mask ≡ eqb (mask % 2) 1 ∷ bits_of room (mask / 2)
+pub bits_of-above : (room mask : ℕ) → 0 < mask → bits_of (suc room) mask ≡ eqb (mask % 2) 1 ∷ bits_of room (mask / 2)
 bits_of-above room mask some = rw (ne_eqb mask 0 (λ none. absurd (omega arith))) refl
 
 bits_of-room : (room mask : ℕ) → mask < 2 ^ room → bits_of (suc room) mask ≡ bits_of room mask
@@ -168,7 +186,7 @@ deals_one : (marks : List Bool) (b : Bool) (items old new all rest : List Layer)
     → DealsOn (items ++ layer ∷ []) marks new all rest
 deals_one marks true items old new all rest layer is h = record {
   stream = append_assoc items (layer ∷ []) (dealt marks new) ∙ ap (λ (xs : List Layer). items ++ dealt (true ∷ marks) xs) (sym is) ∙ h.stream;
-  others = (let one : suc (marked marks) ≡ 1 + marked marks = omega arith in ap (λ (n : ℕ). drop n (layer ∷ new)) one) ∙ ap (drop (1 + marked marks)) (sym is) ∙ h.others;
+  others = ap (drop (suc (marked marks))) (sym is) ∙ h.others;
   enough = omega (arith, h.enough, ap length is);
 }
 deals_one marks false items old new all rest layer (idle, same) h = record {

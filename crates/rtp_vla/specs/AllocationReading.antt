@@ -8,7 +8,7 @@ use Rattle.rtp_vla.specs.Allocation.{Layer, Stream, AreMasks}
 -- two masks of each byte, and four counts of each
 abbrev pub halves : List ℕ → List ℕ
 halves [] = []
-halves (byte ∷ bytes) = byte / 16 ∷ byte % 16 ∷ halves bytes
+halves (byte ∷ bytes) = byte / 16 % 16 ∷ byte % 16 ∷ halves bytes
 
 abbrev pub quarters : List ℕ → List ℕ
 quarters [] = []
@@ -25,7 +25,7 @@ marks_of mask = bits_of 4 mask
 -- how many are marked
 abbrev pub marked : List Bool → ℕ
 marked [] = 0
-marked (true ∷ marks) = 1 + marked marks
+marked (true ∷ marks) = suc (marked marks)
 marked (false ∷ marks) = marked marks
 
 abbrev pub active_in : ℕ → ℕ
@@ -99,6 +99,19 @@ abbrev pub active_count : List ℕ → ℕ
 active_count [] = 0
 active_count (mask ∷ masks) = active_in mask + active_count masks
 
+-- the masks of so many streams, and what follows them
+pub record HasMasks (bytes : List ℕ) (shared count : ℕ) (masks behind : List ℕ) : Type 0 where
+  pub mask_bytes : List ℕ
+  pub bytes_are : bytes ≡ mask_bytes ++ behind
+  pub as_many : length masks ≡ count
+  pub masks_fit : AllByRecursion (λ mask. mask ≤ 15) masks
+  pub masks_are : AreMasks shared masks mask_bytes
+
+-- a mask byte is missing
+pub record LacksMasks (bytes : List ℕ) (shared count : ℕ) : Type 0 where
+  pub spelled : shared ≡ 0
+  pub short : length bytes < (count + 1) / 2
+
 -- where the parts are, and what they have
 pub record IsLaidOut (bytes : List ℕ) (index : ℕ) (masks : List ℕ) (layers : List Layer) : Type 0 where
   pub shared : ℕ
@@ -113,7 +126,10 @@ pub record IsLaidOut (bytes : List ℕ) (index : ℕ) (masks : List ℕ) (layers
   pub masks_fit : AllByRecursion (λ mask. mask ≤ 15) masks
   pub masks_are : AreMasks shared masks mask_bytes
   pub counts_len : length counts ≡ (active_count masks + 3) / 4
-  pub counts_fit : AllByRecursion (λ byte. byte < 256) counts
   pub layers_are : layers ≡ layers_read (take (active_count masks) (quarters counts)) rates
       (after_rates (rate_count (take (active_count masks) (quarters counts))) rates)
   pub resolutions_fit : FitResolutions (active_count masks) (after_rates (rate_count (take (active_count masks) (quarters counts))) rates)
+
+-- no parts can be told apart
+abbrev pub IsCutShort : List ℕ → Type 0
+IsCutShort bytes = (index : ℕ) (masks : List ℕ) (layers : List Layer) → IsLaidOut bytes index masks layers → ⊥

@@ -4,10 +4,12 @@
 mod allocation;
 mod leb;
 mod layers;
+mod parsing;
 mod parts;
 
 pub use allocation::{
     ResolutionAndFramerate, SimulcastStreamAllocation, SpatialLayerAllocation,
     TemporalLayerAllocation, URI, VideoLayersAllocation,
 };
+pub use parsing::parse;
 pub use leb::{encode_leb_u63, parse_leb_u63};

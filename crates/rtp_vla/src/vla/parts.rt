@@ -28,7 +28,7 @@ pub(super) fn rates_at(
 }
 
 // The bytes behind so many rates.
-fn behind_rates(bytes: &[u8], count: usize) -> &[u8]
+pub(super) fn behind_rates(bytes: &[u8], count: usize) -> &[u8]
     ensures { result.now ≡ reading.after_rates count bytes.now }
 {
     let mut behind = bytes;
@@ -54,7 +54,7 @@ fn next_of(high: u8, low: u8) -> u16
 }
 
 // Whether no width or height of so many resolutions is too large.
-fn resolutions_fit(bytes: &[u8], count: usize) -> bool
+pub(super) fn resolutions_fit(bytes: &[u8], count: usize) -> bool
     ensures { IsTrue result ↔ reading.FitResolutions count bytes.now }
 {
     let mut behind = bytes;
@@ -90,6 +90,14 @@ pub(super) fn resolution_at(bytes: &[u8]) -> (Option<ResolutionAndFramerate>, &[
     (Some(resolution), behind)
 }
 
+// One of the masks, two of which stand in each byte.
+pub(super) fn half_at(bytes: &[u8], i: usize) -> u8
+    requires { i < 2 * length bytes.now }
+    ensures { result ≡ slice_index (reading.halves bytes.now) i }
+{
+    bytes[i / 2] >> (4 - 4 * (i % 2)) & 15
+}
+
 // One of the counts, four of which stand in each byte.
 pub(super) fn count_at(bytes: &[u8], i: usize) -> u8
     requires { i < 4 * length bytes.now }
@@ -100,7 +108,7 @@ pub(super) fn count_at(bytes: &[u8], i: usize) -> u8
 }
 
 // How many rates the first counts announce.
-fn rate_count(bytes: &[u8], active: usize) -> usize
+pub(super) fn rate_count(bytes: &[u8], active: usize) -> usize
     requires within { active ≤ 4 * length bytes.now }
     requires few { active ≤ 16 }
     ensures { result ≡ reading.rate_count (take active (reading.quarters bytes.now)) }
@@ -122,7 +130,7 @@ fn active_in(mask: u8) -> usize
 }
 
 // How many layers some masks mark.
-fn active_count(masks: &[u8]) -> usize
+pub(super) fn active_count(masks: &[u8]) -> usize
     requires fit { AllByRecursion (λ mask. mask ≤ 15) masks.now }
     requires few { length masks.now ≤ 4 }
     ensures active { result ≡ reading.active_count masks.now }
