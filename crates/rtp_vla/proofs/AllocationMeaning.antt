@@ -1,8 +1,9 @@
 -- What the bytes mean is what is read from left to right, and the other way round.
-use Rattle.std.proofs.Common.{◌≡◌, ◌≢◌, ℕ, zero, suc, ◌+◌, ◌-◌, ◌*◌, ◌/◌, ◌%◌, ◌^◌, ◌<◌, ◌≤◌, ◌⊎◌, inl, inr, ⊎_elim, List, [], ◌∷◌, ◌++◌, length, take, drop, get_or, map, Bool, true, false, eqb, None, Some, Option, refl, sym, ap, ◌∙◌, subst, arith, length-append, append_assoc}
+use Rattle.std.proofs.Common.{◌≡◌, ◌≢◌, ℕ, zero, suc, ◌+◌, ◌-◌, ◌*◌, ◌/◌, ◌%◌, ◌^◌, ◌<◌, ◌≤◌, ◌⊎◌, inl, inr, ⊎_elim, List, [], ◌∷◌, ◌++◌, length, take, drop, get_or, map, Bool, true, false, eqb, None, Some, Option, refl, sym, ap, ◌∙◌, subst, arith, length-append, append_assoc, bit_and}
 use Rattle.std.specs.List.{AllByRecursion, flat_map}
 use Rattle.std.proofs.Math.Nat.{pow-suc}
 use Rattle.std.proofs.lemmas.Bool.{eqb-false}
+use Rattle.std.proofs.lemmas.Nat.{and_mask}
 use Rattle.std.proofs.lemmas.List.{length-take-le, length-map, take_all, length-drop}
 use Rattle.rtp_vla.specs.declared.vla.allocation.ResolutionAndFramerate.{ResolutionAndFramerate}
 use Rattle.rtp_vla.specs.Leb.{ReadsLeb}
@@ -490,3 +491,18 @@ one_meaning bytes a b (inr p) (inr q) =
     let l = laid_out_from bytes b q in
     packed_only bytes b.current_simulcast_stream_index (map mask_of b.simulcast_streams) (active_layers b.simulcast_streams) a l p
     ∙ sym (packed_only bytes b.current_simulcast_stream_index (map mask_of b.simulcast_streams) (active_layers b.simulcast_streams) b l q)
+
+-- ---- The head's bits
+
+pub head_parts : (head streams : ℕ) (zeros : List ℕ) → streams ≡ bit_and (head / 16) 3 → length zeros ≡ 4
+    → (bit_and head 15 ≡ head % 16) × (length (take (streams + 1) zeros) ≡ head / 16 % 4 + 1)
+head_parts head streams zeros is four =
+    let two : streams ≡ head / 16 % 4 = is ∙ and_mask (head / 16) 2 in
+    (and_mask head 4, length-take-le (streams + 1) zeros (omega arith) ∙ omega arith)
+
+pub LacksMasks-at : (bytes : List ℕ) (s shared n count : ℕ) → s ≡ shared → n ≡ count → LacksMasks bytes s n → LacksMasks bytes shared count
+LacksMasks-at bytes s shared n count p q h = subst (λ (k : ℕ). LacksMasks bytes k count) p (subst (λ (k : ℕ). LacksMasks bytes s k) q h)
+
+pub HasMasks-at : (bytes masks behind : List ℕ) (s shared n count : ℕ) → s ≡ shared → n ≡ count → HasMasks bytes s n masks behind → HasMasks bytes shared count masks behind
+HasMasks-at bytes masks behind s shared n count p q h =
+    subst (λ (k : ℕ). HasMasks bytes k count masks behind) p (subst (λ (k : ℕ). HasMasks bytes s k masks behind) q h)
