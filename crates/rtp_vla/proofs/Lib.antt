@@ -3,3 +3,4 @@ pub mod LebPlacingLemmas
 pub mod AllocationReadingLemmas
 pub mod AllocationDealing
 pub mod AllocationMeaning
+pub mod AllocationWritingLemmas

@@ -1,6 +1,7 @@
 -- What contracts rest on, from the bytes up.
 pub mod Leb
 pub mod Allocation
+pub mod AllocationWritten
 -- What the inside promises itself.
 pub mod LebReading
 pub mod LebPlacing

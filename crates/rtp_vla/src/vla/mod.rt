@@ -1,9 +1,11 @@
 //! The layers that a sender of video keeps active: which simulcast streams it sends, their layers,
 //! and their rates and resolutions (the header extension `video-layers-allocation00`).
 
+mod active;
 mod allocation;
 mod leb;
 mod layers;
+mod measuring;
 mod parsing;
 mod parts;
 
