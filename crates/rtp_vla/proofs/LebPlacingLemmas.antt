@@ -73,5 +73,15 @@ Leaves-byte buf bytes first all at from byte h = record {
   room = omega (arith, h.room, length-set buf at byte);
 }
 
+-- a part of what is left
+pub Leaves-part : (buf new xs ys first all : List ℕ) (at end from : ℕ) → Leaves buf at (xs ++ ys) first from all → new ≡ placed buf at xs → end ≡ at + length xs → Leaves new end ys first from all
+Leaves-part buf new xs ys first all at end from h new-is end-is =
+    let fits : end ≤ length buf = omega (arith, h.room, length-append xs ys) in
+    record {
+      makes = ap (λ (b : List ℕ). placed b end ys) new-is ∙ placed-placed buf xs ys at end end-is fits ∙ h.makes;
+      ends = omega (arith, h.ends, length-append xs ys);
+      room = omega (arith, h.room, length-append xs ys, ap length new-is, length-placed buf xs at (omega arith));
+    }
+
 pub Leaves-end : (buf first all : List ℕ) (at from : ℕ) → Leaves buf at [] first from all → (buf ≡ placed first from all) × (at ≡ from + length all)
 Leaves-end buf first all at from h = (sym (placed-nil buf at) ∙ h.makes, omega (arith, h.ends))

@@ -7,3 +7,4 @@ pub mod LebReading
 pub mod LebPlacing
 pub mod AllocationEqual
 pub mod AllocationReading
+pub mod AllocationPutting

@@ -8,6 +8,7 @@ mod layers;
 mod measuring;
 mod parsing;
 mod parts;
+mod writing;
 
 pub use allocation::{
     ResolutionAndFramerate, SimulcastStreamAllocation, SpatialLayerAllocation,
