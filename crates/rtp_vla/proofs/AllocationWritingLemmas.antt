@@ -158,3 +158,11 @@ written-bytes a = refl
 
 pub AllByRecursion-tail : (P : Layer → Type 0) (all rest : List Layer) {layer : Layer} → all ≡ layer ∷ rest → AllByRecursion P all → AllByRecursion P rest
 AllByRecursion-tail P all rest is h = (subst (AllByRecursion P) is h).1
+
+pub measured : (index : ℕ) (streams : List Stream) (spelled layers : ℕ) → 0 < length streams → index ≤ 3 → length streams ≤ 4 → list_all stream_fits streams ≡ true
+    → layers_fit (active_layers streams) ≡ true → spelled ≡ length (mask_bytes (map mask_of streams))
+    → layers ≡ (length (active_layers streams) + 3) / 4 + (length (flat_map rate_bytes (active_layers streams)) + length (flat_map resolution_bytes (active_layers streams)))
+    → (streams_fit index streams ≡ true) × (1 + spelled + layers ≡ length (streams_bytes index streams))
+measured index streams spelled layers some low few fits layers_ok spelled-is layers-is =
+    (streams_fit-some index streams some low few fits layers_ok,
+    omega (arith, spelled-is, layers-is, length-packed_bytes index streams, ap length (streams_bytes-some index streams some)))

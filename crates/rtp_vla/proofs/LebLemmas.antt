@@ -320,6 +320,17 @@ length-leb_of-pos room value =
 pub length-shortest_of : (value : ℕ) → value < 2 ^ 63 → (1 ≤ length (shortest_of value)) × (length (shortest_of value) ≤ 9)
 length-shortest_of value small = rw (shortest-leb_of value) (length-leb_of-pos 8 value, length-leb_of-le 9 value 8 small)
 
+leb_of-bytes : (room value : ℕ) → AllByRecursion (λ byte. byte < 256) (leb_of room value)
+leb_of-bytes zero value = rw (leb_of-none value) tt
+leb_of-bytes (suc room) value =
+    ⊎_elim
+    (λ low. rw (leb_of-low room value low) (omega arith, tt))
+    (λ high. rw (leb_of-high room value high) (omega arith, leb_of-bytes room (value / 128)))
+    (cases_lt value 128)
+
+pub shortest_of-bytes : (value : ℕ) → AllByRecursion (λ byte. byte < 256) (shortest_of value)
+shortest_of-bytes value = rw (shortest-leb_of value) (leb_of-bytes 9 value)
+
 -- ---- The loops that write it and measure it
 
 pub measured_more : (room len left all : ℕ) → 128 ≤ left → left < 128 ^ suc room → len + length (leb_of (suc room) left) ≡ all

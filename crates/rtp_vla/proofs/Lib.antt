@@ -4,3 +4,4 @@ pub mod AllocationReadingLemmas
 pub mod AllocationDealing
 pub mod AllocationMeaning
 pub mod AllocationWritingLemmas
+pub mod AllocationWriting

@@ -47,7 +47,8 @@ rates_fit rates = nat_le (length rates) 4 && list_all (λ rate. nat_lt rate 9223
 -- a resolution stands behind no layer without one, and has no width or height of 0
 abbrev pub told_fits : Bool → Option ResolutionAndFramerate → Bool
 told_fits ended None = true
-told_fits ended (Some r) = not ended && (nat_lt 0 r.width && nat_lt 0 r.height)
+told_fits ended (Some r) =
+    not ended && ((nat_lt 0 r.width && nat_lt r.width 65536) && ((nat_lt 0 r.height && nat_lt r.height 65536) && nat_lt r.framerate 256))
 
 abbrev pub resolutions_in_front : Bool → List Layer → Bool
 resolutions_in_front ended [] = true

@@ -75,6 +75,7 @@ fn told_len(told: &Option<ResolutionAndFramerate>, ended: bool) -> Option<usize>
     let Some(resolution) = told else {
         return Some(0);
     };
+    let _framerate = resolution.framerate;
     if ended {
         return None;
     }

@@ -15,4 +15,5 @@ pub use allocation::{
     TemporalLayerAllocation, URI, VideoLayersAllocation,
 };
 pub use parsing::parse;
+pub use writing::{is_writable, wire_len, write_to};
 pub use leb::{encode_leb_u63, parse_leb_u63};

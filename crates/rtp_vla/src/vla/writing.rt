@@ -1,6 +1,6 @@
 //! From an allocation to bytes.
 
-ghost use Rattle.std.specs.Prelude.{◌≡◌, ◌+◌, ◌*◌, ◌/◌, ◌%◌, ◌<◌, ◌≤◌, ◌∷◌, [], ◌++◌, List, length, drop, map, IsTrue};
+ghost use Rattle.std.specs.Prelude.{◌≡◌, ◌↔◌, true, ◌+◌, ◌*◌, ◌/◌, ◌%◌, ◌<◌, ◌≤◌, ◌∷◌, [], ◌++◌, List, length, drop, map, IsTrue};
 ghost use Rattle.std.specs.List.{AllByRecursion, flat_map};
 ghost use Rattle.rtp_vla.specs.Allocation.{Layer, Means, IsCounted, count_of};
 ghost use Rattle.rtp_vla.specs.AllocationWritten as written;
@@ -10,7 +10,8 @@ ghost use Rattle.rtp_vla.specs.LebPlacing.{placed};
 
 use super::active::ActiveLayers;
 use super::allocation::{
-    ResolutionAndFramerate, TemporalLayerAllocation, VideoLayersAllocation,
+    ResolutionAndFramerate, SimulcastStreamAllocation, TemporalLayerAllocation,
+    VideoLayersAllocation,
 };
 use super::leb::put_leb;
 use super::measuring::{put_masks_of, shared_of, writable_len};
@@ -153,4 +154,63 @@ fn put_masks(buf: &mut [u8], at: usize, masks: &[u8]) -> usize
     } else {
         at
     }
+}
+
+// Puts streams, of which there are some, and returns how many bytes they have.
+fn put_streams(buf: &mut [u8], index: u8, streams: &[SimulcastStreamAllocation]) -> usize
+    requires some { 1 ≤ length streams.now }
+    requires fit { written.streams_fit index streams.now ≡ true }
+    requires room { length (written.packed_bytes index streams.now) ≤ length buf.old }
+    ensures written { buf.new ≡ placed buf.old 0 (written.packed_bytes index streams.now) }
+    ensures end { result ≡ length (written.packed_bytes index streams.now) }
+{
+    let mut masks = [0; 4];
+    let masks = &mut masks[..streams.len()];
+    let _ = put_masks_of(streams, masks);
+    let head = 64 * index + 16 * (streams.len() - 1) as u8 + shared_of(masks);
+    let end = put(buf, 0, &[head]);
+    let end = put_masks(buf, end, masks);
+    let end = put_counts(buf, end, ActiveLayers::new(streams));
+    let end = put_rates(buf, end, ActiveLayers::new(streams));
+    put_resolutions(buf, end, ActiveLayers::new(streams))
+}
+
+/// Whether the allocation can be written: some bytes mean it, once the layers at the end of each
+/// stream are dropped that have neither temporal layers nor a resolution. It can where it has index
+/// 0 and no streams, or else an index of at most 3; 1 to 4 streams; at most 4 layers a stream; at
+/// most 4 temporal layers a layer, with rates below 2^63; no resolution on a layer without temporal
+/// layers or behind a layer without one; and no width or height of 0.
+pub fn is_writable(v: &VideoLayersAllocation) -> bool
+    ensures writable { IsTrue result ↔ written.Writable v.now }
+{
+    writable_len(v).is_some()
+}
+
+/// How many bytes [`write_to`] writes. It requires an allocation that [`is_writable`].
+pub fn wire_len(v: &VideoLayersAllocation) -> usize
+    requires { written.Writable v.now }
+    ensures { result ≡ length (written.written_of v.now) }
+{
+    writable_len(v).unwrap_or(0)
+}
+
+/// Writes the allocation to the front of the buffer, and returns how many bytes it has; the bytes
+/// behind them stay. Every rate is written, in its shortest spelling; the head has the mask of all
+/// streams where they have one, and spare bits are 0, but for the half of a byte behind a third
+/// mask, which is 15. What is written is read as the allocation without the layers at the end of
+/// each stream that have neither temporal layers nor a resolution.
+///
+/// It requires an allocation that [`is_writable`], and room for [`wire_len`] bytes. Index 0, one
+/// stream of one layer of 5 kilobits per second is written as `01 00 05`.
+pub fn write_to(v: &VideoLayersAllocation, buf: &mut [u8]) -> usize
+    requires writable { written.Writable v.now }
+    requires room { length (written.written_of v.now) ≤ length buf.old }
+    ensures written { buf.new ≡ written.written_of v.now ++ drop result buf.old }
+    ensures length { result ≡ length (written.written_of v.now) }
+    ensures means { Means (written.written_of v.now) (written.trimmed v.now) }
+{
+    if v.simulcast_streams.is_empty() {
+        return put(buf, 0, &[0]);
+    }
+    put_streams(buf, v.current_simulcast_stream_index, &v.simulcast_streams)
 }
