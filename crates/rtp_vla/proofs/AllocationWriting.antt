@@ -1,16 +1,17 @@
 -- What is written means the allocation without its trailing bare layers, and what can be written is what some bytes mean.
 use Rattle.std.proofs.Common.{◌≡◌, ◌≢◌, ℕ, zero, suc, ◌+◌, ◌-◌, ◌*◌, ◌/◌, ◌%◌, ◌<◌, ◌≤◌, ◌&&◌, ◌||◌, ◌⊎◌, inl, inr, ⊎_elim, List, [], ◌∷◌, ◌++◌, length, map, Bool, true, false, not, cond, eqb, leb, ltb, None, Some, Option, refl, sym, ap, ◌∙◌, subst, arith, length-append, append_assoc}
-use Rattle.std.specs.Option.{is_none}
+use Rattle.std.specs.Option.{is_none, is_some, IfSome, IfNone, unwrap_or}
 use Rattle.std.specs.List.{AllByRecursion, filter, flat_map, list_all}
 use Rattle.std.proofs.lemmas.Bool.{and_parts, and_from, le-leb, lt-ltb, leb-true, ltb-true, eq-eqb, eqb-true, cases_eq, ne_eqb, false≢true, cases_Bool, or_from, or_cases, or_right, or_left}
-use Rattle.std.proofs.lemmas.List.{length-map, append-nil}
+use Rattle.std.proofs.lemmas.List.{length-map, nil_from_length}
 use Rattle.rtp_vla.specs.declared.vla.allocation.ResolutionAndFramerate.{ResolutionAndFramerate}
 use Rattle.rtp_vla.specs.Leb.{ReadsLeb, spelled, unspelled, shortest_of}
 use Rattle.rtp_vla.specs.Allocation.{Layer, Stream, Allocation, is_active, active_layers, mask_of, count_of, EndsActive, IsBareUnlessActive, AreHalves, AreMasks, AreQuarters, AreRates, AreResolutions, IsReadable, IsCounted, IsPacked, Means, nothing_sent}
 use Rattle.rtp_vla.specs.AllocationWritten.{is_bare, in_front_of, without_bare_tail, trimmed, Writable, bare_or_active, stream_fits, rates_fit, told_fits, resolutions_in_front, layers_fit, streams_fit, can_be_written, shared_of, halves_of, mask_bytes, quarters_of, rate_bytes, told_bytes, resolution_bytes, packed_bytes, streams_bytes, written_of}
+use Rattle.rtp_vla.specs.AllocationPutting.{HasSmallRates, IsTold, HasTold}
 use Rattle.rtp_vla.proofs.LebLemmas.{IsShortest-shortest_of, shortest_of-bytes, read_below}
 use Rattle.rtp_vla.proofs.AllocationMeaning.{AreBytes, AreBytes-parts, AreResolutions-short}
-use Rattle.rtp_vla.proofs.AllocationWritingLemmas.{written-bytes}
+use Rattle.rtp_vla.proofs.AllocationWritingLemmas.{written-bytes, streams_bytes-some}
 
 -- ---- Trimming leaves the masks and the active layers
 
@@ -413,3 +414,64 @@ can_be_written-from a (bytes, all, means) =
       subst (λ (streams : List Stream). streams_fit a.current_simulcast_stream_index streams ≡ true) (sym none) (eq-eqb a.current_simulcast_stream_index 0 index))
     (λ p. streams_from a.current_simulcast_stream_index a.simulcast_streams bytes all p)
     means
+
+-- ---- What the functions that write ask
+
+pub some_fits : (o : Option ℕ) (b : Bool) (n : ℕ) → IfSome o (λ len. (b ≡ true) × (len ≡ n)) → IfNone o (b ≡ false) → (is_some o ≡ true → b ≡ true) × (b ≡ true → is_some o ≡ true) × (b ≡ true → unwrap_or o 0 ≡ n)
+some_fits None b n fits unfit = (λ is. absurd (false≢true is), λ is. absurd (false≢true (sym unfit ∙ is)), λ is. absurd (false≢true (sym unfit ∙ is)))
+some_fits (Some len) b n fits unfit = (λ is. fits.0, λ is. refl, λ is. fits.1)
+
+small_one : (rates : List ℕ) → list_all (λ rate. ltb rate 9223372036854775808) rates ≡ true → AllByRecursion (λ rate. rate < 9223372036854775808) rates
+small_one [] all = tt
+small_one (rate ∷ rates) all = let parts = and_parts _ _ all in (ltb-true rate 9223372036854775808 parts.0, small_one rates parts.1)
+
+small_all : (layers : List Layer) → list_all layer_fits layers ≡ true → AllByRecursion HasSmallRates layers
+small_all [] all = tt
+small_all (layer ∷ layers) all =
+    let parts = and_parts (layer_fits layer) (list_all layer_fits layers) all in
+    (small_one layer.temporal_layers (and_parts (leb (length layer.temporal_layers) 4) (list_all (λ rate. ltb rate 9223372036854775808) layer.temporal_layers) parts.0).1, small_all layers parts.1)
+
+told_one : (e : Bool) (o : Option ResolutionAndFramerate) → told_fits e o ≡ true → IsTold o
+told_one e None fits = tt
+told_one e (Some r) fits = let s = sizes e r fits in (s.width_some, s.height_some)
+
+told_all : (e : Bool) (layers : List Layer) → resolutions_in_front e layers ≡ true → AllByRecursion HasTold layers
+told_all e [] fits = tt
+told_all e (layer ∷ layers) fits =
+    let parts = and_parts (told_fits e layer.resolution_and_framerate) (resolutions_in_front (is_none layer.resolution_and_framerate) layers) fits in
+    (told_one e layer.resolution_and_framerate parts.0, told_all (is_none layer.resolution_and_framerate) layers parts.1)
+
+pub record CanPut (index : ℕ) (streams : List Stream) : Type 0 where
+  pub low : index ≤ 3
+  pub few : length streams ≤ 4
+  pub fits : list_all stream_fits streams ≡ true
+  pub masks : AllByRecursion (λ mask. mask ≤ 15) (map mask_of streams)
+  pub shared : shared_of (map mask_of streams) ≤ 15
+  pub counted : AllByRecursion IsCounted (active_layers streams)
+  pub small : AllByRecursion HasSmallRates (active_layers streams)
+  pub told : AllByRecursion HasTold (active_layers streams)
+
+pub can_put : (index : ℕ) (streams : List Stream) → 1 ≤ length streams → streams_fit index streams ≡ true → CanPut index streams
+can_put index [] some fits = absurd (omega arith)
+can_put index (stream ∷ streams) some fits =
+    let all = stream ∷ streams in
+    let parts = and_parts (leb index 3 && leb (length all) 4) (list_all stream_fits all && layers_fit (active_layers all)) fits in
+    let numbers = and_parts (leb index 3) (leb (length all) 4) parts.0 in
+    let rest = and_parts (list_all stream_fits all) (layers_fit (active_layers all)) parts.1 in
+    let ok = and_parts (list_all layer_fits (active_layers all)) (resolutions_in_front false (active_layers all)) rest.1 in
+    record {
+      low = leb-true index 3 numbers.0;
+      few = leb-true (length all) 4 numbers.1;
+      fits = rest.0;
+      masks = small_masks all rest.0;
+      shared = shared_small (map mask_of all) (small_masks all rest.0);
+      counted = counted_from (active_layers all) ok.0;
+      small = small_all (active_layers all) ok.0;
+      told = told_all false (active_layers all) ok.1;
+    }
+
+pub written-none : (a : Allocation) → length a.simulcast_streams ≡ 0 → written_of a ≡ 0 ∷ []
+written-none a none = written-bytes a ∙ ap (streams_bytes a.current_simulcast_stream_index) (nil_from_length a.simulcast_streams none)
+
+pub written-some : (a : Allocation) → 0 < length a.simulcast_streams → written_of a ≡ packed_bytes a.current_simulcast_stream_index a.simulcast_streams
+written-some a some = written-bytes a ∙ streams_bytes-some a.current_simulcast_stream_index a.simulcast_streams some

@@ -85,3 +85,17 @@ Leaves-part buf new xs ys first all at end from h new-is end-is =
 
 pub Leaves-end : (buf first all : List ℕ) (at from : ℕ) → Leaves buf at [] first from all → (buf ≡ placed first from all) × (at ≡ from + length all)
 Leaves-end buf first all at from h = (sym (placed-nil buf at) ∙ h.makes, omega (arith, h.ends))
+
+-- five parts in a row, from the front on
+pub placed-five : (buf b₁ b₂ b₃ b₄ b₅ x₁ x₂ x₃ x₄ x₅ : List ℕ) (e₁ e₂ e₃ e₄ e₅ : ℕ) → length (x₁ ++ (x₂ ++ (x₃ ++ (x₄ ++ x₅)))) ≤ length buf
+    → b₁ ≡ placed buf 0 x₁ → e₁ ≡ 0 + length x₁ → b₂ ≡ placed b₁ e₁ x₂ → e₂ ≡ e₁ + length x₂ → b₃ ≡ placed b₂ e₂ x₃ → e₃ ≡ e₂ + length x₃
+    → b₄ ≡ placed b₃ e₃ x₄ → e₄ ≡ e₃ + length x₄ → b₅ ≡ placed b₄ e₄ x₅ → e₅ ≡ e₄ + length x₅
+    → (b₅ ≡ placed buf 0 (x₁ ++ (x₂ ++ (x₃ ++ (x₄ ++ x₅))))) × (e₅ ≡ length (x₁ ++ (x₂ ++ (x₃ ++ (x₄ ++ x₅)))))
+placed-five buf b₁ b₂ b₃ b₄ b₅ x₁ x₂ x₃ x₄ x₅ e₁ e₂ e₃ e₄ e₅ room w₁ p₁ w₂ p₂ w₃ p₃ w₄ p₄ w₅ p₅ =
+    let all = x₁ ++ (x₂ ++ (x₃ ++ (x₄ ++ x₅))) in
+    let l₀ = Leaves-start buf all 0 (omega (arith, room)) in
+    let l₁ = Leaves-part buf b₁ x₁ (x₂ ++ (x₃ ++ (x₄ ++ x₅))) buf all 0 e₁ 0 l₀ w₁ p₁ in
+    let l₂ = Leaves-part b₁ b₂ x₂ (x₃ ++ (x₄ ++ x₅)) buf all e₁ e₂ 0 l₁ w₂ p₂ in
+    let l₃ = Leaves-part b₂ b₃ x₃ (x₄ ++ x₅) buf all e₂ e₃ 0 l₂ w₃ p₃ in
+    let l₄ = Leaves-part b₃ b₄ x₄ x₅ buf all e₃ e₄ 0 l₃ w₄ p₄ in
+    (w₅ ∙ l₄.makes, omega (arith, p₅, l₄.ends))

@@ -9,6 +9,8 @@ mod measuring;
 mod parsing;
 mod parts;
 mod writing;
+#[cfg(test)]
+mod tests;
 
 pub use allocation::{
     ResolutionAndFramerate, SimulcastStreamAllocation, SpatialLayerAllocation,
