@@ -10,6 +10,8 @@ mod parsing;
 mod parts;
 mod writing;
 #[cfg(test)]
+mod limits;
+#[cfg(test)]
 mod tests;
 
 pub use allocation::{

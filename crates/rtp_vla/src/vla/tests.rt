@@ -2,16 +2,16 @@
 
 use super::{
     ResolutionAndFramerate, SimulcastStreamAllocation, SpatialLayerAllocation,
-    TemporalLayerAllocation, URI, VideoLayersAllocation, encode_leb_u63, is_writable, parse,
-    parse_leb_u63, wire_len, write_to,
+    TemporalLayerAllocation, URI, VideoLayersAllocation, is_writable, parse,
+    wire_len, write_to,
 };
 use std::alloc::{AllocError, Global};
 use std::process::Abort;
 use std::test::Fail;
 
-type Row<'a> = (&'a [u64], Option<ResolutionAndFramerate>);
+pub(super) type Row<'a> = (&'a [u64], Option<ResolutionAndFramerate>);
 
-const fn told(width: u16, height: u16, framerate: u8) -> Option<ResolutionAndFramerate> {
+pub(super) const fn told(width: u16, height: u16, framerate: u8) -> Option<ResolutionAndFramerate> {
     Some(ResolutionAndFramerate {
         width,
         height,
@@ -43,7 +43,7 @@ fn stream(alloc: Global, rows: &[Row]) -> Result<SimulcastStreamAllocation, Allo
 }
 
 // An allocation of these streams.
-fn allocation(
+pub(super) fn allocation(
     alloc: Global,
     index: u8,
     rows: &[&[Row]],
@@ -59,7 +59,7 @@ fn allocation(
 }
 
 // The bytes mean the allocation.
-fn reads(
+pub(super) fn reads(
     rt: &impl Abort,
     alloc: Global,
     bytes: &[u8],
