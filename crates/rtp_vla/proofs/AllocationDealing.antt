@@ -52,8 +52,8 @@ mask_of-dealt (suc room) mask layers below all enough =
     (λ some.
     ap (λ (marks : List Bool). mask_of (dealt marks layers)) (bits_of-above room mask some)
     ∙ mask_dealt_one (eqb (mask % 2) 1) (bits_of room (mask / 2)) layers (mask / 2)
-      (λ others active many. mask_of-dealt room (mask / 2) others (omega (arith, pow-suc 2 room)) active many)
-      all (subst (λ (marks : List Bool). marked marks ≤ length layers) (bits_of-above room mask some) enough)
+    (λ others active many. mask_of-dealt room (mask / 2) others (omega (arith, pow-suc 2 room)) active many)
+    all (subst (λ (marks : List Bool). marked marks ≤ length layers) (bits_of-above room mask some) enough)
     ∙ low_bit mask)
     (zero_or_more mask)
 
@@ -109,9 +109,9 @@ ends-dealt (suc room) mask layers below all enough =
     (λ none. subst (λ (m : ℕ). EndsActive (dealt (bits_of (suc room) m) layers)) (sym none) tt)
     (λ some. subst (λ (marks : List Bool). EndsActive (dealt marks layers)) (sym (bits_of-above room mask some))
     (ends_one (eqb (mask % 2) 1) (bits_of room (mask / 2)) layers
-      (λ others active many. ends-dealt room (mask / 2) others (omega (arith, pow-suc 2 room)) active many)
-      (λ others many none. eq-eqb (mask % 2) 1 (omega (arith, dealt_none room (mask / 2) others (omega (arith, pow-suc 2 room)) many none)))
-      all (subst (λ (marks : List Bool). marked marks ≤ length layers) (bits_of-above room mask some) enough)))
+    (λ others active many. ends-dealt room (mask / 2) others (omega (arith, pow-suc 2 room)) active many)
+    (λ others many none. eq-eqb (mask % 2) 1 (omega (arith, dealt_none room (mask / 2) others (omega (arith, pow-suc 2 room)) many none)))
+    all (subst (λ (marks : List Bool). marked marks ≤ length layers) (bits_of-above room mask some) enough)))
     (zero_or_more mask)
 
 -- ---- All streams
@@ -121,7 +121,7 @@ stream_facts : (mask : ℕ) (layers : List Layer) → mask ≤ 15 → AllActive 
 unfolding marks_of
 stream_facts mask layers few all enough =
     let is = mask_of-dealt 4 mask layers (omega arith) all enough in
-    (is, record { mask_fits = omega (arith, is); ends_active = ends-dealt 4 mask layers (omega arith) all enough; bare = bare-dealt (bits_of 4 mask) layers all; })
+    (is, record { mask_fits = omega (arith, is); ends_active = ends-dealt 4 mask layers (omega arith) all enough; bare = bare-dealt (bits_of 4 mask) layers all })
 
 pub masks-dealt_streams : (masks : List ℕ) (layers : List Layer) → AllByRecursion (λ mask. mask ≤ 15) masks → AllActive layers → active_count masks ≤ length layers
     → (map mask_of (dealt_streams masks layers) ≡ masks) × AllByRecursion IsReadable (dealt_streams masks layers)
@@ -197,7 +197,7 @@ dealt_back (suc room) (layer ∷ stream) more below ends bare =
     let small : mask_of stream < 2 ^ room = omega (arith, pow-suc 2 room) in
     ap (λ (marks : List Bool). dealt marks (filter is_active (layer ∷ stream) ++ more)) (bits-stream room layer stream ends)
     ∙ dealt_back_one layer stream more (bits_of room (mask_of stream)) (is_active layer) refl bare.0
-      (dealt_back room stream more small (EndsActive-tail layer stream ends) bare.1)
+    (dealt_back room stream more small (EndsActive-tail layer stream ends) bare.1)
 
 marked_one : (b : Bool) (marks : List Bool) (layer : Layer) (layers : List Layer) → marked marks ≡ length layers → marked (b ∷ marks) ≡ length (cond b (layer ∷ layers) layers)
 marked_one true marks layer layers is = ap suc is
@@ -225,6 +225,7 @@ dealt_streams-back (stream ∷ streams) all =
     let first = readable_back stream (active_layers streams) all.0 in
     let rest = dealt_streams-back streams all.1 in
     let left : drop (active_in (mask_of stream)) (filter is_active stream ++ active_layers streams) ≡ active_layers streams =
-    drop_at (filter is_active stream) (active_layers streams) (active_in (mask_of stream)) (sym first.1) in
-    ((λ i. first.0 i ∷ dealt_streams (map mask_of streams) (left i)) ∙ ap (λ (ss : List Stream). stream ∷ ss) rest.0,
-    omega (arith, first.1, rest.1, length-append (filter is_active stream) (active_layers streams)))
+    drop_at (filter is_active stream) (active_layers streams) (active_in (mask_of stream)) (sym first.1) in (
+      (λ i. first.0 i ∷ dealt_streams (map mask_of streams) (left i)) ∙ ap (λ (ss : List Stream). stream ∷ ss) rest.0,
+      omega (arith, first.1, rest.1, length-append (filter is_active stream) (active_layers streams)),
+    )

@@ -69,7 +69,9 @@ pub HasMasks-halves : (bytes spelled behind masks : List ℕ) (count : ℕ) → 
 HasMasks-halves bytes spelled behind masks count is len all as_many masks-is =
     let from = AreHalves-from count spelled len all in
     record {
-      mask_bytes = spelled; bytes_are = is; as_many = as_many;
+      mask_bytes = spelled;
+      bytes_are = is;
+      as_many = as_many;
       masks_fit = subst (AllByRecursion (λ mask. mask ≤ 15)) (sym masks-is) from.1;
       masks_are = inl (refl, subst (λ (ms : List ℕ). AreHalves ms spelled) (sym masks-is) from.0);
     }
@@ -159,9 +161,10 @@ AreRates-read : (rates bytes rest : List ℕ) → AreRates rates bytes rest → 
 AreRates-read [] bytes rest are = (refl, sym are)
 AreRates-read (rate ∷ rates) bytes rest (behind, reads, are) =
     let first = read-ReadsLeb bytes rate behind reads in
-    let others = AreRates-read rates behind rest are in
-    ((λ i. sym first.0 i ∷ (others.0 ∙ ap (rates_of (length rates)) (sym first.1)) i),
-    others.1 ∙ ap (after_rates (length rates)) (sym first.1))
+    let others = AreRates-read rates behind rest are in (
+      (λ i. sym first.0 i ∷ (others.0 ∙ ap (rates_of (length rates)) (sym first.1)) i),
+      others.1 ∙ ap (after_rates (length rates)) (sym first.1),
+    )
 
 AreRates-split : (xs ys bytes rest : List ℕ) → AreRates (xs ++ ys) bytes rest → (mid : List ℕ) × AreRates xs bytes mid × AreRates ys mid rest
 AreRates-split [] ys bytes rest are = (bytes, refl, are)
@@ -202,10 +205,14 @@ resolutions_read (count ∷ counts) rates (x ∷ []) fit = short_read (count ∷
 resolutions_read (count ∷ counts) rates (x ∷ y ∷ []) fit = short_read (count ∷ counts) rates (x ∷ y ∷ []) (omega arith)
 resolutions_read (count ∷ counts) rates (x ∷ y ∷ z ∷ []) fit = short_read (count ∷ counts) rates (x ∷ y ∷ z ∷ []) (omega arith)
 resolutions_read (count ∷ counts) rates (x ∷ y ∷ z ∷ u ∷ []) fit = short_read (count ∷ counts) rates (x ∷ y ∷ z ∷ u ∷ []) (omega arith)
-resolutions_read (count ∷ counts) rates (x ∷ y ∷ z ∷ u ∷ v ∷ bytes) fit =
-    ((record { width = 256 * x + y + 1; height = 256 * z + u + 1; framerate = v }, refl,
-      record { width = refl; height = refl; framerate = refl; width_fits = omega (arith, fit.0); height_fits = omega (arith, fit.1) }),
-    resolutions_read counts (after_rates (suc count) rates) bytes fit.2)
+resolutions_read (count ∷ counts) rates (x ∷ y ∷ z ∷ u ∷ v ∷ bytes) fit = (
+  (
+    record { width = 256 * x + y + 1; height = 256 * z + u + 1; framerate = v },
+    refl,
+    record { width = refl; height = refl; framerate = refl; width_fits = omega (arith, fit.0); height_fits = omega (arith, fit.1) },
+  ),
+  resolutions_read counts (after_rates (suc count) rates) bytes fit.2,
+)
 
 -- the first resolution, and the others
 resolution_same : (told : Option ResolutionAndFramerate) (tolds : List (Option ResolutionAndFramerate)) (bytes : List ℕ) → AreResolutions (told ∷ tolds) bytes
@@ -253,8 +260,8 @@ rates_read [] rates resolutions = refl
 rates_read (count ∷ counts) rates resolutions =
     AreRates-front (suc count) rates (rates_in (layers_read counts (after_rates (suc count) rates) (after_resolution resolutions))) (after_rates (rate_count (count ∷ counts)) rates)
     (subst (λ (rest : List ℕ). AreRates (rates_in (layers_read counts (after_rates (suc count) rates) (after_resolution resolutions))) (after_rates (suc count) rates) rest)
-      (sym (after_rates-add (suc count) (rate_count counts) rates))
-      (rates_read counts (after_rates (suc count) rates) (after_resolution resolutions)))
+    (sym (after_rates-add (suc count) (rate_count counts) rates))
+    (rates_read counts (after_rates (suc count) rates) (after_resolution resolutions)))
 
 some_rate : (rates : List ℕ) → (elim rates as (λ _. Bool) [ [] ↦ false | rate ∷ others ↦ true ]) ≡ true → 1 ≤ length rates
 some_rate [] active = cc
@@ -272,11 +279,12 @@ layers_back (layer ∷ layers) rates rest resolutions all are tolds =
     let temporal : layer.temporal_layers ≡ rates_of (suc (count_of layer)) rates = own.0 ∙ ap (λ (n : ℕ). rates_of n rates) count in
     let behind : parts.0 ≡ after_rates (suc (count_of layer)) rates = own.1 ∙ ap (λ (n : ℕ). after_rates n rates) count in
     let told = resolution_same layer.resolution_and_framerate (map (λ l. l.resolution_and_framerate) layers) resolutions tolds in
-    let others = layers_back layers parts.0 rest (after_resolution resolutions) all.1 parts.2 told.1 in
-    ((λ i. record { temporal_layers = temporal i; resolution_and_framerate = told.0 i }
-      ∷ (others.0 ∙ ap (λ (bs : List ℕ). layers_read (map count_of layers) bs (after_resolution resolutions)) behind) i),
-    others.1 ∙ ap (after_rates (rate_count (map count_of layers))) behind
-    ∙ sym (after_rates-add (suc (count_of layer)) (rate_count (map count_of layers)) rates))
+    let others = layers_back layers parts.0 rest (after_resolution resolutions) all.1 parts.2 told.1 in (
+      (λ i. record { temporal_layers = temporal i; resolution_and_framerate = told.0 i }
+          ∷ (others.0 ∙ ap (λ (bs : List ℕ). layers_read (map count_of layers) bs (after_resolution resolutions)) behind) i),
+      others.1 ∙ ap (after_rates (rate_count (map count_of layers))) behind
+          ∙ sym (after_rates-add (suc (count_of layer)) (rate_count (map count_of layers)) rates),
+    )
 
 -- ---- Parts that can be told apart
 
@@ -293,7 +301,7 @@ record HasHead (head index count shared : ℕ) : Type 0 where
   shared_is : shared ≡ head % 16
 
 head_of : (head index count shared : ℕ) → index ≤ 3 → 1 ≤ count → count ≤ 4 → shared ≤ 15 → 64 * index + 16 * (count - 1) + shared ≡ head → HasHead head index count shared
-head_of head index count shared low some few fits is = record { index_is = omega arith; count_is = omega arith; shared_is = omega arith; }
+head_of head index count shared low some few fits is = record { index_is = omega arith; count_is = omega arith; shared_is = omega arith }
 
 -- what every layout of the bytes has, where these masks were found in them
 pub record Agrees (bytes : List ℕ) (head : ℕ) (masks behind : List ℕ) (index : ℕ) (others : List ℕ) (layers : List Layer) (l : IsLaidOut bytes index others layers) : Type 0 where
@@ -308,8 +316,8 @@ agree bytes head after masks behind index others layers l is has =
     let tails : l.mask_bytes ++ (l.counts ++ l.rates) ≡ after = let e = sym l.bytes_are ∙ is in cc in
     let h = head_of head index (length others) l.shared l.index_fits l.some_mask l.few_masks l.shared_fits heads in
     let same = masks_same (head % 16) others masks l.mask_bytes has.mask_bytes (l.counts ++ l.rates) behind (h.count_is ∙ sym has.as_many) l.masks_fit has.masks_fit
-      (subst (λ (s : ℕ). AreMasks s others l.mask_bytes) h.shared_is l.masks_are) has.masks_are (tails ∙ has.bytes_are) in
-    record { index_is = h.index_is; masks_are = same.0; parts_are = same.1; }
+    (subst (λ (s : ℕ). AreMasks s others l.mask_bytes) h.shared_is l.masks_are) has.masks_are (tails ∙ has.bytes_are) in
+    record { index_is = h.index_is; masks_are = same.0; parts_are = same.1 }
 
 parts_same : (bytes : List ℕ) (head : ℕ) (masks behind counts rates : List ℕ) (index : ℕ) (others : List ℕ) (layers : List Layer) (l : IsLaidOut bytes index others layers)
     → Agrees bytes head masks behind index others layers l → behind ≡ counts ++ rates → length counts ≡ (active_count masks + 3) / 4
@@ -331,8 +339,14 @@ cut_masks bytes head after is lacks index others layers l =
     let heads : 64 * index + 16 * (length others - 1) + l.shared ≡ head = let e = sym l.bytes_are ∙ is in cc in
     let tails : l.mask_bytes ++ (l.counts ++ l.rates) ≡ after = let e = sym l.bytes_are ∙ is in cc in
     let h = head_of head index (length others) l.shared l.index_fits l.some_mask l.few_masks l.shared_fits heads in
-    absurd (omega (arith, lacks.short, h.count_is, ap length tails, length-append l.mask_bytes (l.counts ++ l.rates),
-      halves_len l.shared others l.mask_bytes (h.shared_is ∙ lacks.spelled) l.masks_fit l.masks_are))
+    absurd (omega (
+      arith,
+      lacks.short,
+      h.count_is,
+      ap length tails,
+      length-append l.mask_bytes (l.counts ++ l.rates),
+      halves_len l.shared others l.mask_bytes (h.shared_is ∙ lacks.spelled) l.masks_fit l.masks_are,
+    ))
 
 pub cut_counts : (bytes : List ℕ) (head : ℕ) (after masks behind : List ℕ) → bytes ≡ head ∷ after → HasMasks after (head % 16) (head / 16 % 4 + 1) masks behind
     → length behind < (active_count masks + 3) / 4 → IsCutShort bytes
@@ -347,8 +361,8 @@ cut_resolutions bytes head after masks behind counts rates is has split len unfi
     let a = agree bytes head after masks behind index others layers l is has in
     let parts = parts_same bytes head masks behind counts rates index others layers l a split len in
     unfit (subst (λ (ms : List ℕ). FitResolutions (active_count ms) (after_rates (rate_count (read_counts ms counts)) rates)) a.masks_are
-      (subst (λ (cs : List ℕ). FitResolutions (active_count others) (after_rates (rate_count (read_counts others cs)) rates)) parts.0
-        (subst (λ (rs : List ℕ). FitResolutions (active_count others) (after_rates (rate_count (read_counts others l.counts)) rs)) parts.1 l.resolutions_fit)))
+    (subst (λ (cs : List ℕ). FitResolutions (active_count others) (after_rates (rate_count (read_counts others cs)) rates)) parts.0
+    (subst (λ (rs : List ℕ). FitResolutions (active_count others) (after_rates (rate_count (read_counts others l.counts)) rs)) parts.1 l.resolutions_fit)))
 
 -- ---- One layout
 
@@ -358,15 +372,20 @@ one_layout bytes index i masks ms layers ls l k =
     let head : ℕ = 64 * i + 16 * (length ms - 1) + k.shared in
     let h = head_of head i (length ms) k.shared k.index_fits k.some_mask k.few_masks k.shared_fits refl in
     let has : HasMasks (k.mask_bytes ++ (k.counts ++ k.rates)) (head % 16) (head / 16 % 4 + 1) ms (k.counts ++ k.rates) = record {
-      mask_bytes = k.mask_bytes; bytes_are = refl; as_many = h.count_is; masks_fit = k.masks_fit;
+      mask_bytes = k.mask_bytes;
+      bytes_are = refl;
+      as_many = h.count_is;
+      masks_fit = k.masks_fit;
       masks_are = subst (λ (s : ℕ). AreMasks s ms k.mask_bytes) h.shared_is k.masks_are;
     } in
     let a = agree bytes head (k.mask_bytes ++ (k.counts ++ k.rates)) ms (k.counts ++ k.rates) index masks layers l k.bytes_are has in
-    let parts = parts_same bytes head ms (k.counts ++ k.rates) k.counts k.rates index masks layers l a refl k.counts_len in
-    (a.index_is ∙ sym h.index_is, a.masks_are,
-    l.layers_are
-    ∙ (λ j. layers_read (read_counts (a.masks_are j) (parts.0 j)) (parts.1 j) (after_rates (rate_count (read_counts (a.masks_are j) (parts.0 j))) (parts.1 j)))
-    ∙ sym k.layers_are)
+    let parts = parts_same bytes head ms (k.counts ++ k.rates) k.counts k.rates index masks layers l a refl k.counts_len in (
+      a.index_is ∙ sym h.index_is,
+      a.masks_are,
+      l.layers_are
+          ∙ (λ j. layers_read (read_counts (a.masks_are j) (parts.0 j)) (parts.1 j) (after_rates (rate_count (read_counts (a.masks_are j) (parts.0 j))) (parts.1 j)))
+          ∙ sym k.layers_are,
+    )
 
 marked_some : (b : Bool) (marks : List Bool) → (b ≡ false → 1 ≤ marked marks) → 1 ≤ marked (b ∷ marks)
 marked_some true marks some = omega arith
@@ -391,8 +410,13 @@ some_part shared (mask ∷ masks) bytes counts some fit (inr are) len = omega (a
 
 pub laid_out_long : (bytes : List ℕ) (index : ℕ) (masks : List ℕ) (layers : List Layer) → IsLaidOut bytes index masks layers → 2 ≤ length bytes
 laid_out_long bytes index masks layers l =
-    omega (arith, ap length l.bytes_are, length-append l.mask_bytes (l.counts ++ l.rates), length-append l.counts l.rates,
-      some_part l.shared masks l.mask_bytes l.counts l.some_mask l.masks_fit l.masks_are l.counts_len)
+    omega (
+      arith,
+      ap length l.bytes_are,
+      length-append l.mask_bytes (l.counts ++ l.rates),
+      length-append l.counts l.rates,
+      some_part l.shared masks l.mask_bytes l.counts l.some_mask l.masks_fit l.masks_are l.counts_len,
+    )
 
 pub laid_out_layers : (bytes : List ℕ) (index : ℕ) (masks : List ℕ) (layers : List Layer) → IsLaidOut bytes index masks layers → length layers ≡ active_count masks
 laid_out_layers bytes index masks layers l =
@@ -408,7 +432,7 @@ packed_from bytes index masks layers all l =
     let active : AllActive layers = subst AllActive (sym l.layers_are) (AllActive-read cs l.rates rest) in
     let dealt_masks = masks-dealt_streams masks layers l.masks_fit active (omega (arith, len)) in
     let dealt_active : active_layers (dealt_streams masks layers) ≡ layers_read cs l.rates rest =
-      active-dealt_streams masks layers active (omega (arith, len)) ∙ take_all (active_count masks) layers (omega (arith, len)) ∙ l.layers_are in
+    active-dealt_streams masks layers active (omega (arith, len)) ∙ take_all (active_count masks) layers (omega (arith, len)) ∙ l.layers_are in
     let streams = length-dealt_streams masks layers in
     let inside = (AreBytes-parts l.counts l.rates (AreBytes-parts l.mask_bytes (l.counts ++ l.rates) (subst AreBytes l.bytes_are all).1).1).0 in
     let quarters_are = AreQuarters-from (active_count masks) l.counts l.counts_len inside in
@@ -427,10 +451,10 @@ packed_from bytes index masks layers all l =
       counted = subst (AllByRecursion IsCounted) (sym dealt_active) (counted_read cs l.rates rest quarters_are.1);
       masks_are = subst (λ (ms : List ℕ). AreMasks l.shared ms l.mask_bytes) (sym dealt_masks.0) l.masks_are;
       counts_are = subst (λ (ls : List Layer). AreQuarters (map count_of ls) l.counts) (sym dealt_active)
-        (subst (λ (ns : List ℕ). AreQuarters ns l.counts) (sym (counts_read cs l.rates rest)) quarters_are.0);
+          (subst (λ (ns : List ℕ). AreQuarters ns l.counts) (sym (counts_read cs l.rates rest)) quarters_are.0);
       rates_are = subst (λ (ls : List Layer). AreRates (rates_in ls) l.rates rest) (sym dealt_active) (rates_read cs l.rates rest);
       resolutions_are = subst (λ (ls : List Layer). AreResolutions (tolds_of ls) rest) (sym dealt_active)
-        (resolutions_read cs l.rates rest (subst (λ (n : ℕ). FitResolutions n rest) (sym (length-read_counts masks l.counts l.counts_len)) l.resolutions_fit));
+          (resolutions_read cs l.rates rest (subst (λ (n : ℕ). FitResolutions n rest) (sym (length-read_counts masks l.counts l.counts_len)) l.resolutions_fit));
     }
 
 counts_fit : (layers : List Layer) → AllByRecursion IsCounted layers → AllByRecursion (λ count. count ≤ 3) (map count_of layers)
@@ -468,7 +492,7 @@ laid_out_from bytes a p =
       counts_len = omega (arith, read.1, lens);
       layers_are = back.0 ∙ (λ i. layers_read (cs i) p.rates (rest i));
       resolutions_fit = subst (FitResolutions (active_count masks)) rest
-        (subst (λ (n : ℕ). FitResolutions n p.rest) (length-map layers (λ layer. layer.resolution_and_framerate) ∙ sym count) (AreResolutions-fit (tolds_of layers) p.rest p.resolutions_are));
+          (subst (λ (n : ℕ). FitResolutions n p.rest) (length-map layers (λ layer. layer.resolution_and_framerate) ∙ sym count) (AreResolutions-fit (tolds_of layers) p.rest p.resolutions_are));
     }
 
 -- an allocation that the bytes mean is the one that is read
@@ -477,7 +501,7 @@ pub packed_only : (bytes : List ℕ) (index : ℕ) (masks : List ℕ) (layers : 
 packed_only bytes index masks layers a l p =
     let same = one_layout bytes a.current_simulcast_stream_index index (map mask_of a.simulcast_streams) masks (active_layers a.simulcast_streams) layers (laid_out_from bytes a p) l in
     let streams : a.simulcast_streams ≡ dealt_streams masks layers =
-      sym (dealt_streams-back a.simulcast_streams p.readable).0 ∙ (λ i. dealt_streams (same.1 i) (same.2 i)) in
+    sym (dealt_streams-back a.simulcast_streams p.readable).0 ∙ (λ i. dealt_streams (same.1 i) (same.2 i)) in
     λ i. record { current_simulcast_stream_index = same.0 i; simulcast_streams = streams i }
 
 pub packed_long : (bytes : List ℕ) (a : Allocation) → IsPacked bytes a → 2 ≤ length bytes

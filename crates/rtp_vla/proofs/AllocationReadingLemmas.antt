@@ -104,9 +104,10 @@ fits_first count (x ∷ []) field next f n long = absurd (omega arith)
 fits_first count (x ∷ y ∷ []) field next f n long = absurd (omega arith)
 fits_first count (x ∷ y ∷ z ∷ []) field next f n long = absurd (omega arith)
 fits_first count (x ∷ y ∷ z ∷ u ∷ []) field next f n long = absurd (omega arith)
-fits_first count (x ∷ y ∷ z ∷ u ∷ v ∷ bytes) field next f n long =
-    (λ h. subst (λ (xs : List ℕ). FitsFirst count xs next) (sym f) (subst (λ (xs : List ℕ). FitsFirst count (x ∷ y ∷ z ∷ u ∷ v ∷ []) xs) (sym n) h),
-    λ h. subst (λ (xs : List ℕ). FitsFirst count (x ∷ y ∷ z ∷ u ∷ v ∷ []) xs) n (subst (λ (xs : List ℕ). FitsFirst count xs next) f h))
+fits_first count (x ∷ y ∷ z ∷ u ∷ v ∷ bytes) field next f n long = (
+  λ h. subst (λ (xs : List ℕ). FitsFirst count xs next) (sym f) (subst (λ (xs : List ℕ). FitsFirst count (x ∷ y ∷ z ∷ u ∷ v ∷ []) xs) (sym n) h),
+  λ h. subst (λ (xs : List ℕ). FitsFirst count (x ∷ y ∷ z ∷ u ∷ v ∷ []) xs) n (subst (λ (xs : List ℕ). FitsFirst count xs next) f h),
+)
 
 pub fits_left : (count i : ℕ) (bytes : List ℕ) (All : Type 0) → i < count → (FitResolutions (count - i) bytes ↔ All) → (FitResolutions (suc (count - (i + 1))) bytes ↔ All)
 fits_left count i bytes All within h = subst (λ (n : ℕ). FitResolutions n bytes ↔ All) (one_less count i within) h
@@ -145,7 +146,7 @@ layers_from-next next active count counts rates resolutions within before is =
     drop_more (take active (quarters counts)) next 0 (omega arith) ∙ ap (λ (n : ℕ). n ∷ drop (next + 1) (take active (quarters counts))) first in
     ap (λ (cs : List ℕ). layers_read cs rates resolutions) split
     ∙ ap (λ (n : ℕ). record { temporal_layers = rates_of n rates; resolution_and_framerate = resolution_in resolutions }
-      ∷ layers_from (next + 1) active counts (after_rates n rates) (after_resolution resolutions)) (sym (add-one count))
+    ∷ layers_from (next + 1) active counts (after_rates n rates) (after_resolution resolutions)) (sym (add-one count))
 
 -- ---- Layers dealt by a mask
 

@@ -82,7 +82,7 @@ readable_from (stream ∷ streams) all =
     let parts = and_parts (stream_fits stream) (list_all stream_fits streams) all in
     let own = and_parts (leb (mask_of stream) 15) (list_all bare_or_active stream) parts.0 in
     let ends = trimmed_ends stream own.1 in
-    (record { mask_fits = omega (arith, leb-true (mask_of stream) 15 own.0, mask-trimmed stream); ends_active = ends.0; bare = ends.1; }, readable_from streams parts.1)
+    (record { mask_fits = omega (arith, leb-true (mask_of stream) 15 own.0, mask-trimmed stream); ends_active = ends.0; bare = ends.1 }, readable_from streams parts.1)
 
 active_or : (layer : Layer) → IsBareUnlessActive layer → bare_or_active layer ≡ true
 active_or layer bare = ⊎_elim (λ yes. or_left _ _ yes) (λ no. or_right _ _ (ap (λ (o : Option ResolutionAndFramerate). is_none o) (bare no))) (cases_Bool (is_active layer))
@@ -158,10 +158,11 @@ rates_in layers = flat_map (λ layer. layer.temporal_layers) layers
 AreRates-of : (rates more bytes rest : List ℕ) → list_all (λ rate. ltb rate 9223372036854775808) rates ≡ true → AreRates more bytes rest → AreRates (rates ++ more) (flat_map shortest_of rates ++ bytes) rest
 AreRates-of [] more bytes rest small are = are
 AreRates-of (rate ∷ rates) more bytes rest small are =
-    let parts = and_parts (ltb rate 9223372036854775808) (list_all (λ r. ltb r 9223372036854775808) rates) small in
-    (flat_map shortest_of rates ++ bytes,
-    spelled (shortest_of rate) (append_assoc (shortest_of rate) (flat_map shortest_of rates) bytes) (IsShortest-shortest_of rate (ltb-true rate 9223372036854775808 parts.0)).spells,
-    AreRates-of rates more bytes rest parts.1 are)
+    let parts = and_parts (ltb rate 9223372036854775808) (list_all (λ r. ltb r 9223372036854775808) rates) small in (
+      flat_map shortest_of rates ++ bytes,
+      spelled (shortest_of rate) (append_assoc (shortest_of rate) (flat_map shortest_of rates) bytes) (IsShortest-shortest_of rate (ltb-true rate 9223372036854775808 parts.0)).spells,
+      AreRates-of rates more bytes rest parts.1 are,
+    )
 
 abbrev layer_fits : Layer → Bool
 layer_fits layer = rates_fit layer.temporal_layers
@@ -172,7 +173,7 @@ AreRates-layers (layer ∷ layers) rest fits =
     let parts = and_parts (layer_fits layer) (list_all layer_fits layers) fits in
     let own = and_parts (leb (length layer.temporal_layers) 4) (list_all (λ rate. ltb rate 9223372036854775808) layer.temporal_layers) parts.0 in
     subst (λ (bytes : List ℕ). AreRates (rates_in (layer ∷ layers)) bytes rest) (sym (append_assoc (rate_bytes layer) (flat_map rate_bytes layers) rest))
-      (AreRates-of layer.temporal_layers (rates_in layers) (flat_map rate_bytes layers ++ rest) rest own.1 (AreRates-layers layers rest parts.1))
+    (AreRates-of layer.temporal_layers (rates_in layers) (flat_map rate_bytes layers ++ rest) rest own.1 (AreRates-layers layers rest parts.1))
 
 counted_from : (layers : List Layer) → list_all layer_fits layers ≡ true → AllByRecursion IsCounted layers
 counted_from [] fits = tt
@@ -224,7 +225,10 @@ sizes e r fits =
     let others = and_parts (ltb 0 r.height && ltb r.height 65536) (ltb r.framerate 256) parts.1 in
     let height = and_parts (ltb 0 r.height) (ltb r.height 65536) others.0 in
     record {
-      width_some = ltb-true _ _ width.0; width_fits = ltb-true _ _ width.1; height_some = ltb-true _ _ height.0; height_fits = ltb-true _ _ height.1;
+      width_some = ltb-true _ _ width.0;
+      width_fits = ltb-true _ _ width.1;
+      height_some = ltb-true _ _ height.0;
+      height_fits = ltb-true _ _ height.1;
       framerate_fits = ltb-true _ _ others.1;
     }
 
@@ -236,9 +240,10 @@ front_one None layers fits rest =
     subst (AreResolutions (None ∷ tolds_of layers)) (sym none.0) (refl, none.1)
 front_one (Some r) layers fits rest =
     let parts = and_parts (told_fits false (Some r)) (resolutions_in_front false layers) fits in
-    let s = sizes false r parts.0 in
-    ((r, refl, record { width = omega (arith, s.width_some); height = omega (arith, s.height_some); framerate = refl; width_fits = omega (arith, s.width_fits); height_fits = omega (arith, s.height_fits); }),
-    rest parts.1)
+    let s = sizes false r parts.0 in (
+      (r, refl, record { width = omega (arith, s.width_some); height = omega (arith, s.height_some); framerate = refl; width_fits = omega (arith, s.width_fits); height_fits = omega (arith, s.height_fits) }),
+      rest parts.1,
+    )
 
 AreResolutions-of : (layers : List Layer) → resolutions_in_front false layers ≡ true → AreResolutions (tolds_of layers) (flat_map resolution_bytes layers)
 AreResolutions-of [] fits = tt
@@ -264,11 +269,11 @@ front_from (layer ∷ layers) (x ∷ y ∷ z ∷ []) all are = none_front (layer
 front_from (layer ∷ layers) (x ∷ y ∷ z ∷ u ∷ []) all are = none_front (layer ∷ layers) are false
 front_from (layer ∷ layers) (x ∷ y ∷ z ∷ u ∷ v ∷ bytes) all ((r, is, told), rest) =
     some_one r layer.resolution_and_framerate layers is
-      (and_from (ltb 0 r.width && ltb r.width 65536) ((ltb 0 r.height && ltb r.height 65536) && ltb r.framerate 256)
-        (and_from _ _ (lt-ltb 0 r.width (omega (arith, told.width))) (lt-ltb r.width 65536 (omega (arith, told.width_fits))))
-        (and_from _ _ (and_from _ _ (lt-ltb 0 r.height (omega (arith, told.height))) (lt-ltb r.height 65536 (omega (arith, told.height_fits))))
-          (lt-ltb r.framerate 256 (omega (arith, told.framerate, all.1.1.1.1.0)))))
-      (front_from layers bytes all.1.1.1.1.1 rest)
+    (and_from (ltb 0 r.width && ltb r.width 65536) ((ltb 0 r.height && ltb r.height 65536) && ltb r.framerate 256)
+    (and_from _ _ (lt-ltb 0 r.width (omega (arith, told.width))) (lt-ltb r.width 65536 (omega (arith, told.width_fits))))
+    (and_from _ _ (and_from _ _ (lt-ltb 0 r.height (omega (arith, told.height))) (lt-ltb r.height 65536 (omega (arith, told.height_fits))))
+    (lt-ltb r.framerate 256 (omega (arith, told.framerate, all.1.1.1.1.0)))))
+    (front_from layers bytes all.1.1.1.1.1 rest)
 
 -- ---- Written bytes are bytes
 
@@ -336,29 +341,32 @@ packed_means index streams low some few fits layers_ok =
     let small = small_masks streams fits in
     let ok = and_parts (list_all layer_fits layers) (resolutions_in_front false layers) layers_ok in
     let many : length (map without_bare_tail streams) ≡ length streams = length-map streams without_bare_tail in
-    let same = active-trimmed streams in
-    (record {
-      shared = shared_of masks;
-      masks = mask_bytes masks;
-      counts = quarters_of (map count_of layers);
-      rates = flat_map rate_bytes layers ++ flat_map resolution_bytes layers;
-      rest = flat_map resolution_bytes layers;
-      bytes_are = ap (λ (n : ℕ). (64 * index + 16 * (n - 1) + shared_of masks) ∷ (mask_bytes masks ++ (quarters_of (map count_of layers) ++ (flat_map rate_bytes layers ++ flat_map resolution_bytes layers)))) (sym many);
-      index_fits = low;
-      some_stream = omega (arith, some, many);
-      few_streams = omega (arith, few, many);
-      shared_fits = shared_small masks small;
-      readable = readable_from streams fits;
-      counted = subst (AllByRecursion IsCounted) (sym same) (counted_from layers ok.0);
-      masks_are = subst (λ (ms : List ℕ). AreMasks (shared_of masks) ms (mask_bytes masks)) (sym (masks-trimmed streams)) (AreMasks-of masks);
-      counts_are = subst (λ (ls : List Layer). AreQuarters (map count_of ls) (quarters_of (map count_of layers))) (sym same) (AreQuarters-of (map count_of layers));
-      rates_are = subst (λ (ls : List Layer). AreRates (rates_in ls) (flat_map rate_bytes layers ++ flat_map resolution_bytes layers) (flat_map resolution_bytes layers)) (sym same) (AreRates-layers layers (flat_map resolution_bytes layers) ok.0);
-      resolutions_are = subst (λ (ls : List Layer). AreResolutions (tolds_of ls) (flat_map resolution_bytes layers)) (sym same) (AreResolutions-of layers ok.1);
-    },
-    (omega (arith, low, few, shared_small masks small),
-    AreBytes-append (mask_bytes masks) (quarters_of (map count_of layers) ++ (flat_map rate_bytes layers ++ flat_map resolution_bytes layers)) (AreBytes-masks (eqb (shared_of masks) 0) masks small)
-      (AreBytes-append (quarters_of (map count_of layers)) (flat_map rate_bytes layers ++ flat_map resolution_bytes layers) (AreBytes-quarters (map count_of layers) (small_counts layers (counted_from layers ok.0)))
-        (AreBytes-append (flat_map rate_bytes layers) (flat_map resolution_bytes layers) (AreBytes-layers layers) (AreBytes-tolds false layers ok.1)))))
+    let same = active-trimmed streams in (
+      record {
+        shared = shared_of masks;
+        masks = mask_bytes masks;
+        counts = quarters_of (map count_of layers);
+        rates = flat_map rate_bytes layers ++ flat_map resolution_bytes layers;
+        rest = flat_map resolution_bytes layers;
+        bytes_are = ap (λ (n : ℕ). (64 * index + 16 * (n - 1) + shared_of masks) ∷ (mask_bytes masks ++ (quarters_of (map count_of layers) ++ (flat_map rate_bytes layers ++ flat_map resolution_bytes layers)))) (sym many);
+        index_fits = low;
+        some_stream = omega (arith, some, many);
+        few_streams = omega (arith, few, many);
+        shared_fits = shared_small masks small;
+        readable = readable_from streams fits;
+        counted = subst (AllByRecursion IsCounted) (sym same) (counted_from layers ok.0);
+        masks_are = subst (λ (ms : List ℕ). AreMasks (shared_of masks) ms (mask_bytes masks)) (sym (masks-trimmed streams)) (AreMasks-of masks);
+        counts_are = subst (λ (ls : List Layer). AreQuarters (map count_of ls) (quarters_of (map count_of layers))) (sym same) (AreQuarters-of (map count_of layers));
+        rates_are = subst (λ (ls : List Layer). AreRates (rates_in ls) (flat_map rate_bytes layers ++ flat_map resolution_bytes layers) (flat_map resolution_bytes layers)) (sym same) (AreRates-layers layers (flat_map resolution_bytes layers) ok.0);
+        resolutions_are = subst (λ (ls : List Layer). AreResolutions (tolds_of ls) (flat_map resolution_bytes layers)) (sym same) (AreResolutions-of layers ok.1);
+      },
+      (
+        omega (arith, low, few, shared_small masks small),
+        AreBytes-append (mask_bytes masks) (quarters_of (map count_of layers) ++ (flat_map rate_bytes layers ++ flat_map resolution_bytes layers)) (AreBytes-masks (eqb (shared_of masks) 0) masks small)
+            (AreBytes-append (quarters_of (map count_of layers)) (flat_map rate_bytes layers ++ flat_map resolution_bytes layers) (AreBytes-quarters (map count_of layers) (small_counts layers (counted_from layers ok.0)))
+            (AreBytes-append (flat_map rate_bytes layers) (flat_map resolution_bytes layers) (AreBytes-layers layers) (AreBytes-tolds false layers ok.1))),
+      ),
+    )
 
 streams_mean : (index : ℕ) (streams : List Stream) → streams_fit index streams ≡ true
     → Means (streams_bytes index streams) (record { current_simulcast_stream_index = index; simulcast_streams = map without_bare_tail streams }) × AreBytes (streams_bytes index streams)
@@ -399,19 +407,19 @@ streams_from index (stream ∷ streams) bytes all p =
     let rates = subst (λ (ls : List Layer). AreRates (rates_in ls) p.rates p.rest) same p.rates_are in
     let tolds = subst (λ (ls : List Layer). AreResolutions (tolds_of ls) p.rest) same p.resolutions_are in
     and_from _ _
-      (and_from _ _ (le-leb index 3 p.index_fits) (le-leb (length ss) 4 (omega (arith, p.few_streams, length-map ss without_bare_tail))))
-      (and_from _ _ (fits_from ss p.readable)
-        (and_from _ _ (layers_small (active_layers ss) p.rates p.rest counted rates)
-          (front_from (active_layers ss) p.rest (rest_bytes (rates_in (active_layers ss)) p.rates p.rest inside.1 rates) tolds)))
+    (and_from _ _ (le-leb index 3 p.index_fits) (le-leb (length ss) 4 (omega (arith, p.few_streams, length-map ss without_bare_tail))))
+    (and_from _ _ (fits_from ss p.readable)
+    (and_from _ _ (layers_small (active_layers ss) p.rates p.rest counted rates)
+    (front_from (active_layers ss) p.rest (rest_bytes (rates_in (active_layers ss)) p.rates p.rest inside.1 rates) tolds)))
 
 -- what some bytes mean can be written
 pub can_be_written-from : (a : Allocation) → Writable a → can_be_written a ≡ true
 can_be_written-from a (bytes, all, means) =
     ⊎_elim
     (λ nothing.
-      let none : a.simulcast_streams ≡ [] = no_streams a.simulcast_streams (λ i. (nothing.1 i).simulcast_streams) in
-      let index : a.current_simulcast_stream_index ≡ 0 = λ i. (nothing.1 i).current_simulcast_stream_index in
-      subst (λ (streams : List Stream). streams_fit a.current_simulcast_stream_index streams ≡ true) (sym none) (eq-eqb a.current_simulcast_stream_index 0 index))
+    let none : a.simulcast_streams ≡ [] = no_streams a.simulcast_streams (λ i. (nothing.1 i).simulcast_streams) in
+    let index : a.current_simulcast_stream_index ≡ 0 = λ i. (nothing.1 i).current_simulcast_stream_index in
+    subst (λ (streams : List Stream). streams_fit a.current_simulcast_stream_index streams ≡ true) (sym none) (eq-eqb a.current_simulcast_stream_index 0 index))
     (λ p. streams_from a.current_simulcast_stream_index a.simulcast_streams bytes all p)
     means
 

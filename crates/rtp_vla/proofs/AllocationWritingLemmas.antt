@@ -43,8 +43,8 @@ active_small : (stream : Stream) → stream_fits stream ≡ true → length (fil
 active_small stream fits =
     let mask = leb-true (mask_of stream) 15 (and_parts (leb (mask_of stream) 15) (list_all bare_or_active stream) fits).0 in
     ⊎_elim (λ few. omega arith) (λ many.
-      let big : 2 ^ 5 ≤ 2 ^ length (filter is_active stream) = pow-le-pow_right {n = 2} (omega arith) {i = 5} {j = length (filter is_active stream)} many in
-      absurd (omega (arith, big, mask, few_active stream)))
+    let big : 2 ^ 5 ≤ 2 ^ length (filter is_active stream) = pow-le-pow_right {n = 2} (omega arith) {i = 5} {j = length (filter is_active stream)} many in
+    absurd (omega (arith, big, mask, few_active stream)))
     (cases_lt (length (filter is_active stream)) 5)
 
 pub length-active : (streams : List Stream) → list_all stream_fits streams ≡ true → length (active_layers streams) ≤ 4 * length streams
@@ -163,6 +163,7 @@ pub measured : (index : ℕ) (streams : List Stream) (spelled layers : ℕ) → 
     → layers_fit (active_layers streams) ≡ true → spelled ≡ length (mask_bytes (map mask_of streams))
     → layers ≡ (length (active_layers streams) + 3) / 4 + (length (flat_map rate_bytes (active_layers streams)) + length (flat_map resolution_bytes (active_layers streams)))
     → (streams_fit index streams ≡ true) × (1 + spelled + layers ≡ length (streams_bytes index streams))
-measured index streams spelled layers some low few fits layers_ok spelled-is layers-is =
-    (streams_fit-some index streams some low few fits layers_ok,
-    omega (arith, spelled-is, layers-is, length-packed_bytes index streams, ap length (streams_bytes-some index streams some)))
+measured index streams spelled layers some low few fits layers_ok spelled-is layers-is = (
+  streams_fit-some index streams some low few fits layers_ok,
+  omega (arith, spelled-is, layers-is, length-packed_bytes index streams, ap length (streams_bytes-some index streams some)),
+)

@@ -109,7 +109,13 @@ record Spells (more value : ℕ) (bytes : List ℕ) : Type 0 where
 
 to_leb : (value : ℕ) (bytes : List ℕ) → Spells 8 value bytes → IsLeb value bytes
 to_leb value bytes s = record {
-  front = s.front; last = s.last; bytes_are = s.bytes_are; at_most_nine = s.few; continued = s.continued; ended = s.ended; value_is = s.value_is;
+  front = s.front;
+  last = s.last;
+  bytes_are = s.bytes_are;
+  at_most_nine = s.few;
+  continued = s.continued;
+  ended = s.ended;
+  value_is = s.value_is;
 }
 
 -- the number that is spelled at the front is read
@@ -141,8 +147,13 @@ none_high more byte bytes high none [] last rest is few continued ended =
 none_high more byte bytes high none (b ∷ front) last rest is few continued ended =
     let tail : bytes ≡ (front ++ last ∷ []) ++ rest = cc in
     none (number_of (front ++ last ∷ [])) (front ++ last ∷ []) rest tail (record {
-      front = front; last = last; bytes_are = refl; few = omega arith; continued = continued.1;
-      ended = ⊎_elim (λ low. inl low) (λ full. inr (omega arith)) ended; value_is = refl;
+      front = front;
+      last = last;
+      bytes_are = refl;
+      few = omega arith;
+      continued = continued.1;
+      ended = ⊎_elim (λ low. inl low) (λ full. inr (omega arith)) ended;
+      value_is = refl;
     })
 
 abbrev IsFound : ℕ → List ℕ → Option (ℕ × ℕ) → Type 0
@@ -152,22 +163,44 @@ found_more : (more byte : ℕ) (bytes : List ℕ) → 128 ≤ byte → (o : Opti
     → IsFound (suc more) (byte ∷ bytes) (option_map (λ read. (byte % 128 + 128 * read.0, suc read.1)) o)
 found_more more byte bytes high None none = λ value front rest is s.
     none_high more byte bytes high none s.front s.last rest (is ∙ ap (λ (xs : List ℕ). xs ++ rest) s.bytes_are) s.few s.continued s.ended
-found_more more byte bytes high (Some read) (s, within) = (record {
-  front = byte ∷ s.front; last = s.last; bytes_are = ap (λ (xs : List ℕ). byte ∷ xs) s.bytes_are; few = omega (arith, s.few);
-  continued = (high, s.continued); ended = ⊎_elim (λ low. inl low) (λ full. inr (omega arith)) s.ended;
-  value_is = ap (λ (n : ℕ). byte % 128 + 128 * n) s.value_is;
-}, omega arith)
+found_more more byte bytes high (Some read) (s, within) = (
+  record {
+    front = byte ∷ s.front;
+    last = s.last;
+    bytes_are = ap (λ (xs : List ℕ). byte ∷ xs) s.bytes_are;
+    few = omega (arith, s.few);
+    continued = (high, s.continued);
+    ended = ⊎_elim (λ low. inl low) (λ full. inr (omega arith)) s.ended;
+    value_is = ap (λ (n : ℕ). byte % 128 + 128 * n) s.value_is;
+  },
+  omega arith,
+)
 
 alone : (more byte : ℕ) → byte < 128 → Spells more byte (byte ∷ [])
 alone more byte low = record {
-  front = []; last = byte; bytes_are = refl; few = omega arith; continued = tt; ended = inl low; value_is = sym (mod-eq_of_lt low) ∙ omega arith;
+  front = [];
+  last = byte;
+  bytes_are = refl;
+  few = omega arith;
+  continued = tt;
+  ended = inl low;
+  value_is = sym (mod-eq_of_lt low) ∙ omega arith;
 }
 
 leb_number-found : (more : ℕ) (bytes : List ℕ) → IsFound more bytes (leb_number (suc more) bytes)
 leb_number-found more [] = rw (leb_number-nil more) (none_empty more)
-leb_number-found zero (byte ∷ bytes) = rw (leb_number-ninth byte bytes) (record {
-  front = []; last = byte; bytes_are = refl; few = omega arith; continued = tt; ended = inr refl; value_is = omega arith;
-}, omega arith)
+leb_number-found zero (byte ∷ bytes) = rw (leb_number-ninth byte bytes) (
+  record {
+    front = [];
+    last = byte;
+    bytes_are = refl;
+    few = omega arith;
+    continued = tt;
+    ended = inr refl;
+    value_is = omega arith;
+  },
+  omega arith,
+)
 leb_number-found (suc more) (byte ∷ bytes) =
     ⊎_elim
     (λ low. subst (IsFound (suc more) (byte ∷ bytes)) (sym (leb_number-low (suc more) byte bytes low)) (alone (suc more) byte low, omega arith))
@@ -178,7 +211,13 @@ leb_number-found (suc more) (byte ∷ bytes) =
 
 from_leb : (value : ℕ) (bytes : List ℕ) → IsLeb value bytes → Spells 8 value bytes
 from_leb value bytes s = record {
-  front = s.front; last = s.last; bytes_are = s.bytes_are; few = s.at_most_nine; continued = s.continued; ended = s.ended; value_is = s.value_is;
+  front = s.front;
+  last = s.last;
+  bytes_are = s.bytes_are;
+  few = s.at_most_nine;
+  continued = s.continued;
+  ended = s.ended;
+  value_is = s.value_is;
 }
 
 pub leb_read-at : (bytes : List ℕ) (o : Option (ℕ × ℕ)) → o ≡ leb_number 9 bytes → (leb_value bytes ≡ (leb_read bytes o).0) × (leb_rest bytes ≡ (leb_read bytes o).1)
@@ -203,9 +242,10 @@ read-ReadsLeb bytes value rest (spelled front is leb) =
     let front-is : front ≡ leb.front ++ leb.last ∷ [] = leb.bytes_are in
     let all : bytes ≡ (leb.front ++ leb.last ∷ []) ++ rest = is ∙ ap (λ (xs : List ℕ). xs ++ rest) front-is in
     let read = ap (leb_number 9) all ∙ leb_number-spelled 8 leb.front leb.last rest leb.at_most_nine leb.continued leb.ended in
-    let at = leb_read-at bytes (read_as (number_of (leb.front ++ leb.last ∷ [])) (length (leb.front ++ leb.last ∷ []))) (sym read) in
-    (at.0 ∙ ap number_of (sym front-is) ∙ sym leb.value_is,
-    at.1 ∙ ap (drop (length (leb.front ++ leb.last ∷ []))) all ∙ drop_at (leb.front ++ leb.last ∷ []) rest _ refl)
+    let at = leb_read-at bytes (read_as (number_of (leb.front ++ leb.last ∷ [])) (length (leb.front ++ leb.last ∷ []))) (sym read) in (
+      at.0 ∙ ap number_of (sym front-is) ∙ sym leb.value_is,
+      at.1 ∙ ap (drop (length (leb.front ++ leb.last ∷ []))) all ∙ drop_at (leb.front ++ leb.last ∷ []) rest _ refl,
+    )
 read-ReadsLeb bytes value rest (unspelled none value-is rest-is) =
     let at = leb_read-at bytes None (sym (none_read bytes none (leb_number 9 bytes) (leb_number-found 8 bytes))) in
     (at.0 ∙ sym value-is, at.1 ∙ sym rest-is)
@@ -270,13 +310,24 @@ record SpellsLow (more value : ℕ) (bytes : List ℕ) : Type 0 where
 
 low_alone : (more byte : ℕ) → byte < 128 → SpellsLow more byte (byte ∷ [])
 low_alone more byte low = record {
-  front = []; last = byte; bytes_are = refl; few = omega arith; continued = tt; low = low; value_is = sym (mod-eq_of_lt low) ∙ omega arith;
+  front = [];
+  last = byte;
+  bytes_are = refl;
+  few = omega arith;
+  continued = tt;
+  low = low;
+  value_is = sym (mod-eq_of_lt low) ∙ omega arith;
 }
 
 low_more : (more value : ℕ) (bytes : List ℕ) → SpellsLow more (value / 128) bytes → SpellsLow (suc more) value ((value % 128 + 128) ∷ bytes)
 low_more more value bytes s = record {
-  front = (value % 128 + 128) ∷ s.front; last = s.last; bytes_are = ap (λ (xs : List ℕ). (value % 128 + 128) ∷ xs) s.bytes_are;
-  few = omega (arith, s.few); continued = (omega arith, s.continued); low = s.low; value_is = omega (arith, s.value_is);
+  front = (value % 128 + 128) ∷ s.front;
+  last = s.last;
+  bytes_are = ap (λ (xs : List ℕ). (value % 128 + 128) ∷ xs) s.bytes_are;
+  few = omega (arith, s.few);
+  continued = (omega arith, s.continued);
+  low = s.low;
+  value_is = omega (arith, s.value_is);
 }
 
 leb_of-spells : (more value : ℕ) → value < 128 ^ suc more → SpellsLow more value (leb_of (suc more) value)
@@ -304,12 +355,18 @@ IsShortest-shortest_of value small = subst (IsShortest value) (sym (shortest-leb
     (let s : SpellsLow 8 value (leb_of 9 value) = leb_of-spells 8 value small in
     record {
       spells = record {
-        front = s.front; last = s.last; bytes_are = s.bytes_are; at_most_nine = s.few; continued = s.continued; ended = inl s.low; value_is = s.value_is;
+        front = s.front;
+        last = s.last;
+        bytes_are = s.bytes_are;
+        at_most_nine = s.few;
+        continued = s.continued;
+        ended = inl s.low;
+        value_is = s.value_is;
       };
       shortest = λ other leb.
-      let len : length other ≡ suc (length leb.front) = ap length leb.bytes_are ∙ length-append leb.front (leb.last ∷ []) ∙ omega arith in
-      let below : value < 128 ^ suc (length leb.front) = subst (λ (n : ℕ). value < 128 ^ n) len (omega (arith, leb.value_is, number_of-below other)) in
-      omega (arith, len, length-leb_of-le 9 value (length leb.front) below);
+          let len : length other ≡ suc (length leb.front) = ap length leb.bytes_are ∙ length-append leb.front (leb.last ∷ []) ∙ omega arith in
+          let below : value < 128 ^ suc (length leb.front) = subst (λ (n : ℕ). value < 128 ^ n) len (omega (arith, leb.value_is, number_of-below other)) in
+          omega (arith, len, length-leb_of-le 9 value (length leb.front) below);
       ends_low = s.low;
     })
 

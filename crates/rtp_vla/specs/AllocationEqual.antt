@@ -38,9 +38,10 @@ same_option test decides (Some x) (Some y) = (λ yes i. Some ((decides x y).0 ye
 pub same_resolution-decides : (r s : ResolutionAndFramerate) → Decides (same_resolution r s) (r ≡ s)
 same_resolution-decides r s =
     let sizes = Decides-and _ _ (unsigned_Decides r.height s.height) (unsigned_Decides r.framerate s.framerate) in
-    let all = Decides-and _ _ (unsigned_Decides r.width s.width) sizes in
-    (λ yes. let same = all.0 yes in λ i. record { width = same.0 i; height = same.1.0 i; framerate = same.1.1 i },
-    λ same. all.1 ((λ i. (same i).width), ((λ i. (same i).height), (λ i. (same i).framerate))))
+    let all = Decides-and _ _ (unsigned_Decides r.width s.width) sizes in (
+      λ yes. let same = all.0 yes in λ i. record { width = same.0 i; height = same.1.0 i; framerate = same.1.1 i },
+      λ same. all.1 ((λ i. (same i).width), ((λ i. (same i).height), (λ i. (same i).framerate))),
+    )
 
 pub same_layer-decides : (l k : Layer) → Decides (same_layer l k) (l ≡ k)
 same_layer-decides l k =

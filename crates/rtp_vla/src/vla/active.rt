@@ -40,7 +40,8 @@ impl<'a> Model for ActiveLayers<'a> {
 
     ghost Value = { List Layer };
 
-    ghost view = { λ active. filter is_active active.layers.now ++ active_layers active.streams.now };
+    ghost view = { λ active. filter is_active active.layers.now
+        ++ active_layers active.streams.now };
 }
 
 impl<'a> ActiveLayers<'a> {

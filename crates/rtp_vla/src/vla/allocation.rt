@@ -67,8 +67,8 @@ impl Model for SpatialLayerAllocation {
     ghost Value = { Layer };
 
     ghost view = { λ layer. record {
-        temporal_layers = layer.temporal_layers.items;
-        resolution_and_framerate = layer.resolution_and_framerate;
+      temporal_layers = layer.temporal_layers.items;
+      resolution_and_framerate = layer.resolution_and_framerate;
     } };
 }
 
@@ -86,8 +86,8 @@ impl Model for VideoLayersAllocation {
     ghost Value = { Allocation };
 
     ghost view = { λ allocation. record {
-        current_simulcast_stream_index = allocation.current_simulcast_stream_index;
-        simulcast_streams = allocation.simulcast_streams.items;
+      current_simulcast_stream_index = allocation.current_simulcast_stream_index;
+      simulcast_streams = allocation.simulcast_streams.items;
     } };
 }
 

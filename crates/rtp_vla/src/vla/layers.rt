@@ -30,7 +30,8 @@ impl<'a> Model for LayerReader<'a> {
 
     ghost Value = { List Layer };
 
-    ghost view = { λ reader. layers_read (drop reader.next (take reader.active (quarters reader.counts.now)))
+    ghost view = { λ reader.
+        layers_read (drop reader.next (take reader.active (quarters reader.counts.now)))
         reader.rates.now reader.resolutions.now };
 
     ghost invariant = { λ reader. (reader.next ≤ reader.active)
@@ -49,7 +50,8 @@ impl<'a> LayerReader<'a> {
         requires within { active ≤ 4 * length counts.now }
         requires fit { reading.FitResolutions active resolutions.now }
         ensures { result
-            ≡ reading.layers_read (take active (reading.quarters counts.now)) rates.now resolutions.now }
+            ≡ reading.layers_read (take active (reading.quarters counts.now))
+            rates.now resolutions.now }
     {
         LayerReader {
             counts,
@@ -112,7 +114,8 @@ fn stream_of(
 ) -> Result<SimulcastStreamAllocation, AllocError>
     requires fits { mask ≤ 15 }
     requires enough { reading.active_in mask ≤ length left.old }
-    ensures dealt { IfOk result (λ stream. stream ≡ reading.dealt (reading.marks_of mask) left.old) }
+    ensures dealt { IfOk result (λ stream.
+        stream ≡ reading.dealt (reading.marks_of mask) left.old) }
     ensures left { OnOk result (left.new ≡ drop (reading.active_in mask) left.old) }
 {
     let len = 8 - mask.leading_zeros() as usize;

@@ -1,6 +1,6 @@
 //! Rates as LEB128 numbers.
 
-ghost use Rattle.std.specs.Prelude.{◌≡◌, ℕ, ◌+◌, ◌^◌, ◌<◌, ◌≤◌, ◌++◌, List, length, drop, IfSome};
+ghost use Rattle.std.specs.Prelude.{◌≡◌, ℕ, ◌+◌, ◌^◌, ◌<◌, ◌≤◌, ◌⊎◌, ◌++◌, List, length, drop, IfSome};
 ghost use Rattle.rtp_vla.specs.Leb.{IsShortest, ReadsLeb, shortest_of};
 ghost use Rattle.rtp_vla.specs.LebPlacing.{placed};
 ghost use Rattle.rtp_vla.specs.LebReading.{leb_number};
@@ -78,7 +78,7 @@ pub(super) fn put_leb(buf: &mut [u8], at: usize, value: u64) -> usize
 /// which 9 bytes suffice: 300 is written as `AC 02`.
 pub fn encode_leb_u63(value: u64, buf: &mut [u8]) -> usize
     requires small { value < 2 ^ 63 }
-    requires room { length (shortest_of value) ≤ length buf.old }
+    requires room { (9 ≤ length buf.old) ⊎ (length (shortest_of value) ≤ length buf.old) }
     ensures written { buf.new ≡ shortest_of value ++ drop result buf.old }
     ensures length { result ≡ length (shortest_of value) }
     ensures shortest { IsShortest value (shortest_of value) }

@@ -31,11 +31,17 @@ fn front(
     let sizes = [told(320, 180, 15), told(640, 360, 30), told(1280, 720, 60)];
     let [first, second, third] = sizes;
     let bytes = WHOLE.get(..len).unwrap_or(&[]);
-    reads(rt, alloc, bytes, 1, &[
-        &[(&six[..2], if resolutions > 0 { first } else { None })],
-        &[(&six[2..4], if resolutions > 1 { second } else { None })],
-        &[(&six[4..], if resolutions > 2 { third } else { None })],
-    ])
+    reads(
+        rt,
+        alloc,
+        bytes,
+        1,
+        &[
+            &[(&six[..2], if resolutions > 0 { first } else { None })],
+            &[(&six[2..4], if resolutions > 1 { second } else { None })],
+            &[(&six[4..], if resolutions > 2 { third } else { None })],
+        ],
+    )
 }
 
 #[test]
@@ -66,7 +72,10 @@ fn unwritable(
     index: u8,
     rows: &[&[Row]],
 ) -> Result<(), AllocError> {
-    assert!(rt; !is_writable(&allocation(alloc, index, rows)?), "{index} {rows:?}");
+    assert!(rt;
+        !is_writable(&allocation(alloc, index, rows)?),
+        "{index} {rows:?}"
+    );
     Ok(())
 }
 
@@ -92,12 +101,16 @@ fn largest(alloc: Global, first: u64) -> Result<VideoLayersAllocation, AllocErro
     let small: Row = (&[16384, 16384, 16384, 16384], told(1, 1, 0));
     let plain: Row = (&[16384, 16384, 16384, 16384], None);
     let lead = [first, 16384, 16384, 16384];
-    allocation(alloc, 0, &[
-        &[(&lead, told(1, 1, 0)), small, small, small],
-        &[small, small, small, small],
-        &[small, small, small, plain],
-        &[plain, plain, plain, plain],
-    ])
+    allocation(
+        alloc,
+        0,
+        &[
+            &[(&lead, told(1, 1, 0)), small, small, small],
+            &[small, small, small, small],
+            &[small, small, small, plain],
+            &[plain, plain, plain, plain],
+        ],
+    )
 }
 
 #[test]
@@ -153,8 +166,16 @@ fn numbers_read(rt: HostRuntime) {
         (&[0x80, 1, 5], 128, 1),
         (&[0x80, 0x80, 1, 5], 16384, 1),
         (&[0x80, 0x80, 0x80, 1, 5], 2097152, 1),
-        (&[0x80, 0x80, 0x80, 0x80, 0x80, 0x80, 0x80, 0x80, 1, 5], 72057594037927936, 1),
-        (&[0x80, 0x80, 0x80, 0x80, 0x80, 0x80, 0x80, 0x80, 0x81, 5], 72057594037927936, 1),
+        (
+            &[0x80, 0x80, 0x80, 0x80, 0x80, 0x80, 0x80, 0x80, 1, 5],
+            72057594037927936,
+            1,
+        ),
+        (
+            &[0x80, 0x80, 0x80, 0x80, 0x80, 0x80, 0x80, 0x80, 0x81, 5],
+            72057594037927936,
+            1,
+        ),
         (&[0x80, 0x80], 0, 2),
         (&[], 0, 0),
     ];

@@ -23,7 +23,8 @@ fn is_active(layer: &SpatialLayerAllocation) -> bool
 
 // The mask of a stream that can be written.
 fn mask_of(layers: &[SpatialLayerAllocation]) -> Option<u8>
-    ensures fits { IfSome result (λ mask. (written.stream_fits layers.now ≡ true) × (mask ≡ mask_of layers.now)) }
+    ensures fits { IfSome result (λ mask. (written.stream_fits layers.now ≡ true)
+        × (mask ≡ mask_of layers.now)) }
     ensures unfit { IfNone result (written.stream_fits layers.now ≡ false) }
     ensures few { IfSome result (λ mask. mask ≤ 15) }
 {
@@ -93,8 +94,8 @@ fn layers_len(mut left: ActiveLayers) -> Option<usize>
     requires { length left ≤ 16 }
     ensures fits { IfSome result (λ len. (written.layers_fit left.entry ≡ true)
         × (len ≡ (length left.entry + 3) / 4
-            + (length (flat_map written.rate_bytes left.entry)
-                + length (flat_map written.resolution_bytes left.entry)))) }
+        + (length (flat_map written.rate_bytes left.entry)
+        + length (flat_map written.resolution_bytes left.entry)))) }
     ensures unfit { IfNone result (written.layers_fit left.entry ≡ false) }
     ensures few { IfSome result (λ len. len ≤ 660) }
 {

@@ -3,21 +3,21 @@
 
 mod active;
 mod allocation;
-mod leb;
 mod layers;
+mod leb;
+#[cfg(test)]
+mod limits;
 mod measuring;
 mod parsing;
 mod parts;
-mod writing;
-#[cfg(test)]
-mod limits;
 #[cfg(test)]
 mod tests;
+mod writing;
 
 pub use allocation::{
     ResolutionAndFramerate, SimulcastStreamAllocation, SpatialLayerAllocation,
     TemporalLayerAllocation, URI, VideoLayersAllocation,
 };
+pub use leb::{encode_leb_u63, parse_leb_u63};
 pub use parsing::parse;
 pub use writing::{is_writable, wire_len, write_to};
-pub use leb::{encode_leb_u63, parse_leb_u63};

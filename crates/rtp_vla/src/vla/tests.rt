@@ -2,8 +2,7 @@
 
 use super::{
     ResolutionAndFramerate, SimulcastStreamAllocation, SpatialLayerAllocation,
-    TemporalLayerAllocation, URI, VideoLayersAllocation, is_writable, parse,
-    wire_len, write_to,
+    TemporalLayerAllocation, URI, VideoLayersAllocation, is_writable, parse, wire_len, write_to,
 };
 use std::alloc::{AllocError, Global};
 use std::process::Abort;
@@ -117,17 +116,22 @@ fn refuses(rt: &impl Abort, alloc: Global, bytes: &[u8]) -> Result<(), AllocErro
 
 #[test]
 fn uri(rt: HostRuntime) {
-    assert_eq!(rt; URI, "http://www.webrtc.org/experiments/rtp-hdrext/video-layers-allocation00");
+    assert_eq!(rt;
+        URI,
+        "http://www.webrtc.org/experiments/rtp-hdrext/video-layers-allocation00"
+    );
 }
 
 #[test]
 fn streams_of_one_layer(rt: HostRuntime) -> Result<(), Fail> {
     let a = rt.alloc();
-    alike(&rt, a, &[0x61, 0x54, 1, 2, 4, 8, 0x10, 0x20], 1, &[
-        &[(&[1, 2], None)],
-        &[(&[4, 8], None)],
-        &[(&[16, 32], None)],
-    ])?;
+    alike(
+        &rt,
+        a,
+        &[0x61, 0x54, 1, 2, 4, 8, 0x10, 0x20],
+        1,
+        &[&[(&[1, 2], None)], &[(&[4, 8], None)], &[(&[16, 32], None)]],
+    )?;
     alike(
         &rt,
         a,
@@ -162,17 +166,29 @@ fn streams_of_one_layer(rt: HostRuntime) -> Result<(), Fail> {
 #[test]
 fn streams_of_several_layers(rt: HostRuntime) -> Result<(), Fail> {
     let a = rt.alloc();
-    alike(&rt, a, &[0x07, 0x54, 0x64, 0x65, 0x6E, 0x6F, 0x78, 0x79], 0, &[&[
-        (&[100, 101], None),
-        (&[110, 111], None),
-        (&[120, 121], None),
-    ]])?;
-    alike(&rt, a, &[0x0B, 0x54, 0x64, 0x65, 0x6E, 0x6F, 0x78, 0x79], 0, &[&[
-        (&[100, 101], None),
-        (&[110, 111], None),
-        (&[], None),
-        (&[120, 121], None),
-    ]])?;
+    alike(
+        &rt,
+        a,
+        &[0x07, 0x54, 0x64, 0x65, 0x6E, 0x6F, 0x78, 0x79],
+        0,
+        &[&[
+            (&[100, 101], None),
+            (&[110, 111], None),
+            (&[120, 121], None),
+        ]],
+    )?;
+    alike(
+        &rt,
+        a,
+        &[0x0B, 0x54, 0x64, 0x65, 0x6E, 0x6F, 0x78, 0x79],
+        0,
+        &[&[
+            (&[100, 101], None),
+            (&[110, 111], None),
+            (&[], None),
+            (&[120, 121], None),
+        ]],
+    )?;
     alike(
         &rt,
         a,
@@ -209,11 +225,17 @@ fn masks_of_each_stream(rt: HostRuntime) -> Result<(), Fail> {
         0,
         &[&[(&[100, 101], told(320, 180, 15))], &[], &[]],
     )?;
-    alike(&rt, a, &[0x60, 0x11, 0x3F, 0x00, 1, 2, 3, 4], 1, &[
-        &[(&[1], None)],
-        &[(&[2], None)],
-        &[(&[3], None), (&[4], None)],
-    ])?;
+    alike(
+        &rt,
+        a,
+        &[0x60, 0x11, 0x3F, 0x00, 1, 2, 3, 4],
+        1,
+        &[
+            &[(&[1], None)],
+            &[(&[2], None)],
+            &[(&[3], None), (&[4], None)],
+        ],
+    )?;
     alike(&rt, a, &[0x40, 0x00], 1, &[&[]])?;
     alike(&rt, a, &[0x60, 0x00, 0x0F], 1, &[&[], &[], &[]])?;
     alike(&rt, a, &[0x00, 0x00], 0, &[&[]])?;
@@ -225,11 +247,13 @@ fn masks_of_each_stream(rt: HostRuntime) -> Result<(), Fail> {
 #[test]
 fn trailing_layers_are_dropped(rt: HostRuntime) -> Result<(), Fail> {
     let a = rt.alloc();
-    writes(&rt, a, &[0x01, 0x00, 0x05], 0, &[&[
-        (&[5], None),
-        (&[], None),
-        (&[], None),
-    ]])?;
+    writes(
+        &rt,
+        a,
+        &[0x01, 0x00, 0x05],
+        0,
+        &[&[(&[5], None), (&[], None), (&[], None)]],
+    )?;
     reads(&rt, a, &[0x01, 0x00, 0x05], 0, &[&[(&[5], None)]])?;
     Ok(())
 }
@@ -242,18 +266,19 @@ fn read_only(rt: HostRuntime) -> Result<(), Fail> {
     refuses(&rt, a, &[0x60, 0x11])?;
     refuses(&rt, a, &[0x01])?;
     refuses(&rt, a, &[0x01, 0x00, 0x05, 0xFF, 0xFF, 0, 0, 0x1E])?;
-    reads(&rt, a, &[0x01, 0x00, 0x80, 0x80, 0x80, 0x80, 0x80], 0, &[&[
-        (&[0], told(32897, 32897, 128)),
-    ]])?;
+    reads(
+        &rt,
+        a,
+        &[0x01, 0x00, 0x80, 0x80, 0x80, 0x80, 0x80],
+        0,
+        &[&[(&[0], told(32897, 32897, 128))]],
+    )?;
     reads(
         &rt,
         a,
         &[17, 111, 7, 0, 15, 92, 4, 255, 2, 207, 30, 7, 127, 4, 55, 30],
         0,
-        &[
-            &[(&[7, 0], told(65283, 53023, 7))],
-            &[(&[15, 92, 4], None)],
-        ],
+        &[&[(&[7, 0], told(65283, 53023, 7))], &[(&[15, 92, 4], None)]],
     )?;
     Ok(())
 }

@@ -1,7 +1,7 @@
-use Rattle.std.proofs.Common.{◌≡◌, ◌++◌, ◌+◌, ℕ, ap, drop, length, sym, ◌∙◌, arith}
+use Rattle.std.proofs.Common.{◌≡◌, ◌++◌, ◌+◌, ℕ, ap, drop, length, sym, ◌∙◌, arith, ⊎_elim}
 use Rattle.rtp_vla.specs.Leb.{shortest_of}
 use Rattle.rtp_vla.proofs.LebPlacingLemmas.{placed-front}
-use Rattle.rtp_vla.proofs.LebLemmas.{IsShortest-shortest_of}
+use Rattle.rtp_vla.proofs.LebLemmas.{IsShortest-shortest_of, length-shortest_of}
 use Rattle.rtp_vla.proofs.vla.leb.encode_leb_u63.Goals as goal
 
 pub returns-clause-written : goal.returns-clause-written
@@ -12,3 +12,7 @@ returns-clause-written c =
 
 pub returns-clause-shortest : goal.returns-clause-shortest
 returns-clause-shortest c = IsShortest-shortest_of c.args.value c.requires.small
+
+pub put_leb-requires-clause-room : goal.put_leb-requires-clause-room
+put_leb-requires-clause-room c =
+    ⊎_elim (λ nine. omega (arith, (length-shortest_of c.args.value c.requires.small).1)) (λ room. omega arith) c.requires.room

@@ -28,7 +28,7 @@ loop-left-preserved c =
     let room : 9 - (l.end - c.args.at) ≡ suc (8 - (l.end - c.args.at)) = omega (arith, l.invariant.few, l.invariant.behind) in
     let next : 9 - (l.end + 1 - c.args.at) ≡ 8 - (l.end - c.args.at) = omega (arith, l.invariant.behind) in
     let more = put_more (8 - (l.end - c.args.at)) l.buf _ _ l.end c.args.at l.left c.loop-left-test.true (rw room at l.invariant.below) (rw room at l.invariant.leaves) in
-    record { leaves = rw next more.0; below = rw next more.1; behind = omega (arith, l.invariant.behind); few = omega (arith, more.2, l.invariant.behind); }
+    record { leaves = rw next more.0; below = rw next more.1; behind = omega (arith, l.invariant.behind); few = omega (arith, more.2, l.invariant.behind) }
 
 pub bounds-buf-end-2 : goal.bounds-buf-end-2
 bounds-buf-end-2 c =

@@ -26,6 +26,6 @@ returns-clause-fits c =
     let masks : c.put_masks_of.new.masks ≡ map mask_of streams = OnTrue_at c.if-not-put_masks_of.false c.put_masks_of.ensures.masks ∙ ap (λ (ss : List Stream). map mask_of ss) c.deref.ensures.value in
     let len : length c.put_masks_of.new.masks ≡ c.len-streams.result = omega (arith, ap length masks, length-map streams mask_of, c.len-streams.ensures, c.v.inside.simulcast_streams.ok.0) in
     let spelled : c.masks_len.result ≡ length (mask_bytes (map mask_of streams)) =
-      c.masks_len.ensures.len ∙ ap (λ (ms : List ℕ). length (mask_bytes ms)) (take_at c.put_masks_of.new.masks _ c.len-streams.result len ∙ masks) in
+    c.masks_len.ensures.len ∙ ap (λ (ms : List ℕ). length (mask_bytes ms)) (take_at c.put_masks_of.new.masks _ c.len-streams.result len ∙ masks) in
     subst (λ (a : Allocation). (can_be_written a ≡ true) × (1 + c.masks_len.result + c.in_ok-layers.layers ≡ length (written_of a))) c.v.view_is
     (measured index streams c.masks_len.result c.in_ok-layers.layers some (omega arith) few fits body.0 spelled body.1)

@@ -43,5 +43,5 @@ returns-then-not-resolutions_fit-clause-refused c =
     cut_resolutions c.args.buf.now c.in-Some.head.now c.in-Some.after.now masks c.in-Some-read_masks.after.now counts rates c.in-Some.ensures.cases.0 (has_masks g.In-Some-read_masks)
     (sym (take-append-drop k c.in-Some-read_masks.after.now) ∙ (λ j. sym split.1 j ++ sym split.2 j)) len
     (λ fit. false≢true (c.if-not-resolutions_fit.ensures.1
-      (subst (λ (bytes : List ℕ). FitResolutions c.active_count-active.result bytes) (sym (c.behind_rates-resolutions.ensures ∙ ap (λ (n : ℕ). after_rates n rates) c.rate_count.ensures))
-        (subst (λ (n : ℕ). FitResolutions n (after_rates (rate_count (take n (quarters counts))) rates)) (sym active) fit))))
+    (subst (λ (bytes : List ℕ). FitResolutions c.active_count-active.result bytes) (sym (c.behind_rates-resolutions.ensures ∙ ap (λ (n : ℕ). after_rates n rates) c.rate_count.ensures))
+    (subst (λ (n : ℕ). FitResolutions n (after_rates (rate_count (take n (quarters counts))) rates)) (sym active) fit))))

@@ -28,7 +28,7 @@ returns-then-is_empty-clause-means c = (written_means c.args.v.now (can_be_writt
 packed : (c : After-deref) → packed_bytes c.v.inside.current_simulcast_stream_index c.deref.result.now ≡ written_of c.args.v.now
 packed c =
     let some : 0 < length c.args.v.now.simulcast_streams =
-      omega (arith, eqb-false _ 0 (sym c.is_empty.ensures ∙ c.if-is_empty.false), c.v.inside.simulcast_streams.ok.0, ap (λ (a : Allocation). length a.simulcast_streams) c.v.view_is) in
+    omega (arith, eqb-false _ 0 (sym c.is_empty.ensures ∙ c.if-is_empty.false), c.v.inside.simulcast_streams.ok.0, ap (λ (a : Allocation). length a.simulcast_streams) c.v.view_is) in
     ap (λ (ss : List Stream). packed_bytes c.v.inside.current_simulcast_stream_index ss) c.deref.ensures.value
     ∙ ap (λ (a : Allocation). packed_bytes a.current_simulcast_stream_index a.simulcast_streams) c.v.view_is
     ∙ sym (written-some c.args.v.now some)

@@ -31,4 +31,4 @@ returns c =
     sym c.self.view_is
     ∙ layers_from-next r.next r.active c.from-rates.result r.counts.now r.rates.now r.resolutions.now c.self.invariant.1 before (c.from-rates.ensures ∙ c.count_at.ensures.count)
     ∙ (λ i. record { temporal_layers = sym read.rates i; resolution_and_framerate = sym told.resolution i }
-      ∷ layers_from (r.next + 1) r.active r.counts.now (sym read.behind i) (sym told.behind i))
+    ∷ layers_from (r.next + 1) r.active r.counts.now (sym read.behind i) (sym told.behind i))
