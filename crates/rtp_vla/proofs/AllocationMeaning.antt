@@ -1,17 +1,16 @@
 -- What the bytes mean is what is read from left to right, and the other way round.
-use Rattle.std.proofs.Common.{◌≡◌, ◌≢◌, ℕ, zero, suc, ◌+◌, ◌-◌, ◌*◌, ◌/◌, ◌%◌, ◌^◌, ◌<◌, ◌≤◌, ◌⊎◌, inl, inr, ⊎_elim, List, [], ◌∷◌, ◌++◌, length, take, drop, get_or, map, Bool, true, false, eqb, None, Some, Option, refl, sym, ap, ◌∙◌, subst, arith, length-append, append_assoc, bit_and}
+use Rattle.std.proofs.Common.{◌≡◌, ℕ, zero, suc, ◌+◌, ◌-◌, ◌*◌, ◌/◌, ◌%◌, ◌^◌, ◌<◌, ◌≤◌, inl, inr, List, [], ◌∷◌, ◌++◌, length, take, get_or, map, Bool, true, false, eqb, None, Some, Option, refl, sym, ap, ◌∙◌, subst, arith, length-append, bit_and}
 use Rattle.std.specs.List.{AllByRecursion, flat_map}
 use Rattle.std.proofs.Math.Nat.{pow-suc}
 use Rattle.std.proofs.lemmas.Bool.{eqb-false}
 use Rattle.std.proofs.lemmas.Nat.{and_mask}
-use Rattle.std.proofs.lemmas.List.{length-take-le, length-map, take_all, length-drop}
+use Rattle.std.proofs.lemmas.List.{length-take-le, length-map, take_all}
 use Rattle.rtp_vla.specs.declared.vla.allocation.ResolutionAndFramerate.{ResolutionAndFramerate}
-use Rattle.rtp_vla.specs.Leb.{ReadsLeb}
-use Rattle.rtp_vla.specs.LebReading.{leb_value, leb_rest}
-use Rattle.rtp_vla.specs.Allocation.{Layer, Stream, Allocation, is_active, active_layers, mask_of, count_of, AreHalves, AreMasks, AreQuarters, AreRates, AreResolutions, IsResolution, IsReadable, IsCounted, IsPacked, Means, nothing_sent}
+use Rattle.rtp_vla.specs.LebReading.{leb_rest}
+use Rattle.rtp_vla.specs.Allocation.{Layer, Stream, Allocation, active_layers, mask_of, count_of, AreHalves, AreMasks, AreQuarters, AreRates, AreResolutions, IsReadable, IsCounted, IsPacked, Means}
 use Rattle.rtp_vla.specs.AllocationReading.{halves, quarters, bits_of, marks_of, marked, active_in, active_count, dealt_streams, rates_of, after_rates, resolution_in, after_resolution, FitResolutions, layers_read, rate_count, HasMasks, LacksMasks, IsLaidOut, IsCutShort}
 use Rattle.rtp_vla.proofs.LebLemmas.{ReadsLeb-read, read-ReadsLeb}
-use Rattle.rtp_vla.proofs.AllocationReadingLemmas.{length-quarters, length-layers_read, FitResolutions-short, bits_of-above}
+use Rattle.rtp_vla.proofs.AllocationReadingLemmas.{length-quarters, length-layers_read, bits_of-above}
 use Rattle.rtp_vla.proofs.AllocationDealing.{AllActive, AllActive-active_layers, masks-dealt_streams, active-dealt_streams, length-dealt_streams, dealt_streams-back}
 
 -- ---- Lists

@@ -8,7 +8,7 @@ use Rattle.std.proofs.lemmas.Nat.{and_mask}
 use Rattle.std.specs.Int.Count.{ones}
 use Rattle.rtp_vla.specs.LebReading.{leb_value, leb_rest}
 use Rattle.rtp_vla.specs.AllocationReading.{halves, quarters, bits_of, marks_of, marked, active_in, idle_layer, dealt, Deals, DealsOn, rates_of, after_rates, resolution_in, after_resolution, FitResolutions, layers_read, rate_count}
-use Rattle.rtp_vla.specs.Allocation.{Layer, Stream}
+use Rattle.rtp_vla.specs.Allocation.{Layer}
 
 -- ---- Masks and counts
 

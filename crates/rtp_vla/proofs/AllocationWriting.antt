@@ -1,16 +1,16 @@
 -- What is written means the allocation without its trailing bare layers, and what can be written is what some bytes mean.
-use Rattle.std.proofs.Common.{◌≡◌, ◌≢◌, ℕ, zero, suc, ◌+◌, ◌-◌, ◌*◌, ◌/◌, ◌%◌, ◌<◌, ◌≤◌, ◌&&◌, ◌||◌, ◌⊎◌, inl, inr, ⊎_elim, List, [], ◌∷◌, ◌++◌, length, map, Bool, true, false, not, cond, eqb, leb, ltb, None, Some, Option, refl, sym, ap, ◌∙◌, subst, arith, length-append, append_assoc}
+use Rattle.std.proofs.Common.{◌≡◌, ℕ, ◌+◌, ◌-◌, ◌*◌, ◌<◌, ◌≤◌, ◌&&◌, ◌||◌, inl, inr, ⊎_elim, List, [], ◌∷◌, ◌++◌, length, map, Bool, true, false, not, cond, eqb, leb, ltb, None, Some, Option, refl, sym, ap, ◌∙◌, subst, arith, append_assoc}
 use Rattle.std.specs.Option.{is_none, is_some, IfSome, IfNone, unwrap_or}
 use Rattle.std.specs.List.{AllByRecursion, filter, flat_map, list_all}
-use Rattle.std.proofs.lemmas.Bool.{and_parts, and_from, le-leb, lt-ltb, leb-true, ltb-true, eq-eqb, eqb-true, cases_eq, ne_eqb, false≢true, cases_Bool, or_from, or_cases, or_right, or_left}
+use Rattle.std.proofs.lemmas.Bool.{and_parts, and_from, le-leb, lt-ltb, leb-true, ltb-true, eq-eqb, eqb-true, cases_eq, ne_eqb, false≢true, cases_Bool, or_right, or_left}
 use Rattle.std.proofs.lemmas.List.{length-map, nil_from_length}
 use Rattle.rtp_vla.specs.declared.vla.allocation.ResolutionAndFramerate.{ResolutionAndFramerate}
 use Rattle.rtp_vla.specs.Leb.{ReadsLeb, spelled, unspelled, shortest_of}
-use Rattle.rtp_vla.specs.Allocation.{Layer, Stream, Allocation, is_active, active_layers, mask_of, count_of, EndsActive, IsBareUnlessActive, AreHalves, AreMasks, AreQuarters, AreRates, AreResolutions, IsReadable, IsCounted, IsPacked, Means, nothing_sent}
-use Rattle.rtp_vla.specs.AllocationWritten.{is_bare, in_front_of, without_bare_tail, trimmed, Writable, bare_or_active, stream_fits, rates_fit, told_fits, resolutions_in_front, layers_fit, streams_fit, can_be_written, shared_of, halves_of, mask_bytes, quarters_of, rate_bytes, told_bytes, resolution_bytes, packed_bytes, streams_bytes, written_of}
+use Rattle.rtp_vla.specs.Allocation.{Layer, Stream, Allocation, is_active, active_layers, mask_of, count_of, EndsActive, IsBareUnlessActive, AreHalves, AreMasks, AreQuarters, AreRates, AreResolutions, IsReadable, IsCounted, IsPacked, Means}
+use Rattle.rtp_vla.specs.AllocationWritten.{in_front_of, without_bare_tail, trimmed, Writable, bare_or_active, stream_fits, rates_fit, told_fits, resolutions_in_front, layers_fit, streams_fit, can_be_written, shared_of, halves_of, mask_bytes, quarters_of, rate_bytes, told_bytes, resolution_bytes, packed_bytes, streams_bytes, written_of}
 use Rattle.rtp_vla.specs.AllocationPutting.{HasSmallRates, IsTold, HasTold}
 use Rattle.rtp_vla.proofs.LebLemmas.{IsShortest-shortest_of, shortest_of-bytes, read_below}
-use Rattle.rtp_vla.proofs.AllocationMeaning.{AreBytes, AreBytes-parts, AreResolutions-short}
+use Rattle.rtp_vla.proofs.AllocationMeaning.{AreBytes, AreBytes-parts}
 use Rattle.rtp_vla.proofs.AllocationWritingLemmas.{written-bytes, streams_bytes-some}
 
 -- ---- Trimming leaves the masks and the active layers

@@ -1,5 +1,5 @@
 -- What is measured and written of an allocation, part by part.
-use Rattle.std.proofs.Common.{◌≡◌, ℕ, zero, suc, ◌+◌, ◌-◌, ◌*◌, ◌/◌, ◌^◌, ◌<◌, ◌≤◌, ◌&&◌, ⊎_elim, cond, map, List, [], ◌∷◌, ◌++◌, length, take, drop, get_or, Bool, true, false, leb, refl, sym, ap, ◌∙◌, subst, arith, length-append}
+use Rattle.std.proofs.Common.{◌≡◌, ℕ, zero, suc, ◌+◌, ◌*◌, ◌/◌, ◌^◌, ◌<◌, ◌≤◌, ⊎_elim, cond, map, List, [], ◌∷◌, ◌++◌, length, take, drop, get_or, Bool, true, false, leb, refl, sym, ap, ◌∙◌, subst, arith, length-append}
 use Rattle.std.specs.List.{AllByRecursion, flat_map, list_all, filter}
 use Rattle.std.proofs.Math.Nat.{pow-suc, pow-le-pow_right}
 use Rattle.std.proofs.lemmas.Bool.{lt-leb, and_left, and_parts, leb-true, eq-eqb, ne_eqb, le-leb, and_from, cases_lt}

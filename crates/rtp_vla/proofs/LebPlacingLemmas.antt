@@ -1,6 +1,6 @@
 -- Bytes that are put into a buffer one behind the other.
-use Rattle.std.proofs.Common.{◌≡◌, ℕ, ◌+◌, ◌-◌, ◌*◌, ◌<◌, ◌≤◌, List, [], ◌∷◌, ◌++◌, length, take, drop, get_or, set, refl, sym, ap, ◌∙◌, arith, append_assoc, length-append, length-take-le, length-drop, take_at, drop_at, add-zero, zero-add}
-use Rattle.std.proofs.lemmas.List.{append-nil, take-append-drop, drop-drop, take_more_set, drop-set-lt, length-set}
+use Rattle.std.proofs.Common.{◌≡◌, ℕ, ◌+◌, ◌-◌, ◌<◌, ◌≤◌, List, [], ◌∷◌, ◌++◌, length, take, drop, set, refl, sym, ap, ◌∙◌, arith, append_assoc, length-append, length-take-le, length-drop, take_at, drop_at, add-zero, zero-add}
+use Rattle.std.proofs.lemmas.List.{take-append-drop, drop-drop, take_more_set, drop-set-lt, length-set}
 use Rattle.rtp_vla.specs.LebPlacing.{placed, Leaves}
 
 -- what `copy_from_slice` into a part leaves

@@ -1,4 +1,4 @@
-use Rattle.std.proofs.Common.{◌≡◌, ◌++◌, ◌+◌, ℕ, ap, drop, length, sym, ◌∙◌, arith, ⊎_elim}
+use Rattle.std.proofs.Common.{◌≡◌, ◌++◌, ℕ, ap, drop, length, sym, ◌∙◌, arith, ⊎_elim}
 use Rattle.rtp_vla.specs.Leb.{shortest_of}
 use Rattle.rtp_vla.proofs.LebPlacingLemmas.{placed-front}
 use Rattle.rtp_vla.proofs.LebLemmas.{IsShortest-shortest_of, length-shortest_of}

@@ -1,4 +1,4 @@
-use Rattle.std.proofs.Common.{arith, sym, ◌∙◌, Some, None}
+use Rattle.std.proofs.Common.{sym, ◌∙◌, None}
 use Rattle.std.proofs.lemmas.List.{take_rest}
 use Rattle.rtp_vla.proofs.LebLemmas.{ReadsLeb-value, reads_only, read_below}
 use Rattle.rtp_vla.proofs.vla.leb.parse_leb_u63.Goals as goal

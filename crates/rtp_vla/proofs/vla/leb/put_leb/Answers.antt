@@ -1,6 +1,4 @@
-use Rattle.std.proofs.Common.{◌≡◌, ◌-◌, ◌+◌, ◌<◌, ◌^◌, ℕ, suc, ap, sym, subst, arith, length}
-use Rattle.rtp_vla.specs.Leb.{leb_of}
-use Rattle.rtp_vla.specs.LebPlacing.{Leaves}
+use Rattle.std.proofs.Common.{◌≡◌, ◌-◌, ◌+◌, suc, arith}
 use Rattle.rtp_vla.proofs.LebPlacingLemmas.{Leaves-start}
 use Rattle.rtp_vla.proofs.LebLemmas.{shortest-leb_of, put_more, put_last, put_within}
 use Rattle.rtp_vla.proofs.vla.leb.put_leb.Goals as goal

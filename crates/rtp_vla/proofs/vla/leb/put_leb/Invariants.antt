@@ -1,4 +1,4 @@
-use Rattle.std.proofs.Common.{◌≡◌, ◌+◌, ◌-◌, ◌^◌, ◌<◌, ◌≤◌, length}
+use Rattle.std.proofs.Common.{◌+◌, ◌-◌, ◌^◌, ◌<◌, ◌≤◌}
 use Rattle.rtp_vla.specs.Leb.{leb_of, shortest_of}
 use Rattle.rtp_vla.specs.LebPlacing.{Leaves}
 use Rattle.rtp_vla.proofs.vla.leb.put_leb.Given as goal

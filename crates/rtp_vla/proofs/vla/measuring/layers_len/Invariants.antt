@@ -1,4 +1,4 @@
-use Rattle.std.proofs.Common.{◌≡◌, ◌≤◌, ◌+◌, ◌*◌, ◌&&◌, length}
+use Rattle.std.proofs.Common.{◌≡◌, ◌≤◌, ◌+◌, ◌*◌, length}
 use Rattle.std.specs.List.{list_all, flat_map}
 use Rattle.rtp_vla.specs.AllocationWritten.{rates_fit, resolutions_in_front, rate_bytes, resolution_bytes}
 use Rattle.rtp_vla.proofs.vla.measuring.layers_len.Given as goal

@@ -1,6 +1,5 @@
 use Rattle.rtp_vla.proofs.AllocationReadingLemmas.{after_rates-more}
 use Rattle.rtp_vla.proofs.LebLemmas.{ReadsLeb-read}
-use Rattle.std.proofs.Common.{sym}
 use Rattle.rtp_vla.proofs.vla.parts.behind_rates.Goals as goal
 
 pub loop-i-preserved : goal.loop-i-preserved

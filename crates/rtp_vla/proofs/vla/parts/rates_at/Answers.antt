@@ -1,4 +1,3 @@
-use Rattle.std.proofs.Common.{◌≡◌}
 use Rattle.rtp_vla.proofs.AllocationReadingLemmas.{after_rates-more, rates_of-more}
 use Rattle.rtp_vla.proofs.LebLemmas.{ReadsLeb-read}
 use Rattle.rtp_vla.proofs.vla.parts.rates_at.Goals as goal

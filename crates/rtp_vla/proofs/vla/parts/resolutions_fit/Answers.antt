@@ -1,4 +1,4 @@
-use Rattle.std.proofs.Common.{◌≡◌, ◌≤◌, length, refl, arith}
+use Rattle.std.proofs.Common.{◌≤◌, length, refl, arith}
 use Rattle.std.proofs.lemmas.Bool.{false≢true}
 use Rattle.rtp_vla.proofs.AllocationReadingLemmas.{FitResolutions-short, fits_first, fits_left}
 use Rattle.rtp_vla.proofs.vla.parts.resolutions_fit.Goals as goal

@@ -1,4 +1,4 @@
-use Rattle.std.proofs.Common.{◌≡◌, ◌∷◌, [], ◌+◌, ◌*◌, ◌∙◌, ap, List, ℕ, length, arith, map}
+use Rattle.std.proofs.Common.{◌≡◌, [], ap, List, length, arith, map}
 use Rattle.rtp_vla.specs.Allocation.{Layer, count_of}
 use Rattle.rtp_vla.specs.AllocationWritten.{quarters_of}
 use Rattle.rtp_vla.proofs.LebPlacingLemmas.{Leaves-byte, Leaves-end}

@@ -1,4 +1,4 @@
-use Rattle.std.proofs.Common.{◌≡◌, length, sym, ap, arith}
+use Rattle.std.proofs.Common.{◌≡◌, length, sym, arith}
 use Rattle.std.proofs.lemmas.List.{nil_from_length}
 use Rattle.rtp_vla.proofs.LebPlacingLemmas.{placed-nil}
 use Rattle.rtp_vla.proofs.AllocationWritingLemmas.{halves_two, halves_three, halves_four, length-halves_of}

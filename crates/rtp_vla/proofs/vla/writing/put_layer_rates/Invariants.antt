@@ -1,5 +1,5 @@
 use Rattle.std.proofs.Common.{drop}
-use Rattle.std.specs.List.{AllByRecursion, flat_map}
+use Rattle.std.specs.List.{flat_map}
 use Rattle.rtp_vla.specs.Leb.{shortest_of}
 use Rattle.rtp_vla.specs.LebPlacing.{Leaves}
 use Rattle.rtp_vla.proofs.vla.writing.put_layer_rates.Given as goal

@@ -1,6 +1,5 @@
-use Rattle.std.proofs.Common.{◌≡◌, ◌++◌, ◌∷◌, [], ◌∙◌, ap, List, ℕ, ◌+◌, length}
+use Rattle.std.proofs.Common.{◌≡◌, ◌++◌, [], ◌∙◌, ap, List, ℕ, ◌+◌, length}
 use Rattle.std.specs.List.{flat_map}
-use Rattle.rtp_vla.specs.Allocation.{Layer}
 use Rattle.rtp_vla.specs.AllocationWritten.{rate_bytes}
 use Rattle.rtp_vla.specs.Leb.{shortest_of}
 use Rattle.rtp_vla.specs.LebPlacing.{placed}

@@ -1,12 +1,11 @@
-use Rattle.std.proofs.Common.{◌≡◌, ◌≤◌, ◌++◌, ◌+◌, ◌-◌, ◌*◌, ◌∷◌, [], ◌∙◌, ap, sym, subst, arith, length, map, List, ℕ, true}
-use Rattle.std.specs.Bool.{IsTrue}
+use Rattle.std.proofs.Common.{◌≡◌, ◌≤◌, ◌+◌, ◌-◌, ◌*◌, ◌∷◌, [], ◌∙◌, ap, sym, subst, arith, length, map, List, ℕ}
 use Rattle.std.specs.List.{AllByRecursion, flat_map}
 use Rattle.std.proofs.lemmas.Bool.{OnTrue_at}
 use Rattle.rtp_vla.specs.Allocation.{Layer, IsCounted, active_layers, mask_of, count_of}
 use Rattle.rtp_vla.specs.AllocationPutting.{HasSmallRates, HasTold}
 use Rattle.rtp_vla.specs.AllocationWritten.{shared_of, mask_bytes, quarters_of, rate_bytes, resolution_bytes, packed_bytes}
 use Rattle.rtp_vla.specs.LebPlacing.{placed}
-use Rattle.rtp_vla.proofs.AllocationWriting.{CanPut, can_put}
+use Rattle.rtp_vla.proofs.AllocationWriting.{can_put}
 use Rattle.rtp_vla.proofs.AllocationWritingLemmas.{length-packed_bytes, length-quarters_of}
 use Rattle.std.proofs.lemmas.List.{length-map}
 use Rattle.rtp_vla.proofs.LebPlacingLemmas.{placed-five}

@@ -1,4 +1,4 @@
-use Rattle.std.proofs.Common.{◌≡◌, ◌<◌, ◌-◌, ◌+◌, suc, sym, ◌∙◌, subst, ap, List, ℕ, length, arith, ◌∷◌}
+use Rattle.std.proofs.Common.{◌≡◌, ◌<◌, ◌-◌, ◌+◌, suc, sym, ◌∙◌, subst, ap, ℕ, length, arith, ◌∷◌}
 use Rattle.rtp_vla.specs.AllocationReading.{FitResolutions}
 use Rattle.rtp_vla.proofs.AllocationReadingLemmas.{layers_from, left_to_read, layers_from-next, FitResolutions-next}
 use Rattle.rtp_vla.proofs.vla.layers.LayerReader.next.Goals as goal
