@@ -1,0 +1,215 @@
+-- The parts of an allocation, read one after another.
+use Rattle.std.proofs.Common.{◌≡◌, ℕ, zero, suc, ◌+◌, ◌-◌, ◌*◌, ◌/◌, ◌%◌, ◌^◌, ◌<◌, ◌≤◌, ◌&&◌, ◌↔◌, ◌⊎◌, inl, inr, ⊎_elim, List, [], ◌∷◌, ◌++◌, length, take, drop, get_or, Bool, true, false, leb, eqb, refl, sym, ap, ◌∙◌, subst, arith, bit_and, add-one}
+use Rattle.std.specs.Bool.{OnTrue}
+use Rattle.std.proofs.Math.Nat.{pow-suc}
+use Rattle.std.proofs.lemmas.Bool.{agree_below_at, and_parts, eqb-true, leb-true, ne_eqb}
+use Rattle.std.proofs.lemmas.List.{take_more, drop_more, append_assoc, append-nil, length-drop, length-take-le, get_or-take}
+use Rattle.std.proofs.lemmas.Nat.{and_mask}
+use Rattle.std.specs.Int.Count.{ones}
+use Rattle.rtp_vla.specs.LebReading.{leb_value, leb_rest}
+use Rattle.rtp_vla.specs.AllocationReading.{halves, quarters, bits_of, marks_of, marked, active_in, idle_layer, dealt, Deals, DealsOn, rates_of, after_rates, resolution_in, after_resolution, FitResolutions, layers_read, rate_count}
+use Rattle.rtp_vla.specs.Allocation.{Layer}
+
+-- ---- Masks and counts
+
+agrees : (mask : ℕ) → mask ≤ 15 → (eqb (ones mask) (active_in mask) && leb (ones mask) 4) ≡ true
+unfolding marks_of ones
+agrees mask few = agree_below_at (λ m. eqb (ones m) (active_in m) && leb (ones m) 4) (λ m. true) 16 mask refl (omega arith)
+
+pub ones-active_in : (mask : ℕ) → mask ≤ 15 → (ones mask ≡ active_in mask) × (ones mask ≤ 4)
+ones-active_in mask few =
+    let parts = and_parts (eqb (ones mask) (active_in mask)) (leb (ones mask) 4) (agrees mask few) in
+    (eqb-true _ _ parts.0, leb-true _ _ parts.1)
+
+get_or-quarters : (bytes : List ℕ) (i : ℕ) → i < 4 * length bytes → get_or (quarters bytes) i 0 ≡ get_or bytes (i / 4) 0 / 2 ^ (6 - 2 * (i % 4)) % 4
+get_or-quarters [] i within = absurd (omega arith)
+get_or-quarters (byte ∷ bytes) zero within = refl
+get_or-quarters (byte ∷ bytes) (suc zero) within = refl
+get_or-quarters (byte ∷ bytes) (suc (suc zero)) within = refl
+get_or-quarters (byte ∷ bytes) (suc (suc (suc zero))) within = ap (λ (n : ℕ). n % 4) (omega arith)
+get_or-quarters (byte ∷ bytes) (suc (suc (suc (suc i)))) within =
+    let row : suc (suc (suc (suc i))) / 4 ≡ suc (i / 4) = omega arith in
+    let column : suc (suc (suc (suc i))) % 4 ≡ i % 4 = omega arith in
+    get_or-quarters bytes i (omega arith)
+    ∙ ap (λ (k : ℕ). get_or (byte ∷ bytes) k 0 / 2 ^ (6 - 2 * (i % 4)) % 4) (sym row)
+    ∙ ap (λ (k : ℕ). get_or (byte ∷ bytes) (suc (suc (suc (suc i))) / 4) 0 / 2 ^ (6 - 2 * k) % 4) (sym column)
+
+pub count_read : (bytes : List ℕ) (i : ℕ) → i < 4 * length bytes → bit_and (get_or bytes (i / 4) 0 / 2 ^ (6 - 2 * (i % 4))) 3 ≡ get_or (quarters bytes) i 0
+count_read bytes i within = and_mask (get_or bytes (i / 4) 0 / 2 ^ (6 - 2 * (i % 4))) 2 ∙ sym (get_or-quarters bytes i within)
+
+get_or-halves : (bytes : List ℕ) (i : ℕ) → i < 2 * length bytes → get_or (halves bytes) i 0 ≡ get_or bytes (i / 2) 0 / 2 ^ (4 - 4 * (i % 2)) % 16
+get_or-halves [] i within = absurd (omega arith)
+get_or-halves (byte ∷ bytes) zero within = refl
+get_or-halves (byte ∷ bytes) (suc zero) within = ap (λ (n : ℕ). n % 16) (omega arith)
+get_or-halves (byte ∷ bytes) (suc (suc i)) within =
+    let row : suc (suc i) / 2 ≡ suc (i / 2) = omega arith in
+    let column : suc (suc i) % 2 ≡ i % 2 = omega arith in
+    get_or-halves bytes i (omega arith)
+    ∙ ap (λ (k : ℕ). get_or (byte ∷ bytes) k 0 / 2 ^ (4 - 4 * (i % 2)) % 16) (sym row)
+    ∙ ap (λ (k : ℕ). get_or (byte ∷ bytes) (suc (suc i) / 2) 0 / 2 ^ (4 - 4 * k) % 16) (sym column)
+
+pub half_read : (bytes : List ℕ) (i : ℕ) → i < 2 * length bytes → bit_and (get_or bytes (i / 2) 0 / 2 ^ (4 - 4 * (i % 2))) 15 ≡ get_or (halves bytes) i 0
+half_read bytes i within = and_mask (get_or bytes (i / 2) 0 / 2 ^ (4 - 4 * (i % 2))) 4 ∙ sym (get_or-halves bytes i within)
+
+pub length-halves : (bytes : List ℕ) → length (halves bytes) ≡ 2 * length bytes
+length-halves [] = refl
+length-halves (byte ∷ bytes) = omega (arith, length-halves bytes)
+
+pub length-quarters : (bytes : List ℕ) → length (quarters bytes) ≡ 4 * length bytes
+length-quarters [] = refl
+length-quarters (byte ∷ bytes) = omega (arith, length-quarters bytes)
+
+pub rate_count-append : (xs ys : List ℕ) → rate_count (xs ++ ys) ≡ rate_count xs + rate_count ys
+rate_count-append [] ys = omega arith
+rate_count-append (x ∷ xs) ys = omega (arith, rate_count-append xs ys)
+
+pub rate_count-more : (xs : List ℕ) (i : ℕ) → i < length xs → rate_count (take (i + 1) xs) ≡ rate_count (take i xs) + (get_or xs i 0 + 1)
+rate_count-more xs i within = ap rate_count (take_more xs i 0 within) ∙ rate_count-append (take i xs) (get_or xs i 0 ∷ []) ∙ omega arith
+
+-- ---- Rates
+
+one_less : (count i : ℕ) → i < count → count - i ≡ suc (count - (i + 1))
+one_less count i within = omega arith
+
+pub after_rates-more : (count i : ℕ) (bytes next all : List ℕ) → i < count → next ≡ leb_rest bytes → after_rates (count - i) bytes ≡ all → after_rates (count - (i + 1)) next ≡ all
+after_rates-more count i bytes next all within is so_far =
+    ap (after_rates (count - (i + 1))) is ∙ ap (λ (n : ℕ). after_rates n bytes) (sym (one_less count i within)) ∙ so_far
+
+pub rates_of-more : (count i rate : ℕ) (rates bytes next all : List ℕ) → i < count → rate ≡ leb_value bytes → next ≡ leb_rest bytes → rates ++ rates_of (count - i) bytes ≡ all
+    → (rates ++ rate ∷ []) ++ rates_of (count - (i + 1)) next ≡ all
+rates_of-more count i rate rates bytes next all within rate-is is so_far =
+    append_assoc rates (rate ∷ []) (rates_of (count - (i + 1)) next)
+    ∙ ap (λ (r : ℕ). rates ++ r ∷ rates_of (count - (i + 1)) next) rate-is
+    ∙ ap (λ (bs : List ℕ). rates ++ leb_value bytes ∷ rates_of (count - (i + 1)) bs) is
+    ∙ ap (λ (n : ℕ). rates ++ rates_of n bytes) (sym (one_less count i within)) ∙ so_far
+
+-- ---- Resolutions
+
+pub FitResolutions-short : (count : ℕ) (bytes : List ℕ) → length bytes < 5 → FitResolutions count bytes
+FitResolutions-short zero bytes short = tt
+FitResolutions-short (suc count) [] short = tt
+FitResolutions-short (suc count) (x ∷ []) short = tt
+FitResolutions-short (suc count) (x ∷ y ∷ []) short = tt
+FitResolutions-short (suc count) (x ∷ y ∷ z ∷ []) short = tt
+FitResolutions-short (suc count) (x ∷ y ∷ z ∷ u ∷ []) short = tt
+FitResolutions-short (suc count) (x ∷ y ∷ z ∷ u ∷ v ∷ bytes) short = absurd (omega arith)
+
+-- the first of them and the others
+abbrev FitsFirst : ℕ → List ℕ → List ℕ → Type 0
+FitsFirst count field next = (256 * get_or field 0 0 + get_or field 1 0 < 65535) × (256 * get_or field 2 0 + get_or field 3 0 < 65535) × FitResolutions count next
+
+pub fits_first : (count : ℕ) (bytes field next : List ℕ) → field ≡ take 5 bytes → next ≡ drop 5 bytes → 5 ≤ length bytes → FitResolutions (suc count) bytes ↔ FitsFirst count field next
+fits_first count [] field next f n long = absurd (omega arith)
+fits_first count (x ∷ []) field next f n long = absurd (omega arith)
+fits_first count (x ∷ y ∷ []) field next f n long = absurd (omega arith)
+fits_first count (x ∷ y ∷ z ∷ []) field next f n long = absurd (omega arith)
+fits_first count (x ∷ y ∷ z ∷ u ∷ []) field next f n long = absurd (omega arith)
+fits_first count (x ∷ y ∷ z ∷ u ∷ v ∷ bytes) field next f n long = (
+  λ h. subst (λ (xs : List ℕ). FitsFirst count xs next) (sym f) (subst (λ (xs : List ℕ). FitsFirst count (x ∷ y ∷ z ∷ u ∷ v ∷ []) xs) (sym n) h),
+  λ h. subst (λ (xs : List ℕ). FitsFirst count (x ∷ y ∷ z ∷ u ∷ v ∷ []) xs) n (subst (λ (xs : List ℕ). FitsFirst count xs next) f h),
+)
+
+pub fits_left : (count i : ℕ) (bytes : List ℕ) (All : Type 0) → i < count → (FitResolutions (count - i) bytes ↔ All) → (FitResolutions (suc (count - (i + 1))) bytes ↔ All)
+fits_left count i bytes All within h = subst (λ (n : ℕ). FitResolutions n bytes ↔ All) (one_less count i within) h
+
+-- ---- One layer after another
+
+pub length-layers_read : (counts rates resolutions : List ℕ) → length (layers_read counts rates resolutions) ≡ length counts
+length-layers_read [] rates resolutions = refl
+length-layers_read (count ∷ counts) rates resolutions = ap suc (length-layers_read counts (after_rates (suc count) rates) (after_resolution resolutions))
+
+pub FitResolutions-next : (count : ℕ) (bytes : List ℕ) → FitResolutions (suc count) bytes → FitResolutions 1 bytes × FitResolutions count (after_resolution bytes)
+FitResolutions-next count [] fit = (tt, FitResolutions-short count [] (omega arith))
+FitResolutions-next count (x ∷ []) fit = (tt, FitResolutions-short count (x ∷ []) (omega arith))
+FitResolutions-next count (x ∷ y ∷ []) fit = (tt, FitResolutions-short count (x ∷ y ∷ []) (omega arith))
+FitResolutions-next count (x ∷ y ∷ z ∷ []) fit = (tt, FitResolutions-short count (x ∷ y ∷ z ∷ []) (omega arith))
+FitResolutions-next count (x ∷ y ∷ z ∷ u ∷ []) fit = (tt, FitResolutions-short count (x ∷ y ∷ z ∷ u ∷ []) (omega arith))
+FitResolutions-next count (x ∷ y ∷ z ∷ u ∷ v ∷ bytes) fit = ((fit.0, fit.1, tt), fit.2)
+
+-- the layers behind so many counts, of so many
+abbrev pub layers_from : ℕ → ℕ → List ℕ → List ℕ → List ℕ → List Layer
+layers_from next active counts rates resolutions = layers_read (drop next (take active (quarters counts))) rates resolutions
+
+pub left_to_read : (next active : ℕ) (counts rates resolutions : List ℕ) → active ≤ 4 * length counts → length (layers_from next active counts rates resolutions) ≡ active - next
+left_to_read next active counts rates resolutions within =
+    length-layers_read (drop next (take active (quarters counts))) rates resolutions
+    ∙ length-drop next (take active (quarters counts)) ∙ ap (λ (n : ℕ). n - next) (length-take-le active (quarters counts) (omega (arith, length-quarters counts)))
+
+pub layers_from-next : (next active count : ℕ) (counts rates resolutions : List ℕ) → active ≤ 4 * length counts → next < active → count ≡ get_or (quarters counts) next 0
+    → layers_from next active counts rates resolutions
+    ≡ record { temporal_layers = rates_of (count + 1) rates; resolution_and_framerate = resolution_in resolutions }
+    ∷ layers_from (next + 1) active counts (after_rates (count + 1) rates) (after_resolution resolutions)
+layers_from-next next active count counts rates resolutions within before is =
+    let len : length (take active (quarters counts)) ≡ active = length-take-le active (quarters counts) (omega (arith, length-quarters counts)) in
+    let first : get_or (take active (quarters counts)) next 0 ≡ count = get_or-take active (quarters counts) next 0 before ∙ sym is in
+    let split : drop next (take active (quarters counts)) ≡ count ∷ drop (next + 1) (take active (quarters counts)) =
+    drop_more (take active (quarters counts)) next 0 (omega arith) ∙ ap (λ (n : ℕ). n ∷ drop (next + 1) (take active (quarters counts))) first in
+    ap (λ (cs : List ℕ). layers_read cs rates resolutions) split
+    ∙ ap (λ (n : ℕ). record { temporal_layers = rates_of n rates; resolution_and_framerate = resolution_in resolutions }
+    ∷ layers_from (next + 1) active counts (after_rates n rates) (after_resolution resolutions)) (sym (add-one count))
+
+-- ---- Layers dealt by a mask
+
+pub zero_or_more : (n : ℕ) → (n ≡ 0) ⊎ (0 < n)
+zero_or_more zero = inl refl
+zero_or_more (suc n) = inr (omega arith)
+
+pub bits_of-zero : (room : ℕ) → bits_of room 0 ≡ []
+bits_of-zero zero = refl
+bits_of-zero (suc room) = refl
+
+pub bits_of-above : (room mask : ℕ) → 0 < mask → bits_of (suc room) mask ≡ eqb (mask % 2) 1 ∷ bits_of room (mask / 2)
+bits_of-above room mask some = rw (ne_eqb mask 0 (λ none. absurd (omega arith))) refl
+
+bits_of-room : (room mask : ℕ) → mask < 2 ^ room → bits_of (suc room) mask ≡ bits_of room mask
+bits_of-room zero mask below =
+    let none : mask ≡ 0 = omega arith in
+    ap (bits_of 1) none
+bits_of-room (suc room) mask below =
+    ⊎_elim
+    (λ none. ap (bits_of (suc (suc room))) none ∙ ap (bits_of (suc room)) (sym none))
+    (λ some.
+    bits_of-above (suc room) mask some
+    ∙ ap (λ (bits : List Bool). eqb (mask % 2) 1 ∷ bits) (bits_of-room room (mask / 2) (omega (arith, pow-suc 2 room)))
+    ∙ sym (bits_of-above room mask some))
+    (zero_or_more mask)
+
+pub marks_of-none : marks_of 0 ≡ []
+unfolding marks_of
+marks_of-none = refl
+
+pub marks_of-more : (mask : ℕ) → mask ≤ 15 → 0 < mask → marks_of mask ≡ eqb (mask % 2) 1 ∷ marks_of (mask / 2)
+unfolding marks_of
+marks_of-more mask few some =
+    bits_of-above 3 mask some ∙ ap (λ (bits : List Bool). eqb (mask % 2) 1 ∷ bits) (sym (bits_of-room 3 (mask / 2) (omega arith)))
+
+deals_one : (marks : List Bool) (b : Bool) (items old new all rest : List Layer) (layer : Layer) → Deals b old layer new → DealsOn items (b ∷ marks) old all rest
+    → DealsOn (items ++ layer ∷ []) marks new all rest
+deals_one marks true items old new all rest layer is h = record {
+  stream = append_assoc items (layer ∷ []) (dealt marks new) ∙ ap (λ (xs : List Layer). items ++ dealt (true ∷ marks) xs) (sym is) ∙ h.stream;
+  others = ap (drop (suc (marked marks))) (sym is) ∙ h.others;
+  enough = omega (arith, h.enough, ap length is);
+}
+deals_one marks false items old new all rest layer (idle, same) h = record {
+  stream = append_assoc items (layer ∷ []) (dealt marks new) ∙ ap (λ (x : Layer). items ++ x ∷ dealt marks new) idle ∙ ap (λ (xs : List Layer). items ++ idle_layer ∷ dealt marks xs) same ∙ h.stream;
+  others = ap (drop (marked marks)) same ∙ h.others;
+  enough = omega (arith, h.enough, ap length same);
+}
+
+pub deals_more : (mask : ℕ) (items old new all rest : List Layer) (layer : Layer) → mask ≤ 15 → 0 < mask → Deals (eqb (mask % 2) 1) old layer new → DealsOn items (marks_of mask) old all rest
+    → DealsOn (items ++ layer ∷ []) (marks_of (mask / 2)) new all rest
+deals_more mask items old new all rest layer few some deals h =
+    deals_one (marks_of (mask / 2)) (eqb (mask % 2) 1) items old new all rest layer deals (rw (marks_of-more mask few some) at h)
+
+active_one : (b : Bool) (marks : List Bool) (len : ℕ) → marked (b ∷ marks) ≤ len → OnTrue b (1 ≤ len)
+active_one true marks len enough = omega arith
+active_one false marks len enough = tt
+
+pub active_next : (mask len : ℕ) → mask ≤ 15 → 0 < mask → active_in mask ≤ len → OnTrue (eqb (mask % 2) 1) (1 ≤ len)
+active_next mask len few some enough = active_one (eqb (mask % 2) 1) (marks_of (mask / 2)) len (rw (marks_of-more mask few some) at enough)
+
+pub deals_all : (mask : ℕ) (items left all rest : List Layer) → mask ≡ 0 → DealsOn items (marks_of mask) left all rest → (items ≡ all) × (left ≡ rest)
+deals_all mask items left all rest none h =
+    let marks : marks_of mask ≡ [] = ap marks_of none ∙ marks_of-none in
+    let done : DealsOn items [] left all rest = rw marks at h in
+    (sym (append-nil items) ∙ done.stream, done.others)

@@ -1,0 +1,101 @@
+-- Bytes that are put into a buffer one behind the other.
+use Rattle.std.proofs.Common.{◌≡◌, ℕ, ◌+◌, ◌-◌, ◌<◌, ◌≤◌, List, [], ◌∷◌, ◌++◌, length, take, drop, set, refl, sym, ap, ◌∙◌, arith, append_assoc, length-append, length-take-le, length-drop, take_at, drop_at, add-zero, zero-add}
+use Rattle.std.proofs.lemmas.List.{take-append-drop, drop-drop, take_more_set, drop-set-lt, length-set}
+use Rattle.rtp_vla.specs.LebPlacing.{placed, Leaves}
+
+-- what `copy_from_slice` into a part leaves
+pub placed-copied : (buf bytes : List ℕ) (at : ℕ) → take at buf ++ (bytes ++ drop (at + length bytes - at) (drop at buf)) ≡ placed buf at bytes
+unfolding placed
+placed-copied buf bytes at =
+    let len : at + length bytes - at ≡ length bytes = omega arith in
+    ap (λ (rest : List ℕ). take at buf ++ (bytes ++ rest))
+    (ap (λ (k : ℕ). drop k (drop at buf)) len ∙ drop-drop (length bytes) at buf)
+
+pub length-placed : (buf bytes : List ℕ) (at : ℕ) → at + length bytes ≤ length buf → length (placed buf at bytes) ≡ length buf
+unfolding placed
+length-placed buf bytes at fits =
+    omega (
+      arith,
+      length-append (take at buf) (bytes ++ drop (at + length bytes) buf),
+      length-append bytes (drop (at + length bytes) buf),
+      length-take-le at buf (omega arith),
+      length-drop (at + length bytes) buf,
+    )
+
+pub placed-nil : (buf : List ℕ) (at : ℕ) → placed buf at [] ≡ buf
+unfolding placed
+placed-nil buf at = rw (add-zero at) (take-append-drop at buf)
+
+-- from the front on
+pub placed-front : (buf bytes : List ℕ) → placed buf 0 bytes ≡ bytes ++ drop (length bytes) buf
+unfolding placed
+placed-front buf bytes = rw (zero-add (length bytes)) refl
+
+-- two pieces in a row are one
+pub placed-placed : (buf xs ys : List ℕ) (at end : ℕ) → end ≡ at + length xs → end ≤ length buf → placed (placed buf at xs) end ys ≡ placed buf at (xs ++ ys)
+unfolding placed
+placed-placed buf xs ys at end is fits =
+    let front = take at buf ++ xs in
+    let rest = drop (at + length xs) buf in
+    let len : length front ≡ end = omega (arith, length-append (take at buf) xs, length-take-le at buf (omega arith)) in
+    let parts : take at buf ++ (xs ++ rest) ≡ front ++ rest = sym (append_assoc (take at buf) xs rest) in
+    let kept : take end (take at buf ++ (xs ++ rest)) ≡ front = ap (λ (zs : List ℕ). take end zs) parts ∙ take_at front rest end len in
+    let left : drop (end + length ys) (take at buf ++ (xs ++ rest)) ≡ drop (at + length (xs ++ ys)) buf =
+    sym (drop-drop (length ys) end (take at buf ++ (xs ++ rest)))
+    ∙ ap (λ (zs : List ℕ). drop (length ys) zs) (ap (λ (zs : List ℕ). drop end zs) parts ∙ drop_at front rest end len)
+    ∙ drop-drop (length ys) (at + length xs) buf
+    ∙ ap (λ (k : ℕ). drop k buf) (omega (arith, length-append xs ys)) in
+    ap (λ (zs : List ℕ). zs ++ (ys ++ drop (end + length ys) (take at buf ++ (xs ++ rest)))) kept
+    ∙ ap (λ (zs : List ℕ). front ++ (ys ++ zs)) left
+    ∙ append_assoc (take at buf) xs (ys ++ drop (at + length (xs ++ ys)) buf)
+    ∙ ap (λ (zs : List ℕ). take at buf ++ zs) (sym (append_assoc xs ys (drop (at + length (xs ++ ys)) buf)))
+
+-- one byte, and then the rest
+pub placed-set : (buf bytes : List ℕ) (at byte : ℕ) → at < length buf → placed (set buf at byte) (at + 1) bytes ≡ placed buf at (byte ∷ bytes)
+unfolding placed
+placed-set buf bytes at byte within =
+    let front : take (at + 1) (set buf at byte) ≡ take at buf ++ byte ∷ [] = take_more_set buf at byte within in
+    let end : at + length (byte ∷ bytes) ≡ (at + 1) + length bytes = omega arith in
+    let back : drop ((at + 1) + length bytes) (set buf at byte) ≡ drop (at + length (byte ∷ bytes)) buf =
+    drop-set-lt _ buf at byte (omega arith) ∙ ap (λ (k : ℕ). drop k buf) (sym end) in
+    ap (λ (xs : List ℕ). xs ++ (bytes ++ drop ((at + 1) + length bytes) (set buf at byte))) front
+    ∙ append_assoc (take at buf) (byte ∷ []) (bytes ++ drop ((at + 1) + length bytes) (set buf at byte))
+    ∙ ap (λ (xs : List ℕ). take at buf ++ (byte ∷ (bytes ++ xs))) back
+
+-- at the start all is left, and at the end the bytes are put
+pub Leaves-start : (buf bytes : List ℕ) (at : ℕ) → at + length bytes ≤ length buf → Leaves buf at bytes buf at bytes
+Leaves-start buf bytes at room = record { makes = refl; ends = refl; room = room }
+
+pub Leaves-byte : (buf bytes first all : List ℕ) (at from byte : ℕ) → Leaves buf at (byte ∷ bytes) first from all → Leaves (set buf at byte) (at + 1) bytes first from all
+Leaves-byte buf bytes first all at from byte h = record {
+  makes = placed-set buf bytes at byte (omega (arith, h.room)) ∙ h.makes;
+  ends = omega (arith, h.ends);
+  room = omega (arith, h.room, length-set buf at byte);
+}
+
+-- a part of what is left
+pub Leaves-part : (buf new xs ys first all : List ℕ) (at end from : ℕ) → Leaves buf at (xs ++ ys) first from all → new ≡ placed buf at xs → end ≡ at + length xs → Leaves new end ys first from all
+Leaves-part buf new xs ys first all at end from h new-is end-is =
+    let fits : end ≤ length buf = omega (arith, h.room, length-append xs ys) in
+    record {
+      makes = ap (λ (b : List ℕ). placed b end ys) new-is ∙ placed-placed buf xs ys at end end-is fits ∙ h.makes;
+      ends = omega (arith, h.ends, length-append xs ys);
+      room = omega (arith, h.room, length-append xs ys, ap length new-is, length-placed buf xs at (omega arith));
+    }
+
+pub Leaves-end : (buf first all : List ℕ) (at from : ℕ) → Leaves buf at [] first from all → (buf ≡ placed first from all) × (at ≡ from + length all)
+Leaves-end buf first all at from h = (sym (placed-nil buf at) ∙ h.makes, omega (arith, h.ends))
+
+-- five parts in a row, from the front on
+pub placed-five : (buf b₁ b₂ b₃ b₄ b₅ x₁ x₂ x₃ x₄ x₅ : List ℕ) (e₁ e₂ e₃ e₄ e₅ : ℕ) → length (x₁ ++ (x₂ ++ (x₃ ++ (x₄ ++ x₅)))) ≤ length buf
+    → b₁ ≡ placed buf 0 x₁ → e₁ ≡ 0 + length x₁ → b₂ ≡ placed b₁ e₁ x₂ → e₂ ≡ e₁ + length x₂ → b₃ ≡ placed b₂ e₂ x₃ → e₃ ≡ e₂ + length x₃
+    → b₄ ≡ placed b₃ e₃ x₄ → e₄ ≡ e₃ + length x₄ → b₅ ≡ placed b₄ e₄ x₅ → e₅ ≡ e₄ + length x₅
+    → (b₅ ≡ placed buf 0 (x₁ ++ (x₂ ++ (x₃ ++ (x₄ ++ x₅))))) × (e₅ ≡ length (x₁ ++ (x₂ ++ (x₃ ++ (x₄ ++ x₅)))))
+placed-five buf b₁ b₂ b₃ b₄ b₅ x₁ x₂ x₃ x₄ x₅ e₁ e₂ e₃ e₄ e₅ room w₁ p₁ w₂ p₂ w₃ p₃ w₄ p₄ w₅ p₅ =
+    let all = x₁ ++ (x₂ ++ (x₃ ++ (x₄ ++ x₅))) in
+    let l₀ = Leaves-start buf all 0 (omega (arith, room)) in
+    let l₁ = Leaves-part buf b₁ x₁ (x₂ ++ (x₃ ++ (x₄ ++ x₅))) buf all 0 e₁ 0 l₀ w₁ p₁ in
+    let l₂ = Leaves-part b₁ b₂ x₂ (x₃ ++ (x₄ ++ x₅)) buf all e₁ e₂ 0 l₁ w₂ p₂ in
+    let l₃ = Leaves-part b₂ b₃ x₃ (x₄ ++ x₅) buf all e₂ e₃ 0 l₂ w₃ p₃ in
+    let l₄ = Leaves-part b₃ b₄ x₄ x₅ buf all e₃ e₄ 0 l₃ w₄ p₄ in
+    (w₅ ∙ l₄.makes, omega (arith, p₅, l₄.ends))

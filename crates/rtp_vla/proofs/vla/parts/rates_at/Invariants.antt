@@ -1,0 +1,10 @@
+use Rattle.std.proofs.Common.{◌≡◌, ◌-◌, ◌++◌}
+use Rattle.rtp_vla.specs.AllocationReading.{rates_of, after_rates}
+use Rattle.rtp_vla.proofs.vla.parts.rates_at.Given as goal
+
+-- the rates so far and those that are left are all of them
+abbrev pub invariant-loop-i : goal.invariant-loop-i
+invariant-loop-i l = record {
+  rates : l.rates.items ++ rates_of (l.count - l._i) l.behind ≡ rates_of l.count l.bytes;
+  behind : after_rates (l.count - l._i) l.behind ≡ after_rates l.count l.bytes;
+}

@@ -1,0 +1,10 @@
+-- What contracts rest on, from the bytes up.
+pub mod Leb
+pub mod Allocation
+pub mod AllocationWritten
+-- What the inside promises itself.
+pub mod LebReading
+pub mod LebPlacing
+pub mod AllocationEqual
+pub mod AllocationReading
+pub mod AllocationPutting

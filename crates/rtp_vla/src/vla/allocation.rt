@@ -1,0 +1,215 @@
+//! The allocation and its parts.
+
+ghost use Rattle.std.specs.Prelude.{◌≡◌, [], IsOk, IfOk};
+
+use std::alloc::{AllocError, Global};
+use std::marker::Model;
+
+/// The URI that names the extension in SDP.
+pub const URI: &str = "http://www.webrtc.org/experiments/rtp-hdrext/video-layers-allocation00";
+
+/// What a sender of video keeps active.
+#[derive(Debug, Drop)]
+pub struct VideoLayersAllocation {
+    /// Which of the streams the packet is of, from 0. It is 0 where nothing is sent.
+    pub current_simulcast_stream_index: u8,
+    /// The simulcast streams: none where nothing is sent, else up to 4.
+    pub simulcast_streams: Vec<SimulcastStreamAllocation>,
+}
+
+/// What is active of one simulcast stream.
+#[derive(Debug, Drop)]
+pub struct SimulcastStreamAllocation {
+    /// The spatial layers by rising resolution, up to 4.
+    pub spatial_layers: Vec<SpatialLayerAllocation>,
+}
+
+/// What is active of one spatial layer.
+#[derive(Debug, Drop)]
+pub struct SpatialLayerAllocation {
+    /// The temporal layers by rising frame rate, up to 4: none where the layer isn't active.
+    pub temporal_layers: Vec<TemporalLayerAllocation>,
+    /// The resolution, where the sender tells it.
+    pub resolution_and_framerate: Option<ResolutionAndFramerate>,
+}
+
+/// One temporal layer.
+#[derive(Clone, Copy, Debug, PartialEq, Eq)]
+pub struct TemporalLayerAllocation {
+    /// The rate of this layer and all below it in their spatial layer, in kilobits per second.
+    pub cumulative_kbps: u64,
+}
+
+/// The resolution and the frame rate of a spatial layer.
+#[derive(Clone, Copy, Debug, PartialEq, Eq)]
+pub struct ResolutionAndFramerate {
+    /// The width in pixels, from 1 on where it is written.
+    pub width: u16,
+    /// The height in pixels, from 1 on where it is written.
+    pub height: u16,
+    /// The highest frame rate, in frames per second.
+    pub framerate: u8,
+}
+
+impl Model for TemporalLayerAllocation {
+    ghost use Rattle.std.specs.Prelude.{ℕ};
+
+    ghost Value = { ℕ };
+
+    ghost view = { λ layer. layer.cumulative_kbps };
+
+    ghost inverse = { λ rate. record { cumulative_kbps = rate } };
+}
+
+impl Model for SpatialLayerAllocation {
+    ghost use Rattle.rtp_vla.specs.Allocation.{Layer};
+
+    ghost Value = { Layer };
+
+    ghost view = { λ layer. record {
+      temporal_layers = layer.temporal_layers.items;
+      resolution_and_framerate = layer.resolution_and_framerate;
+    } };
+}
+
+impl Model for SimulcastStreamAllocation {
+    ghost use Rattle.rtp_vla.specs.Allocation.{Stream};
+
+    ghost Value = { Stream };
+
+    ghost view = { λ stream. stream.spatial_layers.items };
+}
+
+impl Model for VideoLayersAllocation {
+    ghost use Rattle.rtp_vla.specs.Allocation.{Allocation};
+
+    ghost Value = { Allocation };
+
+    ghost view = { λ allocation. record {
+      current_simulcast_stream_index = allocation.current_simulcast_stream_index;
+      simulcast_streams = allocation.simulcast_streams.items;
+    } };
+}
+
+impl PartialEq for SpatialLayerAllocation {
+    ghost use Rattle.std.specs.Prelude.{◌≡◌, ◌↔◌, IsTrue};
+    ghost use Rattle.std.specs.Cmp.{partial_equiv_from_equiv};
+    ghost use Rattle.rtp_vla.specs.AllocationEqual.{same_layer, same_layer-equiv};
+
+    ghost eq = { same_layer };
+
+    ghost laws = { partial_equiv_from_equiv same_layer-equiv };
+
+    /// Whether the rates and the resolutions are the same.
+    fn eq(&self, other: &SpatialLayerAllocation) -> bool
+        ensures test { result ≡ same_layer self.now other.now }
+        ensures same { IsTrue result ↔ (self.now ≡ other.now) }
+    {
+        self.temporal_layers == other.temporal_layers
+            && self.resolution_and_framerate == other.resolution_and_framerate
+    }
+}
+
+impl Eq for SpatialLayerAllocation {
+    ghost use Rattle.rtp_vla.specs.AllocationEqual.{same_layer-equiv};
+
+    ghost laws = { same_layer-equiv };
+}
+
+impl PartialEq for SimulcastStreamAllocation {
+    ghost use Rattle.std.specs.Prelude.{◌≡◌, ◌↔◌, IsTrue};
+    ghost use Rattle.std.specs.Cmp.{partial_equiv_from_equiv};
+    ghost use Rattle.rtp_vla.specs.AllocationEqual.{same_stream, same_stream-equiv};
+
+    ghost eq = { same_stream };
+
+    ghost laws = { partial_equiv_from_equiv same_stream-equiv };
+
+    /// Whether the layers are the same.
+    fn eq(&self, other: &SimulcastStreamAllocation) -> bool
+        ensures test { result ≡ same_stream self.now other.now }
+        ensures same { IsTrue result ↔ (self.now ≡ other.now) }
+    {
+        self.spatial_layers == other.spatial_layers
+    }
+}
+
+impl Eq for SimulcastStreamAllocation {
+    ghost use Rattle.rtp_vla.specs.AllocationEqual.{same_stream-equiv};
+
+    ghost laws = { same_stream-equiv };
+}
+
+impl PartialEq for VideoLayersAllocation {
+    ghost use Rattle.std.specs.Prelude.{◌≡◌, ◌↔◌, IsTrue};
+    ghost use Rattle.std.specs.Cmp.{partial_equiv_from_equiv};
+    ghost use Rattle.rtp_vla.specs.AllocationEqual.{same_allocation, same_allocation-equiv};
+
+    ghost eq = { same_allocation };
+
+    ghost laws = { partial_equiv_from_equiv same_allocation-equiv };
+
+    /// Whether the index and the streams are the same.
+    fn eq(&self, other: &VideoLayersAllocation) -> bool
+        ensures test { result ≡ same_allocation self.now other.now }
+        ensures same { IsTrue result ↔ (self.now ≡ other.now) }
+    {
+        self.current_simulcast_stream_index == other.current_simulcast_stream_index
+            && self.simulcast_streams == other.simulcast_streams
+    }
+}
+
+impl Eq for VideoLayersAllocation {
+    ghost use Rattle.rtp_vla.specs.AllocationEqual.{same_allocation-equiv};
+
+    ghost laws = { same_allocation-equiv };
+}
+
+impl SpatialLayerAllocation {
+    /// The same layer in memory of its own, which is taken where it has temporal layers. Where that
+    /// is refused nothing is handed out.
+    pub fn clone(&self, alloc: Global) -> Result<Self, AllocError>
+        ensures same { IfOk result (λ copy. copy ≡ self.now) }
+        ensures succeeds { self.now.temporal_layers ≡ [] → IsOk result }
+    {
+        let mut temporal_layers = Vec::with_capacity(alloc, self.temporal_layers.len())?;
+        temporal_layers.extend_from_slice(&self.temporal_layers)?;
+        Ok(SpatialLayerAllocation {
+            temporal_layers,
+            resolution_and_framerate: self.resolution_and_framerate,
+        })
+    }
+}
+
+impl SimulcastStreamAllocation {
+    /// The same stream in memory of its own, which is taken where it has layers. Where that is
+    /// refused nothing is handed out.
+    pub fn clone(&self, alloc: Global) -> Result<Self, AllocError>
+        ensures same { IfOk result (λ copy. copy ≡ self.now) }
+        ensures succeeds { self.now ≡ [] → IsOk result }
+    {
+        let mut spatial_layers = Vec::with_capacity(alloc, self.spatial_layers.len())?;
+        for layer in &self.spatial_layers {
+            spatial_layers.push(layer.clone(alloc)?)?;
+        }
+        Ok(SimulcastStreamAllocation { spatial_layers })
+    }
+}
+
+impl VideoLayersAllocation {
+    /// The same allocation in memory of its own, which is taken where it has streams. Where that is
+    /// refused nothing is handed out.
+    pub fn clone(&self, alloc: Global) -> Result<Self, AllocError>
+        ensures same { IfOk result (λ copy. copy ≡ self.now) }
+        ensures succeeds { self.now.simulcast_streams ≡ [] → IsOk result }
+    {
+        let mut simulcast_streams = Vec::with_capacity(alloc, self.simulcast_streams.len())?;
+        for stream in &self.simulcast_streams {
+            simulcast_streams.push(stream.clone(alloc)?)?;
+        }
+        Ok(VideoLayersAllocation {
+            current_simulcast_stream_index: self.current_simulcast_stream_index,
+            simulcast_streams,
+        })
+    }
+}

@@ -1,0 +1,87 @@
+//! Rates as LEB128 numbers.
+
+ghost use Rattle.std.specs.Prelude.{◌≡◌, ℕ, ◌+◌, ◌^◌, ◌<◌, ◌≤◌, ◌⊎◌, ◌++◌, List, length, drop, IfSome};
+ghost use Rattle.rtp_vla.specs.Leb.{IsShortest, ReadsLeb, shortest_of};
+ghost use Rattle.rtp_vla.specs.LebPlacing.{placed};
+ghost use Rattle.rtp_vla.specs.LebReading.{leb_number};
+
+// The number at the front, and how many bytes spell it.
+fn number_at(buf: &[u8]) -> Option<(u64, usize)>
+    ensures read { result ≡ leb_number 9 buf.now }
+    ensures within { IfSome result (λ read. read.1 ≤ length buf.now) }
+{
+    let mut value = 0;
+    let mut weight: u64 = 1;
+    for (i, byte) in buf.iter().enumerate() {
+        value += u64::from(*byte & 0x7F) * weight;
+        if *byte < 0x80 {
+            return Some((value, i + 1));
+        }
+        if i == 8 {
+            return Some((value, 9));
+        }
+        weight *= 128;
+    }
+    None
+}
+
+/// Reads the number at the front of the bytes, and returns it with the bytes that follow it. Each
+/// byte gives its low seven bits, the lowest first; a byte below 128 ends the number, and so does
+/// the ninth, whose top bit is ignored. Where no number is spelled there, the result is 0 and all
+/// bytes: `80 01 05` is 128 and the byte 5, `80 80` is 0 and both bytes.
+pub fn parse_leb_u63(buf: &[u8]) -> (u64, &[u8])
+    ensures reads { ReadsLeb buf.now result.0 result.1.now }
+    ensures only { (value : ℕ) (rest : List ℕ) → ReadsLeb buf.now value rest →
+        (result.0 ≡ value) × (result.1.now ≡ rest) }
+    ensures in_range { result.0 < 2 ^ 63 }
+{
+    match number_at(buf) {
+        Some((value, len)) => (value, &buf[len..]),
+        None => (0, buf),
+    }
+}
+
+// How many bytes the shortest spelling has.
+pub(super) fn leb_len(value: u64) -> usize
+    requires { value < 2 ^ 63 }
+    ensures { result ≡ length (shortest_of value) }
+{
+    let mut left = value;
+    let mut len = 1;
+    while left >= 0x80 {
+        left >>= 7;
+        len += 1;
+    }
+    len
+}
+
+// Puts the shortest spelling at an offset, and returns the offset behind it.
+pub(super) fn put_leb(buf: &mut [u8], at: usize, value: u64) -> usize
+    requires small { value < 2 ^ 63 }
+    requires room { at + length (shortest_of value) ≤ length buf.old }
+    ensures written { buf.new ≡ placed buf.old at (shortest_of value) }
+    ensures end { result ≡ at + length (shortest_of value) }
+{
+    let mut left = value;
+    let mut end = at;
+    while left >= 0x80 {
+        buf[end] = (left % 128) as u8 + 128;
+        left >>= 7;
+        end += 1;
+    }
+    buf[end] = left as u8;
+    end + 1
+}
+
+/// Writes the shortest spelling of the number to the front of the buffer, and returns how many
+/// bytes it has, 1 to 9; the bytes behind it stay. It requires a number below 2^63 and room, for
+/// which 9 bytes suffice: 300 is written as `AC 02`.
+pub fn encode_leb_u63(value: u64, buf: &mut [u8]) -> usize
+    requires small { value < 2 ^ 63 }
+    requires room { (9 ≤ length buf.old) ⊎ (length (shortest_of value) ≤ length buf.old) }
+    ensures written { buf.new ≡ shortest_of value ++ drop result buf.old }
+    ensures length { result ≡ length (shortest_of value) }
+    ensures shortest { IsShortest value (shortest_of value) }
+{
+    put_leb(buf, 0, value)
+}

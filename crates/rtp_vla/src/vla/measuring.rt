@@ -1,0 +1,191 @@
+//! Which allocations can be written, and in how many bytes.
+
+ghost use Rattle.std.specs.Prelude.{◌≡◌, ◌↔◌, ℕ, ◌+◌, ◌*◌, ◌/◌, ◌<◌, ◌≤◌, ◌==◌, ◌∷◌, true, false, Some, None, List, length, map, IsTrue, IfSome, IfNone, if◌then◌else◌};
+ghost use Rattle.std.specs.Bool.{OnTrue, OnFalse};
+ghost use Rattle.std.specs.List.{flat_map, list_all};
+ghost use Rattle.rtp_vla.specs.Allocation.{active_layers, is_active, mask_of};
+ghost use Rattle.rtp_vla.specs.AllocationWritten as written;
+ghost use Rattle.rtp_vla.specs.Leb.{shortest_of};
+
+use super::active::ActiveLayers;
+use super::allocation::{
+    ResolutionAndFramerate, SimulcastStreamAllocation, SpatialLayerAllocation,
+    TemporalLayerAllocation, VideoLayersAllocation,
+};
+use super::leb::leb_len;
+
+// Whether the layer is active.
+fn is_active(layer: &SpatialLayerAllocation) -> bool
+    ensures { result ≡ is_active layer.now }
+{
+    !layer.temporal_layers.is_empty()
+}
+
+// The mask of a stream that can be written.
+fn mask_of(layers: &[SpatialLayerAllocation]) -> Option<u8>
+    ensures fits { IfSome result (λ mask. (written.stream_fits layers.now ≡ true)
+        × (mask ≡ mask_of layers.now)) }
+    ensures unfit { IfNone result (written.stream_fits layers.now ≡ false) }
+    ensures few { IfSome result (λ mask. mask ≤ 15) }
+{
+    let mut mask = 0;
+    for i in (0..layers.len()).rev() {
+        let layer = &layers[i];
+        let active = is_active(layer);
+        if !active {
+            if layer.resolution_and_framerate.is_some() {
+                return None;
+            }
+        }
+        if mask > 7 {
+            return None;
+        }
+        mask = 2 * mask + u8::from(active);
+    }
+    Some(mask)
+}
+
+// How many bytes the rates of a layer have that can be written.
+fn rates_len(rates: &[TemporalLayerAllocation]) -> Option<usize>
+    ensures fits { IfSome result (λ len. (written.rates_fit rates.now ≡ true)
+        × (len ≡ length (flat_map shortest_of rates.now))) }
+    ensures unfit { IfNone result (written.rates_fit rates.now ≡ false) }
+    ensures few { IfSome result (λ len. len ≤ 36) }
+{
+    if rates.len() > 4 {
+        return None;
+    }
+    let mut len = 0;
+    for rate in rates {
+        if rate.cumulative_kbps >= 1 << 63 {
+            return None;
+        }
+        len += leb_len(rate.cumulative_kbps);
+    }
+    Some(len)
+}
+
+// How many bytes the resolution of a layer has that can be written, behind one without where that
+// has ended them.
+fn told_len(told: &Option<ResolutionAndFramerate>, ended: bool) -> Option<usize>
+    ensures fits { IfSome result (λ len. (written.told_fits ended told.now ≡ true)
+        × (len ≡ length (written.told_bytes told.now))) }
+    ensures unfit { IfNone result (written.told_fits ended told.now ≡ false) }
+    ensures few { IfSome result (λ len. len ≤ 5) }
+{
+    let Some(resolution) = told else {
+        return Some(0);
+    };
+    let _framerate = resolution.framerate;
+    if ended {
+        return None;
+    }
+    if resolution.width == 0 {
+        return None;
+    }
+    if resolution.height == 0 {
+        return None;
+    }
+    Some(5)
+}
+
+// How many bytes the counts, rates and resolutions have of layers that can be written.
+fn layers_len(mut left: ActiveLayers) -> Option<usize>
+    requires { length left ≤ 16 }
+    ensures fits { IfSome result (λ len. (written.layers_fit left.entry ≡ true)
+        × (len ≡ (length left.entry + 3) / 4
+        + (length (flat_map written.rate_bytes left.entry)
+        + length (flat_map written.resolution_bytes left.entry)))) }
+    ensures unfit { IfNone result (written.layers_fit left.entry ≡ false) }
+    ensures few { IfSome result (λ len. len ≤ 660) }
+{
+    let mut active = 0;
+    let mut len = 0;
+    let mut ended = false;
+    while let Some(layer) = left.next() {
+        let Some(rates) = rates_len(&layer.temporal_layers) else {
+            return None;
+        };
+        let Some(told) = told_len(&layer.resolution_and_framerate, ended) else {
+            return None;
+        };
+        ended = layer.resolution_and_framerate.is_none();
+        active += 1;
+        len += rates + told;
+    }
+    Some((active + 3) / 4 + len)
+}
+
+// Reads off the masks of streams that can be written, and says whether they can.
+pub(super) fn put_masks_of(streams: &[SimulcastStreamAllocation], masks: &mut [u8]) -> bool
+    requires { length streams.now ≡ length masks.old }
+    ensures fits { IsTrue result ↔ (list_all written.stream_fits streams.now ≡ true) }
+    ensures masks { OnTrue result (masks.new ≡ map mask_of streams.now) }
+{
+    for (i, stream) in streams.iter().enumerate() {
+        let Some(mask) = mask_of(&stream.spatial_layers) else {
+            return false;
+        };
+        masks[i] = mask;
+    }
+    true
+}
+
+// Whether all masks are this one.
+fn all_are(masks: &[u8], mask: u8) -> bool
+    ensures { result ≡ list_all (λ other. other == mask) masks.now }
+{
+    masks.iter().all(|other| *other == mask)
+}
+
+// The mask that all streams have, or 0.
+pub(super) fn shared_of(masks: &[u8]) -> u8
+    ensures { result ≡ written.shared_of masks.now }
+{
+    let Some((first, others)) = masks.split_first() else {
+        return 0;
+    };
+    if all_are(others, *first) { *first } else { 0 }
+}
+
+// How many bytes the masks have behind the head.
+fn masks_len(masks: &[u8]) -> usize
+    requires { length masks.now ≤ 4 }
+    ensures len { result ≡ length (written.mask_bytes masks.now) }
+    ensures few { result ≤ 2 }
+{
+    if shared_of(masks) == 0 {
+        (masks.len() + 1) / 2
+    } else {
+        0
+    }
+}
+
+// How many bytes the allocation has, where it can be written: the test and the measure in one.
+#[tactic(auto, unfolding(crate::specs::AllocationWritten::written_of))]
+pub(crate) fn writable_len(v: &VideoLayersAllocation) -> Option<usize>
+    ensures fits { IfSome result (λ len. (written.can_be_written v.now ≡ true)
+        × (len ≡ length (written.written_of v.now))) }
+    ensures unfit { IfNone result (written.can_be_written v.now ≡ false) }
+{
+    let streams = v.simulcast_streams.len();
+    if streams == 0 {
+        return if v.current_simulcast_stream_index == 0 {
+            Some(1)
+        } else {
+            None
+        };
+    }
+    if v.current_simulcast_stream_index > 3 {
+        return None;
+    }
+    if streams > 4 {
+        return None;
+    }
+    let mut masks = [0; 4];
+    if !put_masks_of(&v.simulcast_streams, &mut masks[..streams]) {
+        return None;
+    }
+    let layers = layers_len(ActiveLayers::new(&v.simulcast_streams))?;
+    Some(1 + masks_len(&masks[..streams]) + layers)
+}

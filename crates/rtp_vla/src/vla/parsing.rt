@@ -1,0 +1,127 @@
+//! From bytes to an allocation.
+
+ghost use Rattle.std.specs.Prelude.{◌≡◌, ◌↔◌, ◌≤◌, ◌∷◌, [], length, take, Some, IsTrue, IsOk, IfOk, IfSome, IfNone};
+ghost use Rattle.rtp_vla.specs.Allocation.{Allocation, Means};
+ghost use Rattle.rtp_vla.specs.AllocationReading as reading;
+
+use super::allocation::VideoLayersAllocation;
+use super::layers::{LayerReader, streams_of};
+use super::parts::{active_count, behind_rates, half_at, rate_count, resolutions_fit};
+use std::alloc::{AllocError, Global};
+
+// What the bytes have before any layer is made of them.
+#[derive(Drop)]
+struct Layout<'a> {
+    index: u8,
+    // The masks of the streams, and zeros behind them.
+    masks: [u8; 4],
+    streams: usize,
+    layers: LayerReader<'a>,
+}
+
+// Reads the mask of each stream, one half of a byte each, and returns the bytes behind them.
+fn read_halves<'a>(bytes: &'a [u8], masks: &mut [u8]) -> Option<&'a [u8]>
+    ensures found { IfSome result (λ behind.
+        reading.HasMasks bytes.now 0 (length masks.old) masks.new behind.now) }
+    ensures refused { IfNone result (reading.LacksMasks bytes.now 0 (length masks.old)) }
+{
+    let Some((spelled, behind)) = bytes.split_at_checked((masks.len() + 1) / 2) else {
+        return None;
+    };
+    for i in 0..masks.len() {
+        masks[i] = half_at(spelled, i);
+    }
+    Some(behind)
+}
+
+// Reads the mask of each stream, which is the head's for all of them or stands behind the head, and
+// returns the bytes behind them.
+fn read_masks<'a>(bytes: &'a [u8], shared: u8, masks: &mut [u8]) -> Option<&'a [u8]>
+    requires { shared ≤ 15 }
+    ensures found { IfSome result (λ behind.
+        reading.HasMasks bytes.now shared (length masks.old) masks.new behind.now) }
+    ensures refused { IfNone result (reading.LacksMasks bytes.now shared (length masks.old)) }
+{
+    if shared == 0 {
+        return read_halves(bytes, masks);
+    }
+    masks.fill(shared);
+    Some(bytes)
+}
+
+// Where the parts are, if all of them are there.
+fn layout_of(buf: &[u8]) -> Option<Layout<'_>>
+    ensures found { IfSome result (λ layout.
+        reading.IsLaidOut buf.now layout.index (take layout.streams layout.masks) layout.layers) }
+    ensures streams { IfSome result (λ layout. layout.streams ≤ 4) }
+    ensures refused { IfNone result (reading.IsCutShort buf.now) }
+{
+    let Some((head, after)) = buf.split_first() else {
+        return None;
+    };
+    let streams = usize::from(*head >> 4 & 3) + 1;
+    let mut masks = [0; 4];
+    let Some(after) = read_masks(after, *head & 15, &mut masks[..streams]) else {
+        return None;
+    };
+    let active = active_count(&masks[..streams]);
+    let Some((counts, rates)) = after.split_at_checked((active + 3) / 4) else {
+        return None;
+    };
+    let resolutions = behind_rates(rates, rate_count(counts, active));
+    if !resolutions_fit(resolutions, active) {
+        return None;
+    }
+    Some(Layout {
+        index: *head >> 6,
+        masks,
+        streams,
+        layers: LayerReader::new(counts, active, rates, resolutions),
+    })
+}
+
+// Whether the bytes are the one that says that nothing is sent.
+fn says_nothing(buf: &[u8]) -> bool
+    ensures { IsTrue result ↔ (buf.now ≡ 0 ∷ []) }
+{
+    buf.len() == 1 && buf[0] == 0
+}
+
+/// Reads an allocation. The bytes are a head, masks, counts of temporal layers, rates and
+/// resolutions (`video-layers-allocation00`); bytes behind the last resolution are not looked at,
+/// rates that are not there are 0, and layers whose resolution isn't there have none. The single
+/// byte 0 says that nothing is sent: index 0, no streams.
+///
+/// The result is None where there are no bytes, too few for the masks or the counts, or a width or
+/// height above 65535. `01 00 05` is one stream of one layer of 5 kilobits per second.
+///
+/// Memory is taken for each list that isn't empty; where it is refused nothing is handed out.
+pub fn parse(alloc: Global, buf: &[u8]) -> Result<Option<VideoLayersAllocation>, AllocError>
+    // The bytes mean the result, and what they mean is the result; they mean no two allocations.
+    ensures found { IfOk result (λ read. IfSome read (Means buf.now)) }
+    ensures only { (a : Allocation) → Means buf.now a → IfOk result (λ read. read ≡ Some a) }
+    ensures one { (a b : Allocation) → Means buf.now a → Means buf.now b → a ≡ b }
+
+    // Nothing is allocated for a byte or none.
+    ensures succeeds { length buf.now ≤ 1 → IsOk result }
+{
+    if says_nothing(buf) {
+        return Ok(Some(VideoLayersAllocation {
+            current_simulcast_stream_index: 0,
+            simulcast_streams: Vec::new(alloc),
+        }));
+    }
+    let Some(layout) = layout_of(buf) else {
+        return Ok(None);
+    };
+    let Layout {
+        index,
+        masks,
+        streams,
+        layers,
+    } = layout;
+    Ok(Some(VideoLayersAllocation {
+        current_simulcast_stream_index: index,
+        simulcast_streams: streams_of(alloc, &masks[..streams], layers)?,
+    }))
+}

@@ -1,0 +1,144 @@
+//! The parts of an allocation, each read by itself.
+
+ghost use Rattle.std.specs.Prelude.{◌≡◌, ◌↔◌, ℕ, ◌+◌, ◌*◌, ◌/◌, ◌<◌, ◌≤◌, length, take, slice_index, Some, IsTrue, IfOk, IfSome, IfNone};
+ghost use Rattle.std.specs.List.{AllByRecursion};
+ghost use Rattle.rtp_vla.specs.AllocationReading as reading;
+
+use super::allocation::{ResolutionAndFramerate, TemporalLayerAllocation};
+use super::leb::parse_leb_u63;
+use std::alloc::{AllocError, Global};
+
+// So many rates, and the bytes behind them.
+pub(super) fn rates_at(
+    alloc: Global,
+    bytes: &[u8],
+    count: usize,
+) -> Result<(Vec<TemporalLayerAllocation>, &[u8]), AllocError>
+    ensures rates { IfOk result (λ read. read.0.items ≡ reading.rates_of count bytes.now) }
+    ensures behind { IfOk result (λ read. read.1.now ≡ reading.after_rates count bytes.now) }
+{
+    let mut rates = Vec::with_capacity(alloc, count)?;
+    let mut behind = bytes;
+    for _i in 0..count {
+        let (cumulative_kbps, next) = parse_leb_u63(behind);
+        rates.push(TemporalLayerAllocation { cumulative_kbps })?;
+        behind = next;
+    }
+    Ok((rates, behind))
+}
+
+// The bytes behind so many rates.
+pub(super) fn behind_rates(bytes: &[u8], count: usize) -> &[u8]
+    ensures { result.now ≡ reading.after_rates count bytes.now }
+{
+    let mut behind = bytes;
+    for _i in 0..count {
+        behind = parse_leb_u63(behind).1;
+    }
+    behind
+}
+
+// Whether the number in two bytes has a next one in two bytes.
+fn has_next(high: u8, low: u8) -> bool
+    ensures { IsTrue result ↔ (256 * high + low < 65535) }
+{
+    u16::from_be_bytes([high, low]) < u16::MAX
+}
+
+// The number after the one in two bytes.
+fn next_of(high: u8, low: u8) -> u16
+    requires { 256 * high + low < 65535 }
+    ensures { result ≡ 256 * high + low + 1 }
+{
+    u16::from_be_bytes([high, low]) + 1
+}
+
+// Whether no width or height of so many resolutions is too large.
+pub(super) fn resolutions_fit(bytes: &[u8], count: usize) -> bool
+    ensures { IsTrue result ↔ reading.FitResolutions count bytes.now }
+{
+    let mut behind = bytes;
+    for _i in 0..count {
+        let Some((field, next)) = behind.split_first_chunk::<5>() else {
+            return true;
+        };
+        if !has_next(field[0], field[1]) {
+            return false;
+        }
+        if !has_next(field[2], field[3]) {
+            return false;
+        }
+        behind = next;
+    }
+    true
+}
+
+// The resolution at the front, where there are five bytes, and the bytes behind it.
+pub(super) fn resolution_at(bytes: &[u8]) -> (Option<ResolutionAndFramerate>, &[u8])
+    requires { reading.FitResolutions 1 bytes.now }
+    ensures resolution { result.0 ≡ reading.resolution_in bytes.now }
+    ensures behind { result.1.now ≡ reading.after_resolution bytes.now }
+{
+    let Some((field, behind)) = bytes.split_first_chunk::<5>() else {
+        return (None, bytes);
+    };
+    let resolution = ResolutionAndFramerate {
+        width: next_of(field[0], field[1]),
+        height: next_of(field[2], field[3]),
+        framerate: field[4],
+    };
+    (Some(resolution), behind)
+}
+
+// One of the masks, two of which stand in each byte.
+pub(super) fn half_at(bytes: &[u8], i: usize) -> u8
+    requires { i < 2 * length bytes.now }
+    ensures { result ≡ slice_index (reading.halves bytes.now) i }
+{
+    bytes[i / 2] >> (4 - 4 * (i % 2)) & 15
+}
+
+// One of the counts, four of which stand in each byte.
+pub(super) fn count_at(bytes: &[u8], i: usize) -> u8
+    requires { i < 4 * length bytes.now }
+    ensures count { result ≡ slice_index (reading.quarters bytes.now) i }
+    ensures few { result ≤ 3 }
+{
+    bytes[i / 4] >> (6 - 2 * (i % 4)) & 3
+}
+
+// How many rates the first counts announce.
+pub(super) fn rate_count(bytes: &[u8], active: usize) -> usize
+    requires within { active ≤ 4 * length bytes.now }
+    requires few { active ≤ 16 }
+    ensures { result ≡ reading.rate_count (take active (reading.quarters bytes.now)) }
+{
+    let mut rates = 0;
+    for i in 0..active {
+        rates += usize::from(count_at(bytes, i)) + 1;
+    }
+    rates
+}
+
+// How many layers a mask marks.
+fn active_in(mask: u8) -> usize
+    requires { mask ≤ 15 }
+    ensures active { result ≡ reading.active_in mask }
+    ensures few { result ≤ 4 }
+{
+    mask.count_ones() as usize
+}
+
+// How many layers some masks mark.
+pub(super) fn active_count(masks: &[u8]) -> usize
+    requires fit { AllByRecursion (λ mask. mask ≤ 15) masks.now }
+    requires few { length masks.now ≤ 4 }
+    ensures active { result ≡ reading.active_count masks.now }
+    ensures few { result ≤ 16 }
+{
+    let mut active = 0;
+    for mask in masks {
+        active += active_in(*mask);
+    }
+    active
+}

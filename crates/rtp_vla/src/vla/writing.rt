@@ -1,0 +1,216 @@
+//! From an allocation to bytes.
+
+ghost use Rattle.std.specs.Prelude.{◌≡◌, ◌↔◌, true, ◌+◌, ◌*◌, ◌/◌, ◌%◌, ◌<◌, ◌≤◌, ◌∷◌, [], ◌++◌, List, length, drop, map, IsTrue};
+ghost use Rattle.std.specs.List.{AllByRecursion, flat_map};
+ghost use Rattle.rtp_vla.specs.Allocation.{Layer, Means, IsCounted, count_of};
+ghost use Rattle.rtp_vla.specs.AllocationWritten as written;
+ghost use Rattle.rtp_vla.specs.AllocationPutting as putting;
+ghost use Rattle.rtp_vla.specs.Leb.{shortest_of};
+ghost use Rattle.rtp_vla.specs.LebPlacing.{placed};
+
+use super::active::ActiveLayers;
+use super::allocation::{
+    ResolutionAndFramerate, SimulcastStreamAllocation, TemporalLayerAllocation,
+    VideoLayersAllocation,
+};
+use super::leb::put_leb;
+use super::measuring::{put_masks_of, shared_of, writable_len};
+
+// Puts bytes at an offset, and returns the offset behind them.
+fn put(buf: &mut [u8], at: usize, bytes: &[u8]) -> usize
+    requires { at + length bytes.now ≤ length buf.old }
+    ensures written { buf.new ≡ placed buf.old at bytes.now }
+    ensures end { result ≡ at + length bytes.now }
+{
+    let end = at + bytes.len();
+    buf[at..end].copy_from_slice(bytes);
+    end
+}
+
+// Puts the masks, two in a byte.
+fn put_halves(buf: &mut [u8], at: usize, masks: &[u8]) -> usize
+    requires few { length masks.now ≤ 4 }
+    requires fit { AllByRecursion (λ mask. mask ≤ 15) masks.now }
+    requires room { at + length (written.halves_of 0 masks.now) ≤ length buf.old }
+    ensures written { buf.new ≡ placed buf.old at (written.halves_of 0 masks.now) }
+    ensures end { result ≡ at + length (written.halves_of 0 masks.now) }
+{
+    match masks {
+        [] => at,
+        [a] => put(buf, at, &[16 * *a]),
+        [a, b] => put(buf, at, &[16 * *a + *b]),
+        [a, b, c] => put(buf, at, &[16 * *a + *b, 16 * *c + 15]),
+        [a, b, c, d, ..] => put(buf, at, &[16 * *a + *b, 16 * *c + *d]),
+    }
+}
+
+// The next count, and 0 behind the last.
+fn next_count(left: &mut ActiveLayers) -> u8
+    requires { AllByRecursion IsCounted left.old }
+    ensures count { result ≡ putting.first_count left.old }
+    ensures left { left.new ≡ drop 1 left.old }
+    ensures few { result ≤ 3 }
+    ensures fit { AllByRecursion IsCounted left.new }
+{
+    let Some(layer) = left.next() else {
+        return 0;
+    };
+    layer.temporal_layers.len().saturating_sub(1) as u8
+}
+
+// Puts the counts, four in a byte.
+fn put_counts(buf: &mut [u8], at: usize, mut left: ActiveLayers) -> usize
+    requires fit { AllByRecursion IsCounted left }
+    requires room { at + length (written.quarters_of (map count_of left)) ≤ length buf.old }
+    ensures written { buf.new ≡ placed buf.old at (written.quarters_of (map count_of left.entry)) }
+    ensures end { result ≡ at + length (written.quarters_of (map count_of left.entry)) }
+{
+    let mut end = at;
+    while let Some(layer) = left.next() {
+        let first = layer.temporal_layers.len().saturating_sub(1) as u8;
+        let second = next_count(&mut left);
+        let third = next_count(&mut left);
+        let fourth = next_count(&mut left);
+        buf[end] = 64 * first + 16 * second + 4 * third + fourth;
+        end += 1;
+    }
+    end
+}
+
+// Puts the rates of a layer.
+fn put_layer_rates(buf: &mut [u8], at: usize, rates: &[TemporalLayerAllocation]) -> usize
+    requires small { AllByRecursion (λ rate. rate < 9223372036854775808) rates.now }
+    requires room { at + length (flat_map shortest_of rates.now) ≤ length buf.old }
+    ensures written { buf.new ≡ placed buf.old at (flat_map shortest_of rates.now) }
+    ensures end { result ≡ at + length (flat_map shortest_of rates.now) }
+{
+    let mut end = at;
+    for rate in rates {
+        end = put_leb(buf, end, rate.cumulative_kbps);
+    }
+    end
+}
+
+// Puts the rates.
+fn put_rates(buf: &mut [u8], at: usize, mut left: ActiveLayers) -> usize
+    requires small { AllByRecursion putting.HasSmallRates left }
+    requires room { at + length (flat_map written.rate_bytes left) ≤ length buf.old }
+    ensures written { buf.new ≡ placed buf.old at (flat_map written.rate_bytes left.entry) }
+    ensures end { result ≡ at + length (flat_map written.rate_bytes left.entry) }
+{
+    let mut end = at;
+    while let Some(layer) = left.next() {
+        end = put_layer_rates(buf, end, &layer.temporal_layers);
+    }
+    end
+}
+
+// The two bytes of a number.
+fn high_and_low(number: u16) -> [u8; 2]
+    ensures { result ≡ (number / 256) ∷ (number % 256) ∷ [] }
+{
+    [(number / 256) as u8, (number % 256) as u8]
+}
+
+// Puts the resolution of a layer, if it has one.
+fn put_told(buf: &mut [u8], at: usize, told: &Option<ResolutionAndFramerate>) -> usize
+    requires some { putting.IsTold told.now }
+    requires room { at + length (written.told_bytes told.now) ≤ length buf.old }
+    ensures written { buf.new ≡ placed buf.old at (written.told_bytes told.now) }
+    ensures end { result ≡ at + length (written.told_bytes told.now) }
+{
+    let Some(resolution) = told else {
+        return at;
+    };
+    let [x, y] = high_and_low(resolution.width - 1);
+    let [z, u] = high_and_low(resolution.height - 1);
+    put(buf, at, &[x, y, z, u, resolution.framerate])
+}
+
+// Puts the resolutions.
+fn put_resolutions(buf: &mut [u8], at: usize, mut left: ActiveLayers) -> usize
+    requires some { AllByRecursion putting.HasTold left }
+    requires room { at + length (flat_map written.resolution_bytes left) ≤ length buf.old }
+    ensures written { buf.new ≡ placed buf.old at (flat_map written.resolution_bytes left.entry) }
+    ensures end { result ≡ at + length (flat_map written.resolution_bytes left.entry) }
+{
+    let mut end = at;
+    while let Some(layer) = left.next() {
+        end = put_told(buf, end, &layer.resolution_and_framerate);
+    }
+    end
+}
+
+// Puts the masks, unless the head has one for all streams.
+fn put_masks(buf: &mut [u8], at: usize, masks: &[u8]) -> usize
+    requires few { length masks.now ≤ 4 }
+    requires fit { AllByRecursion (λ mask. mask ≤ 15) masks.now }
+    requires room { at + length (written.mask_bytes masks.now) ≤ length buf.old }
+    ensures written { buf.new ≡ placed buf.old at (written.mask_bytes masks.now) }
+    ensures end { result ≡ at + length (written.mask_bytes masks.now) }
+{
+    if shared_of(masks) == 0 {
+        put_halves(buf, at, masks)
+    } else {
+        at
+    }
+}
+
+// Puts streams, of which there are some, and returns how many bytes they have.
+fn put_streams(buf: &mut [u8], index: u8, streams: &[SimulcastStreamAllocation]) -> usize
+    requires some { 1 ≤ length streams.now }
+    requires fit { written.streams_fit index streams.now ≡ true }
+    requires room { length (written.packed_bytes index streams.now) ≤ length buf.old }
+    ensures written { buf.new ≡ placed buf.old 0 (written.packed_bytes index streams.now) }
+    ensures end { result ≡ length (written.packed_bytes index streams.now) }
+{
+    let mut masks = [0; 4];
+    let masks = &mut masks[..streams.len()];
+    let _ = put_masks_of(streams, masks);
+    let head = 64 * index + 16 * (streams.len() - 1) as u8 + shared_of(masks);
+    let end = put(buf, 0, &[head]);
+    let end = put_masks(buf, end, masks);
+    let end = put_counts(buf, end, ActiveLayers::new(streams));
+    let end = put_rates(buf, end, ActiveLayers::new(streams));
+    put_resolutions(buf, end, ActiveLayers::new(streams))
+}
+
+/// Whether the allocation can be written: some bytes mean it, once the layers at the end of each
+/// stream are dropped that have neither temporal layers nor a resolution. It can where it has index
+/// 0 and no streams, or else an index of at most 3; 1 to 4 streams; at most 4 layers a stream; at
+/// most 4 temporal layers a layer, with rates below 2^63; no resolution on a layer without temporal
+/// layers or behind a layer without one; and no width or height of 0.
+pub fn is_writable(v: &VideoLayersAllocation) -> bool
+    ensures writable { IsTrue result ↔ written.Writable v.now }
+{
+    writable_len(v).is_some()
+}
+
+/// How many bytes [`write_to`] writes. It requires an allocation that [`is_writable`].
+pub fn wire_len(v: &VideoLayersAllocation) -> usize
+    requires { written.Writable v.now }
+    ensures { result ≡ length (written.written_of v.now) }
+{
+    writable_len(v).unwrap_or(0)
+}
+
+/// Writes the allocation to the front of the buffer, and returns how many bytes it has; the bytes
+/// behind them stay. Every rate is written, in its shortest spelling; the head has the mask of all
+/// streams where they have one, and spare bits are 0, but for the half of a byte behind a third
+/// mask, which is 15. What is written is read as the allocation without the layers at the end of
+/// each stream that have neither temporal layers nor a resolution.
+///
+/// It requires an allocation that [`is_writable`], and room for [`wire_len`] bytes. Index 0, one
+/// stream of one layer of 5 kilobits per second is written as `01 00 05`.
+pub fn write_to(v: &VideoLayersAllocation, buf: &mut [u8]) -> usize
+    requires writable { written.Writable v.now }
+    requires room { length (written.written_of v.now) ≤ length buf.old }
+    ensures written { buf.new ≡ written.written_of v.now ++ drop result buf.old }
+    ensures length { result ≡ length (written.written_of v.now) }
+    ensures means { Means (written.written_of v.now) (written.trimmed v.now) }
+{
+    if v.simulcast_streams.is_empty() {
+        return put(buf, 0, &[0]);
+    }
+    put_streams(buf, v.current_simulcast_stream_index, &v.simulcast_streams)
+}
