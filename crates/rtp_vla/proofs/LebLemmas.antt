@@ -7,8 +7,8 @@ use Rattle.std.proofs.lemmas.Bool.{lt-ltb, le-ltb, cases_lt}
 use Rattle.std.proofs.lemmas.List.{drop_more, drop_all, take-append-drop, drop_at}
 use Rattle.std.proofs.lemmas.Nat.{and_mask, mul-le}
 use Rattle.rtp_vla.specs.Leb.{number_of, IsLeb, BeginsNoLeb, ReadsLeb, spelled, unspelled, IsShortest, leb_of, shortest_of}
-use Rattle.rtp_vla.specs.LebPlacing.{placed, Leaves}
-use Rattle.rtp_vla.proofs.LebPlacingLemmas.{Leaves-byte, Leaves-end}
+use Rattle.rtp_vla.specs.LebOverwriting.{overwritten, Leaves}
+use Rattle.rtp_vla.proofs.LebOverwritingLemmas.{Leaves-byte, Leaves-end}
 use Rattle.rtp_vla.specs.LebReading.{leb_number, weighed, leb_read, leb_value, leb_rest}
 
 abbrev read_as : ℕ → ℕ → Option (ℕ × ℕ)
@@ -406,7 +406,7 @@ put_more room buf first all end at left high below leaves =
     (Leaves-byte buf (leb_of room (left / 128)) first all end at (left % 128 + 128) (rw (leb_of-high room left high) at leaves), less.0, less.1)
 
 pub put_last : (room : ℕ) (buf first all : List ℕ) (end at left : ℕ) → left < 128 → Leaves buf end (leb_of (suc room) left) first at all
-    → (set buf end left ≡ placed first at all) × (end + 1 ≡ at + length all)
+    → (set buf end left ≡ overwritten first at all) × (end + 1 ≡ at + length all)
 put_last room buf first all end at left low leaves =
     Leaves-end (set buf end left) first all (end + 1) at (Leaves-byte buf [] first all end at left (rw (leb_of-low room left low) at leaves))
 

@@ -1,5 +1,5 @@
 pub mod LebLemmas
-pub mod LebPlacingLemmas
+pub mod LebOverwritingLemmas
 pub mod AllocationReadingLemmas
 pub mod AllocationDealing
 pub mod AllocationMeaning

@@ -2,7 +2,7 @@
 
 ghost use Rattle.std.specs.Prelude.{◌≡◌, ℕ, ◌+◌, ◌^◌, ◌<◌, ◌≤◌, ◌⊎◌, ◌++◌, List, length, drop, IfSome};
 ghost use Rattle.rtp_vla.specs.Leb.{IsShortest, ReadsLeb, shortest_of};
-ghost use Rattle.rtp_vla.specs.LebPlacing.{placed};
+ghost use Rattle.rtp_vla.specs.LebOverwriting.{overwritten};
 ghost use Rattle.rtp_vla.specs.LebReading.{leb_number};
 
 // The number at the front, and how many bytes spell it.
@@ -59,7 +59,7 @@ pub(super) fn leb_len(value: u64) -> usize
 pub(super) fn put_leb(buf: &mut [u8], at: usize, value: u64) -> usize
     requires small { value < 2 ^ 63 }
     requires room { at + length (shortest_of value) ≤ length buf.old }
-    ensures written { buf.new ≡ placed buf.old at (shortest_of value) }
+    ensures written { buf.new ≡ overwritten buf.old at (shortest_of value) }
     ensures end { result ≡ at + length (shortest_of value) }
 {
     let mut left = value;

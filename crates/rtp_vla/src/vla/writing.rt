@@ -6,7 +6,7 @@ ghost use Rattle.rtp_vla.specs.Allocation.{Layer, Means, IsCounted, count_of};
 ghost use Rattle.rtp_vla.specs.AllocationWritten as written;
 ghost use Rattle.rtp_vla.specs.AllocationPutting as putting;
 ghost use Rattle.rtp_vla.specs.Leb.{shortest_of};
-ghost use Rattle.rtp_vla.specs.LebPlacing.{placed};
+ghost use Rattle.rtp_vla.specs.LebOverwriting.{overwritten};
 
 use super::active::ActiveLayers;
 use super::allocation::{
@@ -19,7 +19,7 @@ use super::measuring::{put_masks_of, shared_of, writable_len};
 // Puts bytes at an offset, and returns the offset behind them.
 fn put(buf: &mut [u8], at: usize, bytes: &[u8]) -> usize
     requires { at + length bytes.now ≤ length buf.old }
-    ensures written { buf.new ≡ placed buf.old at bytes.now }
+    ensures written { buf.new ≡ overwritten buf.old at bytes.now }
     ensures end { result ≡ at + length bytes.now }
 {
     let end = at + bytes.len();
@@ -32,7 +32,7 @@ fn put_halves(buf: &mut [u8], at: usize, masks: &[u8]) -> usize
     requires few { length masks.now ≤ 4 }
     requires fit { AllByRecursion (λ mask. mask ≤ 15) masks.now }
     requires room { at + length (written.halves_of 0 masks.now) ≤ length buf.old }
-    ensures written { buf.new ≡ placed buf.old at (written.halves_of 0 masks.now) }
+    ensures written { buf.new ≡ overwritten buf.old at (written.halves_of 0 masks.now) }
     ensures end { result ≡ at + length (written.halves_of 0 masks.now) }
 {
     match masks {
@@ -62,7 +62,7 @@ fn next_count(left: &mut ActiveLayers) -> u8
 fn put_counts(buf: &mut [u8], at: usize, mut left: ActiveLayers) -> usize
     requires fit { AllByRecursion IsCounted left }
     requires room { at + length (written.quarters_of (map count_of left)) ≤ length buf.old }
-    ensures written { buf.new ≡ placed buf.old at (written.quarters_of (map count_of left.entry)) }
+    ensures written { buf.new ≡ overwritten buf.old at (written.quarters_of (map count_of left.entry)) }
     ensures end { result ≡ at + length (written.quarters_of (map count_of left.entry)) }
 {
     let mut end = at;
@@ -81,7 +81,7 @@ fn put_counts(buf: &mut [u8], at: usize, mut left: ActiveLayers) -> usize
 fn put_layer_rates(buf: &mut [u8], at: usize, rates: &[TemporalLayerAllocation]) -> usize
     requires small { AllByRecursion (λ rate. rate < 9223372036854775808) rates.now }
     requires room { at + length (flat_map shortest_of rates.now) ≤ length buf.old }
-    ensures written { buf.new ≡ placed buf.old at (flat_map shortest_of rates.now) }
+    ensures written { buf.new ≡ overwritten buf.old at (flat_map shortest_of rates.now) }
     ensures end { result ≡ at + length (flat_map shortest_of rates.now) }
 {
     let mut end = at;
@@ -95,7 +95,7 @@ fn put_layer_rates(buf: &mut [u8], at: usize, rates: &[TemporalLayerAllocation])
 fn put_rates(buf: &mut [u8], at: usize, mut left: ActiveLayers) -> usize
     requires small { AllByRecursion putting.HasSmallRates left }
     requires room { at + length (flat_map written.rate_bytes left) ≤ length buf.old }
-    ensures written { buf.new ≡ placed buf.old at (flat_map written.rate_bytes left.entry) }
+    ensures written { buf.new ≡ overwritten buf.old at (flat_map written.rate_bytes left.entry) }
     ensures end { result ≡ at + length (flat_map written.rate_bytes left.entry) }
 {
     let mut end = at;
@@ -116,7 +116,7 @@ fn high_and_low(number: u16) -> [u8; 2]
 fn put_told(buf: &mut [u8], at: usize, told: &Option<ResolutionAndFramerate>) -> usize
     requires some { putting.IsTold told.now }
     requires room { at + length (written.told_bytes told.now) ≤ length buf.old }
-    ensures written { buf.new ≡ placed buf.old at (written.told_bytes told.now) }
+    ensures written { buf.new ≡ overwritten buf.old at (written.told_bytes told.now) }
     ensures end { result ≡ at + length (written.told_bytes told.now) }
 {
     let Some(resolution) = told else {
@@ -131,7 +131,7 @@ fn put_told(buf: &mut [u8], at: usize, told: &Option<ResolutionAndFramerate>) ->
 fn put_resolutions(buf: &mut [u8], at: usize, mut left: ActiveLayers) -> usize
     requires some { AllByRecursion putting.HasTold left }
     requires room { at + length (flat_map written.resolution_bytes left) ≤ length buf.old }
-    ensures written { buf.new ≡ placed buf.old at (flat_map written.resolution_bytes left.entry) }
+    ensures written { buf.new ≡ overwritten buf.old at (flat_map written.resolution_bytes left.entry) }
     ensures end { result ≡ at + length (flat_map written.resolution_bytes left.entry) }
 {
     let mut end = at;
@@ -146,7 +146,7 @@ fn put_masks(buf: &mut [u8], at: usize, masks: &[u8]) -> usize
     requires few { length masks.now ≤ 4 }
     requires fit { AllByRecursion (λ mask. mask ≤ 15) masks.now }
     requires room { at + length (written.mask_bytes masks.now) ≤ length buf.old }
-    ensures written { buf.new ≡ placed buf.old at (written.mask_bytes masks.now) }
+    ensures written { buf.new ≡ overwritten buf.old at (written.mask_bytes masks.now) }
     ensures end { result ≡ at + length (written.mask_bytes masks.now) }
 {
     if shared_of(masks) == 0 {
@@ -161,7 +161,7 @@ fn put_streams(buf: &mut [u8], index: u8, streams: &[SimulcastStreamAllocation])
     requires some { 1 ≤ length streams.now }
     requires fit { written.streams_fit index streams.now ≡ true }
     requires room { length (written.packed_bytes index streams.now) ≤ length buf.old }
-    ensures written { buf.new ≡ placed buf.old 0 (written.packed_bytes index streams.now) }
+    ensures written { buf.new ≡ overwritten buf.old 0 (written.packed_bytes index streams.now) }
     ensures end { result ≡ length (written.packed_bytes index streams.now) }
 {
     let mut masks = [0; 4];

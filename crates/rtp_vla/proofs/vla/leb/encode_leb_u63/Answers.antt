@@ -1,13 +1,13 @@
 use Rattle.std.proofs.Common.{◌≡◌, ◌++◌, ℕ, ap, drop, length, sym, ◌∙◌, arith, ⊎_elim}
 use Rattle.rtp_vla.specs.Leb.{shortest_of}
-use Rattle.rtp_vla.proofs.LebPlacingLemmas.{placed-front}
+use Rattle.rtp_vla.proofs.LebOverwritingLemmas.{overwritten-front}
 use Rattle.rtp_vla.proofs.LebLemmas.{IsShortest-shortest_of, length-shortest_of}
 use Rattle.rtp_vla.proofs.vla.leb.encode_leb_u63.Goals as goal
 
 pub returns-clause-written : goal.returns-clause-written
 returns-clause-written c =
     let len : c.put_leb.result ≡ length (shortest_of c.args.value) = omega (arith, c.put_leb.ensures.end) in
-    c.put_leb.ensures.written ∙ placed-front c.args.buf.now (shortest_of c.args.value)
+    c.put_leb.ensures.written ∙ overwritten-front c.args.buf.now (shortest_of c.args.value)
     ∙ ap (λ (n : ℕ). shortest_of c.args.value ++ drop n c.args.buf.now) (sym len)
 
 pub returns-clause-shortest : goal.returns-clause-shortest

@@ -1,6 +1,6 @@
 use Rattle.std.proofs.Common.{◌≡◌, length, sym, arith}
 use Rattle.std.proofs.lemmas.List.{nil_from_length}
-use Rattle.rtp_vla.proofs.LebPlacingLemmas.{placed-nil}
+use Rattle.rtp_vla.proofs.LebOverwritingLemmas.{overwritten-nil}
 use Rattle.rtp_vla.proofs.AllocationWritingLemmas.{halves_two, halves_three, halves_four, length-halves_of}
 use Rattle.rtp_vla.proofs.vla.writing.put_halves.Goals as goal
 
@@ -13,7 +13,7 @@ put-requires-in-len4-up c = omega (arith, c.requires.room, length-halves_of 0 c.
 pub returns-in-empty-clause-written : goal.returns-in-empty-clause-written
 returns-in-empty-clause-written c =
     let none : length c.args.masks.now ≡ 0 = omega arith in
-    rw (nil_from_length c.args.masks.now none) (sym (placed-nil c.args.buf.now c.args.at))
+    rw (nil_from_length c.args.masks.now none) (sym (overwritten-nil c.args.buf.now c.args.at))
 
 pub returns-in-len2-clause-written : goal.returns-in-len2-clause-written
 returns-in-len2-clause-written c =

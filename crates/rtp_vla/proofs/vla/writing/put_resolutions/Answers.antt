@@ -1,8 +1,8 @@
 use Rattle.std.proofs.Common.{◌≡◌, ◌++◌, [], ◌∙◌, ap, List, ℕ, ◌+◌, length}
 use Rattle.std.specs.List.{flat_map}
 use Rattle.rtp_vla.specs.AllocationWritten.{resolution_bytes, told_bytes}
-use Rattle.rtp_vla.specs.LebPlacing.{placed}
-use Rattle.rtp_vla.proofs.LebPlacingLemmas.{Leaves-part, Leaves-end}
+use Rattle.rtp_vla.specs.LebOverwriting.{overwritten}
+use Rattle.rtp_vla.proofs.LebOverwritingLemmas.{Leaves-part, Leaves-end}
 use Rattle.rtp_vla.proofs.AllocationWritingLemmas.{AllByRecursion-tail}
 use Rattle.rtp_vla.proofs.vla.writing.put_resolutions.Goals as goal
 
@@ -11,7 +11,7 @@ loop-layer-preserved c =
     let split : flat_map resolution_bytes c.loop-layer.left ≡ resolution_bytes c.in-Some.layer.now ++ flat_map resolution_bytes c.next.new.self = ap (flat_map resolution_bytes) c.in-Some.ensures.steps in
     let bytes : told_bytes c.layer.inside.resolution_and_framerate ≡ resolution_bytes c.in-Some.layer.now = ap resolution_bytes c.layer.view_is in
     record {
-      leaves = Leaves-part c.loop-layer.buf c.put_told-end.new.buf _ _ _ _ c.loop-layer.end c.put_told-end.result c.args.at (rw split at c.loop-layer.invariant.leaves) (c.put_told-end.ensures.written ∙ ap (placed c.loop-layer.buf c.loop-layer.end) bytes) (c.put_told-end.ensures.end ∙ ap (λ (bs : List ℕ). c.loop-layer.end + length bs) bytes);
+      leaves = Leaves-part c.loop-layer.buf c.put_told-end.new.buf _ _ _ _ c.loop-layer.end c.put_told-end.result c.args.at (rw split at c.loop-layer.invariant.leaves) (c.put_told-end.ensures.written ∙ ap (overwritten c.loop-layer.buf c.loop-layer.end) bytes) (c.put_told-end.ensures.end ∙ ap (λ (bs : List ℕ). c.loop-layer.end + length bs) bytes);
       some = AllByRecursion-tail _ _ _ c.in-Some.ensures.steps c.loop-layer.invariant.some;
     }
 

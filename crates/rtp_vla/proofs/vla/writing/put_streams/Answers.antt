@@ -4,11 +4,11 @@ use Rattle.std.proofs.lemmas.Bool.{OnTrue_at}
 use Rattle.rtp_vla.specs.Allocation.{Layer, IsCounted, active_layers, mask_of, count_of}
 use Rattle.rtp_vla.specs.AllocationPutting.{HasSmallRates, HasTold}
 use Rattle.rtp_vla.specs.AllocationWritten.{shared_of, mask_bytes, quarters_of, rate_bytes, resolution_bytes, packed_bytes}
-use Rattle.rtp_vla.specs.LebPlacing.{placed}
+use Rattle.rtp_vla.specs.LebOverwriting.{overwritten}
 use Rattle.rtp_vla.proofs.AllocationWriting.{can_put}
 use Rattle.rtp_vla.proofs.AllocationWritingLemmas.{length-packed_bytes, length-quarters_of}
 use Rattle.std.proofs.lemmas.List.{length-map}
-use Rattle.rtp_vla.proofs.LebPlacingLemmas.{placed-five}
+use Rattle.rtp_vla.proofs.LebOverwritingLemmas.{overwritten-five}
 use Rattle.rtp_vla.proofs.vla.writing.put_streams.Goals as goal
 use Rattle.rtp_vla.proofs.vla.writing.put_streams.Goals.{After-slice_known-7-1}
 
@@ -82,7 +82,7 @@ put_resolutions-requires-clause-room c =
     )
 
 -- the five parts
-all_put : (c : After-slice_known-7-1) → (c.put_resolutions.new.buf ≡ placed c.args.buf.now 0 (packed_bytes c.args.index c.args.streams.now)) × (c.put_resolutions.result ≡ length (packed_bytes c.args.index c.args.streams.now))
+all_put : (c : After-slice_known-7-1) → (c.put_resolutions.new.buf ≡ overwritten c.args.buf.now 0 (packed_bytes c.args.index c.args.streams.now)) × (c.put_resolutions.result ≡ length (packed_bytes c.args.index c.args.streams.now))
 all_put c =
     let streams = c.args.streams.now in
     let can = can_put c.args.index streams c.requires.some c.requires.fit in
@@ -92,20 +92,20 @@ all_put c =
     let count_part : quarters_of (map count_of c.new.result) ≡ quarters_of (map count_of (active_layers streams)) = ap (λ (ls : List Layer). quarters_of (map count_of ls)) c.new.ensures in
     let rate_part : flat_map rate_bytes c.new-2.result ≡ flat_map rate_bytes (active_layers streams) = ap (flat_map rate_bytes) c.new-2.ensures in
     let told_part : flat_map resolution_bytes c.new-3.result ≡ flat_map resolution_bytes (active_layers streams) = ap (flat_map resolution_bytes) c.new-3.ensures in
-    placed-five c.args.buf.now c.put-end.new.buf c.put_masks-end.new.buf c.put_counts-end.new.buf c.put_rates-end.new.buf c.put_resolutions.new.buf
+    overwritten-five c.args.buf.now c.put-end.new.buf c.put_masks-end.new.buf c.put_counts-end.new.buf c.put_rates-end.new.buf c.put_resolutions.new.buf
     ((64 * c.args.index + 16 * (length streams - 1) + shared_of (map mask_of streams)) ∷ [])
     (mask_bytes (map mask_of streams)) (quarters_of (map count_of (active_layers streams))) (flat_map rate_bytes (active_layers streams)) (flat_map resolution_bytes (active_layers streams))
     c.put-end.result c.put_masks-end.result c.put_counts-end.result c.put_rates-end.result c.put_resolutions.result
     c.requires.room
-    (c.put-end.ensures.written ∙ ap (λ (n : ℕ). placed c.args.buf.now 0 ((64 * c.args.index + 16 * (length streams - 1) + n) ∷ [])) shared)
+    (c.put-end.ensures.written ∙ ap (λ (n : ℕ). overwritten c.args.buf.now 0 ((64 * c.args.index + 16 * (length streams - 1) + n) ∷ [])) shared)
     c.put-end.ensures.end
-    (c.put_masks-end.ensures.written ∙ ap (placed c.put-end.new.buf c.put-end.result) mask_part)
+    (c.put_masks-end.ensures.written ∙ ap (overwritten c.put-end.new.buf c.put-end.result) mask_part)
     (c.put_masks-end.ensures.end ∙ ap (λ (bs : List ℕ). c.put-end.result + length bs) mask_part)
-    (c.put_counts-end.ensures.written ∙ ap (placed c.put_masks-end.new.buf c.put_masks-end.result) count_part)
+    (c.put_counts-end.ensures.written ∙ ap (overwritten c.put_masks-end.new.buf c.put_masks-end.result) count_part)
     (c.put_counts-end.ensures.end ∙ ap (λ (bs : List ℕ). c.put_masks-end.result + length bs) count_part)
-    (c.put_rates-end.ensures.written ∙ ap (placed c.put_counts-end.new.buf c.put_counts-end.result) rate_part)
+    (c.put_rates-end.ensures.written ∙ ap (overwritten c.put_counts-end.new.buf c.put_counts-end.result) rate_part)
     (c.put_rates-end.ensures.end ∙ ap (λ (bs : List ℕ). c.put_counts-end.result + length bs) rate_part)
-    (c.put_resolutions.ensures.written ∙ ap (placed c.put_rates-end.new.buf c.put_rates-end.result) told_part)
+    (c.put_resolutions.ensures.written ∙ ap (overwritten c.put_rates-end.new.buf c.put_rates-end.result) told_part)
     (c.put_resolutions.ensures.end ∙ ap (λ (bs : List ℕ). c.put_rates-end.result + length bs) told_part)
 
 pub returns-clause-written : goal.returns-clause-written

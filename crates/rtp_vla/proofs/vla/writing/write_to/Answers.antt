@@ -2,7 +2,7 @@ use Rattle.std.proofs.Common.{◌≡◌, ◌≤◌, ◌<◌, ◌++◌, ◌∷◌
 use Rattle.std.proofs.lemmas.Bool.{eqb-true, eqb-false}
 use Rattle.rtp_vla.specs.Allocation.{Allocation, Stream}
 use Rattle.rtp_vla.specs.AllocationWritten.{can_be_written, written_of, packed_bytes, streams_fit}
-use Rattle.rtp_vla.proofs.LebPlacingLemmas.{placed-front}
+use Rattle.rtp_vla.proofs.LebOverwritingLemmas.{overwritten-front}
 use Rattle.rtp_vla.proofs.AllocationWriting.{can_be_written-from, written_means, written-none, written-some}
 use Rattle.rtp_vla.proofs.vla.writing.write_to.Goals as goal
 use Rattle.rtp_vla.proofs.vla.writing.write_to.Goals.{Then-is_empty, After-deref}
@@ -17,7 +17,7 @@ put-requires c = omega (arith, c.requires.room, ap length (nothing (goal.at.put-
 pub returns-then-is_empty-clause-written : goal.returns-then-is_empty-clause-written
 returns-then-is_empty-clause-written c =
     let w = nothing (goal.at.returns-then-is_empty-clause-written c).Then-is_empty in
-    c.put.ensures.written ∙ placed-front c.args.buf.now (0 ∷ []) ∙ (λ i. sym w i ++ drop (sym c.put.ensures.end i) c.args.buf.now)
+    c.put.ensures.written ∙ overwritten-front c.args.buf.now (0 ∷ []) ∙ (λ i. sym w i ++ drop (sym c.put.ensures.end i) c.args.buf.now)
 
 pub returns-then-is_empty-clause-length : goal.returns-then-is_empty-clause-length
 returns-then-is_empty-clause-length c = c.put.ensures.end ∙ sym (ap length (nothing (goal.at.returns-then-is_empty-clause-length c).Then-is_empty))
@@ -44,7 +44,7 @@ put_streams-requires-clause-room c = subst (λ (bs : List ℕ). length bs ≤ le
 pub returns-clause-written : goal.returns-clause-written
 returns-clause-written c =
     let w = packed (goal.at.returns-clause-written c).After-deref in
-    c.put_streams.ensures.written ∙ placed-front c.args.buf.now (packed_bytes c.v.inside.current_simulcast_stream_index c.deref.result.now)
+    c.put_streams.ensures.written ∙ overwritten-front c.args.buf.now (packed_bytes c.v.inside.current_simulcast_stream_index c.deref.result.now)
     ∙ (λ i. w i ++ drop (sym c.put_streams.ensures.end i) c.args.buf.now)
 
 pub returns-clause-length : goal.returns-clause-length

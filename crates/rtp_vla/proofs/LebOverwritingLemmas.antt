@@ -1,19 +1,19 @@
 -- Bytes that are put into a buffer one behind the other.
 use Rattle.std.proofs.Common.{◌≡◌, ℕ, ◌+◌, ◌-◌, ◌<◌, ◌≤◌, List, [], ◌∷◌, ◌++◌, length, take, drop, set, refl, sym, ap, ◌∙◌, arith, append_assoc, length-append, length-take-le, length-drop, take_at, drop_at, add-zero, zero-add}
 use Rattle.std.proofs.lemmas.List.{take-append-drop, drop-drop, take_more_set, drop-set-lt, length-set}
-use Rattle.rtp_vla.specs.LebPlacing.{placed, Leaves}
+use Rattle.rtp_vla.specs.LebOverwriting.{overwritten, Leaves}
 
 -- what `copy_from_slice` into a part leaves
-pub placed-copied : (buf bytes : List ℕ) (at : ℕ) → take at buf ++ (bytes ++ drop (at + length bytes - at) (drop at buf)) ≡ placed buf at bytes
-unfolding placed
-placed-copied buf bytes at =
+pub overwritten-copied : (buf bytes : List ℕ) (at : ℕ) → take at buf ++ (bytes ++ drop (at + length bytes - at) (drop at buf)) ≡ overwritten buf at bytes
+unfolding overwritten
+overwritten-copied buf bytes at =
     let len : at + length bytes - at ≡ length bytes = omega arith in
     ap (λ (rest : List ℕ). take at buf ++ (bytes ++ rest))
     (ap (λ (k : ℕ). drop k (drop at buf)) len ∙ drop-drop (length bytes) at buf)
 
-pub length-placed : (buf bytes : List ℕ) (at : ℕ) → at + length bytes ≤ length buf → length (placed buf at bytes) ≡ length buf
-unfolding placed
-length-placed buf bytes at fits =
+pub length-overwritten : (buf bytes : List ℕ) (at : ℕ) → at + length bytes ≤ length buf → length (overwritten buf at bytes) ≡ length buf
+unfolding overwritten
+length-overwritten buf bytes at fits =
     omega (
       arith,
       length-append (take at buf) (bytes ++ drop (at + length bytes) buf),
@@ -22,19 +22,19 @@ length-placed buf bytes at fits =
       length-drop (at + length bytes) buf,
     )
 
-pub placed-nil : (buf : List ℕ) (at : ℕ) → placed buf at [] ≡ buf
-unfolding placed
-placed-nil buf at = rw (add-zero at) (take-append-drop at buf)
+pub overwritten-nil : (buf : List ℕ) (at : ℕ) → overwritten buf at [] ≡ buf
+unfolding overwritten
+overwritten-nil buf at = rw (add-zero at) (take-append-drop at buf)
 
 -- from the front on
-pub placed-front : (buf bytes : List ℕ) → placed buf 0 bytes ≡ bytes ++ drop (length bytes) buf
-unfolding placed
-placed-front buf bytes = rw (zero-add (length bytes)) refl
+pub overwritten-front : (buf bytes : List ℕ) → overwritten buf 0 bytes ≡ bytes ++ drop (length bytes) buf
+unfolding overwritten
+overwritten-front buf bytes = rw (zero-add (length bytes)) refl
 
 -- two pieces in a row are one
-pub placed-placed : (buf xs ys : List ℕ) (at end : ℕ) → end ≡ at + length xs → end ≤ length buf → placed (placed buf at xs) end ys ≡ placed buf at (xs ++ ys)
-unfolding placed
-placed-placed buf xs ys at end is fits =
+pub overwritten-overwritten : (buf xs ys : List ℕ) (at end : ℕ) → end ≡ at + length xs → end ≤ length buf → overwritten (overwritten buf at xs) end ys ≡ overwritten buf at (xs ++ ys)
+unfolding overwritten
+overwritten-overwritten buf xs ys at end is fits =
     let front = take at buf ++ xs in
     let rest = drop (at + length xs) buf in
     let len : length front ≡ end = omega (arith, length-append (take at buf) xs, length-take-le at buf (omega arith)) in
@@ -51,9 +51,9 @@ placed-placed buf xs ys at end is fits =
     ∙ ap (λ (zs : List ℕ). take at buf ++ zs) (sym (append_assoc xs ys (drop (at + length (xs ++ ys)) buf)))
 
 -- one byte, and then the rest
-pub placed-set : (buf bytes : List ℕ) (at byte : ℕ) → at < length buf → placed (set buf at byte) (at + 1) bytes ≡ placed buf at (byte ∷ bytes)
-unfolding placed
-placed-set buf bytes at byte within =
+pub overwritten-set : (buf bytes : List ℕ) (at byte : ℕ) → at < length buf → overwritten (set buf at byte) (at + 1) bytes ≡ overwritten buf at (byte ∷ bytes)
+unfolding overwritten
+overwritten-set buf bytes at byte within =
     let front : take (at + 1) (set buf at byte) ≡ take at buf ++ byte ∷ [] = take_more_set buf at byte within in
     let end : at + length (byte ∷ bytes) ≡ (at + 1) + length bytes = omega arith in
     let back : drop ((at + 1) + length bytes) (set buf at byte) ≡ drop (at + length (byte ∷ bytes)) buf =
@@ -68,30 +68,30 @@ Leaves-start buf bytes at room = record { makes = refl; ends = refl; room = room
 
 pub Leaves-byte : (buf bytes first all : List ℕ) (at from byte : ℕ) → Leaves buf at (byte ∷ bytes) first from all → Leaves (set buf at byte) (at + 1) bytes first from all
 Leaves-byte buf bytes first all at from byte h = record {
-  makes = placed-set buf bytes at byte (omega (arith, h.room)) ∙ h.makes;
+  makes = overwritten-set buf bytes at byte (omega (arith, h.room)) ∙ h.makes;
   ends = omega (arith, h.ends);
   room = omega (arith, h.room, length-set buf at byte);
 }
 
 -- a part of what is left
-pub Leaves-part : (buf new xs ys first all : List ℕ) (at end from : ℕ) → Leaves buf at (xs ++ ys) first from all → new ≡ placed buf at xs → end ≡ at + length xs → Leaves new end ys first from all
+pub Leaves-part : (buf new xs ys first all : List ℕ) (at end from : ℕ) → Leaves buf at (xs ++ ys) first from all → new ≡ overwritten buf at xs → end ≡ at + length xs → Leaves new end ys first from all
 Leaves-part buf new xs ys first all at end from h new-is end-is =
     let fits : end ≤ length buf = omega (arith, h.room, length-append xs ys) in
     record {
-      makes = ap (λ (b : List ℕ). placed b end ys) new-is ∙ placed-placed buf xs ys at end end-is fits ∙ h.makes;
+      makes = ap (λ (b : List ℕ). overwritten b end ys) new-is ∙ overwritten-overwritten buf xs ys at end end-is fits ∙ h.makes;
       ends = omega (arith, h.ends, length-append xs ys);
-      room = omega (arith, h.room, length-append xs ys, ap length new-is, length-placed buf xs at (omega arith));
+      room = omega (arith, h.room, length-append xs ys, ap length new-is, length-overwritten buf xs at (omega arith));
     }
 
-pub Leaves-end : (buf first all : List ℕ) (at from : ℕ) → Leaves buf at [] first from all → (buf ≡ placed first from all) × (at ≡ from + length all)
-Leaves-end buf first all at from h = (sym (placed-nil buf at) ∙ h.makes, omega (arith, h.ends))
+pub Leaves-end : (buf first all : List ℕ) (at from : ℕ) → Leaves buf at [] first from all → (buf ≡ overwritten first from all) × (at ≡ from + length all)
+Leaves-end buf first all at from h = (sym (overwritten-nil buf at) ∙ h.makes, omega (arith, h.ends))
 
 -- five parts in a row, from the front on
-pub placed-five : (buf b₁ b₂ b₃ b₄ b₅ x₁ x₂ x₃ x₄ x₅ : List ℕ) (e₁ e₂ e₃ e₄ e₅ : ℕ) → length (x₁ ++ (x₂ ++ (x₃ ++ (x₄ ++ x₅)))) ≤ length buf
-    → b₁ ≡ placed buf 0 x₁ → e₁ ≡ 0 + length x₁ → b₂ ≡ placed b₁ e₁ x₂ → e₂ ≡ e₁ + length x₂ → b₃ ≡ placed b₂ e₂ x₃ → e₃ ≡ e₂ + length x₃
-    → b₄ ≡ placed b₃ e₃ x₄ → e₄ ≡ e₃ + length x₄ → b₅ ≡ placed b₄ e₄ x₅ → e₅ ≡ e₄ + length x₅
-    → (b₅ ≡ placed buf 0 (x₁ ++ (x₂ ++ (x₃ ++ (x₄ ++ x₅))))) × (e₅ ≡ length (x₁ ++ (x₂ ++ (x₃ ++ (x₄ ++ x₅)))))
-placed-five buf b₁ b₂ b₃ b₄ b₅ x₁ x₂ x₃ x₄ x₅ e₁ e₂ e₃ e₄ e₅ room w₁ p₁ w₂ p₂ w₃ p₃ w₄ p₄ w₅ p₅ =
+pub overwritten-five : (buf b₁ b₂ b₃ b₄ b₅ x₁ x₂ x₃ x₄ x₅ : List ℕ) (e₁ e₂ e₃ e₄ e₅ : ℕ) → length (x₁ ++ (x₂ ++ (x₃ ++ (x₄ ++ x₅)))) ≤ length buf
+    → b₁ ≡ overwritten buf 0 x₁ → e₁ ≡ 0 + length x₁ → b₂ ≡ overwritten b₁ e₁ x₂ → e₂ ≡ e₁ + length x₂ → b₃ ≡ overwritten b₂ e₂ x₃ → e₃ ≡ e₂ + length x₃
+    → b₄ ≡ overwritten b₃ e₃ x₄ → e₄ ≡ e₃ + length x₄ → b₅ ≡ overwritten b₄ e₄ x₅ → e₅ ≡ e₄ + length x₅
+    → (b₅ ≡ overwritten buf 0 (x₁ ++ (x₂ ++ (x₃ ++ (x₄ ++ x₅))))) × (e₅ ≡ length (x₁ ++ (x₂ ++ (x₃ ++ (x₄ ++ x₅)))))
+overwritten-five buf b₁ b₂ b₃ b₄ b₅ x₁ x₂ x₃ x₄ x₅ e₁ e₂ e₃ e₄ e₅ room w₁ p₁ w₂ p₂ w₃ p₃ w₄ p₄ w₅ p₅ =
     let all = x₁ ++ (x₂ ++ (x₃ ++ (x₄ ++ x₅))) in
     let l₀ = Leaves-start buf all 0 (omega (arith, room)) in
     let l₁ = Leaves-part buf b₁ x₁ (x₂ ++ (x₃ ++ (x₄ ++ x₅))) buf all 0 e₁ 0 l₀ w₁ p₁ in
