@@ -1,5 +1,5 @@
 -- Worked rows of blocks, computed from the definitions.
-use Rattle.std.proofs.Common.{◌≡◌, ◌≢◌, ℕ, [], ◌∷◌, replicate, Bool, true, false, ℤ, neg_ℤ, pos, Some, None, arith, refl, sym, ◌∙◌, subst}
+use Rattle.std.proofs.Common.{◌≡◌, ◌≢◌, ℕ, [], ◌∷◌, replicate, Bool, true, false, neg_ℤ, pos, Some, None, arith, refl, sym, ◌∙◌, subst}
 use Rattle.rtp_wire.specs.declared.ext.form.ExtensionsForm.TheVariants.{OneByte, TwoByte}
 use Rattle.rtp_wire.specs.declared.ext.kind.Extension.{Extension}
 use Rattle.rtp_wire.specs.declared.ext.kind.Extension.TheVariants.{AudioLevel}

@@ -1,5 +1,4 @@
-use Rattle.std.proofs.Common.{ℕ, ◌+◌, ◌-◌, arith, replicate, ap, ◌∙◌, refl}
-use Rattle.std.proofs.lemmas.List.{length-replicate}
+use Rattle.std.proofs.Common.{ℕ, arith, replicate, ap, ◌∙◌}
 use Rattle.rtp_wire.proofs.OverwritingLemmas.{overwritten-filled}
 use Rattle.rtp_wire.proofs.put.put_zeros.Goals as goal
 

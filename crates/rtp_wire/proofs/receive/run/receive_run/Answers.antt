@@ -4,9 +4,8 @@ use Rattle.std.specs.Option.{option_map}
 use Rattle.std.proofs.lemmas.List.{get_or-map, length-map, length_push, take_more, take_all}
 use Rattle.rtp_wire.specs.declared.header.rtp_header.RtpHeader.{RtpHeader}
 use Rattle.rtp_wire.specs.declared.receive.verdict.Verdict.{Verdict}
-use Rattle.rtp_wire.specs.Header.{IsWire}
 use Rattle.rtp_wire.specs.Receiver.{IsNothing}
-use Rattle.rtp_wire.specs.Verdicts.{Reading, reading_of, taken_by, IsReading, IsVerdict, AreVerdicts}
+use Rattle.rtp_wire.specs.Verdicts.{reading_of, taken_by, IsVerdict, AreVerdicts}
 use Rattle.rtp_wire.proofs.VerdictLemmas.{SoFar, SoFar-none, SoFar-more, TakesOnce-run, IsReading-parsed}
 use Rattle.rtp_wire.proofs.receive.run.receive_run.Goals as goal
 

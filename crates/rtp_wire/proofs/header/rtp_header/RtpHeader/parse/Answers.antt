@@ -1,10 +1,9 @@
-use Rattle.std.proofs.Common.{arith, true, false, refl, sym, ap, ◌∙◌, subst, ℕ, ◌≡◌, ◌*◌, List, Bool, Ok, Some}
+use Rattle.std.proofs.Common.{arith, true, false, refl, sym, ap, ◌∙◌, subst, ◌≡◌, Bool, Some}
 use Rattle.std.proofs.lemmas.Bool.{not-true, not-false}
 use Rattle.rtp_wire.specs.declared.ext.value.values.ExtensionValues.{ExtensionValues}
 use Rattle.rtp_wire.specs.declared.header.rtp_header.RtpHeader.{RtpHeader}
 use Rattle.rtp_wire.specs.NotAHeader.{NotAHeader}
 use Rattle.rtp_wire.specs.Reading.{HasExtensionPart}
-use Rattle.rtp_wire.specs.Values.{no_values}
 use Rattle.rtp_wire.proofs.HeaderLemmas.{IsLaidOut, IsWire-from_layout}
 use Rattle.rtp_wire.proofs.OneHeader.{no_header, one_header}
 use Rattle.rtp_wire.proofs.ParseLemmas.{IsLaidOut-made, HasExtensionPart-none, HasExtensionPart-read, cut_sources-from_pieces, no_block-from_pieces}

@@ -1,4 +1,4 @@
-use Rattle.std.proofs.Common.{◌≡◌, ◌+◌, ◌-◌, ◌≤◌, Bool, List, ℕ, arith, sym, ap, subst, ◌∙◌, ◌++◌, length, drop, take, true}
+use Rattle.std.proofs.Common.{◌+◌, ◌-◌, ◌≤◌, Bool, ℕ, sym, ap, subst, ◌∙◌, ◌++◌, length, drop, take}
 use Rattle.rtp_wire.specs.Block.{IsExtensionPart}
 use Rattle.rtp_wire.specs.Overwriting.{overwritten}
 use Rattle.rtp_wire.specs.WrittenBlock.{block_bytes}

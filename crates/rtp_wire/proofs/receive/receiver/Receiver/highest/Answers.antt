@@ -1,4 +1,4 @@
-use Rattle.std.proofs.Common.{◌≡◌, ℕ, false, refl, sym, ◌∙◌, subst, Option}
+use Rattle.std.proofs.Common.{false, refl, sym, ◌∙◌, subst, Option}
 use Rattle.rtp_base.specs.Window.{Numbers, WindowState}
 use Rattle.rtp_wire.specs.Receiver.{Holds, IsNothing}
 use Rattle.rtp_wire.proofs.receive.receiver.Receiver.highest.Goals as goal

@@ -1,5 +1,5 @@
-use Rattle.std.proofs.Common.{Bool, true, false, inr, refl, sym, ◌∙◌, subst, Option}
-use Rattle.rtp_base.specs.Window.{Numbers, WindowState, including}
+use Rattle.std.proofs.Common.{inr, sym, ◌∙◌, subst, Option}
+use Rattle.rtp_base.specs.Window.{WindowState}
 use Rattle.rtp_wire.specs.Receiver.{Holds}
 use Rattle.rtp_wire.proofs.ReceiverLemmas.{Accepts-fresh, Keeps-taken}
 use Rattle.rtp_wire.proofs.receive.receiver.Receiver.take.Goals as goal
