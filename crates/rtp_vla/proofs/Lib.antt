@@ -1,7 +1,12 @@
-pub mod LebLemmas
 pub mod LebOverwritingLemmas
+pub mod LebLemmas
+pub mod LebSpellingLemmas
 pub mod AllocationReadingLemmas
 pub mod AllocationDealing
+pub mod AllocationParts
+pub mod AllocationLayout
 pub mod AllocationMeaning
 pub mod AllocationWritingLemmas
+pub mod AllocationTrimming
+pub mod AllocationSpelling
 pub mod AllocationWriting

@@ -1,5 +1,5 @@
 use Rattle.std.proofs.Common.{◌≡◌, ◌-◌, ◌+◌, suc, ap, arith, length}
-use Rattle.rtp_vla.proofs.LebLemmas.{shortest-leb_of, measured_more, measured_all}
+use Rattle.rtp_vla.proofs.LebSpellingLemmas.{shortest-leb_of, measured_more, measured_all}
 use Rattle.rtp_vla.proofs.vla.leb.leb_len.Goals as goal
 
 pub loop-left-init : goal.loop-left-init

@@ -3,7 +3,7 @@ use Rattle.std.proofs.lemmas.Bool.{and_from, lt-ltb}
 use Rattle.std.proofs.lemmas.List.{get_or_read}
 use Rattle.std.proofs.lemmas.List.Folds.{list_all_more}
 use Rattle.rtp_vla.specs.Leb.{shortest_of}
-use Rattle.rtp_vla.proofs.LebLemmas.{length-shortest_of}
+use Rattle.rtp_vla.proofs.LebSpellingLemmas.{length-shortest_of}
 use Rattle.rtp_vla.proofs.AllocationWritingLemmas.{length-flat_map-more}
 use Rattle.rtp_vla.proofs.vla.measuring.rates_len.Goals as goal
 

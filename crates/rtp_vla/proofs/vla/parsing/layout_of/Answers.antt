@@ -3,7 +3,7 @@ use Rattle.std.proofs.lemmas.Bool.{false≢true}
 use Rattle.std.proofs.lemmas.List.{take-append-drop, length-take-le, take_at}
 use Rattle.std.proofs.lemmas.Nat.{and_mask}
 use Rattle.rtp_vla.specs.AllocationReading.{HasMasks, FitResolutions, active_count, rate_count, after_rates, quarters}
-use Rattle.rtp_vla.proofs.AllocationMeaning.{head_parts, LacksMasks-at, HasMasks-at, cut_masks, cut_counts, cut_resolutions}
+use Rattle.rtp_vla.proofs.AllocationLayout.{head_parts, LacksMasks-at, HasMasks-at, cut_masks, cut_counts, cut_resolutions}
 use Rattle.rtp_vla.proofs.vla.parsing.layout_of.Goals as goal
 use Rattle.rtp_vla.proofs.vla.parsing.layout_of.Goals.{In-Some-read_masks, After-active_count-active}
 

@@ -2,7 +2,7 @@ use Rattle.std.proofs.Common.{◌≡◌, ◌<◌, ◌+◌, ◌/◌, ◌++◌, �
 use Rattle.std.proofs.lemmas.List.{take_more, take_more_set, take_all, take-append-drop, length-take-le}
 use Rattle.rtp_vla.specs.AllocationReading.{halves}
 use Rattle.rtp_vla.proofs.AllocationReadingLemmas.{length-halves}
-use Rattle.rtp_vla.proofs.AllocationMeaning.{AreBytes, AreBytes-from, AreBytes-parts, HasMasks-halves}
+use Rattle.rtp_vla.proofs.AllocationParts.{AreBytes, AreBytes-from, AreBytes-parts, HasMasks-halves}
 use Rattle.rtp_vla.proofs.vla.parsing.read_halves.Goals as goal
 use Rattle.rtp_vla.proofs.vla.parsing.read_halves.Goals.{In-Some}
 
