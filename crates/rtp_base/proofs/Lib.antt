@@ -4,5 +4,6 @@ mod FrequencyLemmas
 mod IdLemmas
 mod IdTextLemmas
 mod MediaTimeLemmas
+pub mod OverwritingLemmas
 mod StandardFacts
 mod WindowLemmas

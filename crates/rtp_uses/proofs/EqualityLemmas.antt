@@ -9,6 +9,7 @@ use Rattle.std.proofs.lemmas.Slice.Eq.{slice_eq-Decides}
 use Rattle.rtp_base.specs.MediaTime.{Fraction, fraction_eq}
 use Rattle.rtp_base.specs.contracts.id.mid.MidPartialEq.TheImpl as mid_eq
 use Rattle.rtp_base.specs.contracts.id.rid.RidPartialEq.TheImpl as rid_eq
+use Rattle.rtp_wire.specs.AllocationEqual.{same_allocation-decides}
 use Rattle.rtp_wire.specs.HeaderValues.{HeaderValues}
 use Rattle.rtp_wire.specs.declared.ext.value.abs_capture_time.AbsCaptureTime.{AbsCaptureTime}
 use Rattle.rtp_wire.specs.declared.ext.value.video_orientation.VideoOrientation.{VideoOrientation}
@@ -59,8 +60,8 @@ sources a b = slice_eq-Decides unsigned_Decides a b _ refl
 pub values : (a b : HeaderValues) → Decides ((values_eq.ghosts).eq a b) (AreSameValues a b)
 values a b =
     Decides-like _
-    (λ d. record { audio_level = d.0; voice_activity = d.1.0; video_orientation = d.1.1.0; video_content_type = d.1.1.1.0; tx_time_offs = d.1.1.1.1.0; abs_send_time = d.1.1.1.1.1.0; abs_capture_time = d.1.1.1.1.1.1.0; transport_cc = d.1.1.1.1.1.1.1.0; play_delay_min = d.1.1.1.1.1.1.1.1.0; play_delay_max = d.1.1.1.1.1.1.1.1.1.0; video_timing = d.1.1.1.1.1.1.1.1.1.1.0; rid = d.1.1.1.1.1.1.1.1.1.1.1.0; rid_repair = d.1.1.1.1.1.1.1.1.1.1.1.1.0; mid = d.1.1.1.1.1.1.1.1.1.1.1.1.1.0; frame_mark = d.1.1.1.1.1.1.1.1.1.1.1.1.1.1 })
-    (λ same. (same.audio_level, (same.voice_activity, (same.video_orientation, (same.video_content_type, (same.tx_time_offs, (same.abs_send_time, (same.abs_capture_time, (same.transport_cc, (same.play_delay_min, (same.play_delay_max, (same.video_timing, (same.rid, (same.rid_repair, (same.mid, same.frame_mark)))))))))))))))
+    (λ d. record { audio_level = d.0; voice_activity = d.1.0; video_orientation = d.1.1.0; video_content_type = d.1.1.1.0; tx_time_offs = d.1.1.1.1.0; abs_send_time = d.1.1.1.1.1.0; abs_capture_time = d.1.1.1.1.1.1.0; transport_cc = d.1.1.1.1.1.1.1.0; play_delay_min = d.1.1.1.1.1.1.1.1.0; play_delay_max = d.1.1.1.1.1.1.1.1.1.0; video_timing = d.1.1.1.1.1.1.1.1.1.1.0; rid = d.1.1.1.1.1.1.1.1.1.1.1.0; rid_repair = d.1.1.1.1.1.1.1.1.1.1.1.1.0; mid = d.1.1.1.1.1.1.1.1.1.1.1.1.1.0; frame_mark = d.1.1.1.1.1.1.1.1.1.1.1.1.1.1.0; video_layers_allocation = d.1.1.1.1.1.1.1.1.1.1.1.1.1.1.1 })
+    (λ same. (same.audio_level, (same.voice_activity, (same.video_orientation, (same.video_content_type, (same.tx_time_offs, (same.abs_send_time, (same.abs_capture_time, (same.transport_cc, (same.play_delay_min, (same.play_delay_max, (same.video_timing, (same.rid, (same.rid_repair, (same.mid, (same.frame_mark, same.video_layers_allocation))))))))))))))))
     (Decides-and _ _ (options signed_Decides a.audio_level b.audio_level)
     (Decides-and _ _ (options booleans_Decides a.voice_activity b.voice_activity)
     (Decides-and _ _ (options orientations a.video_orientation b.video_orientation)
@@ -75,7 +76,8 @@ values a b =
     (Decides-and _ _ (options rids a.rid b.rid)
     (Decides-and _ _ (options rids a.rid_repair b.rid_repair)
     (Decides-and _ _ (options mids a.mid b.mid)
-    (options unsigned_Decides a.frame_mark b.frame_mark)))))))))))))))
+    (Decides-and _ _ (options unsigned_Decides a.frame_mark b.frame_mark)
+    (options same_allocation-decides a.video_layers_allocation b.video_layers_allocation))))))))))))))))
 
 -- of headers
 pub headers : (a b : RtpHeader) → Decides ((header_eq.ghosts).eq a b) (AreSameHeaders a b)

@@ -28,6 +28,7 @@ pub record AreSameValues (a b : HeaderValues) : Type 0 where
   pub rid_repair : a.rid_repair ≡ b.rid_repair
   pub mid : a.mid ≡ b.mid
   pub frame_mark : a.frame_mark ≡ b.frame_mark
+  pub video_layers_allocation : a.video_layers_allocation ≡ b.video_layers_allocation
 
 -- each field of the one header is that of the other
 pub record AreSameHeaders (a b : RtpHeader) : Type 0 where

@@ -6,6 +6,7 @@ ghost use Rattle.rtp_uses.specs.Equality.{AreSameValues, AreSameHeaders};
 use rtp_base::{
     Direction, Frequency, Mid, MidRid, Pt, Rid, SeqNo, SessionId, Ssrc, TwccClusterId, TwccSeq,
 };
+use rtp_wire::vla::VideoLayersAllocation;
 use rtp_wire::{
     AbsCaptureTime, Extension, ExtensionValues, ExtensionsForm, RtpHeader, Verdict,
     VideoOrientation, VideoTiming,
@@ -128,6 +129,13 @@ pub fn is_same_verdict(left: Verdict, right: Verdict) -> bool
     ensures { IsTrue result ↔ (left ≡ right) }
 {
     left == right
+}
+
+/// Allocations are equal exactly when the index and all streams, layers, rates and resolutions are.
+pub fn is_same_allocation(a: &VideoLayersAllocation, b: &VideoLayersAllocation) -> bool
+    ensures { IsTrue result ↔ (a.now ≡ b.now) }
+{
+    a == b
 }
 
 /// Values are equal exactly when each field is; playout delays are compared as fractions.

@@ -2,6 +2,7 @@
 
 ghost use Rattle.std.specs.Prelude.{◌≡◌, ◌↔◌, ◌≤◌, length, drop, Ok, Some, None, IsOk, IfOk, IfSome};
 ghost use Rattle.rtp_wire.specs.Header.{IsWire};
+ghost use Rattle.rtp_wire.specs.Memory.{HeaderHasAllocation};
 ghost use Rattle.rtp_wire.specs.NotAHeader.{NotAHeader};
 ghost use Rattle.rtp_wire.specs.Values.{orientation_of};
 ghost use Rattle.rtp_wire.specs.Written.{wire_bytes, image_of};
@@ -22,7 +23,7 @@ pub fn payload<'a>(
     packet: &'a [u8],
     exts: &ExtensionMap,
 ) -> Result<Option<&'a [u8]>, AllocError>
-    ensures succeeds { IsOk result }
+    ensures succeeds { (HeaderHasAllocation exts.now packet.now → ⊥) → IsOk result }
     ensures found { IfOk result (λ answer. IfSome answer (λ payload.
         (header : RtpHeader) × IsWire exts.now packet.now header
         × (payload.now ≡ drop header.header_len packet.now))) }
@@ -44,8 +45,16 @@ pub fn written_and_read(
     requires payload_type { header.now.payload_type ≤ 127 }
     requires sources { header.now.csrc_count ≤ 15 }
     requires room { length (wire_bytes exts.now header.now) ≤ length buf.old }
-    ensures { result ≡ Ok (Some (image_of exts.now header.now)) }
+    ensures { IfOk result (λ read. read ≡ Some (image_of exts.now header.now)) }
 {
     header.write_to(buf, exts);
     RtpHeader::parse(alloc, buf, exts)
+}
+
+/// A copy of a header is the same, and needs no memory where it has no allocation.
+pub fn copied(alloc: Global, header: &RtpHeader) -> Result<RtpHeader, AllocError>
+    ensures same { IfOk result (λ copy. copy ≡ header.now) }
+    ensures succeeds { header.now.ext_vals.video_layers_allocation ≡ None → IsOk result }
+{
+    header.clone(alloc)
 }

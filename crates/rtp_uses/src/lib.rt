@@ -4,6 +4,7 @@
 
 pub mod equality;
 pub mod headers;
+pub mod layers;
 pub mod numbers;
 pub mod receiving;
 #[cfg(test)]

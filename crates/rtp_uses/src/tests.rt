@@ -1,13 +1,13 @@
 //! Each function once, at values that differ.
 
-use super::{equality, headers, numbers, receiving, times};
+use super::{equality, headers, layers, numbers, receiving, times};
 use rtp_base::{
     Direction, Frequency, MediaTime, Mid, MidRid, Pt, Rid, SeqNo, SessionId, Ssrc, TwccClusterId,
     TwccSeq,
 };
 use rtp_wire::{
     AbsCaptureTime, Extension, ExtensionMap, ExtensionValues, ExtensionsForm, Receiver, RtpHeader,
-    Verdict, VideoOrientation, VideoTiming,
+    Verdict, VideoOrientation, VideoTiming, vla,
 };
 use std::cmp::Ordering;
 use std::test::Fail;
@@ -26,7 +26,7 @@ const CAPTURE: AbsCaptureTime = AbsCaptureTime {
 };
 
 #[test]
-fn numbers_and_their_order(rt: HostRuntime) -> Result<(), Fail> {
+fn numbers(rt: HostRuntime) -> Result<(), Fail> {
     assert_eq!(rt;
         numbers::greatest_seq_no().get(),
         18_446_744_073_709_551_615
@@ -35,6 +35,11 @@ fn numbers_and_their_order(rt: HostRuntime) -> Result<(), Fail> {
     assert_eq!(rt; numbers::default_twcc_cluster_id().get(), 0);
     assert_eq!(rt; numbers::greatest_id(), 16);
     assert_eq!(rt; numbers::greatest_id_of_one_byte_form(), 14);
+    Ok(())
+}
+
+#[test]
+fn order_of_numbers(rt: HostRuntime) -> Result<(), Fail> {
     assert!(rt; numbers::is_less_ssrc(Ssrc::from(44), Ssrc::from(45)));
     assert!(rt; numbers::is_less_pt(Pt::from(33), Pt::from(111)));
     assert!(rt; !numbers::is_less_session_id(SessionId::from(9), SessionId::from(8)));
@@ -48,12 +53,17 @@ fn numbers_and_their_order(rt: HostRuntime) -> Result<(), Fail> {
 }
 
 #[test]
-fn frequencies_and_times(rt: HostRuntime) -> Result<(), Fail> {
+fn frequencies(rt: HostRuntime) -> Result<(), Fail> {
     assert_eq!(rt; times::micros().get(), 1_000_000);
     assert_eq!(rt; times::fixed_point_6_18().get(), 262_144);
     assert_eq!(rt; times::ninety_khz().get(), 90_000);
     assert_eq!(rt; times::forty_eight_khz().get(), 48_000);
     assert_eq!(rt; times::sixteen_khz().get(), 16_000);
+    Ok(())
+}
+
+#[test]
+fn frequencies_and_times(rt: HostRuntime) -> Result<(), Fail> {
     assert_eq!(rt; times::eight_khz().get(), 8_000);
     assert_eq!(rt; times::millis().get(), 1_000);
     assert_eq!(rt; times::hundredths().get(), 100);
@@ -66,8 +76,17 @@ fn frequencies_and_times(rt: HostRuntime) -> Result<(), Fail> {
 }
 
 #[test]
-fn equal_ids_and_numbers(rt: HostRuntime) -> Result<(), Fail> {
+fn equal_ids(rt: HostRuntime) -> Result<(), Fail> {
     let (audio, video, stream) = (Mid::from("audio"), Mid::from("video"), Rid::from("high"));
+    assert!(rt; !equality::is_same_direction(Direction::SendRecv, Direction::SendOnly));
+    assert!(rt; !equality::is_same_mid(audio, video));
+    assert!(rt; !equality::is_same_rid(stream, Rid::from("low")));
+    assert!(rt; !equality::is_same_mid_rid(MidRid(audio, None), MidRid(audio, Some(stream))));
+    Ok(())
+}
+
+#[test]
+fn equal_numbers(rt: HostRuntime) -> Result<(), Fail> {
     assert!(rt; !equality::is_same_ssrc(Ssrc::from(44), Ssrc::from(45)));
     assert!(rt; !equality::is_same_pt(Pt::from(33), Pt::from(111)));
     assert!(rt; !equality::is_same_session_id(SessionId::from(8), SessionId::from(9)));
@@ -75,10 +94,6 @@ fn equal_ids_and_numbers(rt: HostRuntime) -> Result<(), Fail> {
     assert!(rt; !equality::is_same_twcc_seq(TwccSeq::from(1), TwccSeq::from(65_537)));
     assert!(rt; !equality::is_same_twcc_cluster_id(TwccClusterId::from(1), TwccClusterId::from(2)));
     assert!(rt; !equality::is_same_frequency(Frequency::MICROS, Frequency::MILLIS));
-    assert!(rt; !equality::is_same_direction(Direction::SendRecv, Direction::SendOnly));
-    assert!(rt; !equality::is_same_mid(audio, video));
-    assert!(rt; !equality::is_same_rid(stream, Rid::from("low")));
-    assert!(rt; !equality::is_same_mid_rid(MidRid(audio, None), MidRid(audio, Some(stream))));
     Ok(())
 }
 
@@ -131,6 +146,22 @@ fn authentic_packets(rt: HostRuntime) -> Result<(), Fail> {
         receiving::receive_authentic(&mut receiver, &first, |_| true),
         None
     );
+    Ok(())
+}
+
+#[test]
+fn allocations(rt: HostRuntime) -> Result<(), Fail> {
+    let alloc = rt.alloc();
+    let five = vla::parse(alloc, &[1, 0, 5])?.ok_or("an allocation")?;
+    let six = vla::parse(alloc, &[1, 0, 6])?.ok_or("an allocation")?;
+    assert!(rt; !equality::is_same_allocation(&five, &six));
+    let mut buf = [9; 4];
+    assert_eq!(rt; layers::written_in(&mut buf, &six), Some(3));
+    assert_eq!(rt; buf, [1, 0, 6, 9]);
+    assert!(rt; layers::written_in(&mut buf[..2], &six).is_none());
+    let mut header = RtpHeader::default();
+    header.ext_vals.video_layers_allocation = Some(five);
+    assert!(rt; headers::copied(alloc, &header)? == header);
     Ok(())
 }
 

@@ -40,18 +40,24 @@ const DIRECTIONS: [(Direction, &str, Direction, bool, bool, bool); 4] = [
 ];
 
 #[test]
-fn directions(rt: HostRuntime) -> Result<(), Fail> {
-    for (direction, name, opposite, sends, receives, counts) in DIRECTIONS {
+fn names(rt: HostRuntime) -> Result<(), Fail> {
+    for (direction, name, ..) in DIRECTIONS {
         assert_eq!(rt; format!(in rt.alloc(); "{direction}")?.as_str(), name);
         assert_eq!(rt; format!(in rt.alloc(); "{direction:>12}")?.as_str(), name);
         assert_eq!(rt; Direction::from(name), direction);
-        assert_eq!(rt; direction.invert(), opposite);
-        assert_eq!(rt; direction.is_sending(), sends, "{name}");
-        assert_eq!(rt; direction.is_receiving(), receives, "{name}");
-        assert_eq!(rt; direction.sdp_is_receiving(), counts, "{name}");
     }
     for other in ["SENDONLY", "", "sendonly ", "recv"] {
         assert_eq!(rt; Direction::from(other), Direction::Inactive, "{other}");
     }
     Ok(())
+}
+
+#[test]
+fn what_they_say(rt: HostRuntime) {
+    for (direction, name, opposite, sends, receives, counts) in DIRECTIONS {
+        assert_eq!(rt; direction.invert(), opposite);
+        assert_eq!(rt; direction.is_sending(), sends, "{name}");
+        assert_eq!(rt; direction.is_receiving(), receives, "{name}");
+        assert_eq!(rt; direction.sdp_is_receiving(), counts, "{name}");
+    }
 }

@@ -5,7 +5,7 @@ use std::alloc::{AllocError, Global};
 use std::process::Abort;
 
 // A kind, its URI, its text, and whether audio and video streams have it.
-const KINDS: [(Extension, &str, &str, bool, bool); 14] = [
+const KINDS: [(Extension, &str, &str, bool, bool); 15] = [
     (
         Extension::AbsoluteSendTime,
         "http://www.webrtc.org/experiments/rtp-hdrext/abs-send-time",
@@ -104,6 +104,13 @@ const KINDS: [(Extension, &str, &str, bool, bool); 14] = [
         false,
         true,
     ),
+    (
+        Extension::VideoLayersAllocation,
+        "http://www.webrtc.org/experiments/rtp-hdrext/video-layers-allocation00",
+        "http://www.webrtc.org/experiments/rtp-hdrext/video-layers-allocation00",
+        false,
+        true,
+    ),
 ];
 
 // An extension with a text of its own.
@@ -151,19 +158,26 @@ fn check_unknown(rt: &impl Abort, alloc: Global, uri: &str) -> Result<(), AllocE
 
 #[test]
 fn unknown_uris(rt: HostRuntime) -> Result<(), AllocError> {
-    check_unknown(&rt, rt.alloc(), "urn:x")?;
-    check_unknown(&rt, rt.alloc(), "")?;
-    check_unknown(&rt, rt.alloc(), "urn:é€😀")?;
+    let uris = [
+        "urn:x",
+        "",
+        "urn:é€😀",
+        // A known one with a letter more, one less, and in another case.
+        "urn:3gpp:video-orientation0",
+        "urn:3gpp:video-orientatio",
+        "URN:3gpp:video-orientation",
+        "http://www.webrtc.org/experiments/rtp-hdrext/video-layers-allocation",
+    ];
+    for uri in uris {
+        check_unknown(&rt, rt.alloc(), uri)?;
+    }
     let longest = format!(in rt.alloc(); "urn:{:->251}", "")?;
     assert_eq!(rt; longest.len(), 255);
-    check_unknown(&rt, rt.alloc(), &longest)?;
-    // Not yet a known kind.
-    let allocation = "http://www.webrtc.org/experiments/rtp-hdrext/video-layers-allocation00";
-    check_unknown(&rt, rt.alloc(), allocation)?;
-    // A known one with a letter more, one less, and in another case.
-    check_unknown(&rt, rt.alloc(), "urn:3gpp:video-orientation0")?;
-    check_unknown(&rt, rt.alloc(), "urn:3gpp:video-orientatio")?;
-    check_unknown(&rt, rt.alloc(), "URN:3gpp:video-orientation")?;
+    check_unknown(&rt, rt.alloc(), &longest)
+}
+
+#[test]
+fn unknown_uris_differ(rt: HostRuntime) -> Result<(), AllocError> {
     assert!(rt; unknown(rt.alloc(), "urn:x")? != unknown(rt.alloc(), "urn:y")?);
     assert!(rt; unknown(rt.alloc(), "mid")? != Extension::RtpMid);
     Ok(())

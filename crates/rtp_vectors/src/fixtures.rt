@@ -38,7 +38,7 @@ pub(crate) fn spoken(audio_level: i8, send_time: u64, transport_number: u16) -> 
     }
 }
 
-// The values with every field set.
+// The values with every field set but the layer allocation, which takes memory.
 pub(crate) fn full() -> ExtensionValues {
     ExtensionValues {
         audio_level: Some(-43),
@@ -65,5 +65,6 @@ pub(crate) fn full() -> ExtensionValues {
         rid_repair: Some(Rid::from("lo")),
         mid: Some(Mid::from("a-b")),
         frame_mark: Some(1),
+        video_layers_allocation: None,
     }
 }

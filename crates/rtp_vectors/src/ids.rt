@@ -13,32 +13,63 @@ const WIDE: [(u64, &str); 4] = [
 
 // Each text is plain digits, whatever width and flags are set.
 #[test]
-fn numbers_and_texts(rt: HostRuntime) -> Result<(), Fail> {
+fn sources(rt: HostRuntime) -> Result<(), Fail> {
     for (number, text) in [(0, "0"), (44, "44"), (4294967295, "4294967295")] {
         let ssrc = Ssrc::from(number);
         assert_eq!(rt; ssrc.get(), number);
         assert_eq!(rt; format!(in rt.alloc(); "{ssrc}")?.as_str(), text);
         assert_eq!(rt; format!(in rt.alloc(); "{ssrc:>12}")?.as_str(), text);
     }
+    Ok(())
+}
+
+#[test]
+fn payload_types(rt: HostRuntime) -> Result<(), Fail> {
     for (number, text) in [(0, "0"), (111, "111"), (255, "255")] {
         let pt = Pt::from(number);
         assert_eq!(rt; pt.get(), number);
         assert_eq!(rt; format!(in rt.alloc(); "{pt}")?.as_str(), text);
         assert_eq!(rt; format!(in rt.alloc(); "{pt:8}")?.as_str(), text);
     }
+    Ok(())
+}
+
+#[test]
+fn sequence_numbers(rt: HostRuntime) -> Result<(), Fail> {
     for (number, text) in WIDE {
         let seq = SeqNo::from(number);
         assert_eq!(rt; seq.get(), number);
         assert_eq!(rt; format!(in rt.alloc(); "{seq}")?.as_str(), text);
         assert_eq!(rt; format!(in rt.alloc(); "{seq:08}")?.as_str(), text);
+    }
+    Ok(())
+}
+
+#[test]
+fn sessions(rt: HostRuntime) -> Result<(), Fail> {
+    for (number, text) in WIDE {
         let session = SessionId::from(number);
         assert_eq!(rt; session.get(), number);
         assert_eq!(rt; format!(in rt.alloc(); "{session}")?.as_str(), text);
         assert_eq!(rt; format!(in rt.alloc(); "{session:<24}")?.as_str(), text);
+    }
+    Ok(())
+}
+
+#[test]
+fn transport_sequence_numbers(rt: HostRuntime) -> Result<(), Fail> {
+    for (number, text) in WIDE {
         let seq = TwccSeq::from(number);
         assert_eq!(rt; seq.get(), number);
         assert_eq!(rt; format!(in rt.alloc(); "{seq}")?.as_str(), text);
         assert_eq!(rt; format!(in rt.alloc(); "{seq:8}")?.as_str(), text);
+    }
+    Ok(())
+}
+
+#[test]
+fn clusters(rt: HostRuntime) -> Result<(), Fail> {
+    for (number, text) in WIDE {
         let cluster = TwccClusterId::from(number);
         assert_eq!(rt; cluster.get(), number);
         assert_eq!(rt; format!(in rt.alloc(); "{cluster}")?.as_str(), text);
@@ -56,7 +87,7 @@ fn order(rt: HostRuntime) {
 }
 
 #[test]
-fn texts_of_ids(rt: HostRuntime) -> Result<(), Fail> {
+fn texts_of_mids(rt: HostRuntime) -> Result<(), Fail> {
     let mids = [
         // A character of two bytes is one underscore, and so is a dash.
         ("é-1", "__1"),
@@ -78,6 +109,15 @@ fn texts_of_ids(rt: HostRuntime) -> Result<(), Fail> {
         assert_eq!(rt; format!(in rt.alloc(); "{mid}")?.as_str(), kept);
         assert_eq!(rt; format!(in rt.alloc(); "{mid:>20}")?.as_str(), kept);
     }
+    assert_eq!(rt;
+        format!(in rt.alloc(); "{:?}", Mid::from("xYj"))?.as_str(),
+        "Mid(xYj)"
+    );
+    Ok(())
+}
+
+#[test]
+fn texts_of_rids(rt: HostRuntime) -> Result<(), Fail> {
     let rids = [
         ("abcdefghij", "abcdefgh"),
         ("hi", "hi"),
@@ -93,10 +133,6 @@ fn texts_of_ids(rt: HostRuntime) -> Result<(), Fail> {
         assert_eq!(rt; format!(in rt.alloc(); "{rid:.1}")?.as_str(), kept);
     }
     assert_eq!(rt;
-        format!(in rt.alloc(); "{:?}", Mid::from("xYj"))?.as_str(),
-        "Mid(xYj)"
-    );
-    assert_eq!(rt;
         format!(in rt.alloc(); "{:?}", Rid::from(""))?.as_str(),
         "Rid()"
     );
@@ -104,7 +140,7 @@ fn texts_of_ids(rt: HostRuntime) -> Result<(), Fail> {
 }
 
 #[test]
-fn bytes_of_ids(rt: HostRuntime) {
+fn bytes_of_rids(rt: HostRuntime) {
     let rids: [(&[u8; 8], bool); 8] = [
         (b"        ", true),
         (b"a_Z9    ", true),
@@ -118,6 +154,13 @@ fn bytes_of_ids(rt: HostRuntime) {
     for (bytes, wanted) in rids {
         assert_eq!(rt; Rid::is_id_array(bytes), wanted);
     }
+    let rid = *b"q       ";
+    assert!(rt; Rid::is_id_array(&rid));
+    assert!(rt; Rid::from_array(rid) == Rid::from("q"));
+}
+
+#[test]
+fn bytes_of_mids(rt: HostRuntime) {
     assert!(rt; !Mid::is_id_array(b"               a"));
     let array = *b"mid             ";
     assert!(rt; Mid::is_id_array(&array));
@@ -125,12 +168,13 @@ fn bytes_of_ids(rt: HostRuntime) {
     assert_eq!(rt; mid.as_str(), "mid");
     assert!(rt; mid == Mid::from("mid"));
     assert!(rt; mid != Mid::from("mie"));
-    assert!(rt; mid < Mid::from("mie"));
+}
+
+#[test]
+fn order_of_mids(rt: HostRuntime) {
+    assert!(rt; Mid::from("mid") < Mid::from("mie"));
     assert!(rt; Mid::from("Z") < Mid::from("_"));
     assert!(rt; Mid::from("") < Mid::from("0"));
-    let rid = *b"q       ";
-    assert!(rt; Rid::is_id_array(&rid));
-    assert!(rt; Rid::from_array(rid) == Rid::from("q"));
 }
 
 #[test]
@@ -157,6 +201,12 @@ fn packet_numbers(rt: HostRuntime) -> Result<(), Fail> {
     assert!(rt; five.is_next(SeqNo::from(6)));
     assert!(rt; !five.is_next(SeqNo::from(5)) && !five.is_next(SeqNo::from(7)));
     assert!(rt; !five.is_next(SeqNo::from(4)));
+    Ok(())
+}
+
+#[test]
+fn last_and_next_packet_number(rt: HostRuntime) -> Result<(), Fail> {
+    let five = SeqNo::from(5);
     assert!(rt; SeqNo::MAX.is_max() && !five.is_max());
     assert_eq!(rt; SeqNo::MAX.get(), 18446744073709551615);
     assert!(rt; !SeqNo::MAX.is_next(SeqNo::from(0)));
@@ -175,6 +225,11 @@ fn transport_numbers(rt: HostRuntime) -> Result<(), Fail> {
     assert!(rt; seq.is_next(TwccSeq::from(65_538)) && !seq.is_next(seq));
     assert_eq!(rt; seq.inc().get(), 65_537);
     assert_eq!(rt; format!(in rt.alloc(); "{seq}")?.as_str(), "65538");
+    Ok(())
+}
+
+#[test]
+fn numbers_of_clusters(rt: HostRuntime) -> Result<(), Fail> {
     assert_eq!(rt; TwccClusterId::default().get(), 0);
     let mut cluster = TwccClusterId::from(18446744073709551615);
     assert_eq!(rt; cluster.inc().get(), 18446744073709551615);

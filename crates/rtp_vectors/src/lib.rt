@@ -2,6 +2,12 @@
 #![tactic(auto)]
 
 #[cfg(test)]
+mod allocation_limits;
+#[cfg(test)]
+mod allocations;
+#[cfg(test)]
+mod allocations_in_headers;
+#[cfg(test)]
 mod blocks;
 #[cfg(test)]
 mod directions;
@@ -22,9 +28,17 @@ mod ids;
 #[cfg(test)]
 mod kinds;
 #[cfg(test)]
+mod leb_numbers;
+#[cfg(test)]
 mod maps;
 #[cfg(test)]
 mod receivers;
+#[cfg(test)]
+mod refused_copies;
+#[cfg(test)]
+mod refused_readings;
+#[cfg(test)]
+mod refused_samples;
 #[cfg(test)]
 mod runs;
 #[cfg(test)]

@@ -40,6 +40,12 @@ fn entries(rt: HostRuntime) -> Result<(), AllocError> {
         text_of(rt.alloc(), &map)?.as_str(),
         "Extensions(1=ssrc-audio-level, 4=mid, 16=mid)"
     );
+    Ok(())
+}
+
+#[test]
+fn look_ups(rt: HostRuntime) {
+    let mut map = with(one(4, Extension::RtpMid), 16, Extension::RtpMid);
     assert!(rt; map.lookup(4) == Some(&Extension::RtpMid));
     assert!(rt; map.lookup(16) == Some(&Extension::RtpMid));
     for id in [0, 2, 3, 15, 17, 255] {
@@ -50,11 +56,15 @@ fn entries(rt: HostRuntime) -> Result<(), AllocError> {
     map.set(4, Extension::ColorSpace);
     assert_eq!(rt; map.id_of(Extension::RtpMid), Some(16));
     assert_eq!(rt; map.id_of(Extension::ColorSpace), Some(4));
+}
+
+#[test]
+fn cleared(rt: HostRuntime) {
+    let mut map = one(4, Extension::RtpMid);
     assert!(rt; !map.is_empty());
     map.clear();
     assert!(rt; map.is_empty());
     assert!(rt; map == ExtensionMap::empty());
-    Ok(())
 }
 
 #[test]

@@ -194,13 +194,17 @@ fn times_at_another_frequency(rt: HostRuntime) {
 }
 
 #[test]
-fn sums_and_differences(rt: HostRuntime) {
+fn rebased_times(rt: HostRuntime) {
     assert_eq!(rt;
         parts(at(10, 1).rebase(Frequency::NINETY_KHZ)),
         (900_000, 90_000)
     );
     assert_eq!(rt; MediaTime::from_90khz(1).as_micros(), 11);
     assert_eq!(rt; MediaTime::from_secs(3).as_micros(), 3_000_000);
+}
+
+#[test]
+fn times_added_and_subtracted(rt: HostRuntime) {
     let (third, quarter) = (at(1, 3), at(1, 4));
     assert_eq!(rt; parts(third + quarter), (2, 4));
     assert_eq!(rt; parts(third - quarter), (0, 4));
@@ -209,6 +213,10 @@ fn sums_and_differences(rt: HostRuntime) {
     assert_eq!(rt; parts(time), (1_500, 1_000));
     time -= MediaTime::from_secs(1);
     assert_eq!(rt; parts(time), (500, 1_000));
+}
+
+#[test]
+fn checked_sums(rt: HostRuntime) {
     let sums = [
         ((1, 3), (1, 4), Some((2, 4))),
         ((MOST, 1), (0, 1), Some((MOST, 1))),
@@ -222,6 +230,10 @@ fn sums_and_differences(rt: HostRuntime) {
         let found = at(numer, hertz).checked_add(at(other_numer, other_hertz));
         assert_eq!(rt; found.map(|t| parts(t)), sum);
     }
+}
+
+#[test]
+fn checked_differences(rt: HostRuntime) {
     let (five, ten) = (MediaTime::from_micros(5), MediaTime::from_micros(10));
     assert_eq!(rt; five.checked_sub(ten).map(|t| parts(t)), None);
     assert_eq!(rt; parts(five.saturating_sub(ten)), (0, 1));
@@ -230,9 +242,19 @@ fn sums_and_differences(rt: HostRuntime) {
         Some((5, 1_000_000))
     );
     assert_eq!(rt; parts(ten.saturating_sub(five)), (5, 1_000_000));
+}
+
+#[test]
+fn differences_by_the_fractions(rt: HostRuntime) {
+    let (third, quarter) = (at(1, 3), at(1, 4));
     // Both are 1 at 4 once they are cut, and still the first is less.
     assert_eq!(rt; quarter.checked_sub(third).map(|t| parts(t)), None);
     assert_eq!(rt; third.checked_sub(quarter).map(|t| parts(t)), Some((0, 4)));
+}
+
+#[test]
+fn differences_by_a_caller(rt: HostRuntime) {
+    let (five, ten) = (MediaTime::from_micros(5), MediaTime::from_micros(10));
     assert_eq!(rt; between(ten, five).map(|t| parts(t)), None);
     assert_eq!(rt;
         between(five, at(1, 1)).map(|t| parts(t)),

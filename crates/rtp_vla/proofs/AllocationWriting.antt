@@ -117,9 +117,21 @@ can_be_written-from a (bytes, all, means) =
 
 -- ---- What the functions that write ask
 
-pub some_fits : (o : Option ℕ) (b : Bool) (n : ℕ) → IfSome o (λ len. (b ≡ true) × (len ≡ n)) → IfNone o (b ≡ false) → (is_some o ≡ true → b ≡ true) × (b ≡ true → is_some o ≡ true) × (b ≡ true → unwrap_or o 0 ≡ n)
-some_fits None b n fits unfit = (λ is. absurd (false≢true is), λ is. absurd (false≢true (sym unfit ∙ is)), λ is. absurd (false≢true (sym unfit ∙ is)))
-some_fits (Some len) b n fits unfit = (λ is. fits.0, λ is. refl, λ is. fits.1)
+pub some_found : (o : Option ℕ) (a : Allocation) (n : ℕ) → IfSome o (λ len. (can_be_written a ≡ true) × (len ≡ n)) → IfSome o (λ len. Writable a × (len ≡ n))
+some_found None a n fits = fits
+some_found (Some len) a n fits = (Writable-from a fits.0, fits.1)
+
+pub none_found : (o : Option ℕ) (a : Allocation) → IfNone o (can_be_written a ≡ false) → IfNone o (Writable a → ⊥)
+none_found None a unfit = λ some. false≢true (sym unfit ∙ can_be_written-from a some)
+none_found (Some len) a unfit = unfit
+
+pub some_is : (o : Option ℕ) (b : Bool) (n : ℕ) → IfSome o (λ len. (b ≡ true) × (len ≡ n)) → IfNone o (b ≡ false) → is_some o ≡ b
+some_is None b n fits unfit = sym unfit
+some_is (Some len) b n fits unfit = sym fits.0
+
+pub some_value : (o : Option ℕ) (a : Allocation) (n : ℕ) → IfSome o (λ len. Writable a × (len ≡ n)) → IfNone o (Writable a → ⊥) → Writable a → unwrap_or o 0 ≡ n
+some_value None a n found none some = absurd (none some)
+some_value (Some len) a n found none some = found.1
 
 small_one : (rates : List ℕ) → list_all (λ rate. ltb rate 9223372036854775808) rates ≡ true → AllByRecursion (λ rate. rate < 9223372036854775808) rates
 small_one [] all = tt

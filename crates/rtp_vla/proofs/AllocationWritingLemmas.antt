@@ -156,6 +156,14 @@ pub written-bytes : (a : Allocation) → written_of a ≡ streams_bytes a.curren
 unfolding written_of
 written-bytes a = refl
 
+-- there is a head at least
+streams_bytes-long : (index : ℕ) (streams : List Stream) → 1 ≤ length (streams_bytes index streams)
+streams_bytes-long index [] = omega arith
+streams_bytes-long index (stream ∷ streams) = omega arith
+
+pub written-long : (a : Allocation) → 1 ≤ length (written_of a)
+written-long a = omega (arith, ap length (written-bytes a), streams_bytes-long a.current_simulcast_stream_index a.simulcast_streams)
+
 pub AllByRecursion-tail : (P : Layer → Type 0) (all rest : List Layer) {layer : Layer} → all ≡ layer ∷ rest → AllByRecursion P all → AllByRecursion P rest
 AllByRecursion-tail P all rest is h = (subst (AllByRecursion P) is h).1
 

@@ -4,8 +4,9 @@ use Rattle.std.specs.List.{AllByRecursion}
 use Rattle.std.proofs.Math.Nat.{mod-eq_of_lt, pow-suc}
 use Rattle.std.proofs.lemmas.Bool.{lt-ltb, le-ltb, cases_lt}
 use Rattle.rtp_vla.specs.Leb.{number_of, IsShortest, leb_of, shortest_of}
-use Rattle.rtp_vla.specs.LebOverwriting.{overwritten, Leaves}
-use Rattle.rtp_vla.proofs.LebOverwritingLemmas.{Leaves-byte, Leaves-end}
+use Rattle.rtp_base.specs.Overwriting.{overwritten}
+use Rattle.rtp_vla.specs.Leaving.{Leaves}
+use Rattle.rtp_vla.proofs.LeavingLemmas.{Leaves-byte, Leaves-end}
 use Rattle.rtp_vla.proofs.LebLemmas.{number_of-below}
 
 -- ---- The shortest spelling

@@ -1,4 +1,4 @@
-pub mod LebOverwritingLemmas
+pub mod LeavingLemmas
 pub mod LebLemmas
 pub mod LebSpellingLemmas
 pub mod AllocationReadingLemmas

@@ -4,7 +4,7 @@ pub mod Allocation
 pub mod AllocationWritten
 -- What the inside promises itself.
 pub mod LebReading
-pub mod LebOverwriting
+pub mod Leaving
 pub mod AllocationEqual
 pub mod AllocationReading
 pub mod AllocationPutting

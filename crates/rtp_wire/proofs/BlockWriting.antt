@@ -11,9 +11,9 @@ use Rattle.rtp_wire.specs.Form.{form_word}
 use Rattle.rtp_wire.specs.Elements.{AreElements}
 use Rattle.rtp_wire.specs.Values.{AreValues, no_values}
 use Rattle.rtp_wire.specs.Block.{IsBlock, IsExtensionPart}
-use Rattle.rtp_wire.specs.Overwriting.{overwritten}
+use Rattle.rtp_base.specs.Overwriting.{overwritten}
 use Rattle.rtp_wire.specs.WrittenBlock.{written_elements, form_of, elements_bytes, padding_of, body_bytes, block_bytes, image_values}
-use Rattle.rtp_wire.proofs.OverwritingLemmas.{overwritten-overwritten, overwritten-before, overwritten-front, overwritten-rest, length-overwritten}
+use Rattle.rtp_base.proofs.OverwritingLemmas.{overwritten-overwritten, overwritten-before, overwritten-front, overwritten-rest, length-overwritten}
 
 pub length-body : (exts : ExtensionMap) (values : ExtensionValues) (n : ℕ) → n ≡ length (elements_bytes (form_of exts values) (written_elements exts values))
     → length (body_bytes exts values) ≡ n + padding_of n

@@ -1,7 +1,9 @@
 -- Groups of four bytes, one after the other.
 use Rattle.std.proofs.Common.{◌≡◌, ℕ, zero, suc, ◌+◌, ◌-◌, ◌*◌, ◌<◌, ◌≤◌, List, [], ◌∷◌, ◌++◌, length, map, replicate, get_or, set, take, drop, refl, sym, ap, ◌∙◌, append_assoc, length-append, length-drop, length-take, length-take-le, take_at, drop_at, take-add, arith}
-use Rattle.std.proofs.lemmas.List.{length-map, set_at, map_more, take-take, drop-take}
-use Rattle.std.specs.List.{concat, AllByRecursion}
+use Rattle.std.proofs.lemmas.List.Concat.{flat_map-append}
+use Rattle.std.proofs.lemmas.List.{take_more, append-nil, length-map, set_at, map_more, take-take, drop-take}
+use Rattle.std.specs.List.{concat, flat_map, AllByRecursion}
+use Rattle.std.specs.Int.{w32, to_be_bytes}
 use Rattle.std.specs.Simd.{first_chunks}
 
 -- each group has four bytes
@@ -59,3 +61,13 @@ first_chunks-take (suc k) xs =
     ap (λ (n : ℕ). first_chunks 4 (suc k) (take n xs)) (fours k)
     ∙ rw (take-take 4 (4 + 4 * k) xs (omega arith), drop-take 4 (4 * k) xs)
     (ap (λ (groups : List (List ℕ)). take 4 xs ∷ groups) (first_chunks-take k (drop 4 xs)))
+
+-- the bytes of one number more
+pub flat_map-take_more : (f : ℕ → List ℕ) (xs : List ℕ) (i : ℕ) → i < length xs → flat_map f (take (i + 1) xs) ≡ flat_map f (take i xs) ++ f (get_or xs i 0)
+flat_map-take_more f xs i within =
+    ap (flat_map f) (take_more xs i 0 within) ∙ flat_map-append f (take i xs) (get_or xs i 0 ∷ [])
+    ∙ ap (λ (ys : List ℕ). flat_map f (take i xs) ++ ys) (append-nil (f (get_or xs i 0)))
+
+pub length-numbers : (xs : List ℕ) → length (flat_map (to_be_bytes w32) xs) ≡ 4 * length xs
+length-numbers [] = refl
+length-numbers (x ∷ xs) = omega (arith, length-append (to_be_bytes w32 x) (flat_map (to_be_bytes w32) xs), length-numbers xs)

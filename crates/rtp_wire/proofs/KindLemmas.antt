@@ -2,7 +2,7 @@
 use Rattle.std.proofs.Common.{List, [], ◌∷◌, ◌++◌, All, arith}
 use Rattle.std.proofs.lemmas.List.Elements.{All-append, All-cons, All-nil}
 use Rattle.rtp_wire.specs.declared.ext.kind.Extension.{Extension}
-use Rattle.rtp_wire.specs.declared.ext.kind.Extension.TheVariants.{AbsoluteSendTime, AbsoluteCaptureTime, AudioLevel, TransmissionTimeOffset, VideoOrientation, TransportSequenceNumber, PlayoutDelay, VideoContentType, VideoTiming, RtpStreamId, RepairedRtpStreamId, RtpMid, FrameMarking, ColorSpace, UnknownUri}
+use Rattle.rtp_wire.specs.declared.ext.kind.Extension.TheVariants.{AbsoluteSendTime, AbsoluteCaptureTime, AudioLevel, TransmissionTimeOffset, VideoOrientation, TransportSequenceNumber, PlayoutDelay, VideoContentType, VideoTiming, RtpStreamId, RepairedRtpStreamId, RtpMid, FrameMarking, ColorSpace, VideoLayersAllocation, UnknownUri}
 use Rattle.rtp_wire.specs.Kind.{known_kinds, IsKnown}
 
 -- what holds of each kind in the list holds of each known kind
@@ -21,6 +21,7 @@ All-known P all RepairedRtpStreamId known = all 10 RepairedRtpStreamId (omega ar
 All-known P all RtpMid known = all 11 RtpMid (omega arith)
 All-known P all FrameMarking known = all 12 FrameMarking (omega arith)
 All-known P all ColorSpace known = all 13 ColorSpace (omega arith)
+All-known P all VideoLayersAllocation known = all 14 VideoLayersAllocation (omega arith)
 All-known P all (UnknownUri uri) known = absurd known
 
 -- one more at the end

@@ -2,6 +2,7 @@ mod ElementLemmas
 mod ValuesLaws
 mod ValueFacts
 mod ElementLemmasOfBodies
+mod MemoryLemmas
 mod KindLemmas
 mod MapLemmas
 mod ListingLemmas
@@ -11,8 +12,8 @@ mod BlockLemmas
 mod HeaderLemmas
 mod OneHeader
 mod ParseLemmas
-mod OverwritingLemmas
 mod BlockWriting
+mod FormLemmas
 mod WrittenBlockLemmas
 mod WrittenElementsLemmas
 mod WrittenValuesLemmas

@@ -1,4 +1,4 @@
--- A header that is overwritten in bytes is the only one, and bytes that are refused have none.
+-- A header that bytes begin with is the only one, and bytes that are refused have none.
 use Rattle.std.proofs.Common.{◌≡◌, ℕ, ◌+◌, ◌*◌, ◌≤◌, Bool, true, false, List, length, take, drop, refl, sym, ap, ◌∙◌, subst, arith, length-take-le}
 use Rattle.std.specs.Prelude.{slice_index, map, replicate, ◌++◌, ◌-◌}
 use Rattle.std.specs.Int.{w32, from_be_bytes}
@@ -63,16 +63,17 @@ part_once exts true bytes v v' n n' p q =
     let lists = one_list p.is_part.0 q.is_part.0 p.is_part.1 q.is_part.1 p.is_part.2 q.is_part.2 forms bodies p.is_part.4 q.is_part.4 in
     (same, one_values exts q.is_part.2 no_values v v' (subst (λ (es : List Element). AreValues exts es no_values v) lists p.is_part.5) q.is_part.5)
 
+-- a block begins here, or none does
+pub not_both : (bytes body : List ℕ) (form : ExtensionsForm) (n : ℕ) → n ≤ length bytes → IsBlock (take n bytes) form body → NotABlock bytes → ⊥
+not_both bytes body form n fits is (cut_head short) = let head = block_len bytes body form n fits is in omega (arith, head.0)
+not_both bytes body form n fits is (unknown_form unknown) = unknown form (block_len bytes body form n fits is).1
+not_both bytes body form n fits is (cut_words short) = let head = block_len bytes body form n fits is in omega (arith, head.0)
+
 -- where no block begins, X announces nothing that is there
 no_part : (exts : ExtensionMap) (bytes : List ℕ) (v : ExtensionValues) (n : ℕ) → NotABlock bytes → HasExtensionPart exts true bytes v n → ⊥
-no_part exts bytes v n (cut_head short) p =
-    let is = block_len bytes p.is_part.1 p.is_part.0 n p.fits p.is_part.3 in let fits = p.fits in omega (arith, is.0)
-no_part exts bytes v n (unknown_form unknown) p =
-    unknown p.is_part.0 (block_len bytes p.is_part.1 p.is_part.0 n p.fits p.is_part.3).1
-no_part exts bytes v n (cut_words short) p =
-    let is = block_len bytes p.is_part.1 p.is_part.0 n p.fits p.is_part.3 in let fits = p.fits in omega (arith, is.0)
+no_part exts bytes v n none p = not_both bytes p.is_part.1 p.is_part.0 n p.fits p.is_part.3 none
 
--- the flags of a overwritten header are those of the first byte
+-- the flags of a header are those of the first byte
 flags_of : (exts : ExtensionMap) (bytes : List ℕ) (h : RtpHeader) → IsLaidOut exts bytes h → HasFlags (slice_index bytes 0) h.has_padding h.has_extension h.csrc_count
 flags_of exts bytes h at =
     subst (λ (byte : ℕ). HasFlags byte h.has_padding h.has_extension h.csrc_count) (get_or-take 12 bytes 0 0 (omega arith))

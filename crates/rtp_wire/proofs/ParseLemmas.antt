@@ -1,5 +1,5 @@
 -- What `parse` finds piece by piece is a header, or a cause to refuse.
-use Rattle.std.proofs.Common.{◌≡◌, ℕ, ◌+◌, ◌-◌, ◌*◌, ◌/◌, ◌<◌, ◌≤◌, Bool, true, false, refl, List, ◌++◌, length, take, drop, sym, ap, ◌∙◌, subst, arith, length-take-le, length-drop}
+use Rattle.std.proofs.Common.{◌≡◌, ℕ, ◌+◌, ◌-◌, ◌*◌, ◌/◌, ◌%◌, ◌<◌, ◌≤◌, Bool, true, false, refl, List, ◌++◌, length, take, drop, sym, ap, ◌∙◌, subst, arith, length-take-le, length-drop}
 use Rattle.std.specs.Prelude.{map, replicate, slice_index}
 use Rattle.std.specs.Int.{w32, from_be_bytes}
 use Rattle.std.specs.Simd.{first_chunks}
@@ -7,13 +7,16 @@ use Rattle.std.proofs.lemmas.List.{drop-drop, get_or-take}
 use Rattle.rtp_wire.specs.declared.ext.map.ExtensionMap.{ExtensionMap}
 use Rattle.rtp_wire.specs.declared.header.rtp_header.RtpHeader.{RtpHeader}
 use Rattle.rtp_wire.specs.Header.{bit, IsFirstByte, IsFixed}
-use Rattle.rtp_wire.specs.NotAHeader.{NotABlock, NotAHeader, cut_sources, no_block}
+use Rattle.rtp_wire.specs.declared.ext.form.ExtensionsForm.{ExtensionsForm}
+use Rattle.rtp_wire.specs.NotAHeader.{NotABlock, NotAHeader, sources_end, cut_fixed, other_version, cut_sources, no_block}
+use Rattle.rtp_wire.specs.Memory.{BlockHasAllocation, HeaderHasAllocation}
 use Rattle.rtp_wire.specs.declared.ext.value.values.ExtensionValues.{ExtensionValues}
 use Rattle.rtp_wire.specs.Values.{no_values, AreValues}
-use Rattle.rtp_wire.specs.Reading.{HasExtensionPart, ReadsBlock}
+use Rattle.rtp_wire.specs.Reading.{HasBlock, HasExtensionPart, ReadsBlock}
 use Rattle.rtp_wire.proofs.FlagLemmas.{HasFlags, flags_from_first}
 use Rattle.rtp_wire.proofs.GroupLemmas.{AreFours-first_chunks, length-first_chunks, first_chunks-take}
 use Rattle.rtp_wire.proofs.HeaderLemmas.{IsLaidOut}
+use Rattle.rtp_wire.proofs.OneHeader.{not_both}
 
 -- the pieces that `parse` cuts off, one behind the other
 pub record AreCut (buf fixed after sources behind : List ℕ) (count : ℕ) : Type 0 where
@@ -69,13 +72,38 @@ cut_sources-from_pieces buf fixed after padding extension count fixed-is after-i
     let flags = first-byte buf fixed padding extension count fixed-is first in
     cut_sources (omega (arith, flags.count_is, ap length after-is, length-drop 12 buf))
 
+-- what is behind the pieces is behind the CSRC list, where X is set
+block-from_pieces : (P : List ℕ → Type 0) (buf fixed after sources behind : List ℕ) (padding extension : Bool) (count : ℕ) → AreCut buf fixed after sources behind count
+    → IsFirstByte (slice_index fixed 0) padding extension count → extension ≡ true → P behind → (slice_index buf 0 / 16 % 2 ≡ 1) × P (drop (sources_end buf) buf)
+block-from_pieces P buf fixed after sources behind padding extension count cut first set holds =
+    let flags = first-byte buf fixed padding extension count cut.fixed_is first in (
+      sym flags.extension_is ∙ ap bit set,
+      subst (λ (k : ℕ). P (drop (12 + 4 * k) buf)) flags.count_is (subst P (behind-drop buf fixed after sources behind count cut) holds),
+    )
+
 pub no_block-from_pieces : (buf fixed after sources behind : List ℕ) (padding extension : Bool) (count : ℕ) → AreCut buf fixed after sources behind count
     → IsFirstByte (slice_index fixed 0) padding extension count → extension ≡ true → NotABlock behind → NotAHeader buf
 no_block-from_pieces buf fixed after sources behind padding extension count cut first set none =
+    let both = block-from_pieces NotABlock buf fixed after sources behind padding extension count cut first set none in no_block both.0 both.1
+
+-- where a block follows, the bytes aren't refused
+no_cause : (buf body : List ℕ) (form : ExtensionsForm) → 12 ≤ length buf → slice_index buf 0 / 64 ≡ 2 → sources_end buf ≤ length buf
+    → HasBlock (drop (sources_end buf) buf) form body → NotAHeader buf → ⊥
+no_cause buf body form long version room block (cut_fixed short) = omega arith
+no_cause buf body form long version room block (other_version other) = other version
+no_cause buf body form long version room block (cut_sources short) = omega arith
+no_cause buf body form long version room block (no_block announced none) =
+    not_both (drop (sources_end buf) buf) body form (4 + length body) block.fits block.is_block none
+
+-- memory was refused to an element of the block
+pub HeaderHasAllocation-from_pieces : (exts : ExtensionMap) (buf fixed after sources behind : List ℕ) (padding extension : Bool) (count : ℕ) → AreCut buf fixed after sources behind count
+    → IsFirstByte (slice_index fixed 0) padding extension count → extension ≡ true → BlockHasAllocation exts behind
+    → HeaderHasAllocation exts buf × (NotAHeader buf → ⊥)
+HeaderHasAllocation-from_pieces exts buf fixed after sources behind padding extension count cut first set found =
     let flags = first-byte buf fixed padding extension count cut.fixed_is first in
-    no_block (sym flags.extension_is ∙ ap bit set)
-    (subst (λ (k : ℕ). NotABlock (drop (12 + 4 * k) buf)) flags.count_is
-    (subst NotABlock (behind-drop buf fixed after sources behind count cut) none))
+    let both = block-from_pieces (BlockHasAllocation exts) buf fixed after sources behind padding extension count cut first set found in
+    let room : sources_end buf ≤ length buf = omega (arith, cut.long, cut.room, ap length cut.after_is, length-drop 12 buf, flags.count_is) in
+    (record { extension = both.0; block = both.1 }, no_cause buf both.1.body both.1.form cut.long flags.version_is room both.1.is_block)
 
 -- a block that was read, where nothing was held before
 pub HasExtensionPart-read : (exts : ExtensionMap) (bytes : List ℕ) (old new : ExtensionValues) (len : ℕ) → old ≡ no_values → ReadsBlock exts bytes len old new → HasExtensionPart exts true bytes new len

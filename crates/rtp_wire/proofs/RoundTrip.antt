@@ -9,10 +9,11 @@ use Rattle.rtp_wire.specs.declared.ext.map.ExtensionMap.{ExtensionMap}
 use Rattle.rtp_wire.specs.declared.header.rtp_header.RtpHeader.{RtpHeader}
 use Rattle.rtp_wire.specs.Block.{IsExtensionPart}
 use Rattle.rtp_wire.specs.Header.{IsFixed, IsWire}
-use Rattle.rtp_wire.specs.Overwriting.{overwritten}
+use Rattle.rtp_base.specs.Overwriting.{overwritten}
 use Rattle.rtp_wire.specs.Written.{fixed_bytes, source_bytes, extension_bytes, wire_bytes, carried_image, image_of}
 use Rattle.rtp_wire.proofs.GroupLemmas.{AreFours}
-use Rattle.rtp_wire.proofs.OverwritingLemmas.{length-numbers, overwritten-three}
+use Rattle.rtp_base.proofs.OverwritingLemmas.{overwritten-three}
+use Rattle.rtp_wire.proofs.GroupLemmas.{length-numbers}
 
 -- how large the fields of a header are that can be written
 pub record IsInRange (h : RtpHeader) : Type 0 where

@@ -1,14 +1,17 @@
 -- The data that a kind's values are written as, and what they are read as.
 use Rattle.std.proofs.Common.{◌≡◌, ℕ, ◌+◌, ◌*◌, ◌/◌, ◌%◌, ◌<◌, ◌≤◌, ℤ, pos, neg_ℤ, Bool, true, false, List, [], ◌∷◌, ◌++◌, length, drop, Option, Some, None, refl, sym, ap, inl, inr, ◌∙◌, subst, arith, eq-eqb, length-take}
-use Rattle.std.specs.Prelude.{unsigned_abs, ◌==◌, map, IsUtf8}
+use Rattle.std.specs.Prelude.{◌&&◌, nat_le, if◌then◌else◌, unsigned_abs, ◌==◌, map, IsUtf8}
 use Rattle.std.specs.Option.{option_map, ForSome}
 use Rattle.std.specs.Str.{chars}
-use Rattle.std.proofs.lemmas.Bool.{ne_eqb, cases_lt}
+use Rattle.std.proofs.lemmas.Bool.{ne_eqb, cases_lt, and_parts, leb-true}
 use Rattle.std.proofs.lemmas.Nat.{div-mul-add, mod-mul-add}
 use Rattle.rtp_base.specs.MediaTime.{Fraction}
 use Rattle.rtp_base.specs.Id.{before_padding, id_char, IsIdOf}
+use Rattle.rtp_vla.specs.Allocation.{Allocation}
+use Rattle.rtp_vla.specs.AllocationWritten.{Writable, can_be_written, written_of}
+use Rattle.rtp_vla.proofs.AllocationWriting.{Writable-from, written_means}
 use Rattle.rtp_wire.specs.declared.ext.kind.Extension.{Extension}
-use Rattle.rtp_wire.specs.declared.ext.kind.Extension.TheVariants.{AbsoluteSendTime, AbsoluteCaptureTime, AudioLevel, TransmissionTimeOffset, VideoOrientation, TransportSequenceNumber, PlayoutDelay, VideoContentType, VideoTiming, RtpStreamId, RepairedRtpStreamId, RtpMid, FrameMarking}
+use Rattle.rtp_wire.specs.declared.ext.kind.Extension.TheVariants.{AbsoluteSendTime, AbsoluteCaptureTime, AudioLevel, TransmissionTimeOffset, VideoOrientation, TransportSequenceNumber, PlayoutDelay, VideoContentType, VideoTiming, RtpStreamId, RepairedRtpStreamId, RtpMid, FrameMarking, VideoLayersAllocation}
 use Rattle.rtp_wire.specs.declared.ext.value.values.ExtensionValues.{ExtensionValues}
 use Rattle.rtp_wire.specs.declared.ext.value.abs_capture_time.AbsCaptureTime as capture
 use Rattle.rtp_wire.specs.declared.ext.value.video_timing.VideoTiming as timing
@@ -16,7 +19,7 @@ use Rattle.rtp_wire.specs.declared.ext.value.video_orientation.VideoOrientation 
 use Rattle.rtp_wire.specs.declared.ext.value.video_orientation.VideoOrientation.TheVariants.{Deg0, Deg90, Deg180, Deg270}
 use Rattle.rtp_wire.specs.Header.{bit}
 use Rattle.rtp_wire.specs.Values.{Reads, number_of, offset_of, orientation_of, hundredths}
-use Rattle.rtp_wire.specs.Spelling.{bytes_of, spelled_data, HasRoom, carried_values, send_ticks, delay_of, offset_bytes, orientation_bits, timing_bytes}
+use Rattle.rtp_wire.specs.Spelling.{bytes_of, spelled_data, HasRoom, carried_values, longest, send_ticks, delay_of, offset_bytes, orientation_bits, timing_bytes}
 use Rattle.rtp_wire.specs.KindBytes.{HasWritten}
 
 -- ---- what is written
@@ -25,16 +28,21 @@ use Rattle.rtp_wire.specs.KindBytes.{HasWritten}
 pub record AreData (kind : Extension) (values : ExtensionValues) (bytes : List ℕ) : Type 0 where
   pub spelled : spelled_data kind values ≡ Some bytes
   pub read_back : Reads kind bytes (carried_values values)
-  pub few : length bytes ≤ 16
+  pub few : length bytes ≤ longest kind
 
 pub room_of : {spelled : Option (List ℕ)} {bytes : List ℕ} → spelled ≡ Some bytes → length bytes ≤ 255
     → (buf : List ℕ) → (length buf < 255 → ForSome spelled (λ some. length some ≤ length buf)) → length bytes ≤ length buf
 room_of {bytes} is few buf room =
     elim (cases_lt (length buf) 255) [ inl below ↦ room below bytes is | inr enough ↦ omega arith ]
 
+-- how long the data of a kind may be
+pub longest-fits : (kind : Extension) → longest kind ≤ 255
+longest-fits VideoLayersAllocation = omega arith
+longest-fits _ = omega arith
+
 module _ {kind : Extension} {values : ExtensionValues} {bytes : List ℕ} (are : AreData kind values bytes) where
   pub room_for : (buf : List ℕ) → HasRoom kind values buf → length bytes ≤ length buf
-  room_for buf room = let few = are.few in room_of are.spelled (omega arith) buf room
+  room_for buf room = room_of are.spelled (omega (arith, are.few, longest-fits kind)) buf room
 
   pub HasWritten-put : {old new : List ℕ} {result : ℕ} → result ≡ length bytes → new ≡ bytes ++ drop (length bytes) old → HasWritten kind values old new (Some result)
   HasWritten-put len put = record {
@@ -230,3 +238,29 @@ module _ {shown values : ExtensionValues} (same : shown ≡ values) where
     read_back = (utf8, rw (← same, is) (subst (λ (xs : List ℕ). IsIdOf 16 xs mid) (sym bytes-are) back));
     few = omega (arith, ap length (bytes-are ∙ text-is ∙ back.text_is), length-take 16 (map id_char (chars text)));
   }
+
+-- ---- the layer allocation
+
+-- whether an element carries it, by the length that is measured
+carries : (a : Allocation) (carried : Bool) (len : ℕ) → Some len ≡ option_map length (option_map written_of (if carried then Some a else None)) → carried ≡ true
+carries a true len is = refl
+carries a false len is = cc
+
+module _ {shown values : ExtensionValues} (same : shown ≡ values) {a : Allocation} (is : shown.video_layers_allocation ≡ Some a) {len : ℕ}
+    (measured : Some len ≡ option_map length (spelled_data VideoLayersAllocation values)) where
+  carried-allocation : (can_be_written a && nat_le (length (written_of a)) 255) ≡ true
+  carried-allocation =
+      carries a _ len (measured ∙ rw (← same, is) refl)
+
+  pub Writable-allocation : Writable a
+  Writable-allocation = Writable-from a (and_parts _ _ carried-allocation).0
+
+  pub AreData-allocation : AreData VideoLayersAllocation values (written_of a)
+  unfolding carried_values
+  AreData-allocation =
+      let both = and_parts (can_be_written a) (nat_le (length (written_of a)) 255) carried-allocation in
+      record {
+        spelled = rw (← same, is, carried-allocation) refl;
+        read_back = rw (← same, is, carried-allocation) (written_means a both.0).0;
+        few = leb-true _ _ both.1;
+      }

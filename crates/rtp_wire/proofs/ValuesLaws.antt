@@ -1,14 +1,16 @@
 -- The values of a block: they are the only ones, and how one more element changes them.
-use Rattle.std.proofs.Common.{◌≡◌, ◌≢◌, ℕ, ◌⊎◌, inl, inr, List, [], ◌∷◌, ◌++◌, Bool, true, false, Option, Some, None, Result, Ok, Err, IsOk, IsSomeAnd, All, rules, ap, refl, sym, ◌∙◌, subst}
+use Rattle.std.proofs.Common.{◌≡◌, ◌≢◌, ℕ, ◌⊎◌, inl, inr, List, [], ◌∷◌, ◌++◌, Bool, true, false, Option, Some, None, Result, Ok, Err, IsOk, IfOk, IsSomeAnd, All, rules, ap, refl, sym, ◌∙◌, subst}
 use Rattle.std.specs.Bool.{Decides}
 use Rattle.std.specs.declared.alloc.AllocError.{AllocError}
 use Rattle.std.proofs.lemmas.List.Elements.{All-push, All-nil, All-head, All-tail, All-same}
 use Rattle.std.proofs.lemmas.List.{append_assoc}
 use Rattle.std.proofs.lemmas.Bool.Decides.{not_from_Decides}
 use Rattle.rtp_base.specs.Id.{IsIdOf}
+use Rattle.rtp_vla.specs.Allocation.{Allocation, Means}
+use Rattle.rtp_vla.proofs.AllocationMeaning.{one_meaning}
 use Rattle.rtp_wire.specs.contracts.ext.kind.ExtensionPartialEq.TheImpl as extension_eq
 use Rattle.rtp_wire.specs.declared.ext.kind.Extension.{Extension}
-use Rattle.rtp_wire.specs.declared.ext.kind.Extension.TheVariants.{AbsoluteSendTime, AbsoluteCaptureTime, AudioLevel, TransmissionTimeOffset, VideoOrientation, TransportSequenceNumber, PlayoutDelay, VideoContentType, VideoTiming, RtpStreamId, RepairedRtpStreamId, RtpMid, FrameMarking, ColorSpace, UnknownUri}
+use Rattle.rtp_wire.specs.declared.ext.kind.Extension.TheVariants.{AbsoluteSendTime, AbsoluteCaptureTime, AudioLevel, TransmissionTimeOffset, VideoOrientation, TransportSequenceNumber, PlayoutDelay, VideoContentType, VideoTiming, RtpStreamId, RepairedRtpStreamId, RtpMid, FrameMarking, ColorSpace, VideoLayersAllocation, UnknownUri}
 use Rattle.rtp_wire.specs.declared.ext.value.values.ExtensionValues.{ExtensionValues}
 use Rattle.rtp_wire.specs.Elements.{Element}
 use Rattle.rtp_wire.specs.ExtensionMap.{Slots, IsEmpty, extension_at, extension_of}
@@ -20,6 +22,12 @@ IsSomeAnd-one size text None w v_is w_is = absurd v_is
 IsSomeAnd-one size text (Some v) None v_is w_is = absurd w_is
 IsSomeAnd-one size text (Some v) (Some w) v_is w_is = ap Some (w_is.kept ∙ sym v_is.kept)
 
+-- two allocations that one data mean are one
+meaning-one : (bytes : List ℕ) (v w : Option Allocation) → IsSomeAnd v (Means bytes) → IsSomeAnd w (Means bytes) → w ≡ v
+meaning-one bytes None w v_is w_is = absurd v_is
+meaning-one bytes (Some v) None v_is w_is = absurd w_is
+meaning-one bytes (Some v) (Some w) v_is w_is = ap Some (one_meaning bytes w v w_is v_is)
+
 -- what data say is one, in each field of the kind
 pub Reads-one : (kind : Extension) (bytes : List ℕ) (v w : ExtensionValues) → Reads kind bytes v → Reads kind bytes w → SameFields kind v w
 Reads-one AudioLevel bytes v w v_reads w_reads = (w_reads.1 ∙ sym v_reads.1, w_reads.2 ∙ sym v_reads.2)
@@ -27,6 +35,7 @@ Reads-one PlayoutDelay bytes v w v_reads w_reads = (w_reads.1 ∙ sym v_reads.1,
 Reads-one RtpStreamId bytes v w v_reads w_reads = IsSomeAnd-one 8 bytes v.rid w.rid v_reads.1 w_reads.1
 Reads-one RepairedRtpStreamId bytes v w v_reads w_reads = IsSomeAnd-one 8 bytes v.rid_repair w.rid_repair v_reads.1 w_reads.1
 Reads-one RtpMid bytes v w v_reads w_reads = IsSomeAnd-one 16 bytes v.mid w.mid v_reads.1 w_reads.1
+Reads-one VideoLayersAllocation bytes v w v_reads w_reads = meaning-one bytes v.video_layers_allocation w.video_layers_allocation v_reads w_reads
 Reads-one ColorSpace bytes v w v_reads w_reads = absurd v_reads
 Reads-one (UnknownUri uri) bytes v w v_reads w_reads = absurd v_reads
 Reads-one _ bytes v w v_reads w_reads = w_reads.1 ∙ sym v_reads.1
@@ -38,6 +47,7 @@ Reads-same PlayoutDelay bytes v w reads same = (reads.0, same.0 ∙ reads.1, sam
 Reads-same RtpStreamId bytes v w reads same = (reads.0, subst (λ rid. IsSomeAnd rid (IsIdOf 8 bytes)) (sym same) reads.1)
 Reads-same RepairedRtpStreamId bytes v w reads same = (reads.0, subst (λ rid. IsSomeAnd rid (IsIdOf 8 bytes)) (sym same) reads.1)
 Reads-same RtpMid bytes v w reads same = (reads.0, subst (λ mid. IsSomeAnd mid (IsIdOf 16 bytes)) (sym same) reads.1)
+Reads-same VideoLayersAllocation bytes v w reads same = subst (λ a. IsSomeAnd a (Means bytes)) (sym same) reads
 Reads-same ColorSpace bytes v w reads same = absurd reads
 Reads-same (UnknownUri uri) bytes v w reads same = absurd reads
 Reads-same _ bytes v w reads same = (reads.0, same ∙ reads.1)
@@ -81,17 +91,18 @@ same_values v w same = λ i. record {
   rid_repair = sym (same RepairedRtpStreamId) i;
   mid = sym (same RtpMid) i;
   frame_mark = sym (same FrameMarking) i;
+  video_layers_allocation = sym (same VideoLayersAllocation) i;
 }
 
 -- whether two kinds are one
-extension_decides : (a b : Extension) → Decides ((extension_eq.ghosts).eq a b) (a ≡ b)
+pub extension_decides : (a b : Extension) → Decides ((extension_eq.ghosts).eq a b) (a ≡ b)
 extension_decides a b = search rules
 
 holds_or_not : {P : Type 0} (test : Bool) → Decides test P → P ⊎ (P → ⊥)
 holds_or_not true decides = inl (decides.0 refl)
 holds_or_not false decides = inr (not_from_Decides false decides refl)
 
-same_or_not : (a b : Extension) → (a ≡ b) ⊎ (a ≢ b)
+pub same_or_not : (a b : Extension) → (a ≡ b) ⊎ (a ≢ b)
 same_or_not a b = holds_or_not _ (extension_decides a b)
 
 pub one_kind : {a b : Extension} → Some a ≡ Some b → a ≡ b
@@ -188,13 +199,13 @@ pub AreValues-parsed : (exts : Slots) (done : List Element) (element : Element) 
     (result : Result (Option (Unit {0})) AllocError) → extension_at exts element.0 ≡ Some kind → IsOk result
     → (result ≡ Ok (Some (record {})) → Reads kind element.1 new)
     → ((other : Extension) → other ≢ kind → SameFields other between new)
-    → (IsWellFormed kind element.1 → result ≡ Ok (Some (record {}))) → (result ≡ Ok None → new ≡ between)
+    → (IsWellFormed kind element.1 → IfOk result (λ answer. answer ≡ Some (record {}))) → (result ≢ Ok (Some (record {})) → new ≡ between)
     → AreValues exts done old between → AreValues exts (done ++ element ∷ []) old new
 AreValues-parsed exts done element kind old between new (Err e) mapped ok found others only unchanged values = cc
 AreValues-parsed exts done element kind old between new (Ok (Some read)) mapped ok found others only unchanged values =
     AreValues-read exts done element kind old between new mapped (found refl) others values
 AreValues-parsed exts done element kind old between new (Ok None) mapped ok found others only unchanged values =
-    subst (λ v. AreValues exts (done ++ element ∷ []) old v) (sym (unchanged refl))
+    subst (λ v. AreValues exts (done ++ element ∷ []) old v) (sym (unchanged (λ same. cc)))
     (AreValues-passed exts done element old between not_carried values)
   where
     not_carried : (any : Extension) → Carries exts any element → ⊥

@@ -1,123 +1,24 @@
 -- The elements that a map writes: their bytes, and what those are read as.
-use Rattle.std.proofs.Common.{◌≡◌, ℕ, ◌+◌, ◌*◌, ◌<◌, ◌≤◌, ◌⊎◌, inl, inr, List, [], ◌∷◌, ◌++◌, length, drop, Bool, true, false, Option, Some, None, refl, sym, ap, ◌∙◌, subst, arith, length-append}
-use Rattle.std.specs.Prelude.{◌||◌, ◌==◌, nat_lt, if◌then◌else◌, IfSome}
-use Rattle.std.specs.List.{AllByRecursion, filter_map, list_any, cons_option}
+use Rattle.std.proofs.Common.{◌≡◌, ℕ, ◌+◌, ◌*◌, ◌<◌, ◌≤◌, ◌≢◌, List, [], ◌∷◌, ◌++◌, length, drop, Option, Some, None, refl, sym, ap, ◌∙◌, subst, arith, length-append}
+use Rattle.std.specs.Prelude.{IfSome}
+use Rattle.std.specs.List.{AllByRecursion, cons_option}
 use Rattle.std.specs.Option.{option_map, unwrap_or}
-use Rattle.std.proofs.lemmas.Bool.Decides.{nat_tests}
 use Rattle.rtp_wire.specs.declared.ext.form.ExtensionsForm.{ExtensionsForm}
 use Rattle.rtp_wire.specs.declared.ext.form.ExtensionsForm.TheVariants.{OneByte, TwoByte}
 use Rattle.rtp_wire.specs.declared.ext.kind.Extension.{Extension}
+use Rattle.rtp_wire.specs.declared.ext.kind.Extension.TheVariants.{VideoLayersAllocation}
 use Rattle.rtp_wire.specs.declared.ext.value.values.ExtensionValues.{ExtensionValues}
 use Rattle.rtp_wire.specs.Elements.{Element, IsElement}
-use Rattle.rtp_wire.specs.ElementWriting.{header_bytes, bytes_at, items_bytes, has_no_data, CanCarry, IsCarried}
+use Rattle.rtp_wire.specs.ElementWriting.{header_bytes, bytes_at, items_bytes, CanCarry, IsCarried}
 use Rattle.rtp_wire.specs.ExtensionMap.{Slots}
 use Rattle.rtp_wire.specs.MapSlots.{items_from}
-use Rattle.rtp_wire.specs.Overwriting.{overwritten}
-use Rattle.rtp_wire.specs.Spelling.{spelled_data, carried_values}
+use Rattle.rtp_base.specs.Overwriting.{overwritten}
+use Rattle.rtp_wire.specs.Spelling.{spelled_data, carried_values, longest}
 use Rattle.rtp_wire.specs.Values.{Reads}
-use Rattle.rtp_wire.specs.WrittenBlock.{written_elements, form_of, elements_bytes}
-use Rattle.rtp_wire.proofs.OverwritingLemmas.{overwritten-overwritten, overwritten-before, overwritten-nil, overwritten-front, length-overwritten}
-
--- a mapped id with its kind
-abbrev pub Item : Type 0
-Item = ℕ × Extension
-
--- the element of a mapped id, and those of mapped ids in a row
-abbrev pub element_of : ExtensionValues → Item → Option Element
-element_of values item = option_map (λ bytes. (item.0, bytes)) (spelled_data item.1 values)
-
-abbrev pub elements_of : ExtensionValues → List Item → List Element
-elements_of values items = filter_map (element_of values) items
-
--- ---- the form
-
--- the form for mapped ids in a row
-unfoldable pub form_for : ExtensionValues → List Item → ExtensionsForm
-form_for values items =
-    if list_any (λ item. nat_lt 14 item.0) items || list_any (λ element. length element.1 == 0) (elements_of values items)
-    then TwoByte else OneByte
-
-pub form_for-map : (exts : Slots) (values : ExtensionValues) → form_for values (items_from 0 exts) ≡ form_of exts values
-unfolding form_for
-form_for-map exts values = refl
-
-pub form_for-nil : (values : ExtensionValues) → form_for values [] ≡ OneByte
-unfolding form_for
-form_for-nil values = refl
-
--- no data where there are none, and else whether one of the others has none
-any_empty-cons : (id : ℕ) (bytes : Option (List ℕ)) (rest : List Element)
-    → list_any (λ element. length element.1 == 0) (cons_option (option_map (λ b. (id, b)) bytes) rest)
-    ≡ (has_no_data bytes || list_any (λ element. length element.1 == 0) rest)
-any_empty-cons id None rest = refl
-any_empty-cons id (Some bytes) rest = refl
-
-either_if : (a b c d : Bool) (x y : ExtensionsForm)
-    → (if (a || b) || (c || d) then x else y) ≡ (if a || c then x else (if b || d then x else y))
-either_if true b c d x y = refl
-either_if false true true d x y = refl
-either_if false true false d x y = refl
-either_if false false true d x y = refl
-either_if false false false d x y = refl
-
-pub form_for-cons : (values : ExtensionValues) (item : Item) (items : List Item)
-    → form_for values (item ∷ items)
-    ≡ (if nat_lt 14 item.0 || has_no_data (spelled_data item.1 values) then TwoByte else form_for values items)
-unfolding form_for
-form_for-cons values item items =
-    ap (λ (empty : Bool). if (nat_lt 14 item.0 || list_any (λ i. nat_lt 14 i.0) items) || empty then TwoByte else OneByte)
-    (any_empty-cons item.0 (spelled_data item.1 values) (elements_of values items))
-    ∙ either_if (nat_lt 14 item.0) (list_any (λ i. nat_lt 14 i.0) items) (has_no_data (spelled_data item.1 values))
-    (list_any (λ element. length element.1 == 0) (elements_of values items)) TwoByte OneByte
-
--- the next one decides, or is passed
-pub form_for-next : (values : ExtensionValues) (items more : List Item) (item : Item) (needs : Bool) → items ≡ item ∷ more
-    → needs ≡ (nat_lt 14 item.0 || has_no_data (spelled_data item.1 values))
-    → form_for values items ≡ (if needs then TwoByte else form_for values more)
-form_for-next values items more item needs split is =
-    ap (form_for values) split ∙ (form_for-cons values item more ∙ ap (λ (b : Bool). if b then TwoByte else form_for values more) (sym is))
-
--- ---- what the form can carry
-
--- a mapped id whose element the form can carry
-abbrev pub IsFit : ExtensionsForm → ExtensionValues → Item → Type 0
-IsFit form values item = (1 ≤ item.0) × CanCarry form item.0 (spelled_data item.1 values)
-
-CanCarry-two : (id : ℕ) (bytes : Option (List ℕ)) → CanCarry TwoByte id bytes
-CanCarry-two id None = tt
-CanCarry-two id (Some bytes) = tt
-
-CanCarry-one : (id : ℕ) (bytes : Option (List ℕ)) → (nat_lt 14 id || has_no_data bytes) ≡ false → CanCarry OneByte id bytes
-CanCarry-one id None fits = tt
-CanCarry-one id (Some bytes) fits = grind (arith, nat_tests)
-
-two≢one : {A : Type 0} → OneByte ≡ TwoByte → A
-two≢one same = cc
-
-one-first : (a : Bool) (rest : ExtensionsForm) → OneByte ≡ (if a then TwoByte else rest) → (a ≡ false) × (OneByte ≡ rest)
-one-first true rest same = two≢one same
-one-first false rest same = (refl, same)
-
-fit-two : (values : ExtensionValues) (passed : ℕ) (left : Slots) → AllByRecursion (IsFit TwoByte values) (items_from passed left)
-fit-two values passed [] = tt
-fit-two values passed (None ∷ left) = fit-two values (passed + 1) left
-fit-two values passed (Some entry ∷ left) =
-    ((omega arith, CanCarry-two (passed + 1) (spelled_data entry.extension values)), fit-two values (passed + 1) left)
-
-fit-one : (values : ExtensionValues) (passed : ℕ) (left : Slots) → OneByte ≡ form_for values (items_from passed left)
-    → AllByRecursion (IsFit OneByte values) (items_from passed left)
-fit-one values passed [] one = tt
-fit-one values passed (None ∷ left) one = fit-one values (passed + 1) left one
-fit-one values passed (Some entry ∷ left) one =
-    let item : Item = (passed + 1, entry.extension) in
-    let both = one-first _ _ (one ∙ form_for-cons values item (items_from (passed + 1) left)) in
-    ((omega arith, CanCarry-one (passed + 1) (spelled_data entry.extension values) both.0), fit-one values (passed + 1) left both.1)
-
-pub all_fit : (exts : Slots) (values : ExtensionValues) (form : ExtensionsForm) → (form ≡ form_of exts values) ⊎ (form ≡ TwoByte)
-    → AllByRecursion (IsFit form values) (items_from 0 exts)
-all_fit exts values TwoByte chosen = fit-two values 0 exts
-all_fit exts values OneByte (inl chosen) = fit-one values 0 exts (chosen ∙ sym (form_for-map exts values))
-all_fit exts values OneByte (inr two) = two≢one two
+use Rattle.rtp_wire.specs.WrittenBlock.{written_elements, elements_bytes}
+use Rattle.rtp_base.proofs.OverwritingLemmas.{overwritten-overwritten, overwritten-before, overwritten-nil, overwritten-front, length-overwritten}
+use Rattle.rtp_wire.proofs.ValueLemmas.{longest-fits}
+use Rattle.rtp_wire.proofs.FormLemmas.{Item, elements_of, IsFit}
 
 -- ---- the bytes
 
@@ -236,16 +137,24 @@ bytes_at-put form id len at start old data_put new (Some bytes) long start-is fi
       omega arith,
     )
 
+-- how long the data of a kind may be
+longest-short : (kind : Extension) → kind ≢ VideoLayersAllocation → longest kind ≤ 16
+longest-short VideoLayersAllocation other = absurd (other refl)
+longest-short _ other = omega arith
+
+pub length-can : (item : Item) (bytes : List ℕ) → CanCarry OneByte item (Some bytes) → length bytes ≤ longest item.1 → length bytes ≤ 16
+length-can item bytes can few = omega (arith, few, longest-short item.1 can.1)
+
 -- what is known of it
 pub IsCarried-from : (form : ExtensionsForm) (values : ExtensionValues) (id : ℕ) (kind : Extension) (bytes : Option (List ℕ))
-    → spelled_data kind values ≡ bytes → 1 ≤ id → id < 256 → CanCarry form id bytes
-    → IfSome bytes (λ b. Reads kind b (carried_values values)) → IfSome bytes (λ b. length b ≤ 16)
+    → spelled_data kind values ≡ bytes → 1 ≤ id → id < 256 → CanCarry form (id, kind) bytes
+    → IfSome bytes (λ b. Reads kind b (carried_values values)) → IfSome bytes (λ b. length b ≤ longest kind)
     → IsCarried form values (id, kind)
 IsCarried-from form values id kind None is above within can reads few = rw is tt
 IsCarried-from OneByte values id kind (Some bytes) is above within can reads few =
-    rw is ((can.0, can.1, few, omega arith), reads)
+    rw is ((can.0, can.2, length-can (id, kind) bytes can few, omega arith), reads)
 IsCarried-from TwoByte values id kind (Some bytes) is above within can reads few =
-    rw is ((above, omega arith, omega arith), reads)
+    rw is ((above, omega arith, omega (arith, few, longest-fits kind)), reads)
 
 -- ---- one element after another
 

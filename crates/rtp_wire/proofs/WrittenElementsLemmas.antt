@@ -5,18 +5,19 @@ use Rattle.std.specs.List.{AllByRecursion, flat_map, filter_map, cons_option}
 use Rattle.std.specs.Option.{option_map}
 use Rattle.std.proofs.lemmas.Bool.{ne_eqb}
 use Rattle.std.proofs.lemmas.List.{append-nil}
+use Rattle.rtp_vla.proofs.AllocationWritingLemmas.{written-long}
 use Rattle.rtp_wire.specs.declared.ext.form.ExtensionsForm.{ExtensionsForm}
 use Rattle.rtp_wire.specs.declared.ext.kind.Extension.{Extension}
-use Rattle.rtp_wire.specs.declared.ext.kind.Extension.TheVariants.{AbsoluteSendTime, AbsoluteCaptureTime, AudioLevel, TransmissionTimeOffset, VideoOrientation, TransportSequenceNumber, PlayoutDelay, VideoContentType, VideoTiming, RtpStreamId, RepairedRtpStreamId, RtpMid, FrameMarking, ColorSpace, UnknownUri}
+use Rattle.rtp_wire.specs.declared.ext.kind.Extension.TheVariants.{AbsoluteSendTime, AbsoluteCaptureTime, AudioLevel, TransmissionTimeOffset, VideoOrientation, TransportSequenceNumber, PlayoutDelay, VideoContentType, VideoTiming, RtpStreamId, RepairedRtpStreamId, RtpMid, FrameMarking, ColorSpace, VideoLayersAllocation, UnknownUri}
 use Rattle.rtp_wire.specs.declared.ext.value.values.ExtensionValues.{ExtensionValues}
 use Rattle.rtp_wire.specs.Elements.{Element, IsElement, element_bytes, IsPiece, piece_bytes, AreElements, ended}
 use Rattle.rtp_wire.specs.ElementWriting.{has_no_data, IsCarried}
 use Rattle.rtp_wire.specs.ExtensionMap.{Slots}
 use Rattle.rtp_wire.specs.MapSlots.{items_from}
-use Rattle.rtp_wire.specs.Spelling.{bytes_of, offset_bytes, of_both, spelled_data, carried_values}
+use Rattle.rtp_wire.specs.Spelling.{bytes_of, offset_bytes, of_both, element_allocation, spelled_data, carried_values}
 use Rattle.rtp_wire.specs.Values.{Reads}
 use Rattle.rtp_wire.specs.WrittenBlock.{written_elements, elements_bytes}
-use Rattle.rtp_wire.proofs.WrittenBlockLemmas.{Item, elements_of}
+use Rattle.rtp_wire.proofs.FormLemmas.{Item, elements_of}
 
 -- a byte of padding for each zero behind the elements
 pieces_of : List Element → ℕ → List (Option Element)
@@ -98,5 +99,7 @@ no_empty_data RtpStreamId values a b c = absurd (a refl)
 no_empty_data RepairedRtpStreamId values a b c = absurd (b refl)
 no_empty_data RtpMid values a b c = absurd (c refl)
 no_empty_data FrameMarking values a b c = some_data _ values.frame_mark (λ x. refl)
+no_empty_data VideoLayersAllocation values a b c =
+    some_data _ (element_allocation values.video_layers_allocation) (λ x. ne_eqb _ 0 (λ e. omega (arith, written-long x)))
 no_empty_data ColorSpace values a b c = refl
 no_empty_data (UnknownUri uri) values a b c = refl

@@ -1,119 +1,57 @@
 -- What the elements that a map writes are read as.
-use Rattle.std.proofs.Common.{◌≡◌, ◌≢◌, ℕ, ◌⊎◌, inl, inr, List, [], ◌∷◌, ◌++◌, Bool, true, false, Option, Some, None, All, refl, sym, ap, ◌∙◌, subst, rules}
-use Rattle.std.specs.Prelude.{◌||◌, IfSome, IsSomeAnd, Decides}
+use Rattle.std.proofs.Common.{◌≡◌, ◌≢◌, ℕ, ◌⊎◌, inl, inr, List, [], ◌∷◌, ◌++◌, Bool, true, false, Option, Some, None, All, refl, sym, ap, ◌∙◌, subst}
+use Rattle.std.specs.Prelude.{◌||◌, IfSome, if◌then◌else◌}
 use Rattle.std.specs.List.{AllByRecursion, list_any, cons_option}
 use Rattle.std.specs.Option.{option_map}
 use Rattle.std.proofs.lemmas.List.Elements.{All-cons, All-nil, recursion_from_All, filter_map-append}
 use Rattle.std.proofs.lemmas.List.Folds.{list_any-append}
-use Rattle.rtp_base.specs.Id.{IsIdOf}
 use Rattle.rtp_wire.specs.declared.ext.form.ExtensionsForm.{ExtensionsForm}
 use Rattle.rtp_wire.specs.declared.ext.kind.Extension.{Extension}
-use Rattle.rtp_wire.specs.declared.ext.kind.Extension.TheVariants.{AbsoluteSendTime, AbsoluteCaptureTime, AudioLevel, TransmissionTimeOffset, VideoOrientation, TransportSequenceNumber, PlayoutDelay, VideoContentType, VideoTiming, RtpStreamId, RepairedRtpStreamId, RtpMid, FrameMarking, ColorSpace, UnknownUri}
+use Rattle.rtp_wire.specs.declared.ext.kind.Extension.TheVariants.{AbsoluteSendTime, AbsoluteCaptureTime, AudioLevel, TransmissionTimeOffset, VideoOrientation, TransportSequenceNumber, PlayoutDelay, VideoContentType, VideoTiming, RtpStreamId, RepairedRtpStreamId, RtpMid, FrameMarking, ColorSpace, VideoLayersAllocation, UnknownUri}
 use Rattle.rtp_wire.specs.declared.ext.value.values.ExtensionValues.{ExtensionValues}
 use Rattle.rtp_wire.specs.contracts.ext.kind.ExtensionPartialEq.TheImpl as kind_eq
 use Rattle.rtp_wire.specs.Elements.{Element, IsElement}
 use Rattle.rtp_wire.specs.ElementWriting.{IsCarried}
 use Rattle.rtp_wire.specs.ExtensionMap.{Slots, extension_at}
 use Rattle.rtp_wire.specs.MapSlots.{items_from}
-use Rattle.rtp_wire.specs.Spelling.{spelled_data, carried_values, of_both}
+use Rattle.rtp_wire.specs.Spelling.{spelled_data, carried_values, element_allocation, of_both}
 use Rattle.rtp_wire.specs.Values.{no_values, Reads, SameFields, Carries, IsRead, last, none, AreValues}
 use Rattle.rtp_wire.specs.WrittenBlock.{written_elements, is_mapped, where_mapped, image_values}
 use Rattle.rtp_wire.proofs.ListingLemmas.{IsListing-from_slots}
-use Rattle.rtp_wire.proofs.WrittenBlockLemmas.{Item, element_of, elements_of}
+use Rattle.rtp_wire.proofs.ValuesLaws.{Reads-same, SameFields-trans, extension_decides, same_or_not}
+use Rattle.rtp_wire.proofs.FormLemmas.{Item, element_of, elements_of}
 
--- ---- the fields of a kind
+-- ---- the image of a kind
 
-Reads-same : (kind : Extension) (bytes : List ℕ) (old new : ExtensionValues) → SameFields kind old new → Reads kind bytes old → Reads kind bytes new
-Reads-same AbsoluteSendTime bytes old new same reads = (reads.0, same ∙ reads.1)
-Reads-same AbsoluteCaptureTime bytes old new same reads = (reads.0, same ∙ reads.1)
-Reads-same AudioLevel bytes old new same reads = (reads.0, same.0 ∙ reads.1, same.1 ∙ reads.2)
-Reads-same TransmissionTimeOffset bytes old new same reads = (reads.0, same ∙ reads.1)
-Reads-same VideoOrientation bytes old new same reads = (reads.0, same ∙ reads.1)
-Reads-same TransportSequenceNumber bytes old new same reads = (reads.0, same ∙ reads.1)
-Reads-same PlayoutDelay bytes old new same reads = (reads.0, same.0 ∙ reads.1, same.1 ∙ reads.2)
-Reads-same VideoContentType bytes old new same reads = (reads.0, same ∙ reads.1)
-Reads-same VideoTiming bytes old new same reads = (reads.0, same ∙ reads.1)
-Reads-same RtpStreamId bytes old new same reads = (reads.0, subst (λ id. IsSomeAnd id (IsIdOf 8 bytes)) (sym same) reads.1)
-Reads-same RepairedRtpStreamId bytes old new same reads = (reads.0, subst (λ id. IsSomeAnd id (IsIdOf 8 bytes)) (sym same) reads.1)
-Reads-same RtpMid bytes old new same reads = (reads.0, subst (λ id. IsSomeAnd id (IsIdOf 16 bytes)) (sym same) reads.1)
-Reads-same FrameMarking bytes old new same reads = (reads.0, same ∙ reads.1)
-Reads-same ColorSpace bytes old new same reads = reads
-Reads-same (UnknownUri uri) bytes old new same reads = reads
+-- what is seen of the values where a kind is mapped, and where it isn't
+abbrev seen : Bool → ExtensionValues → ExtensionValues
+seen mapped values = if mapped then carried_values values else no_values
 
-SameFields-then : (kind : Extension) (old between new : ExtensionValues) → SameFields kind old between → SameFields kind between new → SameFields kind old new
-SameFields-then AbsoluteSendTime old between new first second = second ∙ first
-SameFields-then AbsoluteCaptureTime old between new first second = second ∙ first
-SameFields-then AudioLevel old between new first second = (second.0 ∙ first.0, second.1 ∙ first.1)
-SameFields-then TransmissionTimeOffset old between new first second = second ∙ first
-SameFields-then VideoOrientation old between new first second = second ∙ first
-SameFields-then TransportSequenceNumber old between new first second = second ∙ first
-SameFields-then PlayoutDelay old between new first second = (second.0 ∙ first.0, second.1 ∙ first.1)
-SameFields-then VideoContentType old between new first second = second ∙ first
-SameFields-then VideoTiming old between new first second = second ∙ first
-SameFields-then RtpStreamId old between new first second = second ∙ first
-SameFields-then RepairedRtpStreamId old between new first second = second ∙ first
-SameFields-then RtpMid old between new first second = second ∙ first
-SameFields-then FrameMarking old between new first second = second ∙ first
-SameFields-then ColorSpace old between new first second = tt
-SameFields-then (UnknownUri uri) old between new first second = tt
+where-at : {A : Type 0} (exts : Slots) (kind : Extension) (values : ExtensionValues) (mapped : Bool) (field : ExtensionValues → Option A)
+    → field no_values ≡ None → is_mapped exts kind ≡ mapped → where_mapped exts kind (field (carried_values values)) ≡ field (seen mapped values)
+where-at exts kind values true field absent is = rw is refl
+where-at exts kind values false field absent is = rw is (sym absent)
 
--- ---- the image of a kind that is mapped, and of one that isn't
-
-where-mapped : {A : Type 0} (exts : Slots) (kind : Extension) (value : Option A) → is_mapped exts kind ≡ true → where_mapped exts kind value ≡ value
-where-mapped exts kind value is = rw is refl
-
-where-unmapped : {A : Type 0} (exts : Slots) (kind : Extension) (value : Option A) → is_mapped exts kind ≡ false → where_mapped exts kind value ≡ None
-where-unmapped exts kind value is = rw is refl
-
-image-mapped : (exts : Slots) (values : ExtensionValues) (kind : Extension) → is_mapped exts kind ≡ true
-    → SameFields kind (carried_values values) (image_values exts values)
+-- the image has the kind's fields of what is seen
+image-at : (exts : Slots) (values : ExtensionValues) (kind : Extension) (mapped : Bool) → is_mapped exts kind ≡ mapped
+    → SameFields kind (seen mapped values) (image_values exts values)
 unfolding image_values
-image-mapped exts values AbsoluteSendTime is = where-mapped exts AbsoluteSendTime (carried_values values).abs_send_time is
-image-mapped exts values AbsoluteCaptureTime is = where-mapped exts AbsoluteCaptureTime (carried_values values).abs_capture_time is
-image-mapped exts values AudioLevel is = (
-  where-mapped exts AudioLevel (carried_values values).audio_level is,
-  where-mapped exts AudioLevel (carried_values values).voice_activity is,
-)
-image-mapped exts values TransmissionTimeOffset is = where-mapped exts TransmissionTimeOffset (carried_values values).tx_time_offs is
-image-mapped exts values VideoOrientation is = where-mapped exts VideoOrientation (carried_values values).video_orientation is
-image-mapped exts values TransportSequenceNumber is = where-mapped exts TransportSequenceNumber (carried_values values).transport_cc is
-image-mapped exts values PlayoutDelay is = (
-  where-mapped exts PlayoutDelay (carried_values values).play_delay_min is,
-  where-mapped exts PlayoutDelay (carried_values values).play_delay_max is,
-)
-image-mapped exts values VideoContentType is = where-mapped exts VideoContentType (carried_values values).video_content_type is
-image-mapped exts values VideoTiming is = where-mapped exts VideoTiming (carried_values values).video_timing is
-image-mapped exts values RtpStreamId is = where-mapped exts RtpStreamId (carried_values values).rid is
-image-mapped exts values RepairedRtpStreamId is = where-mapped exts RepairedRtpStreamId (carried_values values).rid_repair is
-image-mapped exts values RtpMid is = where-mapped exts RtpMid (carried_values values).mid is
-image-mapped exts values FrameMarking is = where-mapped exts FrameMarking (carried_values values).frame_mark is
-image-mapped exts values ColorSpace is = tt
-image-mapped exts values (UnknownUri uri) is = tt
-
-image-unmapped : (exts : Slots) (values : ExtensionValues) (kind : Extension) → is_mapped exts kind ≡ false
-    → SameFields kind no_values (image_values exts values)
-unfolding image_values
-image-unmapped exts values AbsoluteSendTime is = where-unmapped exts AbsoluteSendTime (carried_values values).abs_send_time is
-image-unmapped exts values AbsoluteCaptureTime is = where-unmapped exts AbsoluteCaptureTime (carried_values values).abs_capture_time is
-image-unmapped exts values AudioLevel is = (
-  where-unmapped exts AudioLevel (carried_values values).audio_level is,
-  where-unmapped exts AudioLevel (carried_values values).voice_activity is,
-)
-image-unmapped exts values TransmissionTimeOffset is = where-unmapped exts TransmissionTimeOffset (carried_values values).tx_time_offs is
-image-unmapped exts values VideoOrientation is = where-unmapped exts VideoOrientation (carried_values values).video_orientation is
-image-unmapped exts values TransportSequenceNumber is = where-unmapped exts TransportSequenceNumber (carried_values values).transport_cc is
-image-unmapped exts values PlayoutDelay is = (
-  where-unmapped exts PlayoutDelay (carried_values values).play_delay_min is,
-  where-unmapped exts PlayoutDelay (carried_values values).play_delay_max is,
-)
-image-unmapped exts values VideoContentType is = where-unmapped exts VideoContentType (carried_values values).video_content_type is
-image-unmapped exts values VideoTiming is = where-unmapped exts VideoTiming (carried_values values).video_timing is
-image-unmapped exts values RtpStreamId is = where-unmapped exts RtpStreamId (carried_values values).rid is
-image-unmapped exts values RepairedRtpStreamId is = where-unmapped exts RepairedRtpStreamId (carried_values values).rid_repair is
-image-unmapped exts values RtpMid is = where-unmapped exts RtpMid (carried_values values).mid is
-image-unmapped exts values FrameMarking is = where-unmapped exts FrameMarking (carried_values values).frame_mark is
-image-unmapped exts values ColorSpace is = tt
-image-unmapped exts values (UnknownUri uri) is = tt
+image-at exts values AbsoluteSendTime mapped is = where-at exts AbsoluteSendTime values mapped (λ fields. fields.abs_send_time) refl is
+image-at exts values AbsoluteCaptureTime mapped is = where-at exts AbsoluteCaptureTime values mapped (λ fields. fields.abs_capture_time) refl is
+image-at exts values AudioLevel mapped is = (where-at exts AudioLevel values mapped (λ fields. fields.audio_level) refl is, where-at exts AudioLevel values mapped (λ fields. fields.voice_activity) refl is)
+image-at exts values TransmissionTimeOffset mapped is = where-at exts TransmissionTimeOffset values mapped (λ fields. fields.tx_time_offs) refl is
+image-at exts values VideoOrientation mapped is = where-at exts VideoOrientation values mapped (λ fields. fields.video_orientation) refl is
+image-at exts values TransportSequenceNumber mapped is = where-at exts TransportSequenceNumber values mapped (λ fields. fields.transport_cc) refl is
+image-at exts values PlayoutDelay mapped is = (where-at exts PlayoutDelay values mapped (λ fields. fields.play_delay_min) refl is, where-at exts PlayoutDelay values mapped (λ fields. fields.play_delay_max) refl is)
+image-at exts values VideoContentType mapped is = where-at exts VideoContentType values mapped (λ fields. fields.video_content_type) refl is
+image-at exts values VideoTiming mapped is = where-at exts VideoTiming values mapped (λ fields. fields.video_timing) refl is
+image-at exts values RtpStreamId mapped is = where-at exts RtpStreamId values mapped (λ fields. fields.rid) refl is
+image-at exts values RepairedRtpStreamId mapped is = where-at exts RepairedRtpStreamId values mapped (λ fields. fields.rid_repair) refl is
+image-at exts values RtpMid mapped is = where-at exts RtpMid values mapped (λ fields. fields.mid) refl is
+image-at exts values FrameMarking mapped is = where-at exts FrameMarking values mapped (λ fields. fields.frame_mark) refl is
+image-at exts values VideoLayersAllocation mapped is = where-at exts VideoLayersAllocation values mapped (λ fields. fields.video_layers_allocation) refl is
+image-at exts values ColorSpace mapped is = tt
+image-at exts values (UnknownUri uri) mapped is = tt
 
 -- a kind without data carries no value
 map-none : {A B C : Type 0} (f : A → B) (g : A → C) (value : Option A) → option_map f value ≡ None → option_map g value ≡ None
@@ -144,13 +82,11 @@ carried-none values RtpStreamId is = is-none _ values.rid is
 carried-none values RepairedRtpStreamId is = is-none _ values.rid_repair is
 carried-none values RtpMid is = is-none _ values.mid is
 carried-none values FrameMarking is = is-none _ values.frame_mark is
+carried-none values VideoLayersAllocation is = map-none _ _ (element_allocation values.video_layers_allocation) is
 carried-none values ColorSpace is = tt
 carried-none values (UnknownUri uri) is = tt
 
 -- ---- the last id of a kind
-
-kind_decides : (a b : Extension) → Decides ((kind_eq.ghosts).eq a b) (a ≡ b)
-kind_decides a b = search rules
 
 -- the last item of the kind
 record LastItem (kind : Extension) (items : List Item) : Type 0 where
@@ -164,12 +100,6 @@ true_or_false : (b : Bool) → (b ≡ true) ⊎ (b ≡ false)
 true_or_false true = inl refl
 true_or_false false = inr refl
 
-same_kind : (a b : Extension) → (a ≡ b) ⊎ (a ≢ b)
-same_kind a b = elim (true_or_false ((kind_eq.ghosts).eq a b)) [
-  | inl is ↦ inl ((kind_decides a b).0 is)
-  | inr isnt ↦ inr (λ same. let is = (kind_decides a b).1 same in cc)
-]
-
 find_last : (kind : Extension) (items : List Item) → LastItem kind items ⊎ AllByRecursion (λ item. item.1 ≢ kind) items
 find_last kind [] = inr tt
 find_last kind (item ∷ items) = elim (find_last kind items) [
@@ -180,7 +110,7 @@ find_last kind (item ∷ items) = elim (find_last kind items) [
     is = ap (λ (rest : List Item). item ∷ rest) found.is;
     later = found.later;
   })
-  | inr none_left ↦ elim (same_kind item.1 kind) [
+  | inr none_left ↦ elim (same_or_not item.1 kind) [
     | inl same ↦ inl (record {
       before = [];
       after = items;
@@ -200,13 +130,13 @@ mapped-last : (exts : Slots) (kind : Extension) → LastItem kind (items_from 0 
 mapped-last exts kind found =
     ap (list_any (λ item. (kind_eq.ghosts).eq item.1 kind)) found.is
     ∙ (list_any-append (λ item. (kind_eq.ghosts).eq item.1 kind) found.before ((found.id, kind) ∷ found.after)
-    ∙ or-true _ _ _ ((kind_decides kind kind).1 refl))
+    ∙ or-true _ _ _ ((extension_decides kind kind).1 refl))
 
 any-none : (kind : Extension) (items : List Item) → AllByRecursion (λ item. item.1 ≢ kind) items
     → list_any (λ item. (kind_eq.ghosts).eq item.1 kind) items ≡ false
 any-none kind [] all = refl
 any-none kind (item ∷ items) all = elim (true_or_false ((kind_eq.ghosts).eq item.1 kind)) [
-  | inl is ↦ absurd (all.0 ((kind_decides item.1 kind).0 is))
+  | inl is ↦ absurd (all.0 ((extension_decides item.1 kind).0 is))
   | inr isnt ↦ rw isnt (any-none kind items all.1)
 ]
 
@@ -267,8 +197,8 @@ IsRead-mapped : (form : ExtensionsForm) (exts : Slots) (values : ExtensionValues
     → IsRead exts (written_elements exts values) kind no_values (image_values exts values)
 IsRead-mapped form exts values kind found carried None is =
     none (none-carry exts kind values (items_from 0 exts) (items-mapped exts) (without_data kind values (items_from 0 exts) is))
-    (SameFields-then kind no_values (carried_values values) (image_values exts values) (carried-none values kind is)
-    (image-mapped exts values kind (mapped-last exts kind found)))
+    (SameFields-trans kind no_values (carried_values values) (image_values exts values) (carried-none values kind is)
+    (image-at exts values kind true (mapped-last exts kind found)))
 IsRead-mapped form exts values kind found carried (Some bytes) is =
     let here : AllByRecursion (IsCarried form values) ((found.id, kind) ∷ found.after) =
     all-behind (IsCarried form values) found.before _ (subst (AllByRecursion (IsCarried form values)) found.is carried) in
@@ -280,7 +210,7 @@ IsRead-mapped form exts values kind found carried (Some bytes) is =
     (ap (elements_of values) found.is ∙ (filter_map-append (element_of values) found.before ((found.id, kind) ∷ found.after)
     ∙ ap (λ b. elements_of values found.before ++ cons_option (option_map (λ x. (found.id, x)) b) (elements_of values found.after)) is))
     there.0
-    (Reads-same kind bytes (carried_values values) (image_values exts values) (image-mapped exts values kind (mapped-last exts kind found)) reads.1)
+    (Reads-same kind bytes (carried_values values) (image_values exts values) reads.1 (image-at exts values kind true (mapped-last exts kind found)))
     (none-carry exts kind values found.after there.1 (others kind values found.after found.later))
 
 -- what was written is read as the image
@@ -290,5 +220,5 @@ AreValues-written form exts values carried = λ kind. elim (find_last kind (item
   | inl found ↦ IsRead-mapped form exts values kind found carried (spelled_data kind values) refl
   | inr other ↦ none
       (none-carry exts kind values (items_from 0 exts) (items-mapped exts) (others kind values (items_from 0 exts) other))
-      (image-unmapped exts values kind (any-none kind (items_from 0 exts) other))
+      (image-at exts values kind false (any-none kind (items_from 0 exts) other))
 ]

@@ -1,9 +1,10 @@
 -- The elements of mapped ids in a row: what the functions of `block_elements` promise each other.
-use Rattle.std.specs.Prelude.{ℕ, ◌+◌, ◌-◌, ◌*◌, ◌≤◌, List, [], ◌∷◌, length, Bool, false, ◌==◌, Option, Some, None, IfSome}
+use Rattle.std.specs.Prelude.{◌≢◌, ℕ, ◌+◌, ◌-◌, ◌*◌, ◌≤◌, List, [], ◌∷◌, length, Bool, false, ◌==◌, Option, Some, None, IfSome}
 use Rattle.std.specs.List.{flat_map}
 use Rattle.rtp_wire.specs.declared.ext.form.ExtensionsForm.{ExtensionsForm}
 use Rattle.rtp_wire.specs.declared.ext.form.ExtensionsForm.TheVariants.{OneByte, TwoByte}
 use Rattle.rtp_wire.specs.declared.ext.kind.Extension.{Extension}
+use Rattle.rtp_wire.specs.declared.ext.kind.Extension.TheVariants.{VideoLayersAllocation}
 use Rattle.rtp_wire.specs.declared.ext.value.values.ExtensionValues.{ExtensionValues}
 use Rattle.rtp_wire.specs.Elements.{IsElement, element_bytes}
 use Rattle.rtp_wire.specs.Spelling.{spelled_data, carried_values}
@@ -28,11 +29,11 @@ abbrev pub has_no_data : Option (List ℕ) → Bool
 has_no_data None = false
 has_no_data (Some bytes) = length bytes == 0
 
--- an id whose element the form can carry
-abbrev pub CanCarry : ExtensionsForm → ℕ → Option (List ℕ) → Type 0
-CanCarry form id None = Unit {0}
-CanCarry OneByte id (Some bytes) = (id ≤ 14) × (1 ≤ length bytes)
-CanCarry TwoByte id (Some bytes) = Unit {0}
+-- an element of a mapped id that the form can carry
+abbrev pub CanCarry : ExtensionsForm → ℕ × Extension → Option (List ℕ) → Type 0
+CanCarry form item None = Unit {0}
+CanCarry OneByte item (Some bytes) = (item.0 ≤ 14) × (item.1 ≢ VideoLayersAllocation) × (1 ≤ length bytes)
+CanCarry TwoByte item (Some bytes) = Unit {0}
 
 -- what was written is an element of the form, and is read as the value that it carries
 abbrev pub IsCarried : ExtensionsForm → ExtensionValues → ℕ × Extension → Type 0

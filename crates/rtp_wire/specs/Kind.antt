@@ -1,7 +1,7 @@
 -- The kinds of header extension, and what is fixed for each.
 use Rattle.std.specs.Prelude.{◌≡◌, ◌≢◌, ℕ, List, [], ◌∷◌, codes, Bool, true, false}
 use Rattle.rtp_wire.specs.declared.ext.kind.Extension.{Extension}
-use Rattle.rtp_wire.specs.declared.ext.kind.Extension.TheVariants.{AbsoluteSendTime, AbsoluteCaptureTime, AudioLevel, TransmissionTimeOffset, VideoOrientation, TransportSequenceNumber, PlayoutDelay, VideoContentType, VideoTiming, RtpStreamId, RepairedRtpStreamId, RtpMid, FrameMarking, ColorSpace, UnknownUri}
+use Rattle.rtp_wire.specs.declared.ext.kind.Extension.TheVariants.{AbsoluteSendTime, AbsoluteCaptureTime, AudioLevel, TransmissionTimeOffset, VideoOrientation, TransportSequenceNumber, PlayoutDelay, VideoContentType, VideoTiming, RtpStreamId, RepairedRtpStreamId, RtpMid, FrameMarking, ColorSpace, VideoLayersAllocation, UnknownUri}
 
 -- what is fixed for a kind: the URI that names it in SDP, the text that it is shown as, and whether it is one of audio and of video
 pub record Kind : Type 0 where
@@ -36,6 +36,7 @@ kind_of RepairedRtpStreamId = audio_and_video (codes "urn:ietf:params:rtp-hdrext
 kind_of RtpMid = audio_and_video (codes "urn:ietf:params:rtp-hdrext:sdes:mid") (codes "mid")
 kind_of FrameMarking = video_only (codes "http://tools.ietf.org/html/draft-ietf-avtext-framemarking-07") (codes "frame-marking07")
 kind_of ColorSpace = video_only (codes "http://www.webrtc.org/experiments/rtp-hdrext/color-space") (codes "color-space")
+kind_of VideoLayersAllocation = video_only (codes "http://www.webrtc.org/experiments/rtp-hdrext/video-layers-allocation00") (codes "http://www.webrtc.org/experiments/rtp-hdrext/video-layers-allocation00")
 kind_of (UnknownUri uri) = record { uri = uri; name = uri; audio = false; video = false }
 
 -- the kinds that are known, each once
@@ -54,7 +55,8 @@ known_kinds =
     ∷ RepairedRtpStreamId
     ∷ RtpMid
     ∷ FrameMarking
-    ∷ ColorSpace ∷ []
+    ∷ ColorSpace
+    ∷ VideoLayersAllocation ∷ []
 
 -- a kind that is known by itself, without a text
 abbrev pub IsKnown : Extension → Type 0

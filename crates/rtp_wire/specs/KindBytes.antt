@@ -2,10 +2,10 @@
 use Rattle.std.specs.Prelude.{◌≡◌, ℕ, ◌≤◌, List, [], ◌++◌, length, drop, unwrap_or, Option, IfSome, IfNone}
 use Rattle.std.specs.Option.{option_map}
 use Rattle.rtp_wire.specs.declared.ext.kind.Extension.{Extension}
-use Rattle.rtp_wire.specs.declared.ext.kind.Extension.TheVariants.{AbsoluteSendTime, AbsoluteCaptureTime, AudioLevel, TransmissionTimeOffset, VideoOrientation, TransportSequenceNumber, PlayoutDelay, VideoContentType, VideoTiming, RtpStreamId, RepairedRtpStreamId, RtpMid, FrameMarking, ColorSpace, UnknownUri}
+use Rattle.rtp_wire.specs.declared.ext.kind.Extension.TheVariants.{AbsoluteSendTime, AbsoluteCaptureTime, AudioLevel, TransmissionTimeOffset, VideoOrientation, TransportSequenceNumber, PlayoutDelay, VideoContentType, VideoTiming, RtpStreamId, RepairedRtpStreamId, RtpMid, FrameMarking, ColorSpace, VideoLayersAllocation, UnknownUri}
 use Rattle.rtp_wire.specs.declared.ext.value.values.ExtensionValues.{ExtensionValues}
 use Rattle.rtp_wire.specs.Values.{Reads, IsWellFormed}
-use Rattle.rtp_wire.specs.Spelling.{spelled_data, carried_values}
+use Rattle.rtp_wire.specs.Spelling.{spelled_data, carried_values, longest}
 
 -- the old values with the kind's fields of the new ones
 abbrev pub with_fields : Extension → ExtensionValues → ExtensionValues → ExtensionValues
@@ -23,6 +23,7 @@ with_fields RepairedRtpStreamId old new = record old { rid_repair = new.rid_repa
 with_fields RtpMid old new = record old { mid = new.mid }
 with_fields FrameMarking old new = record old { frame_mark = new.frame_mark }
 with_fields ColorSpace old new = old
+with_fields VideoLayersAllocation old new = record old { video_layers_allocation = new.video_layers_allocation }
 with_fields (UnknownUri uri) old new = old
 
 -- what reading the data of a kind does: where they are well-formed, the kind's fields are what they say and no other is changed; where they aren't, nothing is changed
@@ -37,4 +38,4 @@ pub record HasWritten (kind : Extension) (values : ExtensionValues) (old new : L
   pub length_is : result ≡ option_map length (spelled_data kind values)
   pub written : new ≡ unwrap_or (spelled_data kind values) [] ++ drop (length (unwrap_or (spelled_data kind values) [])) old
   pub read_back : IfSome (spelled_data kind values) (λ bytes. Reads kind bytes (carried_values values))
-  pub few : IfSome (spelled_data kind values) (λ bytes. length bytes ≤ 16)
+  pub few : IfSome (spelled_data kind values) (λ bytes. length bytes ≤ longest kind)

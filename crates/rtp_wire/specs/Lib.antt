@@ -1,3 +1,8 @@
+-- The layer allocation, whose definitions come from the crate below.
+pub use Rattle.rtp_vla.specs.Leb
+pub use Rattle.rtp_vla.specs.Allocation
+pub use Rattle.rtp_vla.specs.AllocationWritten
+pub use Rattle.rtp_vla.specs.AllocationEqual
 -- What contracts rest on, from the bytes up.
 pub mod Form
 pub mod Kind
@@ -8,6 +13,8 @@ pub mod Values
 pub mod Block
 pub mod Header
 pub mod NotAHeader
+pub mod Reading
+pub mod Memory
 pub mod Spelling
 pub mod WrittenBlock
 pub mod Written
@@ -21,7 +28,5 @@ pub mod MapSlots
 pub mod EqualMaps
 pub mod KindBytes
 pub mod ElementReading
-pub mod Reading
-pub mod Overwriting
 pub mod ElementWriting
 pub mod Moduli

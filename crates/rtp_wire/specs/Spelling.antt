@@ -1,11 +1,13 @@
 -- The data that each kind's values are written as, and what they are read as again.
-use Rattle.std.specs.Prelude.{ℕ, zero, suc, ℤ, ◌+◌, ◌*◌, ◌/◌, ◌%◌, ◌^◌, ◌<◌, ◌≤◌, List, [], ◌∷◌, ◌++◌, length, replicate, unsigned_abs, neg_ℤ, pos, Option, Some, None}
+use Rattle.std.specs.Prelude.{◌&&◌, nat_le, if◌then◌else◌, ℕ, zero, suc, ℤ, ◌+◌, ◌*◌, ◌/◌, ◌%◌, ◌^◌, ◌<◌, ◌≤◌, List, [], ◌∷◌, ◌++◌, length, replicate, unsigned_abs, neg_ℤ, pos, Option, Some, None}
 use Rattle.std.specs.Option.{option_map, ForSome}
 use Rattle.std.specs.Int.{w64, cast_unsigned}
 use Rattle.rtp_base.specs.Id.{before_padding}
 use Rattle.rtp_base.specs.MediaTime.{Fraction, whole_ticks}
+use Rattle.rtp_vla.specs.Allocation.{Allocation}
+use Rattle.rtp_vla.specs.AllocationWritten.{can_be_written, trimmed, written_of}
 use Rattle.rtp_wire.specs.declared.ext.kind.Extension.{Extension}
-use Rattle.rtp_wire.specs.declared.ext.kind.Extension.TheVariants.{AbsoluteSendTime, AbsoluteCaptureTime, AudioLevel, TransmissionTimeOffset, VideoOrientation, TransportSequenceNumber, PlayoutDelay, VideoContentType, VideoTiming, RtpStreamId, RepairedRtpStreamId, RtpMid, FrameMarking, ColorSpace, UnknownUri}
+use Rattle.rtp_wire.specs.declared.ext.kind.Extension.TheVariants.{AbsoluteSendTime, AbsoluteCaptureTime, AudioLevel, TransmissionTimeOffset, VideoOrientation, TransportSequenceNumber, PlayoutDelay, VideoContentType, VideoTiming, RtpStreamId, RepairedRtpStreamId, RtpMid, FrameMarking, ColorSpace, VideoLayersAllocation, UnknownUri}
 use Rattle.rtp_wire.specs.declared.ext.value.values.ExtensionValues.{ExtensionValues}
 use Rattle.rtp_wire.specs.declared.ext.value.video_timing.VideoTiming as timing
 use Rattle.rtp_wire.specs.declared.ext.value.video_orientation.VideoOrientation as orientation
@@ -50,6 +52,11 @@ timing_bytes t =
     t.flags ∷ (bytes_of 2 t.encode_start ++ (bytes_of 2 t.encode_finish ++ (bytes_of 2 t.packetize_complete
     ++ (bytes_of 2 t.last_left_pacer ++ replicate 4 0))))
 
+-- the allocation where an element can carry it: it can be written, and in at most 255 bytes
+abbrev pub element_allocation : Option Allocation → Option Allocation
+element_allocation None = None
+element_allocation (Some a) = if can_be_written a && nat_le (length (written_of a)) 255 then Some a else None
+
 -- the data of an element of the kind, and nothing where a value that it needs is absent
 abbrev pub spelled_data : Extension → ExtensionValues → Option (List ℕ)
 spelled_data AbsoluteSendTime values = option_map (λ time. bytes_of 3 (send_ticks time)) values.abs_send_time
@@ -69,14 +76,20 @@ spelled_data RepairedRtpStreamId values = option_map before_padding values.rid_r
 spelled_data RtpMid values = option_map before_padding values.mid
 spelled_data FrameMarking values = option_map (bytes_of 4) values.frame_mark
 spelled_data ColorSpace values = None
+spelled_data VideoLayersAllocation values = option_map written_of (element_allocation values.video_layers_allocation)
 spelled_data (UnknownUri uri) values = None
+
+-- the most bytes that the data of a kind have
+abbrev pub longest : Extension → ℕ
+longest VideoLayersAllocation = 255
+longest kind = 16
 
 -- the buffer has room for the data: 255 bytes always suffice
 abbrev pub HasRoom : Extension → ExtensionValues → List ℕ → Type 0
 HasRoom kind values buf =
     length buf < 255 → ForSome (spelled_data kind values) (λ bytes. length bytes ≤ length buf)
 
--- what the written data are read as: a level's magnitude modulo 128, whole ticks of a send time modulo 64 seconds, whole hundredths of a delay modulo 4096, and every other value as it is
+-- what the written data are read as: a level's magnitude modulo 128, whole ticks of a send time modulo 64 seconds, whole hundredths of a delay modulo 4096, an allocation without the bare layers at the end of its streams, and every other value as it is
 unfoldable pub carried_values : ExtensionValues → ExtensionValues
 carried_values values = record {
   audio_level = of_both (λ level voice. neg_ℤ (pos (unsigned_abs level % 128))) values.audio_level values.voice_activity;
@@ -94,4 +107,5 @@ carried_values values = record {
   rid_repair = values.rid_repair;
   mid = values.mid;
   frame_mark = values.frame_mark;
+  video_layers_allocation = option_map trimmed (element_allocation values.video_layers_allocation);
 }

@@ -4,8 +4,9 @@ use Rattle.std.specs.Int.{w64, cast_signed}
 use Rattle.std.specs.Str.{IsUtf8}
 use Rattle.rtp_base.specs.Id.{IsIdOf}
 use Rattle.rtp_base.specs.MediaTime.{Fraction}
+use Rattle.rtp_vla.specs.Allocation.{Means}
 use Rattle.rtp_wire.specs.declared.ext.kind.Extension.{Extension}
-use Rattle.rtp_wire.specs.declared.ext.kind.Extension.TheVariants.{AbsoluteSendTime, AbsoluteCaptureTime, AudioLevel, TransmissionTimeOffset, VideoOrientation, TransportSequenceNumber, PlayoutDelay, VideoContentType, VideoTiming, RtpStreamId, RepairedRtpStreamId, RtpMid, FrameMarking, ColorSpace, UnknownUri}
+use Rattle.rtp_wire.specs.declared.ext.kind.Extension.TheVariants.{AbsoluteSendTime, AbsoluteCaptureTime, AudioLevel, TransmissionTimeOffset, VideoOrientation, TransportSequenceNumber, PlayoutDelay, VideoContentType, VideoTiming, RtpStreamId, RepairedRtpStreamId, RtpMid, FrameMarking, ColorSpace, VideoLayersAllocation, UnknownUri}
 use Rattle.rtp_wire.specs.declared.ext.value.values.ExtensionValues.{ExtensionValues}
 use Rattle.rtp_wire.specs.declared.ext.value.video_orientation.VideoOrientation as orientation
 use Rattle.rtp_wire.specs.declared.ext.value.video_orientation.VideoOrientation.TheVariants.{Deg0, Deg90, Deg180, Deg270}
@@ -30,6 +31,7 @@ no_values = record {
   rid_repair = None;
   mid = None;
   frame_mark = None;
+  video_layers_allocation = None;
 }
 
 -- the number in these bytes, the high one first
@@ -80,6 +82,7 @@ Reads RepairedRtpStreamId bytes values = IsUtf8 bytes × IsSomeAnd values.rid_re
 Reads RtpMid bytes values = IsUtf8 bytes × IsSomeAnd values.mid (IsIdOf 16 bytes)
 Reads FrameMarking bytes values = (4 ≤ length bytes) × (values.frame_mark ≡ Some (number_of (take 4 bytes)))
 Reads ColorSpace bytes values = ⊥
+Reads VideoLayersAllocation bytes values = IsSomeAnd values.video_layers_allocation (Means bytes)
 Reads (UnknownUri uri) bytes values = ⊥
 
 -- the kind's fields are the same
@@ -98,11 +101,16 @@ SameFields RepairedRtpStreamId old new = new.rid_repair ≡ old.rid_repair
 SameFields RtpMid old new = new.mid ≡ old.mid
 SameFields FrameMarking old new = new.frame_mark ≡ old.frame_mark
 SameFields ColorSpace old new = Unit {0}
+SameFields VideoLayersAllocation old new = new.video_layers_allocation ≡ old.video_layers_allocation
 SameFields (UnknownUri uri) old new = Unit {0}
 
 -- the data are well-formed for the kind
 abbrev pub IsWellFormed : Extension → List ℕ → Type 0
 IsWellFormed kind bytes = (values : ExtensionValues) × Reads kind bytes values
+
+-- data that may take memory: those of a layer allocation, from two bytes on
+abbrev pub TakesMemory : Extension → List ℕ → Type 0
+TakesMemory kind bytes = (kind ≡ VideoLayersAllocation) × (2 ≤ length bytes)
 
 -- an element whose id is mapped to the kind, with data that are well-formed for it
 abbrev pub Carries : Slots → Extension → Element → Type 0

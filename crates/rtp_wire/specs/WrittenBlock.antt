@@ -8,7 +8,7 @@ use Rattle.rtp_wire.specs.declared.ext.form.ExtensionsForm.{ExtensionsForm}
 use Rattle.rtp_wire.specs.declared.ext.form.ExtensionsForm.TheVariants.{OneByte, TwoByte}
 use Rattle.rtp_wire.specs.declared.ext.value.values.ExtensionValues.{ExtensionValues}
 use Rattle.rtp_wire.specs.declared.ext.kind.Extension.{Extension}
-use Rattle.rtp_wire.specs.declared.ext.kind.Extension.TheVariants.{AbsoluteSendTime, AbsoluteCaptureTime, AudioLevel, TransmissionTimeOffset, VideoOrientation, TransportSequenceNumber, PlayoutDelay, VideoContentType, VideoTiming, RtpStreamId, RepairedRtpStreamId, RtpMid, FrameMarking}
+use Rattle.rtp_wire.specs.declared.ext.kind.Extension.TheVariants.{AbsoluteSendTime, AbsoluteCaptureTime, AudioLevel, TransmissionTimeOffset, VideoOrientation, TransportSequenceNumber, PlayoutDelay, VideoContentType, VideoTiming, RtpStreamId, RepairedRtpStreamId, RtpMid, FrameMarking, VideoLayersAllocation}
 use Rattle.rtp_wire.specs.contracts.ext.kind.ExtensionPartialEq.TheImpl as kind_eq
 use Rattle.rtp_wire.specs.ExtensionMap.{Slots}
 use Rattle.rtp_wire.specs.MapSlots.{items_from}
@@ -20,19 +20,19 @@ abbrev pub written_elements : Slots → ExtensionValues → List Element
 written_elements exts values =
     filter_map (λ item. option_map (λ bytes. (item.0, bytes)) (spelled_data item.1 values)) (items_from 0 exts)
 
--- the two-byte form exactly where the one-byte form doesn't serve: an id above 14 is mapped, or an element has no data
+-- whether some id is mapped to the kind
+abbrev pub is_mapped : Slots → Extension → Bool
+is_mapped exts kind = list_any (λ item. (kind_eq.ghosts).eq item.1 kind) (items_from 0 exts)
+
+-- the two-byte form exactly where an id above 14 is mapped, the layer allocation is mapped, or an element has no data
 abbrev pub form_of : Slots → ExtensionValues → ExtensionsForm
 form_of exts values =
-    if list_any (λ item. nat_lt 14 item.0) (items_from 0 exts)
-    || list_any (λ element. length element.1 == 0) (written_elements exts values) then TwoByte else OneByte
+    if list_any (λ item. nat_lt 14 item.0) (items_from 0 exts) || (is_mapped exts VideoLayersAllocation
+    || list_any (λ element. length element.1 == 0) (written_elements exts values)) then TwoByte else OneByte
 
 -- the elements in a row
 abbrev pub elements_bytes : ExtensionsForm → List Element → List ℕ
 elements_bytes form elements = flat_map (element_bytes form) elements
-
--- whether some id is mapped to the kind
-abbrev pub is_mapped : Slots → Extension → Bool
-is_mapped exts kind = list_any (λ item. (kind_eq.ghosts).eq item.1 kind) (items_from 0 exts)
 
 -- a value where its kind is mapped, and nothing where it isn't
 abbrev pub where_mapped : {A : Type 0} → Slots → Extension → Option A → Option A
@@ -58,6 +58,7 @@ image_values exts values =
       rid_repair = where_mapped exts RepairedRtpStreamId carried.rid_repair;
       mid = where_mapped exts RtpMid carried.mid;
       frame_mark = where_mapped exts FrameMarking carried.frame_mark;
+      video_layers_allocation = where_mapped exts VideoLayersAllocation carried.video_layers_allocation;
     }
 
 -- as many bytes as the last word lacks

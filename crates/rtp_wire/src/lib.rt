@@ -4,7 +4,6 @@
 
 mod ext;
 mod header;
-mod put;
 mod receive;
 
 pub use ext::{
@@ -13,3 +12,4 @@ pub use ext::{
 };
 pub use header::{RtpHeader, extend_u7, extend_u8, extend_u15, extend_u16, extend_u32};
 pub use receive::{Receiver, Verdict, receive_run};
+pub use rtp_vla::vla;

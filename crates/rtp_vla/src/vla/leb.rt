@@ -1,8 +1,8 @@
 //! Rates as LEB128 numbers.
 
 ghost use Rattle.std.specs.Prelude.{◌≡◌, ℕ, ◌+◌, ◌^◌, ◌<◌, ◌≤◌, ◌⊎◌, ◌++◌, List, length, drop, IfSome};
+ghost use Rattle.rtp_base.specs.Overwriting.{overwritten};
 ghost use Rattle.rtp_vla.specs.Leb.{IsShortest, ReadsLeb, shortest_of};
-ghost use Rattle.rtp_vla.specs.LebOverwriting.{overwritten};
 ghost use Rattle.rtp_vla.specs.LebReading.{leb_number};
 
 // The number at the front, and how many bytes spell it.

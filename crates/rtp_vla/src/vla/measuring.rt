@@ -163,7 +163,7 @@ fn masks_len(masks: &[u8]) -> usize
 
 // How many bytes the allocation has, where it can be written: the test and the measure in one.
 #[tactic(auto, unfolding(crate::specs::AllocationWritten::written_of))]
-pub(crate) fn writable_len(v: &VideoLayersAllocation) -> Option<usize>
+pub(super) fn writable_len(v: &VideoLayersAllocation) -> Option<usize>
     ensures fits { IfSome result (λ len. (written.can_be_written v.now ≡ true)
         × (len ≡ length (written.written_of v.now))) }
     ensures unfit { IfNone result (written.can_be_written v.now ≡ false) }

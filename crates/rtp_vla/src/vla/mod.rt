@@ -5,13 +5,9 @@ mod active;
 mod allocation;
 mod layers;
 mod leb;
-#[cfg(test)]
-mod limits;
 mod measuring;
 mod parsing;
 mod parts;
-#[cfg(test)]
-mod tests;
 mod writing;
 
 pub use allocation::{
@@ -20,4 +16,4 @@ pub use allocation::{
 };
 pub use leb::{encode_leb_u63, parse_leb_u63};
 pub use parsing::parse;
-pub use writing::{is_writable, wire_len, write_to};
+pub use writing::{checked_wire_len, is_writable, wire_len, write_to};

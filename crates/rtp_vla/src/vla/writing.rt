@@ -1,12 +1,12 @@
 //! From an allocation to bytes.
 
-ghost use Rattle.std.specs.Prelude.{◌≡◌, ◌↔◌, true, ◌+◌, ◌*◌, ◌/◌, ◌%◌, ◌<◌, ◌≤◌, ◌∷◌, [], ◌++◌, List, length, drop, map, IsTrue};
+ghost use Rattle.std.specs.Prelude.{◌≡◌, ◌↔◌, true, ◌+◌, ◌*◌, ◌/◌, ◌%◌, ◌<◌, ◌≤◌, ◌∷◌, [], ◌++◌, List, length, drop, map, is_some, IsTrue, IfSome, IfNone};
 ghost use Rattle.std.specs.List.{AllByRecursion, flat_map};
+ghost use Rattle.rtp_base.specs.Overwriting.{overwritten};
 ghost use Rattle.rtp_vla.specs.Allocation.{Layer, Means, IsCounted, count_of};
 ghost use Rattle.rtp_vla.specs.AllocationWritten as written;
 ghost use Rattle.rtp_vla.specs.AllocationPutting as putting;
 ghost use Rattle.rtp_vla.specs.Leb.{shortest_of};
-ghost use Rattle.rtp_vla.specs.LebOverwriting.{overwritten};
 
 use super::active::ActiveLayers;
 use super::allocation::{
@@ -15,17 +15,7 @@ use super::allocation::{
 };
 use super::leb::put_leb;
 use super::measuring::{put_masks_of, shared_of, writable_len};
-
-// Puts bytes at an offset, and returns the offset behind them.
-fn put(buf: &mut [u8], at: usize, bytes: &[u8]) -> usize
-    requires { at + length bytes.now ≤ length buf.old }
-    ensures written { buf.new ≡ overwritten buf.old at bytes.now }
-    ensures end { result ≡ at + length bytes.now }
-{
-    let end = at + bytes.len();
-    buf[at..end].copy_from_slice(bytes);
-    end
-}
+use rtp_base::put;
 
 // Puts the masks, two in a byte.
 fn put_halves(buf: &mut [u8], at: usize, masks: &[u8]) -> usize
@@ -182,8 +172,11 @@ fn put_streams(buf: &mut [u8], index: u8, streams: &[SimulcastStreamAllocation])
 /// layers or behind a layer without one; and no width or height of 0.
 pub fn is_writable(v: &VideoLayersAllocation) -> bool
     ensures writable { IsTrue result ↔ written.Writable v.now }
+
+    // The same by the cases above.
+    ensures cases { result ≡ written.can_be_written v.now }
 {
-    writable_len(v).is_some()
+    checked_wire_len(v).is_some()
 }
 
 /// How many bytes [`write_to`] writes. It requires an allocation that [`is_writable`].
@@ -191,7 +184,20 @@ pub fn wire_len(v: &VideoLayersAllocation) -> usize
     requires { written.Writable v.now }
     ensures { result ≡ length (written.written_of v.now) }
 {
-    writable_len(v).unwrap_or(0)
+    checked_wire_len(v).unwrap_or(0)
+}
+
+/// How many bytes [`write_to`] writes, and `None` exactly when the allocation isn't writable:
+/// [`is_writable`] and [`wire_len`] in one walk over the layers.
+pub fn checked_wire_len(v: &VideoLayersAllocation) -> Option<usize>
+    ensures found { IfSome result (λ len.
+        written.Writable v.now × (len ≡ length (written.written_of v.now))) }
+    ensures none { IfNone result (written.Writable v.now → ⊥) }
+
+    // The same by the cases of `is_writable`.
+    ensures cases { is_some result ≡ written.can_be_written v.now }
+{
+    writable_len(v)
 }
 
 /// Writes the allocation to the front of the buffer, and returns how many bytes it has; the bytes

@@ -1,16 +1,17 @@
 //! A block of header extensions: the word of its form, the number of its words, and its body. Both
 //! sides of this layout stand here.
 
-ghost use Rattle.std.specs.Prelude.{◌≡◌, ◌+◌, ◌%◌, ◌≤◌, ◌++◌, length, drop, true, IsOk, IfOk, IfSome, IfNone};
+ghost use Rattle.std.specs.Prelude.{◌≡◌, ◌+◌, ◌%◌, ◌≤◌, ◌++◌, length, drop, true, IfOk, OnErr, IfSome, IfNone};
 ghost use Rattle.std.specs.Int.{w16, to_be_bytes};
 ghost use Rattle.rtp_wire.specs.Form.{form_word};
 ghost use Rattle.rtp_wire.specs.Block.{IsExtensionPart};
+ghost use Rattle.rtp_wire.specs.Memory.{BlockHasAllocation};
 ghost use Rattle.rtp_wire.specs.NotAHeader.{NotABlock};
 ghost use Rattle.rtp_wire.specs.Reading.{HasBlock, ReadsBlock};
 ghost use Rattle.rtp_wire.specs.WrittenBlock.{block_bytes, image_values};
 
 use super::{ExtensionMap, ExtensionValues, ExtensionsForm};
-use crate::put::{put, put_zeros};
+use rtp_base::{put, put_zeros};
 use std::alloc::{AllocError, Global};
 
 // How many bytes stand in front of a block's body.
@@ -46,7 +47,7 @@ impl ExtensionMap {
         bytes: &[u8],
         ev: &mut ExtensionValues,
     ) -> Result<Option<usize>, AllocError>
-        ensures succeeds { IsOk result }
+        ensures memory { OnErr result (BlockHasAllocation self.now bytes.now) }
         ensures found { IfOk result (λ answer. IfSome answer (λ len.
             ReadsBlock self.now bytes.now len ev.old ev.new)) }
         ensures refused { IfOk result (λ answer. IfNone answer (NotABlock bytes.now)) }

@@ -3,9 +3,11 @@
 ghost use Rattle.std.specs.Prelude.{◌≡◌, ◌⊎◌, ℕ, ◌+◌, ◌*◌, ◌≤◌, ◌++◌, ◌||◌, nat_lt, length, drop, replicate};
 ghost use Rattle.std.specs.Option.{option_map};
 ghost use Rattle.rtp_wire.specs.declared.ext.form.ExtensionsForm.TheVariants.{OneByte, TwoByte};
+ghost use Rattle.rtp_wire.specs.declared.ext.kind.Extension.TheVariants.{VideoLayersAllocation};
+ghost use Rattle.rtp_wire.specs.contracts.ext.kind.ExtensionPartialEq.TheImpl as kind_eq;
 ghost use Rattle.rtp_wire.specs.Elements.{AreElements};
 ghost use Rattle.rtp_wire.specs.ElementWriting.{header_bytes, bytes_at, has_no_data, CanCarry, IsCarried};
-ghost use Rattle.rtp_wire.specs.Overwriting.{overwritten};
+ghost use Rattle.rtp_base.specs.Overwriting.{overwritten};
 ghost use Rattle.rtp_wire.specs.Spelling.{spelled_data};
 ghost use Rattle.rtp_wire.specs.Values.{AreValues, no_values};
 ghost use Rattle.rtp_wire.specs.WrittenBlock.{written_elements, form_of, elements_bytes, image_values};
@@ -37,11 +39,12 @@ fn write_header(buf: &mut [u8], at: usize, form: ExtensionsForm, id: u8, len: u8
     }
 }
 
-// Whether the one-byte form can't carry the element of a mapped id.
+// Whether the one-byte form doesn't serve for a mapped id.
 fn needs_two_bytes(id: u8, ext: &Extension, ev: &ExtensionValues) -> bool
-    ensures { result ≡ (nat_lt 14 id || has_no_data (spelled_data ext.now ev.now)) }
+    ensures { result ≡ (nat_lt 14 id || ((kind_eq.ghosts).eq ext.now VideoLayersAllocation
+        || has_no_data (spelled_data ext.now ev.now))) }
 {
-    id > MAX_ID_ONE_BYTE_FORM || ext.has_empty_data(ev)
+    id > MAX_ID_ONE_BYTE_FORM || *ext == Extension::VideoLayersAllocation || ext.has_empty_data(ev)
 }
 
 // How many bytes the element of a kind takes, 0 where a value that it needs is absent.
@@ -67,7 +70,7 @@ fn write_element(
 ) -> usize
     requires room { at + length (bytes_at form id (spelled_data ext.now ev.now)) ≤ length buf.old }
     requires id { 1 ≤ id }
-    requires fits { CanCarry form id (spelled_data ext.now ev.now) }
+    requires fits { CanCarry form (id, ext.now) (spelled_data ext.now ev.now) }
     ensures written { buf.new
         ≡ overwritten buf.old at (bytes_at form id (spelled_data ext.now ev.now)) }
     ensures end { result ≡ at + length (bytes_at form id (spelled_data ext.now ev.now)) }
@@ -87,8 +90,8 @@ fn write_element(
 
 impl ExtensionMap {
     /// The form that a block of these values needs: the two-byte form exactly when an id above
-    /// [`MAX_ID_ONE_BYTE_FORM`] is mapped, or a text that is written is empty (RFC 8285, 4.2 and
-    /// 4.3).
+    /// [`MAX_ID_ONE_BYTE_FORM`] is mapped, the layer allocation is mapped, or a text that is
+    /// written is empty (RFC 8285, 4.2 and 4.3).
     pub fn form(&self, ev: &ExtensionValues) -> ExtensionsForm
         ensures { result ≡ form_of self.now ev.now }
     {

@@ -9,7 +9,7 @@ use super::table::{kind_of, known_by_uri};
 use std::alloc::{AllocError, Global};
 use std::fmt;
 
-/// A header extension: one of the fourteen that this library knows, or another by its URI
+/// A header extension: one of the fifteen that this library knows, or another by its URI
 /// (RFC 8285, 5).
 #[derive(Debug, PartialEq, Eq, Drop)]
 pub enum Extension {
@@ -41,6 +41,8 @@ pub enum Extension {
     FrameMarking,
     /// The colour space of the video.
     ColorSpace,
+    /// Which simulcast streams and layers of the video the sender keeps active.
+    VideoLayersAllocation,
     /// An extension that this library doesn't know, by its URI. It is of no medium, and has no value.
     UnknownUri(Uri),
 }
@@ -117,6 +119,7 @@ impl Extension {
             Extension::RtpMid => Extension::RtpMid,
             Extension::FrameMarking => Extension::FrameMarking,
             Extension::ColorSpace => Extension::ColorSpace,
+            Extension::VideoLayersAllocation => Extension::VideoLayersAllocation,
         })
     }
 

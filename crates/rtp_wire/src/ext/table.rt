@@ -5,6 +5,7 @@ ghost use Rattle.rtp_wire.specs.Kind.{audio_and_video, audio_only, video_only, k
 ghost use Rattle.rtp_wire.specs.KindTable.{kind_in};
 
 use super::Extension;
+use rtp_vla::vla;
 
 // What is fixed for a kind.
 #[derive(Clone, Copy)]
@@ -106,6 +107,7 @@ pub(super) fn kind_of(kind: &Extension) -> Kind<'_>
             "http://www.webrtc.org/experiments/rtp-hdrext/color-space",
             "color-space",
         ),
+        Extension::VideoLayersAllocation => video_only(vla::URI, vla::URI),
         Extension::UnknownUri(uri) => Kind {
             uri: uri.as_str(),
             name: uri.as_str(),
@@ -116,7 +118,7 @@ pub(super) fn kind_of(kind: &Extension) -> Kind<'_>
 }
 
 // The known kinds, each once.
-fn known() -> [Extension; 14]
+fn known() -> [Extension; 15]
     ensures { result ≡ known_kinds }
 {
     [
@@ -134,6 +136,7 @@ fn known() -> [Extension; 14]
         Extension::RtpMid,
         Extension::FrameMarking,
         Extension::ColorSpace,
+        Extension::VideoLayersAllocation,
     ]
 }
 

@@ -1,8 +1,9 @@
 //! From bytes to a header.
 
-ghost use Rattle.std.specs.Prelude.{◌↔◌, ◌≡◌, ◌+◌, ◌-◌, ◌*◌, ◌/◌, ◌^◌, ◌<◌, ◌≤◌, ◌++◌, length, map, replicate, slice_index, IsSome, IsOk, IfOk, IfSome, IfNone};
+ghost use Rattle.std.specs.Prelude.{◌↔◌, ◌≡◌, ◌+◌, ◌-◌, ◌*◌, ◌/◌, ◌^◌, ◌<◌, ◌≤◌, ◌++◌, length, map, replicate, slice_index, IsOk, IfOk, OnErr, IfSome, IfNone};
 ghost use Rattle.std.specs.Int.{w32, from_be_bytes};
 ghost use Rattle.std.specs.Simd.{first_chunks};
+ghost use Rattle.rtp_wire.specs.Memory.{HeaderHasAllocation};
 ghost use Rattle.rtp_wire.specs.NotAHeader.{NotAHeader};
 ghost use Rattle.rtp_wire.specs.Header.{IsFirstByte, IsSecondByte, IsFixed, IsWire};
 
@@ -94,7 +95,10 @@ fn header_of(
 impl RtpHeader {
     /// Returns the header that the bytes begin with, with the values of its extensions under the
     /// map (RFC 3550, 5.1 and 5.3.1; RFC 8285, 4.2 and 4.3). Whatever follows the header is not
-    /// looked at, and nothing is allocated.
+    /// looked at.
+    ///
+    /// Nothing is allocated but for the lists of a layer allocation: an element of two bytes or
+    /// more whose id is mapped to it. Where that memory is refused nothing is handed out.
     ///
     /// Returns `None` exactly when no header begins there: under 12 bytes, a version other than 2, a
     /// CSRC list that is cut short, or a set X bit that no block follows, since the block's first
@@ -110,7 +114,9 @@ impl RtpHeader {
         buf: &[u8],
         exts: &ExtensionMap,
     ) -> Result<Option<RtpHeader>, AllocError>
-        ensures succeeds { IsOk result }
+        // Memory is refused only where a layer allocation of two bytes or more is in the block.
+        ensures memory { OnErr result (HeaderHasAllocation exts.now buf.now) }
+        ensures succeeds { (HeaderHasAllocation exts.now buf.now → ⊥) → IsOk result }
 
         // What is returned is a header of these bytes, and each header of these bytes is returned.
         ensures found { IfOk result (λ answer. IfSome answer (IsWire exts.now buf.now)) }

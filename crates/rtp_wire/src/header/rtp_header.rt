@@ -1,9 +1,10 @@
 //! The header as a value.
 
-ghost use Rattle.std.specs.Prelude.{◌≡◌};
+ghost use Rattle.std.specs.Prelude.{◌≡◌, None, IsOk, IfOk};
 
 use crate::ext::ExtensionValues;
 use rtp_base::{Pt, Ssrc};
+use std::alloc::{AllocError, Global};
 
 /// The header of an RTP packet (RFC 3550, 5.1), with the values of its extensions.
 #[derive(Debug, PartialEq, Eq, Drop)]
@@ -57,5 +58,19 @@ impl Default for RtpHeader {
             ext_vals: ExtensionValues::default(),
             header_len: 16,
         }
+    }
+}
+
+impl RtpHeader {
+    /// The same header, whose values are in memory of their own: it is taken where there is a layer
+    /// allocation with streams. Where that is refused nothing is handed out.
+    pub fn clone(&self, alloc: Global) -> Result<Self, AllocError>
+        ensures same { IfOk result (λ copy. copy ≡ self.now) }
+        ensures succeeds { self.now.ext_vals.video_layers_allocation ≡ None → IsOk result }
+    {
+        Ok(RtpHeader {
+            ext_vals: self.ext_vals.clone(alloc)?,
+            ..*self
+        })
     }
 }

@@ -5,12 +5,12 @@ ghost use Rattle.std.specs.List.{flat_map};
 ghost use Rattle.std.specs.Int.{w32, to_be_bytes};
 ghost use Rattle.rtp_wire.specs.Block.{IsExtensionPart};
 ghost use Rattle.rtp_wire.specs.Header.{IsWire, bit};
-ghost use Rattle.rtp_wire.specs.Overwriting.{overwritten};
+ghost use Rattle.rtp_base.specs.Overwriting.{overwritten};
 ghost use Rattle.rtp_wire.specs.Written.{fixed_bytes, source_bytes, extension_bytes, wire_bytes, carried_image, image_of};
 
 use super::RtpHeader;
 use crate::ext::ExtensionMap;
-use crate::put::put;
+use rtp_base::put;
 
 // Puts four bytes for each source, and returns the offset behind them.
 fn put_sources(buf: &mut [u8], at: usize, sources: &[u32]) -> usize

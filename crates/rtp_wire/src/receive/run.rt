@@ -12,8 +12,8 @@ use std::alloc::{AllocError, Global};
 /// without a header is unreadable and changes nothing. The datagrams are those of one stream, and
 /// nothing is authenticated here.
 ///
-/// The only memory is the list of the verdicts, made at once; where it is refused nothing is handed
-/// out.
+/// Memory is taken for the list of the verdicts, made at once, and for the layer allocation of a
+/// datagram while its header is looked at; where it is refused nothing is handed out.
 pub fn receive_run(
     alloc: Global,
     datagrams: &[Vec<u8>],

@@ -6,7 +6,7 @@ ghost use Rattle.rtp_base.specs.Id.{before_padding};
 ghost use Rattle.rtp_wire.specs.ElementWriting.{has_no_data};
 ghost use Rattle.rtp_wire.specs.Spelling.{spelled_data, bytes_of, offset_bytes, of_both};
 
-use super::{AbsCaptureTime, ExtensionValues};
+use super::{AbsCaptureTime, ExtensionValues, video_layers_allocation};
 use crate::ext::Extension;
 use rtp_base::{Mid, Rid};
 
@@ -87,7 +87,7 @@ impl Extension {
     // How many bytes [`write_to`](Self::write_to) writes, and None where it writes no element.
     pub(crate) fn data_len(&self, ev: &ExtensionValues) -> Option<usize>
         ensures length { result ≡ option_map length (spelled_data self.now ev.now) }
-        ensures few { IfSome result (λ len. len ≤ 16) }
+        ensures few { IfSome result (λ len. len ≤ 255) }
     {
         match self {
             Extension::AbsoluteSendTime => len_of(&ev.abs_send_time, 3),
@@ -103,6 +103,7 @@ impl Extension {
             Extension::RepairedRtpStreamId => ev.rid_repair.as_ref().map(rid_len),
             Extension::RtpMid => ev.mid.as_ref().map(mid_len),
             Extension::FrameMarking => len_of(&ev.frame_mark, 4),
+            Extension::VideoLayersAllocation => video_layers_allocation::data_len(ev),
             Extension::ColorSpace | Extension::UnknownUri(_) => None,
         }
     }

@@ -14,6 +14,7 @@ mod transmission_offset;
 mod transport_sequence_number;
 mod values;
 mod video_content_type;
+mod video_layers_allocation;
 mod video_orientation;
 mod video_timing;
 

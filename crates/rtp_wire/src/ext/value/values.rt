@@ -1,7 +1,11 @@
 //! The values that header extensions carry.
 
+ghost use Rattle.std.specs.Prelude.{◌≡◌, None, IsOk, IfOk};
+
 use super::{AbsCaptureTime, VideoOrientation, VideoTiming};
 use rtp_base::{MediaTime, Mid, Rid};
+use rtp_vla::vla::VideoLayersAllocation;
+use std::alloc::{AllocError, Global};
 use std::marker::Model;
 
 /// The values of a header's extensions (RFC 8285, 4). A field is `None` where the header carries no
@@ -41,6 +45,8 @@ pub struct ExtensionValues {
     pub mid: Option<Mid>,
     /// The frame marking: its first four bytes, the first in the high bits.
     pub frame_mark: Option<u32>,
+    /// Which simulcast streams and layers of the video the sender keeps active.
+    pub video_layers_allocation: Option<VideoLayersAllocation>,
 }
 
 impl Model for ExtensionValues {
@@ -64,6 +70,7 @@ impl Model for ExtensionValues {
       rid_repair = values.rid_repair;
       mid = values.mid;
       frame_mark = values.frame_mark;
+      video_layers_allocation = values.video_layers_allocation;
     } };
 
     ghost inverse = { λ shown. record {
@@ -82,6 +89,7 @@ impl Model for ExtensionValues {
       rid_repair = shown.rid_repair;
       mid = shown.mid;
       frame_mark = shown.frame_mark;
+      video_layers_allocation = shown.video_layers_allocation;
     } };
 }
 
@@ -109,6 +117,25 @@ impl Default for ExtensionValues {
             rid_repair: None,
             mid: None,
             frame_mark: None,
+            video_layers_allocation: None,
         }
+    }
+}
+
+impl ExtensionValues {
+    /// The same values in memory of their own, which is taken where there is a layer allocation
+    /// with streams. Where that is refused nothing is handed out.
+    pub fn clone(&self, alloc: Global) -> Result<Self, AllocError>
+        ensures same { IfOk result (λ copy. copy ≡ self.now) }
+        ensures succeeds { self.now.video_layers_allocation ≡ None → IsOk result }
+    {
+        let video_layers_allocation = match &self.video_layers_allocation {
+            Some(allocation) => Some(allocation.clone(alloc)?),
+            None => None,
+        };
+        Ok(ExtensionValues {
+            video_layers_allocation,
+            ..*self
+        })
     }
 }

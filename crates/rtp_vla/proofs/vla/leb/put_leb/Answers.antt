@@ -1,5 +1,5 @@
 use Rattle.std.proofs.Common.{◌≡◌, ◌-◌, ◌+◌, suc, arith}
-use Rattle.rtp_vla.proofs.LebOverwritingLemmas.{Leaves-start}
+use Rattle.rtp_vla.proofs.LeavingLemmas.{Leaves-start}
 use Rattle.rtp_vla.proofs.LebSpellingLemmas.{shortest-leb_of, put_more, put_last, put_within}
 use Rattle.rtp_vla.proofs.vla.leb.put_leb.Goals as goal
 use Rattle.rtp_vla.proofs.vla.leb.put_leb.Goals.{In-loop-left, After-loop-left}

@@ -1,6 +1,6 @@
 use Rattle.std.proofs.Common.{◌+◌, ◌-◌, ◌^◌, ◌<◌, ◌≤◌}
 use Rattle.rtp_vla.specs.Leb.{leb_of, shortest_of}
-use Rattle.rtp_vla.specs.LebOverwriting.{Leaves}
+use Rattle.rtp_vla.specs.Leaving.{Leaves}
 use Rattle.rtp_vla.proofs.vla.leb.put_leb.Given as goal
 
 -- what is left is put behind the bytes so far

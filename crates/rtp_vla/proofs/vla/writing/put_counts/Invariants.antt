@@ -2,7 +2,7 @@ use Rattle.std.proofs.Common.{map, length}
 use Rattle.std.specs.List.{AllByRecursion}
 use Rattle.rtp_vla.specs.Allocation.{count_of, IsCounted}
 use Rattle.rtp_vla.specs.AllocationWritten.{quarters_of}
-use Rattle.rtp_vla.specs.LebOverwriting.{Leaves}
+use Rattle.rtp_vla.specs.Leaving.{Leaves}
 use Rattle.rtp_vla.proofs.vla.writing.put_counts.Given as goal
 
 -- what is left is put behind the bytes so far

@@ -2,7 +2,7 @@ use Rattle.std.proofs.Common.{◌≡◌, ◌++◌, ◌∙◌, ap, drop, get_or, 
 use Rattle.std.specs.List.{flat_map}
 use Rattle.std.proofs.lemmas.List.{drop_more, drop_all, get_or_read}
 use Rattle.rtp_vla.specs.Leb.{shortest_of}
-use Rattle.rtp_vla.proofs.LebOverwritingLemmas.{Leaves-part, Leaves-end}
+use Rattle.rtp_vla.proofs.LeavingLemmas.{Leaves-part, Leaves-end}
 use Rattle.rtp_vla.proofs.vla.writing.put_layer_rates.Goals as goal
 
 pub loop-rate-preserved : goal.loop-rate-preserved

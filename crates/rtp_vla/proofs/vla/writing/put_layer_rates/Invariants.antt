@@ -1,7 +1,7 @@
 use Rattle.std.proofs.Common.{drop}
 use Rattle.std.specs.List.{flat_map}
 use Rattle.rtp_vla.specs.Leb.{shortest_of}
-use Rattle.rtp_vla.specs.LebOverwriting.{Leaves}
+use Rattle.rtp_vla.specs.Leaving.{Leaves}
 use Rattle.rtp_vla.proofs.vla.writing.put_layer_rates.Given as goal
 
 -- what is left is put behind the bytes so far

@@ -1,5 +1,5 @@
 use Rattle.std.proofs.Common.{sym, ◌∙◌}
-use Rattle.rtp_vla.proofs.LebOverwritingLemmas.{overwritten-nil}
+use Rattle.rtp_base.proofs.OverwritingLemmas.{overwritten-nil}
 use Rattle.rtp_vla.proofs.AllocationWritingLemmas.{mask_bytes-none}
 use Rattle.rtp_vla.proofs.vla.writing.put_masks.Goals as goal
 

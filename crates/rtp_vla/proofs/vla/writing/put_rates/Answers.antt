@@ -2,8 +2,8 @@ use Rattle.std.proofs.Common.{◌≡◌, ◌++◌, [], ◌∙◌, ap, List, ℕ,
 use Rattle.std.specs.List.{flat_map}
 use Rattle.rtp_vla.specs.AllocationWritten.{rate_bytes}
 use Rattle.rtp_vla.specs.Leb.{shortest_of}
-use Rattle.rtp_vla.specs.LebOverwriting.{overwritten}
-use Rattle.rtp_vla.proofs.LebOverwritingLemmas.{Leaves-part, Leaves-end}
+use Rattle.rtp_base.specs.Overwriting.{overwritten}
+use Rattle.rtp_vla.proofs.LeavingLemmas.{Leaves-part, Leaves-end}
 use Rattle.rtp_vla.proofs.AllocationWritingLemmas.{AllByRecursion-tail}
 use Rattle.rtp_vla.proofs.vla.writing.put_rates.Goals as goal
 

@@ -2,7 +2,7 @@ use Rattle.std.proofs.Common.{length}
 use Rattle.std.specs.List.{AllByRecursion, flat_map}
 use Rattle.rtp_vla.specs.AllocationWritten.{rate_bytes}
 use Rattle.rtp_vla.specs.AllocationPutting.{HasSmallRates}
-use Rattle.rtp_vla.specs.LebOverwriting.{Leaves}
+use Rattle.rtp_vla.specs.Leaving.{Leaves}
 use Rattle.rtp_vla.proofs.vla.writing.put_rates.Given as goal
 
 -- what is left is put behind the bytes so far

@@ -4,11 +4,11 @@ use Rattle.std.proofs.lemmas.Bool.{OnTrue_at}
 use Rattle.rtp_vla.specs.Allocation.{Layer, IsCounted, active_layers, mask_of, count_of}
 use Rattle.rtp_vla.specs.AllocationPutting.{HasSmallRates, HasTold}
 use Rattle.rtp_vla.specs.AllocationWritten.{shared_of, mask_bytes, quarters_of, rate_bytes, resolution_bytes, packed_bytes}
-use Rattle.rtp_vla.specs.LebOverwriting.{overwritten}
+use Rattle.rtp_base.specs.Overwriting.{overwritten}
 use Rattle.rtp_vla.proofs.AllocationWriting.{can_put}
 use Rattle.rtp_vla.proofs.AllocationWritingLemmas.{length-packed_bytes, length-quarters_of}
 use Rattle.std.proofs.lemmas.List.{length-map}
-use Rattle.rtp_vla.proofs.LebOverwritingLemmas.{overwritten-five}
+use Rattle.rtp_vla.proofs.LeavingLemmas.{overwritten-five}
 use Rattle.rtp_vla.proofs.vla.writing.put_streams.Goals as goal
 use Rattle.rtp_vla.proofs.vla.writing.put_streams.Goals.{After-slice_known-7-1}
 

@@ -1,5 +1,5 @@
 use Rattle.std.proofs.Common.{sym}
-use Rattle.rtp_vla.proofs.LebOverwritingLemmas.{overwritten-nil}
+use Rattle.rtp_base.proofs.OverwritingLemmas.{overwritten-nil}
 use Rattle.rtp_vla.proofs.vla.writing.put_told.Goals as goal
 
 pub returns-in_default-clause-written : goal.returns-in_default-clause-written

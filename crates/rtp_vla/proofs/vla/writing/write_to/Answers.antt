@@ -2,7 +2,7 @@ use Rattle.std.proofs.Common.{◌≡◌, ◌≤◌, ◌<◌, ◌++◌, ◌∷◌
 use Rattle.std.proofs.lemmas.Bool.{eqb-true, eqb-false}
 use Rattle.rtp_vla.specs.Allocation.{Allocation, Stream}
 use Rattle.rtp_vla.specs.AllocationWritten.{can_be_written, written_of, packed_bytes, streams_fit}
-use Rattle.rtp_vla.proofs.LebOverwritingLemmas.{overwritten-front}
+use Rattle.rtp_base.proofs.OverwritingLemmas.{overwritten-front}
 use Rattle.rtp_vla.proofs.AllocationWriting.{can_be_written-from, written_means, written-none, written-some}
 use Rattle.rtp_vla.proofs.vla.writing.write_to.Goals as goal
 use Rattle.rtp_vla.proofs.vla.writing.write_to.Goals.{Then-is_empty, After-deref}

@@ -1,5 +1,5 @@
 use Rattle.std.proofs.Common.{arith}
-use Rattle.rtp_wire.proofs.OverwritingLemmas.{overwritten-set, overwritten-set_two}
+use Rattle.rtp_base.proofs.OverwritingLemmas.{overwritten-set, overwritten-set_two}
 use Rattle.rtp_wire.proofs.ext.block_elements.write_header.Goals as goal
 
 pub returns-in-OneByte : goal.returns-in-OneByte

@@ -1,5 +1,5 @@
 use Rattle.std.proofs.Common.{sym, ap, ◌∙◌, true, false}
-use Rattle.rtp_wire.proofs.WrittenBlockLemmas.{form_for, form_for-map, form_for-nil, form_for-next}
+use Rattle.rtp_wire.proofs.FormLemmas.{form_for, form_for-map, form_for-nil, form_for-next}
 use Rattle.rtp_wire.proofs.ext.map.ExtensionMap.form.Goals as goal
 
 pub loop-id-init : goal.loop-id-init

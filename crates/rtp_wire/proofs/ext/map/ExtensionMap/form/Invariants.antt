@@ -1,6 +1,6 @@
 use Rattle.std.proofs.Common.{◌≡◌}
 use Rattle.rtp_wire.specs.WrittenBlock.{form_of}
-use Rattle.rtp_wire.proofs.WrittenBlockLemmas.{form_for}
+use Rattle.rtp_wire.proofs.FormLemmas.{form_for}
 use Rattle.rtp_wire.proofs.ext.map.ExtensionMap.form.Given as goal
 
 -- the ids that are left decide

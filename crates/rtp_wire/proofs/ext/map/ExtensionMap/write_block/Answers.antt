@@ -5,11 +5,11 @@ use Rattle.rtp_wire.specs.declared.ext.map.ExtensionMap.{ExtensionMap}
 use Rattle.rtp_wire.specs.declared.ext.value.values.ExtensionValues.{ExtensionValues}
 use Rattle.std.specs.Int.{w16, to_be_bytes}
 use Rattle.rtp_wire.specs.Form.{form_word}
-use Rattle.rtp_wire.specs.Overwriting.{overwritten}
+use Rattle.rtp_base.specs.Overwriting.{overwritten}
 use Rattle.rtp_wire.specs.Elements.{AreElements}
 use Rattle.rtp_wire.specs.WrittenBlock.{written_elements, form_of, elements_bytes, block_bytes, padding_of}
 use Rattle.rtp_wire.proofs.BlockWriting.{length-block, block-put, row-put, IsExtensionPart-written}
-use Rattle.rtp_wire.proofs.OverwritingLemmas.{length-overwritten}
+use Rattle.rtp_base.proofs.OverwritingLemmas.{length-overwritten}
 use Rattle.rtp_wire.proofs.ext.map.ExtensionMap.write_block.Goals as goal
 
 abbrev row : ExtensionMap → ExtensionValues → List ℕ

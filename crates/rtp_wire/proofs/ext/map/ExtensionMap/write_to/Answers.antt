@@ -3,7 +3,8 @@ use Rattle.std.specs.List.{AllByRecursion}
 use Rattle.rtp_wire.specs.ElementWriting.{items_bytes, IsCarried}
 use Rattle.rtp_wire.specs.MapSlots.{items_from}
 use Rattle.rtp_wire.specs.WrittenBlock.{written_elements, elements_bytes}
-use Rattle.rtp_wire.proofs.WrittenBlockLemmas.{IsUnderWay, IsUnderWay-start, IsUnderWay-next, IsUnderWay-step, IsUnderWay-end, all_fit, items_bytes-written, length-items}
+use Rattle.rtp_wire.proofs.FormLemmas.{all_fit}
+use Rattle.rtp_wire.proofs.WrittenBlockLemmas.{IsUnderWay, IsUnderWay-start, IsUnderWay-next, IsUnderWay-step, IsUnderWay-end, items_bytes-written, length-items}
 use Rattle.rtp_wire.proofs.WrittenElementsLemmas.{AreElements-written}
 use Rattle.rtp_wire.proofs.WrittenValuesLemmas.{AreValues-written}
 use Rattle.rtp_wire.proofs.ext.map.ExtensionMap.write_to.Goals as goal

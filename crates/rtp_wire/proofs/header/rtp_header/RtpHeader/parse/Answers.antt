@@ -1,12 +1,14 @@
-use Rattle.std.proofs.Common.{arith, true, false, refl, sym, ap, ◌∙◌, subst, ◌≡◌, Bool, Some}
-use Rattle.std.proofs.lemmas.Bool.{not-true, not-false}
+use Rattle.std.proofs.Common.{arith, true, false, refl, sym, ap, ◌∙◌, subst, ◌≡◌, Bool, Some, IsErr}
+use Rattle.std.proofs.lemmas.Bool.{not-true, not-false, false≢true}
 use Rattle.rtp_wire.specs.declared.ext.value.values.ExtensionValues.{ExtensionValues}
 use Rattle.rtp_wire.specs.declared.header.rtp_header.RtpHeader.{RtpHeader}
+use Rattle.rtp_wire.specs.Memory.{HeaderHasAllocation}
 use Rattle.rtp_wire.specs.NotAHeader.{NotAHeader}
 use Rattle.rtp_wire.specs.Reading.{HasExtensionPart}
+use Rattle.rtp_wire.proofs.MemoryLemmas.{OnErr-from, OnErr-at}
 use Rattle.rtp_wire.proofs.HeaderLemmas.{IsLaidOut, IsWire-from_layout}
 use Rattle.rtp_wire.proofs.OneHeader.{no_header, one_header}
-use Rattle.rtp_wire.proofs.ParseLemmas.{IsLaidOut-made, HasExtensionPart-none, HasExtensionPart-read, cut_sources-from_pieces, no_block-from_pieces}
+use Rattle.rtp_wire.proofs.ParseLemmas.{IsLaidOut-made, HasExtensionPart-none, HasExtensionPart-read, cut_sources-from_pieces, no_block-from_pieces, HeaderHasAllocation-from_pieces}
 use Rattle.rtp_wire.proofs.header.rtp_header.RtpHeader.parse.Goals as goal
 
 -- the CSRC list is cut short
@@ -18,7 +20,7 @@ cut_sources_here c =
     split.0 split.1 (omega (arith, split.2)) c.flags_of-flags.ensures c.in_default-split_at_checked.ensures.cases
 
 -- X is set, and no block follows
-no_block_here : (c : goal.In_default-2) → NotAHeader c.args.buf.now
+no_block_here : (c : goal.Joined-ext_vals-2) → NotAHeader c.args.buf.now
 no_block_here c =
     let split = c.in-Some.ensures.cases in
     let parts = c.in-Some-split_at_checked.ensures.cases in
@@ -89,3 +91,23 @@ returns-clause-only c header wire = ap (λ (h : RtpHeader). Some h) (one_header 
 pub returns-clause-refused : goal.returns-clause-refused
 returns-clause-refused c =
     (λ e. absurd cc, λ none. absurd (no_header c.args.exts.now c.args.buf.now c.header_of-2.result none (IsWire-from_layout c.args.exts.now c.args.buf.now c.header_of-2.result (extended c))))
+
+-- memory was refused to an element of the block
+no_memory : (c : goal.Joined-ext_vals) → HeaderHasAllocation c.args.exts.now c.args.buf.now × (NotAHeader c.args.buf.now → ⊥)
+no_memory c =
+    let split = c.in-Some.ensures.cases in
+    let parts = c.in-Some-split_at_checked.ensures.cases in
+    let flags = c.flags_of-flags.result in
+    HeaderHasAllocation-from_pieces c.args.exts.now c.args.buf.now c.in-Some.fixed.now c.in-Some.after.now c.in-Some-split_at_checked.sources.now c.in-Some-split_at_checked.after.now
+    flags.has_padding flags.has_extension flags.csrc_count
+    (record { long = omega (arith, split.2); fixed_is = split.0; after_is = split.1; room = parts.0; sources_are = parts.1; behind_is = parts.2 })
+    c.flags_of-flags.ensures (not-false _ c.if-not-flags.false) (OnErr-at c.in_err-block_len.was c.parse_block.ensures.memory)
+
+pub returns-in_err-block_len-clause-memory : goal.returns-in_err-block_len-clause-memory
+returns-in_err-block_len-clause-memory c = OnErr-from c.from_residual.result _ (no_memory c).0
+
+pub returns-in_err-block_len-clause-succeeds : goal.returns-in_err-block_len-clause-succeeds
+returns-in_err-block_len-clause-succeeds c none = absurd (none (no_memory c).0)
+
+pub returns-in_err-block_len-clause-refused : goal.returns-in_err-block_len-clause-refused
+returns-in_err-block_len-clause-refused c = (λ e. absurd (false≢true (subst IsErr e c.from_residual.ensures.0)), λ none. absurd ((no_memory c).1 none))

@@ -1,0 +1,54 @@
+// Refuses one growth of memory to a program that it is loaded into (LD_PRELOAD): the one whose number
+// REFUSE says, from 1. At the end it writes to standard error whether there was such a growth, and how
+// many pieces of memory are still held.
+#define _GNU_SOURCE
+#include <dlfcn.h>
+#include <stdio.h>
+#include <stdlib.h>
+#include <unistd.h>
+
+static long growths, held;
+
+static int is_refused(void)
+{
+    const char *number = getenv("REFUSE");
+    return number && ++growths == atol(number);
+}
+
+void *malloc(size_t size)
+{
+    static void *(*next)(size_t);
+    if (!next)
+        next = (void *(*)(size_t))dlsym(RTLD_NEXT, "malloc");
+    void *piece = is_refused() ? NULL : next(size);
+    held += piece != NULL;
+    return piece;
+}
+
+void *realloc(void *old, size_t size)
+{
+    static void *(*next)(void *, size_t);
+    if (!next)
+        next = (void *(*)(void *, size_t))dlsym(RTLD_NEXT, "realloc");
+    void *piece = is_refused() ? NULL : next(old, size);
+    held += piece != NULL && old == NULL;
+    return piece;
+}
+
+void free(void *old)
+{
+    static void (*next)(void *);
+    if (!next)
+        next = (void (*)(void *))dlsym(RTLD_NEXT, "free");
+    held -= old != NULL;
+    next(old);
+}
+
+__attribute__((destructor)) static void report(void)
+{
+    const char *number = getenv("REFUSE");
+    char line[64];
+    int len = snprintf(line, sizeof line, "%s, held %ld\n",
+        number && growths >= atol(number) ? "refused" : "not refused", held);
+    (void)!write(2, line, len);
+}
