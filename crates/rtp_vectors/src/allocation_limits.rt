@@ -79,22 +79,18 @@ fn unwritable(
 
 #[test]
 fn not_writable(rt: HostRuntime) -> Result<(), Fail> {
+    let a = rt.alloc();
     let one: Row = (&[5], None);
-    let rows: [(u8, &[&[Row]]); 10] = [
-        (4, &[&[one]]),
-        (1, &[]),
-        (0, &[&[one], &[one], &[one], &[one], &[one]]),
-        (0, &[&[one, one, one, one, one]]),
-        (0, &[&[(&[1, 2, 3, 4, 5], None)]]),
-        (0, &[&[(&[1 << 63], None)]]),
-        (0, &[&[one, (&[], told(1, 1, 1))]]),
-        (0, &[&[one, (&[6], told(1, 1, 1))]]),
-        (0, &[&[(&[5], told(0, 1, 1))]]),
-        (0, &[&[(&[5], told(1, 0, 1))]]),
-    ];
-    for (index, rows) in rows {
-        unwritable(&rt, rt.alloc(), index, rows)?;
-    }
+    unwritable(&rt, a, 4, &[&[one]])?;
+    unwritable(&rt, a, 1, &[])?;
+    unwritable(&rt, a, 0, &[&[one], &[one], &[one], &[one], &[one]])?;
+    unwritable(&rt, a, 0, &[&[one, one, one, one, one]])?;
+    unwritable(&rt, a, 0, &[&[(&[1, 2, 3, 4, 5], None)]])?;
+    unwritable(&rt, a, 0, &[&[(&[1 << 63], None)]])?;
+    unwritable(&rt, a, 0, &[&[one, (&[], told(1, 1, 1))]])?;
+    unwritable(&rt, a, 0, &[&[one, (&[6], told(1, 1, 1))]])?;
+    unwritable(&rt, a, 0, &[&[(&[5], told(0, 1, 1))]])?;
+    unwritable(&rt, a, 0, &[&[(&[5], told(1, 0, 1))]])?;
     Ok(())
 }
 
@@ -145,23 +141,32 @@ fn copies(rt: HostRuntime) -> Result<(), Fail> {
 }
 
 #[test]
-fn differences(rt: HostRuntime) -> Result<(), Fail> {
+fn different_streams(rt: HostRuntime) -> Result<(), Fail> {
     let a = rt.alloc();
     let v = allocation(a, 2, &[&[(&[5, 6], told(320, 180, 15))]])?;
     assert!(rt; v == allocation(a, 2, &[&[(&[5, 6], told(320, 180, 15))]])?);
-    let others: [(u8, &[&[Row]]); 9] = [
-        (1, &[&[(&[5, 6], told(320, 180, 15))]]),
-        (2, &[&[(&[5, 7], told(320, 180, 15))]]),
-        (2, &[&[(&[5], told(320, 180, 15))]]),
-        (2, &[&[(&[5, 6], told(321, 180, 15))]]),
-        (2, &[&[(&[5, 6], told(320, 181, 15))]]),
-        (2, &[&[(&[5, 6], told(320, 180, 16))]]),
-        (2, &[&[(&[5, 6], None)]]),
-        (2, &[&[(&[5, 6], told(320, 180, 15))], &[]]),
-        (2, &[&[]]),
-    ];
-    for (index, rows) in others {
-        assert!(rt; v != allocation(a, index, rows)?, "{index} {rows:?}");
-    }
+    assert!(rt; v != allocation(a, 1, &[&[(&[5, 6], told(320, 180, 15))]])?);
+    assert!(rt; v != allocation(a, 2, &[&[(&[5, 6], told(320, 180, 15))], &[]])?);
+    assert!(rt; v != allocation(a, 2, &[&[]])?);
+    Ok(())
+}
+
+#[test]
+fn different_rates(rt: HostRuntime) -> Result<(), Fail> {
+    let a = rt.alloc();
+    let v = allocation(a, 2, &[&[(&[5, 6], told(320, 180, 15))]])?;
+    assert!(rt; v != allocation(a, 2, &[&[(&[5, 7], told(320, 180, 15))]])?);
+    assert!(rt; v != allocation(a, 2, &[&[(&[5], told(320, 180, 15))]])?);
+    Ok(())
+}
+
+#[test]
+fn different_resolutions(rt: HostRuntime) -> Result<(), Fail> {
+    let a = rt.alloc();
+    let v = allocation(a, 2, &[&[(&[5, 6], told(320, 180, 15))]])?;
+    assert!(rt; v != allocation(a, 2, &[&[(&[5, 6], told(321, 180, 15))]])?);
+    assert!(rt; v != allocation(a, 2, &[&[(&[5, 6], told(320, 181, 15))]])?);
+    assert!(rt; v != allocation(a, 2, &[&[(&[5, 6], told(320, 180, 16))]])?);
+    assert!(rt; v != allocation(a, 2, &[&[(&[5, 6], None)]])?);
     Ok(())
 }

@@ -3,7 +3,7 @@
 use crate::allocation_limits::largest;
 use crate::allocations::{Row, allocation, told};
 use crate::fixtures::{full, level, one, two};
-use crate::headers_written::check;
+use crate::headers_written::{check, written};
 use crate::values::{is_absent, is_refused, is_written, read};
 use rtp_wire::vla::{URI, VideoLayersAllocation};
 use rtp_wire::{Extension, ExtensionMap, ExtensionValues, ExtensionsForm, RtpHeader};
@@ -89,14 +89,13 @@ fn without_data(rt: HostRuntime) -> Result<(), Fail> {
 fn largest_data(rt: HostRuntime) -> Result<(), Fail> {
     let alloc = rt.alloc();
     let header = header(carrying(largest(alloc, 34_359_738_368)?), 276);
-    let mut buf = [7u8; 277];
-    assert_eq!(rt; header.wire_len(&mapped()), 276);
-    assert_eq!(rt; header.write_to(&mut buf, &mapped()), 276);
+    let bytes = written(alloc, &header, &mapped())?;
+    assert_eq!(rt; bytes.len(), 279);
     // The form's word, 65 words, id 1, 255 bytes of data, and how they begin.
     let head = [0x10, 0, 0, 65, 1, 255, 0x3F, 0xFF, 0xFF, 0xFF, 0xFF];
-    assert!(rt; buf[12..].starts_with(&head));
-    assert!(rt; buf[273..].starts_with(&[0, 0, 0, 7]));
-    assert!(rt; RtpHeader::parse(alloc, &buf, &mapped())? == Some(header));
+    assert!(rt; bytes.get(12..).unwrap_or(&[]).starts_with(&head));
+    assert!(rt; bytes.ends_with(&[0, 0, 0, 255, 255, 255]));
+    assert!(rt; RtpHeader::parse(alloc, &bytes, &mapped())? == Some(header));
     Ok(())
 }
 

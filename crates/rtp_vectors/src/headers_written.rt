@@ -8,7 +8,11 @@ use std::process::Abort;
 use std::test::Fail;
 
 // What is written of the header into a buffer of ones, and the three bytes behind it.
-fn written(alloc: Global, header: &RtpHeader, exts: &ExtensionMap) -> Result<Vec<u8>, Fail> {
+pub(crate) fn written(
+    alloc: Global,
+    header: &RtpHeader,
+    exts: &ExtensionMap,
+) -> Result<Vec<u8>, Fail> {
     if header.payload_type.get() > 127 || header.csrc_count > 15 {
         return Err(Fail::from("the header can't be written"));
     }
