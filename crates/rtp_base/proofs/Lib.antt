@@ -6,4 +6,4 @@ mod IdTextLemmas
 mod MediaTimeLemmas
 pub mod OverwritingLemmas
 mod StandardFacts
-mod WindowLemmas
+pub mod WindowLemmas

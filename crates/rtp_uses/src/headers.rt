@@ -2,7 +2,7 @@
 
 ghost use Rattle.std.specs.Prelude.{◌≡◌, ◌↔◌, ◌≤◌, length, drop, Ok, Some, None, IsOk, IfOk, IfSome};
 ghost use Rattle.rtp_wire.specs.Header.{IsWire};
-ghost use Rattle.rtp_wire.specs.Memory.{HeaderHasAllocation};
+ghost use Rattle.rtp_wire.specs.Memory.{HeaderHasAllocation, TakesNoMemory};
 ghost use Rattle.rtp_wire.specs.NotAHeader.{NotAHeader};
 ghost use Rattle.rtp_wire.specs.Values.{orientation_of};
 ghost use Rattle.rtp_wire.specs.Written.{wire_bytes, image_of};
@@ -54,7 +54,7 @@ pub fn written_and_read(
 /// A copy of a header is the same, and needs no memory where it has no allocation.
 pub fn copied(alloc: Global, header: &RtpHeader) -> Result<RtpHeader, AllocError>
     ensures same { IfOk result (λ copy. copy ≡ header.now) }
-    ensures succeeds { header.now.ext_vals.video_layers_allocation ≡ None → IsOk result }
+    ensures succeeds { TakesNoMemory header.now.ext_vals.video_layers_allocation → IsOk result }
 {
     header.clone(alloc)
 }

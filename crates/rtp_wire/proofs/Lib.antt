@@ -23,3 +23,5 @@ mod StandardFacts
 mod WideningLemmas
 mod ReceiverLemmas
 mod VerdictLemmas
+mod TrueNumberLemmas
+mod SendingLemmas

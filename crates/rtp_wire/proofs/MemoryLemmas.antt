@@ -22,7 +22,7 @@ IsStopped-at exts all done n element kind old between new done-is within here ma
     element = element;
     after = drop (suc n) all;
     elements_are = split_at all n element within ∙ ap (λ e. take n all ++ (e ∷ drop (suc n) all)) (sym here);
-    is_allocation = (mapped ∙ ap Some takes.0, takes.1);
+    is_allocation = (mapped ∙ ap Some takes.0, (refl, takes.1));
   };
   values_are = subst (λ v. AreValues exts (take n all) old v) (sym unchanged) (subst (λ es. AreValues exts es old between) done-is values);
 }

@@ -1,9 +1,10 @@
 -- What may be taken is what the replay window accepts.
 use Rattle.std.proofs.Common.{◌≡◌, ℕ, Bool, true, false, if◌then◌else◌, refl, sym, ◌∙◌, inl, inr}
-use Rattle.std.specs.Prelude.{IsTrue}
+use Rattle.std.specs.Prelude.{Option, Some, None, IsTrue}
 use Rattle.std.proofs.lemmas.Bool.{false≢true}
 use Rattle.rtp_base.specs.Window.{Numbers, WindowState, IsGreatest, Keeps, Accepts, including}
-use Rattle.rtp_wire.specs.Receiver.{IsNothing, IsFresh}
+use Rattle.rtp_base.proofs.WindowLemmas.{Keeps-refused}
+use Rattle.rtp_wire.specs.Receiver.{Holds, IsNothing, IsFresh}
 
 -- a set with a greatest number is not empty
 pub not_nothing : (taken : Numbers) (greatest : ℕ) → IsGreatest taken greatest → IsNothing taken → ⊥
@@ -18,3 +19,8 @@ pub Keeps-taken : (taken : Numbers) (number : ℕ) (answer : Bool) (window : Win
     → Keeps window (if answer then including taken number else taken)
 Keeps-taken taken number true window accepted refused = accepted refl
 Keeps-taken taken number false window accepted refused = refused refl
+
+-- a receiver tells a number that it refuses from no number that it took
+pub Holds-refused : (receiver : Option WindowState) (numbers : Numbers) (number : ℕ) → (IsFresh numbers number → ⊥) → Holds receiver numbers → Holds receiver (including numbers number)
+Holds-refused None numbers number refused holds = absurd (refused (inl holds))
+Holds-refused (Some window) numbers number refused holds = Keeps-refused window numbers number holds (λ accepts. refused (inr accepts))

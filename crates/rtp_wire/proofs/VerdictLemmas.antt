@@ -12,20 +12,21 @@ use Rattle.rtp_wire.specs.declared.receive.verdict.Verdict.{Verdict}
 use Rattle.rtp_wire.specs.declared.receive.verdict.Verdict.TheVariants.{Unreadable, Taken, Refused}
 use Rattle.rtp_wire.specs.declared.header.rtp_header.RtpHeader.{RtpHeader}
 use Rattle.rtp_wire.specs.Header.{IsWire}
+use Rattle.rtp_wire.specs.NotAHeader.{NotAHeader}
 use Rattle.rtp_wire.specs.Receiver.{Holds, IsFresh, taken_after}
 use Rattle.rtp_wire.specs.Verdicts.{Reading, reading_of, IsReading, taken_by, IsVerdict, IsRun, AreVerdicts, TakesOnce}
 
 -- ---- one verdict more
 
-or_assoc : (a b c : Bool) → (a || (b || c)) ≡ ((a || b) || c)
+pub or_assoc : (a b c : Bool) → (a || (b || c)) ≡ ((a || b) || c)
 or_assoc true b c = refl
 or_assoc false b c = refl
 
-or_false : (a : Bool) → (a || false) ≡ a
+pub or_false : (a : Bool) → (a || false) ≡ a
 or_false true = refl
 or_false false = refl
 
-taken_by-push : (verdicts : List Verdict) (verdict : Verdict) (n : ℕ) → taken_by (verdicts ++ verdict ∷ []) n ≡ taken_after (taken_by verdicts) verdict n
+pub taken_by-push : (verdicts : List Verdict) (verdict : Verdict) (n : ℕ) → taken_by (verdicts ++ verdict ∷ []) n ≡ taken_after (taken_by verdicts) verdict n
 taken_by-push [] (Taken t) n = or_false (eqb n t)
 taken_by-push [] Refused n = refl
 taken_by-push [] Unreadable n = refl
@@ -77,25 +78,41 @@ AllZip-more R [] (b ∷ ys) x y all one = absurd all
 AllZip-more R (a ∷ xs) [] x y all one = absurd all
 AllZip-more R (a ∷ xs) (b ∷ ys) x y all one = (all.0, AllZip-more R xs ys x y all.1 one)
 
+-- why a datagram has no reading
+abbrev pub HasCause : List ℕ → Option Reading → Type 0
+HasCause datagram None = NotAHeader datagram
+HasCause datagram (Some reading) = Unit {0}
+
+-- the verdicts on datagrams, and the causes where they have no reading
+pub record AreRead (exts : ExtensionMap) (datagrams : List (List ℕ)) (verdicts : List Verdict) : Type 0 where
+  pub are : AreVerdicts exts datagrams verdicts
+  pub causes : AllZip HasCause datagrams are.readings
+
 -- the verdicts on the datagrams so far, and what the receiver then holds
 pub record SoFar (exts : ExtensionMap) (datagrams : List (List ℕ)) (verdicts : List Verdict) (receiver : Option WindowState) : Type 0 where
-  pub are : AreVerdicts exts datagrams verdicts
+  pub read : AreRead exts datagrams verdicts
   pub holds : Holds receiver (taken_by verdicts)
 
 pub SoFar-none : (exts : ExtensionMap) (verdicts : List Verdict) (receiver : Option WindowState) → verdicts ≡ [] → Holds receiver (taken_by []) → SoFar exts [] verdicts receiver
 SoFar-none exts verdicts receiver empty holds = subst (λ (vs : List Verdict). SoFar exts [] vs receiver) (sym empty) (record {
-  are = record { readings = []; are_readings = tt; run = record { as_many = refl; each = λ i below. absurd (omega arith) } };
+  read = record {
+    are = record { readings = []; are_readings = tt; run = record { as_many = refl; each = λ i below. absurd (omega arith) } };
+    causes = tt;
+  };
   holds = holds;
 })
 
 pub SoFar-more : (exts : ExtensionMap) (datagrams : List (List ℕ)) (datagram : List ℕ) (reading : Option Reading) (verdicts : List Verdict) (verdict : Verdict) (before after : Option WindowState)
-    → SoFar exts datagrams verdicts before → IsReading exts datagram reading → IsVerdict (taken_by verdicts) reading verdict
+    → SoFar exts datagrams verdicts before → IsReading exts datagram reading → HasCause datagram reading → IsVerdict (taken_by verdicts) reading verdict
     → Holds after (taken_after (taken_by verdicts) verdict) → SoFar exts (datagrams ++ datagram ∷ []) (verdicts ++ verdict ∷ []) after
-SoFar-more exts datagrams datagram reading verdicts verdict before after so_far read is holds = record {
-  are = record {
-    readings = so_far.are.readings ++ reading ∷ [];
-    are_readings = AllZip-more (IsReading exts) datagrams so_far.are.readings datagram reading so_far.are.are_readings read;
-    run = IsRun-more so_far.are.readings verdicts reading verdict so_far.are.run is;
+SoFar-more exts datagrams datagram reading verdicts verdict before after so_far read cause is holds = record {
+  read = record {
+    are = record {
+      readings = so_far.read.are.readings ++ reading ∷ [];
+      are_readings = AllZip-more (IsReading exts) datagrams so_far.read.are.readings datagram reading so_far.read.are.are_readings read;
+      run = IsRun-more so_far.read.are.readings verdicts reading verdict so_far.read.are.run is;
+    };
+    causes = AllZip-more HasCause datagrams so_far.read.are.readings datagram reading so_far.read.causes cause;
   };
   holds = Holds-same after (taken_after (taken_by verdicts) verdict) (taken_by (verdicts ++ verdict ∷ [])) (taken_by-push verdicts verdict) holds;
 }
@@ -135,3 +152,8 @@ pub IsReading-parsed : (exts : ExtensionMap) (datagram : List ℕ) (answer : Opt
     → ((header : RtpHeader) → IsWire exts datagram header → answer ≡ Some header) → IsReading exts datagram (option_map reading_of answer)
 IsReading-parsed exts datagram None found only = λ header wire. none-some header (only header wire)
 IsReading-parsed exts datagram (Some header) found only = record { header = header; wire = found; reading_is = refl }
+
+-- and where it returns none, the bytes are no header
+pub HasCause-parsed : (datagram : List ℕ) (answer : Option RtpHeader) → (answer ≡ None → NotAHeader datagram) → HasCause datagram (option_map reading_of answer)
+HasCause-parsed datagram None refused = refused refl
+HasCause-parsed datagram (Some header) refused = tt

@@ -29,7 +29,7 @@ abbrev pub has_no_data : Option (List ℕ) → Bool
 has_no_data None = false
 has_no_data (Some bytes) = length bytes == 0
 
--- an element of a mapped id that the form can carry
+-- an element of a mapped id that may be written in the form: an allocation never in the one-byte form
 abbrev pub CanCarry : ExtensionsForm → ℕ × Extension → Option (List ℕ) → Type 0
 CanCarry form item None = Unit {0}
 CanCarry OneByte item (Some bytes) = (item.0 ≤ 14) × (item.1 ≢ VideoLayersAllocation) × (1 ≤ length bytes)

@@ -22,6 +22,8 @@ pub mod Written
 pub mod Widening
 pub mod Receiver
 pub mod Verdicts
+pub mod TrueNumbers
+pub mod Sending
 -- What the inside promises itself.
 pub mod KindTable
 pub mod MapSlots

@@ -1,5 +1,6 @@
 -- Where memory may be refused: at an element whose data take it.
-use Rattle.std.specs.Prelude.{◌≡◌, ℕ, ◌/◌, ◌%◌, ◌≤◌, List, ◌∷◌, ◌++◌, length, drop, slice_index, Some}
+use Rattle.std.specs.Prelude.{◌≡◌, ℕ, ◌/◌, ◌%◌, List, [], ◌∷◌, ◌++◌, drop, slice_index, Option, Some, IfSome}
+use Rattle.rtp_vla.specs.Allocation.{Allocation}
 use Rattle.rtp_wire.specs.declared.ext.form.ExtensionsForm.{ExtensionsForm}
 use Rattle.rtp_wire.specs.declared.ext.kind.Extension.TheVariants.{VideoLayersAllocation}
 use Rattle.rtp_wire.specs.declared.ext.value.values.ExtensionValues.{ExtensionValues}
@@ -7,11 +8,16 @@ use Rattle.rtp_wire.specs.Elements.{Element, AreElements}
 use Rattle.rtp_wire.specs.ExtensionMap.{Slots, extension_at}
 use Rattle.rtp_wire.specs.NotAHeader.{sources_end}
 use Rattle.rtp_wire.specs.Reading.{HasBlock}
-use Rattle.rtp_wire.specs.Values.{AreValues}
+use Rattle.rtp_wire.specs.Values.{TakesMemory, AreValues}
 
--- the element's id is mapped to the layer allocation, and its data are two bytes or more
+-- a copy of the allocation takes no memory: there is none, or it has no streams
+abbrev pub TakesNoMemory : Option Allocation → Type 0
+TakesNoMemory allocation = IfSome allocation (λ a. a.simulcast_streams ≡ [])
+
+-- the element's id is mapped to the layer allocation, and reading its data takes memory
 abbrev pub IsAllocation : Slots → Element → Type 0
-IsAllocation exts element = (extension_at exts element.0 ≡ Some VideoLayersAllocation) × (2 ≤ length element.1)
+IsAllocation exts element =
+    (extension_at exts element.0 ≡ Some VideoLayersAllocation) × TakesMemory VideoLayersAllocation element.1
 
 -- one of the elements is such a one
 pub record HasAllocation (exts : Slots) (elements : List Element) : Type 0 where

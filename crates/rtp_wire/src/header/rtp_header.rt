@@ -1,6 +1,7 @@
 //! The header as a value.
 
-ghost use Rattle.std.specs.Prelude.{◌≡◌, None, IsOk, IfOk};
+ghost use Rattle.std.specs.Prelude.{◌≡◌, IsOk, IfOk};
+ghost use Rattle.rtp_wire.specs.Memory.{TakesNoMemory};
 
 use crate::ext::ExtensionValues;
 use rtp_base::{Pt, Ssrc};
@@ -66,7 +67,7 @@ impl RtpHeader {
     /// allocation with streams. Where that is refused nothing is handed out.
     pub fn clone(&self, alloc: Global) -> Result<Self, AllocError>
         ensures same { IfOk result (λ copy. copy ≡ self.now) }
-        ensures succeeds { self.now.ext_vals.video_layers_allocation ≡ None → IsOk result }
+        ensures succeeds { TakesNoMemory self.now.ext_vals.video_layers_allocation → IsOk result }
     {
         Ok(RtpHeader {
             ext_vals: self.ext_vals.clone(alloc)?,

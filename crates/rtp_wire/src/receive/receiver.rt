@@ -5,6 +5,7 @@ ghost use Rattle.std.specs.Option.{option_map, option_copied};
 ghost use Rattle.rtp_base.specs.Window.{Numbers, including};
 ghost use Rattle.rtp_wire.specs.Receiver.{Holds, IsNothing, IsHighest, IsNumberOf, IsFresh, IsJudged, taken_after};
 ghost use Rattle.rtp_wire.specs.Verdicts.{IsVerdict, reading_of};
+ghost use Rattle.rtp_wire.specs.TrueNumbers.{IsTrueNumber};
 
 use super::Verdict;
 use crate::header::RtpHeader;
@@ -58,8 +59,13 @@ impl Receiver {
     /// The extended sequence number of a packet with this header: the one nearest to the highest
     /// number taken (RFC 3711, 3.3.1), and the header's 16 bits where nothing is taken yet.
     pub fn number_of(&self, header: &RtpHeader) -> SeqNo
-        ensures { (taken : Numbers) → Holds self.now taken →
+        ensures nearest { (taken : Numbers) → Holds self.now taken →
             IsNumberOf taken header.now.sequence_number result }
+
+        // It is the number that the sender gave the packet, where that is less than 32,768 away
+        // from the highest of the packets before it, whether these were taken or not.
+        ensures true_number { (numbers : Numbers) → (number : ℕ) → Holds self.now numbers →
+            IsTrueNumber numbers header.now.sequence_number number → result ≡ number }
     {
         header.sequence_number(self.highest())
     }
@@ -96,6 +102,14 @@ impl Receiver {
             × IsJudged taken number result }
         ensures after { (taken : Numbers) → Holds self.old taken →
             Holds self.new (taken_after taken result) }
+
+        // The same by the numbers that the sender gave the packets, where those of all packets
+        // before this one count: so the verdicts on a run follow from its numbers alone.
+        ensures true_number { (numbers : Numbers) → (number : ℕ) → Holds self.old numbers →
+            IsTrueNumber numbers header.now.sequence_number number → IsJudged numbers number result }
+        ensures true_numbers { (numbers : Numbers) → (number : ℕ) → Holds self.old numbers →
+            IsTrueNumber numbers header.now.sequence_number number →
+            Holds self.new (including numbers number) }
     {
         let number = self.number_of(header);
         if self.take(number) {

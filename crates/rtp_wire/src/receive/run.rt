@@ -1,7 +1,10 @@
 //! A receiver over a whole run of datagrams.
 
-ghost use Rattle.std.specs.Prelude.{◌≡◌, [], map, IsOk, IfOk};
-ghost use Rattle.rtp_wire.specs.Verdicts.{AreVerdicts, TakesOnce};
+ghost use Rattle.std.specs.Prelude.{◌≡◌, ℕ, List, [], map, Option, IsOk, IfOk};
+ghost use Rattle.rtp_wire.specs.Verdicts.{Reading, AreReadings, AreVerdicts, TakesOnce};
+ghost use Rattle.rtp_wire.specs.TrueNumbers.{AreTrue, AreTrueVerdicts};
+ghost use Rattle.rtp_wire.specs.Sending.{AreSent, readings_of};
+ghost use Rattle.rtp_wire.specs.declared.header.rtp_header.RtpHeader.{RtpHeader};
 
 use super::{Receiver, Verdict};
 use crate::ext::ExtensionMap;
@@ -22,6 +25,19 @@ pub fn receive_run(
     ensures verdicts { IfOk result (λ found.
         AreVerdicts exts.now (map (λ d. d.items) datagrams.now) found.items) }
     ensures once { IfOk result (λ found. TakesOnce found.items) }
+
+    // The numbers that the sender gave its packets decide alone, where each is less than 32,768
+    // away from the highest before it.
+    ensures true_numbers { (readings : List (Option Reading)) → (numbers : List ℕ) →
+        AreReadings exts.now (map (λ d. d.items) datagrams.now) readings →
+        AreTrue readings numbers →
+        IfOk result (λ found. AreTrueVerdicts readings numbers found.items) }
+
+    // What a sender's headers were written as is read, whatever is lost, repeated or reordered on
+    // the way, and the sender's numbers decide.
+    ensures sent { (headers : List RtpHeader) → (numbers : List ℕ) →
+        AreSent exts.now headers numbers (map (λ d. d.items) datagrams.now) →
+        IfOk result (λ found. AreTrueVerdicts (readings_of headers) numbers found.items) }
     ensures nothing { datagrams.now ≡ [] → IsOk result }
 {
     let mut verdicts = Vec::with_capacity(alloc, datagrams.len())?;

@@ -1,6 +1,7 @@
 //! The values that header extensions carry.
 
-ghost use Rattle.std.specs.Prelude.{◌≡◌, None, IsOk, IfOk};
+ghost use Rattle.std.specs.Prelude.{◌≡◌, IsOk, IfOk};
+ghost use Rattle.rtp_wire.specs.Memory.{TakesNoMemory};
 
 use super::{AbsCaptureTime, VideoOrientation, VideoTiming};
 use rtp_base::{MediaTime, Mid, Rid};
@@ -127,7 +128,7 @@ impl ExtensionValues {
     /// with streams. Where that is refused nothing is handed out.
     pub fn clone(&self, alloc: Global) -> Result<Self, AllocError>
         ensures same { IfOk result (λ copy. copy ≡ self.now) }
-        ensures succeeds { self.now.video_layers_allocation ≡ None → IsOk result }
+        ensures succeeds { TakesNoMemory self.now.video_layers_allocation → IsOk result }
     {
         let video_layers_allocation = match &self.video_layers_allocation {
             Some(allocation) => Some(allocation.clone(alloc)?),
