@@ -21,5 +21,6 @@ mod RoundTrip
 mod ValueLemmas
 mod StandardFacts
 mod WideningLemmas
+mod SendTimeLemmas
 mod ReceiverLemmas
 mod VerdictLemmas
