@@ -58,8 +58,8 @@ impl ExtensionValues {
     /// Replaces the absolute send time that was read, which is known modulo 64 seconds only, by the
     /// moment that it means: the latest one not after `now` that is equal to it modulo 64 seconds.
     /// A receiver that estimates delays needs the moment, since the 24 bits of the extension wrap
-    /// every 64 seconds. Where `now` is so early that there is no such moment, the value stays as it
-    /// is; where there is no value, nothing changes. No other field changes.
+    /// every 64 seconds. Where `now` is so early that there is no such moment, the value stays as
+    /// it is; where there is no value, nothing changes. No other field changes.
     ///
     /// `now` is when the packet arrived, in microseconds of the sender's clock. If the packet was
     /// sent less than 63,999,996 microseconds before, the moment is the one at which it was sent or
@@ -67,7 +67,7 @@ impl ExtensionValues {
     /// 64,000,000 microseconds, as each value that was read is: call it once for a packet.
     ///
     /// ```
-    /// // Sent at 1,000 seconds, which are 15 times 64 seconds and 40; arrived 50 milliseconds later.
+    /// // Sent at 1,000 seconds, 15 times 64 seconds and 40, and there 50 milliseconds later.
     /// values.abs_send_time = Some(40_000_000);
     /// values.update_absolute_send_time(1_000_050_000);
     /// assert_eq!(values.abs_send_time, Some(1_000_000_000));
