@@ -42,6 +42,8 @@ mod refused_samples;
 #[cfg(test)]
 mod runs;
 #[cfg(test)]
+mod send_times;
+#[cfg(test)]
 mod times;
 #[cfg(test)]
 mod values;

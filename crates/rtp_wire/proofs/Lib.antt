@@ -21,6 +21,7 @@ mod RoundTrip
 mod ValueLemmas
 mod StandardFacts
 mod WideningLemmas
+mod SendTimeLemmas
 mod ReceiverLemmas
 mod VerdictLemmas
 mod TrueNumberLemmas

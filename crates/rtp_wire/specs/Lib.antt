@@ -20,6 +20,7 @@ pub mod WrittenBlock
 pub mod Written
 -- Numbers over time.
 pub mod Widening
+pub mod SendTime
 pub mod Receiver
 pub mod Verdicts
 pub mod TrueNumbers

@@ -30,6 +30,10 @@ of_both f (Some x) (Some y) = Some (f x y)
 abbrev pub send_ticks : ℕ → ℕ
 send_ticks micros = micros * 262144 / 1000000 % 2 ^ 24
 
+-- the whole microseconds that a send time is read as, from the bytes that it is written as
+abbrev pub carried_send_time : ℕ → ℕ
+carried_send_time micros = send_ticks micros * 1000000 / 262144
+
 -- a clock offset in eight bytes, in two's complement; nothing where it is absent
 abbrev pub offset_bytes : Option ℤ → List ℕ
 offset_bytes None = []
@@ -97,7 +101,7 @@ carried_values values = record {
   video_orientation = values.video_orientation;
   video_content_type = values.video_content_type;
   tx_time_offs = values.tx_time_offs;
-  abs_send_time = option_map (λ time. send_ticks time * 1000000 / 262144) values.abs_send_time;
+  abs_send_time = option_map carried_send_time values.abs_send_time;
   abs_capture_time = values.abs_capture_time;
   transport_cc = values.transport_cc;
   play_delay_min = of_both (λ min max. hundredths (delay_of min)) values.play_delay_min values.play_delay_max;

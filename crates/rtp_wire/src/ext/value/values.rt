@@ -26,7 +26,8 @@ pub struct ExtensionValues {
     /// clock (RFC 5450).
     pub tx_time_offs: Option<u32>,
     /// When the packet left its sender, in microseconds since the Unix epoch. As read it is known
-    /// modulo 64 seconds only, from 0 to 63,999,996.
+    /// modulo 64 seconds only, from 0 to 63,999,996;
+    /// [`update_absolute_send_time`](Self::update_absolute_send_time) finds the rest.
     pub abs_send_time: Option<u64>,
     /// When the first frame in the packet was captured.
     pub abs_capture_time: Option<AbsCaptureTime>,
