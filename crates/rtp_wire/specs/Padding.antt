@@ -14,7 +14,7 @@ abbrev pub with_padding_bit : List ℕ → List ℕ
 with_padding_bit [] = []
 with_padding_bit (first ∷ rest) = (first / 64 * 64 + 32 + first % 32) ∷ rest
 
--- the least number of bytes in whole blocks that is not below this length
+-- the least number of bytes in whole blocks that is not below this length: with a block less it would be
 pub record IsInBlocks (len block_size whole : ℕ) : Type 0 where
   pub blocks : ℕ
   pub multiple : whole ≡ blocks * block_size

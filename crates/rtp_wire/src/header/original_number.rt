@@ -27,8 +27,8 @@ pub fn read_original_sequence_number(buf: &[u8], seq: &mut u16) -> usize
 
 /// Writes the low 16 bits of the original sequence number to the front of the payload of a
 /// retransmission packet, the high byte first, and returns their length of two bytes: the original
-/// payload comes behind them (RFC 4588, 4). All other bytes stay as they were. Requires room for two
-/// bytes.
+/// payload comes behind them (RFC 4588, 4). All other bytes stay as they were. Requires room for
+/// two bytes.
 ///
 /// Of 65,538 it writes `00 02`.
 pub fn write_original_sequence_number(buf: &mut [u8], original: SeqNo) -> usize

@@ -47,13 +47,13 @@ fn put_padding(buf: &mut [u8], at: usize, count: usize)
 }
 
 /// Makes a packet of padding alone behind its header (RFC 3550, 5.1): sets the padding bit in the
-/// first byte, then writes the padding from `header_len` on, zeros and in the last byte their count,
-/// itself included, and returns that count. It is `pad_len` rounded up to a multiple of `block_size`,
-/// but at most 240 ([`MAX_BLANK_PADDING_PAYLOAD_SIZE`]). All other bytes stay as they were. With a
-/// `pad_len` of 0 it returns 0 and changes nothing.
+/// first byte, then writes the padding from `header_len` on, zeros and in the last byte their
+/// count, itself included, and returns that count. It is `pad_len` rounded up to a multiple of
+/// `block_size`, but at most 240 ([`MAX_BLANK_PADDING_PAYLOAD_SIZE`]). All other bytes stay as they
+/// were. With a `pad_len` of 0 it returns 0, changes nothing and requires nothing.
 ///
-/// Where `pad_len` isn't 0 it requires a `block_size` of at least 1, and room for the padding behind
-/// the header.
+/// For any other `pad_len` it requires a `block_size` of at least 1, and room for the padding
+/// behind the header.
 ///
 /// With a header of 12 bytes, of which the first is `80`, a `pad_len` of 3 and a `block_size` of 4
 /// it returns 4, the first byte becomes `A0`, and the bytes 12 to 15 become `00 00 00 04`.
@@ -92,9 +92,10 @@ pub fn create_padding_packet(
     count
 }
 
-/// Returns the payload without its padding, which the last byte counts, itself included (RFC 3550,
-/// 5.1): for a packet whose padding bit is set. Returns `None` where that count is greater than the
-/// number of bytes. A last byte of 0 leaves all bytes, and no bytes stay none.
+/// Returns the payload of a packet whose padding bit is set, from all bytes behind its header:
+/// those before the padding, whose last byte counts it, itself included (RFC 3550, 5.1). Returns
+/// `None` where that count is greater than the number of bytes. A last byte of 0 takes nothing
+/// away, and without any byte the payload is empty.
 ///
 /// Of `01 02 03 04 02` the payload is `01 02 03`, and of `01 02 03 04 06` there is none.
 pub fn unpad_payload(buf: &[u8]) -> Option<&[u8]>
