@@ -44,6 +44,8 @@ mod refused_samples;
 #[cfg(test)]
 mod runs;
 #[cfg(test)]
+mod sent_runs;
+#[cfg(test)]
 mod send_times;
 #[cfg(test)]
 mod times;
