@@ -197,14 +197,10 @@ laid_out_layers bytes index masks layers l =
 
 -- ---- The head's bits
 
-pub head_parts : (head streams : ℕ) (zeros : List ℕ) → streams ≡ bit_and (head / 16) 3 → length zeros ≡ 4
-    → (bit_and head 15 ≡ head % 16) × (length (take (streams + 1) zeros) ≡ head / 16 % 4 + 1)
-head_parts head streams zeros is four =
+pub head_parts : (head streams : ℕ) → streams ≡ bit_and (head / 16) 3 → (bit_and head 15 ≡ head % 16) × (streams + 1 ≡ head / 16 % 4 + 1)
+head_parts head streams is =
     let two : streams ≡ head / 16 % 4 = is ∙ and_mask (head / 16) 2 in
-    (and_mask head 4, length-take-le (streams + 1) zeros (omega arith) ∙ omega arith)
-
-pub LacksMasks-at : (bytes : List ℕ) (s shared n count : ℕ) → s ≡ shared → n ≡ count → LacksMasks bytes s n → LacksMasks bytes shared count
-LacksMasks-at bytes s shared n count p q h = subst (λ (k : ℕ). LacksMasks bytes k count) p (subst (λ (k : ℕ). LacksMasks bytes s k) q h)
+    (and_mask head 4, omega arith)
 
 pub HasMasks-at : (bytes masks behind : List ℕ) (s shared n count : ℕ) → s ≡ shared → n ≡ count → HasMasks bytes s n masks behind → HasMasks bytes shared count masks behind
 HasMasks-at bytes masks behind s shared n count p q h =

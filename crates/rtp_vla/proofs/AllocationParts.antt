@@ -1,6 +1,7 @@
 -- Masks, counts, rates and resolutions: what is read is what stands there, and the other way round.
 use Rattle.std.proofs.Common.{◌≡◌, ℕ, zero, suc, ◌+◌, ◌*◌, ◌/◌, ◌%◌, ◌<◌, ◌≤◌, inl, inr, List, [], ◌∷◌, ◌++◌, length, take, get_or, map, None, Some, Option, refl, sym, ap, ◌∙◌, subst, arith}
 use Rattle.std.specs.List.{AllByRecursion, flat_map}
+use Rattle.std.proofs.lemmas.List.{length-take-le}
 use Rattle.rtp_vla.specs.declared.vla.allocation.ResolutionAndFramerate.{ResolutionAndFramerate}
 use Rattle.rtp_vla.specs.LebReading.{leb_rest}
 use Rattle.rtp_vla.specs.Allocation.{Layer, AreHalves, AreMasks, AreQuarters, AreRates, AreResolutions}
@@ -67,6 +68,23 @@ HasMasks-halves bytes spelled behind masks count is len all as_many masks-is =
       as_many = as_many;
       masks_fit = subst (AllByRecursion (λ mask. mask ≤ 15)) (sym masks-is) from.1;
       masks_are = inl (refl, subst (λ (ms : List ℕ). AreHalves ms spelled) (sym masks-is) from.0);
+    }
+
+all_taken : (P : ℕ → Type 0) (n : ℕ) (xs : List ℕ) → AllByRecursion P xs → AllByRecursion P (take n xs)
+all_taken P zero xs all = tt
+all_taken P (suc n) [] all = tt
+all_taken P (suc n) (x ∷ xs) all = (all.0, all_taken P n xs all.1)
+
+-- one mask for all streams
+pub HasMasks-shared : (bytes : List ℕ) (shared streams : ℕ) → 0 < shared → shared ≤ 15 → streams ≤ 4 → HasMasks bytes shared streams (take streams (shared ∷ shared ∷ shared ∷ shared ∷ [])) bytes
+HasMasks-shared bytes shared streams some fits few =
+    let four : List ℕ = shared ∷ shared ∷ shared ∷ shared ∷ [] in
+    record {
+      mask_bytes = [];
+      bytes_are = refl;
+      as_many = length-take-le streams four few;
+      masks_fit = all_taken (λ mask. mask ≤ 15) streams four (fits, (fits, (fits, (fits, tt))));
+      masks_are = inr (some, all_taken (λ mask. mask ≡ shared) streams four (refl, (refl, (refl, (refl, tt)))), refl);
     }
 
 same_shared : (shared : ℕ) (xs ys : List ℕ) → length xs ≡ length ys → AllByRecursion (λ mask. mask ≡ shared) xs → AllByRecursion (λ mask. mask ≡ shared) ys → xs ≡ ys

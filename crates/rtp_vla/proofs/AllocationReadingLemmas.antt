@@ -5,7 +5,8 @@ use Rattle.std.proofs.Math.Nat.{pow-suc}
 use Rattle.std.proofs.lemmas.Bool.{agree_below_at, and_parts, eqb-true, leb-true, ne_eqb}
 use Rattle.std.proofs.lemmas.List.{take_more, drop_more, append_assoc, append-nil, length-drop, length-take-le, get_or-take}
 use Rattle.std.proofs.lemmas.Nat.{and_mask}
-use Rattle.std.specs.Int.Count.{ones}
+use Rattle.std.specs.Int.{w8, leading_zeros}
+use Rattle.std.specs.Int.Count.{ones, count_leading_zeros}
 use Rattle.rtp_vla.specs.LebReading.{leb_value, leb_rest}
 use Rattle.rtp_vla.specs.AllocationReading.{halves, quarters, bits_of, marks_of, marked, active_in, idle_layer, dealt, Deals, DealsOn, rates_of, after_rates, resolution_in, after_resolution, FitResolutions, layers_read, rate_count}
 use Rattle.rtp_vla.specs.Allocation.{Layer}
@@ -182,6 +183,17 @@ pub marks_of-more : (mask : ℕ) → mask ≤ 15 → 0 < mask → marks_of mask 
 unfolding marks_of
 marks_of-more mask few some =
     bits_of-above 3 mask some ∙ ap (λ (bits : List Bool). eqb (mask % 2) 1 ∷ bits) (sym (bits_of-room 3 (mask / 2) (omega arith)))
+
+-- a mask has as many layers as it has bits up to its highest one
+as_long : (mask : ℕ) → mask ≤ 15 → eqb (length (marks_of mask)) (8 - leading_zeros w8 mask) ≡ true
+unfolding marks_of count_leading_zeros
+as_long mask few = agree_below_at (λ m. eqb (length (marks_of m)) (8 - leading_zeros w8 m)) (λ m. true) 16 mask refl (omega arith)
+
+pub length-marks_of : (mask : ℕ) → mask ≤ 15 → length (marks_of mask) ≡ 8 - leading_zeros w8 mask
+length-marks_of mask few = eqb-true _ _ (as_long mask few)
+
+pub length-marks_of-more : (mask : ℕ) → mask ≤ 15 → 0 < mask → length (marks_of mask) ≡ length (marks_of (mask / 2)) + 1
+length-marks_of-more mask few some = ap length (marks_of-more mask few some) ∙ omega arith
 
 deals_one : (marks : List Bool) (b : Bool) (items old new all rest : List Layer) (layer : Layer) → Deals b old layer new → DealsOn items (b ∷ marks) old all rest
     → DealsOn (items ++ layer ∷ []) marks new all rest

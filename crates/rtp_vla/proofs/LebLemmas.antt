@@ -259,6 +259,19 @@ reads_only bytes o value rest is reads =
     let same = read-ReadsLeb bytes value rest reads in
     (sym at.0 ∙ same.0, sym at.1 ∙ same.1)
 
+-- a byte below 128 is a number by itself
+pub first_read : (bytes : List ℕ) (byte : ℕ) (rest : List ℕ) → bytes ≡ byte ∷ rest → byte < 128 → read_as byte 1 ≡ leb_number 9 bytes
+first_read bytes byte rest is low = sym (ap (leb_number 9) is ∙ leb_number-low 8 byte rest low)
+
+pub ReadsLeb-first : (bytes : List ℕ) (byte : ℕ) (rest : List ℕ) → bytes ≡ byte ∷ rest → byte < 128 → ReadsLeb bytes byte rest
+ReadsLeb-first bytes byte rest is low =
+    subst (λ (behind : List ℕ). ReadsLeb bytes byte behind) (ap (drop 1) is) (ReadsLeb-value bytes (read_as byte 1) (first_read bytes byte rest is low))
+
+pub only_first : (bytes : List ℕ) (byte : ℕ) (rest : List ℕ) (value : ℕ) (behind : List ℕ) → bytes ≡ byte ∷ rest → byte < 128 → ReadsLeb bytes value behind → (byte ≡ value) × (rest ≡ behind)
+only_first bytes byte rest value behind is low reads =
+    let same = reads_only bytes (read_as byte 1) value behind (first_read bytes byte rest is low) reads in
+    (same.0, sym (ap (drop 1) is) ∙ same.1)
+
 pub number_of-below : (bytes : List ℕ) → number_of bytes < 128 ^ length bytes
 number_of-below [] = omega arith
 number_of-below (byte ∷ bytes) = omega (arith, number_of-below bytes, pow-suc 128 (length bytes))

@@ -1,7 +1,7 @@
 -- Groups of four bytes, one after the other.
-use Rattle.std.proofs.Common.{◌≡◌, ℕ, zero, suc, ◌+◌, ◌-◌, ◌*◌, ◌<◌, ◌≤◌, List, [], ◌∷◌, ◌++◌, length, map, replicate, get_or, set, take, drop, refl, sym, ap, ◌∙◌, append_assoc, length-append, length-drop, length-take, length-take-le, take_at, drop_at, take-add, arith}
+use Rattle.std.proofs.Common.{◌≡◌, ℕ, zero, suc, ◌+◌, ◌*◌, ◌<◌, ◌≤◌, List, [], ◌∷◌, ◌++◌, length, map, get_or, set, take, drop, refl, sym, ap, ◌∙◌, append_assoc, length-append, length-drop, length-take, length-take-le, take_at, drop_at, take-add, arith}
 use Rattle.std.proofs.lemmas.List.Concat.{flat_map-append}
-use Rattle.std.proofs.lemmas.List.{take_more, append-nil, length-map, set_at, map_more, take-take, drop-take}
+use Rattle.std.proofs.lemmas.List.{take_more, drop_more, append-nil, length-map, set_at, map_more, take-take, drop-take}
 use Rattle.std.specs.List.{concat, flat_map, AllByRecursion}
 use Rattle.std.specs.Int.{w32, to_be_bytes}
 use Rattle.std.specs.Simd.{first_chunks}
@@ -39,19 +39,17 @@ first_chunks-concat (g ∷ gs) rest four =
     ∙ rw (take_at g (concat gs ++ rest) 4 four.0, drop_at g (concat gs ++ rest) 4 four.0)
     (ap (λ (found : List (List ℕ)). g ∷ found) (first_chunks-concat gs rest four.1))
 
--- one group more: its number goes into the first of the slots that are still zero
-pub set_slot : (f : List ℕ → ℕ) (groups : List (List ℕ)) (slots : List ℕ) (i n number : ℕ) → i < length groups → i < n
-    → number ≡ f (get_or groups i []) → slots ≡ map f (take i groups) ++ replicate (n - i) 0
-    → set slots i number ≡ map f (take (i + 1) groups) ++ replicate (n - (i + 1)) 0
-set_slot f groups slots i n number within room is so_far =
+-- one group more: its number goes into the next of the slots
+pub set_slot : (f : List ℕ → ℕ) (groups : List (List ℕ)) (slots old : List ℕ) (i number : ℕ) → i < length groups → i < length old
+    → number ≡ f (get_or groups i []) → slots ≡ map f (take i groups) ++ drop i old
+    → set slots i number ≡ map f (take (i + 1) groups) ++ drop (i + 1) old
+set_slot f groups slots old i number within room is so_far =
     let front = map f (take i groups) in
     let len : length front ≡ i = length-map (take i groups) f ∙ length-take-le i groups (omega arith) in
-    let free : replicate (n - i) 0 ≡ 0 ∷ replicate (n - (i + 1)) 0 =
-    let one : n - i ≡ suc (n - (i + 1)) = omega arith in ap (λ (k : ℕ). replicate k 0) one in
-    ap (λ (xs : List ℕ). set xs i number) (so_far ∙ ap (λ (ys : List ℕ). front ++ ys) free)
-    ∙ set_at front 0 (replicate (n - (i + 1)) 0) number i len
-    ∙ sym (append_assoc front (number ∷ []) (replicate (n - (i + 1)) 0))
-    ∙ ap (λ (xs : List ℕ). xs ++ replicate (n - (i + 1)) 0)
+    ap (λ (xs : List ℕ). set xs i number) (so_far ∙ ap (λ (ys : List ℕ). front ++ ys) (drop_more old i 0 room))
+    ∙ set_at front (get_or old i 0) (drop (i + 1) old) number i len
+    ∙ sym (append_assoc front (number ∷ []) (drop (i + 1) old))
+    ∙ ap (λ (xs : List ℕ). xs ++ drop (i + 1) old)
     (ap (λ (v : ℕ). front ++ v ∷ []) is ∙ sym (map_more f groups i [] within))
 
 -- the groups of a front are those of the whole

@@ -122,7 +122,7 @@ fn stream_of(
     let mut spatial_layers = Vec::with_capacity(alloc, len)?;
     let mut marks = mask;
     while marks > 0 {
-        spatial_layers.push(layer_of(alloc, marks % 2 == 1, left)?)?;
+        spatial_layers.push_reserved(layer_of(alloc, marks % 2 == 1, left)?);
         marks /= 2;
     }
     Ok(SimulcastStreamAllocation { spatial_layers })
@@ -140,7 +140,7 @@ pub(super) fn streams_of(
 {
     let mut streams = Vec::with_capacity(alloc, masks.len())?;
     for mask in masks {
-        streams.push(stream_of(alloc, *mask, &mut left)?)?;
+        streams.push_reserved(stream_of(alloc, *mask, &mut left)?);
     }
     Ok(streams)
 }

@@ -35,6 +35,11 @@ pub fn parse_leb_u63(buf: &[u8]) -> (u64, &[u8])
         (result.0 ≡ value) × (result.1.now ≡ rest) }
     ensures in_range { result.0 < 2 ^ 63 }
 {
+    if let Some((first, after)) = buf.split_first() {
+        if *first < 0x80 {
+            return (u64::from(*first), after);
+        }
+    }
     match number_at(buf) {
         Some((value, len)) => (value, &buf[len..]),
         None => (0, buf),

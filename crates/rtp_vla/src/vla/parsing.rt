@@ -1,6 +1,6 @@
 //! From bytes to an allocation.
 
-ghost use Rattle.std.specs.Prelude.{◌≡◌, ◌↔◌, ◌≤◌, ◌∷◌, [], length, take, Some, IsTrue, IsOk, IfOk, IfSome, IfNone};
+ghost use Rattle.std.specs.Prelude.{◌≡◌, ◌↔◌, ◌%◌, ◌/◌, ◌+◌, ◌≤◌, ◌∷◌, [], length, take, Some, IsTrue, IsOk, IfOk, IfSome, IfNone};
 ghost use Rattle.rtp_vla.specs.Allocation.{Allocation, Means};
 ghost use Rattle.rtp_vla.specs.AllocationReading as reading;
 
@@ -13,7 +13,7 @@ use std::alloc::{AllocError, Global};
 #[derive(Drop)]
 struct Layout<'a> {
     index: u8,
-    // The masks of the streams, and zeros behind them.
+    // The masks of so many streams; what stands behind them is of no stream.
     masks: [u8; 4],
     streams: usize,
     layers: LayerReader<'a>,
@@ -34,19 +34,22 @@ fn read_halves<'a>(bytes: &'a [u8], masks: &mut [u8]) -> Option<&'a [u8]>
     Some(behind)
 }
 
-// Reads the mask of each stream, which is the head's for all of them or stands behind the head, and
-// returns the bytes behind them.
-fn read_masks<'a>(bytes: &'a [u8], shared: u8, masks: &mut [u8]) -> Option<&'a [u8]>
-    requires { shared ≤ 15 }
-    ensures found { IfSome result (λ behind.
-        reading.HasMasks bytes.now shared (length masks.old) masks.new behind.now) }
-    ensures refused { IfNone result (reading.LacksMasks bytes.now shared (length masks.old)) }
+// Reads the mask of each stream that the head announces, which is the head's for all of them or
+// stands behind the head, and returns how many there are and the bytes behind them.
+fn read_masks<'a>(head: u8, bytes: &'a [u8], masks: &mut [u8; 4]) -> Option<(usize, &'a [u8])>
+    ensures found { IfSome result (λ read. reading.HasMasks bytes.now
+        (head % 16) (head / 16 % 4 + 1) (take read.0 masks.new) read.1.now) }
+    ensures streams { IfSome result (λ read. read.0 ≤ 4) }
+    ensures refused { IfNone result (reading.LacksMasks bytes.now (head % 16) (head / 16 % 4 + 1)) }
 {
-    if shared == 0 {
-        return read_halves(bytes, masks);
+    let streams = usize::from(head >> 4 & 3) + 1;
+    let shared = head & 15;
+    *masks = [shared; 4];
+    if shared != 0 {
+        return Some((streams, bytes));
     }
-    masks.fill(shared);
-    Some(bytes)
+    let behind = read_halves(bytes, &mut masks[..streams])?;
+    Some((streams, behind))
 }
 
 // Where the parts are, if all of them are there.
@@ -59,9 +62,8 @@ fn layout_of(buf: &[u8]) -> Option<Layout<'_>>
     let Some((head, after)) = buf.split_first() else {
         return None;
     };
-    let streams = usize::from(*head >> 4 & 3) + 1;
     let mut masks = [0; 4];
-    let Some(after) = read_masks(after, *head & 15, &mut masks[..streams]) else {
+    let Some((streams, after)) = read_masks(*head, after, &mut masks) else {
         return None;
     };
     let active = active_count(&masks[..streams]);

@@ -21,7 +21,7 @@ pub(super) fn rates_at(
     let mut behind = bytes;
     for _i in 0..count {
         let (cumulative_kbps, next) = parse_leb_u63(behind);
-        rates.push(TemporalLayerAllocation { cumulative_kbps })?;
+        rates.push_reserved(TemporalLayerAllocation { cumulative_kbps });
         behind = next;
     }
     Ok((rates, behind))

@@ -1,6 +1,6 @@
 //! From bytes to a header.
 
-ghost use Rattle.std.specs.Prelude.{◌↔◌, ◌≡◌, ◌+◌, ◌-◌, ◌*◌, ◌/◌, ◌^◌, ◌<◌, ◌≤◌, ◌++◌, length, map, replicate, slice_index, IsOk, IfOk, OnErr, IfSome, IfNone};
+ghost use Rattle.std.specs.Prelude.{◌↔◌, ◌≡◌, ◌+◌, ◌-◌, ◌*◌, ◌/◌, ◌^◌, ◌<◌, ◌≤◌, ◌++◌, length, drop, map, replicate, slice_index, IsOk, IfOk, OnErr, IfSome, IfNone};
 ghost use Rattle.std.specs.Int.{w32, from_be_bytes};
 ghost use Rattle.std.specs.Simd.{first_chunks};
 ghost use Rattle.rtp_wire.specs.Memory.{HeaderHasAllocation};
@@ -39,16 +39,15 @@ fn marker_and_type(byte: u8) -> (bool, u8)
     (byte & 0x80 != 0, byte & 0x7F)
 }
 
-// The number of each group, and a zero in each slot behind them.
-fn csrc_of(groups: &[[u8; 4]]) -> [u32; 15]
+// Puts the number of each group into the slots from the first one on; those behind them stay.
+fn put_numbers(groups: &[[u8; 4]], slots: &mut [u32; 15])
     requires { length groups.now ≤ 15 }
-    ensures { result ≡ map (from_be_bytes w32) groups.now ++ replicate (15 - length groups.now) 0 }
+    ensures { slots.new
+        ≡ map (from_be_bytes w32) groups.now ++ drop (length groups.now) slots.old }
 {
-    let mut csrc = [0; 15];
     for (slot, group) in groups.iter().enumerate() {
-        csrc[slot] = u32::from_be_bytes(*group);
+        slots[slot] = u32::from_be_bytes(*group);
     }
-    csrc
 }
 
 // The header of these twelve bytes and this CSRC list, with the values of its block, which takes so
@@ -76,6 +75,8 @@ fn header_of(
 {
     let (marker, payload_type) = marker_and_type(fixed[1]);
     let (groups, _) = sources.as_chunks::<4>();
+    let mut csrc = [0; 15];
+    put_numbers(groups, &mut csrc);
     RtpHeader {
         version: 2,
         has_padding: flags.has_padding,
@@ -86,7 +87,7 @@ fn header_of(
         sequence_number: u16::from_be_bytes([fixed[2], fixed[3]]),
         timestamp: u32::from_be_bytes([fixed[4], fixed[5], fixed[6], fixed[7]]),
         ssrc: Ssrc::from(u32::from_be_bytes([fixed[8], fixed[9], fixed[10], fixed[11]])),
-        csrc: csrc_of(groups),
+        csrc,
         ext_vals,
         header_len: 12 + sources.len() + part_len,
     }

@@ -1,4 +1,4 @@
-use Rattle.std.proofs.Common.{◌≡◌, ◌-◌, ◌++◌}
+use Rattle.std.proofs.Common.{◌≡◌, ◌-◌, ◌++◌, vec_len, vec_capacity}
 use Rattle.rtp_vla.specs.AllocationReading.{rates_of, after_rates}
 use Rattle.rtp_vla.proofs.vla.parts.rates_at.Given as goal
 
@@ -7,4 +7,6 @@ abbrev pub invariant-loop-i : goal.invariant-loop-i
 invariant-loop-i l = record {
   rates : l.rates.items ++ rates_of (l.count - l._i) l.behind ≡ rates_of l.count l.bytes;
   behind : after_rates (l.count - l._i) l.behind ≡ after_rates l.count l.bytes;
+  len : vec_len l.rates ≡ l._i;
+  room : vec_capacity l.rates ≡ l.count;
 }
