@@ -1,5 +1,6 @@
 //! Video layers allocations, read and written.
 
+use crate::checks::same;
 use rtp_wire::vla::{
     ResolutionAndFramerate, SimulcastStreamAllocation, SpatialLayerAllocation,
     TemporalLayerAllocation, URI, VideoLayersAllocation, checked_wire_len, is_writable, parse,
@@ -7,7 +8,6 @@ use rtp_wire::vla::{
 };
 use std::alloc::{AllocError, Global};
 use std::process::Abort;
-use std::test::Fail;
 
 pub(crate) type Row<'a> = (&'a [u64], Option<ResolutionAndFramerate>);
 
@@ -42,90 +42,81 @@ fn stream(alloc: Global, rows: &[Row]) -> Result<SimulcastStreamAllocation, Allo
     Ok(SimulcastStreamAllocation { spatial_layers })
 }
 
+fn streams(alloc: Global, rows: &[&[Row]]) -> Result<Vec<SimulcastStreamAllocation>, AllocError> {
+    let mut streams = Vec::new(alloc);
+    for row in rows {
+        streams.push(stream(alloc, row)?)?;
+    }
+    Ok(streams)
+}
+
 // An allocation of these streams.
 pub(crate) fn allocation(
+    rt: &impl Abort,
     alloc: Global,
     index: u8,
     rows: &[&[Row]],
-) -> Result<VideoLayersAllocation, AllocError> {
-    let mut simulcast_streams = Vec::new(alloc);
-    for row in rows {
-        simulcast_streams.push(stream(alloc, row)?)?;
-    }
-    Ok(VideoLayersAllocation {
+) -> VideoLayersAllocation {
+    VideoLayersAllocation {
         current_simulcast_stream_index: index,
-        simulcast_streams,
-    })
+        simulcast_streams: streams(alloc, rows).expect(rt, "memory"),
+    }
 }
 
 // The bytes mean the allocation.
-pub(crate) fn reads(
-    rt: &impl Abort,
-    alloc: Global,
-    bytes: &[u8],
-    index: u8,
-    rows: &[&[Row]],
-) -> Result<(), AllocError> {
-    let expected = allocation(alloc, index, rows)?;
-    match parse(alloc, bytes)? {
-        Some(found) => assert!(rt; found == expected, "{bytes:?}"),
+pub(crate) fn mean(rt: &impl Abort, alloc: Global, bytes: &[u8], wanted: VideoLayersAllocation) {
+    match parse(alloc, bytes).expect(rt, "memory") {
+        Some(found) => assert!(rt; found == wanted, "{bytes:?}"),
         None => panic!(rt; "{bytes:?} means nothing"),
     }
-    Ok(())
 }
 
-// The allocation is written as the bytes.
-fn writes(
-    rt: &impl Abort,
-    alloc: Global,
-    bytes: &[u8],
-    index: u8,
-    rows: &[&[Row]],
-) -> Result<(), AllocError> {
-    let v = allocation(alloc, index, rows)?;
-    if !is_writable(&v) {
-        panic!(rt; "not writable: {bytes:?}");
-    }
-    let mut buf = [7u8; 300];
-    let len = wire_len(&v);
-    assert_eq!(rt; len, bytes.len());
-    assert_eq!(rt; checked_wire_len(&v), Some(len));
+// The bytes mean the allocation of these streams.
+pub(crate) fn reads(rt: &impl Abort, alloc: Global, bytes: &[u8], index: u8, rows: &[&[Row]]) {
+    mean(rt, alloc, bytes, allocation(rt, alloc, index, rows));
+}
+
+// The allocation is written as the bytes, behind which the buffer stays as it was.
+fn is_written(rt: &impl Abort, v: &VideoLayersAllocation, bytes: &[u8]) {
+    assert!(rt; is_writable(v), "{bytes:?}");
+    let len = wire_len(v);
+    assert!(rt; len == bytes.len(), "{bytes:?}");
+    assert!(rt; checked_wire_len(v) == Some(len), "{bytes:?}");
     assert!(rt; len <= 299);
-    let end = write_to(&v, &mut buf);
-    assert_eq!(rt; end, len);
+    let mut buf = [7u8; 300];
+    let end = write_to(v, &mut buf);
+    assert!(rt; end == len, "{bytes:?}");
     assert!(rt; &buf[..end] == bytes, "{bytes:?}");
-    assert_eq!(rt; buf[end], 7);
-    Ok(())
+    assert!(rt; buf[end] == 7, "{bytes:?}");
+}
+
+// The allocation of these streams is written as the bytes.
+fn writes(rt: &impl Abort, alloc: Global, bytes: &[u8], index: u8, rows: &[&[Row]]) {
+    is_written(rt, &allocation(rt, alloc, index, rows), bytes);
 }
 
 // The bytes and the allocation go both ways.
-fn alike(
-    rt: &impl Abort,
-    alloc: Global,
-    bytes: &[u8],
-    index: u8,
-    rows: &[&[Row]],
-) -> Result<(), AllocError> {
-    reads(rt, alloc, bytes, index, rows)?;
-    writes(rt, alloc, bytes, index, rows)
+fn alike(rt: &impl Abort, alloc: Global, bytes: &[u8], index: u8, rows: &[&[Row]]) {
+    reads(rt, alloc, bytes, index, rows);
+    writes(rt, alloc, bytes, index, rows);
 }
 
 // The bytes mean nothing.
-fn refuses(rt: &impl Abort, alloc: Global, bytes: &[u8]) -> Result<(), AllocError> {
-    assert!(rt; parse(alloc, bytes)?.is_none(), "{bytes:?}");
-    Ok(())
-}
-
-#[test]
-fn uri(rt: HostRuntime) {
-    assert_eq!(rt;
-        URI,
-        "http://www.webrtc.org/experiments/rtp-hdrext/video-layers-allocation00"
+pub(crate) fn refuses(rt: &impl Abort, alloc: Global, bytes: &[u8]) {
+    assert!(rt;
+        parse(alloc, bytes).expect(rt, "memory").is_none(),
+        "{bytes:?}"
     );
 }
 
 #[test]
-fn streams_of_one_layer(rt: HostRuntime) -> Result<(), Fail> {
+fn uri(rt: HostRuntime) {
+    let uri = "http://www.webrtc.org/experiments/rtp-hdrext/video-layers-allocation00";
+    same(&rt, "the URI", URI, uri);
+}
+
+#[test]
+fn streams_of_one_layer(rt: HostRuntime) {
     let a = rt.alloc();
     alike(
         &rt,
@@ -133,7 +124,7 @@ fn streams_of_one_layer(rt: HostRuntime) -> Result<(), Fail> {
         &[0x61, 0x54, 1, 2, 4, 8, 0x10, 0x20],
         1,
         &[&[(&[1, 2], None)], &[(&[4, 8], None)], &[(&[16, 32], None)]],
-    )?;
+    );
     alike(
         &rt,
         a,
@@ -147,7 +138,7 @@ fn streams_of_one_layer(rt: HostRuntime) -> Result<(), Fail> {
             &[(&[110, 111], told(640, 360, 30))],
             &[(&[120, 121], told(1280, 720, 60))],
         ],
-    )?;
+    );
     alike(
         &rt,
         a,
@@ -161,12 +152,11 @@ fn streams_of_one_layer(rt: HostRuntime) -> Result<(), Fail> {
             &[(&[130, 131], None)],
             &[(&[200, 201], None)],
         ],
-    )?;
-    Ok(())
+    );
 }
 
 #[test]
-fn streams_of_several_layers(rt: HostRuntime) -> Result<(), Fail> {
+fn streams_of_several_layers(rt: HostRuntime) {
     let a = rt.alloc();
     alike(
         &rt,
@@ -178,7 +168,7 @@ fn streams_of_several_layers(rt: HostRuntime) -> Result<(), Fail> {
             (&[110, 111], None),
             (&[120, 121], None),
         ]],
-    )?;
+    );
     alike(
         &rt,
         a,
@@ -190,7 +180,7 @@ fn streams_of_several_layers(rt: HostRuntime) -> Result<(), Fail> {
             (&[], None),
             (&[120, 121], None),
         ]],
-    )?;
+    );
     alike(
         &rt,
         a,
@@ -211,12 +201,11 @@ fn streams_of_several_layers(rt: HostRuntime) -> Result<(), Fail> {
                 (&[220, 221], None),
             ],
         ],
-    )?;
-    Ok(())
+    );
 }
 
 #[test]
-fn masks_of_each_stream(rt: HostRuntime) -> Result<(), Fail> {
+fn masks_of_each_stream(rt: HostRuntime) {
     let a = rt.alloc();
     alike(
         &rt,
@@ -226,7 +215,7 @@ fn masks_of_each_stream(rt: HostRuntime) -> Result<(), Fail> {
         ],
         0,
         &[&[(&[100, 101], told(320, 180, 15))], &[], &[]],
-    )?;
+    );
     alike(
         &rt,
         a,
@@ -237,17 +226,16 @@ fn masks_of_each_stream(rt: HostRuntime) -> Result<(), Fail> {
             &[(&[2], None)],
             &[(&[3], None), (&[4], None)],
         ],
-    )?;
-    alike(&rt, a, &[0x40, 0x00], 1, &[&[]])?;
-    alike(&rt, a, &[0x60, 0x00, 0x0F], 1, &[&[], &[], &[]])?;
-    alike(&rt, a, &[0x00, 0x00], 0, &[&[]])?;
-    alike(&rt, a, &[0x00], 0, &[])?;
-    alike(&rt, a, &[0x01, 0x00, 0x00], 0, &[&[(&[0], None)]])?;
-    Ok(())
+    );
+    alike(&rt, a, &[0x40, 0x00], 1, &[&[]]);
+    alike(&rt, a, &[0x60, 0x00, 0x0F], 1, &[&[], &[], &[]]);
+    alike(&rt, a, &[0x00, 0x00], 0, &[&[]]);
+    alike(&rt, a, &[0x00], 0, &[]);
+    alike(&rt, a, &[0x01, 0x00, 0x00], 0, &[&[(&[0], None)]]);
 }
 
 #[test]
-fn trailing_layers_are_dropped(rt: HostRuntime) -> Result<(), Fail> {
+fn trailing_layers_are_dropped(rt: HostRuntime) {
     let a = rt.alloc();
     writes(
         &rt,
@@ -255,53 +243,50 @@ fn trailing_layers_are_dropped(rt: HostRuntime) -> Result<(), Fail> {
         &[0x01, 0x00, 0x05],
         0,
         &[&[(&[5], None), (&[], None), (&[], None)]],
-    )?;
-    reads(&rt, a, &[0x01, 0x00, 0x05], 0, &[&[(&[5], None)]])?;
-    Ok(())
+    );
+    reads(&rt, a, &[0x01, 0x00, 0x05], 0, &[&[(&[5], None)]]);
 }
 
 #[test]
-fn read_only(rt: HostRuntime) -> Result<(), Fail> {
+fn read_only(rt: HostRuntime) {
     let a = rt.alloc();
-    refuses(&rt, a, &[])?;
-    refuses(&rt, a, &[0x60])?;
-    refuses(&rt, a, &[0x60, 0x11])?;
-    refuses(&rt, a, &[0x01])?;
-    refuses(&rt, a, &[0x01, 0x00, 0x05, 0xFF, 0xFF, 0, 0, 0x1E])?;
+    refuses(&rt, a, &[]);
+    refuses(&rt, a, &[0x60]);
+    refuses(&rt, a, &[0x60, 0x11]);
+    refuses(&rt, a, &[0x01]);
+    refuses(&rt, a, &[0x01, 0x00, 0x05, 0xFF, 0xFF, 0, 0, 0x1E]);
     reads(
         &rt,
         a,
         &[0x01, 0x00, 0x80, 0x80, 0x80, 0x80, 0x80],
         0,
         &[&[(&[0], told(32897, 32897, 128))]],
-    )?;
+    );
     reads(
         &rt,
         a,
         &[17, 111, 7, 0, 15, 92, 4, 255, 2, 207, 30, 7, 127, 4, 55, 30],
         0,
         &[&[(&[7, 0], told(65283, 53023, 7))], &[(&[15, 92, 4], None)]],
-    )?;
-    Ok(())
+    );
 }
 
 #[test]
-fn hostile_rates(rt: HostRuntime) -> Result<(), Fail> {
+fn hostile_rates(rt: HostRuntime) {
     let a = rt.alloc();
-    refuses(&rt, a, &[1, 0, 255, 255, 255, 255, 255, 255, 255, 255])?;
+    refuses(&rt, a, &[1, 0, 255, 255, 255, 255, 255, 255, 255, 255]);
     reads(
         &rt,
         a,
         &[1, 0, 255, 255, 255, 255, 255, 255, 255, 255, 255],
         0,
         &[&[(&[9223372036854775807], None)]],
-    )?;
+    );
     reads(
         &rt,
         a,
         &[1, 0, 128, 128, 128, 128, 128, 128, 128, 128, 128],
         0,
         &[&[(&[0], None)]],
-    )?;
-    Ok(())
+    );
 }

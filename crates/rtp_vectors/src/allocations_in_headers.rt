@@ -2,13 +2,14 @@
 
 use crate::allocation_limits::largest;
 use crate::allocations::{Row, allocation, told};
+use crate::checks::{holds, named, same};
 use crate::fixtures::{full, level, one, two};
-use crate::headers_written::{check, written};
-use crate::values::{is_absent, is_refused, is_written, read};
+use crate::headers_written::{check, is_read, written};
+use crate::values::{has_data, has_no_data, is_refused, read};
 use rtp_wire::vla::{URI, VideoLayersAllocation};
 use rtp_wire::{Extension, ExtensionMap, ExtensionValues, ExtensionsForm, RtpHeader};
-use std::alloc::{AllocError, Global};
-use std::test::Fail;
+use std::alloc::Global;
+use std::process::Abort;
 
 // The values of this allocation alone.
 fn carrying(allocation: VideoLayersAllocation) -> ExtensionValues {
@@ -33,9 +34,13 @@ fn mapped() -> ExtensionMap {
 }
 
 // One stream of two layers, the first with its resolution.
-fn small(alloc: Global) -> Result<VideoLayersAllocation, AllocError> {
-    let rows: [Row; 2] = [(&[300, 5], told(320, 180, 15)), (&[7], None)];
-    allocation(alloc, 2, &[&rows])
+fn small(rt: &impl Abort, alloc: Global) -> VideoLayersAllocation {
+    allocation(
+        rt,
+        alloc,
+        2,
+        &[&[(&[300, 5], told(320, 180, 15)), (&[7], None)]],
+    )
 }
 
 // The bytes of the same.
@@ -44,74 +49,87 @@ const SMALL: [u8; 12] = [
 ];
 
 #[test]
-fn kind(rt: HostRuntime) -> Result<(), AllocError> {
-    let kind = Extension::from_sdp_uri(rt.alloc(), URI)?;
-    assert!(rt; kind == Extension::VideoLayersAllocation);
-    assert_eq!(rt; kind.as_uri(), URI);
-    assert!(rt; kind.is_video() && !kind.is_audio());
-    Ok(())
+fn kind(rt: HostRuntime) {
+    let kind = named(&rt, rt.alloc(), URI);
+    holds(&rt, "the kind", kind == Extension::VideoLayersAllocation);
+    same(&rt, "its URI", kind.as_uri(), URI);
+    holds(&rt, "video", kind.is_video());
+    holds(&rt, "audio", !kind.is_audio());
 }
 
 #[test]
-fn data(rt: HostRuntime) -> Result<(), Fail> {
+fn data(rt: HostRuntime) {
     let alloc = rt.alloc();
     let kind = Extension::VideoLayersAllocation;
     let bytes = SMALL.get(..11).unwrap_or(&[]);
-    assert!(rt; is_written(&kind, &carrying(small(alloc)?), bytes));
+    let values = || carrying(small(&rt, alloc));
+    has_data(&rt, &kind, &values(), bytes);
+    holds(&rt, "the bytes", read(&rt, alloc, &kind, bytes) == values());
     // Bytes behind the last resolution are passed over.
-    for data in [bytes, &SMALL] {
-        assert!(rt; read(alloc, &kind, data)? == Some(carrying(small(alloc)?)));
-    }
+    holds(&rt, "one more", read(&rt, alloc, &kind, &SMALL) == values());
+}
+
+#[test]
+fn refused_data(rt: HostRuntime) {
     for data in [
         &b""[..],
         b"\x60",
         b"\x60\x11",
         b"\x01\x00\x05\xFF\xFF\x00\x00\x1E",
     ] {
-        assert!(rt; is_refused(alloc, &kind, data)?, "{data:?}");
+        is_refused(&rt, rt.alloc(), &Extension::VideoLayersAllocation, data);
     }
-    Ok(())
 }
 
 #[test]
-fn without_data(rt: HostRuntime) -> Result<(), Fail> {
+fn without_data(rt: HostRuntime) {
     let alloc = rt.alloc();
     let kind = Extension::VideoLayersAllocation;
-    assert!(rt; is_absent(&kind, &ExtensionValues::default()));
+    has_no_data(&rt, &kind, &ExtensionValues::default());
     // An index of 4 can't be written, nor can 256 bytes be the data of an element.
-    let index_of_4 = allocation(alloc, 4, &[&[(&[5], None)]])?;
-    assert!(rt; is_absent(&kind, &carrying(index_of_4)));
-    assert!(rt; is_absent(&kind, &carrying(largest(alloc, 4_398_046_511_104)?)));
-    Ok(())
+    let index_of_4 = carrying(allocation(&rt, alloc, 4, &[&[(&[5], None)]]));
+    has_no_data(&rt, &kind, &index_of_4);
+    let longer = carrying(largest(&rt, alloc, 4_398_046_511_104));
+    has_no_data(&rt, &kind, &longer);
 }
 
 #[test]
-fn largest_data(rt: HostRuntime) -> Result<(), Fail> {
+fn largest_data(rt: HostRuntime) {
     let alloc = rt.alloc();
-    let header = header(carrying(largest(alloc, 34_359_738_368)?), 276);
-    let bytes = written(alloc, &header, &mapped())?;
-    assert_eq!(rt; bytes.len(), 279);
+    let header = header(carrying(largest(&rt, alloc, 34_359_738_368)), 276);
+    let bytes = written(&rt, alloc, &header, &mapped());
+    same(&rt, "the length", bytes.len(), 279);
     // The form's word, 65 words, id 1, 255 bytes of data, and how they begin.
     let head = [0x10, 0, 0, 65, 1, 255, 0x3F, 0xFF, 0xFF, 0xFF, 0xFF];
-    assert!(rt; bytes.get(12..).unwrap_or(&[]).starts_with(&head));
-    assert!(rt; bytes.ends_with(&[0, 0, 0, 255, 255, 255]));
-    assert!(rt; RtpHeader::parse(alloc, &bytes, &mapped())? == Some(header));
-    Ok(())
+    holds(
+        &rt,
+        "the head",
+        bytes.get(12..).unwrap_or(&[]).starts_with(&head),
+    );
+    holds(&rt, "the end", bytes.ends_with(&[0, 0, 0, 255, 255, 255]));
+    is_read(&rt, alloc, &mapped(), &bytes, &header);
 }
 
 #[test]
-fn no_data(rt: HostRuntime) -> Result<(), Fail> {
+fn no_data(rt: HostRuntime) {
     let alloc = rt.alloc();
     let bytes = [0x90, 1, 0, 0, 0, 0, 0, 0, 0, 0, 0, 0, 0x10, 0, 0, 0];
-    let image = header(ExtensionValues::default(), 16);
-    let longer = header(carrying(largest(alloc, 4_398_046_511_104)?), 16);
-    check(&rt, alloc, &mapped(), &longer, &bytes, &image)?;
-    let plain = header(ExtensionValues::default(), 16);
-    check(&rt, alloc, &mapped(), &plain, &bytes, &image)
+    let plain = || header(ExtensionValues::default(), 16);
+    let longer = header(carrying(largest(&rt, alloc, 4_398_046_511_104)), 16);
+    check(&rt, alloc, mapped(), longer, &bytes, plain());
+    check(&rt, alloc, mapped(), plain(), &bytes, plain());
+}
+
+// The values of the small allocation and a level.
+fn with_a_level(rt: &impl Abort, alloc: Global) -> ExtensionValues {
+    ExtensionValues {
+        video_layers_allocation: Some(small(rt, alloc)),
+        ..level(-43, true)
+    }
 }
 
 #[test]
-fn with_a_neighbour(rt: HostRuntime) -> Result<(), Fail> {
+fn with_a_neighbour(rt: HostRuntime) {
     let alloc = rt.alloc();
     let map = two(
         3,
@@ -119,72 +137,90 @@ fn with_a_neighbour(rt: HostRuntime) -> Result<(), Fail> {
         5,
         Extension::AudioLevel,
     );
-    let values = || -> Result<ExtensionValues, AllocError> {
-        Ok(ExtensionValues {
-            video_layers_allocation: Some(small(alloc)?),
-            ..level(-43, true)
-        })
-    };
-    let mut bytes = vec![in alloc;
-        0x90u8, 1, 0, 0, 0, 0, 0, 0, 0, 0, 0, 0, 0x10, 0, 0, 4, 3, 11,
-    ]?;
-    bytes.extend_from_slice(SMALL.get(..11).unwrap_or(&[]))?;
-    bytes.extend_from_slice(&[5, 1, 0xAB])?;
-    let read = header(values()?, bytes.len());
-    check(&rt, alloc, &map, &header(values()?, 7), &bytes, &read)
+    let bytes = [
+        0x90, 1, 0, 0, 0, 0, 0, 0, 0, 0, 0, 0, 0x10, 0, 0, 4, 3, 11, 0x83, 0x40, 0xAC, 0x02, 5, 7,
+        0x01, 0x3F, 0x00, 0xB3, 0x0F, 5, 1, 0xAB,
+    ];
+    let read = header(with_a_level(&rt, alloc), 32);
+    let header = header(with_a_level(&rt, alloc), 7);
+    check(&rt, alloc, map, header, &bytes, read);
 }
 
 #[test]
-fn written_without_its_trailing_layers(rt: HostRuntime) -> Result<(), Fail> {
+fn written_without_its_trailing_layers(rt: HostRuntime) {
     let alloc = rt.alloc();
     let rows: [Row; 3] = [(&[5], None), (&[], None), (&[], None)];
-    let header_of = |rows, len| -> Result<RtpHeader, AllocError> {
-        Ok(header(carrying(allocation(alloc, 0, &[rows])?), len))
-    };
     let bytes = [
         0x90, 1, 0, 0, 0, 0, 0, 0, 0, 0, 0, 0, 0x10, 0, 0, 2, 1, 3, 1, 0, 5, 0, 0, 0,
     ];
-    let image = header_of(rows.get(..1).unwrap_or(&[]), 24)?;
+    let image = carrying(allocation(&rt, alloc, 0, &[&[(&[5], None)]]));
+    let values = carrying(allocation(&rt, alloc, 0, &[&rows]));
     check(
         &rt,
         alloc,
-        &mapped(),
-        &header_of(&rows, 24)?,
+        mapped(),
+        header(values, 24),
         &bytes,
-        &image,
-    )
+        header(image, 24),
+    );
+}
+
+// What the block's body makes of the values.
+fn with_block(
+    rt: &impl Abort,
+    alloc: Global,
+    form: ExtensionsForm,
+    body: &[u8],
+    mut values: ExtensionValues,
+) -> ExtensionValues {
+    mapped()
+        .parse(alloc, body, form, &mut values)
+        .expect(rt, "memory");
+    values
 }
 
 #[test]
-fn blocks(rt: HostRuntime) -> Result<(), Fail> {
+fn blocks(rt: HostRuntime) {
     let alloc = rt.alloc();
-    let nothing = || allocation(alloc, 0, &[]);
+    let nothing = || carrying(allocation(&rt, alloc, 0, &[]));
     // The second element has a width of 65536, and isn't well-formed.
     let body = [1, 1, 0, 1, 8, 1, 0, 5, 0xFF, 0xFF, 0, 0, 0x1E, 0, 0, 0];
-    let mut values = ExtensionValues::default();
-    mapped().parse(alloc, &body, ExtensionsForm::TwoByte, &mut values)?;
-    assert!(rt; values == carrying(nothing()?));
+    let values = ExtensionValues::default();
+    let read = with_block(&rt, alloc, ExtensionsForm::TwoByte, &body, values);
+    holds(&rt, "two bytes", read == nothing());
     // The one-byte form carries three bytes of data as well, and the last element counts.
     let body = [0x10, 0, 0x12, 1, 0, 5];
-    mapped().parse(alloc, &body, ExtensionsForm::OneByte, &mut values)?;
-    assert!(rt; values == carrying(allocation(alloc, 0, &[&[(&[5], None)]])?));
-    Ok(())
+    let last = carrying(allocation(&rt, alloc, 0, &[&[(&[5], None)]]));
+    let read = with_block(&rt, alloc, ExtensionsForm::OneByte, &body, nothing());
+    holds(&rt, "one byte", read == last);
+}
+
+// A header with every field of its values set.
+fn complete(rt: &impl Abort, alloc: Global) -> RtpHeader {
+    let values = ExtensionValues {
+        video_layers_allocation: Some(small(rt, alloc)),
+        ..full()
+    };
+    header(values, 9)
 }
 
 #[test]
-fn copies(rt: HostRuntime) -> Result<(), Fail> {
-    let alloc = rt.alloc();
-    let values = || -> Result<ExtensionValues, AllocError> {
-        Ok(ExtensionValues {
-            video_layers_allocation: Some(small(alloc)?),
-            ..full()
-        })
-    };
-    let source = header(values()?, 9);
-    let copy = source.clone(alloc)?;
-    assert!(rt; copy == source);
-    assert!(rt; copy.ext_vals == values()?);
-    assert!(rt; source.ext_vals.clone(alloc)? == values()?);
-    assert!(rt; copy.ext_vals != full());
-    Ok(())
+fn copies(rt: HostRuntime) {
+    let source = complete(&rt, rt.alloc());
+    let copy = source.clone(rt.alloc()).expect(&rt, "memory");
+    holds(&rt, "the header", copy == source);
+    holds(&rt, "the header again", copy == complete(&rt, rt.alloc()));
+}
+
+#[test]
+fn copies_of_values(rt: HostRuntime) {
+    let source = complete(&rt, rt.alloc()).ext_vals;
+    let copy = source.clone(rt.alloc()).expect(&rt, "memory");
+    holds(&rt, "the values", copy == source);
+    holds(
+        &rt,
+        "the values again",
+        copy == complete(&rt, rt.alloc()).ext_vals,
+    );
+    holds(&rt, "those without it", copy != full());
 }

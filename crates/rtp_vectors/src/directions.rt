@@ -1,7 +1,7 @@
 //! Directions and their names.
 
+use crate::checks::{holds, same, shows};
 use rtp_base::Direction;
-use std::test::Fail;
 
 // A direction, its name, its opposite, and whether it sends, receives, and counts as receiving.
 const DIRECTIONS: [(Direction, &str, Direction, bool, bool, bool); 4] = [
@@ -40,24 +40,22 @@ const DIRECTIONS: [(Direction, &str, Direction, bool, bool, bool); 4] = [
 ];
 
 #[test]
-fn names(rt: HostRuntime) -> Result<(), Fail> {
+fn names(rt: HostRuntime) {
     for (direction, name, ..) in DIRECTIONS {
-        assert_eq!(rt; format!(in rt.alloc(); "{direction}")?.as_str(), name);
-        assert_eq!(rt; format!(in rt.alloc(); "{direction:>12}")?.as_str(), name);
-        assert_eq!(rt; Direction::from(name), direction);
+        shows(&rt, rt.alloc(), &direction, name);
+        holds(&rt, name, Direction::from(name) == direction);
     }
     for other in ["SENDONLY", "", "sendonly ", "recv"] {
-        assert_eq!(rt; Direction::from(other), Direction::Inactive, "{other}");
+        holds(&rt, other, Direction::from(other) == Direction::Inactive);
     }
-    Ok(())
 }
 
 #[test]
 fn what_they_say(rt: HostRuntime) {
     for (direction, name, opposite, sends, receives, counts) in DIRECTIONS {
-        assert_eq!(rt; direction.invert(), opposite);
-        assert_eq!(rt; direction.is_sending(), sends, "{name}");
-        assert_eq!(rt; direction.is_receiving(), receives, "{name}");
-        assert_eq!(rt; direction.sdp_is_receiving(), counts, "{name}");
+        holds(&rt, name, direction.invert() == opposite);
+        same(&rt, name, direction.is_sending(), sends);
+        same(&rt, name, direction.is_receiving(), receives);
+        same(&rt, name, direction.sdp_is_receiving(), counts);
     }
 }

@@ -1,5 +1,6 @@
 //! The elements of header extension blocks, lent one by one.
 
+use crate::checks::same;
 use ExtensionsForm::{OneByte, TwoByte};
 use rtp_wire::{Elements, ExtensionsForm};
 use std::alloc::{AllocError, Global};
@@ -12,10 +13,10 @@ const LONGEST: usize = 262_140;
 fn check(rt: &impl Abort, form: ExtensionsForm, block: &[u8], wanted: &[(u8, &[u8])]) {
     let mut elements = Elements::new(block, form);
     for (id, bytes) in wanted {
-        assert_eq!(rt; elements.next(), Some((*id, *bytes)));
+        same(rt, *id, elements.next(), Some((*id, *bytes)));
     }
     for _ in 0..3 {
-        assert_eq!(rt; elements.next(), None);
+        same(rt, "the end", elements.next(), None);
     }
 }
 

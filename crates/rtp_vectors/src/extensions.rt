@@ -1,7 +1,8 @@
 //! The kinds of header extension: their URIs, texts and media.
 
+use crate::checks::{holds, named, same, shows};
 use rtp_wire::{Extension, Uri};
-use std::alloc::{AllocError, Global};
+use std::alloc::Global;
 use std::process::Abort;
 
 // A kind, its URI, its text, and whether audio and video streams have it.
@@ -113,81 +114,100 @@ const KINDS: [(Extension, &str, &str, bool, bool); 15] = [
     ),
 ];
 
-// An extension with a text of its own.
-fn unknown(alloc: Global, uri: &str) -> Result<Extension, AllocError> {
-    Ok(Extension::UnknownUri(Uri::from(String::from_str(alloc, uri)?)))
+// A URI of this text, and the extension that it names.
+fn uri_of(rt: &impl Abort, alloc: Global, uri: &str) -> Uri {
+    Uri::from(String::from_str(alloc, uri).expect(rt, "memory"))
+}
+
+fn unknown(rt: &impl Abort, alloc: Global, uri: &str) -> Extension {
+    Extension::UnknownUri(uri_of(rt, alloc, uri))
+}
+
+// A copy of the extension is like it.
+fn is_copied(rt: &impl Abort, alloc: Global, kind: &Extension) {
+    assert!(rt; kind.clone(alloc).expect(rt, "memory") == *kind, "{kind}");
+}
+
+// The kind has this URI, which names it.
+fn has_uri(rt: &impl Abort, alloc: Global, kind: &Extension, uri: &str) {
+    same(rt, uri, kind.as_uri(), uri);
+    assert!(rt; named(rt, alloc, uri) == *kind, "{uri}");
+}
+
+// Whether audio and video streams have the kind is as it says.
+fn has_media(rt: &impl Abort, kind: &Extension, audio: bool, video: bool) {
+    assert!(rt; kind.is_audio() == audio, "{kind}");
+    assert!(rt; kind.is_video() == video, "{kind}");
 }
 
 #[test]
-fn known_kinds(rt: HostRuntime) -> Result<(), AllocError> {
+fn known_kinds(rt: HostRuntime) {
     for (kind, uri, name, audio, video) in &KINDS {
-        assert_eq!(rt; kind.as_uri(), *uri);
-        assert_eq!(rt; format!(in rt.alloc(); "{kind}")?.as_str(), *name);
-        assert_eq!(rt; format!(in rt.alloc(); "{kind:>40}")?.as_str(), *name);
-        assert_eq!(rt; kind.is_audio(), *audio, "{name}");
-        assert_eq!(rt; kind.is_video(), *video, "{name}");
-        assert!(rt;
-            Extension::from_sdp_uri(rt.alloc(), uri)? == *kind,
-            "{name}"
-        );
-        assert!(rt; kind.clone(rt.alloc())? == *kind, "{name}");
+        has_uri(&rt, rt.alloc(), kind, uri);
+        shows(&rt, rt.alloc(), kind, name);
+        has_media(&rt, kind, *audio, *video);
+        is_copied(&rt, rt.alloc(), kind);
     }
-    Ok(())
 }
 
 #[test]
 fn kinds_differ(rt: HostRuntime) {
     for (index, (kind, ..)) in KINDS.iter().enumerate() {
         for (other_index, (other, ..)) in KINDS.iter().enumerate() {
-            assert!(rt; (kind == other) == (index == other_index));
+            same(&rt, index, kind == other, index == other_index);
         }
     }
 }
 
 // The URI names an unknown extension, which has it for its text.
-fn check_unknown(rt: &impl Abort, alloc: Global, uri: &str) -> Result<(), AllocError> {
-    let ext = Extension::from_sdp_uri(alloc, uri)?;
-    assert!(rt; ext == unknown(alloc, uri)?, "{uri}");
-    assert_eq!(rt; ext.as_uri(), uri);
-    assert_eq!(rt; format!(in alloc; "{ext}")?.as_str(), uri);
-    assert!(rt; !ext.is_audio() && !ext.is_video(), "{uri}");
-    let copy = ext.clone(alloc)?;
-    assert!(rt; copy == ext, "{uri}");
-    Ok(())
+fn check_unknown(rt: &impl Abort, alloc: Global, uri: &str) {
+    let ext = named(rt, alloc, uri);
+    assert!(rt; ext == unknown(rt, alloc, uri), "{uri}");
+    same(rt, uri, ext.as_uri(), uri);
+    shows(rt, alloc, &ext, uri);
+    has_media(rt, &ext, false, false);
+    is_copied(rt, alloc, &ext);
 }
 
+const UNKNOWN: [&str; 7] = [
+    "urn:x",
+    "",
+    "urn:é€😀",
+    // A known one with a letter more, one less, and in another case.
+    "urn:3gpp:video-orientation0",
+    "urn:3gpp:video-orientatio",
+    "URN:3gpp:video-orientation",
+    "http://www.webrtc.org/experiments/rtp-hdrext/video-layers-allocation",
+];
+
 #[test]
-fn unknown_uris(rt: HostRuntime) -> Result<(), AllocError> {
-    let uris = [
-        "urn:x",
-        "",
-        "urn:é€😀",
-        // A known one with a letter more, one less, and in another case.
-        "urn:3gpp:video-orientation0",
-        "urn:3gpp:video-orientatio",
-        "URN:3gpp:video-orientation",
-        "http://www.webrtc.org/experiments/rtp-hdrext/video-layers-allocation",
-    ];
-    for uri in uris {
-        check_unknown(&rt, rt.alloc(), uri)?;
+fn unknown_uris(rt: HostRuntime) {
+    for uri in UNKNOWN {
+        check_unknown(&rt, rt.alloc(), uri);
     }
-    let longest = format!(in rt.alloc(); "urn:{:->251}", "")?;
-    assert_eq!(rt; longest.len(), 255);
-    check_unknown(&rt, rt.alloc(), &longest)
 }
 
 #[test]
-fn unknown_uris_differ(rt: HostRuntime) -> Result<(), AllocError> {
-    assert!(rt; unknown(rt.alloc(), "urn:x")? != unknown(rt.alloc(), "urn:y")?);
-    assert!(rt; unknown(rt.alloc(), "mid")? != Extension::RtpMid);
-    Ok(())
+fn longest_uri(rt: HostRuntime) {
+    let longest = format!(in rt.alloc(); "urn:{:->251}", "");
+    let longest = longest.expect(&rt, "memory");
+    same(&rt, "the longest", longest.len(), 255);
+    check_unknown(&rt, rt.alloc(), &longest);
 }
 
 #[test]
-fn text_of_a_uri(rt: HostRuntime) -> Result<(), AllocError> {
-    let uri = Uri::from(String::from_str(rt.alloc(), "urn:x")?);
-    assert_eq!(rt; uri.as_str(), "urn:x");
-    assert!(rt; uri.clone(rt.alloc())? == uri);
-    assert_eq!(rt; String::from(uri).as_str(), "urn:x");
-    Ok(())
+fn unknown_uris_differ(rt: HostRuntime) {
+    let a = rt.alloc();
+    let other = unknown(&rt, a, "urn:y");
+    holds(&rt, "x and y", unknown(&rt, a, "urn:x") != other);
+    holds(&rt, "mid", unknown(&rt, a, "mid") != Extension::RtpMid);
+}
+
+#[test]
+fn text_of_a_uri(rt: HostRuntime) {
+    let uri = uri_of(&rt, rt.alloc(), "urn:x");
+    same(&rt, "the text", uri.as_str(), "urn:x");
+    let copy = uri.clone(rt.alloc()).expect(&rt, "memory");
+    holds(&rt, "the copy", copy == uri);
+    same(&rt, "its text", String::from(uri).as_str(), "urn:x");
 }

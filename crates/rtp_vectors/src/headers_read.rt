@@ -1,10 +1,12 @@
 //! Headers, read from bytes.
 
+use crate::checks::{bytes_of, holds, same};
 use crate::fixtures::spoken;
+use crate::headers_written::is_read;
 use rtp_base::{Pt, Ssrc};
 use rtp_wire::{ExtensionMap, ExtensionValues, ExtensionsForm, RtpHeader};
-use std::alloc::{AllocError, Global};
-use std::test::Fail;
+use std::alloc::Global;
+use std::process::Abort;
 
 // A packet with four elements and 16 bytes behind its header of 32.
 const PACKET: &str = "b06fb798000027102e5715f9bede0004\
@@ -20,8 +22,14 @@ const TWO_BYTE_FORM: &str = "b06fb798000027102e5715f910010005\
 0101aa0203fe206a03020000040378596a000000\
 0102030400000000000000000000000c";
 
-fn parse(alloc: Global, bytes: &[u8]) -> Result<Option<RtpHeader>, AllocError> {
-    RtpHeader::parse(alloc, bytes, &ExtensionMap::empty())
+// The header that the bytes begin with, where nothing is mapped.
+fn parse(rt: &impl Abort, alloc: Global, bytes: &[u8]) -> Option<RtpHeader> {
+    RtpHeader::parse(alloc, bytes, &ExtensionMap::empty()).expect(rt, "memory")
+}
+
+// The bytes begin with no header.
+fn is_refused(rt: &impl Abort, alloc: Global, bytes: &[u8]) {
+    assert!(rt; parse(rt, alloc, bytes).is_none(), "{bytes:?}");
 }
 
 // What such a packet's header has.
@@ -42,154 +50,157 @@ fn header(number: u16, timestamp: u32, ext_vals: ExtensionValues, header_len: us
     }
 }
 
+// The text's bytes are read as this header under the standard map.
+fn is_packet(rt: &impl Abort, alloc: Global, text: &str, wanted: RtpHeader) {
+    let bytes = bytes_of(rt, alloc, text);
+    is_read(rt, alloc, &ExtensionMap::standard(), &bytes, &wanted);
+}
+
 #[test]
-fn packets(rt: HostRuntime) -> Result<(), Fail> {
-    let rows = [
-        (PACKET, header(47000, 10000, spoken(-42, 63_531_654, 0), 32)),
-        (
-            OTHER_VALUES,
-            header(47001, 12000, spoken(-43, 63_631_652, 2), 32),
-        ),
-        (
-            TWO_BYTE_FORM,
-            header(47000, 10000, spoken(-42, 63_531_654, 0), 36),
-        ),
-    ];
-    let map = ExtensionMap::standard();
-    for (text, wanted) in rows {
-        let bytes = hex::decode(rt.alloc(), text)?;
-        let read = RtpHeader::parse(rt.alloc(), &bytes, &map)?.ok_or("a header")?;
-        assert!(rt; read == wanted, "{text}");
-    }
-    Ok(())
+fn packets(rt: HostRuntime) {
+    let a = rt.alloc();
+    let wanted = header(47000, 10000, spoken(-42, 63_531_654, 0), 32);
+    is_packet(&rt, a, PACKET, wanted);
+    let wanted = header(47001, 12000, spoken(-43, 63_631_652, 2), 32);
+    is_packet(&rt, a, OTHER_VALUES, wanted);
+    let wanted = header(47000, 10000, spoken(-42, 63_531_654, 0), 36);
+    is_packet(&rt, a, TWO_BYTE_FORM, wanted);
 }
 
 // Whatever follows the header is not looked at.
 #[test]
-fn a_long_datagram(rt: HostRuntime) -> Result<(), Fail> {
-    let mut bytes = hex::decode(rt.alloc(), PACKET)?;
-    bytes.resize(1500, 0x10)?;
-    let read = RtpHeader::parse(rt.alloc(), &bytes, &ExtensionMap::standard())?;
-    let read = read.ok_or("a header")?;
-    assert!(rt; read == header(47000, 10000, spoken(-42, 63_531_654, 0), 32));
-    Ok(())
+fn a_long_datagram(rt: HostRuntime) {
+    let mut bytes = bytes_of(&rt, rt.alloc(), PACKET);
+    bytes.resize(1500, 0x10).expect(&rt, "memory");
+    let wanted = header(47000, 10000, spoken(-42, 63_531_654, 0), 32);
+    is_read(&rt, rt.alloc(), &ExtensionMap::standard(), &bytes, &wanted);
+}
+
+// The bytes begin with a header of this length, which has version 2 and payload type 0.
+fn is_accepted(rt: &impl Abort, alloc: Global, bytes: &[u8], len: usize) {
+    let header = parse(rt, alloc, bytes).expect(rt, "a header");
+    assert!(rt; header.header_len == len, "{len}");
+    assert!(rt; header.version == 2, "{len}");
+    assert!(rt; header.payload_type == Pt::from(0), "{len}");
 }
 
 #[test]
-fn largest_block(rt: HostRuntime) -> Result<(), Fail> {
-    let mut bytes = hex::decode(rt.alloc(), "900000000000000000000000BEDEFFFF")?;
-    bytes.resize(16 + 4 * 65535, 0)?;
-    let header = parse(rt.alloc(), &bytes)?.ok_or("a header")?;
-    assert_eq!(rt; header.header_len, 262156);
+fn largest_block(rt: HostRuntime) {
+    let mut bytes = bytes_of(&rt, rt.alloc(), "900000000000000000000000BEDEFFFF");
+    bytes.resize(16 + 4 * 65535, 0).expect(&rt, "memory");
+    is_accepted(&rt, rt.alloc(), &bytes, 262156);
     bytes.pop();
-    assert!(rt; parse(rt.alloc(), &bytes)?.is_none());
-    Ok(())
+    let read = parse(&rt, rt.alloc(), &bytes);
+    holds(&rt, "a byte less", read.is_none());
 }
 
+// Bytes that begin with no header.
+const REFUSED: [&str; 17] = [
+    // Under twelve bytes.
+    "",
+    "80",
+    "0000000000000000000000",
+    // Another version.
+    "400000000000000000000000",
+    "C00000000000000000000000",
+    "000000000000000000000000",
+    // A source is missing, or a byte of it.
+    "810000000000000000000000",
+    "81000000000000000000000000FFFF",
+    // The head of the block is cut short.
+    "900000000000000000000000",
+    "900000000000000000000000BEDE00",
+    // An unknown form.
+    "90000000000000000000000020000000",
+    "900000000000000000000000BEDD0000",
+    "900000000000000000000000BEDF0000",
+    "9000000000000000000000000FFF0000",
+    "90000000000000000000000010100000",
+    // The block is longer than what is left.
+    "900000000000000000000000BEDE000110AA00",
+    "900000000000000000000000BEDE0001",
+];
+
 #[test]
-fn refusals(rt: HostRuntime) -> Result<(), Fail> {
-    let refused = [
-        // Under twelve bytes.
-        "",
-        "80",
-        "0000000000000000000000",
-        // Another version.
-        "400000000000000000000000",
-        "C00000000000000000000000",
-        "000000000000000000000000",
-        // A source is missing, or a byte of it.
-        "810000000000000000000000",
-        "81000000000000000000000000FFFF",
-        // The head of the block is cut short.
-        "900000000000000000000000",
-        "900000000000000000000000BEDE00",
-        // An unknown form.
-        "90000000000000000000000020000000",
-        "900000000000000000000000BEDD0000",
-        "900000000000000000000000BEDF0000",
-        "9000000000000000000000000FFF0000",
-        "90000000000000000000000010100000",
-        // The block is longer than what is left.
-        "900000000000000000000000BEDE000110AA00",
-        "900000000000000000000000BEDE0001",
-    ];
-    for text in refused {
-        let bytes = hex::decode(rt.alloc(), text)?;
-        assert!(rt; parse(rt.alloc(), &bytes)?.is_none(), "{text}");
+fn refusals(rt: HostRuntime) {
+    for text in REFUSED {
+        let bytes = bytes_of(&rt, rt.alloc(), text);
+        is_refused(&rt, rt.alloc(), &bytes);
     }
-    Ok(())
 }
 
+// Bytes that begin with a header, and its length.
+const ACCEPTED: [(&str, usize); 8] = [
+    ("800000000000000000000000", 12),
+    ("A00000000000000000000000", 12),
+    ("81000000000000000000000000FFFF00", 16),
+    ("900000000000000000000000BEDE0000", 16),
+    // Any application bits.
+    ("90000000000000000000000010000000", 16),
+    ("900000000000000000000000100F0000", 16),
+    ("90000000000000000000000010070001AABBCCDD", 20),
+    // Bytes behind the header.
+    ("900000000000000000000000BEDE000110AA0000FF", 20),
+];
+
 #[test]
-fn accepted(rt: HostRuntime) -> Result<(), Fail> {
-    let read = [
-        ("800000000000000000000000", 12),
-        ("A00000000000000000000000", 12),
-        ("81000000000000000000000000FFFF00", 16),
-        ("900000000000000000000000BEDE0000", 16),
-        // Any application bits.
-        ("90000000000000000000000010000000", 16),
-        ("900000000000000000000000100F0000", 16),
-        ("90000000000000000000000010070001AABBCCDD", 20),
-        // Bytes behind the header.
-        ("900000000000000000000000BEDE000110AA0000FF", 20),
-    ];
-    for (text, len) in read {
-        let bytes = hex::decode(rt.alloc(), text)?;
-        let header = parse(rt.alloc(), &bytes)?.ok_or("a header")?;
-        assert_eq!(rt; header.header_len, len, "{text}");
-        assert_eq!(rt; header.version, 2);
-        assert_eq!(rt; header.payload_type, Pt::from(0));
+fn accepted(rt: HostRuntime) {
+    for (text, len) in ACCEPTED {
+        let bytes = bytes_of(&rt, rt.alloc(), text);
+        is_accepted(&rt, rt.alloc(), &bytes, len);
     }
-    Ok(())
+}
+
+// A front of the packet is read as its header if it has all of that, and else as none.
+fn is_front(rt: &impl Abort, alloc: Global, front: &[u8]) {
+    if front.len() < 32 {
+        is_refused(rt, alloc, front);
+    } else {
+        let wanted = header(47000, 10000, ExtensionValues::default(), 32);
+        is_read(rt, alloc, &ExtensionMap::empty(), front, &wanted);
+    }
 }
 
 #[test]
-fn every_front_of_a_packet(rt: HostRuntime) -> Result<(), Fail> {
-    let bytes = hex::decode(rt.alloc(), PACKET)?;
-    assert_eq!(rt; bytes.len(), 48);
+fn every_front_of_a_packet(rt: HostRuntime) {
+    let bytes = bytes_of(&rt, rt.alloc(), PACKET);
+    assert!(rt; bytes.len() == 48);
     for len in 0..49 {
-        let read = parse(rt.alloc(), &bytes[..len])?;
-        if len < 32 {
-            assert!(rt; read.is_none(), "at {len}");
-        } else {
-            // Nothing is mapped.
-            let wanted = header(47000, 10000, ExtensionValues::default(), 32);
-            assert!(rt; read.ok_or("a header")? == wanted, "at {len}");
-        }
+        is_front(&rt, rt.alloc(), &bytes[..len]);
     }
-    Ok(())
 }
 
 #[test]
-fn every_first_byte_of_a_packet(rt: HostRuntime) -> Result<(), Fail> {
-    let mut bytes = hex::decode(rt.alloc(), PACKET)?;
-    assert_eq!(rt; bytes.len(), 48);
+fn every_first_byte_of_a_packet(rt: HostRuntime) {
+    let mut bytes = bytes_of(&rt, rt.alloc(), PACKET);
+    assert!(rt; bytes.len() == 48);
     for first in 0..=255u8 {
         bytes[0] = first;
         // With a block and a source, other bytes than BEDE stand where the form should.
         let wanted = matches!(first, 128..=137 | 160..=169 | 144 | 176);
-        assert_eq!(rt; parse(rt.alloc(), &bytes)?.is_some(), wanted, "at {first}");
+        let read = parse(&rt, rt.alloc(), &bytes);
+        same(&rt, first, read.is_some(), wanted);
     }
-    Ok(())
 }
 
 #[test]
 fn forms(rt: HostRuntime) {
-    assert_eq!(rt; ExtensionsForm::OneByte.as_u16(), 0xBEDE);
-    assert_eq!(rt; ExtensionsForm::TwoByte.as_u16(), 0x1000);
-    assert_eq!(rt; ExtensionsForm::OneByte.serialize(), [0xBE, 0xDE]);
-    assert_eq!(rt; ExtensionsForm::TwoByte.serialize(), [0x10, 0x00]);
+    let (one, two) = (ExtensionsForm::OneByte, ExtensionsForm::TwoByte);
+    same(&rt, "one byte", one.as_u16(), 0xBEDE);
+    same(&rt, "two bytes", two.as_u16(), 0x1000);
+    same(&rt, "one byte", one.serialize(), [0xBE, 0xDE]);
+    same(&rt, "two bytes", two.serialize(), [0x10, 0x00]);
+}
+
+#[test]
+fn each_form(rt: HostRuntime) {
     for word in 0..=65535u16 {
         let wanted = match word {
             0xBEDE => Some(ExtensionsForm::OneByte),
             0x1000..=0x100F => Some(ExtensionsForm::TwoByte),
             _ => None,
         };
-        assert_eq!(rt;
-            ExtensionsForm::parse(word.to_be_bytes()),
-            wanted,
-            "at {word}"
-        );
+        let found = ExtensionsForm::parse(word.to_be_bytes());
+        same(&rt, word, found, wanted);
     }
 }

@@ -1,27 +1,40 @@
 //! Headers, written as bytes and read back.
 
+use crate::checks::{bytes_of, holds};
 use crate::fixtures::{level, one};
 use rtp_base::{Pt, Ssrc};
 use rtp_wire::{Extension, ExtensionMap, ExtensionValues, RtpHeader};
 use std::alloc::Global;
 use std::process::Abort;
-use std::test::Fail;
 
 // What is written of the header into a buffer of ones, and the three bytes behind it.
 pub(crate) fn written(
+    rt: &impl Abort,
     alloc: Global,
     header: &RtpHeader,
     exts: &ExtensionMap,
-) -> Result<Vec<u8>, Fail> {
-    if header.payload_type.get() > 127 || header.csrc_count > 15 {
-        return Err(Fail::from("the header can't be written"));
-    }
+) -> Vec<u8> {
+    assert!(rt; header.payload_type.get() <= 127);
+    assert!(rt; header.csrc_count <= 15);
     let len = header.wire_len(exts);
-    let mut buf = vec![in alloc; 255u8; len + 3]?;
-    if header.write_to(&mut buf, exts) != len {
-        return Err(Fail::from("more or less was written than was said"));
+    let mut buf = vec![in alloc; 255u8; len + 3].expect(rt, "memory");
+    let end = header.write_to(&mut buf, exts);
+    assert!(rt; end == len, "{end} and {len}");
+    buf
+}
+
+// The bytes are read as this header.
+pub(crate) fn is_read(
+    rt: &impl Abort,
+    alloc: Global,
+    exts: &ExtensionMap,
+    bytes: &[u8],
+    wanted: &RtpHeader,
+) {
+    match RtpHeader::parse(alloc, bytes, exts).expect(rt, "memory") {
+        Some(read) => assert!(rt; read == *wanted, "{bytes:?}"),
+        None => panic!(rt; "no header: {bytes:?}"),
     }
-    Ok(buf)
 }
 
 // The header is written as these bytes, the ones behind them stay, and all of them are read as the
@@ -29,19 +42,29 @@ pub(crate) fn written(
 pub(crate) fn check(
     rt: &impl Abort,
     alloc: Global,
-    exts: &ExtensionMap,
-    header: &RtpHeader,
+    exts: ExtensionMap,
+    header: RtpHeader,
     bytes: &[u8],
-    image: &RtpHeader,
-) -> Result<(), Fail> {
-    let mut wanted = Vec::from_slice(alloc, bytes)?;
-    wanted.extend_from_slice(&[255; 3])?;
-    assert_eq!(rt; written(alloc, header, exts)?.as_slice(), wanted.as_slice());
-    for bytes in [bytes, wanted.as_slice()] {
-        let read = RtpHeader::parse(alloc, bytes, exts)?.ok_or("a header")?;
-        assert!(rt; read == *image);
-    }
-    Ok(())
+    image: RtpHeader,
+) {
+    let written = written(rt, alloc, &header, &exts);
+    assert!(rt; written.starts_with(bytes), "{written:?}");
+    let behind = written.get(bytes.len()..).unwrap_or(&[]);
+    assert_eq!(rt; behind, [255; 3].as_slice());
+    is_read(rt, alloc, &exts, bytes, &image);
+    is_read(rt, alloc, &exts, &written, &image);
+}
+
+// The same of bytes in hexadecimal.
+fn check_text(
+    rt: &impl Abort,
+    alloc: Global,
+    exts: ExtensionMap,
+    header: RtpHeader,
+    text: &str,
+    image: RtpHeader,
+) {
+    check(rt, alloc, exts, header, &bytes_of(rt, alloc, text), image);
 }
 
 // A header with these values, default but for its type, number, timestamp, and source.
@@ -75,9 +98,13 @@ fn marked(ext_vals: ExtensionValues, header_len: usize) -> RtpHeader {
     }
 }
 
+// The map of id 3 to the level.
+fn levels_of_id_3() -> ExtensionMap {
+    one(3, Extension::AudioLevel)
+}
+
 #[test]
-fn levels(rt: HostRuntime) -> Result<(), Fail> {
-    let map = one(3, Extension::AudioLevel);
+fn levels(rt: HostRuntime) {
     // A level, the byte that it is written as, and the level that is read back.
     for (audio_level, byte, again) in [(-42, 42, -42), (-128, 0, 0), (5, 5, -5)] {
         let bytes = [
@@ -85,32 +112,27 @@ fn levels(rt: HostRuntime) -> Result<(), Fail> {
         ];
         let image = header(level(again, false), 20);
         let header = header(level(audio_level, false), 16);
-        check(&rt, rt.alloc(), &map, &header, &bytes, &image)?;
+        check(&rt, rt.alloc(), levels_of_id_3(), header, &bytes, image);
     }
-    Ok(())
 }
 
 #[test]
-fn markers(rt: HostRuntime) -> Result<(), Fail> {
-    let header = marked(level(-43, false), 16);
-    let image = marked(level(-43, false), 20);
-    let rows: [(u8, [u8; 8]); 2] = [
-        (3, [190, 222, 0, 1, 48, 43, 0, 0]),
+fn markers(rt: HostRuntime) {
+    let rows = [
+        (3, "90a1b79900002ee00000002cbede0001302b0000"),
         // The one-byte form has no id of 15.
-        (15, [16, 0, 0, 1, 15, 1, 43, 0]),
+        (15, "90a1b79900002ee00000002c100000010f012b00"),
     ];
-    for (id, block) in rows {
-        let mut bytes = vec![in rt.alloc(); 144u8, 161, 183, 153, 0, 0, 46, 224, 0, 0, 0, 44]?;
-        bytes.extend_from_slice(&block)?;
+    for (id, text) in rows {
+        let header = marked(level(-43, false), 16);
+        let image = marked(level(-43, false), 20);
         let map = one(id, Extension::AudioLevel);
-        check(&rt, rt.alloc(), &map, &header, &bytes, &image)?;
+        check_text(&rt, rt.alloc(), map, header, text, image);
     }
-    Ok(())
 }
 
 #[test]
-fn sources(rt: HostRuntime) -> Result<(), Fail> {
-    let map = one(3, Extension::AudioLevel);
+fn sources(rt: HostRuntime) {
     // Of 15 numbers the first three are written, and the others are read back as zeros.
     let mut image = header(level(-42, true), 32);
     image.csrc_count = 3;
@@ -123,58 +145,75 @@ fn sources(rt: HostRuntime) -> Result<(), Fail> {
     header.csrc = [
         100, 305419896, 4294967295, 7, 7, 7, 7, 7, 7, 7, 7, 7, 7, 7, 7,
     ];
-    let bytes = [
-        147, 33, 183, 152, 0, 0, 39, 16, 0, 0, 0, 44, 0, 0, 0, 100, 18, 52, 86, 120, 255, 255, 255,
-        255, 190, 222, 0, 1, 48, 170, 0, 0,
-    ];
-    check(&rt, rt.alloc(), &map, &header, &bytes, &image)
+    let text = "9321b798000027100000002c0000006412345678ffffffffbede000130aa0000";
+    check_text(&rt, rt.alloc(), levels_of_id_3(), header, text, image);
+}
+
+// A packet of 15 sources, whose numbers are 1 to 15, and a level.
+const MOST_SOURCES: &str = "9f21b798000027100000002c\
+0000000100000002000000030000000400000005000000060000000700000008\
+000000090000000a0000000b0000000c0000000d0000000e0000000f\
+bede000130aa0000";
+
+// Its header, of this length.
+fn most(header_len: usize) -> RtpHeader {
+    RtpHeader {
+        csrc_count: 15,
+        csrc: [1, 2, 3, 4, 5, 6, 7, 8, 9, 10, 11, 12, 13, 14, 15],
+        ..header(level(-42, true), header_len)
+    }
+}
+
+// What is written of the header is of so many bytes.
+fn has_len(rt: &impl Abort, header: &RtpHeader, exts: &ExtensionMap, wanted: usize) {
+    assert!(rt; header.csrc_count <= 15);
+    assert!(rt; header.wire_len(exts) == wanted);
 }
 
 #[test]
-fn most_sources(rt: HostRuntime) -> Result<(), Fail> {
-    let map = one(3, Extension::AudioLevel);
-    let csrc = [1, 2, 3, 4, 5, 6, 7, 8, 9, 10, 11, 12, 13, 14, 15];
-    let mut bytes = vec![in rt.alloc(); 159u8, 33, 183, 152, 0, 0, 39, 16, 0, 0, 0, 44]?;
-    for source in csrc {
-        bytes.extend_from_slice(&[0, 0, 0, source])?;
-    }
-    bytes.extend_from_slice(&[190, 222, 0, 1, 48, 170, 0, 0])?;
-    let mut image = header(level(-42, true), 80);
-    image.csrc_count = 15;
-    image.csrc = csrc.map(u32::from);
-    let mut header = header(level(-42, true), 16);
-    header.csrc_count = 15;
-    header.csrc = image.csrc;
-    check(&rt, rt.alloc(), &map, &header, &bytes, &image)?;
-    assert_eq!(rt; header.wire_len(&ExtensionMap::empty()), 76);
-    // The last source is cut short, and so is the block.
+fn most_sources(rt: HostRuntime) {
+    let map = levels_of_id_3();
+    check_text(&rt, rt.alloc(), map, most(16), MOST_SOURCES, most(80));
+    has_len(&rt, &most(16), &ExtensionMap::empty(), 76);
+}
+
+// The last source is cut short, and so is the block.
+#[test]
+fn fronts_of_most_sources(rt: HostRuntime) {
+    let bytes = bytes_of(&rt, rt.alloc(), MOST_SOURCES);
     for len in [71, 73, 79] {
-        let front = bytes.get(..len).ok_or("a front of the bytes")?;
-        assert!(rt;
-            RtpHeader::parse(rt.alloc(), front, &map)?.is_none(),
-            "at {len}"
-        );
+        let front = bytes.get(..len).expect(&rt, "a front of the bytes");
+        let read = RtpHeader::parse(rt.alloc(), front, &levels_of_id_3());
+        holds(&rt, len, read.expect(&rt, "memory").is_none());
     }
-    Ok(())
 }
 
 #[test]
-fn no_block(rt: HostRuntime) -> Result<(), Fail> {
-    let map = one(3, Extension::AudioLevel);
+fn no_block(rt: HostRuntime) {
+    let plain = || without_block(ExtensionValues::default(), 12);
+    let text = "8021b798000027100000002c";
     let header = without_block(level(-42, false), 16);
-    let image = without_block(ExtensionValues::default(), 12);
-    let bytes = [128, 33, 183, 152, 0, 0, 39, 16, 0, 0, 0, 44];
-    check(&rt, rt.alloc(), &map, &header, &bytes, &image)?;
+    check_text(&rt, rt.alloc(), levels_of_id_3(), header, text, plain());
     // A plain header is read as itself under any map.
     for map in [ExtensionMap::empty(), ExtensionMap::standard()] {
-        check(&rt, rt.alloc(), &map, &image, &bytes, &image)?;
+        check_text(&rt, rt.alloc(), map, plain(), text, plain());
     }
-    let mut header = RtpHeader::default();
-    header.has_extension = false;
-    header.header_len = 12;
-    let bytes = [128, 1, 0, 0, 0, 0, 0, 0, 0, 0, 0, 0];
+}
+
+// The default header without a block.
+fn shortest() -> RtpHeader {
+    RtpHeader {
+        has_extension: false,
+        header_len: 12,
+        ..RtpHeader::default()
+    }
+}
+
+#[test]
+fn shortest_header(rt: HostRuntime) {
     let map = ExtensionMap::empty();
-    check(&rt, rt.alloc(), &map, &header, &bytes, &header)
+    let text = "800100000000000000000000";
+    check_text(&rt, rt.alloc(), map, shortest(), text, shortest());
 }
 
 // A header that holds a number of its own in each field.
@@ -196,21 +235,14 @@ fn varied(version: u8, csrc: [u32; 15], header_len: usize) -> RtpHeader {
 }
 
 #[test]
-fn every_field(rt: HostRuntime) -> Result<(), Fail> {
+fn every_field(rt: HostRuntime) {
     let text = "b1edfedc89abcdef012345670badcafebede0001108f0000";
-    let bytes = hex::decode(rt.alloc(), text)?;
     let mut csrc = [1; 15];
     csrc[0] = 0x0BAD_CAFE;
     let header = varied(1, csrc, 4000);
     let mut csrc = [0; 15];
     csrc[0] = 0x0BAD_CAFE;
     let image = varied(2, csrc, 24);
-    check(
-        &rt,
-        rt.alloc(),
-        &ExtensionMap::standard(),
-        &header,
-        &bytes,
-        &image,
-    )
+    let map = ExtensionMap::standard();
+    check_text(&rt, rt.alloc(), map, header, text, image);
 }

@@ -1,69 +1,100 @@
 //! Rows of single kinds of header extension.
 
-use crate::values::{is_absent, is_refused, is_written, nines, read};
+use crate::checks::{holds, same};
+use crate::fixtures::level;
+use crate::values::{has_data, has_no_data, is_read_into, is_refused, nines, read};
 use rtp_base::{MediaTime, Mid, Rid};
 use rtp_wire::{AbsCaptureTime, Extension, ExtensionValues, VideoOrientation};
-use std::test::Fail;
+use std::alloc::Global;
+use std::process::Abort;
+
+// A level, whether there is voice, the byte, and the level that is read again.
+const LEVELS: [(i8, bool, u8, i8); 7] = [
+    (-43, true, 0xAB, -43),
+    (0, true, 0x80, 0),
+    (-127, false, 0x7F, -127),
+    (-128, false, 0x00, 0),
+    (-128, true, 0x80, 0),
+    (5, false, 0x05, -5),
+    (127, true, 0xFF, -127),
+];
 
 #[test]
-fn levels(rt: HostRuntime) -> Result<(), Fail> {
+fn levels(rt: HostRuntime) {
     let kind = Extension::AudioLevel;
-    // A level, whether there is voice, the byte, and the level that is read again.
-    let rows = [
-        (-43, true, 0xAB, -43),
-        (0, true, 0x80, 0),
-        (-127, false, 0x7F, -127),
-        (-128, false, 0x00, 0),
-        (-128, true, 0x80, 0),
-        (5, false, 0x05, -5),
-        (127, true, 0xFF, -127),
-    ];
-    for (level, voice, byte, again) in rows {
-        let mut values = ExtensionValues::default();
-        values.audio_level = Some(level);
-        assert!(rt; is_absent(&kind, &values), "{level}");
-        values.voice_activity = Some(voice);
-        assert!(rt; is_written(&kind, &values, &[byte]), "{level}");
-        assert_eq!(rt;
-            kind.parse_value(rt.alloc(), &[byte], &mut values)?,
-            Some(())
-        );
-        assert_eq!(rt; values.audio_level, Some(again));
-        assert_eq!(rt; values.voice_activity, Some(voice));
+    for (audio_level, voice, byte, again) in LEVELS {
+        let mut values = level(audio_level, voice);
+        has_data(&rt, &kind, &values, &[byte]);
+        let is_read = is_read_into(&rt, rt.alloc(), &kind, &[byte], &mut values);
+        holds(&rt, audio_level, is_read);
+        same(&rt, audio_level, values.audio_level, Some(again));
+        same(&rt, audio_level, values.voice_activity, Some(voice));
     }
-    for level in -127..=0i8 {
-        for voice in [false, true] {
-            let mut values = ExtensionValues::default();
-            values.audio_level = Some(level);
-            values.voice_activity = Some(voice);
-            let mut buf = nines();
-            assert_eq!(rt; kind.write_to(&mut buf, &values), Some(1));
-            let read = read(rt.alloc(), &kind, &buf)?;
-            assert!(rt; read == Some(values), "{level}");
-        }
-    }
-    Ok(())
 }
 
 #[test]
-fn send_times(rt: HostRuntime) -> Result<(), Fail> {
-    let kind = Extension::AbsoluteSendTime;
+fn levels_without_voice_activity(rt: HostRuntime) {
+    for (audio_level, ..) in LEVELS {
+        let values = ExtensionValues {
+            audio_level: Some(audio_level),
+            ..ExtensionValues::default()
+        };
+        has_no_data(&rt, &Extension::AudioLevel, &values);
+    }
+}
+
+// What is written of the values into a buffer of nines is of so many bytes, and the whole buffer is
+// read as them.
+fn is_read_back(
+    rt: &impl Abort,
+    alloc: Global,
+    kind: &Extension,
+    values: ExtensionValues,
+    len: usize,
+) {
+    let mut buf = nines();
+    assert_eq!(rt; kind.write_to(&mut buf, &values), Some(len));
+    assert!(rt; read(rt, alloc, kind, &buf) == values, "{buf:?}");
+}
+
+#[test]
+fn each_level(rt: HostRuntime) {
+    for audio_level in -127..=0i8 {
+        for voice in [false, true] {
+            let values = level(audio_level, voice);
+            is_read_back(&rt, rt.alloc(), &Extension::AudioLevel, values, 1);
+        }
+    }
+}
+
+// The values of this send time.
+fn sent(micros: u64) -> ExtensionValues {
+    ExtensionValues {
+        abs_send_time: Some(micros),
+        ..ExtensionValues::default()
+    }
+}
+
+#[test]
+fn send_times_read(rt: HostRuntime) {
     // Ticks of 2^-18 seconds, and the microseconds that they are read as.
-    let read_rows: [(&[u8; 3], u64); 5] = [
+    let rows: [(&[u8; 3], u64); 5] = [
         (b"\x00\x00\x01", 3),
         (b"\xFE\x20\x6A", 63_531_654),
         (b"\xFE\x86\xD0", 63_631_652),
         (b"\xFF\xFF\xFF", 63_999_996),
         (b"\xA0\x00\x00", 40_000_000),
     ];
-    for (data, micros) in read_rows {
-        let Some(values) = read(rt.alloc(), &kind, data)? else {
-            return Err(Fail::from("the row can't be read"));
-        };
-        assert_eq!(rt; values.abs_send_time, Some(micros));
+    for (data, micros) in rows {
+        let values = read(&rt, rt.alloc(), &Extension::AbsoluteSendTime, data);
+        same(&rt, micros, values.abs_send_time, Some(micros));
     }
+}
+
+#[test]
+fn send_times_written(rt: HostRuntime) {
     // Microseconds, and the ticks that they are written as.
-    let written_rows: [(u64, &[u8; 3]); 5] = [
+    let rows: [(u64, &[u8; 3]); 5] = [
         (3, b"\x00\x00\x00"),
         (4, b"\x00\x00\x01"),
         (1_000_000_000, b"\xA0\x00\x00"),
@@ -72,16 +103,24 @@ fn send_times(rt: HostRuntime) -> Result<(), Fail> {
         // 144602 ticks.
         (18446744073709551615, b"\xB6\x34\xDA"),
     ];
-    for (micros, data) in written_rows {
-        let mut values = ExtensionValues::default();
-        values.abs_send_time = Some(micros);
-        assert!(rt; is_written(&kind, &values, data), "{micros}");
+    for (micros, data) in rows {
+        has_data(&rt, &Extension::AbsoluteSendTime, &sent(micros), data);
     }
-    Ok(())
+}
+
+// The values of the capture time of the rows, with this offset.
+fn captured(clock_offset: Option<i64>) -> ExtensionValues {
+    ExtensionValues {
+        abs_capture_time: Some(AbsCaptureTime {
+            capture_time: 0x0102030405060708,
+            clock_offset,
+        }),
+        ..ExtensionValues::default()
+    }
 }
 
 #[test]
-fn capture_times(rt: HostRuntime) -> Result<(), Fail> {
+fn capture_times(rt: HostRuntime) {
     let kind = Extension::AbsoluteCaptureTime;
     let data = b"\x01\x02\x03\x04\x05\x06\x07\x08\xFF\xFF\xFF\xFF\xFF\xFF\xFF\xFF\x00";
     // How many of these bytes are there, how many are written again, and the clock offset.
@@ -91,36 +130,34 @@ fn capture_times(rt: HostRuntime) -> Result<(), Fail> {
         (16, 16, Some(-1)),
         (17, 16, Some(-1)),
     ] {
-        let Some(values) = read(rt.alloc(), &kind, data.get(..len).unwrap_or(b""))? else {
-            return Err(Fail::from("the row can't be read"));
-        };
-        assert!(rt;
-            values.abs_capture_time
-                == Some(AbsCaptureTime {
-                    capture_time: 0x0102030405060708,
-                    clock_offset
-                }),
-            "{len}"
-        );
-        assert!(rt;
-            is_written(&kind, &values, data.get(..written).unwrap_or(b"")),
-            "{len}"
-        );
+        let values = read(&rt, rt.alloc(), &kind, data.get(..len).unwrap_or(b""));
+        has_data(&rt, &kind, &values, data.get(..written).unwrap_or(b""));
+        holds(&rt, len, values == captured(clock_offset));
     }
-    let mut values = ExtensionValues::default();
-    values.abs_capture_time = Some(AbsCaptureTime {
-        capture_time: 0x0102030405060708,
-        clock_offset: Some(-987654321),
-    });
-    let mut buf = nines();
-    assert_eq!(rt; kind.write_to(&mut buf, &values), Some(16));
-    assert!(rt; read(rt.alloc(), &kind, &buf)? == Some(values));
-    Ok(())
 }
 
 #[test]
-fn orientations(rt: HostRuntime) -> Result<(), Fail> {
+fn capture_time_with_an_offset(rt: HostRuntime) {
+    let values = captured(Some(-987654321));
+    is_read_back(&rt, rt.alloc(), &Extension::AbsoluteCaptureTime, values, 16);
+}
+
+// The byte is read as the orientation, whose own byte is the number.
+fn is_orientation(
+    rt: &impl Abort,
+    alloc: Global,
+    byte: u8,
+    number: u8,
+    orientation: VideoOrientation,
+) {
     let kind = Extension::VideoOrientation;
+    let values = read(rt, alloc, &kind, &[byte]);
+    assert!(rt; values.video_orientation == Some(orientation), "{byte}");
+    has_data(rt, &kind, &values, &[number]);
+}
+
+#[test]
+fn orientations(rt: HostRuntime) {
     // The number of an orientation, and a byte with the same low bits.
     let rows = [
         (0, 0xFC, VideoOrientation::Deg0),
@@ -128,23 +165,24 @@ fn orientations(rt: HostRuntime) -> Result<(), Fail> {
         (2, 0xFE, VideoOrientation::Deg180),
         (3, 0xFF, VideoOrientation::Deg90),
     ];
-    for (number, same, orientation) in rows {
-        assert!(rt; VideoOrientation::from(number) == orientation, "{number}");
-        for byte in [number, same] {
-            let Some(values) = read(rt.alloc(), &kind, &[byte])? else {
-                return Err(Fail::from("the row can't be read"));
-            };
-            assert!(rt; values.video_orientation == Some(orientation), "{byte}");
-            assert!(rt; is_written(&kind, &values, &[number]), "{byte}");
-        }
+    for (number, byte, orientation) in rows {
+        holds(&rt, number, VideoOrientation::from(number) == orientation);
+        is_orientation(&rt, rt.alloc(), number, number, orientation);
+        is_orientation(&rt, rt.alloc(), byte, number, orientation);
     }
     for number in 4..=255u8 {
-        assert!(rt;
-            VideoOrientation::from(number) == VideoOrientation::Deg0,
-            "{number}"
-        );
+        let orientation = VideoOrientation::from(number);
+        holds(&rt, number, orientation == VideoOrientation::Deg0);
     }
-    Ok(())
+}
+
+// The values of these delays.
+fn delayed(min: MediaTime, max: Option<MediaTime>) -> ExtensionValues {
+    ExtensionValues {
+        play_delay_min: Some(min),
+        play_delay_max: max,
+        ..ExtensionValues::default()
+    }
 }
 
 #[test]
@@ -172,16 +210,30 @@ fn delays(rt: HostRuntime) {
         ),
     ];
     for (min, max, data) in rows {
-        let mut values = ExtensionValues::default();
-        values.play_delay_min = Some(min);
-        assert!(rt; is_absent(&kind, &values));
-        values.play_delay_max = Some(max);
-        assert!(rt; is_written(&kind, &values, data), "{min:?}");
+        has_no_data(&rt, &kind, &delayed(min, None));
+        has_data(&rt, &kind, &delayed(min, Some(max)), data);
     }
 }
 
+// The data are read as this mid, whose text is written again.
+fn is_mid(rt: &impl Abort, alloc: Global, data: &[u8], text: &str) {
+    let kind = Extension::RtpMid;
+    let values = read(rt, alloc, &kind, data);
+    assert!(rt; values.mid == Some(Mid::from(text)), "{text}");
+    has_data(rt, &kind, &values, text.as_bytes());
+}
+
+// The data are read as this id of a repaired stream, whose text is written again.
+fn is_repaired_rid(rt: &impl Abort, alloc: Global, data: &[u8], text: &str) {
+    let kind = Extension::RepairedRtpStreamId;
+    let values = read(rt, alloc, &kind, data);
+    assert!(rt; values.rid_repair == Some(Rid::from(text)), "{text}");
+    assert!(rt; values.rid.is_none(), "{text}");
+    has_data(rt, &kind, &values, text.as_bytes());
+}
+
 #[test]
-fn texts(rt: HostRuntime) -> Result<(), Fail> {
+fn texts(rt: HostRuntime) {
     // Data, and the texts of the mid and of the stream id that they are read as.
     let rows: [(&[u8], &str, &str); 5] = [
         (b"", "", ""),
@@ -191,32 +243,21 @@ fn texts(rt: HostRuntime) -> Result<(), Fail> {
         (b"a b", "a_b", "a_b"),
     ];
     for (data, mid, rid) in rows {
-        let Some(values) = read(rt.alloc(), &Extension::RtpMid, data)? else {
-            return Err(Fail::from("the row can't be read"));
-        };
-        assert_eq!(rt; values.mid, Some(Mid::from(mid)));
-        assert!(rt;
-            is_written(&Extension::RtpMid, &values, mid.as_bytes()),
-            "{mid}"
-        );
-        let Some(values) = read(rt.alloc(), &Extension::RepairedRtpStreamId, data)? else {
-            return Err(Fail::from("the row can't be read"));
-        };
-        assert_eq!(rt; values.rid_repair, Some(Rid::from(rid)));
-        assert!(rt; values.rid.is_none());
-        assert!(rt;
-            is_written(&Extension::RepairedRtpStreamId, &values, rid.as_bytes()),
-            "{rid}"
-        );
+        is_mid(&rt, rt.alloc(), data, mid);
+        is_repaired_rid(&rt, rt.alloc(), data, rid);
     }
-    for kind in [
-        Extension::RtpMid,
-        Extension::RtpStreamId,
-        Extension::RepairedRtpStreamId,
-    ] {
-        for data in [&b"\xFF"[..], b"a\xC3", b"0123456789abcdefg\xFF"] {
-            assert!(rt; is_refused(rt.alloc(), &kind, data)?, "{kind}");
-        }
+}
+
+// The kind refuses texts that aren't UTF-8.
+fn is_utf8(rt: &impl Abort, alloc: Global, kind: Extension) {
+    for data in [&b"\xFF"[..], b"a\xC3", b"0123456789abcdefg\xFF"] {
+        is_refused(rt, alloc, &kind, data);
     }
-    Ok(())
+}
+
+#[test]
+fn other_texts(rt: HostRuntime) {
+    is_utf8(&rt, rt.alloc(), Extension::RtpMid);
+    is_utf8(&rt, rt.alloc(), Extension::RtpStreamId);
+    is_utf8(&rt, rt.alloc(), Extension::RepairedRtpStreamId);
 }

@@ -1,6 +1,8 @@
 //! LEB128 numbers of up to 63 bits.
 
+use crate::checks::same;
 use rtp_wire::vla::{encode_leb_u63, parse_leb_u63};
+use std::process::Abort;
 
 #[test]
 fn numbers_read(rt: HostRuntime) {
@@ -24,20 +26,28 @@ fn numbers_read(rt: HostRuntime) {
     ];
     for (bytes, value, left) in &rows {
         let (found, rest) = parse_leb_u63(bytes);
-        assert_eq!(rt; found, *value);
-        assert_eq!(rt; rest.len(), *left);
+        same(&rt, *value, found, *value);
+        same(&rt, *value, rest.len(), *left);
     }
+}
+
+// The number is written as these bytes, and those behind them stay as they were.
+fn is_written(rt: &impl Abort, number: u64, bytes: &[u8]) {
+    assert!(rt; number <= 9223372036854775807, "{number} takes 64 bits");
+    let mut buf = [7; 9];
+    assert!(rt; encode_leb_u63(number, &mut buf) == bytes.len(), "{number}");
+    assert!(rt; buf.starts_with(bytes), "{number}");
+    assert!(rt;
+        buf.iter().skip(bytes.len()).all(|byte| *byte == 7),
+        "{number}"
+    );
 }
 
 #[test]
 fn numbers_written(rt: HostRuntime) {
-    let mut buf = [7; 9];
-    assert_eq!(rt; encode_leb_u63(0, &mut buf), 1);
-    assert!(rt; buf[..2] == [0, 7]);
-    assert_eq!(rt; encode_leb_u63(127, &mut buf), 1);
-    assert!(rt; buf[..2] == [127, 7]);
-    assert_eq!(rt; encode_leb_u63(300, &mut buf), 2);
-    assert!(rt; buf[..3] == [0xAC, 0x02, 7]);
-    assert_eq!(rt; encode_leb_u63(9223372036854775807, &mut buf), 9);
-    assert!(rt; buf == [255, 255, 255, 255, 255, 255, 255, 255, 127]);
+    is_written(&rt, 0, &[0]);
+    is_written(&rt, 127, &[127]);
+    is_written(&rt, 300, &[0xAC, 0x02]);
+    let most = [255, 255, 255, 255, 255, 255, 255, 255, 127];
+    is_written(&rt, 9223372036854775807, &most);
 }

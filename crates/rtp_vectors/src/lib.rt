@@ -10,6 +10,8 @@ mod allocations_in_headers;
 #[cfg(test)]
 mod blocks;
 #[cfg(test)]
+mod checks;
+#[cfg(test)]
 mod directions;
 #[cfg(test)]
 mod elements;

@@ -1,8 +1,10 @@
 //! Maps of extension ids, and what renegotiations make of them.
 
+use crate::checks::{holds, is_map, is_text, named, same};
 use crate::fixtures::{one, two};
 use rtp_wire::{Extension, ExtensionMap, IterByMediaType, MAX_ID, MAX_ID_ONE_BYTE_FORM};
-use std::alloc::{AllocError, Global};
+use std::alloc::Global;
+use std::process::Abort;
 
 // The map with one more entry.
 fn with(mut map: ExtensionMap, id: u8, ext: Extension) -> ExtensionMap {
@@ -10,9 +12,19 @@ fn with(mut map: ExtensionMap, id: u8, ext: Extension) -> ExtensionMap {
     map
 }
 
-// The text that a map is shown as.
-fn text_of(alloc: Global, map: &ExtensionMap) -> Result<String, AllocError> {
-    format!(in alloc; "{map:?}")
+// The map is shown as this text.
+fn is_shown(rt: &impl Abort, alloc: Global, map: &ExtensionMap, text: &str) {
+    is_text(rt, format!(in alloc; "{map:?}"), text);
+}
+
+// The id has this kind in the map.
+fn has(rt: &impl Abort, map: &ExtensionMap, id: u8, kind: Extension) {
+    assert!(rt; map.lookup(id) == Some(&kind), "at {id}");
+}
+
+// A copy of the map.
+fn copy_of(rt: &impl Abort, alloc: Global, map: &ExtensionMap) -> ExtensionMap {
+    map.clone(alloc).expect(rt, "memory")
 }
 
 const STANDARD: &str =
@@ -21,50 +33,55 @@ const STANDARD: &str =
 
 #[test]
 fn ranges(rt: HostRuntime) {
-    assert_eq!(rt; MAX_ID_ONE_BYTE_FORM, 14);
-    assert_eq!(rt; MAX_ID, 16);
+    same(&rt, "the one-byte form", MAX_ID_ONE_BYTE_FORM, 14);
+    same(&rt, "the greatest", MAX_ID, 16);
 }
 
 #[test]
-fn entries(rt: HostRuntime) -> Result<(), AllocError> {
+fn entries(rt: HostRuntime) {
     let mut map = ExtensionMap::empty();
-    assert_eq!(rt; text_of(rt.alloc(), &map)?.as_str(), "Extensions()");
+    is_shown(&rt, rt.alloc(), &map, "Extensions()");
     map.set(1, Extension::AudioLevel);
     map.set(4, Extension::RtpMid);
-    assert_eq!(rt;
-        text_of(rt.alloc(), &map)?.as_str(),
-        "Extensions(1=ssrc-audio-level, 4=mid)"
-    );
+    let text = "Extensions(1=ssrc-audio-level, 4=mid)";
+    is_shown(&rt, rt.alloc(), &map, text);
     map.set(16, Extension::RtpMid);
-    assert_eq!(rt;
-        text_of(rt.alloc(), &map)?.as_str(),
-        "Extensions(1=ssrc-audio-level, 4=mid, 16=mid)"
-    );
-    Ok(())
+    let text = "Extensions(1=ssrc-audio-level, 4=mid, 16=mid)";
+    is_shown(&rt, rt.alloc(), &map, text);
 }
 
 #[test]
 fn look_ups(rt: HostRuntime) {
-    let mut map = with(one(4, Extension::RtpMid), 16, Extension::RtpMid);
-    assert!(rt; map.lookup(4) == Some(&Extension::RtpMid));
-    assert!(rt; map.lookup(16) == Some(&Extension::RtpMid));
+    let map = with(one(4, Extension::RtpMid), 16, Extension::RtpMid);
+    has(&rt, &map, 4, Extension::RtpMid);
+    has(&rt, &map, 16, Extension::RtpMid);
     for id in [0, 2, 3, 15, 17, 255] {
-        assert!(rt; map.lookup(id).is_none(), "{id}");
+        holds(&rt, id, map.lookup(id).is_none());
     }
-    assert_eq!(rt; map.id_of(Extension::RtpMid), Some(4));
-    assert_eq!(rt; map.id_of(Extension::ColorSpace), None);
+}
+
+#[test]
+fn ids_of_kinds(rt: HostRuntime) {
+    let mut map = with(one(4, Extension::RtpMid), 16, Extension::RtpMid);
+    same(&rt, "mid", map.id_of(Extension::RtpMid), Some(4));
+    same(&rt, "color space", map.id_of(Extension::ColorSpace), None);
     map.set(4, Extension::ColorSpace);
-    assert_eq!(rt; map.id_of(Extension::RtpMid), Some(16));
-    assert_eq!(rt; map.id_of(Extension::ColorSpace), Some(4));
+    same(&rt, "mid", map.id_of(Extension::RtpMid), Some(16));
+    same(
+        &rt,
+        "color space",
+        map.id_of(Extension::ColorSpace),
+        Some(4),
+    );
 }
 
 #[test]
 fn cleared(rt: HostRuntime) {
     let mut map = one(4, Extension::RtpMid);
-    assert!(rt; !map.is_empty());
+    holds(&rt, "an entry", !map.is_empty());
     map.clear();
-    assert!(rt; map.is_empty());
-    assert!(rt; map == ExtensionMap::empty());
+    holds(&rt, "no entry", map.is_empty());
+    is_map(&rt, &map, ExtensionMap::empty());
 }
 
 #[test]
@@ -72,162 +89,142 @@ fn ids_out_of_range(rt: HostRuntime) {
     let mut map = ExtensionMap::standard();
     for id in [0, 17, 255] {
         map.set(id, Extension::ColorSpace);
-        assert!(rt; map == ExtensionMap::standard(), "{id}");
+        is_map(&rt, &map, ExtensionMap::standard());
     }
 }
 
 #[test]
-fn standard(rt: HostRuntime) -> Result<(), AllocError> {
-    assert_eq!(rt;
-        text_of(rt.alloc(), &ExtensionMap::standard())?.as_str(),
-        STANDARD
-    );
-    Ok(())
+fn standard(rt: HostRuntime) {
+    is_shown(&rt, rt.alloc(), &ExtensionMap::standard(), STANDARD);
+}
+
+// Whether the map has no entry is as it says.
+fn is_empty(rt: &impl Abort, map: ExtensionMap, wanted: bool) {
+    assert!(rt; map.is_empty() == wanted, "{map:?}");
 }
 
 #[test]
 fn emptiness(rt: HostRuntime) {
-    assert!(rt; ExtensionMap::empty().is_empty());
-    assert!(rt; !ExtensionMap::standard().is_empty());
-    assert!(rt; !one(1, Extension::RtpMid).is_empty());
-    assert!(rt; !one(16, Extension::RtpMid).is_empty());
+    is_empty(&rt, ExtensionMap::empty(), true);
+    is_empty(&rt, ExtensionMap::standard(), false);
+    is_empty(&rt, one(1, Extension::RtpMid), false);
+    is_empty(&rt, one(16, Extension::RtpMid), false);
 }
 
-// The ids of some entries, in the order in which they come.
-fn ids_of(alloc: Global, entries: IterByMediaType<'_>) -> Result<Vec<u8>, AllocError> {
-    entries.map(|(id, _)| id).collect(alloc)
+// The entries have these ids, in this order.
+fn have_ids(rt: &impl Abort, alloc: Global, entries: IterByMediaType<'_>, wanted: &[u8]) {
+    let ids = entries.map(|(id, _)| id).collect::<Vec<_>>(alloc);
+    assert_eq!(rt; ids.expect(rt, "memory").as_slice(), wanted);
+}
+
+// The entries of audio or of video streams are shown as this text.
+fn has_of_type(rt: &impl Abort, alloc: Global, map: &ExtensionMap, audio: bool, text: &str) {
+    is_shown(rt, alloc, &map.cloned_with_type(audio), text);
 }
 
 #[test]
-fn media(rt: HostRuntime) -> Result<(), AllocError> {
+fn media_of_the_standard(rt: HostRuntime) {
     let standard = ExtensionMap::standard();
-    let audio = standard.cloned_with_type(true);
-    assert_eq!(rt;
-        text_of(rt.alloc(), &audio)?.as_str(),
-        "Extensions(1=ssrc-audio-level, \
-2=abs-send-time, 3=transport-wide-cc, 4=mid, 10=rtp-stream-id, 11=repaired-rtp-stream-id)"
-    );
-    let video = standard.cloned_with_type(false);
-    assert_eq!(rt;
-        text_of(rt.alloc(), &video)?.as_str(),
-        "Extensions(2=abs-send-time, \
-3=transport-wide-cc, 4=mid, 10=rtp-stream-id, 11=repaired-rtp-stream-id, 13=video-orientation)"
-    );
+    let audio = "Extensions(1=ssrc-audio-level, \
+2=abs-send-time, 3=transport-wide-cc, 4=mid, 10=rtp-stream-id, 11=repaired-rtp-stream-id)";
+    has_of_type(&rt, rt.alloc(), &standard, true, audio);
+    let video = "Extensions(2=abs-send-time, \
+3=transport-wide-cc, 4=mid, 10=rtp-stream-id, 11=repaired-rtp-stream-id, 13=video-orientation)";
+    has_of_type(&rt, rt.alloc(), &standard, false, video);
+}
+
+#[test]
+fn media(rt: HostRuntime) {
     let mut map = two(3, Extension::ColorSpace, 9, Extension::AudioLevel);
-    map.set(5, Extension::from_sdp_uri(rt.alloc(), "urn:x")?);
-    assert_eq!(rt;
-        ids_of(rt.alloc(), map.iter_audio())?.as_slice(),
-        [9].as_slice()
-    );
-    assert_eq!(rt;
-        ids_of(rt.alloc(), map.iter_video())?.as_slice(),
-        [3].as_slice()
-    );
-    assert!(rt; map.cloned_with_type(true) == one(9, Extension::AudioLevel));
-    Ok(())
+    map.set(5, named(&rt, rt.alloc(), "urn:x"));
+    have_ids(&rt, rt.alloc(), map.iter_audio(), &[9]);
+    have_ids(&rt, rt.alloc(), map.iter_video(), &[3]);
+    let audio = map.cloned_with_type(true);
+    is_map(&rt, &audio, one(9, Extension::AudioLevel));
+}
+
+// The entry is the mid at id 16.
+fn is_the_mid(rt: &impl Abort, entry: Option<(u8, &Extension)>) {
+    assert!(rt; entry == Some((16, &Extension::RtpMid)));
 }
 
 #[test]
 fn iterators_end(rt: HostRuntime) {
     let map = one(16, Extension::RtpMid);
     let mut all = map.iter();
-    assert!(rt; all.next() == Some((16, &Extension::RtpMid)));
-    assert!(rt; all.next().is_none());
-    assert!(rt; all.next().is_none());
+    is_the_mid(&rt, all.next());
+    holds(&rt, "the end", all.next().is_none());
+    holds(&rt, "behind the end", all.next().is_none());
     let mut audio = map.iter_by_media_type(true);
-    assert!(rt; audio.next() == Some((16, &Extension::RtpMid)));
-    assert!(rt; audio.next().is_none());
-    assert!(rt; audio.next().is_none());
+    is_the_mid(&rt, audio.next());
+    holds(&rt, "the end of audio", audio.next().is_none());
+    holds(&rt, "behind the end of audio", audio.next().is_none());
+}
+
+// Asks for one id, and for two.
+fn ask(map: &mut ExtensionMap, id: u8, kind: Extension) {
+    map.remap(&[(id, &kind)]);
+}
+
+fn ask_both(map: &mut ExtensionMap, id: u8, kind: Extension, next_id: u8, next: Extension) {
+    map.remap(&[(id, &kind), (next_id, &next)]);
 }
 
 #[test]
-fn remapped_to_a_free_id(rt: HostRuntime) -> Result<(), AllocError> {
+fn remapped_to_a_free_id(rt: HostRuntime) {
     let mut map = ExtensionMap::standard();
-    map.remap(&[(14, &Extension::TransportSequenceNumber)]);
-    let audio = ids_of(rt.alloc(), map.iter_audio())?;
-    assert_eq!(rt; audio.as_slice(), [1, 2, 4, 10, 11, 14].as_slice());
-    let video = ids_of(rt.alloc(), map.iter_video())?;
-    assert_eq!(rt; video.as_slice(), [2, 4, 10, 11, 13, 14].as_slice());
-    assert!(rt; map.lookup(14) == Some(&Extension::TransportSequenceNumber));
-    assert!(rt; map.lookup(3).is_none());
-    assert!(rt; map.lookup(13) == Some(&Extension::VideoOrientation));
-    Ok(())
+    ask(&mut map, 14, Extension::TransportSequenceNumber);
+    have_ids(&rt, rt.alloc(), map.iter_audio(), &[1, 2, 4, 10, 11, 14]);
+    have_ids(&rt, rt.alloc(), map.iter_video(), &[2, 4, 10, 11, 13, 14]);
+    has(&rt, &map, 14, Extension::TransportSequenceNumber);
+    holds(&rt, "the old id", map.lookup(3).is_none());
+    has(&rt, &map, 13, Extension::VideoOrientation);
 }
 
 #[test]
-fn remapped_crosswise(rt: HostRuntime) -> Result<(), AllocError> {
-    let mut map = two(
-        12,
-        Extension::TransportSequenceNumber,
-        14,
-        Extension::VideoOrientation,
-    );
-    map.remap(&[
-        (12, &Extension::VideoOrientation),
-        (14, &Extension::TransportSequenceNumber),
-    ]);
+fn remapped_crosswise(rt: HostRuntime) {
+    use Extension::{AudioLevel, TransportSequenceNumber, VideoOrientation};
+    let mut map = two(12, TransportSequenceNumber, 14, VideoOrientation);
+    ask_both(&mut map, 12, VideoOrientation, 14, TransportSequenceNumber);
     let text = "Extensions(12=video-orientation, 14=transport-wide-cc)";
-    assert_eq!(rt; text_of(rt.alloc(), &map)?.as_str(), text);
-    let before = map.clone(rt.alloc())?;
-    map.remap(&[
-        (1, &Extension::TransportSequenceNumber),
-        (12, &Extension::AudioLevel),
-    ]);
-    assert!(rt; map == before);
-    Ok(())
+    is_shown(&rt, rt.alloc(), &map, text);
+    let before = copy_of(&rt, rt.alloc(), &map);
+    ask_both(&mut map, 1, TransportSequenceNumber, 12, AudioLevel);
+    is_map(&rt, &map, before);
 }
 
 #[test]
-fn remapped_into_a_space(rt: HostRuntime) -> Result<(), AllocError> {
-    let mut map = with(
-        two(
-            3,
-            Extension::TransportSequenceNumber,
-            4,
-            Extension::VideoOrientation,
-        ),
-        5,
-        Extension::VideoContentType,
-    );
-    map.remap(&[
-        (12, &Extension::VideoOrientation),
-        (14, &Extension::TransportSequenceNumber),
-    ]);
+fn remapped_into_a_space(rt: HostRuntime) {
+    use Extension::{TransportSequenceNumber, VideoContentType, VideoOrientation};
+    let map = two(3, TransportSequenceNumber, 4, VideoOrientation);
+    let mut map = with(map, 5, VideoContentType);
+    ask_both(&mut map, 12, VideoOrientation, 14, TransportSequenceNumber);
     let text = "Extensions(5=video-content-type, 12=video-orientation, 14=transport-wide-cc)";
-    assert_eq!(rt; text_of(rt.alloc(), &map)?.as_str(), text);
-    let before = map.clone(rt.alloc())?;
-    map.remap(&[(1, &Extension::TransportSequenceNumber)]);
-    assert!(rt; map == before);
-    Ok(())
+    is_shown(&rt, rt.alloc(), &map, text);
+    let before = copy_of(&rt, rt.alloc(), &map);
+    ask(&mut map, 1, TransportSequenceNumber);
+    is_map(&rt, &map, before);
 }
 
 #[test]
-fn what_stood_in_the_way_moves(rt: HostRuntime) -> Result<(), AllocError> {
+fn what_stood_in_the_way_moves(rt: HostRuntime) {
     let mut map = two(1, Extension::AudioLevel, 2, Extension::RtpMid);
-    map.remap(&[(2, &Extension::AudioLevel)]);
-    assert_eq!(rt;
-        text_of(rt.alloc(), &map)?.as_str(),
-        "Extensions(1=mid, 2=ssrc-audio-level)"
-    );
+    ask(&mut map, 2, Extension::AudioLevel);
+    let text = "Extensions(1=mid, 2=ssrc-audio-level)";
+    is_shown(&rt, rt.alloc(), &map, text);
     // The one that gave way isn't locked, and may move on.
-    map.remap(&[(7, &Extension::RtpMid)]);
-    assert_eq!(rt;
-        text_of(rt.alloc(), &map)?.as_str(),
-        "Extensions(2=ssrc-audio-level, 7=mid)"
-    );
+    ask(&mut map, 7, Extension::RtpMid);
+    let text = "Extensions(2=ssrc-audio-level, 7=mid)";
+    is_shown(&rt, rt.alloc(), &map, text);
     // A locked one gives way too, and stays locked.
-    map.remap(&[(3, &Extension::AudioLevel)]);
-    assert_eq!(rt;
-        text_of(rt.alloc(), &map)?.as_str(),
-        "Extensions(2=ssrc-audio-level, 7=mid)"
-    );
+    ask(&mut map, 3, Extension::AudioLevel);
+    is_shown(&rt, rt.alloc(), &map, text);
     map.set(4, Extension::ColorSpace);
-    map.remap(&[(7, &Extension::ColorSpace)]);
+    ask(&mut map, 7, Extension::ColorSpace);
     let text = "Extensions(2=ssrc-audio-level, 4=mid, 7=color-space)";
-    assert_eq!(rt; text_of(rt.alloc(), &map)?.as_str(), text);
-    map.remap(&[(9, &Extension::RtpMid)]);
-    assert_eq!(rt; text_of(rt.alloc(), &map)?.as_str(), text);
-    Ok(())
+    is_shown(&rt, rt.alloc(), &map, text);
+    ask(&mut map, 9, Extension::RtpMid);
+    is_shown(&rt, rt.alloc(), &map, text);
 }
 
 #[test]
@@ -238,55 +235,74 @@ fn steps_that_change_nothing(rt: HostRuntime) {
         (17, &Extension::AudioLevel),
         (5, &Extension::ColorSpace),
     ]);
-    assert!(rt; map == ExtensionMap::standard());
+    is_map(&rt, &map, ExtensionMap::standard());
     map.remap(&[]);
-    assert!(rt; map == ExtensionMap::standard());
+    is_map(&rt, &map, ExtensionMap::standard());
+}
+
+// The map of id 1 to the level, locked or not.
+fn level_of_id_1(locked: bool) -> ExtensionMap {
+    let mut map = one(1, Extension::AudioLevel);
+    if locked {
+        ask(&mut map, 1, Extension::AudioLevel);
+    }
+    map
 }
 
 #[test]
-fn locks_count(rt: HostRuntime) -> Result<(), AllocError> {
-    let free = one(1, Extension::AudioLevel);
-    let mut locked = one(1, Extension::AudioLevel);
-    locked.remap(&[(1, &Extension::AudioLevel)]);
-    assert!(rt; locked != free);
-    assert!(rt; locked.clone(rt.alloc())? == locked);
-    assert!(rt; locked.cloned_with_type(true) == free);
+fn locks_count(rt: HostRuntime) {
+    let mut locked = level_of_id_1(true);
+    holds(&rt, "locked", locked != level_of_id_1(false));
+    is_map(&rt, &locked, copy_of(&rt, rt.alloc(), &locked));
+    is_map(&rt, &level_of_id_1(false), locked.cloned_with_type(true));
     locked.set(1, Extension::AudioLevel);
-    assert!(rt; locked == free);
-    Ok(())
+    is_map(&rt, &locked, level_of_id_1(false));
 }
 
 #[test]
-fn copies(rt: HostRuntime) -> Result<(), AllocError> {
+fn copies(rt: HostRuntime) {
     let mut map = ExtensionMap::standard();
-    map.set(9, Extension::from_sdp_uri(rt.alloc(), "urn:x")?);
-    let copy = map.clone(rt.alloc())?;
-    assert!(rt; copy == map);
-    assert!(rt; copy.lookup(9) == Some(&Extension::from_sdp_uri(rt.alloc(), "urn:x")?));
-    assert!(rt; copy != ExtensionMap::standard());
-    assert_eq!(rt;
-        map.id_of(Extension::from_sdp_uri(rt.alloc(), "urn:x")?),
-        Some(9)
-    );
-    assert_eq!(rt;
-        map.id_of(Extension::from_sdp_uri(rt.alloc(), "urn:y")?),
-        None
-    );
-    Ok(())
+    map.set(9, named(&rt, rt.alloc(), "urn:x"));
+    let copy = copy_of(&rt, rt.alloc(), &map);
+    has(&rt, &copy, 9, named(&rt, rt.alloc(), "urn:x"));
+    holds(&rt, "another", copy != ExtensionMap::standard());
+    is_map(&rt, &map, copy);
 }
 
 #[test]
-fn sixteen_texts_of_their_own(rt: HostRuntime) -> Result<(), AllocError> {
+fn ids_of_unknown_kinds(rt: HostRuntime) {
+    let mut map = ExtensionMap::standard();
+    map.set(9, named(&rt, rt.alloc(), "urn:x"));
+    let known = named(&rt, rt.alloc(), "urn:x");
+    same(&rt, "urn:x", map.id_of(known), Some(9));
+    let other = named(&rt, rt.alloc(), "urn:y");
+    same(&rt, "urn:y", map.id_of(other), None);
+}
+
+// A URI that ends in the id.
+fn numbered(rt: &impl Abort, alloc: Global, id: u8) -> String {
+    format!(in alloc; "urn:{id}").expect(rt, "memory")
+}
+
+// The id has the kind of that URI in the map.
+fn has_numbered(rt: &impl Abort, alloc: Global, map: &ExtensionMap, id: u8) {
+    let uri = numbered(rt, alloc, id);
+    assert!(rt;
+        map.lookup(id).map(|ext| ext.as_uri()) == Some(uri.as_str()),
+        "at {id}"
+    );
+}
+
+#[test]
+fn sixteen_texts_of_their_own(rt: HostRuntime) {
     let mut map = ExtensionMap::empty();
     for id in 1..=MAX_ID {
-        let uri = format!(in rt.alloc(); "urn:{id}")?;
-        map.set(id, Extension::from_sdp_uri(rt.alloc(), &uri)?);
+        let uri = numbered(&rt, rt.alloc(), id);
+        map.set(id, named(&rt, rt.alloc(), &uri));
     }
-    let copy = map.clone(rt.alloc())?;
-    assert!(rt; copy == map);
+    let copy = copy_of(&rt, rt.alloc(), &map);
+    is_map(&rt, &copy, map);
     for id in 1..=MAX_ID {
-        let uri = format!(in rt.alloc(); "urn:{id}")?;
-        assert_eq!(rt; copy.lookup(id).map(|ext| ext.as_uri()), Some(uri.as_str()));
+        has_numbered(&rt, rt.alloc(), &copy, id);
     }
-    Ok(())
 }

@@ -1,5 +1,6 @@
 //! The receive state of one stream, in one step and in three.
 
+use crate::checks::{holds, same};
 use crate::runs::{RUNS, verdict};
 use rtp_base::SeqNo;
 use rtp_wire::{Receiver, RtpHeader, Verdict};
@@ -26,28 +27,53 @@ fn after(numbers: &[u16]) -> Receiver {
 fn check(rt: &impl Abort, receiver: &Receiver, numbers: &[(u64, bool)]) {
     for (number, wanted) in numbers {
         let number = *number;
-        assert_eq!(rt;
-            receiver.accepts(SeqNo::from(number)),
-            *wanted,
-            "at {number}"
-        );
+        same(rt, number, receiver.accepts(SeqNo::from(number)), *wanted);
     }
+}
+
+// The highest number that was taken is this one.
+fn has_highest(rt: &impl Abort, receiver: &Receiver, wanted: u64) {
+    assert!(rt; receiver.highest() == Some(SeqNo::from(wanted)), "{wanted}");
+}
+
+// The number of a header is estimated as this one.
+fn estimates(rt: &impl Abort, receiver: &Receiver, number: u16, wanted: u64) {
+    same(
+        rt,
+        number,
+        receiver.number_of(&header(number)).get(),
+        wanted,
+    );
+}
+
+// The packet of this number is taken as the other one, or refused, and then the highest is this one.
+fn receives(
+    rt: &impl Abort,
+    receiver: &mut Receiver,
+    number: u16,
+    taken: Option<u64>,
+    highest: u64,
+) {
+    same(
+        rt,
+        number,
+        receiver.receive(&header(number)),
+        verdict(taken),
+    );
+    has_highest(rt, receiver, highest);
 }
 
 #[test]
 fn nothing_is_taken_yet(rt: HostRuntime) {
     let receiver = Receiver::new();
-    assert_eq!(rt; receiver.highest(), None);
+    same(&rt, "the highest", receiver.highest(), None);
     check(
         &rt,
         &receiver,
         &[(0, true), (1, true), (18446744073709551615, true)],
     );
     for number in [0, 40000, 65535] {
-        assert_eq!(rt;
-            receiver.number_of(&header(number)).get(),
-            u64::from(number)
-        );
+        estimates(&rt, &receiver, number, u64::from(number));
     }
 }
 
@@ -55,31 +81,39 @@ fn nothing_is_taken_yet(rt: HostRuntime) {
 fn as_its_documentation_shows(rt: HostRuntime) {
     let mut receiver = Receiver::new();
     for (number, taken) in [(65534, 65534), (65535, 65535), (0, 65536)] {
-        assert_eq!(rt; receiver.receive(&header(number)), verdict(Some(taken)));
-        assert_eq!(rt; receiver.highest(), Some(SeqNo::from(taken)));
+        receives(&rt, &mut receiver, number, Some(taken), taken);
     }
     for number in [65534, 65535, 0] {
-        assert_eq!(rt; receiver.receive(&header(number)), Verdict::Refused);
-        assert_eq!(rt; receiver.highest(), Some(SeqNo::from(65536)));
+        receives(&rt, &mut receiver, number, None, 65536);
     }
 }
 
-// One receiver takes each packet at once, and the other in three steps.
+// One receiver takes the packet at once, and the other in three steps.
+fn takes_both(
+    rt: &impl Abort,
+    at_once: &mut Receiver,
+    in_steps: &mut Receiver,
+    number: u16,
+    taken: Option<u64>,
+) {
+    let header = header(number);
+    same(rt, number, at_once.receive(&header), verdict(taken));
+    let estimated = in_steps.number_of(&header);
+    same(rt, number, in_steps.accepts(estimated), taken.is_some());
+    if let Some(taken) = taken {
+        same(rt, number, estimated.get(), taken);
+        in_steps.record(estimated);
+    }
+    same(rt, number, in_steps.highest(), at_once.highest());
+}
+
 #[test]
 fn three_steps(rt: HostRuntime) {
     for (numbers, taken) in RUNS {
         let mut at_once = Receiver::new();
         let mut in_steps = Receiver::new();
         for (number, taken) in numbers.iter().zip(taken) {
-            let header = header(*number);
-            assert_eq!(rt; at_once.receive(&header), verdict(*taken), "at {number}");
-            let estimated = in_steps.number_of(&header);
-            assert_eq!(rt; in_steps.accepts(estimated), taken.is_some(), "at {number}");
-            if let Some(taken) = taken {
-                assert_eq!(rt; estimated.get(), *taken, "at {number}");
-                in_steps.record(estimated);
-            }
-            assert_eq!(rt; in_steps.highest(), at_once.highest(), "at {number}");
+            takes_both(&rt, &mut at_once, &mut in_steps, *number, *taken);
         }
     }
 }
@@ -88,7 +122,7 @@ fn three_steps(rt: HostRuntime) {
 #[test]
 fn estimated_numbers(rt: HostRuntime) {
     let receiver = after(&[65535, 1, 65535, 0]);
-    assert_eq!(rt; receiver.highest(), Some(SeqNo::from(65537)));
+    has_highest(&rt, &receiver, 65537);
     let rows = [
         (0, 65536),
         (1, 65537),
@@ -99,10 +133,22 @@ fn estimated_numbers(rt: HostRuntime) {
         (32770, 32770),
     ];
     for (number, wanted) in rows {
-        assert_eq!(rt;
-            receiver.number_of(&header(number)).get(),
-            wanted,
-            "at {number}"
+        estimates(&rt, &receiver, number, wanted);
+    }
+}
+
+// Recording a number that is refused changes nothing.
+fn stays_the_same(rt: &impl Abort, receiver: &mut Receiver, before: &Receiver, refused: u64) {
+    check(rt, receiver, &[(refused, false)]);
+    receiver.record(SeqNo::from(refused));
+    has_highest(rt, receiver, 1000);
+    for number in 860..1010 {
+        let number = SeqNo::from(number);
+        same(
+            rt,
+            refused,
+            receiver.accepts(number),
+            before.accepts(number),
         );
     }
 }
@@ -112,21 +158,12 @@ fn what_is_refused_changes_nothing(rt: HostRuntime) {
     let mut receiver = after(&[1000, 873]);
     let before = after(&[1000, 873]);
     for refused in [872, 873, 1000, 871, 0] {
-        check(&rt, &receiver, &[(refused, false)]);
-        receiver.record(SeqNo::from(refused));
-        assert_eq!(rt; receiver.highest(), Some(SeqNo::from(1000)));
-        for number in 860..1010 {
-            let number = SeqNo::from(number);
-            assert_eq!(rt;
-                receiver.accepts(number),
-                before.accepts(number),
-                "at {refused}"
-            );
-        }
+        stays_the_same(&rt, &mut receiver, &before, refused);
     }
     check(&rt, &receiver, &[(874, true), (999, true), (1001, true)]);
     // Neither does a test alone.
-    assert!(rt; receiver.accepts(receiver.number_of(&header(1200))));
-    assert_eq!(rt; receiver.highest(), Some(SeqNo::from(1000)));
-    assert_eq!(rt; receiver.receive(&header(874)), verdict(Some(874)));
+    let estimated = receiver.number_of(&header(1200));
+    holds(&rt, "1200", receiver.accepts(estimated));
+    has_highest(&rt, &receiver, 1000);
+    receives(&rt, &mut receiver, 874, Some(874), 1000);
 }

@@ -1,12 +1,13 @@
 //! Reading where memory may be refused once: what stands then, and that the same call with memory
 //! gives all of it. `.ci/run` refuses each growth in turn.
 
+use crate::checks::{holds, same};
 use crate::refused_samples::{ALLOCATION, PACKET, is_whole, map};
 use rtp_base::SeqNo;
 use rtp_wire::vla::{self, VideoLayersAllocation};
 use rtp_wire::{Extension, ExtensionValues, ExtensionsForm, RtpHeader, Verdict, receive_run};
 use std::alloc::{AllocError, Global};
-use std::test::Fail;
+use std::process::Abort;
 
 // An allocation that takes no memory.
 fn plain(alloc: Global) -> VideoLayersAllocation {
@@ -36,61 +37,81 @@ fn has_whole(values: &ExtensionValues) -> bool {
 }
 
 #[test]
-fn an_allocation(rt: HostRuntime) -> Result<(), Fail> {
-    let read = vla::parse(rt.alloc(), &ALLOCATION)
-        .or_else(|_| vla::parse(rt.alloc(), &ALLOCATION))?
-        .ok_or("an allocation")?;
-    assert!(rt; is_whole(&read));
-    Ok(())
+fn an_allocation(rt: HostRuntime) {
+    let read = match vla::parse(rt.alloc(), &ALLOCATION) {
+        Ok(read) => read,
+        Err(_) => vla::parse(rt.alloc(), &ALLOCATION).expect(&rt, "memory"),
+    };
+    assert!(rt; is_whole(&read.expect(&rt, "an allocation")));
 }
 
-#[test]
-fn a_value(rt: HostRuntime) -> Result<(), Fail> {
+// A level of -7, and an allocation that takes no memory.
+fn old(alloc: Global) -> ExtensionValues {
+    ExtensionValues {
+        audio_level: Some(-7),
+        video_layers_allocation: Some(plain(alloc)),
+        ..ExtensionValues::default()
+    }
+}
+
+// The values with the data of an allocation, which are well-formed, whether the first time is
+// refused or not.
+fn with_data(rt: &impl Abort, alloc: Global, mut values: ExtensionValues) -> ExtensionValues {
     let kind = Extension::VideoLayersAllocation;
-    let mut values = ExtensionValues::default();
-    values.audio_level = Some(-7);
-    values.video_layers_allocation = Some(plain(rt.alloc()));
-    if kind
-        .parse_value(rt.alloc(), &ALLOCATION, &mut values)
-        .is_err()
-    {
-        assert!(rt; has_plain(&values));
-        assert_eq!(rt; values.audio_level, Some(-7));
-        let read = kind.parse_value(rt.alloc(), &ALLOCATION, &mut values)?;
-        assert_eq!(rt; read, Some(()));
+    let first = kind.parse_value(alloc, &ALLOCATION, &mut values);
+    if first.is_err() {
+        holds(rt, "the old allocation", has_plain(&values));
+        same(rt, "the old level", values.audio_level, Some(-7));
+        let second = kind.parse_value(alloc, &ALLOCATION, &mut values);
+        same(rt, "the second time", second.expect(rt, "memory"), Some(()));
     }
-    assert!(rt; has_whole(&values));
-    assert_eq!(rt; values.audio_level, Some(-7));
-    Ok(())
+    values
 }
 
 #[test]
-fn a_block(rt: HostRuntime) -> Result<(), Fail> {
-    let mut values = ExtensionValues::default();
-    values.video_layers_allocation = Some(plain(rt.alloc()));
+fn a_value(rt: HostRuntime) {
+    let values = with_data(&rt, rt.alloc(), old(rt.alloc()));
+    holds(&rt, "the allocation", has_whole(&values));
+    same(&rt, "the level", values.audio_level, Some(-7));
+}
+
+// The values with the packet's block, whether the first time is refused or not.
+fn with_block(rt: &impl Abort, alloc: Global, mut values: ExtensionValues) -> ExtensionValues {
     let (body, form) = (&PACKET[16..], ExtensionsForm::TwoByte);
-    if map().parse(rt.alloc(), body, form, &mut values).is_err() {
+    if map().parse(alloc, body, form, &mut values).is_err() {
         // The element in front of the allocation is read, and the one behind it isn't.
-        assert_eq!(rt; values.audio_level, Some(-43));
-        assert!(rt; has_plain(&values));
-        assert!(rt; values.video_content_type.is_none());
-        map().parse(rt.alloc(), body, form, &mut values)?;
+        same(rt, "the level in front", values.audio_level, Some(-43));
+        holds(rt, "the old allocation", has_plain(&values));
+        same(rt, "no type behind", values.video_content_type, None);
+        map()
+            .parse(alloc, body, form, &mut values)
+            .expect(rt, "memory");
     }
-    assert_eq!(rt; values.audio_level, Some(-43));
-    assert!(rt; has_whole(&values));
-    assert_eq!(rt; values.video_content_type, Some(1));
-    Ok(())
+    values
 }
 
 #[test]
-fn a_header(rt: HostRuntime) -> Result<(), Fail> {
-    let header = RtpHeader::parse(rt.alloc(), &PACKET, &map())
-        .or_else(|_| RtpHeader::parse(rt.alloc(), &PACKET, &map()))?
-        .ok_or("a header")?;
-    assert_eq!(rt; header.header_len, 36);
-    assert_eq!(rt; header.ext_vals.audio_level, Some(-43));
-    assert!(rt; has_whole(&header.ext_vals));
-    Ok(())
+fn a_block(rt: HostRuntime) {
+    let values = ExtensionValues {
+        video_layers_allocation: Some(plain(rt.alloc())),
+        ..ExtensionValues::default()
+    };
+    let values = with_block(&rt, rt.alloc(), values);
+    same(&rt, "the level", values.audio_level, Some(-43));
+    holds(&rt, "the allocation", has_whole(&values));
+    same(&rt, "the type", values.video_content_type, Some(1));
+}
+
+#[test]
+fn a_header(rt: HostRuntime) {
+    let read = match RtpHeader::parse(rt.alloc(), &PACKET, &map()) {
+        Ok(read) => read,
+        Err(_) => RtpHeader::parse(rt.alloc(), &PACKET, &map()).expect(&rt, "memory"),
+    };
+    let header = read.expect(&rt, "a header");
+    same(&rt, "the length", header.header_len, 36);
+    same(&rt, "the level", header.ext_vals.audio_level, Some(-43));
+    holds(&rt, "the allocation", has_whole(&header.ext_vals));
 }
 
 // A packet, and one that is cut short.
@@ -101,17 +122,15 @@ fn datagrams(alloc: Global) -> Result<Vec<Vec<u8>>, AllocError> {
 }
 
 #[test]
-fn a_run(rt: HostRuntime) -> Result<(), Fail> {
-    let datagrams = datagrams(rt.alloc()).or_else(|_| datagrams(rt.alloc()))?;
-    let verdicts = receive_run(rt.alloc(), &datagrams, &map()).or_else(|_| receive_run(
-        rt.alloc(),
-        &datagrams,
-        &map(),
-    ))?;
+fn a_run(rt: HostRuntime) {
+    let datagrams = match datagrams(rt.alloc()) {
+        Ok(datagrams) => datagrams,
+        Err(_) => datagrams(rt.alloc()).expect(&rt, "memory"),
+    };
+    let verdicts = match receive_run(rt.alloc(), &datagrams, &map()) {
+        Ok(verdicts) => verdicts,
+        Err(_) => receive_run(rt.alloc(), &datagrams, &map()).expect(&rt, "memory"),
+    };
     let taken = Verdict::Taken(SeqNo::from(47_000));
-    assert_eq!(rt;
-        verdicts.as_slice(),
-        [taken, Verdict::Unreadable].as_slice()
-    );
-    Ok(())
+    assert!(rt; verdicts.as_slice() == [taken, Verdict::Unreadable].as_slice());
 }

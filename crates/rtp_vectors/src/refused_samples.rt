@@ -2,6 +2,8 @@
 
 use rtp_wire::vla::{self, VideoLayersAllocation};
 use rtp_wire::{Extension, ExtensionMap};
+use std::alloc::Global;
+use std::process::Abort;
 
 // Two streams of one layer each, of two rates and of one, and the first one's resolution.
 pub(crate) const ALLOCATION: [u8; 11] = [
@@ -30,4 +32,14 @@ pub(crate) fn is_whole(allocation: &VideoLayersAllocation) -> bool {
     vla::checked_wire_len(allocation) == Some(11)
         && vla::write_to(allocation, &mut buf) == 11
         && buf == ALLOCATION
+}
+
+// The extension of this URI, at once or at the second time, which has it.
+pub(crate) fn named(rt: &impl Abort, alloc: Global, uri: &str) -> Extension {
+    let ext = match Extension::from_sdp_uri(alloc, uri) {
+        Ok(ext) => ext,
+        Err(_) => Extension::from_sdp_uri(alloc, uri).expect(rt, "memory"),
+    };
+    assert!(rt; ext.as_uri() == uri, "{uri}");
+    ext
 }

@@ -1,5 +1,6 @@
 //! Runs of datagrams, and what a receiver takes of them.
 
+use crate::checks::same;
 use rtp_base::SeqNo;
 use rtp_wire::{ExtensionMap, Verdict, receive_run};
 use std::alloc::{AllocError, Global};
@@ -55,29 +56,31 @@ pub(crate) fn verdict(taken: Option<u64>) -> Verdict {
     }
 }
 
-// A plain header of this number.
-fn datagram(alloc: Global, number: u16) -> Result<Vec<u8>, AllocError> {
+// A plain header of this number, and nothing where there is no number.
+fn datagram(alloc: Global, number: Option<u16>) -> Result<Vec<u8>, AllocError> {
+    let Some(number) = number else {
+        return Ok(Vec::new(alloc));
+    };
     let [high, low] = number.to_be_bytes();
     Ok(vec![in alloc; 0x80, 1, high, low, 0, 0, 0, 0, 0, 0, 0, 0]?)
 }
 
-// Runs plain headers, and a datagram without one where there is no number.
-fn check(
-    rt: &impl Abort,
-    alloc: Global,
-    numbers: &[Option<u16>],
-    wanted: &[Verdict],
-) -> Result<(), AllocError> {
+fn datagrams(alloc: Global, numbers: &[Option<u16>]) -> Result<Vec<Vec<u8>>, AllocError> {
     let mut datagrams = Vec::new(alloc);
     for number in numbers {
-        match number {
-            Some(number) => datagrams.push(datagram(alloc, *number)?)?,
-            None => datagrams.push(Vec::new(alloc))?,
-        }
+        datagrams.push(datagram(alloc, *number)?)?;
     }
-    let verdicts = receive_run(alloc, &datagrams, &ExtensionMap::empty())?;
-    assert_eq!(rt; verdicts.as_slice(), wanted);
-    Ok(())
+    Ok(datagrams)
+}
+
+// Runs plain headers, and a datagram without one where there is no number.
+fn check(rt: &impl Abort, alloc: Global, numbers: &[Option<u16>], wanted: &[Verdict]) {
+    let datagrams = datagrams(alloc, numbers).expect(rt, "memory");
+    let verdicts = receive_run(alloc, &datagrams, &ExtensionMap::empty());
+    assert!(rt;
+        verdicts.expect(rt, "memory").as_slice() == wanted,
+        "{numbers:?}"
+    );
 }
 
 #[test]
@@ -91,31 +94,31 @@ fn verdicts_differ(rt: HostRuntime) {
     ];
     for (index, one) in verdicts.iter().enumerate() {
         for (other_index, other) in verdicts.iter().enumerate() {
-            assert!(rt; (one == other) == (index == other_index));
+            same(&rt, index, one == other, index == other_index);
         }
     }
 }
 
+// Runs the plain headers of one stream.
+fn check_stream(rt: &impl Abort, alloc: Global, numbers: &[u16], taken: &[Option<u64>]) {
+    let numbers = numbers.iter().map(|number| Some(*number));
+    let numbers = numbers.collect::<Vec<_>>(alloc).expect(rt, "memory");
+    let wanted = taken.iter().map(|taken| verdict(*taken));
+    let wanted = wanted.collect::<Vec<_>>(alloc).expect(rt, "memory");
+    check(rt, alloc, &numbers, &wanted);
+}
+
 #[test]
-fn runs_of_one_stream(rt: HostRuntime) -> Result<(), AllocError> {
+fn runs_of_one_stream(rt: HostRuntime) {
     for (numbers, taken) in RUNS {
-        let numbers = numbers
-            .iter()
-            .map(|number| Some(*number))
-            .collect::<Vec<_>>(rt.alloc())?;
-        let wanted = taken
-            .iter()
-            .map(|taken| verdict(*taken))
-            .collect::<Vec<_>>(rt.alloc())?;
-        check(&rt, rt.alloc(), &numbers, &wanted)?;
+        check_stream(&rt, rt.alloc(), numbers, taken);
     }
-    Ok(())
 }
 
 // A datagram without a header changes nothing.
 #[test]
-fn unreadable_datagrams(rt: HostRuntime) -> Result<(), AllocError> {
-    check(&rt, rt.alloc(), &[None], &[Verdict::Unreadable])?;
+fn unreadable_datagrams(rt: HostRuntime) {
+    check(&rt, rt.alloc(), &[None], &[Verdict::Unreadable]);
     let numbers = [Some(65535), Some(0), Some(65535), None, Some(1)];
     let wanted = [
         verdict(Some(65535)),
@@ -124,16 +127,18 @@ fn unreadable_datagrams(rt: HostRuntime) -> Result<(), AllocError> {
         Verdict::Unreadable,
         verdict(Some(65537)),
     ];
-    check(&rt, rt.alloc(), &numbers, &wanted)
+    check(&rt, rt.alloc(), &numbers, &wanted);
 }
 
 #[test]
-fn a_thousand_datagrams(rt: HostRuntime) -> Result<(), AllocError> {
+fn a_thousand_datagrams(rt: HostRuntime) {
     let mut numbers = Vec::new(rt.alloc());
     let mut wanted = Vec::new(rt.alloc());
     for number in 65_000..66_000u64 {
-        numbers.push(Some((number % 65_536) as u16))?;
-        wanted.push(verdict(Some(number)))?;
+        numbers
+            .push(Some((number % 65_536) as u16))
+            .expect(&rt, "memory");
+        wanted.push(verdict(Some(number))).expect(&rt, "memory");
     }
-    check(&rt, rt.alloc(), &numbers, &wanted)
+    check(&rt, rt.alloc(), &numbers, &wanted);
 }

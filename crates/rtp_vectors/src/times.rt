@@ -2,9 +2,10 @@
 
 ghost use Rattle.std.specs.Prelude.{◌≡◌, ◌<◌};
 
+use crate::checks::{holds, is_text, same, shows};
 use rtp_base::{Frequency, MediaTime, ParseFrequencyError};
 use std::cmp::Ordering;
-use std::test::Fail;
+use std::process::Abort;
 
 const MOST: u64 = 18446744073709551615;
 
@@ -20,6 +21,21 @@ fn parts(time: MediaTime) -> (u64, u32) {
     (time.numer(), time.denom())
 }
 
+// The same, where there is a time.
+fn parts_of(time: Option<MediaTime>) -> Option<(u64, u32)> {
+    Some(parts(time?))
+}
+
+// The time has these ticks at this frequency.
+fn has_parts(rt: &impl Abort, at: &str, time: MediaTime, ticks: (u64, u32)) {
+    same(rt, at, parts(time), ticks);
+}
+
+// There is a time of these ticks at this frequency, or none.
+fn may_have_parts(rt: &impl Abort, at: &str, time: Option<MediaTime>, ticks: Option<(u64, u32)>) {
+    same(rt, at, parts_of(time), ticks);
+}
+
 // The time between two, by a caller that knows nothing of them: each precondition of `-` is tested.
 fn between(from: MediaTime, to: MediaTime) -> Option<MediaTime> {
     let frequency = from.frequency().max(to.frequency());
@@ -31,85 +47,97 @@ fn between(from: MediaTime, to: MediaTime) -> Option<MediaTime> {
     Some(to - from)
 }
 
-#[test]
-fn frequencies(rt: HostRuntime) -> Result<(), Fail> {
-    let constants = [
-        (Frequency::MICROS, 1_000_000, "1000000"),
-        (Frequency::FIXED_POINT_6_18, 262_144, "262144"),
-        (Frequency::NINETY_KHZ, 90_000, "90000"),
-        (Frequency::FORTY_EIGHT_KHZ, 48_000, "48000"),
-        (Frequency::SIXTEEN_KHZ, 16_000, "16000"),
-        (Frequency::EIGHT_KHZ, 8_000, "8000"),
-        (Frequency::MILLIS, 1_000, "1000"),
-        (Frequency::HUNDREDTHS, 100, "100"),
-        (Frequency::SECONDS, 1, "1"),
-        (
-            at(0, 4_294_967_295).frequency(),
-            4_294_967_295,
-            "4294967295",
-        ),
-    ];
-    for (frequency, hertz, text) in constants {
-        assert_eq!(rt; frequency.get(), hertz);
-        assert_eq!(rt; Frequency::new(hertz), Some(frequency));
-        assert_eq!(rt; format!(in rt.alloc(); "{frequency}")?.as_str(), text);
-        // The text is plain, whatever width and sign are set.
-        assert_eq!(rt; format!(in rt.alloc(); "{frequency:>+12}")?.as_str(), text);
-    }
-    assert_eq!(rt; Frequency::new(0), None);
-    assert!(rt; Frequency::EIGHT_KHZ < Frequency::SIXTEEN_KHZ);
-    Ok(())
+// Frequencies, their numbers, and their texts.
+const CONSTANTS: [(Frequency, u32, &str); 9] = [
+    (Frequency::MICROS, 1_000_000, "1000000"),
+    (Frequency::FIXED_POINT_6_18, 262_144, "262144"),
+    (Frequency::NINETY_KHZ, 90_000, "90000"),
+    (Frequency::FORTY_EIGHT_KHZ, 48_000, "48000"),
+    (Frequency::SIXTEEN_KHZ, 16_000, "16000"),
+    (Frequency::EIGHT_KHZ, 8_000, "8000"),
+    (Frequency::MILLIS, 1_000, "1000"),
+    (Frequency::HUNDREDTHS, 100, "100"),
+    (Frequency::SECONDS, 1, "1"),
+];
+
+// The frequency has this number.
+fn has_number(rt: &impl Abort, frequency: Frequency, hertz: u32) {
+    same(rt, hertz, frequency.get(), hertz);
+    same(rt, hertz, Frequency::new(hertz), Some(frequency));
 }
 
 #[test]
-fn texts_of_frequencies(rt: HostRuntime) -> Result<(), Fail> {
-    let texts = [
-        ("+48000", 48_000),
-        ("007", 7),
-        ("1", 1),
-        ("4294967295", 4_294_967_295),
-        ("0000000000048000", 48_000),
-        ("+0000000000000000000000000000000000000090", 90),
-    ];
-    for (text, hertz) in texts {
-        assert_eq!(rt;
-            text.parse::<Frequency>(),
-            Ok(at(0, hertz).frequency()),
-            "{text}"
-        );
+fn frequencies(rt: HostRuntime) {
+    for (frequency, hertz, text) in CONSTANTS {
+        has_number(&rt, frequency, hertz);
+        shows(&rt, rt.alloc(), &frequency, text);
     }
-    let others = [
-        "",
-        "+",
-        "0",
-        "-1",
-        " 1",
-        "4294967296",
-        "++1",
-        "+-1",
-        "1 ",
-        // A digit, but not of ASCII.
-        "١",
-        "1_000",
-        "0x10",
-        "1.0",
-        "000000000000000000000",
-        // 40 digits.
-        "1000000000000000000000000000000000000001",
-    ];
-    for text in others {
-        assert_eq!(rt;
-            text.parse::<Frequency>(),
-            Err(ParseFrequencyError),
-            "{text}"
-        );
-    }
-    let error = ParseFrequencyError;
-    assert_eq!(rt;
-        format!(in rt.alloc(); "{error}")?.as_str(),
-        "not a frequency"
+    let greatest = at(0, 4_294_967_295).frequency();
+    has_number(&rt, greatest, 4_294_967_295);
+    shows(&rt, rt.alloc(), &greatest, "4294967295");
+}
+
+#[test]
+fn other_frequencies(rt: HostRuntime) {
+    same(&rt, "0 Hz", Frequency::new(0), None);
+    holds(
+        &rt,
+        "8 and 16 kHz",
+        Frequency::EIGHT_KHZ < Frequency::SIXTEEN_KHZ,
     );
-    Ok(())
+}
+
+// Texts, and the frequencies that they are read as.
+const TEXTS: [(&str, u32); 6] = [
+    ("+48000", 48_000),
+    ("007", 7),
+    ("1", 1),
+    ("4294967295", 4_294_967_295),
+    ("0000000000048000", 48_000),
+    ("+0000000000000000000000000000000000000090", 90),
+];
+
+// Texts of no frequency.
+const OTHER_TEXTS: [&str; 15] = [
+    "",
+    "+",
+    "0",
+    "-1",
+    " 1",
+    "4294967296",
+    "++1",
+    "+-1",
+    "1 ",
+    // A digit, but not of ASCII.
+    "١",
+    "1_000",
+    "0x10",
+    "1.0",
+    "000000000000000000000",
+    // 40 digits.
+    "1000000000000000000000000000000000000001",
+];
+
+// The text is read as this frequency, or as none.
+fn is_read(rt: &impl Abort, text: &str, wanted: Result<Frequency, ParseFrequencyError>) {
+    assert_eq!(rt; text.parse::<Frequency>(), wanted, "{text}");
+}
+
+#[test]
+fn texts_of_frequencies(rt: HostRuntime) {
+    for (text, hertz) in TEXTS {
+        is_read(&rt, text, Ok(at(0, hertz).frequency()));
+    }
+    for text in OTHER_TEXTS {
+        is_read(&rt, text, Err(ParseFrequencyError));
+    }
+}
+
+#[test]
+fn text_of_the_error(rt: HostRuntime) {
+    let error = ParseFrequencyError;
+    let shown = format!(in rt.alloc(); "{error}");
+    is_text(&rt, shown, "not a frequency");
 }
 
 #[test]
@@ -123,142 +151,153 @@ fn times_of_each_unit(rt: HostRuntime) {
         (MediaTime::from_secs(7), 1),
     ];
     for (time, hertz) in times {
-        assert_eq!(rt; parts(time), (7, hertz));
-        assert_eq!(rt; time.frequency().get(), hertz);
-        assert!(rt; !time.is_zero());
+        same(&rt, hertz, parts(time), (7, hertz));
+        same(&rt, hertz, time.frequency().get(), hertz);
+        holds(&rt, hertz, !time.is_zero());
     }
-    assert_eq!(rt; parts(MediaTime::ZERO), (0, 1));
-    assert!(rt; MediaTime::ZERO.is_zero() && at(0, 90_000).is_zero());
+}
+
+#[test]
+fn zero(rt: HostRuntime) {
+    has_parts(&rt, "zero", MediaTime::ZERO, (0, 1));
+    holds(&rt, "zero", MediaTime::ZERO.is_zero());
+    holds(&rt, "zero at 90 kHz", at(0, 90_000).is_zero());
 }
 
 #[test]
 fn as_its_documentation_shows(rt: HostRuntime) {
     let frame = MediaTime::from_millis(20);
-    assert_eq!(rt; frame.rebase(Frequency::FORTY_EIGHT_KHZ).numer(), 960);
-    assert!(rt; frame == MediaTime::from_90khz(1_800));
+    let at_48_khz = frame.rebase(Frequency::FORTY_EIGHT_KHZ);
+    same(&rt, "48 kHz", at_48_khz.numer(), 960);
+    holds(&rt, "90 kHz", frame == MediaTime::from_90khz(1_800));
     let sum = frame + MediaTime::from_90khz(1_800);
-    assert_eq!(rt; parts(sum), (3_600, 90_000));
+    has_parts(&rt, "the sum", sum, (3_600, 90_000));
+}
+
+// Two times, each in ticks at a frequency, and how the first is to the second.
+const PAIRS: [((u64, u32), (u64, u32), Ordering); 11] = [
+    ((1, 3), (1, 4), Ordering::Greater),
+    ((250, 1000), (1, 4), Ordering::Equal),
+    ((1, 3), (333_333, 1_000_000), Ordering::Greater),
+    ((0, 1), (0, 90_000), Ordering::Equal),
+    ((MOST, 1), (MOST, 2), Ordering::Greater),
+    ((MOST, 2), (MOST, 4_294_967_295), Ordering::Greater),
+    ((MOST, 4_294_967_295), (MOST, 4_294_967_294), Ordering::Less),
+    // At 2, the low 64 bits of the first's ticks are the second's.
+    (
+        (MOST, 1),
+        (18_446_744_073_709_551_614, 2),
+        Ordering::Greater,
+    ),
+    ((9_223_372_036_854_775_807, 1), (MOST, 2), Ordering::Less),
+    ((MOST, 90_000), (MOST, 90_000), Ordering::Equal),
+    ((6_148_914_691_236_517_205, 1), (MOST, 3), Ordering::Equal),
+];
+
+// The first time is to the second as the order says.
+fn is_ordered(rt: &impl Abort, left: MediaTime, right: MediaTime, order: Ordering) {
+    let at = left.numer();
+    same(rt, at, left.cmp(&right), order);
+    same(rt, at, right.cmp(&left), order.reverse());
+    same(rt, at, left.partial_cmp(&right), Some(order));
+    same(rt, at, left == right, order == Ordering::Equal);
+    same(rt, at, left < right, order == Ordering::Less);
 }
 
 #[test]
 fn order_of_times(rt: HostRuntime) {
-    let pairs = [
-        ((1, 3), (1, 4), Ordering::Greater),
-        ((250, 1000), (1, 4), Ordering::Equal),
-        ((1, 3), (333_333, 1_000_000), Ordering::Greater),
-        ((0, 1), (0, 90_000), Ordering::Equal),
-        ((MOST, 1), (MOST, 2), Ordering::Greater),
-        ((MOST, 2), (MOST, 4_294_967_295), Ordering::Greater),
-        ((MOST, 4_294_967_295), (MOST, 4_294_967_294), Ordering::Less),
-        // At 2, the low 64 bits of the first's ticks are the second's.
-        (
-            (MOST, 1),
-            (18_446_744_073_709_551_614, 2),
-            Ordering::Greater,
-        ),
-        ((9_223_372_036_854_775_807, 1), (MOST, 2), Ordering::Less),
-        ((MOST, 90_000), (MOST, 90_000), Ordering::Equal),
-        ((6_148_914_691_236_517_205, 1), (MOST, 3), Ordering::Equal),
-    ];
-    for ((numer, hertz), (other_numer, other_hertz), order) in pairs {
-        let (left, right) = (at(numer, hertz), at(other_numer, other_hertz));
-        assert_eq!(rt; left.cmp(&right), order);
-        assert_eq!(rt; right.cmp(&left), order.reverse());
-        assert_eq!(rt; left.partial_cmp(&right), Some(order));
-        assert_eq!(rt; left == right, order == Ordering::Equal);
-        assert_eq!(rt; left < right, order == Ordering::Less);
+    for ((numer, hertz), (other_numer, other_hertz), order) in PAIRS {
+        is_ordered(&rt, at(numer, hertz), at(other_numer, other_hertz), order);
     }
 }
 
+// A time, another frequency, and the time's whole ticks there, if 64 bits hold them.
+const REBASED: [((u64, u32), u32, Option<(u64, u32)>); 8] = [
+    ((MOST, 1), 2, None),
+    ((MOST, 2), 1, Some((9_223_372_036_854_775_807, 1))),
+    ((10, 1), 90_000, Some((900_000, 90_000))),
+    ((MOST, 90_000), 90_000, Some((MOST, 90_000))),
+    ((2, 3), 1, Some((0, 1))),
+    ((1, 90_000), 1_000_000, Some((11, 1_000_000))),
+    // One tick past 64 bits, and the last that fits.
+    ((9_223_372_036_854_775_808, 1), 2, None),
+    (
+        (9_223_372_036_854_775_807, 1),
+        2,
+        Some((18_446_744_073_709_551_614, 2)),
+    ),
+];
+
 #[test]
 fn times_at_another_frequency(rt: HostRuntime) {
-    let rebased = [
-        ((MOST, 1), 2, None),
-        ((MOST, 2), 1, Some((9_223_372_036_854_775_807, 1))),
-        ((10, 1), 90_000, Some((900_000, 90_000))),
-        ((MOST, 90_000), 90_000, Some((MOST, 90_000))),
-        ((2, 3), 1, Some((0, 1))),
-        ((1, 90_000), 1_000_000, Some((11, 1_000_000))),
-        // One tick past 64 bits, and the last that fits.
-        ((9_223_372_036_854_775_808, 1), 2, None),
-        (
-            (9_223_372_036_854_775_807, 1),
-            2,
-            Some((18_446_744_073_709_551_614, 2)),
-        ),
-    ];
-    for ((numer, hertz), target, ticks) in rebased {
+    for ((numer, hertz), target, ticks) in REBASED {
         let found = at(numer, hertz).checked_rebase(at(0, target).frequency());
-        assert_eq!(rt; found.map(|t| parts(t)), ticks);
+        same(&rt, numer, parts_of(found), ticks);
     }
 }
 
 #[test]
 fn rebased_times(rt: HostRuntime) {
-    assert_eq!(rt;
-        parts(at(10, 1).rebase(Frequency::NINETY_KHZ)),
-        (900_000, 90_000)
-    );
-    assert_eq!(rt; MediaTime::from_90khz(1).as_micros(), 11);
-    assert_eq!(rt; MediaTime::from_secs(3).as_micros(), 3_000_000);
+    let ten = at(10, 1).rebase(Frequency::NINETY_KHZ);
+    has_parts(&rt, "10 s", ten, (900_000, 90_000));
+    same(&rt, "a tick", MediaTime::from_90khz(1).as_micros(), 11);
+    same(&rt, "3 s", MediaTime::from_secs(3).as_micros(), 3_000_000);
 }
 
 #[test]
 fn times_added_and_subtracted(rt: HostRuntime) {
     let (third, quarter) = (at(1, 3), at(1, 4));
-    assert_eq!(rt; parts(third + quarter), (2, 4));
-    assert_eq!(rt; parts(third - quarter), (0, 4));
+    has_parts(&rt, "the sum", third + quarter, (2, 4));
+    has_parts(&rt, "the difference", third - quarter, (0, 4));
     let mut time = MediaTime::from_secs(1);
     time += MediaTime::from_millis(500);
-    assert_eq!(rt; parts(time), (1_500, 1_000));
+    has_parts(&rt, "added", time, (1_500, 1_000));
     time -= MediaTime::from_secs(1);
-    assert_eq!(rt; parts(time), (500, 1_000));
+    has_parts(&rt, "subtracted", time, (500, 1_000));
 }
+
+// Two times, and their sum, if 64 bits hold its ticks and theirs at the greater frequency.
+const SUMS: [((u64, u32), (u64, u32), Option<(u64, u32)>); 6] = [
+    ((1, 3), (1, 4), Some((2, 4))),
+    ((MOST, 1), (0, 1), Some((MOST, 1))),
+    ((MOST, 1), (1, 1), None),
+    // The first does not fit at the greater frequency.
+    ((MOST, 1), (0, 2), None),
+    ((MOST, 2), (0, 1), Some((MOST, 2))),
+    ((1, 1), (1, 90_000), Some((90_001, 90_000))),
+];
 
 #[test]
 fn checked_sums(rt: HostRuntime) {
-    let sums = [
-        ((1, 3), (1, 4), Some((2, 4))),
-        ((MOST, 1), (0, 1), Some((MOST, 1))),
-        ((MOST, 1), (1, 1), None),
-        // The first does not fit at the greater frequency.
-        ((MOST, 1), (0, 2), None),
-        ((MOST, 2), (0, 1), Some((MOST, 2))),
-        ((1, 1), (1, 90_000), Some((90_001, 90_000))),
-    ];
-    for ((numer, hertz), (other_numer, other_hertz), sum) in sums {
+    for ((numer, hertz), (other_numer, other_hertz), sum) in SUMS {
         let found = at(numer, hertz).checked_add(at(other_numer, other_hertz));
-        assert_eq!(rt; found.map(|t| parts(t)), sum);
+        same(&rt, numer, parts_of(found), sum);
     }
 }
 
 #[test]
 fn checked_differences(rt: HostRuntime) {
     let (five, ten) = (MediaTime::from_micros(5), MediaTime::from_micros(10));
-    assert_eq!(rt; five.checked_sub(ten).map(|t| parts(t)), None);
-    assert_eq!(rt; parts(five.saturating_sub(ten)), (0, 1));
-    assert_eq!(rt;
-        ten.checked_sub(five).map(|t| parts(t)),
-        Some((5, 1_000_000))
-    );
-    assert_eq!(rt; parts(ten.saturating_sub(five)), (5, 1_000_000));
+    may_have_parts(&rt, "5 - 10", five.checked_sub(ten), None);
+    has_parts(&rt, "5 - 10", five.saturating_sub(ten), (0, 1));
+    may_have_parts(&rt, "10 - 5", ten.checked_sub(five), Some((5, 1_000_000)));
+    has_parts(&rt, "10 - 5", ten.saturating_sub(five), (5, 1_000_000));
 }
 
 #[test]
 fn differences_by_the_fractions(rt: HostRuntime) {
     let (third, quarter) = (at(1, 3), at(1, 4));
     // Both are 1 at 4 once they are cut, and still the first is less.
-    assert_eq!(rt; quarter.checked_sub(third).map(|t| parts(t)), None);
-    assert_eq!(rt; third.checked_sub(quarter).map(|t| parts(t)), Some((0, 4)));
+    may_have_parts(&rt, "1/4 - 1/3", quarter.checked_sub(third), None);
+    may_have_parts(&rt, "1/3 - 1/4", third.checked_sub(quarter), Some((0, 4)));
 }
 
 #[test]
 fn differences_by_a_caller(rt: HostRuntime) {
     let (five, ten) = (MediaTime::from_micros(5), MediaTime::from_micros(10));
-    assert_eq!(rt; between(ten, five).map(|t| parts(t)), None);
-    assert_eq!(rt;
-        between(five, at(1, 1)).map(|t| parts(t)),
-        Some((999_995, 1_000_000))
-    );
-    assert_eq!(rt; between(at(MOST, 1), at(MOST, 2)).map(|t| parts(t)), None);
+    may_have_parts(&rt, "from 10 to 5", between(ten, five), None);
+    let found = between(five, at(1, 1));
+    may_have_parts(&rt, "from 5 to 1 s", found, Some((999_995, 1_000_000)));
+    let found = between(at(MOST, 1), at(MOST, 2));
+    may_have_parts(&rt, "from the greatest", found, None);
 }

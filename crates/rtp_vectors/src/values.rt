@@ -2,10 +2,11 @@
 
 ghost use Rattle.std.specs.Prelude.{◌≡◌, length};
 
+use crate::checks::{holds, named};
 use crate::fixtures::full;
 use rtp_wire::{Extension, ExtensionValues};
-use std::alloc::{AllocError, Global};
-use std::test::Fail;
+use std::alloc::Global;
+use std::process::Abort;
 
 // A buffer that is long enough for each kind.
 pub(crate) fn nines() -> [u8; 255]
@@ -15,7 +16,7 @@ pub(crate) fn nines() -> [u8; 255]
 }
 
 // Whether the kind's data are these, at the front of the buffer, with what stood behind them.
-pub(crate) fn is_written(kind: &Extension, values: &ExtensionValues, data: &[u8]) -> bool {
+fn is_written(kind: &Extension, values: &ExtensionValues, data: &[u8]) -> bool {
     let mut buf = nines();
     kind.write_to(&mut buf, values) == Some(data.len())
         && buf.starts_with(data)
@@ -23,29 +24,56 @@ pub(crate) fn is_written(kind: &Extension, values: &ExtensionValues, data: &[u8]
 }
 
 // Whether the kind has no data, and leaves the buffer as it is.
-pub(crate) fn is_absent(kind: &Extension, values: &ExtensionValues) -> bool {
+fn is_absent(kind: &Extension, values: &ExtensionValues) -> bool {
     let mut buf = nines();
     kind.write_to(&mut buf, values).is_none() && buf.iter().all(|byte| *byte == 9)
 }
 
-// The values once the data were read into values that are all absent; None where they are not
-// well-formed.
-pub(crate) fn read(
+// Whether the data are well-formed, once they were read into the values.
+pub(crate) fn is_read_into(
+    rt: &impl Abort,
     alloc: Global,
     kind: &Extension,
     data: &[u8],
-) -> Result<Option<ExtensionValues>, AllocError> {
-    let mut values = ExtensionValues::default();
-    Ok(match kind.parse_value(alloc, data, &mut values)? {
-        Some(()) => Some(values),
-        None => None,
-    })
+    values: &mut ExtensionValues,
+) -> bool {
+    let read = kind.parse_value(alloc, data, values);
+    read.expect(rt, "memory").is_some()
 }
 
-// Whether the data are refused, and leave the values as they are.
-pub(crate) fn is_refused(alloc: Global, kind: &Extension, data: &[u8]) -> Result<bool, AllocError> {
+// The values once the data, which are well-formed, were read into values that are all absent.
+pub(crate) fn read(
+    rt: &impl Abort,
+    alloc: Global,
+    kind: &Extension,
+    data: &[u8],
+) -> ExtensionValues {
+    let mut values = ExtensionValues::default();
+    assert!(rt;
+        is_read_into(rt, alloc, kind, data, &mut values),
+        "{kind}: {data:?}"
+    );
+    values
+}
+
+// The data are refused, and leave the values as they are.
+pub(crate) fn is_refused(rt: &impl Abort, alloc: Global, kind: &Extension, data: &[u8]) {
     let mut values = full();
-    Ok(kind.parse_value(alloc, data, &mut values)?.is_none() && values == full())
+    assert!(rt;
+        !is_read_into(rt, alloc, kind, data, &mut values),
+        "{kind}: {data:?}"
+    );
+    assert!(rt; values == full(), "{kind}: {data:?}");
+}
+
+// The kind's data are these for the values.
+pub(crate) fn has_data(rt: &impl Abort, kind: &Extension, values: &ExtensionValues, data: &[u8]) {
+    assert!(rt; is_written(kind, values, data), "{kind}: {data:?}");
+}
+
+// The kind has no data for the values.
+pub(crate) fn has_no_data(rt: &impl Abort, kind: &Extension, values: &ExtensionValues) {
+    assert!(rt; is_absent(kind, values), "{kind}");
 }
 
 // The data of each kind for the values with every field set.
@@ -86,59 +114,69 @@ const NEEDS: [(Extension, usize); 10] = [
 ];
 
 #[test]
-fn each_kind(rt: HostRuntime) -> Result<(), Fail> {
+fn each_kind(rt: HostRuntime) {
     let mut values = ExtensionValues::default();
     for (kind, data) in &FULL {
-        assert!(rt; is_written(kind, &full(), data), "{kind}");
-        assert!(rt; is_absent(kind, &ExtensionValues::default()), "{kind}");
-        assert_eq!(rt; kind.parse_value(rt.alloc(), data, &mut values)?, Some(()));
+        has_data(&rt, kind, &full(), data);
+        has_no_data(&rt, kind, &ExtensionValues::default());
+        let is_read = is_read_into(&rt, rt.alloc(), kind, data, &mut values);
+        holds(&rt, data.len(), is_read);
     }
     assert!(rt; values == full());
-    Ok(())
+}
+
+// The values of one kind alone have its data, and none of another kind.
+fn only_of_its_kind(rt: &impl Abort, index: usize, values: &ExtensionValues) {
+    for (other_index, (other, other_data)) in FULL.iter().enumerate() {
+        if index == other_index {
+            has_data(rt, other, values, other_data);
+        } else {
+            has_no_data(rt, other, values);
+        }
+    }
 }
 
 #[test]
-fn other_kinds_are_as_before(rt: HostRuntime) -> Result<(), Fail> {
+fn other_kinds_are_as_before(rt: HostRuntime) {
     for (index, (kind, data)) in FULL.iter().enumerate() {
-        let Some(values) = read(rt.alloc(), kind, data)? else {
-            return Err(Fail::from("the row can't be read"));
-        };
-        for (other_index, (other, other_data)) in FULL.iter().enumerate() {
-            if index == other_index {
-                assert!(rt; is_written(other, &values, other_data), "{kind}");
-            } else {
-                assert!(rt; is_absent(other, &values), "{kind} {other}");
-            }
-        }
+        let values = read(&rt, rt.alloc(), kind, data);
+        only_of_its_kind(&rt, index, &values);
     }
-    Ok(())
+}
+
+// Data of so many zeros are read if they are at least as many as the kind needs, and else refused.
+fn needs(rt: &impl Abort, alloc: Global, kind: &Extension, needed: usize, data: &[u8]) {
+    if data.len() < needed {
+        is_refused(rt, alloc, kind, data);
+    } else {
+        let mut values = ExtensionValues::default();
+        assert!(rt;
+            is_read_into(rt, alloc, kind, data, &mut values),
+            "{kind}: {data:?}"
+        );
+    }
 }
 
 #[test]
-fn bytes_that_each_kind_needs(rt: HostRuntime) -> Result<(), Fail> {
+fn bytes_that_each_kind_needs(rt: HostRuntime) {
     let data = [0; 20];
-    for (kind, needs) in &NEEDS {
+    for (kind, needed) in &NEEDS {
         for (len, _) in data.iter().enumerate() {
-            let Some(front) = data.get(..len) else {
-                return Err(Fail::from("the row can't be read"));
-            };
-            let read = read(rt.alloc(), kind, front)?;
-            assert!(rt; read.is_some() == (*needs <= len), "{kind} {len}");
-            if len < *needs {
-                assert!(rt; is_refused(rt.alloc(), kind, front)?, "{kind} {len}");
-            }
+            let front = data.get(..len).expect(&rt, "so many zeros");
+            needs(&rt, rt.alloc(), kind, *needed, front);
         }
     }
-    Ok(())
+}
+
+// The kind has no value: it has no data, and refuses any.
+fn has_no_value(rt: &impl Abort, alloc: Global, kind: Extension) {
+    has_no_data(rt, &kind, &full());
+    is_refused(rt, alloc, &kind, b"");
+    is_refused(rt, alloc, &kind, b"\x01\x02\x03\x04");
 }
 
 #[test]
-fn no_values(rt: HostRuntime) -> Result<(), Fail> {
-    let unknown = Extension::from_sdp_uri(rt.alloc(), "urn:x")?;
-    for kind in [Extension::ColorSpace, unknown] {
-        assert!(rt; is_absent(&kind, &full()));
-        assert!(rt; is_refused(rt.alloc(), &kind, b"")?);
-        assert!(rt; is_refused(rt.alloc(), &kind, b"\x01\x02\x03\x04")?);
-    }
-    Ok(())
+fn no_values(rt: HostRuntime) {
+    has_no_value(&rt, rt.alloc(), Extension::ColorSpace);
+    has_no_value(&rt, rt.alloc(), named(&rt, rt.alloc(), "urn:x"));
 }

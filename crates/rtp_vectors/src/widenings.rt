@@ -1,7 +1,9 @@
 //! Low bits widened to 64.
 
+use crate::checks::same;
 use rtp_base::SeqNo;
 use rtp_wire::{RtpHeader, extend_u7, extend_u8, extend_u15, extend_u16, extend_u32};
+use std::process::Abort;
 
 #[test]
 fn seven_and_eight_bits(rt: HostRuntime) {
@@ -16,16 +18,12 @@ fn seven_and_eight_bits(rt: HostRuntime) {
         (Some(0), 65, 18446744073709551553),
     ];
     for (previous, number, wanted) in rows {
-        assert_eq!(rt;
-            extend_u7(previous, number),
-            wanted,
-            "{previous:?}, {number}"
-        );
+        same(&rt, number, extend_u7(previous, number), wanted);
     }
-    assert_eq!(rt; extend_u8(Some(255), 0), 256);
-    assert_eq!(rt; extend_u8(None, 255), 255);
-    assert_eq!(rt; extend_u8(Some(256), 128), 384);
-    assert_eq!(rt; extend_u8(Some(256), 129), 129);
+    same(&rt, "0 after 255", extend_u8(Some(255), 0), 256);
+    same(&rt, "255 first", extend_u8(None, 255), 255);
+    same(&rt, "128 after 256", extend_u8(Some(256), 128), 384);
+    same(&rt, "129 after 256", extend_u8(Some(256), 129), 129);
 }
 
 #[test]
@@ -40,11 +38,7 @@ fn fifteen_bits(rt: HostRuntime) {
         (Some(0), 16_385, 18446744073709535233),
     ];
     for (previous, number, wanted) in rows {
-        assert_eq!(rt;
-            extend_u15(previous, number),
-            wanted,
-            "{previous:?}, {number}"
-        );
+        same(&rt, number, extend_u15(previous, number), wanted);
     }
 }
 
@@ -68,18 +62,21 @@ const SIXTEEN: [(Option<u64>, u16, u64); 13] = [
     (Some(18446744073709551615), 2, 2),
 ];
 
+// The header's 16 bits are widened to this number.
+fn has_number(rt: &impl Abort, previous: Option<u64>, number: u16, wanted: u64) {
+    let header = RtpHeader {
+        sequence_number: number,
+        ..RtpHeader::default()
+    };
+    let previous = previous.map(|number| SeqNo::from(number));
+    same(rt, number, header.sequence_number(previous).get(), wanted);
+}
+
 #[test]
 fn sixteen_bits(rt: HostRuntime) {
     for (previous, number, wanted) in SIXTEEN {
-        assert_eq!(rt;
-            extend_u16(previous, number),
-            wanted,
-            "{previous:?}, {number}"
-        );
-        let mut header = RtpHeader::default();
-        header.sequence_number = number;
-        let previous = previous.map(|number| SeqNo::from(number));
-        assert_eq!(rt; header.sequence_number(previous).get(), wanted);
+        same(&rt, number, extend_u16(previous, number), wanted);
+        has_number(&rt, previous, number, wanted);
     }
 }
 
@@ -98,10 +95,6 @@ fn thirty_two_bits(rt: HostRuntime) {
         (Some(4294967264), 4294967264, 4294967264),
     ];
     for (previous, number, wanted) in rows {
-        assert_eq!(rt;
-            extend_u32(previous, number),
-            wanted,
-            "{previous:?}, {number}"
-        );
+        same(&rt, number, extend_u32(previous, number), wanted);
     }
 }

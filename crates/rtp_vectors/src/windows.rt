@@ -1,7 +1,8 @@
 //! The replay window.
 
+use crate::checks::same;
 use rtp_base::{SeqNo, SeqNoWindow};
-use std::alloc::AllocError;
+use std::alloc::Global;
 use std::collections::BTreeSet;
 use std::process::Abort;
 
@@ -11,7 +12,7 @@ const GREATEST: u64 = 18446744073709551615;
 fn check(rt: &impl Abort, window: &SeqNoWindow, numbers: &[(u64, bool)]) {
     for (number, wanted) in numbers {
         let number = *number;
-        assert_eq!(rt; window.accepts(SeqNo::from(number)), *wanted, "at {number}");
+        same(rt, number, window.accepts(SeqNo::from(number)), *wanted);
     }
 }
 
@@ -44,7 +45,7 @@ fn a_gap_is_filled_once(rt: HostRuntime) {
             (65538, true),
         ],
     );
-    assert_eq!(rt; window.max_seq().get(), 65537);
+    same(&rt, "the greatest", window.max_seq().get(), 65537);
 }
 
 // 138 and 137 are recorded, and then this number.
@@ -97,7 +98,7 @@ fn what_falls_out_stays_refused(rt: HostRuntime) {
     check(&rt, &window, &[(11, false)]);
     // It is 128 below the greatest, and changes nothing.
     window.update(SeqNo::from(10));
-    assert_eq!(rt; window.max_seq().get(), 138);
+    same(&rt, "the greatest", window.max_seq().get(), 138);
     check(&rt, &window, &[(12, true), (138, false)]);
 }
 
@@ -117,7 +118,7 @@ fn every_number_up_to_one(rt: HostRuntime) {
     );
     window.update(SeqNo::from(201));
     check(&rt, &window, &[(201, false), (202, true)]);
-    assert_eq!(rt; window.max_seq().get(), 203);
+    same(&rt, "the greatest", window.max_seq().get(), 203);
 }
 
 #[test]
@@ -142,7 +143,7 @@ fn at_the_greatest_number(rt: HostRuntime) {
 fn check_taking(rt: &impl Abort, window: &mut SeqNoWindow, numbers: &[(u64, bool)]) {
     for (number, wanted) in numbers {
         let number = *number;
-        assert_eq!(rt; window.take(SeqNo::from(number)), *wanted, "at {number}");
+        same(rt, number, window.take(SeqNo::from(number)), *wanted);
     }
 }
 
@@ -164,7 +165,7 @@ fn a_number_is_taken_once(rt: HostRuntime) {
         (999, false),
     ];
     check_taking(&rt, &mut window, &numbers);
-    assert_eq!(rt; window.max_seq().get(), 1001);
+    same(&rt, "the greatest", window.max_seq().get(), 1001);
     // 127 further, 128 further, and further than that.
     check_taking(
         &rt,
@@ -198,18 +199,16 @@ fn numbers_are_taken_after_one_to_resume_from(rt: HostRuntime) {
         (200, false),
     ];
     check_taking(&rt, &mut window, &numbers);
-    assert_eq!(rt; window.max_seq().get(), 203);
+    same(&rt, "the greatest", window.max_seq().get(), 203);
 }
 
 #[test]
 fn as_its_documentation_shows(rt: HostRuntime) {
     let mut window = SeqNoWindow::new(SeqNo::from(1000));
-    assert!(rt; window.accepts(SeqNo::from(873)));
-    assert!(rt; !window.accepts(SeqNo::from(872)));
+    check(&rt, &window, &[(873, true), (872, false)]);
     window.update(SeqNo::from(1001));
-    assert!(rt; !window.accepts(SeqNo::from(873)));
-    assert!(rt; window.take(SeqNo::from(999)));
-    assert!(rt; !window.take(SeqNo::from(999)));
+    check(&rt, &window, &[(873, false)]);
+    check_taking(&rt, &mut window, &[(999, true), (999, false)]);
 }
 
 // The number this far from another, held within the numbers that there are.
@@ -228,35 +227,59 @@ fn is_new(taken: &BTreeSet<u64>, greatest: u64, number: u64) -> bool {
 
 const STEPS: [i64; 12] = [1, 63, -1, 64, -64, 65, -127, -128, 127, 128, 129, 0];
 
+// Two windows that record the same numbers, one of them as it tests them, and the set of these.
+#[derive(Drop)]
+struct Windows {
+    updated: SeqNoWindow,
+    taking: SeqNoWindow,
+    taken: BTreeSet<u64>,
+    greatest: u64,
+}
+
+// Both windows accept a number round the greatest where the set says so.
+fn agree(rt: &impl Abort, windows: &Windows) {
+    for offset in -130..3 {
+        let number = moved(windows.greatest, offset);
+        let wanted = is_new(&windows.taken, windows.greatest, number);
+        check(rt, &windows.updated, &[(number, wanted)]);
+        check(rt, &windows.taking, &[(number, wanted)]);
+    }
+}
+
+// Both windows and the set record a number.
+fn record(rt: &impl Abort, windows: &mut Windows, number: u64) {
+    let wanted = is_new(&windows.taken, windows.greatest, number);
+    windows.updated.update(SeqNo::from(number));
+    same(rt, number, windows.taking.take(SeqNo::from(number)), wanted);
+    windows.taken.insert(number).expect(rt, "memory");
+    windows.greatest = windows.greatest.max(number);
+    let greatest = windows.greatest;
+    same(rt, number, windows.updated.max_seq().get(), greatest);
+    same(rt, number, windows.taking.max_seq().get(), greatest);
+}
+
+// The windows in which one number is recorded.
+fn windows_of(rt: &impl Abort, alloc: Global, first: u64) -> Windows {
+    let mut taken = BTreeSet::new(alloc);
+    taken.insert(first).expect(rt, "memory");
+    Windows {
+        updated: SeqNoWindow::new(SeqNo::from(first)),
+        taking: SeqNoWindow::new(SeqNo::from(first)),
+        taken,
+        greatest: first,
+    }
+}
+
 #[test]
-fn the_window_is_a_set(rt: HostRuntime) -> Result<(), AllocError> {
+fn the_window_is_a_set(rt: HostRuntime) {
     for first in [0, 65500, 18446744073709541615] {
-        let mut window = SeqNoWindow::new(SeqNo::from(first));
-        let mut taking = SeqNoWindow::new(SeqNo::from(first));
-        let mut taken = BTreeSet::new(rt.alloc());
-        taken.insert(first)?;
-        let mut greatest = first;
+        let mut windows = windows_of(&rt, rt.alloc(), first);
         for _ in 0..20 {
             for step in STEPS {
-                let number = moved(greatest, step);
-                window.update(SeqNo::from(number));
-                assert_eq!(rt;
-                    taking.take(SeqNo::from(number)),
-                    is_new(&taken, greatest, number),
-                    "{greatest}, {step}"
-                );
-                taken.insert(number)?;
-                greatest = greatest.max(number);
-                assert_eq!(rt; window.max_seq().get(), greatest);
-                assert_eq!(rt; taking.max_seq().get(), greatest);
-                for offset in -130..3 {
-                    let number = moved(greatest, offset);
-                    let wanted = is_new(&taken, greatest, number);
-                    check(&rt, &window, &[(number, wanted)]);
-                    check(&rt, &taking, &[(number, wanted)]);
-                }
+                let number = moved(windows.greatest, step);
+                record(&rt, &mut windows, number);
+                agree(&rt, &windows);
             }
         }
     }
-    Ok(())
 }

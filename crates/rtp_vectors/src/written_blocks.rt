@@ -4,44 +4,76 @@ ghost use Rattle.std.specs.Prelude.{◌≡◌, ◌⊎◌};
 ghost use Rattle.rtp_wire.specs.declared.ext.form.ExtensionsForm.TheVariants.{TwoByte};
 ghost use Rattle.rtp_wire.specs.WrittenBlock.{form_of};
 
+use crate::checks::{bytes_of, holds};
 use crate::fixtures::{full, level, one, two};
+use ExtensionsForm::{OneByte, TwoByte};
 use rtp_base::{Mid, Rid};
 use rtp_wire::{AbsCaptureTime, Extension, ExtensionMap, ExtensionValues, ExtensionsForm};
 use std::alloc::Global;
-use std::test::Fail;
+use std::process::Abort;
 
-// What is written into a buffer of ones, behind which nothing may change.
-fn written(
+// These bytes are written into a buffer of ones, behind which nothing may change.
+fn is_written(
+    rt: &impl Abort,
     alloc: Global,
     map: &ExtensionMap,
     ev: &ExtensionValues,
     form: ExtensionsForm,
-) -> Result<Vec<u8>, Fail>
+    text: &str,
+)
     requires { (form ≡ form_of map.now ev.now) ⊎ (form ≡ TwoByte) }
 {
+    let mut wanted = bytes_of(rt, alloc, text);
+    wanted.extend_from_slice(&[255; 3]).expect(rt, "memory");
     let len = map.wire_len(ev, form);
-    let mut buf = vec![in alloc; 255u8; len + 3]?;
+    let mut buf = vec![in alloc; 255u8; len + 3].expect(rt, "memory");
     let end = map.write_to(&mut buf, ev, form);
-    if end != len || !buf.ends_with(&[255, 255, 255]) {
-        return Err(Fail::from("more or less was written than was said"));
-    }
-    buf.truncate(end);
-    Ok(buf)
+    assert_eq!(rt; end, len, "{text}");
+    assert_eq!(rt; buf.as_slice(), wanted.as_slice());
 }
 
-// The elements in the form that they need, and in the two-byte form.
-fn elements(alloc: Global, map: &ExtensionMap, ev: &ExtensionValues) -> Result<Vec<u8>, Fail> {
-    written(alloc, map, ev, map.form(ev))
+// The elements are these in the two-byte form.
+fn check_two_byte(
+    rt: &impl Abort,
+    alloc: Global,
+    map: ExtensionMap,
+    ev: ExtensionValues,
+    text: &str,
+) {
+    is_written(rt, alloc, &map, &ev, ExtensionsForm::TwoByte, text);
 }
 
-fn two_byte(alloc: Global, map: &ExtensionMap, ev: &ExtensionValues) -> Result<Vec<u8>, Fail> {
-    written(alloc, map, ev, ExtensionsForm::TwoByte)
+// The elements need this form, and in it they are these.
+fn check(
+    rt: &impl Abort,
+    alloc: Global,
+    map: ExtensionMap,
+    ev: ExtensionValues,
+    form: ExtensionsForm,
+    text: &str,
+) {
+    assert!(rt; map.form(&ev) == form, "{text}");
+    is_written(rt, alloc, &map, &ev, map.form(&ev), text);
+}
+
+// The values with what the elements say.
+fn read(
+    rt: &impl Abort,
+    alloc: Global,
+    map: ExtensionMap,
+    text: &str,
+    mut values: ExtensionValues,
+) -> ExtensionValues {
+    let bytes = bytes_of(rt, alloc, text);
+    map.parse(alloc, &bytes, ExtensionsForm::OneByte, &mut values)
+        .expect(rt, "memory");
+    values
 }
 
 // Each kind under an id of its own: the element of the values with every field set, which are read
 // back one by one.
 #[test]
-fn each_kind(rt: HostRuntime) -> Result<(), Fail> {
+fn each_kind(rt: HostRuntime) {
     let rows = [
         (1, Extension::AudioLevel, "10ab"),
         (2, Extension::PlayoutDelay, "220640c8"),
@@ -62,159 +94,168 @@ fn each_kind(rt: HostRuntime) -> Result<(), Fail> {
         (14, Extension::TransmissionTimeOffset, "e300000064"),
     ];
     let mut values = ExtensionValues::default();
-    for (id, ext, text) in rows {
-        let map = one(id, ext);
-        let bytes = hex::decode(rt.alloc(), text)?;
-        let written = elements(rt.alloc(), &map, &full())?;
-        assert_eq!(rt; written.as_slice(), bytes.as_slice(), "{text}");
-        map.parse(rt.alloc(), &bytes, ExtensionsForm::OneByte, &mut values)?;
+    for (id, ext, text) in &rows {
+        let map = one(*id, copy_of(&rt, rt.alloc(), ext));
+        check(&rt, rt.alloc(), map, full(), OneByte, text);
+        let map = one(*id, copy_of(&rt, rt.alloc(), ext));
+        values = read(&rt, rt.alloc(), map, text, values);
     }
     assert!(rt; values == full());
-    Ok(())
 }
 
-#[test]
-fn a_level_of_0_and_a_capture_time_without_offset(rt: HostRuntime) -> Result<(), Fail> {
-    let map = two(1, Extension::AudioLevel, 5, Extension::AbsoluteCaptureTime);
-    let expected = ExtensionValues {
+// An extension like this one.
+fn copy_of(rt: &impl Abort, alloc: Global, ext: &Extension) -> Extension {
+    ext.clone(alloc).expect(rt, "memory")
+}
+
+// A level of 0 with voice, and a capture time without an offset.
+fn without_offset() -> ExtensionValues {
+    ExtensionValues {
         abs_capture_time: Some(AbsCaptureTime {
             capture_time: 0x0102_0304_0506_0708,
             clock_offset: None,
         }),
         ..level(0, true)
-    };
-    let bytes = hex::decode(rt.alloc(), "1080570102030405060708")?;
-    let written = elements(rt.alloc(), &map, &expected)?;
-    assert_eq!(rt; written.as_slice(), bytes.as_slice());
-    let mut values = ExtensionValues::default();
-    map.parse(rt.alloc(), &bytes, ExtensionsForm::OneByte, &mut values)?;
-    assert!(rt; values == expected);
-    Ok(())
+    }
 }
 
 #[test]
-fn texts(rt: HostRuntime) -> Result<(), Fail> {
-    let named = ExtensionValues {
+fn a_level_of_0_and_a_capture_time_without_offset(rt: HostRuntime) {
+    let map = || two(1, Extension::AudioLevel, 5, Extension::AbsoluteCaptureTime);
+    let text = "1080570102030405060708";
+    check(&rt, rt.alloc(), map(), without_offset(), OneByte, text);
+    let values = read(&rt, rt.alloc(), map(), text, ExtensionValues::default());
+    holds(&rt, "what is read", values == without_offset());
+}
+
+// Values with a mid and a stream id, and with a mid that is empty.
+fn named() -> ExtensionValues {
+    ExtensionValues {
         mid: Some(Mid::from("a-b")),
         rid: Some(Rid::from("x")),
         ..ExtensionValues::default()
-    };
-    let map = one(4, Extension::RtpMid);
-    assert_eq!(rt;
-        elements(rt.alloc(), &map, &named)?.as_slice(),
-        [0x42, b'a', b'_', b'b'].as_slice()
-    );
+    }
+}
 
-    // The one-byte form has no element without data.
-    let unnamed = ExtensionValues {
+fn unnamed() -> ExtensionValues {
+    ExtensionValues {
         mid: Some(Mid::from("")),
         ..ExtensionValues::default()
-    };
-    assert_eq!(rt; map.form(&unnamed), ExtensionsForm::TwoByte);
-    assert_eq!(rt;
-        elements(rt.alloc(), &map, &unnamed)?.as_slice(),
-        [4, 0].as_slice()
-    );
-    let map = one(10, Extension::RtpStreamId);
-    assert_eq!(rt; map.form(&unnamed), ExtensionsForm::OneByte);
-    assert_eq!(rt;
-        elements(rt.alloc(), &map, &named)?.as_slice(),
-        [0xA0, b'x'].as_slice()
-    );
-    Ok(())
+    }
 }
 
 #[test]
-fn ids_above_14(rt: HostRuntime) -> Result<(), Fail> {
-    let sent = ExtensionValues {
+fn texts(rt: HostRuntime) {
+    let mids = || one(4, Extension::RtpMid);
+    check(&rt, rt.alloc(), mids(), named(), OneByte, "42615f62");
+    // The one-byte form has no element without data.
+    check(&rt, rt.alloc(), mids(), unnamed(), TwoByte, "0400");
+    let rids = || one(10, Extension::RtpStreamId);
+    check(&rt, rt.alloc(), rids(), unnamed(), OneByte, "");
+    check(&rt, rt.alloc(), rids(), named(), OneByte, "a078");
+}
+
+// A send time, and a capture time.
+fn sent() -> ExtensionValues {
+    ExtensionValues {
         abs_send_time: Some(1_000_000_000),
         ..ExtensionValues::default()
-    };
-    let low = one(4, Extension::AbsoluteSendTime);
-    assert_eq!(rt; low.form(&sent), ExtensionsForm::OneByte);
-    assert_eq!(rt;
-        elements(rt.alloc(), &low, &sent)?.as_slice(),
-        [0x42, 0xA0, 0, 0].as_slice()
-    );
-    let high = one(16, Extension::AbsoluteSendTime);
-    assert_eq!(rt; high.form(&sent), ExtensionsForm::TwoByte);
-    assert_eq!(rt;
-        elements(rt.alloc(), &high, &sent)?.as_slice(),
-        [0x10, 3, 0xA0, 0, 0].as_slice()
-    );
+    }
+}
 
-    let captured = ExtensionValues {
+fn captured() -> ExtensionValues {
+    ExtensionValues {
         abs_capture_time: Some(AbsCaptureTime {
             capture_time: 0x0102_0304_0506_0708,
             clock_offset: Some(-987_654_321),
         }),
         ..ExtensionValues::default()
-    };
-    let map = one(16, Extension::AbsoluteCaptureTime);
-    assert_eq!(rt; map.form(&captured), ExtensionsForm::TwoByte);
-    let expected = hex::decode(rt.alloc(), "10100102030405060708ffffffffc521974f")?;
-    assert_eq!(rt;
-        elements(rt.alloc(), &map, &captured)?.as_slice(),
-        expected.as_slice()
-    );
-
-    // The id counts, whether there is a value or not.
-    let map = one(15, Extension::AudioLevel);
-    assert_eq!(rt;
-        map.form(&ExtensionValues::default()),
-        ExtensionsForm::TwoByte
-    );
-    assert_eq!(rt;
-        elements(rt.alloc(), &map, &level(-43, false))?.as_slice(),
-        [15, 1, 43].as_slice()
-    );
-    Ok(())
+    }
 }
 
 #[test]
-fn several(rt: HostRuntime) -> Result<(), Fail> {
-    let twice = two(5, Extension::AudioLevel, 1, Extension::AudioLevel);
-    let bytes = elements(rt.alloc(), &twice, &level(-5, false))?;
-    assert_eq!(rt; bytes.as_slice(), [0x10, 5, 0x50, 5].as_slice());
+fn ids_above_14(rt: HostRuntime) {
+    let low = one(4, Extension::AbsoluteSendTime);
+    check(&rt, rt.alloc(), low, sent(), OneByte, "42a00000");
+    let high = one(16, Extension::AbsoluteSendTime);
+    check(&rt, rt.alloc(), high, sent(), TwoByte, "1003a00000");
+    let map = one(16, Extension::AbsoluteCaptureTime);
+    let text = "10100102030405060708ffffffffc521974f";
+    check(&rt, rt.alloc(), map, captured(), TwoByte, text);
+    // The id counts, whether there is a value or not.
+    let levels = || one(15, Extension::AudioLevel);
+    check(
+        &rt,
+        rt.alloc(),
+        levels(),
+        ExtensionValues::default(),
+        TwoByte,
+        "",
+    );
+    check(
+        &rt,
+        rt.alloc(),
+        levels(),
+        level(-43, false),
+        TwoByte,
+        "0f012b",
+    );
+}
 
-    let values = ExtensionValues {
-        audio_level: Some(-43),
-        voice_activity: Some(true),
+// A level, a transport number and a mid, and a map of the three.
+fn three() -> ExtensionValues {
+    ExtensionValues {
         transport_cc: Some(2),
         mid: Some(Mid::from("xYj")),
-        ..ExtensionValues::default()
-    };
+        ..level(-43, true)
+    }
+}
+
+fn map_of_three() -> ExtensionMap {
     let mut map = two(4, Extension::RtpMid, 3, Extension::TransportSequenceNumber);
     map.set(1, Extension::AudioLevel);
-    let expected = hex::decode(rt.alloc(), "10ab3100024278596a")?;
-    assert_eq!(rt;
-        elements(rt.alloc(), &map, &values)?.as_slice(),
-        expected.as_slice()
-    );
-    let expected = hex::decode(rt.alloc(), "0101ab03020002040378596a")?;
-    assert_eq!(rt;
-        two_byte(rt.alloc(), &map, &values)?.as_slice(),
-        expected.as_slice()
-    );
-    Ok(())
+    map
 }
 
 #[test]
-fn nothing(rt: HostRuntime) -> Result<(), Fail> {
-    let values = level(-43, true);
-    assert!(rt; elements(rt.alloc(), &ExtensionMap::empty(), &values)?.is_empty());
-    let standard = ExtensionMap::standard();
-    assert_eq!(rt;
-        standard.form(&ExtensionValues::default()),
-        ExtensionsForm::OneByte
+fn several(rt: HostRuntime) {
+    let twice = two(5, Extension::AudioLevel, 1, Extension::AudioLevel);
+    check(
+        &rt,
+        rt.alloc(),
+        twice,
+        level(-5, false),
+        OneByte,
+        "10055005",
     );
-    assert!(rt; elements(rt.alloc(), &standard, &ExtensionValues::default())?.is_empty());
-    let no_voice = ExtensionValues {
+    let text = "10ab3100024278596a";
+    check(&rt, rt.alloc(), map_of_three(), three(), OneByte, text);
+    let text = "0101ab03020002040378596a";
+    check_two_byte(&rt, rt.alloc(), map_of_three(), three(), text);
+}
+
+// A level of which it isn't said whether there is voice.
+fn no_voice() -> ExtensionValues {
+    ExtensionValues {
         voice_activity: None,
-        ..values
-    };
-    assert!(rt; elements(rt.alloc(), &standard, &no_voice)?.is_empty());
+        ..level(-43, true)
+    }
+}
+
+#[test]
+fn nothing(rt: HostRuntime) {
+    let standard = || ExtensionMap::standard();
+    let empty = ExtensionMap::empty();
+    check(&rt, rt.alloc(), empty, level(-43, true), OneByte, "");
+    check(
+        &rt,
+        rt.alloc(),
+        standard(),
+        ExtensionValues::default(),
+        OneByte,
+        "",
+    );
+    check(&rt, rt.alloc(), standard(), no_voice(), OneByte, "");
     let map = one(6, Extension::ColorSpace);
-    assert!(rt; elements(rt.alloc(), &map, &no_voice)?.is_empty());
-    Ok(())
+    check(&rt, rt.alloc(), map, no_voice(), OneByte, "");
 }
