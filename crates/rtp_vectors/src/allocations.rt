@@ -80,14 +80,14 @@ pub(crate) fn reads(rt: &impl Abort, alloc: Global, bytes: &[u8], index: u8, row
 fn is_written(rt: &impl Abort, v: &VideoLayersAllocation, bytes: &[u8]) {
     assert!(rt; is_writable(v), "{bytes:?}");
     let len = wire_len(v);
-    assert!(rt; len == bytes.len(), "{bytes:?}");
-    assert!(rt; checked_wire_len(v) == Some(len), "{bytes:?}");
     assert!(rt; len <= 299);
     let mut buf = [7u8; 300];
     let end = write_to(v, &mut buf);
-    assert!(rt; end == len, "{bytes:?}");
-    assert!(rt; &buf[..end] == bytes, "{bytes:?}");
-    assert!(rt; buf[end] == 7, "{bytes:?}");
+    same(rt, "the length", len, bytes.len());
+    same(rt, "the checked length", checked_wire_len(v), Some(len));
+    same(rt, "the end", end, len);
+    same(rt, "the bytes", buf.get(..end), Some(bytes));
+    same(rt, "the byte behind them", buf.get(end).copied(), Some(7));
 }
 
 // The allocation of these streams is written as the bytes.
@@ -181,6 +181,11 @@ fn streams_of_several_layers(rt: HostRuntime) {
             (&[120, 121], None),
         ]],
     );
+}
+
+#[test]
+fn two_streams_of_several_layers(rt: HostRuntime) {
+    let a = rt.alloc();
     alike(
         &rt,
         a,
@@ -227,6 +232,11 @@ fn masks_of_each_stream(rt: HostRuntime) {
             &[(&[3], None), (&[4], None)],
         ],
     );
+}
+
+#[test]
+fn streams_without_rates(rt: HostRuntime) {
+    let a = rt.alloc();
     alike(&rt, a, &[0x40, 0x00], 1, &[&[]]);
     alike(&rt, a, &[0x60, 0x00, 0x0F], 1, &[&[], &[], &[]]);
     alike(&rt, a, &[0x00, 0x00], 0, &[&[]]);

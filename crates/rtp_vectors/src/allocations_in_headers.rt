@@ -2,7 +2,7 @@
 
 use crate::allocation_limits::largest;
 use crate::allocations::{Row, allocation, told};
-use crate::checks::{holds, named, same};
+use crate::checks::{are_values, holds, named, same};
 use crate::fixtures::{full, level, one, two};
 use crate::headers_written::{check, is_read, written};
 use crate::values::{has_data, has_no_data, is_refused, read};
@@ -57,16 +57,20 @@ fn kind(rt: HostRuntime) {
     holds(&rt, "audio", !kind.is_audio());
 }
 
+// The data are read as the small allocation.
+fn is_read_as_small(rt: &impl Abort, alloc: Global, data: &[u8]) {
+    let values = read(rt, alloc, &Extension::VideoLayersAllocation, data);
+    are_values(rt, "the data", &values, &carrying(small(rt, alloc)));
+}
+
 #[test]
 fn data(rt: HostRuntime) {
-    let alloc = rt.alloc();
-    let kind = Extension::VideoLayersAllocation;
     let bytes = SMALL.get(..11).unwrap_or(&[]);
-    let values = || carrying(small(&rt, alloc));
-    has_data(&rt, &kind, &values(), bytes);
-    holds(&rt, "the bytes", read(&rt, alloc, &kind, bytes) == values());
+    let values = carrying(small(&rt, rt.alloc()));
+    has_data(&rt, &Extension::VideoLayersAllocation, &values, bytes);
+    is_read_as_small(&rt, rt.alloc(), bytes);
     // Bytes behind the last resolution are passed over.
-    holds(&rt, "one more", read(&rt, alloc, &kind, &SMALL) == values());
+    is_read_as_small(&rt, rt.alloc(), &SMALL);
 }
 
 #[test]
@@ -179,29 +183,42 @@ fn with_block(
     values
 }
 
+// The values of an allocation without streams.
+fn without_streams(rt: &impl Abort, alloc: Global) -> ExtensionValues {
+    carrying(allocation(rt, alloc, 0, &[]))
+}
+
 #[test]
 fn blocks(rt: HostRuntime) {
     let alloc = rt.alloc();
-    let nothing = || carrying(allocation(&rt, alloc, 0, &[]));
     // The second element has a width of 65536, and isn't well-formed.
     let body = [1, 1, 0, 1, 8, 1, 0, 5, 0xFF, 0xFF, 0, 0, 0x1E, 0, 0, 0];
     let values = ExtensionValues::default();
     let read = with_block(&rt, alloc, ExtensionsForm::TwoByte, &body, values);
-    holds(&rt, "two bytes", read == nothing());
+    are_values(&rt, "two bytes", &read, &without_streams(&rt, alloc));
+}
+
+#[test]
+fn blocks_of_the_one_byte_form(rt: HostRuntime) {
+    let alloc = rt.alloc();
     // The one-byte form carries three bytes of data as well, and the last element counts.
     let body = [0x10, 0, 0x12, 1, 0, 5];
     let last = carrying(allocation(&rt, alloc, 0, &[&[(&[5], None)]]));
-    let read = with_block(&rt, alloc, ExtensionsForm::OneByte, &body, nothing());
-    holds(&rt, "one byte", read == last);
+    let values = without_streams(&rt, alloc);
+    let read = with_block(&rt, alloc, ExtensionsForm::OneByte, &body, values);
+    are_values(&rt, "one byte", &read, &last);
 }
 
-// A header with every field of its values set.
-fn complete(rt: &impl Abort, alloc: Global) -> RtpHeader {
-    let values = ExtensionValues {
+// Values with every field set, and a header that has them.
+fn complete_values(rt: &impl Abort, alloc: Global) -> ExtensionValues {
+    ExtensionValues {
         video_layers_allocation: Some(small(rt, alloc)),
         ..full()
-    };
-    header(values, 9)
+    }
+}
+
+fn complete(rt: &impl Abort, alloc: Global) -> RtpHeader {
+    header(complete_values(rt, alloc), 9)
 }
 
 #[test]
@@ -214,13 +231,10 @@ fn copies(rt: HostRuntime) {
 
 #[test]
 fn copies_of_values(rt: HostRuntime) {
-    let source = complete(&rt, rt.alloc()).ext_vals;
+    let source = complete_values(&rt, rt.alloc());
     let copy = source.clone(rt.alloc()).expect(&rt, "memory");
-    holds(&rt, "the values", copy == source);
-    holds(
-        &rt,
-        "the values again",
-        copy == complete(&rt, rt.alloc()).ext_vals,
-    );
+    are_values(&rt, "the values", &copy, &source);
+    let again = complete_values(&rt, rt.alloc());
+    are_values(&rt, "the values again", &copy, &again);
     holds(&rt, "those without it", copy != full());
 }

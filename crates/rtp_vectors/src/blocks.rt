@@ -1,6 +1,6 @@
 //! Blocks of header extensions, read under a map.
 
-use crate::checks::{bytes_of, holds, named, same};
+use crate::checks::{are_values, bytes_of, holds, named, same};
 use crate::fixtures::{full, level, one, spoken};
 use crate::headers_written::is_read;
 use ExtensionsForm::{OneByte, TwoByte};
@@ -51,7 +51,7 @@ fn check_body(
     wanted: ExtensionValues,
 ) {
     let values = read(rt, alloc, map, form, body, ExtensionValues::default());
-    assert!(rt; values == wanted, "{body:?}");
+    holds(rt, body.len(), values == wanted);
     let (bytes, header_len) = packet(alloc, form, body).expect(rt, "memory");
     let wanted = RtpHeader {
         payload_type: Pt::from(0),
@@ -205,7 +205,7 @@ fn levels_everywhere() -> ExtensionMap {
 // An element of this id changes nothing, and those round it are read.
 fn is_passed_over(rt: &impl Abort, alloc: Global, map: &ExtensionMap, id: u8) {
     let values = read(rt, alloc, map, TwoByte, &[id, 1, 170], full());
-    assert!(rt; values == full(), "{id}");
+    holds(rt, id, values == full());
     let body = [id, 1, 5, 16, 1, 170, id, 1, 5];
     let values = read(rt, alloc, map, TwoByte, &body, values);
     same(rt, id, values.audio_level, Some(-42));
@@ -232,7 +232,7 @@ fn changes_nothing(
 ) {
     let bytes = bytes_of(rt, alloc, body);
     let values = read(rt, alloc, map, form, &bytes, full());
-    assert!(rt; values == full(), "{body}");
+    are_values(rt, body, &values, &full());
 }
 
 // Blocks in which nothing well-formed is mapped.

@@ -1,6 +1,6 @@
 //! What tests of several topics assert. What fails is named by what is given for `at`.
 
-use rtp_wire::{Extension, ExtensionMap};
+use rtp_wire::{Extension, ExtensionMap, ExtensionValues};
 use std::alloc::{AllocError, Global};
 use std::fmt::{Debug, Display};
 use std::process::Abort;
@@ -56,4 +56,21 @@ pub(crate) fn named(rt: &impl Abort, alloc: Global, uri: &str) -> Extension {
 // The two maps are the same.
 pub(crate) fn is_map(rt: &impl Abort, map: &ExtensionMap, wanted: ExtensionMap) {
     assert!(rt; *map == wanted, "{map:?}");
+}
+
+// What is written are the bytes, in front of three bytes of ones that stood in the buffer.
+pub(crate) fn is_in_front_of_ones(rt: &impl Abort, at: &str, written: &[u8], bytes: &[u8]) {
+    let len = bytes.len();
+    same(rt, at, written.get(..len), Some(bytes));
+    same(rt, at, written.get(len..), Some([255; 3].as_slice()));
+}
+
+// The values are the same.
+pub(crate) fn are_values(
+    rt: &impl Abort,
+    at: &str,
+    values: &ExtensionValues,
+    wanted: &ExtensionValues,
+) {
+    assert!(rt; *values == *wanted, "at {at}");
 }

@@ -140,21 +140,26 @@ fn has_media(rt: &impl Abort, kind: &Extension, audio: bool, video: bool) {
     assert!(rt; kind.is_video() == video, "{kind}");
 }
 
+// The kind has this URI and this text, and its copy is like it.
+fn check(rt: &impl Abort, alloc: Global, kind: &Extension, uri: &str, name: &str) {
+    has_uri(rt, alloc, kind, uri);
+    shows(rt, alloc, kind, name);
+    is_copied(rt, alloc, kind);
+}
+
 #[test]
 fn known_kinds(rt: HostRuntime) {
     for (kind, uri, name, audio, video) in &KINDS {
-        has_uri(&rt, rt.alloc(), kind, uri);
-        shows(&rt, rt.alloc(), kind, name);
+        check(&rt, rt.alloc(), kind, uri, name);
         has_media(&rt, kind, *audio, *video);
-        is_copied(&rt, rt.alloc(), kind);
     }
 }
 
 #[test]
 fn kinds_differ(rt: HostRuntime) {
-    for (index, (kind, ..)) in KINDS.iter().enumerate() {
-        for (other_index, (other, ..)) in KINDS.iter().enumerate() {
-            same(&rt, index, kind == other, index == other_index);
+    for (kind, uri, ..) in &KINDS {
+        for (other, other_uri, ..) in &KINDS {
+            same(&rt, *uri, kind == other, uri == other_uri);
         }
     }
 }
@@ -162,11 +167,9 @@ fn kinds_differ(rt: HostRuntime) {
 // The URI names an unknown extension, which has it for its text.
 fn check_unknown(rt: &impl Abort, alloc: Global, uri: &str) {
     let ext = named(rt, alloc, uri);
-    assert!(rt; ext == unknown(rt, alloc, uri), "{uri}");
-    same(rt, uri, ext.as_uri(), uri);
-    shows(rt, alloc, &ext, uri);
+    holds(rt, uri, ext == unknown(rt, alloc, uri));
+    check(rt, alloc, &ext, uri, uri);
     has_media(rt, &ext, false, false);
-    is_copied(rt, alloc, &ext);
 }
 
 const UNKNOWN: [&str; 7] = [

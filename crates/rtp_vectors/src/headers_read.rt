@@ -79,9 +79,9 @@ fn a_long_datagram(rt: HostRuntime) {
 // The bytes begin with a header of this length, which has version 2 and payload type 0.
 fn is_accepted(rt: &impl Abort, alloc: Global, bytes: &[u8], len: usize) {
     let header = parse(rt, alloc, bytes).expect(rt, "a header");
-    assert!(rt; header.header_len == len, "{len}");
-    assert!(rt; header.version == 2, "{len}");
-    assert!(rt; header.payload_type == Pt::from(0), "{len}");
+    same(rt, len, header.header_len, len);
+    same(rt, len, header.version, 2);
+    holds(rt, len, header.payload_type == Pt::from(0));
 }
 
 #[test]
@@ -170,16 +170,20 @@ fn every_front_of_a_packet(rt: HostRuntime) {
     }
 }
 
+// Whether the packet has a header with this first byte: with a block and a source, other bytes than
+// BEDE stand where the form should.
+fn begins_a_header(first: u8) -> bool {
+    matches!(first, 128..=137 | 160..=169 | 144 | 176)
+}
+
 #[test]
 fn every_first_byte_of_a_packet(rt: HostRuntime) {
     let mut bytes = bytes_of(&rt, rt.alloc(), PACKET);
     assert!(rt; bytes.len() == 48);
     for first in 0..=255u8 {
         bytes[0] = first;
-        // With a block and a source, other bytes than BEDE stand where the form should.
-        let wanted = matches!(first, 128..=137 | 160..=169 | 144 | 176);
         let read = parse(&rt, rt.alloc(), &bytes);
-        same(&rt, first, read.is_some(), wanted);
+        same(&rt, first, read.is_some(), begins_a_header(first));
     }
 }
 

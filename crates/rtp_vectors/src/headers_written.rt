@@ -1,6 +1,6 @@
 //! Headers, written as bytes and read back.
 
-use crate::checks::{bytes_of, holds};
+use crate::checks::{bytes_of, holds, is_in_front_of_ones, same};
 use crate::fixtures::{level, one};
 use rtp_base::{Pt, Ssrc};
 use rtp_wire::{Extension, ExtensionMap, ExtensionValues, RtpHeader};
@@ -19,8 +19,13 @@ pub(crate) fn written(
     let len = header.wire_len(exts);
     let mut buf = vec![in alloc; 255u8; len + 3].expect(rt, "memory");
     let end = header.write_to(&mut buf, exts);
-    assert!(rt; end == len, "{end} and {len}");
+    same(rt, "the end", end, len);
     buf
+}
+
+// What was read of the bytes is this header.
+fn is_header(rt: &impl Abort, bytes: &[u8], read: &RtpHeader, wanted: &RtpHeader) {
+    assert!(rt; *read == *wanted, "{bytes:?}");
 }
 
 // The bytes are read as this header.
@@ -32,7 +37,7 @@ pub(crate) fn is_read(
     wanted: &RtpHeader,
 ) {
     match RtpHeader::parse(alloc, bytes, exts).expect(rt, "memory") {
-        Some(read) => assert!(rt; read == *wanted, "{bytes:?}"),
+        Some(read) => is_header(rt, bytes, &read, wanted),
         None => panic!(rt; "no header: {bytes:?}"),
     }
 }
@@ -48,9 +53,7 @@ pub(crate) fn check(
     image: RtpHeader,
 ) {
     let written = written(rt, alloc, &header, &exts);
-    assert!(rt; written.starts_with(bytes), "{written:?}");
-    let behind = written.get(bytes.len()..).unwrap_or(&[]);
-    assert_eq!(rt; behind, [255; 3].as_slice());
+    is_in_front_of_ones(rt, "what is written", &written, bytes);
     is_read(rt, alloc, &exts, bytes, &image);
     is_read(rt, alloc, &exts, &written, &image);
 }
@@ -177,14 +180,19 @@ fn most_sources(rt: HostRuntime) {
     has_len(&rt, &most(16), &ExtensionMap::empty(), 76);
 }
 
+// The bytes are read as no header.
+fn is_no_header(rt: &impl Abort, alloc: Global, exts: &ExtensionMap, bytes: &[u8]) {
+    let read = RtpHeader::parse(alloc, bytes, exts).expect(rt, "memory");
+    holds(rt, bytes.len(), read.is_none());
+}
+
 // The last source is cut short, and so is the block.
 #[test]
 fn fronts_of_most_sources(rt: HostRuntime) {
     let bytes = bytes_of(&rt, rt.alloc(), MOST_SOURCES);
     for len in [71, 73, 79] {
         let front = bytes.get(..len).expect(&rt, "a front of the bytes");
-        let read = RtpHeader::parse(rt.alloc(), front, &levels_of_id_3());
-        holds(&rt, len, read.expect(&rt, "memory").is_none());
+        is_no_header(&rt, rt.alloc(), &levels_of_id_3(), front);
     }
 }
 

@@ -98,8 +98,6 @@ fn texts_of_mids(rt: HostRuntime) {
         same(&rt, text, mid.as_str(), kept);
         shows(&rt, rt.alloc(), &mid, kept);
     }
-    let shown = format!(in rt.alloc(); "{:?}", Mid::from("xYj"));
-    is_text(&rt, shown, "Mid(xYj)");
 }
 
 // Texts, and the stream ids that are made of them.
@@ -119,8 +117,13 @@ fn texts_of_rids(rt: HostRuntime) {
         same(&rt, text, rid.as_str(), kept);
         shows(&rt, rt.alloc(), &rid, kept);
     }
-    let shown = format!(in rt.alloc(); "{:?}", Rid::from(""));
-    is_text(&rt, shown, "Rid()");
+}
+
+#[test]
+fn debug_texts(rt: HostRuntime) {
+    let (mid, rid) = (Mid::from("xYj"), Rid::from(""));
+    is_text(&rt, format!(in rt.alloc(); "{mid:?}"), "Mid(xYj)");
+    is_text(&rt, format!(in rt.alloc(); "{rid:?}"), "Rid()");
 }
 
 #[test]

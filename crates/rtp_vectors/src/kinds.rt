@@ -1,6 +1,6 @@
 //! Rows of single kinds of header extension.
 
-use crate::checks::{holds, same};
+use crate::checks::{are_values, holds, same};
 use crate::fixtures::level;
 use crate::values::{has_data, has_no_data, is_read_into, is_refused, nines, read};
 use rtp_base::{MediaTime, Mid, Rid};
@@ -53,8 +53,14 @@ fn is_read_back(
     len: usize,
 ) {
     let mut buf = nines();
-    assert_eq!(rt; kind.write_to(&mut buf, &values), Some(len));
-    assert!(rt; read(rt, alloc, kind, &buf) == values, "{buf:?}");
+    same(
+        rt,
+        "the length",
+        kind.write_to(&mut buf, &values),
+        Some(len),
+    );
+    let again = read(rt, alloc, kind, &buf);
+    are_values(rt, "what is read again", &again, &values);
 }
 
 #[test]
@@ -152,7 +158,7 @@ fn is_orientation(
 ) {
     let kind = Extension::VideoOrientation;
     let values = read(rt, alloc, &kind, &[byte]);
-    assert!(rt; values.video_orientation == Some(orientation), "{byte}");
+    holds(rt, byte, values.video_orientation == Some(orientation));
     has_data(rt, &kind, &values, &[number]);
 }
 
@@ -219,7 +225,7 @@ fn delays(rt: HostRuntime) {
 fn is_mid(rt: &impl Abort, alloc: Global, data: &[u8], text: &str) {
     let kind = Extension::RtpMid;
     let values = read(rt, alloc, &kind, data);
-    assert!(rt; values.mid == Some(Mid::from(text)), "{text}");
+    holds(rt, text, values.mid == Some(Mid::from(text)));
     has_data(rt, &kind, &values, text.as_bytes());
 }
 
@@ -227,8 +233,8 @@ fn is_mid(rt: &impl Abort, alloc: Global, data: &[u8], text: &str) {
 fn is_repaired_rid(rt: &impl Abort, alloc: Global, data: &[u8], text: &str) {
     let kind = Extension::RepairedRtpStreamId;
     let values = read(rt, alloc, &kind, data);
-    assert!(rt; values.rid_repair == Some(Rid::from(text)), "{text}");
-    assert!(rt; values.rid.is_none(), "{text}");
+    holds(rt, text, values.rid_repair == Some(Rid::from(text)));
+    holds(rt, text, values.rid.is_none());
     has_data(rt, &kind, &values, text.as_bytes());
 }
 

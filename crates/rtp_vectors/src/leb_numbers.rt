@@ -1,6 +1,6 @@
 //! LEB128 numbers of up to 63 bits.
 
-use crate::checks::same;
+use crate::checks::{holds, same};
 use rtp_wire::vla::{encode_leb_u63, parse_leb_u63};
 use std::process::Abort;
 
@@ -35,12 +35,10 @@ fn numbers_read(rt: HostRuntime) {
 fn is_written(rt: &impl Abort, number: u64, bytes: &[u8]) {
     assert!(rt; number <= 9223372036854775807, "{number} takes 64 bits");
     let mut buf = [7; 9];
-    assert!(rt; encode_leb_u63(number, &mut buf) == bytes.len(), "{number}");
-    assert!(rt; buf.starts_with(bytes), "{number}");
-    assert!(rt;
-        buf.iter().skip(bytes.len()).all(|byte| *byte == 7),
-        "{number}"
-    );
+    same(rt, number, encode_leb_u63(number, &mut buf), bytes.len());
+    holds(rt, number, buf.starts_with(bytes));
+    let mut behind = buf.iter().skip(bytes.len());
+    holds(rt, number, behind.all(|byte| *byte == 7));
 }
 
 #[test]

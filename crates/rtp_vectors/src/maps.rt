@@ -19,7 +19,7 @@ fn is_shown(rt: &impl Abort, alloc: Global, map: &ExtensionMap, text: &str) {
 
 // The id has this kind in the map.
 fn has(rt: &impl Abort, map: &ExtensionMap, id: u8, kind: Extension) {
-    assert!(rt; map.lookup(id) == Some(&kind), "at {id}");
+    holds(rt, id, map.lookup(id) == Some(&kind));
 }
 
 // A copy of the map.
@@ -114,7 +114,7 @@ fn emptiness(rt: HostRuntime) {
 // The entries have these ids, in this order.
 fn have_ids(rt: &impl Abort, alloc: Global, entries: IterByMediaType<'_>, wanted: &[u8]) {
     let ids = entries.map(|(id, _)| id).collect::<Vec<_>>(alloc);
-    assert_eq!(rt; ids.expect(rt, "memory").as_slice(), wanted);
+    same(rt, "the ids", ids.expect(rt, "memory").as_slice(), wanted);
 }
 
 // The entries of audio or of video streams are shown as this text.
@@ -155,10 +155,15 @@ fn iterators_end(rt: HostRuntime) {
     is_the_mid(&rt, all.next());
     holds(&rt, "the end", all.next().is_none());
     holds(&rt, "behind the end", all.next().is_none());
+}
+
+#[test]
+fn iterators_of_a_medium_end(rt: HostRuntime) {
+    let map = one(16, Extension::RtpMid);
     let mut audio = map.iter_by_media_type(true);
     is_the_mid(&rt, audio.next());
-    holds(&rt, "the end of audio", audio.next().is_none());
-    holds(&rt, "behind the end of audio", audio.next().is_none());
+    holds(&rt, "the end", audio.next().is_none());
+    holds(&rt, "behind the end", audio.next().is_none());
 }
 
 // Asks for one id, and for two.
@@ -287,10 +292,8 @@ fn numbered(rt: &impl Abort, alloc: Global, id: u8) -> String {
 // The id has the kind of that URI in the map.
 fn has_numbered(rt: &impl Abort, alloc: Global, map: &ExtensionMap, id: u8) {
     let uri = numbered(rt, alloc, id);
-    assert!(rt;
-        map.lookup(id).map(|ext| ext.as_uri()) == Some(uri.as_str()),
-        "at {id}"
-    );
+    let found = map.lookup(id).map(|ext| ext.as_uri());
+    same(rt, id, found, Some(uri.as_str()));
 }
 
 #[test]

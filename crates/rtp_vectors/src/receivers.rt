@@ -46,7 +46,7 @@ fn estimates(rt: &impl Abort, receiver: &Receiver, number: u16, wanted: u64) {
     );
 }
 
-// The packet of this number is taken as the other one, or refused, and then the highest is this one.
+// The packet of this number is taken as the other one, or refused; then the highest is this one.
 fn receives(
     rt: &impl Abort,
     receiver: &mut Receiver,
@@ -107,14 +107,18 @@ fn takes_both(
     same(rt, number, in_steps.highest(), at_once.highest());
 }
 
+fn take_run(rt: &impl Abort, numbers: &[u16], taken: &[Option<u64>]) {
+    let mut at_once = Receiver::new();
+    let mut in_steps = Receiver::new();
+    for (number, taken) in numbers.iter().zip(taken) {
+        takes_both(rt, &mut at_once, &mut in_steps, *number, *taken);
+    }
+}
+
 #[test]
 fn three_steps(rt: HostRuntime) {
     for (numbers, taken) in RUNS {
-        let mut at_once = Receiver::new();
-        let mut in_steps = Receiver::new();
-        for (number, taken) in numbers.iter().zip(taken) {
-            takes_both(&rt, &mut at_once, &mut in_steps, *number, *taken);
-        }
+        take_run(&rt, numbers, taken);
     }
 }
 

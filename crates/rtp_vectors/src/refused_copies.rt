@@ -1,6 +1,7 @@
 //! Copying where memory may be refused once: the source is as it was, and the same call with memory
 //! copies all of it. `.ci/run` refuses each growth in turn.
 
+use crate::checks::{holds, same};
 use crate::refused_samples::{ALLOCATION, PACKET, is_whole, map, named};
 use rtp_wire::vla::{
     self, SimulcastStreamAllocation, SpatialLayerAllocation, VideoLayersAllocation,
@@ -33,7 +34,8 @@ fn of_an_allocation(rt: HostRuntime) {
         Ok(copy) => copy,
         Err(_) => source.clone(rt.alloc()).expect(&rt, "memory"),
     };
-    assert!(rt; is_whole(&source) && is_whole(&copy));
+    holds(&rt, "the source", is_whole(&source));
+    holds(&rt, "the copy", is_whole(&copy));
 }
 
 // The layer is copied at once or at the second time, and so is a stream with each of its layers.
@@ -42,7 +44,7 @@ fn copies_layer(rt: &impl Abort, alloc: Global, layer: &SpatialLayerAllocation) 
         Ok(copy) => copy,
         Err(_) => layer.clone(alloc).expect(rt, "memory"),
     };
-    assert!(rt; copy == *layer);
+    holds(rt, "the copy", copy == *layer);
 }
 
 fn copies_stream(rt: &impl Abort, alloc: Global, stream: &SimulcastStreamAllocation) {
@@ -50,7 +52,7 @@ fn copies_stream(rt: &impl Abort, alloc: Global, stream: &SimulcastStreamAllocat
         Ok(copy) => copy,
         Err(_) => stream.clone(alloc).expect(rt, "memory"),
     };
-    assert!(rt; copy == *stream);
+    holds(rt, "the copy", copy == *stream);
     for layer in &stream.spatial_layers {
         copies_layer(rt, alloc, layer);
     }
@@ -62,7 +64,7 @@ fn of_streams_and_layers(rt: HostRuntime) {
     for stream in &source.simulcast_streams {
         copies_stream(&rt, rt.alloc(), stream);
     }
-    assert!(rt; is_whole(&source));
+    holds(&rt, "the source", is_whole(&source));
 }
 
 // The values are copied at once or at the second time.
@@ -71,7 +73,7 @@ fn copies_values(rt: &impl Abort, alloc: Global, source: &ExtensionValues) {
         Ok(copy) => copy,
         Err(_) => source.clone(alloc).expect(rt, "memory"),
     };
-    assert!(rt; copy == *source);
+    holds(rt, "the copy", copy == *source);
 }
 
 #[test]
@@ -86,8 +88,8 @@ fn of_a_header(rt: HostRuntime) {
         Ok(copy) => copy,
         Err(_) => source.clone(rt.alloc()).expect(&rt, "memory"),
     };
-    assert!(rt; copy == source);
-    assert!(rt; copy.header_len == 36);
+    holds(&rt, "the copy", copy == source);
+    same(&rt, "its length", copy.header_len, 36);
 }
 
 // The extension of a URI is copied at once or at the second time.
@@ -96,7 +98,7 @@ fn copies_extension(rt: &impl Abort, alloc: Global, source: &Extension) {
         Ok(copy) => copy,
         Err(_) => source.clone(alloc).expect(rt, "memory"),
     };
-    assert!(rt; copy == *source);
+    holds(rt, "the copy", copy == *source);
 }
 
 // The extension of a URI, made of an owned text.
@@ -113,7 +115,7 @@ fn of_a_map(rt: HostRuntime) {
     let own = named(&rt, rt.alloc(), "urn:example:one");
     copies_extension(&rt, rt.alloc(), &own);
     let other = of_text(&rt, rt.alloc(), "urn:example:two");
-    assert!(rt; other != own);
+    holds(&rt, "another", other != own);
     let mut source = ExtensionMap::standard();
     source.set(5, own);
     source.set(6, other);
@@ -126,5 +128,5 @@ fn copies_map(rt: &impl Abort, alloc: Global, source: &ExtensionMap) {
         Ok(copy) => copy,
         Err(_) => source.clone(alloc).expect(rt, "memory"),
     };
-    assert!(rt; copy == *source);
+    holds(rt, "the copy", copy == *source);
 }

@@ -42,7 +42,8 @@ fn an_allocation(rt: HostRuntime) {
         Ok(read) => read,
         Err(_) => vla::parse(rt.alloc(), &ALLOCATION).expect(&rt, "memory"),
     };
-    assert!(rt; is_whole(&read.expect(&rt, "an allocation")));
+    let read = read.expect(&rt, "an allocation");
+    holds(&rt, "the allocation", is_whole(&read));
 }
 
 // A level of -7, and an allocation that takes no memory.
@@ -132,5 +133,6 @@ fn a_run(rt: HostRuntime) {
         Err(_) => receive_run(rt.alloc(), &datagrams, &map()).expect(&rt, "memory"),
     };
     let taken = Verdict::Taken(SeqNo::from(47_000));
-    assert!(rt; verdicts.as_slice() == [taken, Verdict::Unreadable].as_slice());
+    let wanted = [taken, Verdict::Unreadable];
+    same(&rt, "the verdicts", verdicts.as_slice(), wanted.as_slice());
 }

@@ -6,8 +6,8 @@ use rtp_wire::{ExtensionMap, Verdict, receive_run};
 use std::alloc::{AllocError, Global};
 use std::process::Abort;
 
-// The numbers of a stream's packets, in the order in which they come, and as what each one is taken:
-// none where it is refused.
+// The numbers of a stream's packets, in the order in which they come, and as what each one is
+// taken: none where it is refused.
 pub(crate) const RUNS: [(&[u16], &[Option<u64>]); 11] = [
     (&[], &[]),
     (
@@ -77,10 +77,8 @@ fn datagrams(alloc: Global, numbers: &[Option<u16>]) -> Result<Vec<Vec<u8>>, All
 fn check(rt: &impl Abort, alloc: Global, numbers: &[Option<u16>], wanted: &[Verdict]) {
     let datagrams = datagrams(alloc, numbers).expect(rt, "memory");
     let verdicts = receive_run(alloc, &datagrams, &ExtensionMap::empty());
-    assert!(rt;
-        verdicts.expect(rt, "memory").as_slice() == wanted,
-        "{numbers:?}"
-    );
+    let verdicts = verdicts.expect(rt, "memory");
+    same(rt, numbers.len(), verdicts.as_slice(), wanted);
 }
 
 #[test]

@@ -128,6 +128,10 @@ fn texts_of_frequencies(rt: HostRuntime) {
     for (text, hertz) in TEXTS {
         is_read(&rt, text, Ok(at(0, hertz).frequency()));
     }
+}
+
+#[test]
+fn texts_of_no_frequency(rt: HostRuntime) {
     for text in OTHER_TEXTS {
         is_read(&rt, text, Err(ParseFrequencyError));
     }

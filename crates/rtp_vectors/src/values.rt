@@ -2,7 +2,7 @@
 
 ghost use Rattle.std.specs.Prelude.{◌≡◌, length};
 
-use crate::checks::{holds, named};
+use crate::checks::{are_values, holds, named};
 use crate::fixtures::full;
 use rtp_wire::{Extension, ExtensionValues};
 use std::alloc::Global;
@@ -63,7 +63,7 @@ pub(crate) fn is_refused(rt: &impl Abort, alloc: Global, kind: &Extension, data:
         !is_read_into(rt, alloc, kind, data, &mut values),
         "{kind}: {data:?}"
     );
-    assert!(rt; values == full(), "{kind}: {data:?}");
+    are_values(rt, kind.as_uri(), &values, &full());
 }
 
 // The kind's data are these for the values.
@@ -113,16 +113,27 @@ const NEEDS: [(Extension, usize); 10] = [
     (Extension::FrameMarking, 4),
 ];
 
+// The data of a kind for the values with every field set, read into others.
+fn check_full(
+    rt: &impl Abort,
+    alloc: Global,
+    kind: &Extension,
+    data: &[u8],
+    values: &mut ExtensionValues,
+) {
+    has_data(rt, kind, &full(), data);
+    has_no_data(rt, kind, &ExtensionValues::default());
+    let is_read = is_read_into(rt, alloc, kind, data, values);
+    holds(rt, kind.as_uri(), is_read);
+}
+
 #[test]
 fn each_kind(rt: HostRuntime) {
     let mut values = ExtensionValues::default();
     for (kind, data) in &FULL {
-        has_data(&rt, kind, &full(), data);
-        has_no_data(&rt, kind, &ExtensionValues::default());
-        let is_read = is_read_into(&rt, rt.alloc(), kind, data, &mut values);
-        holds(&rt, data.len(), is_read);
+        check_full(&rt, rt.alloc(), kind, data, &mut values);
     }
-    assert!(rt; values == full());
+    are_values(&rt, "the end", &values, &full());
 }
 
 // The values of one kind alone have its data, and none of another kind.

@@ -4,7 +4,7 @@ ghost use Rattle.std.specs.Prelude.{◌≡◌, ◌⊎◌};
 ghost use Rattle.rtp_wire.specs.declared.ext.form.ExtensionsForm.TheVariants.{TwoByte};
 ghost use Rattle.rtp_wire.specs.WrittenBlock.{form_of};
 
-use crate::checks::{bytes_of, holds};
+use crate::checks::{are_values, bytes_of, holds, is_in_front_of_ones, same};
 use crate::fixtures::{full, level, one, two};
 use ExtensionsForm::{OneByte, TwoByte};
 use rtp_base::{Mid, Rid};
@@ -12,24 +12,21 @@ use rtp_wire::{AbsCaptureTime, Extension, ExtensionMap, ExtensionValues, Extensi
 use std::alloc::Global;
 use std::process::Abort;
 
-// These bytes are written into a buffer of ones, behind which nothing may change.
-fn is_written(
+// What is written into a buffer of ones, and three bytes behind it.
+fn written(
     rt: &impl Abort,
     alloc: Global,
     map: &ExtensionMap,
     ev: &ExtensionValues,
     form: ExtensionsForm,
-    text: &str,
-)
+) -> Vec<u8>
     requires { (form ≡ form_of map.now ev.now) ⊎ (form ≡ TwoByte) }
 {
-    let mut wanted = bytes_of(rt, alloc, text);
-    wanted.extend_from_slice(&[255; 3]).expect(rt, "memory");
     let len = map.wire_len(ev, form);
     let mut buf = vec![in alloc; 255u8; len + 3].expect(rt, "memory");
     let end = map.write_to(&mut buf, ev, form);
-    assert_eq!(rt; end, len, "{text}");
-    assert_eq!(rt; buf.as_slice(), wanted.as_slice());
+    same(rt, "the end", end, len);
+    buf
 }
 
 // The elements are these in the two-byte form.
@@ -40,7 +37,8 @@ fn check_two_byte(
     ev: ExtensionValues,
     text: &str,
 ) {
-    is_written(rt, alloc, &map, &ev, ExtensionsForm::TwoByte, text);
+    let buf = written(rt, alloc, &map, &ev, ExtensionsForm::TwoByte);
+    is_in_front_of_ones(rt, text, &buf, &bytes_of(rt, alloc, text));
 }
 
 // The elements need this form, and in it they are these.
@@ -52,8 +50,9 @@ fn check(
     form: ExtensionsForm,
     text: &str,
 ) {
-    assert!(rt; map.form(&ev) == form, "{text}");
-    is_written(rt, alloc, &map, &ev, map.form(&ev), text);
+    holds(rt, text, map.form(&ev) == form);
+    let buf = written(rt, alloc, &map, &ev, map.form(&ev));
+    is_in_front_of_ones(rt, text, &buf, &bytes_of(rt, alloc, text));
 }
 
 // The values with what the elements say.
@@ -68,6 +67,26 @@ fn read(
     map.parse(alloc, &bytes, ExtensionsForm::OneByte, &mut values)
         .expect(rt, "memory");
     values
+}
+
+// An extension like this one.
+fn copy_of(rt: &impl Abort, alloc: Global, ext: &Extension) -> Extension {
+    ext.clone(alloc).expect(rt, "memory")
+}
+
+// The element of a kind under an id, of the values with every field set; and the values with what
+// is read back of it.
+fn check_kind(
+    rt: &impl Abort,
+    alloc: Global,
+    id: u8,
+    ext: &Extension,
+    text: &str,
+    values: ExtensionValues,
+) -> ExtensionValues {
+    let map = one(id, copy_of(rt, alloc, ext));
+    check(rt, alloc, map, full(), OneByte, text);
+    read(rt, alloc, one(id, copy_of(rt, alloc, ext)), text, values)
 }
 
 // Each kind under an id of its own: the element of the values with every field set, which are read
@@ -95,17 +114,9 @@ fn each_kind(rt: HostRuntime) {
     ];
     let mut values = ExtensionValues::default();
     for (id, ext, text) in &rows {
-        let map = one(*id, copy_of(&rt, rt.alloc(), ext));
-        check(&rt, rt.alloc(), map, full(), OneByte, text);
-        let map = one(*id, copy_of(&rt, rt.alloc(), ext));
-        values = read(&rt, rt.alloc(), map, text, values);
+        values = check_kind(&rt, rt.alloc(), *id, ext, text, values);
     }
-    assert!(rt; values == full());
-}
-
-// An extension like this one.
-fn copy_of(rt: &impl Abort, alloc: Global, ext: &Extension) -> Extension {
-    ext.clone(alloc).expect(rt, "memory")
+    are_values(&rt, "the end", &values, &full());
 }
 
 // A level of 0 with voice, and a capture time without an offset.
