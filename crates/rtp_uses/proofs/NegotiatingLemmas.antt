@@ -4,7 +4,7 @@ use Rattle.std.specs.Prelude.{◌≢◌, ◌⊎◌, Option, Some, None}
 use Rattle.std.proofs.lemmas.Bool.{cases_lt}
 use Rattle.std.proofs.lemmas.List.{get_or_append_left, get_or_at, get_or-map, length-map, length_push, take_more}
 use Rattle.rtp_wire.specs.ExtensionMap.{Slots, IsId, IsEmpty, entry_at}
-use Rattle.rtp_uses.specs.Negotiating.{TakesLine, IsMappedTo, line_at, AreNegotiated}
+use Rattle.rtp_uses.specs.Negotiating.{IsKnownUri, TakesLine, IsMappedTo, line_at, AreKnown, AreNegotiated}
 
 -- of no lines
 pub AreNegotiated-none : (map : Slots) → IsEmpty map → AreNegotiated [] map
@@ -70,3 +70,11 @@ AreNegotiated-at lines default i old new below are taken outside =
     take_more all i (0, []) (omega (arith, length-map lines line_of))
     ∙ ap (λ (line : ℕ × List ℕ). take i all ++ line ∷ []) (get_or-map line_of lines i default (0, []) below) in
     subst (λ (ls : List (ℕ × List ℕ)). AreNegotiated ls new) (sym here) (AreNegotiated-more (take i all) (line_of (get_or lines i default)) old new are taken outside)
+
+-- the URI of one of them is known where all are
+pub IsKnownUri-at : (lines : List (ℕ × Bor (List ℕ))) (default : ℕ × Bor (List ℕ)) (i : ℕ) → i < length lines
+    → AreKnown (map (λ line. (line.0, line.1.now)) lines) → IsKnownUri (get_or lines i default).1.now
+IsKnownUri-at lines default i below known =
+    let line_of : ℕ × Bor (List ℕ) → ℕ × List ℕ = λ line. (line.0, line.1.now) in
+    subst (λ (line : ℕ × List ℕ). IsKnownUri line.1) (get_or-map line_of lines i default (0, []) below)
+    (known i (omega (arith, length-map lines line_of)))

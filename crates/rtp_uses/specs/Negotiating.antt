@@ -1,7 +1,7 @@
 -- The map that the lines `a=extmap` of SDP make (RFC 8285, 5).
 use Rattle.std.specs.Prelude.{◌≡◌, ◌≢◌, ℕ, ◌<◌, List, [], length, Option, Some, None, slice_index_or}
 use Rattle.rtp_wire.specs.declared.ext.kind.Extension.{Extension}
-use Rattle.rtp_wire.specs.Kind.{IsNamedBy}
+use Rattle.rtp_wire.specs.Kind.{kind_of, IsKnown, IsNamedBy}
 use Rattle.rtp_wire.specs.ExtensionMap.{Slots, IsId, entry_at, unlocked, Sets}
 
 -- the id is mapped to the extension of this URI now, and every other id to what it was mapped to
@@ -16,9 +16,17 @@ pub record IsMappedTo (map : Slots) (id : ℕ) (uri : List ℕ) : Type 0 where
   pub named : IsNamedBy uri extension
   pub mapped : entry_at map id ≡ Some (unlocked extension)
 
+-- the URI names a known extension
+abbrev pub IsKnownUri : List ℕ → Type 0
+IsKnownUri uri = (kind : Extension) × IsKnown kind × ((kind_of kind).uri ≡ uri)
+
 -- the line at an index: an id and a URI
 abbrev pub line_at : List (ℕ × List ℕ) → ℕ → ℕ × List ℕ
 line_at lines i = slice_index_or lines i (0, [])
+
+-- each line names a known extension
+abbrev pub AreKnown : List (ℕ × List ℕ) → Type 0
+AreKnown lines = (i : ℕ) → i < length lines → IsKnownUri (line_at lines i).1
 
 -- each id that a map has room for is mapped to the extension of its last line, and every other id to nothing
 pub record AreNegotiated (lines : List (ℕ × List ℕ)) (map : Slots) : Type 0 where

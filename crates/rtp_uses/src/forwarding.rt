@@ -1,6 +1,6 @@
 //! A forwarder of packets.
 
-ghost use Rattle.std.specs.Prelude.{◌≡◌, ◌↔◌, ◌⊎◌, ◌+◌, ◌<◌, ◌++◌, ℕ, List, length, drop, None, Ok, IsOk, IfOk, OnErr, IfSome};
+ghost use Rattle.std.specs.Prelude.{◌≡◌, ◌⊎◌, IsOk, IfOk, OnErr, IfSome};
 ghost use Rattle.rtp_uses.specs.Forwarding.{IsForwarded, HasNoRoom};
 ghost use Rattle.rtp_wire.specs.Memory.{HeaderHasAllocation};
 ghost use Rattle.rtp_wire.specs.NotAHeader.{NotAHeader};
@@ -10,9 +10,9 @@ use rtp_wire::{ExtensionMap, RtpHeader};
 use std::alloc::{AllocError, Global};
 
 /// Sends a packet on in another stream: writes its header with this SSRC and number, under the
-/// receiver's map, and behind it all that was behind the header, and returns how many bytes that are.
-/// Returns `None`, and writes nothing, where the datagram begins with no RTP header or there is no
-/// room.
+/// receiver's map, and behind it all that was behind the header, padding included. Returns how many
+/// bytes that are. Returns `None`, and writes nothing, where the datagram begins with no RTP header
+/// or there is no room.
 pub fn forward(
     alloc: Global,
     datagram: &[u8],

@@ -8,6 +8,8 @@ pub mod headers;
 pub mod layers;
 pub mod negotiating;
 pub mod numbers;
+#[cfg(test)]
+mod packet_tests;
 pub mod padding;
 pub mod receiving;
 pub mod retransmission;

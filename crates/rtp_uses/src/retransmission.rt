@@ -1,7 +1,6 @@
 //! Retransmissions (RFC 4588).
 
-ghost use Rattle.std.specs.Prelude.{◌≡◌, ◌↔◌, ◌+◌, ◌%◌, ◌<◌, ◌≤◌, ◌++◌, ℕ, List, length, drop, None, IfSome, IfNone, IsSomeAnd};
-ghost use Rattle.std.specs.Int.{w16, to_be_bytes};
+ghost use Rattle.std.specs.Prelude.{◌≡◌, ◌↔◌, ◌+◌, ◌%◌, ◌<◌, ◌≤◌, ◌++◌, ℕ, List, length, drop, IfSome, IfNone, IsSomeAnd};
 ghost use Rattle.rtp_wire.specs.OriginalNumber.{HasOriginalNumber};
 ghost use Rattle.rtp_wire.specs.Written.{wire_bytes};
 ghost use Rattle.rtp_uses.specs.Retransmission.{retransmission_bytes};
@@ -11,10 +10,10 @@ use rtp_wire::{
     ExtensionMap, RtpHeader, read_original_sequence_number, write_original_sequence_number,
 };
 
-/// Writes a retransmission of a packet (RFC 4588, 4): the header of the retransmission stream, which
-/// has an SSRC, a payload type and a number of its own, then the original number and the original
-/// payload. Returns how many bytes that are. Returns `None`, and writes nothing, where there is no
-/// room.
+/// Writes a retransmission of a packet (RFC 4588, 4): the header of the retransmission stream,
+/// which has an SSRC, a payload type and a number of its own, then the original number and the
+/// original payload. Returns how many bytes that are. Returns `None`, and writes nothing, where
+/// there is no room.
 pub fn retransmit(
     header: &RtpHeader,
     exts: &ExtensionMap,
@@ -24,8 +23,8 @@ pub fn retransmit(
 ) -> Option<usize>
     requires payload_type { header.now.payload_type ≤ 127 }
     requires sources { header.now.csrc_count ≤ 15 }
-    ensures written { IfSome result (λ len. out.new
-        ≡ wire_bytes exts.now header.now ++ (retransmission_bytes original payload.now ++ drop len out.old)) }
+    ensures written { IfSome result (λ len. out.new ≡ wire_bytes exts.now header.now
+        ++ (retransmission_bytes original payload.now ++ drop len out.old)) }
     ensures length { IfSome result (λ len.
         len ≡ length (wire_bytes exts.now header.now) + 2 + length payload.now) }
     ensures unchanged { IfNone result (out.new ≡ out.old) }
