@@ -71,10 +71,7 @@ fn packets_of_padding(rt: HostRuntime) -> Result<(), Fail> {
     let mut out = vec![in rt.alloc(); 9u8; 252]?;
     assert!(rt; padding::write_padding(&mut header, &exts, 3, 4, &mut out[..251]).is_none());
     assert_eq!(rt; padding::write_padding(&mut header, &exts, 3, 4, &mut out), Some(16));
-    assert_eq!(rt;
-        &out[..17],
-        [0xA0, 1, 2, 1, 0, 0, 0, 0, 0, 0, 0, 0, 0, 0, 0, 4, 9].as_slice()
-    );
+    assert!(rt; out.starts_with(&[0xA0, 1, 2, 1, 0, 0, 0, 0, 0, 0, 0, 0, 0, 0, 0, 4, 9]));
     // 255 bytes in blocks of 16 are 256, of which 240 are written.
     assert_eq!(rt; padding::write_padding(&mut header, &exts, 255, 16, &mut out), Some(252));
     assert_eq!(rt; out.last(), Some(&240));
