@@ -1,12 +1,12 @@
 -- The verdicts on some headers, and on one header more.
-use Rattle.std.proofs.Common.{◌≡◌, ℕ, ◌+◌, ◌<◌, ◌≤◌, List, [], ◌∷◌, ◌++◌, length, take, get_or, refl, sym, ap, ◌∙◌, subst, inl, inr, arith, length-take-le}
+use Rattle.std.proofs.Common.{◌≡◌, ℕ, ◌+◌, ◌<◌, List, [], ◌∷◌, ◌++◌, length, take, get_or, refl, sym, ap, ◌∙◌, subst, inl, inr, arith, length-take-le}
 use Rattle.std.specs.Prelude.{Option, Some, None}
 use Rattle.std.proofs.lemmas.Bool.{cases_lt}
 use Rattle.std.proofs.lemmas.List.{take-append-le, take_at, take_more, get_or_append_left, get_or_at, length_push}
 use Rattle.rtp_base.specs.Window.{WindowState, including}
 use Rattle.rtp_wire.specs.declared.receive.verdict.Verdict.{Verdict}
 use Rattle.rtp_wire.specs.declared.receive.verdict.Verdict.TheVariants.{Unreadable}
-use Rattle.rtp_wire.specs.Receiver.{Holds, IsNothing, IsJudged}
+use Rattle.rtp_wire.specs.Receiver.{Holds, IsJudged}
 use Rattle.rtp_wire.specs.Verdicts.{Reading}
 use Rattle.rtp_wire.specs.TrueNumbers.{IsTrueNumber, numbers_of, AreTrue, IsTrueVerdict, AreTrueVerdicts}
 use Rattle.rtp_wire.proofs.VerdictLemmas.{Holds-same}

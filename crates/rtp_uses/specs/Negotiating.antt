@@ -1,5 +1,5 @@
 -- The map that the lines `a=extmap` of SDP make (RFC 8285, 5).
-use Rattle.std.specs.Prelude.{◌≡◌, ◌≢◌, ℕ, ◌<◌, List, [], length, Option, Some, None, slice_index_or}
+use Rattle.std.specs.Prelude.{◌≡◌, ◌≢◌, ℕ, ◌<◌, List, [], length, Some, None, slice_index_or}
 use Rattle.rtp_wire.specs.declared.ext.kind.Extension.{Extension}
 use Rattle.rtp_wire.specs.Kind.{kind_of, IsKnown, IsNamedBy}
 use Rattle.rtp_wire.specs.ExtensionMap.{Slots, IsId, entry_at, unlocked, Sets}

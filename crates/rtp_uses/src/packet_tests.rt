@@ -57,7 +57,10 @@ fn forwarded_packets(rt: HostRuntime) -> Result<(), Fail> {
     let (ssrc, number) = (Ssrc::from(45), SeqNo::from(65_538));
     let (alloc, mut out) = (rt.alloc(), [9; 23]);
     let short = &mut out[..21];
-    assert_eq!(rt; forwarding::forward(alloc, &packet, &from, &to, ssrc, number, short)?, None);
+    assert_eq!(rt;
+        forwarding::forward(alloc, &packet, &from, &to, ssrc, number, short)?,
+        None
+    );
     let none = forwarding::forward(alloc, &packet[..11], &from, &to, ssrc, number, &mut out)?;
     assert_eq!(rt; (none, out), (None, [9; 23]));
     let len = forwarding::forward(alloc, &packet, &from, &to, ssrc, number, &mut out)?;
@@ -70,10 +73,16 @@ fn packets_of_padding(rt: HostRuntime) -> Result<(), Fail> {
     let (exts, mut header) = (ExtensionMap::empty(), header_of(513));
     let mut out = vec![in rt.alloc(); 9u8; 252]?;
     assert!(rt; padding::write_padding(&mut header, &exts, 3, 4, &mut out[..251]).is_none());
-    assert_eq!(rt; padding::write_padding(&mut header, &exts, 3, 4, &mut out), Some(16));
+    assert_eq!(rt;
+        padding::write_padding(&mut header, &exts, 3, 4, &mut out),
+        Some(16)
+    );
     assert!(rt; out.starts_with(&[0xA0, 1, 2, 1, 0, 0, 0, 0, 0, 0, 0, 0, 0, 0, 0, 4, 9]));
     // 255 bytes in blocks of 16 are 256, of which 240 are written.
-    assert_eq!(rt; padding::write_padding(&mut header, &exts, 255, 16, &mut out), Some(252));
+    assert_eq!(rt;
+        padding::write_padding(&mut header, &exts, 255, 16, &mut out),
+        Some(252)
+    );
     assert_eq!(rt; out.last(), Some(&240));
     Ok(())
 }

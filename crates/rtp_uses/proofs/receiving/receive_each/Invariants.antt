@@ -10,5 +10,5 @@ invariant-loop-header l = record {
   so_far : (numbers : List ℕ) → AreTrue (readings_of l.headers) numbers
       → AreSoFar (take l.header-index (readings_of l.headers)) (take l.header-index numbers) l.verdicts.items l.receiver;
   room : vec_capacity l.verdicts ≡ length l.headers;
-  as_many : length l.verdicts.items ≡ l.header-index
+  as_many : length l.verdicts.items ≡ l.header-index;
 }
