@@ -1,1 +1,5 @@
 mod EqualityLemmas
+mod ReceivingLemmas
+mod BehindLemmas
+mod ForwardingLemmas
+mod NegotiatingLemmas

@@ -1,2 +1,6 @@
 -- What public contracts cite.
 pub mod Equality
+pub mod Forwarding
+pub mod PaddingPackets
+pub mod Retransmission
+pub mod Negotiating

@@ -1,11 +1,14 @@
-//! A receiver of authenticated packets.
+//! Receivers of packets, authenticated and not.
 
-ghost use Rattle.std.specs.Prelude.{◌≡◌, ◌⊎◌, ℕ, true, false, None, IfSome, IfNone};
+ghost use Rattle.std.specs.Prelude.{◌≡◌, ◌⊎◌, ℕ, true, false, None, IfSome, IfNone, IfOk, List};
 ghost use Rattle.rtp_base.specs.Window.{Numbers, including};
 ghost use Rattle.rtp_wire.specs.Receiver.{Holds, IsNumberOf, IsFresh};
+ghost use Rattle.rtp_wire.specs.TrueNumbers.{IsTrueNumber, AreTrue, AreTrueVerdicts};
+ghost use Rattle.rtp_wire.specs.Sending.{readings_of};
 
 use rtp_base::SeqNo;
-use rtp_wire::{Receiver, RtpHeader};
+use rtp_wire::{Receiver, RtpHeader, Verdict};
+use std::alloc::{AllocError, Global};
 
 /// Returns the number of a packet that is new and authentic, and records it. For every other packet
 /// returns `None`, and the receiver holds the same numbers (RFC 3711, 3.3).
@@ -25,6 +28,11 @@ pub fn receive_authentic<F: FnOnce(SeqNo) -> bool>(
         × ((IsFresh taken number → ⊥) ⊎ F.post is_authentic number false)) }
     ensures same { (taken : Numbers) → Holds receiver.old taken → IfNone result (
         Holds receiver.new taken) }
+
+    // The number is the one that the sender gave the packet, where that is less than 32,768 away
+    // from the highest one before it.
+    ensures true_number { (numbers : Numbers) → (number : ℕ) → Holds receiver.old numbers →
+        IsTrueNumber numbers header.now.sequence_number number → IfSome result (λ n. n ≡ number) }
 {
     let number = receiver.number_of(header);
     if !receiver.accepts(number) || !is_authentic(number) {
@@ -32,4 +40,19 @@ pub fn receive_authentic<F: FnOnce(SeqNo) -> bool>(
     }
     receiver.record(number);
     Some(number)
+}
+
+/// The verdict on each header of one stream, in the order in which they came: by the numbers that
+/// the sender gave its packets, whatever is lost, repeated or reordered on the way, as long as each
+/// is less than 32,768 away from the highest one before it (RFC 3711, 3.3.1).
+pub fn receive_each(alloc: Global, headers: &[RtpHeader]) -> Result<Vec<Verdict>, AllocError>
+    ensures { (numbers : List ℕ) → AreTrue (readings_of headers.now) numbers → IfOk result (λ found.
+        AreTrueVerdicts (readings_of headers.now) numbers found.items) }
+{
+    let mut verdicts = Vec::with_capacity(alloc, headers.len())?;
+    let mut receiver = Receiver::new();
+    for header in headers {
+        verdicts.push_reserved(receiver.receive(header));
+    }
+    Ok(verdicts)
 }

@@ -24,6 +24,6 @@ mod StandardFacts
 mod WideningLemmas
 mod SendTimeLemmas
 mod ReceiverLemmas
-mod VerdictLemmas
-mod TrueNumberLemmas
+pub mod VerdictLemmas
+pub mod TrueNumberLemmas
 mod SendingLemmas

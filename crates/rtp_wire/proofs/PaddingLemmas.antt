@@ -107,3 +107,13 @@ with_padding_bit-announced [] new bytes at padding extension count none behind i
 with_padding_bit-announced (byte ∷ rest) new bytes zero padding extension count some none is first = absurd (omega arith)
 with_padding_bit-announced (byte ∷ rest) new bytes (suc at) padding extension count some behind is first =
     subst (λ (b : ℕ). IsFirstByte b true extension count) (sym (ap (λ (xs : List ℕ). slice_index xs 0) is)) (IsFirstByte-announced byte padding extension count first)
+
+-- a first byte of version 2 that announces padding has the bit
+announced-byte : (byte : ℕ) (extension : Bool) (count : ℕ) → IsFirstByte byte true extension count → byte / 64 * 64 + 32 + byte % 32 ≡ byte
+announced-byte byte false count is = let sum = is.sum in let few = is.few in omega arith
+announced-byte byte true count is = let sum = is.sum in let few = is.few in omega arith
+
+-- so the packet stays as it is
+pub with_padding_bit-same : (buf : List ℕ) (extension : Bool) (count : ℕ) → IsFirstByte (slice_index buf 0) true extension count → with_padding_bit buf ≡ buf
+with_padding_bit-same [] extension count first = refl
+with_padding_bit-same (byte ∷ rest) extension count first = ap (λ (b : ℕ). b ∷ rest) (announced-byte byte extension count first)

@@ -1,6 +1,6 @@
 -- What is written, followed by anything, is read as the image of the header.
 use Rattle.std.proofs.Common.{◌≡◌, ℕ, suc, get_or, ◌+◌, ◌-◌, ◌*◌, ◌^◌, ◌<◌, ◌≤◌, List, [], ◌∷◌, ◌++◌, length, take, drop, refl, sym, ap, ◌∙◌, arith, append_assoc, length-append, length-take-le}
-use Rattle.std.specs.Prelude.{map, replicate}
+use Rattle.std.specs.Prelude.{map, replicate, slice_index}
 use Rattle.std.specs.List.{flat_map, concat, AllByRecursion}
 use Rattle.std.specs.Int.{w32, to_be_bytes, from_be_bytes}
 use Rattle.std.proofs.lemmas.List.{length-map}
@@ -8,7 +8,7 @@ use Rattle.std.proofs.lemmas.Nat.{from_be_bytes-to_be_bytes_2, from_be_bytes-to_
 use Rattle.rtp_wire.specs.declared.ext.map.ExtensionMap.{ExtensionMap}
 use Rattle.rtp_wire.specs.declared.header.rtp_header.RtpHeader.{RtpHeader}
 use Rattle.rtp_wire.specs.Block.{IsExtensionPart}
-use Rattle.rtp_wire.specs.Header.{IsFixed, IsWire}
+use Rattle.rtp_wire.specs.Header.{IsFirstByte, IsFixed, IsWire}
 use Rattle.rtp_base.specs.Overwriting.{overwritten}
 use Rattle.rtp_wire.specs.Written.{fixed_bytes, source_bytes, extension_bytes, wire_bytes, carried_image, image_of}
 use Rattle.rtp_wire.proofs.GroupLemmas.{AreFours}
@@ -103,6 +103,12 @@ IsWire-written h exts rest fits part =
       part_is = part;
       header_len_is = sym (length-append (wire_bytes exts h) rest);
     }
+
+-- V, P, X and CC in the first byte
+pub IsFirstByte-written : (h : RtpHeader) (exts : ExtensionMap) (bytes rest : List ℕ) → bytes ≡ wire_bytes exts h ++ rest → h.csrc_count ≤ 15
+    → IsFirstByte (slice_index bytes 0) h.has_padding h.has_extension h.csrc_count
+unfolding wire_bytes
+IsFirstByte-written h exts bytes rest is few = record { sum = ap (λ (xs : List ℕ). slice_index xs 0) is; few = few }
 
 -- the pieces that are put one behind the other are the written header
 pub wire_bytes-from_pieces : (h : RtpHeader) (exts : ExtensionMap) (buf one two three fixed : List ℕ) (first second third : ℕ)

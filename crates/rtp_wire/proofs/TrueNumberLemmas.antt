@@ -50,7 +50,7 @@ Agrees taken numbers None = IsNothing taken × IsNothing numbers
 Agrees taken numbers (Some highest) = AgreesNear taken numbers highest
 
 -- the numbers after a place
-abbrev numbers_after : Numbers → Option Reading → ℕ → Numbers
+abbrev pub numbers_after : Numbers → Option Reading → ℕ → Numbers
 numbers_after numbers None number = numbers
 numbers_after numbers (Some reading) number = including numbers number
 
@@ -223,7 +223,7 @@ kept taken numbers highest (Some reading) number Unreadable agrees is judged = a
 
 -- ---- the run
 
-numbers_of-push : (readings : List (Option Reading)) (numbers : List ℕ) (reading : Option Reading) (number n : ℕ) → length numbers ≡ length readings
+pub numbers_of-push : (readings : List (Option Reading)) (numbers : List ℕ) (reading : Option Reading) (number n : ℕ) → length numbers ≡ length readings
     → numbers_of (readings ++ reading ∷ []) (numbers ++ number ∷ []) n ≡ numbers_after (numbers_of readings numbers) reading number n
 numbers_of-push [] [] None number n many = refl
 numbers_of-push [] [] (Some reading) number n many = or_false (eqb n number)

@@ -41,7 +41,7 @@ taken_by-push (Unreadable ∷ vs) Refused n = taken_by-push vs Refused n
 taken_by-push (Unreadable ∷ vs) Unreadable n = taken_by-push vs Unreadable n
 
 -- a window keeps a set that is the same number by number
-Holds-same : (window : Option WindowState) (a b : Numbers) → ((n : ℕ) → b n ≡ a n) → Holds window a → Holds window b
+pub Holds-same : (window : Option WindowState) (a b : Numbers) → ((n : ℕ) → b n ≡ a n) → Holds window a → Holds window b
 Holds-same None a b same holds = λ n. same n ∙ holds n
 Holds-same (Some window) a b same keeps = record {
   top = record { member = same window.greatest ∙ keeps.top.member; top = λ n is. keeps.top.top n (sym (same n) ∙ is) };

@@ -82,6 +82,11 @@ pub fn create_padding_packet(
         (padding extension : Bool) (sources : ℕ) →
         IsFirstByte (slice_index buf.old 0) padding extension sources →
         IsFirstByte (slice_index buf.new 0) true extension sources }
+
+    // Where it announces padding already, only the padding is put.
+    ensures put { 0 < pad_len → (extension : Bool) (sources : ℕ) →
+        IsFirstByte (slice_index buf.old 0) true extension sources →
+        buf.new ≡ overwritten buf.old header_len (padding_bytes result) }
 {
     if pad_len == 0 {
         return 0;

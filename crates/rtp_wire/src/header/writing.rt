@@ -4,7 +4,7 @@ ghost use Rattle.std.specs.Prelude.{◌≡◌, ℕ, ◌+◌, ◌-◌, ◌*◌, �
 ghost use Rattle.std.specs.List.{flat_map};
 ghost use Rattle.std.specs.Int.{w32, to_be_bytes};
 ghost use Rattle.rtp_wire.specs.Block.{IsExtensionPart};
-ghost use Rattle.rtp_wire.specs.Header.{IsWire, bit};
+ghost use Rattle.rtp_wire.specs.Header.{IsFirstByte, IsWire, bit};
 ghost use Rattle.rtp_base.specs.Overwriting.{overwritten};
 ghost use Rattle.rtp_wire.specs.Written.{fixed_bytes, source_bytes, extension_bytes, wire_bytes, carried_image, image_of};
 
@@ -122,6 +122,10 @@ impl RtpHeader {
         ensures length { result ≡ length (wire_bytes exts.now self.now) }
         ensures words { result % 4 ≡ 0 }
         ensures bound { result ≤ 4188 }
+
+        // So whether padding is announced is seen in the first byte.
+        ensures first_byte { IsFirstByte (slice_index buf.new 0)
+            self.now.has_padding self.now.has_extension self.now.csrc_count }
 
         // What was written, followed by anything, is read as the header's image.
         ensures read_back { (rest : List ℕ) →

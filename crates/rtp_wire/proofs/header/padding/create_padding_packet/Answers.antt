@@ -1,7 +1,7 @@
 use Rattle.std.proofs.Common.{◌<◌, ℕ, List, ap, ◌∙◌, arith}
 use Rattle.rtp_base.specs.Overwriting.{overwritten}
 use Rattle.rtp_wire.specs.Padding.{padding_bytes}
-use Rattle.rtp_wire.proofs.PaddingLemmas.{with_padding_bit-announced}
+use Rattle.rtp_wire.proofs.PaddingLemmas.{with_padding_bit-announced, with_padding_bit-same}
 use Rattle.rtp_wire.proofs.header.padding.create_padding_packet.Goals as goal
 
 pub set_padding_bit-requires : goal.set_padding_bit-requires
@@ -21,3 +21,9 @@ returns-clause-announced c wanted behind padding extension sources first =
     with_padding_bit-announced c.args.buf.now c.put_padding.new.buf put c.args.header_len padding extension sources
     (omega (arith, room, c.padding_len-count.ensures.some)) behind
     (c.put_padding.ensures ∙ ap (λ (bytes : List ℕ). overwritten bytes c.args.header_len put) c.set_padding_bit.ensures) first
+
+pub returns-clause-put : goal.returns-clause-put
+returns-clause-put c wanted extension sources first =
+    let put : List ℕ = padding_bytes c.padding_len-count.result in
+    c.put_padding.ensures ∙ ap (λ (bytes : List ℕ). overwritten bytes c.args.header_len put)
+    (c.set_padding_bit.ensures ∙ with_padding_bit-same c.args.buf.now extension sources first)

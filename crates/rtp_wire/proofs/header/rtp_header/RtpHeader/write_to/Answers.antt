@@ -1,7 +1,7 @@
 use Rattle.std.proofs.Common.{arith, ap, ◌≡◌, ◌++◌, length, take, drop}
 use Rattle.std.proofs.lemmas.List.{length-take-le}
 use Rattle.rtp_wire.specs.Written.{wire_bytes}
-use Rattle.rtp_wire.proofs.RoundTrip.{length-wire_bytes, wire_bytes-from_pieces, IsWire-written, AllByRecursion-from_each}
+use Rattle.rtp_wire.proofs.RoundTrip.{length-wire_bytes, wire_bytes-from_pieces, IsFirstByte-written, IsWire-written, AllByRecursion-from_each}
 use Rattle.rtp_wire.proofs.header.rtp_header.RtpHeader.write_to.Goals as goal
 
 pub put-end-requires : goal.put-end-requires
@@ -45,6 +45,10 @@ returns-clause-length c = (all_put c).0
 
 pub returns-clause-written : goal.returns-clause-written
 returns-clause-written c = (all_put c).1
+
+pub returns-clause-first_byte : goal.returns-clause-first_byte
+returns-clause-first_byte c =
+    IsFirstByte-written c.args.self.now c.args.exts.now c.put_extension.new.buf (drop c.put_extension.result c.args.buf.now) (all_put c).1 c.requires.sources
 
 pub returns-clause-read_back : goal.returns-clause-read_back
 returns-clause-read_back c rest = IsWire-written c.args.self.now c.args.exts.now rest (record {
