@@ -32,6 +32,8 @@ mod leb_numbers;
 #[cfg(test)]
 mod maps;
 #[cfg(test)]
+mod packet_ends;
+#[cfg(test)]
 mod receivers;
 #[cfg(test)]
 mod refused_copies;

@@ -18,6 +18,7 @@ mod WrittenBlockLemmas
 mod WrittenElementsLemmas
 mod WrittenValuesLemmas
 mod RoundTrip
+mod PaddingLemmas
 mod ValueLemmas
 mod StandardFacts
 mod WideningLemmas

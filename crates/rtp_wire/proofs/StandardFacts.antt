@@ -10,6 +10,8 @@ use Rattle.rtp_wire.specs.ExtensionMap.{Slots}
 use Rattle.rtp_wire.specs.Spelling.{carried_values, carried_send_time}
 use Rattle.rtp_wire.specs.WrittenBlock.{block_bytes, image_values}
 use Rattle.rtp_wire.specs.Written.{wire_bytes, image_of}
+use Rattle.rtp_wire.specs.Padding.{padding_bytes, with_padding_bit, IsPaddingLength, IsUnpadded}
+use Rattle.rtp_wire.specs.OriginalNumber.{HasOriginalNumber}
 use Rattle.rtp_wire.specs.Elements.{ended}
 use Rattle.rtp_wire.specs.SendTime.{IsRecovered}
 use Rattle.rtp_wire.specs.Values.{no_values}
@@ -134,3 +136,26 @@ whole_period_row = inl (record { possible = record { past = omega arith; same = 
 
 too_early_row : IsRecovered 10 20 20
 too_early_row = inr (λ other is. (let past = is.past in let same = is.same in absurd (omega arith)), refl)
+
+-- ---- the ends of a packet
+
+padding_row : padding_bytes 5 ≡ 0 ∷ 0 ∷ 0 ∷ 0 ∷ 5 ∷ []
+padding_row = refl
+
+padding_bit_row : with_padding_bit (128 ∷ 33 ∷ []) ≡ 160 ∷ 33 ∷ []
+padding_bit_row = refl
+
+three_blocks_row : IsPaddingLength 15 7 21
+three_blocks_row = record { whole = 21; in_blocks = record { blocks = 3; multiple = refl; enough = omega arith; least = omega arith }; lesser = refl }
+
+whole_blocks_row : IsPaddingLength 32 16 32
+whole_blocks_row = record { whole = 32; in_blocks = record { blocks = 2; multiple = refl; enough = omega arith; least = omega arith }; lesser = refl }
+
+longest_row : IsPaddingLength 255 4 240
+longest_row = record { whole = 256; in_blocks = record { blocks = 64; multiple = refl; enough = omega arith; least = omega arith }; lesser = refl }
+
+unpadded_row : IsUnpadded (1 ∷ 2 ∷ 3 ∷ 0 ∷ 2 ∷ []) (1 ∷ 2 ∷ 3 ∷ [])
+unpadded_row = record { padding = 0 ∷ 2 ∷ []; in_order = refl; counted = refl }
+
+original_number_row : HasOriginalNumber (1 ∷ 2 ∷ 3 ∷ []) 258
+original_number_row = record { long = omega arith; number_is = refl }

@@ -18,6 +18,9 @@ pub mod Memory
 pub mod Spelling
 pub mod WrittenBlock
 pub mod Written
+-- What stands behind the header.
+pub mod Padding
+pub mod OriginalNumber
 -- Numbers over time.
 pub mod Widening
 pub mod SendTime

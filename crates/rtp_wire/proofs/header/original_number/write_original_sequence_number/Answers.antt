@@ -1,0 +1,12 @@
+use Rattle.std.proofs.Common.{ℕ, ◌%◌, List, ap, ◌∙◌}
+use Rattle.std.specs.Int.{w16, to_be_bytes}
+use Rattle.rtp_base.specs.Overwriting.{overwritten}
+use Rattle.rtp_base.proofs.OverwritingLemmas.{overwritten-front}
+use Rattle.rtp_wire.proofs.header.original_number.write_original_sequence_number.Goals as goal
+
+pub returns-clause-written : goal.returns-clause-written
+returns-clause-written c =
+    let number : List ℕ = to_be_bytes w16 (c.args.original % 65536) in
+    c.put.ensures.written
+    ∙ (ap (λ (bytes : List ℕ). overwritten c.args.buf.now 0 bytes) (c.to_be_bytes.ensures ∙ ap (to_be_bytes w16) c.as_u16.ensures)
+    ∙ overwritten-front c.args.buf.now number)
