@@ -1,4 +1,4 @@
-//! A hundred thousand datagrams of pseudo-random bytes.
+//! A hundred thousand datagrams of pseudo-random bytes, 20,000 in each test.
 
 use crate::hostile_samples::{holds, map};
 use std::alloc::Global;
@@ -55,7 +55,7 @@ fn draw(
 ) -> Result<u32, Fail> {
     let mut bytes = [0; 128];
     let mut levels = 0u32;
-    for _ in 0..2_000u32 {
+    for _ in 0..20_000u32 {
         let len = usize::from(noise.next_byte() % 128);
         let datagram = &mut bytes[..len];
         noise.fill(datagram, mask);
@@ -72,21 +72,40 @@ fn draw(
     Ok(levels)
 }
 
-// Small ids and lengths make many well-formed elements: one in four of the one-byte form has id 1,
-// and one in eight of the two-byte form.
+const ONE_BYTE: Option<[u8; 2]> = Some([0xBE, 0xDE]);
+
+const TWO_BYTE: Option<[u8; 2]> = Some([0x10, 0x00]);
+
 #[test]
-fn a_hundred_thousand_datagrams(rt: HostRuntime) -> Result<(), Fail> {
-    let mut noise = Noise { state: 1 };
-    let rows = [
-        (None, 0xFF, 0),
-        (Some([0xBE, 0xDE]), 0xFF, 0),
-        (Some([0x10, 0x00]), 0xFF, 0),
-        (Some([0xBE, 0xDE]), 0x53, 100),
-        (Some([0x10, 0x00]), 0x07, 100),
-    ];
-    for (form, mask, least) in rows {
-        let levels = draw(&rt, rt.alloc(), &mut noise, form, mask)?;
-        assert!(rt; least <= levels, "{mask}: {levels}");
-    }
+fn any_bytes(rt: HostRuntime) -> Result<(), Fail> {
+    draw(&rt, rt.alloc(), &mut Noise { state: 1 }, None, 0xFF)?;
+    Ok(())
+}
+
+#[test]
+fn one_byte_blocks(rt: HostRuntime) -> Result<(), Fail> {
+    draw(&rt, rt.alloc(), &mut Noise { state: 2 }, ONE_BYTE, 0xFF)?;
+    Ok(())
+}
+
+#[test]
+fn two_byte_blocks(rt: HostRuntime) -> Result<(), Fail> {
+    draw(&rt, rt.alloc(), &mut Noise { state: 3 }, TWO_BYTE, 0xFF)?;
+    Ok(())
+}
+
+// Small ids and lengths make many well-formed elements: here one in four has id 1.
+#[test]
+fn one_byte_blocks_of_small_elements(rt: HostRuntime) -> Result<(), Fail> {
+    let levels = draw(&rt, rt.alloc(), &mut Noise { state: 4 }, ONE_BYTE, 0x53)?;
+    assert!(rt; 1000 <= levels, "{levels}");
+    Ok(())
+}
+
+// Here one in eight has id 1.
+#[test]
+fn two_byte_blocks_of_small_elements(rt: HostRuntime) -> Result<(), Fail> {
+    let levels = draw(&rt, rt.alloc(), &mut Noise { state: 5 }, TWO_BYTE, 0x07)?;
+    assert!(rt; 1000 <= levels, "{levels}");
     Ok(())
 }
