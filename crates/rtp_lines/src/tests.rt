@@ -4,6 +4,7 @@ mod failing;
 mod headers;
 mod large;
 mod map_lines;
+mod refused_lines;
 mod values;
 
 use crate::hex_line::datagram;

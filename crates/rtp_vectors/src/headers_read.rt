@@ -9,7 +9,7 @@ use std::alloc::Global;
 use std::process::Abort;
 
 // A packet with four elements and 16 bytes behind its header of 32.
-const PACKET: &str = "b06fb798000027102e5715f9bede0004\
+pub(crate) const PACKET: &str = "b06fb798000027102e5715f9bede0004\
 10aa22fe206a3100004278596a000000\
 0102030400000000000000000000000c";
 
@@ -18,7 +18,7 @@ const OTHER_VALUES: &str = "b06fb79900002ee02e5715f9bede0004\
 10ab22fe86d03100024278596a000000\
 0102030400000000000000000000000c";
 
-const TWO_BYTE_FORM: &str = "b06fb798000027102e5715f910010005\
+pub(crate) const TWO_BYTE_FORM: &str = "b06fb798000027102e5715f910010005\
 0101aa0203fe206a03020000040378596a000000\
 0102030400000000000000000000000c";
 
@@ -33,7 +33,12 @@ fn is_refused(rt: &impl Abort, alloc: Global, bytes: &[u8]) {
 }
 
 // What such a packet's header has.
-fn header(number: u16, timestamp: u32, ext_vals: ExtensionValues, header_len: usize) -> RtpHeader {
+pub(crate) fn header(
+    number: u16,
+    timestamp: u32,
+    ext_vals: ExtensionValues,
+    header_len: usize,
+) -> RtpHeader {
     RtpHeader {
         version: 2,
         has_padding: true,

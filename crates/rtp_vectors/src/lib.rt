@@ -26,6 +26,16 @@ mod headers_with_values;
 #[cfg(test)]
 mod headers_written;
 #[cfg(test)]
+mod hostile_damage;
+#[cfg(test)]
+mod hostile_elements;
+#[cfg(test)]
+mod hostile_noise;
+#[cfg(test)]
+mod hostile_packets;
+#[cfg(test)]
+mod hostile_samples;
+#[cfg(test)]
 mod ids;
 #[cfg(test)]
 mod kinds;
@@ -38,11 +48,17 @@ mod packet_ends;
 #[cfg(test)]
 mod receivers;
 #[cfg(test)]
+mod refused_blocks;
+#[cfg(test)]
 mod refused_copies;
+#[cfg(test)]
+mod refused_never;
 #[cfg(test)]
 mod refused_readings;
 #[cfg(test)]
 mod refused_samples;
+#[cfg(test)]
+mod refused_texts;
 #[cfg(test)]
 mod runs;
 #[cfg(test)]

@@ -1,0 +1,144 @@
+//! Good packets for the tests that damage them, and what has to hold of all bytes.
+
+use crate::headers_read::{PACKET, TWO_BYTE_FORM};
+use crate::headers_written::written;
+use crate::values::nines;
+use rtp_wire::{Extension, ExtensionMap, ExtensionValues, RtpHeader};
+use std::alloc::Global;
+use std::process::Abort;
+use std::test::Fail;
+
+// A packet whose header has a block.
+#[derive(Clone, Copy)]
+pub(crate) struct Sample {
+    // Its bytes, in hexadecimal.
+    pub(crate) text: &'static str,
+    // Where the body of its block begins and where the header ends.
+    pub(crate) body: u8,
+    pub(crate) end: u8,
+    // Whether its block has the two-byte form.
+    pub(crate) two_byte: bool,
+    // Where each element begins and ends, and its id.
+    pub(crate) elements: &'static [(u8, u8, u8)],
+}
+
+// The two forms, a packet with three sources, and one with an allocation in the two-byte form.
+pub(crate) const SAMPLES: [Sample; 4] = [
+    Sample {
+        text: PACKET,
+        body: 16,
+        end: 32,
+        two_byte: false,
+        elements: &[(16, 18, 1), (18, 22, 2), (22, 25, 3), (25, 29, 4)],
+    },
+    Sample {
+        text: TWO_BYTE_FORM,
+        body: 16,
+        end: 36,
+        two_byte: true,
+        elements: &[(16, 19, 1), (19, 24, 2), (24, 28, 3), (28, 33, 4)],
+    },
+    Sample {
+        text: "93efb798000027102e5715f90000006412345678ffffffffbede0003\
+10aa3101024278596aa0780001020304",
+        body: 28,
+        end: 40,
+        two_byte: false,
+        elements: &[(28, 30, 1), (30, 33, 3), (33, 37, 4), (37, 39, 10)],
+    },
+    Sample {
+        text: "906fb798000027102e5715f910000007\
+0101aa050b514064ac0278013f00b30f03020708040378596a00000001020304",
+        body: 16,
+        end: 44,
+        two_byte: true,
+        elements: &[(16, 19, 1), (19, 32, 5), (32, 36, 3), (36, 41, 4)],
+    },
+];
+
+// The standard map, and id 5 for the allocation.
+pub(crate) fn map() -> ExtensionMap {
+    let mut map = ExtensionMap::standard();
+    map.set(5, Extension::VideoLayersAllocation);
+    map
+}
+
+// Whether the kind has the same data in both values.
+pub(crate) fn has_same(kind: &Extension, one: &ExtensionValues, other: &ExtensionValues) -> bool {
+    let mut data = nines();
+    let mut other_data = nines();
+    kind.write_to(&mut data, one) == kind.write_to(&mut other_data, other) && data == other_data
+}
+
+// What is read of the bytes that the header is written as.
+fn read_back(alloc: Global, header: &RtpHeader, exts: &ExtensionMap) -> Result<RtpHeader, Fail> {
+    let bytes = written(alloc, header, exts)?;
+    Ok(RtpHeader::parse(alloc, &bytes, exts)?.ok_or("a header")?)
+}
+
+// The header without what may come back changed.
+fn fixed(alloc: Global, header: &RtpHeader) -> Result<RtpHeader, Fail> {
+    let mut copy = header.clone(alloc)?;
+    copy.header_len = 0;
+    copy.ext_vals.abs_send_time = None;
+    copy.ext_vals.video_layers_allocation = None;
+    Ok(copy)
+}
+
+// Whether a send time comes back as itself, or up to 4 microseconds less.
+fn is_near(sent: Option<u64>, read: Option<u64>) -> bool {
+    match (sent, read) {
+        (Some(sent), Some(read)) => sent.wrapping_sub(read) <= 4,
+        (None, None) => true,
+        _ => false,
+    }
+}
+
+// What is written of the header is read as its image: the same, but for the send time and the empty
+// layers at the ends of an allocation's streams.
+fn has_image(
+    rt: &impl Abort,
+    alloc: Global,
+    header: &RtpHeader,
+    exts: &ExtensionMap,
+) -> Result<RtpHeader, Fail> {
+    let image = read_back(alloc, header, exts)?;
+    assert!(rt; fixed(alloc, &image)? == fixed(alloc, header)?);
+    let (values, carried) = (&header.ext_vals, &image.ext_vals);
+    assert!(rt; is_near(values.abs_send_time, carried.abs_send_time));
+    assert!(rt; has_same(&Extension::VideoLayersAllocation, values, carried));
+    Ok(image)
+}
+
+// What has to hold of all bytes: a header that is read lies within them, it is written and read as
+// its image, and once more written and read the image only loses of its send time. Returns the
+// header.
+pub(crate) fn holds(
+    rt: &impl Abort,
+    alloc: Global,
+    bytes: &[u8],
+    exts: &ExtensionMap,
+) -> Result<Option<RtpHeader>, Fail> {
+    let Some(header) = RtpHeader::parse(alloc, bytes, exts)? else {
+        return Ok(None);
+    };
+    assert!(rt; header.header_len <= bytes.len(), "{bytes:?}");
+    let image = has_image(rt, alloc, &header, exts)?;
+    let mut again = has_image(rt, alloc, &image, exts)?;
+    again.ext_vals.abs_send_time = image.ext_vals.abs_send_time;
+    assert!(rt; again == image, "{bytes:?}");
+    Ok(Some(header))
+}
+
+// The same of bytes that have a header, whatever the block's elements are.
+pub(crate) fn header_of(
+    rt: &impl Abort,
+    alloc: Global,
+    bytes: &[u8],
+    sample: &Sample,
+) -> Result<RtpHeader, Fail> {
+    let header = holds(rt, alloc, bytes, &map())?.ok_or("a header")?;
+    assert_eq!(rt; header.header_len, usize::from(sample.end), "{bytes:?}");
+    assert_eq!(rt; header.sequence_number, 47000);
+    Ok(header)
+}
