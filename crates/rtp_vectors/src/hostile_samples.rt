@@ -71,8 +71,13 @@ pub(crate) fn has_same(kind: &Extension, one: &ExtensionValues, other: &Extensio
 }
 
 // What is read of the bytes that the header is written as.
-fn read_back(alloc: Global, header: &RtpHeader, exts: &ExtensionMap) -> Result<RtpHeader, Fail> {
-    let bytes = written(alloc, header, exts)?;
+fn read_back(
+    rt: &impl Abort,
+    alloc: Global,
+    header: &RtpHeader,
+    exts: &ExtensionMap,
+) -> Result<RtpHeader, Fail> {
+    let bytes = written(rt, alloc, header, exts);
     Ok(RtpHeader::parse(alloc, &bytes, exts)?.ok_or("a header")?)
 }
 
@@ -102,7 +107,7 @@ fn has_image(
     header: &RtpHeader,
     exts: &ExtensionMap,
 ) -> Result<RtpHeader, Fail> {
-    let image = read_back(alloc, header, exts)?;
+    let image = read_back(rt, alloc, header, exts)?;
     assert!(rt; fixed(alloc, &image)? == fixed(alloc, header)?);
     let (values, carried) = (&header.ext_vals, &image.ext_vals);
     assert!(rt; is_near(values.abs_send_time, carried.abs_send_time));

@@ -16,7 +16,7 @@ pub(crate) fn nines() -> [u8; 255]
 }
 
 // Whether the kind's data are these, at the front of the buffer, with what stood behind them.
-fn is_written(kind: &Extension, values: &ExtensionValues, data: &[u8]) -> bool {
+pub(crate) fn is_written(kind: &Extension, values: &ExtensionValues, data: &[u8]) -> bool {
     let mut buf = nines();
     kind.write_to(&mut buf, values) == Some(data.len())
         && buf.starts_with(data)
