@@ -159,9 +159,9 @@ fn writing_and_receiving(rt: HostRuntime) {
     assert_eq!(rt; header.wire_len(&exts), 20);
     assert_eq!(rt; header.write_to(&mut buf, &exts), 20);
     assert!(rt; buf[16..] == [0x10, 0xAA, 0, 0]);
-    let elements = Elements::new(&buf[16..], ExtensionsForm::OneByte);
-    assert_eq!(rt; elements.count(), 1);
+    let mut elements = Elements::new(&buf[16..], ExtensionsForm::OneByte);
+    assert_eq!(rt; elements.next(), Some((1, [0xAA].as_slice())));
     let mut receiver = Receiver::new();
     receiver.receive(&header);
-    assert_eq!(rt; receiver.highest().is_some(), true);
+    assert!(rt; receiver.highest().is_some());
 }

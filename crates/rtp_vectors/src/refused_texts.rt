@@ -50,7 +50,8 @@ fn of_a_uri(rt: HostRuntime) -> Result<(), Fail> {
 fn is_whole(map: &ExtensionMap) -> bool {
     map.lookup(16).is_some_and(|ext| ext.as_uri() == TEXT)
         && map.lookup(1) == Some(&Extension::AudioLevel)
-        && map.iter().count() == 8
+        && map.lookup(13) == Some(&Extension::VideoOrientation)
+        && map.lookup(15).is_none()
 }
 
 #[test]
