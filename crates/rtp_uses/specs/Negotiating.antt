@@ -28,7 +28,7 @@ line_at lines i = slice_index_or lines i (0, [])
 abbrev pub AreKnown : List (ℕ × List ℕ) → Type 0
 AreKnown lines = (i : ℕ) → i < length lines → IsKnownUri (line_at lines i).1
 
--- each id that a map has room for is mapped to the extension of its last line, and every other id to nothing
+-- each id that a map has room for is mapped to the extension of its last line, and an id without a line to nothing
 pub record AreNegotiated (lines : List (ℕ × List ℕ)) (map : Slots) : Type 0 where
   pub last : (i : ℕ) → i < length lines → IsId (line_at lines i).0
       → ((j : ℕ) → i < j → j < length lines → (line_at lines j).0 ≢ (line_at lines i).0)

@@ -88,6 +88,18 @@ fn packets_of_padding(rt: HostRuntime) -> Result<(), Fail> {
 }
 
 #[test]
+fn payloads(rt: HostRuntime) -> Result<(), Fail> {
+    let mut header = header_of(513);
+    let plain = padding::payload_of(&header, &[1, 2, 3, 2]).ok_or("a payload")?;
+    assert_eq!(rt; plain, [1, 2, 3, 2].as_slice());
+    header.has_padding = true;
+    let padded = padding::payload_of(&header, &[1, 2, 3, 2]).ok_or("a payload")?;
+    assert_eq!(rt; padded, [1, 2].as_slice());
+    assert!(rt; padding::payload_of(&header, &[1, 2, 3, 5]).is_none());
+    Ok(())
+}
+
+#[test]
 fn payloads_of_padding(rt: HostRuntime) -> Result<(), Fail> {
     let (exts, mut header) = (ExtensionMap::empty(), header_of(513));
     let mut out = vec![in rt.alloc(); 9u8; 252]?;

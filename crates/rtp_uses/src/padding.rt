@@ -1,7 +1,8 @@
 //! A sender of packets of padding, and their receiver.
 
-ghost use Rattle.std.specs.Prelude.{◌≡◌, ◌+◌, ◌<◌, ◌≤◌, [], length, true, IfSome, IfNone, IsSome};
+ghost use Rattle.std.specs.Prelude.{◌≡◌, ◌+◌, ◌<◌, ◌≤◌, [], length, true, false, IfSome, IfNone, IsSome, IsSomeAnd};
 ghost use Rattle.rtp_uses.specs.PaddingPackets.{IsPadded};
+ghost use Rattle.rtp_wire.specs.Padding.{padding_count, IsUnpadded};
 ghost use Rattle.rtp_wire.specs.Written.{wire_bytes};
 
 use rtp_wire::{
@@ -36,6 +37,21 @@ pub fn write_padding(
     }
     let start = header.write_to(out, exts);
     Some(start + create_padding_packet(out, start, pad_len, block_size))
+}
+
+/// The payload of a packet, by its header and what is behind that: without its padding where the
+/// header announces any. `None` where the padding would be longer than what is there.
+pub fn payload_of<'a>(header: &RtpHeader, behind: &'a [u8]) -> Option<&'a [u8]>
+    ensures padded { header.now.has_padding ≡ true →
+        IfSome result (λ payload. IsUnpadded behind.now payload.now) }
+    ensures plain { header.now.has_padding ≡ false →
+        IsSomeAnd result (λ payload. payload.now ≡ behind.now) }
+    ensures refused { IfNone result (length behind.now < padding_count behind.now) }
+{
+    if !header.has_padding {
+        return Some(behind);
+    }
+    unpad_payload(behind)
 }
 
 /// The payload that a receiver finds in a packet of padding: no bytes. `None` where there isn't room

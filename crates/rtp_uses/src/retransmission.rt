@@ -12,8 +12,8 @@ use rtp_wire::{
 
 /// Writes a retransmission of a packet (RFC 4588, 4): the header of the retransmission stream,
 /// which has an SSRC, a payload type and a number of its own, then the original number and the
-/// original payload. Returns how many bytes that are. Returns `None`, and writes nothing, where
-/// there is no room.
+/// original payload, which is given without its padding. Returns how many bytes that are. Returns
+/// `None`, and writes nothing, where there is no room.
 pub fn retransmit(
     header: &RtpHeader,
     exts: &ExtensionMap,
