@@ -63,8 +63,8 @@ impl ExtensionValues {
     ///
     /// `now` is when the packet arrived, in microseconds of the sender's clock. If the packet was
     /// sent less than 63,999,996 microseconds before, the moment is the one at which it was sent or
-    /// up to 4 microseconds earlier, since a tick is 2^-18 seconds. Requires a value of at most
-    /// 64,000,000 microseconds, as each value that was read is: call it once for a packet.
+    /// up to 4 microseconds earlier, since a tick is 2^-18 seconds. Call it once for a packet: a
+    /// later `now` finds a later moment once 64 seconds have passed.
     ///
     /// ```
     /// // Sent at 1,000 seconds, 15 times 64 seconds and 40, and there 50 milliseconds later.
@@ -73,7 +73,6 @@ impl ExtensionValues {
     /// assert_eq!(values.abs_send_time, Some(1_000_000_000));
     /// ```
     pub fn update_absolute_send_time(&mut self, now: u64)
-        requires { IfSome self.old.abs_send_time (λ value. value ≤ 64000000) }
         ensures absent { self.old.abs_send_time ≡ None → self.new ≡ self.old }
 
         // A value becomes the moment that it means, and every other value is as it was.
