@@ -166,8 +166,8 @@ fn exchanged_heads(rt: HostRuntime) -> Result<(), Fail> {
     Ok(())
 }
 
-// The bytes of the packet up to `end`, and then those of its header from `rest` on, with a block that
-// is as long as they are.
+// The bytes of the packet up to `end`, and then those of its header from `rest` on, with a block
+// that is as long as they are.
 fn spliced(alloc: Global, sample: &Sample, end: usize, rest: usize) -> Result<Vec<u8>, Fail> {
     let bytes = hex::decode(alloc, sample.text)?;
     let body = usize::from(sample.body);

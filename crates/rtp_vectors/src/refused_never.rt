@@ -10,8 +10,9 @@ use rtp_wire::{
 };
 use std::test::Fail;
 
-// Blocks without an element of two bytes or more whose id is mapped to the allocation: no element of
-// that id, one of one byte, and ones of other ids; and the level and transport number that they set.
+// Blocks without an element of two bytes or more whose id is mapped to the allocation: no element
+// of that id, one of one byte, and ones of other ids; and the level and transport number that they
+// set.
 const BODIES: [(ExtensionsForm, &[u8], Option<i8>, Option<u16>); 8] = [
     (ExtensionsForm::OneByte, &[], None, None),
     (

@@ -1,5 +1,5 @@
-//! Extensions with texts of their own where memory may be refused once: the source is as it was, and
-//! the same call with memory copies all of it. `.ci/run` refuses each growth in turn.
+//! Extensions with texts of their own where memory may be refused once: the source is as it was,
+//! and the same call with memory copies all of it. `.ci/run` refuses each growth in turn.
 
 use rtp_wire::{Extension, ExtensionMap, Uri};
 use std::alloc::Global;
