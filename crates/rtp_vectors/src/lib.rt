@@ -62,9 +62,9 @@ mod refused_texts;
 #[cfg(test)]
 mod runs;
 #[cfg(test)]
-mod sent_runs;
-#[cfg(test)]
 mod send_times;
+#[cfg(test)]
+mod sent_runs;
 #[cfg(test)]
 mod times;
 #[cfg(test)]
