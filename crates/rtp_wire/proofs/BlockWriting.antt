@@ -43,7 +43,7 @@ IsBlock-made TwoByte body whole fits = record {
 }
 
 -- what is written is read as the image of the values
-pub IsExtensionPart-written : (exts : ExtensionMap) (values : ExtensionValues) (n : ℕ) → n ≡ length (elements_bytes (form_of exts values) (written_elements exts values)) → n ≤ 4112
+pub IsExtensionPart-written : (exts : ExtensionMap) (values : ExtensionValues) (n : ℕ) → n ≡ length (elements_bytes (form_of exts values) (written_elements exts values)) → n ≤ 65535
     → ((zeros : ℕ) → AreElements (form_of exts values) (elements_bytes (form_of exts values) (written_elements exts values) ++ replicate zeros 0) (written_elements exts values))
     → AreValues exts (written_elements exts values) no_values (image_values exts values)
     → IsExtensionPart exts true (block_bytes exts values) (image_values exts values)
@@ -60,7 +60,7 @@ IsExtensionPart-written exts values n is few elements are_values =
 
 -- the elements, the zeros behind them and the head in front of them
 pub block-put : (exts : ExtensionMap) (values : ExtensionValues) (buf one two three head : List ℕ) (form : ExtensionsForm) (n len : ℕ)
-    → form ≡ form_of exts values → n ≡ length (elements_bytes (form_of exts values) (written_elements exts values)) → n ≤ 4112
+    → form ≡ form_of exts values → n ≡ length (elements_bytes (form_of exts values) (written_elements exts values)) → n ≤ 65535
     → length (block_bytes exts values) ≤ length buf
     → one ≡ overwritten buf 4 (elements_bytes (form_of exts values) (written_elements exts values))
     → two ≡ overwritten one (4 + n) (replicate (padding_of n) 0) → len ≡ 4 + n + padding_of n

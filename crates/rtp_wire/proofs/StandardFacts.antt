@@ -75,7 +75,7 @@ full_row exts = record {
 
 -- a map in which nothing is mapped
 abbrev nothing_mapped : Slots
-nothing_mapped = replicate 16 None
+nothing_mapped = replicate 255 None
 
 -- the default header, with its block and without
 default_row : wire_bytes nothing_mapped default_header ≡ 144 ∷ 1 ∷ zeros 10 ++ 190 ∷ 222 ∷ 0 ∷ 0 ∷ []

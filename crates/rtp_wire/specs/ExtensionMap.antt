@@ -11,9 +11,9 @@ use Rattle.rtp_wire.specs.Kind.{kind_of, IsKnown}
 abbrev pub Slots : Type 0
 Slots = List (Option Entry)
 
--- an id that a map has a slot for
+-- an id that a map has a slot for: those of the two-byte form (RFC 8285, 4.3)
 abbrev pub IsId : ℕ → Type 0
-IsId id = (1 ≤ id) × (id ≤ 16)
+IsId id = (1 ≤ id) × (id ≤ 255)
 
 -- the entry of an id: an extension and whether it is locked there, or nothing
 abbrev pub entry_at : Slots → ℕ → Option Entry

@@ -63,7 +63,7 @@ impl ExtensionMap {
     pub(crate) fn block_len(&self, ev: &ExtensionValues) -> usize
         ensures length { result ≡ length (block_bytes self.now ev.now) }
         ensures words { result % 4 ≡ 0 }
-        ensures bound { result ≤ 4116 }
+        ensures bound { result ≤ 65540 }
     {
         let elements_len = self.wire_len(ev, self.form(ev));
         HEAD + elements_len.next_multiple_of(4)
@@ -75,7 +75,7 @@ impl ExtensionMap {
         ensures written { buf.new ≡ block_bytes self.now ev.now ++ drop result buf.old }
         ensures length { result ≡ length (block_bytes self.now ev.now) }
         ensures words { result % 4 ≡ 0 }
-        ensures bound { result ≤ 4116 }
+        ensures bound { result ≤ 65540 }
 
         // What was written is read as the image of the values.
         ensures read_back { IsExtensionPart self.now true (block_bytes self.now ev.now)
@@ -85,7 +85,7 @@ impl ExtensionMap {
         let elements_len = self.write_to(&mut buf[HEAD..], ev, form);
         let body_len = elements_len.next_multiple_of(4);
         let len = put_zeros(buf, HEAD + elements_len, body_len - elements_len);
-        put(buf, 0, &head_of(form, body_len as u16 / 4));
+        put(buf, 0, &head_of(form, (body_len / 4) as u16));
         len
     }
 }

@@ -104,11 +104,11 @@ impl ExtensionMap {
     }
 
     /// How many bytes [`write_to`](Self::write_to) writes in the form, which is
-    /// [`form`](Self::form) or the two-byte form: at most 4112, which is 16 elements of 257 bytes.
+    /// [`form`](Self::form) or the two-byte form: at most 65,535, which is 255 elements of 257 bytes.
     pub fn wire_len(&self, ev: &ExtensionValues, form: ExtensionsForm) -> usize
         requires { (form ≡ form_of self.now ev.now) ⊎ (form ≡ TwoByte) }
         ensures length { result ≡ length (elements_bytes form (written_elements self.now ev.now)) }
-        ensures bound { result ≤ 4112 }
+        ensures bound { result ≤ 65535 }
     {
         let mut len = 0;
         for (_, ext) in self.items() {
@@ -132,7 +132,7 @@ impl ExtensionMap {
         ensures length { result ≡ length (elements_bytes form (written_elements self.now ev.now)) }
         ensures written { buf.new
             ≡ elements_bytes form (written_elements self.now ev.now) ++ drop result buf.old }
-        ensures bound { result ≤ 4112 }
+        ensures bound { result ≤ 65535 }
 
         // What was written, and any zeros behind it, are a block's body with these elements.
         ensures elements { (zeros : ℕ) → AreElements form

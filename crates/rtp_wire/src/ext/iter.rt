@@ -1,48 +1,45 @@
 //! The entries of a map, one after another.
 
-ghost use Rattle.std.specs.Prelude.{◌≡◌, ◌≤◌, length};
+ghost use Rattle.std.specs.Prelude.{◌≡◌, length};
 ghost use Rattle.std.specs.List.{filter};
 ghost use Rattle.std.specs.Iterator.{YieldsFirstBy, item_count};
 ghost use Rattle.rtp_wire.specs.ExtensionMap.{is_of_medium};
-ghost use Rattle.rtp_wire.specs.MapSlots.{items_from};
+ghost use Rattle.rtp_wire.specs.MapSlots.{items_at};
 
-use super::Extension;
 use super::entry::Entry;
+use super::{Extension, slots};
 use super::map::MAX_ID;
 use std::marker::Model;
 
 /// The ids of a map by rising id, each with its extension.
 #[derive(Debug, Drop)]
 pub struct Iter<'a> {
-    // The slots that are left.
-    left: &'a [Option<Entry>],
-    // How many were passed.
-    passed: u8,
+    // What the ids from 1 on are mapped to.
+    slots: &'a [Option<Entry>],
+    // The mapped ids that are left.
+    left: &'a [u8],
 }
 
 impl<'a> Model for Iter<'a> {
-    ghost use Rattle.std.specs.Prelude.{ℕ, ◌+◌, ◌≤◌, length, List};
+    ghost use Rattle.std.specs.Prelude.{◌≡◌, ℕ, length, List};
     ghost use Rattle.rtp_wire.specs.declared.ext.kind.Extension.{Extension};
     ghost use Rattle.rtp_wire.specs.declared.ext.map.TheConstants.{MAX_ID};
-    ghost use Rattle.rtp_wire.specs.MapSlots.{items_from};
+    ghost use Rattle.rtp_wire.specs.MapSlots.{items_at};
 
     ghost Value = { List (ℕ × Extension) };
 
-    ghost view = { λ iter. items_from iter.passed iter.left.now };
+    ghost view = { λ iter. items_at iter.slots.now iter.left.now };
 
-    ghost invariant = { λ iter. iter.passed + length iter.left.now ≤ MAX_ID };
+    ghost invariant = { λ iter. length iter.slots.now ≡ MAX_ID };
 }
 
 impl<'a> Iter<'a> {
-    // The entries in the slots.
-    pub(super) fn new(slots: &'a [Option<Entry>]) -> Self
-        requires { length slots.now ≤ MAX_ID }
-        ensures { result ≡ items_from 0 slots.now }
+    // The entries of these ids.
+    pub(super) fn new(slots: &'a [Option<Entry>], ids: &'a [u8]) -> Self
+        requires { length slots.now ≡ MAX_ID }
+        ensures { result ≡ items_at slots.now ids.now }
     {
-        Iter {
-            left: slots,
-            passed: 0,
-        }
+        Iter { slots, left: ids }
     }
 }
 
@@ -54,11 +51,10 @@ impl<'a> Iterator for Iter<'a> {
     ghost remaining = { item_count (λ left. left) };
 
     fn next(&mut self) -> Option<(u8, &'a Extension)> {
-        while let Some((slot, left)) = self.left.split_first() {
+        while let Some((id, left)) = self.left.split_first() {
             self.left = left;
-            self.passed += 1;
-            if let Some(entry) = slot {
-                return Some((self.passed, &entry.extension));
+            if let Some(entry) = slots::entry(self.slots, *id) {
+                return Some((*id, &entry.extension));
             }
         }
         None

@@ -7,13 +7,15 @@ ghost use Rattle.rtp_wire.specs.MapSlots.{items_from};
 ghost use Rattle.rtp_wire.specs.EqualMaps.{same_slots, same_slots-equiv};
 
 use super::entry::Entry;
+use super::mapped_ids::MappedIds;
 use super::{Extension, Iter, IterByMediaType, slots};
 use std::alloc::{AllocError, Global};
 use std::marker::Model;
 use std::{array, fmt};
 
-/// The greatest id that a map has room for.
-pub const MAX_ID: u8 = 16;
+/// The greatest id that a map has room for, and that an element can have: that of the two-byte form
+/// (RFC 8285, 4.3).
+pub const MAX_ID: u8 = 255;
 
 /// The extensions that two peers have agreed on, by their id (RFC 8285, 5): a map from the ids 1 to
 /// [`MAX_ID`] to extensions. Several ids may be mapped to one extension. An entry is locked once a
@@ -25,22 +27,22 @@ pub const MAX_ID: u8 = 16;
 pub struct ExtensionMap {
     // What the ids from 1 on are mapped to.
     slots: [Option<Entry>; MAX_ID as usize],
-    // An id above which none is mapped, so that a walk can end there.
-    end: u8,
+    // The mapped ids, so that a walk goes over these alone.
+    mapped: MappedIds,
 }
 
 impl Model for ExtensionMap {
-    ghost use Rattle.std.specs.Prelude.{◌≡◌, ◌≤◌, length};
+    ghost use Rattle.std.specs.Prelude.{◌≡◌, length};
     ghost use Rattle.rtp_wire.specs.ExtensionMap.{Slots};
-    ghost use Rattle.rtp_wire.specs.MapSlots.{AreEmptyFrom};
+    ghost use Rattle.rtp_wire.specs.MapSlots.{mapped_ids};
     ghost use Rattle.rtp_wire.specs.declared.ext.map.TheConstants.{MAX_ID};
 
     ghost Value = { Slots };
 
     ghost view = { λ map. map.slots };
 
-    ghost invariant = { λ map. (length map.slots ≡ MAX_ID) × (map.end ≤ MAX_ID)
-        × AreEmptyFrom map.slots map.end };
+    ghost invariant = { λ map. (length map.slots ≡ MAX_ID)
+        × (map.mapped ≡ mapped_ids map.slots) };
 }
 
 impl PartialEq for ExtensionMap {
@@ -70,7 +72,7 @@ impl ExtensionMap {
     {
         ExtensionMap {
             slots: array::from_fn(|_| None),
-            end: 0,
+            mapped: MappedIds::none(),
         }
     }
 
@@ -103,7 +105,7 @@ impl ExtensionMap {
     pub fn is_empty(&self) -> bool
         ensures { IsTrue result ↔ spec.IsEmpty self.now }
     {
-        slots::are_empty(&self.slots)
+        self.mapped.as_slice().is_empty()
     }
 
     /// Maps the id to the extension, unlocked, instead of what it was mapped to. An id that the map
@@ -114,7 +116,7 @@ impl ExtensionMap {
     {
         if let Some(slot) = slots::slot_of(id) {
             self.slots[slot] = Some(Entry::from(ext));
-            self.end = self.end.max(id);
+            self.mapped = MappedIds::of(&self.slots);
         }
     }
 
@@ -139,7 +141,7 @@ impl ExtensionMap {
         ensures items { result ≡ items_from 0 self.now }
         ensures few { length (items_from 0 self.now) ≤ MAX_ID }
     {
-        Iter::new(&self.slots[..usize::from(self.end)])
+        Iter::new(&self.slots, self.mapped.as_slice())
     }
 
     /// The mapped ids by rising id, each with its extension.
@@ -179,7 +181,7 @@ impl ExtensionMap {
     {
         let mut exts = Self::empty();
         slots::copy_of_medium(&self.slots, &mut exts.slots, audio);
-        exts.end = slots::end(&exts.slots);
+        exts.mapped = MappedIds::of(&exts.slots);
         exts
     }
 
@@ -197,7 +199,7 @@ impl ExtensionMap {
         ensures renumbered { spec.IsRenumbered self.old self.new }
     {
         slots::remap(&mut self.slots, steps);
-        self.end = slots::end(&self.slots);
+        self.mapped = MappedIds::of(&self.slots);
     }
 
     /// The same map. Only the texts of unknown extensions take memory, and where that is refused
@@ -208,7 +210,7 @@ impl ExtensionMap {
     {
         let mut copy = Self::empty();
         slots::copy(alloc, &self.slots, &mut copy.slots)?;
-        copy.end = slots::end(&copy.slots);
+        copy.mapped = MappedIds::of(&copy.slots);
         Ok(copy)
     }
 }

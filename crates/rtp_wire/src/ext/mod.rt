@@ -9,6 +9,7 @@ mod form;
 mod iter;
 mod kind;
 mod map;
+mod mapped_ids;
 mod slots;
 mod table;
 mod uri;

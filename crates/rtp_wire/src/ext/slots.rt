@@ -4,7 +4,7 @@ ghost use Rattle.std.specs.Prelude.{◌≡◌, ◌≢◌, ◌↔◌, ℕ, ◌+�
 ghost use Rattle.std.specs.Option.{option_copied, option_map};
 ghost use Rattle.rtp_wire.specs.Kind.{IsKnown};
 ghost use Rattle.rtp_wire.specs.ExtensionMap as spec;
-ghost use Rattle.rtp_wire.specs.MapSlots.{IsFirst, AreEmptyFrom};
+ghost use Rattle.rtp_wire.specs.MapSlots.{IsFirst};
 
 use super::Extension;
 use super::entry::Entry;
@@ -21,28 +21,6 @@ pub(super) fn slot_of(id: u8) -> Option<usize>
     } else {
         None
     }
-}
-
-// Whether every slot is empty.
-pub(super) fn are_empty(slots: &[Option<Entry>]) -> bool
-    ensures { IsTrue result ↔ All (λ slot. slot ≡ None) slots.now }
-{
-    slots.iter().all(|slot| slot.is_none())
-}
-
-// The highest id that is mapped, and 0 where none is.
-pub(super) fn end(slots: &[Option<Entry>]) -> u8
-    requires { length slots.now ≡ MAX_ID }
-    ensures within { result ≤ MAX_ID }
-    ensures empty { AreEmptyFrom slots.now result }
-{
-    let mut end = 0;
-    for (index, slot) in slots.iter().enumerate() {
-        if slot.is_some() {
-            end = index as u8 + 1;
-        }
-    }
-    end
 }
 
 // The entry of an id.

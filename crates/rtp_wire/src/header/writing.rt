@@ -60,7 +60,7 @@ impl RtpHeader {
     fn extension_len(&self, exts: &ExtensionMap) -> usize
         ensures length { result ≡ length (extension_bytes exts.now self.now.has_extension self.now.ext_vals) }
         ensures words { result % 4 ≡ 0 }
-        ensures bound { result ≤ 4116 }
+        ensures bound { result ≤ 65540 }
     {
         if self.has_extension {
             exts.block_len(&self.ext_vals)
@@ -78,7 +78,7 @@ impl RtpHeader {
         ensures end { result
             ≡ at + length (extension_bytes exts.now self.now.has_extension self.now.ext_vals) }
         ensures words { (result - at) % 4 ≡ 0 }
-        ensures bound { result ≤ at + 4116 }
+        ensures bound { result ≤ at + 65540 }
         ensures read_back { IsExtensionPart exts.now self.now.has_extension
             (extension_bytes exts.now self.now.has_extension self.now.ext_vals)
             (carried_image exts.now self.now.has_extension self.now.ext_vals) }
@@ -90,13 +90,13 @@ impl RtpHeader {
     }
 
     /// Returns how many bytes [`write_to`](Self::write_to) writes under the map: a multiple of
-    /// four, 12 without CSRC list and block, and at most 4188. Requires at most 15 contributing
+    /// four, 12 without CSRC list and block, and at most 65,612. Requires at most 15 contributing
     /// sources.
     pub fn wire_len(&self, exts: &ExtensionMap) -> usize
         requires sources { self.now.csrc_count ≤ 15 }
         ensures length { result ≡ length (wire_bytes exts.now self.now) }
         ensures words { result % 4 ≡ 0 }
-        ensures bound { result ≤ 4188 }
+        ensures bound { result ≤ 65612 }
     {
         12 + 4 * self.csrc_count + self.extension_len(exts)
     }
@@ -121,7 +121,7 @@ impl RtpHeader {
         ensures written { buf.new ≡ wire_bytes exts.now self.now ++ drop result buf.old }
         ensures length { result ≡ length (wire_bytes exts.now self.now) }
         ensures words { result % 4 ≡ 0 }
-        ensures bound { result ≤ 4188 }
+        ensures bound { result ≤ 65612 }
 
         // So whether padding is announced is seen in the first byte.
         ensures first_byte { IsFirstByte (slice_index buf.new 0)

@@ -1,13 +1,13 @@
-use Rattle.std.proofs.Common.{◌≡◌, ◌≤◌, ◌+◌, length}
-use Rattle.rtp_wire.specs.MapSlots.{items_from}
+use Rattle.std.proofs.Common.{◌≡◌, length}
+use Rattle.rtp_wire.specs.MapSlots.{items_at}
 use Rattle.rtp_wire.specs.declared.ext.map.TheConstants.{MAX_ID}
 use Rattle.rtp_wire.proofs.ext.iter.IterIterator.next.Given as goal
 
--- the slots that were passed held nothing
-abbrev pub invariant-loop-slot : goal.invariant-loop-slot
-invariant-loop-slot l =
-    (items_from l.self-inside.passed l.self-inside.left.now ≡ items_from l.initial.self-inside.passed l.initial.self-inside.left.now)
-    × (l.self-inside.passed + length l.self-inside.left.now ≤ MAX_ID)
+-- the ids that were passed are mapped to nothing
+abbrev pub invariant-loop-id : goal.invariant-loop-id
+invariant-loop-id l =
+    (items_at l.self-inside.slots.now l.self-inside.left.now ≡ items_at l.initial.self-inside.slots.now l.initial.self-inside.left.now)
+    × (length l.self-inside.slots.now ≡ MAX_ID)
 
-abbrev pub decreases-loop-slot : goal.decreases-loop-slot
-decreases-loop-slot l = length l.self-inside.left.now
+abbrev pub decreases-loop-id : goal.decreases-loop-id
+decreases-loop-id l = length l.self-inside.left.now

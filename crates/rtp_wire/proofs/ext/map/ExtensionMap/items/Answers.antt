@@ -1,12 +1,12 @@
-use Rattle.std.proofs.Common.{arith, ap, length, take, ◌∙◌}
-use Rattle.rtp_wire.specs.MapSlots.{items_from}
-use Rattle.rtp_wire.proofs.ListingLemmas.{length-items_from, items_from-take}
+use Rattle.std.proofs.Common.{arith, ap, length, ◌∙◌}
+use Rattle.rtp_wire.specs.MapSlots.{items_from, items_at}
+use Rattle.rtp_wire.proofs.ListingLemmas.{length-items_from, items_at-mapped}
 use Rattle.rtp_wire.proofs.ext.map.ExtensionMap.items.Goals as goal
 
 pub returns-clause-items : goal.returns-clause-items
 returns-clause-items c =
-    c.new.ensures ∙ ap (λ end. items_from 0 (take end c.self.inside.slots)) c.from.ensures
-    ∙ (items_from-take 0 c.self.inside.slots c.self.inside.end c.self.invariant.2 ∙ ap (items_from 0) c.self.view_is)
+    c.new.ensures ∙ ap (items_at c.self.inside.slots) (c.as_slice.ensures ∙ c.self.invariant.1)
+    ∙ (items_at-mapped c.self.inside.slots ∙ ap (items_from 0) c.self.view_is)
 
 pub returns-clause-few : goal.returns-clause-few
 returns-clause-few c =

@@ -7,4 +7,4 @@ use Rattle.rtp_wire.proofs.ext.map.ExtensionMap.wire_len.Given as goal
 abbrev pub invariant-loop-ext : goal.invariant-loop-ext
 invariant-loop-ext l =
     (l.len + length (items_bytes l.form l.ev l.ext-iterator) ≡ length (items_bytes l.form l.ev (items_from 0 l.self)))
-    × (l.len + 257 * length l.ext-iterator ≤ 4112)
+    × (l.len + 257 * length l.ext-iterator ≤ 65535)
