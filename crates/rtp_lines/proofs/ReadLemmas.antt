@@ -5,7 +5,7 @@ use Rattle.std.specs.Str.Lines.{lines}
 use Rattle.hex.specs.Hex.{decode_of, decode_pairs}
 use Rattle.hex.specs.declared.error.FromHexError.{FromHexError}
 use Rattle.hex.specs.declared.error.FromHexError.TheVariants.{InvalidHexCharacter, OddLength}
-use Rattle.rtp_wire.specs.ExtensionMap.{Slots}
+use Rattle.rtp_ext.specs.ExtensionMap.{Slots}
 use Rattle.rtp_lines.specs.MapLine.{IsMapLine}
 use Rattle.rtp_lines.proofs.MapLineLemmas.{one_reading}
 use Rattle.rtp_lines.specs.Input.{Item, AreMapLines, AreHex, AreLines, AreMapped, IsStandard, IsMapOf, Spells, IsFirstBadLine, IsInput, HasBadLine}

@@ -2,7 +2,7 @@
 use Rattle.std.specs.Prelude.{◌≡◌, ℕ, ◌+◌, ◌<◌, ◌≤◌, List, ◌∷◌, ◌++◌, length, IsErr}
 use Rattle.std.specs.Str.Lines.{lines}
 use Rattle.hex.specs.Hex.{decode_of}
-use Rattle.rtp_wire.specs.ExtensionMap.{Slots}
+use Rattle.rtp_ext.specs.ExtensionMap.{Slots}
 use Rattle.rtp_lines.specs.MapLine.{IsMapLine}
 use Rattle.rtp_lines.specs.Input.{Item, AreMapLines, AreMapped, AreHex}
 

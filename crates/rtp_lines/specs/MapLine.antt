@@ -2,7 +2,7 @@
 use Rattle.std.specs.Prelude.{◌≡◌, ℕ, ◌≤◌, List, ◌∷◌, ◌++◌, length, codes}
 use Rattle.std.specs.Str.{IsUtf8}
 use Rattle.std.specs.Str.Parse.{AllDigits, digits_value}
-use Rattle.rtp_wire.specs.ExtensionMap.{IsId}
+use Rattle.rtp_ext.specs.ExtensionMap.{IsId}
 
 -- one to three decimal digits write this id of a map
 pub record IsIdText (digits : List ℕ) (id : ℕ) : Type 0 where

@@ -3,7 +3,7 @@ use Rattle.std.proofs.Common.{◌≡◌, ℕ, ◌+◌, ◌<◌, List, [], ◌∷
 use Rattle.std.specs.Prelude.{◌≢◌, ◌⊎◌}
 use Rattle.std.proofs.lemmas.Bool.{cases_lt}
 use Rattle.std.proofs.lemmas.List.{get_or_append_left, get_or_at, get_or-map, length-map, length_push, take_more}
-use Rattle.rtp_wire.specs.ExtensionMap.{Slots, IsId, IsEmpty, entry_at}
+use Rattle.rtp_ext.specs.ExtensionMap.{Slots, IsId, IsEmpty, entry_at}
 use Rattle.rtp_uses.specs.Negotiating.{IsKnownUri, TakesLine, IsMappedTo, line_at, AreKnown, AreNegotiated}
 
 -- of no lines

@@ -2,7 +2,7 @@
 
 ghost use Rattle.std.specs.Prelude.{◌≡◌, ◌⊎◌, IsOk, IfOk, OnErr, IfSome};
 ghost use Rattle.rtp_uses.specs.Forwarding.{IsForwarded, HasNoRoom};
-ghost use Rattle.rtp_wire.specs.Memory.{HeaderHasAllocation};
+ghost use Rattle.rtp_wire.specs.RefusedMemory.{HeaderHasAllocation};
 ghost use Rattle.rtp_wire.specs.NotAHeader.{NotAHeader};
 
 use rtp_base::{SeqNo, Ssrc, put};

@@ -1,7 +1,7 @@
 //! Extension ids as they are negotiated in SDP.
 
 ghost use Rattle.std.specs.Prelude.{◌≡◌, map, IsOk, IfOk, OnErr, IfSome, IfNone};
-ghost use Rattle.rtp_wire.specs.ExtensionMap.{IsId, AreRemapped, IsLowest, IsUnmapped};
+ghost use Rattle.rtp_ext.specs.ExtensionMap.{IsId, AreRemapped, IsLowest, IsUnmapped};
 ghost use Rattle.rtp_uses.specs.Negotiating.{IsKnownUri, TakesLine, AreKnown, AreNegotiated};
 
 use rtp_wire::{Extension, ExtensionMap};

@@ -4,8 +4,8 @@ use Rattle.std.specs.Prelude.{slice_index, slice_range}
 use Rattle.std.proofs.lemmas.Bool.{cases_lt}
 use Rattle.std.proofs.lemmas.List.{get_or-take, get_or-drop, get_or_past, drop-take, take-take}
 use Rattle.std.specs.Int.{w16, w32, from_be_bytes}
-use Rattle.rtp_wire.specs.declared.ext.form.ExtensionsForm.{ExtensionsForm}
-use Rattle.rtp_wire.specs.Form.{IsFormWord}
+use Rattle.rtp_ext.specs.declared.ext.form.ExtensionsForm.{ExtensionsForm}
+use Rattle.rtp_ext.specs.Form.{IsFormWord}
 use Rattle.rtp_wire.specs.Block.{word_at, IsBlock}
 use Rattle.rtp_wire.specs.Reading.{HasBlock}
 

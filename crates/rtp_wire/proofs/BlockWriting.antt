@@ -3,16 +3,16 @@ use Rattle.std.proofs.Common.{◌≡◌, ℕ, ◌+◌, ◌-◌, ◌/◌, ◌%◌
 use Rattle.std.specs.Int.{w16, to_be_bytes}
 use Rattle.std.proofs.lemmas.List.{length-replicate}
 use Rattle.std.proofs.lemmas.Nat.{from_be_bytes-to_be_bytes_2}
-use Rattle.rtp_wire.specs.declared.ext.form.ExtensionsForm.{ExtensionsForm}
-use Rattle.rtp_wire.specs.declared.ext.form.ExtensionsForm.TheVariants.{OneByte, TwoByte}
-use Rattle.rtp_wire.specs.declared.ext.map.ExtensionMap.{ExtensionMap}
-use Rattle.rtp_wire.specs.declared.ext.value.values.ExtensionValues.{ExtensionValues}
-use Rattle.rtp_wire.specs.Form.{form_word}
-use Rattle.rtp_wire.specs.Elements.{AreElements}
-use Rattle.rtp_wire.specs.Values.{AreValues, no_values}
+use Rattle.rtp_ext.specs.declared.ext.form.ExtensionsForm.{ExtensionsForm}
+use Rattle.rtp_ext.specs.declared.ext.form.ExtensionsForm.TheVariants.{OneByte, TwoByte}
+use Rattle.rtp_ext.specs.declared.ext.map.ExtensionMap.{ExtensionMap}
+use Rattle.rtp_ext.specs.declared.ext.value.values.ExtensionValues.{ExtensionValues}
+use Rattle.rtp_ext.specs.Form.{form_word}
+use Rattle.rtp_ext.specs.Elements.{AreElements}
+use Rattle.rtp_ext.specs.Values.{AreValues, no_values}
 use Rattle.rtp_wire.specs.Block.{IsBlock, IsExtensionPart}
 use Rattle.rtp_base.specs.Overwriting.{overwritten}
-use Rattle.rtp_wire.specs.WrittenBlock.{written_elements, form_of, elements_bytes, padding_of, body_bytes, block_bytes, image_values}
+use Rattle.rtp_ext.specs.WrittenBlock.{written_elements, form_of, elements_bytes, padding_of, body_bytes, block_bytes, image_values}
 use Rattle.rtp_base.proofs.OverwritingLemmas.{overwritten-overwritten, overwritten-before, overwritten-front, overwritten-rest, length-overwritten}
 
 pub length-body : (exts : ExtensionMap) (values : ExtensionValues) (n : ℕ) → n ≡ length (elements_bytes (form_of exts values) (written_elements exts values))

@@ -1,11 +1,3 @@
-mod ElementLemmas
-mod ValuesLaws
-mod ValueFacts
-mod ElementLemmasOfBodies
-mod MemoryLemmas
-mod KindLemmas
-mod MapLemmas
-mod ListingLemmas
 mod FlagLemmas
 mod GroupLemmas
 mod BlockLemmas
@@ -13,16 +5,10 @@ mod HeaderLemmas
 mod OneHeader
 mod ParseLemmas
 mod BlockWriting
-mod FormLemmas
-mod WrittenBlockLemmas
-mod WrittenElementsLemmas
-mod WrittenValuesLemmas
 mod RoundTrip
 mod PaddingLemmas
-mod ValueLemmas
 mod StandardFacts
 mod WideningLemmas
-mod SendTimeLemmas
 mod ReceiverLemmas
 pub mod VerdictLemmas
 pub mod TrueNumberLemmas

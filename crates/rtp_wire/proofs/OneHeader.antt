@@ -4,23 +4,23 @@ use Rattle.std.specs.Prelude.{slice_index, map, replicate, ◌++◌, ◌-◌}
 use Rattle.std.specs.Int.{w32, from_be_bytes}
 use Rattle.std.specs.Simd.{first_chunks}
 use Rattle.std.proofs.lemmas.List.{get_or-take}
-use Rattle.rtp_wire.specs.declared.ext.form.ExtensionsForm.{ExtensionsForm}
-use Rattle.rtp_wire.specs.declared.ext.map.ExtensionMap.{ExtensionMap}
-use Rattle.rtp_wire.specs.declared.ext.value.values.ExtensionValues.{ExtensionValues}
+use Rattle.rtp_ext.specs.declared.ext.form.ExtensionsForm.{ExtensionsForm}
+use Rattle.rtp_ext.specs.declared.ext.map.ExtensionMap.{ExtensionMap}
+use Rattle.rtp_ext.specs.declared.ext.value.values.ExtensionValues.{ExtensionValues}
 use Rattle.rtp_wire.specs.declared.header.rtp_header.RtpHeader.{RtpHeader}
-use Rattle.rtp_wire.specs.declared.ext.form.ExtensionsForm.TheVariants.{OneByte, TwoByte}
-use Rattle.rtp_wire.specs.Form.{IsFormWord}
-use Rattle.rtp_wire.specs.Elements.{Element, AreElements}
-use Rattle.rtp_wire.specs.ElementReading.{elements_left}
-use Rattle.rtp_wire.specs.Values.{no_values, AreValues}
+use Rattle.rtp_ext.specs.declared.ext.form.ExtensionsForm.TheVariants.{OneByte, TwoByte}
+use Rattle.rtp_ext.specs.Form.{IsFormWord}
+use Rattle.rtp_ext.specs.Elements.{Element, AreElements}
+use Rattle.rtp_ext.specs.ElementReading.{elements_left}
+use Rattle.rtp_ext.specs.Values.{no_values, AreValues}
 use Rattle.rtp_wire.specs.Block.{word_at, IsBlock}
 use Rattle.rtp_wire.specs.Header.{IsWire}
 use Rattle.rtp_wire.specs.NotAHeader.{NotABlock, cut_head, unknown_form, cut_words, NotAHeader, cut_fixed, other_version, cut_sources, no_block}
 use Rattle.rtp_wire.specs.Reading.{HasExtensionPart}
 use Rattle.rtp_wire.proofs.FlagLemmas.{bit-once, HasFlags, flags_from_first, fields_from_second}
 use Rattle.rtp_wire.proofs.BlockLemmas.{word_at-take}
-use Rattle.rtp_wire.proofs.ElementLemmasOfBodies.{AreElements-only}
-use Rattle.rtp_wire.proofs.ValuesLaws.{one_values}
+use Rattle.rtp_ext.proofs.ElementLemmasOfBodies.{AreElements-only}
+use Rattle.rtp_ext.proofs.ValuesLaws.{one_values}
 use Rattle.rtp_wire.proofs.HeaderLemmas.{IsLaidOut, layout_of}
 
 -- how long a block at the front is, by its head

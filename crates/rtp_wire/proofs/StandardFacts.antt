@@ -1,21 +1,20 @@
 -- Worked rows, computed from the definitions.
-use Rattle.std.proofs.Common.{◌≡◌, ℕ, None, true, false, List, [], ◌∷◌, ◌++◌, length, replicate, refl, inl, inr, arith}
-use Rattle.rtp_wire.specs.declared.ext.form.ExtensionsForm.{ExtensionsForm}
-use Rattle.rtp_wire.specs.declared.ext.form.ExtensionsForm.TheVariants.{OneByte, TwoByte}
-use Rattle.rtp_wire.specs.declared.ext.map.ExtensionMap.{ExtensionMap}
-use Rattle.rtp_wire.specs.Form.{IsFormWord}
+use Rattle.std.proofs.Common.{◌≡◌, ℕ, None, true, false, List, [], ◌∷◌, ◌++◌, length, replicate, refl, arith}
+use Rattle.rtp_ext.specs.declared.ext.form.ExtensionsForm.{ExtensionsForm}
+use Rattle.rtp_ext.specs.declared.ext.form.ExtensionsForm.TheVariants.{OneByte, TwoByte}
+use Rattle.rtp_ext.specs.declared.ext.map.ExtensionMap.{ExtensionMap}
+use Rattle.rtp_ext.specs.Form.{IsFormWord}
 use Rattle.rtp_wire.specs.Header.{IsWire, default_header}
 use Rattle.rtp_wire.specs.NotAHeader.{cut_head, unknown_form, cut_words, NotAHeader, cut_fixed, other_version, cut_sources, no_block}
-use Rattle.rtp_wire.specs.ExtensionMap.{Slots}
-use Rattle.rtp_wire.specs.Spelling.{carried_values, carried_send_time}
-use Rattle.rtp_wire.specs.WrittenBlock.{block_bytes, image_values}
+use Rattle.rtp_ext.specs.ExtensionMap.{Slots}
+use Rattle.rtp_ext.specs.Spelling.{carried_values}
+use Rattle.rtp_ext.specs.WrittenBlock.{block_bytes, image_values}
 use Rattle.rtp_wire.specs.Written.{wire_bytes, image_of}
 use Rattle.rtp_wire.specs.Padding.{padding_bytes, with_padding_bit, IsPaddingLength, IsUnpadded}
 use Rattle.rtp_wire.specs.OriginalNumber.{HasOriginalNumber}
-use Rattle.rtp_wire.specs.Elements.{ended}
-use Rattle.rtp_wire.specs.SendTime.{IsRecovered}
-use Rattle.rtp_wire.specs.Values.{no_values}
-use Rattle.rtp_wire.proofs.ValuesLaws.{AreValues-none}
+use Rattle.rtp_ext.specs.Elements.{ended}
+use Rattle.rtp_ext.specs.Values.{no_values}
+use Rattle.rtp_ext.proofs.ValuesLaws.{AreValues-none}
 
 abbrev zeros : ℕ → List ℕ
 zeros n = replicate n 0
@@ -117,25 +116,6 @@ unknown_form_row = no_block refl (unknown_form no_form)
 
 cut_words_row : NotAHeader (144 ∷ zeros 11 ++ 190 ∷ 222 ∷ 0 ∷ 1 ∷ 16 ∷ 170 ∷ 0 ∷ [])
 cut_words_row = no_block refl (cut_words (omega arith))
-
--- send times: what is read of a time that was written, and the moments of what is read
-ticks_row : carried_send_time 4 ≡ 3
-ticks_row = refl
-
-wrapped_row : carried_send_time 1000000000 ≡ 40000000
-wrapped_row = refl
-
-latest_row : IsRecovered 1000050000 40000000 1000000000
-latest_row = inl (record { possible = record { past = omega arith; same = refl }; latest = λ other is. let past = is.past in let same = is.same in omega arith })
-
-before_wrap_row : IsRecovered 64500000 63000000 63000000
-before_wrap_row = inl (record { possible = record { past = omega arith; same = refl }; latest = λ other is. let past = is.past in let same = is.same in omega arith })
-
-whole_period_row : IsRecovered 5 64000000 0
-whole_period_row = inl (record { possible = record { past = omega arith; same = refl }; latest = λ other is. let past = is.past in let same = is.same in omega arith })
-
-too_early_row : IsRecovered 10 20 20
-too_early_row = inr (λ other is. (let past = is.past in let same = is.same in absurd (omega arith)), refl)
 
 -- ---- the ends of a packet
 

@@ -6,12 +6,12 @@
 -- |                        header extension                       |
 use Rattle.std.specs.Prelude.{◌≡◌, ℕ, ◌+◌, ◌*◌, List, [], length, drop, slice_range, Bool, true, false}
 use Rattle.std.specs.Int.{w16, from_be_bytes}
-use Rattle.rtp_wire.specs.declared.ext.form.ExtensionsForm.{ExtensionsForm}
-use Rattle.rtp_wire.specs.declared.ext.map.ExtensionMap.{ExtensionMap}
-use Rattle.rtp_wire.specs.declared.ext.value.values.ExtensionValues.{ExtensionValues}
-use Rattle.rtp_wire.specs.Form.{IsFormWord}
-use Rattle.rtp_wire.specs.Elements.{Element, AreElements}
-use Rattle.rtp_wire.specs.Values.{no_values, AreValues}
+use Rattle.rtp_ext.specs.declared.ext.form.ExtensionsForm.{ExtensionsForm}
+use Rattle.rtp_ext.specs.declared.ext.map.ExtensionMap.{ExtensionMap}
+use Rattle.rtp_ext.specs.declared.ext.value.values.ExtensionValues.{ExtensionValues}
+use Rattle.rtp_ext.specs.Form.{IsFormWord}
+use Rattle.rtp_ext.specs.Elements.{Element, AreElements}
+use Rattle.rtp_ext.specs.Values.{no_values, AreValues}
 
 -- the word in two bytes, the high one first
 abbrev pub word_at : List ℕ → ℕ → ℕ

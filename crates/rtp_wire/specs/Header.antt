@@ -10,15 +10,11 @@
 use Rattle.std.specs.Prelude.{◌≡◌, ℕ, ◌+◌, ◌-◌, ◌*◌, ◌≤◌, List, ◌++◌, length, map, replicate, slice_index, slice_range, Bool, true, false}
 use Rattle.std.specs.List.{concat, AllByRecursion}
 use Rattle.std.specs.Int.{w16, w32, from_be_bytes}
-use Rattle.rtp_wire.specs.declared.ext.map.ExtensionMap.{ExtensionMap}
+use Rattle.rtp_ext.specs.declared.ext.map.ExtensionMap.{ExtensionMap}
 use Rattle.rtp_wire.specs.declared.header.rtp_header.RtpHeader.{RtpHeader}
-use Rattle.rtp_wire.specs.Values.{no_values}
+use Rattle.rtp_ext.specs.Flag.{bit}
+use Rattle.rtp_ext.specs.Values.{no_values}
 use Rattle.rtp_wire.specs.Block.{IsExtensionPart}
-
--- a bit that is clear or set
-abbrev pub bit : Bool → ℕ
-bit false = 0
-bit true = 1
 
 -- V=2 in the top two bits, then P, X and the four bits of CC
 pub record IsFirstByte (byte : ℕ) (padding extension : Bool) (count : ℕ) : Type 0 where

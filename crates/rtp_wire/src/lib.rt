@@ -2,18 +2,17 @@
 //! the packets that a stream brings.
 #![tactic(auto)]
 
-mod ext;
 mod header;
 mod receive;
 
-pub use ext::{
-    AbsCaptureTime, Elements, Extension, ExtensionMap, ExtensionValues, ExtensionsForm, Iter,
-    IterByMediaType, MAX_ID, MAX_ID_ONE_BYTE_FORM, Uri, VideoOrientation, VideoTiming,
-};
 pub use header::{
     MAX_BLANK_PADDING_PAYLOAD_SIZE, RtpHeader, create_padding_packet, extend_u7, extend_u8,
     extend_u15, extend_u16, extend_u32, read_original_sequence_number, unpad_payload,
     write_original_sequence_number,
 };
 pub use receive::{Receiver, Verdict, receive_run};
+pub use rtp_ext::{
+    AbsCaptureTime, Elements, Extension, ExtensionMap, ExtensionValues, ExtensionsForm, Iter,
+    IterByMediaType, MAX_ID, MAX_ID_ONE_BYTE_FORM, Uri, VideoOrientation, VideoTiming,
+};
 pub use rtp_vla::vla;

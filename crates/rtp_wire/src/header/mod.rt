@@ -1,5 +1,6 @@
 //! The header of an RTP packet.
 
+mod block;
 mod original_number;
 mod padding;
 mod parsing;

@@ -3,13 +3,14 @@
 ghost use Rattle.std.specs.Prelude.{◌↔◌, ◌≡◌, ◌+◌, ◌-◌, ◌*◌, ◌/◌, ◌^◌, ◌<◌, ◌≤◌, ◌++◌, length, drop, map, replicate, slice_index, IsOk, IfOk, OnErr, IfSome, IfNone};
 ghost use Rattle.std.specs.Int.{w32, from_be_bytes};
 ghost use Rattle.std.specs.Simd.{first_chunks};
-ghost use Rattle.rtp_wire.specs.Memory.{HeaderHasAllocation};
+ghost use Rattle.rtp_wire.specs.RefusedMemory.{HeaderHasAllocation};
 ghost use Rattle.rtp_wire.specs.NotAHeader.{NotAHeader};
 ghost use Rattle.rtp_wire.specs.Header.{IsFirstByte, IsSecondByte, IsFixed, IsWire};
 
 use super::RtpHeader;
-use crate::ext::{ExtensionMap, ExtensionValues};
+use super::block::parse_block;
 use rtp_base::{Pt, Ssrc};
+use rtp_ext::{ExtensionMap, ExtensionValues};
 use std::alloc::{AllocError, Global};
 
 // P, X and CC.
@@ -146,7 +147,7 @@ impl RtpHeader {
             return Ok(Some(header_of(fixed, flags, sources, no_values, 0)));
         }
         let mut ext_vals = ExtensionValues::default();
-        let Some(block_len) = exts.parse_block(alloc, after, &mut ext_vals)? else {
+        let Some(block_len) = parse_block(exts, alloc, after, &mut ext_vals)? else {
             return Ok(None);
         };
         Ok(Some(header_of(fixed, flags, sources, ext_vals, block_len)))

@@ -1,10 +1,10 @@
 //! The header as a value.
 
 ghost use Rattle.std.specs.Prelude.{◌≡◌, IsOk, IfOk};
-ghost use Rattle.rtp_wire.specs.Memory.{TakesNoMemory};
+ghost use Rattle.rtp_ext.specs.Memory.{TakesNoMemory};
 
-use crate::ext::ExtensionValues;
 use rtp_base::{Pt, Ssrc};
+use rtp_ext::ExtensionValues;
 use std::alloc::{AllocError, Global};
 
 /// The header of an RTP packet (RFC 3550, 5.1), with the values of its extensions.

@@ -4,13 +4,15 @@ ghost use Rattle.std.specs.Prelude.{◌≡◌, ℕ, ◌+◌, ◌-◌, ◌*◌, �
 ghost use Rattle.std.specs.List.{flat_map};
 ghost use Rattle.std.specs.Int.{w32, to_be_bytes};
 ghost use Rattle.rtp_wire.specs.Block.{IsExtensionPart};
-ghost use Rattle.rtp_wire.specs.Header.{IsFirstByte, IsWire, bit};
+ghost use Rattle.rtp_ext.specs.Flag.{bit};
+ghost use Rattle.rtp_wire.specs.Header.{IsFirstByte, IsWire};
 ghost use Rattle.rtp_base.specs.Overwriting.{overwritten};
 ghost use Rattle.rtp_wire.specs.Written.{fixed_bytes, source_bytes, extension_bytes, wire_bytes, carried_image, image_of};
 
 use super::RtpHeader;
-use crate::ext::ExtensionMap;
+use super::block::{block_len, write_block};
 use rtp_base::put;
+use rtp_ext::ExtensionMap;
 
 // Puts four bytes for each source, and returns the offset behind them.
 fn put_sources(buf: &mut [u8], at: usize, sources: &[u32]) -> usize
@@ -63,7 +65,7 @@ impl RtpHeader {
         ensures bound { result ≤ 65540 }
     {
         if self.has_extension {
-            exts.block_len(&self.ext_vals)
+            block_len(exts, &self.ext_vals)
         } else {
             0
         }
@@ -86,7 +88,7 @@ impl RtpHeader {
         if !self.has_extension {
             return at;
         }
-        at + exts.write_block(&mut buf[at..], &self.ext_vals)
+        at + write_block(exts, &mut buf[at..], &self.ext_vals)
     }
 
     /// Returns how many bytes [`write_to`](Self::write_to) writes under the map: a multiple of

@@ -7,8 +7,8 @@ ghost use Rattle.rtp_wire.specs.Sending.{AreSent, readings_of};
 ghost use Rattle.rtp_wire.specs.declared.header.rtp_header.RtpHeader.{RtpHeader};
 
 use super::{Receiver, Verdict};
-use crate::ext::ExtensionMap;
 use crate::header::RtpHeader;
+use rtp_ext::ExtensionMap;
 use std::alloc::{AllocError, Global};
 
 /// The verdict on each datagram, in the order in which they came, by one [`Receiver`]: a datagram

@@ -4,7 +4,7 @@ use Rattle.std.specs.Global.{Vec}
 use Rattle.rtp_lines.specs.declared.input.InputError.{InputError}
 use Rattle.rtp_lines.specs.declared.input.InputError.TheVariants.{BadLine, NoMemory}
 use Rattle.rtp_lines.specs.Input.{Spells, IsFirstBadLine}
-use Rattle.rtp_wire.specs.ExtensionMap.{Slots}
+use Rattle.rtp_ext.specs.ExtensionMap.{Slots}
 use Rattle.rtp_lines.proofs.ReadLemmas.{if_err, no_bad_line, one_bad_line, IsFirstBadLine-behind, Spells-standard, Spells-mapped, only_reading}
 use Rattle.rtp_lines.proofs.input.read_input.Goals as goal
 use Rattle.rtp_lines.proofs.input.read_input.Goals.{then-count-eq0, else-count-eq0}

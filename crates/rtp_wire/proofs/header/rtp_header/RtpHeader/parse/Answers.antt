@@ -1,11 +1,11 @@
 use Rattle.std.proofs.Common.{arith, true, false, refl, sym, ap, ◌∙◌, subst, ◌≡◌, Bool, Some, IsErr}
 use Rattle.std.proofs.lemmas.Bool.{not-true, not-false, false≢true}
-use Rattle.rtp_wire.specs.declared.ext.value.values.ExtensionValues.{ExtensionValues}
+use Rattle.rtp_ext.specs.declared.ext.value.values.ExtensionValues.{ExtensionValues}
 use Rattle.rtp_wire.specs.declared.header.rtp_header.RtpHeader.{RtpHeader}
-use Rattle.rtp_wire.specs.Memory.{HeaderHasAllocation}
+use Rattle.rtp_wire.specs.RefusedMemory.{HeaderHasAllocation}
 use Rattle.rtp_wire.specs.NotAHeader.{NotAHeader}
 use Rattle.rtp_wire.specs.Reading.{HasExtensionPart}
-use Rattle.rtp_wire.proofs.MemoryLemmas.{OnErr-from, OnErr-at}
+use Rattle.rtp_ext.proofs.MemoryLemmas.{OnErr-from, OnErr-at}
 use Rattle.rtp_wire.proofs.HeaderLemmas.{IsLaidOut, IsWire-from_layout}
 use Rattle.rtp_wire.proofs.OneHeader.{no_header, one_header}
 use Rattle.rtp_wire.proofs.ParseLemmas.{IsLaidOut-made, HasExtensionPart-none, HasExtensionPart-read, cut_sources-from_pieces, no_block-from_pieces, HeaderHasAllocation-from_pieces}

@@ -1,7 +1,7 @@
 use Rattle.std.proofs.Common.{◌+◌, ◌-◌, ◌≤◌, Bool, ℕ, sym, ap, subst, ◌∙◌, ◌++◌, length, drop, take}
 use Rattle.rtp_wire.specs.Block.{IsExtensionPart}
 use Rattle.rtp_base.specs.Overwriting.{overwritten}
-use Rattle.rtp_wire.specs.WrittenBlock.{block_bytes}
+use Rattle.rtp_ext.specs.WrittenBlock.{block_bytes}
 use Rattle.rtp_wire.specs.Written.{extension_bytes, carried_image}
 use Rattle.rtp_base.proofs.OverwritingLemmas.{overwritten-nil, overwritten-rest}
 use Rattle.rtp_wire.proofs.header.rtp_header.RtpHeader.put_extension.Goals as goal

@@ -1,0 +1,194 @@
+-- The elements of bytes from the front on, as code meets them.
+use Rattle.std.proofs.Common.{◌≡◌, ◌≢◌, ℕ, zero, suc, ◌+◌, ◌/◌, ◌%◌, ◌^◌, ◌<◌, ◌≤◌, ◌⊎◌, inl, inr, List, [], ◌∷◌, ◌++◌, length, take, drop, Option, Some, None, le-ltb, lt-ltb, le-leb, add-one, get_or, take-append-drop, arith, refl, sym, ap, ◌∙◌, subst, Bor}
+use Rattle.std.specs.List.{IsFirstAndRest, IsSplitAt}
+use Rattle.std.specs.Int.{w128, byte_worth, from_le_bytes, sum_through}
+use Rattle.std.proofs.Math.Nat.{one-le-pow, eq_of_mul-eq-mul_right, zero-mul}
+use Rattle.std.proofs.lemmas.Bool.{cases_lt, lt-leb}
+use Rattle.std.proofs.lemmas.List.{length-take-le, nil_from_length}
+use Rattle.rtp_ext.specs.declared.ext.form.ExtensionsForm.{ExtensionsForm}
+use Rattle.rtp_ext.specs.declared.ext.form.ExtensionsForm.TheVariants.{OneByte, TwoByte}
+use Rattle.rtp_ext.specs.Elements.{Element}
+use Rattle.rtp_ext.specs.ElementReading.{without_padding, IsUnpadded, element_at, in_front, elements_behind, elements_left, IsFirst}
+
+-- the elements behind some bytes are those of what is left without them
+elements_behind-drop : (form : ExtensionsForm) (passed : ℕ) (bytes : List ℕ) → elements_behind form passed bytes ≡ elements_left form (drop passed bytes)
+unfolding elements_behind
+elements_behind-drop form zero bytes = refl
+elements_behind-drop form (suc passed) [] = refl
+elements_behind-drop form (suc passed) (byte ∷ bytes) = elements_behind-drop form passed bytes
+
+-- nothing is left, padding, and a byte that is none
+pub elements_left-none : (form : ExtensionsForm) → elements_left form [] ≡ []
+unfolding elements_behind
+elements_left-none form = refl
+
+pub elements_left-padding : (form : ExtensionsForm) (bytes : List ℕ) → elements_left form (0 ∷ bytes) ≡ elements_left form bytes
+unfolding elements_behind
+elements_left-padding form bytes = refl
+
+elements_left-other : (form : ExtensionsForm) (byte : ℕ) (bytes : List ℕ) → 1 ≤ byte
+    → elements_left form (byte ∷ bytes) ≡ in_front (element_at form byte bytes) (λ taken. elements_behind form taken bytes)
+unfolding elements_behind
+elements_left-other form zero bytes above = absurd (omega arith)
+elements_left-other form (suc byte) bytes above = refl
+
+-- an element that is whole, and where reading ends
+elements_left-some : (form : ExtensionsForm) (byte : ℕ) (bytes : List ℕ) (element : Element) (taken : ℕ) → 1 ≤ byte → element_at form byte bytes ≡ Some (element, taken)
+    → elements_left form (byte ∷ bytes) ≡ element ∷ elements_left form (drop taken bytes)
+elements_left-some form byte bytes element taken above found =
+    elements_left-other form byte bytes above ∙ (ap (λ f. in_front f (λ n. elements_behind form n bytes)) found ∙ ap (λ es. element ∷ es) (elements_behind-drop form taken bytes))
+
+elements_left-end : (form : ExtensionsForm) (byte : ℕ) (bytes : List ℕ) → 1 ≤ byte → element_at form byte bytes ≡ None → elements_left form (byte ∷ bytes) ≡ []
+elements_left-end form byte bytes above none =
+    elements_left-other form byte bytes above ∙ ap (λ f. in_front f (λ n. elements_behind form n bytes)) none
+
+pub one_byte-whole : (byte : ℕ) (bytes : List ℕ) → byte < 240 → byte % 16 < length bytes
+    → element_at OneByte byte bytes ≡ Some ((byte / 16, take (byte % 16 + 1) bytes), byte % 16 + 1)
+one_byte-whole byte bytes low whole = rw (lt-ltb byte 240 low, lt-ltb (byte % 16) (length bytes) whole) refl
+
+pub one_byte-stops : (byte : ℕ) (bytes : List ℕ) → 240 ≤ byte → element_at OneByte byte bytes ≡ None
+one_byte-stops byte bytes high = rw (le-ltb byte 240 high) refl
+
+pub one_byte-cut : (byte : ℕ) (bytes : List ℕ) → length bytes ≤ byte % 16 → element_at OneByte byte bytes ≡ None
+one_byte-cut byte bytes cut = elim (cases_lt byte 240) [
+  | inl low ↦ rw (lt-ltb byte 240 low, le-ltb (byte % 16) (length bytes) cut) refl
+  | inr high ↦ one_byte-stops byte bytes high
+]
+
+pub two_byte-whole : (id count : ℕ) (bytes : List ℕ) → count ≤ length bytes → element_at TwoByte id (count ∷ bytes) ≡ Some ((id, take count bytes), suc count)
+two_byte-whole id count bytes whole = rw (le-leb count (length bytes) whole, add-one) refl
+
+pub two_byte-cut : (id count : ℕ) (bytes : List ℕ) → length bytes < count → element_at TwoByte id (count ∷ bytes) ≡ None
+two_byte-cut id count bytes cut = rw (lt-leb count (length bytes) cut) refl
+
+-- padding at the front has no elements, and what is behind it begins with none
+elements_left-unpadded : (form : ExtensionsForm) (bytes : List ℕ) → elements_left form bytes ≡ elements_left form (without_padding bytes)
+unfolding elements_behind without_padding
+elements_left-unpadded form [] = refl
+elements_left-unpadded form (zero ∷ bytes) = elements_left-unpadded form bytes
+elements_left-unpadded form (suc byte ∷ bytes) = refl
+
+pub IsUnpadded-behind : (bytes : List ℕ) → IsUnpadded (without_padding bytes)
+unfolding without_padding
+IsUnpadded-behind [] = refl
+IsUnpadded-behind (zero ∷ bytes) = IsUnpadded-behind bytes
+IsUnpadded-behind (suc byte ∷ bytes) = refl
+
+pub IsFirst-padded : (form : ExtensionsForm) (bytes behind : List ℕ) (first : Option (ℕ × Bor (List ℕ) × Bor (List ℕ))) → behind ≡ without_padding bytes
+    → IsFirst form behind first → IsFirst form bytes first
+IsFirst-padded form bytes behind None is first = elements_left-unpadded form bytes ∙ (ap (elements_left form) (sym is) ∙ first)
+IsFirst-padded form bytes behind (Some element) is first = elements_left-unpadded form bytes ∙ (ap (elements_left form) (sym is) ∙ first)
+
+length-without_padding : (bytes : List ℕ) → length (without_padding bytes) ≤ length bytes
+unfolding without_padding
+length-without_padding [] = omega arith
+length-without_padding (zero ∷ bytes) = omega (arith, length-without_padding bytes)
+length-without_padding (suc byte ∷ bytes) = omega arith
+
+IsUnpadded-head : (byte : ℕ) (bytes : List ℕ) → IsUnpadded (byte ∷ bytes) → 1 ≤ byte
+unfolding without_padding
+IsUnpadded-head zero bytes is = absurd (omega (arith, length-without_padding bytes, ap length is))
+IsUnpadded-head (suc byte) bytes is = omega arith
+
+-- the padding as code passes it
+pub without_padding-none : (bytes : List ℕ) → length bytes ≡ 0 → without_padding bytes ≡ bytes
+unfolding without_padding
+without_padding-none [] none = refl
+without_padding-none (byte ∷ bytes) none = absurd (omega arith)
+
+pub without_padding-other : (byte : ℕ) (bytes after : List ℕ) → IsFirstAndRest bytes byte after → byte ≢ 0 → without_padding bytes ≡ bytes
+unfolding without_padding
+without_padding-other zero bytes after first other = absurd (other refl)
+without_padding-other (suc byte) bytes after first other = ap without_padding first.0 ∙ sym first.0
+
+pub without_padding-zero : (byte : ℕ) (bytes after : List ℕ) → IsFirstAndRest bytes byte after → byte ≡ 0 → without_padding bytes ≡ without_padding after
+unfolding without_padding
+without_padding-zero byte bytes after first is = ap without_padding (first.0 ∙ ap (λ b. b ∷ after) is)
+
+-- words of 16 bytes: where the number is 0, each byte is
+sum_through-zero : (f : ℕ → ℕ) (last i : ℕ) → sum_through f last ≡ 0 → i ≤ last → f i ≡ 0
+sum_through-zero f zero zero is within = is
+sum_through-zero f zero (suc i) is within = absurd (omega arith)
+sum_through-zero f (suc last) i is within = elim (cases_lt i (suc last)) [
+  | inl before ↦ sum_through-zero f last i (omega arith) (omega arith)
+  | inr here ↦ let same : i ≡ suc last = omega arith in ap f same ∙ omega arith
+]
+
+byte_worth-zero : (i byte : ℕ) → byte_worth i byte ≡ 0 → byte ≡ 0
+byte_worth-zero zero byte is = is
+byte_worth-zero (suc i) byte is =
+    let above : 1 ≤ 256 ^ suc i = one-le-pow (suc i) 256 (omega arith) in
+    eq_of_mul-eq-mul_right (256 ^ suc i) (omega arith) byte 0 (is ∙ sym (zero-mul (256 ^ suc i)))
+
+without_padding-zeros : (word rest : List ℕ) → ((i : ℕ) → i < length word → get_or word i 0 ≡ 0) → without_padding (word ++ rest) ≡ without_padding rest
+unfolding without_padding
+without_padding-zeros [] rest zeros = refl
+without_padding-zeros (byte ∷ word) rest zeros =
+    ap (λ b. without_padding (b ∷ (word ++ rest))) (zeros 0 (omega arith)) ∙ without_padding-zeros word rest (λ i here. zeros (suc i) (omega arith))
+
+pub without_padding-word : (bytes word after : List ℕ) → (word ≡ take 16 bytes) × (after ≡ drop 16 bytes) × (length after + 16 ≡ length bytes) → from_le_bytes w128 word ≡ 0
+    → without_padding bytes ≡ without_padding after
+without_padding-word bytes word after split zero_word =
+    let sixteen : length word ≡ 16 = ap length split.0 ∙ length-take-le 16 bytes (omega (arith, split.2)) in
+    let whole : bytes ≡ word ++ after = sym (take-append-drop 16 bytes) ∙ (ap (λ w. w ++ drop 16 bytes) (sym split.0) ∙ ap (λ b. word ++ b) (sym split.1)) in
+    ap without_padding whole
+    ∙ without_padding-zeros word after (λ i here. byte_worth-zero i (get_or word i 0) (sum_through-zero (λ k. byte_worth k (get_or word k 0)) 15 i zero_word (omega arith)))
+
+-- what code reads: an element in each form, and the end
+pub elements_left-one_byte : (byte : ℕ) (bytes : List ℕ) → 1 ≤ byte → byte < 240 → byte % 16 < length bytes
+    → elements_left OneByte (byte ∷ bytes) ≡ (byte / 16, take (byte % 16 + 1) bytes) ∷ elements_left OneByte (drop (byte % 16 + 1) bytes)
+elements_left-one_byte byte bytes above low whole =
+    elements_left-some OneByte byte bytes (byte / 16, take (byte % 16 + 1) bytes) (byte % 16 + 1) above (one_byte-whole byte bytes low whole)
+
+pub elements_left-one_byte_end : (byte : ℕ) (bytes : List ℕ) → 1 ≤ byte → (240 ≤ byte) ⊎ (length bytes ≤ byte % 16) → elements_left OneByte (byte ∷ bytes) ≡ []
+elements_left-one_byte_end byte bytes above (inl high) = elements_left-end OneByte byte bytes above (one_byte-stops byte bytes high)
+elements_left-one_byte_end byte bytes above (inr cut) = elements_left-end OneByte byte bytes above (one_byte-cut byte bytes cut)
+
+pub elements_left-two_byte : (id count : ℕ) (bytes : List ℕ) → 1 ≤ id → count ≤ length bytes
+    → elements_left TwoByte (id ∷ count ∷ bytes) ≡ (id, take count bytes) ∷ elements_left TwoByte (drop count bytes)
+elements_left-two_byte id count bytes above whole =
+    elements_left-some TwoByte id (count ∷ bytes) (id, take count bytes) (suc count) above (two_byte-whole id count bytes whole)
+
+pub elements_left-two_byte_cut : (id count : ℕ) (bytes : List ℕ) → 1 ≤ id → length bytes < count → elements_left TwoByte (id ∷ count ∷ bytes) ≡ []
+elements_left-two_byte_cut id count bytes above cut = elements_left-end TwoByte id (count ∷ bytes) above (two_byte-cut id count bytes cut)
+
+pub elements_left-two_byte_end : (id : ℕ) → 1 ≤ id → elements_left TwoByte (id ∷ []) ≡ []
+elements_left-two_byte_end id above = elements_left-end TwoByte id [] above refl
+
+-- the same of bytes without padding at their front, as code splits them
+pub nothing_left : (form : ExtensionsForm) (bytes : List ℕ) → length bytes ≡ 0 → elements_left form bytes ≡ []
+nothing_left form bytes none = ap (elements_left form) (nil_from_length bytes none) ∙ elements_left-none form
+
+pub one_byte_read : (head : ℕ) (bytes after front back : List ℕ) → IsUnpadded bytes → IsFirstAndRest bytes head after → head < 240 → IsSplitAt after (head % 16 + 1) front back
+    → elements_left OneByte bytes ≡ (head / 16, front) ∷ elements_left OneByte back
+one_byte_read head bytes after front back unpadded first low split =
+    let above : 1 ≤ head = IsUnpadded-head head after (subst IsUnpadded first.0 unpadded) in
+    ap (elements_left OneByte) first.0 ∙ (elements_left-one_byte head after above low (omega (arith, split.0))
+    ∙ (ap (λ b. (head / 16, b) ∷ elements_left OneByte (drop (head % 16 + 1) after)) (sym split.1)
+    ∙ ap (λ b. (head / 16, front) ∷ elements_left OneByte b) (sym split.2)))
+
+pub one_byte_end : (head : ℕ) (bytes after : List ℕ) → IsUnpadded bytes → IsFirstAndRest bytes head after → (240 ≤ head) ⊎ (length after < head % 16 + 1)
+    → elements_left OneByte bytes ≡ []
+one_byte_end head bytes after unpadded first (inl high) =
+    ap (elements_left OneByte) first.0 ∙ elements_left-one_byte_end head after (IsUnpadded-head head after (subst IsUnpadded first.0 unpadded)) (inl high)
+one_byte_end head bytes after unpadded first (inr cut) =
+    ap (elements_left OneByte) first.0 ∙ elements_left-one_byte_end head after (IsUnpadded-head head after (subst IsUnpadded first.0 unpadded)) (inr (omega arith))
+
+pub two_byte_read : (id count : ℕ) (bytes second after front back : List ℕ) → IsUnpadded bytes → IsFirstAndRest bytes id second → IsFirstAndRest second count after
+    → IsSplitAt after count front back → elements_left TwoByte bytes ≡ (id, front) ∷ elements_left TwoByte back
+two_byte_read id count bytes second after front back unpadded first next split =
+    let above : 1 ≤ id = IsUnpadded-head id second (subst IsUnpadded first.0 unpadded) in
+    ap (elements_left TwoByte) first.0 ∙ (ap (λ b. elements_left TwoByte (id ∷ b)) next.0 ∙ (elements_left-two_byte id count after above split.0
+    ∙ (ap (λ b. (id, b) ∷ elements_left TwoByte (drop count after)) (sym split.1)
+    ∙ ap (λ b. (id, front) ∷ elements_left TwoByte b) (sym split.2))))
+
+pub two_byte_cut : (id count : ℕ) (bytes second after : List ℕ) → IsUnpadded bytes → IsFirstAndRest bytes id second → IsFirstAndRest second count after
+    → length after < count → elements_left TwoByte bytes ≡ []
+two_byte_cut id count bytes second after unpadded first next cut =
+    let above : 1 ≤ id = IsUnpadded-head id second (subst IsUnpadded first.0 unpadded) in
+    ap (elements_left TwoByte) first.0 ∙ (ap (λ b. elements_left TwoByte (id ∷ b)) next.0 ∙ elements_left-two_byte_cut id count after above cut)
+
+pub two_byte_end : (id : ℕ) (bytes second : List ℕ) → IsUnpadded bytes → IsFirstAndRest bytes id second → length second ≡ 0 → elements_left TwoByte bytes ≡ []
+two_byte_end id bytes second unpadded first none =
+    let above : 1 ≤ id = IsUnpadded-head id second (subst IsUnpadded first.0 unpadded) in
+    ap (elements_left TwoByte) first.0 ∙ (ap (λ b. elements_left TwoByte (id ∷ b)) (nil_from_length second none) ∙ elements_left-two_byte_end id above)

@@ -1,0 +1,14 @@
+pub mod ElementLemmas
+pub mod ValuesLaws
+mod ValueFacts
+pub mod ElementLemmasOfBodies
+pub mod MemoryLemmas
+mod KindLemmas
+mod MapLemmas
+mod ListingLemmas
+mod FormLemmas
+pub mod WrittenBlockLemmas
+mod WrittenElementsLemmas
+mod WrittenValuesLemmas
+mod ValueLemmas
+mod SendTimeLemmas

@@ -1,0 +1,244 @@
+-- The map of extension ids: what stands behind an id once slots have changed.
+use Rattle.std.proofs.Common.{◌≡◌, ◌≢◌, ℕ, ◌+◌, ◌<◌, ◌⊎◌, inl, inr, suc, zero, List, ◌∷◌, length, map, drop, get_or, set, Option, Some, None, arith, ap, refl, sym, ◌∙◌, subst, get_or-set_same, get_or-set_other, ◌==◌, if◌then◌else◌}
+use Rattle.std.proofs.lemmas.List.{get_or_past, length-map, length-set}
+use Rattle.std.proofs.Math.ListN.{get_or-map}
+use Rattle.std.proofs.Math.Seq.{drop-cons}
+use Rattle.std.proofs.lemmas.List.Edits.{Swapped, swapped_from_swap}
+use Rattle.std.specs.List.{swap}
+use Rattle.std.specs.Option.{option_map}
+use Rattle.std.proofs.lemmas.Bool.{cases_lt, eq-eqb, ne_eqb}
+use Rattle.std.proofs.lemmas.Bool.Decides.{eqb_tells}
+use Rattle.rtp_ext.specs.declared.ext.entry.Entry.{Entry}
+use Rattle.rtp_ext.specs.declared.ext.kind.Extension.{Extension}
+use Rattle.rtp_ext.specs.declared.ext.map.TheConstants.{MAX_ID}
+use Rattle.rtp_ext.specs.MapSlots.{IsFirst}
+use Rattle.rtp_ext.specs.ExtensionMap.{Slots, IsEmpty, IsId, entry_at, extension_at, extension_of, Sets, Exchanges, IsRenumbered, IsLocked, IsLockedAt, locked, IsLowest, Remaps, AreRemapped, same_slot, moved}
+
+-- nothing stands in a index where nothing does in any
+pub IsEmpty-from_each : (slots : Slots) → ((k : ℕ) → k < length slots → get_or slots k None ≡ None) → IsEmpty slots
+IsEmpty-from_each slots each zero = refl
+IsEmpty-from_each slots each (suc k) = elim (cases_lt k (length slots)) [
+  | inl here ↦ each k here
+  | inr past ↦ get_or_past slots k None past
+]
+
+-- the id of a index is one more than the index
+pub entry_at-slot : (slots : Slots) (k id : ℕ) → k + 1 ≡ id → entry_at slots id ≡ get_or slots k None
+entry_at-slot slots k zero is = absurd (omega arith)
+entry_at-slot slots k (suc j) is = ap (λ (index : ℕ). get_or slots index None) (omega arith)
+
+-- two lists that differ in one index
+pub entry_at-other : (slots new : Slots) (index id : ℕ) → index + 1 ≡ id
+    → ((k : ℕ) → k ≢ index → get_or new k None ≡ get_or slots k None)
+    → (j : ℕ) → j ≢ id → entry_at new j ≡ entry_at slots j
+entry_at-other slots new index id is same zero other = refl
+entry_at-other slots new index id is same (suc j) other = same j (λ here. other (omega arith))
+
+-- one index is set
+pub Sets-set : (slots : Slots) (k id : ℕ) (entry : Entry) → k + 1 ≡ id → k < length slots → Sets slots (set slots k (Some entry)) id entry
+Sets-set slots k id entry is here = record {
+  this = entry_at-slot _ k id is ∙ get_or-set_same slots k (Some entry) None here;
+  others = entry_at-other slots (set slots k (Some entry)) k id is (λ j other. get_or-set_other slots k j (Some entry) None other);
+}
+
+-- the number with two exchanged
+exchanged : ℕ → ℕ → ℕ → ℕ
+exchanged a b n = if n == a then b else if n == b then a else n
+
+exchanged-first : (a b n : ℕ) → n ≡ a → exchanged a b n ≡ b
+unfolding exchanged
+exchanged-first a b n is = rw (eq-eqb n a is) refl
+
+exchanged-second : (a b n : ℕ) → n ≢ a → n ≡ b → exchanged a b n ≡ a
+unfolding exchanged
+exchanged-second a b n isnt is = rw (ne_eqb n a isnt, eq-eqb n b is) refl
+
+exchanged-other : (a b n : ℕ) → n ≢ a → n ≢ b → exchanged a b n ≡ n
+unfolding exchanged
+exchanged-other a b n isnt isnt_either = rw (ne_eqb n a isnt, ne_eqb n b isnt_either) refl
+
+exchanged-twice : (a b n : ℕ) → a ≢ b → exchanged a b (exchanged a b n) ≡ n
+exchanged-twice a b n apart = elim (eqb_tells n a) [
+  | inl is ↦ ap (exchanged a b) (exchanged-first a b n is.1) ∙ (exchanged-second a b b (λ same. apart (sym same)) refl ∙ sym is.1)
+  | inr isnt ↦ elim (eqb_tells n b) [
+    | inl is ↦ ap (exchanged a b) (exchanged-second a b n isnt.1 is.1) ∙ (exchanged-first a b a refl ∙ sym is.1)
+    | inr isnt_either ↦
+        ap (exchanged a b) (exchanged-other a b n isnt.1 isnt_either.1) ∙ exchanged-other a b n isnt.1 isnt_either.1
+  ]
+]
+
+-- nothing changed
+pub IsRenumbered-same : (old new : Slots) → new ≡ old → IsRenumbered old new
+IsRenumbered-same old new is = record {
+  moved = λ id. id;
+  back = λ id. id;
+  once = λ id. refl;
+  onto = λ id. refl;
+  extensions = λ id. ap (λ (slots : Slots). extension_at slots id) is;
+  locks = λ id is_locked. subst (λ (slots : Slots). IsLockedAt slots id) (sym is) is_locked;
+}
+
+-- one change after another
+pub IsRenumbered-then : (old between new : Slots) → IsRenumbered old between → IsRenumbered between new → IsRenumbered old new
+IsRenumbered-then old between new first second = record {
+  moved = λ id. second.moved (first.moved id);
+  back = λ id. first.back (second.back id);
+  once = λ id. ap first.back (second.once (first.moved id)) ∙ first.once id;
+  onto = λ id. ap second.moved (first.onto (second.back id)) ∙ second.onto id;
+  extensions = λ id. second.extensions (first.moved id) ∙ first.extensions id;
+  locks = λ id is_locked. second.locks (first.moved id) (first.locks id is_locked);
+}
+
+locked-at : (slots : Slots) (id : ℕ) (extension : Extension) → entry_at slots id ≡ Some (locked extension) → IsLockedAt slots id
+locked-at slots id extension is = subst IsLocked (sym is) refl
+
+-- an entry is locked where it is
+pub IsRenumbered-locked : (old new : Slots) (id : ℕ) (extension : Extension) → extension_at old id ≡ Some extension
+    → Sets old new id (locked extension) → IsRenumbered old new
+IsRenumbered-locked old new id extension was sets = record {
+  moved = λ j. j;
+  back = λ j. j;
+  once = λ j. refl;
+  onto = λ j. refl;
+  extensions = λ j. elim (eqb_tells j id) [
+    | inl is ↦ ap (extension_at new) is.1 ∙ (ap extension_of sets.this ∙ (sym was ∙ ap (extension_at old) (sym is.1)))
+    | inr isnt ↦ ap extension_of (sets.others j isnt.1)
+  ];
+  locks = λ j is_locked. elim (eqb_tells j id) [
+    | inl is ↦ locked-at new j extension (ap (entry_at new) is.1 ∙ sets.this)
+    | inr isnt ↦ subst IsLocked (sym (sets.others j isnt.1)) is_locked
+  ];
+}
+
+-- two entries change slots, and the first is locked now
+pub IsRenumbered-exchanged : (old new : Slots) (from to : ℕ) (extension : Extension) → from ≢ to
+    → extension_at old from ≡ Some extension → Exchanges old new from to extension → IsRenumbered old new
+IsRenumbered-exchanged old new from to extension apart was change = record {
+  moved = exchanged from to;
+  back = exchanged from to;
+  once = λ j. exchanged-twice from to j apart;
+  onto = λ j. exchanged-twice from to j apart;
+  extensions = λ j. elim (eqb_tells j from) [
+    | inl is ↦ ap (extension_at new) (exchanged-first from to j is.1)
+        ∙ (ap extension_of change.here ∙ (sym was ∙ ap (extension_at old) (sym is.1)))
+    | inr isnt ↦ elim (eqb_tells j to) [
+      | inl is ↦ ap (extension_at new) (exchanged-second from to j isnt.1 is.1)
+          ∙ (ap extension_of change.there ∙ ap (extension_at old) (sym is.1))
+      | inr isnt_either ↦ ap (extension_at new) (exchanged-other from to j isnt.1 isnt_either.1)
+          ∙ ap extension_of (change.others j isnt.1 isnt_either.1)
+    ]
+  ];
+  locks = λ j is_locked. elim (eqb_tells j from) [
+    | inl is ↦ locked-at new _ extension (ap (entry_at new) (exchanged-first from to j is.1) ∙ change.here)
+    | inr isnt ↦ elim (eqb_tells j to) [
+      | inl is ↦ subst IsLocked
+          (ap (entry_at old) is.1 ∙ (sym change.there ∙ ap (entry_at new) (sym (exchanged-second from to j isnt.1 is.1)))) is_locked
+      | inr isnt_either ↦ subst IsLocked
+          (sym (change.others j isnt.1 isnt_either.1) ∙ ap (entry_at new) (sym (exchanged-other from to j isnt.1 isnt_either.1))) is_locked
+    ]
+  ];
+}
+
+-- the first index in which an extension stands has its lowest id
+pub IsLowest-from_first : (slots : Slots) (extension : Extension) (index : ℕ) → IsFirst slots extension index
+    → IsLowest slots extension (index + 1)
+IsLowest-from_first slots extension index first = record {
+  mapped = ap extension_of (entry_at-slot slots index (index + 1) refl) ∙ first.here;
+  lowest = before;
+}
+  where
+    before : (k : ℕ) → k < index + 1 → extension_at slots k ≢ Some extension
+    before zero below is = cc
+    before (suc k) below is = first.before k (omega arith) is
+
+-- an extension with its entry locked
+lock-of : (slot : Option Entry) (extension : Extension) → extension_of slot ≡ Some extension
+    → option_map (λ entry. locked entry.extension) slot ≡ Some (locked extension)
+lock-of None extension is = cc
+lock-of (Some entry) extension is = ap (option_map locked) is
+
+-- what a step of a renegotiation leaves
+pub record IsStep (old new : Slots) (id : ℕ) (extension : Extension) : Type 0 where
+  pub step : Remaps old id extension new
+  pub renumbered : IsRenumbered old new
+
+pub IsStep-same : (old : Slots) (id : ℕ) (extension : Extension) → Remaps old id extension old → IsStep old old id extension
+IsStep-same old id extension step = record { step = step; renumbered = IsRenumbered-same old old refl }
+
+-- the entry of the first index is locked, and exchanged with what stands in the index of the id
+pub IsStep-exchanged : (old new : Slots) (from to id : ℕ) (extension : Extension) → length old ≡ MAX_ID → to + 1 ≡ id → to < MAX_ID
+    → IsFirst old extension from → ((from ≡ to) ⊎ ((from ≢ to) × (IsLocked (get_or old from None) → ⊥)))
+    → new ≡ swap (set old from (option_map (λ entry. locked entry.extension) (get_or old from None))) from to
+    → IsStep old new id extension
+IsStep-exchanged old new from to id extension long index within first free is =
+    elim free [
+      | inl same ↦
+          let sets : Sets old new id (locked extension) = record {
+            this = entry_at-slot new to id index ∙ at_to;
+            others = entry_at-other old new to id index (λ k apart. elsewhere k (λ from_here. apart (from_here ∙ same)) apart);
+          } in
+          let mapped : extension_at old id ≡ Some extension =
+          ap (extension_at old) (omega (arith, index, same)) ∙ lowest.mapped in
+          record {
+            step = same_slot is_id (subst (IsLowest old extension) (omega (arith, index, same)) lowest) sets;
+            renumbered = IsRenumbered-locked old new id extension mapped sets;
+          }
+      | inr apart ↦
+          let exchange : Exchanges old new (from + 1) id extension = record {
+            here = entry_at-slot new to id index ∙ at_to;
+            there = entry_at-slot new from (from + 1) refl ∙ (at_from apart.0 ∙ sym (entry_at-slot old to id index));
+            others = others;
+          } in
+          let apart_ids : from + 1 ≢ id = λ same. apart.0 (omega arith) in
+          record {
+            step = moved (from + 1) is_id lowest apart_ids
+                (λ is_locked. apart.1 (subst IsLocked (entry_at-slot old from (from + 1) refl) is_locked)) exchange;
+            renumbered = IsRenumbered-exchanged old new (from + 1) id extension apart_ids lowest.mapped exchange;
+          }
+    ]
+  where
+    is_id : IsId id
+    is_id = (omega (arith, index), omega (arith, index, within))
+
+    lowest : IsLowest old extension (from + 1)
+    lowest = IsLowest-from_first old extension from first
+
+    middle : Slots
+    middle = set old from (Some (locked extension))
+
+    swapped : Swapped (λ k. get_or middle k None) (λ k. get_or new k None) from to
+    swapped = swapped_from_swap middle new from to None
+        (omega (arith, first.within, length-set old from (Some (locked extension))))
+        (omega (arith, long, within, length-set old from (Some (locked extension))))
+        (is ∙ ap (λ entry. swap (set old from entry) from to) (lock-of (get_or old from None) extension first.here))
+
+    at_to : get_or new to None ≡ Some (locked extension)
+    at_to = swapped.1 ∙ get_or-set_same old from (Some (locked extension)) None first.within
+
+    at_from : from ≢ to → get_or new from None ≡ get_or old to None
+    at_from apart = swapped.0 ∙ get_or-set_other old from to (Some (locked extension)) None (λ same. apart (sym same))
+
+    elsewhere : (k : ℕ) → k ≢ from → k ≢ to → get_or new k None ≡ get_or old k None
+    elsewhere k not_from not_to = swapped.2 k not_from not_to ∙ get_or-set_other old from k (Some (locked extension)) None not_from
+
+    others : (k : ℕ) → k ≢ from + 1 → k ≢ id → entry_at new k ≡ entry_at old k
+    others zero not_from not_id = refl
+    others (suc k) not_from not_id = elsewhere k (λ same. not_from (omega arith)) (λ same. not_id (omega arith))
+
+-- a step more at the front of those that are left
+pub AreRemapped-more : {X : Type 0} (f : X → ℕ × Extension) (steps : List X) (i : ℕ) (step : X) (old between new : Slots)
+    → i < length steps → step ≡ get_or steps i step → Remaps old (f step).0 (f step).1 between
+    → AreRemapped between (drop (i + 1) (map f steps)) new → AreRemapped old (drop i (map f steps)) new
+AreRemapped-more f steps i step old between new here is one rest =
+    let first : get_or (map f steps) i (f step) ≡ f step = get_or-map f steps i step ∙ ap f (sym is) in
+    let next : suc i ≡ i + 1 = omega arith in
+    let split : drop i (map f steps) ≡ f step ∷ drop (i + 1) (map f steps) =
+    drop-cons (map f steps) i (f step) (omega (arith, here, length-map steps f))
+    ∙ (ap (λ s. s ∷ drop (suc i) (map f steps)) first ∙ ap (λ (k : ℕ). f step ∷ drop k (map f steps)) next) in
+    subst (λ ss. AreRemapped old ss new) (sym split) (between, one, rest)
+
+-- what stands behind an id, once each index has been changed alike and an empty one stays so
+pub entry_at-map : (f : Option Entry → Option Entry) (slots : Slots) (id : ℕ) → f None ≡ None
+    → entry_at (map f slots) id ≡ f (entry_at slots id)
+entry_at-map f slots zero none = sym none
+entry_at-map f slots (suc k) none = ap (get_or (map f slots) k) (sym none) ∙ get_or-map f slots k None

@@ -1,0 +1,35 @@
+-- Where memory is refused: the elements before that place are read.
+use Rattle.std.proofs.Common.{◌≡◌, ℕ, zero, suc, ◌<◌, List, [], ◌∷◌, ◌++◌, length, take, drop, get_or, Some, Result, Ok, Err, OnErr, refl, sym, ap, ◌∙◌, subst, arith}
+use Rattle.rtp_ext.specs.declared.ext.kind.Extension.{Extension}
+use Rattle.rtp_ext.specs.declared.ext.value.values.ExtensionValues.{ExtensionValues}
+use Rattle.rtp_ext.specs.Elements.{Element}
+use Rattle.rtp_ext.specs.ExtensionMap.{Slots, extension_at}
+use Rattle.rtp_ext.specs.Memory.{IsStopped}
+use Rattle.rtp_ext.specs.Values.{TakesMemory, AreValues}
+
+split_at : {A : Type 0} (all : List A) (n : ℕ) (x : A) → n < length all → all ≡ take n all ++ (get_or all n x ∷ drop (suc n) all)
+split_at [] n x within = absurd (omega arith)
+split_at (y ∷ all) zero x within = refl
+split_at (y ∷ all) (suc n) x within = ap (λ rest. y ∷ rest) (split_at all n x (omega arith))
+
+-- memory was refused to the element behind those that were read
+pub IsStopped-at : (exts : Slots) (all done : List Element) (n : ℕ) (element : Element) (kind : Extension) (old between new : ExtensionValues)
+    → done ≡ take n all → n < length all → element ≡ get_or all n element → extension_at exts element.0 ≡ Some kind → TakesMemory kind element.1
+    → AreValues exts done old between → new ≡ between → IsStopped exts all old new
+IsStopped-at exts all done n element kind old between new done-is within here mapped takes values unchanged = record {
+  at = record {
+    before = take n all;
+    element = element;
+    after = drop (suc n) all;
+    elements_are = split_at all n element within ∙ ap (λ e. take n all ++ (e ∷ drop (suc n) all)) (sym here);
+    is_allocation = (mapped ∙ ap Some takes.0, (refl, takes.1));
+  };
+  values_are = subst (λ v. AreValues exts (take n all) old v) (sym unchanged) (subst (λ es. AreValues exts es old between) done-is values);
+}
+
+pub OnErr-from : {T E : Type 0} (r : Result T E) (P : Type 0) → P → OnErr r P
+OnErr-from (Ok x) P p = tt
+OnErr-from (Err e) P p = p
+
+pub OnErr-at : {T E : Type 0} {r : Result T E} {e : E} {P : Type 0} → r ≡ Err e → OnErr r P → P
+OnErr-at {P = P} is told = subst (λ s. OnErr s P) is told

@@ -1,0 +1,216 @@
+-- The values of a block: they are the only ones, and how one more element changes them.
+use Rattle.std.proofs.Common.{◌≡◌, ◌≢◌, ℕ, ◌⊎◌, inl, inr, List, [], ◌∷◌, ◌++◌, Bool, true, false, Option, Some, None, Result, Ok, Err, IsOk, IfOk, IsSomeAnd, All, rules, ap, refl, sym, ◌∙◌, subst}
+use Rattle.std.specs.Bool.{Decides}
+use Rattle.std.specs.declared.alloc.AllocError.{AllocError}
+use Rattle.std.proofs.lemmas.List.Elements.{All-push, All-nil, All-head, All-tail, All-same}
+use Rattle.std.proofs.lemmas.List.{append_assoc}
+use Rattle.std.proofs.lemmas.Bool.Decides.{not_from_Decides}
+use Rattle.rtp_base.specs.Id.{IsIdOf}
+use Rattle.rtp_vla.specs.Allocation.{Allocation, Means}
+use Rattle.rtp_vla.proofs.AllocationMeaning.{one_meaning}
+use Rattle.rtp_ext.specs.contracts.ext.kind.ExtensionPartialEq.TheImpl as extension_eq
+use Rattle.rtp_ext.specs.declared.ext.kind.Extension.{Extension}
+use Rattle.rtp_ext.specs.declared.ext.kind.Extension.TheVariants.{AbsoluteSendTime, AbsoluteCaptureTime, AudioLevel, TransmissionTimeOffset, VideoOrientation, TransportSequenceNumber, PlayoutDelay, VideoContentType, VideoTiming, RtpStreamId, RepairedRtpStreamId, RtpMid, FrameMarking, ColorSpace, VideoLayersAllocation, UnknownUri}
+use Rattle.rtp_ext.specs.declared.ext.value.values.ExtensionValues.{ExtensionValues}
+use Rattle.rtp_ext.specs.Elements.{Element}
+use Rattle.rtp_ext.specs.ExtensionMap.{Slots, IsEmpty, extension_at, extension_of}
+use Rattle.rtp_ext.specs.Values.{Reads, SameFields, IsWellFormed, Carries, IsRead, last, none, AreValues}
+
+-- two values of one text are one
+IsSomeAnd-one : (size : ℕ) (text : List ℕ) (v w : Option (List ℕ)) → IsSomeAnd v (IsIdOf size text) → IsSomeAnd w (IsIdOf size text) → w ≡ v
+IsSomeAnd-one size text None w v_is w_is = absurd v_is
+IsSomeAnd-one size text (Some v) None v_is w_is = absurd w_is
+IsSomeAnd-one size text (Some v) (Some w) v_is w_is = ap Some (w_is.kept ∙ sym v_is.kept)
+
+-- two allocations that one data mean are one
+meaning-one : (bytes : List ℕ) (v w : Option Allocation) → IsSomeAnd v (Means bytes) → IsSomeAnd w (Means bytes) → w ≡ v
+meaning-one bytes None w v_is w_is = absurd v_is
+meaning-one bytes (Some v) None v_is w_is = absurd w_is
+meaning-one bytes (Some v) (Some w) v_is w_is = ap Some (one_meaning bytes w v w_is v_is)
+
+-- what data say is one, in each field of the kind
+pub Reads-one : (kind : Extension) (bytes : List ℕ) (v w : ExtensionValues) → Reads kind bytes v → Reads kind bytes w → SameFields kind v w
+Reads-one AudioLevel bytes v w v_reads w_reads = (w_reads.1 ∙ sym v_reads.1, w_reads.2 ∙ sym v_reads.2)
+Reads-one PlayoutDelay bytes v w v_reads w_reads = (w_reads.1 ∙ sym v_reads.1, w_reads.2 ∙ sym v_reads.2)
+Reads-one RtpStreamId bytes v w v_reads w_reads = IsSomeAnd-one 8 bytes v.rid w.rid v_reads.1 w_reads.1
+Reads-one RepairedRtpStreamId bytes v w v_reads w_reads = IsSomeAnd-one 8 bytes v.rid_repair w.rid_repair v_reads.1 w_reads.1
+Reads-one RtpMid bytes v w v_reads w_reads = IsSomeAnd-one 16 bytes v.mid w.mid v_reads.1 w_reads.1
+Reads-one VideoLayersAllocation bytes v w v_reads w_reads = meaning-one bytes v.video_layers_allocation w.video_layers_allocation v_reads w_reads
+Reads-one ColorSpace bytes v w v_reads w_reads = absurd v_reads
+Reads-one (UnknownUri uri) bytes v w v_reads w_reads = absurd v_reads
+Reads-one _ bytes v w v_reads w_reads = w_reads.1 ∙ sym v_reads.1
+
+-- the same fields say the same
+pub Reads-same : (kind : Extension) (bytes : List ℕ) (v w : ExtensionValues) → Reads kind bytes v → SameFields kind v w → Reads kind bytes w
+Reads-same AudioLevel bytes v w reads same = (reads.0, same.0 ∙ reads.1, same.1 ∙ reads.2)
+Reads-same PlayoutDelay bytes v w reads same = (reads.0, same.0 ∙ reads.1, same.1 ∙ reads.2)
+Reads-same RtpStreamId bytes v w reads same = (reads.0, subst (λ rid. IsSomeAnd rid (IsIdOf 8 bytes)) (sym same) reads.1)
+Reads-same RepairedRtpStreamId bytes v w reads same = (reads.0, subst (λ rid. IsSomeAnd rid (IsIdOf 8 bytes)) (sym same) reads.1)
+Reads-same RtpMid bytes v w reads same = (reads.0, subst (λ mid. IsSomeAnd mid (IsIdOf 16 bytes)) (sym same) reads.1)
+Reads-same VideoLayersAllocation bytes v w reads same = subst (λ a. IsSomeAnd a (Means bytes)) (sym same) reads
+Reads-same ColorSpace bytes v w reads same = absurd reads
+Reads-same (UnknownUri uri) bytes v w reads same = absurd reads
+Reads-same _ bytes v w reads same = (reads.0, same ∙ reads.1)
+
+-- what joins two values whose kind's fields are both those of a third
+SameFields-joined : (kind : Extension) (u v w : ExtensionValues) → SameFields kind u v → SameFields kind u w → SameFields kind v w
+SameFields-joined AudioLevel u v w uv uw = (uw.0 ∙ sym uv.0, uw.1 ∙ sym uv.1)
+SameFields-joined PlayoutDelay u v w uv uw = (uw.0 ∙ sym uv.0, uw.1 ∙ sym uv.1)
+SameFields-joined ColorSpace u v w uv uw = tt
+SameFields-joined (UnknownUri uri) u v w uv uw = tt
+SameFields-joined _ u v w uv uw = uw ∙ sym uv
+
+pub SameFields-refl : (kind : Extension) (v : ExtensionValues) → SameFields kind v v
+SameFields-refl AudioLevel v = (refl, refl)
+SameFields-refl PlayoutDelay v = (refl, refl)
+SameFields-refl ColorSpace v = tt
+SameFields-refl (UnknownUri uri) v = tt
+SameFields-refl _ v = refl
+
+pub SameFields-sym : (kind : Extension) (v w : ExtensionValues) → SameFields kind v w → SameFields kind w v
+SameFields-sym kind v w same = SameFields-joined kind v w v same (SameFields-refl kind v)
+
+pub SameFields-trans : (kind : Extension) (u v w : ExtensionValues) → SameFields kind u v → SameFields kind v w → SameFields kind u w
+SameFields-trans kind u v w uv vw = SameFields-joined kind v u w (SameFields-sym kind u v uv) vw
+
+-- values all of whose fields are the same are one
+pub same_values : (v w : ExtensionValues) → ((kind : Extension) → SameFields kind v w) → v ≡ w
+same_values v w same = λ i. record {
+  audio_level = sym (same AudioLevel).0 i;
+  voice_activity = sym (same AudioLevel).1 i;
+  video_orientation = sym (same VideoOrientation) i;
+  video_content_type = sym (same VideoContentType) i;
+  tx_time_offs = sym (same TransmissionTimeOffset) i;
+  abs_send_time = sym (same AbsoluteSendTime) i;
+  abs_capture_time = sym (same AbsoluteCaptureTime) i;
+  transport_cc = sym (same TransportSequenceNumber) i;
+  play_delay_min = sym (same PlayoutDelay).0 i;
+  play_delay_max = sym (same PlayoutDelay).1 i;
+  video_timing = sym (same VideoTiming) i;
+  rid = sym (same RtpStreamId) i;
+  rid_repair = sym (same RepairedRtpStreamId) i;
+  mid = sym (same RtpMid) i;
+  frame_mark = sym (same FrameMarking) i;
+  video_layers_allocation = sym (same VideoLayersAllocation) i;
+}
+
+-- whether two kinds are one
+pub extension_decides : (a b : Extension) → Decides ((extension_eq.ghosts).eq a b) (a ≡ b)
+extension_decides a b = search rules
+
+holds_or_not : {P : Type 0} (test : Bool) → Decides test P → P ⊎ (P → ⊥)
+holds_or_not true decides = inl (decides.0 refl)
+holds_or_not false decides = inr (not_from_Decides false decides refl)
+
+pub same_or_not : (a b : Extension) → (a ≡ b) ⊎ (a ≢ b)
+same_or_not a b = holds_or_not _ (extension_decides a b)
+
+pub one_kind : {a b : Extension} → Some a ≡ Some b → a ≡ b
+one_kind same = cc
+
+-- before any element the values are the old ones
+pub AreValues-none : (exts : Slots) (old : ExtensionValues) → AreValues exts [] old old
+AreValues-none exts old kind = none (All-nil (λ element. Carries exts kind element → ⊥)) (SameFields-refl kind old)
+
+-- one more element, which doesn't carry the kind
+IsRead-passed : (exts : Slots) (done : List Element) (element : Element) (kind : Extension) (old between new : ExtensionValues)
+    → (Carries exts kind element → ⊥) → SameFields kind between new → IsRead exts done kind old between
+    → IsRead exts (done ++ element ∷ []) kind old new
+IsRead-passed exts done element kind old between new not_carried same (last before after found is mapped reads later) =
+    last before (after ++ element ∷ []) found
+    (ap (λ elements. elements ++ element ∷ []) is ∙ append_assoc before (found ∷ after) (element ∷ []))
+    mapped (Reads-same kind found.1 between new reads same)
+    (All-push (λ e. Carries exts kind e → ⊥) after element later not_carried)
+IsRead-passed exts done element kind old between new not_carried same (none not_before same_before) =
+    none (All-push (λ e. Carries exts kind e → ⊥) done element not_before not_carried)
+    (SameFields-trans kind old between new same_before same)
+
+pub AreValues-passed : (exts : Slots) (done : List Element) (element : Element) (old new : ExtensionValues)
+    → ((kind : Extension) → Carries exts kind element → ⊥) → AreValues exts done old new
+    → AreValues exts (done ++ element ∷ []) old new
+AreValues-passed exts done element old new not_carried values kind =
+    IsRead-passed exts done element kind old new new (not_carried kind) (SameFields-refl kind new) (values kind)
+
+-- one more element, whose data are well-formed for its kind
+pub AreValues-read : (exts : Slots) (done : List Element) (element : Element) (kind : Extension) (old between new : ExtensionValues)
+    → extension_at exts element.0 ≡ Some kind → Reads kind element.1 new
+    → ((other : Extension) → other ≢ kind → SameFields other between new) → AreValues exts done old between
+    → AreValues exts (done ++ element ∷ []) old new
+AreValues-read exts done element kind old between new mapped reads others values any = elim (same_or_not any kind) [
+  | inl same ↦ subst (λ k. IsRead exts (done ++ element ∷ []) k old new) (sym same)
+      (last done [] element refl mapped reads (All-nil (λ later. Carries exts kind later → ⊥)))
+  | inr other ↦ IsRead-passed exts done element any old between new
+      (λ carries. other (one_kind (sym carries.0 ∙ mapped))) (others any other) (values any)
+]
+
+-- no element that carries the kind is among these
+not_among : {X : Type 0} (P : X → Type 0) (before after : List X) (x : X) → All (λ y. P y → ⊥) (before ++ x ∷ after) → P x → ⊥
+not_among P [] after x all is = All-head (λ y. P y → ⊥) x after all is
+not_among P (y ∷ before) after x all is = not_among P before after x (All-tail (λ z. P z → ⊥) y (before ++ x ∷ after) all) is
+
+-- the last for which it holds is one
+last_one : {X : Type 0} (P : X → Type 0) (before after others rest : List X) (x y : X) → before ++ x ∷ after ≡ others ++ y ∷ rest
+    → P x → P y → All (λ z. P z → ⊥) after → All (λ z. P z → ⊥) rest → x ≡ y
+last_one P [] after [] rest x y same x_is y_is none_after none_rest = cc
+last_one P [] after (z ∷ others) rest x y same x_is y_is none_after none_rest =
+    let tail : others ++ y ∷ rest ≡ after = cc in
+    absurd (not_among P others rest y (All-same (λ w. P w → ⊥) (others ++ y ∷ rest) after tail none_after) y_is)
+last_one P (z ∷ before) after [] rest x y same x_is y_is none_after none_rest =
+    let tail : before ++ x ∷ after ≡ rest = cc in
+    absurd (not_among P before after x (All-same (λ w. P w → ⊥) (before ++ x ∷ after) rest tail none_rest) x_is)
+last_one P (z ∷ before) after (w ∷ others) rest x y same x_is y_is none_after none_rest =
+    let tail : before ++ x ∷ after ≡ others ++ y ∷ rest = cc in
+    last_one P before after others rest x y tail x_is y_is none_after none_rest
+
+-- an element that carries the kind contradicts that none does
+carried : (exts : Slots) (elements before after : List Element) (element : Element) (kind : Extension) (v : ExtensionValues)
+    → elements ≡ before ++ element ∷ after → extension_at exts element.0 ≡ Some kind → Reads kind element.1 v
+    → All (λ e. Carries exts kind e → ⊥) elements → ⊥
+carried exts elements before after element kind v is mapped reads not_carried =
+    not_among (Carries exts kind) before after element
+    (All-same (λ e. Carries exts kind e → ⊥) (before ++ element ∷ after) elements (sym is) not_carried) (mapped, (v, reads))
+
+IsRead-one : (exts : Slots) (elements : List Element) (kind : Extension) (old v w : ExtensionValues)
+    → IsRead exts elements kind old v → IsRead exts elements kind old w → SameFields kind v w
+IsRead-one exts elements kind old v w (last before after x is mapped reads later) (last others rest y also y_mapped y_reads y_later) =
+    let same = last_one (Carries exts kind) before after others rest x y (sym is ∙ also) (mapped, (v, reads)) (y_mapped, (w, y_reads))
+    later y_later in
+    Reads-one kind x.1 v w reads (subst (λ e. Reads kind e.1 w) (sym same) y_reads)
+IsRead-one exts elements kind old v w (last before after x is mapped reads later) (none not_carried same) =
+    absurd (carried exts elements before after x kind v is mapped reads not_carried)
+IsRead-one exts elements kind old v w (none not_carried same) (last before after x is mapped reads later) =
+    absurd (carried exts elements before after x kind w is mapped reads not_carried)
+IsRead-one exts elements kind old v w (none not_carried same) (none also w_same) = SameFields-joined kind old v w same w_same
+
+-- the values of a block are the only ones
+pub one_values : (exts : Slots) (elements : List Element) (old v w : ExtensionValues) → AreValues exts elements old v → AreValues exts elements old w → v ≡ w
+one_values exts elements old v w v_values w_values = same_values v w (λ kind. IsRead-one exts elements kind old v w (v_values kind) (w_values kind))
+
+-- where nothing is mapped no value changes
+pub unmapped_values : (exts : Slots) (elements : List Element) (old v : ExtensionValues) → IsEmpty exts → AreValues exts elements old v → v ≡ old
+unmapped_values exts elements old v empty values = sym (same_values old v (λ kind. same kind (values kind)))
+  where
+    same : (kind : Extension) → IsRead exts elements kind old v → SameFields kind old v
+    same kind (last before after element is mapped reads later) = let at = ap extension_of (empty element.0) in cc
+    same kind (none not_carried is) = is
+
+-- one more element is read, well-formed or not, by a reader that says which
+pub AreValues-parsed : (exts : Slots) (done : List Element) (element : Element) (kind : Extension) (old between new : ExtensionValues)
+    (result : Result (Option (Unit {0})) AllocError) → extension_at exts element.0 ≡ Some kind → IsOk result
+    → (result ≡ Ok (Some (record {})) → Reads kind element.1 new)
+    → ((other : Extension) → other ≢ kind → SameFields other between new)
+    → (IsWellFormed kind element.1 → IfOk result (λ answer. answer ≡ Some (record {}))) → (result ≢ Ok (Some (record {})) → new ≡ between)
+    → AreValues exts done old between → AreValues exts (done ++ element ∷ []) old new
+AreValues-parsed exts done element kind old between new (Err e) mapped ok found others only unchanged values = cc
+AreValues-parsed exts done element kind old between new (Ok (Some read)) mapped ok found others only unchanged values =
+    AreValues-read exts done element kind old between new mapped (found refl) others values
+AreValues-parsed exts done element kind old between new (Ok None) mapped ok found others only unchanged values =
+    subst (λ v. AreValues exts (done ++ element ∷ []) old v) (sym (unchanged (λ same. cc)))
+    (AreValues-passed exts done element old between not_carried values)
+  where
+    not_carried : (any : Extension) → Carries exts any element → ⊥
+    not_carried any carries =
+        let same : any ≡ kind = one_kind (sym carries.0 ∙ mapped) in
+        let well_formed = subst (λ k. IsWellFormed k element.1) same carries.1 in
+        let contradiction = only well_formed in
+        cc

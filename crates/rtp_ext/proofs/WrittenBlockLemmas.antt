@@ -1,0 +1,217 @@
+-- The elements that a map writes: their bytes, and what those are read as.
+use Rattle.std.proofs.Common.{◌≡◌, ℕ, ◌+◌, ◌*◌, ◌<◌, ◌≤◌, ◌≢◌, List, [], ◌∷◌, ◌++◌, length, drop, Option, Some, None, refl, sym, ap, ◌∙◌, subst, arith, length-append}
+use Rattle.std.specs.Prelude.{IfSome}
+use Rattle.std.specs.List.{AllByRecursion, cons_option}
+use Rattle.std.specs.Option.{option_map, unwrap_or}
+use Rattle.rtp_ext.specs.declared.ext.form.ExtensionsForm.{ExtensionsForm}
+use Rattle.rtp_ext.specs.declared.ext.form.ExtensionsForm.TheVariants.{OneByte, TwoByte}
+use Rattle.rtp_ext.specs.declared.ext.kind.Extension.{Extension}
+use Rattle.rtp_ext.specs.declared.ext.kind.Extension.TheVariants.{VideoLayersAllocation}
+use Rattle.rtp_ext.specs.declared.ext.value.values.ExtensionValues.{ExtensionValues}
+use Rattle.rtp_ext.specs.Elements.{Element, IsElement}
+use Rattle.rtp_ext.specs.ElementWriting.{header_bytes, bytes_at, items_bytes, CanCarry, IsCarried}
+use Rattle.rtp_ext.specs.ExtensionMap.{Slots}
+use Rattle.rtp_ext.specs.MapSlots.{items_from}
+use Rattle.rtp_base.specs.Overwriting.{overwritten}
+use Rattle.rtp_ext.specs.Spelling.{spelled_data, carried_values, longest}
+use Rattle.rtp_ext.specs.Values.{Reads}
+use Rattle.rtp_ext.specs.WrittenBlock.{written_elements, elements_bytes}
+use Rattle.rtp_base.proofs.OverwritingLemmas.{overwritten-overwritten, overwritten-before, overwritten-nil, overwritten-front, length-overwritten}
+use Rattle.rtp_ext.proofs.ValueLemmas.{longest-fits}
+use Rattle.rtp_ext.proofs.FormLemmas.{Item, elements_of, IsFit}
+
+-- ---- the bytes
+
+pub items_bytes-nil : (form : ExtensionsForm) (values : ExtensionValues) → items_bytes form values [] ≡ []
+unfolding items_bytes
+items_bytes-nil form values = refl
+
+pub items_bytes-cons : (form : ExtensionsForm) (values : ExtensionValues) (item : Item) (items : List Item)
+    → items_bytes form values (item ∷ items) ≡ bytes_at form item.0 (spelled_data item.1 values) ++ items_bytes form values items
+unfolding items_bytes
+items_bytes-cons form values item items = refl
+
+bytes-cons : (form : ExtensionsForm) (id : ℕ) (bytes : Option (List ℕ)) (rest : List Element)
+    → elements_bytes form (cons_option (option_map (λ b. (id, b)) bytes) rest) ≡ bytes_at form id bytes ++ elements_bytes form rest
+bytes-cons form id None rest = refl
+bytes-cons form id (Some bytes) rest = refl
+
+items_bytes-elements : (form : ExtensionsForm) (values : ExtensionValues) (items : List Item)
+    → items_bytes form values items ≡ elements_bytes form (elements_of values items)
+unfolding items_bytes
+items_bytes-elements form values [] = refl
+items_bytes-elements form values (item ∷ items) =
+    ap (λ (rest : List ℕ). bytes_at form item.0 (spelled_data item.1 values) ++ rest) (items_bytes-elements form values items)
+    ∙ sym (bytes-cons form item.0 (spelled_data item.1 values) (elements_of values items))
+
+pub items_bytes-written : (form : ExtensionsForm) (exts : Slots) (values : ExtensionValues)
+    → items_bytes form values (items_from 0 exts) ≡ elements_bytes form (written_elements exts values)
+items_bytes-written form exts values = items_bytes-elements form values (items_from 0 exts)
+
+-- ---- one element
+
+length-header : (form : ExtensionsForm) (id : ℕ) (bytes : List ℕ) → length (bytes_at form id (Some bytes)) ≡ length (header_bytes form id (length bytes)) + length bytes
+length-header OneByte id bytes = omega arith
+length-header TwoByte id bytes = omega arith
+
+header-append : (form : ExtensionsForm) (id : ℕ) (bytes : List ℕ) → header_bytes form id (length bytes) ++ bytes ≡ bytes_at form id (Some bytes)
+header-append OneByte id bytes = refl
+header-append TwoByte id bytes = refl
+
+pub length-header_bytes : (form : ExtensionsForm) (id len : ℕ) → length (header_bytes form id len) ≤ 2
+length-header_bytes OneByte id len = omega arith
+length-header_bytes TwoByte id len = omega arith
+
+pub length-element : (form : ExtensionsForm) (id header len : ℕ) (bytes : Option (List ℕ)) → Some len ≡ option_map length bytes
+    → header ≡ length (header_bytes form id len) → header + len ≡ length (bytes_at form id bytes)
+length-element form id header len None long is = cc
+length-element form id header len (Some bytes) long is =
+    let same : len ≡ length bytes = cc in
+    ap (λ (h : ℕ). h + len) is ∙ (ap (λ (l : ℕ). length (header_bytes form id l) + l) same ∙ sym (length-header form id bytes))
+
+length-carried : (form : ExtensionsForm) (values : ExtensionValues) (id : ℕ) (kind : Extension) (bytes : Option (List ℕ))
+    → IfSome bytes (λ b. IsElement form (id, b) × Reads kind b (carried_values values)) → length (bytes_at form id bytes) ≤ 257
+length-carried form values id kind None carried = omega arith
+length-carried OneByte values id kind (Some bytes) carried = let few = carried.0.2 in omega arith
+length-carried TwoByte values id kind (Some bytes) carried = let few = carried.0.2 in omega arith
+
+pub length-items : (form : ExtensionsForm) (values : ExtensionValues) (items : List Item) → AllByRecursion (IsCarried form values) items
+    → length (items_bytes form values items) ≤ 257 * length items
+length-items form values [] all = omega (arith, ap length (items_bytes-nil form values))
+length-items form values (item ∷ items) all =
+    omega (
+      arith,
+      ap length (items_bytes-cons form values item items),
+      length-append (bytes_at form item.0 (spelled_data item.1 values)) (items_bytes form values items),
+      length-carried form values item.0 item.1 (spelled_data item.1 values) all.0,
+      length-items form values items all.1,
+    )
+
+-- without room for a header there are no data
+pub none-without_room : (form : ExtensionsForm) (id : ℕ) (bytes : Option (List ℕ)) (header room : ℕ)
+    → ((i l : ℕ) → header ≡ length (header_bytes form i l)) → length (bytes_at form id bytes) ≤ room → room < header → bytes ≡ None
+none-without_room form id None header room is fits short = refl
+none-without_room form id (Some bytes) header room is fits short =
+    absurd (omega (arith, length-header form id bytes, is id (length bytes)))
+
+-- where there is room for the element there is room for its data behind the header
+pub room-for_data : (form : ExtensionsForm) (id : ℕ) (bytes : Option (List ℕ)) (header room : ℕ)
+    → ((i l : ℕ) → header ≡ length (header_bytes form i l)) → length (bytes_at form id bytes) ≤ room → header ≤ room
+    → header + length (unwrap_or bytes []) ≤ room
+room-for_data form id None header room is fits head = omega arith
+room-for_data form id (Some bytes) header room is fits head = omega (arith, length-header form id bytes, is id (length bytes))
+
+pub none-from_map : (bytes : Option (List ℕ)) → None ≡ option_map length bytes → bytes ≡ None
+none-from_map None is = refl
+none-from_map (Some bytes) is = cc
+
+-- what is left where there are none
+pub record HasNone (form : ExtensionsForm) (values : ExtensionValues) (buf : List ℕ) (at : ℕ) (item : Item) : Type 0 where
+  pub written : buf ≡ overwritten buf at (bytes_at form item.0 (spelled_data item.1 values))
+  pub end : at ≡ at + length (bytes_at form item.0 (spelled_data item.1 values))
+  pub carried : IsCarried form values item
+
+pub HasNone-from_none : (form : ExtensionsForm) (values : ExtensionValues) (buf : List ℕ) (at id : ℕ) (kind : Extension)
+    → spelled_data kind values ≡ None → HasNone form values buf at (id, kind)
+HasNone-from_none form values buf at id kind none = record {
+  written = rw none (sym (overwritten-nil buf at));
+  end = rw none (omega arith);
+  carried = rw none tt;
+}
+
+-- its data are put, and then its header in front of them
+pub bytes_at-put : (form : ExtensionsForm) (id len at start : ℕ) (old data_put new : List ℕ) (bytes : Option (List ℕ))
+    → Some len ≡ option_map length bytes → start ≡ at + length (header_bytes form id len) → at + length (bytes_at form id bytes) ≤ length old
+    → data_put ≡ overwritten old start (unwrap_or bytes []) → new ≡ overwritten data_put at (header_bytes form id len)
+    → (new ≡ overwritten old at (bytes_at form id bytes)) × (start + len ≡ at + length (bytes_at form id bytes))
+bytes_at-put form id len at start old data_put new None long start-is fits data-is new-is = cc
+bytes_at-put form id len at start old data_put new (Some bytes) long start-is fits data-is new-is =
+    let len-is : len ≡ length bytes = cc in
+    let header : header_bytes form id len ≡ header_bytes form id (length bytes) = ap (header_bytes form id) len-is in
+    let both = length-header form id bytes in
+    let start-at : start ≡ at + length (header_bytes form id (length bytes)) = start-is ∙ ap (λ (h : List ℕ). at + length h) header in (
+      new-is ∙ ap (λ (b : List ℕ). overwritten b at (header_bytes form id len)) data-is
+          ∙ ap (overwritten (overwritten old start bytes) at) header
+          ∙ overwritten-before old (header_bytes form id (length bytes)) bytes at start start-at (omega arith)
+          ∙ ap (overwritten old at) (header-append form id bytes),
+      omega arith,
+    )
+
+-- how long the data of a kind may be
+longest-short : (kind : Extension) → kind ≢ VideoLayersAllocation → longest kind ≤ 16
+longest-short VideoLayersAllocation other = absurd (other refl)
+longest-short _ other = omega arith
+
+pub length-can : (item : Item) (bytes : List ℕ) → CanCarry OneByte item (Some bytes) → length bytes ≤ longest item.1 → length bytes ≤ 16
+length-can item bytes can few = omega (arith, few, longest-short item.1 can.1)
+
+-- what is known of it
+pub IsCarried-from : (form : ExtensionsForm) (values : ExtensionValues) (id : ℕ) (kind : Extension) (bytes : Option (List ℕ))
+    → spelled_data kind values ≡ bytes → 1 ≤ id → id < 256 → CanCarry form (id, kind) bytes
+    → IfSome bytes (λ b. Reads kind b (carried_values values)) → IfSome bytes (λ b. length b ≤ longest kind)
+    → IsCarried form values (id, kind)
+IsCarried-from form values id kind None is above within can reads few = rw is tt
+IsCarried-from OneByte values id kind (Some bytes) is above within can reads few =
+    rw is ((can.0, can.2, length-can (id, kind) bytes can few, omega arith), reads)
+IsCarried-from TwoByte values id kind (Some bytes) is above within can reads few =
+    rw is ((above, omega arith, omega (arith, few, longest-fits kind)), reads)
+
+-- ---- one element after another
+
+-- the elements of the items that were passed are written, and with those of the items that are left they are all
+pub record IsUnderWay (form : ExtensionsForm) (values : ExtensionValues) (old buf : List ℕ) (items left : List Item) (at : ℕ) : Type 0 where
+  pub makes : overwritten buf at (items_bytes form values left) ≡ overwritten old 0 (items_bytes form values items)
+  pub ends : at + length (items_bytes form values left) ≡ length (items_bytes form values items)
+  pub long : length buf ≡ length old
+  pub fit : AllByRecursion (IsFit form values) left
+  pub carried : AllByRecursion (IsCarried form values) left → AllByRecursion (IsCarried form values) items
+
+pub IsUnderWay-start : (form : ExtensionsForm) (values : ExtensionValues) (old : List ℕ) (items : List Item)
+    → AllByRecursion (IsFit form values) items → IsUnderWay form values old old items items 0
+IsUnderWay-start form values old items fit =
+    record { makes = refl; ends = omega arith; long = refl; fit = fit; carried = λ all. all }
+
+-- there is room for the next one, and the form can carry it
+pub IsUnderWay-next : (form : ExtensionsForm) (values : ExtensionValues) (old buf : List ℕ) (items left more : List Item) (item : Item) (at : ℕ)
+    → IsUnderWay form values old buf items left at → left ≡ item ∷ more → length (items_bytes form values items) ≤ length old
+    → (at + length (bytes_at form item.0 (spelled_data item.1 values)) ≤ length buf) × IsFit form values item
+IsUnderWay-next form values old buf items left more item at before split room =
+    let bytes = ap length (ap (items_bytes form values) split ∙ items_bytes-cons form values item more) in (
+      omega (arith, before.ends, before.long, bytes, length-append (bytes_at form item.0 (spelled_data item.1 values)) (items_bytes form values more)),
+      (subst (AllByRecursion (IsFit form values)) split before.fit).0,
+    )
+
+-- the next one is written
+pub IsUnderWay-step : (form : ExtensionsForm) (values : ExtensionValues) (old buf new : List ℕ) (items left more : List Item) (item : Item) (at end : ℕ)
+    → IsUnderWay form values old buf items left at → left ≡ item ∷ more → length (items_bytes form values items) ≤ length old
+    → new ≡ overwritten buf at (bytes_at form item.0 (spelled_data item.1 values))
+    → end ≡ at + length (bytes_at form item.0 (spelled_data item.1 values)) → IsCarried form values item
+    → IsUnderWay form values old new items more end
+IsUnderWay-step form values old buf new items left more item at end before split room written end-is carried =
+    let xs = bytes_at form item.0 (spelled_data item.1 values) in
+    let ys = items_bytes form values more in
+    let bytes : items_bytes form values left ≡ xs ++ ys = ap (items_bytes form values) split ∙ items_bytes-cons form values item more in
+    let fits : at + length (xs ++ ys) ≤ length buf = omega (arith, before.ends, before.long, ap length bytes) in
+    let long = length-append xs ys in
+    record {
+      makes = ap (λ (b : List ℕ). overwritten b end ys) written
+          ∙ (overwritten-overwritten buf xs ys at end end-is (omega arith)
+          ∙ (ap (overwritten buf at) (sym bytes) ∙ before.makes));
+      ends = omega (arith, before.ends, ap length bytes);
+      long = ap length written ∙ (length-overwritten buf xs at (omega arith) ∙ before.long);
+      fit = (subst (AllByRecursion (IsFit form values)) split before.fit).1;
+      carried = λ rest. before.carried (subst (AllByRecursion (IsCarried form values)) (sym split) (carried, rest));
+    }
+
+-- all were written
+pub IsUnderWay-end : (form : ExtensionsForm) (values : ExtensionValues) (old buf : List ℕ) (items left : List Item) (at : ℕ)
+    → IsUnderWay form values old buf items left at → left ≡ []
+    → (at ≡ length (items_bytes form values items)) × (buf ≡ items_bytes form values items ++ drop (length (items_bytes form values items)) old)
+    × AllByRecursion (IsCarried form values) items
+IsUnderWay-end form values old buf items left at before none =
+    let bytes : items_bytes form values left ≡ [] = ap (items_bytes form values) none ∙ items_bytes-nil form values in (
+      omega (arith, before.ends, ap length bytes),
+      sym (overwritten-nil buf at) ∙ (ap (overwritten buf at) (sym bytes)
+          ∙ (before.makes ∙ overwritten-front old (items_bytes form values items))),
+      before.carried (subst (AllByRecursion (IsCarried form values)) (sym none) tt),
+    )

@@ -1,0 +1,105 @@
+-- The elements that are read from what a map writes.
+use Rattle.std.proofs.Common.{◌≡◌, ◌≢◌, ℕ, ◌==◌, false, length, length-append, arith, List, [], ◌∷◌, ◌++◌, replicate, Option, Some, None, refl, sym, ap, ◌∙◌, append_assoc, zero, suc}
+use Rattle.std.specs.Prelude.{IfSome}
+use Rattle.std.specs.List.{AllByRecursion, flat_map, filter_map, cons_option}
+use Rattle.std.specs.Option.{option_map}
+use Rattle.std.proofs.lemmas.Bool.{ne_eqb}
+use Rattle.std.proofs.lemmas.List.{append-nil}
+use Rattle.rtp_vla.proofs.AllocationWritingLemmas.{written-long}
+use Rattle.rtp_ext.specs.declared.ext.form.ExtensionsForm.{ExtensionsForm}
+use Rattle.rtp_ext.specs.declared.ext.kind.Extension.{Extension}
+use Rattle.rtp_ext.specs.declared.ext.kind.Extension.TheVariants.{AbsoluteSendTime, AbsoluteCaptureTime, AudioLevel, TransmissionTimeOffset, VideoOrientation, TransportSequenceNumber, PlayoutDelay, VideoContentType, VideoTiming, RtpStreamId, RepairedRtpStreamId, RtpMid, FrameMarking, ColorSpace, VideoLayersAllocation, UnknownUri}
+use Rattle.rtp_ext.specs.declared.ext.value.values.ExtensionValues.{ExtensionValues}
+use Rattle.rtp_ext.specs.Elements.{Element, IsElement, element_bytes, IsPiece, piece_bytes, AreElements, ended}
+use Rattle.rtp_ext.specs.ElementWriting.{has_no_data, IsCarried}
+use Rattle.rtp_ext.specs.ExtensionMap.{Slots}
+use Rattle.rtp_ext.specs.MapSlots.{items_from}
+use Rattle.rtp_ext.specs.Spelling.{bytes_of, offset_bytes, of_both, element_allocation, spelled_data, carried_values}
+use Rattle.rtp_ext.specs.Values.{Reads}
+use Rattle.rtp_ext.specs.WrittenBlock.{written_elements, elements_bytes}
+use Rattle.rtp_ext.proofs.FormLemmas.{Item, elements_of}
+
+-- a byte of padding for each zero behind the elements
+pieces_of : List Element → ℕ → List (Option Element)
+pieces_of [] zero = []
+pieces_of [] (suc zeros) = None ∷ pieces_of [] zeros
+pieces_of (element ∷ elements) zeros = Some element ∷ pieces_of elements zeros
+
+pieces_of-pieces : (form : ExtensionsForm) (elements : List Element) (zeros : ℕ) → AllByRecursion (IsElement form) elements
+    → AllByRecursion (IsPiece form) (pieces_of elements zeros)
+unfolding pieces_of
+pieces_of-pieces form [] zero all = tt
+pieces_of-pieces form [] (suc zeros) all = (tt, pieces_of-pieces form [] zeros all)
+pieces_of-pieces form (element ∷ elements) zeros all = (all.0, pieces_of-pieces form elements zeros all.1)
+
+pieces_of-bytes : (form : ExtensionsForm) (elements : List Element) (zeros : ℕ)
+    → elements_bytes form elements ++ replicate zeros 0 ≡ flat_map (piece_bytes form) (pieces_of elements zeros)
+unfolding pieces_of
+pieces_of-bytes form [] zero = refl
+pieces_of-bytes form [] (suc zeros) = ap (λ (rest : List ℕ). 0 ∷ rest) (pieces_of-bytes form [] zeros)
+pieces_of-bytes form (element ∷ elements) zeros =
+    append_assoc (element_bytes form element) (elements_bytes form elements) (replicate zeros 0)
+    ∙ ap (λ (rest : List ℕ). element_bytes form element ++ rest) (pieces_of-bytes form elements zeros)
+
+pieces_of-elements : (elements : List Element) (zeros : ℕ) → elements ≡ filter_map (λ piece. piece) (pieces_of elements zeros)
+unfolding pieces_of
+pieces_of-elements [] zero = refl
+pieces_of-elements [] (suc zeros) = pieces_of-elements [] zeros
+pieces_of-elements (element ∷ elements) zeros = ap (λ (rest : List Element). element ∷ rest) (pieces_of-elements elements zeros)
+
+elements-carried : (form : ExtensionsForm) (values : ExtensionValues) (items : List Item) → AllByRecursion (IsCarried form values) items
+    → AllByRecursion (IsElement form) (elements_of values items)
+elements-carried form values [] all = tt
+elements-carried form values (item ∷ items) all =
+    element-carried form values item.0 item.1 (spelled_data item.1 values) (elements_of values items) all.0 (elements-carried form values items all.1)
+  where
+    element-carried : (form : ExtensionsForm) (values : ExtensionValues) (id : ℕ) (kind : Extension) (bytes : Option (List ℕ)) (rest : List Element)
+        → IfSome bytes (λ b. IsElement form (id, b) × Reads kind b (carried_values values)) → AllByRecursion (IsElement form) rest
+        → AllByRecursion (IsElement form) (cons_option (option_map (λ b. (id, b)) bytes) rest)
+    element-carried form values id kind None rest here all = all
+    element-carried form values id kind (Some bytes) rest here all = (here.0, all)
+
+-- and zeros behind them are padding
+pub AreElements-written : (form : ExtensionsForm) (exts : Slots) (values : ExtensionValues) (zeros : ℕ) → AllByRecursion (IsCarried form values) (items_from 0 exts)
+    → AreElements form (elements_bytes form (written_elements exts values) ++ replicate zeros 0) (written_elements exts values)
+AreElements-written form exts values zeros all =
+    let elements = written_elements exts values in
+    record {
+      pieces = pieces_of elements zeros;
+      tail = [];
+      are_pieces = pieces_of-pieces form elements zeros (elements-carried form values (items_from 0 exts) all);
+      is_tail = ended refl;
+      body_is = pieces_of-bytes form elements zeros ∙ sym (append-nil (flat_map (piece_bytes form) (pieces_of elements zeros)));
+      elements_are = pieces_of-elements elements zeros;
+    }
+
+-- data that are made of a value have some bytes, or are absent with it
+some_data : {A : Type 0} (f : A → List ℕ) (value : Option A) → ((x : A) → (length (f x) == 0) ≡ false) → has_no_data (option_map f value) ≡ false
+some_data f None some = refl
+some_data f (Some x) some = some x
+
+some_of_both : {A B : Type 0} (f : A → B → List ℕ) (first : Option A) (second : Option B) → ((x : A) (y : B) → (length (f x y) == 0) ≡ false) → has_no_data (of_both f first second) ≡ false
+some_of_both f None second some = refl
+some_of_both f (Some x) None some = refl
+some_of_both f (Some x) (Some y) some = some x y
+
+-- no data but those of a text are empty
+pub no_empty_data : (kind : Extension) (values : ExtensionValues) → kind ≢ RtpStreamId → kind ≢ RepairedRtpStreamId → kind ≢ RtpMid → has_no_data (spelled_data kind values) ≡ false
+no_empty_data AbsoluteSendTime values a b c = some_data _ values.abs_send_time (λ x. refl)
+no_empty_data AbsoluteCaptureTime values a b c =
+    some_data _ values.abs_capture_time (λ x. ne_eqb _ 0 (λ e. omega (arith, length-append (bytes_of 8 x.capture_time) (offset_bytes x.clock_offset))))
+no_empty_data AudioLevel values a b c = some_of_both _ values.audio_level values.voice_activity (λ x y. refl)
+no_empty_data TransmissionTimeOffset values a b c = some_data _ values.tx_time_offs (λ x. refl)
+no_empty_data VideoOrientation values a b c = some_data _ values.video_orientation (λ x. refl)
+no_empty_data TransportSequenceNumber values a b c = some_data _ values.transport_cc (λ x. refl)
+no_empty_data PlayoutDelay values a b c = some_of_both _ values.play_delay_min values.play_delay_max (λ x y. refl)
+no_empty_data VideoContentType values a b c = some_data _ values.video_content_type (λ x. refl)
+no_empty_data VideoTiming values a b c = some_data _ values.video_timing (λ x. refl)
+no_empty_data RtpStreamId values a b c = absurd (a refl)
+no_empty_data RepairedRtpStreamId values a b c = absurd (b refl)
+no_empty_data RtpMid values a b c = absurd (c refl)
+no_empty_data FrameMarking values a b c = some_data _ values.frame_mark (λ x. refl)
+no_empty_data VideoLayersAllocation values a b c =
+    some_data _ (element_allocation values.video_layers_allocation) (λ x. ne_eqb _ 0 (λ e. omega (arith, written-long x)))
+no_empty_data ColorSpace values a b c = refl
+no_empty_data (UnknownUri uri) values a b c = refl

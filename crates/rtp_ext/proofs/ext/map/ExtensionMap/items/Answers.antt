@@ -1,0 +1,13 @@
+use Rattle.std.proofs.Common.{arith, ap, length, ◌∙◌}
+use Rattle.rtp_ext.specs.MapSlots.{items_from, items_at}
+use Rattle.rtp_ext.proofs.ListingLemmas.{length-items_from, items_at-mapped}
+use Rattle.rtp_ext.proofs.ext.map.ExtensionMap.items.Goals as goal
+
+pub returns-clause-items : goal.returns-clause-items
+returns-clause-items c =
+    c.new.ensures ∙ ap (items_at c.self.inside.slots) (c.as_slice.ensures ∙ c.self.invariant.1)
+    ∙ (items_at-mapped c.self.inside.slots ∙ ap (items_from 0) c.self.view_is)
+
+pub returns-clause-few : goal.returns-clause-few
+returns-clause-few c =
+    omega (arith, length-items_from 0 c.args.self.now, c.self.invariant.0, ap length c.self.view_is)

@@ -1,0 +1,17 @@
+use Rattle.std.proofs.Common.{◌≡◌, Option, rules, sym, ◌∙◌}
+use Rattle.std.proofs.lemmas.Slice.Eq.{slice_eq-Decides}
+use Rattle.std.specs.Bool.{Decides}
+use Rattle.std.specs.Option.{option_eq}
+use Rattle.rtp_ext.specs.declared.ext.entry.Entry.{Entry}
+use Rattle.rtp_ext.specs.contracts.ext.entry.EntryPartialEq.TheImpl as entry_eq
+use Rattle.rtp_ext.proofs.ext.map.ExtensionMapPartialEq.eq.Goals as goal
+
+slot_decides : (a b : Option Entry) → Decides (option_eq (entry_eq.ghosts).eq a b) (a ≡ b)
+slot_decides a b = search rules
+
+pub returns-clause-same : goal.returns-clause-same
+returns-clause-same c =
+    let decides = slice_eq-Decides slot_decides c.self.inside.slots c.other.inside.slots c.eq.result c.eq.ensures in (
+      λ equal. sym c.self.view_is ∙ (decides.0 equal ∙ c.other.view_is),
+      λ same. decides.1 (c.self.view_is ∙ (same ∙ sym c.other.view_is)),
+    )

@@ -1,0 +1,41 @@
+-- The elements of mapped ids in a row: what the functions of `block_elements` promise each other.
+use Rattle.std.specs.Prelude.{◌≢◌, ℕ, ◌+◌, ◌-◌, ◌*◌, ◌≤◌, List, [], ◌∷◌, length, Bool, false, ◌==◌, Option, Some, None, IfSome}
+use Rattle.std.specs.List.{flat_map}
+use Rattle.rtp_ext.specs.declared.ext.form.ExtensionsForm.{ExtensionsForm}
+use Rattle.rtp_ext.specs.declared.ext.form.ExtensionsForm.TheVariants.{OneByte, TwoByte}
+use Rattle.rtp_ext.specs.declared.ext.kind.Extension.{Extension}
+use Rattle.rtp_ext.specs.declared.ext.kind.Extension.TheVariants.{VideoLayersAllocation}
+use Rattle.rtp_ext.specs.declared.ext.value.values.ExtensionValues.{ExtensionValues}
+use Rattle.rtp_ext.specs.Elements.{IsElement, element_bytes}
+use Rattle.rtp_ext.specs.Spelling.{spelled_data, carried_values}
+use Rattle.rtp_ext.specs.Values.{Reads}
+
+-- the bytes in front of an element's data, by its id and the length of its data
+abbrev pub header_bytes : ExtensionsForm → ℕ → ℕ → List ℕ
+header_bytes OneByte id len = (id * 16 + (len - 1)) ∷ []
+header_bytes TwoByte id len = id ∷ len ∷ []
+
+-- the bytes of an element, and none where its data are absent
+abbrev pub bytes_at : ExtensionsForm → ℕ → Option (List ℕ) → List ℕ
+bytes_at form id None = []
+bytes_at form id (Some bytes) = element_bytes form (id, bytes)
+
+-- the elements of mapped ids in a row
+unfoldable pub items_bytes : ExtensionsForm → ExtensionValues → List (ℕ × Extension) → List ℕ
+items_bytes form values items = flat_map (λ item. bytes_at form item.0 (spelled_data item.1 values)) items
+
+-- whether there are data, and they are empty
+abbrev pub has_no_data : Option (List ℕ) → Bool
+has_no_data None = false
+has_no_data (Some bytes) = length bytes == 0
+
+-- an element of a mapped id that may be written in the form: an allocation never in the one-byte form
+abbrev pub CanCarry : ExtensionsForm → ℕ × Extension → Option (List ℕ) → Type 0
+CanCarry form item None = Unit {0}
+CanCarry OneByte item (Some bytes) = (item.0 ≤ 14) × (item.1 ≢ VideoLayersAllocation) × (1 ≤ length bytes)
+CanCarry TwoByte item (Some bytes) = Unit {0}
+
+-- what was written is an element of the form, and is read as the value that it carries
+abbrev pub IsCarried : ExtensionsForm → ExtensionValues → ℕ × Extension → Type 0
+IsCarried form values item =
+    IfSome (spelled_data item.1 values) (λ bytes. IsElement form (item.0, bytes) × Reads item.1 bytes (carried_values values))

@@ -1,0 +1,26 @@
+-- The slots of a map as the code goes through them: that of id 1 is index 0.
+use Rattle.std.specs.Prelude.{◌≡◌, ◌≢◌, ℕ, ◌+◌, ◌<◌, List, [], ◌∷◌, length, map, Some, None, slice_index_or}
+use Rattle.std.specs.Option.{option_map}
+use Rattle.std.specs.List.{filter_map}
+use Rattle.rtp_ext.specs.declared.ext.kind.Extension.{Extension}
+use Rattle.rtp_ext.specs.ExtensionMap.{Slots, extension_of, extension_at}
+
+-- the first index whose slot has the extension
+pub record IsFirst (map : Slots) (extension : Extension) (index : ℕ) : Type 0 where
+  pub within : index < length map
+  pub here : extension_of (slice_index_or map index None) ≡ Some extension
+  pub before : (k : ℕ) → k < index → extension_of (slice_index_or map k None) ≢ Some extension
+
+-- the extensions in the slots, each with its id, once some slots were passed
+abbrev pub items_from : ℕ → Slots → List (ℕ × Extension)
+items_from passed [] = []
+items_from passed (None ∷ left) = items_from (passed + 1) left
+items_from passed (Some entry ∷ left) = (passed + 1, entry.extension) ∷ items_from (passed + 1) left
+
+-- the mapped ids, rising
+abbrev pub mapped_ids : Slots → List ℕ
+mapped_ids slots = map (λ item. item.0) (items_from 0 slots)
+
+-- the extensions of some ids, each with its id
+abbrev pub items_at : Slots → List ℕ → List (ℕ × Extension)
+items_at slots ids = filter_map (λ id. option_map (λ extension. (id, extension)) (extension_at slots id)) ids

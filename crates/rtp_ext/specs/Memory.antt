@@ -1,0 +1,30 @@
+-- Where memory may be refused: at an element whose data take it.
+use Rattle.std.specs.Prelude.{◌≡◌, List, [], ◌∷◌, ◌++◌, Option, Some, IfSome}
+use Rattle.rtp_vla.specs.Allocation.{Allocation}
+use Rattle.rtp_ext.specs.declared.ext.kind.Extension.TheVariants.{VideoLayersAllocation}
+use Rattle.rtp_ext.specs.declared.ext.value.values.ExtensionValues.{ExtensionValues}
+use Rattle.rtp_ext.specs.Elements.{Element}
+use Rattle.rtp_ext.specs.ExtensionMap.{Slots, extension_at}
+use Rattle.rtp_ext.specs.Values.{TakesMemory, AreValues}
+
+-- a copy of the allocation takes no memory: there is none, or it has no streams
+abbrev pub TakesNoMemory : Option Allocation → Type 0
+TakesNoMemory allocation = IfSome allocation (λ a. a.simulcast_streams ≡ [])
+
+-- the element's id is mapped to the layer allocation, and reading its data takes memory
+abbrev pub IsAllocation : Slots → Element → Type 0
+IsAllocation exts element =
+    (extension_at exts element.0 ≡ Some VideoLayersAllocation) × TakesMemory VideoLayersAllocation element.1
+
+-- one of the elements is such a one
+pub record HasAllocation (exts : Slots) (elements : List Element) : Type 0 where
+  pub before : List Element
+  pub element : Element
+  pub after : List Element
+  pub elements_are : elements ≡ before ++ element ∷ after
+  pub is_allocation : IsAllocation exts element
+
+-- reading ended at such an element: the values are those of the elements before it
+pub record IsStopped (exts : Slots) (elements : List Element) (old new : ExtensionValues) : Type 0 where
+  pub at : HasAllocation exts elements
+  pub values_are : AreValues exts at.before old new

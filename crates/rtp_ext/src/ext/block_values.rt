@@ -1,0 +1,46 @@
+//! The values of a block of header extensions, as the map's kinds read them.
+
+ghost use Rattle.std.specs.Prelude.{List, IsOk, OnOk, OnErr};
+ghost use Rattle.rtp_ext.specs.Elements.{Element, AreElements};
+ghost use Rattle.rtp_ext.specs.Memory.{HasAllocation, IsStopped};
+ghost use Rattle.rtp_ext.specs.Values.{AreValues};
+
+use super::{Elements, ExtensionMap, ExtensionValues, ExtensionsForm};
+use std::alloc::{AllocError, Global};
+
+impl ExtensionMap {
+    /// Reads the elements of a block's body, the bytes that follow its length word, into the values
+    /// (RFC 8285, 4.2 and 4.3). The fields of each kind become those of the last element whose id is
+    /// mapped to the kind and whose data are well-formed for it. Where there is no such element,
+    /// they stay as they were. An element that is malformed for its kind, is cut short at the end
+    /// of the body, or has an id that is mapped to nothing changes no field, and its neighbours are
+    /// read all the same.
+    ///
+    /// Only an element of two bytes or more whose id is mapped to the layer allocation takes
+    /// memory. Where that is refused, the values are those that the elements before one such
+    /// element give.
+    ///
+    /// With id 1 mapped to the audio level, the body `10 AA 37 00` of the one-byte form sets a level
+    /// of -42 with voice. The element of id 3 is cut short.
+    pub fn parse(
+        &self,
+        alloc: Global,
+        buf: &[u8],
+        form: ExtensionsForm,
+        ev: &mut ExtensionValues,
+    ) -> Result<(), AllocError>
+        ensures values { OnOk result ((elements : List Element) →
+            AreElements form buf.now elements → AreValues self.now elements ev.old ev.new) }
+        ensures refused { OnErr result ((elements : List Element) →
+            AreElements form buf.now elements → IsStopped self.now elements ev.old ev.new) }
+        ensures succeeds { (elements : List Element) → AreElements form buf.now elements →
+            (HasAllocation self.now elements → ⊥) → IsOk result }
+    {
+        for (id, bytes) in Elements::new(buf, form) {
+            if let Some(kind) = self.lookup(id) {
+                kind.parse_value(alloc, bytes, ev)?;
+            }
+        }
+        Ok(())
+    }
+}

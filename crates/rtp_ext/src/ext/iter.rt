@@ -1,0 +1,106 @@
+//! The entries of a map, one after another.
+
+ghost use Rattle.std.specs.Prelude.{◌≡◌, length};
+ghost use Rattle.std.specs.List.{filter};
+ghost use Rattle.std.specs.Iterator.{YieldsFirstBy, item_count};
+ghost use Rattle.rtp_ext.specs.ExtensionMap.{is_of_medium};
+ghost use Rattle.rtp_ext.specs.MapSlots.{items_at};
+
+use super::entry::Entry;
+use super::{Extension, slots};
+use super::map::MAX_ID;
+use std::marker::Model;
+
+/// The ids of a map by rising id, each with its extension.
+#[derive(Debug, Drop)]
+pub struct Iter<'a> {
+    // What the ids from 1 on are mapped to.
+    slots: &'a [Option<Entry>],
+    // The mapped ids that are left.
+    left: &'a [u8],
+}
+
+impl<'a> Model for Iter<'a> {
+    ghost use Rattle.std.specs.Prelude.{◌≡◌, ℕ, length, List};
+    ghost use Rattle.rtp_ext.specs.declared.ext.kind.Extension.{Extension};
+    ghost use Rattle.rtp_ext.specs.declared.ext.map.TheConstants.{MAX_ID};
+    ghost use Rattle.rtp_ext.specs.MapSlots.{items_at};
+
+    ghost Value = { List (ℕ × Extension) };
+
+    ghost view = { λ iter. items_at iter.slots.now iter.left.now };
+
+    ghost invariant = { λ iter. length iter.slots.now ≡ MAX_ID };
+}
+
+impl<'a> Iter<'a> {
+    // The entries of these ids.
+    pub(super) fn new(slots: &'a [Option<Entry>], ids: &'a [u8]) -> Self
+        requires { length slots.now ≡ MAX_ID }
+        ensures { result ≡ items_at slots.now ids.now }
+    {
+        Iter { slots, left: ids }
+    }
+}
+
+impl<'a> Iterator for Iter<'a> {
+    type Item = (u8, &'a Extension);
+
+    ghost next_gives = { YieldsFirstBy (λ item. (item.0, item.1.now)) (λ left. left) };
+
+    ghost remaining = { item_count (λ left. left) };
+
+    fn next(&mut self) -> Option<(u8, &'a Extension)> {
+        while let Some((id, left)) = self.left.split_first() {
+            self.left = left;
+            if let Some(entry) = slots::entry(self.slots, *id) {
+                return Some((*id, &entry.extension));
+            }
+        }
+        None
+    }
+}
+
+/// The ids of a map whose extensions are for one medium, by rising id, each with its extension.
+#[derive(Debug, Drop)]
+pub struct IterByMediaType<'a> {
+    all: Iter<'a>,
+    audio: bool,
+}
+
+impl<'a> Model for IterByMediaType<'a> {
+    ghost use Rattle.std.specs.Prelude.{ℕ, List};
+    ghost use Rattle.std.specs.List.{filter};
+    ghost use Rattle.rtp_ext.specs.declared.ext.kind.Extension.{Extension};
+    ghost use Rattle.rtp_ext.specs.ExtensionMap.{is_of_medium};
+
+    ghost Value = { List (ℕ × Extension) };
+
+    ghost view = { λ iter. filter (λ item. is_of_medium iter.audio item.1) iter.all };
+}
+
+impl<'a> IterByMediaType<'a> {
+    // Those of the entries that are for audio, or else for video.
+    pub(super) fn new(all: Iter<'a>, audio: bool) -> Self
+        ensures { result ≡ filter (λ item. is_of_medium audio item.1) all.entry }
+    {
+        IterByMediaType { all, audio }
+    }
+}
+
+impl<'a> Iterator for IterByMediaType<'a> {
+    type Item = (u8, &'a Extension);
+
+    ghost next_gives = { YieldsFirstBy (λ item. (item.0, item.1.now)) (λ left. left) };
+
+    ghost remaining = { item_count (λ left. left) };
+
+    fn next(&mut self) -> Option<(u8, &'a Extension)> {
+        loop {
+            let (id, ext) = self.all.next()?;
+            if ext.is_of_medium(self.audio) {
+                return Some((id, ext));
+            }
+        }
+    }
+}

@@ -1,0 +1,70 @@
+//! The ids of a map that are mapped.
+
+ghost use Rattle.std.specs.Prelude.{◌≡◌, ◌<◌, ◌∷◌, ◌++◌, [], length};
+ghost use Rattle.rtp_ext.specs.MapSlots.{mapped_ids};
+
+use super::entry::Entry;
+use super::map::MAX_ID;
+use std::array;
+use std::marker::Model;
+
+// The mapped ids, rising.
+#[derive(Drop)]
+pub(super) struct MappedIds {
+    // The ids, and zeros behind them.
+    ids: [u8; MAX_ID as usize],
+    // How many there are.
+    count: u8,
+}
+
+impl Model for MappedIds {
+    ghost use Rattle.std.specs.Prelude.{◌≡◌, ℕ, ◌≤◌, List, length, take};
+    ghost use Rattle.rtp_ext.specs.declared.ext.map.TheConstants.{MAX_ID};
+
+    ghost Value = { List ℕ };
+
+    ghost view = { λ mapped. take mapped.count mapped.ids };
+
+    ghost invariant = { λ mapped. (length mapped.ids ≡ MAX_ID) × (mapped.count ≤ MAX_ID) };
+}
+
+impl MappedIds {
+    // Of a map in which no id is mapped.
+    pub(super) fn none() -> Self
+        ensures { result ≡ [] }
+    {
+        MappedIds {
+            ids: array::from_fn(|_| 0),
+            count: 0,
+        }
+    }
+
+    // Puts an id behind the others.
+    fn push(&mut self, id: u8)
+        requires { length self.old < MAX_ID }
+        ensures { self.new ≡ self.old ++ id ∷ [] }
+    {
+        self.ids[usize::from(self.count)] = id;
+        self.count += 1;
+    }
+
+    // The ids whose slots hold an entry.
+    pub(super) fn of(slots: &[Option<Entry>]) -> Self
+        requires { length slots.now ≡ MAX_ID }
+        ensures { result ≡ mapped_ids slots.now }
+    {
+        let mut mapped = Self::none();
+        for (index, slot) in slots.iter().enumerate() {
+            if slot.is_some() {
+                mapped.push(index as u8 + 1);
+            }
+        }
+        mapped
+    }
+
+    pub(super) fn as_slice(&self) -> &[u8]
+        ensures { result.now ≡ self.now }
+    {
+        &self.ids[..usize::from(self.count)]
+    }
+}

@@ -1,0 +1,89 @@
+//! A block of header extensions: the word of its form, the number of its words, and its body. Both
+//! sides of this layout stand here.
+
+ghost use Rattle.std.specs.Prelude.{◌≡◌, ◌+◌, ◌%◌, ◌≤◌, ◌++◌, length, drop, true, IfOk, OnErr, IfSome, IfNone};
+ghost use Rattle.std.specs.Int.{w16, to_be_bytes};
+ghost use Rattle.rtp_ext.specs.Form.{form_word};
+ghost use Rattle.rtp_wire.specs.Block.{IsExtensionPart};
+ghost use Rattle.rtp_wire.specs.RefusedMemory.{BlockHasAllocation};
+ghost use Rattle.rtp_wire.specs.NotAHeader.{NotABlock};
+ghost use Rattle.rtp_wire.specs.Reading.{HasBlock, ReadsBlock};
+ghost use Rattle.rtp_ext.specs.WrittenBlock.{block_bytes, image_values};
+
+use rtp_base::{put, put_zeros};
+use rtp_ext::{ExtensionMap, ExtensionValues, ExtensionsForm};
+use std::alloc::{AllocError, Global};
+
+// How many bytes stand in front of a block's body.
+const HEAD: usize = 4;
+
+// The block at the front: its form and its body.
+fn split_block(bytes: &[u8]) -> Option<(ExtensionsForm, &[u8])>
+    ensures found { IfSome result (λ block. HasBlock bytes.now block.0 block.1.now) }
+    ensures refused { IfNone result (NotABlock bytes.now) }
+{
+    let (head, after) = bytes.split_first_chunk::<HEAD>()?;
+    let form = ExtensionsForm::parse([head[0], head[1]])?;
+    let words = u16::from_be_bytes([head[2], head[3]]);
+    let body = after.get(..4 * usize::from(words))?;
+    Some((form, body))
+}
+
+// The four bytes in front of a body of so many words.
+fn head_of(form: ExtensionsForm, words: u16) -> [u8; HEAD]
+    ensures { result ≡ to_be_bytes w16 (form_word form) ++ to_be_bytes w16 words }
+{
+    let [form_high, form_low] = form.serialize();
+    let [words_high, words_low] = words.to_be_bytes();
+    [form_high, form_low, words_high, words_low]
+}
+
+// Reads the block at the front of the bytes into the values, and returns its length; `None` where
+// no block begins there.
+pub(super) fn parse_block(
+    exts: &ExtensionMap,
+    alloc: Global,
+    bytes: &[u8],
+    ev: &mut ExtensionValues,
+) -> Result<Option<usize>, AllocError>
+    ensures memory { OnErr result (BlockHasAllocation exts.now bytes.now) }
+    ensures found { IfOk result (λ answer. IfSome answer (λ len.
+        ReadsBlock exts.now bytes.now len ev.old ev.new)) }
+    ensures refused { IfOk result (λ answer. IfNone answer (NotABlock bytes.now)) }
+{
+    let Some((form, body)) = split_block(bytes) else {
+        return Ok(None);
+    };
+    exts.parse(alloc, body, form, ev)?;
+    Ok(Some(HEAD + body.len()))
+}
+
+// The length of the block that `write_block` writes.
+pub(super) fn block_len(exts: &ExtensionMap, ev: &ExtensionValues) -> usize
+    ensures length { result ≡ length (block_bytes exts.now ev.now) }
+    ensures words { result % 4 ≡ 0 }
+    ensures bound { result ≤ 65540 }
+{
+    let elements_len = exts.wire_len(ev, exts.form(ev));
+    HEAD + elements_len.next_multiple_of(4)
+}
+
+// Writes the block of these values to the front of the buffer, and returns its length.
+pub(super) fn write_block(exts: &ExtensionMap, buf: &mut [u8], ev: &ExtensionValues) -> usize
+    requires { length (block_bytes exts.now ev.now) ≤ length buf.old }
+    ensures written { buf.new ≡ block_bytes exts.now ev.now ++ drop result buf.old }
+    ensures length { result ≡ length (block_bytes exts.now ev.now) }
+    ensures words { result % 4 ≡ 0 }
+    ensures bound { result ≤ 65540 }
+
+    // What was written is read as the image of the values.
+    ensures read_back { IsExtensionPart exts.now true (block_bytes exts.now ev.now)
+        (image_values exts.now ev.now) }
+{
+    let form = exts.form(ev);
+    let elements_len = exts.write_to(&mut buf[HEAD..], ev, form);
+    let body_len = elements_len.next_multiple_of(4);
+    let len = put_zeros(buf, HEAD + elements_len, body_len - elements_len);
+    put(buf, 0, &head_of(form, (body_len / 4) as u16));
+    len
+}
