@@ -1,14 +1,14 @@
 -- The entries of a map as a list by rising id.
 use Rattle.std.proofs.Common.{◌≡◌, ℕ, ◌+◌, ◌<◌, ◌≤◌, ◌⊎◌, inl, inr, suc, zero, List, [], ◌∷◌, ◌++◌, length, map, drop, get_or, Bool, true, false, Option, Some, None, All, arith, ap, refl, sym, ◌∙◌, subst}
 use Rattle.std.specs.Prelude.{◌↔◌, ◌==◌, IsTrue}
-use Rattle.std.specs.List.{Contains, filter, cons_option}
+use Rattle.std.specs.List.{Contains, filter, cons_option, AllByRecursion}
 use Rattle.std.proofs.lemmas.Bool.{eqb-true, false≢true}
 use Rattle.std.proofs.lemmas.Bool.Decides.{eqb_tells}
 use Rattle.std.proofs.lemmas.List.Elements.{All-append, All-cons, All-nil, Contains-append_left, Contains-append_right}
 use Rattle.std.specs.Option.{unwrap_or, option_map}
 use Rattle.rtp_ext.specs.declared.ext.kind.Extension.{Extension}
 use Rattle.rtp_ext.specs.declared.ext.entry.Entry.{Entry}
-use Rattle.rtp_ext.specs.MapSlots.{items_from, mapped_ids, items_at}
+use Rattle.rtp_ext.specs.MapSlots.{items_from, mapped_ids, items_at, IsMapped}
 use Rattle.rtp_ext.proofs.MapLemmas.{entry_at-slot}
 use Rattle.rtp_ext.specs.ExtensionMap.{Slots, IsEmpty, entry_at, extension_at, extension_of, unlocked, Sets, IsLocked, IsUnlocked, IsRising, IsListing}
 
@@ -191,14 +191,14 @@ IsListing-from_slots slots =
 
 -- what stands behind the ids of the slots left, once one more was passed
 here_later : (slots : Slots) (passed : ℕ) (slot : Option Entry) (left : Slots)
-    → ((k : ℕ) → extension_at slots (passed + k + 1) ≡ extension_of (get_or (slot ∷ left) k None))
-    → (k : ℕ) → extension_at slots (passed + 1 + k + 1) ≡ extension_of (get_or left k None)
+    → ((k : ℕ) → entry_at slots (passed + k + 1) ≡ get_or (slot ∷ left) k None)
+    → (k : ℕ) → entry_at slots (passed + 1 + k + 1) ≡ get_or left k None
 here_later slots passed slot left here k =
     let index : passed + 1 + k + 1 ≡ passed + suc k + 1 = omega arith in
-    ap (extension_at slots) index ∙ here (suc k)
+    ap (entry_at slots) index ∙ here (suc k)
 
 -- the entries of the ids that the slots left give are what these slots give
-items_at-left : (slots : Slots) (passed : ℕ) (left : Slots) → ((k : ℕ) → extension_at slots (passed + k + 1) ≡ extension_of (get_or left k None))
+items_at-left : (slots : Slots) (passed : ℕ) (left : Slots) → ((k : ℕ) → entry_at slots (passed + k + 1) ≡ get_or left k None)
     → items_at slots (map (λ item. item.0) (items_from passed left)) ≡ items_from passed left
 items_at-left slots passed [] here = refl
 items_at-left slots passed (None ∷ left) here = items_at-left slots (passed + 1) left (here_later slots passed None left here)
@@ -206,13 +206,27 @@ items_at-left slots passed (Some entry ∷ left) here =
     let ids = map (λ item. item.0) (items_from (passed + 1) left) in
     let index : passed + 1 ≡ passed + 0 + 1 = omega arith in
     ap (λ found. cons_option (option_map (λ extension. (passed + 1, extension)) found) (items_at slots ids))
-    (ap (extension_at slots) index ∙ here 0)
+    (ap extension_of (ap (entry_at slots) index ∙ here 0))
     ∙ ap (λ (items : List (ℕ × Extension)). (passed + 1, entry.extension) ∷ items)
     (items_at-left slots (passed + 1) left (here_later slots passed (Some entry) left here))
 
 -- the mapped ids give the listing of the map
 pub items_at-mapped : (slots : Slots) → items_at slots (mapped_ids slots) ≡ items_from 0 slots
-items_at-mapped slots = items_at-left slots 0 slots (λ k. ap extension_of (entry_at-slot slots k (0 + k + 1) (omega arith)))
+items_at-mapped slots = items_at-left slots 0 slots (λ k. entry_at-slot slots k (0 + k + 1) (omega arith))
+
+mapped-left : (slots : Slots) (passed : ℕ) (left : Slots) → ((k : ℕ) → entry_at slots (passed + k + 1) ≡ get_or left k None)
+    → AllByRecursion (IsMapped slots) (map (λ item. item.0) (items_from passed left))
+mapped-left slots passed [] here = tt
+mapped-left slots passed (None ∷ left) here = mapped-left slots (passed + 1) left (here_later slots passed None left here)
+mapped-left slots passed (Some entry ∷ left) here =
+    let index : passed + 1 ≡ passed + 0 + 1 = omega arith in (
+      (entry, ap (entry_at slots) index ∙ here 0),
+      mapped-left slots (passed + 1) left (here_later slots passed (Some entry) left here),
+    )
+
+-- an entry stands behind each mapped id
+pub all_mapped : (slots : Slots) → AllByRecursion (IsMapped slots) (mapped_ids slots)
+all_mapped slots = mapped-left slots 0 slots (λ k. entry_at-slot slots k (0 + k + 1) (omega arith))
 
 -- a map without mapped ids is empty, and an empty one has none
 IsEmpty-no_ids : (slots : Slots) → mapped_ids slots ≡ [] → IsEmpty slots

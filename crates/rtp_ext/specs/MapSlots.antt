@@ -3,7 +3,8 @@ use Rattle.std.specs.Prelude.{◌≡◌, ◌≢◌, ℕ, ◌+◌, ◌<◌, List,
 use Rattle.std.specs.Option.{option_map}
 use Rattle.std.specs.List.{filter_map}
 use Rattle.rtp_ext.specs.declared.ext.kind.Extension.{Extension}
-use Rattle.rtp_ext.specs.ExtensionMap.{Slots, extension_of, extension_at}
+use Rattle.rtp_ext.specs.declared.ext.entry.Entry.{Entry}
+use Rattle.rtp_ext.specs.ExtensionMap.{Slots, entry_at, extension_of, extension_at}
 
 -- the first index whose slot has the extension
 pub record IsFirst (map : Slots) (extension : Extension) (index : ℕ) : Type 0 where
@@ -16,6 +17,10 @@ abbrev pub items_from : ℕ → Slots → List (ℕ × Extension)
 items_from passed [] = []
 items_from passed (None ∷ left) = items_from (passed + 1) left
 items_from passed (Some entry ∷ left) = (passed + 1, entry.extension) ∷ items_from (passed + 1) left
+
+-- an entry stands behind the id
+abbrev pub IsMapped : Slots → ℕ → Type 0
+IsMapped slots id = (entry : Entry) × (entry_at slots id ≡ Some entry)
 
 -- the mapped ids, rising
 abbrev pub mapped_ids : Slots → List ℕ

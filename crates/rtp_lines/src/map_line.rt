@@ -27,7 +27,7 @@ fn id_of(digits: &[u8]) -> Option<u8>
         Ok(text) => text.parse::<u8>().ok()?,
         Err(_) => return None,
     };
-    if id == 0 || id > MAX_ID {
+    if !(1..=MAX_ID).contains(&id) {
         return None;
     }
     Some(id)
@@ -46,7 +46,7 @@ fn around_space(text: &[u8]) -> Option<(&[u8], &[u8])>
 }
 
 /// The id and the URI of a map line, `None` when the line is no map line. A map line is `map`, an id
-/// from 1 to 16 in one to three digits, and a URI, with one space between them. The URI is the rest
+/// from 1 to 255 in one to three digits, and a URI, with one space between them. The URI is the rest
 /// of the line, spaces included: one byte or more, in UTF-8.
 pub fn map_line(line: &[u8]) -> Option<(u8, &str)>
     ensures found { IfSome result (λ item. IsMapLine line.now item.0 item.1.now) }

@@ -122,7 +122,7 @@ fn report_input<R: Read, W: Write>(
 ///
 /// A line of the input ends with LF or CR LF; the last one may end without either. A line is a
 /// datagram in hexadecimal of either case, and an empty line is an empty datagram. Before all
-/// datagrams there may be lines `map ID URI`, which map an id of 1 to 16, in one to three digits, to
+/// datagrams there may be lines `map ID URI`, which map an id of 1 to 255, in one to three digits, to
 /// the extension with this URI; the last line for an id counts. Without such lines the standard map
 /// is used.
 ///

@@ -13,7 +13,7 @@ AreNegotiated-none map none = record { last = λ i below. absurd (omega arith); 
 -- a number is an id of the map, or isn't
 id_or_not : (id : ℕ) → IsId id ⊎ (IsId id → ⊥)
 id_or_not id = elim (cases_lt 0 id) [
-  | inl some ↦ elim (cases_lt 16 id) [
+  | inl some ↦ elim (cases_lt 255 id) [
     | inl above ↦ inr (λ is. let low = is.1 in omega arith)
     | inr within ↦ inl (omega arith, within)
   ]

@@ -29,9 +29,9 @@ pub fn default_twcc_cluster_id() -> TwccClusterId
     TwccClusterId::default()
 }
 
-/// A map has room for the ids up to 16.
+/// A map has room for the ids up to 255 (RFC 8285, 4.3).
 pub fn greatest_id() -> u8
-    ensures { result ≡ 16 }
+    ensures { result ≡ 255 }
 {
     MAX_ID
 }

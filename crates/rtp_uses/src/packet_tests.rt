@@ -131,14 +131,16 @@ fn negotiated_ids(rt: HostRuntime) -> Result<(), Fail> {
     let lines = [
         (3, "urn:3gpp:video-orientation"),
         (4, "urn:ietf:params:rtp-hdrext:sdes:mid"),
-        (17, "urn:ietf:params:rtp-hdrext:sdes:mid"),
+        (0, "urn:ietf:params:rtp-hdrext:sdes:mid"),
+        (255, "urn:ietf:params:rtp-hdrext:sdes:mid"),
         (3, "urn:example:other"),
     ];
     let mut exts = negotiating::negotiated(rt.alloc(), &lines)?;
     let other = exts.lookup(3).ok_or("an extension")?;
     assert_eq!(rt; other.as_uri(), "urn:example:other");
     assert_eq!(rt; exts.lookup(4), Some(&Extension::RtpMid));
-    assert_eq!(rt; exts.lookup(17), None);
+    assert_eq!(rt; exts.lookup(0), None);
+    assert_eq!(rt; exts.lookup(255), Some(&Extension::RtpMid));
     let steps = [(3, &Extension::RtpMid)];
     let id = negotiating::renegotiated(&mut exts, &steps, Extension::RtpMid);
     assert_eq!(rt; id, Some(3));

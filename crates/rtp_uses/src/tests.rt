@@ -33,7 +33,7 @@ fn numbers(rt: HostRuntime) -> Result<(), Fail> {
     );
     assert_eq!(rt; numbers::default_twcc_seq().get(), 0);
     assert_eq!(rt; numbers::default_twcc_cluster_id().get(), 0);
-    assert_eq!(rt; numbers::greatest_id(), 16);
+    assert_eq!(rt; numbers::greatest_id(), 255);
     assert_eq!(rt; numbers::greatest_id_of_one_byte_form(), 14);
     Ok(())
 }

@@ -5,7 +5,7 @@ use crate::fixtures::{full, level, one, spoken};
 use crate::headers_written::is_read;
 use ExtensionsForm::{OneByte, TwoByte};
 use rtp_base::{Mid, Pt};
-use rtp_wire::{Extension, ExtensionMap, ExtensionValues, ExtensionsForm, MAX_ID, RtpHeader};
+use rtp_wire::{Extension, ExtensionMap, ExtensionValues, ExtensionsForm, RtpHeader};
 use std::alloc::{AllocError, Global};
 use std::process::Abort;
 
@@ -196,7 +196,7 @@ fn ids_of_the_two_byte_form(rt: HostRuntime) {
 // A map with an audio level at each id that there is.
 fn levels_everywhere() -> ExtensionMap {
     let mut map = ExtensionMap::empty();
-    for id in 1..=MAX_ID {
+    for id in 1..=255 {
         map.set(id, Extension::AudioLevel);
     }
     map
@@ -211,15 +211,28 @@ fn is_passed_over(rt: &impl Abort, alloc: Global, map: &ExtensionMap, id: u8) {
     same(rt, id, values.audio_level, Some(-42));
 }
 
-// No map has the id 0, nor one above the greatest.
 #[test]
 fn ids_outside_the_map(rt: HostRuntime) {
-    let map = levels_everywhere();
+    let map = one(16, Extension::AudioLevel);
     for id in 17..=255 {
         is_passed_over(&rt, rt.alloc(), &map, id);
     }
-    let wanted = ExtensionValues::default();
+}
+
+// No map has the id 0.
+#[test]
+fn the_id_0(rt: HostRuntime) {
+    let (map, wanted) = (levels_everywhere(), ExtensionValues::default());
     check(&rt, rt.alloc(), map, OneByte, "02aaaaaa", wanted);
+}
+
+#[test]
+fn each_id_of_the_two_byte_form(rt: HostRuntime) {
+    let map = levels_everywhere();
+    for id in 1..=255 {
+        let values = read(&rt, rt.alloc(), &map, TwoByte, &[id, 1, 170], full());
+        same(&rt, id, values.audio_level, Some(-42));
+    }
 }
 
 // The body changes no value under the map.

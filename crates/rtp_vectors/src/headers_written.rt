@@ -125,6 +125,7 @@ fn markers(rt: HostRuntime) {
         (3, "90a1b79900002ee00000002cbede0001302b0000"),
         // The one-byte form has no id of 15.
         (15, "90a1b79900002ee00000002c100000010f012b00"),
+        (255, "90a1b79900002ee00000002c10000001ff012b00"),
     ];
     for (id, text) in rows {
         let header = marked(level(-43, false), 16);

@@ -42,6 +42,8 @@ mod kinds;
 #[cfg(test)]
 mod leb_numbers;
 #[cfg(test)]
+mod many_ids;
+#[cfg(test)]
 mod maps;
 #[cfg(test)]
 mod packet_ends;
@@ -59,6 +61,8 @@ mod refused_readings;
 mod refused_samples;
 #[cfg(test)]
 mod refused_texts;
+#[cfg(test)]
+mod renegotiations;
 #[cfg(test)]
 mod runs;
 #[cfg(test)]

@@ -1,4 +1,4 @@
-//! Maps of extension ids, and what renegotiations make of them.
+//! Maps of extension ids.
 
 use crate::checks::{holds, is_map, is_text, named, same};
 use crate::fixtures::{one, two};
@@ -7,23 +7,23 @@ use std::alloc::Global;
 use std::process::Abort;
 
 // The map with one more entry.
-fn with(mut map: ExtensionMap, id: u8, ext: Extension) -> ExtensionMap {
+pub(crate) fn with(mut map: ExtensionMap, id: u8, ext: Extension) -> ExtensionMap {
     map.set(id, ext);
     map
 }
 
 // The map is shown as this text.
-fn is_shown(rt: &impl Abort, alloc: Global, map: &ExtensionMap, text: &str) {
+pub(crate) fn is_shown(rt: &impl Abort, alloc: Global, map: &ExtensionMap, text: &str) {
     is_text(rt, format!(in alloc; "{map:?}"), text);
 }
 
 // The id has this kind in the map.
-fn has(rt: &impl Abort, map: &ExtensionMap, id: u8, kind: Extension) {
+pub(crate) fn has(rt: &impl Abort, map: &ExtensionMap, id: u8, kind: Extension) {
     holds(rt, id, map.lookup(id) == Some(&kind));
 }
 
 // A copy of the map.
-fn copy_of(rt: &impl Abort, alloc: Global, map: &ExtensionMap) -> ExtensionMap {
+pub(crate) fn copy_of(rt: &impl Abort, alloc: Global, map: &ExtensionMap) -> ExtensionMap {
     map.clone(alloc).expect(rt, "memory")
 }
 
@@ -34,7 +34,7 @@ const STANDARD: &str =
 #[test]
 fn ranges(rt: HostRuntime) {
     same(&rt, "the one-byte form", MAX_ID_ONE_BYTE_FORM, 14);
-    same(&rt, "the greatest", MAX_ID, 16);
+    same(&rt, "the greatest", MAX_ID, 255);
 }
 
 #[test]
@@ -45,28 +45,30 @@ fn entries(rt: HostRuntime) {
     map.set(4, Extension::RtpMid);
     let text = "Extensions(1=ssrc-audio-level, 4=mid)";
     is_shown(&rt, rt.alloc(), &map, text);
-    map.set(16, Extension::RtpMid);
-    let text = "Extensions(1=ssrc-audio-level, 4=mid, 16=mid)";
+    map.set(255, Extension::RtpMid);
+    let text = "Extensions(1=ssrc-audio-level, 4=mid, 255=mid)";
     is_shown(&rt, rt.alloc(), &map, text);
 }
 
 #[test]
 fn look_ups(rt: HostRuntime) {
-    let map = with(one(4, Extension::RtpMid), 16, Extension::RtpMid);
+    let map = two(4, Extension::RtpMid, 17, Extension::ColorSpace);
+    let map = with(map, 255, Extension::RtpMid);
     has(&rt, &map, 4, Extension::RtpMid);
-    has(&rt, &map, 16, Extension::RtpMid);
-    for id in [0, 2, 3, 15, 17, 255] {
+    has(&rt, &map, 17, Extension::ColorSpace);
+    has(&rt, &map, 255, Extension::RtpMid);
+    for id in [0, 1, 3, 5, 16, 18, 254] {
         holds(&rt, id, map.lookup(id).is_none());
     }
 }
 
 #[test]
 fn ids_of_kinds(rt: HostRuntime) {
-    let mut map = with(one(4, Extension::RtpMid), 16, Extension::RtpMid);
+    let mut map = with(one(4, Extension::RtpMid), 255, Extension::RtpMid);
     same(&rt, "mid", map.id_of(Extension::RtpMid), Some(4));
     same(&rt, "color space", map.id_of(Extension::ColorSpace), None);
     map.set(4, Extension::ColorSpace);
-    same(&rt, "mid", map.id_of(Extension::RtpMid), Some(16));
+    same(&rt, "mid", map.id_of(Extension::RtpMid), Some(255));
     same(
         &rt,
         "color space",
@@ -85,12 +87,10 @@ fn cleared(rt: HostRuntime) {
 }
 
 #[test]
-fn ids_out_of_range(rt: HostRuntime) {
+fn the_id_0(rt: HostRuntime) {
     let mut map = ExtensionMap::standard();
-    for id in [0, 17, 255] {
-        map.set(id, Extension::ColorSpace);
-        is_map(&rt, &map, ExtensionMap::standard());
-    }
+    map.set(0, Extension::ColorSpace);
+    is_map(&rt, &map, ExtensionMap::standard());
 }
 
 #[test]
@@ -108,11 +108,11 @@ fn emptiness(rt: HostRuntime) {
     is_empty(&rt, ExtensionMap::empty(), true);
     is_empty(&rt, ExtensionMap::standard(), false);
     is_empty(&rt, one(1, Extension::RtpMid), false);
-    is_empty(&rt, one(16, Extension::RtpMid), false);
+    is_empty(&rt, one(255, Extension::RtpMid), false);
 }
 
 // The entries have these ids, in this order.
-fn have_ids(rt: &impl Abort, alloc: Global, entries: IterByMediaType<'_>, wanted: &[u8]) {
+pub(crate) fn have_ids(rt: &impl Abort, alloc: Global, entries: IterByMediaType<'_>, wanted: &[u8]) {
     let ids = entries.map(|(id, _)| id).collect::<Vec<_>>(alloc);
     same(rt, "the ids", ids.expect(rt, "memory").as_slice(), wanted);
 }
@@ -143,14 +143,14 @@ fn media(rt: HostRuntime) {
     is_map(&rt, &audio, one(9, Extension::AudioLevel));
 }
 
-// The entry is the mid at id 16.
+// The entry is the mid at id 255.
 fn is_the_mid(rt: &impl Abort, entry: Option<(u8, &Extension)>) {
-    assert!(rt; entry == Some((16, &Extension::RtpMid)));
+    assert!(rt; entry == Some((255, &Extension::RtpMid)));
 }
 
 #[test]
 fn iterators_end(rt: HostRuntime) {
-    let map = one(16, Extension::RtpMid);
+    let map = one(255, Extension::RtpMid);
     let mut all = map.iter();
     is_the_mid(&rt, all.next());
     holds(&rt, "the end", all.next().is_none());
@@ -159,109 +159,11 @@ fn iterators_end(rt: HostRuntime) {
 
 #[test]
 fn iterators_of_a_medium_end(rt: HostRuntime) {
-    let map = one(16, Extension::RtpMid);
+    let map = one(255, Extension::RtpMid);
     let mut audio = map.iter_by_media_type(true);
     is_the_mid(&rt, audio.next());
     holds(&rt, "the end", audio.next().is_none());
     holds(&rt, "behind the end", audio.next().is_none());
-}
-
-// Asks for one id, and for two.
-fn ask(map: &mut ExtensionMap, id: u8, kind: Extension) {
-    map.remap(&[(id, &kind)]);
-}
-
-fn ask_both(map: &mut ExtensionMap, id: u8, kind: Extension, next_id: u8, next: Extension) {
-    map.remap(&[(id, &kind), (next_id, &next)]);
-}
-
-#[test]
-fn remapped_to_a_free_id(rt: HostRuntime) {
-    let mut map = ExtensionMap::standard();
-    ask(&mut map, 14, Extension::TransportSequenceNumber);
-    have_ids(&rt, rt.alloc(), map.iter_audio(), &[1, 2, 4, 10, 11, 14]);
-    have_ids(&rt, rt.alloc(), map.iter_video(), &[2, 4, 10, 11, 13, 14]);
-    has(&rt, &map, 14, Extension::TransportSequenceNumber);
-    holds(&rt, "the old id", map.lookup(3).is_none());
-    has(&rt, &map, 13, Extension::VideoOrientation);
-}
-
-#[test]
-fn remapped_crosswise(rt: HostRuntime) {
-    use Extension::{AudioLevel, TransportSequenceNumber, VideoOrientation};
-    let mut map = two(12, TransportSequenceNumber, 14, VideoOrientation);
-    ask_both(&mut map, 12, VideoOrientation, 14, TransportSequenceNumber);
-    let text = "Extensions(12=video-orientation, 14=transport-wide-cc)";
-    is_shown(&rt, rt.alloc(), &map, text);
-    let before = copy_of(&rt, rt.alloc(), &map);
-    ask_both(&mut map, 1, TransportSequenceNumber, 12, AudioLevel);
-    is_map(&rt, &map, before);
-}
-
-#[test]
-fn remapped_into_a_space(rt: HostRuntime) {
-    use Extension::{TransportSequenceNumber, VideoContentType, VideoOrientation};
-    let map = two(3, TransportSequenceNumber, 4, VideoOrientation);
-    let mut map = with(map, 5, VideoContentType);
-    ask_both(&mut map, 12, VideoOrientation, 14, TransportSequenceNumber);
-    let text = "Extensions(5=video-content-type, 12=video-orientation, 14=transport-wide-cc)";
-    is_shown(&rt, rt.alloc(), &map, text);
-    let before = copy_of(&rt, rt.alloc(), &map);
-    ask(&mut map, 1, TransportSequenceNumber);
-    is_map(&rt, &map, before);
-}
-
-#[test]
-fn what_stood_in_the_way_moves(rt: HostRuntime) {
-    let mut map = two(1, Extension::AudioLevel, 2, Extension::RtpMid);
-    ask(&mut map, 2, Extension::AudioLevel);
-    let text = "Extensions(1=mid, 2=ssrc-audio-level)";
-    is_shown(&rt, rt.alloc(), &map, text);
-    // The one that gave way isn't locked, and may move on.
-    ask(&mut map, 7, Extension::RtpMid);
-    let text = "Extensions(2=ssrc-audio-level, 7=mid)";
-    is_shown(&rt, rt.alloc(), &map, text);
-    // A locked one gives way too, and stays locked.
-    ask(&mut map, 3, Extension::AudioLevel);
-    is_shown(&rt, rt.alloc(), &map, text);
-    map.set(4, Extension::ColorSpace);
-    ask(&mut map, 7, Extension::ColorSpace);
-    let text = "Extensions(2=ssrc-audio-level, 4=mid, 7=color-space)";
-    is_shown(&rt, rt.alloc(), &map, text);
-    ask(&mut map, 9, Extension::RtpMid);
-    is_shown(&rt, rt.alloc(), &map, text);
-}
-
-#[test]
-fn steps_that_change_nothing(rt: HostRuntime) {
-    let mut map = ExtensionMap::standard();
-    map.remap(&[
-        (0, &Extension::AudioLevel),
-        (17, &Extension::AudioLevel),
-        (5, &Extension::ColorSpace),
-    ]);
-    is_map(&rt, &map, ExtensionMap::standard());
-    map.remap(&[]);
-    is_map(&rt, &map, ExtensionMap::standard());
-}
-
-// The map of id 1 to the level, locked or not.
-fn level_of_id_1(locked: bool) -> ExtensionMap {
-    let mut map = one(1, Extension::AudioLevel);
-    if locked {
-        ask(&mut map, 1, Extension::AudioLevel);
-    }
-    map
-}
-
-#[test]
-fn locks_count(rt: HostRuntime) {
-    let mut locked = level_of_id_1(true);
-    holds(&rt, "locked", locked != level_of_id_1(false));
-    is_map(&rt, &locked, copy_of(&rt, rt.alloc(), &locked));
-    is_map(&rt, &level_of_id_1(false), locked.cloned_with_type(true));
-    locked.set(1, Extension::AudioLevel);
-    is_map(&rt, &locked, level_of_id_1(false));
 }
 
 #[test]
@@ -297,15 +199,15 @@ fn has_numbered(rt: &impl Abort, alloc: Global, map: &ExtensionMap, id: u8) {
 }
 
 #[test]
-fn sixteen_texts_of_their_own(rt: HostRuntime) {
+fn a_text_of_its_own_for_each_id(rt: HostRuntime) {
     let mut map = ExtensionMap::empty();
-    for id in 1..=MAX_ID {
+    for id in 1..=255 {
         let uri = numbered(&rt, rt.alloc(), id);
         map.set(id, named(&rt, rt.alloc(), &uri));
     }
     let copy = copy_of(&rt, rt.alloc(), &map);
     is_map(&rt, &copy, map);
-    for id in 1..=MAX_ID {
+    for id in 1..=255 {
         has_numbered(&rt, rt.alloc(), &copy, id);
     }
 }

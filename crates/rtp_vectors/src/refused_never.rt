@@ -118,12 +118,10 @@ fn a_run_of_no_datagrams(rt: HostRuntime) -> Result<(), Fail> {
 #[test]
 fn known_texts(rt: HostRuntime) -> Result<(), Fail> {
     let exts = ExtensionMap::standard();
-    for id in 1..=16 {
-        if let Some(known) = exts.lookup(id) {
-            let made = Extension::from_sdp_uri(rt.alloc(), known.as_uri())?;
-            assert!(rt; made == *known);
-            assert!(rt; known.clone(rt.alloc())? == *known);
-        }
+    for (_, known) in exts.iter() {
+        let made = Extension::from_sdp_uri(rt.alloc(), known.as_uri())?;
+        assert!(rt; made == *known);
+        assert!(rt; known.clone(rt.alloc())? == *known);
     }
     let kind = Extension::VideoLayersAllocation;
     assert!(rt; Extension::from_sdp_uri(rt.alloc(), vla::URI)? == kind);

@@ -1,14 +1,13 @@
 //! The entries of a map, one after another.
 
-ghost use Rattle.std.specs.Prelude.{◌≡◌, length};
-ghost use Rattle.std.specs.List.{filter};
+ghost use Rattle.std.specs.Prelude.{◌≡◌};
+ghost use Rattle.std.specs.List.{filter, AllByRecursion};
 ghost use Rattle.std.specs.Iterator.{YieldsFirstBy, item_count};
 ghost use Rattle.rtp_ext.specs.ExtensionMap.{is_of_medium};
-ghost use Rattle.rtp_ext.specs.MapSlots.{items_at};
+ghost use Rattle.rtp_ext.specs.MapSlots.{items_at, IsMapped};
 
 use super::entry::Entry;
 use super::{Extension, slots};
-use super::map::MAX_ID;
 use std::marker::Model;
 
 /// The ids of a map by rising id, each with its extension.
@@ -21,22 +20,22 @@ pub struct Iter<'a> {
 }
 
 impl<'a> Model for Iter<'a> {
-    ghost use Rattle.std.specs.Prelude.{◌≡◌, ℕ, length, List};
+    ghost use Rattle.std.specs.Prelude.{ℕ, List};
+    ghost use Rattle.std.specs.List.{AllByRecursion};
     ghost use Rattle.rtp_ext.specs.declared.ext.kind.Extension.{Extension};
-    ghost use Rattle.rtp_ext.specs.declared.ext.map.TheConstants.{MAX_ID};
-    ghost use Rattle.rtp_ext.specs.MapSlots.{items_at};
+    ghost use Rattle.rtp_ext.specs.MapSlots.{items_at, IsMapped};
 
     ghost Value = { List (ℕ × Extension) };
 
     ghost view = { λ iter. items_at iter.slots.now iter.left.now };
 
-    ghost invariant = { λ iter. length iter.slots.now ≡ MAX_ID };
+    ghost invariant = { λ iter. AllByRecursion (IsMapped iter.slots.now) iter.left.now };
 }
 
 impl<'a> Iter<'a> {
-    // The entries of these ids.
+    // The entries of these ids, all of which are mapped.
     pub(super) fn new(slots: &'a [Option<Entry>], ids: &'a [u8]) -> Self
-        requires { length slots.now ≡ MAX_ID }
+        requires { AllByRecursion (IsMapped slots.now) ids.now }
         ensures { result ≡ items_at slots.now ids.now }
     {
         Iter { slots, left: ids }
@@ -51,13 +50,9 @@ impl<'a> Iterator for Iter<'a> {
     ghost remaining = { item_count (λ left. left) };
 
     fn next(&mut self) -> Option<(u8, &'a Extension)> {
-        while let Some((id, left)) = self.left.split_first() {
-            self.left = left;
-            if let Some(entry) = slots::entry(self.slots, *id) {
-                return Some((*id, &entry.extension));
-            }
-        }
-        None
+        let (id, left) = self.left.split_first()?;
+        self.left = left;
+        Some((*id, &slots::mapped_entry(self.slots, *id).extension))
     }
 }
 

@@ -4,7 +4,7 @@ ghost use Rattle.std.specs.Prelude.{◌≡◌, ◌≢◌, ◌↔◌, ℕ, ◌+�
 ghost use Rattle.std.specs.Option.{option_copied, option_map};
 ghost use Rattle.rtp_ext.specs.Kind.{IsKnown};
 ghost use Rattle.rtp_ext.specs.ExtensionMap as spec;
-ghost use Rattle.rtp_ext.specs.MapSlots.{IsFirst};
+ghost use Rattle.rtp_ext.specs.MapSlots.{IsFirst, IsMapped};
 
 use super::Extension;
 use super::entry::Entry;
@@ -29,6 +29,14 @@ pub(super) fn entry(slots: &[Option<Entry>], id: u8) -> Option<&Entry>
     ensures { option_copied result ≡ spec.entry_at slots.now id }
 {
     slots.get(usize::from(id).checked_sub(1)?)?.as_ref()
+}
+
+// The entry of a mapped id.
+pub(super) fn mapped_entry(slots: &[Option<Entry>], id: u8) -> &Entry
+    requires { IsMapped slots.now id }
+    ensures { spec.entry_at slots.now id ≡ Some result.now }
+{
+    slots[usize::from(id) - 1].as_ref().unwrap()
 }
 
 // Whether the slot holds this extension.

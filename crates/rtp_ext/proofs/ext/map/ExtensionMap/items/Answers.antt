@@ -1,7 +1,12 @@
-use Rattle.std.proofs.Common.{arith, ap, length, ◌∙◌}
-use Rattle.rtp_ext.specs.MapSlots.{items_from, items_at}
-use Rattle.rtp_ext.proofs.ListingLemmas.{length-items_from, items_at-mapped}
+use Rattle.std.proofs.Common.{arith, ap, length, sym, ◌∙◌, subst}
+use Rattle.std.specs.List.{AllByRecursion}
+use Rattle.rtp_ext.specs.MapSlots.{items_from, items_at, IsMapped}
+use Rattle.rtp_ext.proofs.ListingLemmas.{length-items_from, items_at-mapped, all_mapped}
 use Rattle.rtp_ext.proofs.ext.map.ExtensionMap.items.Goals as goal
+
+pub new-requires : goal.new-requires
+new-requires c =
+    subst (AllByRecursion (IsMapped c.self.inside.slots)) (sym (c.as_slice.ensures ∙ c.self.invariant.1)) (all_mapped c.self.inside.slots)
 
 pub returns-clause-items : goal.returns-clause-items
 returns-clause-items c =
