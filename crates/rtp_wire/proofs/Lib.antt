@@ -6,6 +6,7 @@ mod MemoryLemmas
 mod KindLemmas
 mod MapLemmas
 mod ListingLemmas
+mod MappedIdLemmas
 mod FlagLemmas
 mod GroupLemmas
 mod BlockLemmas

@@ -13,7 +13,7 @@ use Rattle.rtp_wire.proofs.MapLemmas.{entry_at-slot}
 use Rattle.rtp_wire.specs.ExtensionMap.{Slots, IsEmpty, entry_at, extension_at, extension_of, unlocked, Sets, IsLocked, IsUnlocked, IsRising, IsListing}
 
 -- the parts of a list of which all hold
-All-head : {X : Type 0} (P : X → Type 0) (x : X) (xs : List X) → All P (x ∷ xs) → P x
+pub All-head : {X : Type 0} (P : X → Type 0) (x : X) (xs : List X) → All P (x ∷ xs) → P x
 All-head P x xs all = all 0 x (omega arith)
 
 All-tail : {X : Type 0} (P : X → Type 0) (x : X) (xs : List X) → All P (x ∷ xs) → All P xs
@@ -159,6 +159,10 @@ items_from-items passed [] = record {
 items_from-items passed (None ∷ left) = AreItems-none passed left (items_from (passed + 1) left) (items_from-items (passed + 1) left)
 items_from-items passed (Some entry ∷ left) =
     AreItems-some passed entry left (items_from (passed + 1) left) (items_from-items (passed + 1) left)
+
+-- the ids of the slots that are left are above the number of those passed
+pub above_passed : (passed : ℕ) (left : Slots) → All (λ item. passed < item.0) (items_from passed left)
+above_passed passed left = (items_from-items passed left).above
 
 -- slots in which nothing stands give none
 items_from-empty : (passed : ℕ) (left : Slots) → ((k : ℕ) → get_or left k None ≡ None) → items_from passed left ≡ []
