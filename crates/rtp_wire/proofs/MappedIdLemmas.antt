@@ -1,5 +1,5 @@
 -- The list of the mapped ids, and one more id in it.
-use Rattle.std.proofs.Common.{◌≡◌, ℕ, ◌+◌, ◌-◌, ◌<◌, ◌≤◌, suc, zero, List, [], ◌∷◌, ◌++◌, length, map, take, drop, set, get_or, true, false, Option, Some, None, All, arith, ap, refl, sym, ◌∙◌, le-ltb, lt-ltb, length-take-le, length-append, length-drop}
+use Rattle.std.proofs.Common.{◌≡◌, ℕ, ◌+◌, ◌-◌, ◌<◌, ◌≤◌, suc, zero, List, [], ◌∷◌, ◌++◌, length, map, take, drop, set, get_or, Bool, true, false, Option, Some, None, All, arith, ap, refl, sym, ◌∙◌, le-ltb, lt-ltb, length-take-le, length-append, length-drop}
 use Rattle.std.specs.List.{copy_within}
 use Rattle.std.proofs.Math.Seq.{take-set-lt, drop-append_seam}
 use Rattle.std.specs.Option.{is_some}
@@ -7,10 +7,84 @@ use Rattle.std.proofs.lemmas.List.{get_or_default, length-set, drop-take, set_sp
 use Rattle.std.proofs.lemmas.List.Edits.{take-paste}
 use Rattle.rtp_wire.specs.declared.ext.kind.Extension.{Extension}
 use Rattle.rtp_wire.specs.declared.ext.entry.Entry.{Entry}
-use Rattle.rtp_wire.specs.MapSlots.{items_from, mapped_ids, inserted}
-use Rattle.rtp_wire.specs.ExtensionMap.{Slots}
-use Rattle.rtp_wire.proofs.ListingLemmas.{All-head, above_passed}
+use Rattle.rtp_wire.specs.MapSlots.{items_from, mapped_ids, items_at, inserted, IsMapped}
+use Rattle.rtp_wire.specs.ExtensionMap.{Slots, IsEmpty, entry_at, extension_of}
+use Rattle.rtp_wire.proofs.ListingLemmas.{All-head, above_passed, items_from-empty, IsListing-from_slots}
+use Rattle.rtp_wire.proofs.MapLemmas.{entry_at-slot}
+use Rattle.std.specs.Prelude.{◌↔◌, ◌==◌, IsTrue}
+use Rattle.std.specs.Option.{option_map}
+use Rattle.std.specs.List.{cons_option, AllByRecursion}
+use Rattle.std.proofs.lemmas.Bool.{eqb-true}
 
+-- what stands behind the ids of the slots left, once one more was passed
+here_later : (slots : Slots) (passed : ℕ) (slot : Option Entry) (left : Slots)
+    → ((k : ℕ) → entry_at slots (passed + k + 1) ≡ get_or (slot ∷ left) k None)
+    → (k : ℕ) → entry_at slots (passed + 1 + k + 1) ≡ get_or left k None
+here_later slots passed slot left here k =
+    let index : passed + 1 + k + 1 ≡ passed + suc k + 1 = omega arith in
+    ap (entry_at slots) index ∙ here (suc k)
+
+-- the entries of the ids that the slots left give are what these slots give
+items_at-left : (slots : Slots) (passed : ℕ) (left : Slots) → ((k : ℕ) → entry_at slots (passed + k + 1) ≡ get_or left k None)
+    → items_at slots (map (λ item. item.0) (items_from passed left)) ≡ items_from passed left
+items_at-left slots passed [] here = refl
+items_at-left slots passed (None ∷ left) here = items_at-left slots (passed + 1) left (here_later slots passed None left here)
+items_at-left slots passed (Some entry ∷ left) here =
+    let ids = map (λ item. item.0) (items_from (passed + 1) left) in
+    let index : passed + 1 ≡ passed + 0 + 1 = omega arith in
+    ap (λ found. cons_option (option_map (λ extension. (passed + 1, extension)) found) (items_at slots ids))
+    (ap extension_of (ap (entry_at slots) index ∙ here 0))
+    ∙ ap (λ (items : List (ℕ × Extension)). (passed + 1, entry.extension) ∷ items)
+    (items_at-left slots (passed + 1) left (here_later slots passed (Some entry) left here))
+
+-- the mapped ids give the listing of the map
+pub items_at-mapped : (slots : Slots) → items_at slots (mapped_ids slots) ≡ items_from 0 slots
+items_at-mapped slots = items_at-left slots 0 slots (λ k. entry_at-slot slots k (0 + k + 1) (omega arith))
+
+mapped-left : (slots : Slots) (passed : ℕ) (left : Slots) → ((k : ℕ) → entry_at slots (passed + k + 1) ≡ get_or left k None)
+    → AllByRecursion (IsMapped slots) (map (λ item. item.0) (items_from passed left))
+mapped-left slots passed [] here = tt
+mapped-left slots passed (None ∷ left) here = mapped-left slots (passed + 1) left (here_later slots passed None left here)
+mapped-left slots passed (Some entry ∷ left) here =
+    let index : passed + 1 ≡ passed + 0 + 1 = omega arith in (
+      (entry, ap (entry_at slots) index ∙ here 0),
+      mapped-left slots (passed + 1) left (here_later slots passed (Some entry) left here),
+    )
+
+-- an entry stands behind each mapped id
+pub all_mapped : (slots : Slots) → AllByRecursion (IsMapped slots) (mapped_ids slots)
+all_mapped slots = mapped-left slots 0 slots (λ k. entry_at-slot slots k (0 + k + 1) (omega arith))
+
+-- a map without mapped ids is empty, and an empty one has none
+IsEmpty-no_ids : (slots : Slots) → mapped_ids slots ≡ [] → IsEmpty slots
+IsEmpty-no_ids slots none id = nothing_at (entry_at slots id) refl
+  where
+    no_items : items_from 0 slots ≡ []
+    no_items = sym (items_at-mapped slots) ∙ ap (items_at slots) none
+
+    nothing_at : (slot : Option Entry) → entry_at slots id ≡ slot → entry_at slots id ≡ None
+    nothing_at None is = is
+    nothing_at (Some entry) is =
+        let found = (IsListing-from_slots slots).all id entry.extension (ap extension_of is) refl in
+        absurd (omega (arith, found.1, ap length no_items))
+
+pub no_ids-IsEmpty : (slots : Slots) → IsEmpty slots → mapped_ids slots ≡ []
+no_ids-IsEmpty slots empty = ap (map (λ item. item.0)) (items_from-empty 0 slots (λ k. empty (suc k)))
+
+-- whether there are mapped ids tells whether the map is empty
+pub no_ids-tells : (slots : Slots) (ids : List ℕ) (none : Bool) → ids ≡ mapped_ids slots → none ≡ (length ids == 0)
+    → IsTrue none ↔ IsEmpty slots
+no_ids-tells slots [] none are is = (λ yes. IsEmpty-no_ids slots (sym are), λ empty. is)
+no_ids-tells slots (id ∷ ids) none are is = (
+  λ yes. absurd (omega (arith, eqb-true (length (id ∷ ids)) 0 (sym is ∙ yes))),
+  λ empty. let nothing = are ∙ no_ids-IsEmpty slots empty in absurd (omega (arith, ap length nothing)),
+)
+
+-- the ids that the slots from an index on give
+abbrev pub ids_from : Slots → ℕ → List ℕ
+ids_from slots index = map (λ item. item.0) (items_from index (drop index slots))
+
+-- the ids of some entries
 abbrev ids_of : List (ℕ × Extension) → List ℕ
 ids_of items = map (λ item. item.0) items
 
