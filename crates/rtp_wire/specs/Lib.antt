@@ -28,6 +28,7 @@ pub mod Receiver
 pub mod Verdicts
 pub mod TrueNumbers
 pub mod Sending
+pub mod Receivers
 -- What the inside promises itself.
 pub mod KindTable
 pub mod MapSlots
