@@ -17,7 +17,7 @@ use std::alloc::{AllocError, Global};
 ///
 /// Memory is taken for the list of the verdicts, made at once, and for the layer allocation of a
 /// datagram while its header is looked at; where it is refused nothing is handed out.
-pub fn receive_run(
+pub fn receive_run_one(
     alloc: Global,
     datagrams: &[Vec<u8>],
     exts: &ExtensionMap,

@@ -9,7 +9,7 @@ use Rattle.rtp_wire.specs.Verdicts.{reading_of, taken_by, IsVerdict, AreVerdicts
 use Rattle.rtp_wire.proofs.VerdictLemmas.{AreRead, SoFar, SoFar-none, SoFar-more, TakesOnce-run, IsReading-parsed, HasCause-parsed}
 use Rattle.rtp_wire.proofs.TrueNumberLemmas.{AreTrueVerdicts-of}
 use Rattle.rtp_wire.proofs.SendingLemmas.{AreTrueVerdicts-sent}
-use Rattle.rtp_wire.proofs.receive.run.receive_run.Goals as goal
+use Rattle.rtp_wire.proofs.receive.run.receive_run_one.Goals as goal
 
 nothing : IsNothing (taken_by [])
 nothing n = refl

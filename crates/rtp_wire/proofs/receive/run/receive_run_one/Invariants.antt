@@ -1,6 +1,6 @@
 use Rattle.std.proofs.Common.{◌≡◌, length, map, take, vec_capacity}
 use Rattle.rtp_wire.proofs.VerdictLemmas.{SoFar}
-use Rattle.rtp_wire.proofs.receive.run.receive_run.Given as goal
+use Rattle.rtp_wire.proofs.receive.run.receive_run_one.Given as goal
 
 -- the verdicts so far, with room for the others
 abbrev pub invariant-loop-datagram : goal.invariant-loop-datagram
