@@ -28,3 +28,4 @@ mod ReceiversLemmas
 pub mod VerdictLemmas
 pub mod TrueNumberLemmas
 mod SendingLemmas
+mod SourceLemmas

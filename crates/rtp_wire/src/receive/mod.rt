@@ -7,5 +7,5 @@ mod verdict;
 
 pub use receiver::Receiver;
 pub use receivers::Receivers;
-pub use run::receive_run_one;
+pub use run::{receive_run, receive_run_one};
 pub use verdict::Verdict;

@@ -5,7 +5,9 @@ ghost use Rattle.std.specs.Option.{option_map, option_copied};
 ghost use Rattle.rtp_base.specs.Window.{Numbers, including};
 ghost use Rattle.rtp_wire.specs.Receiver.{Holds, IsNumberOf, IsFresh, IsJudged, taken_after};
 ghost use Rattle.rtp_wire.specs.Receivers.{receiver_of, state_of};
+ghost use Rattle.rtp_wire.specs.Verdicts.{IsVerdict, reading_of};
 ghost use Rattle.rtp_wire.specs.TrueNumbers.{IsTrueNumber};
+ghost use Rattle.rtp_wire.specs.Sources.{HoldsEach, numbers_beside, taken_after_each};
 
 use super::{Receiver, Verdict};
 use crate::header::RtpHeader;
@@ -143,5 +145,20 @@ impl Receivers {
         let verdict = receiver.receive(header);
         self.by_ssrc.insert(header.ssrc, receiver)?;
         Ok(verdict)
+    }
+
+    // The verdict on a datagram, by the header that it begins with.
+    pub(super) fn verdict_on(&mut self, header: Option<&RtpHeader>) -> Result<Verdict, AllocError>
+        ensures verdict { (taken : ℕ → Numbers) → HoldsEach self.old taken → IfOk result (IsVerdict
+            (numbers_beside taken (option_map reading_of (option_copied header.entry)))
+            (option_map reading_of (option_copied header.entry))) }
+        ensures after { (taken : ℕ → Numbers) → HoldsEach self.old taken → IfOk result (λ verdict.
+            HoldsEach self.new (taken_after_each taken
+                (option_map reading_of (option_copied header.entry)) verdict)) }
+    {
+        match header {
+            None => Ok(Verdict::Unreadable),
+            Some(header) => self.receive(header),
+        }
     }
 }
