@@ -12,8 +12,13 @@ use crate::ext::ExtensionMap;
 use crate::header::RtpHeader;
 use std::alloc::{AllocError, Global};
 
-/// The verdict on each datagram, in the order in which they came, by a [`Receiver`](super::Receiver)
-/// for each SSRC: a datagram without a header is unreadable and changes nothing.
+/// The verdict on each datagram, in the order in which they came, by a [`Receiver`] for each SSRC
+/// ([`Receivers`]): a datagram without a header is unreadable and changes nothing. Nothing is
+/// authenticated here.
+///
+/// Memory is taken for the list of the verdicts, made at once, for the receiver of each SSRC, at the
+/// first datagram that has a header with it, and for the layer allocation of a datagram while its
+/// header is looked at; where it is refused nothing is handed out.
 pub fn receive_run(
     alloc: Global,
     datagrams: &[Vec<u8>],
@@ -36,14 +41,14 @@ pub fn receive_run(
     ensures true_numbers { (numbers : List ℕ) → IfOk result (λ found.
         OfEachSource exts.now (map (λ d. d.items) datagrams.now) found.items
         (λ readings alone verdicts.
-            AreTrue readings numbers → AreTrueVerdicts readings numbers verdicts)) }
+        AreTrue readings numbers → AreTrueVerdicts readings numbers verdicts)) }
 
     // What a sender's headers were written as is read, whatever is lost, repeated or reordered on
     // the way, and the sender's numbers decide: among the datagrams of other sources, and alone.
     ensures sent_among { (headers : List RtpHeader) → (numbers : List ℕ) → IfOk result (λ found.
         OfEachSource exts.now (map (λ d. d.items) datagrams.now) found.items
         (λ readings alone verdicts. AreSent exts.now headers numbers alone →
-            AreTrueVerdicts (readings_of headers) numbers verdicts)) }
+        AreTrueVerdicts (readings_of headers) numbers verdicts)) }
     ensures sent { (headers : List RtpHeader) → (numbers : List ℕ) →
         AreSent exts.now headers numbers (map (λ d. d.items) datagrams.now) →
         IfOk result (λ found. AreTrueVerdicts (readings_of headers) numbers found.items) }
@@ -59,9 +64,9 @@ pub fn receive_run(
     Ok(verdicts)
 }
 
-/// The verdict on each datagram, in the order in which they came, by one [`Receiver`]: a datagram
-/// without a header is unreadable and changes nothing. The datagrams are those of one stream, and
-/// nothing is authenticated here.
+/// The verdict on each datagram, in the order in which they came, by one [`Receiver`] for all of
+/// them, whatever their SSRC: a datagram without a header is unreadable and changes nothing. It is
+/// meant for the datagrams of one stream, and nothing is authenticated here.
 ///
 /// Memory is taken for the list of the verdicts, made at once, and for the layer allocation of a
 /// datagram while its header is looked at; where it is refused nothing is handed out.
