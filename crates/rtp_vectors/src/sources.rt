@@ -60,9 +60,18 @@ fn with_an_unreadable(alloc: Global) -> Result<Vec<Vec<u8>>, AllocError> {
 #[test]
 fn an_unreadable_datagram_is_of_no_source(rt: HostRuntime) {
     let run = with_an_unreadable(rt.alloc()).expect(&rt, "memory");
-    let (taken, refused) = (verdict(Some(5)), Verdict::Refused);
-    let by_source = [taken, taken, Verdict::Unreadable, refused];
-    let one = [taken, refused, Verdict::Unreadable, refused];
+    let by_source = [
+        verdict(Some(5)),
+        verdict(Some(5)),
+        Verdict::Unreadable,
+        Verdict::Refused,
+    ];
+    let one = [
+        verdict(Some(5)),
+        Verdict::Refused,
+        Verdict::Unreadable,
+        Verdict::Refused,
+    ];
     check(&rt, rt.alloc(), &run, &by_source, &one);
 }
 

@@ -1,6 +1,6 @@
 //! The receive state of many streams.
 
-ghost use Rattle.std.specs.Prelude.{◌≡◌, ◌≢◌, ◌↔◌, ℕ, [], length, Some, None, IsTrue, IsSome, IfOk, OnOk, OnErr};
+ghost use Rattle.std.specs.Prelude.{◌≡◌, ◌≢◌, ◌↔◌, ℕ, [], length, Some, None, IsTrue, IsSome, IsOk, IfOk, OnOk, OnErr};
 ghost use Rattle.std.specs.Option.{option_map, option_copied};
 ghost use Rattle.rtp_base.specs.Window.{Numbers, including};
 ghost use Rattle.rtp_wire.specs.Receiver.{Holds, IsNumberOf, IsFresh, IsJudged, taken_after};
@@ -184,6 +184,8 @@ impl Receivers {
         ensures after { (taken : ℕ → Numbers) → HoldsEach self.old taken → IfOk result (λ verdict.
             HoldsEach self.new (taken_after_each taken
             (option_map reading_of (option_copied header.entry)) verdict)) }
+        ensures succeeds { header.entry ≡ None → IsOk result }
+        ensures same { header.entry ≡ None → self.new ≡ self.old }
     {
         match header {
             None => Ok(Verdict::Unreadable),

@@ -1,6 +1,4 @@
-use Rattle.std.proofs.Common.{sym, ap, ◌∙◌, subst, rules}
-use Rattle.std.specs.Prelude.{Option, None, unwrap_or}
-use Rattle.rtp_wire.specs.Receiver.{Holds}
+use Rattle.std.proofs.Common.{rules}
 use Rattle.rtp_wire.proofs.receive.receivers.Receivers.number_of.Goals as goal
 
 pub returns-in-None-clause-true_number : goal.returns-in-None-clause-true_number

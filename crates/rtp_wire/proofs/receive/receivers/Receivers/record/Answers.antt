@@ -1,4 +1,4 @@
-use Rattle.std.proofs.Common.{sym, ap, ◌∙◌, rules}
+use Rattle.std.proofs.Common.{ap, ◌∙◌, rules}
 use Rattle.rtp_wire.specs.Receivers.{receiver_of}
 use Rattle.rtp_wire.proofs.ReceiversLemmas.{others_stay}
 use Rattle.rtp_wire.proofs.receive.receivers.Receivers.record.Goals as goal
