@@ -29,3 +29,4 @@ pub mod VerdictLemmas
 pub mod TrueNumberLemmas
 mod SendingLemmas
 mod SourceLemmas
+mod SourceFacts

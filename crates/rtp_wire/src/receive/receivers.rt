@@ -1,6 +1,6 @@
 //! The receive state of many streams.
 
-ghost use Rattle.std.specs.Prelude.{◌≡◌, ◌≢◌, ◌↔◌, ℕ, [], length, Some, None, IsTrue, IsSome, IsOk, IfOk, OnOk, OnErr};
+ghost use Rattle.std.specs.Prelude.{◌≡◌, ◌≢◌, ◌↔◌, ℕ, [], length, Some, None, IsTrue, IsSome, IfNone, IsOk, IfOk, OnOk, OnErr};
 ghost use Rattle.std.specs.Option.{option_map, option_copied};
 ghost use Rattle.rtp_base.specs.Window.{Numbers, including};
 ghost use Rattle.rtp_wire.specs.Receiver.{Holds, IsNumberOf, IsFresh, IsJudged, taken_after};
@@ -40,7 +40,7 @@ impl Model for Receivers {
 }
 
 impl Receivers {
-    /// No source has a receiver yet. The receivers that follow take their memory from `alloc`.
+    /// Receivers of no source yet. Each new one will take its memory from `alloc`.
     pub fn new(alloc: Global) -> Self
         ensures { result ≡ [] }
     {
@@ -76,6 +76,7 @@ impl Receivers {
     pub fn forget(&mut self, ssrc: Ssrc) -> Option<Receiver>
         ensures receiver { result ≡ receiver_of self.old ssrc }
         ensures forgotten { receiver_of self.new ssrc ≡ None }
+        ensures same { IfNone result (self.new ≡ self.old) }
         ensures others { (source : ℕ) → source ≢ ssrc →
             receiver_of self.new source ≡ receiver_of self.old source }
     {

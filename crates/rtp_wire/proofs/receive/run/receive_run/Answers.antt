@@ -1,10 +1,10 @@
-use Rattle.std.proofs.Common.{◌≡◌, ℕ, ◌+◌, List, [], ◌∷◌, ◌++◌, map, take, length, get_or, Option, Ok, refl, sym, ap, ◌∙◌, subst, arith}
+use Rattle.std.proofs.Common.{◌≡◌, ℕ, ◌+◌, List, [], ◌∷◌, ◌++◌, map, take, length, get_or, Option, Ok, sym, ap, ◌∙◌, subst, arith}
 use Rattle.std.specs.Global.{Vec}
 use Rattle.std.specs.Option.{option_map}
 use Rattle.std.proofs.lemmas.List.{get_or-map, length-map, length_push, take_more, take_all}
 use Rattle.rtp_wire.specs.declared.header.rtp_header.RtpHeader.{RtpHeader}
 use Rattle.rtp_wire.specs.declared.receive.verdict.Verdict.{Verdict}
-use Rattle.rtp_wire.specs.Verdicts.{reading_of, IsReading, IsVerdict, AreVerdicts}
+use Rattle.rtp_wire.specs.Verdicts.{reading_of, IsReading, IsVerdict}
 use Rattle.rtp_wire.specs.Sources.{at_source, taken_of, numbers_beside, HoldsEach, taken_after_each}
 use Rattle.rtp_wire.proofs.VerdictLemmas.{TakesOnce-run, IsReading-parsed, HasCause-parsed}
 use Rattle.rtp_wire.proofs.TrueNumberLemmas.{AreTrueVerdicts-of}
