@@ -5,8 +5,8 @@ use crate::fixtures::{full, level, one};
 use crate::refused_blocks::{PACKET, map};
 use crate::values::is_written;
 use rtp_wire::{
-    Elements, Extension, ExtensionMap, ExtensionValues, ExtensionsForm, Receiver, Receivers, RtpHeader,
-    receive_run, receive_run_one, vla,
+    Elements, Extension, ExtensionMap, ExtensionValues, ExtensionsForm, Receiver, Receivers,
+    RtpHeader, receive_run, receive_run_one, vla,
 };
 use std::test::Fail;
 

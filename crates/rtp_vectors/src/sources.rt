@@ -159,7 +159,12 @@ fn a_source_is_forgotten(rt: HostRuntime) {
     let mut receivers = of_two_sources(&rt, rt.alloc());
     let source = Ssrc::from(1);
     let forgotten = receivers.forget(source).expect(&rt, "a receiver");
-    same(&rt, "its highest", forgotten.highest(), Some(SeqNo::from(65534)));
+    same(
+        &rt,
+        "its highest",
+        forgotten.highest(),
+        Some(SeqNo::from(65534)),
+    );
     hold(&rt, &receivers, 1, [None, Some(10), None]);
     holds(&rt, "again", receivers.forget(source).is_none());
     hold(&rt, &receivers, 1, [None, Some(10), None]);
