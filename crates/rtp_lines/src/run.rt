@@ -6,7 +6,7 @@ ghost use Rattle.rtp_lines.specs.declared.run.RunEnd.TheVariants.{NoMemory};
 
 use super::input::{Input, InputError, read_input};
 use super::report::{HeaderLine, VerdictLine};
-use rtp_wire::{Receiver, RtpHeader, Verdict};
+use rtp_wire::{Receivers, RtpHeader, Verdict};
 use std::alloc::{AllocError, Global};
 use std::io;
 use std::io::{BufWriter, ErrorKind, Read, Write};
@@ -76,13 +76,13 @@ fn read_all<R: Read>(alloc: Global, input: &mut R) -> Result<Vec<u8>, RunEnd>
 fn report_all<W: Write>(alloc: Global, input: &Input, output: &mut W) -> Result<(), RunEnd>
     ensures { IfErr result (λ end. (end ≡ RunEnd.NoMemory) ⊎ (end ≡ RunEnd.Io)) }
 {
-    let mut receiver = Receiver::new();
+    let mut receivers = Receivers::new(alloc);
     let mut lines = BufWriter::new(alloc, output).map_err(|_| RunEnd::NoMemory)?;
     for (index, datagram) in input.datagrams.iter().enumerate() {
         let packet = index as u64 + 1;
         let header = RtpHeader::parse(alloc, datagram, &input.exts)?;
         let verdict = match &header {
-            Some(header) => receiver.receive(header),
+            Some(header) => receivers.receive(header)?,
             None => Verdict::Unreadable,
         };
         let header = HeaderLine {
@@ -118,7 +118,7 @@ fn report_input<R: Read, W: Write>(
 }
 
 /// Reads all input, and prints two lines for each datagram in order: its RTP header with the values
-/// of its extensions, or that it has none, and the verdict of one receiver that gets all datagrams.
+/// of its extensions, or that it has none, and the verdict of the receiver of its SSRC.
 ///
 /// A line of the input ends with LF or CR LF; the last one may end without either. A line is a
 /// datagram in hexadecimal of either case, and an empty line is an empty datagram. Before all

@@ -41,6 +41,22 @@ fn runs_of_headers(rt: HostRuntime) -> Result<(), Fail> {
 }
 
 #[test]
+fn first_packets_of_two_sources(rt: HostRuntime) -> Result<(), Fail> {
+    let one = RtpHeader {
+        ssrc: Ssrc::from(5),
+        ..header_of(65_534)
+    };
+    let other = RtpHeader {
+        ssrc: Ssrc::from(7),
+        ..header_of(10)
+    };
+    let (first, second) = receiving::receive_first_of_two(rt.alloc(), &one, &other)?;
+    assert_eq!(rt; first, Verdict::Taken(SeqNo::from(65_534)));
+    assert_eq!(rt; second, Verdict::Taken(SeqNo::from(10)));
+    Ok(())
+}
+
+#[test]
 fn forwarded_packets(rt: HostRuntime) -> Result<(), Fail> {
     let (mut from, mut to) = (ExtensionMap::empty(), ExtensionMap::empty());
     from.set(3, Extension::AudioLevel);

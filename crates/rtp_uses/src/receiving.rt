@@ -1,13 +1,14 @@
 //! Receivers of packets, authenticated and not.
 
-ghost use Rattle.std.specs.Prelude.{◌≡◌, ◌⊎◌, ℕ, true, false, None, IfSome, IfNone, IfOk, List};
+ghost use Rattle.std.specs.Prelude.{◌≡◌, ◌≢◌, ◌⊎◌, ◌%◌, ℕ, true, false, None, IfSome, IfNone, IfOk, List};
 ghost use Rattle.rtp_base.specs.Window.{Numbers, including};
 ghost use Rattle.rtp_wire.specs.Receiver.{Holds, IsNumberOf, IsFresh};
 ghost use Rattle.rtp_wire.specs.TrueNumbers.{IsTrueNumber, AreTrue, AreTrueVerdicts};
 ghost use Rattle.rtp_wire.specs.Sending.{readings_of};
+ghost use Rattle.rtp_wire.specs.declared.receive.verdict.Verdict.TheVariants.{Taken};
 
 use rtp_base::SeqNo;
-use rtp_wire::{Receiver, RtpHeader, Verdict};
+use rtp_wire::{Receiver, Receivers, RtpHeader, Verdict};
 use std::alloc::{AllocError, Global};
 
 /// Returns the number of a packet that is new and authentic, and records it. For every other packet
@@ -55,4 +56,21 @@ pub fn receive_each(alloc: Global, headers: &[RtpHeader]) -> Result<Vec<Verdict>
         verdicts.push_reserved(receiver.receive(header));
     }
     Ok(verdicts)
+}
+
+/// The verdicts on the first packets of two sources that share a transport. Both are taken, each by
+/// the number in its header, whatever that of the other source is.
+pub fn receive_first_of_two(
+    alloc: Global,
+    one: &RtpHeader,
+    other: &RtpHeader,
+) -> Result<(Verdict, Verdict), AllocError>
+    requires { other.now.ssrc ≢ one.now.ssrc }
+    ensures one { IfOk result (λ verdicts. verdicts.0 ≡ Taken (one.now.sequence_number % 65536)) }
+    ensures other { IfOk result (λ verdicts. verdicts.1 ≡ Taken (other.now.sequence_number % 65536)) }
+{
+    let mut receivers = Receivers::new(alloc);
+    let first = receivers.receive(one)?;
+    let second = receivers.receive(other)?;
+    Ok((first, second))
 }

@@ -10,6 +10,9 @@ mod PaddingLemmas
 mod StandardFacts
 mod WideningLemmas
 mod ReceiverLemmas
+mod ReceiversLemmas
 pub mod VerdictLemmas
 pub mod TrueNumberLemmas
 mod SendingLemmas
+mod SourceLemmas
+mod SourceFacts
