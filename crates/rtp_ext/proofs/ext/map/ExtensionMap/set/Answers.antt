@@ -1,5 +1,5 @@
 use Rattle.std.proofs.Common.{arith, ◌∙◌}
-use Rattle.rtp_wire.proofs.MappedIdLemmas.{room_for_new, new_id, same_ids}
+use Rattle.rtp_ext.proofs.MappedIdLemmas.{room_for_new, new_id, same_ids}
 use Rattle.rtp_ext.proofs.ext.map.ExtensionMap.set.Goals as goal
 
 pub insert-requires : goal.insert-requires

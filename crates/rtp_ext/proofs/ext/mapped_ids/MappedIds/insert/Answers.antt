@@ -1,6 +1,6 @@
 use Rattle.std.proofs.Common.{◌≡◌, ◌+◌, ◌++◌, ◌∷◌, ℕ, List, length, take, drop, set, ap, sym, ◌∙◌, arith, length-take-le}
 use Rattle.std.specs.List.{copy_within}
-use Rattle.rtp_wire.proofs.MappedIdLemmas.{moved-and-put}
+use Rattle.rtp_ext.proofs.MappedIdLemmas.{moved-and-put}
 use Rattle.rtp_ext.proofs.ext.mapped_ids.MappedIds.insert.Goals as goal
 
 pub returns : goal.returns

@@ -1,6 +1,6 @@
 use Rattle.std.proofs.Common.{◌≡◌, ◌++◌, ◌∷◌, List, ℕ, length, take, drop, subst, arith}
 use Rattle.rtp_ext.specs.MapSlots.{inserted}
-use Rattle.rtp_wire.proofs.MappedIdLemmas.{inserted-at}
+use Rattle.rtp_ext.proofs.MappedIdLemmas.{inserted-at}
 use Rattle.rtp_ext.proofs.ext.mapped_ids.MappedIds.place_of.Goals as goal
 
 pub returns-then-listed-id-clause-splits : goal.returns-then-listed-id-clause-splits
