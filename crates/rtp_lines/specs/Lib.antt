@@ -2,5 +2,6 @@
 pub mod MapLine
 pub mod Input
 pub mod Report
+pub mod Output
 -- What the inside promises itself.
 pub mod Front

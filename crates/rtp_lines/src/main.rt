@@ -6,6 +6,7 @@ mod hex_line;
 mod input;
 mod line;
 mod map_line;
+mod output;
 mod report;
 mod run;
 #[cfg(test)]
