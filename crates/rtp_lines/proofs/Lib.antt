@@ -4,3 +4,4 @@ mod MapLineLemmas
 mod InputLemmas
 mod FrontLemmas
 mod ReadLemmas
+mod PrintLemmas

@@ -8,6 +8,8 @@ use Rattle.rtp_wire.specs.declared.header.rtp_header.RtpHeader.{RtpHeader}
 use Rattle.rtp_wire.specs.declared.receive.verdict.Verdict.{Verdict}
 use Rattle.rtp_wire.specs.Header.{IsWire}
 use Rattle.rtp_wire.specs.Verdicts.{AreVerdicts}
+use Rattle.rtp_lines.specs.declared.run.RunEnd.{RunEnd}
+use Rattle.rtp_lines.specs.declared.run.RunEnd.TheVariants.{Done, BadLine, NoMemory, Io}
 use Rattle.rtp_lines.specs.Input.{Spells, IsFirstBadLine}
 use Rattle.rtp_lines.specs.Report.{header_line, verdict_line}
 
@@ -31,6 +33,13 @@ pub record IsReport (exts : ExtensionMap) (datagrams : List (List ℕ)) (printed
   pub headers_are : AllZip (λ datagram report. IsHeader exts datagram report.0) datagrams reports
   pub verdicts_are : AreVerdicts exts datagrams (map (λ report. report.1) reports)
   pub printed_is : printed ≡ lines_from 1 reports
+
+-- what is printed of the datagrams where a run stops among them: the lines of the first of them where memory is refused, and a beginning of these where a write fails
+abbrev pub IsStopped : ExtensionMap → List (List ℕ) → RunEnd → List ℕ → Type 0
+IsStopped exts datagrams NoMemory printed = (count : ℕ) × IsReport exts (take count datagrams) printed
+IsStopped exts datagrams Io printed = (count : ℕ) × (rest : List ℕ) × IsReport exts (take count datagrams) (printed ++ rest)
+IsStopped exts datagrams Done printed = ⊥
+IsStopped exts datagrams BadLine printed = ⊥
 
 -- the output of an input whose lines are all well-formed: the lines of its datagrams
 pub record IsOutputOf (text printed : List ℕ) : Type 0 where

@@ -7,6 +7,7 @@ mod input;
 mod line;
 mod map_line;
 mod output;
+mod printing;
 mod report;
 mod run;
 #[cfg(test)]

@@ -1,17 +1,18 @@
 //! Bytes that are written to the output.
 
-ghost use Rattle.std.specs.Prelude.{◌≡◌, ◌++◌, List, ℕ, OnOk, OnErr};
+ghost use Rattle.std.specs.Prelude.{◌≡◌, ◌++◌, List, ℕ, OnOk, OnErr, IfErr};
 ghost use Rattle.std.specs.Io.KnownBytes.{Appends};
 ghost use Rattle.rtp_lines.specs.Output.{Prints};
 
-use std::io;
-use std::io::{Error, ErrorKind, Write};
+use super::run::RunEnd;
+use std::io::{ErrorKind, Write};
 
-/// Writes all of the text, also where a write takes only a part of it or is interrupted. When a
-/// write fails, a beginning of the text is written.
-pub fn write_text<W: Write>(output: &mut W, text: &[u8]) -> io::Result<()>
+/// Writes all of the text, also where a write takes only a part of it or is interrupted. Returns
+/// `Io` when a write fails, with a beginning of the text written.
+pub fn write_text<W: Write>(output: &mut W, text: &[u8]) -> Result<(), RunEnd>
     ensures ok { OnOk result (Appends (W.contents output.old) (W.contents output.new) text.now) }
-    ensures err { OnErr result (Prints (W.contents output.old) (W.contents output.new)
+    ensures err { IfErr result (λ end. end ≡ RunEnd.Io) }
+    ensures beginning { OnErr result (Prints (W.contents output.old) (W.contents output.new)
         (λ printed. (rest : List ℕ) × (text.now ≡ printed ++ rest))) }
 {
     let mut rest = text;
@@ -20,11 +21,11 @@ pub fn write_text<W: Write>(output: &mut W, text: &[u8]) -> io::Result<()>
             return Ok(());
         }
         match output.write(rest) {
-            Ok(0) => return Err(Error::from(ErrorKind::WriteZero)),
+            Ok(0) => return Err(RunEnd::Io),
             Ok(written) => rest = &rest[written..],
             Err(error) if error.kind() == ErrorKind::Interrupted => {}
-            Err(error) => return Err(error),
+            Err(_) => return Err(RunEnd::Io),
         }
     }
-    Err(Error::from(ErrorKind::Interrupted))
+    Err(RunEnd::Io)
 }

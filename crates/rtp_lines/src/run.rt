@@ -4,12 +4,12 @@ ghost use Rattle.std.specs.Prelude.{◌≡◌, ◌≢◌, ◌⊎◌, IfOk, IfErr
 ghost use Rattle.rtp_lines.specs.Input.{IsInput, HasBadLine};
 ghost use Rattle.rtp_lines.specs.declared.run.RunEnd.TheVariants.{NoMemory};
 
-use super::input::{Input, InputError, read_input};
-use super::report::{HeaderLine, VerdictLine};
-use rtp_wire::{Receiver, RtpHeader, Verdict};
+use super::input::{InputError, read_input};
+use super::output::write_text;
+use super::printing::print_all;
 use std::alloc::{AllocError, Global};
 use std::io;
-use std::io::{BufWriter, ErrorKind, Read, Write};
+use std::io::{ErrorKind, Read, Write};
 
 /// How a run of the program ended.
 #[derive(Clone, Copy, Debug, PartialEq, Eq)]
@@ -55,13 +55,6 @@ fn unread(error: io::Error) -> RunEnd
     }
 }
 
-// The end of a run whose write failed.
-fn unwritten(_: io::Error) -> RunEnd
-    ensures { result ≡ RunEnd.Io }
-{
-    RunEnd::Io
-}
-
 // All that is left to read.
 fn read_all<R: Read>(alloc: Global, input: &mut R) -> Result<Vec<u8>, RunEnd>
     ensures text { IfOk result (λ text. IfSome (R.remaining input.old) (λ known. text.items ≡ known)) }
@@ -70,29 +63,6 @@ fn read_all<R: Read>(alloc: Global, input: &mut R) -> Result<Vec<u8>, RunEnd>
     let mut text = Vec::new(alloc);
     input.read_to_end(&mut text).map_err(unread)?;
     Ok(text)
-}
-
-// Prints the two lines of each datagram, in order.
-fn report_all<W: Write>(alloc: Global, input: &Input, output: &mut W) -> Result<(), RunEnd>
-    ensures { IfErr result (λ end. (end ≡ RunEnd.NoMemory) ⊎ (end ≡ RunEnd.Io)) }
-{
-    let mut receiver = Receiver::new();
-    let mut lines = BufWriter::new(alloc, output).map_err(|_| RunEnd::NoMemory)?;
-    for (index, datagram) in input.datagrams.iter().enumerate() {
-        let packet = index as u64 + 1;
-        let header = RtpHeader::parse(alloc, datagram, &input.exts)?;
-        let verdict = match &header {
-            Some(header) => receiver.receive(header),
-            None => Verdict::Unreadable,
-        };
-        let header = HeaderLine {
-            packet,
-            header: header.as_ref(),
-        };
-        let verdict = VerdictLine { packet, verdict };
-        writeln!(lines, "{header}\n{verdict}").map_err(unwritten)?;
-    }
-    lines.flush().map_err(unwritten)
 }
 
 // Reads all lines, and then reports all datagrams, or the first bad line.
@@ -108,10 +78,11 @@ fn report_input<R: Read, W: Write>(
 {
     let text = read_all(alloc, input)?;
     match read_input(alloc, &text) {
-        Ok(input) => report_all(alloc, &input, output),
+        Ok(input) => print_all(alloc, &input, output),
         Err(InputError::NoMemory) => Err(RunEnd::NoMemory),
         Err(InputError::BadLine(number)) => {
-            writeln!(output, "line {number}: neither a map line nor hex").map_err(unwritten)?;
+            let line = format!(in alloc; "line {number}: neither a map line nor hex\n")?;
+            write_text(output, line.as_bytes())?;
             Err(RunEnd::BadLine)
         }
     }
@@ -147,9 +118,9 @@ pub fn run<R: Read, W: Write>(alloc: Global, input: &mut R, output: &mut W) -> R
 {
     match report_input(alloc, input, output) {
         Ok(()) => RunEnd::Done,
-        Err(RunEnd::NoMemory) => match writeln!(output, "want of memory") {
+        Err(RunEnd::NoMemory) => match write_text(output, b"want of memory\n") {
             Ok(()) => RunEnd::NoMemory,
-            Err(_) => RunEnd::Io,
+            Err(end) => end,
         },
         Err(end) => end,
     }
