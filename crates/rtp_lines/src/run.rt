@@ -89,7 +89,7 @@ fn report_input<R: Read, W: Write>(
 }
 
 /// Reads all input, and prints two lines for each datagram in order: its RTP header with the values
-/// of its extensions, or that it has none, and the verdict of one receiver that gets all datagrams.
+/// of its extensions, or that it has none, and the verdict of the receiver of its SSRC.
 ///
 /// A line of the input ends with LF or CR LF; the last one may end without either. A line is a
 /// datagram in hexadecimal of either case, and an empty line is an empty datagram. Before all

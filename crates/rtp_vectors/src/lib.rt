@@ -58,6 +58,8 @@ mod refused_readings;
 #[cfg(test)]
 mod refused_samples;
 #[cfg(test)]
+mod refused_sources;
+#[cfg(test)]
 mod refused_texts;
 #[cfg(test)]
 mod runs;
@@ -65,6 +67,8 @@ mod runs;
 mod send_times;
 #[cfg(test)]
 mod sent_runs;
+#[cfg(test)]
+mod sources;
 #[cfg(test)]
 mod times;
 #[cfg(test)]

@@ -5,8 +5,8 @@ use crate::fixtures::{full, level, one};
 use crate::refused_blocks::{PACKET, map};
 use crate::values::is_written;
 use rtp_wire::{
-    Elements, Extension, ExtensionMap, ExtensionValues, ExtensionsForm, Receiver, RtpHeader,
-    receive_run, vla,
+    Elements, Extension, ExtensionMap, ExtensionValues, ExtensionsForm, Receiver, Receivers, RtpHeader,
+    receive_run, receive_run_one, vla,
 };
 use std::test::Fail;
 
@@ -112,6 +112,7 @@ fn allocations_of_one_byte_or_none(rt: HostRuntime) -> Result<(), Fail> {
 fn a_run_of_no_datagrams(rt: HostRuntime) -> Result<(), Fail> {
     let none: Vec<Vec<u8>> = Vec::new(rt.alloc());
     assert!(rt; receive_run(rt.alloc(), &none, &map())?.is_empty());
+    assert!(rt; receive_run_one(rt.alloc(), &none, &map())?.is_empty());
     Ok(())
 }
 
@@ -165,4 +166,16 @@ fn writing_and_receiving(rt: HostRuntime) {
     let mut receiver = Receiver::new();
     receiver.receive(&header);
     assert!(rt; receiver.highest().is_some());
+}
+
+// What is asked of a source takes no memory, nor does a source that has no receiver.
+#[test]
+fn no_source(rt: HostRuntime) {
+    let mut receivers = Receivers::new(rt.alloc());
+    let header = RtpHeader::default();
+    let number = receivers.number_of(&header);
+    assert!(rt; receivers.accepts(header.ssrc, number));
+    assert!(rt; receivers.get(header.ssrc).is_none());
+    assert!(rt; receivers.forget(header.ssrc).is_none());
+    assert!(rt; receivers.is_empty());
 }

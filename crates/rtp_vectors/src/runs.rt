@@ -2,7 +2,7 @@
 
 use crate::checks::same;
 use rtp_base::SeqNo;
-use rtp_wire::{ExtensionMap, Verdict, receive_run};
+use rtp_wire::{ExtensionMap, Verdict, receive_run, receive_run_one};
 use std::alloc::{AllocError, Global};
 use std::process::Abort;
 
@@ -73,11 +73,14 @@ fn datagrams(alloc: Global, numbers: &[Option<u16>]) -> Result<Vec<Vec<u8>>, All
     Ok(datagrams)
 }
 
-// Runs plain headers, and a datagram without one where there is no number.
+// Runs plain headers of one source, and a datagram without one where there is no number: with a
+// receiver for each source, and with one for all.
 fn check(rt: &impl Abort, alloc: Global, numbers: &[Option<u16>], wanted: &[Verdict]) {
     let datagrams = datagrams(alloc, numbers).expect(rt, "memory");
-    let verdicts = receive_run(alloc, &datagrams, &ExtensionMap::empty());
-    let verdicts = verdicts.expect(rt, "memory");
+    let exts = ExtensionMap::empty();
+    let verdicts = receive_run(alloc, &datagrams, &exts).expect(rt, "memory");
+    same(rt, numbers.len(), verdicts.as_slice(), wanted);
+    let verdicts = receive_run_one(alloc, &datagrams, &exts).expect(rt, "memory");
     same(rt, numbers.len(), verdicts.as_slice(), wanted);
 }
 

@@ -24,6 +24,8 @@ mod StandardFacts
 mod WideningLemmas
 mod SendTimeLemmas
 mod ReceiverLemmas
+mod ReceiversLemmas
 pub mod VerdictLemmas
 pub mod TrueNumberLemmas
 mod SendingLemmas
+mod SourceLemmas

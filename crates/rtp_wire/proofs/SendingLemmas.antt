@@ -112,7 +112,7 @@ reading_sent exts source h datagram (Some reading) of arrives read cause =
     ap Some (read.reading_is ∙ same_reading (reading_of g) (reading_of h)
     (fixed.ssrc_is ∙ from_be_bytes-to_be_bytes_4 h.ssrc of.ssrc) (fixed.number_is ∙ from_be_bytes-to_be_bytes_2 h.sequence_number of.number))
 
-readings_sent : (exts : ExtensionMap) (source : ℕ) (headers : List RtpHeader) (datagrams : List (List ℕ)) (readings : List (Option Reading))
+pub readings_sent : (exts : ExtensionMap) (source : ℕ) (headers : List RtpHeader) (datagrams : List (List ℕ)) (readings : List (Option Reading))
     → AllByRecursion (IsOfSource source) headers → AllZip (Arrives exts) headers datagrams → AreReadings exts datagrams readings → AllZip HasCause datagrams readings
     → readings ≡ readings_of headers
 readings_sent exts source [] [] [] of arrive read causes = refl

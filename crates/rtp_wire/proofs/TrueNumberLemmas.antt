@@ -291,7 +291,7 @@ one_reading exts datagram (Some a) None first second = absurd (second first.head
 one_reading exts datagram (Some a) (Some b) first second =
     ap Some (first.reading_is ∙ ap reading_of (one_header exts datagram first.header second.header (layout_of exts datagram first.header first.wire) second.wire) ∙ sym second.reading_is)
 
-one_readings : (exts : ExtensionMap) (datagrams : List (List ℕ)) (a b : List (Option Reading)) → AreReadings exts datagrams a → AreReadings exts datagrams b → a ≡ b
+pub one_readings : (exts : ExtensionMap) (datagrams : List (List ℕ)) (a b : List (Option Reading)) → AreReadings exts datagrams a → AreReadings exts datagrams b → a ≡ b
 one_readings exts [] [] [] first second = refl
 one_readings exts [] [] (y ∷ b) first second = absurd second
 one_readings exts [] (x ∷ a) b first second = absurd first

@@ -14,7 +14,7 @@ use Rattle.rtp_wire.specs.declared.header.rtp_header.RtpHeader.{RtpHeader}
 use Rattle.rtp_wire.specs.Header.{IsWire}
 use Rattle.rtp_wire.specs.NotAHeader.{NotAHeader}
 use Rattle.rtp_wire.specs.Receiver.{Holds, IsFresh, taken_after}
-use Rattle.rtp_wire.specs.Verdicts.{Reading, reading_of, IsReading, taken_by, IsVerdict, IsRun, AreVerdicts, TakesOnce}
+use Rattle.rtp_wire.specs.Verdicts.{Reading, reading_of, IsReading, taken_by, IsVerdict, IsRunBy, IsRun, AreVerdicts, TakesOnce}
 
 -- ---- one verdict more
 
@@ -48,31 +48,39 @@ Holds-same (Some window) a b same keeps = record {
   recorded = λ n low near. keeps.recorded n low near ∙ sym (same n);
 }
 
+-- a verdict, at equal readings and verdicts
+IsVerdict-same : (before : Option Reading → List (Option Reading) → List Verdict → Numbers) (r s : Option Reading) (rs ss : List (Option Reading)) (vs ws : List Verdict) (v w : Verdict)
+    → r ≡ s → rs ≡ ss → vs ≡ ws → v ≡ w → IsVerdict (before s ss ws) s w → IsVerdict (before r rs vs) r v
+IsVerdict-same before r s rs ss vs ws v w reading readings verdicts verdict is =
+    subst (λ (x : Option Reading). IsVerdict (before x rs vs) x v) (sym reading)
+    (subst (λ (xs : List (Option Reading)). IsVerdict (before s xs vs) s v) (sym readings)
+    (subst (λ (xs : List Verdict). IsVerdict (before s ss xs) s v) (sym verdicts) (subst (IsVerdict (before s ss ws) s) (sym verdict) is)))
+
 -- a run with one reading more
-IsRun-more : (readings : List (Option Reading)) (verdicts : List Verdict) (reading : Option Reading) (verdict : Verdict) → IsRun readings verdicts
-    → IsVerdict (taken_by verdicts) reading verdict → IsRun (readings ++ reading ∷ []) (verdicts ++ verdict ∷ [])
-IsRun-more readings verdicts reading verdict run is =
-    let all = verdicts ++ verdict ∷ [] in
-    let given = readings ++ reading ∷ [] in
+pub IsRunBy-more : (before : Option Reading → List (Option Reading) → List Verdict → Numbers) (readings : List (Option Reading)) (verdicts : List Verdict) (reading : Option Reading) (verdict : Verdict)
+    → IsRunBy before readings verdicts → IsVerdict (before reading readings verdicts) reading verdict → IsRunBy before (readings ++ reading ∷ []) (verdicts ++ verdict ∷ [])
+IsRunBy-more before readings verdicts reading verdict run is =
     let many = length_push readings reading in
     record {
       as_many = length_push verdicts verdict ∙ ap (λ (k : ℕ). k + 1) run.as_many ∙ sym many;
       each = λ i below. elim (cases_lt i (length readings)) [
         | inl old ↦
             let within : i < length verdicts = omega (arith, run.as_many) in
-            subst (λ (r : Option Reading). IsVerdict (taken_by (take i all)) r (get_or all i Unreadable)) (sym (get_or_append_left readings (reading ∷ []) None i old))
-            (subst (λ (v : Verdict). IsVerdict (taken_by (take i all)) (get_or readings i None) v) (sym (get_or_append_left verdicts (verdict ∷ []) Unreadable i within))
-            (subst (λ (vs : List Verdict). IsVerdict (taken_by vs) (get_or readings i None) (get_or verdicts i Unreadable)) (sym (take-append-le i verdicts (verdict ∷ []) (omega arith))) (run.each i old)))
+            IsVerdict-same before _ _ _ _ _ _ _ _ (get_or_append_left readings (reading ∷ []) None i old) (take-append-le i readings (reading ∷ []) (omega arith))
+            (take-append-le i verdicts (verdict ∷ []) (omega arith)) (get_or_append_left verdicts (verdict ∷ []) Unreadable i within) (run.each i old)
         | inr new ↦
             let here : length readings ≡ i = omega (arith, many) in
             let len : length verdicts ≡ i = run.as_many ∙ here in
-            subst (λ (r : Option Reading). IsVerdict (taken_by (take i all)) r (get_or all i Unreadable)) (sym (get_or_at readings reading [] None i here))
-            (subst (λ (v : Verdict). IsVerdict (taken_by (take i all)) reading v) (sym (get_or_at verdicts verdict [] Unreadable i len))
-            (subst (λ (vs : List Verdict). IsVerdict (taken_by vs) reading verdict) (sym (take_at verdicts (verdict ∷ []) i len)) is))
+            IsVerdict-same before _ _ _ _ _ _ _ _ (get_or_at readings reading [] None i here) (take_at readings (reading ∷ []) i here)
+            (take_at verdicts (verdict ∷ []) i len) (get_or_at verdicts verdict [] Unreadable i len) is
       ];
     }
 
-AllZip-more : {A B : Type 0} (R : A → B → Type 0) (xs : List A) (ys : List B) (x : A) (y : B) → AllZip R xs ys → R x y → AllZip R (xs ++ x ∷ []) (ys ++ y ∷ [])
+pub IsRun-more : (readings : List (Option Reading)) (verdicts : List Verdict) (reading : Option Reading) (verdict : Verdict) → IsRun readings verdicts
+    → IsVerdict (taken_by verdicts) reading verdict → IsRun (readings ++ reading ∷ []) (verdicts ++ verdict ∷ [])
+IsRun-more = IsRunBy-more (λ reading earlier taken. taken_by taken)
+
+pub AllZip-more : {A B : Type 0} (R : A → B → Type 0) (xs : List A) (ys : List B) (x : A) (y : B) → AllZip R xs ys → R x y → AllZip R (xs ++ x ∷ []) (ys ++ y ∷ [])
 AllZip-more R [] [] x y all one = (one, tt)
 AllZip-more R [] (b ∷ ys) x y all one = absurd all
 AllZip-more R (a ∷ xs) [] x y all one = absurd all

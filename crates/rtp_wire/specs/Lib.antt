@@ -28,6 +28,8 @@ pub mod Receiver
 pub mod Verdicts
 pub mod TrueNumbers
 pub mod Sending
+pub mod Receivers
+pub mod Sources
 -- What the inside promises itself.
 pub mod KindTable
 pub mod MapSlots

@@ -45,11 +45,15 @@ abbrev pub IsVerdict : Numbers → Option Reading → Verdict → Type 0
 IsVerdict taken None verdict = verdict ≡ Unreadable
 IsVerdict taken (Some reading) verdict = (number : ℕ) × IsNumberOf taken reading.low number × IsJudged taken number verdict
 
--- a verdict for each reading, after the numbers that the verdicts before it take
-pub record IsRun (readings : List (Option Reading)) (verdicts : List Verdict) : Type 0 where
+-- a verdict for each reading; `before` is the set of the numbers that count as taken before it, by the readings and the verdicts before it
+pub record IsRunBy (before : Option Reading → List (Option Reading) → List Verdict → Numbers) (readings : List (Option Reading)) (verdicts : List Verdict) : Type 0 where
   pub as_many : length verdicts ≡ length readings
-  pub each : (i : ℕ) → i < length readings
-      → IsVerdict (taken_by (take i verdicts)) (slice_index_or readings i None) (slice_index_or verdicts i Unreadable)
+  pub each : (i : ℕ) → i < length readings → IsVerdict (before (slice_index_or readings i None) (take i readings) (take i verdicts))
+      (slice_index_or readings i None) (slice_index_or verdicts i Unreadable)
+
+-- a verdict for each reading of one stream, after the numbers that the verdicts before it take
+abbrev pub IsRun : List (Option Reading) → List Verdict → Type 0
+IsRun readings verdicts = IsRunBy (λ reading earlier taken. taken_by taken) readings verdicts
 
 -- a verdict for each datagram, by its reading
 pub record AreVerdicts (exts : ExtensionMap) (datagrams : List (List ℕ)) (verdicts : List Verdict) : Type 0 where

@@ -15,5 +15,5 @@ pub use header::{
     extend_u15, extend_u16, extend_u32, read_original_sequence_number, unpad_payload,
     write_original_sequence_number,
 };
-pub use receive::{Receiver, Verdict, receive_run};
+pub use receive::{Receiver, Receivers, Verdict, receive_run, receive_run_one};
 pub use rtp_vla::vla;

@@ -4,20 +4,73 @@ ghost use Rattle.std.specs.Prelude.{◌≡◌, ℕ, List, [], map, Option, IsOk,
 ghost use Rattle.rtp_wire.specs.Verdicts.{Reading, AreReadings, AreVerdicts, TakesOnce};
 ghost use Rattle.rtp_wire.specs.TrueNumbers.{AreTrue, AreTrueVerdicts};
 ghost use Rattle.rtp_wire.specs.Sending.{AreSent, readings_of};
+ghost use Rattle.rtp_wire.specs.Sources.{AreVerdictsBySource, OfEachSource};
 ghost use Rattle.rtp_wire.specs.declared.header.rtp_header.RtpHeader.{RtpHeader};
 
-use super::{Receiver, Verdict};
+use super::{Receiver, Receivers, Verdict};
 use crate::ext::ExtensionMap;
 use crate::header::RtpHeader;
 use std::alloc::{AllocError, Global};
 
-/// The verdict on each datagram, in the order in which they came, by one [`Receiver`]: a datagram
-/// without a header is unreadable and changes nothing. The datagrams are those of one stream, and
-/// nothing is authenticated here.
+/// The verdict on each datagram, in the order in which they came, by a [`Receiver`] for each SSRC
+/// ([`Receivers`]): a datagram without a header is unreadable and changes nothing. Nothing is
+/// authenticated here.
+///
+/// Memory is taken for the list of the verdicts, made at once, for the receiver of each SSRC, at the
+/// first datagram that has a header with it, and for the layer allocation of a datagram while its
+/// header is looked at; where it is refused nothing is handed out.
+pub fn receive_run(
+    alloc: Global,
+    datagrams: &[Vec<u8>],
+    exts: &ExtensionMap,
+) -> Result<Vec<Verdict>, AllocError>
+    ensures verdicts { IfOk result (λ found.
+        AreVerdictsBySource exts.now (map (λ d. d.items) datagrams.now) found.items) }
+
+    // The verdicts on the datagrams of a source are those of a run of them alone, whatever comes
+    // between.
+    ensures isolated { IfOk result (λ found.
+        OfEachSource exts.now (map (λ d. d.items) datagrams.now) found.items
+        (λ readings alone verdicts. AreVerdicts exts.now alone verdicts)) }
+    ensures once { IfOk result (λ found.
+        OfEachSource exts.now (map (λ d. d.items) datagrams.now) found.items
+        (λ readings alone verdicts. TakesOnce verdicts)) }
+
+    // The numbers that a sender gave the packets of a source decide alone, where each is less than
+    // 32,768 away from the highest before it of the source.
+    ensures true_numbers { (numbers : List ℕ) → IfOk result (λ found.
+        OfEachSource exts.now (map (λ d. d.items) datagrams.now) found.items
+        (λ readings alone verdicts.
+        AreTrue readings numbers → AreTrueVerdicts readings numbers verdicts)) }
+
+    // What a sender's headers were written as is read, whatever is lost, repeated or reordered on
+    // the way, and the sender's numbers decide: among the datagrams of other sources, and alone.
+    ensures sent_among { (headers : List RtpHeader) → (numbers : List ℕ) → IfOk result (λ found.
+        OfEachSource exts.now (map (λ d. d.items) datagrams.now) found.items
+        (λ readings alone verdicts. AreSent exts.now headers numbers alone →
+        AreTrueVerdicts (readings_of headers) numbers verdicts)) }
+    ensures sent { (headers : List RtpHeader) → (numbers : List ℕ) →
+        AreSent exts.now headers numbers (map (λ d. d.items) datagrams.now) →
+        IfOk result (λ found. AreTrueVerdicts (readings_of headers) numbers found.items) }
+    ensures nothing { datagrams.now ≡ [] → IsOk result }
+{
+    let mut verdicts = Vec::with_capacity(alloc, datagrams.len())?;
+    let mut receivers = Receivers::new(alloc);
+    for datagram in datagrams {
+        let header = RtpHeader::parse(alloc, datagram, exts)?;
+        let verdict = receivers.verdict_on(header.as_ref())?;
+        verdicts.push_reserved(verdict);
+    }
+    Ok(verdicts)
+}
+
+/// The verdict on each datagram, in the order in which they came, by one [`Receiver`] for all of
+/// them, whatever their SSRC: a datagram without a header is unreadable and changes nothing. It is
+/// meant for the datagrams of one stream, and nothing is authenticated here.
 ///
 /// Memory is taken for the list of the verdicts, made at once, and for the layer allocation of a
 /// datagram while its header is looked at; where it is refused nothing is handed out.
-pub fn receive_run(
+pub fn receive_run_one(
     alloc: Global,
     datagrams: &[Vec<u8>],
     exts: &ExtensionMap,

@@ -4,19 +4,17 @@ use Rattle.std.specs.Option.{option_map}
 use Rattle.std.proofs.lemmas.List.{get_or-map, length-map, length_push, take_more, take_all}
 use Rattle.rtp_wire.specs.declared.header.rtp_header.RtpHeader.{RtpHeader}
 use Rattle.rtp_wire.specs.declared.receive.verdict.Verdict.{Verdict}
-use Rattle.rtp_wire.specs.Receiver.{IsNothing}
-use Rattle.rtp_wire.specs.Verdicts.{reading_of, taken_by, IsVerdict, AreVerdicts}
-use Rattle.rtp_wire.proofs.VerdictLemmas.{AreRead, SoFar, SoFar-none, SoFar-more, TakesOnce-run, IsReading-parsed, HasCause-parsed}
+use Rattle.rtp_wire.specs.Verdicts.{reading_of, IsReading, IsVerdict, AreVerdicts}
+use Rattle.rtp_wire.specs.Sources.{at_source, taken_of, numbers_beside, HoldsEach, taken_after_each}
+use Rattle.rtp_wire.proofs.VerdictLemmas.{TakesOnce-run, IsReading-parsed, HasCause-parsed}
 use Rattle.rtp_wire.proofs.TrueNumberLemmas.{AreTrueVerdicts-of}
 use Rattle.rtp_wire.proofs.SendingLemmas.{AreTrueVerdicts-sent}
+use Rattle.rtp_wire.proofs.SourceLemmas.{SoFarEach, SoFarEach-none, SoFarEach-more, AreRead-each, AllZip-at_source, AreTrueVerdicts-sent_each}
 use Rattle.rtp_wire.proofs.receive.run.receive_run.Goals as goal
-
-nothing : IsNothing (taken_by [])
-nothing n = refl
 
 pub loop-datagram-init : goal.loop-datagram-init
 loop-datagram-init c = (
-  SoFar-none _ _ c.new-receiver.result c.in_ok-verdicts.ensures.items ((c.new-receiver.ensures (taken_by [])).1 nothing),
+  SoFarEach-none _ _ c.new-receivers.result c.in_ok-verdicts.ensures.items c.new-receivers.ensures,
   c.in_ok-verdicts.ensures.exact,
   ap length c.in_ok-verdicts.ensures.items,
 )
@@ -29,6 +27,7 @@ loop-datagram-preserved c =
     let done = c.loop-datagram.datagram-index in
     let verdicts = c.loop-datagram.verdicts.items in
     let so_far = c.loop-datagram.invariant.0 in
+    let taken = taken_of so_far.readings verdicts in
     let many = length-map c.args.datagrams.now bytes in
     let here : get_or datagrams done [] ≡ c.deref.result.now =
     get_or-map bytes c.args.datagrams.now done c.datagram-item.result [] c.loop-datagram-test.true
@@ -36,44 +35,54 @@ loop-datagram-preserved c =
     let reading = option_map reading_of c.in_ok-header.header in
     let read = IsReading-parsed exts c.deref.result.now c.in_ok-header.header c.in_ok-header.ensures.found c.in_ok-header.ensures.only in
     let cause = HasCause-parsed c.deref.result.now c.in_ok-header.header (λ none. c.in_ok-header.ensures.refused.0 (ap Ok none)) in
-    let verdict = subst (λ (h : Option RtpHeader). IsVerdict (taken_by verdicts) (option_map reading_of h) c.verdict_on-verdict.result) c.as_ref.ensures.value
-    (c.verdict_on-verdict.ensures.verdict (taken_by verdicts) so_far.holds) in
-    let more = SoFar-more exts (take done datagrams) c.deref.result.now reading verdicts c.verdict_on-verdict.result c.loop-datagram.receiver c.verdict_on-verdict.new.self
-    so_far read cause verdict (c.verdict_on-verdict.ensures.after (taken_by verdicts) so_far.holds) in
+    let verdict = subst (λ (h : Option RtpHeader). IsVerdict (numbers_beside taken (option_map reading_of h)) (option_map reading_of h) c.in_ok-verdict.verdict) c.as_ref.ensures.value
+    (c.in_ok-verdict.ensures.verdict taken so_far.holds) in
+    let holds = subst (λ (h : Option RtpHeader). HoldsEach c.verdict_on.new.self (taken_after_each taken (option_map reading_of h) c.in_ok-verdict.verdict)) c.as_ref.ensures.value
+    (c.in_ok-verdict.ensures.after taken so_far.holds) in
+    let more = SoFarEach-more exts (take done datagrams) c.deref.result.now reading verdicts c.in_ok-verdict.verdict c.loop-datagram.receivers c.verdict_on.new.self
+    so_far read cause verdict holds in
     let one : take (done + 1) datagrams ≡ take done datagrams ++ c.deref.result.now ∷ [] =
     take_more datagrams done [] (omega (arith, many, c.loop-datagram-test.true)) ∙ ap (λ (d : List ℕ). take done datagrams ++ d ∷ []) here in (
-      subst (λ (ds : List (List ℕ)). SoFar exts ds c.push_reserved.new.self.items c.verdict_on-verdict.new.self) (sym one)
-          (subst (λ (vs : List Verdict). SoFar exts (take done datagrams ++ c.deref.result.now ∷ []) vs c.verdict_on-verdict.new.self) (sym c.push_reserved.ensures.items) more),
+      subst (λ (ds : List (List ℕ)). SoFarEach exts ds c.push_reserved.new.self.items c.verdict_on.new.self) (sym one)
+          (subst (λ (vs : List Verdict). SoFarEach exts (take done datagrams ++ c.deref.result.now ∷ []) vs c.verdict_on.new.self) (sym c.push_reserved.ensures.items) more),
       c.push_reserved.ensures.capacity ∙ c.loop-datagram.invariant.1,
-      ap length c.push_reserved.ensures.items ∙ length_push verdicts c.verdict_on-verdict.result ∙ ap (λ (k : ℕ). k + 1) c.loop-datagram.invariant.2,
+      ap length c.push_reserved.ensures.items ∙ length_push verdicts c.in_ok-verdict.verdict ∙ ap (λ (k : ℕ). k + 1) c.loop-datagram.invariant.2,
     )
 
-pub returns-clause-verdicts : goal.returns-clause-verdicts
-returns-clause-verdicts c =
+pub returns-clause-isolated : goal.returns-clause-isolated
+returns-clause-isolated c readings read source =
     let bytes = λ (d : Vec ℕ). d.items in
     let datagrams = map bytes c.args.datagrams.now in
-    subst (λ (ds : List (List ℕ)). AreVerdicts c.args.exts.now ds c.loop-datagram.verdicts.items)
-    (take_all c.loop-datagram.datagram-index datagrams (omega (arith, length-map c.args.datagrams.now bytes))) c.loop-datagram.invariant.0.read.are
+    let whole = take_all c.loop-datagram.datagram-index datagrams (omega (arith, length-map c.args.datagrams.now bytes)) in
+    let so_far = subst (λ ds. SoFarEach c.args.exts.now ds c.loop-datagram.verdicts.items c.loop-datagram.receivers) whole c.loop-datagram.invariant.0 in
+    (AreRead-each c.args.exts.now datagrams c.loop-datagram.verdicts.items c.loop-datagram.receivers readings source so_far read).are
 
 pub returns-clause-once : goal.returns-clause-once
-returns-clause-once c =
-    let are = c.loop-datagram.invariant.0.read.are in
-    TakesOnce-run are.readings c.loop-datagram.verdicts.items are.run
+returns-clause-once c readings read source =
+    let are = returns-clause-isolated c readings read source in
+    TakesOnce-run are.readings (at_source source readings c.loop-datagram.verdicts.items) are.run
 
 pub returns-clause-true_numbers : goal.returns-clause-true_numbers
-returns-clause-true_numbers c readings numbers read are =
+returns-clause-true_numbers c numbers readings read source true_are =
+    let exts = c.args.exts.now in
+    let datagrams = map (λ (d : Vec ℕ). d.items) c.args.datagrams.now in
+    AreTrueVerdicts-of exts (at_source source readings datagrams) (at_source source readings c.loop-datagram.verdicts.items) (at_source source readings readings) numbers
+    (returns-clause-isolated c readings read source) (AllZip-at_source (IsReading exts) source readings datagrams readings read) true_are
+
+pub returns-clause-sent_among : goal.returns-clause-sent_among
+returns-clause-sent_among c headers numbers readings read source sent =
     let bytes = λ (d : Vec ℕ). d.items in
     let datagrams = map bytes c.args.datagrams.now in
     let verdicts = c.loop-datagram.verdicts.items in
-    let found = subst (λ (ds : List (List ℕ)). AreVerdicts c.args.exts.now ds verdicts)
-    (take_all c.loop-datagram.datagram-index datagrams (omega (arith, length-map c.args.datagrams.now bytes))) c.loop-datagram.invariant.0.read.are in
-    AreTrueVerdicts-of c.args.exts.now datagrams verdicts readings numbers found read are
+    let whole = take_all c.loop-datagram.datagram-index datagrams (omega (arith, length-map c.args.datagrams.now bytes)) in
+    let so_far = subst (λ ds. SoFarEach c.args.exts.now ds verdicts c.loop-datagram.receivers) whole c.loop-datagram.invariant.0 in
+    let alone = AreRead-each c.args.exts.now datagrams verdicts c.loop-datagram.receivers readings source so_far read in
+    AreTrueVerdicts-sent c.args.exts.now headers numbers (at_source source readings datagrams) (at_source source readings verdicts) alone.are alone.causes sent
 
 pub returns-clause-sent : goal.returns-clause-sent
 returns-clause-sent c headers numbers sent =
     let bytes = λ (d : Vec ℕ). d.items in
     let datagrams = map bytes c.args.datagrams.now in
-    let verdicts = c.loop-datagram.verdicts.items in
-    let found = subst (λ (ds : List (List ℕ)). AreRead c.args.exts.now ds verdicts)
-    (take_all c.loop-datagram.datagram-index datagrams (omega (arith, length-map c.args.datagrams.now bytes))) c.loop-datagram.invariant.0.read in
-    AreTrueVerdicts-sent c.args.exts.now headers numbers datagrams verdicts found.are found.causes sent
+    let whole = take_all c.loop-datagram.datagram-index datagrams (omega (arith, length-map c.args.datagrams.now bytes)) in
+    let so_far = subst (λ ds. SoFarEach c.args.exts.now ds c.loop-datagram.verdicts.items c.loop-datagram.receivers) whole c.loop-datagram.invariant.0 in
+    AreTrueVerdicts-sent_each c.args.exts.now headers numbers datagrams c.loop-datagram.verdicts.items c.loop-datagram.receivers so_far sent

@@ -1,0 +1,15 @@
+use Rattle.std.proofs.Common.{ap, ◌∙◌, rules}
+use Rattle.rtp_wire.specs.Receivers.{receiver_of}
+use Rattle.rtp_wire.proofs.ReceiversLemmas.{others_stay}
+use Rattle.rtp_wire.proofs.receive.receivers.Receivers.record.Goals as goal
+
+pub returns-in-Some-clause-others : goal.returns-in-Some-clause-others
+returns-in-Some-clause-others c source apart =
+    others_stay c.self.inside.by_ssrc (c.get_mut.follows.lender c.record.new.self) c.args.ssrc _
+    ((c.get_mut.follows.holds c.record.new.self).3 (search rules)) source apart
+    ∙ ap (λ receivers. receiver_of receivers source) c.self.view_is
+
+pub returns-clause-others : goal.returns-clause-others
+returns-clause-others c source apart =
+    others_stay c.get_mut.follows.lender-at-none c.insert.new.self c.args.ssrc _ c.in_ok-insert.ensures.updates source apart
+    ∙ ap (λ receivers. receiver_of receivers source) (search rules)

@@ -1,0 +1,195 @@
+//! The receive state of many streams.
+
+ghost use Rattle.std.specs.Prelude.{◌≡◌, ◌≢◌, ◌↔◌, ℕ, [], length, Some, None, IsTrue, IsSome, IsOk, IfOk, OnOk, OnErr};
+ghost use Rattle.std.specs.Option.{option_map, option_copied};
+ghost use Rattle.rtp_base.specs.Window.{Numbers, including};
+ghost use Rattle.rtp_wire.specs.Receiver.{Holds, IsNumberOf, IsFresh, IsJudged, taken_after};
+ghost use Rattle.rtp_wire.specs.Receivers.{receiver_of, state_of};
+ghost use Rattle.rtp_wire.specs.Verdicts.{IsVerdict, reading_of};
+ghost use Rattle.rtp_wire.specs.TrueNumbers.{IsTrueNumber};
+ghost use Rattle.rtp_wire.specs.Sources.{HoldsEach, numbers_beside, taken_after_each};
+
+use super::{Receiver, Verdict};
+use crate::header::RtpHeader;
+use rtp_base::{SeqNo, Ssrc};
+use std::alloc::{AllocError, Global};
+use std::collections::BTreeMap;
+use std::marker::Model;
+
+/// The receive state of the streams that share a transport: a [`Receiver`] for each SSRC (RFC 3550,
+/// 3; RFC 3711, 3.2.3).
+///
+/// A source gets its receiver with the first packet that is recorded or received of it, and keeps it
+/// until it is forgotten ([`forget`](Self::forget)). The number of receivers has no limit: where
+/// packets are not authenticated, a caller may set one of its own ([`len`](Self::len)). What a packet
+/// costs grows with the logarithm of that number, whoever chooses the SSRCs.
+///
+/// No source changes what another one's receiver holds. So with the packets 65,535 of source 1, 10 of
+/// source 2 and 0 of source 1, `receive` takes 65,535, 10 and 65,536.
+#[derive(Debug, Drop)]
+pub struct Receivers {
+    by_ssrc: BTreeMap<Ssrc, Receiver>,
+}
+
+impl Model for Receivers {
+    ghost use Rattle.rtp_wire.specs.Receivers.{ReceiverStates};
+
+    ghost Value = { ReceiverStates };
+
+    ghost view = { λ receivers. receivers.by_ssrc.entries };
+}
+
+impl Receivers {
+    /// No source has a receiver yet. The receivers that follow take their memory from `alloc`.
+    pub fn new(alloc: Global) -> Self
+        ensures { result ≡ [] }
+    {
+        Receivers {
+            by_ssrc: BTreeMap::new(alloc),
+        }
+    }
+
+    /// How many sources have a receiver.
+    pub fn len(&self) -> usize
+        ensures { result ≡ length self.now }
+    {
+        self.by_ssrc.len()
+    }
+
+    /// Whether no source has a receiver.
+    pub fn is_empty(&self) -> bool
+        ensures { IsTrue result ↔ (self.now ≡ []) }
+    {
+        self.by_ssrc.is_empty()
+    }
+
+    /// The receiver of the source, and `None` where it has none.
+    pub fn get(&self, ssrc: Ssrc) -> Option<&Receiver>
+        ensures { option_copied result ≡ receiver_of self.now ssrc }
+    {
+        self.by_ssrc.get(&ssrc)
+    }
+
+    /// Drops the source, as after it said goodbye (RFC 3550, 6.6), and returns its receiver; `None`,
+    /// and nothing changes, where it has none. A later packet of the source is the first one of a new
+    /// receiver: so a copy of an old packet is taken again.
+    pub fn forget(&mut self, ssrc: Ssrc) -> Option<Receiver>
+        ensures receiver { result ≡ receiver_of self.old ssrc }
+        ensures forgotten { receiver_of self.new ssrc ≡ None }
+        ensures others { (source : ℕ) → source ≢ ssrc →
+            receiver_of self.new source ≡ receiver_of self.old source }
+    {
+        self.by_ssrc.remove(&ssrc)
+    }
+
+    /// The extended sequence number of a packet with this header: the one nearest to the highest
+    /// number taken of its source (RFC 3711, 3.3.1), and the header's 16 bits where none is taken yet.
+    pub fn number_of(&self, header: &RtpHeader) -> SeqNo
+        ensures nearest { (taken : Numbers) → Holds (state_of self.now header.now.ssrc) taken →
+            IsNumberOf taken header.now.sequence_number result }
+
+        // It is the number that the sender gave the packet, where that is less than 32,768 away
+        // from the highest of the source's packets before it, whether these were taken or not.
+        ensures true_number { (numbers : Numbers) → (number : ℕ) →
+            Holds (state_of self.now header.now.ssrc) numbers →
+            IsTrueNumber numbers header.now.sequence_number number → result ≡ number }
+    {
+        match self.get(header.ssrc) {
+            None => Receiver::new().number_of(header),
+            Some(receiver) => receiver.number_of(header),
+        }
+    }
+
+    /// Whether the number may be taken of the source: none is taken of it yet, or the number is above
+    /// the highest one taken of it, or less than 128 below that and not taken.
+    pub fn accepts(&self, ssrc: Ssrc, number: SeqNo) -> bool
+        ensures { (taken : Numbers) → Holds (state_of self.now ssrc) taken →
+            (IsTrue result ↔ IsFresh taken number) }
+    {
+        match self.get(ssrc) {
+            None => true,
+            Some(receiver) => receiver.accepts(number),
+        }
+    }
+
+    /// Records that the number is taken of the source, once its packet is known to be authentic. A
+    /// number that [`accepts`](Self::accepts) refuses changes nothing in the source's receiver.
+    ///
+    /// Memory is taken for a new receiver alone; where it is refused nothing changes.
+    pub fn record(&mut self, ssrc: Ssrc, number: SeqNo) -> Result<(), AllocError>
+        ensures recorded { (taken : Numbers) → Holds (state_of self.old ssrc) taken →
+            OnOk result (Holds (state_of self.new ssrc) (including taken number)) }
+        ensures receiver { OnOk result (IsSome (receiver_of self.new ssrc)) }
+        ensures others { (source : ℕ) → source ≢ ssrc →
+            receiver_of self.new source ≡ receiver_of self.old source }
+        ensures refused { OnErr result (self.new ≡ self.old) }
+        ensures memory { OnErr result (receiver_of self.old ssrc ≡ None) }
+    {
+        if let Some(receiver) = self.by_ssrc.get_mut(&ssrc) {
+            receiver.record(number);
+            return Ok(());
+        }
+        let mut receiver = Receiver::new();
+        receiver.record(number);
+        self.by_ssrc.insert(ssrc, receiver)?;
+        Ok(())
+    }
+
+    /// The verdict on a packet with this header: taken, and then recorded, exactly when its extended
+    /// sequence number may be taken of its source; refused, and then that source's receiver holds
+    /// what it held, where not. It is [`number_of`](Self::number_of), [`accepts`](Self::accepts) and
+    /// [`record`](Self::record) in one, where nothing is authenticated.
+    ///
+    /// Memory is taken for a new receiver alone; where it is refused nothing changes.
+    pub fn receive(&mut self, header: &RtpHeader) -> Result<Verdict, AllocError>
+        ensures verdict { (taken : Numbers) → Holds (state_of self.old header.now.ssrc) taken →
+            IfOk result (λ verdict. (number : ℕ)
+            × IsNumberOf taken header.now.sequence_number number × IsJudged taken number verdict) }
+        ensures after { (taken : Numbers) → Holds (state_of self.old header.now.ssrc) taken →
+            IfOk result (λ verdict.
+            Holds (state_of self.new header.now.ssrc) (taken_after taken verdict)) }
+
+        // The same by the numbers that the sender gave the packets, where those of all packets of
+        // the source before this one count.
+        ensures true_number { (numbers : Numbers) → (number : ℕ) →
+            Holds (state_of self.old header.now.ssrc) numbers →
+            IsTrueNumber numbers header.now.sequence_number number →
+            IfOk result (IsJudged numbers number) }
+        ensures true_numbers { (numbers : Numbers) → (number : ℕ) →
+            Holds (state_of self.old header.now.ssrc) numbers →
+            IsTrueNumber numbers header.now.sequence_number number →
+            OnOk result (Holds (state_of self.new header.now.ssrc) (including numbers number)) }
+
+        // The source has a receiver now, and the other sources have what they had.
+        ensures receiver { OnOk result (IsSome (receiver_of self.new header.now.ssrc)) }
+        ensures others { (source : ℕ) → source ≢ header.now.ssrc →
+            receiver_of self.new source ≡ receiver_of self.old source }
+        ensures refused { OnErr result (self.new ≡ self.old) }
+        ensures memory { OnErr result (receiver_of self.old header.now.ssrc ≡ None) }
+    {
+        if let Some(receiver) = self.by_ssrc.get_mut(&header.ssrc) {
+            return Ok(receiver.receive(header));
+        }
+        let mut receiver = Receiver::new();
+        let verdict = receiver.receive(header);
+        self.by_ssrc.insert(header.ssrc, receiver)?;
+        Ok(verdict)
+    }
+
+    // The verdict on a datagram, by the header that it begins with.
+    pub(super) fn verdict_on(&mut self, header: Option<&RtpHeader>) -> Result<Verdict, AllocError>
+        ensures verdict { (taken : ℕ → Numbers) → HoldsEach self.old taken → IfOk result (IsVerdict
+            (numbers_beside taken (option_map reading_of (option_copied header.entry)))
+            (option_map reading_of (option_copied header.entry))) }
+        ensures after { (taken : ℕ → Numbers) → HoldsEach self.old taken → IfOk result (λ verdict.
+            HoldsEach self.new (taken_after_each taken
+            (option_map reading_of (option_copied header.entry)) verdict)) }
+        ensures succeeds { header.entry ≡ None → IsOk result }
+        ensures same { header.entry ≡ None → self.new ≡ self.old }
+    {
+        match header {
+            None => Ok(Verdict::Unreadable),
+            Some(header) => self.receive(header),
+        }
+    }
+}
