@@ -1,5 +1,5 @@
 -- The lines of datagrams that are printed one after the other.
-use Rattle.std.proofs.Common.{◌≡◌, ℕ, ◌+◌, ◌<◌, ◌≤◌, Bool, List, [], ◌∷◌, ◌++◌, length, map, take, get_or, refl, sym, ap, ◌∙◌, subst, arith, append_assoc, append-nil}
+use Rattle.std.proofs.Common.{◌≡◌, ℕ, ◌+◌, ◌<◌, ◌≤◌, List, [], ◌∷◌, ◌++◌, length, map, take, get_or, refl, sym, ap, ◌∙◌, subst, arith, append_assoc, append-nil}
 use Rattle.std.specs.Prelude.{Option, Some, None, IfSome, Result, Ok, Err, IsErrAnd, IfErr}
 use Rattle.std.specs.Option.{option_map}
 use Rattle.std.specs.List.{AllZip}
@@ -7,15 +7,17 @@ use Rattle.std.specs.Io.KnownBytes.{Appends, Keeps}
 use Rattle.std.proofs.KnownBytes.{Appends-nil, Appends-trans, Appends-kept}
 use Rattle.std.proofs.lemmas.List.{map_push, length_push, take_more, take_all}
 use Rattle.std.proofs.lemmas.Option.{none-some}
-use Rattle.rtp_base.specs.Window.{WindowState}
+use Rattle.rtp_base.specs.Window.{Numbers}
 use Rattle.rtp_wire.specs.declared.ext.map.ExtensionMap.{ExtensionMap}
 use Rattle.rtp_wire.specs.declared.header.rtp_header.RtpHeader.{RtpHeader}
 use Rattle.rtp_wire.specs.declared.receive.verdict.Verdict.{Verdict}
 use Rattle.rtp_wire.specs.Header.{IsWire}
 use Rattle.rtp_wire.specs.NotAHeader.{NotAHeader}
-use Rattle.rtp_wire.specs.Receiver.{Holds, taken_after}
-use Rattle.rtp_wire.specs.Verdicts.{reading_of, taken_by, IsReading, IsVerdict}
-use Rattle.rtp_wire.proofs.VerdictLemmas.{HasCause, SoFar, SoFar-none, SoFar-more}
+use Rattle.rtp_wire.specs.Receivers.{ReceiverStates}
+use Rattle.rtp_wire.specs.Verdicts.{reading_of, IsReading, IsVerdict}
+use Rattle.rtp_wire.specs.Sources.{AreVerdictsBySource, HoldsEach, taken_of, numbers_beside, taken_after_each}
+use Rattle.rtp_wire.proofs.VerdictLemmas.{HasCause}
+use Rattle.rtp_wire.proofs.SourceLemmas.{SoFarEach, SoFarEach-none, SoFarEach-more}
 use Rattle.rtp_lines.specs.declared.run.RunEnd.{RunEnd}
 use Rattle.rtp_lines.specs.declared.run.RunEnd.TheVariants.{NoMemory, Io}
 use Rattle.rtp_lines.specs.Output.{IsHeader, packet_lines, lines_from, IsReport, IsStopped, Prints}
@@ -55,21 +57,24 @@ AllZip-more R (a ∷ xs) [] x y all one = absurd all
 AllZip-more R (a ∷ xs) (b ∷ ys) x y all one = (all.0, AllZip-more R xs ys x y all.1 one)
 
 -- the lines of the first datagrams, of which a part is written, in whole lines, and the rest is in the text
-pub record Printed (exts : ExtensionMap) (datagrams : List (List ℕ)) (done : ℕ) (old new : Option (List ℕ)) (text : List ℕ) (receiver : Option WindowState) : Type 0 where
+pub record Printed (exts : ExtensionMap) (datagrams : List (List ℕ)) (done : ℕ) (old new : Option (List ℕ)) (text : List ℕ) (receivers : ReceiverStates) : Type 0 where
   pub reports : List Report
   pub as_many : length reports ≡ done
   pub headers_are : AllZip (λ (datagram : List ℕ) (report : Report). IsHeader exts datagram report.0) (take done datagrams) reports
-  pub so_far : SoFar exts (take done datagrams) (map (λ (report : Report). report.1) reports) receiver
+  pub so_far : SoFarEach exts (take done datagrams) (map (λ (report : Report). report.1) reports) receivers
   pub written : List ℕ
   pub appended : Appends old new written
   pub lines_are : written ++ text ≡ lines_from 1 reports
   pub count : ℕ
   pub whole : IsReport exts (take count datagrams) written
 
-pub Printed-none : (exts : ExtensionMap) (datagrams : List (List ℕ)) (old : Option (List ℕ)) (text : List ℕ) (receiver : Option WindowState) → Appends old old [] → text ≡ [] → Holds receiver (taken_by [])
-    → Printed exts datagrams 0 old old text receiver
-Printed-none exts datagrams old text receiver same empty holds =
-    let so_far : SoFar exts [] [] receiver = SoFar-none exts [] receiver refl holds in
+verdicts_of : (exts : ExtensionMap) (datagrams : List (List ℕ)) (verdicts : List Verdict) (receivers : ReceiverStates) → SoFarEach exts datagrams verdicts receivers → AreVerdictsBySource exts datagrams verdicts
+verdicts_of exts datagrams verdicts receivers so_far = record { readings = so_far.readings; are_readings = so_far.are_readings; runs = so_far.runs }
+
+pub Printed-none : (exts : ExtensionMap) (datagrams : List (List ℕ)) (old : Option (List ℕ)) (text : List ℕ) (receivers : ReceiverStates) → Appends old old [] → text ≡ [] → receivers ≡ []
+    → Printed exts datagrams 0 old old text receivers
+Printed-none exts datagrams old text receivers same empty none =
+    let so_far : SoFarEach exts [] [] receivers = SoFarEach-none exts [] receivers refl none in
     record {
       reports = [];
       as_many = refl;
@@ -79,13 +84,14 @@ Printed-none exts datagrams old text receiver same empty holds =
       appended = same;
       lines_are = empty;
       count = 0;
-      whole = record { reports = []; headers_are = tt; verdicts_are = so_far.read.are; printed_is = refl };
+      whole = record { reports = []; headers_are = tt; verdicts_are = verdicts_of exts [] [] receivers so_far; printed_is = refl };
     }
 
 -- the lines of one datagram more are put behind the text
-pub Printed-more : (exts : ExtensionMap) (datagrams : List (List ℕ)) (done : ℕ) (old new : Option (List ℕ)) (text text' : List ℕ) (before after : Option WindowState) (header : Option RtpHeader) (verdict : Verdict)
+pub Printed-more : (exts : ExtensionMap) (datagrams : List (List ℕ)) (done : ℕ) (old new : Option (List ℕ)) (text text' : List ℕ) (before after : ReceiverStates) (header : Option RtpHeader) (verdict : Verdict)
     → Printed exts datagrams done old new text before → done < length datagrams → IsHeader exts (get_or datagrams done []) header → (header ≡ None → NotAHeader (get_or datagrams done []))
-    → ((taken : ℕ → Bool) → Holds before taken → IsVerdict taken (option_map reading_of header) verdict) → ((taken : ℕ → Bool) → Holds before taken → Holds after (taken_after taken verdict))
+    → ((taken : ℕ → Numbers) → HoldsEach before taken → IsVerdict (numbers_beside taken (option_map reading_of header)) (option_map reading_of header) verdict)
+    → ((taken : ℕ → Numbers) → HoldsEach before taken → HoldsEach after (taken_after_each taken (option_map reading_of header) verdict))
     → text' ≡ text ++ packet_lines (done + 1) header verdict → Printed exts datagrams (done + 1) old new text' after
 Printed-more exts datagrams done old new text text' before after header verdict p below is refused judged holds grown =
     let report : Report = (header, verdict) in
@@ -99,10 +105,10 @@ Printed-more exts datagrams done old new text text' before after header verdict 
           subst (λ (ds : List (List ℕ)). AllZip (λ (d : List ℕ) (r : Report). IsHeader exts d r.0) ds (p.reports ++ report ∷ [])) (sym one)
           (AllZip-more (λ (d : List ℕ) (r : Report). IsHeader exts d r.0) (take done datagrams) p.reports datagram report p.headers_are is);
       so_far =
-          subst (λ (ds : List (List ℕ)). SoFar exts ds (map (λ (r : Report). r.1) (p.reports ++ report ∷ [])) after) (sym one)
-          (subst (λ (vs : List Verdict). SoFar exts (take done datagrams ++ datagram ∷ []) vs after) (sym (map_push (λ (r : Report). r.1) p.reports report))
-          (SoFar-more exts (take done datagrams) datagram (option_map reading_of header) verdicts verdict before after p.so_far (reading exts datagram header is) (cause datagram header refused)
-          (judged (taken_by verdicts) p.so_far.holds) (holds (taken_by verdicts) p.so_far.holds)));
+          subst (λ (ds : List (List ℕ)). SoFarEach exts ds (map (λ (r : Report). r.1) (p.reports ++ report ∷ [])) after) (sym one)
+          (subst (λ (vs : List Verdict). SoFarEach exts (take done datagrams ++ datagram ∷ []) vs after) (sym (map_push (λ (r : Report). r.1) p.reports report))
+          (SoFarEach-more exts (take done datagrams) datagram (option_map reading_of header) verdicts verdict before after p.so_far (reading exts datagram header is) (cause datagram header refused)
+          (judged (taken_of p.so_far.readings verdicts) p.so_far.holds) (holds (taken_of p.so_far.readings verdicts) p.so_far.holds)));
       written = p.written;
       appended = p.appended;
       lines_are =
@@ -115,14 +121,14 @@ Printed-more exts datagrams done old new text text' before after header verdict 
     }
 
 -- the lines of the first datagrams, whether they are written or in the text
-pub IsReport-printed : (exts : ExtensionMap) (datagrams : List (List ℕ)) (done : ℕ) (old new : Option (List ℕ)) (text : List ℕ) (receiver : Option WindowState)
-    → (p : Printed exts datagrams done old new text receiver) → IsReport exts (take done datagrams) (p.written ++ text)
-IsReport-printed exts datagrams done old new text receiver p = record { reports = p.reports; headers_are = p.headers_are; verdicts_are = p.so_far.read.are; printed_is = p.lines_are }
+pub IsReport-printed : (exts : ExtensionMap) (datagrams : List (List ℕ)) (done : ℕ) (old new : Option (List ℕ)) (text : List ℕ) (receivers : ReceiverStates)
+    → (p : Printed exts datagrams done old new text receivers) → IsReport exts (take done datagrams) (p.written ++ text)
+IsReport-printed exts datagrams done old new text receivers p = record { reports = p.reports; headers_are = p.headers_are; verdicts_are = verdicts_of exts (take done datagrams) (map (λ (report : Report). report.1) p.reports) receivers p.so_far; printed_is = p.lines_are }
 
 -- the text is written
-pub Printed-written : (exts : ExtensionMap) (datagrams : List (List ℕ)) (done : ℕ) (old new after : Option (List ℕ)) (text text' : List ℕ) (receiver : Option WindowState)
-    → Printed exts datagrams done old new text receiver → Appends new after text → text' ≡ [] → Printed exts datagrams done old after text' receiver
-Printed-written exts datagrams done old new after text text' receiver p appends empty = record {
+pub Printed-written : (exts : ExtensionMap) (datagrams : List (List ℕ)) (done : ℕ) (old new after : Option (List ℕ)) (text text' : List ℕ) (receivers : ReceiverStates)
+    → Printed exts datagrams done old new text receivers → Appends new after text → text' ≡ [] → Printed exts datagrams done old after text' receivers
+Printed-written exts datagrams done old new after text text' receivers p appends empty = record {
   reports = p.reports;
   as_many = p.as_many;
   headers_are = p.headers_are;
@@ -131,12 +137,12 @@ Printed-written exts datagrams done old new after text text' receiver p appends 
   appended = Appends-trans old new after p.written text p.appended appends;
   lines_are = ap (λ (xs : List ℕ). (p.written ++ text) ++ xs) empty ∙ append-nil (p.written ++ text) ∙ p.lines_are;
   count = done;
-  whole = IsReport-printed exts datagrams done old new text receiver p;
+  whole = IsReport-printed exts datagrams done old new text receivers p;
 }
 
-module _ (exts : ExtensionMap) (datagrams : List (List ℕ)) (done : ℕ) (old new after : Option (List ℕ)) (text bytes : List ℕ) (receiver : Option WindowState) (p : Printed exts datagrams done old new text receiver) (same : bytes ≡ text) where
+module _ (exts : ExtensionMap) (datagrams : List (List ℕ)) (done : ℕ) (old new after : Option (List ℕ)) (text bytes : List ℕ) (receivers : ReceiverStates) (p : Printed exts datagrams done old new text receivers) (same : bytes ≡ text) where
   report : IsReport exts (take done datagrams) (p.written ++ text)
-  report = IsReport-printed exts datagrams done old new text receiver p
+  report = IsReport-printed exts datagrams done old new text receivers p
 
   appended : Appends new after bytes → Appends old after (p.written ++ text)
   appended appends = Appends-trans old new after p.written text p.appended (subst (Appends new after) same appends)
@@ -160,7 +166,7 @@ module _ (exts : ExtensionMap) (datagrams : List (List ℕ)) (done : ℕ) (old n
 -- memory is refused before anything is printed
 pub Prints-nothing : (exts : ExtensionMap) (datagrams : List (List ℕ)) (old : Option (List ℕ)) → Prints old old (IsStopped exts datagrams NoMemory)
 Prints-nothing exts datagrams old =
-    ([], Appends-nil old, (0, record { reports = []; headers_are = tt; verdicts_are = record { readings = []; are_readings = tt; run = record { as_many = refl; each = λ i below. absurd (omega arith) } }; printed_is = refl }))
+    ([], Appends-nil old, (0, record { reports = []; headers_are = tt; verdicts_are = record { readings = []; are_readings = tt; runs = record { as_many = refl; each = λ i below. absurd (omega arith) } }; printed_is = refl }))
 
 -- an error that is handed on, and what holds of it
 pub handed_on : {A : Type 0} (r : Result A RunEnd) (error end : RunEnd) (P : RunEnd → Type 0) → IsErrAnd r (λ e. e ≡ error) → error ≡ end → P end → IfErr r P

@@ -7,7 +7,7 @@ use Rattle.rtp_wire.specs.declared.ext.map.ExtensionMap.{ExtensionMap}
 use Rattle.rtp_wire.specs.declared.header.rtp_header.RtpHeader.{RtpHeader}
 use Rattle.rtp_wire.specs.declared.receive.verdict.Verdict.{Verdict}
 use Rattle.rtp_wire.specs.Header.{IsWire}
-use Rattle.rtp_wire.specs.Verdicts.{AreVerdicts}
+use Rattle.rtp_wire.specs.Sources.{AreVerdictsBySource}
 use Rattle.rtp_lines.specs.declared.run.RunEnd.{RunEnd}
 use Rattle.rtp_lines.specs.declared.run.RunEnd.TheVariants.{Done, BadLine, NoMemory, Io}
 use Rattle.rtp_lines.specs.Input.{Spells, IsFirstBadLine}
@@ -31,7 +31,7 @@ lines_from packet (report ∷ reports) = packet_lines packet report.0 report.1 +
 pub record IsReport (exts : ExtensionMap) (datagrams : List (List ℕ)) (printed : List ℕ) : Type 0 where
   pub reports : List (Option RtpHeader × Verdict)
   pub headers_are : AllZip (λ datagram report. IsHeader exts datagram report.0) datagrams reports
-  pub verdicts_are : AreVerdicts exts datagrams (map (λ report. report.1) reports)
+  pub verdicts_are : AreVerdictsBySource exts datagrams (map (λ report. report.1) reports)
   pub printed_is : printed ≡ lines_from 1 reports
 
 -- what is printed of the datagrams where a run stops among them: the lines of the first of them where memory is refused, and a beginning of these where a write fails
@@ -70,6 +70,20 @@ pub data IsBeginningOf (text printed : List ℕ) : Type 0 where
   of_lines : (rest : List ℕ) → IsFrontOf text (printed ++ rest) → IsBeginningOf text printed
   of_bad_line : (rest : List ℕ) → IsBadLineOf text (printed ++ rest) → IsBeginningOf text printed
   of_want : (rest : List ℕ) → IsWantOf text (printed ++ rest) → IsBeginningOf text printed
+
+-- what a run has printed when it ends early, but for `want of memory`
+abbrev pub IsLeft : List ℕ → RunEnd → List ℕ → Type 0
+IsLeft text BadLine printed = IsBadLineOf text printed
+IsLeft text NoMemory printed = IsFrontOf text printed
+IsLeft text Io printed = IsBeginningOf text printed
+IsLeft text Done printed = ⊥
+
+-- the exit status of the program
+abbrev pub status_of : RunEnd → ℕ
+status_of Done = 0
+status_of Io = 1
+status_of BadLine = 2
+status_of NoMemory = 3
 
 -- what a writer holds grows by a text of this kind
 abbrev pub Prints : Option (List ℕ) → Option (List ℕ) → (List ℕ → Type 0) → Type 0

@@ -1,18 +1,18 @@
 //! The two lines of each datagram, written to the output.
 
-ghost use Rattle.std.specs.Prelude.{◌≡◌, ◌++◌, [], map, string_bytes, None, IfOk, IfErr, OnOk, OnErr};
+ghost use Rattle.std.specs.Prelude.{◌≡◌, ◌++◌, ℕ, [], map, string_bytes, None, IfOk, IfErr, OnOk, OnErr};
 ghost use Rattle.std.specs.Option.{option_map, option_copied};
 ghost use Rattle.rtp_base.specs.Window.{Numbers};
 ghost use Rattle.rtp_wire.specs.NotAHeader.{NotAHeader};
-ghost use Rattle.rtp_wire.specs.Receiver.{Holds, taken_after};
 ghost use Rattle.rtp_wire.specs.Verdicts.{IsVerdict, reading_of};
+ghost use Rattle.rtp_wire.specs.Sources.{HoldsEach, numbers_beside, taken_after_each};
 ghost use Rattle.rtp_lines.specs.Output.{IsHeader, packet_lines, IsReport, IsStopped, Prints};
 
 use super::input::Input;
 use super::output::write_text;
 use super::report::{HeaderLine, VerdictLine};
 use super::run::RunEnd;
-use rtp_wire::{ExtensionMap, Receiver, RtpHeader, Verdict};
+use rtp_wire::{ExtensionMap, Receivers, RtpHeader, Verdict};
 use std::alloc::{AllocError, Global};
 use std::io::Write;
 
@@ -24,18 +24,20 @@ fn judged(
     alloc: Global,
     datagram: &[u8],
     exts: &ExtensionMap,
-    receiver: &mut Receiver,
+    receivers: &mut Receivers,
 ) -> Result<(Option<RtpHeader>, Verdict), AllocError>
     ensures header { IfOk result (λ report. IsHeader exts.now datagram.now report.0) }
     ensures cause { IfOk result (λ report. report.0 ≡ None → NotAHeader datagram.now) }
-    ensures verdict { (taken : Numbers) → Holds receiver.old taken →
-        IfOk result (λ report. IsVerdict taken (option_map reading_of report.0) report.1) }
-    ensures after { (taken : Numbers) → Holds receiver.old taken →
-        IfOk result (λ report. Holds receiver.new (taken_after taken report.1)) }
+    ensures verdict { (taken : ℕ → Numbers) → HoldsEach receivers.old taken →
+        IfOk result (λ report. IsVerdict (numbers_beside taken (option_map reading_of report.0))
+        (option_map reading_of report.0) report.1) }
+    ensures after { (taken : ℕ → Numbers) → HoldsEach receivers.old taken →
+        IfOk result (λ report. HoldsEach receivers.new
+        (taken_after_each taken (option_map reading_of report.0) report.1)) }
 {
     let header = RtpHeader::parse(alloc, datagram, exts)?;
     let verdict = match &header {
-        Some(header) => receiver.receive(header),
+        Some(header) => receivers.receive(header)?,
         None => Verdict::Unreadable,
     };
     Ok((header, verdict))
@@ -62,8 +64,8 @@ fn push_lines(
     Ok(())
 }
 
-/// Prints the two lines of each datagram in order: its RTP header, and the verdict of one receiver
-/// that gets all of them.
+/// Prints the two lines of each datagram in order: its RTP header, and the verdict of the receiver of
+/// its SSRC.
 ///
 /// Returns `NoMemory` when memory is refused, with the lines of the first datagrams printed, and `Io`
 /// when a write fails, with a beginning of the lines printed.
@@ -73,10 +75,10 @@ pub fn print_all<W: Write>(alloc: Global, input: &Input, output: &mut W) -> Resu
     ensures err { IfErr result (λ end. Prints (W.contents output.old) (W.contents output.new)
         (IsStopped input.now.exts (map (λ v. v.items) input.now.datagrams.items) end)) }
 {
-    let mut receiver = Receiver::new();
+    let mut receivers = Receivers::new(alloc);
     let mut text = String::with_capacity(alloc, 2 * WRITTEN_AT_ONCE)?;
     for (index, datagram) in input.datagrams.iter().enumerate() {
-        let Ok((header, verdict)) = judged(alloc, datagram, &input.exts, &mut receiver) else {
+        let Ok((header, verdict)) = judged(alloc, datagram, &input.exts, &mut receivers) else {
             write_text(output, text.as_bytes())?;
             return Err(RunEnd::NoMemory);
         };

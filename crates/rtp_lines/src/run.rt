@@ -1,7 +1,7 @@
 //! One run of the program: all input is read, and then reported.
 
-ghost use Rattle.std.specs.Prelude.{◌≡◌, ◌≢◌, ◌⊎◌, IfOk, IfErr, IfSome, OnOk};
-ghost use Rattle.rtp_lines.specs.Input.{IsInput, HasBadLine};
+ghost use Rattle.std.specs.Prelude.{◌≡◌, ◌⊎◌, IfOk, IfErr, IfSome, OnOk};
+ghost use Rattle.rtp_lines.specs.Output.{IsOutputOf, IsBadLineOf, IsWantOf, IsBeginningOf, IsLeft, status_of, Prints};
 ghost use Rattle.rtp_lines.specs.declared.run.RunEnd.TheVariants.{NoMemory};
 
 use super::input::{InputError, read_input};
@@ -27,7 +27,9 @@ pub enum RunEnd {
 
 impl RunEnd {
     /// The exit status of the program.
-    pub fn status(self) -> u8 {
+    pub fn status(self) -> u8
+        ensures { result ≡ status_of self }
+    {
         match self {
             RunEnd::Done => 0,
             RunEnd::Io => 1,
@@ -65,19 +67,14 @@ fn read_all<R: Read>(alloc: Global, input: &mut R) -> Result<Vec<u8>, RunEnd>
     Ok(text)
 }
 
-// Reads all lines, and then reports all datagrams, or the first bad line.
-fn report_input<R: Read, W: Write>(
-    alloc: Global,
-    input: &mut R,
-    output: &mut W,
-) -> Result<(), RunEnd>
-    ensures done { OnOk result (IfSome (R.remaining input.old) IsInput) }
-    ensures failed { IfErr result (λ end. end ≢ RunEnd.Done) }
-    ensures bad_line { IfErr result (λ end. end ≡ RunEnd.BadLine →
-        IfSome (R.remaining input.old) HasBadLine) }
+// Prints the lines of all datagrams of the text, or the line that names its first bad line.
+fn report_text<W: Write>(alloc: Global, text: &[u8], output: &mut W) -> Result<(), RunEnd>
+    ensures ok { OnOk result
+        (Prints (W.contents output.old) (W.contents output.new) (IsOutputOf text.now)) }
+    ensures err { IfErr result (λ end.
+        Prints (W.contents output.old) (W.contents output.new) (IsLeft text.now end)) }
 {
-    let text = read_all(alloc, input)?;
-    match read_input(alloc, &text) {
+    match read_input(alloc, text) {
         Ok(input) => print_all(alloc, &input, output),
         Err(InputError::NoMemory) => Err(RunEnd::NoMemory),
         Err(InputError::BadLine(number)) => {
@@ -86,6 +83,21 @@ fn report_input<R: Read, W: Write>(
             Err(RunEnd::BadLine)
         }
     }
+}
+
+// Reads all input, and prints what is due for it, but for `want of memory`.
+fn report_input<R: Read, W: Write>(
+    alloc: Global,
+    input: &mut R,
+    output: &mut W,
+) -> Result<(), RunEnd>
+    ensures ok { OnOk result (IfSome (R.remaining input.old) (λ text.
+        Prints (W.contents output.old) (W.contents output.new) (IsOutputOf text))) }
+    ensures err { IfErr result (λ end. IfSome (R.remaining input.old) (λ text.
+        Prints (W.contents output.old) (W.contents output.new) (IsLeft text end))) }
+{
+    let text = read_all(alloc, input)?;
+    report_text(alloc, &text, output)
 }
 
 /// Reads all input, and prints two lines for each datagram in order: its RTP header with the values
@@ -110,11 +122,15 @@ fn report_input<R: Read, W: Write>(
 /// verdict 1: taken 47000
 /// ```
 pub fn run<R: Read, W: Write>(alloc: Global, input: &mut R, output: &mut W) -> RunEnd
-    // Where it is known what the reader gives.
-    ensures done { result ≡ RunEnd.Done → IfSome (R.remaining input.old) IsInput }
-    ensures bad_line { result ≡ RunEnd.BadLine → IfSome (R.remaining input.old) HasBadLine }
-    ensures taken { IfSome (R.remaining input.old) (λ text. IsInput text → result ≢ RunEnd.BadLine) }
-    ensures refused { IfSome (R.remaining input.old) (λ text. HasBadLine text → result ≢ RunEnd.Done) }
+    // Where it is known what the reader gives and what the writer holds.
+    ensures done { result ≡ RunEnd.Done → IfSome (R.remaining input.old) (λ text.
+        Prints (W.contents output.old) (W.contents output.new) (IsOutputOf text)) }
+    ensures bad_line { result ≡ RunEnd.BadLine → IfSome (R.remaining input.old) (λ text.
+        Prints (W.contents output.old) (W.contents output.new) (IsBadLineOf text)) }
+    ensures no_memory { result ≡ RunEnd.NoMemory → IfSome (R.remaining input.old) (λ text.
+        Prints (W.contents output.old) (W.contents output.new) (IsWantOf text)) }
+    ensures io { result ≡ RunEnd.Io → IfSome (R.remaining input.old) (λ text.
+        Prints (W.contents output.old) (W.contents output.new) (IsBeginningOf text)) }
 {
     match report_input(alloc, input, output) {
         Ok(()) => RunEnd::Done,

@@ -28,4 +28,4 @@ mod ReceiversLemmas
 pub mod VerdictLemmas
 pub mod TrueNumberLemmas
 mod SendingLemmas
-mod SourceLemmas
+pub mod SourceLemmas

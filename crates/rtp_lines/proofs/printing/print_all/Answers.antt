@@ -4,17 +4,12 @@ use Rattle.std.specs.Io.KnownBytes.{Appends}
 use Rattle.std.proofs.KnownBytes.{Appends-nil, Appends-kept}
 use Rattle.std.proofs.lemmas.List.{get_or-map, length-map}
 use Rattle.rtp_wire.specs.NotAHeader.{NotAHeader}
-use Rattle.rtp_wire.specs.Verdicts.{taken_by}
-use Rattle.rtp_wire.specs.Receiver.{IsNothing}
 use Rattle.rtp_wire.specs.declared.header.rtp_header.RtpHeader.{RtpHeader}
 use Rattle.rtp_lines.specs.declared.run.RunEnd.TheVariants.{NoMemory, Io}
 use Rattle.rtp_lines.specs.Output.{IsHeader, IsStopped, Prints, packet_lines}
 use Rattle.rtp_lines.proofs.PrintLemmas.{Printed, Printed-none, Printed-more, Printed-written, Prints-all, Prints-written, Prints-cut, Prints-nothing, handed_on}
 use Rattle.rtp_lines.proofs.printing.print_all.Goals as goal
 use Rattle.rtp_lines.proofs.printing.print_all.Goals.{then-len-ge-WRITTEN_AT_ONCE+in_ok-write_text-2, else-len-ge-WRITTEN_AT_ONCE}
-
-nothing : IsNothing (taken_by [])
-nothing n = refl
 
 pub returns-in_err-text-clause-err : goal.returns-in_err-text-clause-err
 returns-in_err-text-clause-err g c =
@@ -25,7 +20,7 @@ returns-in_err-text-clause-err g c =
 
 pub loop-index-init : goal.loop-index-init
 loop-index-init g c =
-    Printed-none _ _ _ _ c.new-receiver.result (Appends-nil (g.W.Write.contents c.args.output.now)) c.in_ok-text.ensures.bytes ((c.new-receiver.ensures (taken_by [])).1 nothing)
+    Printed-none _ _ _ _ c.new-receivers.result (Appends-nil (g.W.Write.contents c.args.output.now)) c.in_ok-text.ensures.bytes c.new-receivers.ensures
 
 pub returns-in_err-write_text-clause-err : goal.returns-in_err-write_text-clause-err
 returns-in_err-write_text-clause-err g c =
@@ -49,7 +44,7 @@ returns-in_err-write_text-2-clause-err g c =
     ∙ ap bytes (sym c.datagram-item.is) ∙ sym c.deref.ensures.value in
     handed_on c.from_residual-in_err-write_text-2.result c.in_err-write_text-2.field-0.0 Io _ c.from_residual-in_err-write_text-2.ensures.1 c.in_err-write_text-2.ensures.err
     (Prints-cut _ _ _ _ _ _ _ _ _
-    (Printed-more exts (map bytes items) done _ _ (string_bytes c.loop-index.text) (string_bytes c.push_lines.new.text) c.loop-index.receiver c.judged.new.receiver header c.in-Ok.verdict c.loop-index.invariant
+    (Printed-more exts (map bytes items) done _ _ (string_bytes c.loop-index.text) (string_bytes c.push_lines.new.text) c.loop-index.receivers c.judged.new.receivers header c.in-Ok.verdict c.loop-index.invariant
     (omega (arith, length-map items bytes)) (subst (λ (d : List ℕ). IsHeader exts d header) (sym here) c.in-Ok.ensures.header) (λ none. subst NotAHeader (sym here) (c.in-Ok.ensures.cause none))
     c.in-Ok.ensures.verdict c.in-Ok.ensures.after (c.in_ok-push_lines.ensures.ok ∙ shown))
     c.as_bytes-then-len-ge-WRITTEN_AT_ONCE.ensures.value c.in_err-write_text-2.ensures.beginning)
@@ -66,7 +61,7 @@ loop-index-preserved g c =
     get_or-map bytes items done c.datagram-item.result [] (omega arith) ∙ ap (λ (vs : List (Vec ℕ)). (get_or vs done c.datagram-item.result).items) (sym c.deref-datagram-items.ensures.value)
     ∙ ap bytes (sym c.datagram-item.is) ∙ sym c.deref.ensures.value in
     let more =
-    Printed-more exts (map bytes items) done _ _ (string_bytes c.loop-index.text) (string_bytes c.push_lines.new.text) c.loop-index.receiver c.judged.new.receiver header c.in-Ok.verdict c.loop-index.invariant
+    Printed-more exts (map bytes items) done _ _ (string_bytes c.loop-index.text) (string_bytes c.push_lines.new.text) c.loop-index.receivers c.judged.new.receivers header c.in-Ok.verdict c.loop-index.invariant
     (omega (arith, length-map items bytes)) (subst (λ (d : List ℕ). IsHeader exts d header) (sym here) c.in-Ok.ensures.header) (λ none. subst NotAHeader (sym here) (c.in-Ok.ensures.cause none))
     c.in-Ok.ensures.verdict c.in-Ok.ensures.after (c.in_ok-push_lines.ensures.ok ∙ shown) in
     elim c.if-len-ge-WRITTEN_AT_ONCE.branch [
