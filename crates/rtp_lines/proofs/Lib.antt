@@ -5,3 +5,4 @@ mod InputLemmas
 mod FrontLemmas
 mod ReadLemmas
 mod PrintLemmas
+mod RunLemmas

@@ -1,6 +1,7 @@
 //! One run of the program: all input is read, and then reported.
 
-ghost use Rattle.std.specs.Prelude.{◌≡◌, ◌⊎◌, IfOk, IfErr, IfSome, OnOk};
+ghost use Rattle.std.specs.Prelude.{◌≡◌, ◌≢◌, ◌⊎◌, IfOk, IfErr, IfSome, OnOk};
+ghost use Rattle.rtp_lines.specs.Input.{IsInput, HasBadLine};
 ghost use Rattle.rtp_lines.specs.Output.{IsOutputOf, IsBadLineOf, IsWantOf, IsBeginningOf, IsLeft, status_of, Prints};
 ghost use Rattle.rtp_lines.specs.declared.run.RunEnd.TheVariants.{NoMemory};
 
@@ -131,13 +132,19 @@ pub fn run<R: Read, W: Write>(alloc: Global, input: &mut R, output: &mut W) -> R
         Prints (W.contents output.old) (W.contents output.new) (IsWantOf text)) }
     ensures io { result ≡ RunEnd.Io → IfSome (R.remaining input.old) (λ text.
         Prints (W.contents output.old) (W.contents output.new) (IsBeginningOf text)) }
+
+    // Whether some line is bad decides between the first two.
+    ensures taken { IfSome (R.remaining input.old) (λ text. IsInput text → result ≢ RunEnd.BadLine) }
+    ensures refused { IfSome (R.remaining input.old) (λ text. HasBadLine text → result ≢ RunEnd.Done) }
 {
-    match report_input(alloc, input, output) {
-        Ok(()) => RunEnd::Done,
-        Err(RunEnd::NoMemory) => match write_text(output, b"want of memory\n") {
+    let Err(end) = report_input(alloc, input, output) else {
+        return RunEnd::Done;
+    };
+    match end {
+        RunEnd::NoMemory => match write_text(output, b"want of memory\n") {
             Ok(()) => RunEnd::NoMemory,
-            Err(end) => end,
+            Err(failed) => failed,
         },
-        Err(end) => end,
+        _ => end,
     }
 }
