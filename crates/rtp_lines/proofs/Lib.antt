@@ -4,3 +4,5 @@ mod MapLineLemmas
 mod InputLemmas
 mod FrontLemmas
 mod ReadLemmas
+mod PrintLemmas
+mod RunLemmas

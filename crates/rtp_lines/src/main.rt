@@ -6,6 +6,8 @@ mod hex_line;
 mod input;
 mod line;
 mod map_line;
+mod output;
+mod printing;
 mod report;
 mod run;
 #[cfg(test)]

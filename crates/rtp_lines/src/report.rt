@@ -1,5 +1,9 @@
 //! The lines that are printed.
 
+ghost use Rattle.std.specs.Prelude.{◌≡◌};
+ghost use Rattle.std.specs.Fmt.{WritesOnOk};
+ghost use Rattle.rtp_lines.specs.Report.{flag_text, stream_text, shape_text, ids_text, audio_text, sending_text, header_text};
+
 use rtp_wire::{ExtensionValues, RtpHeader, Verdict};
 use std::fmt;
 
@@ -13,12 +17,16 @@ pub struct HeaderLine<'a> {
 }
 
 // How a flag is printed.
-fn yes_or_no(flag: bool) -> &'static str {
+fn yes_or_no(flag: bool) -> &'static str
+    ensures { result.now ≡ flag_text flag }
+{
     if flag { "yes" } else { "no" }
 }
 
 // Payload type, sequence number, timestamp and SSRC.
-fn write_stream<W: fmt::Write>(header: &RtpHeader, f: &mut fmt::Formatter<W>) -> fmt::Result {
+fn write_stream<W: fmt::Write>(header: &RtpHeader, f: &mut fmt::Formatter<W>) -> fmt::Result
+    ensures { WritesOnOk W.write_str_gives f.old result (stream_text header.now) f.new }
+{
     let payload_type = header.payload_type;
     let number = header.sequence_number;
     let timestamp = header.timestamp;
@@ -30,7 +38,9 @@ fn write_stream<W: fmt::Write>(header: &RtpHeader, f: &mut fmt::Formatter<W>) ->
 }
 
 // The flags M, P and X, the number of CSRCs and the length of the header in bytes.
-fn write_shape<W: fmt::Write>(header: &RtpHeader, f: &mut fmt::Formatter<W>) -> fmt::Result {
+fn write_shape<W: fmt::Write>(header: &RtpHeader, f: &mut fmt::Formatter<W>) -> fmt::Result
+    ensures { WritesOnOk W.write_str_gives f.old result (shape_text header.now) f.new }
+{
     let marker = yes_or_no(header.marker);
     let padding = yes_or_no(header.has_padding);
     let extension = yes_or_no(header.has_extension);
@@ -42,8 +52,10 @@ fn write_shape<W: fmt::Write>(header: &RtpHeader, f: &mut fmt::Formatter<W>) -> 
     )
 }
 
-// The values of the extensions that the header carries. A text may be empty.
-fn write_values<W: fmt::Write>(values: &ExtensionValues, f: &mut fmt::Formatter<W>) -> fmt::Result {
+// The ids among the values of the extensions. A text may be empty.
+fn write_ids<W: fmt::Write>(values: &ExtensionValues, f: &mut fmt::Formatter<W>) -> fmt::Result
+    ensures { WritesOnOk W.write_str_gives f.old result (ids_text values.now) f.new }
+{
     if let Some(mid) = values.mid {
         write!(f, " mid {mid}")?;
     }
@@ -53,6 +65,13 @@ fn write_values<W: fmt::Write>(values: &ExtensionValues, f: &mut fmt::Formatter<
     if let Some(repaired) = values.rid_repair {
         write!(f, " repaired {repaired}")?;
     }
+    Ok(())
+}
+
+// The audio level, and whether there is voice.
+fn write_audio<W: fmt::Write>(values: &ExtensionValues, f: &mut fmt::Formatter<W>) -> fmt::Result
+    ensures { WritesOnOk W.write_str_gives f.old result (audio_text values.now) f.new }
+{
     if let Some(level) = values.audio_level {
         write!(f, " level {level}")?;
     }
@@ -60,6 +79,16 @@ fn write_values<W: fmt::Write>(values: &ExtensionValues, f: &mut fmt::Formatter<
         let voice = yes_or_no(voice);
         write!(f, " voice {voice}")?;
     }
+    Ok(())
+}
+
+// The send time, and the number on the transport.
+fn write_sending<W: fmt::Write>(
+    values: &ExtensionValues,
+    f: &mut fmt::Formatter<W>,
+) -> fmt::Result
+    ensures { WritesOnOk W.write_str_gives f.old result (sending_text values.now) f.new }
+{
     if let Some(time) = values.abs_send_time {
         write!(f, " send {time}")?;
     }
@@ -69,16 +98,31 @@ fn write_values<W: fmt::Write>(values: &ExtensionValues, f: &mut fmt::Formatter<
     Ok(())
 }
 
+// What a header says.
+fn write_header<W: fmt::Write>(header: &RtpHeader, f: &mut fmt::Formatter<W>) -> fmt::Result
+    ensures { WritesOnOk W.write_str_gives f.old result (header_text header.now) f.new }
+{
+    write_stream(header, f)?;
+    write_shape(header, f)?;
+    write_ids(&header.ext_vals, f)?;
+    write_audio(&header.ext_vals, f)?;
+    write_sending(&header.ext_vals, f)
+}
+
 impl fmt::Display for HeaderLine<'_> {
+    ghost use Rattle.std.specs.Prelude.{Some};
+    ghost use Rattle.std.specs.Option.{option_copied};
+    ghost use Rattle.rtp_lines.specs.Report.{header_line};
+
+    ghost output = { λ line. Some (header_line line.packet (option_copied line.header)) };
+
     fn fmt<W: fmt::Write>(&self, f: &mut fmt::Formatter<W>) -> fmt::Result {
         let packet = self.packet;
-        write!(f, "packet {packet}: ")?;
         match self.header {
-            None => f.write_str("unreadable"),
+            None => write!(f, "packet {packet}: unreadable"),
             Some(header) => {
-                write_stream(header, f)?;
-                write_shape(header, f)?;
-                write_values(&header.ext_vals, f)
+                write!(f, "packet {packet}: ")?;
+                write_header(header, f)
             }
         }
     }
@@ -93,6 +137,11 @@ pub struct VerdictLine {
 }
 
 impl fmt::Display for VerdictLine {
+    ghost use Rattle.std.specs.Prelude.{Some};
+    ghost use Rattle.rtp_lines.specs.Report.{verdict_line};
+
+    ghost output = { λ line. Some (verdict_line line.packet line.verdict) };
+
     fn fmt<W: fmt::Write>(&self, f: &mut fmt::Formatter<W>) -> fmt::Result {
         let packet = self.packet;
         match self.verdict {

@@ -2,14 +2,15 @@
 
 ghost use Rattle.std.specs.Prelude.{◌≡◌, ◌≢◌, ◌⊎◌, IfOk, IfErr, IfSome, OnOk};
 ghost use Rattle.rtp_lines.specs.Input.{IsInput, HasBadLine};
+ghost use Rattle.rtp_lines.specs.Output.{IsOutputOf, IsBadLineOf, IsWantOf, IsBeginningOf, IsLeft, status_of, Prints};
 ghost use Rattle.rtp_lines.specs.declared.run.RunEnd.TheVariants.{NoMemory};
 
-use super::input::{Input, InputError, read_input};
-use super::report::{HeaderLine, VerdictLine};
-use rtp_wire::{Receivers, RtpHeader, Verdict};
+use super::input::{InputError, read_input};
+use super::output::write_text;
+use super::printing::print_all;
 use std::alloc::{AllocError, Global};
 use std::io;
-use std::io::{BufWriter, ErrorKind, Read, Write};
+use std::io::{ErrorKind, Read, Write};
 
 /// How a run of the program ended.
 #[derive(Clone, Copy, Debug, PartialEq, Eq)]
@@ -27,7 +28,9 @@ pub enum RunEnd {
 
 impl RunEnd {
     /// The exit status of the program.
-    pub fn status(self) -> u8 {
+    pub fn status(self) -> u8
+        ensures { result ≡ status_of self }
+    {
         match self {
             RunEnd::Done => 0,
             RunEnd::Io => 1,
@@ -55,13 +58,6 @@ fn unread(error: io::Error) -> RunEnd
     }
 }
 
-// The end of a run whose write failed.
-fn unwritten(_: io::Error) -> RunEnd
-    ensures { result ≡ RunEnd.Io }
-{
-    RunEnd::Io
-}
-
 // All that is left to read.
 fn read_all<R: Read>(alloc: Global, input: &mut R) -> Result<Vec<u8>, RunEnd>
     ensures text { IfOk result (λ text. IfSome (R.remaining input.old) (λ known. text.items ≡ known)) }
@@ -72,49 +68,37 @@ fn read_all<R: Read>(alloc: Global, input: &mut R) -> Result<Vec<u8>, RunEnd>
     Ok(text)
 }
 
-// Prints the two lines of each datagram, in order.
-fn report_all<W: Write>(alloc: Global, input: &Input, output: &mut W) -> Result<(), RunEnd>
-    ensures { IfErr result (λ end. (end ≡ RunEnd.NoMemory) ⊎ (end ≡ RunEnd.Io)) }
+// Prints the lines of all datagrams of the text, or the line that names its first bad line.
+fn report_text<W: Write>(alloc: Global, text: &[u8], output: &mut W) -> Result<(), RunEnd>
+    ensures ok { OnOk result
+        (Prints (W.contents output.old) (W.contents output.new) (IsOutputOf text.now)) }
+    ensures err { IfErr result (λ end.
+        Prints (W.contents output.old) (W.contents output.new) (IsLeft text.now end)) }
 {
-    let mut receivers = Receivers::new(alloc);
-    let mut lines = BufWriter::new(alloc, output).map_err(|_| RunEnd::NoMemory)?;
-    for (index, datagram) in input.datagrams.iter().enumerate() {
-        let packet = index as u64 + 1;
-        let header = RtpHeader::parse(alloc, datagram, &input.exts)?;
-        let verdict = match &header {
-            Some(header) => receivers.receive(header)?,
-            None => Verdict::Unreadable,
-        };
-        let header = HeaderLine {
-            packet,
-            header: header.as_ref(),
-        };
-        let verdict = VerdictLine { packet, verdict };
-        writeln!(lines, "{header}\n{verdict}").map_err(unwritten)?;
+    match read_input(alloc, text) {
+        Ok(input) => print_all(alloc, &input, output),
+        Err(InputError::NoMemory) => Err(RunEnd::NoMemory),
+        Err(InputError::BadLine(number)) => {
+            let line = format!(in alloc; "line {number}: neither a map line nor hex\n")?;
+            write_text(output, line.as_bytes())?;
+            Err(RunEnd::BadLine)
+        }
     }
-    lines.flush().map_err(unwritten)
 }
 
-// Reads all lines, and then reports all datagrams, or the first bad line.
+// Reads all input, and prints what is due for it, but for `want of memory`.
 fn report_input<R: Read, W: Write>(
     alloc: Global,
     input: &mut R,
     output: &mut W,
 ) -> Result<(), RunEnd>
-    ensures done { OnOk result (IfSome (R.remaining input.old) IsInput) }
-    ensures failed { IfErr result (λ end. end ≢ RunEnd.Done) }
-    ensures bad_line { IfErr result (λ end. end ≡ RunEnd.BadLine →
-        IfSome (R.remaining input.old) HasBadLine) }
+    ensures ok { OnOk result (IfSome (R.remaining input.old) (λ text.
+        Prints (W.contents output.old) (W.contents output.new) (IsOutputOf text))) }
+    ensures err { IfErr result (λ end. IfSome (R.remaining input.old) (λ text.
+        Prints (W.contents output.old) (W.contents output.new) (IsLeft text end))) }
 {
     let text = read_all(alloc, input)?;
-    match read_input(alloc, &text) {
-        Ok(input) => report_all(alloc, &input, output),
-        Err(InputError::NoMemory) => Err(RunEnd::NoMemory),
-        Err(InputError::BadLine(number)) => {
-            writeln!(output, "line {number}: neither a map line nor hex").map_err(unwritten)?;
-            Err(RunEnd::BadLine)
-        }
-    }
+    report_text(alloc, &text, output)
 }
 
 /// Reads all input, and prints two lines for each datagram in order: its RTP header with the values
@@ -139,18 +123,28 @@ fn report_input<R: Read, W: Write>(
 /// verdict 1: taken 47000
 /// ```
 pub fn run<R: Read, W: Write>(alloc: Global, input: &mut R, output: &mut W) -> RunEnd
-    // Where it is known what the reader gives.
-    ensures done { result ≡ RunEnd.Done → IfSome (R.remaining input.old) IsInput }
-    ensures bad_line { result ≡ RunEnd.BadLine → IfSome (R.remaining input.old) HasBadLine }
+    // Where it is known what the reader gives and what the writer holds.
+    ensures done { result ≡ RunEnd.Done → IfSome (R.remaining input.old) (λ text.
+        Prints (W.contents output.old) (W.contents output.new) (IsOutputOf text)) }
+    ensures bad_line { result ≡ RunEnd.BadLine → IfSome (R.remaining input.old) (λ text.
+        Prints (W.contents output.old) (W.contents output.new) (IsBadLineOf text)) }
+    ensures no_memory { result ≡ RunEnd.NoMemory → IfSome (R.remaining input.old) (λ text.
+        Prints (W.contents output.old) (W.contents output.new) (IsWantOf text)) }
+    ensures io { result ≡ RunEnd.Io → IfSome (R.remaining input.old) (λ text.
+        Prints (W.contents output.old) (W.contents output.new) (IsBeginningOf text)) }
+
+    // Whether some line is bad decides between the first two.
     ensures taken { IfSome (R.remaining input.old) (λ text. IsInput text → result ≢ RunEnd.BadLine) }
     ensures refused { IfSome (R.remaining input.old) (λ text. HasBadLine text → result ≢ RunEnd.Done) }
 {
-    match report_input(alloc, input, output) {
-        Ok(()) => RunEnd::Done,
-        Err(RunEnd::NoMemory) => match writeln!(output, "want of memory") {
+    let Err(end) = report_input(alloc, input, output) else {
+        return RunEnd::Done;
+    };
+    match end {
+        RunEnd::NoMemory => match write_text(output, b"want of memory\n") {
             Ok(()) => RunEnd::NoMemory,
-            Err(_) => RunEnd::Io,
+            Err(failed) => failed,
         },
-        Err(end) => end,
+        _ => end,
     }
 }

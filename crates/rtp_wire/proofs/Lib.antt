@@ -14,5 +14,5 @@ mod ReceiversLemmas
 pub mod VerdictLemmas
 pub mod TrueNumberLemmas
 mod SendingLemmas
-mod SourceLemmas
+pub mod SourceLemmas
 mod SourceFacts
