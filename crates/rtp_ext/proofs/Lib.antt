@@ -6,6 +6,7 @@ pub mod MemoryLemmas
 mod KindLemmas
 mod MapLemmas
 mod ListingLemmas
+mod MappedIdLemmas
 mod FormLemmas
 pub mod WrittenBlockLemmas
 mod WrittenElementsLemmas

@@ -1,19 +1,18 @@
 -- The entries of a map as a list by rising id.
-use Rattle.std.proofs.Common.{◌≡◌, ℕ, ◌+◌, ◌<◌, ◌≤◌, ◌⊎◌, inl, inr, suc, zero, List, [], ◌∷◌, ◌++◌, length, map, drop, get_or, Bool, true, false, Option, Some, None, All, arith, ap, refl, sym, ◌∙◌, subst}
-use Rattle.std.specs.Prelude.{◌↔◌, ◌==◌, IsTrue}
-use Rattle.std.specs.List.{Contains, filter, cons_option, AllByRecursion}
-use Rattle.std.proofs.lemmas.Bool.{eqb-true, false≢true}
+use Rattle.std.proofs.Common.{◌≡◌, ℕ, ◌+◌, ◌<◌, ◌≤◌, ◌⊎◌, inl, inr, suc, zero, List, [], ◌∷◌, ◌++◌, length, get_or, Bool, true, false, Option, Some, None, All, arith, ap, refl, sym, ◌∙◌, subst}
+use Rattle.std.specs.List.{Contains, filter}
+use Rattle.std.proofs.lemmas.Bool.{false≢true}
 use Rattle.std.proofs.lemmas.Bool.Decides.{eqb_tells}
 use Rattle.std.proofs.lemmas.List.Elements.{All-append, All-cons, All-nil, Contains-append_left, Contains-append_right}
-use Rattle.std.specs.Option.{unwrap_or, option_map}
+use Rattle.std.specs.Option.{unwrap_or}
 use Rattle.rtp_ext.specs.declared.ext.kind.Extension.{Extension}
 use Rattle.rtp_ext.specs.declared.ext.entry.Entry.{Entry}
-use Rattle.rtp_ext.specs.MapSlots.{items_from, mapped_ids, items_at, IsMapped}
+use Rattle.rtp_ext.specs.MapSlots.{items_from}
 use Rattle.rtp_ext.proofs.MapLemmas.{entry_at-slot}
 use Rattle.rtp_ext.specs.ExtensionMap.{Slots, IsEmpty, entry_at, extension_at, extension_of, unlocked, Sets, IsLocked, IsUnlocked, IsRising, IsListing}
 
 -- the parts of a list of which all hold
-All-head : {X : Type 0} (P : X → Type 0) (x : X) (xs : List X) → All P (x ∷ xs) → P x
+pub All-head : {X : Type 0} (P : X → Type 0) (x : X) (xs : List X) → All P (x ∷ xs) → P x
 All-head P x xs all = all 0 x (omega arith)
 
 All-tail : {X : Type 0} (P : X → Type 0) (x : X) (xs : List X) → All P (x ∷ xs) → All P xs
@@ -160,8 +159,12 @@ items_from-items passed (None ∷ left) = AreItems-none passed left (items_from 
 items_from-items passed (Some entry ∷ left) =
     AreItems-some passed entry left (items_from (passed + 1) left) (items_from-items (passed + 1) left)
 
+-- the ids of the slots that are left are above the number of those passed
+pub above_passed : (passed : ℕ) (left : Slots) → All (λ item. passed < item.0) (items_from passed left)
+above_passed passed left = (items_from-items passed left).above
+
 -- slots in which nothing stands give none
-items_from-empty : (passed : ℕ) (left : Slots) → ((k : ℕ) → get_or left k None ≡ None) → items_from passed left ≡ []
+pub items_from-empty : (passed : ℕ) (left : Slots) → ((k : ℕ) → get_or left k None ≡ None) → items_from passed left ≡ []
 items_from-empty passed [] empty = refl
 items_from-empty passed (None ∷ left) empty = items_from-empty (passed + 1) left (λ k. empty (suc k))
 items_from-empty passed (Some entry ∷ left) empty = let first = empty 0 in cc
@@ -188,74 +191,6 @@ IsListing-from_slots slots =
     all (suc k) extension is =
         let index : 0 + k + 1 ≡ suc k = omega arith in
         subst (λ (n : ℕ). Contains (items_from 0 slots) (n, extension)) index ((items_from-items 0 slots).all k extension is)
-
--- what stands behind the ids of the slots left, once one more was passed
-here_later : (slots : Slots) (passed : ℕ) (slot : Option Entry) (left : Slots)
-    → ((k : ℕ) → entry_at slots (passed + k + 1) ≡ get_or (slot ∷ left) k None)
-    → (k : ℕ) → entry_at slots (passed + 1 + k + 1) ≡ get_or left k None
-here_later slots passed slot left here k =
-    let index : passed + 1 + k + 1 ≡ passed + suc k + 1 = omega arith in
-    ap (entry_at slots) index ∙ here (suc k)
-
--- the entries of the ids that the slots left give are what these slots give
-items_at-left : (slots : Slots) (passed : ℕ) (left : Slots) → ((k : ℕ) → entry_at slots (passed + k + 1) ≡ get_or left k None)
-    → items_at slots (map (λ item. item.0) (items_from passed left)) ≡ items_from passed left
-items_at-left slots passed [] here = refl
-items_at-left slots passed (None ∷ left) here = items_at-left slots (passed + 1) left (here_later slots passed None left here)
-items_at-left slots passed (Some entry ∷ left) here =
-    let ids = map (λ item. item.0) (items_from (passed + 1) left) in
-    let index : passed + 1 ≡ passed + 0 + 1 = omega arith in
-    ap (λ found. cons_option (option_map (λ extension. (passed + 1, extension)) found) (items_at slots ids))
-    (ap extension_of (ap (entry_at slots) index ∙ here 0))
-    ∙ ap (λ (items : List (ℕ × Extension)). (passed + 1, entry.extension) ∷ items)
-    (items_at-left slots (passed + 1) left (here_later slots passed (Some entry) left here))
-
--- the mapped ids give the listing of the map
-pub items_at-mapped : (slots : Slots) → items_at slots (mapped_ids slots) ≡ items_from 0 slots
-items_at-mapped slots = items_at-left slots 0 slots (λ k. entry_at-slot slots k (0 + k + 1) (omega arith))
-
-mapped-left : (slots : Slots) (passed : ℕ) (left : Slots) → ((k : ℕ) → entry_at slots (passed + k + 1) ≡ get_or left k None)
-    → AllByRecursion (IsMapped slots) (map (λ item. item.0) (items_from passed left))
-mapped-left slots passed [] here = tt
-mapped-left slots passed (None ∷ left) here = mapped-left slots (passed + 1) left (here_later slots passed None left here)
-mapped-left slots passed (Some entry ∷ left) here =
-    let index : passed + 1 ≡ passed + 0 + 1 = omega arith in (
-      (entry, ap (entry_at slots) index ∙ here 0),
-      mapped-left slots (passed + 1) left (here_later slots passed (Some entry) left here),
-    )
-
--- an entry stands behind each mapped id
-pub all_mapped : (slots : Slots) → AllByRecursion (IsMapped slots) (mapped_ids slots)
-all_mapped slots = mapped-left slots 0 slots (λ k. entry_at-slot slots k (0 + k + 1) (omega arith))
-
--- a map without mapped ids is empty, and an empty one has none
-IsEmpty-no_ids : (slots : Slots) → mapped_ids slots ≡ [] → IsEmpty slots
-IsEmpty-no_ids slots none id = nothing_at (entry_at slots id) refl
-  where
-    no_items : items_from 0 slots ≡ []
-    no_items = sym (items_at-mapped slots) ∙ ap (items_at slots) none
-
-    nothing_at : (slot : Option Entry) → entry_at slots id ≡ slot → entry_at slots id ≡ None
-    nothing_at None is = is
-    nothing_at (Some entry) is =
-        let found = (IsListing-from_slots slots).all id entry.extension (ap extension_of is) refl in
-        absurd (omega (arith, found.1, ap length no_items))
-
-pub no_ids-IsEmpty : (slots : Slots) → IsEmpty slots → mapped_ids slots ≡ []
-no_ids-IsEmpty slots empty = ap (map (λ item. item.0)) (items_from-empty 0 slots (λ k. empty (suc k)))
-
--- whether there are mapped ids tells whether the map is empty
-pub no_ids-tells : (slots : Slots) (ids : List ℕ) (none : Bool) → ids ≡ mapped_ids slots → none ≡ (length ids == 0)
-    → IsTrue none ↔ IsEmpty slots
-no_ids-tells slots [] none are is = (λ yes. IsEmpty-no_ids slots (sym are), λ empty. is)
-no_ids-tells slots (id ∷ ids) none are is = (
-  λ yes. absurd (omega (arith, eqb-true (length (id ∷ ids)) 0 (sym is ∙ yes))),
-  λ empty. let nothing = are ∙ no_ids-IsEmpty slots empty in absurd (omega (arith, ap length nothing)),
-)
-
--- the ids that the slots from an index on give
-abbrev pub ids_from : Slots → ℕ → List ℕ
-ids_from slots index = map (λ item. item.0) (items_from index (drop index slots))
 
 -- a truth value is one of two
 true_or_false : (b : Bool) → (b ≡ true) ⊎ (b ≡ false)

@@ -1,5 +1,5 @@
 -- The slots of a map as the code goes through them: that of id 1 is index 0.
-use Rattle.std.specs.Prelude.{◌≡◌, ◌≢◌, ℕ, ◌+◌, ◌<◌, List, [], ◌∷◌, length, map, Some, None, slice_index_or}
+use Rattle.std.specs.Prelude.{◌≡◌, ◌≢◌, ℕ, ◌+◌, ◌<◌, nat_lt, if◌then◌else◌, List, [], ◌∷◌, length, map, Some, None, slice_index_or}
 use Rattle.std.specs.Option.{option_map}
 use Rattle.std.specs.List.{filter_map}
 use Rattle.rtp_ext.specs.declared.ext.kind.Extension.{Extension}
@@ -25,6 +25,11 @@ IsMapped slots id = (entry : Entry) × (entry_at slots id ≡ Some entry)
 -- the mapped ids, rising
 abbrev pub mapped_ids : Slots → List ℕ
 mapped_ids slots = map (λ item. item.0) (items_from 0 slots)
+
+-- rising ids and one more
+abbrev pub inserted : ℕ → List ℕ → List ℕ
+inserted id [] = id ∷ []
+inserted id (first ∷ ids) = if nat_lt first id then first ∷ inserted id ids else id ∷ first ∷ ids
 
 -- the extensions of some ids, each with its id
 abbrev pub items_at : Slots → List ℕ → List (ℕ × Extension)

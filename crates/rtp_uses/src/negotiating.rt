@@ -8,8 +8,8 @@ use rtp_wire::{Extension, ExtensionMap};
 use std::alloc::{AllocError, Global};
 
 /// Takes up a line `a=extmap` of SDP (RFC 8285, 5): maps its id to the extension that its URI
-/// names. An id that a map has no room for changes nothing. Only the text of an unknown URI takes
-/// memory, and where that is refused nothing changes.
+/// names. The id 0 changes nothing. Only the text of an unknown URI takes memory, and where that is
+/// refused nothing changes.
 pub fn take_line(
     alloc: Global,
     exts: &mut ExtensionMap,

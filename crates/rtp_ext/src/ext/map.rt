@@ -22,7 +22,8 @@ pub const MAX_ID: u8 = 255;
 /// renegotiation has overwritten it: a later step for its extension doesn't move it, though it is
 /// moved where a step for another extension has its id.
 ///
-/// Two maps are equal exactly when the same ids are mapped to the same extensions, locked alike.
+/// Two maps are equal exactly when the same ids are mapped to the same extensions, locked alike. A
+/// map has its entries in place, some 12 KB, so lend it and don't move it for each packet.
 #[derive(Drop)]
 pub struct ExtensionMap {
     // What the ids from 1 on are mapped to.
@@ -108,20 +109,21 @@ impl ExtensionMap {
         self.mapped.as_slice().is_empty()
     }
 
-    /// Maps the id to the extension, unlocked, instead of what it was mapped to. An id that the map
-    /// has no room for, 0 or one above [`MAX_ID`], changes nothing.
+    /// Maps the id to the extension, unlocked, instead of what it was mapped to. The id 0, which a
+    /// map has no room for, changes nothing.
     pub fn set(&mut self, id: u8, ext: Extension)
         ensures within { spec.IsId id → spec.Sets self.old self.new id (spec.unlocked ext) }
         ensures outside { (spec.IsId id → ⊥) → self.new ≡ self.old }
     {
         if let Some(slot) = slots::slot_of(id) {
-            self.slots[slot] = Some(Entry::from(ext));
-            self.mapped = MappedIds::of(&self.slots);
+            let old = self.slots[slot].replace(Entry::from(ext));
+            if old.is_none() {
+                self.mapped.insert(id);
+            }
         }
     }
 
-    /// The extension that the id is mapped to, and `None` where there is none or the map has no room
-    /// for the id.
+    /// The extension that the id is mapped to, and `None` where there is none, as always for 0.
     pub fn lookup(&self, id: u8) -> Option<&Extension>
         ensures { option_copied result ≡ spec.extension_at self.now id }
     {
@@ -186,10 +188,10 @@ impl ExtensionMap {
     }
 
     /// Takes up the pairs of a renegotiation, one step after another: for each pair the peer maps
-    /// the id to the extension. A pair whose id the map has no room for, or whose extension isn't
-    /// mapped, changes nothing. The lowest id of the extension counts. Where that is the id, its
-    /// entry is locked. Where it is another and locked, nothing changes. Else the entry moves to
-    /// the id and is locked there, and the entry of that id, locked or not, moves to the other.
+    /// the id to the extension. A pair whose id is 0, or whose extension isn't mapped, changes
+    /// nothing. The lowest id of the extension counts. Where that is the id, its entry is locked.
+    /// Where it is another and locked, nothing changes. Else the entry moves to the id and is locked
+    /// there, and the entry of that id, locked or not, moves to the other.
     ///
     /// A map of 3 to the transport number, 4 to the video orientation and 5 to the content type, after
     /// the pairs of 12 and the video orientation, and of 14 and the transport number, maps 5 to the

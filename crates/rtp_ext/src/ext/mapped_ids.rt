@@ -1,7 +1,7 @@
 //! The ids of a map that are mapped.
 
-ghost use Rattle.std.specs.Prelude.{◌≡◌, ◌<◌, ◌∷◌, ◌++◌, [], length};
-ghost use Rattle.rtp_ext.specs.MapSlots.{mapped_ids};
+ghost use Rattle.std.specs.Prelude.{◌≡◌, ◌<◌, ◌≤◌, ◌∷◌, ◌++◌, [], length, take, drop};
+ghost use Rattle.rtp_ext.specs.MapSlots.{mapped_ids, inserted};
 
 use super::entry::Entry;
 use super::map::MAX_ID;
@@ -60,6 +60,33 @@ impl MappedIds {
             }
         }
         mapped
+    }
+
+    // How many ids are lower than this one.
+    fn place_of(&self, id: u8) -> usize
+        ensures within { result ≤ length self.now }
+        ensures splits { inserted id self.now
+            ≡ take result self.now ++ id ∷ drop result self.now }
+    {
+        let ids = self.as_slice();
+        for (place, listed) in ids.iter().enumerate() {
+            if *listed >= id {
+                return place;
+            }
+        }
+        ids.len()
+    }
+
+    // Puts in an id that isn't mapped yet.
+    pub(super) fn insert(&mut self, id: u8)
+        requires { length self.old < MAX_ID }
+        ensures { self.new ≡ inserted id self.old }
+    {
+        let place = self.place_of(id);
+        self.ids
+            .copy_within(place..usize::from(self.count), place + 1);
+        self.ids[place] = id;
+        self.count += 1;
     }
 
     pub(super) fn as_slice(&self) -> &[u8]

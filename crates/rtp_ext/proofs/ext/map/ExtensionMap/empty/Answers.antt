@@ -1,7 +1,7 @@
 use Rattle.std.proofs.Common.{None, rules, arith, sym, ◌∙◌}
 use Rattle.rtp_ext.specs.ExtensionMap.{IsEmpty}
 use Rattle.rtp_ext.proofs.MapLemmas.{IsEmpty-from_each}
-use Rattle.rtp_ext.proofs.ListingLemmas.{no_ids-IsEmpty}
+use Rattle.rtp_ext.proofs.MappedIdLemmas.{no_ids-IsEmpty}
 use Rattle.rtp_ext.proofs.ext.map.ExtensionMap.empty.Goals as goal
 
 empty : (c : goal.After-none) → IsEmpty c.from_fn.result

@@ -1,6 +1,6 @@
 use Rattle.std.proofs.Common.{◌↔◌, IsTrue, ◌∙◌, subst}
 use Rattle.rtp_ext.specs.ExtensionMap as spec
-use Rattle.rtp_ext.proofs.ListingLemmas.{no_ids-tells}
+use Rattle.rtp_ext.proofs.MappedIdLemmas.{no_ids-tells}
 use Rattle.rtp_ext.proofs.ext.map.ExtensionMap.is_empty.Goals as goal
 
 pub returns : goal.returns

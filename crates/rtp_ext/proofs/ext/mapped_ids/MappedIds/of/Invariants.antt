@@ -1,6 +1,6 @@
 use Rattle.std.proofs.Common.{◌≡◌, ◌≤◌, ◌++◌, length}
 use Rattle.rtp_ext.specs.MapSlots.{mapped_ids}
-use Rattle.rtp_ext.proofs.ListingLemmas.{ids_from}
+use Rattle.rtp_ext.proofs.MappedIdLemmas.{ids_from}
 use Rattle.rtp_ext.proofs.ext.mapped_ids.MappedIds.of.Given as goal
 
 -- the ids so far, and those of the slots that are left, are the mapped ones
