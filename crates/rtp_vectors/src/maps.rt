@@ -112,7 +112,12 @@ fn emptiness(rt: HostRuntime) {
 }
 
 // The entries have these ids, in this order.
-pub(crate) fn have_ids(rt: &impl Abort, alloc: Global, entries: IterByMediaType<'_>, wanted: &[u8]) {
+pub(crate) fn have_ids(
+    rt: &impl Abort,
+    alloc: Global,
+    entries: IterByMediaType<'_>,
+    wanted: &[u8],
+) {
     let ids = entries.map(|(id, _)| id).collect::<Vec<_>>(alloc);
     same(rt, "the ids", ids.expect(rt, "memory").as_slice(), wanted);
 }

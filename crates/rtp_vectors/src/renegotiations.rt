@@ -82,10 +82,7 @@ fn what_stood_in_the_way_moves(rt: HostRuntime) {
 #[test]
 fn steps_that_change_nothing(rt: HostRuntime) {
     let mut map = ExtensionMap::standard();
-    map.remap(&[
-        (0, &Extension::AudioLevel),
-        (5, &Extension::ColorSpace),
-    ]);
+    map.remap(&[(0, &Extension::AudioLevel), (5, &Extension::ColorSpace)]);
     is_map(&rt, &map, ExtensionMap::standard());
     map.remap(&[]);
     is_map(&rt, &map, ExtensionMap::standard());
