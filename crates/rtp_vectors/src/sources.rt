@@ -25,8 +25,8 @@ fn check(rt: &impl Abort, alloc: Global, run: &[Vec<u8>], by_source: &[Verdict],
     same(rt, "one for all", found.as_slice(), one);
 }
 
-// The packets of two sources, and as what each is taken with a receiver for each source, and with one
-// for all.
+// The packets of two sources, and as what each is taken with a receiver for each source, and with
+// one for all.
 const TWO_SOURCES: [(u32, u16, Option<u64>, Option<u64>); 5] = [
     (1, 65535, Some(65535), Some(65535)),
     (2, 10, Some(10), Some(65546)),

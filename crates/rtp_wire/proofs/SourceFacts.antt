@@ -1,5 +1,5 @@
 -- Worked rows of a run of two sources, computed from the definitions: the numbers 65,535 of source 1, 10 of source 2, a datagram without a header, 0 of source 1 and 10 of source 2.
-use Rattle.std.proofs.Common.{◌≡◌, ℕ, true, false, ◌||◌, eqb, List, [], ◌∷◌, Option, Some, None, refl, inl, inr, arith}
+use Rattle.std.proofs.Common.{◌≡◌, ℕ, true, false, eqb, List, [], ◌∷◌, Option, Some, None, refl, inl, inr, arith}
 use Rattle.std.proofs.lemmas.Bool.{eqb-true, or_cases, false≢true}
 use Rattle.rtp_base.specs.Window.{Numbers, IsGreatest}
 use Rattle.rtp_wire.specs.declared.receive.verdict.Verdict.{Verdict}

@@ -19,13 +19,13 @@ use std::marker::Model;
 /// The receive state of the streams that share a transport: a [`Receiver`] for each SSRC (RFC 3550,
 /// 3; RFC 3711, 3.2.3).
 ///
-/// A source gets its receiver with the first packet that is recorded or received of it, and keeps it
-/// until it is forgotten ([`forget`](Self::forget)). The number of receivers has no limit: where
-/// packets are not authenticated, a caller may set one of its own ([`len`](Self::len)). What a packet
-/// costs grows with the logarithm of that number, whoever chooses the SSRCs.
+/// A source gets its receiver with the first packet that is recorded or received of it, and keeps
+/// it until it is forgotten ([`forget`](Self::forget)). The number of receivers has no limit: where
+/// packets are not authenticated, a caller may set one of its own ([`len`](Self::len)). What a
+/// packet costs grows with the logarithm of that number, whoever chooses the SSRCs.
 ///
-/// No source changes what another one's receiver holds. So with the packets 65,535 of source 1, 10 of
-/// source 2 and 0 of source 1, `receive` takes 65,535, 10 and 65,536.
+/// No source changes what another one's receiver holds. So with the packets 65,535 of source 1, 10
+/// of source 2 and 0 of source 1, `receive` takes 65,535, 10 and 65,536.
 #[derive(Debug, Drop)]
 pub struct Receivers {
     by_ssrc: BTreeMap<Ssrc, Receiver>,
@@ -70,9 +70,9 @@ impl Receivers {
         self.by_ssrc.get(&ssrc)
     }
 
-    /// Drops the source, as after it said goodbye (RFC 3550, 6.6), and returns its receiver; `None`,
-    /// and nothing changes, where it has none. A later packet of the source is the first one of a new
-    /// receiver: so a copy of an old packet is taken again.
+    /// Drops the source, as after it said goodbye (RFC 3550, 6.6), and returns its receiver;
+    /// `None`, and nothing changes, where it has none. A later packet of the source is the first
+    /// one of a new receiver: so a copy of an old packet is taken again.
     pub fn forget(&mut self, ssrc: Ssrc) -> Option<Receiver>
         ensures receiver { result ≡ receiver_of self.old ssrc }
         ensures forgotten { receiver_of self.new ssrc ≡ None }
@@ -84,7 +84,8 @@ impl Receivers {
     }
 
     /// The extended sequence number of a packet with this header: the one nearest to the highest
-    /// number taken of its source (RFC 3711, 3.3.1), and the header's 16 bits where none is taken yet.
+    /// number taken of its source (RFC 3711, 3.3.1), and the header's 16 bits where none is taken
+    /// yet.
     pub fn number_of(&self, header: &RtpHeader) -> SeqNo
         ensures nearest { (taken : Numbers) → Holds (state_of self.now header.now.ssrc) taken →
             IsNumberOf taken header.now.sequence_number result }
@@ -101,8 +102,8 @@ impl Receivers {
         }
     }
 
-    /// Whether the number may be taken of the source: none is taken of it yet, or the number is above
-    /// the highest one taken of it, or less than 128 below that and not taken.
+    /// Whether the number may be taken of the source: none is taken of it yet, or the number is
+    /// above the highest one taken of it, or less than 128 below that and not taken.
     pub fn accepts(&self, ssrc: Ssrc, number: SeqNo) -> bool
         ensures { (taken : Numbers) → Holds (state_of self.now ssrc) taken →
             (IsTrue result ↔ IsFresh taken number) }
@@ -136,10 +137,11 @@ impl Receivers {
         Ok(())
     }
 
-    /// The verdict on a packet with this header: taken, and then recorded, exactly when its extended
-    /// sequence number may be taken of its source; refused, and then that source's receiver holds
-    /// what it held, where not. It is [`number_of`](Self::number_of), [`accepts`](Self::accepts) and
-    /// [`record`](Self::record) in one, where nothing is authenticated.
+    /// The verdict on a packet with this header: taken, and then recorded, exactly when its
+    /// extended sequence number may be taken of its source; refused, and then that source's
+    /// receiver holds what it held, where not. It is [`number_of`](Self::number_of),
+    /// [`accepts`](Self::accepts) and [`record`](Self::record) in one, where nothing is
+    /// authenticated.
     ///
     /// Memory is taken for a new receiver alone; where it is refused nothing changes.
     pub fn receive(&mut self, header: &RtpHeader) -> Result<Verdict, AllocError>

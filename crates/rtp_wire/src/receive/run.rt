@@ -16,9 +16,9 @@ use std::alloc::{AllocError, Global};
 /// ([`Receivers`]): a datagram without a header is unreadable and changes nothing. Nothing is
 /// authenticated here.
 ///
-/// Memory is taken for the list of the verdicts, made at once, for the receiver of each SSRC, at the
-/// first datagram that has a header with it, and for the layer allocation of a datagram while its
-/// header is looked at; where it is refused nothing is handed out.
+/// Memory is taken for the list of the verdicts, made at once, for the receiver of each SSRC, at
+/// the first datagram that has a header with it, and for the layer allocation of a datagram while
+/// its header is looked at; where it is refused nothing is handed out.
 pub fn receive_run(
     alloc: Global,
     datagrams: &[Vec<u8>],
