@@ -3,7 +3,7 @@ use Rattle.std.proofs.Common.{◌≡◌, ℕ, ◌+◌, ◌<◌, List, [], ◌∷
 use Rattle.std.specs.Prelude.{◌≢◌, suc}
 use Rattle.std.specs.List.{All}
 use Rattle.std.specs.Str.{IsUtf8}
-use Rattle.std.specs.Str.Parse.{AllDigits, digits_value}
+use Rattle.std.specs.Str.Parse.{AllDigits}
 use Rattle.std.specs.Char.{IsAsciiDigit}
 use Rattle.std.proofs.lemmas.Fmt.{IsAscii-from_digits}
 use Rattle.std.proofs.lemmas.Str.{IsUtf8-from_ascii}
@@ -60,10 +60,3 @@ some_space text before after split none =
 -- after `map ` a map line has its digits, a space and its URI
 pub behind_word : (line rest : List ℕ) (id : ℕ) (uri : List ℕ) (m : IsMapLine line id uri) → rest ≡ drop 4 line → rest ≡ m.digits ++ 32 ∷ uri
 behind_word line rest id uri m e = e ∙ ap (drop 4) m.in_order
-
--- a line is a map line in one way
-pub one_reading : (line : List ℕ) (id id' : ℕ) (uri uri' : List ℕ) → IsMapLine line id uri → IsMapLine line id' uri' → (id ≡ id') × (uri ≡ uri')
-one_reading line id id' uri uri' m m' =
-    let parts = one_split m.digits uri m'.digits uri' (no_space m.digits m.digits_are.are_digits) (no_space m'.digits m'.digits_are.are_digits)
-    (ap (drop 4) (sym m.in_order ∙ m'.in_order)) in
-    (m.digits_are.value_is ∙ ap (digits_value 10) parts.0 ∙ sym m'.digits_are.value_is, parts.1)

@@ -149,9 +149,11 @@ module _ (exts : ExtensionMap) (datagrams : List (List ℕ)) (done : ℕ) (old n
 
   -- all lines are written
   pub Prints-all : (last : Option (List ℕ)) → length datagrams ≤ done → Appends new after bytes → Keeps after last → Prints old last (IsReport exts datagrams)
-  Prints-all last all appends keeps =
-      (p.written ++ text, Appends-kept old after last (p.written ++ text) (appended appends) keeps,
-      subst (λ (ds : List (List ℕ)). IsReport exts ds (p.written ++ text)) (take_all done datagrams all) report)
+  Prints-all last all appends keeps = (
+    p.written ++ text,
+    Appends-kept old after last (p.written ++ text) (appended appends) keeps,
+    subst (λ (ds : List (List ℕ)). IsReport exts ds (p.written ++ text)) (take_all done datagrams all) report,
+  )
 
   -- the lines so far are written, and memory is refused
   pub Prints-written : Appends new after bytes → Prints old after (IsStopped exts datagrams NoMemory)
@@ -159,9 +161,15 @@ module _ (exts : ExtensionMap) (datagrams : List (List ℕ)) (done : ℕ) (old n
 
   -- only a beginning of the lines is written
   pub Prints-cut : Prints new after (λ (printed : List ℕ). (rest : List ℕ) × (bytes ≡ printed ++ rest)) → Prints old after (IsStopped exts datagrams Io)
-  Prints-cut (printed, appends, (rest, split)) =
-      (p.written ++ printed, Appends-trans old new after p.written printed p.appended appends, (done, rest,
-      subst (IsReport exts (take done datagrams)) (ap (λ (xs : List ℕ). p.written ++ xs) (sym same ∙ split) ∙ sym (append_assoc p.written printed rest)) report))
+  Prints-cut (printed, appends, (rest, split)) = (
+    p.written ++ printed,
+    Appends-trans old new after p.written printed p.appended appends,
+    (
+      done,
+      rest,
+      subst (IsReport exts (take done datagrams)) (ap (λ (xs : List ℕ). p.written ++ xs) (sym same ∙ split) ∙ sym (append_assoc p.written printed rest)) report,
+    ),
+  )
 
 -- memory is refused before anything is printed
 pub Prints-nothing : (exts : ExtensionMap) (datagrams : List (List ℕ)) (old : Option (List ℕ)) → Prints old old (IsStopped exts datagrams NoMemory)

@@ -1,5 +1,5 @@
 -- The whole input: its front and its rest.
-use Rattle.std.proofs.Common.{◌≡◌, ℕ, ◌+◌, ◌<◌, List, [], ◌∷◌, ◌++◌, length, map, drop, Result, Ok, Err, refl, sym, ap, ◌∙◌, subst, arith, append_assoc, length-append, Bool, true, false}
+use Rattle.std.proofs.Common.{◌≡◌, ℕ, List, [], ◌∷◌, ◌++◌, length, drop, Result, Ok, Err, refl, sym, ap, ◌∙◌, subst, arith, append_assoc, length-append, Bool, true, false}
 use Rattle.std.specs.Prelude.{◌==◌, IsErr, IsErrAnd, IfErr, Option, Some, None, IfSome, if◌then◌else◌, ◌%◌}
 use Rattle.std.specs.Str.Lines.{lines}
 use Rattle.hex.specs.Hex.{decode_of, decode_pairs}
@@ -7,7 +7,6 @@ use Rattle.hex.specs.declared.error.FromHexError.{FromHexError}
 use Rattle.hex.specs.declared.error.FromHexError.TheVariants.{InvalidHexCharacter, OddLength}
 use Rattle.rtp_ext.specs.ExtensionMap.{Slots}
 use Rattle.rtp_lines.specs.MapLine.{IsMapLine}
-use Rattle.rtp_lines.proofs.MapLineLemmas.{one_reading}
 use Rattle.rtp_lines.specs.Input.{Item, AreMapLines, AreHex, AreLines, AreMapped, IsStandard, IsMapOf, Spells, IsFirstBadLine, IsInput, HasBadLine}
 use Rattle.rtp_lines.specs.Front.{IsFront, IsFirstNotHex, MapsNoneFirst}
 
@@ -72,90 +71,14 @@ none_bad (line ∷ maps) (item ∷ items) others datagrams (line' ∷ maps') [] 
 none_bad (line ∷ maps) (item ∷ items) others datagrams (line' ∷ maps') (item' ∷ items') others' datagrams' bad after are hex are' hex' same err no_map =
     none_bad maps items others datagrams maps' items' others' datagrams' bad after are.1 hex are'.1 hex' (ap (drop 1) same) err no_map
 
--- bytes and items that show alike are alike
-same_bytes : (datagrams datagrams' : List (List ℕ)) → ◌≡◌ {A = List (Result (List ℕ) FromHexError)} (map Ok datagrams) (map Ok datagrams') → datagrams ≡ datagrams'
-same_bytes [] [] same = refl
-same_bytes [] (bytes' ∷ datagrams') same = absurd (cc)
-same_bytes (bytes ∷ datagrams) [] same = absurd (cc)
-same_bytes (bytes ∷ datagrams) (bytes' ∷ datagrams') same =
-    let rest = same_bytes datagrams datagrams' (ap (drop 1) same) in
-    let here : bytes ≡ bytes' = cc in
-    cc
-
-same_item : (id id' : ℕ) (uri uri' : List ℕ) → id ≡ id' → uri ≡ uri' → ◌≡◌ {A = Item} (id, uri) (id', uri')
-same_item id id' uri uri' same_id same_uri = cc
-
--- two readings of some lines are one
-same_lines : (maps : List (List ℕ)) (items : List Item) (others datagrams : List (List ℕ)) → (maps' : List (List ℕ)) (items' : List Item) (others' datagrams' : List (List ℕ))
-    → AreMapLines maps items → AreHex others datagrams → AreMapLines maps' items' → AreHex others' datagrams' → maps ++ others ≡ maps' ++ others'
-    → (items ≡ items') × (datagrams ≡ datagrams')
-same_lines [] [] others datagrams [] [] others' datagrams' are hex are' hex' same =
-    (refl, same_bytes datagrams datagrams' (sym hex ∙ ap (map decode_of) same ∙ hex'))
-same_lines [] (item ∷ items) others datagrams maps' items' others' datagrams' are hex are' hex' same = absurd are
-same_lines [] [] others datagrams [] (item ∷ items') others' datagrams' are hex are' hex' same = absurd are'
-same_lines [] [] others datagrams (line ∷ maps') [] others' datagrams' are hex are' hex' same = absurd are'
-same_lines [] [] others datagrams (line ∷ maps') (item ∷ items') others' datagrams' are hex are' hex' same =
-    let first = hex_first line (maps' ++ others') datagrams (subst (λ (ls : List (List ℕ)). AreHex ls datagrams) same hex) in
-    absurd (map_is_no_hex line item.0 item.1 first.0 are'.0 first.2)
-same_lines (line ∷ maps) [] others datagrams maps' items' others' datagrams' are hex are' hex' same = absurd are
-same_lines (line ∷ maps) (item ∷ items) others datagrams [] [] others' datagrams' are hex are' hex' same =
-    let first = hex_first line (maps ++ others) datagrams' (subst (λ (ls : List (List ℕ)). AreHex ls datagrams') (sym same) hex') in
-    absurd (map_is_no_hex line item.0 item.1 first.0 are.0 first.2)
-same_lines (line ∷ maps) (item ∷ items) others datagrams [] (item' ∷ items') others' datagrams' are hex are' hex' same = absurd are'
-same_lines (line ∷ maps) (item ∷ items) others datagrams (line' ∷ maps') [] others' datagrams' are hex are' hex' same = absurd are'
-same_lines (line ∷ maps) (item ∷ items) others datagrams (line' ∷ maps') (item' ∷ items') others' datagrams' are hex are' hex' same =
-    let here : line ≡ line' = cc in
-    let item_is = one_reading line' item.0 item'.0 item.1 item'.1 (subst (λ (l : List ℕ). IsMapLine l item.0 item.1) here are.0) are'.0 in
-    let rest = same_lines maps items others datagrams maps' items' others' datagrams' are.1 hex are'.1 hex' (ap (drop 1) same) in
-    let item_same : item ≡ item' = same_item item.0 item'.0 item.1 item'.1 item_is.0 item_is.1 in
-    (cc, rest.1)
-
--- what was read is the only reading
-pub only_reading : (text : List ℕ) (exts : Slots) (found : List (List ℕ)) (items : List Item) (datagrams : List (List ℕ)) → Spells text exts found
-    → AreLines (lines text) items datagrams → (found ≡ datagrams) × IsMapOf items exts
-only_reading text exts found items datagrams spells reading =
-    let same = same_lines spells.lines_are.maps spells.items spells.lines_are.others found reading.maps items reading.others datagrams
-    spells.lines_are.are_maps spells.lines_are.spelled reading.are_maps reading.spelled (sym spells.lines_are.in_order ∙ reading.in_order) in
-    (same.1, subst (λ (is : List Item). IsMapOf is exts) same.0 spells.exts_are)
-
--- good lines have no first bad one among them, and so an input has none
-bad_among : (text : List ℕ) (number : ℕ) (all more : List (List ℕ)) (items : List Item) (datagrams : List (List ℕ)) → AreLines all items datagrams
-    → (bad : IsFirstBadLine text number) → all ≡ bad.before ++ bad.bad ∷ more → ⊥
-bad_among text number all more items datagrams good bad split =
-    none_bad good.maps items good.others datagrams bad.good_before.maps bad.items bad.good_before.others bad.datagrams bad.bad more
+-- an input has no first bad line
+no_bad_line : (text : List ℕ) (items : List Item) (datagrams : List (List ℕ)) (number : ℕ) → AreLines (lines text) items datagrams → IsFirstBadLine text number → ⊥
+no_bad_line text items datagrams number good bad =
+    none_bad good.maps items good.others datagrams bad.good_before.maps bad.items bad.good_before.others bad.datagrams bad.bad bad.after
     good.are_maps good.spelled bad.good_before.are_maps bad.good_before.spelled
-    (sym good.in_order ∙ split ∙ ap (λ (ls : List (List ℕ)). ls ++ bad.bad ∷ more) bad.good_before.in_order
-    ∙ append_assoc bad.good_before.maps bad.good_before.others (bad.bad ∷ more))
+    (sym good.in_order ∙ bad.in_order ∙ ap (λ (ls : List (List ℕ)). ls ++ bad.bad ∷ bad.after) bad.good_before.in_order
+    ∙ append_assoc bad.good_before.maps bad.good_before.others (bad.bad ∷ bad.after))
     bad.not_hex bad.no_map
-
-pub no_bad_line : (text : List ℕ) (items : List Item) (datagrams : List (List ℕ)) (number : ℕ) → AreLines (lines text) items datagrams → IsFirstBadLine text number → ⊥
-no_bad_line text items datagrams number good bad = bad_among text number (lines text) bad.after items datagrams good bad bad.in_order
-
--- the first bad line is one
-longer : (before : List (List ℕ)) (line : List ℕ) (after before' after' : List (List ℕ)) → length before < length before' → before ++ line ∷ after ≡ before' ++ after'
-    → (more : List (List ℕ)) × (before' ≡ before ++ line ∷ more)
-longer before line after [] after' shorter same = absurd (omega arith)
-longer [] line after (line' ∷ before') after' shorter same = let here : line ≡ line' = cc in (before', cc)
-longer (first ∷ before) line after (line' ∷ before') after' shorter same =
-    let rest = longer before line after before' after' (omega arith) (ap (drop 1) same) in
-    let here : first ≡ line' = cc in
-    (rest.0, cc)
-
-numbers : (n m a b : ℕ) → n ≡ a + 1 → m ≡ b + 1 → (a < b → ⊥) → (b < a → ⊥) → n ≡ m
-numbers n m a b is is' earlier later = grind arith
-
-none_earlier : (text : List ℕ) (number number' : ℕ) (bad : IsFirstBadLine text number) (bad' : IsFirstBadLine text number') → length bad.before < length bad'.before → ⊥
-none_earlier text number number' bad bad' shorter =
-    let front = longer bad.before bad.bad bad.after bad'.before (bad'.bad ∷ bad'.after) shorter (sym bad.in_order ∙ bad'.in_order) in
-    bad_among text number bad'.before front.0 bad'.items bad'.datagrams bad'.good_before bad front.1
-
-pub one_bad_line : (text : List ℕ) (number number' : ℕ) → IsFirstBadLine text number → IsFirstBadLine text number' → number ≡ number'
-one_bad_line text number number' bad bad' =
-    let earlier : length bad.before < length bad'.before → ⊥ = none_earlier text number number' bad bad' in
-    let later : length bad'.before < length bad.before → ⊥ = none_earlier text number' number bad' bad in
-    let is : number ≡ length bad.before + 1 = bad.number_is in
-    let is' : number' ≡ length bad'.before + 1 = bad'.number_is in
-    numbers number number' (length bad.before) (length bad'.before) is is' earlier later
 
 -- the first bad line after the front is the first of all
 pub IsFirstBadLine-behind : (text rest : List ℕ) (exts : Slots) (count number : ℕ) → IsFront text exts count rest → MapsNoneFirst rest

@@ -1,5 +1,5 @@
 -- What a run prints, put together.
-use Rattle.std.proofs.Common.{◌≡◌, ℕ, List, [], ◌++◌, Option, Some, None, Result, Ok, Err, refl, sym, subst, append_assoc, append-nil, ap, ◌∙◌, codes}
+use Rattle.std.proofs.Common.{◌≡◌, ℕ, List, [], ◌++◌, Option, Some, None, Result, Ok, Err, refl, sym, append_assoc, ap, ◌∙◌, codes}
 use Rattle.std.specs.Prelude.{IfSome, IfErr}
 use Rattle.std.specs.Io.KnownBytes.{Appends}
 use Rattle.std.proofs.KnownBytes.{Appends-nil, Appends-trans}
@@ -44,9 +44,11 @@ Prints-want text old new after want (front, appends, is) =
 
 pub Prints-part_of_want : (text : List ℕ) (old new after : Option (List ℕ)) → Prints new after (λ (printed : List ℕ). (rest : List ℕ) × (codes "want of memory\n" ≡ printed ++ rest))
     → Prints old new (IsFrontOf text) → Prints old after (IsBeginningOf text)
-Prints-part_of_want text old new after (part, more, (rest, split)) (front, appends, is) =
-    (front ++ part, Appends-trans old new after front part appends more,
-    of_want rest (record { front = front; front_is = is; printed_is = append_assoc front part rest ∙ ap (λ (xs : List ℕ). front ++ xs) (sym split) }))
+Prints-part_of_want text old new after (part, more, (rest, split)) (front, appends, is) = (
+  front ++ part,
+  Appends-trans old new after front part appends more,
+  of_want rest (record { front = front; front_is = is; printed_is = append_assoc front part rest ∙ ap (λ (xs : List ℕ). front ++ xs) (sym split) }),
+)
 
 -- an output says of its input whether all lines are well-formed
 pub IsInput-printed : (old new : Option (List ℕ)) (text : List ℕ) → Prints old new (IsOutputOf text) → IsInput text

@@ -1,5 +1,5 @@
 -- What is printed of each datagram: the line of its header, and the line of the verdict on it.
-use Rattle.std.specs.Prelude.{ℕ, ◌+◌, List, [], ◌∷◌, ◌++◌, Bool, true, false, codes, Option, Some, None}
+use Rattle.std.specs.Prelude.{ℕ, List, [], ◌++◌, Bool, true, false, codes, Option, Some, None}
 use Rattle.std.specs.Fmt.{decimal, signed_decimal}
 use Rattle.rtp_base.specs.Id.{before_padding}
 use Rattle.rtp_ext.specs.HeaderValues.{HeaderValues}

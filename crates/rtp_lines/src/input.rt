@@ -1,10 +1,10 @@
 //! What the input says: the extension map, and the datagrams.
 
-ghost use Rattle.std.specs.Prelude.{◌≡◌, ◌+◌, ◌<◌, ◌^◌, List, ℕ, length, map, IfOk, IfErr, IfSome, IfNone, IsErr, IsErrAnd, ◌⊎◌};
+ghost use Rattle.std.specs.Prelude.{◌≡◌, ◌+◌, ◌<◌, ◌^◌, ℕ, length, map, IfOk, IfErr, IfSome, IfNone, IsErr};
 ghost use Rattle.std.specs.Str.Lines.{lines};
 ghost use Rattle.hex.specs.Hex.{decode_of};
 ghost use Rattle.rtp_lines.specs.declared.input.InputError.TheVariants.{NoMemory};
-ghost use Rattle.rtp_lines.specs.Input.{Item, AreHex, AreLines, IsMapOf, Spells, IsFirstBadLine, IsInput};
+ghost use Rattle.rtp_lines.specs.Input.{AreHex, Spells, IsFirstBadLine};
 ghost use Rattle.rtp_lines.specs.Front.{MapsFirst, MapsNoneFirst, IsFront, IsFirstNotHex};
 
 use super::hex_line::datagram;
@@ -119,17 +119,6 @@ pub fn read_input(alloc: Global, text: &[u8]) -> Result<Input, InputError>
         Spells text.now input.exts (map (λ v. v.items) input.datagrams.items)) }
     ensures bad_line { IfErr result (λ error. (n : ℕ) → error ≡ InputError.BadLine n →
         IsFirstBadLine text.now n) }
-
-    // The lines have no other reading.
-    ensures only { (items : List Item) (datagrams : List (List ℕ)) →
-        AreLines (lines text.now) items datagrams →
-        IfOk result (λ input. (map (λ v. v.items) input.datagrams.items ≡ datagrams)
-        × IsMapOf items input.exts) }
-
-    // An input without a bad line fails only for memory, and one with a bad line never succeeds.
-    ensures taken { IsInput text.now → IfErr result (λ error. error ≡ NoMemory) }
-    ensures refused { (n : ℕ) → IsFirstBadLine text.now n → IsErrAnd result (λ error.
-        (error ≡ NoMemory) ⊎ (error ≡ InputError.BadLine n)) }
 {
     let (exts, count, rest) = map_lines(alloc, text)?;
     let datagrams = datagrams(alloc, rest, count)?;

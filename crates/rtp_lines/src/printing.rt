@@ -88,7 +88,8 @@ pub fn print_all<W: Write>(alloc: Global, input: &Input, output: &mut W) -> Resu
             text.clear();
         }
     }
-    write_text(output, text.as_bytes())?;
+    let rest = text.as_bytes();
+    write_text(output, rest)?;
     match output.flush() {
         Ok(()) => Ok(()),
         Err(_) => Err(RunEnd::Io),

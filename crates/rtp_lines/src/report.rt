@@ -83,10 +83,7 @@ fn write_audio<W: fmt::Write>(values: &ExtensionValues, f: &mut fmt::Formatter<W
 }
 
 // The send time, and the number on the transport.
-fn write_sending<W: fmt::Write>(
-    values: &ExtensionValues,
-    f: &mut fmt::Formatter<W>,
-) -> fmt::Result
+fn write_sending<W: fmt::Write>(values: &ExtensionValues, f: &mut fmt::Formatter<W>) -> fmt::Result
     ensures { WritesOnOk W.write_str_gives f.old result (sending_text values.now) f.new }
 {
     if let Some(time) = values.abs_send_time {

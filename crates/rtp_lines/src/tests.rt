@@ -1,7 +1,6 @@
 //! What the program prints, over readers and writers in memory.
 
 mod failing;
-mod headers;
 mod large;
 mod map_lines;
 mod refused_lines;
@@ -107,14 +106,6 @@ fn runs(rt: HostRuntime) {
         assert_eq!(rt; run(rt.alloc(), &mut rest, &mut output), end, "at {index}");
         assert_eq!(rt; output.as_slice(), printed.as_bytes(), "at {index}");
     }
-}
-
-#[test]
-fn statuses(rt: HostRuntime) {
-    assert_eq!(rt; RunEnd::Done.status(), 0);
-    assert_eq!(rt; RunEnd::Io.status(), 1);
-    assert_eq!(rt; RunEnd::BadLine.status(), 2);
-    assert_eq!(rt; RunEnd::NoMemory.status(), 3);
 }
 
 #[test]

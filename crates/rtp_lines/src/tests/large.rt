@@ -74,27 +74,6 @@ fn a_bad_line_after_many(rt: HostRuntime) -> Result<(), Fail> {
     Ok(())
 }
 
-// Packet k has the number 32,767 (k - 1), sent modulo 2^16. The first one above 2^32 is that of
-// packet 131,078: 32,767 times 131,077 is 4,295,000,059, which is 65,536 times 65,536 and 32,763.
-// The input is more than 3 MB.
-#[test]
-fn a_number_above_32_bits(rt: HostRuntime) -> Result<(), Fail> {
-    let mut input = Vec::new(rt.alloc());
-    let mut number = 0u16;
-    for _ in 0..131_078u32 {
-        writeln!(input, "8000{number:04X}0000000000000000")?;
-        number = number.wrapping_add(32_767);
-    }
-    let mut output = Vec::new(rt.alloc());
-    let mut rest = input.as_slice();
-    assert_eq!(rt; run(rt.alloc(), &mut rest, &mut output), RunEnd::Done);
-    let last =
-        b"\npacket 131078: pt 0 seq 32763 ts 0 ssrc 0 marker no padding no extension no csrc 0 \
-header 12\nverdict 131078: taken 4295000059\n";
-    assert!(rt; output.as_slice().ends_with(last));
-    Ok(())
-}
-
 // One line of more than 1 MB: a header and its payload.
 #[test]
 fn a_long_line(rt: HostRuntime) -> Result<(), Fail> {

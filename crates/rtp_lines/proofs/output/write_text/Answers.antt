@@ -16,8 +16,10 @@ turns-preserved g c =
     let rest = c.turns.rest.now in
     elim c.match-write.branch [
       | in-Ok w ↦
-          let front = take w.in-Ok.written rest in
-          (written ++ front, Appends-trans _ _ _ _ _ appended w.in-Ok.ensures.bytes,
-          moved c.args.text.now written rest w.in-Ok.written split ∙ ap (λ (r : Bor (List ℕ)). (written ++ front) ++ r.now) (sym w.rest-is))
+          let front = take w.in-Ok.written rest in (
+            written ++ front,
+            Appends-trans _ _ _ _ _ appended w.in-Ok.ensures.bytes,
+            moved c.args.text.now written rest w.in-Ok.written split ∙ ap (λ (r : Bor (List ℕ)). (written ++ front) ++ r.now) (sym w.rest-is),
+          )
       | in-Err w ↦ (written, Appends-kept _ _ _ _ appended w.in-Err.ensures.bytes, split ∙ ap (λ (r : Bor (List ℕ)). written ++ r.now) (sym w.rest-is))
     ]

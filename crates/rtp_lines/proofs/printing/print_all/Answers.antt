@@ -1,4 +1,4 @@
-use Rattle.std.proofs.Common.{◌≡◌, ℕ, ◌+◌, ◌<◌, List, [], ◌++◌, map, length, get_or, string_bytes, String, Option, refl, sym, ap, ◌∙◌, subst, arith, append-nil}
+use Rattle.std.proofs.Common.{◌≡◌, ℕ, ◌+◌, List, [], ◌++◌, map, get_or, string_bytes, Option, refl, sym, ap, ◌∙◌, subst, arith, append-nil}
 use Rattle.std.specs.Global.{Vec}
 use Rattle.std.specs.Io.KnownBytes.{Appends}
 use Rattle.std.proofs.KnownBytes.{Appends-nil, Appends-kept}
@@ -7,7 +7,7 @@ use Rattle.rtp_wire.specs.NotAHeader.{NotAHeader}
 use Rattle.rtp_wire.specs.declared.header.rtp_header.RtpHeader.{RtpHeader}
 use Rattle.rtp_lines.specs.declared.run.RunEnd.TheVariants.{NoMemory, Io}
 use Rattle.rtp_lines.specs.Output.{IsHeader, IsStopped, Prints, packet_lines}
-use Rattle.rtp_lines.proofs.PrintLemmas.{Printed, Printed-none, Printed-more, Printed-written, Prints-all, Prints-written, Prints-cut, Prints-nothing, handed_on}
+use Rattle.rtp_lines.proofs.PrintLemmas.{Printed-none, Printed-more, Printed-written, Prints-all, Prints-written, Prints-cut, Prints-nothing, handed_on}
 use Rattle.rtp_lines.proofs.printing.print_all.Goals as goal
 use Rattle.rtp_lines.proofs.printing.print_all.Goals.{then-len-ge-WRITTEN_AT_ONCE+in_ok-write_text-2, else-len-ge-WRITTEN_AT_ONCE}
 
@@ -74,14 +74,14 @@ loop-index-preserved g c =
 pub returns-in_err-write_text-3-clause-err : goal.returns-in_err-write_text-3-clause-err
 returns-in_err-write_text-3-clause-err g c =
     handed_on c.from_residual-in_err-write_text-3.result c.in_err-write_text-3.field-0.0 Io _ c.from_residual-in_err-write_text-3.ensures.1 c.in_err-write_text-3.ensures.err
-    (Prints-cut _ _ _ _ _ _ _ _ _ c.loop-index.invariant c.as_bytes-2.ensures.value c.in_err-write_text-3.ensures.beginning)
+    (Prints-cut _ _ _ _ _ _ _ _ _ c.loop-index.invariant c.as_bytes-rest.ensures.value c.in_err-write_text-3.ensures.beginning)
 
 pub returns-in-Ok-flush-clause-ok : goal.returns-in-Ok-flush-clause-ok
 returns-in-Ok-flush-clause-ok g c =
-    Prints-all _ _ _ _ _ _ _ _ _ c.loop-index.invariant c.as_bytes-2.ensures.value _
+    Prints-all _ _ _ _ _ _ _ _ _ c.loop-index.invariant c.as_bytes-rest.ensures.value _
     (omega (arith, length-map c.args.input.now.datagrams.items (λ (v : Vec ℕ). v.items))) c.in_ok-write_text-3.ensures.ok c.in-Ok-flush.ensures.bytes
 
 pub returns-clause-err : goal.returns-clause-err
 returns-clause-err g c =
-    Prints-cut _ _ _ _ _ _ _ _ _ c.loop-index.invariant c.as_bytes-2.ensures.value
-    (c.as_bytes-2.result.now, Appends-kept _ _ _ _ c.in_ok-write_text-3.ensures.ok c.flush.ensures.bytes, ([], sym (append-nil c.as_bytes-2.result.now)))
+    Prints-cut _ _ _ _ _ _ _ _ _ c.loop-index.invariant c.as_bytes-rest.ensures.value
+    (c.as_bytes-rest.result.now, Appends-kept _ _ _ _ c.in_ok-write_text-3.ensures.ok c.flush.ensures.bytes, ([], sym (append-nil c.as_bytes-rest.result.now)))

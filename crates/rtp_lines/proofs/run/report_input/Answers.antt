@@ -1,4 +1,4 @@
-use Rattle.std.proofs.Common.{◌≡◌, ℕ, List, inl, inr}
+use Rattle.std.proofs.Common.{inl, inr}
 use Rattle.rtp_lines.specs.declared.run.RunEnd.TheVariants.{NoMemory, Io}
 use Rattle.rtp_lines.proofs.PrintLemmas.{handed_on}
 use Rattle.rtp_lines.proofs.RunLemmas.{for_known, Prints-none, Prints-unread}

@@ -1,4 +1,4 @@
-use Rattle.std.proofs.Common.{◌≡◌, ℕ, List, ◌++◌, map, refl, sym, ◌∙◌}
+use Rattle.std.proofs.Common.{ℕ, map, refl, sym, ◌∙◌}
 use Rattle.std.specs.Global.{Vec}
 use Rattle.rtp_lines.specs.declared.run.RunEnd.TheVariants.{NoMemory, Io}
 use Rattle.rtp_lines.specs.Output.{of_bad_line}
@@ -18,17 +18,23 @@ pub returns-in_err-write_text-in-Err-BadLine-clause-err : goal.returns-in_err-wr
 returns-in_err-write_text-in-Err-BadLine-clause-err g c =
     let (printed, appends, (rest, split)) = c.in_err-write_text-in-Err-BadLine.ensures.beginning in
     handed_on c.from_residual-in_err-write_text-in-Err-BadLine.result c.in_err-write_text-in-Err-BadLine.field-0.0 Io _
-    c.from_residual-in_err-write_text-in-Err-BadLine.ensures.1 c.in_err-write_text-in-Err-BadLine.ensures.err
-    (printed, appends, of_bad_line rest (record {
-      number = c.in-Err-BadLine.number;
-      first = c.in-Err-BadLine.ensures.bad_line c.in-Err-BadLine.number c.in-Err-BadLine.field-0-is;
-      printed_is = sym split ∙ c.as_bytes.ensures.value ∙ c.in_ok-line-in-Err-BadLine.ensures.ok;
-    }))
+    c.from_residual-in_err-write_text-in-Err-BadLine.ensures.1 c.in_err-write_text-in-Err-BadLine.ensures.err (
+      printed,
+      appends,
+      of_bad_line rest (record {
+        number = c.in-Err-BadLine.number;
+        first = c.in-Err-BadLine.ensures.bad_line c.in-Err-BadLine.number c.in-Err-BadLine.field-0-is;
+        printed_is = sym split ∙ c.as_bytes.ensures.value ∙ c.in_ok-line-in-Err-BadLine.ensures.ok;
+      }),
+    )
 
 pub returns-in_ok-write_text-in-Err-BadLine-clause-err : goal.returns-in_ok-write_text-in-Err-BadLine-clause-err
-returns-in_ok-write_text-in-Err-BadLine-clause-err g c =
-    (c.as_bytes.result.now, c.in_ok-write_text-in-Err-BadLine.ensures.ok, record {
-      number = c.in-Err-BadLine.number;
-      first = c.in-Err-BadLine.ensures.bad_line c.in-Err-BadLine.number c.in-Err-BadLine.field-0-is;
-      printed_is = c.as_bytes.ensures.value ∙ c.in_ok-line-in-Err-BadLine.ensures.ok;
-    })
+returns-in_ok-write_text-in-Err-BadLine-clause-err g c = (
+  c.as_bytes.result.now,
+  c.in_ok-write_text-in-Err-BadLine.ensures.ok,
+  record {
+    number = c.in-Err-BadLine.number;
+    first = c.in-Err-BadLine.ensures.bad_line c.in-Err-BadLine.number c.in-Err-BadLine.field-0-is;
+    printed_is = c.as_bytes.ensures.value ∙ c.in_ok-line-in-Err-BadLine.ensures.ok;
+  },
+)

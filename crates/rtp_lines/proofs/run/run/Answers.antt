@@ -1,4 +1,4 @@
-use Rattle.std.proofs.Common.{◌≡◌, ℕ, List, Option, refl, sym, subst}
+use Rattle.std.proofs.Common.{◌≡◌, ℕ, List, Option, subst}
 use Rattle.std.specs.Prelude.{IfSome}
 use Rattle.rtp_lines.specs.declared.run.RunEnd.{RunEnd}
 use Rattle.rtp_lines.specs.declared.run.RunEnd.TheVariants.{Done, BadLine, NoMemory, Io}
