@@ -16,7 +16,7 @@ use Rattle.rtp_wire.specs.NotAHeader.{NotAHeader}
 use Rattle.rtp_wire.specs.Receivers.{ReceiverStates}
 use Rattle.rtp_wire.specs.Verdicts.{reading_of, IsReading, IsVerdict}
 use Rattle.rtp_wire.specs.Sources.{AreVerdictsBySource, HoldsEach, taken_of, numbers_beside, taken_after_each}
-use Rattle.rtp_wire.proofs.VerdictLemmas.{HasCause}
+use Rattle.rtp_wire.proofs.VerdictLemmas.{HasCause, AllZip-more}
 use Rattle.rtp_wire.proofs.SourceLemmas.{SoFarEach, SoFarEach-none, SoFarEach-more}
 use Rattle.rtp_lines.specs.declared.run.RunEnd.{RunEnd}
 use Rattle.rtp_lines.specs.declared.run.RunEnd.TheVariants.{NoMemory, Io}
@@ -49,12 +49,6 @@ lines_from-push packet (first ∷ reports) report =
     ap (λ (xs : List ℕ). here ++ xs) (lines_from-push (packet + 1) reports report)
     ∙ sym (append_assoc here (lines_from (packet + 1) reports) (packet_lines (packet + 1 + length reports) report.0 report.1))
     ∙ ap (λ (n : ℕ). (here ++ lines_from (packet + 1) reports) ++ packet_lines n report.0 report.1) (omega arith)
-
-AllZip-more : {A B : Type 0} (R : A → B → Type 0) (xs : List A) (ys : List B) (x : A) (y : B) → AllZip R xs ys → R x y → AllZip R (xs ++ x ∷ []) (ys ++ y ∷ [])
-AllZip-more R [] [] x y all one = (one, tt)
-AllZip-more R [] (b ∷ ys) x y all one = absurd all
-AllZip-more R (a ∷ xs) [] x y all one = absurd all
-AllZip-more R (a ∷ xs) (b ∷ ys) x y all one = (all.0, AllZip-more R xs ys x y all.1 one)
 
 -- the lines of the first datagrams, of which a part is written, in whole lines, and the rest is in the text
 pub record Printed (exts : ExtensionMap) (datagrams : List (List ℕ)) (done : ℕ) (old new : Option (List ℕ)) (text : List ℕ) (receivers : ReceiverStates) : Type 0 where
