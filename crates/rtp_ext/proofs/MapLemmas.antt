@@ -8,11 +8,10 @@ use Rattle.std.specs.List.{swap}
 use Rattle.std.specs.Option.{option_map}
 use Rattle.std.proofs.lemmas.Bool.{cases_lt, eq-eqb, ne_eqb}
 use Rattle.std.proofs.lemmas.Bool.Decides.{eqb_tells}
-use Rattle.rtp_ext.specs.declared.ext.entry.Entry.{Entry}
 use Rattle.rtp_ext.specs.declared.ext.kind.Extension.{Extension}
 use Rattle.rtp_ext.specs.declared.ext.map.TheConstants.{MAX_ID}
 use Rattle.rtp_ext.specs.MapSlots.{IsFirst, IsMapped}
-use Rattle.rtp_ext.specs.ExtensionMap.{Slots, IsEmpty, IsId, entry_at, extension_at, extension_of, Sets, Exchanges, IsRenumbered, IsLocked, IsLockedAt, locked, IsLowest, Remaps, AreRemapped, same_slot, moved}
+use Rattle.rtp_ext.specs.ExtensionMap.{Entry, Slots, IsEmpty, IsId, entry_at, extension_at, extension_of, Sets, Exchanges, IsRenumbered, IsLocked, IsLockedAt, locked, IsLowest, Remaps, AreRemapped, same_slot, moved}
 
 -- nothing stands in a index where nothing does in any
 pub IsEmpty-from_each : (slots : Slots) → ((k : ℕ) → k < length slots → get_or slots k None ≡ None) → IsEmpty slots

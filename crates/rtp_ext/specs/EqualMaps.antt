@@ -1,15 +1,26 @@
 -- For the prover: equality of maps is one. A reader may skip this file.
-use Rattle.std.specs.Prelude.{Bool}
-use Rattle.std.specs.Option.{option_eq}
+use Rattle.std.specs.Prelude.{Bool, Option}
 use Rattle.std.specs.Cmp.{IsEquivalence}
-use Rattle.std.specs.Cmp.Lexicographic.{pointwise, lists_equiv, options_equiv}
-use Rattle.rtp_ext.specs.contracts.ext.entry.EntryPartialEq.TheImpl as entry_eq
-use Rattle.rtp_ext.specs.contracts.ext.entry.EntryEq.TheImpl.Laws.{laws-law}
-use Rattle.rtp_ext.specs.ExtensionMap.{Slots}
+use Rattle.std.specs.Cmp.Lexicographic.{pointwise, lists_equiv}
+use Rattle.rtp_ext.specs.contracts.ext.slot.MappingPartialEq.TheImpl as mapping_eq
+use Rattle.rtp_ext.specs.contracts.ext.slot.MappingEq.TheImpl.Laws.{laws-law}
+use Rattle.rtp_ext.specs.ExtensionMap.{Entry, Slots}
+use Rattle.rtp_ext.specs.MapSlots.{mapping_of}
+
+-- whether two slots hold the same entry
+abbrev pub same_slot : Option Entry → Option Entry → Bool
+same_slot a b = (mapping_eq.ghosts).eq (mapping_of a) (mapping_of b)
+
+pub same_slot-equiv : IsEquivalence same_slot
+same_slot-equiv = record {
+  refl = λ a. laws-law.refl (mapping_of a);
+  symm = λ a b. laws-law.symm (mapping_of a) (mapping_of b);
+  congr = λ a b c. laws-law.congr (mapping_of a) (mapping_of b) (mapping_of c);
+}
 
 -- whether the same entry is in each slot
 abbrev pub same_slots : Slots → Slots → Bool
-same_slots = pointwise (option_eq (entry_eq.ghosts).eq)
+same_slots = pointwise same_slot
 
 pub same_slots-equiv : IsEquivalence same_slots
-same_slots-equiv = lists_equiv (options_equiv laws-law)
+same_slots-equiv = lists_equiv same_slot-equiv

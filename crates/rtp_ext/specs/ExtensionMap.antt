@@ -4,8 +4,12 @@ use Rattle.std.specs.Option.{option_map}
 use Rattle.std.specs.List.{All, Contains}
 use Rattle.rtp_ext.specs.declared.ext.kind.Extension.{Extension}
 use Rattle.rtp_ext.specs.declared.ext.kind.Extension.TheVariants.{AudioLevel, AbsoluteSendTime, TransportSequenceNumber, RtpMid, RtpStreamId, RepairedRtpStreamId, VideoOrientation}
-use Rattle.rtp_ext.specs.declared.ext.entry.Entry.{Entry}
 use Rattle.rtp_ext.specs.Kind.{kind_of, IsKnown}
+
+-- an extension, and whether it is locked where it is
+pub record Entry : Type 0 where
+  pub extension : Extension
+  pub locked : Bool
 
 -- what a map shows: a slot for each id from 1 on
 abbrev pub Slots : Type 0

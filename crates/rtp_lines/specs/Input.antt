@@ -4,9 +4,8 @@ use Rattle.std.specs.List.{AllZip, find}
 use Rattle.std.specs.Str.Lines.{lines}
 use Rattle.hex.specs.Hex.{decode_of}
 use Rattle.rtp_ext.specs.declared.ext.kind.Extension.{Extension}
-use Rattle.rtp_ext.specs.declared.ext.entry.Entry.{Entry}
 use Rattle.rtp_ext.specs.Kind.{IsNamedBy}
-use Rattle.rtp_ext.specs.ExtensionMap.{Slots, entry_at, unlocked, IsListing, IsUnlocked, standard_items}
+use Rattle.rtp_ext.specs.ExtensionMap.{Entry, Slots, entry_at, unlocked, IsListing, IsUnlocked, standard_items}
 use Rattle.rtp_lines.specs.MapLine.{IsMapLine}
 
 -- an id, and the URI that a map line gives it

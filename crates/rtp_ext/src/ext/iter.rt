@@ -6,7 +6,7 @@ ghost use Rattle.std.specs.Iterator.{YieldsFirstBy, item_count};
 ghost use Rattle.rtp_ext.specs.ExtensionMap.{is_of_medium};
 ghost use Rattle.rtp_ext.specs.MapSlots.{items_at, IsMapped};
 
-use super::entry::Entry;
+use super::slot::Slot;
 use super::{Extension, slots};
 use std::marker::Model;
 
@@ -14,7 +14,7 @@ use std::marker::Model;
 #[derive(Debug, Drop)]
 pub struct Iter<'a> {
     // What the ids from 1 on are mapped to.
-    slots: &'a [Option<Entry>],
+    slots: &'a [Slot],
     // The mapped ids that are left.
     left: &'a [u8],
 }
@@ -34,7 +34,7 @@ impl<'a> Model for Iter<'a> {
 
 impl<'a> Iter<'a> {
     // The entries of these ids, all of which are mapped.
-    pub(super) fn new(slots: &'a [Option<Entry>], ids: &'a [u8]) -> Self
+    pub(super) fn new(slots: &'a [Slot], ids: &'a [u8]) -> Self
         requires { AllByRecursion (IsMapped slots.now) ids.now }
         ensures { result ≡ items_at slots.now ids.now }
     {
@@ -52,7 +52,7 @@ impl<'a> Iterator for Iter<'a> {
     fn next(&mut self) -> Option<(u8, &'a Extension)> {
         let (id, left) = self.left.split_first()?;
         self.left = left;
-        Some((*id, &slots::mapped_entry(self.slots, *id).extension))
+        Some((*id, slots::mapped_extension(self.slots, *id)))
     }
 }
 

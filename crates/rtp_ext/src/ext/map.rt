@@ -6,12 +6,12 @@ ghost use Rattle.rtp_ext.specs.ExtensionMap as spec;
 ghost use Rattle.rtp_ext.specs.MapSlots.{items_from};
 ghost use Rattle.rtp_ext.specs.EqualMaps.{same_slots, same_slots-equiv};
 
-use super::entry::Entry;
 use super::mapped_ids::MappedIds;
+use super::slot::Slot;
 use super::{Extension, Iter, IterByMediaType, slots};
 use std::alloc::{AllocError, Global};
 use std::marker::Model;
-use std::{array, fmt};
+use std::{array, fmt, mem};
 
 /// The greatest id that a map has room for, and that an element can have: that of the two-byte form
 /// (RFC 8285, 4.3).
@@ -23,11 +23,11 @@ pub const MAX_ID: u8 = 255;
 /// moved where a step for another extension has its id.
 ///
 /// Two maps are equal exactly when the same ids are mapped to the same extensions, locked alike. A
-/// map has its entries in place, some 12 KB, so lend it and don't move it for each packet.
+/// map has its entries in place, some 10 KB, so lend it and don't move it for each packet.
 #[derive(Drop)]
 pub struct ExtensionMap {
     // What the ids from 1 on are mapped to.
-    slots: [Option<Entry>; MAX_ID as usize],
+    slots: [Slot; MAX_ID as usize],
     // The mapped ids, so that a walk goes over these alone.
     mapped: MappedIds,
 }
@@ -72,7 +72,7 @@ impl ExtensionMap {
         ensures { spec.IsEmpty result }
     {
         ExtensionMap {
-            slots: array::from_fn(|_| None),
+            slots: array::from_fn(|_| Slot::unmapped()),
             mapped: MappedIds::none(),
         }
     }
@@ -116,8 +116,8 @@ impl ExtensionMap {
         ensures outside { (spec.IsId id → ⊥) → self.new ≡ self.old }
     {
         if let Some(slot) = slots::slot_of(id) {
-            let old = self.slots[slot].replace(Entry::from(ext));
-            if old.is_none() {
+            let old = mem::replace(&mut self.slots[slot], Slot::from(ext));
+            if !old.is_mapped() {
                 self.mapped.insert(id);
             }
         }
@@ -127,7 +127,7 @@ impl ExtensionMap {
     pub fn lookup(&self, id: u8) -> Option<&Extension>
         ensures { option_copied result ≡ spec.extension_at self.now id }
     {
-        slots::entry(&self.slots, id).map(|entry| &entry.extension)
+        slots::extension(&self.slots, id)
     }
 
     /// The lowest id that is mapped to the extension.

@@ -3,8 +3,8 @@
 ghost use Rattle.std.specs.Prelude.{◌≡◌, ◌<◌, ◌≤◌, ◌∷◌, ◌++◌, [], length, take, drop};
 ghost use Rattle.rtp_ext.specs.MapSlots.{mapped_ids, inserted};
 
-use super::entry::Entry;
 use super::map::MAX_ID;
+use super::slot::Slot;
 use std::array;
 use std::marker::Model;
 
@@ -48,14 +48,14 @@ impl MappedIds {
         self.count += 1;
     }
 
-    // The ids whose slots hold an entry.
-    pub(super) fn of(slots: &[Option<Entry>]) -> Self
+    // The ids that have an entry.
+    pub(super) fn of(slots: &[Slot]) -> Self
         requires { length slots.now ≡ MAX_ID }
         ensures { result ≡ mapped_ids slots.now }
     {
         let mut mapped = Self::none();
         for (index, slot) in slots.iter().enumerate() {
-            if slot.is_some() {
+            if slot.is_mapped() {
                 mapped.push(index as u8 + 1);
             }
         }

@@ -3,12 +3,12 @@
 mod block_elements;
 mod block_values;
 mod elements;
-mod entry;
 mod form;
 mod iter;
 mod kind;
 mod map;
 mod mapped_ids;
+mod slot;
 mod slots;
 mod table;
 mod uri;

@@ -7,8 +7,8 @@ ghost use Rattle.rtp_ext.specs.ExtensionMap as spec;
 ghost use Rattle.rtp_ext.specs.MapSlots.{IsFirst, IsMapped};
 
 use super::Extension;
-use super::entry::Entry;
 use super::map::MAX_ID;
+use super::slot::Slot;
 use std::alloc::{AllocError, Global};
 
 // The index of an id that the map has room for.
@@ -23,42 +23,32 @@ pub(super) fn slot_of(id: u8) -> Option<usize>
     }
 }
 
-// The entry of an id.
-pub(super) fn entry(slots: &[Option<Entry>], id: u8) -> Option<&Entry>
+// The extension of an id.
+pub(super) fn extension(slots: &[Slot], id: u8) -> Option<&Extension>
     requires { length slots.now ≡ MAX_ID }
-    ensures { option_copied result ≡ spec.entry_at slots.now id }
+    ensures { option_copied result ≡ spec.extension_at slots.now id }
 {
-    slots.get(usize::from(id).checked_sub(1)?)?.as_ref()
+    slots.get(usize::from(id).checked_sub(1)?)?.extension()
 }
 
-// The entry of a mapped id.
-pub(super) fn mapped_entry(slots: &[Option<Entry>], id: u8) -> &Entry
+// The extension of a mapped id.
+pub(super) fn mapped_extension(slots: &[Slot], id: u8) -> &Extension
     requires { IsMapped slots.now id }
-    ensures { spec.entry_at slots.now id ≡ Some result.now }
+    ensures { spec.extension_at slots.now id ≡ Some result.now }
 {
-    slots[usize::from(id) - 1].as_ref().unwrap()
-}
-
-// Whether the slot holds this extension.
-fn holds(slot: &Option<Entry>, ext: &Extension) -> bool
-    ensures { IsTrue result ↔ (spec.extension_of slot.now ≡ Some ext.now) }
-{
-    match slot {
-        Some(entry) => entry.extension == *ext,
-        None => false,
-    }
+    slots[usize::from(id) - 1].extension().unwrap()
 }
 
 // The first index whose slot holds the extension.
-fn slot_with(slots: &[Option<Entry>], ext: &Extension) -> Option<usize>
+fn slot_with(slots: &[Slot], ext: &Extension) -> Option<usize>
     ensures found { IfSome result (IsFirst slots.now ext.now) }
     ensures none { IfNone result (spec.IsUnmapped slots.now ext.now) }
 {
-    slots.iter().position(|slot| holds(slot, ext))
+    slots.iter().position(|slot| slot.holds(ext))
 }
 
 // The lowest id that is mapped to the extension.
-pub(super) fn id_of(slots: &[Option<Entry>], ext: &Extension) -> Option<u8>
+pub(super) fn id_of(slots: &[Slot], ext: &Extension) -> Option<u8>
     requires { length slots.now ≡ MAX_ID }
     ensures found { IfSome result (spec.IsLowest slots.now ext.now) }
     ensures none { IfNone result (spec.IsUnmapped slots.now ext.now) }
@@ -67,44 +57,18 @@ pub(super) fn id_of(slots: &[Option<Entry>], ext: &Extension) -> Option<u8>
     Some(index as u8 + 1)
 }
 
-// Whether the slot holds a locked entry.
-fn is_locked(slot: &Option<Entry>) -> bool
-    ensures { IsTrue result ↔ spec.IsLocked slot.now }
-{
-    match slot {
-        Some(entry) => entry.locked,
-        None => false,
-    }
-}
-
-// Locks the entry of the slot.
-fn lock(slot: &mut Option<Entry>)
-    ensures { slot.new ≡ option_map (λ entry. spec.locked entry.extension) slot.old }
-{
-    if let Some(entry) = slot {
-        entry.locked = true;
-    }
-}
-
-// The slot's entry where it is for this medium, unlocked.
-fn of_medium(slot: &Option<Entry>, audio: bool) -> Option<Entry>
-    ensures { result ≡ spec.of_medium audio slot.now }
-{
-    slot.as_ref()?.of_medium(audio)
-}
-
 // Copies the entries for this medium, unlocked, into the slots of another map.
-pub(super) fn copy_of_medium(from: &[Option<Entry>], to: &mut [Option<Entry>], audio: bool)
+pub(super) fn copy_of_medium(from: &[Slot], to: &mut [Slot], audio: bool)
     requires { length from.now ≡ length to.old }
     ensures { to.new ≡ map (spec.of_medium audio) from.now }
 {
     for (index, slot) in from.iter().enumerate() {
-        to[index] = of_medium(slot, audio);
+        to[index] = slot.of_medium(audio);
     }
 }
 
 // One step of a renegotiation.
-fn remap_one(slots: &mut [Option<Entry>], id: u8, ext: &Extension)
+fn remap_one(slots: &mut [Slot], id: u8, ext: &Extension)
     requires { length slots.old ≡ MAX_ID }
     ensures step { spec.Remaps slots.old id ext.now slots.new }
     ensures renumbered { spec.IsRenumbered slots.old slots.new }
@@ -113,15 +77,15 @@ fn remap_one(slots: &mut [Option<Entry>], id: u8, ext: &Extension)
     let Some(from) = slot_with(slots, ext) else {
         return
     };
-    if from != to && is_locked(&slots[from]) {
+    if from != to && slots[from].is_locked() {
         return;
     }
-    lock(&mut slots[from]);
+    slots[from].lock();
     slots.swap(from, to);
 }
 
 // The steps of a renegotiation, one after another.
-pub(super) fn remap(slots: &mut [Option<Entry>], steps: &[(u8, &Extension)])
+pub(super) fn remap(slots: &mut [Slot], steps: &[(u8, &Extension)])
     requires { length slots.old ≡ MAX_ID }
     ensures steps { spec.AreRemapped slots.old (map (λ step. (step.0, step.1.now)) steps.now) slots.new }
     ensures renumbered { spec.IsRenumbered slots.old slots.new }
@@ -131,29 +95,14 @@ pub(super) fn remap(slots: &mut [Option<Entry>], steps: &[(u8, &Extension)])
     }
 }
 
-// A copy of the slot.
-fn clone(alloc: Global, slot: &Option<Entry>) -> Result<Option<Entry>, AllocError>
-    ensures same { IfOk result (λ copy. copy ≡ slot.now) }
-    ensures known { ((ext : Extension) → spec.extension_of slot.now ≡ Some ext → IsKnown ext) → IsOk result }
-{
-    match slot {
-        Some(entry) => Ok(Some(entry.clone(alloc)?)),
-        None => Ok(None),
-    }
-}
-
 // Copies the entries into the slots of another map.
-pub(super) fn copy(
-    alloc: Global,
-    from: &[Option<Entry>],
-    to: &mut [Option<Entry>],
-) -> Result<(), AllocError>
+pub(super) fn copy(alloc: Global, from: &[Slot], to: &mut [Slot]) -> Result<(), AllocError>
     requires { length from.now ≡ length to.old }
     ensures same { IfOk result (λ _. to.new ≡ from.now) }
     ensures known { spec.HasNoText from.now → IsOk result }
 {
     for (index, slot) in from.iter().enumerate() {
-        to[index] = clone(alloc, slot)?;
+        to[index] = slot.clone(alloc)?;
     }
     Ok(())
 }

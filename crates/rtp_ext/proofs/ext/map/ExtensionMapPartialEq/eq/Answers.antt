@@ -1,12 +1,11 @@
 use Rattle.std.proofs.Common.{◌≡◌, Option, rules, sym, ◌∙◌}
 use Rattle.std.proofs.lemmas.Slice.Eq.{slice_eq-Decides}
 use Rattle.std.specs.Bool.{Decides}
-use Rattle.std.specs.Option.{option_eq}
-use Rattle.rtp_ext.specs.declared.ext.entry.Entry.{Entry}
-use Rattle.rtp_ext.specs.contracts.ext.entry.EntryPartialEq.TheImpl as entry_eq
+use Rattle.rtp_ext.specs.ExtensionMap.{Entry}
+use Rattle.rtp_ext.specs.EqualMaps.{same_slot}
 use Rattle.rtp_ext.proofs.ext.map.ExtensionMapPartialEq.eq.Goals as goal
 
-slot_decides : (a b : Option Entry) → Decides (option_eq (entry_eq.ghosts).eq a b) (a ≡ b)
+slot_decides : (a b : Option Entry) → Decides (same_slot a b) (a ≡ b)
 slot_decides a b = search rules
 
 pub returns-clause-same : goal.returns-clause-same

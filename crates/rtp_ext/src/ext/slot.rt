@@ -1,0 +1,147 @@
+//! What one id is mapped to.
+
+ghost use Rattle.std.specs.Prelude.{◌≡◌, ◌↔◌, IsTrue, IsOk, IfOk, Some, None};
+ghost use Rattle.std.specs.Cmp.{partial_equiv_from_equiv};
+ghost use Rattle.std.specs.Option.{is_some, option_copied, option_map};
+ghost use Rattle.rtp_ext.specs.Kind.{IsKnown};
+ghost use Rattle.rtp_ext.specs.EqualMaps.{same_slot, same_slot-equiv};
+ghost use Rattle.rtp_ext.specs.ExtensionMap as spec;
+
+use super::Extension;
+use std::alloc::{AllocError, Global};
+use std::marker::Model;
+use std::mem;
+
+// How an id is mapped: not at all, or to an extension, which may be locked there.
+#[derive(Debug, PartialEq, Eq, Drop)]
+enum Mapping {
+    None,
+    Free(Extension),
+    Locked(Extension),
+}
+
+/// The slot of an id: nothing, or an extension. The extension is locked once a renegotiation has
+/// overwritten it: a later step for it doesn't move it.
+#[derive(Debug, Drop)]
+pub(super) struct Slot {
+    mapping: Mapping,
+}
+
+impl Model for Slot {
+    ghost use Rattle.std.specs.Prelude.{Option};
+    ghost use Rattle.rtp_ext.specs.ExtensionMap.{Entry};
+    ghost use Rattle.rtp_ext.specs.MapSlots.{entry_of};
+
+    ghost Value = { Option Entry };
+
+    ghost view = { λ slot. entry_of slot.mapping };
+}
+
+impl PartialEq for Slot {
+    ghost eq = { same_slot };
+
+    ghost laws = { partial_equiv_from_equiv same_slot-equiv };
+
+    fn eq(&self, other: &Slot) -> bool
+        ensures answer { result ≡ same_slot self.now other.now }
+        ensures same { IsTrue result ↔ (self.now ≡ other.now) }
+    {
+        self.mapping == other.mapping
+    }
+}
+
+impl Eq for Slot {
+    ghost laws = { same_slot-equiv };
+}
+
+impl From<Extension> for Slot {
+    ghost from_gives = { λ extension slot. slot ≡ Some (spec.unlocked extension) };
+
+    fn from(extension: Extension) -> Self {
+        Slot {
+            mapping: Mapping::Free(extension),
+        }
+    }
+}
+
+impl Slot {
+    // Of an id that isn't mapped.
+    pub(super) fn unmapped() -> Self
+        ensures { result ≡ None }
+    {
+        Slot {
+            mapping: Mapping::None,
+        }
+    }
+
+    // The extension that the id is mapped to.
+    pub(super) fn extension(&self) -> Option<&Extension>
+        ensures { option_copied result ≡ spec.extension_of self.now }
+    {
+        match &self.mapping {
+            Mapping::None => None,
+            Mapping::Free(extension) | Mapping::Locked(extension) => Some(extension),
+        }
+    }
+
+    // Whether the id is mapped.
+    pub(super) fn is_mapped(&self) -> bool
+        ensures { result ≡ is_some self.now }
+    {
+        self.extension().is_some()
+    }
+
+    // Whether the id is mapped to this extension.
+    pub(super) fn holds(&self, ext: &Extension) -> bool
+        ensures { IsTrue result ↔ (spec.extension_of self.now ≡ Some ext.now) }
+    {
+        match self.extension() {
+            Some(held) => held == ext,
+            None => false,
+        }
+    }
+
+    // Whether the id is mapped to an extension that is locked.
+    pub(super) fn is_locked(&self) -> bool
+        ensures { IsTrue result ↔ spec.IsLocked self.now }
+    {
+        matches!(self.mapping, Mapping::Locked(_))
+    }
+
+    // Locks the extension.
+    pub(super) fn lock(&mut self)
+        ensures { self.new ≡ option_map (λ entry. spec.locked entry.extension) self.old }
+    {
+        let old = mem::replace(&mut self.mapping, Mapping::None);
+        self.mapping = match old {
+            Mapping::Free(extension) => Mapping::Locked(extension),
+            other => other,
+        };
+    }
+
+    // The same extension where it is for this medium, unlocked.
+    pub(super) fn of_medium(&self, audio: bool) -> Self
+        ensures { result ≡ spec.of_medium audio self.now }
+    {
+        match self.extension() {
+            Some(extension) if extension.is_of_medium(audio) => match extension.known_or_uri() {
+                Ok(kind) => Self::from(kind),
+                Err(_) => Self::unmapped(),
+            },
+            _ => Self::unmapped(),
+        }
+    }
+
+    // The same slot.
+    pub(super) fn clone(&self, alloc: Global) -> Result<Self, AllocError>
+        ensures same { IfOk result (λ copy. copy ≡ self.now) }
+        ensures known { ((ext : Extension) → spec.extension_of self.now ≡ Some ext → IsKnown ext) → IsOk result }
+    {
+        let mapping = match &self.mapping {
+            Mapping::None => Mapping::None,
+            Mapping::Free(extension) => Mapping::Free(extension.clone(alloc)?),
+            Mapping::Locked(extension) => Mapping::Locked(extension.clone(alloc)?),
+        };
+        Ok(Slot { mapping })
+    }
+}
