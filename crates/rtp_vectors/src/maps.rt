@@ -51,6 +51,22 @@ fn entries(rt: HostRuntime) {
 }
 
 #[test]
+fn shown_iterators(rt: HostRuntime) {
+    let map = two(4, Extension::RtpMid, 17, Extension::ColorSpace);
+    let map = with(map, 255, Extension::VideoOrientation);
+    let mut entries = map.iter();
+    let text = "Iter(4=mid, 17=color-space, 255=video-orientation)";
+    is_text(&rt, format!(in rt.alloc(); "{entries:?}"), text);
+    let _ = entries.next();
+    let text = "Iter(17=color-space, 255=video-orientation)";
+    is_text(&rt, format!(in rt.alloc(); "{entries:?}"), text);
+    let video = map.iter_video();
+    let text = "IterByMediaType { all: Iter(4=mid, 17=color-space, 255=video-orientation), \
+audio: false }";
+    is_text(&rt, format!(in rt.alloc(); "{video:?}"), text);
+}
+
+#[test]
 fn look_ups(rt: HostRuntime) {
     let map = two(4, Extension::RtpMid, 17, Extension::ColorSpace);
     let map = with(map, 255, Extension::RtpMid);

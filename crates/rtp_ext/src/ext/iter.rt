@@ -8,10 +8,11 @@ ghost use Rattle.rtp_ext.specs.MapSlots.{items_at, IsMapped};
 
 use super::slot::Slot;
 use super::{Extension, slots};
+use std::fmt;
 use std::marker::Model;
 
 /// The ids of a map by rising id, each with its extension.
-#[derive(Debug, Drop)]
+#[derive(Drop)]
 pub struct Iter<'a> {
     // What the ids from 1 on are mapped to.
     slots: &'a [Slot],
@@ -54,6 +55,31 @@ impl<'a> Iterator for Iter<'a> {
         self.left = left;
         Some((*id, slots::mapped_extension(self.slots, *id)))
     }
+}
+
+/// The entries that are left, each as its number and the extension's text.
+impl<'a> fmt::Debug for Iter<'a> {
+    fn fmt<W: fmt::Write>(&self, f: &mut fmt::Formatter<W>) -> fmt::Result {
+        f.write_str("Iter(")?;
+        write_entries(f, Iter::new(self.slots, self.left))?;
+        f.write_str(")")
+    }
+}
+
+// Writes the entries with commas between, each as its number and the extension's text.
+pub(super) fn write_entries<W: fmt::Write>(
+    f: &mut fmt::Formatter<W>,
+    entries: Iter<'_>,
+) -> fmt::Result {
+    let mut is_first = true;
+    for (id, ext) in entries {
+        if !is_first {
+            f.write_str(", ")?;
+        }
+        is_first = false;
+        write!(f, "{id}={ext}")?;
+    }
+    Ok(())
 }
 
 /// The ids of a map whose extensions are for one medium, by rising id, each with its extension.

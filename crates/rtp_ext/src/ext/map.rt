@@ -6,6 +6,7 @@ ghost use Rattle.rtp_ext.specs.ExtensionMap as spec;
 ghost use Rattle.rtp_ext.specs.MapSlots.{items_from};
 ghost use Rattle.rtp_ext.specs.EqualMaps.{same_slots, same_slots-equiv};
 
+use super::iter::write_entries;
 use super::mapped_ids::MappedIds;
 use super::slot::Slot;
 use super::{Extension, Iter, IterByMediaType, slots};
@@ -221,14 +222,7 @@ impl ExtensionMap {
 impl fmt::Debug for ExtensionMap {
     fn fmt<W: fmt::Write>(&self, f: &mut fmt::Formatter<W>) -> fmt::Result {
         f.write_str("Extensions(")?;
-        let mut is_first = true;
-        for (id, ext) in self.iter() {
-            if !is_first {
-                f.write_str(", ")?;
-            }
-            is_first = false;
-            write!(f, "{id}={ext}")?;
-        }
+        write_entries(f, self.iter())?;
         f.write_str(")")
     }
 }
