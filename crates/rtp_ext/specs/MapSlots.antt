@@ -9,7 +9,7 @@ use Rattle.rtp_ext.specs.ExtensionMap.{Entry, Slots, entry_at, extension_of, ext
 
 -- the entry in a slot, and the slot of an entry
 abbrev pub entry_of : Mapping → Option Entry
-entry_of mapping.None = None
+entry_of mapping.Unmapped = None
 entry_of (mapping.Free extension) = Some (unlocked extension)
 entry_of (mapping.Locked extension) = Some (locked extension)
 
@@ -18,7 +18,7 @@ mapping_to true extension = mapping.Locked extension
 mapping_to false extension = mapping.Free extension
 
 abbrev pub mapping_of : Option Entry → Mapping
-mapping_of None = mapping.None
+mapping_of None = mapping.Unmapped
 mapping_of (Some entry) = mapping_to entry.locked entry.extension
 
 -- the first index whose slot has the extension

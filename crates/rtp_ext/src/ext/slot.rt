@@ -15,7 +15,7 @@ use std::mem;
 // How an id is mapped: not at all, or to an extension, which may be locked there.
 #[derive(Debug, PartialEq, Eq, Drop)]
 enum Mapping {
-    None,
+    Unmapped,
     Free(Extension),
     Locked(Extension),
 }
@@ -70,7 +70,7 @@ impl Slot {
         ensures { result ≡ None }
     {
         Slot {
-            mapping: Mapping::None,
+            mapping: Mapping::Unmapped,
         }
     }
 
@@ -79,7 +79,7 @@ impl Slot {
         ensures { option_copied result ≡ spec.extension_of self.now }
     {
         match &self.mapping {
-            Mapping::None => None,
+            Mapping::Unmapped => None,
             Mapping::Free(extension) | Mapping::Locked(extension) => Some(extension),
         }
     }
@@ -112,7 +112,7 @@ impl Slot {
     pub(super) fn lock(&mut self)
         ensures { self.new ≡ option_map (λ entry. spec.locked entry.extension) self.old }
     {
-        let old = mem::replace(&mut self.mapping, Mapping::None);
+        let old = mem::replace(&mut self.mapping, Mapping::Unmapped);
         self.mapping = match old {
             Mapping::Free(extension) => Mapping::Locked(extension),
             other => other,
@@ -138,7 +138,7 @@ impl Slot {
         ensures known { ((ext : Extension) → spec.extension_of self.now ≡ Some ext → IsKnown ext) → IsOk result }
     {
         let mapping = match &self.mapping {
-            Mapping::None => Mapping::None,
+            Mapping::Unmapped => Mapping::Unmapped,
             Mapping::Free(extension) => Mapping::Free(extension.clone(alloc)?),
             Mapping::Locked(extension) => Mapping::Locked(extension.clone(alloc)?),
         };
