@@ -1,6 +1,7 @@
 //! One run of the program: all input is read, and then reported.
 
-ghost use Rattle.std.specs.Prelude.{◌≡◌, ◌≢◌, ◌⊎◌, IfOk, IfErr, IfSome, OnOk};
+ghost use Rattle.std.specs.Prelude.{◌≡◌, ◌≢◌, ◌↔◌, ◌⊎◌, IfOk, IfErr, IfSome, OnOk};
+ghost use Rattle.std.specs.IoError.{error_kind};
 ghost use Rattle.rtp_lines.specs.Input.{IsInput, HasBadLine};
 ghost use Rattle.rtp_lines.specs.Output.{IsOutputOf, IsBadLineOf, IsWantOf, IsBeginningOf, IsLeft, status_of, Prints};
 ghost use Rattle.rtp_lines.specs.declared.run.RunEnd.TheVariants.{NoMemory};
@@ -50,7 +51,8 @@ impl From<AllocError> for RunEnd {
 
 // The end of a run whose read failed.
 fn unread(error: io::Error) -> RunEnd
-    ensures { (result ≡ RunEnd.NoMemory) ⊎ (result ≡ RunEnd.Io) }
+    ensures memory { (result ≡ RunEnd.NoMemory) ↔ (error_kind error ≡ ErrorKind.OutOfMemory) }
+    ensures failed { (result ≡ RunEnd.NoMemory) ⊎ (result ≡ RunEnd.Io) }
 {
     match error.kind() {
         ErrorKind::OutOfMemory => RunEnd::NoMemory,
