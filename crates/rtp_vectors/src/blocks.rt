@@ -102,7 +102,7 @@ const LEVELS: [(&str, i8, bool); 7] = [
 
 #[test]
 fn audio_levels(rt: HostRuntime) {
-    for (body, audio_level, voice) in LEVELS {
+    for &(body, audio_level, voice) in &LEVELS {
         let map = ExtensionMap::standard();
         let wanted = level(audio_level, voice);
         check(&rt, rt.alloc(), map, OneByte, body, wanted);

@@ -1,6 +1,6 @@
 //! What tests of several topics assert. What fails is named by what is given for `at`.
 
-use rtp_wire::{Extension, ExtensionMap, ExtensionValues};
+use rtp_wire::{Extension, ExtensionMap, ExtensionValues, RtpHeader};
 use std::alloc::{AllocError, Global};
 use std::fmt::{Debug, Display};
 use std::process::Abort;
@@ -46,6 +46,26 @@ fn shows_to_the_right<T: Display>(rt: &impl Abort, alloc: Global, value: &T, tex
 // The bytes that the text has in hexadecimal.
 pub(crate) fn bytes_of(rt: &impl Abort, alloc: Global, text: &str) -> Vec<u8> {
     hex::decode(alloc, text).expect(rt, "hexadecimal")
+}
+
+// The header that the bytes begin with under the map.
+pub(crate) fn parsed(
+    rt: &impl Abort,
+    alloc: Global,
+    bytes: &[u8],
+    exts: &ExtensionMap,
+) -> Option<RtpHeader> {
+    RtpHeader::parse(alloc, bytes, exts).expect(rt, "memory")
+}
+
+// The same of bytes that begin with one.
+pub(crate) fn header_of(
+    rt: &impl Abort,
+    alloc: Global,
+    bytes: &[u8],
+    exts: &ExtensionMap,
+) -> RtpHeader {
+    parsed(rt, alloc, bytes, exts).expect(rt, "a header")
 }
 
 // The extension of this URI.

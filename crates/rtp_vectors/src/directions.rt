@@ -41,7 +41,7 @@ const DIRECTIONS: [(Direction, &str, Direction, bool, bool, bool); 4] = [
 
 #[test]
 fn names(rt: HostRuntime) {
-    for (direction, name, ..) in DIRECTIONS {
+    for &(direction, name, ..) in &DIRECTIONS {
         shows(&rt, rt.alloc(), &direction, name);
         holds(&rt, name, Direction::from(name) == direction);
     }
@@ -52,7 +52,7 @@ fn names(rt: HostRuntime) {
 
 #[test]
 fn what_they_say(rt: HostRuntime) {
-    for (direction, name, opposite, sends, receives, counts) in DIRECTIONS {
+    for &(direction, name, opposite, sends, receives, counts) in &DIRECTIONS {
         holds(&rt, name, direction.invert() == opposite);
         same(&rt, name, direction.is_sending(), sends);
         same(&rt, name, direction.is_receiving(), receives);

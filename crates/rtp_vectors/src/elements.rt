@@ -3,7 +3,7 @@
 use crate::checks::same;
 use ExtensionsForm::{OneByte, TwoByte};
 use rtp_wire::{Elements, ExtensionsForm};
-use std::alloc::{AllocError, Global};
+use std::alloc::Global;
 use std::process::Abort;
 
 // A block of 65,535 words: as many as its header can announce.
@@ -70,59 +70,69 @@ fn two_byte_headers(rt: HostRuntime) {
     check(&rt, TwoByte, &block, &[(240, &[0x05]), (16, &[0x00, 0x01])]);
 }
 
-// Padding of any length before an element and behind it.
-#[test]
-fn padding(rt: HostRuntime) -> Result<(), AllocError> {
-    for count in 0..=40usize {
-        let mut block = vec![in rt.alloc(); 0u8; count]?;
-        check(&rt, OneByte, &block, &[]);
-        check(&rt, TwoByte, &block, &[]);
-        block.extend_from_slice(&[0x20, 0x01])?;
-        check(&rt, OneByte, &block, &[(2, &[0x01])]);
-        block.extend_from_slice(&[0x00; 40])?;
-        check(&rt, OneByte, &block, &[(2, &[0x01])]);
-        check(&rt, TwoByte, &block, &[(32, &[0x00])]);
-    }
-    Ok(())
+// A block of the bytes, the front's and then the others.
+fn joined(rt: &impl Abort, alloc: Global, front: &[u8], others: &[u8]) -> Vec<u8> {
+    let mut block = Vec::from_slice(alloc, front).expect(rt, "memory");
+    block.extend_from_slice(others).expect(rt, "memory");
+    block
 }
 
-// How many elements a longest block has that repeats one pattern, and how many bytes of data they
-// have.
-fn totals(
-    rt: &impl Abort,
-    alloc: Global,
-    form: ExtensionsForm,
-    pattern: &[u8],
-    times: usize,
-) -> Result<(u64, u64), AllocError> {
-    let mut block = Vec::with_capacity(alloc, LONGEST)?;
-    for _ in 0..times {
-        block.extend_from_slice(pattern)?;
+// Padding before an element, and 40 bytes of it behind.
+fn is_padded(rt: &impl Abort, alloc: Global, padding: &[u8]) {
+    check(rt, OneByte, padding, &[]);
+    check(rt, TwoByte, padding, &[]);
+    let block = joined(rt, alloc, padding, &[0x20, 0x01]);
+    check(rt, OneByte, &block, &[(2, &[0x01])]);
+    let block = joined(rt, alloc, &block, &[0x00; 40]);
+    check(rt, OneByte, &block, &[(2, &[0x01])]);
+    check(rt, TwoByte, &block, &[(32, &[0x00])]);
+}
+
+// Padding of any length before an element and behind it.
+#[test]
+fn padding(rt: HostRuntime) {
+    let zeros = [0; 40];
+    for count in 0..=40 {
+        is_padded(&rt, rt.alloc(), &zeros[..count]);
     }
-    assert_eq!(rt; block.len(), LONGEST);
+}
+
+// So many times the pattern, which makes a longest block.
+fn longest(rt: &impl Abort, alloc: Global, pattern: &[u8], times: usize) -> Vec<u8> {
+    let mut block = Vec::new(alloc);
+    for _ in 0..times {
+        block.extend_from_slice(pattern).expect(rt, "memory");
+    }
+    same(rt, times, block.len(), LONGEST);
+    block
+}
+
+// How many elements the block has, and how many bytes of data they have.
+fn totals(form: ExtensionsForm, block: &[u8]) -> (u64, u64) {
     let mut count = 0u64;
     let mut bytes = 0u64;
-    for (_, data) in Elements::new(&block, form) {
+    for (_, data) in Elements::new(block, form) {
         count = count.wrapping_add(1);
         bytes = bytes.wrapping_add(data.len() as u64);
     }
-    Ok((count, bytes))
+    (count, bytes)
 }
 
+// Patterns, how often each one is in a longest block, and what that has.
+const LONGEST_BLOCKS: [(ExtensionsForm, &[u8], usize, (u64, u64)); 7] = [
+    (OneByte, &[0], LONGEST, (0, 0)),
+    (TwoByte, &[0], LONGEST, (0, 0)),
+    (OneByte, &[0x10, 0xAA], 131_070, (131_070, 131_070)),
+    (TwoByte, &[0x01, 0x00], 131_070, (131_070, 0)),
+    (OneByte, b"\x4Fabcdefghijklmnop", 15_420, (15_420, 246_720)),
+    (OneByte, &[0xFF], LONGEST, (0, 0)),
+    (TwoByte, &[0xFF], LONGEST, (1_020, 260_100)),
+];
+
 #[test]
-fn longest_blocks(rt: HostRuntime) -> Result<(), AllocError> {
-    let rows: [(ExtensionsForm, &[u8], usize, (u64, u64)); 7] = [
-        (OneByte, &[0], LONGEST, (0, 0)),
-        (TwoByte, &[0], LONGEST, (0, 0)),
-        (OneByte, &[0x10, 0xAA], 131_070, (131_070, 131_070)),
-        (TwoByte, &[0x01, 0x00], 131_070, (131_070, 0)),
-        (OneByte, b"\x4Fabcdefghijklmnop", 15_420, (15_420, 246_720)),
-        (OneByte, &[0xFF], LONGEST, (0, 0)),
-        (TwoByte, &[0xFF], LONGEST, (1_020, 260_100)),
-    ];
-    for (form, pattern, times, wanted) in rows {
-        let found = totals(&rt, rt.alloc(), form, pattern, times)?;
-        assert_eq!(rt; found, wanted, "{form:?}, {pattern:?}");
+fn longest_blocks(rt: HostRuntime) {
+    for &(form, pattern, times, wanted) in &LONGEST_BLOCKS {
+        let block = longest(&rt, rt.alloc(), pattern, times);
+        same(&rt, times, totals(form, &block), wanted);
     }
-    Ok(())
 }

@@ -185,7 +185,7 @@ const UNKNOWN: [&str; 7] = [
 
 #[test]
 fn unknown_uris(rt: HostRuntime) {
-    for uri in UNKNOWN {
+    for uri in &UNKNOWN {
         check_unknown(&rt, rt.alloc(), uri);
     }
 }

@@ -128,7 +128,7 @@ const REFUSED: [&str; 17] = [
 
 #[test]
 fn refusals(rt: HostRuntime) {
-    for text in REFUSED {
+    for text in &REFUSED {
         let bytes = bytes_of(&rt, rt.alloc(), text);
         is_refused(&rt, rt.alloc(), &bytes);
     }
@@ -150,7 +150,7 @@ const ACCEPTED: [(&str, usize); 8] = [
 
 #[test]
 fn accepted(rt: HostRuntime) {
-    for (text, len) in ACCEPTED {
+    for &(text, len) in &ACCEPTED {
         let bytes = bytes_of(&rt, rt.alloc(), text);
         is_accepted(&rt, rt.alloc(), &bytes, len);
     }

@@ -1,11 +1,11 @@
 //! Good packets in which single elements are damaged: their neighbours keep their values.
 
+use crate::checks::{are_values, bytes_of, same};
 use crate::hostile_damage::damages;
-use crate::hostile_samples::{SAMPLES, Sample, has_same, header_of, holds, map};
-use rtp_wire::ExtensionValues;
+use crate::hostile_samples::{SAMPLES, Sample, checked, has_same, map, values_of};
+use rtp_wire::{ExtensionMap, ExtensionValues};
 use std::alloc::Global;
 use std::process::Abort;
-use std::test::Fail;
 
 // The bits of an element's id and of its length, each with the byte that they are in.
 const ONE_BYTE_HEAD: [(u8, u8); 2] = [(0, 0xF0), (0, 0x0F)];
@@ -26,21 +26,29 @@ fn data_begin(sample: &Sample, begin: u8) -> usize {
 }
 
 // Sets these bits of a byte to those of the new one.
-fn set_bits(bytes: &mut [u8], at: usize, bits: u8, new: u8) {
+pub(crate) fn set_bits(bytes: &mut [u8], at: usize, bits: u8, new: u8) {
     if let Some(byte) = bytes.get_mut(at) {
         *byte = *byte & !bits | new & bits;
     }
 }
 
-// The packet's bytes, and the values of its header.
-fn good(
+// The values of the good packet's header.
+fn good(rt: &impl Abort, alloc: Global, sample: &Sample) -> ExtensionValues {
+    let bytes = bytes_of(rt, alloc, sample.text);
+    values_of(rt, alloc, &bytes, sample)
+}
+
+// The kind that the id is mapped to has the same data in the values and in those read of the bytes.
+fn is_kept(
     rt: &impl Abort,
-    alloc: Global,
-    sample: &Sample,
-) -> Result<(Vec<u8>, ExtensionValues), Fail> {
-    let bytes = hex::decode(alloc, sample.text)?;
-    let header = header_of(rt, alloc, &bytes, sample)?;
-    Ok((bytes, header.ext_vals))
+    exts: &ExtensionMap,
+    id: u8,
+    bytes: &[u8],
+    values: &ExtensionValues,
+    read: &ExtensionValues,
+) {
+    let kind = exts.lookup(id).expect(rt, "a mapped id");
+    assert!(rt; has_same(kind, values, read), "{kind}: {bytes:?}");
 }
 
 // The damaged packet has the values of its good elements, but for the one that begins at `damaged`,
@@ -53,72 +61,58 @@ fn neighbours(
     values: &ExtensionValues,
     damaged: u8,
     behind: bool,
-) -> Result<(), Fail> {
-    let read = header_of(rt, alloc, bytes, sample)?.ext_vals;
+) {
+    let read = values_of(rt, alloc, bytes, sample);
     let exts = map();
-    for (begin, _, id) in sample.elements {
-        let kind = exts.lookup(*id).ok_or("a mapped id")?;
-        if *begin < damaged || behind && *begin > damaged {
-            assert!(rt; has_same(kind, values, &read), "{kind}: {bytes:?}");
+    for &(begin, _, id) in sample.elements {
+        if begin < damaged || behind && begin > damaged {
+            is_kept(rt, &exts, id, bytes, values, &read);
         }
     }
-    Ok(())
 }
 
 // Sets each byte of an element's data to others.
-fn damage_data(
-    rt: &impl Abort,
-    alloc: Global,
-    sample: &Sample,
-    begin: u8,
-    end: u8,
-) -> Result<(), Fail> {
-    let (mut bytes, values) = good(rt, alloc, sample)?;
+fn damage_data(rt: &impl Abort, alloc: Global, sample: &Sample, begin: u8, end: u8) {
+    let values = good(rt, alloc, sample);
+    let mut bytes = bytes_of(rt, alloc, sample.text);
     for at in data_begin(sample, begin)..usize::from(end) {
-        let old = bytes.get(at).copied().ok_or("a byte of the packet")?;
+        let old = bytes.get(at).copied().expect(rt, "a byte of the packet");
         for new in damages(old) {
             set_bits(&mut bytes, at, 0xFF, new);
-            neighbours(rt, alloc, sample, &bytes, &values, begin, true)?;
+            neighbours(rt, alloc, sample, &bytes, &values, begin, true);
         }
         set_bits(&mut bytes, at, 0xFF, old);
     }
-    Ok(())
 }
 
 #[test]
-fn data(rt: HostRuntime) -> Result<(), Fail> {
+fn data(rt: HostRuntime) {
     for sample in &SAMPLES {
-        for (begin, end, _) in sample.elements {
-            damage_data(&rt, rt.alloc(), sample, *begin, *end)?;
+        for &(begin, end, _) in sample.elements {
+            damage_data(&rt, rt.alloc(), sample, begin, end);
         }
     }
-    Ok(())
 }
 
 // Sets an element's length to every other one.
-fn damage_length(rt: &impl Abort, alloc: Global, sample: &Sample, begin: u8) -> Result<(), Fail> {
-    let (mut bytes, values) = good(rt, alloc, sample)?;
+fn damage_length(rt: &impl Abort, alloc: Global, sample: &Sample, begin: u8) {
+    let values = good(rt, alloc, sample);
+    let mut bytes = bytes_of(rt, alloc, sample.text);
     let [_, (offset, bits)] = head(sample);
+    let at = usize::from(begin) + usize::from(offset);
     for new in 0..=255u8 {
-        set_bits(
-            &mut bytes,
-            usize::from(begin) + usize::from(offset),
-            bits,
-            new,
-        );
-        neighbours(rt, alloc, sample, &bytes, &values, begin, false)?;
+        set_bits(&mut bytes, at, bits, new);
+        neighbours(rt, alloc, sample, &bytes, &values, begin, false);
     }
-    Ok(())
 }
 
 #[test]
-fn lengths(rt: HostRuntime) -> Result<(), Fail> {
+fn lengths(rt: HostRuntime) {
     for sample in &SAMPLES {
-        for (begin, _, _) in sample.elements {
-            damage_length(&rt, rt.alloc(), sample, *begin)?;
+        for &(begin, _, _) in sample.elements {
+            damage_length(&rt, rt.alloc(), sample, begin);
         }
     }
-    Ok(())
 }
 
 // Exchanges these bits of two bytes.
@@ -130,82 +124,90 @@ fn exchange(bytes: &mut [u8], one: usize, other: usize, bits: u8) {
 }
 
 // Exchanges the lengths, the ids, and both of two elements.
-fn exchange_heads(
-    rt: &impl Abort,
-    alloc: Global,
-    sample: &Sample,
-    begin: u8,
-    other: u8,
-) -> Result<(), Fail> {
-    let (mut bytes, values) = good(rt, alloc, sample)?;
+fn exchange_heads(rt: &impl Abort, alloc: Global, sample: &Sample, begin: u8, other: u8) {
+    let values = good(rt, alloc, sample);
+    let mut bytes = bytes_of(rt, alloc, sample.text);
     let [id, length] = head(sample);
     for (offset, bits) in [length, id, length] {
-        let offset = usize::from(offset);
-        exchange(
-            &mut bytes,
-            usize::from(begin) + offset,
-            usize::from(other) + offset,
-            bits,
-        );
-        neighbours(rt, alloc, sample, &bytes, &values, begin, false)?;
+        let one = usize::from(begin) + usize::from(offset);
+        let other = usize::from(other) + usize::from(offset);
+        exchange(&mut bytes, one, other, bits);
+        neighbours(rt, alloc, sample, &bytes, &values, begin, false);
     }
-    Ok(())
+}
+
+// Exchanges the heads of an element and of each one behind it.
+fn exchange_with_later(rt: &impl Abort, alloc: Global, sample: &Sample, begin: u8) {
+    for &(other, _, _) in sample.elements {
+        if begin < other {
+            exchange_heads(rt, alloc, sample, begin, other);
+        }
+    }
 }
 
 #[test]
-fn exchanged_heads(rt: HostRuntime) -> Result<(), Fail> {
+fn exchanged_heads(rt: HostRuntime) {
     for sample in &SAMPLES {
-        for (begin, _, _) in sample.elements {
-            for (other, _, _) in sample.elements {
-                if begin < other {
-                    exchange_heads(&rt, rt.alloc(), sample, *begin, *other)?;
-                }
-            }
+        for &(begin, _, _) in sample.elements {
+            exchange_with_later(&rt, rt.alloc(), sample, begin);
         }
     }
-    Ok(())
+}
+
+// The block of the bytes, which begins at `body`, is made as long as they are.
+fn set_words(rt: &impl Abort, bytes: &mut Vec<u8>, body: usize) {
+    let words = bytes.len().saturating_sub(body).div_ceil(4);
+    let words = u8::try_from(words).expect(rt, "a short block");
+    bytes
+        .resize(body + 4 * usize::from(words), 0)
+        .expect(rt, "memory");
+    set_bits(bytes, body.saturating_sub(1), 0xFF, words);
 }
 
 // The bytes of the packet up to `end`, and then those of its header from `rest` on, with a block
 // that is as long as they are.
-fn spliced(alloc: Global, sample: &Sample, end: usize, rest: usize) -> Result<Vec<u8>, Fail> {
-    let bytes = hex::decode(alloc, sample.text)?;
-    let body = usize::from(sample.body);
-    let mut spliced = Vec::from_slice(alloc, bytes.get(..end).ok_or("a front of the packet")?)?;
+fn spliced(rt: &impl Abort, alloc: Global, sample: &Sample, end: usize, rest: usize) -> Vec<u8> {
+    let bytes = bytes_of(rt, alloc, sample.text);
     let left = bytes.get(rest..usize::from(sample.end));
-    spliced.extend_from_slice(left.ok_or("the rest of the header")?)?;
-    let words = u8::try_from(spliced.len().saturating_sub(body).div_ceil(4))?;
-    spliced.resize(body + 4 * usize::from(words), 0)?;
-    set_bits(&mut spliced, body.saturating_sub(1), 0xFF, words);
-    Ok(spliced)
+    let left = left.expect(rt, "the rest of the header");
+    let front = bytes.get(..end).expect(rt, "a front of the packet");
+    let mut spliced = Vec::from_slice(alloc, front).expect(rt, "memory");
+    spliced.extend_from_slice(left).expect(rt, "memory");
+    set_words(rt, &mut spliced, usize::from(sample.body));
+    spliced
+}
+
+// The element that begins and ends there is there twice.
+fn double(rt: &impl Abort, alloc: Global, sample: &Sample, begin: u8, end: u8) {
+    let bytes = spliced(rt, alloc, sample, usize::from(end), usize::from(begin));
+    let header = checked(rt, alloc, &bytes, &map()).expect(rt, "a header");
+    same(rt, begin, header.header_len, bytes.len());
+    let values = good(rt, alloc, sample);
+    are_values(rt, sample.text, &header.ext_vals, &values);
 }
 
 #[test]
-fn doubled(rt: HostRuntime) -> Result<(), Fail> {
+fn doubled(rt: HostRuntime) {
     for sample in &SAMPLES {
-        for (begin, end, _) in sample.elements {
-            let (begin, end) = (usize::from(*begin), usize::from(*end));
-            let bytes = spliced(rt.alloc(), sample, end, begin)?;
-            let (_, values) = good(&rt, rt.alloc(), sample)?;
-            let read = holds(&rt, rt.alloc(), &bytes, &map())?;
-            let header = read.ok_or("a header")?;
-            assert!(rt; header.ext_vals == values, "{begin}");
-            assert_eq!(rt; header.header_len, bytes.len());
+        for &(begin, end, _) in sample.elements {
+            double(&rt, rt.alloc(), sample, begin, end);
         }
     }
-    Ok(())
 }
 
 // The last byte of an element is gone, and all behind it is a byte further in front.
+fn cut_element(rt: &impl Abort, alloc: Global, sample: &Sample, begin: u8, end: u8) {
+    let end = usize::from(end);
+    let bytes = spliced(rt, alloc, sample, end.saturating_sub(1), end);
+    let values = good(rt, alloc, sample);
+    neighbours(rt, alloc, sample, &bytes, &values, begin, false);
+}
+
 #[test]
-fn cut(rt: HostRuntime) -> Result<(), Fail> {
+fn cut(rt: HostRuntime) {
     for sample in &SAMPLES {
-        for (begin, end, _) in sample.elements {
-            let end = usize::from(*end);
-            let bytes = spliced(rt.alloc(), sample, end.saturating_sub(1), end)?;
-            let (_, values) = good(&rt, rt.alloc(), sample)?;
-            neighbours(&rt, rt.alloc(), sample, &bytes, &values, *begin, false)?;
+        for &(begin, end, _) in sample.elements {
+            cut_element(&rt, rt.alloc(), sample, begin, end);
         }
     }
-    Ok(())
 }

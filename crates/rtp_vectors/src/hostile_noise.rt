@@ -1,9 +1,8 @@
 //! A hundred thousand datagrams of pseudo-random bytes, 20,000 in each test.
 
-use crate::hostile_samples::{holds, map};
+use crate::hostile_samples::{checked, map};
 use std::alloc::Global;
 use std::process::Abort;
-use std::test::Fail;
 
 // A linear congruential generator modulo 2^64.
 #[derive(Drop)]
@@ -46,13 +45,7 @@ fn frame(bytes: &mut [u8], form: [u8; 2]) -> bool {
 
 // Draws 20,000 datagrams of up to 127 bytes, which have the bits of the mask only, and are framed
 // where a form is given. Returns how many of them have an audio level.
-fn draw(
-    rt: &impl Abort,
-    alloc: Global,
-    noise: &mut Noise,
-    form: Option<[u8; 2]>,
-    mask: u8,
-) -> Result<u32, Fail> {
+fn draw(rt: &impl Abort, alloc: Global, noise: &mut Noise, form: Option<[u8; 2]>, mask: u8) -> u32 {
     let mut bytes = [0; 128];
     let mut levels = 0u32;
     for _ in 0..20_000u32 {
@@ -63,13 +56,13 @@ fn draw(
             Some(form) => frame(datagram, form),
             None => false,
         };
-        let header = holds(rt, alloc, datagram, &map())?;
+        let header = checked(rt, alloc, datagram, &map());
         assert!(rt; !is_framed || header.is_some(), "{datagram:?}");
         if header.is_some_and(|header| header.ext_vals.audio_level.is_some()) {
             levels = levels.saturating_add(1);
         }
     }
-    Ok(levels)
+    levels
 }
 
 const ONE_BYTE: Option<[u8; 2]> = Some([0xBE, 0xDE]);
@@ -77,35 +70,30 @@ const ONE_BYTE: Option<[u8; 2]> = Some([0xBE, 0xDE]);
 const TWO_BYTE: Option<[u8; 2]> = Some([0x10, 0x00]);
 
 #[test]
-fn any_bytes(rt: HostRuntime) -> Result<(), Fail> {
-    draw(&rt, rt.alloc(), &mut Noise { state: 1 }, None, 0xFF)?;
-    Ok(())
+fn any_bytes(rt: HostRuntime) {
+    draw(&rt, rt.alloc(), &mut Noise { state: 1 }, None, 0xFF);
 }
 
 #[test]
-fn one_byte_blocks(rt: HostRuntime) -> Result<(), Fail> {
-    draw(&rt, rt.alloc(), &mut Noise { state: 2 }, ONE_BYTE, 0xFF)?;
-    Ok(())
+fn one_byte_blocks(rt: HostRuntime) {
+    draw(&rt, rt.alloc(), &mut Noise { state: 2 }, ONE_BYTE, 0xFF);
 }
 
 #[test]
-fn two_byte_blocks(rt: HostRuntime) -> Result<(), Fail> {
-    draw(&rt, rt.alloc(), &mut Noise { state: 3 }, TWO_BYTE, 0xFF)?;
-    Ok(())
+fn two_byte_blocks(rt: HostRuntime) {
+    draw(&rt, rt.alloc(), &mut Noise { state: 3 }, TWO_BYTE, 0xFF);
 }
 
 // Small ids and lengths make many well-formed elements: here one in four has id 1.
 #[test]
-fn one_byte_blocks_of_small_elements(rt: HostRuntime) -> Result<(), Fail> {
-    let levels = draw(&rt, rt.alloc(), &mut Noise { state: 4 }, ONE_BYTE, 0x53)?;
+fn one_byte_blocks_of_small_elements(rt: HostRuntime) {
+    let levels = draw(&rt, rt.alloc(), &mut Noise { state: 4 }, ONE_BYTE, 0x53);
     assert!(rt; 1000 <= levels, "{levels}");
-    Ok(())
 }
 
 // Here one in eight has id 1.
 #[test]
-fn two_byte_blocks_of_small_elements(rt: HostRuntime) -> Result<(), Fail> {
-    let levels = draw(&rt, rt.alloc(), &mut Noise { state: 5 }, TWO_BYTE, 0x07)?;
+fn two_byte_blocks_of_small_elements(rt: HostRuntime) {
+    let levels = draw(&rt, rt.alloc(), &mut Noise { state: 5 }, TWO_BYTE, 0x07);
     assert!(rt; 1000 <= levels, "{levels}");
-    Ok(())
 }

@@ -1,11 +1,14 @@
 //! One packet cut short and with another first byte, blocks without values, and one number again
 //! and again.
 
+use crate::checks::{are_values, bytes_of, header_of, holds, parsed, same};
 use crate::fixtures::spoken;
 use crate::headers_read::{PACKET, header};
+use crate::headers_written::is_read;
 use crate::runs::verdict;
-use rtp_wire::{ExtensionMap, ExtensionValues, RtpHeader, Verdict, receive_run};
-use std::test::Fail;
+use rtp_wire::{ExtensionMap, ExtensionValues, Verdict, receive_run};
+use std::alloc::Global;
+use std::process::Abort;
 
 // Version 2 without a block and with 0 to 9 sources, and without sources and with a block: both
 // without and with padding. With more sources, or with sources and a block, too few bytes are left.
@@ -14,80 +17,92 @@ const FIRST_BYTES: [u8; 22] = [
     168, 169, 176,
 ];
 
-// The header is 32 bytes long.
-#[test]
-fn every_front(rt: HostRuntime) -> Result<(), Fail> {
-    let bytes = hex::decode(rt.alloc(), PACKET)?;
-    assert_eq!(rt; bytes.len(), 48);
-    for len in 0..49 {
-        let read = RtpHeader::parse(rt.alloc(), &bytes[..len], &ExtensionMap::standard())?;
+// The front is read as the packet's header if it has all of that, which is 32 bytes long.
+fn is_front(rt: &impl Abort, alloc: Global, front: &[u8]) {
+    let exts = ExtensionMap::standard();
+    if front.len() < 32 {
+        let read = parsed(rt, alloc, front, &exts);
+        holds(rt, front.len(), read.is_none());
+    } else {
         let wanted = header(47000, 10000, spoken(-42, 63_531_654, 0), 32);
-        let wanted = if len < 32 { None } else { Some(wanted) };
-        assert!(rt; read == wanted, "at {len}");
+        is_read(rt, alloc, &exts, front, &wanted);
     }
-    Ok(())
 }
 
 #[test]
-fn every_first_byte(rt: HostRuntime) -> Result<(), Fail> {
-    let mut bytes = hex::decode(rt.alloc(), PACKET)?;
-    assert_eq!(rt; bytes.len(), 48);
-    let mut found = Vec::new(rt.alloc());
+fn every_front(rt: HostRuntime) {
+    let bytes = bytes_of(&rt, rt.alloc(), PACKET);
+    assert!(rt; bytes.len() == 48);
+    for len in 0..49 {
+        is_front(&rt, rt.alloc(), &bytes[..len]);
+    }
+}
+
+#[test]
+fn every_first_byte(rt: HostRuntime) {
+    let exts = ExtensionMap::standard();
+    let mut bytes = bytes_of(&rt, rt.alloc(), PACKET);
+    assert!(rt; bytes.len() == 48);
     for first in 0..=255u8 {
         bytes[0] = first;
-        if RtpHeader::parse(rt.alloc(), &bytes, &ExtensionMap::standard())?.is_some() {
-            found.push(first)?;
-        }
+        let read = parsed(&rt, rt.alloc(), &bytes, &exts);
+        same(&rt, first, read.is_some(), FIRST_BYTES.contains(&first));
     }
-    assert_eq!(rt; found.as_slice(), FIRST_BYTES.as_slice());
-    Ok(())
+}
+
+// The bytes are a header whose block has no values.
+fn is_without_values(rt: &impl Abort, alloc: Global, bytes: &[u8]) {
+    let header = header_of(rt, alloc, bytes, &ExtensionMap::standard());
+    let none = ExtensionValues::default();
+    are_values(rt, "the block", &header.ext_vals, &none);
+    same(rt, "the header's length", header.header_len, bytes.len());
 }
 
 // Any byte of id 15 ends the reading of a block, also as its first one.
 #[test]
-fn blocks_that_end_at_once(rt: HostRuntime) -> Result<(), Fail> {
-    let mut bytes = hex::decode(rt.alloc(), "900000000000000000000000BEDE0001F010AA00")?;
-    assert_eq!(rt; bytes.len(), 20);
+fn blocks_that_end_at_once(rt: HostRuntime) {
+    let text = "900000000000000000000000BEDE0001F010AA00";
+    let mut bytes = bytes_of(&rt, rt.alloc(), text);
+    assert!(rt; bytes.len() == 20);
     for first in 0xF0..=0xFF {
         bytes[16] = first;
-        let read = RtpHeader::parse(rt.alloc(), &bytes, &ExtensionMap::standard())?;
-        let header = read.ok_or("a header")?;
-        assert!(rt; header.ext_vals == ExtensionValues::default(), "at {first}");
-        assert_eq!(rt; header.header_len, 20);
+        is_without_values(&rt, rt.alloc(), &bytes);
     }
-    Ok(())
+}
+
+// Such a packet with as many words of zeros as it announces.
+fn is_of_zeros(rt: &impl Abort, alloc: Global, text: &str, words: u16) {
+    let mut bytes = bytes_of(rt, alloc, text);
+    let len = 16 + 4 * usize::from(words);
+    bytes.resize(len, 0).expect(rt, "memory");
+    is_without_values(rt, alloc, &bytes);
 }
 
 #[test]
-fn blocks_of_zeros(rt: HostRuntime) -> Result<(), Fail> {
-    for (form, words) in [("BEDE", 1u16), ("BEDE", 300), ("1000", 1), ("1000", 65_535)] {
-        let mut bytes = hex::decode(rt.alloc(), "900000000000000000000000")?;
-        bytes.extend_from_slice(&hex::decode(rt.alloc(), form)?)?;
-        bytes.extend_from_slice(&words.to_be_bytes())?;
-        let len = 16 + 4 * usize::from(words);
-        bytes.resize(len, 0)?;
-        let read = RtpHeader::parse(rt.alloc(), &bytes, &ExtensionMap::standard())?;
-        let header = read.ok_or("a header")?;
-        assert!(rt;
-            header.ext_vals == ExtensionValues::default(),
-            "{form} {words}"
-        );
-        assert_eq!(rt; header.header_len, len);
+fn blocks_of_zeros(rt: HostRuntime) {
+    let a = rt.alloc();
+    is_of_zeros(&rt, a, "900000000000000000000000BEDE0001", 1);
+    is_of_zeros(&rt, a, "900000000000000000000000BEDE012C", 300);
+    is_of_zeros(&rt, a, "90000000000000000000000010000001", 1);
+    is_of_zeros(&rt, a, "9000000000000000000000001000FFFF", 65_535);
+}
+
+// So many packets of number 7.
+fn repeated(rt: &impl Abort, alloc: Global, times: u16) -> Vec<Vec<u8>> {
+    let mut datagrams = Vec::new(alloc);
+    for _ in 0..times {
+        let bytes = bytes_of(rt, alloc, "800100070000000000000000");
+        datagrams.push(bytes).expect(rt, "memory");
     }
-    Ok(())
+    datagrams
 }
 
 #[test]
-fn one_number_300_times(rt: HostRuntime) -> Result<(), Fail> {
-    let mut datagrams = Vec::new(rt.alloc());
-    let mut wanted = vec![in rt.alloc(); verdict(Some(7))]?;
-    for _ in 0..300 {
-        datagrams.push(hex::decode(rt.alloc(), "800100070000000000000000")?)?;
-    }
-    for _ in 0..299 {
-        wanted.push(Verdict::Refused)?;
-    }
-    let verdicts = receive_run(rt.alloc(), &datagrams, &ExtensionMap::standard())?;
-    assert_eq!(rt; verdicts.as_slice(), wanted.as_slice());
-    Ok(())
+fn one_number_300_times(rt: HostRuntime) {
+    let datagrams = repeated(&rt, rt.alloc(), 300);
+    let verdicts = receive_run(rt.alloc(), &datagrams, &ExtensionMap::standard());
+    let mut wanted = [Verdict::Refused; 300];
+    wanted[0] = verdict(Some(7));
+    let verdicts = verdicts.expect(&rt, "memory");
+    same(&rt, "the verdicts", verdicts.as_slice(), wanted.as_slice());
 }

@@ -1,12 +1,12 @@
 //! Good packets for the tests that damage them, and what has to hold of all bytes.
 
+use crate::checks::{header_of, holds, parsed, same};
 use crate::headers_read::{PACKET, TWO_BYTE_FORM};
 use crate::headers_written::written;
 use crate::values::nines;
 use rtp_wire::{Extension, ExtensionMap, ExtensionValues, RtpHeader};
 use std::alloc::Global;
 use std::process::Abort;
-use std::test::Fail;
 
 // A packet whose header has a block.
 #[derive(Clone, Copy)]
@@ -70,24 +70,13 @@ pub(crate) fn has_same(kind: &Extension, one: &ExtensionValues, other: &Extensio
     kind.write_to(&mut data, one) == kind.write_to(&mut other_data, other) && data == other_data
 }
 
-// What is read of the bytes that the header is written as.
-fn read_back(
-    rt: &impl Abort,
-    alloc: Global,
-    header: &RtpHeader,
-    exts: &ExtensionMap,
-) -> Result<RtpHeader, Fail> {
-    let bytes = written(rt, alloc, header, exts);
-    Ok(RtpHeader::parse(alloc, &bytes, exts)?.ok_or("a header")?)
-}
-
 // The header without what may come back changed.
-fn fixed(alloc: Global, header: &RtpHeader) -> Result<RtpHeader, Fail> {
-    let mut copy = header.clone(alloc)?;
+fn fixed(rt: &impl Abort, alloc: Global, header: &RtpHeader) -> RtpHeader {
+    let mut copy = header.clone(alloc).expect(rt, "memory");
     copy.header_len = 0;
     copy.ext_vals.abs_send_time = None;
     copy.ext_vals.video_layers_allocation = None;
-    Ok(copy)
+    copy
 }
 
 // Whether a send time comes back as itself, or up to 4 microseconds less.
@@ -99,51 +88,65 @@ fn is_near(sent: Option<u64>, read: Option<u64>) -> bool {
     }
 }
 
-// What is written of the header is read as its image: the same, but for the send time and the empty
-// layers at the ends of an allocation's streams.
+// The image is the header, but for the send time and the empty layers at the ends of an allocation's
+// streams.
+fn is_image(rt: &impl Abort, alloc: Global, header: &RtpHeader, image: &RtpHeader) {
+    assert!(rt; fixed(rt, alloc, image) == fixed(rt, alloc, header));
+    let (values, carried) = (&header.ext_vals, &image.ext_vals);
+    let is_near = is_near(values.abs_send_time, carried.abs_send_time);
+    holds(rt, "the send time", is_near);
+    let kind = Extension::VideoLayersAllocation;
+    holds(rt, "the allocation", has_same(&kind, values, carried));
+}
+
+// What is written of the header is read as its image.
+fn image_of(rt: &impl Abort, alloc: Global, header: &RtpHeader, exts: &ExtensionMap) -> RtpHeader {
+    let bytes = written(rt, alloc, header, exts);
+    let image = header_of(rt, alloc, &bytes, exts);
+    is_image(rt, alloc, header, &image);
+    image
+}
+
+// Once more written and read the image of the bytes' header only loses of its send time.
 fn has_image(
     rt: &impl Abort,
     alloc: Global,
+    bytes: &[u8],
     header: &RtpHeader,
     exts: &ExtensionMap,
-) -> Result<RtpHeader, Fail> {
-    let image = read_back(rt, alloc, header, exts)?;
-    assert!(rt; fixed(alloc, &image)? == fixed(alloc, header)?);
-    let (values, carried) = (&header.ext_vals, &image.ext_vals);
-    assert!(rt; is_near(values.abs_send_time, carried.abs_send_time));
-    assert!(rt; has_same(&Extension::VideoLayersAllocation, values, carried));
-    Ok(image)
+) {
+    let image = image_of(rt, alloc, header, exts);
+    let mut again = image_of(rt, alloc, &image, exts);
+    again.ext_vals.abs_send_time = image.ext_vals.abs_send_time;
+    assert!(rt; again == image, "{bytes:?}");
 }
 
-// What has to hold of all bytes: a header that is read lies within them, it is written and read as
-// its image, and once more written and read the image only loses of its send time. Returns the
-// header.
-pub(crate) fn holds(
+// What has to hold of all bytes: a header that is read lies within them, and it is written and read
+// as its image. Returns the header.
+pub(crate) fn checked(
     rt: &impl Abort,
     alloc: Global,
     bytes: &[u8],
     exts: &ExtensionMap,
-) -> Result<Option<RtpHeader>, Fail> {
-    let Some(header) = RtpHeader::parse(alloc, bytes, exts)? else {
-        return Ok(None);
-    };
-    assert!(rt; header.header_len <= bytes.len(), "{bytes:?}");
-    let image = has_image(rt, alloc, &header, exts)?;
-    let mut again = has_image(rt, alloc, &image, exts)?;
-    again.ext_vals.abs_send_time = image.ext_vals.abs_send_time;
-    assert!(rt; again == image, "{bytes:?}");
-    Ok(Some(header))
+) -> Option<RtpHeader> {
+    let header = parsed(rt, alloc, bytes, exts);
+    if let Some(header) = &header {
+        assert!(rt; header.header_len <= bytes.len(), "{bytes:?}");
+        has_image(rt, alloc, bytes, header, exts);
+    }
+    header
 }
 
-// The same of bytes that have a header, whatever the block's elements are.
-pub(crate) fn header_of(
+// The same of bytes that have a header, whatever the block's elements are: its values.
+pub(crate) fn values_of(
     rt: &impl Abort,
     alloc: Global,
     bytes: &[u8],
     sample: &Sample,
-) -> Result<RtpHeader, Fail> {
-    let header = holds(rt, alloc, bytes, &map())?.ok_or("a header")?;
-    assert_eq!(rt; header.header_len, usize::from(sample.end), "{bytes:?}");
-    assert_eq!(rt; header.sequence_number, 47000);
-    Ok(header)
+) -> ExtensionValues {
+    let header = checked(rt, alloc, bytes, &map()).expect(rt, "a header");
+    let end = usize::from(sample.end);
+    same(rt, "the header's end", header.header_len, end);
+    same(rt, "the number", header.sequence_number, 47000);
+    header.ext_vals
 }

@@ -32,7 +32,7 @@ fn payload_types(rt: HostRuntime) {
 
 #[test]
 fn sequence_numbers(rt: HostRuntime) {
-    for (number, text) in WIDE {
+    for &(number, text) in &WIDE {
         let seq = SeqNo::from(number);
         same(&rt, text, seq.get(), number);
         shows(&rt, rt.alloc(), &seq, text);
@@ -41,7 +41,7 @@ fn sequence_numbers(rt: HostRuntime) {
 
 #[test]
 fn sessions(rt: HostRuntime) {
-    for (number, text) in WIDE {
+    for &(number, text) in &WIDE {
         let session = SessionId::from(number);
         same(&rt, text, session.get(), number);
         shows(&rt, rt.alloc(), &session, text);
@@ -50,7 +50,7 @@ fn sessions(rt: HostRuntime) {
 
 #[test]
 fn transport_sequence_numbers(rt: HostRuntime) {
-    for (number, text) in WIDE {
+    for &(number, text) in &WIDE {
         let seq = TwccSeq::from(number);
         same(&rt, text, seq.get(), number);
         shows(&rt, rt.alloc(), &seq, text);
@@ -59,7 +59,7 @@ fn transport_sequence_numbers(rt: HostRuntime) {
 
 #[test]
 fn clusters(rt: HostRuntime) {
-    for (number, text) in WIDE {
+    for &(number, text) in &WIDE {
         let cluster = TwccClusterId::from(number);
         same(&rt, text, cluster.get(), number);
         shows(&rt, rt.alloc(), &cluster, text);
@@ -93,7 +93,7 @@ const MIDS: [(&str, &str); 10] = [
 
 #[test]
 fn texts_of_mids(rt: HostRuntime) {
-    for (text, kept) in MIDS {
+    for &(text, kept) in &MIDS {
         let mid = Mid::from(text);
         same(&rt, text, mid.as_str(), kept);
         shows(&rt, rt.alloc(), &mid, kept);
@@ -112,7 +112,7 @@ const RIDS: [(&str, &str); 6] = [
 
 #[test]
 fn texts_of_rids(rt: HostRuntime) {
-    for (text, kept) in RIDS {
+    for &(text, kept) in &RIDS {
         let rid = Rid::from(text);
         same(&rt, text, rid.as_str(), kept);
         shows(&rt, rt.alloc(), &rid, kept);

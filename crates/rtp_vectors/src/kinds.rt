@@ -22,7 +22,7 @@ const LEVELS: [(i8, bool, u8, i8); 7] = [
 #[test]
 fn levels(rt: HostRuntime) {
     let kind = Extension::AudioLevel;
-    for (audio_level, voice, byte, again) in LEVELS {
+    for &(audio_level, voice, byte, again) in &LEVELS {
         let mut values = level(audio_level, voice);
         has_data(&rt, &kind, &values, &[byte]);
         let is_read = is_read_into(&rt, rt.alloc(), &kind, &[byte], &mut values);
@@ -34,7 +34,7 @@ fn levels(rt: HostRuntime) {
 
 #[test]
 fn levels_without_voice_activity(rt: HostRuntime) {
-    for (audio_level, ..) in LEVELS {
+    for &(audio_level, ..) in &LEVELS {
         let values = ExtensionValues {
             audio_level: Some(audio_level),
             ..ExtensionValues::default()

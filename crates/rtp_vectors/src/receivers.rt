@@ -117,7 +117,7 @@ fn take_run(rt: &impl Abort, numbers: &[u16], taken: &[Option<u64>]) {
 
 #[test]
 fn three_steps(rt: HostRuntime) {
-    for (numbers, taken) in RUNS {
+    for &(numbers, taken) in &RUNS {
         take_run(&rt, numbers, taken);
     }
 }

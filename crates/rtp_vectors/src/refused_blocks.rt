@@ -1,6 +1,7 @@
 //! Blocks with layer allocations where memory may be refused once: what stands then, and that the
 //! same call with memory gives all of it. `.ci/run` refuses each growth in turn.
 
+use crate::checks::{are_values, holds, parsed, same};
 use crate::fixtures::level;
 use crate::runs::verdict;
 use crate::values::is_written;
@@ -8,7 +9,7 @@ use rtp_wire::{
     Extension, ExtensionMap, ExtensionValues, ExtensionsForm, RtpHeader, Verdict, receive_run,
 };
 use std::alloc::{AllocError, Global};
-use std::test::Fail;
+use std::process::Abort;
 
 // The body of a one-byte block: a level of -42 with voice, one stream of one layer of rate 5, and
 // transport number 7.
@@ -52,97 +53,115 @@ fn is_whole(values: &ExtensionValues, rate: u8) -> bool {
         && values.transport_cc == Some(7)
 }
 
+// Reads the body into the values, with memory.
+fn read_again(rt: &impl Abort, alloc: Global, body: &[u8], values: &mut ExtensionValues) {
+    read(alloc, body, values).expect(rt, "memory");
+}
+
 #[test]
-fn one_allocation(rt: HostRuntime) -> Result<(), Fail> {
+fn one_allocation(rt: HostRuntime) {
     let mut values = ExtensionValues::default();
     if read(rt.alloc(), &BODY, &mut values).is_err() {
         // The level and nothing else.
-        assert!(rt; values == level(-42, true));
-        read(rt.alloc(), &BODY, &mut values)?;
+        are_values(&rt, "the refusal", &values, &level(-42, true));
+        read_again(&rt, rt.alloc(), &BODY, &mut values);
     }
-    assert!(rt; is_whole(&values, 5));
-    Ok(())
+    holds(&rt, "the end", is_whole(&values, 5));
+}
+
+// There is a level of -42 and no transport number.
+fn is_cut(rt: &impl Abort, values: &ExtensionValues) {
+    same(rt, "the level", values.audio_level, Some(-42));
+    same(rt, "the number", values.transport_cc, None);
 }
 
 // Where the memory of the second one is refused, the first one stands.
 #[test]
-fn two_allocations(rt: HostRuntime) -> Result<(), Fail> {
+fn two_allocations(rt: HostRuntime) {
     let mut values = ExtensionValues::default();
     if read(rt.alloc(), &TWO, &mut values).is_err() {
-        assert!(rt; values == level(-42, true) || has_rate(&values, 5));
-        assert_eq!(rt; values.audio_level, Some(-42));
-        assert_eq!(rt; values.transport_cc, None);
-        read(rt.alloc(), &TWO, &mut values)?;
+        let is_first = values == level(-42, true) || has_rate(&values, 5);
+        holds(&rt, "the first", is_first);
+        is_cut(&rt, &values);
+        read_again(&rt, rt.alloc(), &TWO, &mut values);
     }
-    assert!(rt; is_whole(&values, 6));
-    Ok(())
+    holds(&rt, "the end", is_whole(&values, 6));
 }
 
 #[test]
-fn the_second_allocation(rt: HostRuntime) -> Result<(), Fail> {
+fn the_second_allocation(rt: HostRuntime) {
     let mut values = ExtensionValues::default();
     if read(rt.alloc(), &NONE_AND_ONE, &mut values).is_err() {
         let kind = Extension::VideoLayersAllocation;
-        assert!(rt; is_written(&kind, &values, &[0]));
-        assert_eq!(rt; values.audio_level, Some(-42));
-        assert_eq!(rt; values.transport_cc, None);
-        read(rt.alloc(), &NONE_AND_ONE, &mut values)?;
+        holds(&rt, "the first", is_written(&kind, &values, &[0]));
+        is_cut(&rt, &values);
+        read_again(&rt, rt.alloc(), &NONE_AND_ONE, &mut values);
     }
-    assert!(rt; is_whole(&values, 6));
-    Ok(())
+    holds(&rt, "the end", is_whole(&values, 6));
 }
 
 // The two elements in two blocks, each of which is read again where its memory is refused.
 #[test]
-fn one_block_after_another(rt: HostRuntime) -> Result<(), Fail> {
+fn one_block_after_another(rt: HostRuntime) {
     let mut values = ExtensionValues::default();
     if read(rt.alloc(), &TWO[..6], &mut values).is_err() {
-        read(rt.alloc(), &TWO[..6], &mut values)?;
+        read_again(&rt, rt.alloc(), &TWO[..6], &mut values);
     }
     if read(rt.alloc(), &TWO[6..], &mut values).is_err() {
-        assert!(rt; has_rate(&values, 5));
-        assert_eq!(rt; values.transport_cc, None);
-        read(rt.alloc(), &TWO[6..], &mut values)?;
+        holds(&rt, "the first", has_rate(&values, 5));
+        same(&rt, "the number", values.transport_cc, None);
+        read_again(&rt, rt.alloc(), &TWO[6..], &mut values);
     }
-    assert!(rt; is_whole(&values, 6));
-    Ok(())
+    holds(&rt, "the end", is_whole(&values, 6));
+}
+
+// The packet's header, with memory at the second try.
+fn packet(rt: &impl Abort, alloc: Global) -> RtpHeader {
+    let read = match RtpHeader::parse(alloc, &PACKET, &map()) {
+        Ok(read) => read,
+        Err(_) => parsed(rt, alloc, &PACKET, &map()),
+    };
+    read.expect(rt, "a header")
 }
 
 #[test]
-fn a_header(rt: HostRuntime) -> Result<(), Fail> {
-    let header = RtpHeader::parse(rt.alloc(), &PACKET, &map())
-        .or_else(|_| RtpHeader::parse(rt.alloc(), &PACKET, &map()))?
-        .ok_or("a header")?;
-    assert_eq!(rt; header.header_len, 28);
-    assert_eq!(rt; header.sequence_number, 47000);
-    assert!(rt; is_whole(&header.ext_vals, 5));
-    Ok(())
+fn a_header(rt: HostRuntime) {
+    let header = packet(&rt, rt.alloc());
+    same(&rt, "the length", header.header_len, 28);
+    same(&rt, "the number", header.sequence_number, 47000);
+    holds(&rt, "the values", is_whole(&header.ext_vals, 5));
 }
 
 // A plain packet of number 46,999, the packet twice, and one that is cut short.
 fn datagrams(alloc: Global) -> Result<Vec<Vec<u8>>, AllocError> {
     let plain = [0x80, 33, 0xB7, 0x97, 0, 0, 0, 0, 0, 0, 0, 44];
-    let plain = Vec::from_slice(alloc, &plain)?;
-    let packet = Vec::from_slice(alloc, &PACKET)?;
-    let again = Vec::from_slice(alloc, &PACKET)?;
-    let short = Vec::from_slice(alloc, &PACKET[..27])?;
-    Ok(vec![in alloc; plain, packet, again, short]?)
+    let mut datagrams = Vec::new(alloc);
+    for bytes in [plain.as_slice(), &PACKET, &PACKET, &PACKET[..27]] {
+        datagrams.push(Vec::from_slice(alloc, bytes)?)?;
+    }
+    Ok(datagrams)
+}
+
+// The verdicts on the datagrams, with memory at the second try.
+fn run(rt: &impl Abort, alloc: Global, datagrams: &[Vec<u8>]) -> Vec<Verdict> {
+    match receive_run(alloc, datagrams, &map()) {
+        Ok(verdicts) => verdicts,
+        Err(_) => receive_run(alloc, datagrams, &map()).expect(rt, "memory"),
+    }
 }
 
 #[test]
-fn a_run(rt: HostRuntime) -> Result<(), Fail> {
-    let datagrams = datagrams(rt.alloc()).or_else(|_| datagrams(rt.alloc()))?;
-    let verdicts = receive_run(rt.alloc(), &datagrams, &map()).or_else(|_| receive_run(
-        rt.alloc(),
-        &datagrams,
-        &map(),
-    ))?;
+fn a_run(rt: HostRuntime) {
+    let datagrams = match datagrams(rt.alloc()) {
+        Ok(datagrams) => datagrams,
+        Err(_) => datagrams(rt.alloc()).expect(&rt, "memory"),
+    };
+    let verdicts = run(&rt, rt.alloc(), &datagrams);
     let wanted = [
         verdict(Some(46_999)),
         verdict(Some(47_000)),
         Verdict::Refused,
         Verdict::Unreadable,
     ];
-    assert_eq!(rt; verdicts.as_slice(), wanted.as_slice());
-    Ok(())
+    same(&rt, "the run", verdicts.as_slice(), wanted.as_slice());
 }

@@ -1,14 +1,16 @@
 //! Calls that ask for no memory, so that none can be refused to them. `.ci/run` sees that a test of
 //! this file asks for none.
 
+use crate::checks::{are_values, header_of, holds, named, parsed, same};
 use crate::fixtures::{full, level, one};
 use crate::refused_blocks::{PACKET, map};
-use crate::values::is_written;
+use crate::values::{is_read_into, is_refused, is_written};
 use rtp_wire::{
     Elements, Extension, ExtensionMap, ExtensionValues, ExtensionsForm, Receiver, Receivers,
     RtpHeader, receive_run, receive_run_one, vla,
 };
-use std::test::Fail;
+use std::alloc::Global;
+use std::process::Abort;
 
 // Blocks without an element of two bytes or more whose id is mapped to the allocation: no element
 // of that id, one of one byte, and ones of other ids; and the level and transport number that they
@@ -55,115 +57,182 @@ const BODIES: [(ExtensionsForm, &[u8], Option<i8>, Option<u16>); 8] = [
     ),
 ];
 
+// The block sets this level and this transport number.
+fn sets(
+    rt: &impl Abort,
+    alloc: Global,
+    form: ExtensionsForm,
+    body: &[u8],
+    audio_level: Option<i8>,
+    transport_cc: Option<u16>,
+) {
+    let mut values = ExtensionValues::default();
+    let read = map().parse(alloc, body, form, &mut values);
+    read.expect(rt, "no memory is needed");
+    assert!(rt; values.audio_level == audio_level, "{body:?}");
+    assert!(rt; values.transport_cc == transport_cc, "{body:?}");
+}
+
 #[test]
-fn blocks(rt: HostRuntime) -> Result<(), Fail> {
-    for (form, body, audio_level, transport_cc) in BODIES {
-        let mut values = ExtensionValues::default();
-        map().parse(rt.alloc(), body, form, &mut values)?;
-        assert_eq!(rt; values.audio_level, audio_level, "{body:?}");
-        assert_eq!(rt; values.transport_cc, transport_cc, "{body:?}");
+fn blocks(rt: HostRuntime) {
+    for &(form, body, audio_level, transport_cc) in &BODIES {
+        sets(&rt, rt.alloc(), form, body, audio_level, transport_cc);
     }
-    Ok(())
 }
 
 // Under a map without the kind, the same bytes as those that take memory under another.
 #[test]
-fn a_packet_under_another_map(rt: HostRuntime) -> Result<(), Fail> {
+fn a_packet_under_another_map(rt: HostRuntime) {
     let exts = one(1, Extension::AudioLevel);
-    let header = RtpHeader::parse(rt.alloc(), &PACKET, &exts)?.ok_or("a header")?;
-    assert!(rt; header.ext_vals == level(-42, true));
-    assert_eq!(rt; header.header_len, 28);
-    Ok(())
+    let header = header_of(&rt, rt.alloc(), &PACKET, &exts);
+    are_values(&rt, "the packet", &header.ext_vals, &level(-42, true));
+    same(&rt, "the packet", header.header_len, 28);
+}
+
+// The bytes begin with no header.
+fn is_no_header(rt: &impl Abort, alloc: Global, bytes: &[u8]) {
+    let read = parsed(rt, alloc, bytes, &map());
+    assert!(rt; read.is_none(), "{bytes:?}");
 }
 
 // A packet whose block is cut short, and one of another version.
 #[test]
-fn no_header(rt: HostRuntime) -> Result<(), Fail> {
+fn no_header(rt: HostRuntime) {
     let mut bytes = PACKET;
     for len in 0..28 {
-        let read = RtpHeader::parse(rt.alloc(), &bytes[..len], &map())?;
-        assert!(rt; read.is_none(), "at {len}");
+        is_no_header(&rt, rt.alloc(), &bytes[..len]);
     }
     for first in [0, 0x50, 0xD0, 0x9F] {
         bytes[0] = first;
-        assert!(rt; RtpHeader::parse(rt.alloc(), &bytes, &map())?.is_none());
+        is_no_header(&rt, rt.alloc(), &bytes);
     }
-    Ok(())
 }
 
-#[test]
-fn allocations_of_one_byte_or_none(rt: HostRuntime) -> Result<(), Fail> {
+// Whether the bytes mean an allocation.
+fn means_one(rt: &impl Abort, alloc: Global, bytes: &[u8]) -> bool {
+    let read = vla::parse(alloc, bytes);
+    read.expect(rt, "no memory is needed").is_some()
+}
+
+// One byte is read into the values exactly if it is 0.
+fn is_read_if_zero(rt: &impl Abort, alloc: Global, byte: u8) {
     let kind = Extension::VideoLayersAllocation;
-    assert!(rt; vla::parse(rt.alloc(), &[])?.is_none());
-    for byte in 0..=255u8 {
-        assert_eq!(rt; vla::parse(rt.alloc(), &[byte])?.is_some(), byte == 0);
-        let mut values = full();
-        let read = kind.parse_value(rt.alloc(), &[byte], &mut values)?;
-        assert_eq!(rt; read.is_some(), byte == 0);
-        assert_eq!(rt; is_written(&kind, &values, &[0]), byte == 0);
-    }
     let mut values = full();
-    assert!(rt; kind.parse_value(rt.alloc(), &[], &mut values)?.is_none());
-    assert!(rt; values == full());
-    Ok(())
+    let is_read = is_read_into(rt, alloc, &kind, &[byte], &mut values);
+    same(rt, byte, is_read, byte == 0);
+    same(rt, byte, is_written(&kind, &values, &[0]), byte == 0);
 }
 
 #[test]
-fn a_run_of_no_datagrams(rt: HostRuntime) -> Result<(), Fail> {
+fn allocations_of_one_byte_or_none(rt: HostRuntime) {
+    holds(&rt, "no byte", !means_one(&rt, rt.alloc(), &[]));
+    for byte in 0..=255u8 {
+        same(&rt, byte, means_one(&rt, rt.alloc(), &[byte]), byte == 0);
+        is_read_if_zero(&rt, rt.alloc(), byte);
+    }
+    is_refused(&rt, rt.alloc(), &Extension::VideoLayersAllocation, &[]);
+}
+
+// The datagrams have no verdicts, as those of several sources and as those of one.
+fn have_no_verdicts(rt: &impl Abort, alloc: Global, none: &[Vec<u8>]) {
+    let verdicts = receive_run(alloc, none, &map());
+    assert!(rt; verdicts.expect(rt, "no memory is needed").is_empty());
+    let verdicts = receive_run_one(alloc, none, &map());
+    assert!(rt; verdicts.expect(rt, "no memory is needed").is_empty());
+}
+
+#[test]
+fn a_run_of_no_datagrams(rt: HostRuntime) {
     let none: Vec<Vec<u8>> = Vec::new(rt.alloc());
-    assert!(rt; receive_run(rt.alloc(), &none, &map())?.is_empty());
-    assert!(rt; receive_run_one(rt.alloc(), &none, &map())?.is_empty());
-    Ok(())
+    have_no_verdicts(&rt, rt.alloc(), &none);
+}
+
+// The URI makes the known extension, of which a copy is the same.
+fn is_known(rt: &impl Abort, alloc: Global, known: &Extension) {
+    assert!(rt; named(rt, alloc, known.as_uri()) == *known, "{known}");
+    let copy = known.clone(alloc).expect(rt, "no memory is needed");
+    assert!(rt; copy == *known, "{known}");
 }
 
 #[test]
-fn known_texts(rt: HostRuntime) -> Result<(), Fail> {
+fn known_texts(rt: HostRuntime) {
     let exts = ExtensionMap::standard();
     for (_, known) in exts.iter() {
-        let made = Extension::from_sdp_uri(rt.alloc(), known.as_uri())?;
-        assert!(rt; made == *known);
-        assert!(rt; known.clone(rt.alloc())? == *known);
+        is_known(&rt, rt.alloc(), known);
     }
-    let kind = Extension::VideoLayersAllocation;
-    assert!(rt; Extension::from_sdp_uri(rt.alloc(), vla::URI)? == kind);
-    Ok(())
+    let kind = named(&rt, rt.alloc(), vla::URI);
+    assert!(rt; kind == Extension::VideoLayersAllocation);
+}
+
+fn is_map_copied(rt: &impl Abort, alloc: Global, exts: ExtensionMap) {
+    let copy = exts.clone(alloc).expect(rt, "no memory is needed");
+    assert!(rt; copy == exts);
+}
+
+fn are_values_copied(rt: &impl Abort, alloc: Global, values: &ExtensionValues) {
+    let copy = values.clone(alloc).expect(rt, "no memory is needed");
+    are_values(rt, "a copy", &copy, values);
 }
 
 #[test]
-fn copies(rt: HostRuntime) -> Result<(), Fail> {
-    for exts in [ExtensionMap::empty(), ExtensionMap::standard(), map()] {
-        assert!(rt; exts.clone(rt.alloc())? == exts);
-    }
-    assert!(rt; full().clone(rt.alloc())? == full());
-    let header = RtpHeader {
-        ext_vals: full(),
-        ..RtpHeader::default()
-    };
-    assert!(rt; header.clone(rt.alloc())? == header);
-    // An allocation without streams has no list.
+fn copied_maps(rt: HostRuntime) {
+    is_map_copied(&rt, rt.alloc(), ExtensionMap::empty());
+    is_map_copied(&rt, rt.alloc(), ExtensionMap::standard());
+    is_map_copied(&rt, rt.alloc(), map());
+}
+
+// An allocation without streams has no list.
+#[test]
+fn copied_values(rt: HostRuntime) {
+    are_values_copied(&rt, rt.alloc(), &full());
+    let kind = Extension::VideoLayersAllocation;
     let mut values = full();
-    Extension::VideoLayersAllocation.parse_value(rt.alloc(), &[0], &mut values)?;
-    assert!(rt; values.clone(rt.alloc())? == values);
-    Ok(())
+    is_read_into(&rt, rt.alloc(), &kind, &[0], &mut values);
+    are_values_copied(&rt, rt.alloc(), &values);
+}
+
+// A header of these values and no other.
+fn with(ext_vals: ExtensionValues) -> RtpHeader {
+    RtpHeader {
+        ext_vals,
+        ..RtpHeader::default()
+    }
+}
+
+#[test]
+fn copied_header(rt: HostRuntime) {
+    let header = with(full());
+    let copy = header.clone(rt.alloc()).expect(&rt, "no memory is needed");
+    assert!(rt; copy == header);
 }
 
 // Calls that aren't given an allocator.
 #[test]
-fn writing_and_receiving(rt: HostRuntime) {
+fn writing(rt: HostRuntime) {
     let header = RtpHeader {
         ext_vals: level(-42, true),
         ..RtpHeader::default()
     };
     let exts = ExtensionMap::standard();
     let mut buf = [0; 20];
-    assert_eq!(rt; header.wire_len(&exts), 20);
-    assert_eq!(rt; header.write_to(&mut buf, &exts), 20);
-    assert!(rt; buf[16..] == [0x10, 0xAA, 0, 0]);
-    let mut elements = Elements::new(&buf[16..], ExtensionsForm::OneByte);
-    assert_eq!(rt; elements.next(), Some((1, [0xAA].as_slice())));
+    assert!(rt; header.wire_len(&exts) == 20);
+    same(&rt, "the end", header.write_to(&mut buf, &exts), 20);
+    same(
+        &rt,
+        "the block",
+        buf.get(16..),
+        Some([0x10, 0xAA, 0, 0].as_slice()),
+    );
+}
+
+#[test]
+fn elements_and_receiving(rt: HostRuntime) {
+    let mut elements = Elements::new(&[0x10, 0xAA, 0, 0], ExtensionsForm::OneByte);
+    let first = Some((1, [0xAA].as_slice()));
+    same(&rt, "the element", elements.next(), first);
     let mut receiver = Receiver::new();
-    receiver.receive(&header);
-    assert!(rt; receiver.highest().is_some());
+    receiver.receive(&with(level(-42, true)));
+    holds(&rt, "the highest", receiver.highest().is_some());
 }
 
 // What is asked of a source takes no memory, nor does a source that has no receiver.

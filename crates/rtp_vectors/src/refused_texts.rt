@@ -1,49 +1,61 @@
 //! Extensions with texts of their own where memory may be refused once: the source is as it was,
 //! and the same call with memory copies all of it. `.ci/run` refuses each growth in turn.
 
+use crate::checks::{holds, is_map, named, same};
 use rtp_wire::{Extension, ExtensionMap, Uri};
 use std::alloc::Global;
-use std::test::Fail;
+use std::process::Abort;
 
 const TEXT: &str = "urn:x";
 
 // The extension of this text, with memory at the second try.
-fn unknown(alloc: Global) -> Result<Extension, Fail> {
-    let made = Extension::from_sdp_uri(alloc, TEXT);
-    Ok(made.or_else(|_| Extension::from_sdp_uri(alloc, TEXT))?)
+fn unknown(rt: &impl Abort, alloc: Global) -> Extension {
+    match Extension::from_sdp_uri(alloc, TEXT) {
+        Ok(made) => made,
+        Err(_) => named(rt, alloc, TEXT),
+    }
+}
+
+// The extension has this text.
+fn has_text(rt: &impl Abort, at: &str, ext: &Extension) {
+    same(rt, at, ext.as_uri(), TEXT);
 }
 
 #[test]
-fn of_sdp(rt: HostRuntime) -> Result<(), Fail> {
-    let ext = unknown(rt.alloc())?;
-    assert_eq!(rt; ext.as_uri(), TEXT);
-    assert!(rt; matches!(ext, Extension::UnknownUri(_)));
-    Ok(())
+fn of_sdp(rt: HostRuntime) {
+    let ext = unknown(&rt, rt.alloc());
+    has_text(&rt, "the extension", &ext);
+    holds(&rt, "its kind", matches!(ext, Extension::UnknownUri(_)));
 }
 
 #[test]
-fn of_an_extension(rt: HostRuntime) -> Result<(), Fail> {
-    let source = unknown(rt.alloc())?;
-    let copy = source
-        .clone(rt.alloc())
-        .or_else(|_| source.clone(rt.alloc()))?;
-    assert_eq!(rt; source.as_uri(), TEXT);
-    assert_eq!(rt; copy.as_uri(), TEXT);
-    Ok(())
-}
-
-#[test]
-fn of_a_uri(rt: HostRuntime) -> Result<(), Fail> {
-    let Extension::UnknownUri(source) = unknown(rt.alloc())? else {
-        return Err(Fail::from("a known kind"));
+fn of_an_extension(rt: HostRuntime) {
+    let source = unknown(&rt, rt.alloc());
+    let copy = match source.clone(rt.alloc()) {
+        Ok(copy) => copy,
+        Err(_) => source.clone(rt.alloc()).expect(&rt, "memory"),
     };
-    let copy = source
-        .clone(rt.alloc())
-        .or_else(|_| source.clone(rt.alloc()))?;
-    assert!(rt; copy == source);
-    assert_eq!(rt; Extension::UnknownUri(source).as_uri(), TEXT);
-    assert_eq!(rt; Extension::UnknownUri(copy).as_uri(), TEXT);
-    Ok(())
+    has_text(&rt, "the source", &source);
+    has_text(&rt, "the copy", &copy);
+}
+
+// A copy of the text, with memory at the second try.
+fn copied(rt: &impl Abort, alloc: Global, source: &Uri) -> Uri {
+    match source.clone(alloc) {
+        Ok(copy) => copy,
+        Err(_) => source.clone(alloc).expect(rt, "memory"),
+    }
+}
+
+#[test]
+fn of_a_uri(rt: HostRuntime) {
+    let Extension::UnknownUri(source) = unknown(&rt, rt.alloc()) else {
+        panic!(rt; "a known kind");
+    };
+    let copy = copied(&rt, rt.alloc(), &source);
+    holds(&rt, "the copy", copy == source);
+    has_text(&rt, "the source", &Extension::UnknownUri(source));
+    has_text(&rt, "the copy", &Extension::UnknownUri(copy));
 }
 
 // Whether the map is the standard one with the extension of the text at id 16.
@@ -55,13 +67,14 @@ fn is_whole(map: &ExtensionMap) -> bool {
 }
 
 #[test]
-fn of_a_map(rt: HostRuntime) -> Result<(), Fail> {
+fn of_a_map(rt: HostRuntime) {
     let mut source = ExtensionMap::standard();
-    source.set(16, unknown(rt.alloc())?);
-    let copy = source
-        .clone(rt.alloc())
-        .or_else(|_| source.clone(rt.alloc()))?;
-    assert!(rt; is_whole(&source) && is_whole(&copy));
-    assert!(rt; copy == source);
-    Ok(())
+    source.set(16, unknown(&rt, rt.alloc()));
+    let copy = match source.clone(rt.alloc()) {
+        Ok(copy) => copy,
+        Err(_) => source.clone(rt.alloc()).expect(&rt, "memory"),
+    };
+    holds(&rt, "the source", is_whole(&source));
+    holds(&rt, "the copy", is_whole(&copy));
+    is_map(&rt, &copy, source);
 }

@@ -111,7 +111,7 @@ fn check_stream(rt: &impl Abort, alloc: Global, numbers: &[u16], taken: &[Option
 
 #[test]
 fn runs_of_one_stream(rt: HostRuntime) {
-    for (numbers, taken) in RUNS {
+    for &(numbers, taken) in &RUNS {
         check_stream(&rt, rt.alloc(), numbers, taken);
     }
 }

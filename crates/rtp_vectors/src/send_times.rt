@@ -1,9 +1,11 @@
 //! The moments of absolute send times that were read.
 
+use crate::checks::{holds, same};
 use crate::fixtures::full;
 use crate::values::{nines, read};
 use rtp_wire::{Extension, ExtensionValues};
-use std::test::Fail;
+use std::alloc::Global;
+use std::process::Abort;
 
 // The values with every field set, and this send time.
 fn sent(send_time: Option<u64>) -> ExtensionValues {
@@ -21,47 +23,55 @@ fn updated(send_time: Option<u64>, now: u64) -> ExtensionValues {
     values
 }
 
+// What was read, when it arrived, and the moment.
+const MOMENTS: [(u64, u64, u64); 6] = [
+    (63_000_000, 64_500_000, 63_000_000),
+    (40_000_000, 1_000_050_000, 1_000_000_000),
+    // There is no moment up to 10 that is equal to 20 modulo 64 seconds.
+    (20, 10, 20),
+    // 64 seconds are equal to 0 modulo 64 seconds.
+    (64_000_000, 5, 0),
+    // 2^64 - 1 microseconds are 45.551615 seconds above a multiple of 64 seconds.
+    (45_551_615, 18446744073709551615, 18446744073709551615),
+    (45_551_616, 18446744073709551615, 18446744073645551616),
+];
+
+// Once updated at `now` the values have this send time, and all other fields stay.
+fn becomes(rt: &impl Abort, send_time: Option<u64>, now: u64, wanted: Option<u64>) {
+    holds(rt, now, updated(send_time, now) == sent(wanted));
+}
+
 #[test]
-fn moments(rt: HostRuntime) -> Result<(), Fail> {
-    // What was read, when it arrived, and the moment; all other fields stay.
-    let rows = [
-        (63_000_000, 64_500_000, 63_000_000),
-        (40_000_000, 1_000_050_000, 1_000_000_000),
-        // There is no moment up to 10 that is equal to 20 modulo 64 seconds.
-        (20, 10, 20),
-        // 64 seconds are equal to 0 modulo 64 seconds.
-        (64_000_000, 5, 0),
-        // 2^64 - 1 microseconds are 45.551615 seconds above a multiple of 64 seconds.
-        (45_551_615, 18446744073709551615, 18446744073709551615),
-        (45_551_616, 18446744073709551615, 18446744073645551616),
-    ];
-    for (micros, now, moment) in rows {
-        assert!(rt;
-            updated(Some(micros), now) == sent(Some(moment)),
-            "{micros}"
-        );
+fn moments(rt: HostRuntime) {
+    for &(micros, now, moment) in &MOMENTS {
+        becomes(&rt, Some(micros), now, Some(moment));
     }
-    Ok(())
 }
 
 #[test]
-fn no_send_time(rt: HostRuntime) -> Result<(), Fail> {
-    assert!(rt; updated(None, 7) == sent(None));
-    Ok(())
+fn no_send_time(rt: HostRuntime) {
+    becomes(&rt, None, 7, None);
 }
 
-#[test]
-fn written_and_read(rt: HostRuntime) -> Result<(), Fail> {
+// What a send time that is written is read as.
+fn read_back(rt: &impl Abort, alloc: Global, time: u64) -> Option<u64> {
     let kind = Extension::AbsoluteSendTime;
-    let time = 1_234_567_890;
     let mut buf = nines();
-    assert_eq!(rt; kind.write_to(&mut buf, &sent(Some(time))), Some(3));
-    let values = read(&rt, rt.alloc(), &kind, &buf);
+    same(
+        rt,
+        time,
+        kind.write_to(&mut buf, &sent(Some(time))),
+        Some(3),
+    );
+    read(rt, alloc, &kind, &buf).abs_send_time
+}
+
+#[test]
+fn written_and_read(rt: HostRuntime) {
+    let time = 1_234_567_890;
+    let send_time = read_back(&rt, rt.alloc(), time);
     // The greatest time until which it is recovered, but for one tick.
-    let again = updated(values.abs_send_time, time + 63_999_995);
-    let Some(moment) = again.abs_send_time else {
-        return Err(Fail::from("the time is gone"));
-    };
-    assert!(rt; time - 4 <= moment && moment <= time);
-    Ok(())
+    let again = updated(send_time, time + 63_999_995);
+    let moment = again.abs_send_time.expect(&rt, "a time");
+    holds(&rt, moment, time - 4 <= moment && moment <= time);
 }

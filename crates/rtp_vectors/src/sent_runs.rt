@@ -1,9 +1,10 @@
 //! Headers of one sender, written, and reordered and repeated on the way.
 
-use super::runs::verdict;
+use crate::checks::same;
+use crate::runs::verdict;
 use rtp_wire::{ExtensionMap, RtpHeader, receive_run};
 use std::alloc::Global;
-use std::test::Fail;
+use std::process::Abort;
 
 // The sender's packets in the order in which they come, and as what each one is taken: none where it
 // is refused.
@@ -16,27 +17,32 @@ const ARRIVALS: [(u16, Option<u64>); 5] = [
 ];
 
 // A default header of this number as it is written under the map, and one byte of payload.
-fn datagram(alloc: Global, number: u16, exts: &ExtensionMap) -> Result<Vec<u8>, Fail> {
+fn datagram(rt: &impl Abort, alloc: Global, number: u16, exts: &ExtensionMap) -> Vec<u8> {
     let header = RtpHeader {
         sequence_number: number,
         ..RtpHeader::default()
     };
-    let mut bytes = vec![in alloc; 255u8; header.wire_len(exts) + 1]?;
+    let bytes = vec![in alloc; 255u8; header.wire_len(exts) + 1];
+    let mut bytes = bytes.expect(rt, "memory");
     header.write_to(&mut bytes, exts);
-    Ok(bytes)
+    bytes
+}
+
+fn datagrams(rt: &impl Abort, alloc: Global, exts: &ExtensionMap) -> Vec<Vec<u8>> {
+    let mut datagrams = Vec::new(alloc);
+    for &(number, _) in &ARRIVALS {
+        let bytes = datagram(rt, alloc, number, exts);
+        datagrams.push(bytes).expect(rt, "memory");
+    }
+    datagrams
 }
 
 #[test]
-fn reordered_and_repeated(rt: HostRuntime) -> Result<(), Fail> {
-    let alloc = rt.alloc();
+fn reordered_and_repeated(rt: HostRuntime) {
     let exts = ExtensionMap::standard();
-    let mut datagrams = Vec::new(alloc);
-    let mut wanted = Vec::new(alloc);
-    for (number, taken) in ARRIVALS {
-        datagrams.push(datagram(alloc, number, &exts)?)?;
-        wanted.push(verdict(taken))?;
-    }
-    let verdicts = receive_run(alloc, &datagrams, &exts)?;
-    assert_eq!(rt; verdicts.as_slice(), wanted.as_slice());
-    Ok(())
+    let datagrams = datagrams(&rt, rt.alloc(), &exts);
+    let verdicts = receive_run(rt.alloc(), &datagrams, &exts);
+    let verdicts = verdicts.expect(&rt, "memory");
+    let wanted = ARRIVALS.map(|(_, taken)| verdict(taken));
+    same(&rt, "the verdicts", verdicts.as_slice(), wanted.as_slice());
 }

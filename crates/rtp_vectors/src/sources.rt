@@ -40,7 +40,7 @@ fn two_sources(rt: HostRuntime) {
     let mut run = Vec::new(rt.alloc());
     let mut by_source = Vec::new(rt.alloc());
     let mut one = Vec::new(rt.alloc());
-    for (source, number, taken, taken_as_one) in TWO_SOURCES {
+    for &(source, number, taken, taken_as_one) in &TWO_SOURCES {
         let datagram = datagram(rt.alloc(), source, number).expect(&rt, "memory");
         run.push(datagram).expect(&rt, "memory");
         by_source.push(verdict(taken)).expect(&rt, "memory");

@@ -68,7 +68,7 @@ fn has_number(rt: &impl Abort, frequency: Frequency, hertz: u32) {
 
 #[test]
 fn frequencies(rt: HostRuntime) {
-    for (frequency, hertz, text) in CONSTANTS {
+    for &(frequency, hertz, text) in &CONSTANTS {
         has_number(&rt, frequency, hertz);
         shows(&rt, rt.alloc(), &frequency, text);
     }
@@ -125,14 +125,14 @@ fn is_read(rt: &impl Abort, text: &str, wanted: Result<Frequency, ParseFrequency
 
 #[test]
 fn texts_of_frequencies(rt: HostRuntime) {
-    for (text, hertz) in TEXTS {
+    for &(text, hertz) in &TEXTS {
         is_read(&rt, text, Ok(at(0, hertz).frequency()));
     }
 }
 
 #[test]
 fn texts_of_no_frequency(rt: HostRuntime) {
-    for text in OTHER_TEXTS {
+    for text in &OTHER_TEXTS {
         is_read(&rt, text, Err(ParseFrequencyError));
     }
 }
@@ -210,7 +210,7 @@ fn is_ordered(rt: &impl Abort, left: MediaTime, right: MediaTime, order: Orderin
 
 #[test]
 fn order_of_times(rt: HostRuntime) {
-    for ((numer, hertz), (other_numer, other_hertz), order) in PAIRS {
+    for &((numer, hertz), (other_numer, other_hertz), order) in &PAIRS {
         is_ordered(&rt, at(numer, hertz), at(other_numer, other_hertz), order);
     }
 }
@@ -234,7 +234,7 @@ const REBASED: [((u64, u32), u32, Option<(u64, u32)>); 8] = [
 
 #[test]
 fn times_at_another_frequency(rt: HostRuntime) {
-    for ((numer, hertz), target, ticks) in REBASED {
+    for &((numer, hertz), target, ticks) in &REBASED {
         let found = at(numer, hertz).checked_rebase(at(0, target).frequency());
         same(&rt, numer, parts_of(found), ticks);
     }
@@ -273,7 +273,7 @@ const SUMS: [((u64, u32), (u64, u32), Option<(u64, u32)>); 6] = [
 
 #[test]
 fn checked_sums(rt: HostRuntime) {
-    for ((numer, hertz), (other_numer, other_hertz), sum) in SUMS {
+    for &((numer, hertz), (other_numer, other_hertz), sum) in &SUMS {
         let found = at(numer, hertz).checked_add(at(other_numer, other_hertz));
         same(&rt, numer, parts_of(found), sum);
     }

@@ -74,7 +74,7 @@ fn has_number(rt: &impl Abort, previous: Option<u64>, number: u16, wanted: u64) 
 
 #[test]
 fn sixteen_bits(rt: HostRuntime) {
-    for (previous, number, wanted) in SIXTEEN {
+    for &(previous, number, wanted) in &SIXTEEN {
         same(&rt, number, extend_u16(previous, number), wanted);
         has_number(&rt, previous, number, wanted);
     }

@@ -275,7 +275,7 @@ fn the_window_is_a_set(rt: HostRuntime) {
     for first in [0, 65500, 18446744073709541615] {
         let mut windows = windows_of(&rt, rt.alloc(), first);
         for _ in 0..20 {
-            for step in STEPS {
+            for &step in &STEPS {
                 let number = moved(windows.greatest, step);
                 record(&rt, &mut windows, number);
                 agree(&rt, &windows);
