@@ -204,6 +204,26 @@ fn a_failed_write_leaves_a_beginning(rt: HostRuntime) {
 }
 
 #[test]
+fn an_interrupted_write_is_tried_again(rt: HostRuntime) {
+    for writes_left in 0..PLAIN_REPORT.len() {
+        let mut output = Narrow {
+            taken: Vec::new(rt.alloc()),
+            width: 1,
+            writes_left,
+            kind: ErrorKind::Interrupted,
+            once: true,
+        };
+        let mut rest = PLAIN;
+        assert_eq!(rt;
+            run(rt.alloc(), &mut rest, &mut output),
+            RunEnd::Done,
+            "at {writes_left}"
+        );
+        assert_eq!(rt; output.taken.as_slice(), PLAIN_REPORT.as_bytes());
+    }
+}
+
+#[test]
 fn a_failed_flush(rt: HostRuntime) {
     let mut rest = PLAIN;
     assert_eq!(rt; run(rt.alloc(), &mut rest, &mut Unflushed), RunEnd::Io);
