@@ -7,17 +7,17 @@ use Rattle.std.proofs.lemmas.Bool.{or_parts}
 use Rattle.std.proofs.lemmas.Bool.Decides.{nat_tests, not_from_Decides}
 use Rattle.rtp_ext.specs.declared.ext.form.ExtensionsForm.{ExtensionsForm}
 use Rattle.rtp_ext.specs.declared.ext.form.ExtensionsForm.TheVariants.{OneByte, TwoByte}
-use Rattle.rtp_ext.specs.declared.ext.kind.Extension.{Extension}
-use Rattle.rtp_ext.specs.declared.ext.kind.Extension.TheVariants.{VideoLayersAllocation}
-use Rattle.rtp_ext.specs.contracts.ext.kind.ExtensionPartialEq.TheImpl as kind_eq
-use Rattle.rtp_ext.specs.declared.ext.value.values.ExtensionValues.{ExtensionValues}
+use Rattle.rtp_values.specs.declared.kind.Extension.{Extension}
+use Rattle.rtp_values.specs.declared.kind.Extension.TheVariants.{VideoLayersAllocation}
+use Rattle.rtp_values.specs.contracts.kind.ExtensionPartialEq.TheImpl as kind_eq
+use Rattle.rtp_values.specs.declared.value.values.ExtensionValues.{ExtensionValues}
 use Rattle.rtp_ext.specs.Elements.{Element}
-use Rattle.rtp_ext.specs.ElementWriting.{has_no_data, CanCarry}
+use Rattle.rtp_values.specs.Spelling.{has_no_data, spelled_data}
+use Rattle.rtp_ext.specs.ElementWriting.{CanCarry}
 use Rattle.rtp_ext.specs.ExtensionMap.{Slots}
 use Rattle.rtp_ext.specs.MapSlots.{items_from}
-use Rattle.rtp_ext.specs.Spelling.{spelled_data}
 use Rattle.rtp_ext.specs.WrittenBlock.{form_of}
-use Rattle.rtp_ext.proofs.ValuesLaws.{extension_decides}
+use Rattle.rtp_values.proofs.KindLemmas.{extension_decides}
 
 -- a mapped id with its kind
 abbrev pub Item : Type 0

@@ -3,7 +3,6 @@ pub mod ValuesLaws
 mod ValueFacts
 pub mod ElementLemmasOfBodies
 pub mod MemoryLemmas
-mod KindLemmas
 mod MapLemmas
 mod ListingLemmas
 mod MappedIdLemmas
@@ -11,5 +10,3 @@ mod FormLemmas
 pub mod WrittenBlockLemmas
 mod WrittenElementsLemmas
 mod WrittenValuesLemmas
-mod ValueLemmas
-mod SendTimeLemmas

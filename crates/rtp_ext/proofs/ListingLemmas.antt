@@ -5,7 +5,7 @@ use Rattle.std.proofs.lemmas.Bool.{false≢true}
 use Rattle.std.proofs.lemmas.Bool.Decides.{eqb_tells}
 use Rattle.std.proofs.lemmas.List.Elements.{All-append, All-cons, All-nil, Contains-append_left, Contains-append_right}
 use Rattle.std.specs.Option.{unwrap_or}
-use Rattle.rtp_ext.specs.declared.ext.kind.Extension.{Extension}
+use Rattle.rtp_values.specs.declared.kind.Extension.{Extension}
 use Rattle.rtp_ext.specs.MapSlots.{items_from}
 use Rattle.rtp_ext.proofs.MapLemmas.{entry_at-slot}
 use Rattle.rtp_ext.specs.ExtensionMap.{Entry, Slots, IsEmpty, entry_at, extension_at, extension_of, unlocked, Sets, IsLocked, IsUnlocked, IsRising, IsListing}

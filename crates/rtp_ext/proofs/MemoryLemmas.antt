@@ -1,11 +1,12 @@
 -- Where memory is refused: the elements before that place are read.
 use Rattle.std.proofs.Common.{◌≡◌, ℕ, zero, suc, ◌<◌, List, [], ◌∷◌, ◌++◌, length, take, drop, get_or, Some, Result, Ok, Err, OnErr, refl, sym, ap, ◌∙◌, subst, arith}
-use Rattle.rtp_ext.specs.declared.ext.kind.Extension.{Extension}
-use Rattle.rtp_ext.specs.declared.ext.value.values.ExtensionValues.{ExtensionValues}
+use Rattle.rtp_values.specs.declared.kind.Extension.{Extension}
+use Rattle.rtp_values.specs.declared.value.values.ExtensionValues.{ExtensionValues}
 use Rattle.rtp_ext.specs.Elements.{Element}
 use Rattle.rtp_ext.specs.ExtensionMap.{Slots, extension_at}
 use Rattle.rtp_ext.specs.Memory.{IsStopped}
-use Rattle.rtp_ext.specs.Values.{TakesMemory, AreValues}
+use Rattle.rtp_values.specs.Values.{TakesMemory}
+use Rattle.rtp_ext.specs.BlockValues.{AreValues}
 
 split_at : {A : Type 0} (all : List A) (n : ℕ) (x : A) → n < length all → all ≡ take n all ++ (get_or all n x ∷ drop (suc n) all)
 split_at [] n x within = absurd (omega arith)

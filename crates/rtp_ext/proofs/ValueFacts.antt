@@ -1,15 +1,16 @@
--- Worked rows of blocks and of send times, computed from the definitions.
-use Rattle.std.proofs.Common.{◌≡◌, ◌≢◌, ℕ, [], ◌∷◌, replicate, Bool, true, false, neg_ℤ, pos, Some, None, arith, refl, sym, ◌∙◌, subst, inl, inr}
+-- Worked rows of blocks, computed from the definitions.
+use Rattle.std.proofs.Common.{◌≡◌, ◌≢◌, ℕ, [], ◌∷◌, replicate, Bool, true, false, neg_ℤ, pos, Some, None, arith, refl, sym, ◌∙◌, subst}
 use Rattle.rtp_ext.specs.declared.ext.form.ExtensionsForm.TheVariants.{OneByte, TwoByte}
-use Rattle.rtp_ext.specs.declared.ext.kind.Extension.{Extension}
-use Rattle.rtp_ext.specs.declared.ext.kind.Extension.TheVariants.{AudioLevel}
-use Rattle.rtp_ext.specs.declared.ext.value.values.ExtensionValues.{ExtensionValues}
+use Rattle.rtp_values.specs.declared.kind.Extension.{Extension}
+use Rattle.rtp_values.specs.declared.kind.Extension.TheVariants.{AudioLevel}
+use Rattle.rtp_values.specs.declared.value.values.ExtensionValues.{ExtensionValues}
 use Rattle.rtp_ext.specs.ExtensionMap.{Slots, extension_at}
 use Rattle.rtp_ext.specs.Elements.{AreElements, ended, cut_short, stopped}
-use Rattle.rtp_ext.specs.SendTime.{IsRecovered}
-use Rattle.rtp_ext.specs.Spelling.{carried_send_time}
-use Rattle.rtp_ext.specs.Values.{Reads, SameFields, IsWellFormed, AreValues}
-use Rattle.rtp_ext.proofs.ValuesLaws.{AreValues-none, AreValues-read, AreValues-passed, SameFields-refl, one_kind}
+use Rattle.rtp_values.specs.Values.{Reads, SameFields, IsWellFormed}
+use Rattle.rtp_ext.specs.BlockValues.{AreValues}
+use Rattle.rtp_ext.proofs.ValuesLaws.{AreValues-none, AreValues-read, AreValues-passed}
+use Rattle.rtp_values.proofs.FieldLemmas.{SameFields-refl}
+use Rattle.rtp_values.proofs.KindLemmas.{one_kind}
 
 -- one-byte header: an element and the front of one of eight bytes
 cut_row : AreElements OneByte (16 ∷ 170 ∷ 55 ∷ 0 ∷ []) ((1, 170 ∷ []) ∷ [])
@@ -106,22 +107,3 @@ unmapped_row : (exts : Slots) (old : ExtensionValues) → extension_at exts 1 �
 unmapped_row exts old mapped nothing =
     AreValues-passed exts ((1, 170 ∷ []) ∷ []) (2, 5 ∷ []) old (with_level old 42 true) (λ kind carries. let is = carries.0 in cc)
     (level_row exts old mapped)
-
--- send times: what is read of a time that was written, and the moments of what is read
-ticks_row : carried_send_time 4 ≡ 3
-ticks_row = refl
-
-wrapped_row : carried_send_time 1000000000 ≡ 40000000
-wrapped_row = refl
-
-latest_row : IsRecovered 1000050000 40000000 1000000000
-latest_row = inl (record { possible = record { past = omega arith; same = refl }; latest = λ other is. let past = is.past in let same = is.same in omega arith })
-
-before_wrap_row : IsRecovered 64500000 63000000 63000000
-before_wrap_row = inl (record { possible = record { past = omega arith; same = refl }; latest = λ other is. let past = is.past in let same = is.same in omega arith })
-
-whole_period_row : IsRecovered 5 64000000 0
-whole_period_row = inl (record { possible = record { past = omega arith; same = refl }; latest = λ other is. let past = is.past in let same = is.same in omega arith })
-
-too_early_row : IsRecovered 10 20 20
-too_early_row = inr (λ other is. (let past = is.past in let same = is.same in absurd (omega arith)), refl)

@@ -5,19 +5,19 @@ use Rattle.std.specs.List.{AllByRecursion, cons_option}
 use Rattle.std.specs.Option.{option_map, unwrap_or}
 use Rattle.rtp_ext.specs.declared.ext.form.ExtensionsForm.{ExtensionsForm}
 use Rattle.rtp_ext.specs.declared.ext.form.ExtensionsForm.TheVariants.{OneByte, TwoByte}
-use Rattle.rtp_ext.specs.declared.ext.kind.Extension.{Extension}
-use Rattle.rtp_ext.specs.declared.ext.kind.Extension.TheVariants.{VideoLayersAllocation}
-use Rattle.rtp_ext.specs.declared.ext.value.values.ExtensionValues.{ExtensionValues}
+use Rattle.rtp_values.specs.declared.kind.Extension.{Extension}
+use Rattle.rtp_values.specs.declared.kind.Extension.TheVariants.{VideoLayersAllocation}
+use Rattle.rtp_values.specs.declared.value.values.ExtensionValues.{ExtensionValues}
 use Rattle.rtp_ext.specs.Elements.{Element, IsElement}
 use Rattle.rtp_ext.specs.ElementWriting.{header_bytes, bytes_at, items_bytes, CanCarry, IsCarried}
 use Rattle.rtp_ext.specs.ExtensionMap.{Slots}
 use Rattle.rtp_ext.specs.MapSlots.{items_from}
 use Rattle.rtp_base.specs.Overwriting.{overwritten}
-use Rattle.rtp_ext.specs.Spelling.{spelled_data, carried_values, longest}
-use Rattle.rtp_ext.specs.Values.{Reads}
+use Rattle.rtp_values.specs.Spelling.{spelled_data, carried_values, longest}
+use Rattle.rtp_values.specs.Values.{Reads}
 use Rattle.rtp_ext.specs.WrittenBlock.{written_elements, elements_bytes}
 use Rattle.rtp_base.proofs.OverwritingLemmas.{overwritten-overwritten, overwritten-before, overwritten-nil, overwritten-front, length-overwritten}
-use Rattle.rtp_ext.proofs.ValueLemmas.{longest-fits}
+use Rattle.rtp_values.proofs.ValueLemmas.{longest-fits}
 use Rattle.rtp_ext.proofs.FormLemmas.{Item, elements_of, IsFit}
 
 -- ---- the bytes

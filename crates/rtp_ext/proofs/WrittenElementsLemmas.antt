@@ -1,21 +1,18 @@
 -- The elements that are read from what a map writes.
-use Rattle.std.proofs.Common.{◌≡◌, ◌≢◌, ℕ, ◌==◌, false, length, length-append, arith, List, [], ◌∷◌, ◌++◌, replicate, Option, Some, None, refl, sym, ap, ◌∙◌, append_assoc, zero, suc}
+use Rattle.std.proofs.Common.{◌≡◌, ℕ, List, [], ◌∷◌, ◌++◌, replicate, Option, Some, None, refl, sym, ap, ◌∙◌, append_assoc, zero, suc}
 use Rattle.std.specs.Prelude.{IfSome}
 use Rattle.std.specs.List.{AllByRecursion, flat_map, filter_map, cons_option}
 use Rattle.std.specs.Option.{option_map}
-use Rattle.std.proofs.lemmas.Bool.{ne_eqb}
 use Rattle.std.proofs.lemmas.List.{append-nil}
-use Rattle.rtp_vla.proofs.AllocationWritingLemmas.{written-long}
 use Rattle.rtp_ext.specs.declared.ext.form.ExtensionsForm.{ExtensionsForm}
-use Rattle.rtp_ext.specs.declared.ext.kind.Extension.{Extension}
-use Rattle.rtp_ext.specs.declared.ext.kind.Extension.TheVariants.{AbsoluteSendTime, AbsoluteCaptureTime, AudioLevel, TransmissionTimeOffset, VideoOrientation, TransportSequenceNumber, PlayoutDelay, VideoContentType, VideoTiming, RtpStreamId, RepairedRtpStreamId, RtpMid, FrameMarking, ColorSpace, VideoLayersAllocation, UnknownUri}
-use Rattle.rtp_ext.specs.declared.ext.value.values.ExtensionValues.{ExtensionValues}
+use Rattle.rtp_values.specs.declared.kind.Extension.{Extension}
+use Rattle.rtp_values.specs.declared.value.values.ExtensionValues.{ExtensionValues}
 use Rattle.rtp_ext.specs.Elements.{Element, IsElement, element_bytes, IsPiece, piece_bytes, AreElements, ended}
-use Rattle.rtp_ext.specs.ElementWriting.{has_no_data, IsCarried}
+use Rattle.rtp_values.specs.Spelling.{spelled_data, carried_values}
+use Rattle.rtp_ext.specs.ElementWriting.{IsCarried}
 use Rattle.rtp_ext.specs.ExtensionMap.{Slots}
 use Rattle.rtp_ext.specs.MapSlots.{items_from}
-use Rattle.rtp_ext.specs.Spelling.{bytes_of, offset_bytes, of_both, element_allocation, spelled_data, carried_values}
-use Rattle.rtp_ext.specs.Values.{Reads}
+use Rattle.rtp_values.specs.Values.{Reads}
 use Rattle.rtp_ext.specs.WrittenBlock.{written_elements, elements_bytes}
 use Rattle.rtp_ext.proofs.FormLemmas.{Item, elements_of}
 
@@ -72,34 +69,3 @@ AreElements-written form exts values zeros all =
       body_is = pieces_of-bytes form elements zeros ∙ sym (append-nil (flat_map (piece_bytes form) (pieces_of elements zeros)));
       elements_are = pieces_of-elements elements zeros;
     }
-
--- data that are made of a value have some bytes, or are absent with it
-some_data : {A : Type 0} (f : A → List ℕ) (value : Option A) → ((x : A) → (length (f x) == 0) ≡ false) → has_no_data (option_map f value) ≡ false
-some_data f None some = refl
-some_data f (Some x) some = some x
-
-some_of_both : {A B : Type 0} (f : A → B → List ℕ) (first : Option A) (second : Option B) → ((x : A) (y : B) → (length (f x y) == 0) ≡ false) → has_no_data (of_both f first second) ≡ false
-some_of_both f None second some = refl
-some_of_both f (Some x) None some = refl
-some_of_both f (Some x) (Some y) some = some x y
-
--- no data but those of a text are empty
-pub no_empty_data : (kind : Extension) (values : ExtensionValues) → kind ≢ RtpStreamId → kind ≢ RepairedRtpStreamId → kind ≢ RtpMid → has_no_data (spelled_data kind values) ≡ false
-no_empty_data AbsoluteSendTime values a b c = some_data _ values.abs_send_time (λ x. refl)
-no_empty_data AbsoluteCaptureTime values a b c =
-    some_data _ values.abs_capture_time (λ x. ne_eqb _ 0 (λ e. omega (arith, length-append (bytes_of 8 x.capture_time) (offset_bytes x.clock_offset))))
-no_empty_data AudioLevel values a b c = some_of_both _ values.audio_level values.voice_activity (λ x y. refl)
-no_empty_data TransmissionTimeOffset values a b c = some_data _ values.tx_time_offs (λ x. refl)
-no_empty_data VideoOrientation values a b c = some_data _ values.video_orientation (λ x. refl)
-no_empty_data TransportSequenceNumber values a b c = some_data _ values.transport_cc (λ x. refl)
-no_empty_data PlayoutDelay values a b c = some_of_both _ values.play_delay_min values.play_delay_max (λ x y. refl)
-no_empty_data VideoContentType values a b c = some_data _ values.video_content_type (λ x. refl)
-no_empty_data VideoTiming values a b c = some_data _ values.video_timing (λ x. refl)
-no_empty_data RtpStreamId values a b c = absurd (a refl)
-no_empty_data RepairedRtpStreamId values a b c = absurd (b refl)
-no_empty_data RtpMid values a b c = absurd (c refl)
-no_empty_data FrameMarking values a b c = some_data _ values.frame_mark (λ x. refl)
-no_empty_data VideoLayersAllocation values a b c =
-    some_data _ (element_allocation values.video_layers_allocation) (λ x. ne_eqb _ 0 (λ e. omega (arith, written-long x)))
-no_empty_data ColorSpace values a b c = refl
-no_empty_data (UnknownUri uri) values a b c = refl

@@ -6,19 +6,21 @@ use Rattle.std.specs.Option.{option_map}
 use Rattle.std.proofs.lemmas.List.Elements.{All-cons, All-nil, recursion_from_All, filter_map-append}
 use Rattle.std.proofs.lemmas.List.Folds.{list_any-append}
 use Rattle.rtp_ext.specs.declared.ext.form.ExtensionsForm.{ExtensionsForm}
-use Rattle.rtp_ext.specs.declared.ext.kind.Extension.{Extension}
-use Rattle.rtp_ext.specs.declared.ext.kind.Extension.TheVariants.{AbsoluteSendTime, AbsoluteCaptureTime, AudioLevel, TransmissionTimeOffset, VideoOrientation, TransportSequenceNumber, PlayoutDelay, VideoContentType, VideoTiming, RtpStreamId, RepairedRtpStreamId, RtpMid, FrameMarking, ColorSpace, VideoLayersAllocation, UnknownUri}
-use Rattle.rtp_ext.specs.declared.ext.value.values.ExtensionValues.{ExtensionValues}
-use Rattle.rtp_ext.specs.contracts.ext.kind.ExtensionPartialEq.TheImpl as kind_eq
+use Rattle.rtp_values.specs.declared.kind.Extension.{Extension}
+use Rattle.rtp_values.specs.declared.kind.Extension.TheVariants.{AbsoluteSendTime, AbsoluteCaptureTime, AudioLevel, TransmissionTimeOffset, VideoOrientation, TransportSequenceNumber, PlayoutDelay, VideoContentType, VideoTiming, RtpStreamId, RepairedRtpStreamId, RtpMid, FrameMarking, ColorSpace, VideoLayersAllocation, UnknownUri}
+use Rattle.rtp_values.specs.declared.value.values.ExtensionValues.{ExtensionValues}
+use Rattle.rtp_values.specs.contracts.kind.ExtensionPartialEq.TheImpl as kind_eq
 use Rattle.rtp_ext.specs.Elements.{Element, IsElement}
 use Rattle.rtp_ext.specs.ElementWriting.{IsCarried}
 use Rattle.rtp_ext.specs.ExtensionMap.{Slots, extension_at}
 use Rattle.rtp_ext.specs.MapSlots.{items_from}
-use Rattle.rtp_ext.specs.Spelling.{spelled_data, carried_values, element_allocation, of_both}
-use Rattle.rtp_ext.specs.Values.{no_values, Reads, SameFields, Carries, IsRead, last, none, AreValues}
+use Rattle.rtp_values.specs.Spelling.{spelled_data, carried_values, element_allocation, of_both}
+use Rattle.rtp_values.specs.Values.{no_values, Reads, SameFields}
+use Rattle.rtp_ext.specs.BlockValues.{Carries, IsRead, last, none, AreValues}
 use Rattle.rtp_ext.specs.WrittenBlock.{written_elements, is_mapped, where_mapped, image_values}
 use Rattle.rtp_ext.proofs.ListingLemmas.{IsListing-from_slots}
-use Rattle.rtp_ext.proofs.ValuesLaws.{Reads-same, SameFields-trans, extension_decides, same_or_not}
+use Rattle.rtp_values.proofs.FieldLemmas.{Reads-same, SameFields-trans}
+use Rattle.rtp_values.proofs.KindLemmas.{extension_decides, same_or_not}
 use Rattle.rtp_ext.proofs.FormLemmas.{Item, element_of, elements_of}
 
 -- ---- the image of a kind

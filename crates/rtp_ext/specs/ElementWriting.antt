@@ -1,14 +1,14 @@
 -- The elements of mapped ids in a row: what the functions of `block_elements` promise each other.
-use Rattle.std.specs.Prelude.{◌≢◌, ℕ, ◌+◌, ◌-◌, ◌*◌, ◌≤◌, List, [], ◌∷◌, length, Bool, false, ◌==◌, Option, Some, None, IfSome}
+use Rattle.std.specs.Prelude.{◌≢◌, ℕ, ◌+◌, ◌-◌, ◌*◌, ◌≤◌, List, [], ◌∷◌, length, Option, Some, None, IfSome}
 use Rattle.std.specs.List.{flat_map}
 use Rattle.rtp_ext.specs.declared.ext.form.ExtensionsForm.{ExtensionsForm}
 use Rattle.rtp_ext.specs.declared.ext.form.ExtensionsForm.TheVariants.{OneByte, TwoByte}
-use Rattle.rtp_ext.specs.declared.ext.kind.Extension.{Extension}
-use Rattle.rtp_ext.specs.declared.ext.kind.Extension.TheVariants.{VideoLayersAllocation}
-use Rattle.rtp_ext.specs.declared.ext.value.values.ExtensionValues.{ExtensionValues}
+use Rattle.rtp_values.specs.declared.kind.Extension.{Extension}
+use Rattle.rtp_values.specs.declared.kind.Extension.TheVariants.{VideoLayersAllocation}
+use Rattle.rtp_values.specs.declared.value.values.ExtensionValues.{ExtensionValues}
 use Rattle.rtp_ext.specs.Elements.{IsElement, element_bytes}
-use Rattle.rtp_ext.specs.Spelling.{spelled_data, carried_values}
-use Rattle.rtp_ext.specs.Values.{Reads}
+use Rattle.rtp_values.specs.Spelling.{spelled_data, carried_values}
+use Rattle.rtp_values.specs.Values.{Reads}
 
 -- the bytes in front of an element's data, by its id and the length of its data
 abbrev pub header_bytes : ExtensionsForm → ℕ → ℕ → List ℕ
@@ -23,11 +23,6 @@ bytes_at form id (Some bytes) = element_bytes form (id, bytes)
 -- the elements of mapped ids in a row
 unfoldable pub items_bytes : ExtensionsForm → ExtensionValues → List (ℕ × Extension) → List ℕ
 items_bytes form values items = flat_map (λ item. bytes_at form item.0 (spelled_data item.1 values)) items
-
--- whether there are data, and they are empty
-abbrev pub has_no_data : Option (List ℕ) → Bool
-has_no_data None = false
-has_no_data (Some bytes) = length bytes == 0
 
 -- an element of a mapped id that may be written in the form: an allocation never in the one-byte form
 abbrev pub CanCarry : ExtensionsForm → ℕ × Extension → Option (List ℕ) → Type 0

@@ -1,11 +1,23 @@
 -- For the prover: equality of maps is one. A reader may skip this file.
-use Rattle.std.specs.Prelude.{Bool, Option}
+use Rattle.std.specs.Prelude.{Bool, true, false, Option, Some, None}
 use Rattle.std.specs.Cmp.{IsEquivalence}
 use Rattle.std.specs.Cmp.Lexicographic.{pointwise, lists_equiv}
+use Rattle.rtp_values.specs.declared.kind.Extension.{Extension}
+use Rattle.rtp_ext.specs.declared.ext.slot.Mapping.{Mapping}
+use Rattle.rtp_ext.specs.declared.ext.slot.Mapping.TheVariants as mapping
 use Rattle.rtp_ext.specs.contracts.ext.slot.MappingPartialEq.TheImpl as mapping_eq
 use Rattle.rtp_ext.specs.contracts.ext.slot.MappingEq.TheImpl.Laws.{laws-law}
 use Rattle.rtp_ext.specs.ExtensionMap.{Entry, Slots}
-use Rattle.rtp_ext.specs.MapSlots.{mapping_of}
+
+-- the slot of an extension, which is locked there or free
+abbrev pub mapping_to : Bool → Extension → Mapping
+mapping_to true extension = mapping.Locked extension
+mapping_to false extension = mapping.Free extension
+
+-- the slot of an entry
+abbrev pub mapping_of : Option Entry → Mapping
+mapping_of None = mapping.Unmapped
+mapping_of (Some entry) = mapping_to entry.locked entry.extension
 
 -- whether two slots hold the same entry
 abbrev pub same_slot : Option Entry → Option Entry → Bool

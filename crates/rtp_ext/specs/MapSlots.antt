@@ -1,25 +1,17 @@
 -- The slots of a map as the code goes through them: that of id 1 is index 0.
-use Rattle.std.specs.Prelude.{◌≡◌, ◌≢◌, ℕ, ◌+◌, ◌<◌, nat_lt, if◌then◌else◌, List, [], ◌∷◌, length, map, Option, Some, None, Bool, true, false, slice_index_or}
+use Rattle.std.specs.Prelude.{◌≡◌, ◌≢◌, ℕ, ◌+◌, ◌<◌, nat_lt, if◌then◌else◌, List, [], ◌∷◌, length, map, Option, Some, None, slice_index_or}
 use Rattle.std.specs.Option.{option_map}
 use Rattle.std.specs.List.{filter_map}
-use Rattle.rtp_ext.specs.declared.ext.kind.Extension.{Extension}
+use Rattle.rtp_values.specs.declared.kind.Extension.{Extension}
 use Rattle.rtp_ext.specs.declared.ext.slot.Mapping.{Mapping}
 use Rattle.rtp_ext.specs.declared.ext.slot.Mapping.TheVariants as mapping
 use Rattle.rtp_ext.specs.ExtensionMap.{Entry, Slots, entry_at, extension_of, extension_at, unlocked, locked}
 
--- the entry in a slot, and the slot of an entry
+-- the entry in a slot
 abbrev pub entry_of : Mapping → Option Entry
 entry_of mapping.Unmapped = None
 entry_of (mapping.Free extension) = Some (unlocked extension)
 entry_of (mapping.Locked extension) = Some (locked extension)
-
-abbrev pub mapping_to : Bool → Extension → Mapping
-mapping_to true extension = mapping.Locked extension
-mapping_to false extension = mapping.Free extension
-
-abbrev pub mapping_of : Option Entry → Mapping
-mapping_of None = mapping.Unmapped
-mapping_of (Some entry) = mapping_to entry.locked entry.extension
 
 -- the first index whose slot has the extension
 pub record IsFirst (map : Slots) (extension : Extension) (index : ℕ) : Type 0 where

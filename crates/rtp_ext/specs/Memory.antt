@@ -1,15 +1,11 @@
 -- Where memory may be refused: at an element whose data take it.
-use Rattle.std.specs.Prelude.{◌≡◌, List, [], ◌∷◌, ◌++◌, Option, Some, IfSome}
-use Rattle.rtp_vla.specs.Allocation.{Allocation}
-use Rattle.rtp_ext.specs.declared.ext.kind.Extension.TheVariants.{VideoLayersAllocation}
-use Rattle.rtp_ext.specs.declared.ext.value.values.ExtensionValues.{ExtensionValues}
+use Rattle.std.specs.Prelude.{◌≡◌, List, ◌∷◌, ◌++◌, Some}
+use Rattle.rtp_values.specs.declared.kind.Extension.TheVariants.{VideoLayersAllocation}
+use Rattle.rtp_values.specs.declared.value.values.ExtensionValues.{ExtensionValues}
 use Rattle.rtp_ext.specs.Elements.{Element}
 use Rattle.rtp_ext.specs.ExtensionMap.{Slots, extension_at}
-use Rattle.rtp_ext.specs.Values.{TakesMemory, AreValues}
-
--- a copy of the allocation takes no memory: there is none, or it has no streams
-abbrev pub TakesNoMemory : Option Allocation → Type 0
-TakesNoMemory allocation = IfSome allocation (λ a. a.simulcast_streams ≡ [])
+use Rattle.rtp_values.specs.Values.{TakesMemory}
+use Rattle.rtp_ext.specs.BlockValues.{AreValues}
 
 -- the element's id is mapped to the layer allocation, and reading its data takes memory
 abbrev pub IsAllocation : Slots → Element → Type 0

@@ -6,14 +6,14 @@ use Rattle.std.specs.Int.{w16, to_be_bytes}
 use Rattle.rtp_ext.specs.Form.{form_word}
 use Rattle.rtp_ext.specs.declared.ext.form.ExtensionsForm.{ExtensionsForm}
 use Rattle.rtp_ext.specs.declared.ext.form.ExtensionsForm.TheVariants.{OneByte, TwoByte}
-use Rattle.rtp_ext.specs.declared.ext.value.values.ExtensionValues.{ExtensionValues}
-use Rattle.rtp_ext.specs.declared.ext.kind.Extension.{Extension}
-use Rattle.rtp_ext.specs.declared.ext.kind.Extension.TheVariants.{AbsoluteSendTime, AbsoluteCaptureTime, AudioLevel, TransmissionTimeOffset, VideoOrientation, TransportSequenceNumber, PlayoutDelay, VideoContentType, VideoTiming, RtpStreamId, RepairedRtpStreamId, RtpMid, FrameMarking, VideoLayersAllocation}
-use Rattle.rtp_ext.specs.contracts.ext.kind.ExtensionPartialEq.TheImpl as kind_eq
+use Rattle.rtp_values.specs.declared.value.values.ExtensionValues.{ExtensionValues}
+use Rattle.rtp_values.specs.declared.kind.Extension.{Extension}
+use Rattle.rtp_values.specs.declared.kind.Extension.TheVariants.{AbsoluteSendTime, AbsoluteCaptureTime, AudioLevel, TransmissionTimeOffset, VideoOrientation, TransportSequenceNumber, PlayoutDelay, VideoContentType, VideoTiming, RtpStreamId, RepairedRtpStreamId, RtpMid, FrameMarking, VideoLayersAllocation}
+use Rattle.rtp_values.specs.contracts.kind.ExtensionPartialEq.TheImpl as kind_eq
 use Rattle.rtp_ext.specs.ExtensionMap.{Slots}
 use Rattle.rtp_ext.specs.MapSlots.{items_from}
 use Rattle.rtp_ext.specs.Elements.{Element, element_bytes}
-use Rattle.rtp_ext.specs.Spelling.{spelled_data, carried_values}
+use Rattle.rtp_values.specs.Spelling.{spelled_data, carried_values}
 
 -- an element for each mapped id by rising id, where its kind has data to write
 abbrev pub written_elements : Slots → ExtensionValues → List Element

@@ -5,8 +5,8 @@ use Rattle.std.specs.List.{find}
 use Rattle.std.specs.Str.Lines.{lines}
 use Rattle.std.proofs.lemmas.List.{reverse-append, length_push}
 use Rattle.std.proofs.lemmas.Bool.{eqb-true, eqb-false}
-use Rattle.rtp_ext.specs.declared.ext.kind.Extension.{Extension}
-use Rattle.rtp_ext.specs.Kind.{IsNamedBy}
+use Rattle.rtp_values.specs.declared.kind.Extension.{Extension}
+use Rattle.rtp_values.specs.Kind.{IsNamedBy}
 use Rattle.rtp_ext.specs.ExtensionMap.{Slots, entry_at, unlocked, IsEmpty, Sets}
 use Rattle.rtp_lines.specs.MapLine.{IsMapLine}
 use Rattle.rtp_lines.specs.Input.{Item, AreMapLines, IsMapped, AreMapped, last_for}

@@ -3,8 +3,8 @@ use Rattle.std.specs.Prelude.{◌≡◌, ℕ, ◌+◌, ◌==◌, List, [], ◌�
 use Rattle.std.specs.List.{AllZip, find}
 use Rattle.std.specs.Str.Lines.{lines}
 use Rattle.hex.specs.Hex.{decode_of}
-use Rattle.rtp_ext.specs.declared.ext.kind.Extension.{Extension}
-use Rattle.rtp_ext.specs.Kind.{IsNamedBy}
+use Rattle.rtp_values.specs.declared.kind.Extension.{Extension}
+use Rattle.rtp_values.specs.Kind.{IsNamedBy}
 use Rattle.rtp_ext.specs.ExtensionMap.{Entry, Slots, entry_at, unlocked, IsListing, IsUnlocked, standard_items}
 use Rattle.rtp_lines.specs.MapLine.{IsMapLine}
 

@@ -10,15 +10,15 @@ use Rattle.rtp_base.specs.MediaTime.{Fraction, fraction_eq}
 use Rattle.rtp_base.specs.contracts.id.mid.MidPartialEq.TheImpl as mid_eq
 use Rattle.rtp_base.specs.contracts.id.rid.RidPartialEq.TheImpl as rid_eq
 use Rattle.rtp_wire.specs.AllocationEqual.{same_allocation-decides}
-use Rattle.rtp_ext.specs.HeaderValues.{HeaderValues}
-use Rattle.rtp_ext.specs.declared.ext.value.abs_capture_time.AbsCaptureTime.{AbsCaptureTime}
-use Rattle.rtp_ext.specs.declared.ext.value.video_orientation.VideoOrientation.{VideoOrientation}
-use Rattle.rtp_ext.specs.declared.ext.value.video_timing.VideoTiming.{VideoTiming}
+use Rattle.rtp_values.specs.HeaderValues.{HeaderValues}
+use Rattle.rtp_values.specs.declared.value.abs_capture_time.AbsCaptureTime.{AbsCaptureTime}
+use Rattle.rtp_values.specs.declared.value.video_orientation.VideoOrientation.{VideoOrientation}
+use Rattle.rtp_values.specs.declared.value.video_timing.VideoTiming.{VideoTiming}
 use Rattle.rtp_wire.specs.declared.header.rtp_header.RtpHeader.{RtpHeader}
-use Rattle.rtp_ext.specs.contracts.ext.value.abs_capture_time.AbsCaptureTimePartialEq.TheImpl as capture_eq
-use Rattle.rtp_ext.specs.contracts.ext.value.video_orientation.VideoOrientationPartialEq.TheImpl as orientation_eq
-use Rattle.rtp_ext.specs.contracts.ext.value.video_timing.VideoTimingPartialEq.TheImpl as timing_eq
-use Rattle.rtp_ext.specs.contracts.ext.value.values.ExtensionValuesPartialEq.TheImpl as values_eq
+use Rattle.rtp_values.specs.contracts.value.abs_capture_time.AbsCaptureTimePartialEq.TheImpl as capture_eq
+use Rattle.rtp_values.specs.contracts.value.video_orientation.VideoOrientationPartialEq.TheImpl as orientation_eq
+use Rattle.rtp_values.specs.contracts.value.video_timing.VideoTimingPartialEq.TheImpl as timing_eq
+use Rattle.rtp_values.specs.contracts.value.values.ExtensionValuesPartialEq.TheImpl as values_eq
 use Rattle.rtp_wire.specs.contracts.header.rtp_header.RtpHeaderPartialEq.TheImpl as header_eq
 use Rattle.rtp_uses.specs.Equality.{AreSameTimes, AreSameValues, AreSameHeaders}
 

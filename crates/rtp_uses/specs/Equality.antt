@@ -1,7 +1,7 @@
 -- When two headers are equal: field by field, and times as fractions.
 use Rattle.std.specs.Prelude.{◌≡◌, Option, Some, None, IsTrue}
 use Rattle.rtp_base.specs.MediaTime.{Fraction, fraction_eq}
-use Rattle.rtp_ext.specs.HeaderValues.{HeaderValues}
+use Rattle.rtp_values.specs.HeaderValues.{HeaderValues}
 use Rattle.rtp_wire.specs.declared.header.rtp_header.RtpHeader.{RtpHeader}
 
 -- both times are absent, or both are there and are equal as fractions: 250 at 1000 equals 1 at 4

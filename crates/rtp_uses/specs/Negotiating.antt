@@ -1,7 +1,7 @@
 -- The map that the lines `a=extmap` of SDP make (RFC 8285, 5).
 use Rattle.std.specs.Prelude.{◌≡◌, ◌≢◌, ℕ, ◌<◌, List, [], length, Some, None, slice_index_or}
-use Rattle.rtp_ext.specs.declared.ext.kind.Extension.{Extension}
-use Rattle.rtp_ext.specs.Kind.{kind_of, IsKnown, IsNamedBy}
+use Rattle.rtp_values.specs.declared.kind.Extension.{Extension}
+use Rattle.rtp_values.specs.Kind.{kind_of, IsKnown, IsNamedBy}
 use Rattle.rtp_ext.specs.ExtensionMap.{Slots, IsId, entry_at, unlocked, Sets}
 
 -- the id is mapped to the extension of this URI now, and every other id to what it was mapped to

@@ -2,10 +2,9 @@
 
 ghost use Rattle.std.specs.Prelude.{◌≡◌, ◌↔◌, ◌≤◌, length, drop, Ok, Some, None, IsOk, IfOk, IfSome};
 ghost use Rattle.rtp_wire.specs.Header.{IsWire};
-ghost use Rattle.rtp_ext.specs.Memory.{TakesNoMemory};
+ghost use Rattle.rtp_values.specs.Values.{TakesNoMemory, orientation_of};
 ghost use Rattle.rtp_wire.specs.RefusedMemory.{HeaderHasAllocation};
 ghost use Rattle.rtp_wire.specs.NotAHeader.{NotAHeader};
-ghost use Rattle.rtp_ext.specs.Values.{orientation_of};
 ghost use Rattle.rtp_wire.specs.Written.{wire_bytes, image_of};
 
 use rtp_wire::{ExtensionMap, RtpHeader, VideoOrientation};

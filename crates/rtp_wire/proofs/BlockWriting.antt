@@ -6,10 +6,11 @@ use Rattle.std.proofs.lemmas.Nat.{from_be_bytes-to_be_bytes_2}
 use Rattle.rtp_ext.specs.declared.ext.form.ExtensionsForm.{ExtensionsForm}
 use Rattle.rtp_ext.specs.declared.ext.form.ExtensionsForm.TheVariants.{OneByte, TwoByte}
 use Rattle.rtp_ext.specs.declared.ext.map.ExtensionMap.{ExtensionMap}
-use Rattle.rtp_ext.specs.declared.ext.value.values.ExtensionValues.{ExtensionValues}
+use Rattle.rtp_values.specs.declared.value.values.ExtensionValues.{ExtensionValues}
 use Rattle.rtp_ext.specs.Form.{form_word}
 use Rattle.rtp_ext.specs.Elements.{AreElements}
-use Rattle.rtp_ext.specs.Values.{AreValues, no_values}
+use Rattle.rtp_ext.specs.BlockValues.{AreValues}
+use Rattle.rtp_values.specs.Values.{no_values}
 use Rattle.rtp_wire.specs.Block.{IsBlock, IsExtensionPart}
 use Rattle.rtp_base.specs.Overwriting.{overwritten}
 use Rattle.rtp_ext.specs.WrittenBlock.{written_elements, form_of, elements_bytes, padding_of, body_bytes, block_bytes, image_values}

@@ -6,13 +6,14 @@ use Rattle.std.specs.Simd.{first_chunks}
 use Rattle.std.proofs.lemmas.List.{get_or-take}
 use Rattle.rtp_ext.specs.declared.ext.form.ExtensionsForm.{ExtensionsForm}
 use Rattle.rtp_ext.specs.declared.ext.map.ExtensionMap.{ExtensionMap}
-use Rattle.rtp_ext.specs.declared.ext.value.values.ExtensionValues.{ExtensionValues}
+use Rattle.rtp_values.specs.declared.value.values.ExtensionValues.{ExtensionValues}
 use Rattle.rtp_wire.specs.declared.header.rtp_header.RtpHeader.{RtpHeader}
 use Rattle.rtp_ext.specs.declared.ext.form.ExtensionsForm.TheVariants.{OneByte, TwoByte}
 use Rattle.rtp_ext.specs.Form.{IsFormWord}
 use Rattle.rtp_ext.specs.Elements.{Element, AreElements}
 use Rattle.rtp_ext.specs.ElementReading.{elements_left}
-use Rattle.rtp_ext.specs.Values.{no_values, AreValues}
+use Rattle.rtp_values.specs.Values.{no_values}
+use Rattle.rtp_ext.specs.BlockValues.{AreValues}
 use Rattle.rtp_wire.specs.Block.{word_at, IsBlock}
 use Rattle.rtp_wire.specs.Header.{IsWire}
 use Rattle.rtp_wire.specs.NotAHeader.{NotABlock, cut_head, unknown_form, cut_words, NotAHeader, cut_fixed, other_version, cut_sources, no_block}

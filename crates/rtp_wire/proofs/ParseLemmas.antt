@@ -6,13 +6,14 @@ use Rattle.std.specs.Simd.{first_chunks}
 use Rattle.std.proofs.lemmas.List.{drop-drop, get_or-take}
 use Rattle.rtp_ext.specs.declared.ext.map.ExtensionMap.{ExtensionMap}
 use Rattle.rtp_wire.specs.declared.header.rtp_header.RtpHeader.{RtpHeader}
-use Rattle.rtp_ext.specs.Flag.{bit}
+use Rattle.rtp_values.specs.Flag.{bit}
 use Rattle.rtp_wire.specs.Header.{IsFirstByte, IsFixed}
 use Rattle.rtp_ext.specs.declared.ext.form.ExtensionsForm.{ExtensionsForm}
 use Rattle.rtp_wire.specs.NotAHeader.{NotABlock, NotAHeader, sources_end, cut_fixed, other_version, cut_sources, no_block}
 use Rattle.rtp_wire.specs.RefusedMemory.{BlockHasAllocation, HeaderHasAllocation}
-use Rattle.rtp_ext.specs.declared.ext.value.values.ExtensionValues.{ExtensionValues}
-use Rattle.rtp_ext.specs.Values.{no_values, AreValues}
+use Rattle.rtp_values.specs.declared.value.values.ExtensionValues.{ExtensionValues}
+use Rattle.rtp_values.specs.Values.{no_values}
+use Rattle.rtp_ext.specs.BlockValues.{AreValues}
 use Rattle.rtp_wire.specs.Reading.{HasBlock, HasExtensionPart, ReadsBlock}
 use Rattle.rtp_wire.proofs.FlagLemmas.{HasFlags, flags_from_first}
 use Rattle.rtp_wire.proofs.GroupLemmas.{AreFours-first_chunks, length-first_chunks, first_chunks-take}

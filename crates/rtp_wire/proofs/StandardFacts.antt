@@ -7,13 +7,13 @@ use Rattle.rtp_ext.specs.Form.{IsFormWord}
 use Rattle.rtp_wire.specs.Header.{IsWire, default_header}
 use Rattle.rtp_wire.specs.NotAHeader.{cut_head, unknown_form, cut_words, NotAHeader, cut_fixed, other_version, cut_sources, no_block}
 use Rattle.rtp_ext.specs.ExtensionMap.{Slots}
-use Rattle.rtp_ext.specs.Spelling.{carried_values}
+use Rattle.rtp_values.specs.Spelling.{carried_values}
 use Rattle.rtp_ext.specs.WrittenBlock.{block_bytes, image_values}
 use Rattle.rtp_wire.specs.Written.{wire_bytes, image_of}
 use Rattle.rtp_wire.specs.Padding.{padding_bytes, with_padding_bit, IsPaddingLength, IsUnpadded}
 use Rattle.rtp_wire.specs.OriginalNumber.{HasOriginalNumber}
 use Rattle.rtp_ext.specs.Elements.{ended}
-use Rattle.rtp_ext.specs.Values.{no_values}
+use Rattle.rtp_values.specs.Values.{no_values}
 use Rattle.rtp_ext.proofs.ValuesLaws.{AreValues-none}
 
 abbrev zeros : ℕ → List ℕ

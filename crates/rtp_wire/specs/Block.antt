@@ -8,10 +8,11 @@ use Rattle.std.specs.Prelude.{◌≡◌, ℕ, ◌+◌, ◌*◌, List, [], length
 use Rattle.std.specs.Int.{w16, from_be_bytes}
 use Rattle.rtp_ext.specs.declared.ext.form.ExtensionsForm.{ExtensionsForm}
 use Rattle.rtp_ext.specs.declared.ext.map.ExtensionMap.{ExtensionMap}
-use Rattle.rtp_ext.specs.declared.ext.value.values.ExtensionValues.{ExtensionValues}
+use Rattle.rtp_values.specs.declared.value.values.ExtensionValues.{ExtensionValues}
 use Rattle.rtp_ext.specs.Form.{IsFormWord}
 use Rattle.rtp_ext.specs.Elements.{Element, AreElements}
-use Rattle.rtp_ext.specs.Values.{no_values, AreValues}
+use Rattle.rtp_values.specs.Values.{no_values}
+use Rattle.rtp_ext.specs.BlockValues.{AreValues}
 
 -- the word in two bytes, the high one first
 abbrev pub word_at : List ℕ → ℕ → ℕ

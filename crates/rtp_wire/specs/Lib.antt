@@ -1,14 +1,15 @@
 -- Header extensions and the layer allocation, whose definitions come from the crates below.
 pub use Rattle.rtp_ext.specs.Form
-pub use Rattle.rtp_ext.specs.Kind
+pub use Rattle.rtp_values.specs.Kind
 pub use Rattle.rtp_ext.specs.ExtensionMap
 pub use Rattle.rtp_ext.specs.Elements
-pub use Rattle.rtp_ext.specs.HeaderValues
-pub use Rattle.rtp_ext.specs.Values
+pub use Rattle.rtp_values.specs.HeaderValues
+pub use Rattle.rtp_values.specs.Values
+pub use Rattle.rtp_ext.specs.BlockValues
 pub use Rattle.rtp_ext.specs.Memory
-pub use Rattle.rtp_ext.specs.Spelling
+pub use Rattle.rtp_values.specs.Spelling
 pub use Rattle.rtp_ext.specs.WrittenBlock
-pub use Rattle.rtp_ext.specs.SendTime
+pub use Rattle.rtp_values.specs.SendTime
 pub use Rattle.rtp_vla.specs.Leb
 pub use Rattle.rtp_vla.specs.Allocation
 pub use Rattle.rtp_vla.specs.AllocationWritten

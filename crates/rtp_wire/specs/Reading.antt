@@ -2,9 +2,9 @@
 use Rattle.std.specs.Prelude.{ℕ, ◌+◌, ◌≤◌, List, length, take, Bool}
 use Rattle.rtp_ext.specs.declared.ext.form.ExtensionsForm.{ExtensionsForm}
 use Rattle.rtp_ext.specs.declared.ext.map.ExtensionMap.{ExtensionMap}
-use Rattle.rtp_ext.specs.declared.ext.value.values.ExtensionValues.{ExtensionValues}
+use Rattle.rtp_values.specs.declared.value.values.ExtensionValues.{ExtensionValues}
 use Rattle.rtp_ext.specs.Elements.{Element, AreElements}
-use Rattle.rtp_ext.specs.Values.{AreValues}
+use Rattle.rtp_ext.specs.BlockValues.{AreValues}
 use Rattle.rtp_wire.specs.Block.{IsBlock, IsExtensionPart}
 
 -- a block with this body is at the front

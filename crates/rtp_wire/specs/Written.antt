@@ -3,11 +3,11 @@ use Rattle.std.specs.Prelude.{ℕ, ◌+◌, ◌-◌, ◌*◌, List, [], ◌∷�
 use Rattle.std.specs.List.{flat_map}
 use Rattle.std.specs.Int.{w16, w32, to_be_bytes}
 use Rattle.rtp_ext.specs.declared.ext.map.ExtensionMap.{ExtensionMap}
-use Rattle.rtp_ext.specs.declared.ext.value.values.ExtensionValues.{ExtensionValues}
+use Rattle.rtp_values.specs.declared.value.values.ExtensionValues.{ExtensionValues}
 use Rattle.rtp_wire.specs.declared.header.rtp_header.RtpHeader.{RtpHeader}
-use Rattle.rtp_ext.specs.Values.{no_values}
+use Rattle.rtp_values.specs.Values.{no_values}
 use Rattle.rtp_ext.specs.WrittenBlock.{block_bytes, image_values}
-use Rattle.rtp_ext.specs.Flag.{bit}
+use Rattle.rtp_values.specs.Flag.{bit}
 
 -- the twelve fixed bytes, with version 2 whatever the header's field holds
 abbrev pub fixed_bytes : RtpHeader → List ℕ

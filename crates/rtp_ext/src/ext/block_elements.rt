@@ -3,16 +3,18 @@
 ghost use Rattle.std.specs.Prelude.{◌≡◌, ◌⊎◌, ℕ, ◌+◌, ◌*◌, ◌≤◌, ◌++◌, ◌||◌, nat_lt, length, drop, replicate};
 ghost use Rattle.std.specs.Option.{option_map};
 ghost use Rattle.rtp_ext.specs.declared.ext.form.ExtensionsForm.TheVariants.{OneByte, TwoByte};
-ghost use Rattle.rtp_ext.specs.declared.ext.kind.Extension.TheVariants.{VideoLayersAllocation};
-ghost use Rattle.rtp_ext.specs.contracts.ext.kind.ExtensionPartialEq.TheImpl as kind_eq;
+ghost use Rattle.rtp_values.specs.declared.kind.Extension.TheVariants.{VideoLayersAllocation};
+ghost use Rattle.rtp_values.specs.contracts.kind.ExtensionPartialEq.TheImpl as kind_eq;
 ghost use Rattle.rtp_ext.specs.Elements.{AreElements};
-ghost use Rattle.rtp_ext.specs.ElementWriting.{header_bytes, bytes_at, has_no_data, CanCarry, IsCarried};
+ghost use Rattle.rtp_ext.specs.ElementWriting.{header_bytes, bytes_at, CanCarry, IsCarried};
+ghost use Rattle.rtp_values.specs.Spelling.{has_no_data, spelled_data};
 ghost use Rattle.rtp_base.specs.Overwriting.{overwritten};
-ghost use Rattle.rtp_ext.specs.Spelling.{spelled_data};
-ghost use Rattle.rtp_ext.specs.Values.{AreValues, no_values};
+ghost use Rattle.rtp_ext.specs.BlockValues.{AreValues};
+ghost use Rattle.rtp_values.specs.Values.{no_values};
 ghost use Rattle.rtp_ext.specs.WrittenBlock.{written_elements, form_of, elements_bytes, image_values};
 
-use super::{Extension, ExtensionMap, ExtensionValues, ExtensionsForm, MAX_ID_ONE_BYTE_FORM};
+use super::{ExtensionMap, ExtensionsForm, MAX_ID_ONE_BYTE_FORM};
+use rtp_values::{Extension, ExtensionValues};
 
 // How many bytes stand in front of an element's data.
 fn header_len(form: ExtensionsForm) -> usize

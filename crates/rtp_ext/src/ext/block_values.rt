@@ -3,9 +3,10 @@
 ghost use Rattle.std.specs.Prelude.{List, IsOk, OnOk, OnErr};
 ghost use Rattle.rtp_ext.specs.Elements.{Element, AreElements};
 ghost use Rattle.rtp_ext.specs.Memory.{HasAllocation, IsStopped};
-ghost use Rattle.rtp_ext.specs.Values.{AreValues};
+ghost use Rattle.rtp_ext.specs.BlockValues.{AreValues};
 
-use super::{Elements, ExtensionMap, ExtensionValues, ExtensionsForm};
+use super::{Elements, ExtensionMap, ExtensionsForm};
+use rtp_values::ExtensionValues;
 use std::alloc::{AllocError, Global};
 
 impl ExtensionMap {

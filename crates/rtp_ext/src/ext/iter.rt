@@ -6,8 +6,9 @@ ghost use Rattle.std.specs.Iterator.{YieldsFirstBy, item_count};
 ghost use Rattle.rtp_ext.specs.ExtensionMap.{is_of_medium};
 ghost use Rattle.rtp_ext.specs.MapSlots.{items_at, IsMapped};
 
-use super::slot::Slot;
-use super::{Extension, slots};
+use super::slot::{Slot, is_of_medium};
+use super::slots;
+use rtp_values::Extension;
 use std::fmt;
 use std::marker::Model;
 
@@ -23,7 +24,7 @@ pub struct Iter<'a> {
 impl<'a> Model for Iter<'a> {
     ghost use Rattle.std.specs.Prelude.{ℕ, List};
     ghost use Rattle.std.specs.List.{AllByRecursion};
-    ghost use Rattle.rtp_ext.specs.declared.ext.kind.Extension.{Extension};
+    ghost use Rattle.rtp_values.specs.declared.kind.Extension.{Extension};
     ghost use Rattle.rtp_ext.specs.MapSlots.{items_at, IsMapped};
 
     ghost Value = { List (ℕ × Extension) };
@@ -92,7 +93,7 @@ pub struct IterByMediaType<'a> {
 impl<'a> Model for IterByMediaType<'a> {
     ghost use Rattle.std.specs.Prelude.{ℕ, List};
     ghost use Rattle.std.specs.List.{filter};
-    ghost use Rattle.rtp_ext.specs.declared.ext.kind.Extension.{Extension};
+    ghost use Rattle.rtp_values.specs.declared.kind.Extension.{Extension};
     ghost use Rattle.rtp_ext.specs.ExtensionMap.{is_of_medium};
 
     ghost Value = { List (ℕ × Extension) };
@@ -119,7 +120,7 @@ impl<'a> Iterator for IterByMediaType<'a> {
     fn next(&mut self) -> Option<(u8, &'a Extension)> {
         loop {
             let (id, ext) = self.all.next()?;
-            if ext.is_of_medium(self.audio) {
+            if is_of_medium(ext, self.audio) {
                 return Some((id, ext));
             }
         }

@@ -3,14 +3,25 @@
 ghost use Rattle.std.specs.Prelude.{◌≡◌, ◌↔◌, IsTrue, IsOk, IfOk, Some, None};
 ghost use Rattle.std.specs.Cmp.{partial_equiv_from_equiv};
 ghost use Rattle.std.specs.Option.{is_some, option_copied, option_map};
-ghost use Rattle.rtp_ext.specs.Kind.{IsKnown};
+ghost use Rattle.rtp_values.specs.Kind.{IsKnown};
 ghost use Rattle.rtp_ext.specs.EqualMaps.{same_slot, same_slot-equiv};
 ghost use Rattle.rtp_ext.specs.ExtensionMap as spec;
 
-use super::Extension;
+use rtp_values::Extension;
 use std::alloc::{AllocError, Global};
 use std::marker::Model;
 use std::mem;
+
+// Whether the extension is one of audio, or else of video.
+pub(super) fn is_of_medium(ext: &Extension, audio: bool) -> bool
+    ensures { result ≡ spec.is_of_medium audio ext.now }
+{
+    if audio {
+        ext.is_audio()
+    } else {
+        ext.is_video()
+    }
+}
 
 // How an id is mapped: not at all, or to an extension, which may be locked there.
 #[derive(Debug, PartialEq, Eq, Drop)]
@@ -124,7 +135,7 @@ impl Slot {
         ensures { result ≡ spec.of_medium audio self.now }
     {
         match self.extension() {
-            Some(extension) if extension.is_of_medium(audio) => match extension.known_or_uri() {
+            Some(extension) if is_of_medium(extension, audio) => match extension.known_or_uri() {
                 Ok(kind) => Self::from(kind),
                 Err(_) => Self::unmapped(),
             },

@@ -2,13 +2,13 @@
 
 ghost use Rattle.std.specs.Prelude.{◌≡◌, ◌≢◌, ◌↔◌, ℕ, ◌+◌, ◌<◌, ◌≤◌, length, slice_index_or, IsTrue, IsOk, IfOk, IfSome, IfNone, Some, None, All, map};
 ghost use Rattle.std.specs.Option.{option_copied, option_map};
-ghost use Rattle.rtp_ext.specs.Kind.{IsKnown};
+ghost use Rattle.rtp_values.specs.Kind.{IsKnown};
 ghost use Rattle.rtp_ext.specs.ExtensionMap as spec;
 ghost use Rattle.rtp_ext.specs.MapSlots.{IsFirst, IsMapped};
 
-use super::Extension;
 use super::map::MAX_ID;
 use super::slot::Slot;
+use rtp_values::Extension;
 use std::alloc::{AllocError, Global};
 
 // The index of an id that the map has room for.

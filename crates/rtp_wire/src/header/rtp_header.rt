@@ -1,7 +1,7 @@
 //! The header as a value.
 
 ghost use Rattle.std.specs.Prelude.{◌≡◌, IsOk, IfOk};
-ghost use Rattle.rtp_ext.specs.Memory.{TakesNoMemory};
+ghost use Rattle.rtp_values.specs.Values.{TakesNoMemory};
 
 use rtp_base::{Pt, Ssrc};
 use rtp_ext::ExtensionValues;

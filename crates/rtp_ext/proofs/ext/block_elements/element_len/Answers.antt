@@ -1,5 +1,5 @@
 use Rattle.std.proofs.Common.{arith, sym, ◌∙◌}
-use Rattle.rtp_ext.specs.Spelling.{spelled_data}
+use Rattle.rtp_values.specs.Spelling.{spelled_data}
 use Rattle.rtp_ext.proofs.WrittenBlockLemmas.{length-header_bytes, length-element}
 use Rattle.rtp_ext.proofs.ext.block_elements.element_len.Goals as goal
 

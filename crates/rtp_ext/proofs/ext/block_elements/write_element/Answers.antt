@@ -3,7 +3,7 @@ use Rattle.std.specs.Option.{unwrap_or}
 use Rattle.std.proofs.lemmas.List.{take_rest, length-drop}
 use Rattle.rtp_ext.specs.ElementWriting.{bytes_at}
 use Rattle.rtp_base.specs.Overwriting.{overwritten}
-use Rattle.rtp_ext.specs.Spelling.{spelled_data}
+use Rattle.rtp_values.specs.Spelling.{spelled_data}
 use Rattle.rtp_base.proofs.OverwritingLemmas.{overwritten-nil, overwritten-rest}
 use Rattle.rtp_ext.proofs.WrittenBlockLemmas.{HasNone, HasNone-from_none, none-without_room, room-for_data, none-from_map, bytes_at-put, IsCarried-from}
 use Rattle.rtp_ext.proofs.ext.block_elements.write_element.Goals as goal

@@ -4,7 +4,7 @@ use Rattle.std.proofs.lemmas.List.{map-append}
 use Rattle.std.proofs.lemmas.Iterator.Consumers.{YieldsList-from_first, YieldsList-so_far, YieldsList-turn, YieldsList-end}
 use Rattle.rtp_ext.specs.Elements.{Element, AreElements}
 use Rattle.rtp_ext.specs.Memory.{IsStopped}
-use Rattle.rtp_ext.specs.Values.{AreValues}
+use Rattle.rtp_ext.specs.BlockValues.{AreValues}
 use Rattle.rtp_ext.proofs.MemoryLemmas.{IsStopped-at, OnErr-from}
 use Rattle.rtp_ext.proofs.ValuesLaws.{AreValues-none, AreValues-passed, AreValues-parsed}
 use Rattle.rtp_ext.proofs.ext.map.ExtensionMap.parse.Goals as goal

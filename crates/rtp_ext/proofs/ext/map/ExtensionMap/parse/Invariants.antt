@@ -1,5 +1,5 @@
 use Rattle.std.proofs.Common.{map}
-use Rattle.rtp_ext.specs.Values.{AreValues}
+use Rattle.rtp_ext.specs.BlockValues.{AreValues}
 use Rattle.rtp_ext.proofs.ext.map.ExtensionMap.parse.Given as goal
 
 -- the values are those of the elements that were passed

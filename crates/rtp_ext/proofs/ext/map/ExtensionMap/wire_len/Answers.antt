@@ -1,6 +1,6 @@
 use Rattle.std.proofs.Common.{arith, ap, ◌∙◌, length, length-append}
 use Rattle.rtp_ext.specs.ElementWriting.{items_bytes, bytes_at}
-use Rattle.rtp_ext.specs.Spelling.{spelled_data}
+use Rattle.rtp_values.specs.Spelling.{spelled_data}
 use Rattle.rtp_ext.proofs.WrittenBlockLemmas.{items_bytes-nil, items_bytes-cons, items_bytes-written}
 use Rattle.rtp_ext.proofs.ext.map.ExtensionMap.wire_len.Goals as goal
 

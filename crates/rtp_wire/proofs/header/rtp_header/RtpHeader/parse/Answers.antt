@@ -1,6 +1,6 @@
 use Rattle.std.proofs.Common.{arith, true, false, refl, sym, ap, ◌∙◌, subst, ◌≡◌, Bool, Some, IsErr}
 use Rattle.std.proofs.lemmas.Bool.{not-true, not-false, false≢true}
-use Rattle.rtp_ext.specs.declared.ext.value.values.ExtensionValues.{ExtensionValues}
+use Rattle.rtp_values.specs.declared.value.values.ExtensionValues.{ExtensionValues}
 use Rattle.rtp_wire.specs.declared.header.rtp_header.RtpHeader.{RtpHeader}
 use Rattle.rtp_wire.specs.RefusedMemory.{HeaderHasAllocation}
 use Rattle.rtp_wire.specs.NotAHeader.{NotAHeader}

@@ -1,9 +1,0 @@
-use Rattle.std.proofs.Common.{arith}
-use Rattle.rtp_ext.proofs.ValueLemmas.{room_of, spelled-delays, AreData-delays, HasWritten-put}
-use Rattle.rtp_ext.proofs.ext.value.playout_delay.write.Goals as goal
-
-pub put_u24-requires : goal.put_u24-requires
-put_u24-requires c = record { small = omega arith; room = room_of (spelled-delays c.ev.view_is c.in-Some.is c.in-Some-play_delay_max.is c.delay_of.ensures c.delay_of-2.ensures) (omega arith) c.args.buf.now c.requires.room }
-
-pub returns : goal.returns
-returns c = HasWritten-put (AreData-delays c.ev.view_is c.in-Some.is c.in-Some-play_delay_max.is c.delay_of.ensures c.delay_of-2.ensures c.put_u24.ensures.back) c.put_u24.ensures.length c.put_u24.ensures.written

@@ -1,9 +1,0 @@
-use Rattle.std.proofs.Common.{arith}
-use Rattle.rtp_ext.proofs.ValueLemmas.{room_of, spelled-content, AreData-content, HasWritten-put}
-use Rattle.rtp_ext.proofs.ext.value.video_content_type.write.Goals as goal
-
-pub put-requires : goal.put-requires
-put-requires c = record { room = room_of (spelled-content c.ev.view_is c.in-Some.is) (omega arith) c.args.buf.now c.requires.room }
-
-pub returns : goal.returns
-returns c = HasWritten-put (AreData-content c.ev.view_is c.in-Some.is) c.put.ensures.length c.put.ensures.written

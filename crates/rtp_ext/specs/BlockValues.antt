@@ -1,0 +1,24 @@
+-- Which element of a block counts for each kind, and the values of a block.
+use Rattle.std.specs.Prelude.{◌≡◌, List, ◌∷◌, ◌++◌, Some, All}
+use Rattle.rtp_values.specs.declared.kind.Extension.{Extension}
+use Rattle.rtp_values.specs.declared.value.values.ExtensionValues.{ExtensionValues}
+use Rattle.rtp_values.specs.Values.{Reads, SameFields, IsWellFormed}
+use Rattle.rtp_ext.specs.Elements.{Element}
+use Rattle.rtp_ext.specs.ExtensionMap.{Slots, extension_at}
+
+-- an element whose id is mapped to the kind, with data that are well-formed for it
+abbrev pub Carries : Slots → Extension → Element → Type 0
+Carries exts kind element = (extension_at exts element.0 ≡ Some kind) × IsWellFormed kind element.1
+
+-- what the elements make of the fields of one kind
+pub data IsRead (exts : Slots) (elements : List Element) (kind : Extension) (old new : ExtensionValues) : Type 0 where
+  -- they are those of the last element that carries the kind
+  last : (before after : List Element) (element : Element) → elements ≡ before ++ element ∷ after
+      → extension_at exts element.0 ≡ Some kind → Reads kind element.1 new
+      → All (λ later. Carries exts kind later → ⊥) after → IsRead exts elements kind old new
+  -- no element carries it, and they are as before
+  none : All (λ element. Carries exts kind element → ⊥) elements → SameFields kind old new → IsRead exts elements kind old new
+
+-- the values once the elements of a block were read into old ones
+abbrev pub AreValues : Slots → List Element → ExtensionValues → ExtensionValues → Type 0
+AreValues exts elements old new = (kind : Extension) → IsRead exts elements kind old new

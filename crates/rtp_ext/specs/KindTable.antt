@@ -1,7 +1,0 @@
--- The table of the kinds as the code reads it.
-use Rattle.rtp_ext.specs.declared.ext.table.Kind as table
-use Rattle.rtp_ext.specs.Kind.{Kind}
-
--- what a row says of its kind
-abbrev pub kind_in : table.Kind → Kind
-kind_in row = record { uri = row.uri.now; name = row.name.now; audio = row.audio; video = row.video }

@@ -1,0 +1,6 @@
+pub mod KindLemmas
+pub mod FieldLemmas
+pub mod ValueLemmas
+mod EmptyDataLemmas
+mod SendTimeLemmas
+mod SendTimeFacts

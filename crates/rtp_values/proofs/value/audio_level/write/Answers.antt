@@ -1,0 +1,17 @@
+use Rattle.std.proofs.Common.{arith, ◌≡◌, ℕ, ℤ, Bool, ap, ◌∙◌, rules, w8, to_z, of_z, FitsSigned}
+use Rattle.std.proofs.lemmas.Int.{to_z-of_z}
+use Rattle.rtp_values.proofs.ValueLemmas.{room_of, level_byte, spelled-level, AreData-level, HasWritten-put}
+use Rattle.rtp_values.proofs.value.audio_level.write.Goals as goal
+
+byte_is : (level : ℤ) (voice : Bool) (byte : ℕ) → FitsSigned w8 level → byte ≡ level_byte (to_z w8 (of_z w8 level)) voice → byte ≡ level_byte level voice
+byte_is level voice byte fits is = is ∙ ap (λ (z : ℤ). level_byte z voice) (to_z-of_z w8 level fits)
+
+pub put-requires : goal.put-requires
+put-requires c =
+    let fits : FitsSigned w8 c.in-Some.level = search rules in
+    record { room = room_of (spelled-level c.ev.view_is c.in-Some.is c.in-Some-voice_activity.is (byte_is _ _ _ fits c.level_byte.ensures)) (omega arith) c.args.buf.now c.requires.room }
+
+pub returns : goal.returns
+returns c =
+    let fits : FitsSigned w8 c.in-Some.level = search rules in
+    HasWritten-put (AreData-level c.ev.view_is c.in-Some.is c.in-Some-voice_activity.is (byte_is _ _ _ fits c.level_byte.ensures)) c.put.ensures.length c.put.ensures.written

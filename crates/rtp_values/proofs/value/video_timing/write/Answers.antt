@@ -1,0 +1,26 @@
+use Rattle.std.proofs.Common.{arith, ◌≡◌, ℕ, List, [], ◌∷◌, get_or, refl}
+use Rattle.rtp_values.specs.declared.value.video_timing.VideoTiming as timing
+use Rattle.rtp_values.specs.Spelling.{bytes_of, timing_bytes}
+use Rattle.rtp_values.proofs.ValueLemmas.{room_of, spelled-timing, AreData-timing, HasWritten-put}
+use Rattle.rtp_values.proofs.value.video_timing.write.Goals as goal
+
+cells : (t : timing.VideoTiming) (start finish complete left : List ℕ) → start ≡ bytes_of 2 t.encode_start → finish ≡ bytes_of 2 t.encode_finish
+    → complete ≡ bytes_of 2 t.packetize_complete → left ≡ bytes_of 2 t.last_left_pacer
+    → (t.flags ∷ get_or start 0 0 ∷ get_or start 1 0 ∷ get_or finish 0 0 ∷ get_or finish 1 0 ∷ get_or complete 0 0 ∷ get_or complete 1 0
+    ∷ get_or left 0 0 ∷ get_or left 1 0 ∷ 0 ∷ 0 ∷ 0 ∷ 0 ∷ []) ≡ timing_bytes t
+cells t start finish complete left start-is finish-is complete-is left-is = rw (start-is, finish-is, complete-is, left-is) refl
+
+pub put-requires : goal.put-requires
+put-requires c =
+    let t = c.in-Some.timing in
+    let are = cells t c.time_bytes-start.result c.time_bytes-finish.result c.time_bytes-complete.result c.time_bytes-left.result
+    c.time_bytes-start.ensures.bytes c.time_bytes-finish.ensures.bytes c.time_bytes-complete.ensures.bytes c.time_bytes-left.ensures.bytes in
+    record { room = room_of (spelled-timing c.ev.view_is c.in-Some.is are) (omega arith) c.args.buf.now c.requires.room }
+
+pub returns : goal.returns
+returns c =
+    let t = c.in-Some.timing in
+    let are = cells t c.time_bytes-start.result c.time_bytes-finish.result c.time_bytes-complete.result c.time_bytes-left.result
+    c.time_bytes-start.ensures.bytes c.time_bytes-finish.ensures.bytes c.time_bytes-complete.ensures.bytes c.time_bytes-left.ensures.bytes in
+    HasWritten-put (AreData-timing c.ev.view_is c.in-Some.is are c.time_bytes-start.ensures.back c.time_bytes-finish.ensures.back c.time_bytes-complete.ensures.back c.time_bytes-left.ensures.back)
+    c.put.ensures.length c.put.ensures.written

@@ -1,0 +1,115 @@
+-- What the data of an element say, by its kind.
+use Rattle.std.specs.Prelude.{◌≡◌, ℕ, ℤ, ◌+◌, ◌*◌, ◌/◌, ◌%◌, ◌^◌, ◌≤◌, List, [], ◌∷◌, length, take, drop, slice_index, slice_range, ◌==◌, nat_le, if◌then◌else◌, neg_ℤ, pos, Option, Some, None, IfSome, IsSomeAnd}
+use Rattle.std.specs.Int.{w64, cast_signed}
+use Rattle.std.specs.Str.{IsUtf8}
+use Rattle.rtp_base.specs.Id.{IsIdOf}
+use Rattle.rtp_base.specs.MediaTime.{Fraction}
+use Rattle.rtp_vla.specs.Allocation.{Allocation, Means}
+use Rattle.rtp_values.specs.declared.kind.Extension.{Extension}
+use Rattle.rtp_values.specs.declared.kind.Extension.TheVariants.{AbsoluteSendTime, AbsoluteCaptureTime, AudioLevel, TransmissionTimeOffset, VideoOrientation, TransportSequenceNumber, PlayoutDelay, VideoContentType, VideoTiming, RtpStreamId, RepairedRtpStreamId, RtpMid, FrameMarking, ColorSpace, VideoLayersAllocation, UnknownUri}
+use Rattle.rtp_values.specs.declared.value.values.ExtensionValues.{ExtensionValues}
+use Rattle.rtp_values.specs.declared.value.video_orientation.VideoOrientation as orientation
+use Rattle.rtp_values.specs.declared.value.video_orientation.VideoOrientation.TheVariants.{Deg0, Deg90, Deg180, Deg270}
+
+-- every value is absent
+abbrev pub no_values : ExtensionValues
+no_values = record {
+  audio_level = None;
+  voice_activity = None;
+  video_orientation = None;
+  video_content_type = None;
+  tx_time_offs = None;
+  abs_send_time = None;
+  abs_capture_time = None;
+  transport_cc = None;
+  play_delay_min = None;
+  play_delay_max = None;
+  video_timing = None;
+  rid = None;
+  rid_repair = None;
+  mid = None;
+  frame_mark = None;
+  video_layers_allocation = None;
+}
+
+-- the number in these bytes, the high one first
+abbrev pub number_of : List ℕ → ℕ
+number_of [] = 0
+number_of (byte ∷ bytes) = byte * 256 ^ length bytes + number_of bytes
+
+-- a 64-bit number in two's complement, where eight bytes are there
+abbrev pub offset_of : List ℕ → Option ℤ
+offset_of bytes = if nat_le 8 (length bytes) then Some (cast_signed w64 (number_of (take 8 bytes))) else None
+
+-- how the picture is to be turned, by two bits
+abbrev pub orientation_of : ℕ → orientation.VideoOrientation
+orientation_of bits = if bits == 1 then Deg270 else if bits == 2 then Deg180 else if bits == 3 then Deg90 else Deg0
+
+-- so many hundredths of a second
+abbrev pub hundredths : ℕ → Fraction
+hundredths count = record { numer = count; denom = 100 }
+
+-- the data are well-formed for the kind, and the values' fields of the kind are what the data say; more bytes than a kind needs are passed over
+abbrev pub Reads : Extension → List ℕ → ExtensionValues → Type 0
+Reads AbsoluteSendTime bytes values =
+    (3 ≤ length bytes) × (values.abs_send_time ≡ Some (number_of (take 3 bytes) * 1000000 / 262144))
+Reads AbsoluteCaptureTime bytes values =
+    (8 ≤ length bytes) × (values.abs_capture_time
+    ≡ Some (record { capture_time = number_of (take 8 bytes); clock_offset = offset_of (drop 8 bytes) }))
+Reads AudioLevel bytes values =
+    (1 ≤ length bytes) × (values.audio_level ≡ Some (neg_ℤ (pos (slice_index bytes 0 % 128))))
+    × (values.voice_activity ≡ Some (slice_index bytes 0 / 128 == 1))
+Reads TransmissionTimeOffset bytes values = (4 ≤ length bytes) × (values.tx_time_offs ≡ Some (number_of (take 4 bytes)))
+Reads VideoOrientation bytes values =
+    (1 ≤ length bytes) × (values.video_orientation ≡ Some (orientation_of (slice_index bytes 0 % 4)))
+Reads TransportSequenceNumber bytes values = (2 ≤ length bytes) × (values.transport_cc ≡ Some (number_of (take 2 bytes)))
+Reads PlayoutDelay bytes values =
+    (3 ≤ length bytes) × (values.play_delay_min ≡ Some (hundredths (number_of (take 3 bytes) / 4096)))
+    × (values.play_delay_max ≡ Some (hundredths (number_of (take 3 bytes) % 4096)))
+Reads VideoContentType bytes values = (1 ≤ length bytes) × (values.video_content_type ≡ Some (slice_index bytes 0))
+Reads VideoTiming bytes values =
+    (9 ≤ length bytes) × (values.video_timing ≡ Some (record {
+      flags = slice_index bytes 0;
+      encode_start = number_of (slice_range bytes 1 3);
+      encode_finish = number_of (slice_range bytes 3 5);
+      packetize_complete = number_of (slice_range bytes 5 7);
+      last_left_pacer = number_of (slice_range bytes 7 9);
+    }))
+Reads RtpStreamId bytes values = IsUtf8 bytes × IsSomeAnd values.rid (IsIdOf 8 bytes)
+Reads RepairedRtpStreamId bytes values = IsUtf8 bytes × IsSomeAnd values.rid_repair (IsIdOf 8 bytes)
+Reads RtpMid bytes values = IsUtf8 bytes × IsSomeAnd values.mid (IsIdOf 16 bytes)
+Reads FrameMarking bytes values = (4 ≤ length bytes) × (values.frame_mark ≡ Some (number_of (take 4 bytes)))
+Reads ColorSpace bytes values = ⊥
+Reads VideoLayersAllocation bytes values = IsSomeAnd values.video_layers_allocation (Means bytes)
+Reads (UnknownUri uri) bytes values = ⊥
+
+-- the kind's fields are the same
+abbrev pub SameFields : Extension → ExtensionValues → ExtensionValues → Type 0
+SameFields AbsoluteSendTime old new = new.abs_send_time ≡ old.abs_send_time
+SameFields AbsoluteCaptureTime old new = new.abs_capture_time ≡ old.abs_capture_time
+SameFields AudioLevel old new = (new.audio_level ≡ old.audio_level) × (new.voice_activity ≡ old.voice_activity)
+SameFields TransmissionTimeOffset old new = new.tx_time_offs ≡ old.tx_time_offs
+SameFields VideoOrientation old new = new.video_orientation ≡ old.video_orientation
+SameFields TransportSequenceNumber old new = new.transport_cc ≡ old.transport_cc
+SameFields PlayoutDelay old new = (new.play_delay_min ≡ old.play_delay_min) × (new.play_delay_max ≡ old.play_delay_max)
+SameFields VideoContentType old new = new.video_content_type ≡ old.video_content_type
+SameFields VideoTiming old new = new.video_timing ≡ old.video_timing
+SameFields RtpStreamId old new = new.rid ≡ old.rid
+SameFields RepairedRtpStreamId old new = new.rid_repair ≡ old.rid_repair
+SameFields RtpMid old new = new.mid ≡ old.mid
+SameFields FrameMarking old new = new.frame_mark ≡ old.frame_mark
+SameFields ColorSpace old new = Unit {0}
+SameFields VideoLayersAllocation old new = new.video_layers_allocation ≡ old.video_layers_allocation
+SameFields (UnknownUri uri) old new = Unit {0}
+
+-- the data are well-formed for the kind
+abbrev pub IsWellFormed : Extension → List ℕ → Type 0
+IsWellFormed kind bytes = (values : ExtensionValues) × Reads kind bytes values
+
+-- data that may take memory: those of a layer allocation, from two bytes on
+abbrev pub TakesMemory : Extension → List ℕ → Type 0
+TakesMemory kind bytes = (kind ≡ VideoLayersAllocation) × (2 ≤ length bytes)
+
+-- a copy of the allocation takes no memory: there is none, or it has no streams
+abbrev pub TakesNoMemory : Option Allocation → Type 0
+TakesNoMemory allocation = IfSome allocation (λ a. a.simulcast_streams ≡ [])

@@ -1,0 +1,140 @@
+//! The header extensions.
+
+ghost use Rattle.std.specs.Prelude.{◌≡◌, IfOk, IfErr};
+ghost use Rattle.rtp_values.specs.Kind.{kind_of, IsKnown, IsNamedBy};
+
+use super::Uri;
+use super::table::{kind_of, known_by_uri};
+use std::alloc::{AllocError, Global};
+use std::fmt;
+
+/// A header extension: one of the fifteen that this library knows, or another by its URI
+/// (RFC 8285, 5).
+#[derive(Debug, PartialEq, Eq, Drop)]
+pub enum Extension {
+    /// When the packet left its sender, as 24 bits of seconds with 18 behind the point.
+    AbsoluteSendTime,
+    /// When the frame was captured, as an NTP timestamp, and the offset of the capturer's clock.
+    AbsoluteCaptureTime,
+    /// How loud the packet's audio is, and whether it has voice (RFC 6464).
+    AudioLevel,
+    /// How long after its timestamp the packet was sent (RFC 5450).
+    TransmissionTimeOffset,
+    /// How the receiver has to turn the picture (3GPP TS 26.114).
+    VideoOrientation,
+    /// The packet's number on its transport, over all streams, for congestion control.
+    TransportSequenceNumber,
+    /// How long the receiver may hold the frame before it shows it, at least and at most.
+    PlayoutDelay,
+    /// What the video shows: a camera's picture or a screen.
+    VideoContentType,
+    /// When the frame was encoded, packetized and sent.
+    VideoTiming,
+    /// The name of the stream in its media section (RFC 8852).
+    RtpStreamId,
+    /// The name of the stream that this one repairs (RFC 8852).
+    RepairedRtpStreamId,
+    /// The name of the media section (RFC 9143).
+    RtpMid,
+    /// Where frames begin and end, and which layer the packet is of.
+    FrameMarking,
+    /// The colour space of the video.
+    ColorSpace,
+    /// Which simulcast streams and layers of the video the sender keeps active.
+    VideoLayersAllocation,
+    /// An extension that this library doesn't know, by its URI. It is of no medium, and has no value.
+    UnknownUri(Uri),
+}
+
+impl Extension {
+    /// The extension that this URI names in SDP (`a=extmap`; RFC 8285, 5): the known kind whose URI
+    /// it is, else an unknown one, which is the only case that takes memory. Where that is refused
+    /// nothing is handed out.
+    pub fn from_sdp_uri(alloc: Global, uri: &str) -> Result<Self, AllocError>
+        ensures named { IfOk result (IsNamedBy uri.now) }
+        ensures known { (kind : Extension) → IsKnown kind → (kind_of kind).uri ≡ uri.now →
+            result ≡ Ok kind }
+        ensures back { IfOk result (λ found. (kind_of found).uri ≡ uri.now) }
+    {
+        match known_by_uri(uri) {
+            Some(kind) => Ok(kind),
+            None => {
+                let text = String::from_str(alloc, uri)?;
+                Ok(Extension::UnknownUri(Uri::from(text)))
+            }
+        }
+    }
+
+    /// The URI that names the extension in SDP.
+    pub fn as_uri(&self) -> &str
+        ensures { result.now ≡ (kind_of self.now).uri }
+    {
+        kind_of(self).uri
+    }
+
+    /// Whether the extension is one of audio.
+    pub fn is_audio(&self) -> bool
+        ensures { result ≡ (kind_of self.now).audio }
+    {
+        kind_of(self).audio
+    }
+
+    /// Whether the extension is one of video.
+    pub fn is_video(&self) -> bool
+        ensures { result ≡ (kind_of self.now).video }
+    {
+        kind_of(self).video
+    }
+
+    /// The same extension where it is a known one, which takes no memory; else the URI of the
+    /// unknown one.
+    pub fn known_or_uri(&self) -> Result<Extension, &Uri>
+        ensures known { IfOk result (λ kind. (kind ≡ self.now) × IsKnown kind) }
+        ensures unknown { IfErr result (λ uri. self.now ≡ Extension.UnknownUri uri.now) }
+    {
+        Ok(match self {
+            Extension::UnknownUri(uri) => return Err(uri),
+            Extension::AbsoluteSendTime => Extension::AbsoluteSendTime,
+            Extension::AbsoluteCaptureTime => Extension::AbsoluteCaptureTime,
+            Extension::AudioLevel => Extension::AudioLevel,
+            Extension::TransmissionTimeOffset => Extension::TransmissionTimeOffset,
+            Extension::VideoOrientation => Extension::VideoOrientation,
+            Extension::TransportSequenceNumber => Extension::TransportSequenceNumber,
+            Extension::PlayoutDelay => Extension::PlayoutDelay,
+            Extension::VideoContentType => Extension::VideoContentType,
+            Extension::VideoTiming => Extension::VideoTiming,
+            Extension::RtpStreamId => Extension::RtpStreamId,
+            Extension::RepairedRtpStreamId => Extension::RepairedRtpStreamId,
+            Extension::RtpMid => Extension::RtpMid,
+            Extension::FrameMarking => Extension::FrameMarking,
+            Extension::ColorSpace => Extension::ColorSpace,
+            Extension::VideoLayersAllocation => Extension::VideoLayersAllocation,
+        })
+    }
+
+    /// The same extension. Only the text of an unknown one takes memory, and where that is refused
+    /// nothing is handed out.
+    pub fn clone(&self, alloc: Global) -> Result<Self, AllocError>
+        ensures same { IfOk result (λ copy. copy ≡ self.now) }
+        ensures known { IsKnown self.now → result ≡ Ok self.now }
+    {
+        match self.known_or_uri() {
+            Ok(kind) => Ok(kind),
+            Err(uri) => Ok(Extension::UnknownUri(uri.clone(alloc)?)),
+        }
+    }
+}
+
+impl fmt::Display for Extension {
+    ghost use Rattle.std.specs.Prelude.{Some};
+    ghost use Rattle.rtp_values.specs.Kind.{kind_of};
+
+    ghost output = { λ kind. Some (kind_of kind).name };
+
+    // The text is plain, whatever width and flags are set.
+    ghost styled_output = { λ kind _. Some (kind_of kind).name };
+
+    fn fmt<W: fmt::Write>(&self, f: &mut fmt::Formatter<W>) -> fmt::Result {
+        f.write_str(kind_of(self).name)
+    }
+}

@@ -1,0 +1,12 @@
+//! The kinds of header extension (RFC 8285, 5), and the value of one element of each kind, from its
+//! data and back.
+#![tactic(auto)]
+
+mod kind;
+mod table;
+mod uri;
+mod value;
+
+pub use kind::Extension;
+pub use uri::Uri;
+pub use value::{AbsCaptureTime, ExtensionValues, VideoOrientation, VideoTiming};

@@ -1,0 +1,154 @@
+//! The table of the kinds: what is fixed for each.
+
+ghost use Rattle.std.specs.Prelude.{◌≡◌, ◌≢◌, IfSome, IfNone};
+ghost use Rattle.rtp_values.specs.Kind.{audio_and_video, audio_only, video_only, kind_of, known_kinds, IsKnown};
+ghost use Rattle.rtp_values.specs.KindTable.{kind_in};
+
+use super::Extension;
+use rtp_vla::vla;
+
+// What is fixed for a kind.
+#[derive(Clone, Copy)]
+pub(super) struct Kind<'a> {
+    pub(super) uri: &'a str,
+    pub(super) name: &'a str,
+    pub(super) audio: bool,
+    pub(super) video: bool,
+}
+
+fn audio_and_video<'a>(uri: &'a str, name: &'a str) -> Kind<'a>
+    ensures { kind_in result ≡ audio_and_video uri.now name.now }
+{
+    Kind {
+        uri,
+        name,
+        audio: true,
+        video: true,
+    }
+}
+
+fn audio_only<'a>(uri: &'a str, name: &'a str) -> Kind<'a>
+    ensures { kind_in result ≡ audio_only uri.now name.now }
+{
+    Kind {
+        uri,
+        name,
+        audio: true,
+        video: false,
+    }
+}
+
+fn video_only<'a>(uri: &'a str, name: &'a str) -> Kind<'a>
+    ensures { kind_in result ≡ video_only uri.now name.now }
+{
+    Kind {
+        uri,
+        name,
+        audio: false,
+        video: true,
+    }
+}
+
+// The table of the kinds.
+pub(super) fn kind_of(kind: &Extension) -> Kind<'_>
+    ensures { kind_in result ≡ kind_of kind.now }
+{
+    match kind {
+        Extension::AbsoluteSendTime => audio_and_video(
+            "http://www.webrtc.org/experiments/rtp-hdrext/abs-send-time",
+            "abs-send-time",
+        ),
+        Extension::AbsoluteCaptureTime => audio_and_video(
+            "http://www.webrtc.org/experiments/rtp-hdrext/abs-capture-time",
+            "abs-capture-time",
+        ),
+        Extension::AudioLevel => audio_only(
+            "urn:ietf:params:rtp-hdrext:ssrc-audio-level",
+            "ssrc-audio-level",
+        ),
+        Extension::TransmissionTimeOffset => audio_and_video(
+            "urn:ietf:params:rtp-hdrext:toffset",
+            "toffset",
+        ),
+        Extension::VideoOrientation => video_only(
+            "urn:3gpp:video-orientation",
+            "video-orientation",
+        ),
+        Extension::TransportSequenceNumber => audio_and_video(
+            "http://www.ietf.org/id/draft-holmer-rmcat-transport-wide-cc-extensions-01",
+            "transport-wide-cc",
+        ),
+        Extension::PlayoutDelay => audio_and_video(
+            "http://www.webrtc.org/experiments/rtp-hdrext/playout-delay",
+            "playout-delay",
+        ),
+        Extension::VideoContentType => video_only(
+            "http://www.webrtc.org/experiments/rtp-hdrext/video-content-type",
+            "video-content-type",
+        ),
+        Extension::VideoTiming => video_only(
+            "http://www.webrtc.org/experiments/rtp-hdrext/video-timing",
+            "video-timing",
+        ),
+        Extension::RtpStreamId => audio_and_video(
+            "urn:ietf:params:rtp-hdrext:sdes:rtp-stream-id",
+            "rtp-stream-id",
+        ),
+        Extension::RepairedRtpStreamId => audio_and_video(
+            "urn:ietf:params:rtp-hdrext:sdes:repaired-rtp-stream-id",
+            "repaired-rtp-stream-id",
+        ),
+        Extension::RtpMid => audio_and_video("urn:ietf:params:rtp-hdrext:sdes:mid", "mid"),
+        Extension::FrameMarking => video_only(
+            "http://tools.ietf.org/html/draft-ietf-avtext-framemarking-07",
+            "frame-marking07",
+        ),
+        Extension::ColorSpace => video_only(
+            "http://www.webrtc.org/experiments/rtp-hdrext/color-space",
+            "color-space",
+        ),
+        Extension::VideoLayersAllocation => video_only(vla::URI, vla::URI),
+        Extension::UnknownUri(uri) => Kind {
+            uri: uri.as_str(),
+            name: uri.as_str(),
+            audio: false,
+            video: false,
+        },
+    }
+}
+
+// The known kinds, each once.
+fn known() -> [Extension; 15]
+    ensures { result ≡ known_kinds }
+{
+    [
+        Extension::AbsoluteSendTime,
+        Extension::AbsoluteCaptureTime,
+        Extension::AudioLevel,
+        Extension::TransmissionTimeOffset,
+        Extension::VideoOrientation,
+        Extension::TransportSequenceNumber,
+        Extension::PlayoutDelay,
+        Extension::VideoContentType,
+        Extension::VideoTiming,
+        Extension::RtpStreamId,
+        Extension::RepairedRtpStreamId,
+        Extension::RtpMid,
+        Extension::FrameMarking,
+        Extension::ColorSpace,
+        Extension::VideoLayersAllocation,
+    ]
+}
+
+// The known kind whose URI this is.
+pub(super) fn known_by_uri(uri: &str) -> Option<Extension>
+    ensures found { IfSome result (λ kind. IsKnown kind × ((kind_of kind).uri ≡ uri.now)) }
+    ensures none { IfNone result ((kind : Extension) → IsKnown kind → (kind_of kind).uri ≢ uri.now) }
+{
+    for kind in known() {
+        if kind.as_uri() == uri {
+            return Some(kind);
+        }
+    }
+    None
+}

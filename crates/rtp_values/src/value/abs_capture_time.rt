@@ -1,0 +1,68 @@
+//! Absolute capture time.
+
+ghost use Rattle.std.specs.Prelude.{◌≡◌, ◌≤◌, ◌++◌, length, drop, Some};
+ghost use Rattle.rtp_values.specs.declared.kind.Extension.TheVariants.{AbsoluteCaptureTime};
+ghost use Rattle.rtp_values.specs.KindBytes.{HasRead, HasWritten};
+ghost use Rattle.rtp_values.specs.Values.{offset_of};
+ghost use Rattle.rtp_values.specs.Spelling.{HasRoom, offset_bytes};
+
+use super::ExtensionValues;
+use super::front::{first_u64, put_u64};
+
+/// When a frame was captured, by the clock of its capturer.
+#[derive(Clone, Copy, Debug, PartialEq, Eq)]
+pub struct AbsCaptureTime {
+    /// An NTP timestamp: seconds since 1900 with 32 bits before and 32 behind the point.
+    pub capture_time: u64,
+    /// What to add to the capturer's clock to have the sender's, in seconds with 32 bits behind the
+    /// point, where it is known.
+    pub clock_offset: Option<i64>,
+}
+
+// The clock offset in the first eight bytes, where they are there.
+fn first_offset(bytes: &[u8]) -> Option<i64>
+    ensures { result ≡ offset_of bytes.now }
+{
+    let Some(number) = first_u64(bytes) else {
+        return None;
+    };
+    Some(number.cast_signed())
+}
+
+// Reads the data of the kind.
+pub(super) fn read(buf: &[u8], ev: &mut ExtensionValues) -> Option<()>
+    ensures { HasRead AbsoluteCaptureTime buf.now ev.old ev.new result }
+{
+    let capture_time = first_u64(buf)?;
+    let clock_offset = first_offset(&buf[8..]);
+    ev.abs_capture_time = Some(AbsCaptureTime {
+        capture_time,
+        clock_offset,
+    });
+    Some(())
+}
+
+// Puts the clock offset in eight bytes at the front of the buffer.
+fn put_offset(buf: &mut [u8], offset: i64)
+    requires room { 8 ≤ length buf.old }
+    ensures written { buf.new ≡ offset_bytes (Some offset) ++ drop 8 buf.old }
+    ensures back { offset_of (offset_bytes (Some offset)) ≡ Some offset }
+{
+    put_u64(buf, offset.cast_unsigned());
+}
+
+// Writes the data of the kind, and returns their number of bytes.
+pub(super) fn write(buf: &mut [u8], ev: &ExtensionValues) -> Option<usize>
+    requires room { HasRoom AbsoluteCaptureTime ev.now buf.old }
+    ensures { HasWritten AbsoluteCaptureTime ev.now buf.old buf.new result }
+{
+    let Some(time) = ev.abs_capture_time else {
+        return None;
+    };
+    let Some(offset) = time.clock_offset else {
+        return Some(put_u64(buf, time.capture_time));
+    };
+    put_u64(buf, time.capture_time);
+    put_offset(&mut buf[8..], offset);
+    Some(16)
+}

@@ -1,0 +1,42 @@
+//! Audio level (RFC 6464, 3): voice activity in the top bit, and the level below it.
+
+ghost use Rattle.std.specs.Prelude.{◌≡◌, ◌+◌, ◌*◌, ◌%◌, unsigned_abs};
+ghost use Rattle.rtp_values.specs.Flag.{bit};
+ghost use Rattle.rtp_values.specs.declared.kind.Extension.TheVariants.{AudioLevel};
+ghost use Rattle.rtp_values.specs.Spelling.{HasRoom};
+ghost use Rattle.rtp_values.specs.KindBytes.{HasRead, HasWritten};
+
+use super::ExtensionValues;
+use super::front::put;
+
+// The magnitude of the level modulo 128, below a bit that is set for voice.
+fn level_byte(level: i8, voice: bool) -> u8
+    ensures { result ≡ bit voice * 128 + unsigned_abs level % 128 }
+{
+    let magnitude = level.unsigned_abs() & 0x7F;
+    if voice { 0x80 | magnitude } else { magnitude }
+}
+
+// Reads the data of the kind.
+pub(super) fn read(buf: &[u8], ev: &mut ExtensionValues) -> Option<()>
+    ensures { HasRead AudioLevel buf.now ev.old ev.new result }
+{
+    let byte = *buf.first()?;
+    ev.audio_level = Some(-((byte & 0x7F) as i8));
+    ev.voice_activity = Some(byte & 0x80 != 0);
+    Some(())
+}
+
+// Writes the data of the kind, and returns their number of bytes.
+pub(super) fn write(buf: &mut [u8], ev: &ExtensionValues) -> Option<usize>
+    requires room { HasRoom AudioLevel ev.now buf.old }
+    ensures { HasWritten AudioLevel ev.now buf.old buf.new result }
+{
+    let Some(level) = ev.audio_level else {
+        return None;
+    };
+    let Some(voice) = ev.voice_activity else {
+        return None;
+    };
+    Some(put(buf, &[level_byte(level, voice)]))
+}

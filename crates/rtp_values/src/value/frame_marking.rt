@@ -1,0 +1,28 @@
+//! Frame marking: four bytes as one number.
+
+ghost use Rattle.rtp_values.specs.declared.kind.Extension.TheVariants.{FrameMarking};
+ghost use Rattle.rtp_values.specs.Spelling.{HasRoom};
+ghost use Rattle.rtp_values.specs.KindBytes.{HasRead, HasWritten};
+
+use super::ExtensionValues;
+use super::front::{first_u32, put_u32};
+
+// Reads the data of the kind.
+pub(super) fn read(buf: &[u8], ev: &mut ExtensionValues) -> Option<()>
+    ensures { HasRead FrameMarking buf.now ev.old ev.new result }
+{
+    let marking = first_u32(buf)?;
+    ev.frame_mark = Some(marking);
+    Some(())
+}
+
+// Writes the data of the kind, and returns their number of bytes.
+pub(super) fn write(buf: &mut [u8], ev: &ExtensionValues) -> Option<usize>
+    requires room { HasRoom FrameMarking ev.now buf.old }
+    ensures { HasWritten FrameMarking ev.now buf.old buf.new result }
+{
+    let Some(marking) = ev.frame_mark else {
+        return None;
+    };
+    Some(put_u32(buf, marking))
+}

@@ -1,0 +1,109 @@
+//! How long the data of an element are, by its kind.
+
+ghost use Rattle.std.specs.Prelude.{◌≡◌, ◌≤◌, ◌++◌, length, IfSome};
+ghost use Rattle.std.specs.Option.{option_map};
+ghost use Rattle.rtp_base.specs.Id.{before_padding};
+ghost use Rattle.rtp_values.specs.Spelling.{has_no_data, spelled_data, bytes_of, offset_bytes, of_both};
+
+use super::{AbsCaptureTime, ExtensionValues, video_layers_allocation};
+use crate::Extension;
+use rtp_base::{Mid, Rid};
+
+// The length where the value is there.
+fn len_of<T>(value: &Option<T>, len: usize) -> Option<usize>
+    ensures { result ≡ option_map (λ _. len) value.now }
+{
+    value.is_some().then_some(len)
+}
+
+// The length where both values are there.
+fn len_of_both<A, B>(first: &Option<A>, second: &Option<B>, len: usize) -> Option<usize>
+    ensures { result ≡ of_both (λ _ _. len) first.now second.now }
+{
+    (first.is_some() && second.is_some()).then_some(len)
+}
+
+// The length of a capture time, which has its offset behind it where it is known.
+fn capture_len(time: &Option<AbsCaptureTime>) -> Option<usize>
+    ensures { result ≡ option_map
+        (λ t. length (bytes_of 8 t.capture_time ++ offset_bytes t.clock_offset)) time.now }
+{
+    match time {
+        Some(time) if time.clock_offset.is_some() => Some(16),
+        Some(_) => Some(8),
+        None => None,
+    }
+}
+
+// The length of a text.
+fn mid_len(mid: &Mid) -> usize
+    ensures length { result ≡ length (before_padding mid.now) }
+    ensures few { result ≤ 16 }
+{
+    mid.as_str().len()
+}
+
+fn rid_len(rid: &Rid) -> usize
+    ensures length { result ≡ length (before_padding rid.now) }
+    ensures few { result ≤ 16 }
+{
+    rid.as_str().len()
+}
+
+// Whether the id is there, and its text is empty.
+fn is_empty_rid(rid: &Option<Rid>) -> bool
+    ensures { result ≡ has_no_data (option_map before_padding rid.now) }
+{
+    match rid {
+        Some(rid) => rid.as_str().is_empty(),
+        None => false,
+    }
+}
+
+// Whether the id is there, and its text is empty.
+fn is_empty_mid(mid: &Option<Mid>) -> bool
+    ensures { result ≡ has_no_data (option_map before_padding mid.now) }
+{
+    match mid {
+        Some(mid) => mid.as_str().is_empty(),
+        None => false,
+    }
+}
+
+impl Extension {
+    /// Whether [`write_to`](Self::write_to) writes data of no bytes, which only a text can have.
+    pub fn has_empty_data(&self, ev: &ExtensionValues) -> bool
+        ensures { result ≡ has_no_data (spelled_data self.now ev.now) }
+    {
+        match self {
+            Extension::RtpStreamId => is_empty_rid(&ev.rid),
+            Extension::RepairedRtpStreamId => is_empty_rid(&ev.rid_repair),
+            Extension::RtpMid => is_empty_mid(&ev.mid),
+            _ => false,
+        }
+    }
+
+    /// How many bytes [`write_to`](Self::write_to) writes, and `None` where it writes no element.
+    pub fn data_len(&self, ev: &ExtensionValues) -> Option<usize>
+        ensures length { result ≡ option_map length (spelled_data self.now ev.now) }
+        ensures few { IfSome result (λ len. len ≤ 255) }
+    {
+        match self {
+            Extension::AbsoluteSendTime => len_of(&ev.abs_send_time, 3),
+            Extension::AbsoluteCaptureTime => capture_len(&ev.abs_capture_time),
+            Extension::AudioLevel => len_of_both(&ev.audio_level, &ev.voice_activity, 1),
+            Extension::TransmissionTimeOffset => len_of(&ev.tx_time_offs, 4),
+            Extension::VideoOrientation => len_of(&ev.video_orientation, 1),
+            Extension::TransportSequenceNumber => len_of(&ev.transport_cc, 2),
+            Extension::PlayoutDelay => len_of_both(&ev.play_delay_min, &ev.play_delay_max, 3),
+            Extension::VideoContentType => len_of(&ev.video_content_type, 1),
+            Extension::VideoTiming => len_of(&ev.video_timing, 13),
+            Extension::RtpStreamId => ev.rid.as_ref().map(rid_len),
+            Extension::RepairedRtpStreamId => ev.rid_repair.as_ref().map(rid_len),
+            Extension::RtpMid => ev.mid.as_ref().map(mid_len),
+            Extension::FrameMarking => len_of(&ev.frame_mark, 4),
+            Extension::VideoLayersAllocation => video_layers_allocation::data_len(ev),
+            Extension::ColorSpace | Extension::UnknownUri(_) => None,
+        }
+    }
+}

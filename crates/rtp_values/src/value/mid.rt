@@ -1,0 +1,31 @@
+//! Media section id (RFC 9143): its text.
+
+ghost use Rattle.rtp_values.specs.declared.kind.Extension.TheVariants.{RtpMid};
+ghost use Rattle.rtp_values.specs.Spelling.{HasRoom};
+ghost use Rattle.rtp_values.specs.KindBytes.{HasRead, HasWritten};
+
+use super::ExtensionValues;
+use super::front::put;
+use rtp_base::Mid;
+
+// Reads the data of the kind.
+pub(super) fn read(buf: &[u8], ev: &mut ExtensionValues) -> Option<()>
+    ensures { HasRead RtpMid buf.now ev.old ev.new result }
+{
+    let Some(mid) = Mid::from_utf8(buf) else {
+        return None;
+    };
+    ev.mid = Some(mid);
+    Some(())
+}
+
+// Writes the data of the kind, and returns their number of bytes.
+pub(super) fn write(buf: &mut [u8], ev: &ExtensionValues) -> Option<usize>
+    requires room { HasRoom RtpMid ev.now buf.old }
+    ensures { HasWritten RtpMid ev.now buf.old buf.new result }
+{
+    let Some(mid) = ev.mid else {
+        return None;
+    };
+    Some(put(buf, mid.as_str().as_bytes()))
+}

@@ -1,0 +1,42 @@
+//! Playout delay: the least and the greatest, each in twelve bits of hundredths of a second.
+
+ghost use Rattle.std.specs.Prelude.{◌≡◌};
+ghost use Rattle.rtp_values.specs.Spelling.{HasRoom, delay_of};
+ghost use Rattle.rtp_values.specs.declared.kind.Extension.TheVariants.{PlayoutDelay};
+ghost use Rattle.rtp_values.specs.KindBytes.{HasRead, HasWritten};
+
+use super::ExtensionValues;
+use super::front::{first_u24, put_u24};
+use rtp_base::MediaTime;
+
+// The whole hundredths of a second in a time, modulo 4096.
+fn delay_of(time: MediaTime) -> u32
+    ensures { result ≡ delay_of time }
+{
+    let hundredths = u128::from(time.numer()) * 100 / u128::from(time.denom());
+    (hundredths % 4096) as u32
+}
+
+// Reads the data of the kind.
+pub(super) fn read(buf: &[u8], ev: &mut ExtensionValues) -> Option<()>
+    ensures { HasRead PlayoutDelay buf.now ev.old ev.new result }
+{
+    let delays = first_u24(buf)?;
+    ev.play_delay_min = Some(MediaTime::from_hundredths(u64::from(delays >> 12)));
+    ev.play_delay_max = Some(MediaTime::from_hundredths(u64::from(delays & 0xFFF)));
+    Some(())
+}
+
+// Writes the data of the kind, and returns their number of bytes.
+pub(super) fn write(buf: &mut [u8], ev: &ExtensionValues) -> Option<usize>
+    requires room { HasRoom PlayoutDelay ev.now buf.old }
+    ensures { HasWritten PlayoutDelay ev.now buf.old buf.new result }
+{
+    let Some(min) = ev.play_delay_min else {
+        return None;
+    };
+    let Some(max) = ev.play_delay_max else {
+        return None;
+    };
+    Some(put_u24(buf, delay_of(min) * 4096 + delay_of(max)))
+}

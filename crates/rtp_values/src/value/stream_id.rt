@@ -1,0 +1,53 @@
+//! RTP stream id and repaired RTP stream id (RFC 8852): each an id's text.
+
+ghost use Rattle.rtp_values.specs.declared.kind.Extension.TheVariants.{RtpStreamId, RepairedRtpStreamId};
+ghost use Rattle.rtp_values.specs.Spelling.{HasRoom};
+ghost use Rattle.rtp_values.specs.KindBytes.{HasRead, HasWritten};
+
+use super::ExtensionValues;
+use super::front::put;
+use rtp_base::Rid;
+
+// Reads the data of a stream id.
+pub(super) fn read(buf: &[u8], ev: &mut ExtensionValues) -> Option<()>
+    ensures { HasRead RtpStreamId buf.now ev.old ev.new result }
+{
+    let Some(rid) = Rid::from_utf8(buf) else {
+        return None;
+    };
+    ev.rid = Some(rid);
+    Some(())
+}
+
+// Writes the data of a stream id, and returns their number of bytes.
+pub(super) fn write(buf: &mut [u8], ev: &ExtensionValues) -> Option<usize>
+    requires room { HasRoom RtpStreamId ev.now buf.old }
+    ensures { HasWritten RtpStreamId ev.now buf.old buf.new result }
+{
+    let Some(rid) = ev.rid else {
+        return None;
+    };
+    Some(put(buf, rid.as_str().as_bytes()))
+}
+
+// Reads the data of a repaired stream id.
+pub(super) fn read_repaired(buf: &[u8], ev: &mut ExtensionValues) -> Option<()>
+    ensures { HasRead RepairedRtpStreamId buf.now ev.old ev.new result }
+{
+    let Some(rid_repair) = Rid::from_utf8(buf) else {
+        return None;
+    };
+    ev.rid_repair = Some(rid_repair);
+    Some(())
+}
+
+// Writes the data of a repaired stream id, and returns their number of bytes.
+pub(super) fn write_repaired(buf: &mut [u8], ev: &ExtensionValues) -> Option<usize>
+    requires room { HasRoom RepairedRtpStreamId ev.now buf.old }
+    ensures { HasWritten RepairedRtpStreamId ev.now buf.old buf.new result }
+{
+    let Some(rid_repair) = ev.rid_repair else {
+        return None;
+    };
+    Some(put(buf, rid_repair.as_str().as_bytes()))
+}

@@ -1,0 +1,28 @@
+//! Transport-wide sequence number.
+
+ghost use Rattle.rtp_values.specs.declared.kind.Extension.TheVariants.{TransportSequenceNumber};
+ghost use Rattle.rtp_values.specs.Spelling.{HasRoom};
+ghost use Rattle.rtp_values.specs.KindBytes.{HasRead, HasWritten};
+
+use super::ExtensionValues;
+use super::front::{first_u16, put_u16};
+
+// Reads the data of the kind.
+pub(super) fn read(buf: &[u8], ev: &mut ExtensionValues) -> Option<()>
+    ensures { HasRead TransportSequenceNumber buf.now ev.old ev.new result }
+{
+    let number = first_u16(buf)?;
+    ev.transport_cc = Some(number);
+    Some(())
+}
+
+// Writes the data of the kind, and returns their number of bytes.
+pub(super) fn write(buf: &mut [u8], ev: &ExtensionValues) -> Option<usize>
+    requires room { HasRoom TransportSequenceNumber ev.now buf.old }
+    ensures { HasWritten TransportSequenceNumber ev.now buf.old buf.new result }
+{
+    let Some(number) = ev.transport_cc else {
+        return None;
+    };
+    Some(put_u16(buf, number))
+}

@@ -1,0 +1,28 @@
+//! Video content type: one byte.
+
+ghost use Rattle.rtp_values.specs.declared.kind.Extension.TheVariants.{VideoContentType};
+ghost use Rattle.rtp_values.specs.Spelling.{HasRoom};
+ghost use Rattle.rtp_values.specs.KindBytes.{HasRead, HasWritten};
+
+use super::ExtensionValues;
+use super::front::put;
+
+// Reads the data of the kind.
+pub(super) fn read(buf: &[u8], ev: &mut ExtensionValues) -> Option<()>
+    ensures { HasRead VideoContentType buf.now ev.old ev.new result }
+{
+    let content = *buf.first()?;
+    ev.video_content_type = Some(content);
+    Some(())
+}
+
+// Writes the data of the kind, and returns their number of bytes.
+pub(super) fn write(buf: &mut [u8], ev: &ExtensionValues) -> Option<usize>
+    requires room { HasRoom VideoContentType ev.now buf.old }
+    ensures { HasWritten VideoContentType ev.now buf.old buf.new result }
+{
+    let Some(content) = ev.video_content_type else {
+        return None;
+    };
+    Some(put(buf, &[content]))
+}

@@ -1,0 +1,88 @@
+//! Video timing.
+
+ghost use Rattle.std.specs.Prelude.{◌≡◌, ◌+◌, ◌≤◌, ◌<◌, length, slice_range};
+ghost use Rattle.rtp_values.specs.declared.kind.Extension.TheVariants.{VideoTiming as TimingKind};
+ghost use Rattle.rtp_values.specs.KindBytes.{HasRead, HasWritten};
+ghost use Rattle.rtp_values.specs.Values.{number_of};
+ghost use Rattle.rtp_values.specs.Spelling.{HasRoom, bytes_of};
+
+use super::ExtensionValues;
+use super::front::put;
+
+/// When a frame passed each step on its way out, in milliseconds after its capture.
+#[derive(Clone, Copy, Debug, PartialEq, Eq)]
+pub struct VideoTiming {
+    /// Why the times were sent: bit 0 for a timer, bit 1 for a large frame.
+    pub flags: u8,
+    /// When its encoding began.
+    pub encode_start: u16,
+    /// When its encoding ended.
+    pub encode_finish: u16,
+    /// When its last packet was made.
+    pub packetize_complete: u16,
+    /// When its last packet left the pacer.
+    pub last_left_pacer: u16,
+}
+
+// The number in the two bytes from this offset on.
+fn time_at(bytes: &[u8], offset: usize) -> u16
+    requires within { offset + 2 ≤ length bytes.now }
+    ensures { result ≡ number_of (slice_range bytes.now offset (offset + 2)) }
+{
+    u16::from_be_bytes([bytes[offset], bytes[offset + 1]])
+}
+
+// Reads the data of the kind.
+pub(super) fn read(buf: &[u8], ev: &mut ExtensionValues) -> Option<()>
+    ensures { HasRead TimingKind buf.now ev.old ev.new result }
+{
+    if buf.len() < 9 {
+        return None;
+    }
+    ev.video_timing = Some(VideoTiming {
+        flags: buf[0],
+        encode_start: time_at(buf, 1),
+        encode_finish: time_at(buf, 3),
+        packetize_complete: time_at(buf, 5),
+        last_left_pacer: time_at(buf, 7),
+    });
+    Some(())
+}
+
+// The two bytes of a time.
+fn time_bytes(time: u16) -> [u8; 2]
+    ensures bytes { result ≡ bytes_of 2 time }
+    ensures back { number_of (bytes_of 2 time) ≡ time }
+{
+    time.to_be_bytes()
+}
+
+// Writes the data of the kind, and returns their number of bytes.
+pub(super) fn write(buf: &mut [u8], ev: &ExtensionValues) -> Option<usize>
+    requires room { HasRoom TimingKind ev.now buf.old }
+    ensures { HasWritten TimingKind ev.now buf.old buf.new result }
+{
+    let Some(timing) = ev.video_timing else {
+        return None;
+    };
+    let start = time_bytes(timing.encode_start);
+    let finish = time_bytes(timing.encode_finish);
+    let complete = time_bytes(timing.packetize_complete);
+    let left = time_bytes(timing.last_left_pacer);
+    let bytes = [
+        timing.flags,
+        start[0],
+        start[1],
+        finish[0],
+        finish[1],
+        complete[0],
+        complete[1],
+        left[0],
+        left[1],
+        0,
+        0,
+        0,
+        0,
+    ];
+    Some(put(buf, &bytes))
+}
