@@ -8,11 +8,7 @@ pub mod headers;
 pub mod layers;
 pub mod negotiating;
 pub mod numbers;
-#[cfg(test)]
-mod packet_tests;
 pub mod padding;
 pub mod receiving;
 pub mod retransmission;
-#[cfg(test)]
-mod tests;
 pub mod times;

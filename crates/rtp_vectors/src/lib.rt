@@ -76,6 +76,10 @@ mod sources;
 #[cfg(test)]
 mod times;
 #[cfg(test)]
+mod uses_of_packets;
+#[cfg(test)]
+mod uses_of_values;
+#[cfg(test)]
 mod values;
 #[cfg(test)]
 mod widenings;

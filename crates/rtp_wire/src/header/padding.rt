@@ -66,12 +66,14 @@ pub fn create_padding_packet(
     requires block { 0 < pad_len → 1 ≤ block_size }
     requires room { 0 < pad_len → (n : ℕ) → IsPaddingLength pad_len block_size n →
         header_len + n ≤ length buf.old }
-    ensures nothing { pad_len ≡ 0 → (result ≡ 0) × (buf.new ≡ buf.old) }
+    ensures nothing { pad_len ≡ 0 → result ≡ 0 }
+    ensures unchanged { pad_len ≡ 0 → buf.new ≡ buf.old }
     ensures length { 0 < pad_len → IsPaddingLength pad_len block_size result }
 
     // No other number meets `length`.
     ensures only { 0 < pad_len → (n : ℕ) → IsPaddingLength pad_len block_size n → result ≡ n }
-    ensures bound { 0 < pad_len → (1 ≤ result) × (result ≤ 240) }
+    ensures some { 0 < pad_len → 1 ≤ result }
+    ensures bound { 0 < pad_len → result ≤ 240 }
 
     // The bit is set before the padding is put, which covers it where `header_len` is 0.
     ensures written { 0 < pad_len →

@@ -10,7 +10,7 @@ returns-clause-written c =
     let wanted : 0 < c.args.pad_len = omega arith in
     let start = c.write_to-start.result in
     let count = c.create_padding_packet.result in
-    let some = (c.create_padding_packet.ensures.bound wanted).0 in
+    let some = c.create_padding_packet.ensures.some wanted in
     let long : length (padding_bytes count) ≡ count =
     length-append (replicate (count - 1) 0) (count ∷ []) ∙ omega (arith, some, length-replicate {A = ℕ} (count - 1) 0) in
     record {

@@ -1,10 +1,10 @@
-//! Each function once, at values that differ.
+//! The proved callers of values, times and headers, each once, at values that differ.
 
-use super::{equality, headers, layers, numbers, receiving, times};
 use rtp_base::{
     Direction, Frequency, MediaTime, Mid, MidRid, Pt, Rid, SeqNo, SessionId, Ssrc, TwccClusterId,
     TwccSeq,
 };
+use rtp_uses::{equality, headers, layers, numbers, receiving, times};
 use rtp_wire::{
     AbsCaptureTime, Extension, ExtensionMap, ExtensionValues, ExtensionsForm, Receiver, RtpHeader,
     Verdict, VideoOrientation, VideoTiming, vla,

@@ -1,9 +1,9 @@
-//! The callers that receive, write and forward packets, at bytes worked out by hand.
+//! The proved callers that receive, write and forward packets, at bytes worked out by hand.
 
 ghost use Rattle.std.specs.Prelude.{◌≤◌};
 
-use super::{forwarding, negotiating, padding, receiving, retransmission};
 use rtp_base::{SeqNo, Ssrc};
+use rtp_uses::{forwarding, negotiating, padding, receiving, retransmission};
 use rtp_wire::{Extension, ExtensionMap, RtpHeader, Verdict};
 use std::test::Fail;
 
