@@ -18,6 +18,8 @@ mod elements;
 #[cfg(test)]
 mod extensions;
 #[cfg(test)]
+mod failing_streams;
+#[cfg(test)]
 mod fixtures;
 #[cfg(test)]
 mod headers_read;
@@ -40,19 +42,27 @@ mod ids;
 #[cfg(test)]
 mod kinds;
 #[cfg(test)]
+mod large_inputs;
+#[cfg(test)]
 mod leb_numbers;
 #[cfg(test)]
 mod many_ids;
 #[cfg(test)]
+mod map_lines;
+#[cfg(test)]
 mod maps;
 #[cfg(test)]
 mod packet_ends;
+#[cfg(test)]
+mod printed_values;
 #[cfg(test)]
 mod receivers;
 #[cfg(test)]
 mod refused_blocks;
 #[cfg(test)]
 mod refused_copies;
+#[cfg(test)]
+mod refused_lines;
 #[cfg(test)]
 mod refused_never;
 #[cfg(test)]
@@ -65,6 +75,8 @@ mod refused_sources;
 mod refused_texts;
 #[cfg(test)]
 mod renegotiations;
+#[cfg(test)]
+mod reports;
 #[cfg(test)]
 mod runs;
 #[cfg(test)]

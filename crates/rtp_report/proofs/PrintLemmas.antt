@@ -1,0 +1,176 @@
+-- The lines of datagrams that are printed one after the other.
+use Rattle.std.proofs.Common.{◌≡◌, ℕ, ◌+◌, ◌<◌, ◌≤◌, List, [], ◌∷◌, ◌++◌, length, map, take, get_or, refl, sym, ap, ◌∙◌, subst, arith, append_assoc, append-nil}
+use Rattle.std.specs.Prelude.{Option, Some, None, IfSome, Result, Ok, Err, IsErrAnd, IfErr}
+use Rattle.std.specs.Option.{option_map}
+use Rattle.std.specs.List.{AllZip}
+use Rattle.std.specs.Io.KnownBytes.{Appends, Keeps}
+use Rattle.std.proofs.KnownBytes.{Appends-nil, Appends-trans, Appends-kept}
+use Rattle.std.proofs.lemmas.List.{map_push, length_push, take_more, take_all}
+use Rattle.std.proofs.lemmas.Option.{none-some}
+use Rattle.rtp_base.specs.Window.{Numbers}
+use Rattle.rtp_ext.specs.declared.ext.map.ExtensionMap.{ExtensionMap}
+use Rattle.rtp_wire.specs.declared.header.rtp_header.RtpHeader.{RtpHeader}
+use Rattle.rtp_wire.specs.declared.receive.verdict.Verdict.{Verdict}
+use Rattle.rtp_wire.specs.Header.{IsWire}
+use Rattle.rtp_wire.specs.NotAHeader.{NotAHeader}
+use Rattle.rtp_wire.specs.Receivers.{ReceiverStates}
+use Rattle.rtp_wire.specs.Verdicts.{reading_of, IsReading, IsVerdict}
+use Rattle.rtp_wire.specs.Sources.{AreVerdictsBySource, HoldsEach, taken_of, numbers_beside, taken_after_each}
+use Rattle.rtp_wire.proofs.VerdictLemmas.{HasCause, AllZip-more}
+use Rattle.rtp_wire.proofs.SourceLemmas.{SoFarEach, SoFarEach-none, SoFarEach-more}
+use Rattle.rtp_report.specs.declared.program.RunEnd.{RunEnd}
+use Rattle.rtp_report.specs.declared.program.RunEnd.TheVariants.{NoMemory, Io}
+use Rattle.rtp_report.specs.Output.{IsHeader, packet_lines, lines_from, IsReport, IsStopped, Prints}
+
+-- a header of a datagram, with the verdict on it
+abbrev pub Report : Type 0
+Report = Option RtpHeader × Verdict
+
+-- what `parse` returns is the header of the datagram
+pub IsHeader-parsed : (exts : ExtensionMap) (datagram : List ℕ) (answer : Option RtpHeader) → IfSome answer (IsWire exts datagram)
+    → ((header : RtpHeader) → IsWire exts datagram header → answer ≡ Some header) → IsHeader exts datagram answer
+IsHeader-parsed exts datagram None found only = λ header wire. none-some header (only header wire)
+IsHeader-parsed exts datagram (Some header) found only = found
+
+-- the header of a datagram gives its reading, and its cause where there is none
+reading : (exts : ExtensionMap) (datagram : List ℕ) (header : Option RtpHeader) → IsHeader exts datagram header → IsReading exts datagram (option_map reading_of header)
+reading exts datagram None none = none
+reading exts datagram (Some header) wire = record { header = header; wire = wire; reading_is = refl }
+
+cause : (datagram : List ℕ) (header : Option RtpHeader) → (header ≡ None → NotAHeader datagram) → HasCause datagram (option_map reading_of header)
+cause datagram None refused = refused refl
+cause datagram (Some header) refused = tt
+
+-- the lines of one datagram more
+lines_from-push : (packet : ℕ) (reports : List Report) (report : Report) → lines_from packet (reports ++ report ∷ []) ≡ lines_from packet reports ++ packet_lines (packet + length reports) report.0 report.1
+lines_from-push packet [] report = append-nil _ ∙ ap (λ (n : ℕ). packet_lines n report.0 report.1) (omega arith)
+lines_from-push packet (first ∷ reports) report =
+    let here = packet_lines packet first.0 first.1 in
+    ap (λ (xs : List ℕ). here ++ xs) (lines_from-push (packet + 1) reports report)
+    ∙ sym (append_assoc here (lines_from (packet + 1) reports) (packet_lines (packet + 1 + length reports) report.0 report.1))
+    ∙ ap (λ (n : ℕ). (here ++ lines_from (packet + 1) reports) ++ packet_lines n report.0 report.1) (omega arith)
+
+-- the lines of the first datagrams, of which a part is written, in whole lines, and the rest is in the text
+pub record Printed (exts : ExtensionMap) (datagrams : List (List ℕ)) (done : ℕ) (old new : Option (List ℕ)) (text : List ℕ) (receivers : ReceiverStates) : Type 0 where
+  pub reports : List Report
+  pub as_many : length reports ≡ done
+  pub headers_are : AllZip (λ (datagram : List ℕ) (report : Report). IsHeader exts datagram report.0) (take done datagrams) reports
+  pub so_far : SoFarEach exts (take done datagrams) (map (λ (report : Report). report.1) reports) receivers
+  pub written : List ℕ
+  pub appended : Appends old new written
+  pub lines_are : written ++ text ≡ lines_from 1 reports
+  pub count : ℕ
+  pub whole : IsReport exts (take count datagrams) written
+
+verdicts_of : (exts : ExtensionMap) (datagrams : List (List ℕ)) (verdicts : List Verdict) (receivers : ReceiverStates) → SoFarEach exts datagrams verdicts receivers → AreVerdictsBySource exts datagrams verdicts
+verdicts_of exts datagrams verdicts receivers so_far = record { readings = so_far.readings; are_readings = so_far.are_readings; runs = so_far.runs }
+
+pub Printed-none : (exts : ExtensionMap) (datagrams : List (List ℕ)) (old : Option (List ℕ)) (text : List ℕ) (receivers : ReceiverStates) → Appends old old [] → text ≡ [] → receivers ≡ []
+    → Printed exts datagrams 0 old old text receivers
+Printed-none exts datagrams old text receivers same empty none =
+    let so_far : SoFarEach exts [] [] receivers = SoFarEach-none exts [] receivers refl none in
+    record {
+      reports = [];
+      as_many = refl;
+      headers_are = tt;
+      so_far = so_far;
+      written = [];
+      appended = same;
+      lines_are = empty;
+      count = 0;
+      whole = record { reports = []; headers_are = tt; verdicts_are = verdicts_of exts [] [] receivers so_far; printed_is = refl };
+    }
+
+-- the lines of one datagram more are put behind the text
+pub Printed-more : (exts : ExtensionMap) (datagrams : List (List ℕ)) (done : ℕ) (old new : Option (List ℕ)) (text text' : List ℕ) (before after : ReceiverStates) (header : Option RtpHeader) (verdict : Verdict)
+    → Printed exts datagrams done old new text before → done < length datagrams → IsHeader exts (get_or datagrams done []) header → (header ≡ None → NotAHeader (get_or datagrams done []))
+    → ((taken : ℕ → Numbers) → HoldsEach before taken → IsVerdict (numbers_beside taken (option_map reading_of header)) (option_map reading_of header) verdict)
+    → ((taken : ℕ → Numbers) → HoldsEach before taken → HoldsEach after (taken_after_each taken (option_map reading_of header) verdict))
+    → text' ≡ text ++ packet_lines (done + 1) header verdict → Printed exts datagrams (done + 1) old new text' after
+Printed-more exts datagrams done old new text text' before after header verdict p below is refused judged holds grown =
+    let report : Report = (header, verdict) in
+    let datagram = get_or datagrams done [] in
+    let verdicts = map (λ (r : Report). r.1) p.reports in
+    let one : take (done + 1) datagrams ≡ take done datagrams ++ datagram ∷ [] = take_more datagrams done [] below in
+    record {
+      reports = p.reports ++ report ∷ [];
+      as_many = length_push p.reports report ∙ ap (λ (k : ℕ). k + 1) p.as_many;
+      headers_are =
+          subst (λ (ds : List (List ℕ)). AllZip (λ (d : List ℕ) (r : Report). IsHeader exts d r.0) ds (p.reports ++ report ∷ [])) (sym one)
+          (AllZip-more (λ (d : List ℕ) (r : Report). IsHeader exts d r.0) (take done datagrams) p.reports datagram report p.headers_are is);
+      so_far =
+          subst (λ (ds : List (List ℕ)). SoFarEach exts ds (map (λ (r : Report). r.1) (p.reports ++ report ∷ [])) after) (sym one)
+          (subst (λ (vs : List Verdict). SoFarEach exts (take done datagrams ++ datagram ∷ []) vs after) (sym (map_push (λ (r : Report). r.1) p.reports report))
+          (SoFarEach-more exts (take done datagrams) datagram (option_map reading_of header) verdicts verdict before after p.so_far (reading exts datagram header is) (cause datagram header refused)
+          (judged (taken_of p.so_far.readings verdicts) p.so_far.holds) (holds (taken_of p.so_far.readings verdicts) p.so_far.holds)));
+      written = p.written;
+      appended = p.appended;
+      lines_are =
+          ap (λ (xs : List ℕ). p.written ++ xs) grown ∙ sym (append_assoc p.written text (packet_lines (done + 1) header verdict))
+          ∙ ap (λ (xs : List ℕ). xs ++ packet_lines (done + 1) header verdict) p.lines_are
+          ∙ ap (λ (n : ℕ). lines_from 1 p.reports ++ packet_lines n header verdict) (omega (arith, p.as_many))
+          ∙ sym (lines_from-push 1 p.reports report);
+      count = p.count;
+      whole = p.whole;
+    }
+
+-- the lines of the first datagrams, whether they are written or in the text
+pub IsReport-printed : (exts : ExtensionMap) (datagrams : List (List ℕ)) (done : ℕ) (old new : Option (List ℕ)) (text : List ℕ) (receivers : ReceiverStates)
+    → (p : Printed exts datagrams done old new text receivers) → IsReport exts (take done datagrams) (p.written ++ text)
+IsReport-printed exts datagrams done old new text receivers p = record { reports = p.reports; headers_are = p.headers_are; verdicts_are = verdicts_of exts (take done datagrams) (map (λ (report : Report). report.1) p.reports) receivers p.so_far; printed_is = p.lines_are }
+
+-- the text is written
+pub Printed-written : (exts : ExtensionMap) (datagrams : List (List ℕ)) (done : ℕ) (old new after : Option (List ℕ)) (text text' : List ℕ) (receivers : ReceiverStates)
+    → Printed exts datagrams done old new text receivers → Appends new after text → text' ≡ [] → Printed exts datagrams done old after text' receivers
+Printed-written exts datagrams done old new after text text' receivers p appends empty = record {
+  reports = p.reports;
+  as_many = p.as_many;
+  headers_are = p.headers_are;
+  so_far = p.so_far;
+  written = p.written ++ text;
+  appended = Appends-trans old new after p.written text p.appended appends;
+  lines_are = ap (λ (xs : List ℕ). (p.written ++ text) ++ xs) empty ∙ append-nil (p.written ++ text) ∙ p.lines_are;
+  count = done;
+  whole = IsReport-printed exts datagrams done old new text receivers p;
+}
+
+module _ (exts : ExtensionMap) (datagrams : List (List ℕ)) (done : ℕ) (old new after : Option (List ℕ)) (text bytes : List ℕ) (receivers : ReceiverStates) (p : Printed exts datagrams done old new text receivers) (same : bytes ≡ text) where
+  report : IsReport exts (take done datagrams) (p.written ++ text)
+  report = IsReport-printed exts datagrams done old new text receivers p
+
+  appended : Appends new after bytes → Appends old after (p.written ++ text)
+  appended appends = Appends-trans old new after p.written text p.appended (subst (Appends new after) same appends)
+
+  -- all lines are written
+  pub Prints-all : (last : Option (List ℕ)) → length datagrams ≤ done → Appends new after bytes → Keeps after last → Prints old last (IsReport exts datagrams)
+  Prints-all last all appends keeps = (
+    p.written ++ text,
+    Appends-kept old after last (p.written ++ text) (appended appends) keeps,
+    subst (λ (ds : List (List ℕ)). IsReport exts ds (p.written ++ text)) (take_all done datagrams all) report,
+  )
+
+  -- the lines so far are written, and memory is refused
+  pub Prints-written : Appends new after bytes → Prints old after (IsStopped exts datagrams NoMemory)
+  Prints-written appends = (p.written ++ text, appended appends, (done, report))
+
+  -- only a beginning of the lines is written
+  pub Prints-cut : Prints new after (λ (printed : List ℕ). (rest : List ℕ) × (bytes ≡ printed ++ rest)) → Prints old after (IsStopped exts datagrams Io)
+  Prints-cut (printed, appends, (rest, split)) = (
+    p.written ++ printed,
+    Appends-trans old new after p.written printed p.appended appends,
+    (
+      done,
+      rest,
+      subst (IsReport exts (take done datagrams)) (ap (λ (xs : List ℕ). p.written ++ xs) (sym same ∙ split) ∙ sym (append_assoc p.written printed rest)) report,
+    ),
+  )
+
+-- memory is refused before anything is printed
+pub Prints-nothing : (exts : ExtensionMap) (datagrams : List (List ℕ)) (old : Option (List ℕ)) → Prints old old (IsStopped exts datagrams NoMemory)
+Prints-nothing exts datagrams old =
+    ([], Appends-nil old, (0, record { reports = []; headers_are = tt; verdicts_are = record { readings = []; are_readings = tt; runs = record { as_many = refl; each = λ i below. absurd (omega arith) } }; printed_is = refl }))
+
+-- an error that is handed on, and what holds of it
+pub handed_on : {A : Type 0} (r : Result A RunEnd) (error end : RunEnd) (P : RunEnd → Type 0) → IsErrAnd r (λ e. e ≡ error) → error ≡ end → P end → IfErr r P
+handed_on (Ok x) error end P is same holds = absurd is
+handed_on (Err e) error end P is same holds = subst P (sym (is ∙ same)) holds

@@ -1,0 +1,97 @@
+//! The two lines of each datagram, written to the output.
+
+ghost use Rattle.std.specs.Prelude.{◌≡◌, ◌++◌, ℕ, [], map, string_bytes, None, IfOk, IfErr, OnOk, OnErr};
+ghost use Rattle.std.specs.Option.{option_map, option_copied};
+ghost use Rattle.rtp_base.specs.Window.{Numbers};
+ghost use Rattle.rtp_wire.specs.NotAHeader.{NotAHeader};
+ghost use Rattle.rtp_wire.specs.Verdicts.{IsVerdict, reading_of};
+ghost use Rattle.rtp_wire.specs.Sources.{HoldsEach, numbers_beside, taken_after_each};
+ghost use Rattle.rtp_report.specs.Output.{IsHeader, packet_lines, IsReport, IsStopped, Prints};
+
+use super::input::Input;
+use super::output::write_text;
+use super::program::RunEnd;
+use super::report::{HeaderLine, VerdictLine};
+use rtp_wire::{ExtensionMap, Receivers, RtpHeader, Verdict};
+use std::alloc::{AllocError, Global};
+use std::io::Write;
+
+// So many bytes are gathered before they are written.
+const WRITTEN_AT_ONCE: usize = 8192;
+
+// The header that the datagram begins with, if it begins with one, and the verdict on it.
+fn judged(
+    alloc: Global,
+    datagram: &[u8],
+    exts: &ExtensionMap,
+    receivers: &mut Receivers,
+) -> Result<(Option<RtpHeader>, Verdict), AllocError>
+    ensures header { IfOk result (λ report. IsHeader exts.now datagram.now report.0) }
+    ensures cause { IfOk result (λ report. report.0 ≡ None → NotAHeader datagram.now) }
+    ensures verdict { (taken : ℕ → Numbers) → HoldsEach receivers.old taken →
+        IfOk result (λ report. IsVerdict (numbers_beside taken (option_map reading_of report.0))
+        (option_map reading_of report.0) report.1) }
+    ensures after { (taken : ℕ → Numbers) → HoldsEach receivers.old taken →
+        IfOk result (λ report. HoldsEach receivers.new
+        (taken_after_each taken (option_map reading_of report.0) report.1)) }
+{
+    let header = RtpHeader::parse(alloc, datagram, exts)?;
+    let verdict = match &header {
+        Some(header) => receivers.receive(header)?,
+        None => Verdict::Unreadable,
+    };
+    Ok((header, verdict))
+}
+
+// Adds the two lines of the datagram of this number to the text. Where memory for them is refused
+// the text is empty.
+fn push_lines(
+    text: &mut String,
+    packet: u64,
+    header: Option<&RtpHeader>,
+    verdict: Verdict,
+) -> Result<(), AllocError>
+    ensures ok { OnOk result (string_bytes text.new
+        ≡ string_bytes text.old ++ packet_lines packet (option_copied header.entry) verdict) }
+    ensures err { OnErr result (string_bytes text.new ≡ []) }
+{
+    let header = HeaderLine { packet, header };
+    let verdict = VerdictLine { packet, verdict };
+    if writeln!(text, "{header}\n{verdict}").is_err() {
+        text.clear();
+        return Err(AllocError);
+    }
+    Ok(())
+}
+
+/// Prints the two lines of each datagram in order: its RTP header, and the verdict of the receiver of
+/// its SSRC.
+///
+/// Returns `NoMemory` when memory is refused, with the lines of the first datagrams printed, and `Io`
+/// when a write fails, with a beginning of the lines printed.
+pub fn print_all<W: Write>(alloc: Global, input: &Input, output: &mut W) -> Result<(), RunEnd>
+    ensures ok { OnOk result (Prints (W.contents output.old) (W.contents output.new)
+        (IsReport input.now.exts (map (λ v. v.items) input.now.datagrams.items))) }
+    ensures err { IfErr result (λ end. Prints (W.contents output.old) (W.contents output.new)
+        (IsStopped input.now.exts (map (λ v. v.items) input.now.datagrams.items) end)) }
+{
+    let mut receivers = Receivers::new(alloc);
+    let mut text = String::with_capacity(alloc, 2 * WRITTEN_AT_ONCE)?;
+    for (index, datagram) in input.datagrams.iter().enumerate() {
+        let Ok((header, verdict)) = judged(alloc, datagram, &input.exts, &mut receivers) else {
+            write_text(output, text.as_bytes())?;
+            return Err(RunEnd::NoMemory);
+        };
+        push_lines(&mut text, index as u64 + 1, header.as_ref(), verdict)?;
+        if text.len() >= WRITTEN_AT_ONCE {
+            write_text(output, text.as_bytes())?;
+            text.clear();
+        }
+    }
+    let rest = text.as_bytes();
+    write_text(output, rest)?;
+    match output.flush() {
+        Ok(()) => Ok(()),
+        Err(_) => Err(RunEnd::Io),
+    }
+}

@@ -1,0 +1,171 @@
+//! Lines that map ids.
+
+use crate::reports::PLAIN_REPORT;
+use rtp_report::{InputError, RunEnd, read_input, run};
+use rtp_wire::{Extension, ExtensionMap};
+use std::alloc::Global;
+use std::io::Write;
+use std::test::Fail;
+
+// An input that is refused, and the number of the line that is named.
+const REFUSED: [(&[u8], u64); 21] = [
+    (b"map 0 urn:x\n", 1),
+    (b"map 000 urn:x\n", 1),
+    (b"map 256 urn:x\n", 1),
+    (b"map 257 urn:x\n", 1),
+    // One to three digits, and nothing else.
+    (b"map 0001 urn:x\n", 1),
+    (b"map +1 urn:x\n", 1),
+    (b"map 1x urn:x\n", 1),
+    (b"map urn:x\n", 1),
+    // One space on either side.
+    (b"map  1 urn:x\n", 1),
+    (b"map1 urn:x\n", 1),
+    (b"map 1\turn:x\n", 1),
+    // A URI of one byte or more.
+    (b"map 3 \n", 1),
+    (b"map 3 \r\n", 1),
+    (b"map 3\n", 1),
+    (b"map", 1),
+    // UTF-8, and no overlong form.
+    (b"map 1 \xFF\n", 1),
+    (b"map 1 \xC0\x80\n", 1),
+    (b"Map 1 x\n", 1),
+    // Before all datagrams, an empty one included.
+    (b"80\nmap 3 urn:x\n", 2),
+    (b"map 1 x\n\nmap 3 urn:x\n", 3),
+    (b"map 1 x\nxyz\nabc\n", 2),
+];
+
+#[test]
+fn refused_lines(rt: HostRuntime) -> Result<(), Fail> {
+    for (index, (input, number)) in REFUSED.into_iter().enumerate() {
+        let error = read_input(rt.alloc(), input).err().ok_or("an error")?;
+        assert_eq!(rt; error, InputError::BadLine(number), "at {index}");
+        let mut output = Vec::new(rt.alloc());
+        let mut rest = input;
+        assert_eq!(rt;
+            run(rt.alloc(), &mut rest, &mut output),
+            RunEnd::BadLine,
+            "at {index}"
+        );
+        let mut printed = Vec::new(rt.alloc());
+        writeln!(printed, "line {number}: neither a map line nor hex")?;
+        assert_eq!(rt; output.as_slice(), printed.as_slice(), "at {index}");
+    }
+    Ok(())
+}
+
+// An input with map lines, and what is printed of it: they print nothing themselves.
+const TAKEN: [(&[u8], &str); 5] = [
+    (b"map 3 urn:x", ""),
+    (b"map 17 urn:x\n", ""),
+    (b"map 1 x\r\n", ""),
+    (b"map 3 urn:x\n8021B798000027100000002C\n", PLAIN_REPORT),
+    (
+        b"map 016 urn:x\nmap 1  x\nmap 1 y z\n8021B798000027100000002C\n",
+        PLAIN_REPORT,
+    ),
+];
+
+#[test]
+fn taken_lines(rt: HostRuntime) {
+    for (index, (input, printed)) in TAKEN.into_iter().enumerate() {
+        let mut output = Vec::new(rt.alloc());
+        let mut rest = input;
+        assert_eq!(rt;
+            run(rt.alloc(), &mut rest, &mut output),
+            RunEnd::Done,
+            "at {index}"
+        );
+        assert_eq!(rt; output.as_slice(), printed.as_bytes(), "at {index}");
+    }
+}
+
+// The map that the lines make.
+fn map_of(alloc: Global, text: &[u8]) -> Result<ExtensionMap, Fail> {
+    let input = read_input(alloc, text).ok().ok_or("an input")?;
+    Ok(input.exts)
+}
+
+// The map of these ids to these URIs, and of no other id.
+fn map_with(alloc: Global, entries: &[(u8, &str)]) -> Result<ExtensionMap, Fail> {
+    let mut exts = ExtensionMap::empty();
+    for (id, uri) in entries {
+        exts.set(*id, Extension::from_sdp_uri(alloc, uri)?);
+    }
+    Ok(exts)
+}
+
+#[test]
+fn the_standard_map_without_map_lines(rt: HostRuntime) -> Result<(), Fail> {
+    assert!(rt; map_of(rt.alloc(), b"")? == ExtensionMap::standard());
+    assert!(rt; map_of(rt.alloc(), b"80\n")? == ExtensionMap::standard());
+    Ok(())
+}
+
+#[test]
+fn the_map_of_the_lines(rt: HostRuntime) -> Result<(), Fail> {
+    let alloc = rt.alloc();
+    let entries: [(&[u8], &[(u8, &str)]); 8] = [
+        (b"map 3 urn:x", &[(3, "urn:x")]),
+        (b"map 3 a\nmap 016 b\n80\n", &[(3, "a"), (16, "b")]),
+        (b"map 001 a\n", &[(1, "a")]),
+        (b"map 17 a\nmap 255 b\n", &[(17, "a"), (255, "b")]),
+        // The last line for an id counts.
+        (b"map 3 a\nmap 4 b\nmap 3 c\n", &[(3, "c"), (4, "b")]),
+        // The rest of the line is the URI, spaces included.
+        (b"map 1  x \n", &[(1, " x ")]),
+        // A CR before the LF is part of the line's end, and any other CR of the URI.
+        (b"map 1 x\r\nmap 2 y\r", &[(1, "x"), (2, "y\r")]),
+        (b"map 1 \xC3\xA9\n", &[(1, "é")]),
+    ];
+    for (index, (text, expected)) in entries.into_iter().enumerate() {
+        assert!(rt;
+            map_of(alloc, text)? == map_with(alloc, expected)?,
+            "at {index}"
+        );
+    }
+    Ok(())
+}
+
+#[test]
+fn a_known_uri(rt: HostRuntime) -> Result<(), Fail> {
+    let exts = map_of(rt.alloc(), b"map 3 urn:ietf:params:rtp-hdrext:sdes:mid\n")?;
+    assert!(rt; exts.lookup(3) == Some(&Extension::RtpMid));
+    // Nothing of the standard map is left.
+    assert!(rt; exts.lookup(4).is_none());
+    Ok(())
+}
+
+#[test]
+fn datagrams_after_map_lines(rt: HostRuntime) -> Result<(), Fail> {
+    let input = read_input(rt.alloc(), b"map 1 x\n80\n\n21\n")
+        .ok()
+        .ok_or("an input")?;
+    assert_eq!(rt; input.datagrams.len(), 3);
+    assert_eq!(rt; input.datagrams[0].as_slice(), [0x80].as_slice());
+    assert!(rt; input.datagrams[1].is_empty());
+    assert_eq!(rt; input.datagrams[2].as_slice(), [0x21].as_slice());
+    Ok(())
+}
+
+// More map lines than ids, and more than one byte counts.
+#[test]
+fn many_map_lines(rt: HostRuntime) -> Result<(), Fail> {
+    for count in [256u32, 1000] {
+        let mut text = Vec::new(rt.alloc());
+        let mut expected = ExtensionMap::empty();
+        for line in 0..count {
+            let id = (line % 255) as u8 + 1;
+            writeln!(text, "map {id} urn:x:{line}")?;
+            let uri = format!(in rt.alloc(); "urn:x:{line}")?;
+            expected.set(id, Extension::from_sdp_uri(rt.alloc(), uri.as_str())?);
+        }
+        assert!(rt;
+            map_of(rt.alloc(), text.as_slice())? == expected,
+            "of {count}"
+        );
+    }
+    Ok(())
+}
