@@ -6,7 +6,6 @@ use std::alloc::Global;
 use std::io;
 use std::io::{Error, ErrorKind, Read, Write};
 use std::process::Abort;
-use std::test::Fail;
 
 // A reader that gives one byte at a time, and fails after `reads_left` reads.
 #[derive(Drop)]
@@ -40,6 +39,18 @@ struct Narrow {
     writes_left: usize,
     kind: ErrorKind,
     once: bool,
+}
+
+impl Narrow {
+    fn new(alloc: Global, width: usize, writes_left: usize, kind: ErrorKind, once: bool) -> Self {
+        Narrow {
+            taken: Vec::new(alloc),
+            width,
+            writes_left,
+            kind,
+            once,
+        }
+    }
 }
 
 impl Write for Narrow {
@@ -83,13 +94,7 @@ fn a_byte_at_a_time_changes_nothing(rt: HostRuntime) {
             reads_left: usize::MAX,
             kind: ErrorKind::Other,
         };
-        let mut output = Narrow {
-            taken: Vec::new(rt.alloc()),
-            width: 1,
-            writes_left: usize::MAX,
-            kind: ErrorKind::Other,
-            once: false,
-        };
+        let mut output = Narrow::new(rt.alloc(), 1, usize::MAX, ErrorKind::Other, false);
         assert_eq!(rt; run(rt.alloc(), &mut input, &mut output), end, "at {index}");
         assert_eq!(rt; output.taken.as_slice(), printed.as_bytes(), "at {index}");
     }
@@ -141,13 +146,7 @@ fn the_failed_write_of_want_of_memory(rt: HostRuntime) {
             reads_left: 1,
             kind: ErrorKind::OutOfMemory,
         };
-        let mut output = Narrow {
-            taken: Vec::new(rt.alloc()),
-            width: 1,
-            writes_left,
-            kind: ErrorKind::Other,
-            once: false,
-        };
+        let mut output = Narrow::new(rt.alloc(), 1, writes_left, ErrorKind::Other, false);
         assert_eq!(rt;
             run(rt.alloc(), &mut input, &mut output),
             RunEnd::Io,
@@ -173,13 +172,7 @@ pub(crate) fn fails_at_each_write(
     assert!(rt; width > 0);
     for writes_left in 0..printed.len().div_ceil(width) {
         for once in [false, true] {
-            let mut output = Narrow {
-                taken: Vec::new(alloc),
-                width,
-                writes_left,
-                kind,
-                once,
-            };
+            let mut output = Narrow::new(alloc, width, writes_left, kind, once);
             let mut rest = input;
             assert_eq!(rt;
                 run(alloc, &mut rest, &mut output),
@@ -206,13 +199,7 @@ fn a_failed_write_leaves_a_beginning(rt: HostRuntime) {
 #[test]
 fn an_interrupted_write_is_tried_again(rt: HostRuntime) {
     for writes_left in 0..PLAIN_REPORT.len() {
-        let mut output = Narrow {
-            taken: Vec::new(rt.alloc()),
-            width: 1,
-            writes_left,
-            kind: ErrorKind::Interrupted,
-            once: true,
-        };
+        let mut output = Narrow::new(rt.alloc(), 1, writes_left, ErrorKind::Interrupted, true);
         let mut rest = PLAIN;
         assert_eq!(rt;
             run(rt.alloc(), &mut rest, &mut output),
