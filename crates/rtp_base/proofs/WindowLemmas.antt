@@ -1,7 +1,7 @@
 -- Which sets a window keeps: as it is made, as a number is refused, and always some set.
 use Rattle.std.proofs.Common.{◌≡◌, ◌+◌, ◌-◌, ◌^◌, ◌≤◌, nat_eq, ℕ, Bool, true, false, ◌&&◌, leb, ltb, List, get_or, inl, inr, refl, sym, ap, ◌∙◌, arith}
 use Rattle.std.proofs.lemmas.Bool.{le-leb, leb-true, lt-ltb, and_parts, or_cases, or_left, cases_Bool, cases_lt, cases_eq, eqb-true, eq-eqb, ne_eqb}
-use Rattle.rtp_base.specs.Window.{Numbers, WindowState, window_size, only, up_to, including, Keeps, Accepts}
+use Rattle.rtp_base.specs.Window.{Numbers, WindowState, window_size, only, up_to, including, IsGreatest, Keeps, Accepts}
 use Rattle.rtp_base.specs.Bitmap.{bits_of}
 use Rattle.rtp_base.proofs.BitmapLemmas.{or-none, or-already, one-first, one-others, ones-at}
 
@@ -20,6 +20,16 @@ Keeps-up_to number = record {
   recorded = λ n low near. ones-at (number - n) (omega arith) ∙ sym (le-leb n number low);
 }
 
+-- the greatest number of a set stays with a lower one more
+pub greatest_stays : (numbers : Numbers) (greatest number : ℕ) → IsGreatest numbers greatest → number ≤ greatest → IsGreatest (including numbers number) greatest
+greatest_stays numbers greatest number top low = record {
+  member = or_left (numbers greatest) (nat_eq greatest number) top.member;
+  top = λ n is. elim (or_cases (numbers n) (nat_eq n number) is) [
+    | inl member ↦ top.top n member
+    | inr same ↦ let e = eqb-true n number same in omega arith
+  ];
+}
+
 -- a number that is refused is in the set, or too far below for the window
 pub Keeps-refused : (window : WindowState) (taken : Numbers) (number : ℕ) → Keeps window taken → (Accepts taken number → ⊥) → Keeps window (including taken number)
 Keeps-refused window taken number keeps refused =
@@ -30,13 +40,7 @@ Keeps-refused window taken number keeps refused =
     ]
     in
     record {
-      top = record {
-        member = or_left (taken window.greatest) (nat_eq window.greatest number) keeps.top.member;
-        top = λ n is. elim (or_cases (taken n) (nat_eq n number) is) [
-          | inl member ↦ keeps.top.top n member
-          | inr same ↦ let e = eqb-true n number same in omega arith
-        ];
-      };
+      top = greatest_stays taken window.greatest number keeps.top low;
       recorded = λ n n-low near. keeps.recorded n n-low near ∙ elim (cases_eq n number) [
         | inl same ↦ or-already taken number n (elim (cases_Bool (taken number)) [
           | inl member ↦ member

@@ -4,6 +4,8 @@ pub mod Direction
 pub mod Window
 pub mod Frequency
 pub mod MediaTime
+-- What the crates that read and write bytes cite.
+pub mod Flag
 pub mod Overwriting
 -- What private contracts cite.
 pub mod Bitmap

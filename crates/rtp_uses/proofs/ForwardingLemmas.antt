@@ -5,7 +5,7 @@ use Rattle.rtp_ext.specs.declared.ext.map.ExtensionMap.{ExtensionMap}
 use Rattle.rtp_wire.specs.declared.header.rtp_header.RtpHeader.{RtpHeader}
 use Rattle.rtp_wire.specs.Header.{IsWire}
 use Rattle.rtp_wire.specs.Written.{wire_bytes, image_of}
-use Rattle.rtp_uses.proofs.BehindLemmas.{overwritten-behind}
+use Rattle.rtp_base.proofs.OverwritingLemmas.{overwritten-behind}
 use Rattle.rtp_uses.specs.Forwarding.{header_in_stream, IsForwarded}
 
 -- a header with the low bits of a number is written, and the payload is put behind it

@@ -1,5 +1,4 @@
 mod EqualityLemmas
 mod ReceivingLemmas
-mod BehindLemmas
 mod ForwardingLemmas
 mod NegotiatingLemmas

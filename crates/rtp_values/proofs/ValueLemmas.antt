@@ -17,7 +17,7 @@ use Rattle.rtp_values.specs.declared.value.abs_capture_time.AbsCaptureTime as ca
 use Rattle.rtp_values.specs.declared.value.video_timing.VideoTiming as timing
 use Rattle.rtp_values.specs.declared.value.video_orientation.VideoOrientation as orientation
 use Rattle.rtp_values.specs.declared.value.video_orientation.VideoOrientation.TheVariants.{Deg0, Deg90, Deg180, Deg270}
-use Rattle.rtp_values.specs.Flag.{bit}
+use Rattle.rtp_base.specs.Flag.{bit}
 use Rattle.rtp_values.specs.Values.{Reads, number_of, offset_of, orientation_of, hundredths}
 use Rattle.rtp_values.specs.Spelling.{bytes_of, spelled_data, HasRoom, carried_values, longest, send_ticks, delay_of, offset_bytes, orientation_bits, timing_bytes}
 use Rattle.rtp_values.specs.KindBytes.{HasWritten}

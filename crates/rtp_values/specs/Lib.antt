@@ -2,7 +2,6 @@
 pub mod Kind
 pub mod HeaderValues
 pub mod Values
-pub mod Flag
 pub mod Spelling
 -- A send time over time.
 pub mod SendTime

@@ -12,7 +12,7 @@ use Rattle.rtp_values.specs.declared.value.values.ExtensionValues.{ExtensionValu
 use Rattle.rtp_values.specs.declared.value.video_timing.VideoTiming as timing
 use Rattle.rtp_values.specs.declared.value.video_orientation.VideoOrientation as orientation
 use Rattle.rtp_values.specs.declared.value.video_orientation.VideoOrientation.TheVariants.{Deg0, Deg90, Deg180, Deg270}
-use Rattle.rtp_values.specs.Flag.{bit}
+use Rattle.rtp_base.specs.Flag.{bit}
 use Rattle.rtp_values.specs.Values.{hundredths}
 
 -- the low bytes of a number, so many, the high one first

@@ -5,7 +5,7 @@ use Rattle.std.proofs.Math.Nat.{zero-mul, one-mul}
 use Rattle.std.proofs.lemmas.Bool.{ne_eqb}
 use Rattle.std.proofs.lemmas.Nat.{pow_pos, and_mask}
 use Rattle.std.proofs.lemmas.Nat.Bits.{and_pow, bit_at-lt}
-use Rattle.rtp_values.specs.Flag.{bit}
+use Rattle.rtp_base.specs.Flag.{bit}
 use Rattle.rtp_wire.specs.Header.{IsFirstByte, IsSecondByte}
 
 -- one digit of base 2, by its test

@@ -4,6 +4,7 @@ use Rattle.std.specs.Prelude.{Option, Some, None, IfSome}
 use Rattle.std.proofs.lemmas.Bool.{eq-eqb, eqb-true, cases_lt, cases_eq, ne_eqb, false≢true, or_left, or_right, or_cases, true_from_ne_false}
 use Rattle.std.proofs.lemmas.List.{take_more}
 use Rattle.rtp_base.specs.Window.{Numbers, IsGreatest, Accepts, including}
+use Rattle.rtp_base.proofs.WindowLemmas.{greatest_stays}
 use Rattle.rtp_ext.specs.declared.ext.map.ExtensionMap.{ExtensionMap}
 use Rattle.rtp_wire.specs.declared.receive.verdict.Verdict.{Verdict}
 use Rattle.rtp_wire.specs.declared.receive.verdict.Verdict.TheVariants.{Unreadable, Taken, Refused}
@@ -116,15 +117,6 @@ greatest_above numbers highest number top above = record {
   member = including-self numbers number;
   top = λ n is. elim (or_cases (numbers n) (nat_eq n number) is) [
     | inl member ↦ let low = top.top n member in omega arith
-    | inr same ↦ let e = eqb-true n number same in omega arith
-  ];
-}
-
-greatest_stays : (numbers : Numbers) (highest number : ℕ) → IsGreatest numbers highest → number ≤ highest → IsGreatest (including numbers number) highest
-greatest_stays numbers highest number top low = record {
-  member = or_left (numbers highest) (nat_eq highest number) top.member;
-  top = λ n is. elim (or_cases (numbers n) (nat_eq n number) is) [
-    | inl member ↦ top.top n member
     | inr same ↦ let e = eqb-true n number same in omega arith
   ];
 }

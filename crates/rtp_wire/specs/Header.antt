@@ -12,7 +12,7 @@ use Rattle.std.specs.List.{concat, AllByRecursion}
 use Rattle.std.specs.Int.{w16, w32, from_be_bytes}
 use Rattle.rtp_ext.specs.declared.ext.map.ExtensionMap.{ExtensionMap}
 use Rattle.rtp_wire.specs.declared.header.rtp_header.RtpHeader.{RtpHeader}
-use Rattle.rtp_values.specs.Flag.{bit}
+use Rattle.rtp_base.specs.Flag.{bit}
 use Rattle.rtp_values.specs.Values.{no_values}
 use Rattle.rtp_wire.specs.Block.{IsExtensionPart}
 

@@ -7,7 +7,7 @@ use Rattle.rtp_values.specs.declared.value.values.ExtensionValues.{ExtensionValu
 use Rattle.rtp_wire.specs.declared.header.rtp_header.RtpHeader.{RtpHeader}
 use Rattle.rtp_values.specs.Values.{no_values}
 use Rattle.rtp_ext.specs.WrittenBlock.{block_bytes, image_values}
-use Rattle.rtp_values.specs.Flag.{bit}
+use Rattle.rtp_base.specs.Flag.{bit}
 
 -- the twelve fixed bytes, with version 2 whatever the header's field holds
 abbrev pub fixed_bytes : RtpHeader → List ℕ

@@ -1,7 +1,7 @@
 //! Audio level (RFC 6464, 3): voice activity in the top bit, and the level below it.
 
 ghost use Rattle.std.specs.Prelude.{◌≡◌, ◌+◌, ◌*◌, ◌%◌, unsigned_abs};
-ghost use Rattle.rtp_values.specs.Flag.{bit};
+ghost use Rattle.rtp_base.specs.Flag.{bit};
 ghost use Rattle.rtp_values.specs.declared.kind.Extension.TheVariants.{AudioLevel};
 ghost use Rattle.rtp_values.specs.Spelling.{HasRoom};
 ghost use Rattle.rtp_values.specs.KindBytes.{HasRead, HasWritten};

@@ -4,7 +4,7 @@ ghost use Rattle.std.specs.Prelude.{◌≡◌, ℕ, ◌+◌, ◌-◌, ◌*◌, �
 ghost use Rattle.std.specs.List.{flat_map};
 ghost use Rattle.std.specs.Int.{w32, to_be_bytes};
 ghost use Rattle.rtp_wire.specs.Block.{IsExtensionPart};
-ghost use Rattle.rtp_values.specs.Flag.{bit};
+ghost use Rattle.rtp_base.specs.Flag.{bit};
 ghost use Rattle.rtp_wire.specs.Header.{IsFirstByte, IsWire};
 ghost use Rattle.rtp_base.specs.Overwriting.{overwritten};
 ghost use Rattle.rtp_wire.specs.Written.{fixed_bytes, source_bytes, extension_bytes, wire_bytes, carried_image, image_of};

@@ -2,7 +2,7 @@ use Rattle.std.proofs.Common.{◌≡◌, ◌+◌, ◌-◌, ◌<◌, ◌∷◌, [
 use Rattle.std.proofs.lemmas.List.{length-replicate}
 use Rattle.rtp_base.specs.Overwriting.{overwritten}
 use Rattle.rtp_wire.specs.Padding.{padding_bytes}
-use Rattle.rtp_uses.proofs.BehindLemmas.{overwritten-behind}
+use Rattle.rtp_base.proofs.OverwritingLemmas.{overwritten-behind}
 use Rattle.rtp_uses.proofs.padding.write_padding.Goals as goal
 
 pub returns-clause-written : goal.returns-clause-written

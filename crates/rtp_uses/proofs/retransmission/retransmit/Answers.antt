@@ -2,7 +2,7 @@ use Rattle.std.proofs.Common.{◌≡◌, ◌+◌, ◌%◌, ◌++◌, List, ℕ, 
 use Rattle.std.specs.Int.{w16, to_be_bytes}
 use Rattle.rtp_base.specs.Overwriting.{overwritten}
 use Rattle.rtp_wire.specs.Written.{wire_bytes}
-use Rattle.rtp_uses.proofs.BehindLemmas.{overwritten-behind, put-behind}
+use Rattle.rtp_base.proofs.OverwritingLemmas.{overwritten-behind, put-behind}
 use Rattle.rtp_uses.proofs.retransmission.retransmit.Goals as goal
 
 pub returns-clause-written : goal.returns-clause-written
