@@ -7,11 +7,13 @@ use Rattle.rtp_vla.proofs.vla.parsing.layout_of.Goals as goal
 
 pub returns-in_err-streams-clause-refused : goal.returns-in_err-streams-clause-refused
 returns-in_err-streams-clause-refused c =
-    rw c.from_residual-in_err-streams.ensures (cut_masks c.args.buf.now c.in_ok-head.head.now c.in_ok-head.after.now c.in_ok-head.ensures.cases.0 c.in_err-streams.ensures.refused)
+    rw c.from_residual-in_err-streams.ensures
+    (cut_masks c.args.buf.now c.in_ok-head.head.now c.in_ok-head.after.now c.in_ok-head.ensures.cases.0 c.in_err-streams.ensures.refused)
 
 pub returns-in_err-counts-clause-refused : goal.returns-in_err-counts-clause-refused
 returns-in_err-counts-clause-refused c =
-    rw c.from_residual-in_err-counts.ensures (cut_counts c.args.buf.now c.in_ok-head.head.now c.in_ok-head.after.now (take c.in_ok-streams.streams c.read_masks.new.masks) c.in_ok-streams.after.now c.in_ok-head.ensures.cases.0 c.in_ok-streams.ensures.found
+    rw c.from_residual-in_err-counts.ensures
+    (cut_counts c.args.buf.now c.in_ok-head.head.now c.in_ok-head.after.now (take c.in_ok-streams.streams c.read_masks.new.masks) c.in_ok-streams.after.now c.in_ok-head.ensures.cases.0 c.in_ok-streams.ensures.found
     (omega (arith, c.in_err-counts.ensures.cases, c.active_count-active.ensures.active)))
 
 pub returns-then-not-resolutions_fit-clause-refused : goal.returns-then-not-resolutions_fit-clause-refused
