@@ -80,6 +80,25 @@ orientation_again Deg90 = refl
 orientation_again Deg180 = refl
 orientation_again Deg270 = refl
 
+-- ---- the text of an id
+
+-- the text of an id of this size, as `as_str` gives it
+abbrev pub IsTextOf : ℕ → List ℕ → List ℕ → Type 0
+IsTextOf size id str = record { text : str ≡ before_padding id; back : IsIdOf size str id }
+
+-- the bytes of a text, as `as_bytes` gives them
+abbrev pub AreBytesOf : List ℕ → List ℕ → Type 0
+AreBytesOf text bytes = record { value : bytes ≡ text; utf8 : IsUtf8 bytes; len : length bytes ≡ length text }
+
+-- the bytes of an id's text are the data of a kind that keeps the id, and are read as it
+AreData-id : {kind : Extension} {values : ExtensionValues} (size : ℕ) {id text bytes : List ℕ} → size ≤ longest kind → spelled_data kind values ≡ Some (before_padding id)
+    → ((bytes : List ℕ) → IsUtf8 bytes → IsIdOf size bytes id → Reads kind bytes (carried_values values)) → IsTextOf size id text → AreBytesOf text bytes → AreData kind values bytes
+AreData-id size {id} {text} enough spelled reads is are = record {
+  spelled = spelled ∙ ap Some (sym (are.value ∙ is.text));
+  read_back = reads _ are.utf8 (subst (λ (xs : List ℕ). IsIdOf size xs id) (sym are.value) is.back);
+  few = omega (arith, ap length (are.value ∙ is.text ∙ is.back.text_is), length-take size (map id_char (chars text)));
+}
+
 -- ---- kind by kind; `shown` is what the fields hold
 
 module _ {shown values : ExtensionValues} (same : shown ≡ values) where
@@ -215,29 +234,17 @@ module _ {shown values : ExtensionValues} (same : shown ≡ values) where
     few = omega (arith, length-offset_bytes offset);
   }
 
-  pub AreData-rid : {rid text bytes : List ℕ} → shown.rid ≡ Some rid → text ≡ before_padding rid → IsIdOf 8 text rid → bytes ≡ text → IsUtf8 bytes → AreData RtpStreamId values bytes
+  pub AreData-rid : {rid text bytes : List ℕ} → shown.rid ≡ Some rid → IsTextOf 8 rid text → AreBytesOf text bytes → AreData RtpStreamId values bytes
   unfolding carried_values
-  AreData-rid {rid} {text} is text-is back bytes-are utf8 = record {
-    spelled = rw (← same, is) (ap Some (sym (bytes-are ∙ text-is)));
-    read_back = (utf8, rw (← same, is) (subst (λ (xs : List ℕ). IsIdOf 8 xs rid) (sym bytes-are) back));
-    few = omega (arith, ap length (bytes-are ∙ text-is ∙ back.text_is), length-take 8 (map id_char (chars text)));
-  }
+  AreData-rid is = AreData-id 8 (omega arith) (rw (← same, is) refl) (λ _ utf8 back. (utf8, rw (← same, is) back))
 
-  pub AreData-repaired : {rid text bytes : List ℕ} → shown.rid_repair ≡ Some rid → text ≡ before_padding rid → IsIdOf 8 text rid → bytes ≡ text → IsUtf8 bytes → AreData RepairedRtpStreamId values bytes
+  pub AreData-repaired : {rid text bytes : List ℕ} → shown.rid_repair ≡ Some rid → IsTextOf 8 rid text → AreBytesOf text bytes → AreData RepairedRtpStreamId values bytes
   unfolding carried_values
-  AreData-repaired {rid} {text} is text-is back bytes-are utf8 = record {
-    spelled = rw (← same, is) (ap Some (sym (bytes-are ∙ text-is)));
-    read_back = (utf8, rw (← same, is) (subst (λ (xs : List ℕ). IsIdOf 8 xs rid) (sym bytes-are) back));
-    few = omega (arith, ap length (bytes-are ∙ text-is ∙ back.text_is), length-take 8 (map id_char (chars text)));
-  }
+  AreData-repaired is = AreData-id 8 (omega arith) (rw (← same, is) refl) (λ _ utf8 back. (utf8, rw (← same, is) back))
 
-  pub AreData-mid : {mid text bytes : List ℕ} → shown.mid ≡ Some mid → text ≡ before_padding mid → IsIdOf 16 text mid → bytes ≡ text → IsUtf8 bytes → AreData RtpMid values bytes
+  pub AreData-mid : {mid text bytes : List ℕ} → shown.mid ≡ Some mid → IsTextOf 16 mid text → AreBytesOf text bytes → AreData RtpMid values bytes
   unfolding carried_values
-  AreData-mid {mid} {text} is text-is back bytes-are utf8 = record {
-    spelled = rw (← same, is) (ap Some (sym (bytes-are ∙ text-is)));
-    read_back = (utf8, rw (← same, is) (subst (λ (xs : List ℕ). IsIdOf 16 xs mid) (sym bytes-are) back));
-    few = omega (arith, ap length (bytes-are ∙ text-is ∙ back.text_is), length-take 16 (map id_char (chars text)));
-  }
+  AreData-mid is = AreData-id 16 (omega arith) (rw (← same, is) refl) (λ _ utf8 back. (utf8, rw (← same, is) back))
 
 -- ---- the layer allocation
 

@@ -23,9 +23,7 @@ pub struct AbsCaptureTime {
 fn first_offset(bytes: &[u8]) -> Option<i64>
     ensures { result ≡ offset_of bytes.now }
 {
-    let Some(number) = first_u64(bytes) else {
-        return None;
-    };
+    let number = first_u64(bytes)?;
     Some(number.cast_signed())
 }
 
@@ -56,9 +54,7 @@ pub(super) fn write(buf: &mut [u8], ev: &ExtensionValues) -> Option<usize>
     requires room { HasRoom AbsoluteCaptureTime ev.now buf.old }
     ensures { HasWritten AbsoluteCaptureTime ev.now buf.old buf.new result }
 {
-    let Some(time) = ev.abs_capture_time else {
-        return None;
-    };
+    let time = ev.abs_capture_time?;
     let Some(offset) = time.clock_offset else {
         return Some(put_u64(buf, time.capture_time));
     };

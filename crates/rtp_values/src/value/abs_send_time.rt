@@ -39,9 +39,7 @@ pub(super) fn write(buf: &mut [u8], ev: &ExtensionValues) -> Option<usize>
     requires room { HasRoom AbsoluteSendTime ev.now buf.old }
     ensures { HasWritten AbsoluteSendTime ev.now buf.old buf.new result }
 {
-    let Some(micros) = ev.abs_send_time else {
-        return None;
-    };
+    let micros = ev.abs_send_time?;
     Some(put_u24(buf, ticks_of(micros)))
 }
 

@@ -32,11 +32,7 @@ pub(super) fn write(buf: &mut [u8], ev: &ExtensionValues) -> Option<usize>
     requires room { HasRoom AudioLevel ev.now buf.old }
     ensures { HasWritten AudioLevel ev.now buf.old buf.new result }
 {
-    let Some(level) = ev.audio_level else {
-        return None;
-    };
-    let Some(voice) = ev.voice_activity else {
-        return None;
-    };
+    let level = ev.audio_level?;
+    let voice = ev.voice_activity?;
     Some(put(buf, &[level_byte(level, voice)]))
 }

@@ -11,8 +11,7 @@ use super::front::{first_u32, put_u32};
 pub(super) fn read(buf: &[u8], ev: &mut ExtensionValues) -> Option<()>
     ensures { HasRead FrameMarking buf.now ev.old ev.new result }
 {
-    let marking = first_u32(buf)?;
-    ev.frame_mark = Some(marking);
+    ev.frame_mark = Some(first_u32(buf)?);
     Some(())
 }
 
@@ -21,8 +20,6 @@ pub(super) fn write(buf: &mut [u8], ev: &ExtensionValues) -> Option<usize>
     requires room { HasRoom FrameMarking ev.now buf.old }
     ensures { HasWritten FrameMarking ev.now buf.old buf.new result }
 {
-    let Some(marking) = ev.frame_mark else {
-        return None;
-    };
+    let marking = ev.frame_mark?;
     Some(put_u32(buf, marking))
 }

@@ -12,10 +12,7 @@ use rtp_base::Mid;
 pub(super) fn read(buf: &[u8], ev: &mut ExtensionValues) -> Option<()>
     ensures { HasRead RtpMid buf.now ev.old ev.new result }
 {
-    let Some(mid) = Mid::from_utf8(buf) else {
-        return None;
-    };
-    ev.mid = Some(mid);
+    ev.mid = Some(Mid::from_utf8(buf)?);
     Some(())
 }
 
@@ -24,8 +21,6 @@ pub(super) fn write(buf: &mut [u8], ev: &ExtensionValues) -> Option<usize>
     requires room { HasRoom RtpMid ev.now buf.old }
     ensures { HasWritten RtpMid ev.now buf.old buf.new result }
 {
-    let Some(mid) = ev.mid else {
-        return None;
-    };
+    let mid = ev.mid?;
     Some(put(buf, mid.as_str().as_bytes()))
 }

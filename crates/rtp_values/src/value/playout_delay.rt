@@ -32,11 +32,7 @@ pub(super) fn write(buf: &mut [u8], ev: &ExtensionValues) -> Option<usize>
     requires room { HasRoom PlayoutDelay ev.now buf.old }
     ensures { HasWritten PlayoutDelay ev.now buf.old buf.new result }
 {
-    let Some(min) = ev.play_delay_min else {
-        return None;
-    };
-    let Some(max) = ev.play_delay_max else {
-        return None;
-    };
+    let min = ev.play_delay_min?;
+    let max = ev.play_delay_max?;
     Some(put_u24(buf, delay_of(min) * 4096 + delay_of(max)))
 }

@@ -12,10 +12,7 @@ use rtp_base::Rid;
 pub(super) fn read(buf: &[u8], ev: &mut ExtensionValues) -> Option<()>
     ensures { HasRead RtpStreamId buf.now ev.old ev.new result }
 {
-    let Some(rid) = Rid::from_utf8(buf) else {
-        return None;
-    };
-    ev.rid = Some(rid);
+    ev.rid = Some(Rid::from_utf8(buf)?);
     Some(())
 }
 
@@ -24,9 +21,7 @@ pub(super) fn write(buf: &mut [u8], ev: &ExtensionValues) -> Option<usize>
     requires room { HasRoom RtpStreamId ev.now buf.old }
     ensures { HasWritten RtpStreamId ev.now buf.old buf.new result }
 {
-    let Some(rid) = ev.rid else {
-        return None;
-    };
+    let rid = ev.rid?;
     Some(put(buf, rid.as_str().as_bytes()))
 }
 
@@ -34,10 +29,7 @@ pub(super) fn write(buf: &mut [u8], ev: &ExtensionValues) -> Option<usize>
 pub(super) fn read_repaired(buf: &[u8], ev: &mut ExtensionValues) -> Option<()>
     ensures { HasRead RepairedRtpStreamId buf.now ev.old ev.new result }
 {
-    let Some(rid_repair) = Rid::from_utf8(buf) else {
-        return None;
-    };
-    ev.rid_repair = Some(rid_repair);
+    ev.rid_repair = Some(Rid::from_utf8(buf)?);
     Some(())
 }
 
@@ -46,8 +38,6 @@ pub(super) fn write_repaired(buf: &mut [u8], ev: &ExtensionValues) -> Option<usi
     requires room { HasRoom RepairedRtpStreamId ev.now buf.old }
     ensures { HasWritten RepairedRtpStreamId ev.now buf.old buf.new result }
 {
-    let Some(rid_repair) = ev.rid_repair else {
-        return None;
-    };
+    let rid_repair = ev.rid_repair?;
     Some(put(buf, rid_repair.as_str().as_bytes()))
 }

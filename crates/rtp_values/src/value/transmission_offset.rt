@@ -11,8 +11,7 @@ use super::front::{first_u32, put_u32};
 pub(super) fn read(buf: &[u8], ev: &mut ExtensionValues) -> Option<()>
     ensures { HasRead TransmissionTimeOffset buf.now ev.old ev.new result }
 {
-    let offset = first_u32(buf)?;
-    ev.tx_time_offs = Some(offset);
+    ev.tx_time_offs = Some(first_u32(buf)?);
     Some(())
 }
 
@@ -21,8 +20,6 @@ pub(super) fn write(buf: &mut [u8], ev: &ExtensionValues) -> Option<usize>
     requires room { HasRoom TransmissionTimeOffset ev.now buf.old }
     ensures { HasWritten TransmissionTimeOffset ev.now buf.old buf.new result }
 {
-    let Some(offset) = ev.tx_time_offs else {
-        return None;
-    };
+    let offset = ev.tx_time_offs?;
     Some(put_u32(buf, offset))
 }

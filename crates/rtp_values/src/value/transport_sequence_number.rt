@@ -11,8 +11,7 @@ use super::front::{first_u16, put_u16};
 pub(super) fn read(buf: &[u8], ev: &mut ExtensionValues) -> Option<()>
     ensures { HasRead TransportSequenceNumber buf.now ev.old ev.new result }
 {
-    let number = first_u16(buf)?;
-    ev.transport_cc = Some(number);
+    ev.transport_cc = Some(first_u16(buf)?);
     Some(())
 }
 
@@ -21,8 +20,6 @@ pub(super) fn write(buf: &mut [u8], ev: &ExtensionValues) -> Option<usize>
     requires room { HasRoom TransportSequenceNumber ev.now buf.old }
     ensures { HasWritten TransportSequenceNumber ev.now buf.old buf.new result }
 {
-    let Some(number) = ev.transport_cc else {
-        return None;
-    };
+    let number = ev.transport_cc?;
     Some(put_u16(buf, number))
 }

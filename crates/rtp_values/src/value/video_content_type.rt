@@ -11,8 +11,7 @@ use super::front::put;
 pub(super) fn read(buf: &[u8], ev: &mut ExtensionValues) -> Option<()>
     ensures { HasRead VideoContentType buf.now ev.old ev.new result }
 {
-    let content = *buf.first()?;
-    ev.video_content_type = Some(content);
+    ev.video_content_type = Some(*buf.first()?);
     Some(())
 }
 
@@ -21,8 +20,6 @@ pub(super) fn write(buf: &mut [u8], ev: &ExtensionValues) -> Option<usize>
     requires room { HasRoom VideoContentType ev.now buf.old }
     ensures { HasWritten VideoContentType ev.now buf.old buf.new result }
 {
-    let Some(content) = ev.video_content_type else {
-        return None;
-    };
+    let content = ev.video_content_type?;
     Some(put(buf, &[content]))
 }

@@ -46,9 +46,7 @@ pub(super) fn write(buf: &mut [u8], ev: &ExtensionValues) -> Option<usize>
     requires room { HasRoom kind.VideoLayersAllocation ev.now buf.old }
     ensures { HasWritten kind.VideoLayersAllocation ev.now buf.old buf.new result }
 {
-    let Some(allocation) = &ev.video_layers_allocation else {
-        return None;
-    };
+    let allocation = ev.video_layers_allocation.as_ref()?;
     data_len(ev)?;
     Some(vla::write_to(allocation, buf))
 }

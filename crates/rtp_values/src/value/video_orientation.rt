@@ -61,8 +61,6 @@ pub(super) fn write(buf: &mut [u8], ev: &ExtensionValues) -> Option<usize>
     requires room { HasRoom OrientationKind ev.now buf.old }
     ensures { HasWritten OrientationKind ev.now buf.old buf.new result }
 {
-    let Some(orientation) = ev.video_orientation else {
-        return None;
-    };
+    let orientation = ev.video_orientation?;
     Some(put(buf, &[bits_of(orientation)]))
 }

@@ -62,9 +62,7 @@ pub(super) fn write(buf: &mut [u8], ev: &ExtensionValues) -> Option<usize>
     requires room { HasRoom TimingKind ev.now buf.old }
     ensures { HasWritten TimingKind ev.now buf.old buf.new result }
 {
-    let Some(timing) = ev.video_timing else {
-        return None;
-    };
+    let timing = ev.video_timing?;
     let start = time_bytes(timing.encode_start);
     let finish = time_bytes(timing.encode_finish);
     let complete = time_bytes(timing.packetize_complete);

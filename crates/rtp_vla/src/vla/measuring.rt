@@ -103,12 +103,8 @@ fn layers_len(mut left: ActiveLayers) -> Option<usize>
     let mut len = 0;
     let mut ended = false;
     while let Some(layer) = left.next() {
-        let Some(rates) = rates_len(&layer.temporal_layers) else {
-            return None;
-        };
-        let Some(told) = told_len(&layer.resolution_and_framerate, ended) else {
-            return None;
-        };
+        let rates = rates_len(&layer.temporal_layers)?;
+        let told = told_len(&layer.resolution_and_framerate, ended)?;
         ended = layer.resolution_and_framerate.is_none();
         active += 1;
         len += rates + told;

@@ -25,9 +25,7 @@ fn read_halves<'a>(bytes: &'a [u8], masks: &mut [u8]) -> Option<&'a [u8]>
         reading.HasMasks bytes.now 0 (length masks.old) masks.new behind.now) }
     ensures refused { IfNone result (reading.LacksMasks bytes.now 0 (length masks.old)) }
 {
-    let Some((spelled, behind)) = bytes.split_at_checked((masks.len() + 1) / 2) else {
-        return None;
-    };
+    let (spelled, behind) = bytes.split_at_checked((masks.len() + 1) / 2)?;
     for i in 0..masks.len() {
         masks[i] = half_at(spelled, i);
     }
@@ -59,17 +57,11 @@ fn layout_of(buf: &[u8]) -> Option<Layout<'_>>
     ensures streams { IfSome result (λ layout. layout.streams ≤ 4) }
     ensures refused { IfNone result (reading.IsCutShort buf.now) }
 {
-    let Some((head, after)) = buf.split_first() else {
-        return None;
-    };
+    let (head, after) = buf.split_first()?;
     let mut masks = [0; 4];
-    let Some((streams, after)) = read_masks(*head, after, &mut masks) else {
-        return None;
-    };
+    let (streams, after) = read_masks(*head, after, &mut masks)?;
     let active = active_count(&masks[..streams]);
-    let Some((counts, rates)) = after.split_at_checked((active + 3) / 4) else {
-        return None;
-    };
+    let (counts, rates) = after.split_at_checked((active + 3) / 4)?;
     let resolutions = behind_rates(rates, rate_count(counts, active));
     if !resolutions_fit(resolutions, active) {
         return None;

@@ -18,18 +18,18 @@ put_behind word offset buf first second word-len offset-len first-is second-is =
     rw (len, front, behind, second-is, len, behind, take_all (length rest) rest (omega arith), drop_all (length rest) rest (omega arith), drop-drop 8 8 buf, append-nil (offset ++ drop 16 buf)) (sym (append_assoc word offset (drop 16 buf)))
 
 pub put_u64-requires : goal.put_u64-requires
-put_u64-requires c = record { room = room_of (spelled-capture c.ev.view_is c.in-Some.is c.in_default-clock_offset.is) (omega arith) c.args.buf.now c.requires.room }
+put_u64-requires c = record { room = room_of (spelled-capture c.ev.view_is c.in_ok-time.was c.in_default.is) (omega arith) c.args.buf.now c.requires.room }
 
-pub returns-in_default-clock_offset : goal.returns-in_default-clock_offset
-returns-in_default-clock_offset c =
-    HasWritten-put (AreData-capture c.ev.view_is c.in-Some.is c.in_default-clock_offset.is c.put_u64.ensures.back refl) c.put_u64.ensures.length c.put_u64.ensures.written
+pub returns-in_default : goal.returns-in_default
+returns-in_default c =
+    HasWritten-put (AreData-capture c.ev.view_is c.in_ok-time.was c.in_default.is c.put_u64.ensures.back refl) c.put_u64.ensures.length c.put_u64.ensures.written
 
 pub put_u64-requires-2 : goal.put_u64-requires-2
-put_u64-requires-2 c = record { room = omega (arith, room_of (spelled-capture c.ev.view_is c.in-Some.is c.in-Some-clock_offset.is) (omega arith) c.args.buf.now c.requires.room) }
+put_u64-requires-2 c = record { room = omega (arith, room_of (spelled-capture c.ev.view_is c.in_ok-time.was c.in-Some.is) (omega arith) c.args.buf.now c.requires.room) }
 
 pub put_offset-requires : goal.put_offset-requires
 put_offset-requires c =
-    let all = room_of (spelled-capture c.ev.view_is c.in-Some.is c.in-Some-clock_offset.is) (omega arith) c.args.buf.now c.requires.room in
+    let all = room_of (spelled-capture c.ev.view_is c.in_ok-time.was c.in-Some.is) (omega arith) c.args.buf.now c.requires.room in
     record { room = rw take_rest (omega (arith, length-drop 8 c.put_u64-2.new.buf, all, c.put_u64-2.auto.buf)) }
 
 -- the clock offset as it is passed
@@ -38,11 +38,11 @@ offset_is offset fits = ap Some (to_z-of_z w64 offset fits)
 
 pub returns : goal.returns
 returns c =
-    let time = c.in-Some.time in
-    let offset = c.in-Some-clock_offset.offset in
+    let time = c.in_ok-time.time in
+    let offset = c.in-Some.offset in
     let fits : FitsSigned w64 offset = search rules in
     let same = offset_is offset fits in
     let back = subst (λ (o : Option ℤ). offset_of (offset_bytes o) ≡ o) same c.put_offset.ensures.back in
-    HasWritten-put (AreData-capture c.ev.view_is c.in-Some.is c.in-Some-clock_offset.is c.put_u64-2.ensures.back back) refl
+    HasWritten-put (AreData-capture c.ev.view_is c.in_ok-time.was c.in-Some.is c.put_u64-2.ensures.back back) refl
     (put_behind (bytes_of 8 time.capture_time) (offset_bytes (Some offset)) c.args.buf.now c.put_u64-2.new.buf c.put_offset.new.buf refl refl c.put_u64-2.ensures.written
     (c.put_offset.ensures.written ∙ ap (λ (o : Option ℤ). offset_bytes o ++ drop 8 (take (length c.put_u64-2.new.buf - 8) (drop 8 c.put_u64-2.new.buf))) same))

@@ -3,7 +3,7 @@ use Rattle.rtp_values.proofs.ValueLemmas.{room_of, spelled-frame_marking, AreDat
 use Rattle.rtp_values.proofs.value.frame_marking.write.Goals as goal
 
 pub put_u32-requires : goal.put_u32-requires
-put_u32-requires c = record { room = room_of (spelled-frame_marking c.ev.view_is c.in-Some.is) (omega arith) c.args.buf.now c.requires.room }
+put_u32-requires c = record { room = room_of (spelled-frame_marking c.ev.view_is c.in_ok-marking.was) (omega arith) c.args.buf.now c.requires.room }
 
 pub returns : goal.returns
-returns c = HasWritten-put (AreData-frame_marking c.ev.view_is c.in-Some.is c.put_u32.ensures.back) c.put_u32.ensures.length c.put_u32.ensures.written
+returns c = HasWritten-put (AreData-frame_marking c.ev.view_is c.in_ok-marking.was c.put_u32.ensures.back) c.put_u32.ensures.length c.put_u32.ensures.written

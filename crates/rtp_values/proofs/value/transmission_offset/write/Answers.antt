@@ -3,7 +3,7 @@ use Rattle.rtp_values.proofs.ValueLemmas.{room_of, spelled-transmission_offset, 
 use Rattle.rtp_values.proofs.value.transmission_offset.write.Goals as goal
 
 pub put_u32-requires : goal.put_u32-requires
-put_u32-requires c = record { room = room_of (spelled-transmission_offset c.ev.view_is c.in-Some.is) (omega arith) c.args.buf.now c.requires.room }
+put_u32-requires c = record { room = room_of (spelled-transmission_offset c.ev.view_is c.in_ok-offset.was) (omega arith) c.args.buf.now c.requires.room }
 
 pub returns : goal.returns
-returns c = HasWritten-put (AreData-transmission_offset c.ev.view_is c.in-Some.is c.put_u32.ensures.back) c.put_u32.ensures.length c.put_u32.ensures.written
+returns c = HasWritten-put (AreData-transmission_offset c.ev.view_is c.in_ok-offset.was c.put_u32.ensures.back) c.put_u32.ensures.length c.put_u32.ensures.written

@@ -4,16 +4,16 @@ use Rattle.rtp_vla.specs.AllocationReading.{halves}
 use Rattle.rtp_vla.proofs.AllocationReadingLemmas.{length-halves}
 use Rattle.rtp_vla.proofs.AllocationParts.{AreBytes, AreBytes-from, AreBytes-parts, HasMasks-halves}
 use Rattle.rtp_vla.proofs.vla.parsing.read_halves.Goals as goal
-use Rattle.rtp_vla.proofs.vla.parsing.read_halves.Goals.{In-Some}
+use Rattle.rtp_vla.proofs.vla.parsing.read_halves.Goals.{In_ok-spelled}
 
-spelled_len : (c : In-Some) → length c.in-Some.spelled.now ≡ (length c.args.masks.now + 1) / 2
-spelled_len c = ap length c.in-Some.ensures.cases.1 ∙ length-take-le ((length c.args.masks.now + 1) / 2) c.args.bytes.now c.in-Some.ensures.cases.0
+spelled_len : (c : In_ok-spelled) → length c.in_ok-spelled.spelled.now ≡ (length c.args.masks.now + 1) / 2
+spelled_len c = ap length c.in_ok-spelled.ensures.cases.1 ∙ length-take-le ((length c.args.masks.now + 1) / 2) c.args.bytes.now c.in_ok-spelled.ensures.cases.0
 
 pub loop-i-preserved : goal.loop-i-preserved
 loop-i-preserved c =
-    let spelled = c.in-Some.spelled.now in
+    let spelled = c.in_ok-spelled.spelled.now in
     let within : c.loop-i.i < length c.loop-i.masks = omega (arith, c.loop-i.auto.masks) in
-    let inside : c.loop-i.i < length (halves spelled) = omega (arith, length-halves spelled, spelled_len (goal.at.loop-i-preserved c).In-Some) in
+    let inside : c.loop-i.i < length (halves spelled) = omega (arith, length-halves spelled, spelled_len (goal.at.loop-i-preserved c).In_ok-spelled) in
     take_more_set c.loop-i.masks c.loop-i.i c.half_at.result within
     ∙ (λ j. c.loop-i.invariant j ++ c.half_at.ensures j ∷ [])
     ∙ sym (take_more (halves spelled) c.loop-i.i 0 inside)
@@ -22,10 +22,10 @@ pub returns-clause-found : goal.returns-clause-found
 returns-clause-found c =
     let n = length c.args.masks.now in
     let bytes = c.args.bytes.now in
-    let spelled = c.in-Some.spelled.now in
-    let split : bytes ≡ spelled ++ c.in-Some.behind.now = sym (take-append-drop ((n + 1) / 2) bytes) ∙ (λ j. sym c.in-Some.ensures.cases.1 j ++ sym c.in-Some.ensures.cases.2 j) in
+    let spelled = c.in_ok-spelled.spelled.now in
+    let split : bytes ≡ spelled ++ c.in_ok-spelled.behind.now = sym (take-append-drop ((n + 1) / 2) bytes) ∙ (λ j. sym c.in_ok-spelled.ensures.cases.1 j ++ sym c.in_ok-spelled.ensures.cases.2 j) in
     let all : AreBytes bytes = AreBytes-from bytes (λ i. omega (arith, c.type_inv.bytes i)) in
-    let inside : AreBytes spelled = (AreBytes-parts spelled c.in-Some.behind.now (subst AreBytes split all)).0 in
+    let inside : AreBytes spelled = (AreBytes-parts spelled c.in_ok-spelled.behind.now (subst AreBytes split all)).0 in
     let end : c.loop-i.i ≡ n = omega arith in
-    HasMasks-halves bytes spelled c.in-Some.behind.now c.loop-i.masks n split (spelled_len (goal.at.returns-clause-found c).In-Some) inside c.loop-i.auto.masks
+    HasMasks-halves bytes spelled c.in_ok-spelled.behind.now c.loop-i.masks n split (spelled_len (goal.at.returns-clause-found c).In_ok-spelled) inside c.loop-i.auto.masks
     (sym (take_all n c.loop-i.masks (omega (arith, c.loop-i.auto.masks))) ∙ subst (λ (k : ℕ). take k c.loop-i.masks ≡ take k (halves spelled)) end c.loop-i.invariant)
