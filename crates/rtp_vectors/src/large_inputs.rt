@@ -1,8 +1,8 @@
 //! Inputs of many lines, and of long ones.
 
 use crate::failing_streams::fails_at_each_write;
-use crate::reports::PLAIN_REPORT;
-use rtp_report::{RunEnd, run};
+use crate::reports::{PLAIN_REPORT, names_bad_line, reports};
+use rtp_report::RunEnd;
 use std::alloc::Global;
 use std::io::{ErrorKind, Write};
 use std::test::Fail;
@@ -29,10 +29,14 @@ fn many(alloc: Global) -> Result<(Vec<u8>, Vec<u8>), Fail> {
 #[test]
 fn many_datagrams(rt: HostRuntime) -> Result<(), Fail> {
     let (input, printed) = many(rt.alloc())?;
-    let mut output = Vec::new(rt.alloc());
-    let mut rest = input.as_slice();
-    assert_eq!(rt; run(rt.alloc(), &mut rest, &mut output), RunEnd::Done);
-    assert_eq!(rt; output.as_slice(), printed.as_slice());
+    reports(
+        &rt,
+        rt.alloc(),
+        0,
+        input.as_slice(),
+        RunEnd::Done,
+        printed.as_slice(),
+    );
     Ok(())
 }
 
@@ -55,20 +59,14 @@ fn a_failed_write_beyond_the_buffer(rt: HostRuntime) -> Result<(), Fail> {
 // A bad line after many good ones of either kind.
 #[test]
 fn a_bad_line_after_many(rt: HostRuntime) -> Result<(), Fail> {
-    for good in [100u32, 150, 300, 70_000] {
+    for good in [100usize, 150, 300, 70_000] {
         for line in [b"80\n".as_slice(), b"map 3 urn:x\n"] {
             let mut input = Vec::new(rt.alloc());
             for _ in 0..good {
                 input.extend_from_slice(line)?;
             }
             input.extend_from_slice(b"xyz\n80\nabc\n")?;
-            let number = u64::from(good) + 1;
-            let mut printed = Vec::new(rt.alloc());
-            writeln!(printed, "line {number}: neither a map line nor hex")?;
-            let mut output = Vec::new(rt.alloc());
-            let mut rest = input.as_slice();
-            assert_eq!(rt; run(rt.alloc(), &mut rest, &mut output), RunEnd::BadLine);
-            assert_eq!(rt; output.as_slice(), printed.as_slice());
+            names_bad_line(&rt, rt.alloc(), good, input.as_slice(), good as u64 + 1);
         }
     }
     Ok(())
@@ -82,9 +80,13 @@ fn a_long_line(rt: HostRuntime) -> Result<(), Fail> {
     for _ in 0..600_000u32 {
         input.extend_from_slice(b"FF")?;
     }
-    let mut output = Vec::new(rt.alloc());
-    let mut rest = input.as_slice();
-    assert_eq!(rt; run(rt.alloc(), &mut rest, &mut output), RunEnd::Done);
-    assert_eq!(rt; output.as_slice(), PLAIN_REPORT.as_bytes());
+    reports(
+        &rt,
+        rt.alloc(),
+        0,
+        input.as_slice(),
+        RunEnd::Done,
+        PLAIN_REPORT.as_bytes(),
+    );
     Ok(())
 }

@@ -1,7 +1,8 @@
 //! Lines that map ids.
 
-use crate::reports::PLAIN_REPORT;
-use rtp_report::{InputError, RunEnd, read_input, run};
+use crate::checks::same;
+use crate::reports::{PLAIN_REPORT, names_bad_line, reports};
+use rtp_report::{InputError, RunEnd, read_input};
 use rtp_wire::{Extension, ExtensionMap};
 use std::alloc::Global;
 use std::io::Write;
@@ -38,22 +39,12 @@ const REFUSED: [(&[u8], u64); 21] = [
 ];
 
 #[test]
-fn refused_lines(rt: HostRuntime) -> Result<(), Fail> {
-    for (index, (input, number)) in REFUSED.into_iter().enumerate() {
-        let error = read_input(rt.alloc(), input).err().ok_or("an error")?;
-        assert_eq!(rt; error, InputError::BadLine(number), "at {index}");
-        let mut output = Vec::new(rt.alloc());
-        let mut rest = input;
-        assert_eq!(rt;
-            run(rt.alloc(), &mut rest, &mut output),
-            RunEnd::BadLine,
-            "at {index}"
-        );
-        let mut printed = Vec::new(rt.alloc());
-        writeln!(printed, "line {number}: neither a map line nor hex")?;
-        assert_eq!(rt; output.as_slice(), printed.as_slice(), "at {index}");
+fn refused_lines(rt: HostRuntime) {
+    for (index, (input, number)) in REFUSED.iter().enumerate() {
+        let error = read_input(rt.alloc(), input).err();
+        same(&rt, index, error, Some(InputError::BadLine(*number)));
+        names_bad_line(&rt, rt.alloc(), index, input, *number);
     }
-    Ok(())
 }
 
 // An input with map lines, and what is printed of it: they print nothing themselves.
@@ -70,15 +61,15 @@ const TAKEN: [(&[u8], &str); 5] = [
 
 #[test]
 fn taken_lines(rt: HostRuntime) {
-    for (index, (input, printed)) in TAKEN.into_iter().enumerate() {
-        let mut output = Vec::new(rt.alloc());
-        let mut rest = input;
-        assert_eq!(rt;
-            run(rt.alloc(), &mut rest, &mut output),
+    for (index, (input, printed)) in TAKEN.iter().enumerate() {
+        reports(
+            &rt,
+            rt.alloc(),
+            index,
+            input,
             RunEnd::Done,
-            "at {index}"
+            printed.as_bytes(),
         );
-        assert_eq!(rt; output.as_slice(), printed.as_bytes(), "at {index}");
     }
 }
 

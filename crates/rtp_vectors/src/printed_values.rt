@@ -1,9 +1,8 @@
 //! The printed values of header extensions.
 
-use rtp_report::{RunEnd, run};
-use std::alloc::Global;
+use crate::reports::reports;
+use rtp_report::RunEnd;
 use std::io::Write;
-use std::process::Abort;
 use std::test::Fail;
 
 // A datagram under the standard map, the length of its header, and its printed values.
@@ -24,24 +23,23 @@ const VALUES: [(&[u8], u16, &str); 3] = [
     ),
 ];
 
-// Runs the input, and compares what is printed.
-fn prints(rt: &impl Abort, alloc: Global, input: &[u8], printed: &[u8]) {
-    let mut output = Vec::new(alloc);
-    let mut rest = input;
-    assert_eq!(rt; run(alloc, &mut rest, &mut output), RunEnd::Done);
-    assert_eq!(rt; output.as_slice(), printed);
-}
-
 #[test]
 fn values(rt: HostRuntime) -> Result<(), Fail> {
-    for (line, len, values) in VALUES {
+    for (index, (line, len, values)) in VALUES.iter().enumerate() {
         let mut printed = Vec::new(rt.alloc());
         write!(
             printed,
             "packet 1: pt 97 seq 2 ts 3 ssrc 4 marker no padding no extension yes "
         )?;
         writeln!(printed, "csrc 0 header {len}{values}\nverdict 1: taken 2")?;
-        prints(&rt, rt.alloc(), line, printed.as_slice());
+        reports(
+            &rt,
+            rt.alloc(),
+            index,
+            line,
+            RunEnd::Done,
+            printed.as_slice(),
+        );
     }
     Ok(())
 }
@@ -54,5 +52,5 @@ fn a_whole_packet(rt: HostRuntime) {
     let printed =
         b"packet 1: pt 111 seq 47000 ts 10000 ssrc 777459193 marker no padding yes extension yes \
 csrc 0 header 32 mid xYj level -42 voice yes send 63531654 transport 0\nverdict 1: taken 47000\n";
-    prints(&rt, rt.alloc(), line, printed);
+    reports(&rt, rt.alloc(), 0, line, RunEnd::Done, printed);
 }

@@ -1,6 +1,9 @@
 //! What the program prints, over readers and writers in memory.
 
+use crate::checks::same;
 use rtp_report::{RunEnd, datagram, run};
+use std::alloc::Global;
+use std::process::Abort;
 use std::test::Fail;
 
 pub(crate) const PLAIN: &[u8] = b"8021B798000027100000002C\n";
@@ -92,13 +95,32 @@ pub(crate) const RUNS: [(&[u8], RunEnd, &str); 16] = [
     ),
 ];
 
+// The run of the input ends so, and prints this.
+pub(crate) fn reports(
+    rt: &impl Abort,
+    alloc: Global,
+    at: usize,
+    input: &[u8],
+    end: RunEnd,
+    printed: &[u8],
+) {
+    let mut output = Vec::new(alloc);
+    let mut rest = input;
+    same(rt, at, run(alloc, &mut rest, &mut output), end);
+    assert_eq!(rt; output.as_slice(), printed, "at {at}");
+}
+
+// The line of a bad line is the whole output.
+pub(crate) fn names_bad_line(rt: &impl Abort, alloc: Global, at: usize, input: &[u8], number: u64) {
+    let line = format!(in alloc; "line {number}: neither a map line nor hex\n");
+    let printed = line.expect(rt, "memory");
+    reports(rt, alloc, at, input, RunEnd::BadLine, printed.as_bytes());
+}
+
 #[test]
 fn runs(rt: HostRuntime) {
-    for (index, (input, end, printed)) in RUNS.into_iter().enumerate() {
-        let mut output = Vec::new(rt.alloc());
-        let mut rest = input;
-        assert_eq!(rt; run(rt.alloc(), &mut rest, &mut output), end, "at {index}");
-        assert_eq!(rt; output.as_slice(), printed.as_bytes(), "at {index}");
+    for (index, (input, end, printed)) in RUNS.iter().enumerate() {
+        reports(&rt, rt.alloc(), index, input, *end, printed.as_bytes());
     }
 }
 
