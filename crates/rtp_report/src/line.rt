@@ -14,7 +14,7 @@ fn without_return(line: &[u8]) -> &[u8]
 }
 
 /// The index of the first byte of this value, `None` when there is none.
-pub fn position_of(text: &[u8], byte: u8) -> Option<usize>
+pub(super) fn position_of(text: &[u8], byte: u8) -> Option<usize>
     ensures found { IfSome result (λ at. (at < length text.now) × (slice_index text.now at ≡ byte)
         × ((k : ℕ) → k < at → slice_index text.now k ≢ byte)) }
     ensures none { IfNone result ((k : ℕ) → k < length text.now → slice_index text.now k ≢ byte) }
@@ -23,7 +23,7 @@ pub fn position_of(text: &[u8], byte: u8) -> Option<usize>
 }
 
 /// The first line without its LF or CR LF, and the text after it. Requires that the text is not empty.
-pub fn first_line(text: &[u8]) -> (&[u8], &[u8])
+pub(super) fn first_line(text: &[u8]) -> (&[u8], &[u8])
     requires { 0 < length text.now }
     ensures first { lines text.now ≡ result.0.now ∷ lines result.1.now }
     ensures shorter { length result.1.now < length text.now }

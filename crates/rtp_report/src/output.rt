@@ -9,7 +9,7 @@ use std::io::{ErrorKind, Write};
 
 /// Writes all of the text, also where a write takes only a part of it or is interrupted. Returns
 /// `Io` when a write fails, with a beginning of the text written.
-pub fn write_text<W: Write>(output: &mut W, text: &[u8]) -> Result<(), RunEnd>
+pub(super) fn write_text<W: Write>(output: &mut W, text: &[u8]) -> Result<(), RunEnd>
     ensures ok { OnOk result (Appends (W.contents output.old) (W.contents output.new) text.now) }
     ensures err { IfErr result (λ end. end ≡ RunEnd.Io) }
     ensures beginning { OnErr result (Prints (W.contents output.old) (W.contents output.new)

@@ -69,7 +69,11 @@ fn push_lines(
 ///
 /// Returns `NoMemory` when memory is refused, with the lines of the first datagrams printed, and `Io`
 /// when a write fails, with a beginning of the lines printed.
-pub fn print_all<W: Write>(alloc: Global, input: &Input, output: &mut W) -> Result<(), RunEnd>
+pub(super) fn print_all<W: Write>(
+    alloc: Global,
+    input: &Input,
+    output: &mut W,
+) -> Result<(), RunEnd>
     ensures ok { OnOk result (Prints (W.contents output.old) (W.contents output.new)
         (IsReport input.now.exts (map (λ v. v.items) input.now.datagrams.items))) }
     ensures err { IfErr result (λ end. Prints (W.contents output.old) (W.contents output.new)

@@ -9,7 +9,7 @@ use std::fmt;
 
 /// The line of one datagram's header with the values of its extensions, or that it has none.
 #[derive(Drop)]
-pub struct HeaderLine<'a> {
+pub(super) struct HeaderLine<'a> {
     /// The number of the datagram, from 1.
     pub packet: u64,
     /// Its header, `None` when it has none.
@@ -127,9 +127,10 @@ impl fmt::Display for HeaderLine<'_> {
 
 /// The line of a receiver's verdict on one datagram.
 #[derive(Drop)]
-pub struct VerdictLine {
+pub(super) struct VerdictLine {
     /// The number of the datagram, from 1.
     pub packet: u64,
+    /// What the receiver of its source says of it.
     pub verdict: Verdict,
 }
 

@@ -1,6 +1,6 @@
 //! Readers and writers that give or take a little at a time, and fail.
 
-use crate::reports::{PLAIN, PLAIN_REPORT, RUNS, STREAM, STREAM_REPORT};
+use crate::reports::{PLAIN, PLAIN_REPORT, RUNS, STREAM, STREAM_REPORT, reports};
 use rtp_report::{RunEnd, run};
 use std::alloc::Global;
 use std::io;
@@ -88,14 +88,18 @@ impl Write for Unflushed {
 
 #[test]
 fn a_byte_at_a_time_changes_nothing(rt: HostRuntime) {
-    for (index, (bytes, end, printed)) in RUNS.into_iter().enumerate() {
+    for (index, (bytes, end, printed)) in RUNS.iter().enumerate() {
         let mut input = Trickle {
             bytes,
             reads_left: usize::MAX,
             kind: ErrorKind::Other,
         };
         let mut output = Narrow::new(rt.alloc(), 1, usize::MAX, ErrorKind::Other, false);
-        assert_eq!(rt; run(rt.alloc(), &mut input, &mut output), end, "at {index}");
+        assert_eq!(rt;
+            run(rt.alloc(), &mut input, &mut output),
+            *end,
+            "at {index}"
+        );
         assert_eq!(rt; output.taken.as_slice(), printed.as_bytes(), "at {index}");
     }
 }
@@ -109,14 +113,12 @@ fn fails_at_each_read(
     printed: &[u8],
 ) {
     for reads_left in 0..STREAM.len() + 1 {
-        let mut input = Trickle {
+        let input = Trickle {
             bytes: STREAM,
             reads_left,
             kind,
         };
-        let mut output = Vec::new(alloc);
-        assert_eq!(rt; run(alloc, &mut input, &mut output), end, "at {reads_left}");
-        assert_eq!(rt; output.as_slice(), printed, "at {reads_left}");
+        reports(rt, alloc, reads_left, input, end, printed);
     }
 }
 

@@ -32,7 +32,7 @@ fn many_datagrams(rt: HostRuntime) -> Result<(), Fail> {
     reports(
         &rt,
         rt.alloc(),
-        0,
+        "many datagrams",
         input.as_slice(),
         RunEnd::Done,
         printed.as_slice(),
@@ -59,14 +59,14 @@ fn a_failed_write_beyond_the_buffer(rt: HostRuntime) -> Result<(), Fail> {
 // A bad line after many good ones of either kind.
 #[test]
 fn a_bad_line_after_many(rt: HostRuntime) -> Result<(), Fail> {
-    for good in [100usize, 150, 300, 70_000] {
+    for good in [100u64, 150, 300, 70_000] {
         for line in [b"80\n".as_slice(), b"map 3 urn:x\n"] {
             let mut input = Vec::new(rt.alloc());
             for _ in 0..good {
                 input.extend_from_slice(line)?;
             }
             input.extend_from_slice(b"xyz\n80\nabc\n")?;
-            names_bad_line(&rt, rt.alloc(), good, input.as_slice(), good as u64 + 1);
+            names_bad_line(&rt, rt.alloc(), good, input.as_slice(), good + 1);
         }
     }
     Ok(())
@@ -83,7 +83,7 @@ fn a_long_line(rt: HostRuntime) -> Result<(), Fail> {
     reports(
         &rt,
         rt.alloc(),
-        0,
+        "a long line",
         input.as_slice(),
         RunEnd::Done,
         PLAIN_REPORT.as_bytes(),

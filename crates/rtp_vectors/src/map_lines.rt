@@ -39,7 +39,7 @@ const REFUSED: [(&[u8], u64); 21] = [
 ];
 
 #[test]
-fn refused_lines(rt: HostRuntime) {
+fn bad_lines(rt: HostRuntime) {
     for (index, (input, number)) in REFUSED.iter().enumerate() {
         let error = read_input(rt.alloc(), input).err();
         same(&rt, index, error, Some(InputError::BadLine(*number)));
@@ -66,7 +66,7 @@ fn taken_lines(rt: HostRuntime) {
             &rt,
             rt.alloc(),
             index,
-            input,
+            *input,
             RunEnd::Done,
             printed.as_bytes(),
         );

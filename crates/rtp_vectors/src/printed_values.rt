@@ -36,7 +36,7 @@ fn values(rt: HostRuntime) -> Result<(), Fail> {
             &rt,
             rt.alloc(),
             index,
-            line,
+            *line,
             RunEnd::Done,
             printed.as_slice(),
         );
@@ -52,5 +52,12 @@ fn a_whole_packet(rt: HostRuntime) {
     let printed =
         b"packet 1: pt 111 seq 47000 ts 10000 ssrc 777459193 marker no padding yes extension yes \
 csrc 0 header 32 mid xYj level -42 voice yes send 63531654 transport 0\nverdict 1: taken 47000\n";
-    reports(&rt, rt.alloc(), 0, line, RunEnd::Done, printed);
+    reports(
+        &rt,
+        rt.alloc(),
+        "a whole packet",
+        line.as_slice(),
+        RunEnd::Done,
+        printed,
+    );
 }

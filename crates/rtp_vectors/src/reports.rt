@@ -3,9 +3,12 @@
 use crate::checks::same;
 use rtp_report::{RunEnd, datagram, run};
 use std::alloc::Global;
+use std::fmt::Display;
+use std::io::Read;
 use std::process::Abort;
 use std::test::Fail;
 
+// A datagram of twelve bytes.
 pub(crate) const PLAIN: &[u8] = b"8021B798000027100000002C\n";
 
 pub(crate) const PLAIN_REPORT: &str =
@@ -96,22 +99,27 @@ pub(crate) const RUNS: [(&[u8], RunEnd, &str); 16] = [
 ];
 
 // The run of the input ends so, and prints this.
-pub(crate) fn reports(
+pub(crate) fn reports<A: Copy + Display, R: Read + Drop>(
     rt: &impl Abort,
     alloc: Global,
-    at: usize,
-    input: &[u8],
+    at: A,
+    mut input: R,
     end: RunEnd,
     printed: &[u8],
 ) {
     let mut output = Vec::new(alloc);
-    let mut rest = input;
-    same(rt, at, run(alloc, &mut rest, &mut output), end);
-    assert_eq!(rt; output.as_slice(), printed, "at {at}");
+    same(rt, at, run(alloc, &mut input, &mut output), end);
+    same(rt, at, output.as_slice(), printed);
 }
 
-// The line of a bad line is the whole output.
-pub(crate) fn names_bad_line(rt: &impl Abort, alloc: Global, at: usize, input: &[u8], number: u64) {
+// The run prints the line that names this bad line, and nothing else.
+pub(crate) fn names_bad_line<A: Copy + Display>(
+    rt: &impl Abort,
+    alloc: Global,
+    at: A,
+    input: &[u8],
+    number: u64,
+) {
     let line = format!(in alloc; "line {number}: neither a map line nor hex\n");
     let printed = line.expect(rt, "memory");
     reports(rt, alloc, at, input, RunEnd::BadLine, printed.as_bytes());
@@ -120,7 +128,7 @@ pub(crate) fn names_bad_line(rt: &impl Abort, alloc: Global, at: usize, input: &
 #[test]
 fn runs(rt: HostRuntime) {
     for (index, (input, end, printed)) in RUNS.iter().enumerate() {
-        reports(&rt, rt.alloc(), index, input, *end, printed.as_bytes());
+        reports(&rt, rt.alloc(), index, *input, *end, printed.as_bytes());
     }
 }
 

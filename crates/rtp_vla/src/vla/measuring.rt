@@ -1,9 +1,9 @@
 //! Which allocations can be written, and in how many bytes.
 
-ghost use Rattle.std.specs.Prelude.{◌≡◌, ◌↔◌, ℕ, ◌+◌, ◌*◌, ◌/◌, ◌<◌, ◌≤◌, ◌==◌, ◌∷◌, true, false, Some, None, List, length, map, IsTrue, IfSome, IfNone, if◌then◌else◌};
-ghost use Rattle.std.specs.Bool.{OnTrue, OnFalse};
+ghost use Rattle.std.specs.Prelude.{◌≡◌, ◌↔◌, ◌+◌, ◌*◌, ◌/◌, ◌<◌, ◌≤◌, ◌==◌, true, false, Some, None, length, map, IsTrue, IfSome, IfNone};
+ghost use Rattle.std.specs.Bool.{OnTrue};
 ghost use Rattle.std.specs.List.{flat_map, list_all};
-ghost use Rattle.rtp_vla.specs.Allocation.{active_layers, is_active, mask_of};
+ghost use Rattle.rtp_vla.specs.Allocation.{is_active, mask_of};
 ghost use Rattle.rtp_vla.specs.AllocationWritten as written;
 ghost use Rattle.rtp_vla.specs.Leb.{shortest_of};
 

@@ -7,7 +7,7 @@ ghost use Rattle.rtp_wire.specs.Block.{IsExtensionPart};
 ghost use Rattle.rtp_base.specs.Flag.{bit};
 ghost use Rattle.rtp_wire.specs.Header.{IsFirstByte, IsWire};
 ghost use Rattle.rtp_base.specs.Overwriting.{overwritten};
-ghost use Rattle.rtp_wire.specs.Written.{fixed_bytes, source_bytes, extension_bytes, wire_bytes, carried_image, image_of};
+ghost use Rattle.rtp_wire.specs.Written.{fixed_bytes, extension_bytes, wire_bytes, carried_image, image_of};
 
 use super::RtpHeader;
 use super::block::{block_len, write_block};
