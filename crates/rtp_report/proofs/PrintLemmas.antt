@@ -20,7 +20,7 @@ use Rattle.rtp_wire.proofs.VerdictLemmas.{HasCause, AllZip-more}
 use Rattle.rtp_wire.proofs.SourceLemmas.{SoFarEach, SoFarEach-none, SoFarEach-more}
 use Rattle.rtp_report.specs.declared.program.RunEnd.{RunEnd}
 use Rattle.rtp_report.specs.declared.program.RunEnd.TheVariants.{NoMemory, Io}
-use Rattle.rtp_report.specs.Output.{IsHeader, packet_lines, lines_from, IsReport, IsStopped, Prints}
+use Rattle.rtp_report.specs.Output.{IsHeader, packet_lines, lines_from, IsReport, IsPartialReport, Prints}
 
 -- a header of a datagram, with the verdict on it
 abbrev pub Report : Type 0
@@ -150,11 +150,11 @@ module _ (exts : ExtensionMap) (datagrams : List (List ℕ)) (done : ℕ) (old n
   )
 
   -- the lines so far are written, and memory is refused
-  pub Prints-written : Appends new after bytes → Prints old after (IsStopped exts datagrams NoMemory)
+  pub Prints-written : Appends new after bytes → Prints old after (IsPartialReport exts datagrams NoMemory)
   Prints-written appends = (p.written ++ text, appended appends, (done, report))
 
   -- only a beginning of the lines is written
-  pub Prints-cut : Prints new after (λ (printed : List ℕ). (rest : List ℕ) × (bytes ≡ printed ++ rest)) → Prints old after (IsStopped exts datagrams Io)
+  pub Prints-cut : Prints new after (λ (printed : List ℕ). (rest : List ℕ) × (bytes ≡ printed ++ rest)) → Prints old after (IsPartialReport exts datagrams Io)
   Prints-cut (printed, appends, (rest, split)) = (
     p.written ++ printed,
     Appends-trans old new after p.written printed p.appended appends,
@@ -166,7 +166,7 @@ module _ (exts : ExtensionMap) (datagrams : List (List ℕ)) (done : ℕ) (old n
   )
 
 -- memory is refused before anything is printed
-pub Prints-nothing : (exts : ExtensionMap) (datagrams : List (List ℕ)) (old : Option (List ℕ)) → Prints old old (IsStopped exts datagrams NoMemory)
+pub Prints-nothing : (exts : ExtensionMap) (datagrams : List (List ℕ)) (old : Option (List ℕ)) → Prints old old (IsPartialReport exts datagrams NoMemory)
 Prints-nothing exts datagrams old =
     ([], Appends-nil old, (0, record { reports = []; headers_are = tt; verdicts_are = record { readings = []; are_readings = tt; runs = record { as_many = refl; each = λ i below. absurd (omega arith) } }; printed_is = refl }))
 

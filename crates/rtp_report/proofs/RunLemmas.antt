@@ -7,7 +7,7 @@ use Rattle.rtp_ext.specs.declared.ext.map.ExtensionMap.{ExtensionMap}
 use Rattle.rtp_report.specs.declared.program.RunEnd.{RunEnd}
 use Rattle.rtp_report.specs.declared.program.RunEnd.TheVariants.{Done, BadLine, NoMemory, Io}
 use Rattle.rtp_report.specs.Input.{Spells, IsInput, HasBadLine}
-use Rattle.rtp_report.specs.Output.{IsStopped, IsOutputOf, IsBadLineOf, IsFrontOf, nothing, some, IsWantOf, IsBeginningOf, of_lines, of_want, IsLeft, Prints}
+use Rattle.rtp_report.specs.Output.{IsPartialReport, IsOutputOf, IsBadLineOf, IsFrontOf, nothing, some, IsWantOf, IsBeginningOf, of_lines, of_want, IsLeft, Prints}
 
 -- what follows from a fact on an error, and from one on a known input
 pub on_err : {A : Type 0} (r : Result A RunEnd) (P Q : RunEnd → Type 0) → ((end : RunEnd) → P end → Q end) → IfErr r P → IfErr r Q
@@ -31,7 +31,7 @@ Prints-unread text old = ([], Appends-nil old, of_lines [] (nothing refl))
 
 -- where the lines of the datagrams stop, the output stops
 pub IsLeft-stopped : (text : List ℕ) (exts : ExtensionMap) (datagrams : List (List ℕ)) (old new : Option (List ℕ)) → Spells text exts datagrams
-    → (end : RunEnd) → Prints old new (IsStopped exts datagrams end) → Prints old new (IsLeft text end)
+    → (end : RunEnd) → Prints old new (IsPartialReport exts datagrams end) → Prints old new (IsLeft text end)
 IsLeft-stopped text exts datagrams old new spells Done (printed, appends, never) = absurd never
 IsLeft-stopped text exts datagrams old new spells BadLine (printed, appends, never) = absurd never
 IsLeft-stopped text exts datagrams old new spells NoMemory (printed, appends, (count, report)) = (printed, appends, some exts datagrams count spells report)

@@ -35,11 +35,11 @@ pub record IsReport (exts : ExtensionMap) (datagrams : List (List ℕ)) (printed
   pub printed_is : printed ≡ lines_from 1 reports
 
 -- what is printed of the datagrams where a run stops among them: the lines of the first of them where memory is refused, and a beginning of these where a write fails
-abbrev pub IsStopped : ExtensionMap → List (List ℕ) → RunEnd → List ℕ → Type 0
-IsStopped exts datagrams NoMemory printed = (count : ℕ) × IsReport exts (take count datagrams) printed
-IsStopped exts datagrams Io printed = (count : ℕ) × (rest : List ℕ) × IsReport exts (take count datagrams) (printed ++ rest)
-IsStopped exts datagrams Done printed = ⊥
-IsStopped exts datagrams BadLine printed = ⊥
+abbrev pub IsPartialReport : ExtensionMap → List (List ℕ) → RunEnd → List ℕ → Type 0
+IsPartialReport exts datagrams NoMemory printed = (count : ℕ) × IsReport exts (take count datagrams) printed
+IsPartialReport exts datagrams Io printed = (count : ℕ) × (rest : List ℕ) × IsReport exts (take count datagrams) (printed ++ rest)
+IsPartialReport exts datagrams Done printed = ⊥
+IsPartialReport exts datagrams BadLine printed = ⊥
 
 -- the output of an input whose lines are all well-formed: the lines of its datagrams
 pub record IsOutputOf (text printed : List ℕ) : Type 0 where

@@ -6,7 +6,7 @@ ghost use Rattle.rtp_base.specs.Window.{Numbers};
 ghost use Rattle.rtp_wire.specs.NotAHeader.{NotAHeader};
 ghost use Rattle.rtp_wire.specs.Verdicts.{IsVerdict, reading_of};
 ghost use Rattle.rtp_wire.specs.Sources.{HoldsEach, numbers_beside, taken_after_each};
-ghost use Rattle.rtp_report.specs.Output.{IsHeader, packet_lines, IsReport, IsStopped, Prints};
+ghost use Rattle.rtp_report.specs.Output.{IsHeader, packet_lines, IsReport, IsPartialReport, Prints};
 
 use super::input::Input;
 use super::output::write_text;
@@ -77,7 +77,7 @@ pub(super) fn print_all<W: Write>(
     ensures ok { OnOk result (Prints (W.contents output.old) (W.contents output.new)
         (IsReport input.now.exts (map (λ v. v.items) input.now.datagrams.items))) }
     ensures err { IfErr result (λ end. Prints (W.contents output.old) (W.contents output.new)
-        (IsStopped input.now.exts (map (λ v. v.items) input.now.datagrams.items) end)) }
+        (IsPartialReport input.now.exts (map (λ v. v.items) input.now.datagrams.items) end)) }
 {
     let mut receivers = Receivers::new(alloc);
     let mut text = String::with_capacity(alloc, 2 * WRITTEN_AT_ONCE)?;

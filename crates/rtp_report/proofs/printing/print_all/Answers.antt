@@ -6,7 +6,7 @@ use Rattle.std.proofs.lemmas.List.{get_or-map, length-map}
 use Rattle.rtp_wire.specs.NotAHeader.{NotAHeader}
 use Rattle.rtp_wire.specs.declared.header.rtp_header.RtpHeader.{RtpHeader}
 use Rattle.rtp_report.specs.declared.program.RunEnd.TheVariants.{NoMemory, Io}
-use Rattle.rtp_report.specs.Output.{IsHeader, IsStopped, Prints, packet_lines}
+use Rattle.rtp_report.specs.Output.{IsHeader, IsPartialReport, Prints, packet_lines}
 use Rattle.rtp_report.proofs.PrintLemmas.{Printed-none, Printed-more, Printed-written, Prints-all, Prints-written, Prints-cut, Prints-nothing, handed_on}
 use Rattle.rtp_report.proofs.printing.print_all.Goals as goal
 use Rattle.rtp_report.proofs.printing.print_all.Goals.{then-len-ge-WRITTEN_AT_ONCE+in_ok-write_text-2, else-len-ge-WRITTEN_AT_ONCE}
@@ -15,7 +15,7 @@ pub returns-in_err-text-clause-err : goal.returns-in_err-text-clause-err
 returns-in_err-text-clause-err g c =
     let old = g.W.Write.contents c.args.output.now in
     let datagrams = map (λ (v : Vec ℕ). v.items) c.args.input.now.datagrams.items in
-    handed_on c.from_residual.result NoMemory NoMemory (λ end. Prints old old (IsStopped c.args.input.now.exts datagrams end)) c.from_residual.ensures.1 refl
+    handed_on c.from_residual.result NoMemory NoMemory (λ end. Prints old old (IsPartialReport c.args.input.now.exts datagrams end)) c.from_residual.ensures.1 refl
     (Prints-nothing c.args.input.now.exts datagrams old)
 
 pub loop-index-init : goal.loop-index-init
