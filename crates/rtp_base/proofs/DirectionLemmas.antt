@@ -2,7 +2,7 @@
 use Rattle.std.proofs.Common.{◌≡◌, ℕ, ◌+◌, ◌*◌, List, get_or, arith, ap, refl, sym, ◌∙◌}
 use Rattle.rtp_base.specs.declared.dir.Direction.{Direction}
 use Rattle.rtp_base.specs.declared.dir.Direction.TheVariants.{SendOnly, RecvOnly, SendRecv, Inactive}
-use Rattle.rtp_base.specs.Direction.{direction_text, IsNamedBy}
+use Rattle.rtp_base.specs.Direction.{direction_text, IsDirectionName}
 
 -- two letters in which the names differ
 abbrev key : List ℕ → ℕ
@@ -26,8 +26,8 @@ direction_text-once Inactive RecvOnly same = absurd (omega (arith, ap key same))
 direction_text-once Inactive SendRecv same = absurd (omega (arith, ap key same))
 direction_text-once Inactive Inactive same = refl
 
-pub IsNamedBy-from_text : (text : List ℕ) (d : Direction) → text ≡ direction_text d → IsNamedBy text d
-IsNamedBy-from_text text d is = record {
+pub IsDirectionName-from_text : (text : List ℕ) (d : Direction) → text ≡ direction_text d → IsDirectionName text d
+IsDirectionName-from_text text d is = record {
   named = λ e same. direction_text-once d e (sym is ∙ same);
   otherwise = λ none. absurd (none d is);
 }

@@ -1,4 +1,4 @@
--- Bytes that are put into a buffer one behind the other.
+-- Bytes that are put into a buffer one after the other.
 use Rattle.std.proofs.Common.{◌≡◌, ℕ, ◌+◌, ◌-◌, ◌<◌, ◌≤◌, List, [], ◌∷◌, ◌++◌, length, take, drop, replicate, refl, sym, ap, ◌∙◌, arith, append_assoc, length-append, length-take-le, length-drop, take_at, drop_at, set, suc, add-zero, zero-add}
 use Rattle.std.proofs.lemmas.List.{append-nil, length-replicate, take-append-drop, drop-drop, take-take, take-append-le, take_rest, drop_all, set_split}
 use Rattle.rtp_base.specs.Overwriting.{overwritten}
@@ -67,7 +67,7 @@ overwritten-set buf at x within =
     let next : suc at ≡ at + length (x ∷ []) = omega arith in
     set_split buf at x within ∙ ap (λ (k : ℕ). take at buf ++ (x ∷ drop k buf)) next
 
--- and another behind it
+-- and another after it
 pub overwritten-set_two : (buf : List ℕ) (at x y : ℕ) → at + 2 ≤ length buf → set (set buf at x) (at + 1) y ≡ overwritten buf at (x ∷ y ∷ [])
 overwritten-set_two buf at x y within =
     let long = length-overwritten buf (x ∷ []) at (omega arith) in
@@ -111,7 +111,7 @@ overwritten-filled buf new at count is =
     ∙ ap (λ (ys : List ℕ). take at buf ++ (ys ++ drop (at + length {A = ℕ} (replicate count 0) - at) (drop at buf))) is
     ∙ overwritten-copied buf (replicate count 0) at
 
--- bytes behind what was put to the front of a buffer
+-- bytes after what was put to the front of a buffer
 pub overwritten-behind : (front bytes buf : List ℕ) (at end : ℕ) → at ≡ length front → end ≡ at + length bytes
     → overwritten (front ++ drop at buf) at bytes ≡ front ++ (bytes ++ drop end buf)
 unfolding overwritten

@@ -17,7 +17,7 @@ opposite RecvOnly = SendOnly
 opposite SendRecv = SendRecv
 opposite Inactive = Inactive
 
--- the direction that the text names, or Inactive where it names none
-pub record IsNamedBy (text : List ℕ) (direction : Direction) : Type 0 where
+-- the text is the name of the direction, or no name at all and the direction is Inactive
+pub record IsDirectionName (text : List ℕ) (direction : Direction) : Type 0 where
   pub named : (d : Direction) → text ≡ direction_text d → direction ≡ d
   pub otherwise : ((d : Direction) → text ≡ direction_text d → ⊥) → direction ≡ Inactive

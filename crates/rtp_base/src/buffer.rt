@@ -3,7 +3,7 @@
 ghost use Rattle.std.specs.Prelude.{◌≡◌, ◌+◌, ◌≤◌, length, replicate};
 ghost use Rattle.rtp_base.specs.Overwriting.{overwritten};
 
-/// Puts the bytes at an offset of the buffer and returns the offset behind them; all other bytes of
+/// Puts the bytes at an offset of the buffer and returns the offset after them; all other bytes of
 /// the buffer stay as they were. Requires room for them.
 pub fn put(buf: &mut [u8], at: usize, bytes: &[u8]) -> usize
     requires { at + length bytes.now ≤ length buf.old }
@@ -15,7 +15,7 @@ pub fn put(buf: &mut [u8], at: usize, bytes: &[u8]) -> usize
     end
 }
 
-/// Puts so many zeros at an offset of the buffer and returns the offset behind them; all other bytes
+/// Puts `count` zeros at an offset of the buffer and returns the offset after them; all other bytes
 /// of the buffer stay as they were. Requires room for them.
 pub fn put_zeros(buf: &mut [u8], at: usize, count: usize) -> usize
     requires { at + count ≤ length buf.old }

@@ -1,7 +1,7 @@
 //! The direction of media.
 
 ghost use Rattle.std.specs.Prelude.{◌≡◌, ◌⊎◌, ◌↔◌, IsTrue};
-ghost use Rattle.rtp_base.specs.Direction.{direction_text, opposite, IsNamedBy};
+ghost use Rattle.rtp_base.specs.Direction.{direction_text, opposite, IsDirectionName};
 
 use std::fmt;
 
@@ -64,7 +64,7 @@ impl Direction {
 }
 
 impl From<&str> for Direction {
-    ghost from_gives = { λ text direction. IsNamedBy text.now direction };
+    ghost from_gives = { λ text direction. IsDirectionName text.now direction };
 
     /// Returns the direction that the text names, in lower case, and `Inactive` for every other
     /// text.

@@ -13,10 +13,10 @@ const SIZE: u64 = 128;
 /// The replay window of a stream (RFC 3711, 3.3.2): the greatest recorded number, and which of the
 /// 127 numbers below it are recorded. Each number further below counts as recorded.
 ///
-/// The numbers are extended sequence numbers (the packet index of SRTP). That a number is accepted
-/// says nothing about who sent the packet: where packets are authenticated, call
-/// [`accepts`](Self::accepts) before and [`update`](Self::update) after the authentication; where
-/// they aren't, [`take`](Self::take) is both in one.
+/// The numbers are extended sequence numbers, as SRTP's packet index, which has 48 bits of them.
+/// That a number is accepted says nothing about who sent the packet: where packets are
+/// authenticated, call [`accepts`](Self::accepts) before and [`update`](Self::update) after the
+/// authentication; where they aren't, [`take`](Self::take) is both in one.
 ///
 /// ```
 /// let mut window = SeqNoWindow::new(SeqNo::from(1000));
@@ -136,23 +136,25 @@ impl SeqNoWindow {
         below < SIZE && !is_set(self.recorded, below)
     }
 
-    /// Records the number. One that is 128 or more below the greatest changes nothing, since it
-    /// counts as recorded.
+    /// Records the number. One that [`accepts`](Self::accepts) refuses changes nothing: it is
+    /// recorded, or 128 or more below the greatest and so counts as recorded.
     pub fn update(&mut self, seq: SeqNo)
-        ensures { (taken : Numbers) → Keeps self.old taken → Keeps self.new (including taken seq) }
+        ensures recorded { (taken : Numbers) → Keeps self.old taken →
+            Keeps self.new (including taken seq) }
+        ensures unchanged { (taken : Numbers) → Keeps self.old taken →
+            (Accepts taken seq → ⊥) → self.new ≡ self.old }
     {
         self.take(seq);
     }
 
     /// Records the number if the window accepts it. Returns what [`accepts`](Self::accepts) returns
-    /// for it; where that is false, the same numbers stay recorded.
+    /// for it; where that is false, nothing changes.
     pub fn take(&mut self, seq: SeqNo) -> bool
         ensures accepts { (taken : Numbers) → Keeps self.old taken →
             (IsTrue result ↔ Accepts taken seq) }
         ensures recorded { (taken : Numbers) → Keeps self.old taken →
             IsTrue result → Keeps self.new (including taken seq) }
-        ensures refused { (taken : Numbers) → Keeps self.old taken →
-            result ≡ false → Keeps self.new taken }
+        ensures refused { result ≡ false → self.new ≡ self.old }
     {
         let number = seq.get();
         if number > self.greatest {

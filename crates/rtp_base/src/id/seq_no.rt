@@ -6,8 +6,9 @@ use super::wide::{follows, rollovers, wire_part};
 use std::fmt;
 use std::marker::Model;
 
-/// The extended sequence number of an RTP packet, in 64 bits (the packet index of SRTP): the low 16
-/// bits are those of its header, and the bits above them are the rollover count (RFC 3711, 3.3.1).
+/// The extended sequence number of an RTP packet, in 64 bits: the low 16 bits are those of its
+/// header, and the bits above them are the rollover count. SRTP's packet index has 48 bits of it,
+/// since the rollover count has 32 bits there (RFC 3711, 3.3.1).
 #[derive(Clone, Copy, Debug, PartialEq, Eq, Hash, PartialOrd, Ord)]
 pub struct SeqNo {
     number: u64,
