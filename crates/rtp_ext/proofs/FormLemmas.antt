@@ -15,7 +15,7 @@ use Rattle.rtp_ext.specs.Elements.{Element}
 use Rattle.rtp_values.specs.Spelling.{has_no_data, spelled_data}
 use Rattle.rtp_ext.specs.ElementWriting.{CanCarry}
 use Rattle.rtp_ext.specs.ExtensionMap.{Slots}
-use Rattle.rtp_ext.specs.MapSlots.{items_from}
+use Rattle.rtp_ext.specs.ExtensionMap.{items_from}
 use Rattle.rtp_ext.specs.WrittenBlock.{form_of}
 use Rattle.rtp_values.proofs.KindLemmas.{extension_decides}
 

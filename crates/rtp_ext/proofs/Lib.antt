@@ -4,7 +4,7 @@ mod ValueFacts
 pub mod ElementLemmasOfBodies
 pub mod MemoryLemmas
 mod MapLemmas
-mod ListingLemmas
+pub mod ListingLemmas
 mod MappedIdLemmas
 mod FormLemmas
 pub mod WrittenBlockLemmas

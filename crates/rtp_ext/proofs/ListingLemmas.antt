@@ -1,14 +1,13 @@
 -- The entries of a map as a list by rising id.
-use Rattle.std.proofs.Common.{◌≡◌, ℕ, ◌+◌, ◌<◌, ◌≤◌, ◌⊎◌, inl, inr, suc, zero, List, [], ◌∷◌, ◌++◌, length, get_or, Bool, true, false, Option, Some, None, All, arith, ap, refl, sym, ◌∙◌, subst}
+use Rattle.std.proofs.Common.{◌≡◌, ℕ, ◌+◌, ◌<◌, ◌≤◌, ◌⊎◌, inl, inr, suc, zero, ◌-◌, List, [], ◌∷◌, ◌++◌, length, get_or, Bool, true, false, Option, Some, None, All, arith, ap, refl, sym, ◌∙◌, subst}
 use Rattle.std.specs.List.{Contains, filter}
-use Rattle.std.proofs.lemmas.Bool.{false≢true}
+use Rattle.std.proofs.lemmas.Bool.{false≢true, cases_lt}
 use Rattle.std.proofs.lemmas.Bool.Decides.{eqb_tells}
 use Rattle.std.proofs.lemmas.List.Elements.{All-append, All-cons, All-nil, Contains-append_left, Contains-append_right}
 use Rattle.std.specs.Option.{unwrap_or}
 use Rattle.rtp_values.specs.declared.kind.Extension.{Extension}
-use Rattle.rtp_ext.specs.MapSlots.{items_from}
 use Rattle.rtp_ext.proofs.MapLemmas.{entry_at-slot}
-use Rattle.rtp_ext.specs.ExtensionMap.{Entry, Slots, IsEmpty, entry_at, extension_at, extension_of, unlocked, Sets, IsLocked, IsUnlocked, IsRising, IsListing}
+use Rattle.rtp_ext.specs.ExtensionMap.{Entry, Slots, IsEmpty, entry_at, extension_at, extension_of, unlocked, Sets, IsLocked, IsUnlocked, IsRising, IsListing, items_from, mapped_count, HasNoIdAbove}
 
 -- the parts of a list of which all hold
 pub All-head : {X : Type 0} (P : X → Type 0) (x : X) (xs : List X) → All P (x ∷ xs) → P x
@@ -173,6 +172,20 @@ pub length-items_from : (passed : ℕ) (left : Slots) → length (items_from pas
 length-items_from passed [] = omega arith
 length-items_from passed (None ∷ left) = omega (arith, length-items_from (passed + 1) left)
 length-items_from passed (Some entry ∷ left) = omega (arith, length-items_from (passed + 1) left)
+
+-- of the ids up to a greatest one at most that many are mapped
+items_from-few : (greatest passed : ℕ) (left : Slots) → ((i : ℕ) → greatest ≤ passed + i → get_or left i None ≡ None)
+    → length (items_from passed left) ≤ greatest - passed
+items_from-few greatest passed [] none = omega arith
+items_from-few greatest passed (None ∷ left) none =
+    omega (arith, items_from-few greatest (passed + 1) left (λ i above. none (suc i) (omega arith)))
+items_from-few greatest passed (Some entry ∷ left) none = elim (cases_lt passed greatest) [
+  | inl below ↦ omega (arith, below, items_from-few greatest (passed + 1) left (λ i above. none (suc i) (omega arith)))
+  | inr above ↦ let nothing = none zero (omega arith) in cc
+]
+
+pub mapped_count-few : (greatest : ℕ) (slots : Slots) → HasNoIdAbove greatest slots → mapped_count slots ≤ greatest
+mapped_count-few greatest slots none = omega (arith, items_from-few greatest 0 slots (λ i above. none (suc i) (omega arith)))
 
 -- the slots of a map give its listing
 pub IsListing-from_slots : (slots : Slots) → IsListing slots (λ _. true) (items_from 0 slots)

@@ -6,7 +6,8 @@ use Rattle.std.specs.Option.{is_some}
 use Rattle.std.proofs.lemmas.List.{get_or_default, length-set, drop-take, set_split, take-append-le, take-take}
 use Rattle.std.proofs.lemmas.List.Edits.{take-paste}
 use Rattle.rtp_values.specs.declared.kind.Extension.{Extension}
-use Rattle.rtp_ext.specs.MapSlots.{items_from, mapped_ids, items_at, inserted, IsMapped}
+use Rattle.rtp_ext.specs.ExtensionMap.{items_from}
+use Rattle.rtp_ext.specs.MapSlots.{mapped_ids, items_at, inserted, IsMapped}
 use Rattle.rtp_ext.specs.ExtensionMap.{Entry, Slots, IsEmpty, entry_at, extension_of}
 use Rattle.rtp_ext.proofs.ListingLemmas.{All-head, above_passed, items_from-empty, IsListing-from_slots}
 use Rattle.rtp_ext.proofs.MapLemmas.{entry_at-slot}

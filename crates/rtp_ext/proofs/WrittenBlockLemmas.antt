@@ -11,7 +11,7 @@ use Rattle.rtp_values.specs.declared.value.values.ExtensionValues.{ExtensionValu
 use Rattle.rtp_ext.specs.Elements.{Element, IsElement}
 use Rattle.rtp_ext.specs.ElementWriting.{header_bytes, bytes_at, items_bytes, CanCarry, IsCarried}
 use Rattle.rtp_ext.specs.ExtensionMap.{Slots}
-use Rattle.rtp_ext.specs.MapSlots.{items_from}
+use Rattle.rtp_ext.specs.ExtensionMap.{items_from}
 use Rattle.rtp_base.specs.Overwriting.{overwritten}
 use Rattle.rtp_values.specs.Spelling.{spelled_data, carried_values, longest}
 use Rattle.rtp_values.specs.Values.{Reads}

@@ -11,7 +11,7 @@ use Rattle.rtp_ext.specs.Elements.{Element, IsElement, element_bytes, IsPiece, p
 use Rattle.rtp_values.specs.Spelling.{spelled_data, carried_values}
 use Rattle.rtp_ext.specs.ElementWriting.{IsCarried}
 use Rattle.rtp_ext.specs.ExtensionMap.{Slots}
-use Rattle.rtp_ext.specs.MapSlots.{items_from}
+use Rattle.rtp_ext.specs.ExtensionMap.{items_from}
 use Rattle.rtp_values.specs.Values.{Reads}
 use Rattle.rtp_ext.specs.WrittenBlock.{written_elements, elements_bytes}
 use Rattle.rtp_ext.proofs.FormLemmas.{Item, elements_of}

@@ -13,7 +13,7 @@ use Rattle.rtp_values.specs.contracts.kind.ExtensionPartialEq.TheImpl as kind_eq
 use Rattle.rtp_ext.specs.Elements.{Element, IsElement}
 use Rattle.rtp_ext.specs.ElementWriting.{IsCarried}
 use Rattle.rtp_ext.specs.ExtensionMap.{Slots, extension_at}
-use Rattle.rtp_ext.specs.MapSlots.{items_from}
+use Rattle.rtp_ext.specs.ExtensionMap.{items_from}
 use Rattle.rtp_values.specs.Spelling.{spelled_data, carried_values, element_allocation, of_both}
 use Rattle.rtp_values.specs.Values.{no_values, Reads, SameFields}
 use Rattle.rtp_ext.specs.BlockValues.{Carries, IsRead, last, none, AreValues}

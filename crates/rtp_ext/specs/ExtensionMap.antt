@@ -1,5 +1,5 @@
 -- The map of extension ids: which extension each id is mapped to, and which entries are locked (RFC 8285, 5).
-use Rattle.std.specs.Prelude.{◌≡◌, ◌≢◌, ℕ, ◌<◌, ◌≤◌, suc, zero, List, [], ◌∷◌, Bool, true, false, if◌then◌else◌, Option, Some, None, slice_index_or}
+use Rattle.std.specs.Prelude.{◌≡◌, ◌≢◌, ℕ, ◌+◌, ◌<◌, ◌≤◌, suc, zero, List, [], ◌∷◌, length, Bool, true, false, if◌then◌else◌, Option, Some, None, slice_index_or}
 use Rattle.std.specs.Option.{option_map}
 use Rattle.std.specs.List.{All, Contains}
 use Rattle.rtp_values.specs.declared.kind.Extension.{Extension}
@@ -120,6 +120,20 @@ pub record IsListing (map : Slots) (passes : Extension → Bool) (items : List (
   pub mapped : All (λ item. (extension_at map item.0 ≡ Some item.1) × (passes item.1 ≡ true)) items
   pub all : (id : ℕ) (extension : Extension) → extension_at map id ≡ Some extension → passes extension ≡ true
       → Contains items (id, extension)
+
+-- the mapped ids of some slots, rising, each with its extension; `passed` slots stand before them
+abbrev pub items_from : ℕ → Slots → List (ℕ × Extension)
+items_from passed [] = []
+items_from passed (None ∷ left) = items_from (passed + 1) left
+items_from passed (Some entry ∷ left) = (passed + 1, entry.extension) ∷ items_from (passed + 1) left
+
+-- how many ids are mapped
+abbrev pub mapped_count : Slots → ℕ
+mapped_count map = length (items_from 0 map)
+
+-- no id above this one is mapped
+abbrev pub HasNoIdAbove : ℕ → Slots → Type 0
+HasNoIdAbove greatest map = (id : ℕ) → greatest < id → entry_at map id ≡ None
 
 -- what the standard map has: the usual ids of the usual extensions, for audio and for video
 abbrev pub standard_items : List (ℕ × Extension)

@@ -5,7 +5,7 @@ use Rattle.std.specs.List.{filter_map}
 use Rattle.rtp_values.specs.declared.kind.Extension.{Extension}
 use Rattle.rtp_ext.specs.declared.ext.slot.Mapping.{Mapping}
 use Rattle.rtp_ext.specs.declared.ext.slot.Mapping.TheVariants as mapping
-use Rattle.rtp_ext.specs.ExtensionMap.{Entry, Slots, entry_at, extension_of, extension_at, unlocked, locked}
+use Rattle.rtp_ext.specs.ExtensionMap.{Entry, Slots, entry_at, extension_of, extension_at, unlocked, locked, items_from}
 
 -- the entry in a slot
 abbrev pub entry_of : Mapping → Option Entry
@@ -18,12 +18,6 @@ pub record IsFirst (map : Slots) (extension : Extension) (index : ℕ) : Type 0 
   pub within : index < length map
   pub here : extension_of (slice_index_or map index None) ≡ Some extension
   pub before : (k : ℕ) → k < index → extension_of (slice_index_or map k None) ≢ Some extension
-
--- the extensions in the slots, each with its id, once some slots were passed
-abbrev pub items_from : ℕ → Slots → List (ℕ × Extension)
-items_from passed [] = []
-items_from passed (None ∷ left) = items_from (passed + 1) left
-items_from passed (Some entry ∷ left) = (passed + 1, entry.extension) ∷ items_from (passed + 1) left
 
 -- an entry stands behind the id
 abbrev pub IsMapped : Slots → ℕ → Type 0

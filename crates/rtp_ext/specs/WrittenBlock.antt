@@ -1,5 +1,5 @@
 -- The elements of a block as they are written (RFC 8285, 4.2 and 4.3).
-use Rattle.std.specs.Prelude.{ℕ, ◌-◌, ◌/◌, ◌%◌, List, ◌++◌, length, replicate, Bool, ◌||◌, ◌==◌, nat_lt, if◌then◌else◌, Option, None}
+use Rattle.std.specs.Prelude.{ℕ, ◌+◌, ◌-◌, ◌/◌, ◌%◌, List, ◌++◌, length, replicate, Bool, ◌||◌, ◌==◌, nat_lt, if◌then◌else◌, Option, None}
 use Rattle.std.specs.Option.{option_map}
 use Rattle.std.specs.List.{flat_map, filter_map, list_any}
 use Rattle.std.specs.Int.{w16, to_be_bytes}
@@ -11,7 +11,7 @@ use Rattle.rtp_values.specs.declared.kind.Extension.{Extension}
 use Rattle.rtp_values.specs.declared.kind.Extension.TheVariants.{AbsoluteSendTime, AbsoluteCaptureTime, AudioLevel, TransmissionTimeOffset, VideoOrientation, TransportSequenceNumber, PlayoutDelay, VideoContentType, VideoTiming, RtpStreamId, RepairedRtpStreamId, RtpMid, FrameMarking, VideoLayersAllocation}
 use Rattle.rtp_values.specs.contracts.kind.ExtensionPartialEq.TheImpl as kind_eq
 use Rattle.rtp_ext.specs.ExtensionMap.{Slots}
-use Rattle.rtp_ext.specs.MapSlots.{items_from}
+use Rattle.rtp_ext.specs.ExtensionMap.{items_from}
 use Rattle.rtp_ext.specs.Elements.{Element, element_bytes}
 use Rattle.rtp_values.specs.Spelling.{spelled_data, carried_values}
 
@@ -64,6 +64,10 @@ image_values exts values =
 -- as many bytes as the last word lacks
 abbrev pub padding_of : ℕ → ℕ
 padding_of len = (4 - len % 4) % 4
+
+-- a length rounded up to whole words
+abbrev pub whole_words : ℕ → ℕ
+whole_words len = len + padding_of len
 
 -- the elements, and zeros that fill the last word
 abbrev pub body_bytes : Slots → ExtensionValues → List ℕ

@@ -6,6 +6,7 @@ ghost use Rattle.rtp_ext.specs.declared.ext.form.ExtensionsForm.TheVariants.{One
 ghost use Rattle.rtp_values.specs.declared.kind.Extension.TheVariants.{VideoLayersAllocation};
 ghost use Rattle.rtp_values.specs.contracts.kind.ExtensionPartialEq.TheImpl as kind_eq;
 ghost use Rattle.rtp_ext.specs.Elements.{AreElements};
+ghost use Rattle.rtp_ext.specs.ExtensionMap.{mapped_count};
 ghost use Rattle.rtp_ext.specs.ElementWriting.{header_bytes, bytes_at, CanCarry, IsCarried};
 ghost use Rattle.rtp_values.specs.Spelling.{has_no_data, spelled_data};
 ghost use Rattle.rtp_base.specs.Overwriting.{overwritten};
@@ -106,10 +107,12 @@ impl ExtensionMap {
     }
 
     /// How many bytes [`write_to`](Self::write_to) writes in the form, which is
-    /// [`form`](Self::form) or the two-byte form: at most 65,535, which is 255 elements of 257 bytes.
+    /// [`form`](Self::form) or the two-byte form: at most 257 for each mapped id, so at most 65,535,
+    /// which is 255 elements of 257 bytes.
     pub fn wire_len(&self, ev: &ExtensionValues, form: ExtensionsForm) -> usize
         requires { (form ≡ form_of self.now ev.now) ⊎ (form ≡ TwoByte) }
         ensures length { result ≡ length (elements_bytes form (written_elements self.now ev.now)) }
+        ensures by_map { result ≤ 257 * mapped_count self.now }
         ensures bound { result ≤ 65535 }
     {
         let mut len = 0;
@@ -134,6 +137,7 @@ impl ExtensionMap {
         ensures length { result ≡ length (elements_bytes form (written_elements self.now ev.now)) }
         ensures written { buf.new
             ≡ elements_bytes form (written_elements self.now ev.now) ++ drop result buf.old }
+        ensures by_map { result ≤ 257 * mapped_count self.now }
         ensures bound { result ≤ 65535 }
 
         // What was written, and any zeros behind it, are a block's body with these elements.

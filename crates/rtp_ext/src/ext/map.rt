@@ -3,7 +3,7 @@
 ghost use Rattle.std.specs.Prelude.{◌≡◌, ◌≢◌, ◌↔◌, ℕ, true, false, IsTrue, IfOk, IfSome, IfNone, map, length, ◌≤◌};
 ghost use Rattle.std.specs.Option.{option_copied};
 ghost use Rattle.rtp_ext.specs.ExtensionMap as spec;
-ghost use Rattle.rtp_ext.specs.MapSlots.{items_from};
+ghost use Rattle.rtp_ext.specs.ExtensionMap.{items_from};
 ghost use Rattle.rtp_ext.specs.EqualMaps.{same_slots, same_slots-equiv};
 
 use super::iter::write_entries;

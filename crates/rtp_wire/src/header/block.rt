@@ -1,14 +1,15 @@
 //! A block of header extensions: the word of its form, the number of its words, and its body. Both
 //! sides of this layout stand here.
 
-ghost use Rattle.std.specs.Prelude.{◌≡◌, ◌+◌, ◌%◌, ◌≤◌, ◌++◌, length, drop, true, IfOk, OnErr, IfSome, IfNone};
+ghost use Rattle.std.specs.Prelude.{◌≡◌, ◌+◌, ◌*◌, ◌%◌, ◌≤◌, ◌++◌, length, drop, true, IfOk, OnErr, IfSome, IfNone};
 ghost use Rattle.std.specs.Int.{w16, to_be_bytes};
 ghost use Rattle.rtp_ext.specs.Form.{form_word};
 ghost use Rattle.rtp_wire.specs.Block.{IsExtensionPart};
 ghost use Rattle.rtp_wire.specs.RefusedMemory.{BlockHasAllocation};
 ghost use Rattle.rtp_wire.specs.NotAHeader.{NotABlock};
 ghost use Rattle.rtp_wire.specs.Reading.{HasBlock, ReadsBlock};
-ghost use Rattle.rtp_ext.specs.WrittenBlock.{block_bytes, image_values};
+ghost use Rattle.rtp_ext.specs.WrittenBlock.{block_bytes, image_values, whole_words};
+ghost use Rattle.rtp_ext.specs.ExtensionMap.{mapped_count};
 
 use rtp_base::{put, put_zeros};
 use rtp_ext::{ExtensionMap, ExtensionValues, ExtensionsForm};
@@ -62,6 +63,7 @@ pub(super) fn parse_block(
 pub(super) fn block_len(exts: &ExtensionMap, ev: &ExtensionValues) -> usize
     ensures length { result ≡ length (block_bytes exts.now ev.now) }
     ensures words { result % 4 ≡ 0 }
+    ensures by_map { result ≤ 4 + whole_words (257 * mapped_count exts.now) }
     ensures bound { result ≤ 65540 }
 {
     let elements_len = exts.wire_len(ev, exts.form(ev));
@@ -74,6 +76,7 @@ pub(super) fn write_block(exts: &ExtensionMap, buf: &mut [u8], ev: &ExtensionVal
     ensures written { buf.new ≡ block_bytes exts.now ev.now ++ drop result buf.old }
     ensures length { result ≡ length (block_bytes exts.now ev.now) }
     ensures words { result % 4 ≡ 0 }
+    ensures by_map { result ≤ 4 + whole_words (257 * mapped_count exts.now) }
     ensures bound { result ≤ 65540 }
 
     // What was written is read as the image of the values.

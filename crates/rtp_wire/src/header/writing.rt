@@ -3,6 +3,8 @@
 ghost use Rattle.std.specs.Prelude.{◌≡◌, ℕ, ◌+◌, ◌-◌, ◌*◌, ◌%◌, ◌^◌, ◌<◌, ◌≤◌, ◌++◌, List, length, drop, slice_index};
 ghost use Rattle.std.specs.List.{flat_map};
 ghost use Rattle.std.specs.Int.{w32, to_be_bytes};
+ghost use Rattle.rtp_ext.specs.ExtensionMap.{mapped_count, HasNoIdAbove};
+ghost use Rattle.rtp_ext.specs.WrittenBlock.{whole_words};
 ghost use Rattle.rtp_wire.specs.Block.{IsExtensionPart};
 ghost use Rattle.rtp_base.specs.Flag.{bit};
 ghost use Rattle.rtp_wire.specs.Header.{IsFirstByte, IsWire};
@@ -62,6 +64,7 @@ impl RtpHeader {
     fn extension_len(&self, exts: &ExtensionMap) -> usize
         ensures length { result ≡ length (extension_bytes exts.now self.now.has_extension self.now.ext_vals) }
         ensures words { result % 4 ≡ 0 }
+        ensures by_map { result ≤ 4 + whole_words (257 * mapped_count exts.now) }
         ensures bound { result ≤ 65540 }
     {
         if self.has_extension {
@@ -80,6 +83,7 @@ impl RtpHeader {
         ensures end { result
             ≡ at + length (extension_bytes exts.now self.now.has_extension self.now.ext_vals) }
         ensures words { (result - at) % 4 ≡ 0 }
+        ensures by_map { result ≤ at + 4 + whole_words (257 * mapped_count exts.now) }
         ensures bound { result ≤ at + 65540 }
         ensures read_back { IsExtensionPart exts.now self.now.has_extension
             (extension_bytes exts.now self.now.has_extension self.now.ext_vals)
@@ -92,12 +96,16 @@ impl RtpHeader {
     }
 
     /// Returns how many bytes [`write_to`](Self::write_to) writes under the map: a multiple of
-    /// four, 12 without CSRC list and block, and at most 65,612. Requires at most 15 contributing
-    /// sources.
+    /// four, 12 without CSRC list and block, and at most 65,612. The map gives a closer bound: 76
+    /// bytes (12, 15 sources of 4, and the 4 of a block before its elements) and 257 for each mapped
+    /// id, rounded up to whole words, so at most 4,188 where no id above 16 is mapped. Requires at
+    /// most 15 contributing sources.
     pub fn wire_len(&self, exts: &ExtensionMap) -> usize
         requires sources { self.now.csrc_count ≤ 15 }
         ensures length { result ≡ length (wire_bytes exts.now self.now) }
         ensures words { result % 4 ≡ 0 }
+        ensures by_map { result ≤ 76 + whole_words (257 * mapped_count exts.now) }
+        ensures small { HasNoIdAbove 16 exts.now → result ≤ 4188 }
         ensures bound { result ≤ 65612 }
     {
         12 + 4 * self.csrc_count + self.extension_len(exts)
@@ -123,6 +131,8 @@ impl RtpHeader {
         ensures written { buf.new ≡ wire_bytes exts.now self.now ++ drop result buf.old }
         ensures length { result ≡ length (wire_bytes exts.now self.now) }
         ensures words { result % 4 ≡ 0 }
+        ensures by_map { result ≤ 76 + whole_words (257 * mapped_count exts.now) }
+        ensures small { HasNoIdAbove 16 exts.now → result ≤ 4188 }
         ensures bound { result ≤ 65612 }
 
         // So whether padding is announced is seen in the first byte.

@@ -1,6 +1,7 @@
 use Rattle.std.proofs.Common.{arith, ap, length, sym, ◌∙◌, subst}
 use Rattle.std.specs.List.{AllByRecursion}
-use Rattle.rtp_ext.specs.MapSlots.{items_from, items_at, IsMapped}
+use Rattle.rtp_ext.specs.ExtensionMap.{items_from}
+use Rattle.rtp_ext.specs.MapSlots.{items_at, IsMapped}
 use Rattle.rtp_ext.proofs.ListingLemmas.{length-items_from}
 use Rattle.rtp_ext.proofs.MappedIdLemmas.{items_at-mapped, all_mapped}
 use Rattle.rtp_ext.proofs.ext.map.ExtensionMap.items.Goals as goal

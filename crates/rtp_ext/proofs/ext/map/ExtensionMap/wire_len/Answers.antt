@@ -8,10 +8,10 @@ pub loop-ext-init : goal.loop-ext-init
 loop-ext-init c =
     let is = c.into_iter-ext-iterator.ensures.into_iter_gives ∙ c.items-ext-items.ensures.items in
     let same = ap (λ items. length (items_bytes c.args.form c.args.ev.now items)) is in
-    (omega (arith, same), omega (arith, ap length is, c.items-ext-items.ensures.few))
+    (omega (arith, same), omega (arith, ap length is), c.items-ext-items.ensures.few)
 
 pub overflow_add-len : goal.overflow_add-len
-overflow_add-len c = omega (arith, ap length c.in-Some.ensures.steps, c.loop-ext.invariant.1, c.element_len-len.ensures.few)
+overflow_add-len c = omega (arith, ap length c.in-Some.ensures.steps, c.loop-ext.invariant.1, c.loop-ext.invariant.2, c.element_len-len.ensures.few)
 
 pub loop-ext-preserved : goal.loop-ext-preserved
 loop-ext-preserved c =
@@ -22,6 +22,7 @@ loop-ext-preserved c =
     let long = length-append (bytes_at c.args.form id data_is) (items_bytes c.args.form c.args.ev.now c.next.new.self) in (
       omega (arith, c.loop-ext.invariant.0, split, long, c.element_len-len.ensures.length id),
       omega (arith, ap length c.in-Some.ensures.steps, c.loop-ext.invariant.1, c.element_len-len.ensures.few),
+      c.loop-ext.invariant.2,
     )
 
 pub returns-clause-length : goal.returns-clause-length
@@ -31,4 +32,7 @@ returns-clause-length c =
     omega (arith, c.loop-ext.invariant.0, none, whole)
 
 pub returns-clause-bound : goal.returns-clause-bound
-returns-clause-bound c = omega (arith, c.loop-ext.invariant.1)
+returns-clause-bound c = omega (arith, c.loop-ext.invariant.1, c.loop-ext.invariant.2)
+
+pub returns-clause-by_map : goal.returns-clause-by_map
+returns-clause-by_map c = omega (arith, c.loop-ext.invariant.1)

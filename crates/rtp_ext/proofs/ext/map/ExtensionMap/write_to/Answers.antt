@@ -1,7 +1,7 @@
 use Rattle.std.proofs.Common.{arith, sym, ap, ◌∙◌, ◌≡◌, ◌++◌, length, drop, subst}
 use Rattle.std.specs.List.{AllByRecursion}
 use Rattle.rtp_ext.specs.ElementWriting.{items_bytes, IsCarried}
-use Rattle.rtp_ext.specs.MapSlots.{items_from}
+use Rattle.rtp_ext.specs.ExtensionMap.{items_from}
 use Rattle.rtp_ext.specs.WrittenBlock.{written_elements, elements_bytes}
 use Rattle.rtp_ext.proofs.FormLemmas.{all_fit}
 use Rattle.rtp_ext.proofs.WrittenBlockLemmas.{IsUnderWay, IsUnderWay-start, IsUnderWay-next, IsUnderWay-step, IsUnderWay-end, items_bytes-written, length-items}
@@ -49,6 +49,10 @@ returns-clause-written c =
 pub returns-clause-bound : goal.returns-clause-bound
 returns-clause-bound c =
     omega (arith, (ended c).0, length-items c.args.form c.args.ev.now (items_from 0 c.args.self.now) (ended c).2, c.items-id-items.ensures.few)
+
+pub returns-clause-by_map : goal.returns-clause-by_map
+returns-clause-by_map c =
+    omega (arith, (ended c).0, length-items c.args.form c.args.ev.now (items_from 0 c.args.self.now) (ended c).2)
 
 pub returns-clause-elements : goal.returns-clause-elements
 returns-clause-elements c = λ zeros. AreElements-written c.args.form c.args.self.now c.args.ev.now zeros (ended c).2

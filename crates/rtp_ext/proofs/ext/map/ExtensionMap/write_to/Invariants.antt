@@ -1,4 +1,4 @@
-use Rattle.rtp_ext.specs.MapSlots.{items_from}
+use Rattle.rtp_ext.specs.ExtensionMap.{items_from}
 use Rattle.rtp_ext.proofs.WrittenBlockLemmas.{IsUnderWay}
 use Rattle.rtp_ext.proofs.ext.map.ExtensionMap.write_to.Given as goal
 

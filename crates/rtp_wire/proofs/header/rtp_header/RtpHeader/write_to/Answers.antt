@@ -1,6 +1,7 @@
 use Rattle.std.proofs.Common.{arith, ap, ◌≡◌, ◌++◌, length, take, drop}
 use Rattle.std.proofs.lemmas.List.{length-take-le}
 use Rattle.rtp_wire.specs.Written.{wire_bytes}
+use Rattle.rtp_ext.proofs.ListingLemmas.{mapped_count-few}
 use Rattle.rtp_wire.proofs.RoundTrip.{length-wire_bytes, wire_bytes-from_pieces, IsFirstByte-written, IsWire-written, AllByRecursion-from_each}
 use Rattle.rtp_wire.proofs.header.rtp_header.RtpHeader.write_to.Goals as goal
 
@@ -60,3 +61,15 @@ returns-clause-read_back c rest = IsWire-written c.args.self.now c.args.exts.now
   ssrc = c.fixed_bytes.ensures.ssrc;
   sources = AllByRecursion-from_each (take c.args.self.now.csrc_count c.args.self.now.csrc) c.put_sources-end.ensures.in_range;
 }) c.put_extension.ensures.read_back
+
+pub returns-clause-small : goal.returns-clause-small
+returns-clause-small c few =
+    omega (
+      arith,
+      mapped_count-few 16 c.args.exts.now few,
+      c.put_extension.ensures.by_map,
+      ap length c.fixed_bytes.ensures.bytes,
+      c.put-end.ensures.end,
+      c.put_sources-end.ensures.end,
+      length-take-le c.args.self.now.csrc_count c.args.self.now.csrc (omega arith),
+    )
