@@ -1,6 +1,6 @@
 //! The receive state of many streams.
 
-ghost use Rattle.std.specs.Prelude.{◌≡◌, ◌≢◌, ◌↔◌, ℕ, [], length, Some, None, IsTrue, IsSome, IfNone, IsOk, IfOk, OnOk, OnErr};
+ghost use Rattle.std.specs.Prelude.{◌≡◌, ◌≢◌, ◌↔◌, ◌+◌, ℕ, [], length, Some, None, IsTrue, IsSome, IfSome, IfNone, IsOk, IfOk, OnOk, OnErr};
 ghost use Rattle.std.specs.Option.{option_map, option_copied};
 ghost use Rattle.rtp_base.specs.Window.{Numbers, including};
 ghost use Rattle.rtp_wire.specs.Receiver.{Holds, IsNumberOf, IsFresh, IsJudged, taken_after};
@@ -79,6 +79,7 @@ impl Receivers {
         ensures same { IfNone result (self.new ≡ self.old) }
         ensures others { (source : ℕ) → source ≢ ssrc →
             receiver_of self.new source ≡ receiver_of self.old source }
+        ensures fewer { IfSome result (λ _. length self.new + 1 ≡ length self.old) }
     {
         self.by_ssrc.remove(&ssrc)
     }
@@ -126,6 +127,11 @@ impl Receivers {
             receiver_of self.new source ≡ receiver_of self.old source }
         ensures refused { OnErr result (self.new ≡ self.old) }
         ensures memory { OnErr result (receiver_of self.old ssrc ≡ None) }
+
+        // One receiver more exactly where the source had none.
+        ensures as_many { IsSome (receiver_of self.old ssrc) → length self.new ≡ length self.old }
+        ensures one_more { receiver_of self.old ssrc ≡ None →
+            OnOk result (length self.new ≡ length self.old + 1) }
     {
         if let Some(receiver) = self.by_ssrc.get_mut(&ssrc) {
             receiver.record(number);
@@ -169,6 +175,12 @@ impl Receivers {
             receiver_of self.new source ≡ receiver_of self.old source }
         ensures refused { OnErr result (self.new ≡ self.old) }
         ensures memory { OnErr result (receiver_of self.old header.now.ssrc ≡ None) }
+
+        // One receiver more exactly where the source had none.
+        ensures as_many { IsSome (receiver_of self.old header.now.ssrc) →
+            length self.new ≡ length self.old }
+        ensures one_more { receiver_of self.old header.now.ssrc ≡ None →
+            OnOk result (length self.new ≡ length self.old + 1) }
     {
         if let Some(receiver) = self.by_ssrc.get_mut(&header.ssrc) {
             return Ok(receiver.receive(header));
