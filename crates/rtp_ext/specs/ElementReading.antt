@@ -5,7 +5,7 @@ use Rattle.rtp_ext.specs.declared.ext.form.ExtensionsForm.{ExtensionsForm}
 use Rattle.rtp_ext.specs.declared.ext.form.ExtensionsForm.TheVariants.{OneByte, TwoByte}
 use Rattle.rtp_ext.specs.Elements.{Element}
 
--- the bytes behind the padding at their front
+-- the bytes after the padding at their front
 unfoldable pub without_padding : List ℕ → List ℕ
 without_padding [] = []
 without_padding (zero ∷ bytes) = without_padding bytes
@@ -15,7 +15,7 @@ without_padding (suc byte ∷ bytes) = suc byte ∷ bytes
 abbrev pub IsUnpadded : List ℕ → Type 0
 IsUnpadded bytes = without_padding bytes ≡ bytes
 
--- the element whose header begins with this byte, which is no padding, and how many of the bytes behind it are the element's; none where it ends reading
+-- the element whose header begins with this byte, which is no padding, and how many of the bytes after it are the element's; none where it ends reading
 abbrev pub element_at : ExtensionsForm → ℕ → List ℕ → Option (Element × ℕ)
 element_at OneByte byte bytes =
     if nat_lt byte 240 && nat_lt (byte % 16) (length bytes)
@@ -25,12 +25,12 @@ element_at TwoByte byte [] = None
 element_at TwoByte byte (count ∷ bytes) =
     if nat_le count (length bytes) then Some ((byte, take count bytes), count + 1) else None
 
--- an element and, behind it, what is read of the bytes that are not its own; nothing where there is none
+-- an element, followed by what is read of the bytes that are not its own; nothing where there is none
 abbrev pub in_front : Option (Element × ℕ) → (ℕ → List Element) → List Element
-in_front None behind = []
-in_front (Some found) behind = found.0 ∷ behind found.1
+in_front None others = []
+in_front (Some found) others = found.0 ∷ others found.1
 
--- the elements of the bytes once so many of them are passed
+-- the elements of the bytes once `passed` of them are passed over
 unfoldable pub elements_behind : ExtensionsForm → ℕ → List ℕ → List Element
 elements_behind form passed [] = []
 elements_behind form (suc passed) (byte ∷ bytes) = elements_behind form passed bytes
@@ -41,7 +41,7 @@ elements_behind form zero (suc byte ∷ bytes) = in_front (element_at form (suc 
 abbrev pub elements_left : ExtensionsForm → List ℕ → List Element
 elements_left form bytes = elements_behind form 0 bytes
 
--- the first element of bytes, as its id, its data and the bytes behind it, or that there is none
+-- the first element of bytes, as its id, its data and the bytes after it, or that there is none
 abbrev pub IsFirst : ExtensionsForm → List ℕ → Option (ℕ × Bor (List ℕ) × Bor (List ℕ)) → Type 0
 IsFirst form bytes None = elements_left form bytes ≡ []
 IsFirst form bytes (Some first) = elements_left form bytes ≡ (first.0, first.1.now) ∷ elements_left form first.2.now

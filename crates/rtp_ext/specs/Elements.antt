@@ -32,7 +32,7 @@ abbrev pub piece_bytes : ExtensionsForm → Option Element → List ℕ
 piece_bytes form None = 0 ∷ []
 piece_bytes form (Some element) = element_bytes form element
 
--- what may be left behind the pieces: nothing; the beginning of an element that is cut short; in the one-byte form a byte of id 15, and whatever follows it
+-- what may follow the pieces: nothing; the beginning of an element that is cut short; in the one-byte form a byte of id 15, and whatever follows it
 pub data IsTail (form : ExtensionsForm) (tail : List ℕ) : Type 0 where
   ended : tail ≡ [] → IsTail form tail
   cut_short : (element : Element) (missing : List ℕ) → IsElement form element → tail ≢ [] → missing ≢ []

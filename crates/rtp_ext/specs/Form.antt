@@ -3,7 +3,7 @@ use Rattle.std.specs.Prelude.{◌≡◌, ℕ, ◌≤◌}
 use Rattle.rtp_ext.specs.declared.ext.form.ExtensionsForm.{ExtensionsForm}
 use Rattle.rtp_ext.specs.declared.ext.form.ExtensionsForm.TheVariants.{OneByte, TwoByte}
 
--- the word at the head of a written block: 0xBEDE, or 0x100 and the four application bits, all clear
+-- the word at the front of a written block: 0xBEDE, or 0x100 and the four application bits, all clear
 abbrev pub form_word : ExtensionsForm → ℕ
 form_word OneByte = 0xBEDE
 form_word TwoByte = 0x1000

@@ -19,7 +19,7 @@ pub record IsFirst (map : Slots) (extension : Extension) (index : ℕ) : Type 0 
   pub here : extension_of (slice_index_or map index None) ≡ Some extension
   pub before : (k : ℕ) → k < index → extension_of (slice_index_or map k None) ≢ Some extension
 
--- an entry stands behind the id
+-- the id has an entry
 abbrev pub IsMapped : Slots → ℕ → Type 0
 IsMapped slots id = (entry : Entry) × (entry_at slots id ≡ Some entry)
 

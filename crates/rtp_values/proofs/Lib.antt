@@ -4,3 +4,4 @@ pub mod ValueLemmas
 mod EmptyDataLemmas
 mod SendTimeLemmas
 mod SendTimeFacts
+mod MemoryFacts

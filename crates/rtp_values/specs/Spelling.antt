@@ -15,7 +15,7 @@ use Rattle.rtp_values.specs.declared.value.video_orientation.VideoOrientation.Th
 use Rattle.rtp_base.specs.Flag.{bit}
 use Rattle.rtp_values.specs.Values.{hundredths}
 
--- the low bytes of a number, so many, the high one first
+-- the low `count` bytes of a number, the high one first
 abbrev pub bytes_of : ℕ → ℕ → List ℕ
 bytes_of zero number = []
 bytes_of (suc more) number = (number / 256 ^ more % 256) ∷ bytes_of more number

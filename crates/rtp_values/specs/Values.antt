@@ -32,53 +32,53 @@ no_values = record {
   video_layers_allocation = None;
 }
 
--- the number in these bytes, the high one first
-abbrev pub number_of : List ℕ → ℕ
-number_of [] = 0
-number_of (byte ∷ bytes) = byte * 256 ^ length bytes + number_of bytes
+-- the big-endian number in these bytes
+abbrev pub big_endian : List ℕ → ℕ
+big_endian [] = 0
+big_endian (byte ∷ bytes) = byte * 256 ^ length bytes + big_endian bytes
 
 -- a 64-bit number in two's complement, where eight bytes are there
 abbrev pub offset_of : List ℕ → Option ℤ
-offset_of bytes = if nat_le 8 (length bytes) then Some (cast_signed w64 (number_of (take 8 bytes))) else None
+offset_of bytes = if nat_le 8 (length bytes) then Some (cast_signed w64 (big_endian (take 8 bytes))) else None
 
 -- how the picture is to be turned, by two bits
 abbrev pub orientation_of : ℕ → orientation.VideoOrientation
 orientation_of bits = if bits == 1 then Deg270 else if bits == 2 then Deg180 else if bits == 3 then Deg90 else Deg0
 
--- so many hundredths of a second
+-- a time in hundredths of a second
 abbrev pub hundredths : ℕ → Fraction
 hundredths count = record { numer = count; denom = 100 }
 
 -- the data are well-formed for the kind, and the values' fields of the kind are what the data say; more bytes than a kind needs are passed over
 abbrev pub Reads : Extension → List ℕ → ExtensionValues → Type 0
 Reads AbsoluteSendTime bytes values =
-    (3 ≤ length bytes) × (values.abs_send_time ≡ Some (number_of (take 3 bytes) * 1000000 / 262144))
+    (3 ≤ length bytes) × (values.abs_send_time ≡ Some (big_endian (take 3 bytes) * 1000000 / 262144))
 Reads AbsoluteCaptureTime bytes values =
     (8 ≤ length bytes) × (values.abs_capture_time
-    ≡ Some (record { capture_time = number_of (take 8 bytes); clock_offset = offset_of (drop 8 bytes) }))
+    ≡ Some (record { capture_time = big_endian (take 8 bytes); clock_offset = offset_of (drop 8 bytes) }))
 Reads AudioLevel bytes values =
     (1 ≤ length bytes) × (values.audio_level ≡ Some (neg_ℤ (pos (slice_index bytes 0 % 128))))
     × (values.voice_activity ≡ Some (slice_index bytes 0 / 128 == 1))
-Reads TransmissionTimeOffset bytes values = (4 ≤ length bytes) × (values.tx_time_offs ≡ Some (number_of (take 4 bytes)))
+Reads TransmissionTimeOffset bytes values = (4 ≤ length bytes) × (values.tx_time_offs ≡ Some (big_endian (take 4 bytes)))
 Reads VideoOrientation bytes values =
     (1 ≤ length bytes) × (values.video_orientation ≡ Some (orientation_of (slice_index bytes 0 % 4)))
-Reads TransportSequenceNumber bytes values = (2 ≤ length bytes) × (values.transport_cc ≡ Some (number_of (take 2 bytes)))
+Reads TransportSequenceNumber bytes values = (2 ≤ length bytes) × (values.transport_cc ≡ Some (big_endian (take 2 bytes)))
 Reads PlayoutDelay bytes values =
-    (3 ≤ length bytes) × (values.play_delay_min ≡ Some (hundredths (number_of (take 3 bytes) / 4096)))
-    × (values.play_delay_max ≡ Some (hundredths (number_of (take 3 bytes) % 4096)))
+    (3 ≤ length bytes) × (values.play_delay_min ≡ Some (hundredths (big_endian (take 3 bytes) / 4096)))
+    × (values.play_delay_max ≡ Some (hundredths (big_endian (take 3 bytes) % 4096)))
 Reads VideoContentType bytes values = (1 ≤ length bytes) × (values.video_content_type ≡ Some (slice_index bytes 0))
 Reads VideoTiming bytes values =
     (9 ≤ length bytes) × (values.video_timing ≡ Some (record {
       flags = slice_index bytes 0;
-      encode_start = number_of (slice_range bytes 1 3);
-      encode_finish = number_of (slice_range bytes 3 5);
-      packetize_complete = number_of (slice_range bytes 5 7);
-      last_left_pacer = number_of (slice_range bytes 7 9);
+      encode_start = big_endian (slice_range bytes 1 3);
+      encode_finish = big_endian (slice_range bytes 3 5);
+      packetize_complete = big_endian (slice_range bytes 5 7);
+      last_left_pacer = big_endian (slice_range bytes 7 9);
     }))
 Reads RtpStreamId bytes values = IsUtf8 bytes × IsSomeAnd values.rid (IsIdOf 8 bytes)
 Reads RepairedRtpStreamId bytes values = IsUtf8 bytes × IsSomeAnd values.rid_repair (IsIdOf 8 bytes)
 Reads RtpMid bytes values = IsUtf8 bytes × IsSomeAnd values.mid (IsIdOf 16 bytes)
-Reads FrameMarking bytes values = (4 ≤ length bytes) × (values.frame_mark ≡ Some (number_of (take 4 bytes)))
+Reads FrameMarking bytes values = (4 ≤ length bytes) × (values.frame_mark ≡ Some (big_endian (take 4 bytes)))
 Reads ColorSpace bytes values = ⊥
 Reads VideoLayersAllocation bytes values = IsSomeAnd values.video_layers_allocation (Means bytes)
 Reads (UnknownUri uri) bytes values = ⊥

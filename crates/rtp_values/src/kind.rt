@@ -10,23 +10,27 @@ use std::fmt;
 
 /// A header extension: one of the fifteen that this library knows, or another by its URI
 /// (RFC 8285, 5).
+///
+/// The color space and unknown extensions have no field in [`ExtensionValues`](crate::ExtensionValues):
+/// their elements are passed over when a block is read, and none is written. So who forwards a packet
+/// by reading and writing its header drops them.
 #[derive(Debug, PartialEq, Eq, Drop)]
 pub enum Extension {
-    /// When the packet left its sender, as 24 bits of seconds with 18 behind the point.
+    /// When the packet left its sender, in seconds, as 6 whole and 18 fractional bits.
     AbsoluteSendTime,
     /// When the frame was captured, as an NTP timestamp, and the offset of the capturer's clock.
     AbsoluteCaptureTime,
     /// How loud the packet's audio is, and whether it has voice (RFC 6464).
     AudioLevel,
-    /// How long after its timestamp the packet was sent (RFC 5450).
+    /// How long after its timestamp the packet was sent: four bytes, where RFC 5450 has three.
     TransmissionTimeOffset,
-    /// How the receiver has to turn the picture (3GPP TS 26.114).
+    /// How the receiver has to turn the picture, counter-clockwise (3GPP TS 26.114).
     VideoOrientation,
     /// The packet's number on its transport, over all streams, for congestion control.
     TransportSequenceNumber,
     /// How long the receiver may hold the frame before it shows it, at least and at most.
     PlayoutDelay,
-    /// What the video shows: a camera's picture or a screen.
+    /// What the video shows: a screen, or it is unspecified.
     VideoContentType,
     /// When the frame was encoded, packetized and sent.
     VideoTiming,
@@ -36,9 +40,10 @@ pub enum Extension {
     RepairedRtpStreamId,
     /// The name of the media section (RFC 9143).
     RtpMid,
-    /// Where frames begin and end, and which layer the packet is of.
+    /// Where frames begin and end, and which layer the packet is of: four bytes, where the draft has
+    /// one to three.
     FrameMarking,
-    /// The colour space of the video.
+    /// The colour space of the video. It has no value here.
     ColorSpace,
     /// Which simulcast streams and layers of the video the sender keeps active.
     VideoLayersAllocation,
@@ -49,7 +54,7 @@ pub enum Extension {
 impl Extension {
     /// The extension that this URI names in SDP (`a=extmap`; RFC 8285, 5): the known kind whose URI
     /// it is, else an unknown one, which is the only case that takes memory. Where that is refused
-    /// nothing is handed out.
+    /// nothing is returned.
     pub fn from_sdp_uri(alloc: Global, uri: &str) -> Result<Self, AllocError>
         ensures named { IfOk result (IsNamedBy uri.now) }
         ensures known { (kind : Extension) → IsKnown kind → (kind_of kind).uri ≡ uri.now →
@@ -113,7 +118,7 @@ impl Extension {
     }
 
     /// The same extension. Only the text of an unknown one takes memory, and where that is refused
-    /// nothing is handed out.
+    /// nothing is returned.
     pub fn clone(&self, alloc: Global) -> Result<Self, AllocError>
         ensures same { IfOk result (λ copy. copy ≡ self.now) }
         ensures known { IsKnown self.now → result ≡ Ok self.now }

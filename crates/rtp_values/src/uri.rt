@@ -70,7 +70,7 @@ impl Uri {
         self.text.as_str()
     }
 
-    /// The same URI in memory of its own. Where memory is refused nothing is handed out.
+    /// The same URI in memory of its own. Where memory is refused nothing is returned.
     pub fn clone(&self, alloc: Global) -> Result<Self, AllocError>
         ensures same { IfOk result (λ uri. uri ≡ self.now) }
     {

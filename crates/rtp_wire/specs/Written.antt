@@ -34,7 +34,7 @@ abbrev pub carried_image : ExtensionMap → Bool → ExtensionValues → Extensi
 carried_image exts false values = no_values
 carried_image exts true values = image_values exts values
 
--- what the written bytes are read as: version 2, a zero in each slot behind the CSRC list, the written length, and the values of the written block
+-- what the written bytes are read as: version 2, a zero in each slot after the CSRC list, the written length, and the values of the written block
 unfoldable pub image_of : ExtensionMap → RtpHeader → RtpHeader
 image_of exts h = record h {
   version = 2;

@@ -17,7 +17,7 @@ ghost use Rattle.rtp_ext.specs.WrittenBlock.{written_elements, form_of, elements
 use super::{ExtensionMap, ExtensionsForm, MAX_ID_ONE_BYTE_FORM};
 use rtp_values::{Extension, ExtensionValues};
 
-// How many bytes stand in front of an element's data.
+// How many bytes stand before an element's data.
 fn header_len(form: ExtensionsForm) -> usize
     ensures { (id len : ℕ) → result ≡ length (header_bytes form id len) }
 {
@@ -62,7 +62,7 @@ fn element_len(form: ExtensionsForm, ext: &Extension, ev: &ExtensionValues) -> u
 }
 
 // Writes the element of a mapped id at the offset, where the values that its kind needs are there,
-// and returns the offset behind it.
+// and returns the offset after it.
 fn write_element(
     buf: &mut [u8],
     at: usize,
@@ -123,7 +123,7 @@ impl ExtensionMap {
     }
 
     /// Writes an element for each mapped id whose kind has its values, by rising id, to the front
-    /// of the buffer and returns how many bytes they take; the bytes behind them stay as they were
+    /// of the buffer and returns how many bytes they take; the bytes after them stay as they were
     /// (RFC 8285, 4.2 and 4.3). Two ids of one kind are both written. It requires the form that
     /// [`form`](Self::form) returns or the two-byte form, and a buffer of at least
     /// [`wire_len`](Self::wire_len) bytes.
@@ -140,7 +140,7 @@ impl ExtensionMap {
         ensures by_map { result ≤ 257 * mapped_count self.now }
         ensures bound { result ≤ 65535 }
 
-        // What was written, and any zeros behind it, are a block's body with these elements.
+        // What was written, and any zeros that follow it, are a block's body with these elements.
         ensures elements { (zeros : ℕ) → AreElements form
             (elements_bytes form (written_elements self.now ev.now) ++ replicate zeros 0)
             (written_elements self.now ev.now) }

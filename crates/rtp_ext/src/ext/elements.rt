@@ -67,7 +67,7 @@ impl<'a> Iterator for Elements<'a> {
     }
 }
 
-// The first element of bytes, and what is left behind it; None where reading ends before one.
+// The first element of bytes, and what follows it; None where reading ends before one.
 fn first_element(bytes: &[u8], form: ExtensionsForm) -> Option<(u8, &[u8], &[u8])>
     ensures { IsFirst form bytes.now result }
 {
@@ -78,7 +78,7 @@ fn first_element(bytes: &[u8], form: ExtensionsForm) -> Option<(u8, &[u8], &[u8]
     }
 }
 
-// The bytes behind the padding at their front.
+// The bytes after the padding at their front.
 fn skip_padding(bytes: &[u8]) -> &[u8]
     ensures { result.now ≡ without_padding bytes.now }
 {
@@ -91,7 +91,7 @@ fn skip_padding(bytes: &[u8]) -> &[u8]
     skip_zeros(skip_zero_words(after))
 }
 
-// The bytes behind the zeros at their front.
+// The bytes after the zeros at their front.
 fn skip_zeros(bytes: &[u8]) -> &[u8]
     ensures { result.now ≡ without_padding bytes.now }
 {
@@ -105,7 +105,7 @@ fn skip_zeros(bytes: &[u8]) -> &[u8]
     rest
 }
 
-// The bytes behind the zeros at their front, as far as they fill words of 16 bytes.
+// The bytes after the zeros at their front, as far as they fill words of 16 bytes.
 fn skip_zero_words(bytes: &[u8]) -> &[u8]
     ensures { without_padding result.now ≡ without_padding bytes.now }
 {
@@ -119,25 +119,25 @@ fn skip_zero_words(bytes: &[u8]) -> &[u8]
     rest
 }
 
-// The first element of bytes in the one-byte form, and what is left behind it; None where reading
+// The first element of bytes in the one-byte form, and what follows it; None where reading
 // ends.
 fn first_of_one_byte(bytes: &[u8]) -> Option<(u8, &[u8], &[u8])>
     requires { IsUnpadded bytes.now }
     ensures { IsFirst OneByte bytes.now result }
 {
-    let (head, after) = bytes.split_first()?;
-    if *head >= 240 {
+    let (header, after) = bytes.split_first()?;
+    if *header >= 240 {
         return None;
     }
-    let last = usize::from(*head % 16);
+    let last = usize::from(*header % 16);
     if after.len() <= last {
         return None;
     }
     let (data, left) = after.split_at(last + 1);
-    Some((*head / 16, data, left))
+    Some((*header / 16, data, left))
 }
 
-// The first element of bytes in the two-byte form, and what is left behind it; None where reading
+// The first element of bytes in the two-byte form, and what follows it; None where reading
 // ends.
 fn first_of_two_byte(bytes: &[u8]) -> Option<(u8, &[u8], &[u8])>
     requires { IsUnpadded bytes.now }

@@ -10,14 +10,15 @@ pub const MAX_ID_ONE_BYTE_FORM: u8 = 14;
 /// How the elements of a header extension block are laid out (RFC 8285, 4.2 and 4.3).
 #[derive(Clone, Copy, Debug, PartialEq, Eq, Hash)]
 pub enum ExtensionsForm {
-    /// A head of one byte: ids 1 to 14, and 1 to 16 bytes of data.
+    /// A header of one byte: 1 to 16 bytes of data, and an id of 1 to 14. An element of id 0 that has
+    /// two bytes of data or more is read too, and no map has an extension for it.
     OneByte,
-    /// A head of two bytes: ids 1 to 255, and 0 to 255 bytes of data.
+    /// A header of two bytes: ids 1 to 255, and 0 to 255 bytes of data.
     TwoByte,
 }
 
 impl ExtensionsForm {
-    /// The word that a writer puts at the head of the block: 0xBEDE, or 0x1000, whose low four
+    /// The word that a writer puts at the front of the block: 0xBEDE, or 0x1000, whose low four
     /// bits are left to the application.
     pub fn as_u16(self) -> u16
         ensures { result ≡ form_word self }

@@ -207,7 +207,7 @@ impl ExtensionMap {
     }
 
     /// The same map. Only the texts of unknown extensions take memory, and where that is refused
-    /// nothing is handed out.
+    /// nothing is returned.
     pub fn clone(&self, alloc: Global) -> Result<Self, AllocError>
         ensures same { IfOk result (λ copy. copy ≡ self.now) }
         ensures known { spec.HasNoText self.now → result ≡ Ok self.now }

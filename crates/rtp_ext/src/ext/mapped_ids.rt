@@ -11,7 +11,7 @@ use std::marker::Model;
 // The mapped ids, rising.
 #[derive(Drop)]
 pub(super) struct MappedIds {
-    // The ids, and zeros behind them.
+    // The ids, followed by zeros.
     ids: [u8; MAX_ID as usize],
     // How many there are.
     count: u8,
@@ -39,7 +39,7 @@ impl MappedIds {
         }
     }
 
-    // Puts an id behind the others.
+    // Puts an id after the others.
     fn push(&mut self, id: u8)
         requires { length self.old < MAX_ID }
         ensures { self.new ≡ self.old ++ id ∷ [] }

@@ -12,10 +12,10 @@ use super::front::{first_u64, put_u64};
 /// When a frame was captured, by the clock of its capturer.
 #[derive(Clone, Copy, Debug, PartialEq, Eq)]
 pub struct AbsCaptureTime {
-    /// An NTP timestamp: seconds since 1900 with 32 bits before and 32 behind the point.
+    /// An NTP timestamp: 32 bits of seconds since 1900, and 32 fractional bits.
     pub capture_time: u64,
-    /// What to add to the capturer's clock to have the sender's, in seconds with 32 bits behind the
-    /// point, where it is known.
+    /// How far the capturer's clock is ahead of the sender's, in seconds with 32 fractional bits,
+    /// where it is known: capturer's NTP clock = sender's NTP clock + offset.
     pub clock_offset: Option<i64>,
 }
 
@@ -27,7 +27,6 @@ fn first_offset(bytes: &[u8]) -> Option<i64>
     Some(number.cast_signed())
 }
 
-// Reads the data of the kind.
 pub(super) fn read(buf: &[u8], ev: &mut ExtensionValues) -> Option<()>
     ensures { HasRead AbsoluteCaptureTime buf.now ev.old ev.new result }
 {
@@ -49,7 +48,6 @@ fn put_offset(buf: &mut [u8], offset: i64)
     put_u64(buf, offset.cast_unsigned());
 }
 
-// Writes the data of the kind, and returns their number of bytes.
 pub(super) fn write(buf: &mut [u8], ev: &ExtensionValues) -> Option<usize>
     requires room { HasRoom AbsoluteCaptureTime ev.now buf.old }
     ensures { HasWritten AbsoluteCaptureTime ev.now buf.old buf.new result }

@@ -1,4 +1,4 @@
-//! Absolute send time: the low six bits of the seconds, and 18 bits behind the point.
+//! Absolute send time: the low six bits of the seconds, and 18 fractional bits.
 
 ghost use Rattle.std.specs.Prelude.{◌≡◌, ℕ, ◌+◌, ◌<◌, ◌≤◌, IfSome, IsSomeAnd};
 ghost use Rattle.rtp_values.specs.Spelling.{HasRoom, send_ticks, carried_send_time};
@@ -25,7 +25,6 @@ fn ticks_of(micros: u64) -> u32
     (seconds * TICKS_PER_SECOND + rest * TICKS_PER_SECOND / MICROS_PER_SECOND) as u32
 }
 
-// Reads the data of the kind.
 pub(super) fn read(buf: &[u8], ev: &mut ExtensionValues) -> Option<()>
     ensures { HasRead AbsoluteSendTime buf.now ev.old ev.new result }
 {
@@ -34,7 +33,6 @@ pub(super) fn read(buf: &[u8], ev: &mut ExtensionValues) -> Option<()>
     Some(())
 }
 
-// Writes the data of the kind, and returns their number of bytes.
 pub(super) fn write(buf: &mut [u8], ev: &ExtensionValues) -> Option<usize>
     requires room { HasRoom AbsoluteSendTime ev.now buf.old }
     ensures { HasWritten AbsoluteSendTime ev.now buf.old buf.new result }
@@ -48,8 +46,8 @@ fn latest_moment(value: u64, now: u64) -> Option<u64>
     ensures found { IfSome result (λ moment. IsLatest now value moment) }
     ensures none { result ≡ None → (moment : ℕ) → IsPossible now value moment → ⊥ }
 {
-    let behind = (now % PERIOD + PERIOD - value % PERIOD) % PERIOD;
-    now.checked_sub(behind)
+    let age = (now % PERIOD + PERIOD - value % PERIOD) % PERIOD;
+    now.checked_sub(age)
 }
 
 impl ExtensionValues {

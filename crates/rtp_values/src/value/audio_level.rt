@@ -17,7 +17,6 @@ fn level_byte(level: i8, voice: bool) -> u8
     if voice { 0x80 | magnitude } else { magnitude }
 }
 
-// Reads the data of the kind.
 pub(super) fn read(buf: &[u8], ev: &mut ExtensionValues) -> Option<()>
     ensures { HasRead AudioLevel buf.now ev.old ev.new result }
 {
@@ -27,7 +26,6 @@ pub(super) fn read(buf: &[u8], ev: &mut ExtensionValues) -> Option<()>
     Some(())
 }
 
-// Writes the data of the kind, and returns their number of bytes.
 pub(super) fn write(buf: &mut [u8], ev: &ExtensionValues) -> Option<usize>
     requires room { HasRoom AudioLevel ev.now buf.old }
     ensures { HasWritten AudioLevel ev.now buf.old buf.new result }

@@ -56,7 +56,7 @@ impl Extension {
 
     /// Writes the data of this kind's element to the front of the buffer and returns their length,
     /// or returns `None` and changes nothing where a value that the kind needs is absent, or is an
-    /// allocation that can't be written in 255 bytes. The bytes behind the data stay as they were.
+    /// allocation that can't be written in 255 bytes. The bytes after the data stay as they were.
     /// It requires room for the data; 255 bytes always suffice.
     pub fn write_to(&self, buf: &mut [u8], ev: &ExtensionValues) -> Option<usize>
         requires room { HasRoom self.now ev.now buf.old }

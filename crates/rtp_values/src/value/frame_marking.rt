@@ -1,4 +1,5 @@
-//! Frame marking: four bytes as one number.
+//! Frame marking: four bytes as one number. An element as the draft describes it has one to three
+//! bytes, and is not well-formed here.
 
 ghost use Rattle.rtp_values.specs.declared.kind.Extension.TheVariants.{FrameMarking};
 ghost use Rattle.rtp_values.specs.Spelling.{HasRoom};
@@ -7,7 +8,6 @@ ghost use Rattle.rtp_values.specs.KindBytes.{HasRead, HasWritten};
 use super::ExtensionValues;
 use super::front::{first_u32, put_u32};
 
-// Reads the data of the kind.
 pub(super) fn read(buf: &[u8], ev: &mut ExtensionValues) -> Option<()>
     ensures { HasRead FrameMarking buf.now ev.old ev.new result }
 {
@@ -15,7 +15,6 @@ pub(super) fn read(buf: &[u8], ev: &mut ExtensionValues) -> Option<()>
     Some(())
 }
 
-// Writes the data of the kind, and returns their number of bytes.
 pub(super) fn write(buf: &mut [u8], ev: &ExtensionValues) -> Option<usize>
     requires room { HasRoom FrameMarking ev.now buf.old }
     ensures { HasWritten FrameMarking ev.now buf.old buf.new result }

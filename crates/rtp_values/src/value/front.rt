@@ -2,12 +2,12 @@
 
 ghost use Rattle.std.specs.Prelude.{◌≡◌, ◌≤◌, ◌<◌, ◌^◌, ◌++◌, length, take, drop};
 ghost use Rattle.std.specs.Option.{SomeIff};
-ghost use Rattle.rtp_values.specs.Values.{number_of};
+ghost use Rattle.rtp_values.specs.Values.{big_endian};
 ghost use Rattle.rtp_values.specs.Spelling.{bytes_of};
 
 // The number in the first two bytes, where they are there.
 pub(super) fn first_u16(bytes: &[u8]) -> Option<u16>
-    ensures { SomeIff result (2 ≤ length bytes.now) (number_of (take 2 bytes.now)) }
+    ensures { SomeIff result (2 ≤ length bytes.now) (big_endian (take 2 bytes.now)) }
 {
     let number = bytes.first_chunk::<2>()?;
     Some(u16::from_be_bytes(*number))
@@ -15,7 +15,7 @@ pub(super) fn first_u16(bytes: &[u8]) -> Option<u16>
 
 // The number in the first three bytes, where they are there.
 pub(super) fn first_u24(bytes: &[u8]) -> Option<u32>
-    ensures { SomeIff result (3 ≤ length bytes.now) (number_of (take 3 bytes.now)) }
+    ensures { SomeIff result (3 ≤ length bytes.now) (big_endian (take 3 bytes.now)) }
 {
     let number = bytes.first_chunk::<3>()?;
     Some(u32::from_be_bytes([0, number[0], number[1], number[2]]))
@@ -23,7 +23,7 @@ pub(super) fn first_u24(bytes: &[u8]) -> Option<u32>
 
 // The number in the first four bytes, where they are there.
 pub(super) fn first_u32(bytes: &[u8]) -> Option<u32>
-    ensures { SomeIff result (4 ≤ length bytes.now) (number_of (take 4 bytes.now)) }
+    ensures { SomeIff result (4 ≤ length bytes.now) (big_endian (take 4 bytes.now)) }
 {
     let number = bytes.first_chunk::<4>()?;
     Some(u32::from_be_bytes(*number))
@@ -31,7 +31,7 @@ pub(super) fn first_u32(bytes: &[u8]) -> Option<u32>
 
 // The number in the first eight bytes, where they are there.
 pub(super) fn first_u64(bytes: &[u8]) -> Option<u64>
-    ensures { SomeIff result (8 ≤ length bytes.now) (number_of (take 8 bytes.now)) }
+    ensures { SomeIff result (8 ≤ length bytes.now) (big_endian (take 8 bytes.now)) }
 {
     let number = bytes.first_chunk::<8>()?;
     Some(u64::from_be_bytes(*number))
@@ -52,7 +52,7 @@ pub(super) fn put_u16(buf: &mut [u8], number: u16) -> usize
     requires room { 2 ≤ length buf.old }
     ensures length { result ≡ 2 }
     ensures written { buf.new ≡ bytes_of 2 number ++ drop 2 buf.old }
-    ensures back { number_of (bytes_of 2 number) ≡ number }
+    ensures back { big_endian (bytes_of 2 number) ≡ number }
 {
     put(buf, &number.to_be_bytes())
 }
@@ -63,7 +63,7 @@ pub(super) fn put_u24(buf: &mut [u8], number: u32) -> usize
     requires room { 3 ≤ length buf.old }
     ensures length { result ≡ 3 }
     ensures written { buf.new ≡ bytes_of 3 number ++ drop 3 buf.old }
-    ensures back { number_of (bytes_of 3 number) ≡ number }
+    ensures back { big_endian (bytes_of 3 number) ≡ number }
 {
     put(buf, &number.to_be_bytes()[1..])
 }
@@ -73,7 +73,7 @@ pub(super) fn put_u32(buf: &mut [u8], number: u32) -> usize
     requires room { 4 ≤ length buf.old }
     ensures length { result ≡ 4 }
     ensures written { buf.new ≡ bytes_of 4 number ++ drop 4 buf.old }
-    ensures back { number_of (bytes_of 4 number) ≡ number }
+    ensures back { big_endian (bytes_of 4 number) ≡ number }
 {
     put(buf, &number.to_be_bytes())
 }
@@ -83,7 +83,7 @@ pub(super) fn put_u64(buf: &mut [u8], number: u64) -> usize
     requires room { 8 ≤ length buf.old }
     ensures length { result ≡ 8 }
     ensures written { buf.new ≡ bytes_of 8 number ++ drop 8 buf.old }
-    ensures back { number_of (bytes_of 8 number) ≡ number }
+    ensures back { big_endian (bytes_of 8 number) ≡ number }
 {
     put(buf, &number.to_be_bytes())
 }

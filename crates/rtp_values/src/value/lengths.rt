@@ -23,7 +23,7 @@ fn len_of_both<A, B>(first: &Option<A>, second: &Option<B>, len: usize) -> Optio
     (first.is_some() && second.is_some()).then_some(len)
 }
 
-// The length of a capture time, which has its offset behind it where it is known.
+// The length of a capture time, which is followed by its offset where that is known.
 fn capture_len(time: &Option<AbsCaptureTime>) -> Option<usize>
     ensures { result ≡ option_map
         (λ t. length (bytes_of 8 t.capture_time ++ offset_bytes t.clock_offset)) time.now }

@@ -8,7 +8,6 @@ use super::ExtensionValues;
 use super::front::put;
 use rtp_base::Mid;
 
-// Reads the data of the kind.
 pub(super) fn read(buf: &[u8], ev: &mut ExtensionValues) -> Option<()>
     ensures { HasRead RtpMid buf.now ev.old ev.new result }
 {
@@ -16,7 +15,6 @@ pub(super) fn read(buf: &[u8], ev: &mut ExtensionValues) -> Option<()>
     Some(())
 }
 
-// Writes the data of the kind, and returns their number of bytes.
 pub(super) fn write(buf: &mut [u8], ev: &ExtensionValues) -> Option<usize>
     requires room { HasRoom RtpMid ev.now buf.old }
     ensures { HasWritten RtpMid ev.now buf.old buf.new result }

@@ -17,7 +17,6 @@ fn delay_of(time: MediaTime) -> u32
     (hundredths % 4096) as u32
 }
 
-// Reads the data of the kind.
 pub(super) fn read(buf: &[u8], ev: &mut ExtensionValues) -> Option<()>
     ensures { HasRead PlayoutDelay buf.now ev.old ev.new result }
 {
@@ -27,7 +26,6 @@ pub(super) fn read(buf: &[u8], ev: &mut ExtensionValues) -> Option<()>
     Some(())
 }
 
-// Writes the data of the kind, and returns their number of bytes.
 pub(super) fn write(buf: &mut [u8], ev: &ExtensionValues) -> Option<usize>
     requires room { HasRoom PlayoutDelay ev.now buf.old }
     ensures { HasWritten PlayoutDelay ev.now buf.old buf.new result }

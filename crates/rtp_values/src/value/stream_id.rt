@@ -8,7 +8,6 @@ use super::ExtensionValues;
 use super::front::put;
 use rtp_base::Rid;
 
-// Reads the data of a stream id.
 pub(super) fn read(buf: &[u8], ev: &mut ExtensionValues) -> Option<()>
     ensures { HasRead RtpStreamId buf.now ev.old ev.new result }
 {
@@ -16,7 +15,6 @@ pub(super) fn read(buf: &[u8], ev: &mut ExtensionValues) -> Option<()>
     Some(())
 }
 
-// Writes the data of a stream id, and returns their number of bytes.
 pub(super) fn write(buf: &mut [u8], ev: &ExtensionValues) -> Option<usize>
     requires room { HasRoom RtpStreamId ev.now buf.old }
     ensures { HasWritten RtpStreamId ev.now buf.old buf.new result }
@@ -25,7 +23,6 @@ pub(super) fn write(buf: &mut [u8], ev: &ExtensionValues) -> Option<usize>
     Some(put(buf, rid.as_str().as_bytes()))
 }
 
-// Reads the data of a repaired stream id.
 pub(super) fn read_repaired(buf: &[u8], ev: &mut ExtensionValues) -> Option<()>
     ensures { HasRead RepairedRtpStreamId buf.now ev.old ev.new result }
 {
@@ -33,7 +30,6 @@ pub(super) fn read_repaired(buf: &[u8], ev: &mut ExtensionValues) -> Option<()>
     Some(())
 }
 
-// Writes the data of a repaired stream id, and returns their number of bytes.
 pub(super) fn write_repaired(buf: &mut [u8], ev: &ExtensionValues) -> Option<usize>
     requires room { HasRoom RepairedRtpStreamId ev.now buf.old }
     ensures { HasWritten RepairedRtpStreamId ev.now buf.old buf.new result }

@@ -1,4 +1,4 @@
-//! Transmission time offset (RFC 5450).
+//! Transmission time offset: four bytes, unsigned, where RFC 5450 has three, signed.
 
 ghost use Rattle.rtp_values.specs.declared.kind.Extension.TheVariants.{TransmissionTimeOffset};
 ghost use Rattle.rtp_values.specs.Spelling.{HasRoom};
@@ -7,7 +7,6 @@ ghost use Rattle.rtp_values.specs.KindBytes.{HasRead, HasWritten};
 use super::ExtensionValues;
 use super::front::{first_u32, put_u32};
 
-// Reads the data of the kind.
 pub(super) fn read(buf: &[u8], ev: &mut ExtensionValues) -> Option<()>
     ensures { HasRead TransmissionTimeOffset buf.now ev.old ev.new result }
 {
@@ -15,7 +14,6 @@ pub(super) fn read(buf: &[u8], ev: &mut ExtensionValues) -> Option<()>
     Some(())
 }
 
-// Writes the data of the kind, and returns their number of bytes.
 pub(super) fn write(buf: &mut [u8], ev: &ExtensionValues) -> Option<usize>
     requires room { HasRoom TransmissionTimeOffset ev.now buf.old }
     ensures { HasWritten TransmissionTimeOffset ev.now buf.old buf.new result }

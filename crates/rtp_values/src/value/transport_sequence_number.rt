@@ -7,7 +7,6 @@ ghost use Rattle.rtp_values.specs.KindBytes.{HasRead, HasWritten};
 use super::ExtensionValues;
 use super::front::{first_u16, put_u16};
 
-// Reads the data of the kind.
 pub(super) fn read(buf: &[u8], ev: &mut ExtensionValues) -> Option<()>
     ensures { HasRead TransportSequenceNumber buf.now ev.old ev.new result }
 {
@@ -15,7 +14,6 @@ pub(super) fn read(buf: &[u8], ev: &mut ExtensionValues) -> Option<()>
     Some(())
 }
 
-// Writes the data of the kind, and returns their number of bytes.
 pub(super) fn write(buf: &mut [u8], ev: &ExtensionValues) -> Option<usize>
     requires room { HasRoom TransportSequenceNumber ev.now buf.old }
     ensures { HasWritten TransportSequenceNumber ev.now buf.old buf.new result }

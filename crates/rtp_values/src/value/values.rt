@@ -10,24 +10,29 @@ use std::alloc::{AllocError, Global};
 use std::marker::Model;
 
 /// The values of a header's extensions (RFC 8285, 4). A field is `None` where the header carries no
-/// value of it.
+/// value of it. An extension without a field, as the color space and every unknown one, is dropped
+/// when a header is read, and is not written.
 #[derive(Debug, PartialEq, Eq, Drop)]
 pub struct ExtensionValues {
     /// The audio level in decibels relative to the overload point, -127 (silence) to 0 (loudest)
-    /// as read (RFC 6464, 3).
+    /// as read (RFC 6464, 3). Its magnitude is written modulo 128, so -128 is written as 0, the
+    /// loudest.
     pub audio_level: Option<i8>,
     /// Whether the packet's audio has voice (RFC 6464, 3).
     pub voice_activity: Option<bool>,
-    /// How the receiver has to turn the picture.
+    /// How the receiver has to turn the picture, counter-clockwise. The bits of camera and flip are
+    /// not kept as read, and are written as 0.
     pub video_orientation: Option<VideoOrientation>,
-    /// What the video shows: 0 a camera's picture, 1 a screen.
+    /// What the video shows: 0 is unspecified, 1 a screen.
     pub video_content_type: Option<u8>,
     /// How long after the time of its RTP timestamp the packet was sent, in ticks of the stream's
-    /// clock (RFC 5450).
+    /// clock. It has four bytes here, unsigned; an element of RFC 5450 has three, signed, and sets
+    /// no value.
     pub tx_time_offs: Option<u32>,
     /// When the packet left its sender, in microseconds since the Unix epoch. As read it is known
     /// modulo 64 seconds only, from 0 to 63,999,996;
-    /// [`update_absolute_send_time`](Self::update_absolute_send_time) finds the rest.
+    /// [`update_absolute_send_time`](Self::update_absolute_send_time) finds the rest. Each reading
+    /// and writing loses up to a tick of 2^-18 seconds, about 3.8 microseconds.
     pub abs_send_time: Option<u64>,
     /// When the first frame in the packet was captured.
     pub abs_capture_time: Option<AbsCaptureTime>,
@@ -45,7 +50,8 @@ pub struct ExtensionValues {
     pub rid_repair: Option<Rid>,
     /// The media section's identification tag (RFC 9143).
     pub mid: Option<Mid>,
-    /// The frame marking: its first four bytes, the first in the high bits.
+    /// The frame marking: its first four bytes, the first in the high bits. An element as the draft
+    /// describes it has one to three bytes, and sets no value.
     pub frame_mark: Option<u32>,
     /// Which simulcast streams and layers of the video the sender keeps active.
     pub video_layers_allocation: Option<VideoLayersAllocation>,
@@ -126,7 +132,7 @@ impl Default for ExtensionValues {
 
 impl ExtensionValues {
     /// The same values in memory of their own, which is taken where there is a layer allocation
-    /// with streams. Where that is refused nothing is handed out.
+    /// with streams. Where that is refused nothing is returned.
     pub fn clone(&self, alloc: Global) -> Result<Self, AllocError>
         ensures same { IfOk result (λ copy. copy ≡ self.now) }
         ensures succeeds { TakesNoMemory self.now.video_layers_allocation → IsOk result }

@@ -13,7 +13,7 @@ use std::alloc::{AllocError, Global};
 // The longest data that an element can have (RFC 8285, 4.3).
 const MAX_LEN: usize = 255;
 
-// Reads the data of the kind. It stays out of line, since the calls in it would otherwise make every
+// It stays out of line, since the calls in it would otherwise make every
 // other kind save registers.
 #[inline(never)]
 pub(super) fn read(
@@ -41,7 +41,6 @@ pub(super) fn data_len(ev: &ExtensionValues) -> Option<usize>
     (len <= MAX_LEN).then_some(len)
 }
 
-// Writes the data of the kind, and returns their number of bytes.
 pub(super) fn write(buf: &mut [u8], ev: &ExtensionValues) -> Option<usize>
     requires room { HasRoom kind.VideoLayersAllocation ev.now buf.old }
     ensures { HasWritten kind.VideoLayersAllocation ev.now buf.old buf.new result }

@@ -47,7 +47,6 @@ fn bits_of(orientation: VideoOrientation) -> u8
     orientation as u8
 }
 
-// Reads the data of the kind.
 pub(super) fn read(buf: &[u8], ev: &mut ExtensionValues) -> Option<()>
     ensures { HasRead OrientationKind buf.now ev.old ev.new result }
 {
@@ -56,7 +55,6 @@ pub(super) fn read(buf: &[u8], ev: &mut ExtensionValues) -> Option<()>
     Some(())
 }
 
-// Writes the data of the kind, and returns their number of bytes.
 pub(super) fn write(buf: &mut [u8], ev: &ExtensionValues) -> Option<usize>
     requires room { HasRoom OrientationKind ev.now buf.old }
     ensures { HasWritten OrientationKind ev.now buf.old buf.new result }

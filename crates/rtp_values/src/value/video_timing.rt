@@ -3,7 +3,7 @@
 ghost use Rattle.std.specs.Prelude.{◌≡◌, ◌+◌, ◌≤◌, ◌<◌, length, slice_range};
 ghost use Rattle.rtp_values.specs.declared.kind.Extension.TheVariants.{VideoTiming as TimingKind};
 ghost use Rattle.rtp_values.specs.KindBytes.{HasRead, HasWritten};
-ghost use Rattle.rtp_values.specs.Values.{number_of};
+ghost use Rattle.rtp_values.specs.Values.{big_endian};
 ghost use Rattle.rtp_values.specs.Spelling.{HasRoom, bytes_of};
 
 use super::ExtensionValues;
@@ -27,12 +27,11 @@ pub struct VideoTiming {
 // The number in the two bytes from this offset on.
 fn time_at(bytes: &[u8], offset: usize) -> u16
     requires within { offset + 2 ≤ length bytes.now }
-    ensures { result ≡ number_of (slice_range bytes.now offset (offset + 2)) }
+    ensures { result ≡ big_endian (slice_range bytes.now offset (offset + 2)) }
 {
     u16::from_be_bytes([bytes[offset], bytes[offset + 1]])
 }
 
-// Reads the data of the kind.
 pub(super) fn read(buf: &[u8], ev: &mut ExtensionValues) -> Option<()>
     ensures { HasRead TimingKind buf.now ev.old ev.new result }
 {
@@ -52,12 +51,11 @@ pub(super) fn read(buf: &[u8], ev: &mut ExtensionValues) -> Option<()>
 // The two bytes of a time.
 fn time_bytes(time: u16) -> [u8; 2]
     ensures bytes { result ≡ bytes_of 2 time }
-    ensures back { number_of (bytes_of 2 time) ≡ time }
+    ensures back { big_endian (bytes_of 2 time) ≡ time }
 {
     time.to_be_bytes()
 }
 
-// Writes the data of the kind, and returns their number of bytes.
 pub(super) fn write(buf: &mut [u8], ev: &ExtensionValues) -> Option<usize>
     requires room { HasRoom TimingKind ev.now buf.old }
     ensures { HasWritten TimingKind ev.now buf.old buf.new result }

@@ -15,7 +15,7 @@ use rtp_base::{put, put_zeros};
 use rtp_ext::{ExtensionMap, ExtensionValues, ExtensionsForm};
 use std::alloc::{AllocError, Global};
 
-// How many bytes stand in front of a block's body.
+// How many bytes stand before a block's body.
 const HEAD: usize = 4;
 
 // The block at the front: its form and its body.
@@ -30,7 +30,7 @@ fn split_block(bytes: &[u8]) -> Option<(ExtensionsForm, &[u8])>
     Some((form, body))
 }
 
-// The four bytes in front of a body of so many words.
+// The four bytes before a body of `words` words.
 fn head_of(form: ExtensionsForm, words: u16) -> [u8; HEAD]
     ensures { result ≡ to_be_bytes w16 (form_word form) ++ to_be_bytes w16 words }
 {

@@ -14,7 +14,8 @@ pub struct RtpHeader {
     pub version: u8,
     /// Whether padding bytes end the payload, the last of which counts them.
     pub has_padding: bool,
-    /// Whether a block of header extensions follows the sources.
+    /// Whether a block of header extensions follows the CSRC list. Where it is clear nothing of
+    /// `ext_vals` is written: set it with the first value of a header that was read without X.
     pub has_extension: bool,
     /// How many contributing sources there are, 0 to 15.
     pub csrc_count: usize,
@@ -64,7 +65,7 @@ impl Default for RtpHeader {
 
 impl RtpHeader {
     /// The same header, whose values are in memory of their own: it is taken where there is a layer
-    /// allocation with streams. Where that is refused nothing is handed out.
+    /// allocation with streams. Where that is refused nothing is returned.
     pub fn clone(&self, alloc: Global) -> Result<Self, AllocError>
         ensures same { IfOk result (λ copy. copy ≡ self.now) }
         ensures succeeds { TakesNoMemory self.now.ext_vals.video_layers_allocation → IsOk result }

@@ -16,7 +16,7 @@ use super::block::{block_len, write_block};
 use rtp_base::put;
 use rtp_ext::ExtensionMap;
 
-// Puts four bytes for each source, and returns the offset behind them.
+// Puts four bytes for each source, and returns the offset after them.
 fn put_sources(buf: &mut [u8], at: usize, sources: &[u32]) -> usize
     requires { at + 4 * length sources.now ≤ length buf.old }
     ensures written { buf.new ≡ overwritten buf.old at (flat_map (to_be_bytes w32) sources.now) }
@@ -74,7 +74,7 @@ impl RtpHeader {
         }
     }
 
-    // Puts the block that X announces, and returns the offset behind it.
+    // Puts the block that X announces, and returns the offset after it.
     fn put_extension(&self, buf: &mut [u8], at: usize, exts: &ExtensionMap) -> usize
         requires { at + length (extension_bytes exts.now self.now.has_extension self.now.ext_vals)
             ≤ length buf.old }
@@ -112,8 +112,8 @@ impl RtpHeader {
     }
 
     /// Writes the header to the front of the buffer and returns how many bytes it took; the bytes
-    /// behind them stay as they were (RFC 3550, 5.1; RFC 8285, 4.2 and 4.3). Version 2 is written
-    /// whatever `version` holds; `header_len` and the slots behind the CSRC list are not looked at.
+    /// after them stay as they were (RFC 3550, 5.1; RFC 8285, 4.2 and 4.3). Version 2 is written
+    /// whatever `version` holds; `header_len` and the slots after the CSRC list are not looked at.
     /// Where `has_extension` is set a block is written, with an element for each mapped id, by
     /// rising id, whose value is there, in the form that [`ExtensionMap::form`] returns; zeros fill
     /// its last word. Where it is clear nothing is written of the values.
