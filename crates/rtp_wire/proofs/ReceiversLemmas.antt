@@ -1,6 +1,6 @@
 -- What a map by SSRC has for one source, and for the others.
 use Rattle.std.proofs.Common.{◌≡◌, ◌≢◌, ℕ, Bool, true, false, cond, eqb, ltb, sym, refl, ap, ◌∙◌, subst}
-use Rattle.std.specs.Prelude.{Option, None, unwrap_or}
+use Rattle.std.specs.Prelude.{Option, None, IsSome, unwrap_or}
 use Rattle.std.specs.Ordering.{nat_cmp, is_eq}
 use Rattle.std.specs.declared.cmp.Ordering.TheVariants.{Less, Equal, Greater}
 use Rattle.std.specs.BTreeMap.{BTreeMap, Updates, is_at, get}
@@ -26,3 +26,8 @@ pub Holds-found : (map : BTreeMap ℕ (Option WindowState)) (receivers : Receive
     → get nat_cmp map source ≡ found → Holds (state_of receivers source) taken → Holds (unwrap_or found None) taken
 Holds-found map receivers source found taken same is holds =
     subst (λ (state : Option WindowState). Holds state taken) (ap (λ (rs : ReceiverStates). state_of rs source) (sym same) ∙ ap (λ (o : Option (Option WindowState)). unwrap_or o None) is) holds
+
+-- a source for which the map has nothing has no receiver
+pub not_found : (map : BTreeMap ℕ (Option WindowState)) (receivers : ReceiverStates) (source : ℕ) → map.entries ≡ receivers
+    → get nat_cmp map source ≡ None → IsSome (receiver_of receivers source) → ⊥
+not_found map receivers source same none known = cc (ap (λ (rs : ReceiverStates). receiver_of rs source) (sym same) ∙ none, known)

@@ -1,10 +1,11 @@
 //! The receive state of one stream.
 
-ghost use Rattle.std.specs.Prelude.{◌≡◌, ◌↔◌, ℕ, Option, IsTrue, if◌then◌else◌};
+ghost use Rattle.std.specs.Prelude.{◌≡◌, ◌↔◌, ℕ, Option, IsTrue, false, if◌then◌else◌};
 ghost use Rattle.std.specs.Option.{option_map, option_copied};
 ghost use Rattle.rtp_base.specs.Window.{Numbers, including};
 ghost use Rattle.rtp_wire.specs.Receiver.{Holds, IsNothing, IsHighest, IsNumberOf, IsFresh, IsJudged, taken_after};
 ghost use Rattle.rtp_wire.specs.Verdicts.{IsVerdict, reading_of};
+ghost use Rattle.rtp_wire.specs.declared.receive.verdict.Verdict.TheVariants.{Refused};
 ghost use Rattle.rtp_wire.specs.TrueNumbers.{IsTrueNumber};
 
 use super::Verdict;
@@ -84,7 +85,10 @@ impl Receiver {
     /// Records that the number is taken, once its packet is known to be authentic. A number that
     /// [`accepts`](Self::accepts) refuses changes nothing.
     pub fn record(&mut self, number: SeqNo)
-        ensures { (taken : Numbers) → Holds self.old taken → Holds self.new (including taken number) }
+        ensures recorded { (taken : Numbers) → Holds self.old taken →
+            Holds self.new (including taken number) }
+        ensures unchanged { (taken : Numbers) → Holds self.old taken →
+            (IsFresh taken number → ⊥) → self.new ≡ self.old }
     {
         match &mut self.window {
             None => self.window = Some(SeqNoWindow::new(number)),
@@ -102,6 +106,7 @@ impl Receiver {
             × IsJudged taken number result }
         ensures after { (taken : Numbers) → Holds self.old taken →
             Holds self.new (taken_after taken result) }
+        ensures refused { result ≡ Refused → self.new ≡ self.old }
 
         // The same by the numbers that the sender gave the packets, where those of all packets
         // before this one count: so the verdicts on a run follow from its numbers alone.
@@ -124,6 +129,7 @@ impl Receiver {
         ensures accepts { (taken : Numbers) → Holds self.old taken → (IsTrue result ↔ IsFresh taken number) }
         ensures taken { (taken : Numbers) → Holds self.old taken →
             Holds self.new (if result then including taken number else taken) }
+        ensures refused { result ≡ false → self.new ≡ self.old }
     {
         match &mut self.window {
             None => {

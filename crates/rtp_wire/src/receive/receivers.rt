@@ -6,6 +6,7 @@ ghost use Rattle.rtp_base.specs.Window.{Numbers, including};
 ghost use Rattle.rtp_wire.specs.Receiver.{Holds, IsNumberOf, IsFresh, IsJudged, taken_after};
 ghost use Rattle.rtp_wire.specs.Receivers.{receiver_of, state_of};
 ghost use Rattle.rtp_wire.specs.Verdicts.{IsVerdict, reading_of};
+ghost use Rattle.rtp_wire.specs.declared.receive.verdict.Verdict.TheVariants.{Refused};
 ghost use Rattle.rtp_wire.specs.TrueNumbers.{IsTrueNumber};
 ghost use Rattle.rtp_wire.specs.Sources.{HoldsEach, numbers_beside, taken_after_each};
 
@@ -168,6 +169,10 @@ impl Receivers {
             Holds (state_of self.old header.now.ssrc) numbers →
             IsTrueNumber numbers header.now.sequence_number number →
             OnOk result (Holds (state_of self.new header.now.ssrc) (including numbers number)) }
+
+        ensures unchanged { IfOk result (λ verdict. verdict ≡ Refused → IsSome
+            (receiver_of self.old header.now.ssrc) × (receiver_of self.new header.now.ssrc
+            ≡ receiver_of self.old header.now.ssrc)) }
 
         // The source has a receiver now, and the other sources have what they had.
         ensures receiver { OnOk result (IsSome (receiver_of self.new header.now.ssrc)) }

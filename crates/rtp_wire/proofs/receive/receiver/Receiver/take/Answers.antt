@@ -1,5 +1,5 @@
 use Rattle.std.proofs.Common.{inr, sym, ◌∙◌, subst, Option}
-use Rattle.rtp_base.specs.Window.{WindowState}
+use Rattle.rtp_base.specs.Window.{WindowState, Keeps}
 use Rattle.rtp_wire.specs.Receiver.{Holds}
 use Rattle.rtp_wire.proofs.ReceiverLemmas.{Accepts-fresh, Keeps-taken}
 use Rattle.rtp_wire.proofs.receive.receiver.Receiver.take.Goals as goal
@@ -13,4 +13,5 @@ returns-in-Some-clause-accepts c taken holds =
 pub returns-in-Some-clause-taken : goal.returns-in-Some-clause-taken
 returns-in-Some-clause-taken c taken holds =
     let keeps = subst (λ (held : Option WindowState). Holds held taken) (sym c.self.view_is ∙ c.in-Some.is) holds in
-    Keeps-taken taken c.args.number c.take.result _ (c.take.ensures.recorded taken keeps) (c.take.ensures.refused taken keeps)
+    Keeps-taken taken c.args.number c.take.result _ (c.take.ensures.recorded taken keeps)
+    (λ refused. subst (λ (window : WindowState). Keeps window taken) (sym (c.take.ensures.refused refused)) keeps)

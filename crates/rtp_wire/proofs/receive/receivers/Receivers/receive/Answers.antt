@@ -1,8 +1,11 @@
-use Rattle.std.proofs.Common.{sym, ap, ◌∙◌, rules}
-use Rattle.std.specs.Prelude.{Some, None}
+use Rattle.std.proofs.Common.{inl, sym, ap, refl, subst, ◌∙◌, rules}
+use Rattle.std.specs.Prelude.{Some, None, false}
 use Rattle.std.specs.Option.{option_copied_mut}
+use Rattle.rtp_base.specs.Window.{Numbers}
+use Rattle.rtp_wire.specs.declared.receive.verdict.Verdict.{Verdict}
+use Rattle.rtp_wire.specs.Receiver.{IsJudged}
 use Rattle.rtp_wire.specs.Receivers.{receiver_of}
-use Rattle.rtp_wire.proofs.ReceiversLemmas.{others_stay, Holds-found}
+use Rattle.rtp_wire.proofs.ReceiversLemmas.{not_found, others_stay, Holds-found}
 use Rattle.rtp_wire.proofs.receive.receivers.Receivers.receive.Goals as goal
 
 pub returns-in-Some-clause-verdict : goal.returns-in-Some-clause-verdict
@@ -41,3 +44,14 @@ pub returns-clause-others : goal.returns-clause-others
 returns-clause-others c source apart =
     others_stay c.get_mut.follows.lender-at-none c.insert.new.self c.args.header.now.ssrc _ c.in_ok-insert.ensures.updates source apart
     ∙ ap (λ receivers. receiver_of receivers source) (search rules)
+
+pub returns-clause-as_many : goal.returns-clause-as_many
+returns-clause-as_many c known =
+    absurd (not_found c.self.inside.by_ssrc c.args.self.now c.args.header.now.ssrc c.self.view_is
+    (sym c.get_mut.ensures.value ∙ ap option_copied_mut c.in_default.is) known)
+
+pub returns-clause-unchanged : goal.returns-clause-unchanged
+returns-clause-unchanged c refused =
+    let none : Numbers = λ n. false in
+    let judged = c.receive-verdict.ensures.verdict none ((c.new-receiver.ensures none).1 (λ n. refl)) in
+    absurd (subst (λ (verdict : Verdict). IsJudged none judged.0 verdict) refused judged.2 (inl (λ n. refl)))
