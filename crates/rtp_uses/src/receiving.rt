@@ -1,6 +1,6 @@
 //! Receivers of packets, authenticated and not.
 
-ghost use Rattle.std.specs.Prelude.{◌≡◌, ◌≢◌, ◌⊎◌, ◌%◌, ℕ, true, false, None, IfSome, IfNone, IfOk, List};
+ghost use Rattle.std.specs.Prelude.{◌≡◌, ◌≢◌, ◌≤◌, ◌⊎◌, ◌%◌, ℕ, length, true, false, None, IfSome, IfNone, IfOk, List};
 ghost use Rattle.rtp_base.specs.Window.{Numbers, including};
 ghost use Rattle.rtp_wire.specs.Receiver.{Holds, IsNumberOf, IsFresh};
 ghost use Rattle.rtp_wire.specs.TrueNumbers.{IsTrueNumber, AreTrue, AreTrueVerdicts};
@@ -30,8 +30,8 @@ pub fn receive_authentic<F: FnOnce(SeqNo) -> bool>(
     ensures same { (taken : Numbers) → Holds receiver.old taken → IfNone result (
         Holds receiver.new taken) }
 
-    // The number is the one that the sender gave the packet, where that is less than 32,768 away
-    // from the highest one before it.
+    // The number is the one that the sender gave the packet, where that is below 65,536 for the
+    // first packet, and less than 32,768 away from the highest one before it for each later one.
     ensures true_number { (numbers : Numbers) → (number : ℕ) → Holds receiver.old numbers →
         IsTrueNumber numbers header.now.sequence_number number → IfSome result (λ n. n ≡ number) }
 {
@@ -44,8 +44,9 @@ pub fn receive_authentic<F: FnOnce(SeqNo) -> bool>(
 }
 
 /// The verdict on each header of one stream, in the order in which they came: by the numbers that
-/// the sender gave its packets, whatever is lost, repeated or reordered on the way, as long as each
-/// is less than 32,768 away from the highest one before it (RFC 3711, 3.3.1).
+/// the sender gave its packets, whatever is lost, repeated or reordered on the way, as long as the
+/// first is below 65,536 and each later one is less than 32,768 away from the highest one before it
+/// (RFC 3711, 3.3.1).
 pub fn receive_each(alloc: Global, headers: &[RtpHeader]) -> Result<Vec<Verdict>, AllocError>
     ensures { (numbers : List ℕ) → AreTrue (readings_of headers.now) numbers → IfOk result (λ found.
         AreTrueVerdicts (readings_of headers.now) numbers found.items) }
@@ -73,4 +74,22 @@ pub fn receive_first_of_two(
     let first = receivers.receive(one)?;
     let second = receivers.receive(other)?;
     Ok((first, second))
+}
+
+/// The verdict on a packet of an unauthenticated transport whose number of sources is limited:
+/// `None`, and nothing changes, where the packet's source is new and there are as many sources as
+/// the limit.
+pub fn receive_limited(
+    receivers: &mut Receivers,
+    header: &RtpHeader,
+    limit: usize,
+) -> Result<Option<Verdict>, AllocError>
+    requires { length receivers.old ≤ limit }
+    ensures limited { length receivers.new ≤ limit }
+    ensures same { IfOk result (λ verdict. IfNone verdict (receivers.new ≡ receivers.old)) }
+{
+    if receivers.len() >= limit && receivers.get(header.ssrc).is_none() {
+        return Ok(None);
+    }
+    Ok(Some(receivers.receive(header)?))
 }

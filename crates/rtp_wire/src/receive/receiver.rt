@@ -63,8 +63,10 @@ impl Receiver {
         ensures nearest { (taken : Numbers) → Holds self.now taken →
             IsNumberOf taken header.now.sequence_number result }
 
-        // It is the number that the sender gave the packet, where that is less than 32,768 away
-        // from the highest of the packets before it, whether these were taken or not.
+        // It is the number that the sender gave the packet, where that is in reach: below 65,536 for
+        // the first packet, and for each later one less than 32,768 away from the highest of the
+        // packets before it, whether these were taken or not. A first packet of number 70,000 is
+        // taken as 4,464.
         ensures true_number { (numbers : Numbers) → (number : ℕ) → Holds self.now numbers →
             IsTrueNumber numbers header.now.sequence_number number → result ≡ number }
     {

@@ -92,8 +92,9 @@ impl Receivers {
         ensures nearest { (taken : Numbers) → Holds (state_of self.now header.now.ssrc) taken →
             IsNumberOf taken header.now.sequence_number result }
 
-        // It is the number that the sender gave the packet, where that is less than 32,768 away
-        // from the highest of the source's packets before it, whether these were taken or not.
+        // It is the number that the sender gave the packet, where that is in reach: below 65,536 for
+        // the source's first packet, and for each later one less than 32,768 away from the highest
+        // of its packets before it, whether these were taken or not.
         ensures true_number { (numbers : Numbers) → (number : ℕ) →
             Holds (state_of self.now header.now.ssrc) numbers →
             IsTrueNumber numbers header.now.sequence_number number → result ≡ number }

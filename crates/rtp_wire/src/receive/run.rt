@@ -36,8 +36,9 @@ pub fn receive_run(
         OfEachSource exts.now (map (λ d. d.items) datagrams.now) found.items
         (λ readings alone verdicts. TakesOnce verdicts)) }
 
-    // The numbers that a sender gave the packets of a source decide alone, where each is less than
-    // 32,768 away from the highest before it of the source.
+    // The numbers that a sender gave the packets of a source decide alone, where the source's first
+    // one is below 65,536, and each later one is less than 32,768 away from the highest before it
+    // of the source.
     ensures true_numbers { (numbers : List ℕ) → IfOk result (λ found.
         OfEachSource exts.now (map (λ d. d.items) datagrams.now) found.items
         (λ readings alone verdicts.
@@ -79,8 +80,8 @@ pub fn receive_run_one(
         AreVerdicts exts.now (map (λ d. d.items) datagrams.now) found.items) }
     ensures once { IfOk result (λ found. TakesOnce found.items) }
 
-    // The numbers that the sender gave its packets decide alone, where each is less than 32,768
-    // away from the highest before it.
+    // The numbers that the sender gave its packets decide alone, where the first one is below
+    // 65,536, and each later one is less than 32,768 away from the highest before it.
     ensures true_numbers { (readings : List (Option Reading)) → (numbers : List ℕ) →
         AreReadings exts.now (map (λ d. d.items) datagrams.now) readings →
         AreTrue readings numbers →
