@@ -1,5 +1,6 @@
 -- The map of extension ids: which extension each id is mapped to, and which entries are locked (RFC 8285, 5).
-use Rattle.std.specs.Prelude.{◌≡◌, ◌≢◌, ℕ, ◌+◌, ◌<◌, ◌≤◌, suc, zero, List, [], ◌∷◌, length, Bool, true, false, if◌then◌else◌, Option, Some, None, slice_index_or}
+use Rattle.std.specs.Prelude.{◌≡◌, ◌≢◌, ℕ, ◌+◌, ◌<◌, ◌≤◌, suc, zero, List, [], ◌∷◌, ◌++◌, codes, length, Bool, true, false, if◌then◌else◌, Option, Some, None, slice_index_or}
+use Rattle.std.specs.Fmt.{decimal}
 use Rattle.std.specs.Option.{option_map}
 use Rattle.std.specs.List.{All, Contains}
 use Rattle.rtp_values.specs.declared.kind.Extension.{Extension}
@@ -134,6 +135,15 @@ mapped_count map = length (items_from 0 map)
 -- no id above this one is mapped
 abbrev pub HasNoIdAbove : ℕ → Slots → Type 0
 HasNoIdAbove greatest map = (id : ℕ) → greatest < id → entry_at map id ≡ None
+
+-- the text of a mapped id: its number, and what its extension is shown as
+abbrev pub item_text : ℕ × Extension → List ℕ
+item_text item = decimal item.0 ++ (codes "=" ++ (kind_of item.1).name)
+
+-- the texts of mapped ids in a row, the first after `lead` and each other after a comma
+abbrev pub items_text : List ℕ → List (ℕ × Extension) → List ℕ
+items_text lead [] = []
+items_text lead (item ∷ items) = lead ++ (item_text item ++ items_text (codes ", ") items)
 
 -- what the standard map has: the usual ids of the usual extensions, for audio and for video
 abbrev pub standard_items : List (ℕ × Extension)

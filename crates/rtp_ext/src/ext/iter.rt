@@ -1,9 +1,10 @@
 //! The entries of a map, one after another.
 
-ghost use Rattle.std.specs.Prelude.{◌≡◌};
+ghost use Rattle.std.specs.Prelude.{◌≡◌, []};
+ghost use Rattle.std.specs.Fmt.{WritesOnOk};
 ghost use Rattle.std.specs.List.{filter, AllByRecursion};
 ghost use Rattle.std.specs.Iterator.{YieldsFirstBy, item_count};
-ghost use Rattle.rtp_ext.specs.ExtensionMap.{is_of_medium};
+ghost use Rattle.rtp_ext.specs.ExtensionMap.{is_of_medium, items_text};
 ghost use Rattle.rtp_ext.specs.MapSlots.{items_at, IsMapped};
 
 use super::slot::{Slot, is_of_medium};
@@ -60,6 +61,11 @@ impl<'a> Iterator for Iter<'a> {
 
 /// The entries that are left, each as its number and the extension's text.
 impl<'a> fmt::Debug for Iter<'a> {
+    ghost use Rattle.std.specs.Prelude.{Some, [], ◌++◌, codes};
+    ghost use Rattle.rtp_ext.specs.ExtensionMap.{items_text};
+
+    ghost debug_output = { λ left. Some (codes "Iter(" ++ items_text [] left ++ codes ")") };
+
     fn fmt<W: fmt::Write>(&self, f: &mut fmt::Formatter<W>) -> fmt::Result {
         f.write_str("Iter(")?;
         write_entries(f, Iter::new(self.slots, self.left))?;
@@ -71,14 +77,13 @@ impl<'a> fmt::Debug for Iter<'a> {
 pub(super) fn write_entries<W: fmt::Write>(
     f: &mut fmt::Formatter<W>,
     entries: Iter<'_>,
-) -> fmt::Result {
-    let mut is_first = true;
+) -> fmt::Result
+    ensures { WritesOnOk W.write_str_gives f.old result (items_text [] entries.entry) f.new }
+{
+    let mut lead = "";
     for (id, ext) in entries {
-        if !is_first {
-            f.write_str(", ")?;
-        }
-        is_first = false;
-        write!(f, "{id}={ext}")?;
+        write!(f, "{lead}{id}={ext}")?;
+        lead = ", ";
     }
     Ok(())
 }
