@@ -5,7 +5,7 @@
 -- padding octets should be ignored, including itself."
 use Rattle.std.specs.Prelude.{◌≡◌, ℕ, ◌+◌, ◌-◌, ◌*◌, ◌/◌, ◌%◌, ◌<◌, ◌≤◌, List, [], ◌∷◌, ◌++◌, length, min, replicate, slice_index_or}
 
--- so many bytes of padding: zeros, and then the count of all of them
+-- n bytes of padding: zeros, and then the count of all of them
 abbrev pub padding_bytes : ℕ → List ℕ
 padding_bytes n = replicate (n - 1) 0 ++ n ∷ []
 

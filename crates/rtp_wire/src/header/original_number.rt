@@ -8,7 +8,7 @@ ghost use Rattle.rtp_wire.specs.OriginalNumber.{HasOriginalNumber};
 use rtp_base::{SeqNo, put};
 
 /// Reads the original sequence number, 16 bits, from the front of the payload of a retransmission
-/// packet into `seq`, and returns its length of two bytes: the original payload is behind it (RFC
+/// packet into `seq`, and returns its length of two bytes: the original payload follows it (RFC
 /// 4588, 4). Returns 0 and leaves `seq` as it was where there are fewer bytes.
 ///
 /// From `01 02 03` it reads 258 and returns 2.
@@ -27,7 +27,7 @@ pub fn read_original_sequence_number(buf: &[u8], seq: &mut u16) -> usize
 
 /// Writes the low 16 bits of the original sequence number to the front of the payload of a
 /// retransmission packet, the high byte first, and returns their length of two bytes: the original
-/// payload comes behind them (RFC 4588, 4). All other bytes stay as they were. Requires room for
+/// payload follows them (RFC 4588, 4). All other bytes stay as they were. Requires room for
 /// two bytes.
 ///
 /// Of 65,538 it writes `00 02`.

@@ -35,7 +35,7 @@ fn set_padding_bit(buf: &mut [u8])
     buf[0] |= 0x20;
 }
 
-// Puts so many bytes of padding at an offset: zeros, and in the last byte their count.
+// Puts `count` bytes of padding at an offset: zeros, and in the last byte their count.
 fn put_padding(buf: &mut [u8], at: usize, count: usize)
     requires some { 1 ≤ count }
     requires few { count ≤ 255 }
@@ -46,14 +46,14 @@ fn put_padding(buf: &mut [u8], at: usize, count: usize)
     buf[last] = count as u8;
 }
 
-/// Makes a packet of padding alone behind its header (RFC 3550, 5.1): sets the padding bit in the
+/// Makes a packet of padding alone after its header (RFC 3550, 5.1): sets the padding bit in the
 /// first byte, then writes the padding from `header_len` on, zeros and in the last byte their
 /// count, itself included, and returns that count. It is `pad_len` rounded up to a multiple of
 /// `block_size`, but at most 240 ([`MAX_BLANK_PADDING_PAYLOAD_SIZE`]). All other bytes stay as they
 /// were. With a `pad_len` of 0 it returns 0, changes nothing and requires nothing.
 ///
-/// For any other `pad_len` it requires a `block_size` of at least 1, and room for the padding
-/// behind the header.
+/// For any other `pad_len` it requires a `block_size` of at least 1, and room for the padding from
+/// `header_len` on. To pad a packet with a payload, pass the end of the payload as `header_len`.
 ///
 /// With a header of 12 bytes, of which the first is `80`, a `pad_len` of 3 and a `block_size` of 4
 /// it returns 4, the first byte becomes `A0`, and the bytes 12 to 15 become `00 00 00 04`.
@@ -99,7 +99,7 @@ pub fn create_padding_packet(
     count
 }
 
-/// Returns the payload of a packet whose padding bit is set, from all bytes behind its header:
+/// Returns the payload of a packet whose padding bit is set, from all bytes after its header:
 /// those before the padding, whose last byte counts it, itself included (RFC 3550, 5.1). Returns
 /// `None` where that count is greater than the number of bytes. A last byte of 0 takes nothing
 /// away, and without any byte the payload is empty.

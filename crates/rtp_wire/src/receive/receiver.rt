@@ -16,7 +16,7 @@ use std::marker::Model;
 /// The receive state of one stream: nothing yet, or a replay window (RFC 3711, 3.3.2).
 ///
 /// For SRTP the three steps are apart, so that a forged packet changes nothing: estimate the
-/// extended sequence number (the packet index) with [`number_of`](Self::number_of), test it with
+/// extended sequence number with [`number_of`](Self::number_of), test it with
 /// [`accepts`](Self::accepts), authenticate the packet, and then [`record`](Self::record) it. Where
 /// nothing is authenticated [`receive`](Self::receive) does all of it.
 ///

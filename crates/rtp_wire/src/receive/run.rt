@@ -18,7 +18,7 @@ use std::alloc::{AllocError, Global};
 ///
 /// Memory is taken for the list of the verdicts, made at once, for the receiver of each SSRC, at
 /// the first datagram that has a header with it, and for the layer allocation of a datagram while
-/// its header is looked at; where it is refused nothing is handed out.
+/// its header is looked at; where it is refused nothing is returned.
 pub fn receive_run(
     alloc: Global,
     datagrams: &[Vec<u8>],
@@ -70,7 +70,7 @@ pub fn receive_run(
 /// meant for the datagrams of one stream, and nothing is authenticated here.
 ///
 /// Memory is taken for the list of the verdicts, made at once, and for the layer allocation of a
-/// datagram while its header is looked at; where it is refused nothing is handed out.
+/// datagram while its header is looked at; where it is refused nothing is returned.
 pub fn receive_run_one(
     alloc: Global,
     datagrams: &[Vec<u8>],
