@@ -1,8 +1,8 @@
 -- The verdicts on some headers, and on one header more; and on the first packet of a source.
-use Rattle.std.proofs.Common.{◌≡◌, ℕ, ◌%◌, false, List, [], ◌∷◌, ◌++◌, sym, refl, ap, ◌∙◌, inl, arith}
+use Rattle.std.proofs.Common.{◌≡◌, ℕ, ◌%◌, ◌<◌, false, List, [], ◌∷◌, ◌++◌, sym, refl, ap, ◌∙◌, inl, inr, arith}
 use Rattle.std.specs.Prelude.{Option, Some, None}
 use Rattle.std.proofs.lemmas.Bool.{false≢true}
-use Rattle.rtp_base.specs.Window.{Numbers, WindowState}
+use Rattle.rtp_base.specs.Window.{Numbers, WindowState, IsGreatest}
 use Rattle.rtp_wire.specs.declared.receive.verdict.Verdict.{Verdict}
 use Rattle.rtp_wire.specs.declared.receive.verdict.Verdict.TheVariants.{Unreadable, Taken, Refused}
 use Rattle.rtp_wire.specs.Widening.{IsNear}
@@ -46,3 +46,15 @@ no_number n = false
 pub IsNothing-no_number : IsNothing no_number
 unfolding no_number
 IsNothing-no_number n = refl
+
+-- a number that nothing is taken before, and one above the highest, is taken
+pub judged_first : (numbers : Numbers) (number : ℕ) (verdict : Verdict) → IsNothing numbers → IsJudged numbers number verdict → verdict ≡ Taken number
+judged_first numbers number (Taken n) none judged = ap Taken judged.0
+judged_first numbers number Refused none judged = absurd (judged (inl none))
+judged_first numbers number Unreadable none judged = absurd judged
+
+pub judged_above : (numbers : Numbers) (highest number : ℕ) (verdict : Verdict) → IsGreatest numbers highest → highest < number → IsJudged numbers number verdict → verdict ≡ Taken number
+judged_above numbers highest number (Taken n) top above judged = ap Taken judged.0
+judged_above numbers highest number Refused top above judged =
+    absurd (judged (inr (record { greatest = highest; is_greatest = top; above_or_new = inl above })))
+judged_above numbers highest number Unreadable top above judged = absurd judged

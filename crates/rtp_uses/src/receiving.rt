@@ -1,13 +1,14 @@
 //! Receivers of packets, authenticated and not.
 
-ghost use Rattle.std.specs.Prelude.{◌≡◌, ◌≢◌, ◌≤◌, ◌⊎◌, ◌%◌, ℕ, length, true, false, None, IfSome, IfNone, IfOk, List};
-ghost use Rattle.rtp_base.specs.Window.{Numbers, including};
+ghost use Rattle.std.specs.Prelude.{◌≡◌, ◌≢◌, ◌+◌, ◌^◌, ◌<◌, ◌≤◌, ◌⊎◌, ◌%◌, ℕ, length, true, false, None, IsSome, IfSome, IfNone, IsOk, IfOk, List};
+ghost use Rattle.rtp_base.specs.Window.{Numbers, IsGreatest, including};
 ghost use Rattle.rtp_wire.specs.Receiver.{Holds, IsNumberOf, IsFresh};
+ghost use Rattle.rtp_wire.specs.Receivers.{receiver_of};
 ghost use Rattle.rtp_wire.specs.TrueNumbers.{IsTrueNumber, AreTrue, AreTrueVerdicts};
 ghost use Rattle.rtp_wire.specs.Sending.{readings_of};
 ghost use Rattle.rtp_wire.specs.declared.receive.verdict.Verdict.TheVariants.{Taken};
 
-use rtp_base::SeqNo;
+use rtp_base::{SeqNo, Ssrc};
 use rtp_wire::{Receiver, Receivers, RtpHeader, Verdict};
 use std::alloc::{AllocError, Global};
 
@@ -92,4 +93,37 @@ pub fn receive_limited(
         return Ok(None);
     }
     Ok(Some(receivers.receive(header)?))
+}
+
+/// The verdict on a first packet whose number is 65,535, the greatest that its sender may begin
+/// with: taken.
+pub fn receive_greatest_first(header: &RtpHeader) -> Verdict
+    requires { header.now.sequence_number ≡ 65535 }
+    ensures { result ≡ Taken 65535 }
+{
+    let mut receiver = Receiver::new();
+    receiver.receive(header)
+}
+
+/// The verdict on a packet that is 32,767 after the highest before it, the most that it may be:
+/// taken by the number that the sender gave it.
+pub fn receive_after_longest_jump(receiver: &mut Receiver, header: &RtpHeader) -> Verdict
+    ensures { (numbers : Numbers) → (highest : ℕ) → Holds receiver.old numbers →
+        IsGreatest numbers highest → highest + 32767 < 2 ^ 64 →
+        (highest + 32767) % 65536 ≡ header.now.sequence_number →
+        result ≡ Taken (highest + 32767) }
+{
+    receiver.receive(header)
+}
+
+/// Records a number of a source that has a receiver: no memory is taken, so none is refused.
+pub fn record_of_known_source(
+    receivers: &mut Receivers,
+    ssrc: Ssrc,
+    number: SeqNo,
+) -> Result<(), AllocError>
+    requires { IsSome (receiver_of receivers.old ssrc) }
+    ensures { IsOk result }
+{
+    receivers.record(ssrc, number)
 }
