@@ -11,9 +11,9 @@ use std::fmt;
 /// A header extension: one of the fifteen that this library knows, or another by its URI
 /// (RFC 8285, 5).
 ///
-/// The color space and unknown extensions have no field in [`ExtensionValues`](crate::ExtensionValues):
-/// their elements are passed over when a block is read, and none is written. So who forwards a packet
-/// by reading and writing its header drops them.
+/// The color space and unknown extensions have no field in
+/// [`ExtensionValues`](crate::ExtensionValues): their elements are passed over when a block is read,
+/// and none is written. So who forwards a packet by reading and writing its header drops them.
 #[derive(Debug, PartialEq, Eq, Drop)]
 pub enum Extension {
     /// When the packet left its sender, in seconds, as 6 whole and 18 fractional bits.
@@ -40,8 +40,8 @@ pub enum Extension {
     RepairedRtpStreamId,
     /// The name of the media section (RFC 9143).
     RtpMid,
-    /// Where frames begin and end, and which layer the packet is of: four bytes, where the draft has
-    /// one to three.
+    /// Where frames begin and end, and which layer the packet is of: four bytes, where the draft
+    /// has one to three.
     FrameMarking,
     /// The colour space of the video. It has no value here.
     ColorSpace,

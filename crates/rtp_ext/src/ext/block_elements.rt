@@ -107,8 +107,8 @@ impl ExtensionMap {
     }
 
     /// How many bytes [`write_to`](Self::write_to) writes in the form, which is
-    /// [`form`](Self::form) or the two-byte form: at most 257 for each mapped id, so at most 65,535,
-    /// which is 255 elements of 257 bytes.
+    /// [`form`](Self::form) or the two-byte form: at most 257 for each mapped id, so at most
+    /// 65,535, which is 255 elements of 257 bytes.
     pub fn wire_len(&self, ev: &ExtensionValues, form: ExtensionsForm) -> usize
         requires { (form ≡ form_of self.now ev.now) ⊎ (form ≡ TwoByte) }
         ensures length { result ≡ length (elements_bytes form (written_elements self.now ev.now)) }

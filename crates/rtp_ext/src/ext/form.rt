@@ -10,8 +10,8 @@ pub const MAX_ID_ONE_BYTE_FORM: u8 = 14;
 /// How the elements of a header extension block are laid out (RFC 8285, 4.2 and 4.3).
 #[derive(Clone, Copy, Debug, PartialEq, Eq, Hash)]
 pub enum ExtensionsForm {
-    /// A header of one byte: 1 to 16 bytes of data, and an id of 1 to 14. An element of id 0 that has
-    /// two bytes of data or more is read too, and no map has an extension for it.
+    /// A header of one byte: 1 to 16 bytes of data, and an id of 1 to 14. An element of id 0 that
+    /// has two bytes of data or more is read too, and no map has an extension for it.
     OneByte,
     /// A header of two bytes: ids 1 to 255, and 0 to 255 bytes of data.
     TwoByte,

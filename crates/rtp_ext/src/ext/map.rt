@@ -224,7 +224,8 @@ impl fmt::Debug for ExtensionMap {
     ghost use Rattle.std.specs.Prelude.{Some, [], ◌++◌, codes};
     ghost use Rattle.rtp_ext.specs.ExtensionMap.{items_from, items_text};
 
-    ghost debug_output = { λ map. Some (codes "Extensions(" ++ items_text [] (items_from 0 map) ++ codes ")") };
+    ghost debug_output = { λ map. Some (codes "Extensions(" ++ items_text [] (items_from 0 map)
+        ++ codes ")") };
 
     fn fmt<W: fmt::Write>(&self, f: &mut fmt::Formatter<W>) -> fmt::Result {
         f.write_str("Extensions(")?;

@@ -97,9 +97,9 @@ impl RtpHeader {
 
     /// Returns how many bytes [`write_to`](Self::write_to) writes under the map: a multiple of
     /// four, 12 without CSRC list and block, and at most 65,612. The map gives a closer bound: 76
-    /// bytes (12, 15 sources of 4, and the 4 of a block before its elements) and 257 for each mapped
-    /// id, rounded up to whole words, so at most 4,188 where no id above 16 is mapped. Requires at
-    /// most 15 contributing sources.
+    /// bytes (12, 15 sources of 4, and the 4 of a block before its elements) and 257 for each
+    /// mapped id, rounded up to whole words, so at most 4,188 where no id above 16 is mapped.
+    /// Requires at most 15 contributing sources.
     pub fn wire_len(&self, exts: &ExtensionMap) -> usize
         requires sources { self.now.csrc_count ≤ 15 }
         ensures length { result ≡ length (wire_bytes exts.now self.now) }
