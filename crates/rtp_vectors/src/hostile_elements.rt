@@ -1,4 +1,5 @@
-//! Good packets in which single elements are damaged: their neighbours keep their values.
+//! Good packets in which single elements are damaged. Where the data of one are damaged, all others
+//! keep their values; where its length is, those before it do.
 
 use crate::checks::{are_values, bytes_of, same};
 use crate::hostile_damage::damages;

@@ -44,7 +44,7 @@ stream_fits stream = nat_le (mask_of stream) 15 && list_all bare_or_active strea
 abbrev pub rates_fit : List ℕ → Bool
 rates_fit rates = nat_le (length rates) 4 && list_all (λ rate. nat_lt rate 9223372036854775808) rates
 
--- a resolution stands behind no layer without one, and has no width or height of 0
+-- a resolution follows no active layer without one, and has no width or height of 0
 abbrev pub told_fits : Bool → Option ResolutionAndFramerate → Bool
 told_fits ended None = true
 told_fits ended (Some r) =

@@ -167,9 +167,10 @@ fn put_streams(buf: &mut [u8], index: u8, streams: &[SimulcastStreamAllocation])
 
 /// Whether the allocation can be written: some bytes mean it, once the layers at the end of each
 /// stream are dropped that have neither temporal layers nor a resolution. It can where it has index
-/// 0 and no streams, or else an index of at most 3; 1 to 4 streams; at most 4 layers a stream; at
-/// most 4 temporal layers a layer, with rates below 2^63; no resolution on a layer without temporal
-/// layers or behind a layer without one; and no width or height of 0.
+/// 0 and no streams, or else an index of at most 3; 1 to 4 streams; at most 4 layers a stream up to
+/// the last active one; at most 4 temporal layers a layer, with rates below 2^63; no resolution on
+/// a layer without temporal layers or after an active layer without one; and no width or height of
+/// 0.
 pub fn is_writable(v: &VideoLayersAllocation) -> bool
     ensures writable { IsTrue result ↔ written.Writable v.now }
 
