@@ -2,13 +2,16 @@
 //! alone.
 #![tactic(auto)]
 
+pub mod bounds;
 pub mod equality;
 pub mod forwarding;
 pub mod headers;
 pub mod layers;
+pub mod memory;
 pub mod negotiating;
 pub mod numbers;
 pub mod padding;
 pub mod receiving;
 pub mod retransmission;
+pub mod send_times;
 pub mod times;
