@@ -14,8 +14,9 @@ use Rattle.rtp_wire.specs.declared.receive.verdict.Verdict.{Verdict}
 use Rattle.rtp_wire.specs.Header.{IsWire}
 use Rattle.rtp_wire.specs.NotAHeader.{NotAHeader}
 use Rattle.rtp_wire.specs.Receivers.{ReceiverStates}
-use Rattle.rtp_wire.specs.Verdicts.{reading_of, IsReading, IsVerdict}
-use Rattle.rtp_wire.specs.Sources.{AreVerdictsBySource, HoldsEach, taken_of, numbers_beside, taken_after_each}
+use Rattle.rtp_wire.specs.Verdicts.{packet_id_of, IsPacketId, IsVerdict}
+use Rattle.rtp_wire.specs.Sources.{AreVerdictsBySource, taken_of, numbers_beside}
+use Rattle.rtp_wire.specs.EachSource.{HoldsEach, taken_after_each}
 use Rattle.rtp_wire.proofs.VerdictLemmas.{HasCause, AllZip-more}
 use Rattle.rtp_wire.proofs.SourceLemmas.{SoFarEach, SoFarEach-none, SoFarEach-more}
 use Rattle.rtp_report.specs.declared.program.RunEnd.{RunEnd}
@@ -32,12 +33,12 @@ pub IsHeader-parsed : (exts : ExtensionMap) (datagram : List ℕ) (answer : Opti
 IsHeader-parsed exts datagram None found only = λ header wire. none-some header (only header wire)
 IsHeader-parsed exts datagram (Some header) found only = found
 
--- the header of a datagram gives its reading, and its cause where there is none
-reading : (exts : ExtensionMap) (datagram : List ℕ) (header : Option RtpHeader) → IsHeader exts datagram header → IsReading exts datagram (option_map reading_of header)
-reading exts datagram None none = none
-reading exts datagram (Some header) wire = record { header = header; wire = wire; reading_is = refl }
+-- the header of a datagram gives its packet id, and its cause where there is none
+packet_id : (exts : ExtensionMap) (datagram : List ℕ) (header : Option RtpHeader) → IsHeader exts datagram header → IsPacketId exts datagram (option_map packet_id_of header)
+packet_id exts datagram None none = none
+packet_id exts datagram (Some header) wire = record { header = header; wire = wire; packet_id_is = refl }
 
-cause : (datagram : List ℕ) (header : Option RtpHeader) → (header ≡ None → NotAHeader datagram) → HasCause datagram (option_map reading_of header)
+cause : (datagram : List ℕ) (header : Option RtpHeader) → (header ≡ None → NotAHeader datagram) → HasCause datagram (option_map packet_id_of header)
 cause datagram None refused = refused refl
 cause datagram (Some header) refused = tt
 
@@ -63,7 +64,7 @@ pub record Printed (exts : ExtensionMap) (datagrams : List (List ℕ)) (done : �
   pub whole : IsReport exts (take count datagrams) written
 
 verdicts_of : (exts : ExtensionMap) (datagrams : List (List ℕ)) (verdicts : List Verdict) (receivers : ReceiverStates) → SoFarEach exts datagrams verdicts receivers → AreVerdictsBySource exts datagrams verdicts
-verdicts_of exts datagrams verdicts receivers so_far = record { readings = so_far.readings; are_readings = so_far.are_readings; runs = so_far.runs }
+verdicts_of exts datagrams verdicts receivers so_far = record { packet_ids = so_far.packet_ids; are_packet_ids = so_far.are_packet_ids; runs = so_far.runs }
 
 pub Printed-none : (exts : ExtensionMap) (datagrams : List (List ℕ)) (old : Option (List ℕ)) (text : List ℕ) (receivers : ReceiverStates) → Appends old old [] → text ≡ [] → receivers ≡ []
     → Printed exts datagrams 0 old old text receivers
@@ -84,8 +85,8 @@ Printed-none exts datagrams old text receivers same empty none =
 -- the lines of one datagram more are put behind the text
 pub Printed-more : (exts : ExtensionMap) (datagrams : List (List ℕ)) (done : ℕ) (old new : Option (List ℕ)) (text text' : List ℕ) (before after : ReceiverStates) (header : Option RtpHeader) (verdict : Verdict)
     → Printed exts datagrams done old new text before → done < length datagrams → IsHeader exts (get_or datagrams done []) header → (header ≡ None → NotAHeader (get_or datagrams done []))
-    → ((taken : ℕ → Numbers) → HoldsEach before taken → IsVerdict (numbers_beside taken (option_map reading_of header)) (option_map reading_of header) verdict)
-    → ((taken : ℕ → Numbers) → HoldsEach before taken → HoldsEach after (taken_after_each taken (option_map reading_of header) verdict))
+    → ((taken : ℕ → Numbers) → HoldsEach before taken → IsVerdict (numbers_beside taken (option_map packet_id_of header)) (option_map packet_id_of header) verdict)
+    → ((taken : ℕ → Numbers) → HoldsEach before taken → HoldsEach after (taken_after_each taken (option_map packet_id_of header) verdict))
     → text' ≡ text ++ packet_lines (done + 1) header verdict → Printed exts datagrams (done + 1) old new text' after
 Printed-more exts datagrams done old new text text' before after header verdict p below is refused judged holds grown =
     let report : Report = (header, verdict) in
@@ -101,8 +102,8 @@ Printed-more exts datagrams done old new text text' before after header verdict 
       so_far =
           subst (λ (ds : List (List ℕ)). SoFarEach exts ds (map (λ (r : Report). r.1) (p.reports ++ report ∷ [])) after) (sym one)
           (subst (λ (vs : List Verdict). SoFarEach exts (take done datagrams ++ datagram ∷ []) vs after) (sym (map_push (λ (r : Report). r.1) p.reports report))
-          (SoFarEach-more exts (take done datagrams) datagram (option_map reading_of header) verdicts verdict before after p.so_far (reading exts datagram header is) (cause datagram header refused)
-          (judged (taken_of p.so_far.readings verdicts) p.so_far.holds) (holds (taken_of p.so_far.readings verdicts) p.so_far.holds)));
+          (SoFarEach-more exts (take done datagrams) datagram (option_map packet_id_of header) verdicts verdict before after p.so_far (packet_id exts datagram header is) (cause datagram header refused)
+          (judged (taken_of p.so_far.packet_ids verdicts) p.so_far.holds) (holds (taken_of p.so_far.packet_ids verdicts) p.so_far.holds)));
       written = p.written;
       appended = p.appended;
       lines_are =
@@ -168,7 +169,7 @@ module _ (exts : ExtensionMap) (datagrams : List (List ℕ)) (done : ℕ) (old n
 -- memory is refused before anything is printed
 pub Prints-nothing : (exts : ExtensionMap) (datagrams : List (List ℕ)) (old : Option (List ℕ)) → Prints old old (IsPartialReport exts datagrams NoMemory)
 Prints-nothing exts datagrams old =
-    ([], Appends-nil old, (0, record { reports = []; headers_are = tt; verdicts_are = record { readings = []; are_readings = tt; runs = record { as_many = refl; each = λ i below. absurd (omega arith) } }; printed_is = refl }))
+    ([], Appends-nil old, (0, record { reports = []; headers_are = tt; verdicts_are = record { packet_ids = []; are_packet_ids = tt; runs = record { as_many = refl; each = λ i below. absurd (omega arith) } }; printed_is = refl }))
 
 -- an error that is handed on, and what holds of it
 pub handed_on : {A : Type 0} (r : Result A RunEnd) (error end : RunEnd) (P : RunEnd → Type 0) → IsErrAnd r (λ e. e ≡ error) → error ≡ end → P end → IfErr r P

@@ -4,8 +4,9 @@ ghost use Rattle.std.specs.Prelude.{◌≡◌, ◌++◌, ℕ, [], map, string_by
 ghost use Rattle.std.specs.Option.{option_map, option_copied};
 ghost use Rattle.rtp_base.specs.Window.{Numbers};
 ghost use Rattle.rtp_wire.specs.NotAHeader.{NotAHeader};
-ghost use Rattle.rtp_wire.specs.Verdicts.{IsVerdict, reading_of};
-ghost use Rattle.rtp_wire.specs.Sources.{HoldsEach, numbers_beside, taken_after_each};
+ghost use Rattle.rtp_wire.specs.Verdicts.{IsVerdict, packet_id_of};
+ghost use Rattle.rtp_wire.specs.Sources.{numbers_beside};
+ghost use Rattle.rtp_wire.specs.EachSource.{HoldsEach, taken_after_each};
 ghost use Rattle.rtp_report.specs.Output.{IsHeader, packet_lines, IsReport, IsPartialReport, Prints};
 
 use super::input::Input;
@@ -29,11 +30,11 @@ fn judged(
     ensures header { IfOk result (λ report. IsHeader exts.now datagram.now report.0) }
     ensures cause { IfOk result (λ report. report.0 ≡ None → NotAHeader datagram.now) }
     ensures verdict { (taken : ℕ → Numbers) → HoldsEach receivers.old taken →
-        IfOk result (λ report. IsVerdict (numbers_beside taken (option_map reading_of report.0))
-        (option_map reading_of report.0) report.1) }
+        IfOk result (λ report. IsVerdict (numbers_beside taken (option_map packet_id_of report.0))
+        (option_map packet_id_of report.0) report.1) }
     ensures after { (taken : ℕ → Numbers) → HoldsEach receivers.old taken →
         IfOk result (λ report. HoldsEach receivers.new
-        (taken_after_each taken (option_map reading_of report.0) report.1)) }
+        (taken_after_each taken (option_map packet_id_of report.0) report.1)) }
 {
     let header = RtpHeader::parse(alloc, datagram, exts)?;
     let verdict = match &header {

@@ -5,31 +5,31 @@ use Rattle.std.proofs.lemmas.Bool.{false≢true}
 use Rattle.rtp_base.specs.Window.{Numbers, WindowState, IsGreatest}
 use Rattle.rtp_wire.specs.declared.receive.verdict.Verdict.{Verdict}
 use Rattle.rtp_wire.specs.declared.receive.verdict.Verdict.TheVariants.{Unreadable, Taken, Refused}
-use Rattle.rtp_wire.specs.Widening.{IsNear}
+use Rattle.rtp_wire.specs.Widening.{Extends}
 use Rattle.rtp_wire.specs.Receiver.{Holds, IsNothing, IsHighest, IsNumberOf, IsJudged, taken_after}
-use Rattle.rtp_wire.specs.Verdicts.{Reading, taken_by, IsVerdict, IsRun}
+use Rattle.rtp_wire.specs.Verdicts.{PacketId, taken_by, IsVerdict, IsRun}
 use Rattle.rtp_wire.proofs.VerdictLemmas.{Holds-same, taken_by-push, IsRun-more}
 
 -- ---- one header more
 
 -- the verdicts so far are those of a run, and the receiver holds what they take
-pub record AreSoFar (readings : List (Option Reading)) (verdicts : List Verdict) (receiver : Option WindowState) : Type 0 where
-  pub run : IsRun readings verdicts
+pub record AreSoFar (packet_ids : List (Option PacketId)) (verdicts : List Verdict) (receiver : Option WindowState) : Type 0 where
+  pub run : IsRun packet_ids verdicts
   pub holds : Holds receiver (taken_by verdicts)
 
 pub AreSoFar-none : (receiver : Option WindowState) → Holds receiver (taken_by []) → AreSoFar [] [] receiver
 AreSoFar-none receiver holds = record { run = record { as_many = refl; each = λ i below. absurd (omega arith) }; holds = holds }
 
-pub AreSoFar-more : (readings : List (Option Reading)) (verdicts : List Verdict) (old new : Option WindowState) (reading : Option Reading) (verdict : Verdict) → AreSoFar readings verdicts old
-    → IsVerdict (taken_by verdicts) reading verdict → Holds new (taken_after (taken_by verdicts) verdict) → AreSoFar (readings ++ reading ∷ []) (verdicts ++ verdict ∷ []) new
-AreSoFar-more readings verdicts old new reading verdict so_far is holds = record {
-  run = IsRun-more readings verdicts reading verdict so_far.run is;
+pub AreSoFar-more : (packet_ids : List (Option PacketId)) (verdicts : List Verdict) (old new : Option WindowState) (packet_id : Option PacketId) (verdict : Verdict) → AreSoFar packet_ids verdicts old
+    → IsVerdict (taken_by verdicts) packet_id verdict → Holds new (taken_after (taken_by verdicts) verdict) → AreSoFar (packet_ids ++ packet_id ∷ []) (verdicts ++ verdict ∷ []) new
+AreSoFar-more packet_ids verdicts old new packet_id verdict so_far is holds = record {
+  run = IsRun-more packet_ids verdicts packet_id verdict so_far.run is;
   holds = Holds-same new (taken_after (taken_by verdicts) verdict) (taken_by (verdicts ++ verdict ∷ [])) (taken_by-push verdicts verdict) holds;
 }
 
 -- ---- the first packet of a source
 
-number_of_none : (taken : Numbers) (highest : Option ℕ) (low number : ℕ) → IsNothing taken → IsHighest taken highest → IsNear 16 highest low number → number ≡ low % 65536
+number_of_none : (taken : Numbers) (highest : Option ℕ) (low number : ℕ) → IsNothing taken → IsHighest taken highest → Extends 16 highest low number → number ≡ low % 65536
 number_of_none taken None low number none is near = near
 number_of_none taken (Some highest) low number none is near = absurd (false≢true (sym (none highest) ∙ is.member))
 

@@ -5,7 +5,7 @@ ghost use Rattle.rtp_base.specs.Window.{Numbers, IsGreatest, including};
 ghost use Rattle.rtp_wire.specs.Receiver.{Holds, IsNumberOf, IsFresh};
 ghost use Rattle.rtp_wire.specs.Receivers.{receiver_of};
 ghost use Rattle.rtp_wire.specs.TrueNumbers.{IsTrueNumber, AreTrue, AreTrueVerdicts};
-ghost use Rattle.rtp_wire.specs.Sending.{readings_of};
+ghost use Rattle.rtp_wire.specs.Sending.{packet_ids_of};
 ghost use Rattle.rtp_wire.specs.declared.receive.verdict.Verdict.TheVariants.{Taken};
 
 use rtp_base::{SeqNo, Ssrc};
@@ -49,8 +49,8 @@ pub fn receive_authentic<F: FnOnce(SeqNo) -> bool>(
 /// first is below 65,536 and each later one is less than 32,768 away from the highest one before it
 /// (RFC 3711, 3.3.1).
 pub fn receive_each(alloc: Global, headers: &[RtpHeader]) -> Result<Vec<Verdict>, AllocError>
-    ensures { (numbers : List ℕ) → AreTrue (readings_of headers.now) numbers → IfOk result (λ found.
-        AreTrueVerdicts (readings_of headers.now) numbers found.items) }
+    ensures { (numbers : List ℕ) → AreTrue (packet_ids_of headers.now) numbers → IfOk result (λ found.
+        AreTrueVerdicts (packet_ids_of headers.now) numbers found.items) }
 {
     let mut verdicts = Vec::with_capacity(alloc, headers.len())?;
     let mut receiver = Receiver::new();

@@ -17,9 +17,9 @@ use Rattle.rtp_wire.specs.Header.{IsFixed}
 use Rattle.rtp_wire.specs.NotAHeader.{NotABlock, cut_head, unknown_form, cut_words, NotAHeader, cut_fixed, other_version, cut_sources, no_block}
 use Rattle.rtp_ext.specs.WrittenBlock.{form_of, body_bytes, block_bytes}
 use Rattle.rtp_wire.specs.Written.{fixed_bytes, source_bytes, extension_bytes, wire_bytes}
-use Rattle.rtp_wire.specs.Verdicts.{Reading, reading_of, IsReading, AreReadings, IsRun, AreVerdicts}
+use Rattle.rtp_wire.specs.Verdicts.{PacketId, packet_id_of, IsPacketId, ArePacketIds, IsRun, AreVerdicts}
 use Rattle.rtp_wire.specs.TrueNumbers.{AreTrueVerdicts}
-use Rattle.rtp_wire.specs.Sending.{IsOfSource, Arrives, readings_of, AreSent}
+use Rattle.rtp_wire.specs.Sending.{IsOfSource, Arrives, packet_ids_of, AreSent}
 use Rattle.rtp_wire.proofs.FlagLemmas.{bit-once, HasFlags, flags_from_first}
 use Rattle.rtp_wire.proofs.GroupLemmas.{length-numbers}
 use Rattle.rtp_wire.proofs.HeaderLemmas.{layout_of}
@@ -88,8 +88,8 @@ written_not_refused exts h rest few slots (no_block announced none) =
 
 -- ---- what is written is read as its header says
 
-same_reading : (a b : Reading) → a.source ≡ b.source → a.low ≡ b.low → a ≡ b
-same_reading a b source low =
+same_packet_id : (a b : PacketId) → a.source ≡ b.source → a.low ≡ b.low → a ≡ b
+same_packet_id a b source low =
     ap (λ (s : ℕ). record { source = s; low = a.low }) source ∙ ap (λ (l : ℕ). record { source = b.source; low = l }) low
 
 arrived : (exts : ExtensionMap) (h : RtpHeader) (datagram : List ℕ) → (arrives : Arrives exts h datagram)
@@ -99,35 +99,35 @@ arrived exts h datagram arrives =
     arrives.1 ∙ append_assoc (fixed_bytes h) (source_bytes h ++ extension_bytes exts h.has_extension h.ext_vals) arrives.0
     ∙ ap (λ (ys : List ℕ). fixed_bytes h ++ ys) (append_assoc (source_bytes h) (extension_bytes exts h.has_extension h.ext_vals) arrives.0)
 
-reading_sent : (exts : ExtensionMap) (source : ℕ) (h : RtpHeader) (datagram : List ℕ) (reading : Option Reading) → IsOfSource source h → Arrives exts h datagram
-    → IsReading exts datagram reading → HasCause datagram reading → reading ≡ Some (reading_of h)
-reading_sent exts source h datagram None of arrives read cause =
+packet_id_sent : (exts : ExtensionMap) (source : ℕ) (h : RtpHeader) (datagram : List ℕ) (packet_id : Option PacketId) → IsOfSource source h → Arrives exts h datagram
+    → IsPacketId exts datagram packet_id → HasCause datagram packet_id → packet_id ≡ Some (packet_id_of h)
+packet_id_sent exts source h datagram None of arrives read cause =
     absurd (written_not_refused exts h arrives.0 of.sources (omega (arith, of.slots, of.sources)) (subst NotAHeader (arrived exts h datagram arrives) cause))
-reading_sent exts source h datagram (Some reading) of arrives read cause =
+packet_id_sent exts source h datagram (Some packet_id) of arrives read cause =
     let g = read.header in
     let behind = source_bytes h ++ (extension_bytes exts h.has_extension h.ext_vals ++ arrives.0) in
     let front : take 12 datagram ≡ fixed_bytes h =
     ap (λ (xs : List ℕ). take 12 xs) (arrived exts h datagram arrives) ∙ take_at (fixed_bytes h) behind 12 refl in
     let fixed : IsFixed (fixed_bytes h) g = subst (λ (xs : List ℕ). IsFixed xs g) front (layout_of exts datagram g read.wire).fixed_is in
-    ap Some (read.reading_is ∙ same_reading (reading_of g) (reading_of h)
+    ap Some (read.packet_id_is ∙ same_packet_id (packet_id_of g) (packet_id_of h)
     (fixed.ssrc_is ∙ from_be_bytes-to_be_bytes_4 h.ssrc of.ssrc) (fixed.number_is ∙ from_be_bytes-to_be_bytes_2 h.sequence_number of.number))
 
-pub readings_sent : (exts : ExtensionMap) (source : ℕ) (headers : List RtpHeader) (datagrams : List (List ℕ)) (readings : List (Option Reading))
-    → AllByRecursion (IsOfSource source) headers → AllZip (Arrives exts) headers datagrams → AreReadings exts datagrams readings → AllZip HasCause datagrams readings
-    → readings ≡ readings_of headers
-readings_sent exts source [] [] [] of arrive read causes = refl
-readings_sent exts source [] [] (r ∷ readings) of arrive read causes = absurd read
-readings_sent exts source [] (d ∷ datagrams) readings of arrive read causes = absurd arrive
-readings_sent exts source (h ∷ headers) [] readings of arrive read causes = absurd arrive
-readings_sent exts source (h ∷ headers) (d ∷ datagrams) [] of arrive read causes = absurd read
-readings_sent exts source (h ∷ headers) (d ∷ datagrams) (r ∷ readings) of arrive read causes =
-    ap (λ (z : Option Reading). z ∷ readings) (reading_sent exts source h d r of.0 arrive.0 read.0 causes.0)
-    ∙ ap (λ (zs : List (Option Reading)). Some (reading_of h) ∷ zs) (readings_sent exts source headers datagrams readings of.1 arrive.1 read.1 causes.1)
+pub packet_ids_sent : (exts : ExtensionMap) (source : ℕ) (headers : List RtpHeader) (datagrams : List (List ℕ)) (packet_ids : List (Option PacketId))
+    → AllByRecursion (IsOfSource source) headers → AllZip (Arrives exts) headers datagrams → ArePacketIds exts datagrams packet_ids → AllZip HasCause datagrams packet_ids
+    → packet_ids ≡ packet_ids_of headers
+packet_ids_sent exts source [] [] [] of arrive read causes = refl
+packet_ids_sent exts source [] [] (r ∷ packet_ids) of arrive read causes = absurd read
+packet_ids_sent exts source [] (d ∷ datagrams) packet_ids of arrive read causes = absurd arrive
+packet_ids_sent exts source (h ∷ headers) [] packet_ids of arrive read causes = absurd arrive
+packet_ids_sent exts source (h ∷ headers) (d ∷ datagrams) [] of arrive read causes = absurd read
+packet_ids_sent exts source (h ∷ headers) (d ∷ datagrams) (r ∷ packet_ids) of arrive read causes =
+    ap (λ (z : Option PacketId). z ∷ packet_ids) (packet_id_sent exts source h d r of.0 arrive.0 read.0 causes.0)
+    ∙ ap (λ (zs : List (Option PacketId)). Some (packet_id_of h) ∷ zs) (packet_ids_sent exts source headers datagrams packet_ids of.1 arrive.1 read.1 causes.1)
 
 -- the verdicts on what arrives are those of the sender's numbers
 pub AreTrueVerdicts-sent : (exts : ExtensionMap) (headers : List RtpHeader) (numbers : List ℕ) (datagrams : List (List ℕ)) (verdicts : List Verdict)
-    → (are : AreVerdicts exts datagrams verdicts) → AllZip HasCause datagrams are.readings → AreSent exts headers numbers datagrams
-    → AreTrueVerdicts (readings_of headers) numbers verdicts
+    → (are : AreVerdicts exts datagrams verdicts) → AllZip HasCause datagrams are.packet_ids → AreSent exts headers numbers datagrams
+    → AreTrueVerdicts (packet_ids_of headers) numbers verdicts
 AreTrueVerdicts-sent exts headers numbers datagrams verdicts are causes sent =
-    AreTrueVerdicts-run (readings_of headers) verdicts numbers
-    (subst (λ rs. IsRun rs verdicts) (readings_sent exts sent.source headers datagrams are.readings sent.of_source sent.arrive are.are_readings causes) are.run) sent.are_true
+    AreTrueVerdicts-run (packet_ids_of headers) verdicts numbers
+    (subst (λ rs. IsRun rs verdicts) (packet_ids_sent exts sent.source headers datagrams are.packet_ids sent.of_source sent.arrive are.are_packet_ids causes) are.run) sent.are_true

@@ -4,13 +4,13 @@ use Rattle.std.proofs.lemmas.Bool.{eqb-true, or_cases, false≢true}
 use Rattle.rtp_base.specs.Window.{Numbers, IsGreatest}
 use Rattle.rtp_wire.specs.declared.receive.verdict.Verdict.{Verdict}
 use Rattle.rtp_wire.specs.declared.receive.verdict.Verdict.TheVariants.{Unreadable, Taken, Refused}
-use Rattle.rtp_wire.specs.Verdicts.{Reading, IsVerdict}
+use Rattle.rtp_wire.specs.Verdicts.{PacketId, IsVerdict}
 use Rattle.rtp_wire.specs.Sources.{at_source, taken_of, numbers_beside}
 
-abbrev of : ℕ → ℕ → Option Reading
+abbrev of : ℕ → ℕ → Option PacketId
 of source low = Some (record { source = source; low = low })
 
-abbrev run : List (Option Reading)
+abbrev run : List (Option PacketId)
 run = of 1 65535 ∷ of 2 10 ∷ None ∷ of 1 0 ∷ of 2 10 ∷ []
 
 abbrev verdicts : List Verdict

@@ -8,25 +8,25 @@ use Rattle.rtp_base.proofs.WindowLemmas.{greatest_stays}
 use Rattle.rtp_ext.specs.declared.ext.map.ExtensionMap.{ExtensionMap}
 use Rattle.rtp_wire.specs.declared.receive.verdict.Verdict.{Verdict}
 use Rattle.rtp_wire.specs.declared.receive.verdict.Verdict.TheVariants.{Unreadable, Taken, Refused}
-use Rattle.rtp_wire.specs.Widening.{IsNear}
+use Rattle.rtp_wire.specs.Widening.{Extends}
 use Rattle.rtp_wire.specs.Receiver.{IsNothing, IsHighest, IsNumberOf, IsFresh, taken_after}
-use Rattle.rtp_wire.specs.Verdicts.{Reading, reading_of, IsReading, AreReadings, taken_by, IsVerdict, IsRun, AreVerdicts}
-use Rattle.rtp_wire.specs.TrueNumbers.{IsWithinReach, IsTrueNumber, numbers_of, AreTrue, IsTrueVerdict, AreTrueVerdicts}
+use Rattle.rtp_wire.specs.Verdicts.{PacketId, packet_id_of, IsPacketId, ArePacketIds, taken_by, IsVerdict, IsRun, AreVerdicts}
+use Rattle.rtp_wire.specs.TrueNumbers.{IsInReach, IsTrueNumber, numbers_of, AreTrue, IsTrueVerdict, AreTrueVerdicts}
 use Rattle.rtp_wire.proofs.HeaderLemmas.{layout_of}
 use Rattle.rtp_wire.proofs.OneHeader.{one_header}
 use Rattle.rtp_wire.proofs.ReceiverLemmas.{not_nothing}
 use Rattle.rtp_wire.proofs.VerdictLemmas.{or_assoc, or_false, taken_by-push}
-use Rattle.rtp_wire.proofs.WideningLemmas.{only_near, IsNear-close}
+use Rattle.rtp_wire.proofs.WideningLemmas.{only_near, Extends-within_half}
 
 -- ---- the number of a packet
 
 -- a number within reach of the highest one is the extended number of its 16 bits
 pub number_within : (highest : Option ℕ) (low number near : ℕ) → IfSome highest (λ h. h < 2 ^ 64) → number < 2 ^ 64 → number % 65536 ≡ low
-    → IsWithinReach highest number → IsNear 16 highest low near → near ≡ number
+    → IsInReach highest number → Extends 16 highest low near → near ≡ number
 number_within None low number near fits whole ends within is = omega (arith, is, ends, within)
 number_within (Some h) low number near fits whole ends within is =
     only_near 16 (Some h) low near number (omega arith) (omega arith) fits is
-    (IsNear-close 16 (Some h) low number (whole, omega (arith, ends), omega (arith, within.0, within.1)))
+    (Extends-within_half 16 (Some h) low number (whole, omega (arith, ends), omega (arith, within.0, within.1)))
 
 one_greatest : (numbers : Numbers) (a b : ℕ) → IsGreatest numbers a → IsGreatest numbers b → a ≡ b
 one_greatest numbers a b first second = let low = second.top a first.member in let high = first.top b second.member in omega arith
@@ -51,9 +51,9 @@ Agrees taken numbers None = IsNothing taken × IsNothing numbers
 Agrees taken numbers (Some highest) = AgreesNear taken numbers highest
 
 -- the numbers after a place
-abbrev pub numbers_after : Numbers → Option Reading → ℕ → Numbers
+abbrev pub numbers_after : Numbers → Option PacketId → ℕ → Numbers
 numbers_after numbers None number = numbers
-numbers_after numbers (Some reading) number = including numbers number
+numbers_after numbers (Some packet_id) number = including numbers number
 
 highest_of : (taken numbers : Numbers) (highest : Option ℕ) → Agrees taken numbers highest → IsHighest taken highest × IsHighest numbers highest
 highest_of taken numbers None agrees = agrees
@@ -69,8 +69,8 @@ one_number : (taken numbers : Numbers) (highest : Option ℕ) (low number near :
 one_number taken numbers highest low number near agrees is of =
     let tops = highest_of taken numbers highest agrees in
     number_within highest low number near (fits_of taken numbers highest agrees) is.fits is.ends
-    (subst (λ h. IsWithinReach h number) (one_highest numbers is.highest highest is.is_highest tops.1) is.within)
-    (subst (λ h. IsNear 16 h low near) (one_highest taken of.0 highest of.1 tops.0) of.2)
+    (subst (λ h. IsInReach h number) (one_highest numbers is.highest highest is.is_highest tops.1) is.within)
+    (subst (λ h. Extends 16 h low near) (one_highest taken of.0 highest of.1 tops.0) of.2)
 
 -- a number may be taken after the one exactly where it may after the other
 Accepts-same : (taken numbers : Numbers) (highest number : ℕ) → IsGreatest taken highest → IsGreatest numbers highest
@@ -185,20 +185,20 @@ Agrees-refused taken numbers (Some h) number agrees refused =
 -- ---- a place
 
 -- the verdict on a packet is that of its true number, and what is taken and the true numbers agree after it
-record IsKept (taken numbers : Numbers) (reading : Option Reading) (number : ℕ) (verdict : Verdict) : Type 0 where
-  pub is : IsTrueVerdict numbers reading number verdict
+record IsKept (taken numbers : Numbers) (packet_id : Option PacketId) (number : ℕ) (verdict : Verdict) : Type 0 where
+  pub is : IsTrueVerdict numbers packet_id number verdict
   pub highest : Option ℕ
-  pub agrees : Agrees (taken_after taken verdict) (numbers_after numbers reading number) highest
+  pub agrees : Agrees (taken_after taken verdict) (numbers_after numbers packet_id number) highest
 
-kept : (taken numbers : Numbers) (highest : Option ℕ) (reading : Option Reading) (number : ℕ) (verdict : Verdict) → Agrees taken numbers highest
-    → IfSome reading (λ r. IsTrueNumber numbers r.low number) → IsVerdict taken reading verdict → IsKept taken numbers reading number verdict
+kept : (taken numbers : Numbers) (highest : Option ℕ) (packet_id : Option PacketId) (number : ℕ) (verdict : Verdict) → Agrees taken numbers highest
+    → IfSome packet_id (λ r. IsTrueNumber numbers r.low number) → IsVerdict taken packet_id verdict → IsKept taken numbers packet_id number verdict
 kept taken numbers highest None number verdict agrees is judged = record {
   is = judged;
   highest = highest;
   agrees = subst (λ v. Agrees (taken_after taken v) numbers highest) (sym judged) agrees;
 }
-kept taken numbers highest (Some reading) number (Taken n) agrees is judged =
-    let here : n ≡ number = judged.2.0 ∙ one_number taken numbers highest reading.low number judged.0 agrees is judged.1 in
+kept taken numbers highest (Some packet_id) number (Taken n) agrees is judged =
+    let here : n ≡ number = judged.2.0 ∙ one_number taken numbers highest packet_id.low number judged.0 agrees is judged.1 in
     let fresh = subst (IsFresh taken) (sym judged.2.0 ∙ here) judged.2.1 in
     let after = Agrees-taken taken numbers highest number is.fits agrees in
     record {
@@ -206,27 +206,27 @@ kept taken numbers highest (Some reading) number (Taken n) agrees is judged =
       highest = after.0;
       agrees = subst (λ k. Agrees (including taken k) (including numbers number) after.0) (sym here) after.1;
     }
-kept taken numbers highest (Some reading) number Refused agrees is judged =
-    let here = one_number taken numbers highest reading.low number judged.0 agrees is judged.1 in
+kept taken numbers highest (Some packet_id) number Refused agrees is judged =
+    let here = one_number taken numbers highest packet_id.low number judged.0 agrees is judged.1 in
     let refused : IsFresh numbers number → ⊥ =
     λ fresh. judged.2 (subst (IsFresh taken) (sym here) (fresh_here taken numbers highest number agrees fresh)) in
     record { is = refused; highest = highest; agrees = Agrees-refused taken numbers highest number agrees refused }
-kept taken numbers highest (Some reading) number Unreadable agrees is judged = absurd judged.2
+kept taken numbers highest (Some packet_id) number Unreadable agrees is judged = absurd judged.2
 
 -- ---- the run
 
-pub numbers_of-push : (readings : List (Option Reading)) (numbers : List ℕ) (reading : Option Reading) (number n : ℕ) → length numbers ≡ length readings
-    → numbers_of (readings ++ reading ∷ []) (numbers ++ number ∷ []) n ≡ numbers_after (numbers_of readings numbers) reading number n
+pub numbers_of-push : (packet_ids : List (Option PacketId)) (numbers : List ℕ) (packet_id : Option PacketId) (number n : ℕ) → length numbers ≡ length packet_ids
+    → numbers_of (packet_ids ++ packet_id ∷ []) (numbers ++ number ∷ []) n ≡ numbers_after (numbers_of packet_ids numbers) packet_id number n
 numbers_of-push [] [] None number n many = refl
-numbers_of-push [] [] (Some reading) number n many = or_false (eqb n number)
-numbers_of-push [] (m ∷ numbers) reading number n many = absurd (omega (arith, many))
-numbers_of-push (r ∷ readings) [] reading number n many = absurd (omega (arith, many))
-numbers_of-push (None ∷ readings) (m ∷ numbers) None number n many = numbers_of-push readings numbers None number n (omega (arith, many))
-numbers_of-push (None ∷ readings) (m ∷ numbers) (Some s) number n many = numbers_of-push readings numbers (Some s) number n (omega (arith, many))
-numbers_of-push (Some r ∷ readings) (m ∷ numbers) None number n many =
-    ap (λ (b : Bool). eqb n m || b) (numbers_of-push readings numbers None number n (omega (arith, many)))
-numbers_of-push (Some r ∷ readings) (m ∷ numbers) (Some s) number n many =
-    ap (λ (b : Bool). eqb n m || b) (numbers_of-push readings numbers (Some s) number n (omega (arith, many))) ∙ or_assoc (eqb n m) (numbers_of readings numbers n) (eqb n number)
+numbers_of-push [] [] (Some packet_id) number n many = or_false (eqb n number)
+numbers_of-push [] (m ∷ numbers) packet_id number n many = absurd (omega (arith, many))
+numbers_of-push (r ∷ packet_ids) [] packet_id number n many = absurd (omega (arith, many))
+numbers_of-push (None ∷ packet_ids) (m ∷ numbers) None number n many = numbers_of-push packet_ids numbers None number n (omega (arith, many))
+numbers_of-push (None ∷ packet_ids) (m ∷ numbers) (Some s) number n many = numbers_of-push packet_ids numbers (Some s) number n (omega (arith, many))
+numbers_of-push (Some r ∷ packet_ids) (m ∷ numbers) None number n many =
+    ap (λ (b : Bool). eqb n m || b) (numbers_of-push packet_ids numbers None number n (omega (arith, many)))
+numbers_of-push (Some r ∷ packet_ids) (m ∷ numbers) (Some s) number n many =
+    ap (λ (b : Bool). eqb n m || b) (numbers_of-push packet_ids numbers (Some s) number n (omega (arith, many))) ∙ or_assoc (eqb n m) (numbers_of packet_ids numbers n) (eqb n number)
 
 IsGreatest-same : (a b : Numbers) (highest : ℕ) → ((n : ℕ) → b n ≡ a n) → IsGreatest a highest → IsGreatest b highest
 IsGreatest-same a b highest same top = record { member = same highest ∙ top.member; top = λ n is. top.top n (sym (same n) ∙ is) }
@@ -241,60 +241,60 @@ Agrees-same a b c d (Some h) first second agrees = record {
 }
 
 -- what is taken and the true numbers agree before each place
-before_place : (readings : List (Option Reading)) (verdicts : List Verdict) (numbers : List ℕ) → IsRun readings verdicts → AreTrue readings numbers
-    → (i : ℕ) → i ≤ length readings → (highest : Option ℕ) × Agrees (taken_by (take i verdicts)) (numbers_of (take i readings) (take i numbers)) highest
-before_place readings verdicts numbers run are zero within = (None, (λ n. refl, λ n. refl))
-before_place readings verdicts numbers run are (suc i) within =
-    let old = before_place readings verdicts numbers run are i (omega arith) in
-    let reading = get_or readings i None in
+before_place : (packet_ids : List (Option PacketId)) (verdicts : List Verdict) (numbers : List ℕ) → IsRun packet_ids verdicts → AreTrue packet_ids numbers
+    → (i : ℕ) → i ≤ length packet_ids → (highest : Option ℕ) × Agrees (taken_by (take i verdicts)) (numbers_of (take i packet_ids) (take i numbers)) highest
+before_place packet_ids verdicts numbers run are zero within = (None, (λ n. refl, λ n. refl))
+before_place packet_ids verdicts numbers run are (suc i) within =
+    let old = before_place packet_ids verdicts numbers run are i (omega arith) in
+    let packet_id = get_or packet_ids i None in
     let number = get_or numbers i 0 in
     let verdict = get_or verdicts i Unreadable in
-    let here : i < length readings = omega arith in
+    let here : i < length packet_ids = omega arith in
     let next : suc i ≡ i + 1 = omega arith in
-    let one = kept (taken_by (take i verdicts)) (numbers_of (take i readings) (take i numbers)) old.0 reading number verdict old.1 (are.each i here) (run.each i here) in
-    let readings_are : take (suc i) readings ≡ take i readings ++ reading ∷ [] = ap (λ k. take k readings) next ∙ take_more readings i None here in
+    let one = kept (taken_by (take i verdicts)) (numbers_of (take i packet_ids) (take i numbers)) old.0 packet_id number verdict old.1 (are.each i here) (run.each i here) in
+    let packet_ids_are : take (suc i) packet_ids ≡ take i packet_ids ++ packet_id ∷ [] = ap (λ k. take k packet_ids) next ∙ take_more packet_ids i None here in
     let numbers_are : take (suc i) numbers ≡ take i numbers ++ number ∷ [] = ap (λ k. take k numbers) next ∙ take_more numbers i 0 (omega (arith, are.as_many)) in
     let verdicts_are : take (suc i) verdicts ≡ take i verdicts ++ verdict ∷ [] = ap (λ k. take k verdicts) next ∙ take_more verdicts i Unreadable (omega (arith, run.as_many)) in
-    let many : length (take i numbers) ≡ length (take i readings) = length-take-le i numbers (omega (arith, are.as_many)) ∙ sym (length-take-le i readings (omega arith)) in (
+    let many : length (take i numbers) ≡ length (take i packet_ids) = length-take-le i numbers (omega (arith, are.as_many)) ∙ sym (length-take-le i packet_ids (omega arith)) in (
       one.highest,
       Agrees-same (taken_after (taken_by (take i verdicts)) verdict) (taken_by (take (suc i) verdicts))
-          (numbers_after (numbers_of (take i readings) (take i numbers)) reading number) (numbers_of (take (suc i) readings) (take (suc i) numbers)) one.highest
+          (numbers_after (numbers_of (take i packet_ids) (take i numbers)) packet_id number) (numbers_of (take (suc i) packet_ids) (take (suc i) numbers)) one.highest
           (λ n. ap (λ vs. taken_by vs n) verdicts_are ∙ taken_by-push (take i verdicts) verdict n)
-          (λ n. ap (λ rs. numbers_of rs (take (suc i) numbers) n) readings_are ∙ ap (λ ns. numbers_of (take i readings ++ reading ∷ []) ns n) numbers_are
-          ∙ numbers_of-push (take i readings) (take i numbers) reading number n many) one.agrees,
+          (λ n. ap (λ rs. numbers_of rs (take (suc i) numbers) n) packet_ids_are ∙ ap (λ ns. numbers_of (take i packet_ids ++ packet_id ∷ []) ns n) numbers_are
+          ∙ numbers_of-push (take i packet_ids) (take i numbers) packet_id number n many) one.agrees,
     )
 
-pub AreTrueVerdicts-run : (readings : List (Option Reading)) (verdicts : List Verdict) (numbers : List ℕ) → IsRun readings verdicts → AreTrue readings numbers
-    → AreTrueVerdicts readings numbers verdicts
-AreTrueVerdicts-run readings verdicts numbers run are = record {
+pub AreTrueVerdicts-run : (packet_ids : List (Option PacketId)) (verdicts : List Verdict) (numbers : List ℕ) → IsRun packet_ids verdicts → AreTrue packet_ids numbers
+    → AreTrueVerdicts packet_ids numbers verdicts
+AreTrueVerdicts-run packet_ids verdicts numbers run are = record {
   as_many = run.as_many;
   each = λ i below.
-      let before = before_place readings verdicts numbers run are i (omega arith) in
-      (kept (taken_by (take i verdicts)) (numbers_of (take i readings) (take i numbers)) before.0 (get_or readings i None) (get_or numbers i 0) (get_or verdicts i Unreadable)
+      let before = before_place packet_ids verdicts numbers run are i (omega arith) in
+      (kept (taken_by (take i verdicts)) (numbers_of (take i packet_ids) (take i numbers)) before.0 (get_or packet_ids i None) (get_or numbers i 0) (get_or verdicts i Unreadable)
       before.1 (are.each i below) (run.each i below)).is;
 }
 
--- ---- the readings of datagrams
+-- ---- the packet ids of datagrams
 
-one_reading : (exts : ExtensionMap) (datagram : List ℕ) (a b : Option Reading) → IsReading exts datagram a → IsReading exts datagram b → a ≡ b
-one_reading exts datagram None None first second = refl
-one_reading exts datagram None (Some b) first second = absurd (first second.header second.wire)
-one_reading exts datagram (Some a) None first second = absurd (second first.header first.wire)
-one_reading exts datagram (Some a) (Some b) first second =
-    ap Some (first.reading_is ∙ ap reading_of (one_header exts datagram first.header second.header (layout_of exts datagram first.header first.wire) second.wire) ∙ sym second.reading_is)
+one_packet_id : (exts : ExtensionMap) (datagram : List ℕ) (a b : Option PacketId) → IsPacketId exts datagram a → IsPacketId exts datagram b → a ≡ b
+one_packet_id exts datagram None None first second = refl
+one_packet_id exts datagram None (Some b) first second = absurd (first second.header second.wire)
+one_packet_id exts datagram (Some a) None first second = absurd (second first.header first.wire)
+one_packet_id exts datagram (Some a) (Some b) first second =
+    ap Some (first.packet_id_is ∙ ap packet_id_of (one_header exts datagram first.header second.header (layout_of exts datagram first.header first.wire) second.wire) ∙ sym second.packet_id_is)
 
-pub one_readings : (exts : ExtensionMap) (datagrams : List (List ℕ)) (a b : List (Option Reading)) → AreReadings exts datagrams a → AreReadings exts datagrams b → a ≡ b
-one_readings exts [] [] [] first second = refl
-one_readings exts [] [] (y ∷ b) first second = absurd second
-one_readings exts [] (x ∷ a) b first second = absurd first
-one_readings exts (d ∷ ds) [] b first second = absurd first
-one_readings exts (d ∷ ds) (x ∷ a) [] first second = absurd second
-one_readings exts (d ∷ ds) (x ∷ a) (y ∷ b) first second =
-    ap (λ (z : Option Reading). z ∷ a) (one_reading exts d x y first.0 second.0) ∙ ap (λ (zs : List (Option Reading)). y ∷ zs) (one_readings exts ds a b first.1 second.1)
+pub one_packet_ids : (exts : ExtensionMap) (datagrams : List (List ℕ)) (a b : List (Option PacketId)) → ArePacketIds exts datagrams a → ArePacketIds exts datagrams b → a ≡ b
+one_packet_ids exts [] [] [] first second = refl
+one_packet_ids exts [] [] (y ∷ b) first second = absurd second
+one_packet_ids exts [] (x ∷ a) b first second = absurd first
+one_packet_ids exts (d ∷ ds) [] b first second = absurd first
+one_packet_ids exts (d ∷ ds) (x ∷ a) [] first second = absurd second
+one_packet_ids exts (d ∷ ds) (x ∷ a) (y ∷ b) first second =
+    ap (λ (z : Option PacketId). z ∷ a) (one_packet_id exts d x y first.0 second.0) ∙ ap (λ (zs : List (Option PacketId)). y ∷ zs) (one_packet_ids exts ds a b first.1 second.1)
 
 -- the verdicts on datagrams, by the true numbers of their packets
-pub AreTrueVerdicts-of : (exts : ExtensionMap) (datagrams : List (List ℕ)) (verdicts : List Verdict) (readings : List (Option Reading)) (numbers : List ℕ)
-    → AreVerdicts exts datagrams verdicts → AreReadings exts datagrams readings → AreTrue readings numbers → AreTrueVerdicts readings numbers verdicts
-AreTrueVerdicts-of exts datagrams verdicts readings numbers are read true_are =
-    AreTrueVerdicts-run readings verdicts numbers
-    (subst (λ rs. IsRun rs verdicts) (one_readings exts datagrams are.readings readings are.are_readings read) are.run) true_are
+pub AreTrueVerdicts-of : (exts : ExtensionMap) (datagrams : List (List ℕ)) (verdicts : List Verdict) (packet_ids : List (Option PacketId)) (numbers : List ℕ)
+    → AreVerdicts exts datagrams verdicts → ArePacketIds exts datagrams packet_ids → AreTrue packet_ids numbers → AreTrueVerdicts packet_ids numbers verdicts
+AreTrueVerdicts-of exts datagrams verdicts packet_ids numbers are read true_are =
+    AreTrueVerdicts-run packet_ids verdicts numbers
+    (subst (λ rs. IsRun rs verdicts) (one_packet_ids exts datagrams are.packet_ids packet_ids are.are_packet_ids read) are.run) true_are

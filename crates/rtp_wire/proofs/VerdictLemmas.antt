@@ -14,7 +14,7 @@ use Rattle.rtp_wire.specs.declared.header.rtp_header.RtpHeader.{RtpHeader}
 use Rattle.rtp_wire.specs.Header.{IsWire}
 use Rattle.rtp_wire.specs.NotAHeader.{NotAHeader}
 use Rattle.rtp_wire.specs.Receiver.{Holds, IsFresh, taken_after}
-use Rattle.rtp_wire.specs.Verdicts.{Reading, reading_of, IsReading, taken_by, IsVerdict, IsRunBy, IsRun, AreVerdicts, TakesOnce}
+use Rattle.rtp_wire.specs.Verdicts.{PacketId, packet_id_of, IsPacketId, taken_by, IsVerdict, IsRunBy, IsRun, AreVerdicts, TakesOnce}
 
 -- ---- one verdict more
 
@@ -48,37 +48,37 @@ Holds-same (Some window) a b same keeps = record {
   recorded = λ n low near. keeps.recorded n low near ∙ sym (same n);
 }
 
--- a verdict, at equal readings and verdicts
-IsVerdict-same : (before : Option Reading → List (Option Reading) → List Verdict → Numbers) (r s : Option Reading) (rs ss : List (Option Reading)) (vs ws : List Verdict) (v w : Verdict)
+-- a verdict, at equal packet ids and verdicts
+IsVerdict-same : (before : Option PacketId → List (Option PacketId) → List Verdict → Numbers) (r s : Option PacketId) (rs ss : List (Option PacketId)) (vs ws : List Verdict) (v w : Verdict)
     → r ≡ s → rs ≡ ss → vs ≡ ws → v ≡ w → IsVerdict (before s ss ws) s w → IsVerdict (before r rs vs) r v
-IsVerdict-same before r s rs ss vs ws v w reading readings verdicts verdict is =
-    subst (λ (x : Option Reading). IsVerdict (before x rs vs) x v) (sym reading)
-    (subst (λ (xs : List (Option Reading)). IsVerdict (before s xs vs) s v) (sym readings)
+IsVerdict-same before r s rs ss vs ws v w packet_id packet_ids verdicts verdict is =
+    subst (λ (x : Option PacketId). IsVerdict (before x rs vs) x v) (sym packet_id)
+    (subst (λ (xs : List (Option PacketId)). IsVerdict (before s xs vs) s v) (sym packet_ids)
     (subst (λ (xs : List Verdict). IsVerdict (before s ss xs) s v) (sym verdicts) (subst (IsVerdict (before s ss ws) s) (sym verdict) is)))
 
--- a run with one reading more
-pub IsRunBy-more : (before : Option Reading → List (Option Reading) → List Verdict → Numbers) (readings : List (Option Reading)) (verdicts : List Verdict) (reading : Option Reading) (verdict : Verdict)
-    → IsRunBy before readings verdicts → IsVerdict (before reading readings verdicts) reading verdict → IsRunBy before (readings ++ reading ∷ []) (verdicts ++ verdict ∷ [])
-IsRunBy-more before readings verdicts reading verdict run is =
-    let many = length_push readings reading in
+-- a run with one packet id more
+pub IsRunBy-more : (before : Option PacketId → List (Option PacketId) → List Verdict → Numbers) (packet_ids : List (Option PacketId)) (verdicts : List Verdict) (packet_id : Option PacketId) (verdict : Verdict)
+    → IsRunBy before packet_ids verdicts → IsVerdict (before packet_id packet_ids verdicts) packet_id verdict → IsRunBy before (packet_ids ++ packet_id ∷ []) (verdicts ++ verdict ∷ [])
+IsRunBy-more before packet_ids verdicts packet_id verdict run is =
+    let many = length_push packet_ids packet_id in
     record {
       as_many = length_push verdicts verdict ∙ ap (λ (k : ℕ). k + 1) run.as_many ∙ sym many;
-      each = λ i below. elim (cases_lt i (length readings)) [
+      each = λ i below. elim (cases_lt i (length packet_ids)) [
         | inl old ↦
             let within : i < length verdicts = omega (arith, run.as_many) in
-            IsVerdict-same before _ _ _ _ _ _ _ _ (get_or_append_left readings (reading ∷ []) None i old) (take-append-le i readings (reading ∷ []) (omega arith))
+            IsVerdict-same before _ _ _ _ _ _ _ _ (get_or_append_left packet_ids (packet_id ∷ []) None i old) (take-append-le i packet_ids (packet_id ∷ []) (omega arith))
             (take-append-le i verdicts (verdict ∷ []) (omega arith)) (get_or_append_left verdicts (verdict ∷ []) Unreadable i within) (run.each i old)
         | inr new ↦
-            let here : length readings ≡ i = omega (arith, many) in
+            let here : length packet_ids ≡ i = omega (arith, many) in
             let len : length verdicts ≡ i = run.as_many ∙ here in
-            IsVerdict-same before _ _ _ _ _ _ _ _ (get_or_at readings reading [] None i here) (take_at readings (reading ∷ []) i here)
+            IsVerdict-same before _ _ _ _ _ _ _ _ (get_or_at packet_ids packet_id [] None i here) (take_at packet_ids (packet_id ∷ []) i here)
             (take_at verdicts (verdict ∷ []) i len) (get_or_at verdicts verdict [] Unreadable i len) is
       ];
     }
 
-pub IsRun-more : (readings : List (Option Reading)) (verdicts : List Verdict) (reading : Option Reading) (verdict : Verdict) → IsRun readings verdicts
-    → IsVerdict (taken_by verdicts) reading verdict → IsRun (readings ++ reading ∷ []) (verdicts ++ verdict ∷ [])
-IsRun-more = IsRunBy-more (λ reading earlier taken. taken_by taken)
+pub IsRun-more : (packet_ids : List (Option PacketId)) (verdicts : List Verdict) (packet_id : Option PacketId) (verdict : Verdict) → IsRun packet_ids verdicts
+    → IsVerdict (taken_by verdicts) packet_id verdict → IsRun (packet_ids ++ packet_id ∷ []) (verdicts ++ verdict ∷ [])
+IsRun-more = IsRunBy-more (λ packet_id earlier taken. taken_by taken)
 
 pub AllZip-more : {A B : Type 0} (R : A → B → Type 0) (xs : List A) (ys : List B) (x : A) (y : B) → AllZip R xs ys → R x y → AllZip R (xs ++ x ∷ []) (ys ++ y ∷ [])
 AllZip-more R [] [] x y all one = (one, tt)
@@ -86,15 +86,15 @@ AllZip-more R [] (b ∷ ys) x y all one = absurd all
 AllZip-more R (a ∷ xs) [] x y all one = absurd all
 AllZip-more R (a ∷ xs) (b ∷ ys) x y all one = (all.0, AllZip-more R xs ys x y all.1 one)
 
--- why a datagram has no reading
-abbrev pub HasCause : List ℕ → Option Reading → Type 0
+-- why a datagram has no packet id
+abbrev pub HasCause : List ℕ → Option PacketId → Type 0
 HasCause datagram None = NotAHeader datagram
-HasCause datagram (Some reading) = Unit {0}
+HasCause datagram (Some packet_id) = Unit {0}
 
--- the verdicts on datagrams, and the causes where they have no reading
+-- the verdicts on datagrams, and the causes where they have no packet id
 pub record AreRead (exts : ExtensionMap) (datagrams : List (List ℕ)) (verdicts : List Verdict) : Type 0 where
   pub are : AreVerdicts exts datagrams verdicts
-  pub causes : AllZip HasCause datagrams are.readings
+  pub causes : AllZip HasCause datagrams are.packet_ids
 
 -- the verdicts on the datagrams so far, and what the receiver then holds
 pub record SoFar (exts : ExtensionMap) (datagrams : List (List ℕ)) (verdicts : List Verdict) (receiver : Option WindowState) : Type 0 where
@@ -104,23 +104,23 @@ pub record SoFar (exts : ExtensionMap) (datagrams : List (List ℕ)) (verdicts :
 pub SoFar-none : (exts : ExtensionMap) (verdicts : List Verdict) (receiver : Option WindowState) → verdicts ≡ [] → Holds receiver (taken_by []) → SoFar exts [] verdicts receiver
 SoFar-none exts verdicts receiver empty holds = subst (λ (vs : List Verdict). SoFar exts [] vs receiver) (sym empty) (record {
   read = record {
-    are = record { readings = []; are_readings = tt; run = record { as_many = refl; each = λ i below. absurd (omega arith) } };
+    are = record { packet_ids = []; are_packet_ids = tt; run = record { as_many = refl; each = λ i below. absurd (omega arith) } };
     causes = tt;
   };
   holds = holds;
 })
 
-pub SoFar-more : (exts : ExtensionMap) (datagrams : List (List ℕ)) (datagram : List ℕ) (reading : Option Reading) (verdicts : List Verdict) (verdict : Verdict) (before after : Option WindowState)
-    → SoFar exts datagrams verdicts before → IsReading exts datagram reading → HasCause datagram reading → IsVerdict (taken_by verdicts) reading verdict
+pub SoFar-more : (exts : ExtensionMap) (datagrams : List (List ℕ)) (datagram : List ℕ) (packet_id : Option PacketId) (verdicts : List Verdict) (verdict : Verdict) (before after : Option WindowState)
+    → SoFar exts datagrams verdicts before → IsPacketId exts datagram packet_id → HasCause datagram packet_id → IsVerdict (taken_by verdicts) packet_id verdict
     → Holds after (taken_after (taken_by verdicts) verdict) → SoFar exts (datagrams ++ datagram ∷ []) (verdicts ++ verdict ∷ []) after
-SoFar-more exts datagrams datagram reading verdicts verdict before after so_far read cause is holds = record {
+SoFar-more exts datagrams datagram packet_id verdicts verdict before after so_far read cause is holds = record {
   read = record {
     are = record {
-      readings = so_far.read.are.readings ++ reading ∷ [];
-      are_readings = AllZip-more (IsReading exts) datagrams so_far.read.are.readings datagram reading so_far.read.are.are_readings read;
-      run = IsRun-more so_far.read.are.readings verdicts reading verdict so_far.read.are.run is;
+      packet_ids = so_far.read.are.packet_ids ++ packet_id ∷ [];
+      are_packet_ids = AllZip-more (IsPacketId exts) datagrams so_far.read.are.packet_ids datagram packet_id so_far.read.are.are_packet_ids read;
+      run = IsRun-more so_far.read.are.packet_ids verdicts packet_id verdict so_far.read.are.run is;
     };
-    causes = AllZip-more HasCause datagrams so_far.read.are.readings datagram reading so_far.read.causes cause;
+    causes = AllZip-more HasCause datagrams so_far.read.are.packet_ids datagram packet_id so_far.read.causes cause;
   };
   holds = Holds-same after (taken_after (taken_by verdicts) verdict) (taken_by (verdicts ++ verdict ∷ [])) (taken_by-push verdicts verdict) holds;
 }
@@ -142,26 +142,26 @@ not_fresh taken number is (inr accepted) = elim accepted.above_or_new [
   | inr new ↦ false≢true (sym new.1 ∙ is)
 ]
 
-taken_once : (taken : Numbers) (reading : Option Reading) (number : ℕ) → taken number ≡ true → IsVerdict taken reading (Taken number) → ⊥
+taken_once : (taken : Numbers) (packet_id : Option PacketId) (number : ℕ) → taken number ≡ true → IsVerdict taken packet_id (Taken number) → ⊥
 taken_once taken None number is verdict = absurd cc
-taken_once taken (Some reading) number is verdict =
+taken_once taken (Some packet_id) number is verdict =
     not_fresh taken verdict.0 (subst (λ (n : ℕ). taken n ≡ true) verdict.2.0 is) verdict.2.1
 
-pub TakesOnce-run : (readings : List (Option Reading)) (verdicts : List Verdict) → IsRun readings verdicts → TakesOnce verdicts
-TakesOnce-run readings verdicts run i j number before within first second =
+pub TakesOnce-run : (packet_ids : List (Option PacketId)) (verdicts : List Verdict) → IsRun packet_ids verdicts → TakesOnce verdicts
+TakesOnce-run packet_ids verdicts run i j number before within first second =
     let earlier = take j verdicts in
     let here : i < length earlier = omega (arith, length-take-le j verdicts (omega arith)) in
     let is : taken_by earlier number ≡ true = taken_by-at earlier i number here (get_or-take j verdicts i Unreadable before ∙ first) in
-    taken_once (taken_by earlier) (get_or readings j None) number is
-    (subst (IsVerdict (taken_by earlier) (get_or readings j None)) second (run.each j (omega (arith, run.as_many))))
+    taken_once (taken_by earlier) (get_or packet_ids j None) number is
+    (subst (IsVerdict (taken_by earlier) (get_or packet_ids j None)) second (run.each j (omega (arith, run.as_many))))
 
--- what `parse` returns is the reading of the datagram
-pub IsReading-parsed : (exts : ExtensionMap) (datagram : List ℕ) (answer : Option RtpHeader) → IfSome answer (IsWire exts datagram)
-    → ((header : RtpHeader) → IsWire exts datagram header → answer ≡ Some header) → IsReading exts datagram (option_map reading_of answer)
-IsReading-parsed exts datagram None found only = λ header wire. none-some header (only header wire)
-IsReading-parsed exts datagram (Some header) found only = record { header = header; wire = found; reading_is = refl }
+-- what `parse` returns is the packet id of the datagram
+pub IsPacketId-parsed : (exts : ExtensionMap) (datagram : List ℕ) (answer : Option RtpHeader) → IfSome answer (IsWire exts datagram)
+    → ((header : RtpHeader) → IsWire exts datagram header → answer ≡ Some header) → IsPacketId exts datagram (option_map packet_id_of answer)
+IsPacketId-parsed exts datagram None found only = λ header wire. none-some header (only header wire)
+IsPacketId-parsed exts datagram (Some header) found only = record { header = header; wire = found; packet_id_is = refl }
 
 -- and where it returns none, the bytes are no header
-pub HasCause-parsed : (datagram : List ℕ) (answer : Option RtpHeader) → (answer ≡ None → NotAHeader datagram) → HasCause datagram (option_map reading_of answer)
+pub HasCause-parsed : (datagram : List ℕ) (answer : Option RtpHeader) → (answer ≡ None → NotAHeader datagram) → HasCause datagram (option_map packet_id_of answer)
 HasCause-parsed datagram None refused = refused refl
 HasCause-parsed datagram (Some header) refused = tt

@@ -4,8 +4,8 @@ use Rattle.std.proofs.Math.Nat.{suc-mul, zero-mul, add-mul, mod-eq_of_lt, mul_co
 use Rattle.std.proofs.lemmas.Nat.{div-add-mod', mod_below, div_below, mul-le, mod-mul-add, div-mul-add, pow_pos, pow-add}
 use Rattle.std.proofs.lemmas.Bool.{cases_lt, cases_eq, cases_order}
 use Rattle.std.specs.Prelude.{Option, Some, None, IfSome}
-use Rattle.rtp_wire.specs.Widening.{distance, IsNearest, IsNear, IsClose}
-use Rattle.rtp_wire.specs.Moduli.{IsModulus, IsNearby}
+use Rattle.rtp_wire.specs.Widening.{distance, IsNearest, Extends, IsWithinHalf}
+use Rattle.rtp_wire.specs.Moduli.{IsModulus, IsNearestModulo}
 
 -- a number below 2^64 by its rollover count and its low bits
 record IsSplit (modulus number rollovers : ℕ) : Type 0 where
@@ -33,9 +33,9 @@ half-small modulus is =
     omega (arith, is.halves, is.whole, two)
 
 -- a number of this rollover count and these low bits, near to the previous one
-IsNearby-at : (modulus previous low number rollovers : ℕ) → low < modulus → number ≡ rollovers * modulus + low → number < 2 ^ 64
-    → (distance previous number < modulus / 2) ⊎ ((distance previous number ≡ modulus / 2) × (rollovers ≡ previous / modulus)) → IsNearby modulus previous low number
-IsNearby-at modulus previous low number rollovers below is fits near = record {
+IsNearestModulo-at : (modulus previous low number rollovers : ℕ) → low < modulus → number ≡ rollovers * modulus + low → number < 2 ^ 64
+    → (distance previous number < modulus / 2) ⊎ ((distance previous number ≡ modulus / 2) × (rollovers ≡ previous / modulus)) → IsNearestModulo modulus previous low number
+IsNearestModulo-at modulus previous low number rollovers below is fits near = record {
   fits = fits;
   ends = ap (λ (n : ℕ). n % modulus) is ∙ mod-mul-add rollovers modulus low below;
   near = elim near [
@@ -79,18 +79,18 @@ module _ (modulus previous low : ℕ) (is : IsModulus modulus) (fits : previous 
   half-is : modulus / 2 ≡ is.half
   half-is = let h = is.halves in omega arith
 
-  pub same_rollover-near : low ≤ previous % modulus + modulus / 2 → previous % modulus ≤ low + modulus / 2 → IsNearby modulus previous low (previous - previous % modulus + low)
+  pub same_rollover-near : low ≤ previous % modulus + modulus / 2 → previous % modulus ≤ low + modulus / 2 → IsNearestModulo modulus previous low (previous - previous % modulus + low)
   same_rollover-near up down =
       let whole = placed.whole in
       let room = placed.fits in
       let at : previous - previous % modulus + low ≡ previous / modulus * modulus + low = omega arith in
       let near = near_same is.half (previous / modulus * modulus) (previous % modulus) low (half-small modulus is) (omega (arith, half-is)) (omega (arith, half-is)) (omega arith) (omega arith) in
-      IsNearby-at modulus previous low (previous - previous % modulus + low) (previous / modulus) below at (omega arith) (rw half-is (elim near [
+      IsNearestModulo-at modulus previous low (previous - previous % modulus + low) (previous / modulus) below at (omega arith) (rw half-is (elim near [
         | inl less ↦ inl (rw at (subst (λ (p : ℕ). distance p (previous / modulus * modulus + low) < is.half) whole less))
         | inr just ↦ inr (rw at (subst (λ (p : ℕ). distance p (previous / modulus * modulus + low) ≡ is.half) whole just), refl)
       ]))
 
-  pub rollover_before-near : previous % modulus + modulus / 2 < low → IsNearby modulus previous low ((previous - previous % modulus + low + (2 ^ 64 - modulus)) % 2 ^ 64)
+  pub rollover_before-near : previous % modulus + modulus / 2 < low → IsNearestModulo modulus previous low ((previous - previous % modulus + low + (2 ^ 64 - modulus)) % 2 ^ 64)
   rollover_before-near up =
       let whole = placed.whole in
       let room = placed.fits in
@@ -101,7 +101,7 @@ module _ (modulus previous low : ℕ) (is : IsModulus modulus) (fits : previous 
             let at : (previous - previous % modulus + low + (2 ^ 64 - modulus)) % 2 ^ 64 ≡ before + low = omega arith in
             let here : before + modulus + previous % modulus ≡ previous = omega arith in
             let near = near_before is.half modulus before (previous % modulus) low is.halves (half-small modulus is) (omega (arith, half-is)) below (omega arith) in
-            IsNearby-at modulus previous low _ (previous / modulus - 1) below at (omega arith)
+            IsNearestModulo-at modulus previous low _ (previous / modulus - 1) below at (omega arith)
             (inl (rw (at, half-is) (subst (λ (p : ℕ). distance p (before + low) < is.half) here near)))
         | inr none ↦
             let first : previous / modulus ≡ 0 = omega arith in
@@ -111,11 +111,11 @@ module _ (modulus previous low : ℕ) (is : IsModulus modulus) (fits : previous 
             let at : (previous - previous % modulus + low + (2 ^ 64 - modulus)) % 2 ^ 64 ≡ last + low = omega arith in
             let here : previous % modulus ≡ previous = omega arith in
             let near = near_wrapped_before is.half modulus last (previous % modulus) low is.halves (half-small modulus is) (omega (arith, half-is)) below all in
-            IsNearby-at modulus previous low _ (is.rollovers - 1) below at (omega arith)
+            IsNearestModulo-at modulus previous low _ (is.rollovers - 1) below at (omega arith)
             (inl (rw (at, half-is) (subst (λ (p : ℕ). distance p (last + low) < is.half) here near)))
       ]
 
-  pub rollover_after-near : low + modulus / 2 < previous % modulus → IsNearby modulus previous low ((previous - previous % modulus + low + modulus) % 2 ^ 64)
+  pub rollover_after-near : low + modulus / 2 < previous % modulus → IsNearestModulo modulus previous low ((previous - previous % modulus + low + modulus) % 2 ^ 64)
   rollover_after-near down =
       let whole = placed.whole in
       let room = placed.fits in
@@ -128,14 +128,14 @@ module _ (modulus previous low : ℕ) (is : IsModulus modulus) (fits : previous 
             let fits' : front + modulus + modulus ≤ 2 ^ 64 = omega (arith, suc-mul (suc (previous / modulus)) modulus, is.whole, over, next) in
             let at : (previous - previous % modulus + low + modulus) % 2 ^ 64 ≡ suc (previous / modulus) * modulus + low = omega arith in
             let near = near_after is.half modulus front (previous % modulus) low is.halves (half-small modulus is) (omega (arith, half-is)) inside (omega arith) in
-            IsNearby-at modulus previous low _ (suc (previous / modulus)) below at (omega arith)
+            IsNearestModulo-at modulus previous low _ (suc (previous / modulus)) below at (omega arith)
             (inl (rw (at, half-is, next) (subst (λ (p : ℕ). distance p (front + modulus + low) < is.half) whole near)))
         | inr last ↦
             let end : suc (previous / modulus) ≡ is.rollovers = let e = placed.before in omega arith in
             let all : front + modulus ≡ 2 ^ 64 = sym (suc-mul (previous / modulus) modulus) ∙ ap (λ (k : ℕ). k * modulus) end ∙ is.whole in
             let at : (previous - previous % modulus + low + modulus) % 2 ^ 64 ≡ 0 * modulus + low = omega (arith, zero-mul modulus) in
             let near = near_wrapped_after is.half modulus front (previous % modulus) low is.halves (half-small modulus is) (omega (arith, half-is)) inside all in
-            IsNearby-at modulus previous low _ 0 below at (omega (arith, zero-mul modulus))
+            IsNearestModulo-at modulus previous low _ 0 below at (omega (arith, zero-mul modulus))
             (inl (rw (at, half-is, zero-mul modulus, zero-add low) (subst (λ (p : ℕ). distance p low < is.half) whole near)))
       ]
 
@@ -182,15 +182,15 @@ module _ (modulus previous low : ℕ) (is : IsModulus modulus) (fits : previous 
       ]
 
   -- the number so far ahead is nearest if it is less than half of the modulus ahead, or just half and of the same rollover count
-  pub IsNearby-ahead : (ahead : ℕ) → IsAhead modulus previous low ahead → (ahead < modulus / 2) ⊎ ((ahead ≡ modulus / 2) × (previous % modulus < modulus / 2))
-      → IsNearby modulus previous low ((previous + ahead) % 2 ^ 64)
+  pub IsNearestModulo-ahead : (ahead : ℕ) → IsAhead modulus previous low ahead → (ahead < modulus / 2) ⊎ ((ahead ≡ modulus / 2) × (previous % modulus < modulus / 2))
+      → IsNearestModulo modulus previous low ((previous + ahead) % 2 ^ 64)
   unfolding IsAhead
-  IsNearby-ahead ahead (inl same) near =
+  IsNearestModulo-ahead ahead (inl same) near =
       let at = split modulus previous is fits in
       let up = same.0 in
       let e : (previous + ahead) % 2 ^ 64 ≡ previous - previous % modulus + low = omega (arith, same.1, at.whole, at.fits) in
       rw e (same_rollover-near modulus previous low is fits below (elim near [ inl less ↦ omega (arith, same.1) | inr just ↦ omega (arith, same.1, just.0) ]) (omega arith))
-  IsNearby-ahead ahead (inr after) near =
+  IsNearestModulo-ahead ahead (inr after) near =
       let at = split modulus previous is fits in
       let down = after.0 in
       let halves = is.halves in
@@ -198,10 +198,10 @@ module _ (modulus previous low : ℕ) (is : IsModulus modulus) (fits : previous 
       rw e (rollover_after-near modulus previous low is fits below (elim near [ inl less ↦ omega (arith, after.1, at.below) | inr just ↦ absurd (omega (arith, after.1, at.below, just.0, just.1)) ]))
 
   -- otherwise the one before it is
-  pub IsNearby-behind : (ahead : ℕ) → IsAhead modulus previous low ahead → modulus / 2 ≤ ahead → (ahead ≡ modulus / 2 → modulus / 2 ≤ previous % modulus)
-      → IsNearby modulus previous low (((previous + ahead) % 2 ^ 64 + (2 ^ 64 - modulus)) % 2 ^ 64)
+  pub IsNearestModulo-behind : (ahead : ℕ) → IsAhead modulus previous low ahead → modulus / 2 ≤ ahead → (ahead ≡ modulus / 2 → modulus / 2 ≤ previous % modulus)
+      → IsNearestModulo modulus previous low (((previous + ahead) % 2 ^ 64 + (2 ^ 64 - modulus)) % 2 ^ 64)
   unfolding IsAhead
-  IsNearby-behind ahead (inl same) far tie =
+  IsNearestModulo-behind ahead (inl same) far tie =
       let at = split modulus previous is fits in
       let up = same.0 in
       let halves = is.halves in
@@ -210,7 +210,7 @@ module _ (modulus previous low : ℕ) (is : IsModulus modulus) (fits : previous 
         | inl just ↦ absurd (let high = tie just in omega (arith, same.1, just, high))
         | inr more ↦ omega (arith, same.1, more)
       ]))
-  IsNearby-behind ahead (inr after) far tie =
+  IsNearestModulo-behind ahead (inr after) far tie =
       let at = split modulus previous is fits in
       let down = after.0 in
       let halves = is.halves in
@@ -231,7 +231,7 @@ apart modulus half previous a b is small p-fits a-fits b-fits up round near-a ne
 
 module _ (modulus previous low : ℕ) (is : IsModulus modulus) (fits : previous < 2 ^ 64) where
   -- of two numbers with different rollover counts, one is too far
-  later : (a b : ℕ) → IsNearby modulus previous low a → IsNearby modulus previous low b → a / modulus < b / modulus → ⊥
+  later : (a b : ℕ) → IsNearestModulo modulus previous low a → IsNearestModulo modulus previous low b → a / modulus < b / modulus → ⊥
   later a b near-a near-b before =
       let at-a = split modulus a is near-a.fits in
       let at-b = split modulus b is near-b.fits in
@@ -246,8 +246,8 @@ module _ (modulus previous low : ℕ) (is : IsModulus modulus) (fits : previous 
       let same-b : b / modulus ≡ previous / modulus = elim near-b.near [ inl less ↦ absurd (omega (arith, both.1)) | inr just ↦ just.1 ] in
       omega arith
 
-  pub one_nearby : (a b : ℕ) → IsNearby modulus previous low a → IsNearby modulus previous low b → a ≡ b
-  one_nearby a b near-a near-b =
+  pub one_nearest : (a b : ℕ) → IsNearestModulo modulus previous low a → IsNearestModulo modulus previous low b → a ≡ b
+  one_nearest a b near-a near-b =
       elim (cases_order (a / modulus) (b / modulus)) [
         | inl same ↦
             sym (div-add-mod' a modulus) ∙ ap (λ (k : ℕ). k * modulus + a % modulus) same
@@ -274,20 +274,20 @@ IsModulus-pow bits some few = record {
 half-modulus : (bits : ℕ) → 0 < bits → 2 ^ bits / 2 ≡ 2 ^ (bits - 1)
 half-modulus bits some = omega (arith, half-pow bits some)
 
-pub IsNearest-from_modulus : (bits previous low number : ℕ) → 0 < bits → IsNearby (2 ^ bits) previous (low % 2 ^ bits) number → IsNearest bits previous low number
+pub IsNearest-from_modulus : (bits previous low number : ℕ) → 0 < bits → IsNearestModulo (2 ^ bits) previous (low % 2 ^ bits) number → IsNearest bits previous low number
 IsNearest-from_modulus bits previous low number some near = record { fits = near.fits; ends = near.ends; near = rw (half-modulus bits some) at near.near }
 
-pub IsNearby-from_bits : (bits previous low number : ℕ) → 0 < bits → IsNearest bits previous low number → IsNearby (2 ^ bits) previous (low % 2 ^ bits) number
-IsNearby-from_bits bits previous low number some near = record { fits = near.fits; ends = near.ends; near = rw (half-modulus bits some) near.near }
+pub IsNearestModulo-from_bits : (bits previous low number : ℕ) → 0 < bits → IsNearest bits previous low number → IsNearestModulo (2 ^ bits) previous (low % 2 ^ bits) number
+IsNearestModulo-from_bits bits previous low number some near = record { fits = near.fits; ends = near.ends; near = rw (half-modulus bits some) near.near }
 
 -- what is nearest is the only one
-pub only_near : (bits : ℕ) (previous : Option ℕ) (low a b : ℕ) → 0 < bits → bits ≤ 32 → IfSome previous (λ p. p < 2 ^ 64) → IsNear bits previous low a → IsNear bits previous low b → a ≡ b
+pub only_near : (bits : ℕ) (previous : Option ℕ) (low a b : ℕ) → 0 < bits → bits ≤ 32 → IfSome previous (λ p. p < 2 ^ 64) → Extends bits previous low a → Extends bits previous low b → a ≡ b
 only_near bits None low a b some few fits near-a near-b = near-a ∙ sym near-b
 only_near bits (Some previous) low a b some few fits near-a near-b =
-    one_nearby (2 ^ bits) previous (low % 2 ^ bits) (IsModulus-pow bits some few) fits a b
-    (IsNearby-from_bits bits previous low a some near-a) (IsNearby-from_bits bits previous low b some near-b)
+    one_nearest (2 ^ bits) previous (low % 2 ^ bits) (IsModulus-pow bits some few) fits a b
+    (IsNearestModulo-from_bits bits previous low a some near-a) (IsNearestModulo-from_bits bits previous low b some near-b)
 
 -- what is close is nearest
-pub IsNear-close : (bits : ℕ) (previous : Option ℕ) (low number : ℕ) → IsClose bits previous low number → IsNear bits previous low number
-IsNear-close bits None low number close = absurd close
-IsNear-close bits (Some previous) low number close = record { fits = close.0; ends = close.1; near = inl close.2 }
+pub Extends-within_half : (bits : ℕ) (previous : Option ℕ) (low number : ℕ) → IsWithinHalf bits previous low number → Extends bits previous low number
+Extends-within_half bits None low number close = absurd close
+Extends-within_half bits (Some previous) low number close = record { fits = close.0; ends = close.1; near = inl close.2 }

@@ -21,7 +21,7 @@ pub mod NotAHeader
 pub mod Reading
 pub mod RefusedMemory
 pub mod Written
--- What stands behind the header.
+-- What follows the header.
 pub mod Padding
 pub mod OriginalNumber
 -- Numbers over time.
@@ -32,5 +32,6 @@ pub mod TrueNumbers
 pub mod Sending
 pub mod Receivers
 pub mod Sources
--- What the inside promises itself.
+-- What functions inside promise each other.
 pub mod Moduli
+pub mod EachSource

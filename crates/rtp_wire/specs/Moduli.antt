@@ -2,7 +2,7 @@
 use Rattle.std.specs.Prelude.{◌≡◌, ℕ, ◌*◌, ◌/◌, ◌%◌, ◌^◌, ◌<◌, ◌≤◌, ◌⊎◌}
 use Rattle.rtp_wire.specs.Widening.{distance}
 
--- an even number that divides 2^64, and of which 2^64 is at least twice as much: the low bits roll over so many times
+-- an even number that divides 2^64, and of which 2^64 is at least twice as much: the low bits roll over `rollovers` times
 pub record IsModulus (modulus : ℕ) : Type 0 where
   pub half : ℕ
   pub halves : modulus ≡ 2 * half
@@ -12,7 +12,7 @@ pub record IsModulus (modulus : ℕ) : Type 0 where
   pub many : 2 ≤ rollovers
 
 -- as `IsNearest`, with half of the modulus for half of the numbers that the low bits can hold
-pub record IsNearby (modulus previous low number : ℕ) : Type 0 where
+pub record IsNearestModulo (modulus previous low number : ℕ) : Type 0 where
   pub fits : number < 2 ^ 64
   pub ends : number % modulus ≡ low
   pub near : (distance previous number < modulus / 2) ⊎ ((distance previous number ≡ modulus / 2) × (number / modulus ≡ previous / modulus))

@@ -1,7 +1,7 @@
 -- What one stream's receiver holds, and its rule for a number (RFC 3711, 3.3.1 and 3.3.2).
 use Rattle.std.specs.Prelude.{◌≡◌, ℕ, ◌⊎◌, false, Option, Some, None}
 use Rattle.rtp_base.specs.Window.{Numbers, WindowState, IsGreatest, Keeps, Accepts, including}
-use Rattle.rtp_wire.specs.Widening.{IsNear}
+use Rattle.rtp_wire.specs.Widening.{Extends}
 use Rattle.rtp_wire.specs.declared.receive.verdict.Verdict.{Verdict}
 use Rattle.rtp_wire.specs.declared.receive.verdict.Verdict.TheVariants.{Unreadable, Taken, Refused}
 
@@ -21,7 +21,7 @@ Holds (Some window) taken = Keeps window taken
 
 -- the extended sequence number of a packet with these 16 bits: the nearest to the highest number taken
 abbrev pub IsNumberOf : Numbers → ℕ → ℕ → Type 0
-IsNumberOf taken low number = (highest : Option ℕ) × IsHighest taken highest × IsNear 16 highest low number
+IsNumberOf taken low number = (highest : Option ℕ) × IsHighest taken highest × Extends 16 highest low number
 
 -- the number may be taken: no number is taken yet, or the replay window accepts it
 abbrev pub IsFresh : Numbers → ℕ → Type 0

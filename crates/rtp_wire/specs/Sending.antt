@@ -4,7 +4,7 @@ use Rattle.std.specs.List.{AllZip, AllByRecursion}
 use Rattle.rtp_ext.specs.declared.ext.map.ExtensionMap.{ExtensionMap}
 use Rattle.rtp_wire.specs.declared.header.rtp_header.RtpHeader.{RtpHeader}
 use Rattle.rtp_wire.specs.TrueNumbers.{AreTrue}
-use Rattle.rtp_wire.specs.Verdicts.{Reading, reading_of}
+use Rattle.rtp_wire.specs.Verdicts.{PacketId, packet_id_of}
 use Rattle.rtp_wire.specs.Written.{wire_bytes}
 
 -- a header of this source that can be written: numbers of the widths that the standard gives them, and at most fifteen contributing sources
@@ -20,13 +20,13 @@ pub record IsOfSource (source : ℕ) (header : RtpHeader) : Type 0 where
 abbrev pub Arrives : ExtensionMap → RtpHeader → List ℕ → Type 0
 Arrives exts header datagram = (rest : List ℕ) × (datagram ≡ wire_bytes exts header ++ rest)
 
--- the readings of some headers
-abbrev pub readings_of : List RtpHeader → List (Option Reading)
-readings_of headers = map (λ header. Some (reading_of header)) headers
+-- the packet ids of some headers
+abbrev pub packet_ids_of : List RtpHeader → List (Option PacketId)
+packet_ids_of headers = map (λ header. Some (packet_id_of header)) headers
 
 -- what arrives of a sender's headers, in order of arrival: some may be lost, come twice or late, and each has the number that the sender gave it
 pub record AreSent (exts : ExtensionMap) (headers : List RtpHeader) (numbers : List ℕ) (datagrams : List (List ℕ)) : Type 0 where
   pub source : ℕ
   pub of_source : AllByRecursion (IsOfSource source) headers
   pub arrive : AllZip (Arrives exts) headers datagrams
-  pub are_true : AreTrue (readings_of headers) numbers
+  pub are_true : AreTrue (packet_ids_of headers) numbers

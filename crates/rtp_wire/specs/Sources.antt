@@ -3,49 +3,62 @@ use Rattle.std.specs.Prelude.{ℕ, List, [], ◌∷◌, Bool, false, if◌then�
 use Rattle.rtp_base.specs.Window.{Numbers}
 use Rattle.rtp_ext.specs.declared.ext.map.ExtensionMap.{ExtensionMap}
 use Rattle.rtp_wire.specs.declared.receive.verdict.Verdict.{Verdict}
-use Rattle.rtp_wire.specs.Receiver.{Holds, taken_after}
-use Rattle.rtp_wire.specs.Receivers.{ReceiverStates, state_of}
-use Rattle.rtp_wire.specs.Verdicts.{Reading, AreReadings, taken_by, IsRunBy}
+use Rattle.rtp_wire.specs.declared.header.rtp_header.RtpHeader.{RtpHeader}
+use Rattle.rtp_wire.specs.Verdicts.{PacketId, ArePacketIds, taken_by, IsRunBy, AreVerdicts, TakesOnce}
+use Rattle.rtp_wire.specs.TrueNumbers.{AreTrue, AreTrueVerdicts}
+use Rattle.rtp_wire.specs.Sending.{packet_ids_of, AreSent}
 
--- whether a reading is that of a packet of this source; an unreadable datagram is of no source
-abbrev pub is_from : ℕ → Option Reading → Bool
+-- whether a packet id is that of a packet of this source; an unreadable datagram is of no source
+abbrev pub is_from : ℕ → Option PacketId → Bool
 is_from source None = false
-is_from source (Some reading) = source == reading.source
+is_from source (Some packet_id) = source == packet_id.source
 
--- of a list with an element for each reading, the elements at the places of one source, in their order
-abbrev pub at_source : {A : Type 0} → ℕ → List (Option Reading) → List A → List A
+-- of a list with an element for each packet id, the elements at the places of one source, in their order
+abbrev pub at_source : {A : Type 0} → ℕ → List (Option PacketId) → List A → List A
 at_source source [] xs = []
-at_source source (reading ∷ readings) [] = []
-at_source source (reading ∷ readings) (x ∷ xs) = if is_from source reading then x ∷ at_source source readings xs else at_source source readings xs
+at_source source (packet_id ∷ packet_ids) [] = []
+at_source source (packet_id ∷ packet_ids) (x ∷ xs) = if is_from source packet_id then x ∷ at_source source packet_ids xs else at_source source packet_ids xs
 
 -- the numbers that some verdicts take at the places of a source
-abbrev pub taken_of : List (Option Reading) → List Verdict → ℕ → Numbers
-taken_of readings verdicts source = taken_by (at_source source readings verdicts)
+abbrev pub taken_of : List (Option PacketId) → List Verdict → ℕ → Numbers
+taken_of packet_ids verdicts source = taken_by (at_source source packet_ids verdicts)
 
--- of the numbers of each source, those of the source of a reading; none where the datagram is unreadable
-abbrev pub numbers_beside : (ℕ → Numbers) → Option Reading → Numbers
+-- of the numbers of each source, those of the source of a packet id; none where the datagram is unreadable
+abbrev pub numbers_beside : (ℕ → Numbers) → Option PacketId → Numbers
 numbers_beside taken None = taken_by []
-numbers_beside taken (Some reading) = taken reading.source
+numbers_beside taken (Some packet_id) = taken packet_id.source
 
--- a verdict for each reading, after the numbers that the verdicts before it take of the same source
-abbrev pub AreRuns : List (Option Reading) → List Verdict → Type 0
-AreRuns readings verdicts = IsRunBy (λ reading earlier verdicts_before. numbers_beside (taken_of earlier verdicts_before) reading) readings verdicts
+-- a verdict for each packet id, after the numbers that the verdicts before it take of the same source
+abbrev pub AreRuns : List (Option PacketId) → List Verdict → Type 0
+AreRuns packet_ids verdicts = IsRunBy (λ packet_id earlier verdicts_before. numbers_beside (taken_of earlier verdicts_before) packet_id) packet_ids verdicts
 
--- a verdict for each datagram, by its reading and the verdicts on the datagrams of its source before it
+-- a verdict for each datagram, by its packet id and the verdicts on the datagrams of its source before it
 pub record AreVerdictsBySource (exts : ExtensionMap) (datagrams : List (List ℕ)) (verdicts : List Verdict) : Type 0 where
-  pub readings : List (Option Reading)
-  pub are_readings : AreReadings exts datagrams readings
-  pub runs : AreRuns readings verdicts
+  pub packet_ids : List (Option PacketId)
+  pub are_packet_ids : ArePacketIds exts datagrams packet_ids
+  pub runs : AreRuns packet_ids verdicts
 
--- a fact of each source: of the readings, the datagrams and the verdicts at its places alone
-abbrev pub OfEachSource : ExtensionMap → List (List ℕ) → List Verdict → (List (Option Reading) → List (List ℕ) → List Verdict → Type 0) → Type 0
-OfEachSource exts datagrams verdicts Fact = (readings : List (Option Reading)) → AreReadings exts datagrams readings → (source : ℕ)
-    → Fact (at_source source readings readings) (at_source source readings datagrams) (at_source source readings verdicts)
+-- a fact of one source: of the packet ids, the datagrams and the verdicts at its places
+abbrev pub FactOfSource : Type 1
+FactOfSource = List (Option PacketId) → List (List ℕ) → List Verdict → Type 0
 
--- receivers hold of each source these numbers
-abbrev pub HoldsEach : ReceiverStates → (ℕ → Numbers) → Type 0
-HoldsEach receivers taken = (source : ℕ) → Holds (state_of receivers source) (taken source)
+-- a fact of each source by itself
+abbrev pub OfEachSource : ExtensionMap → List (List ℕ) → List Verdict → FactOfSource → Type 0
+OfEachSource exts datagrams verdicts Fact = (packet_ids : List (Option PacketId)) → ArePacketIds exts datagrams packet_ids → (source : ℕ)
+    → Fact (at_source source packet_ids packet_ids) (at_source source packet_ids datagrams) (at_source source packet_ids verdicts)
 
--- what is taken of each source after a verdict on a reading
-abbrev pub taken_after_each : (ℕ → Numbers) → Option Reading → Verdict → ℕ → Numbers
-taken_after_each taken reading verdict source = if is_from source reading then taken_after (taken source) verdict else taken source
+-- the verdicts are those of a run of the source's datagrams alone
+abbrev pub IsRunAlone : ExtensionMap → FactOfSource
+IsRunAlone exts packet_ids datagrams verdicts = AreVerdicts exts datagrams verdicts
+
+-- no number is taken twice of the source
+abbrev pub TakesEachOnce : FactOfSource
+TakesEachOnce packet_ids datagrams verdicts = TakesOnce verdicts
+
+-- these numbers decide, where they are the true numbers of the source's packets
+abbrev pub IsDecidedBy : List ℕ → FactOfSource
+IsDecidedBy numbers packet_ids datagrams verdicts = AreTrue packet_ids numbers → AreTrueVerdicts packet_ids numbers verdicts
+
+-- these numbers decide, where they are those of a sender whose headers arrive
+abbrev pub IsDecidedBySender : ExtensionMap → List RtpHeader → List ℕ → FactOfSource
+IsDecidedBySender exts headers numbers packet_ids datagrams verdicts = AreSent exts headers numbers datagrams → AreTrueVerdicts (packet_ids_of headers) numbers verdicts

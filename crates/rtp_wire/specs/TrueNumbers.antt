@@ -4,12 +4,12 @@ use Rattle.rtp_base.specs.Window.{Numbers}
 use Rattle.rtp_wire.specs.declared.receive.verdict.Verdict.{Verdict}
 use Rattle.rtp_wire.specs.declared.receive.verdict.Verdict.TheVariants.{Unreadable}
 use Rattle.rtp_wire.specs.Receiver.{IsHighest, IsJudged}
-use Rattle.rtp_wire.specs.Verdicts.{Reading}
+use Rattle.rtp_wire.specs.Verdicts.{PacketId}
 
 -- a number is less than 32,768, half of the 16 bits' number space, away from the highest before it; the first is below 65,536
-abbrev pub IsWithinReach : Option ℕ → ℕ → Type 0
-IsWithinReach None number = number < 65536
-IsWithinReach (Some highest) number = (highest < number + 32768) × (number < highest + 32768)
+abbrev pub IsInReach : Option ℕ → ℕ → Type 0
+IsInReach None number = number < 65536
+IsInReach (Some highest) number = (highest < number + 32768) × (number < highest + 32768)
 
 -- the number of a packet that shows these 16 bits of it, where the packets before it have these numbers
 pub record IsTrueNumber (before : Numbers) (low number : ℕ) : Type 0 where
@@ -17,28 +17,28 @@ pub record IsTrueNumber (before : Numbers) (low number : ℕ) : Type 0 where
   pub ends : number % 65536 ≡ low
   pub highest : Option ℕ
   pub is_highest : IsHighest before highest
-  pub within : IsWithinReach highest number
+  pub within : IsInReach highest number
 
 -- the numbers at the readable places
-abbrev pub numbers_of : List (Option Reading) → List ℕ → Numbers
+abbrev pub numbers_of : List (Option PacketId) → List ℕ → Numbers
 numbers_of [] numbers n = false
-numbers_of (reading ∷ readings) [] n = false
-numbers_of (None ∷ readings) (number ∷ numbers) n = numbers_of readings numbers n
-numbers_of (Some reading ∷ readings) (number ∷ numbers) n = (n == number) || numbers_of readings numbers n
+numbers_of (packet_id ∷ packet_ids) [] n = false
+numbers_of (None ∷ packet_ids) (number ∷ numbers) n = numbers_of packet_ids numbers n
+numbers_of (Some packet_id ∷ packet_ids) (number ∷ numbers) n = (n == number) || numbers_of packet_ids numbers n
 
 -- a number for each place: at each readable one the number of its packet, by the numbers at the readable places before it
-pub record AreTrue (readings : List (Option Reading)) (numbers : List ℕ) : Type 0 where
-  pub as_many : length numbers ≡ length readings
-  pub each : (i : ℕ) → i < length readings → IfSome (slice_index_or readings i None) (λ reading.
-      IsTrueNumber (numbers_of (take i readings) (take i numbers)) reading.low (slice_index_or numbers i 0))
+pub record AreTrue (packet_ids : List (Option PacketId)) (numbers : List ℕ) : Type 0 where
+  pub as_many : length numbers ≡ length packet_ids
+  pub each : (i : ℕ) → i < length packet_ids → IfSome (slice_index_or packet_ids i None) (λ packet_id.
+      IsTrueNumber (numbers_of (take i packet_ids) (take i numbers)) packet_id.low (slice_index_or numbers i 0))
 
 -- the verdict on a packet of this number: taken with it exactly where no packet before it has the number, and the number isn't 128 or more below the highest before it
-abbrev pub IsTrueVerdict : Numbers → Option Reading → ℕ → Verdict → Type 0
+abbrev pub IsTrueVerdict : Numbers → Option PacketId → ℕ → Verdict → Type 0
 IsTrueVerdict before None number verdict = verdict ≡ Unreadable
-IsTrueVerdict before (Some reading) number verdict = IsJudged before number verdict
+IsTrueVerdict before (Some packet_id) number verdict = IsJudged before number verdict
 
 -- a verdict for each place, by the numbers alone
-pub record AreTrueVerdicts (readings : List (Option Reading)) (numbers : List ℕ) (verdicts : List Verdict) : Type 0 where
-  pub as_many : length verdicts ≡ length readings
-  pub each : (i : ℕ) → i < length readings → IsTrueVerdict (numbers_of (take i readings) (take i numbers))
-      (slice_index_or readings i None) (slice_index_or numbers i 0) (slice_index_or verdicts i Unreadable)
+pub record AreTrueVerdicts (packet_ids : List (Option PacketId)) (numbers : List ℕ) (verdicts : List Verdict) : Type 0 where
+  pub as_many : length verdicts ≡ length packet_ids
+  pub each : (i : ℕ) → i < length packet_ids → IsTrueVerdict (numbers_of (take i packet_ids) (take i numbers))
+      (slice_index_or packet_ids i None) (slice_index_or numbers i 0) (slice_index_or verdicts i Unreadable)

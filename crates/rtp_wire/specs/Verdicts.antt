@@ -9,29 +9,29 @@ use Rattle.rtp_wire.specs.declared.receive.verdict.Verdict.TheVariants.{Unreadab
 use Rattle.rtp_wire.specs.Header.{IsWire}
 use Rattle.rtp_wire.specs.Receiver.{IsNumberOf, IsJudged}
 
--- what a run makes of a datagram: the source of its packet, and the 16 bits of the packet's number
-pub record Reading : Type 0 where
+-- what a receiver knows a packet by: its source, and the 16 bits of its number
+pub record PacketId : Type 0 where
   pub source : ℕ
   pub low : ℕ
 
--- the reading of a header
-abbrev pub reading_of : RtpHeader → Reading
-reading_of header = record { source = header.ssrc; low = header.sequence_number }
+-- what a header says of its packet's source and number
+abbrev pub packet_id_of : RtpHeader → PacketId
+packet_id_of header = record { source = header.ssrc; low = header.sequence_number }
 
--- the datagram begins with a header of this reading
-pub record Shows (exts : ExtensionMap) (datagram : List ℕ) (reading : Reading) : Type 0 where
+-- the datagram begins with a header of this packet id
+pub record Shows (exts : ExtensionMap) (datagram : List ℕ) (packet_id : PacketId) : Type 0 where
   pub header : RtpHeader
   pub wire : IsWire exts datagram header
-  pub reading_is : reading ≡ reading_of header
+  pub packet_id_is : packet_id ≡ packet_id_of header
 
--- the reading of a datagram, and none where it begins with no header
-abbrev pub IsReading : ExtensionMap → List ℕ → Option Reading → Type 0
-IsReading exts datagram None = (header : RtpHeader) → IsWire exts datagram header → ⊥
-IsReading exts datagram (Some reading) = Shows exts datagram reading
+-- the packet id of a datagram, and none where the datagram begins with no header
+abbrev pub IsPacketId : ExtensionMap → List ℕ → Option PacketId → Type 0
+IsPacketId exts datagram None = (header : RtpHeader) → IsWire exts datagram header → ⊥
+IsPacketId exts datagram (Some packet_id) = Shows exts datagram packet_id
 
--- a reading for each datagram
-abbrev pub AreReadings : ExtensionMap → List (List ℕ) → List (Option Reading) → Type 0
-AreReadings exts datagrams readings = AllZip (IsReading exts) datagrams readings
+-- a packet id for each datagram
+abbrev pub ArePacketIds : ExtensionMap → List (List ℕ) → List (Option PacketId) → Type 0
+ArePacketIds exts datagrams packet_ids = AllZip (IsPacketId exts) datagrams packet_ids
 
 -- the numbers that some verdicts take
 abbrev pub taken_by : List Verdict → Numbers
@@ -40,26 +40,26 @@ taken_by (Taken t ∷ verdicts) number = (number == t) || taken_by verdicts numb
 taken_by (Refused ∷ verdicts) number = taken_by verdicts number
 taken_by (Unreadable ∷ verdicts) number = taken_by verdicts number
 
--- the verdict on a reading, where these numbers are taken before it
-abbrev pub IsVerdict : Numbers → Option Reading → Verdict → Type 0
+-- the verdict on a packet id, where these numbers are taken before it
+abbrev pub IsVerdict : Numbers → Option PacketId → Verdict → Type 0
 IsVerdict taken None verdict = verdict ≡ Unreadable
-IsVerdict taken (Some reading) verdict = (number : ℕ) × IsNumberOf taken reading.low number × IsJudged taken number verdict
+IsVerdict taken (Some packet_id) verdict = (number : ℕ) × IsNumberOf taken packet_id.low number × IsJudged taken number verdict
 
--- a verdict for each reading; `before` is the set of the numbers that count as taken before it, by the readings and the verdicts before it
-pub record IsRunBy (before : Option Reading → List (Option Reading) → List Verdict → Numbers) (readings : List (Option Reading)) (verdicts : List Verdict) : Type 0 where
-  pub as_many : length verdicts ≡ length readings
-  pub each : (i : ℕ) → i < length readings → IsVerdict (before (slice_index_or readings i None) (take i readings) (take i verdicts))
-      (slice_index_or readings i None) (slice_index_or verdicts i Unreadable)
+-- a verdict for each packet id; `before` is the set of the numbers that count as taken before it, by the packet ids and the verdicts before it
+pub record IsRunBy (before : Option PacketId → List (Option PacketId) → List Verdict → Numbers) (packet_ids : List (Option PacketId)) (verdicts : List Verdict) : Type 0 where
+  pub as_many : length verdicts ≡ length packet_ids
+  pub each : (i : ℕ) → i < length packet_ids → IsVerdict (before (slice_index_or packet_ids i None) (take i packet_ids) (take i verdicts))
+      (slice_index_or packet_ids i None) (slice_index_or verdicts i Unreadable)
 
--- a verdict for each reading of one stream, after the numbers that the verdicts before it take
-abbrev pub IsRun : List (Option Reading) → List Verdict → Type 0
-IsRun readings verdicts = IsRunBy (λ reading earlier taken. taken_by taken) readings verdicts
+-- a verdict for each packet id of one stream, after the numbers that the verdicts before it take
+abbrev pub IsRun : List (Option PacketId) → List Verdict → Type 0
+IsRun packet_ids verdicts = IsRunBy (λ packet_id earlier taken. taken_by taken) packet_ids verdicts
 
--- a verdict for each datagram, by its reading
+-- a verdict for each datagram, by its packet id
 pub record AreVerdicts (exts : ExtensionMap) (datagrams : List (List ℕ)) (verdicts : List Verdict) : Type 0 where
-  pub readings : List (Option Reading)
-  pub are_readings : AreReadings exts datagrams readings
-  pub run : IsRun readings verdicts
+  pub packet_ids : List (Option PacketId)
+  pub are_packet_ids : ArePacketIds exts datagrams packet_ids
+  pub run : IsRun packet_ids verdicts
 
 -- no number is taken twice
 abbrev pub TakesOnce : List Verdict → Type 0

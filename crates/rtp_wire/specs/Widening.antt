@@ -12,11 +12,11 @@ pub record IsNearest (bits previous low number : ℕ) : Type 0 where
   pub near : (distance previous number < 2 ^ (bits - 1)) ⊎ ((distance previous number ≡ 2 ^ (bits - 1)) × (number / 2 ^ bits ≡ previous / 2 ^ bits))
 
 -- the extended number: with no previous number it is the low bits alone
-abbrev pub IsNear : ℕ → Option ℕ → ℕ → ℕ → Type 0
-IsNear bits None low number = number ≡ low % 2 ^ bits
-IsNear bits (Some previous) low number = IsNearest bits previous low number
+abbrev pub Extends : ℕ → Option ℕ → ℕ → ℕ → Type 0
+Extends bits None low number = number ≡ low % 2 ^ bits
+Extends bits (Some previous) low number = IsNearest bits previous low number
 
 -- the number ends in the low bits and is less than half of their number space away from the previous one, if there is one
-abbrev pub IsClose : ℕ → Option ℕ → ℕ → ℕ → Type 0
-IsClose bits None low number = ⊥
-IsClose bits (Some previous) low number = (number < 2 ^ 64) × (number % 2 ^ bits ≡ low % 2 ^ bits) × (distance previous number < 2 ^ (bits - 1))
+abbrev pub IsWithinHalf : ℕ → Option ℕ → ℕ → ℕ → Type 0
+IsWithinHalf bits None low number = ⊥
+IsWithinHalf bits (Some previous) low number = (number < 2 ^ 64) × (number % 2 ^ bits ≡ low % 2 ^ bits) × (distance previous number < 2 ^ (bits - 1))

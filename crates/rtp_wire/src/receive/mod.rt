@@ -4,8 +4,10 @@ mod receiver;
 mod receivers;
 mod run;
 mod verdict;
+mod widening;
 
 pub use receiver::Receiver;
 pub use receivers::Receivers;
 pub use run::{receive_run, receive_run_one};
 pub use verdict::Verdict;
+pub use widening::{extend_u7, extend_u8, extend_u15, extend_u16, extend_u32};

@@ -4,7 +4,7 @@ ghost use Rattle.std.specs.Prelude.{◌≡◌, ◌↔◌, ℕ, Option, IsTrue, f
 ghost use Rattle.std.specs.Option.{option_map, option_copied};
 ghost use Rattle.rtp_base.specs.Window.{Numbers, including};
 ghost use Rattle.rtp_wire.specs.Receiver.{Holds, IsNothing, IsHighest, IsNumberOf, IsFresh, IsJudged, taken_after};
-ghost use Rattle.rtp_wire.specs.Verdicts.{IsVerdict, reading_of};
+ghost use Rattle.rtp_wire.specs.Verdicts.{IsVerdict, packet_id_of};
 ghost use Rattle.rtp_wire.specs.declared.receive.verdict.Verdict.TheVariants.{Refused};
 ghost use Rattle.rtp_wire.specs.TrueNumbers.{IsTrueNumber};
 
@@ -145,7 +145,7 @@ impl Receiver {
     // The verdict on a datagram, by the header that it begins with.
     pub(super) fn verdict_on(&mut self, header: Option<&RtpHeader>) -> Verdict
         ensures verdict { (taken : Numbers) → Holds self.old taken →
-            IsVerdict taken (option_map reading_of (option_copied header.entry)) result }
+            IsVerdict taken (option_map packet_id_of (option_copied header.entry)) result }
         ensures after { (taken : Numbers) → Holds self.old taken →
             Holds self.new (taken_after taken result) }
     {

@@ -5,10 +5,11 @@ ghost use Rattle.std.specs.Option.{option_map, option_copied};
 ghost use Rattle.rtp_base.specs.Window.{Numbers, including};
 ghost use Rattle.rtp_wire.specs.Receiver.{Holds, IsNumberOf, IsFresh, IsJudged, taken_after};
 ghost use Rattle.rtp_wire.specs.Receivers.{receiver_of, state_of};
-ghost use Rattle.rtp_wire.specs.Verdicts.{IsVerdict, reading_of};
+ghost use Rattle.rtp_wire.specs.Verdicts.{IsVerdict, packet_id_of};
 ghost use Rattle.rtp_wire.specs.declared.receive.verdict.Verdict.TheVariants.{Refused};
 ghost use Rattle.rtp_wire.specs.TrueNumbers.{IsTrueNumber};
-ghost use Rattle.rtp_wire.specs.Sources.{HoldsEach, numbers_beside, taken_after_each};
+ghost use Rattle.rtp_wire.specs.Sources.{numbers_beside};
+ghost use Rattle.rtp_wire.specs.EachSource.{HoldsEach, taken_after_each};
 
 use super::{Receiver, Verdict};
 use crate::header::RtpHeader;
@@ -200,11 +201,11 @@ impl Receivers {
     // The verdict on a datagram, by the header that it begins with.
     pub(super) fn verdict_on(&mut self, header: Option<&RtpHeader>) -> Result<Verdict, AllocError>
         ensures verdict { (taken : ℕ → Numbers) → HoldsEach self.old taken → IfOk result (IsVerdict
-            (numbers_beside taken (option_map reading_of (option_copied header.entry)))
-            (option_map reading_of (option_copied header.entry))) }
+            (numbers_beside taken (option_map packet_id_of (option_copied header.entry)))
+            (option_map packet_id_of (option_copied header.entry))) }
         ensures after { (taken : ℕ → Numbers) → HoldsEach self.old taken → IfOk result (λ verdict.
             HoldsEach self.new (taken_after_each taken
-            (option_map reading_of (option_copied header.entry)) verdict)) }
+            (option_map packet_id_of (option_copied header.entry)) verdict)) }
         ensures succeeds { header.entry ≡ None → IsOk result }
         ensures same { header.entry ≡ None → self.new ≡ self.old }
     {

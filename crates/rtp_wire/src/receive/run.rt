@@ -1,10 +1,10 @@
 //! A receiver over a whole run of datagrams.
 
 ghost use Rattle.std.specs.Prelude.{◌≡◌, ℕ, List, [], map, Option, IsOk, IfOk};
-ghost use Rattle.rtp_wire.specs.Verdicts.{Reading, AreReadings, AreVerdicts, TakesOnce};
+ghost use Rattle.rtp_wire.specs.Verdicts.{PacketId, ArePacketIds, AreVerdicts, TakesOnce};
 ghost use Rattle.rtp_wire.specs.TrueNumbers.{AreTrue, AreTrueVerdicts};
-ghost use Rattle.rtp_wire.specs.Sending.{AreSent, readings_of};
-ghost use Rattle.rtp_wire.specs.Sources.{AreVerdictsBySource, OfEachSource};
+ghost use Rattle.rtp_wire.specs.Sending.{AreSent, packet_ids_of};
+ghost use Rattle.rtp_wire.specs.Sources.{AreVerdictsBySource, OfEachSource, IsRunAlone, TakesEachOnce, IsDecidedBy, IsDecidedBySender};
 ghost use Rattle.rtp_wire.specs.declared.header.rtp_header.RtpHeader.{RtpHeader};
 
 use super::{Receiver, Receivers, Verdict};
@@ -29,30 +29,25 @@ pub fn receive_run(
 
     // The verdicts on the datagrams of a source are those of a run of them alone, whatever comes
     // between.
-    ensures isolated { IfOk result (λ found.
-        OfEachSource exts.now (map (λ d. d.items) datagrams.now) found.items
-        (λ readings alone verdicts. AreVerdicts exts.now alone verdicts)) }
-    ensures once { IfOk result (λ found.
-        OfEachSource exts.now (map (λ d. d.items) datagrams.now) found.items
-        (λ readings alone verdicts. TakesOnce verdicts)) }
+    ensures isolated { IfOk result (λ found. OfEachSource exts.now
+        (map (λ d. d.items) datagrams.now) found.items (IsRunAlone exts.now)) }
+    ensures once { IfOk result (λ found. OfEachSource exts.now
+        (map (λ d. d.items) datagrams.now) found.items TakesEachOnce) }
 
     // The numbers that a sender gave the packets of a source decide alone, where the source's first
     // one is below 65,536, and each later one is less than 32,768 away from the highest before it
     // of the source.
-    ensures true_numbers { (numbers : List ℕ) → IfOk result (λ found.
-        OfEachSource exts.now (map (λ d. d.items) datagrams.now) found.items
-        (λ readings alone verdicts.
-        AreTrue readings numbers → AreTrueVerdicts readings numbers verdicts)) }
+    ensures true_numbers { (numbers : List ℕ) → IfOk result (λ found. OfEachSource exts.now
+        (map (λ d. d.items) datagrams.now) found.items (IsDecidedBy numbers)) }
 
     // What a sender's headers were written as is read, whatever is lost, repeated or reordered on
     // the way, and the sender's numbers decide: among the datagrams of other sources, and alone.
     ensures sent_among { (headers : List RtpHeader) → (numbers : List ℕ) → IfOk result (λ found.
         OfEachSource exts.now (map (λ d. d.items) datagrams.now) found.items
-        (λ readings alone verdicts. AreSent exts.now headers numbers alone →
-        AreTrueVerdicts (readings_of headers) numbers verdicts)) }
+        (IsDecidedBySender exts.now headers numbers)) }
     ensures sent { (headers : List RtpHeader) → (numbers : List ℕ) →
         AreSent exts.now headers numbers (map (λ d. d.items) datagrams.now) →
-        IfOk result (λ found. AreTrueVerdicts (readings_of headers) numbers found.items) }
+        IfOk result (λ found. AreTrueVerdicts (packet_ids_of headers) numbers found.items) }
     ensures nothing { datagrams.now ≡ [] → IsOk result }
 {
     let mut verdicts = Vec::with_capacity(alloc, datagrams.len())?;
@@ -82,16 +77,16 @@ pub fn receive_run_one(
 
     // The numbers that the sender gave its packets decide alone, where the first one is below
     // 65,536, and each later one is less than 32,768 away from the highest before it.
-    ensures true_numbers { (readings : List (Option Reading)) → (numbers : List ℕ) →
-        AreReadings exts.now (map (λ d. d.items) datagrams.now) readings →
-        AreTrue readings numbers →
-        IfOk result (λ found. AreTrueVerdicts readings numbers found.items) }
+    ensures true_numbers { (packet_ids : List (Option PacketId)) → (numbers : List ℕ) →
+        ArePacketIds exts.now (map (λ d. d.items) datagrams.now) packet_ids →
+        AreTrue packet_ids numbers →
+        IfOk result (λ found. AreTrueVerdicts packet_ids numbers found.items) }
 
     // What a sender's headers were written as is read, whatever is lost, repeated or reordered on
     // the way, and the sender's numbers decide.
     ensures sent { (headers : List RtpHeader) → (numbers : List ℕ) →
         AreSent exts.now headers numbers (map (λ d. d.items) datagrams.now) →
-        IfOk result (λ found. AreTrueVerdicts (readings_of headers) numbers found.items) }
+        IfOk result (λ found. AreTrueVerdicts (packet_ids_of headers) numbers found.items) }
     ensures nothing { datagrams.now ≡ [] → IsOk result }
 {
     let mut verdicts = Vec::with_capacity(alloc, datagrams.len())?;

@@ -4,9 +4,10 @@ use Rattle.std.specs.Option.{option_map}
 use Rattle.std.proofs.lemmas.List.{get_or-map, length-map, length_push, take_more, take_all}
 use Rattle.rtp_wire.specs.declared.header.rtp_header.RtpHeader.{RtpHeader}
 use Rattle.rtp_wire.specs.declared.receive.verdict.Verdict.{Verdict}
-use Rattle.rtp_wire.specs.Verdicts.{reading_of, IsReading, IsVerdict}
-use Rattle.rtp_wire.specs.Sources.{at_source, taken_of, numbers_beside, HoldsEach, taken_after_each}
-use Rattle.rtp_wire.proofs.VerdictLemmas.{TakesOnce-run, IsReading-parsed, HasCause-parsed}
+use Rattle.rtp_wire.specs.Verdicts.{packet_id_of, IsPacketId, IsVerdict}
+use Rattle.rtp_wire.specs.Sources.{at_source, taken_of, numbers_beside}
+use Rattle.rtp_wire.specs.EachSource.{HoldsEach, taken_after_each}
+use Rattle.rtp_wire.proofs.VerdictLemmas.{TakesOnce-run, IsPacketId-parsed, HasCause-parsed}
 use Rattle.rtp_wire.proofs.TrueNumberLemmas.{AreTrueVerdicts-of}
 use Rattle.rtp_wire.proofs.SendingLemmas.{AreTrueVerdicts-sent}
 use Rattle.rtp_wire.proofs.SourceLemmas.{SoFarEach, SoFarEach-none, SoFarEach-more, AreRead-each, AllZip-at_source, AreTrueVerdicts-sent_each}
@@ -27,19 +28,19 @@ loop-datagram-preserved c =
     let done = c.loop-datagram.datagram-index in
     let verdicts = c.loop-datagram.verdicts.items in
     let so_far = c.loop-datagram.invariant.0 in
-    let taken = taken_of so_far.readings verdicts in
+    let taken = taken_of so_far.packet_ids verdicts in
     let many = length-map c.args.datagrams.now bytes in
     let here : get_or datagrams done [] ≡ c.deref.result.now =
     get_or-map bytes c.args.datagrams.now done c.datagram-item.result [] c.loop-datagram-test.true
     ∙ ap bytes (sym c.datagram-item.is) ∙ sym c.deref.ensures.value in
-    let reading = option_map reading_of c.in_ok-header.header in
-    let read = IsReading-parsed exts c.deref.result.now c.in_ok-header.header c.in_ok-header.ensures.found c.in_ok-header.ensures.only in
+    let packet_id = option_map packet_id_of c.in_ok-header.header in
+    let read = IsPacketId-parsed exts c.deref.result.now c.in_ok-header.header c.in_ok-header.ensures.found c.in_ok-header.ensures.only in
     let cause = HasCause-parsed c.deref.result.now c.in_ok-header.header (λ none. c.in_ok-header.ensures.refused.0 (ap Ok none)) in
-    let verdict = subst (λ (h : Option RtpHeader). IsVerdict (numbers_beside taken (option_map reading_of h)) (option_map reading_of h) c.in_ok-verdict.verdict) c.as_ref.ensures.value
+    let verdict = subst (λ (h : Option RtpHeader). IsVerdict (numbers_beside taken (option_map packet_id_of h)) (option_map packet_id_of h) c.in_ok-verdict.verdict) c.as_ref.ensures.value
     (c.in_ok-verdict.ensures.verdict taken so_far.holds) in
-    let holds = subst (λ (h : Option RtpHeader). HoldsEach c.verdict_on.new.self (taken_after_each taken (option_map reading_of h) c.in_ok-verdict.verdict)) c.as_ref.ensures.value
+    let holds = subst (λ (h : Option RtpHeader). HoldsEach c.verdict_on.new.self (taken_after_each taken (option_map packet_id_of h) c.in_ok-verdict.verdict)) c.as_ref.ensures.value
     (c.in_ok-verdict.ensures.after taken so_far.holds) in
-    let more = SoFarEach-more exts (take done datagrams) c.deref.result.now reading verdicts c.in_ok-verdict.verdict c.loop-datagram.receivers c.verdict_on.new.self
+    let more = SoFarEach-more exts (take done datagrams) c.deref.result.now packet_id verdicts c.in_ok-verdict.verdict c.loop-datagram.receivers c.verdict_on.new.self
     so_far read cause verdict holds in
     let one : take (done + 1) datagrams ≡ take done datagrams ++ c.deref.result.now ∷ [] =
     take_more datagrams done [] (omega (arith, many, c.loop-datagram-test.true)) ∙ ap (λ (d : List ℕ). take done datagrams ++ d ∷ []) here in (
@@ -50,34 +51,34 @@ loop-datagram-preserved c =
     )
 
 pub returns-clause-isolated : goal.returns-clause-isolated
-returns-clause-isolated c readings read source =
+returns-clause-isolated c packet_ids read source =
     let bytes = λ (d : Vec ℕ). d.items in
     let datagrams = map bytes c.args.datagrams.now in
     let whole = take_all c.loop-datagram.datagram-index datagrams (omega (arith, length-map c.args.datagrams.now bytes)) in
     let so_far = subst (λ ds. SoFarEach c.args.exts.now ds c.loop-datagram.verdicts.items c.loop-datagram.receivers) whole c.loop-datagram.invariant.0 in
-    (AreRead-each c.args.exts.now datagrams c.loop-datagram.verdicts.items c.loop-datagram.receivers readings source so_far read).are
+    (AreRead-each c.args.exts.now datagrams c.loop-datagram.verdicts.items c.loop-datagram.receivers packet_ids source so_far read).are
 
 pub returns-clause-once : goal.returns-clause-once
-returns-clause-once c readings read source =
-    let are = returns-clause-isolated c readings read source in
-    TakesOnce-run are.readings (at_source source readings c.loop-datagram.verdicts.items) are.run
+returns-clause-once c packet_ids read source =
+    let are = returns-clause-isolated c packet_ids read source in
+    TakesOnce-run are.packet_ids (at_source source packet_ids c.loop-datagram.verdicts.items) are.run
 
 pub returns-clause-true_numbers : goal.returns-clause-true_numbers
-returns-clause-true_numbers c numbers readings read source true_are =
+returns-clause-true_numbers c numbers packet_ids read source true_are =
     let exts = c.args.exts.now in
     let datagrams = map (λ (d : Vec ℕ). d.items) c.args.datagrams.now in
-    AreTrueVerdicts-of exts (at_source source readings datagrams) (at_source source readings c.loop-datagram.verdicts.items) (at_source source readings readings) numbers
-    (returns-clause-isolated c readings read source) (AllZip-at_source (IsReading exts) source readings datagrams readings read) true_are
+    AreTrueVerdicts-of exts (at_source source packet_ids datagrams) (at_source source packet_ids c.loop-datagram.verdicts.items) (at_source source packet_ids packet_ids) numbers
+    (returns-clause-isolated c packet_ids read source) (AllZip-at_source (IsPacketId exts) source packet_ids datagrams packet_ids read) true_are
 
 pub returns-clause-sent_among : goal.returns-clause-sent_among
-returns-clause-sent_among c headers numbers readings read source sent =
+returns-clause-sent_among c headers numbers packet_ids read source sent =
     let bytes = λ (d : Vec ℕ). d.items in
     let datagrams = map bytes c.args.datagrams.now in
     let verdicts = c.loop-datagram.verdicts.items in
     let whole = take_all c.loop-datagram.datagram-index datagrams (omega (arith, length-map c.args.datagrams.now bytes)) in
     let so_far = subst (λ ds. SoFarEach c.args.exts.now ds verdicts c.loop-datagram.receivers) whole c.loop-datagram.invariant.0 in
-    let alone = AreRead-each c.args.exts.now datagrams verdicts c.loop-datagram.receivers readings source so_far read in
-    AreTrueVerdicts-sent c.args.exts.now headers numbers (at_source source readings datagrams) (at_source source readings verdicts) alone.are alone.causes sent
+    let alone = AreRead-each c.args.exts.now datagrams verdicts c.loop-datagram.receivers packet_ids source so_far read in
+    AreTrueVerdicts-sent c.args.exts.now headers numbers (at_source source packet_ids datagrams) (at_source source packet_ids verdicts) alone.are alone.causes sent
 
 pub returns-clause-sent : goal.returns-clause-sent
 returns-clause-sent c headers numbers sent =

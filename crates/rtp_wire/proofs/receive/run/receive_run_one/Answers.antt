@@ -5,8 +5,8 @@ use Rattle.std.proofs.lemmas.List.{get_or-map, length-map, length_push, take_mor
 use Rattle.rtp_wire.specs.declared.header.rtp_header.RtpHeader.{RtpHeader}
 use Rattle.rtp_wire.specs.declared.receive.verdict.Verdict.{Verdict}
 use Rattle.rtp_wire.specs.Receiver.{IsNothing}
-use Rattle.rtp_wire.specs.Verdicts.{reading_of, taken_by, IsVerdict, AreVerdicts}
-use Rattle.rtp_wire.proofs.VerdictLemmas.{AreRead, SoFar, SoFar-none, SoFar-more, TakesOnce-run, IsReading-parsed, HasCause-parsed}
+use Rattle.rtp_wire.specs.Verdicts.{packet_id_of, taken_by, IsVerdict, AreVerdicts}
+use Rattle.rtp_wire.proofs.VerdictLemmas.{AreRead, SoFar, SoFar-none, SoFar-more, TakesOnce-run, IsPacketId-parsed, HasCause-parsed}
 use Rattle.rtp_wire.proofs.TrueNumberLemmas.{AreTrueVerdicts-of}
 use Rattle.rtp_wire.proofs.SendingLemmas.{AreTrueVerdicts-sent}
 use Rattle.rtp_wire.proofs.receive.run.receive_run_one.Goals as goal
@@ -33,12 +33,12 @@ loop-datagram-preserved c =
     let here : get_or datagrams done [] ≡ c.deref.result.now =
     get_or-map bytes c.args.datagrams.now done c.datagram-item.result [] c.loop-datagram-test.true
     ∙ ap bytes (sym c.datagram-item.is) ∙ sym c.deref.ensures.value in
-    let reading = option_map reading_of c.in_ok-header.header in
-    let read = IsReading-parsed exts c.deref.result.now c.in_ok-header.header c.in_ok-header.ensures.found c.in_ok-header.ensures.only in
+    let packet_id = option_map packet_id_of c.in_ok-header.header in
+    let read = IsPacketId-parsed exts c.deref.result.now c.in_ok-header.header c.in_ok-header.ensures.found c.in_ok-header.ensures.only in
     let cause = HasCause-parsed c.deref.result.now c.in_ok-header.header (λ none. c.in_ok-header.ensures.refused.0 (ap Ok none)) in
-    let verdict = subst (λ (h : Option RtpHeader). IsVerdict (taken_by verdicts) (option_map reading_of h) c.verdict_on-verdict.result) c.as_ref.ensures.value
+    let verdict = subst (λ (h : Option RtpHeader). IsVerdict (taken_by verdicts) (option_map packet_id_of h) c.verdict_on-verdict.result) c.as_ref.ensures.value
     (c.verdict_on-verdict.ensures.verdict (taken_by verdicts) so_far.holds) in
-    let more = SoFar-more exts (take done datagrams) c.deref.result.now reading verdicts c.verdict_on-verdict.result c.loop-datagram.receiver c.verdict_on-verdict.new.self
+    let more = SoFar-more exts (take done datagrams) c.deref.result.now packet_id verdicts c.verdict_on-verdict.result c.loop-datagram.receiver c.verdict_on-verdict.new.self
     so_far read cause verdict (c.verdict_on-verdict.ensures.after (taken_by verdicts) so_far.holds) in
     let one : take (done + 1) datagrams ≡ take done datagrams ++ c.deref.result.now ∷ [] =
     take_more datagrams done [] (omega (arith, many, c.loop-datagram-test.true)) ∙ ap (λ (d : List ℕ). take done datagrams ++ d ∷ []) here in (
@@ -58,16 +58,16 @@ returns-clause-verdicts c =
 pub returns-clause-once : goal.returns-clause-once
 returns-clause-once c =
     let are = c.loop-datagram.invariant.0.read.are in
-    TakesOnce-run are.readings c.loop-datagram.verdicts.items are.run
+    TakesOnce-run are.packet_ids c.loop-datagram.verdicts.items are.run
 
 pub returns-clause-true_numbers : goal.returns-clause-true_numbers
-returns-clause-true_numbers c readings numbers read are =
+returns-clause-true_numbers c packet_ids numbers read are =
     let bytes = λ (d : Vec ℕ). d.items in
     let datagrams = map bytes c.args.datagrams.now in
     let verdicts = c.loop-datagram.verdicts.items in
     let found = subst (λ (ds : List (List ℕ)). AreVerdicts c.args.exts.now ds verdicts)
     (take_all c.loop-datagram.datagram-index datagrams (omega (arith, length-map c.args.datagrams.now bytes))) c.loop-datagram.invariant.0.read.are in
-    AreTrueVerdicts-of c.args.exts.now datagrams verdicts readings numbers found read are
+    AreTrueVerdicts-of c.args.exts.now datagrams verdicts packet_ids numbers found read are
 
 pub returns-clause-sent : goal.returns-clause-sent
 returns-clause-sent c headers numbers sent =

@@ -1,7 +1,7 @@
 use Rattle.std.proofs.Common.{arith}
 use Rattle.rtp_wire.specs.Padding.{IsPaddingLength}
 use Rattle.rtp_wire.proofs.PaddingLemmas.{IsPaddingLength-near, IsPaddingLength-beyond, IsPaddingLength-once}
-use Rattle.rtp_wire.proofs.header.padding.padding_len.Goals as goal
+use Rattle.rtp_wire.proofs.payload.padding.padding_len.Goals as goal
 
 pub returns-then-block_size-gt-MAX_BLANK_PADDING_PAYLOAD_SIZE-clause-length :
     goal.returns-then-block_size-gt-MAX_BLANK_PADDING_PAYLOAD_SIZE-clause-length

@@ -1,22 +1,22 @@
 use Rattle.std.proofs.Common.{inl, inr}
-use Rattle.rtp_wire.proofs.WideningLemmas.{IsAhead-computed, IsNearby-ahead, IsNearby-behind}
-use Rattle.rtp_wire.proofs.header.widening.nearest.Goals as goal
-use Rattle.rtp_wire.proofs.header.widening.nearest.Goals.{else-ahead-half-2-via-then-ahead-half-2+else-previous-modulus, else-ahead-half-2-via-else-ahead-half-2}
+use Rattle.rtp_wire.proofs.WideningLemmas.{IsAhead-computed, IsNearestModulo-ahead, IsNearestModulo-behind}
+use Rattle.rtp_wire.proofs.receive.widening.nearest.Goals as goal
+use Rattle.rtp_wire.proofs.receive.widening.nearest.Goals.{else-ahead-half-2-via-then-ahead-half-2+else-previous-modulus, else-ahead-half-2-via-else-ahead-half-2}
 
 pub returns-then-ahead-half-clause-near : goal.returns-then-ahead-half-clause-near
 returns-then-ahead-half-clause-near c =
     let ahead = IsAhead-computed c.args.modulus c.args.previous c.args.low c.requires.is_modulus c.ranges.previous.fits c.requires.below in
-    IsNearby-ahead c.args.modulus c.args.previous c.args.low c.requires.is_modulus c.ranges.previous.fits c.requires.below _ ahead (inl c.if-ahead-half.true)
+    IsNearestModulo-ahead c.args.modulus c.args.previous c.args.low c.requires.is_modulus c.ranges.previous.fits c.requires.below _ ahead (inl c.if-ahead-half.true)
 
 pub returns-then-previous-modulus-clause-near : goal.returns-then-previous-modulus-clause-near
 returns-then-previous-modulus-clause-near c =
     let ahead = IsAhead-computed c.args.modulus c.args.previous c.args.low c.requires.is_modulus c.ranges.previous.fits c.requires.below in
-    IsNearby-ahead c.args.modulus c.args.previous c.args.low c.requires.is_modulus c.ranges.previous.fits c.requires.below _ ahead (inr (c.if-ahead-half-2.true, c.if-previous-modulus.true))
+    IsNearestModulo-ahead c.args.modulus c.args.previous c.args.low c.requires.is_modulus c.ranges.previous.fits c.requires.below _ ahead (inr (c.if-ahead-half-2.true, c.if-previous-modulus.true))
 
 pub returns-clause-near : goal.returns-clause-near
 returns-clause-near c =
     let ahead = IsAhead-computed c.args.modulus c.args.previous c.args.low c.requires.is_modulus c.ranges.previous.fits c.requires.below in
-    IsNearby-behind c.args.modulus c.args.previous c.args.low c.requires.is_modulus c.ranges.previous.fits c.requires.below _ ahead c.if-ahead-half.false
+    IsNearestModulo-behind c.args.modulus c.args.previous c.args.low c.requires.is_modulus c.ranges.previous.fits c.requires.below _ ahead c.if-ahead-half.false
     (elim c.else-ahead-half-2.branch [
       | else-ahead-half-2-via-then-ahead-half-2+else-previous-modulus w ↦ λ _. w.if-previous-modulus.false
       | else-ahead-half-2-via-else-ahead-half-2 w ↦ λ just. absurd (w.if-ahead-half-2.false just)

@@ -2,7 +2,7 @@ use Rattle.std.proofs.Common.{◌<◌, ℕ, List, ap, ◌∙◌, arith}
 use Rattle.rtp_base.specs.Overwriting.{overwritten}
 use Rattle.rtp_wire.specs.Padding.{padding_bytes}
 use Rattle.rtp_wire.proofs.PaddingLemmas.{with_padding_bit-announced, with_padding_bit-same}
-use Rattle.rtp_wire.proofs.header.padding.create_padding_packet.Goals as goal
+use Rattle.rtp_wire.proofs.payload.padding.create_padding_packet.Goals as goal
 
 pub set_padding_bit-requires : goal.set_padding_bit-requires
 set_padding_bit-requires c =

@@ -1,5 +1,5 @@
 use Rattle.rtp_wire.proofs.PaddingLemmas.{set-padding_bit}
-use Rattle.rtp_wire.proofs.header.padding.set_padding_bit.Goals as goal
+use Rattle.rtp_wire.proofs.payload.padding.set_padding_bit.Goals as goal
 
 pub returns : goal.returns
 returns c = set-padding_bit c.args.buf.now c.requires

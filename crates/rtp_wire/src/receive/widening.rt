@@ -1,17 +1,17 @@
 //! The extended sequence number from the low bits that the wire carries.
 
 ghost use Rattle.std.specs.Prelude.{◌≡◌, ℕ, ◌^◌, ◌<◌, ◌≤◌};
-ghost use Rattle.rtp_wire.specs.Widening.{IsNear, IsClose};
-ghost use Rattle.rtp_wire.specs.Moduli.{IsModulus, IsNearby};
+ghost use Rattle.rtp_wire.specs.Widening.{Extends, IsWithinHalf};
+ghost use Rattle.rtp_wire.specs.Moduli.{IsModulus, IsNearestModulo};
 
-use super::RtpHeader;
+use crate::header::RtpHeader;
 use rtp_base::SeqNo;
 
 // The number nearest to the previous one, modulo 2^64, among those that are `low` modulo `modulus`.
 fn nearest(previous: u64, low: u64, modulus: u64) -> u64
     requires is_modulus { IsModulus modulus }
     requires below { low < modulus }
-    ensures near { IsNearby modulus previous low result }
+    ensures near { IsNearestModulo modulus previous low result }
     ensures in_range { previous < 2 ^ 64 }
 {
     let half = modulus / 2;
@@ -30,9 +30,9 @@ fn nearest(previous: u64, low: u64, modulus: u64) -> u64
 fn widened(previous: Option<u64>, number: u64, bits: u32) -> u64
     requires some { 0 < bits }
     requires few { bits ≤ 32 }
-    ensures near { IsNear bits previous number result }
-    ensures only { (n : ℕ) → IsNear bits previous number n → result ≡ n }
-    ensures close { (n : ℕ) → IsClose bits previous number n → result ≡ n }
+    ensures near { Extends bits previous number result }
+    ensures only { (n : ℕ) → Extends bits previous number n → result ≡ n }
+    ensures close { (n : ℕ) → IsWithinHalf bits previous number n → result ≡ n }
 {
     let modulus = 1 << bits;
     let low = number % modulus;
@@ -47,11 +47,11 @@ fn widened(previous: Option<u64>, number: u64, bits: u32) -> u64
 /// the one with the rollover count of `previous`. With no previous number, returns the 7 bits alone
 /// (RFC 3711, 3.3.1). The eighth bit of `number` is ignored.
 pub fn extend_u7(previous: Option<u64>, number: u8) -> u64
-    ensures near { IsNear 7 previous number result }
+    ensures near { Extends 7 previous number result }
 
     // No other number meets `near`, and one that ends in these bits and is less than 64 away does.
-    ensures only { (n : ℕ) → IsNear 7 previous number n → result ≡ n }
-    ensures close { (n : ℕ) → IsClose 7 previous number n → result ≡ n }
+    ensures only { (n : ℕ) → Extends 7 previous number n → result ≡ n }
+    ensures close { (n : ℕ) → IsWithinHalf 7 previous number n → result ≡ n }
 {
     widened(previous, u64::from(number), 7)
 }
@@ -61,11 +61,11 @@ pub fn extend_u7(previous: Option<u64>, number: u8) -> u64
 /// the one with the rollover count of `previous`. With no previous number, returns the 8 bits alone
 /// (RFC 3711, 3.3.1).
 pub fn extend_u8(previous: Option<u64>, number: u8) -> u64
-    ensures near { IsNear 8 previous number result }
+    ensures near { Extends 8 previous number result }
 
     // No other number meets `near`, and one that ends in these bits and is less than 128 away does.
-    ensures only { (n : ℕ) → IsNear 8 previous number n → result ≡ n }
-    ensures close { (n : ℕ) → IsClose 8 previous number n → result ≡ n }
+    ensures only { (n : ℕ) → Extends 8 previous number n → result ≡ n }
+    ensures close { (n : ℕ) → IsWithinHalf 8 previous number n → result ≡ n }
 {
     widened(previous, u64::from(number), 8)
 }
@@ -75,11 +75,11 @@ pub fn extend_u8(previous: Option<u64>, number: u8) -> u64
 /// is the one with the rollover count of `previous`. With no previous number, returns the 15 bits
 /// alone (RFC 3711, 3.3.1). The sixteenth bit of `number` is ignored.
 pub fn extend_u15(previous: Option<u64>, number: u16) -> u64
-    ensures near { IsNear 15 previous number result }
+    ensures near { Extends 15 previous number result }
 
     // No other number meets `near`, and one that ends in these bits and is less than 16384 away does.
-    ensures only { (n : ℕ) → IsNear 15 previous number n → result ≡ n }
-    ensures close { (n : ℕ) → IsClose 15 previous number n → result ≡ n }
+    ensures only { (n : ℕ) → Extends 15 previous number n → result ≡ n }
+    ensures close { (n : ℕ) → IsWithinHalf 15 previous number n → result ≡ n }
 {
     widened(previous, u64::from(number), 15)
 }
@@ -95,11 +95,11 @@ pub fn extend_u15(previous: Option<u64>, number: u16) -> u64
 /// assert_eq!(extend_u16(None, 1), 1);
 /// ```
 pub fn extend_u16(previous: Option<u64>, number: u16) -> u64
-    ensures near { IsNear 16 previous number result }
+    ensures near { Extends 16 previous number result }
 
     // No other number meets `near`, and one that ends in these bits and is less than 32768 away does.
-    ensures only { (n : ℕ) → IsNear 16 previous number n → result ≡ n }
-    ensures close { (n : ℕ) → IsClose 16 previous number n → result ≡ n }
+    ensures only { (n : ℕ) → Extends 16 previous number n → result ≡ n }
+    ensures close { (n : ℕ) → IsWithinHalf 16 previous number n → result ≡ n }
 {
     widened(previous, u64::from(number), 16)
 }
@@ -109,11 +109,11 @@ pub fn extend_u16(previous: Option<u64>, number: u16) -> u64
 /// is the one with the rollover count of `previous`. With no previous number, returns the 32 bits
 /// alone (RFC 3711, 3.3.1).
 pub fn extend_u32(previous: Option<u64>, number: u32) -> u64
-    ensures near { IsNear 32 previous number result }
+    ensures near { Extends 32 previous number result }
 
     // No other number meets `near`, and one that ends in these bits and is less than 2^31 away does.
-    ensures only { (n : ℕ) → IsNear 32 previous number n → result ≡ n }
-    ensures close { (n : ℕ) → IsClose 32 previous number n → result ≡ n }
+    ensures only { (n : ℕ) → Extends 32 previous number n → result ≡ n }
+    ensures close { (n : ℕ) → IsWithinHalf 32 previous number n → result ≡ n }
 {
     widened(previous, u64::from(number), 32)
 }
@@ -122,8 +122,8 @@ impl RtpHeader {
     /// The extended sequence number of the packet: the 16 bits of the header, extended by
     /// [`extend_u16`] after the previous number.
     pub fn sequence_number(&self, previous: Option<SeqNo>) -> SeqNo
-        ensures near { IsNear 16 previous self.now.sequence_number result }
-        ensures only { (n : ℕ) → IsNear 16 previous self.now.sequence_number n → result ≡ n }
+        ensures near { Extends 16 previous self.now.sequence_number result }
+        ensures only { (n : ℕ) → Extends 16 previous self.now.sequence_number n → result ≡ n }
     {
         let previous = previous.map(|number| number.get());
         SeqNo::from(extend_u16(previous, self.sequence_number))

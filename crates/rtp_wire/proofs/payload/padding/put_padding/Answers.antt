@@ -1,6 +1,6 @@
 use Rattle.std.proofs.Common.{ℕ, List, ap, ◌∙◌, set}
 use Rattle.rtp_wire.proofs.PaddingLemmas.{overwritten-padding}
-use Rattle.rtp_wire.proofs.header.padding.put_padding.Goals as goal
+use Rattle.rtp_wire.proofs.payload.padding.put_padding.Goals as goal
 
 pub returns : goal.returns
 returns c =

@@ -1,0 +1,16 @@
+-- What receivers hold of each source, before and after a datagram: what the functions of `receive` promise each other.
+use Rattle.std.specs.Prelude.{ℕ, if◌then◌else◌, Option}
+use Rattle.rtp_base.specs.Window.{Numbers}
+use Rattle.rtp_wire.specs.declared.receive.verdict.Verdict.{Verdict}
+use Rattle.rtp_wire.specs.Receiver.{Holds, taken_after}
+use Rattle.rtp_wire.specs.Receivers.{ReceiverStates, state_of}
+use Rattle.rtp_wire.specs.Verdicts.{PacketId}
+use Rattle.rtp_wire.specs.Sources.{is_from}
+
+-- receivers hold of each source these numbers
+abbrev pub HoldsEach : ReceiverStates → (ℕ → Numbers) → Type 0
+HoldsEach receivers taken = (source : ℕ) → Holds (state_of receivers source) (taken source)
+
+-- what is taken of each source after a verdict on a packet id
+abbrev pub taken_after_each : (ℕ → Numbers) → Option PacketId → Verdict → ℕ → Numbers
+taken_after_each taken packet_id verdict source = if is_from source packet_id then taken_after (taken source) verdict else taken source
