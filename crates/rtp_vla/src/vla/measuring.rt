@@ -76,6 +76,7 @@ fn resolution_len(resolution: &Option<ResolutionAndFramerate>, ended: bool) -> O
     let Some(resolution) = resolution else {
         return Some(0);
     };
+    // Read for the proof alone, which then knows that it is a byte.
     let _framerate = resolution.framerate;
     if ended {
         return None;

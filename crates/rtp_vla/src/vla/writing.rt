@@ -99,7 +99,7 @@ fn put_rates(buf: &mut [u8], at: usize, mut left: ActiveLayers) -> usize
 fn high_and_low(number: u16) -> [u8; 2]
     ensures { result ≡ (number / 256) ∷ (number % 256) ∷ [] }
 {
-    [(number / 256) as u8, (number % 256) as u8]
+    number.to_be_bytes()
 }
 
 // Puts the resolution of a layer, if it has one.
