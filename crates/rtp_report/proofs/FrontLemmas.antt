@@ -9,17 +9,17 @@ use Rattle.rtp_values.specs.declared.kind.Extension.{Extension}
 use Rattle.rtp_values.specs.Kind.{IsNamedBy}
 use Rattle.rtp_ext.specs.ExtensionMap.{Slots, entry_at, unlocked, IsEmpty, Sets}
 use Rattle.rtp_report.specs.MapLine.{IsMapLine}
-use Rattle.rtp_report.specs.Input.{Item, AreMapLines, IsMapped, AreMapped, last_for}
+use Rattle.rtp_report.specs.Input.{Item, AreMapLines, IsEntryOf, AreMapped, last_for}
 use Rattle.rtp_report.specs.Front.{IsFront, MapsFirst}
 
 -- one more item is the last for its id, and changes nothing for others
 mapped_more : (old new : Slots) (items : List Item) (id k : ℕ) (uri : List ℕ) (extension : Extension) → IsNamedBy uri extension → Sets old new id (unlocked extension)
-    → IsMapped (last_for k items) (entry_at old k) → (here : Bool) → (id == k) ≡ here
-    → IsMapped (if here then Some (id, uri) else last_for k items) (entry_at new k)
+    → IsEntryOf (last_for k items) (entry_at old k) → (here : Bool) → (id == k) ≡ here
+    → IsEntryOf (if here then Some (id, uri) else last_for k items) (entry_at new k)
 mapped_more old new items id k uri extension named sets before true same =
     (extension, named, ap (entry_at new) (sym (eqb-true id k same)) ∙ sets.this)
 mapped_more old new items id k uri extension named sets before false other =
-    subst (IsMapped (last_for k items)) (sym (sets.others k (λ e. eqb-false id k other (sym e)))) before
+    subst (IsEntryOf (last_for k items)) (sym (sets.others k (λ e. eqb-false id k other (sym e)))) before
 
 last_for-push : (items : List Item) (item : Item) (k : ℕ) → last_for k (items ++ item ∷ []) ≡ (if item.0 == k then Some item else last_for k items)
 last_for-push items item k = ap (find (λ (x : Item). x.0 == k)) (reverse-append items (item ∷ []))
@@ -27,7 +27,7 @@ last_for-push items item k = ap (find (λ (x : Item). x.0 == k)) (reverse-append
 AreMapped-more : (old new : Slots) (items : List Item) (id : ℕ) (uri : List ℕ) (extension : Extension) → IsNamedBy uri extension → Sets old new id (unlocked extension)
     → AreMapped items old → AreMapped (items ++ (id, uri) ∷ []) new
 AreMapped-more old new items id uri extension named sets before k =
-    subst (λ (item : Option Item). IsMapped item (entry_at new k)) (sym (last_for-push items (id, uri) k))
+    subst (λ (item : Option Item). IsEntryOf item (entry_at new k)) (sym (last_for-push items (id, uri) k))
     (mapped_more old new items id k uri extension named sets (before k) (id == k) refl)
 
 -- one more map line and its item

@@ -58,5 +58,5 @@ some_space text before after split none =
     none (length before) within (ap (λ (xs : List ℕ). get_or xs (length before) 0) split ∙ get_or_at before 32 after 0 (length before) refl)
 
 -- after `map ` a map line has its digits, a space and its URI
-pub behind_word : (line rest : List ℕ) (id : ℕ) (uri : List ℕ) (m : IsMapLine line id uri) → rest ≡ drop 4 line → rest ≡ m.digits ++ 32 ∷ uri
-behind_word line rest id uri m e = e ∙ ap (drop 4) m.in_order
+pub after_word : (line rest : List ℕ) (id : ℕ) (uri : List ℕ) (m : IsMapLine line id uri) → rest ≡ drop 4 line → rest ≡ m.digits ++ 32 ∷ uri
+after_word line rest id uri m e = e ∙ ap (drop 4) m.in_order

@@ -21,7 +21,8 @@ use Rattle.rtp_wire.proofs.VerdictLemmas.{HasCause, AllZip-more}
 use Rattle.rtp_wire.proofs.SourceLemmas.{SoFarEach, SoFarEach-none, SoFarEach-more}
 use Rattle.rtp_report.specs.declared.program.RunEnd.{RunEnd}
 use Rattle.rtp_report.specs.declared.program.RunEnd.TheVariants.{NoMemory, Io}
-use Rattle.rtp_report.specs.Output.{IsHeader, packet_lines, lines_from, IsReport, IsPartialReport, Prints}
+use Rattle.rtp_report.specs.Output.{IsHeader, packet_lines, lines_from, IsReport, Prints}
+use Rattle.rtp_report.specs.Stopping.{IsPartialReport}
 
 -- a header of a datagram, with the verdict on it
 abbrev pub Report : Type 0
@@ -82,7 +83,7 @@ Printed-none exts datagrams old text receivers same empty none =
       whole = record { reports = []; headers_are = tt; verdicts_are = verdicts_of exts [] [] receivers so_far; printed_is = refl };
     }
 
--- the lines of one datagram more are put behind the text
+-- the lines of one datagram more are put after the text
 pub Printed-more : (exts : ExtensionMap) (datagrams : List (List ℕ)) (done : ℕ) (old new : Option (List ℕ)) (text text' : List ℕ) (before after : ReceiverStates) (header : Option RtpHeader) (verdict : Verdict)
     → Printed exts datagrams done old new text before → done < length datagrams → IsHeader exts (get_or datagrams done []) header → (header ≡ None → NotAHeader (get_or datagrams done []))
     → ((taken : ℕ → Numbers) → HoldsEach before taken → IsVerdict (numbers_beside taken (option_map packet_id_of header)) (option_map packet_id_of header) verdict)

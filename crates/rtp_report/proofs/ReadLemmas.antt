@@ -81,9 +81,9 @@ no_bad_line text items datagrams number good bad =
     bad.not_hex bad.no_map
 
 -- the first bad line after the front is the first of all
-pub IsFirstBadLine-behind : (text rest : List ℕ) (exts : Slots) (count number : ℕ) → IsFront text exts count rest → MapsNoneFirst rest
+pub IsFirstBadLine-after : (text rest : List ℕ) (exts : Slots) (count number : ℕ) → IsFront text exts count rest → MapsNoneFirst rest
     → IsFirstNotHex (lines rest) count number → IsFirstBadLine text number
-IsFirstBadLine-behind text rest exts count number front all bad = record {
+IsFirstBadLine-after text rest exts count number front all bad = record {
   before = front.maps ++ bad.before;
   bad = bad.bad;
   after = bad.after;
@@ -106,9 +106,9 @@ IsFirstBadLine-behind text rest exts count number front all bad = record {
 }
 
 -- the front and the rest are all lines
-AreLines-behind : (text rest : List ℕ) (exts : Slots) (count : ℕ) (datagrams : List (List ℕ)) (front : IsFront text exts count rest) → AreHex (lines rest) datagrams
+AreLines-after : (text rest : List ℕ) (exts : Slots) (count : ℕ) (datagrams : List (List ℕ)) (front : IsFront text exts count rest) → AreHex (lines rest) datagrams
     → AreLines (lines text) front.items datagrams
-AreLines-behind text rest exts count datagrams front hex = record {
+AreLines-after text rest exts count datagrams front hex = record {
   maps = front.maps;
   others = lines rest;
   in_order = front.in_order;
@@ -131,7 +131,7 @@ pub Spells-standard : (text rest : List ℕ) (exts standard : Slots) (count : �
     → count ≡ 0 → IsStandard standard → Spells text standard datagrams
 Spells-standard text rest exts standard count datagrams front hex none is_standard = record {
   items = front.items;
-  lines_are = AreLines-behind text rest exts count datagrams front hex;
+  lines_are = AreLines-after text rest exts count datagrams front hex;
   exts_are = standard_of front.maps front.items standard front.are_maps (sym front.count_is ∙ none) is_standard;
 }
 
@@ -139,7 +139,7 @@ pub Spells-mapped : (text rest : List ℕ) (exts : Slots) (count : ℕ) (datagra
     → (count ≡ 0 → ⊥) → Spells text exts datagrams
 Spells-mapped text rest exts count datagrams front hex some = record {
   items = front.items;
-  lines_are = AreLines-behind text rest exts count datagrams front hex;
+  lines_are = AreLines-after text rest exts count datagrams front hex;
   exts_are = mapped_of front.maps front.items exts front.are_maps (λ none. some (front.count_is ∙ none)) front.exts_are;
 }
 

@@ -7,7 +7,8 @@ use Rattle.rtp_ext.specs.declared.ext.map.ExtensionMap.{ExtensionMap}
 use Rattle.rtp_report.specs.declared.program.RunEnd.{RunEnd}
 use Rattle.rtp_report.specs.declared.program.RunEnd.TheVariants.{Done, BadLine, NoMemory, Io}
 use Rattle.rtp_report.specs.Input.{Spells, IsInput, HasBadLine}
-use Rattle.rtp_report.specs.Output.{IsPartialReport, IsOutputOf, IsBadLineOf, IsFrontOf, nothing, some, IsWantOf, IsBeginningOf, of_lines, of_want, IsLeft, Prints}
+use Rattle.rtp_report.specs.Output.{IsOutputOf, IsBadLineOf, IsFrontOf, nothing, some, IsWantOf, IsBeginningOf, of_lines, of_want, Prints}
+use Rattle.rtp_report.specs.Stopping.{IsPartialReport, IsLeft}
 
 -- what follows from a fact on an error, and from one on a known input
 pub on_err : {A : Type 0} (r : Result A RunEnd) (P Q : RunEnd → Type 0) → ((end : RunEnd) → P end → Q end) → IfErr r P → IfErr r Q
@@ -37,7 +38,7 @@ IsLeft-stopped text exts datagrams old new spells BadLine (printed, appends, nev
 IsLeft-stopped text exts datagrams old new spells NoMemory (printed, appends, (count, report)) = (printed, appends, some exts datagrams count spells report)
 IsLeft-stopped text exts datagrams old new spells Io (printed, appends, (count, rest, report)) = (printed, appends, of_lines rest (some exts datagrams count spells report))
 
--- want of memory is put behind the first lines, in whole or in part
+-- want of memory is put after the first lines, in whole or in part
 pub Prints-want : (text : List ℕ) (old new after : Option (List ℕ)) → Appends new after (codes "want of memory\n") → Prints old new (IsFrontOf text) → Prints old after (IsWantOf text)
 Prints-want text old new after want (front, appends, is) =
     (front ++ codes "want of memory\n", Appends-trans old new after front (codes "want of memory\n") appends want, record { front = front; front_is = is; printed_is = refl })

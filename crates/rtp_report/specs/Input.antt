@@ -33,13 +33,13 @@ abbrev pub last_for : ℕ → List Item → Option Item
 last_for id items = find (λ item. item.0 == id) (reverse items)
 
 -- what an id is mapped to: the extension that the URI of its item names, unlocked, and nothing without an item
-abbrev pub IsMapped : Option Item → Option Entry → Type 0
-IsMapped None entry = entry ≡ None
-IsMapped (Some item) entry = (extension : Extension) × IsNamedBy item.1 extension × (entry ≡ Some (unlocked extension))
+abbrev pub IsEntryOf : Option Item → Option Entry → Type 0
+IsEntryOf None entry = entry ≡ None
+IsEntryOf (Some item) entry = (extension : Extension) × IsNamedBy item.1 extension × (entry ≡ Some (unlocked extension))
 
 -- each id is mapped as the last of the items for it says
 abbrev pub AreMapped : List Item → Slots → Type 0
-AreMapped items exts = (id : ℕ) → IsMapped (last_for id items) (entry_at exts id)
+AreMapped items exts = (id : ℕ) → IsEntryOf (last_for id items) (entry_at exts id)
 
 -- the standard map: its listing, and nothing locked
 abbrev pub IsStandard : Slots → Type 0

@@ -5,3 +5,4 @@ pub mod Report
 pub mod Output
 -- What the inside promises itself.
 pub mod Front
+pub mod Stopping

@@ -34,13 +34,6 @@ pub record IsReport (exts : ExtensionMap) (datagrams : List (List ℕ)) (printed
   pub verdicts_are : AreVerdictsBySource exts datagrams (map (λ report. report.1) reports)
   pub printed_is : printed ≡ lines_from 1 reports
 
--- what is printed of the datagrams where a run stops among them: the lines of the first of them where memory is refused, and a beginning of these where a write fails
-abbrev pub IsPartialReport : ExtensionMap → List (List ℕ) → RunEnd → List ℕ → Type 0
-IsPartialReport exts datagrams NoMemory printed = (count : ℕ) × IsReport exts (take count datagrams) printed
-IsPartialReport exts datagrams Io printed = (count : ℕ) × (rest : List ℕ) × IsReport exts (take count datagrams) (printed ++ rest)
-IsPartialReport exts datagrams Done printed = ⊥
-IsPartialReport exts datagrams BadLine printed = ⊥
-
 -- the output of an input whose lines are all well-formed: the lines of its datagrams
 pub record IsOutputOf (text printed : List ℕ) : Type 0 where
   pub exts : ExtensionMap
@@ -70,13 +63,6 @@ pub data IsBeginningOf (text printed : List ℕ) : Type 0 where
   of_lines : (rest : List ℕ) → IsFrontOf text (printed ++ rest) → IsBeginningOf text printed
   of_bad_line : (rest : List ℕ) → IsBadLineOf text (printed ++ rest) → IsBeginningOf text printed
   of_want : (rest : List ℕ) → IsWantOf text (printed ++ rest) → IsBeginningOf text printed
-
--- what a run has printed when it ends early, but for `want of memory`
-abbrev pub IsLeft : List ℕ → RunEnd → List ℕ → Type 0
-IsLeft text BadLine printed = IsBadLineOf text printed
-IsLeft text NoMemory printed = IsFrontOf text printed
-IsLeft text Io printed = IsBeginningOf text printed
-IsLeft text Done printed = ⊥
 
 -- the exit status of the program
 abbrev pub status_of : RunEnd → ℕ

@@ -16,6 +16,7 @@ pub(super) fn write_text<W: Write>(output: &mut W, text: &[u8]) -> Result<(), Ru
         (λ printed. (rest : List ℕ) × (text.now ≡ printed ++ rest))) }
 {
     let mut rest = text;
+    // The label names the loop for its proof.
     'turns: for _ in 0..u64::MAX {
         if rest.is_empty() {
             return Ok(());

@@ -7,7 +7,8 @@ ghost use Rattle.rtp_wire.specs.NotAHeader.{NotAHeader};
 ghost use Rattle.rtp_wire.specs.Verdicts.{IsVerdict, packet_id_of};
 ghost use Rattle.rtp_wire.specs.Sources.{numbers_beside};
 ghost use Rattle.rtp_wire.specs.EachSource.{HoldsEach, taken_after_each};
-ghost use Rattle.rtp_report.specs.Output.{IsHeader, packet_lines, IsReport, IsPartialReport, Prints};
+ghost use Rattle.rtp_report.specs.Output.{IsHeader, packet_lines, IsReport, Prints};
+ghost use Rattle.rtp_report.specs.Stopping.{IsPartialReport};
 
 use super::input::Input;
 use super::output::write_text;
@@ -17,7 +18,7 @@ use rtp_wire::{ExtensionMap, Receivers, RtpHeader, Verdict};
 use std::alloc::{AllocError, Global};
 use std::io::Write;
 
-// So many bytes are gathered before they are written.
+// How many bytes are gathered before they are written.
 const WRITTEN_AT_ONCE: usize = 8192;
 
 // The header that the datagram begins with, if it begins with one, and the verdict on it.

@@ -3,7 +3,8 @@
 ghost use Rattle.std.specs.Prelude.{◌≡◌, ◌≢◌, ◌↔◌, ◌⊎◌, IfOk, IfErr, IfSome, OnOk};
 ghost use Rattle.std.specs.IoError.{error_kind};
 ghost use Rattle.rtp_report.specs.Input.{IsInput, HasBadLine};
-ghost use Rattle.rtp_report.specs.Output.{IsOutputOf, IsBadLineOf, IsWantOf, IsBeginningOf, IsLeft, status_of, Prints};
+ghost use Rattle.rtp_report.specs.Output.{IsOutputOf, IsBadLineOf, IsWantOf, IsBeginningOf, status_of, Prints};
+ghost use Rattle.rtp_report.specs.Stopping.{IsLeft};
 ghost use Rattle.rtp_report.specs.declared.program.RunEnd.TheVariants.{NoMemory};
 
 use super::input::{InputError, read_input};
@@ -88,7 +89,7 @@ fn report_text<W: Write>(alloc: Global, text: &[u8], output: &mut W) -> Result<(
     }
 }
 
-// Reads all input, and prints what is due for it, but for `want of memory`.
+// Reads all input, and prints what is due for it, except for `want of memory`.
 fn report_input<R: Read, W: Write>(
     alloc: Global,
     input: &mut R,

@@ -5,3 +5,4 @@ mod EmptyDataLemmas
 mod SendTimeLemmas
 mod SendTimeFacts
 mod MemoryFacts
+mod ShownFacts

@@ -28,3 +28,7 @@ no_allocation_row = tt
 
 no_streams_row : (allocation : Allocation) → allocation.simulcast_streams ≡ [] → TakesNoMemory (Some allocation)
 no_streams_row allocation none = none
+
+-- with a stream it may, also where the stream has no layers
+one_stream_row : TakesNoMemory (Some (record { current_simulcast_stream_index = 0; simulcast_streams = [] ∷ [] })) → ⊥
+one_stream_row none = cc

@@ -5,8 +5,8 @@ use Rattle.std.proofs.Math.Nat.{pow-suc}
 use Rattle.std.proofs.lemmas.Bool.{cases_eq, eq-eqb, ne_eqb, false≢true}
 use Rattle.std.proofs.lemmas.List.{drop_at, length-drop}
 use Rattle.rtp_vla.specs.Allocation.{Layer, Stream, is_active, active_layers, mask_of, EndsActive, IsBareUnlessActive, IsReadable}
-use Rattle.rtp_vla.specs.AllocationReading.{bits_of, marks_of, marked, active_in, active_count, idle_layer, dealt, dealt_streams}
-use Rattle.rtp_vla.proofs.AllocationReadingLemmas.{zero_or_more, bits_of-zero, bits_of-above}
+use Rattle.rtp_vla.specs.AllocationReading.{mask_bits, marks_of, marked, active_in, active_count, idle_layer, dealt, dealt_streams}
+use Rattle.rtp_vla.proofs.AllocationReadingLemmas.{zero_or_more, mask_bits-zero, mask_bits-above}
 
 abbrev pub AllActive : List Layer → Type 0
 AllActive layers = AllByRecursion (λ layer. is_active layer ≡ true) layers
@@ -44,16 +44,16 @@ mask_dealt_one false marks layers high rest all enough = ap (λ (n : ℕ). 0 + 2
 mask_dealt_one true marks [] high rest all enough = absurd (omega arith)
 mask_dealt_one true marks (layer ∷ layers) high rest all enough = rw all.0 (ap (λ (n : ℕ). 1 + 2 * n) (rest layers all.1 (omega arith)))
 
-mask_of-dealt : (room mask : ℕ) (layers : List Layer) → mask < 2 ^ room → AllActive layers → marked (bits_of room mask) ≤ length layers → mask_of (dealt (bits_of room mask) layers) ≡ mask
+mask_of-dealt : (room mask : ℕ) (layers : List Layer) → mask < 2 ^ room → AllActive layers → marked (mask_bits room mask) ≤ length layers → mask_of (dealt (mask_bits room mask) layers) ≡ mask
 mask_of-dealt zero mask layers below all enough = omega arith
 mask_of-dealt (suc room) mask layers below all enough =
     ⊎_elim
-    (λ none. let is : mask ≡ 0 = none in ap (λ (m : ℕ). mask_of (dealt (bits_of (suc room) m) layers)) is ∙ sym is)
+    (λ none. let is : mask ≡ 0 = none in ap (λ (m : ℕ). mask_of (dealt (mask_bits (suc room) m) layers)) is ∙ sym is)
     (λ some.
-    ap (λ (marks : List Bool). mask_of (dealt marks layers)) (bits_of-above room mask some)
-    ∙ mask_dealt_one (eqb (mask % 2) 1) (bits_of room (mask / 2)) layers (mask / 2)
+    ap (λ (marks : List Bool). mask_of (dealt marks layers)) (mask_bits-above room mask some)
+    ∙ mask_dealt_one (eqb (mask % 2) 1) (mask_bits room (mask / 2)) layers (mask / 2)
     (λ others active many. mask_of-dealt room (mask / 2) others (omega (arith, pow-suc 2 room)) active many)
-    all (subst (λ (marks : List Bool). marked marks ≤ length layers) (bits_of-above room mask some) enough)
+    all (subst (λ (marks : List Bool). marked marks ≤ length layers) (mask_bits-above room mask some) enough)
     ∙ low_bit mask)
     (zero_or_more mask)
 
@@ -78,14 +78,14 @@ dealt_some false marks layers enough none = cc
 dealt_some true marks [] enough none = absurd (omega arith)
 dealt_some true marks (layer ∷ layers) enough none = cc
 
-dealt_none : (room mask : ℕ) (layers : List Layer) → mask < 2 ^ room → marked (bits_of room mask) ≤ length layers → dealt (bits_of room mask) layers ≡ [] → mask ≡ 0
+dealt_none : (room mask : ℕ) (layers : List Layer) → mask < 2 ^ room → marked (mask_bits room mask) ≤ length layers → dealt (mask_bits room mask) layers ≡ [] → mask ≡ 0
 dealt_none zero mask layers below enough none = omega arith
 dealt_none (suc room) mask layers below enough none =
     ⊎_elim
     (λ is. is)
-    (λ some. absurd (dealt_some (eqb (mask % 2) 1) (bits_of room (mask / 2)) layers
-    (subst (λ (marks : List Bool). marked marks ≤ length layers) (bits_of-above room mask some) enough)
-    (subst (λ (marks : List Bool). dealt marks layers ≡ []) (bits_of-above room mask some) none)))
+    (λ some. absurd (dealt_some (eqb (mask % 2) 1) (mask_bits room (mask / 2)) layers
+    (subst (λ (marks : List Bool). marked marks ≤ length layers) (mask_bits-above room mask some) enough)
+    (subst (λ (marks : List Bool). dealt marks layers ≡ []) (mask_bits-above room mask some) none)))
     (zero_or_more mask)
 
 EndsActive-cons : (layer : Layer) (stream : Stream) → EndsActive stream → (stream ≡ [] → is_active layer ≡ true) → EndsActive (layer ∷ stream)
@@ -102,16 +102,16 @@ ends_one true marks [] rest last all enough = tt
 ends_one true marks (layer ∷ layers) rest last all enough =
     EndsActive-cons layer (dealt marks layers) (rest layers all.1 (omega arith)) (λ none. all.0)
 
-ends-dealt : (room mask : ℕ) (layers : List Layer) → mask < 2 ^ room → AllActive layers → marked (bits_of room mask) ≤ length layers → EndsActive (dealt (bits_of room mask) layers)
+ends-dealt : (room mask : ℕ) (layers : List Layer) → mask < 2 ^ room → AllActive layers → marked (mask_bits room mask) ≤ length layers → EndsActive (dealt (mask_bits room mask) layers)
 ends-dealt zero mask layers below all enough = tt
 ends-dealt (suc room) mask layers below all enough =
     ⊎_elim
-    (λ none. subst (λ (m : ℕ). EndsActive (dealt (bits_of (suc room) m) layers)) (sym none) tt)
-    (λ some. subst (λ (marks : List Bool). EndsActive (dealt marks layers)) (sym (bits_of-above room mask some))
-    (ends_one (eqb (mask % 2) 1) (bits_of room (mask / 2)) layers
+    (λ none. subst (λ (m : ℕ). EndsActive (dealt (mask_bits (suc room) m) layers)) (sym none) tt)
+    (λ some. subst (λ (marks : List Bool). EndsActive (dealt marks layers)) (sym (mask_bits-above room mask some))
+    (ends_one (eqb (mask % 2) 1) (mask_bits room (mask / 2)) layers
     (λ others active many. ends-dealt room (mask / 2) others (omega (arith, pow-suc 2 room)) active many)
     (λ others many none. eq-eqb (mask % 2) 1 (omega (arith, dealt_none room (mask / 2) others (omega (arith, pow-suc 2 room)) many none)))
-    all (subst (λ (marks : List Bool). marked marks ≤ length layers) (bits_of-above room mask some) enough)))
+    all (subst (λ (marks : List Bool). marked marks ≤ length layers) (mask_bits-above room mask some) enough)))
     (zero_or_more mask)
 
 -- ---- All streams
@@ -121,7 +121,7 @@ stream_facts : (mask : ℕ) (layers : List Layer) → mask ≤ 15 → AllActive 
 unfolding marks_of
 stream_facts mask layers few all enough =
     let is = mask_of-dealt 4 mask layers (omega arith) all enough in
-    (is, record { mask_fits = omega (arith, is); ends_active = ends-dealt 4 mask layers (omega arith) all enough; bare = bare-dealt (bits_of 4 mask) layers all })
+    (is, record { mask_fits = omega (arith, is); ends_active = ends-dealt 4 mask layers (omega arith) all enough; bare = bare-dealt (mask_bits 4 mask) layers all })
 
 pub masks-dealt_streams : (masks : List ℕ) (layers : List Layer) → AllByRecursion (λ mask. mask ≤ 15) masks → AllActive layers → active_count masks ≤ length layers
     → (map mask_of (dealt_streams masks layers) ≡ masks) × AllByRecursion IsReadable (dealt_streams masks layers)
@@ -184,32 +184,32 @@ half true n = omega arith
 half false n = omega arith
 
 -- the marks of a stream's mask are its own
-bits-stream : (room : ℕ) (layer : Layer) (stream : Stream) → EndsActive (layer ∷ stream) → bits_of (suc room) (mask_of (layer ∷ stream)) ≡ is_active layer ∷ bits_of room (mask_of stream)
+bits-stream : (room : ℕ) (layer : Layer) (stream : Stream) → EndsActive (layer ∷ stream) → mask_bits (suc room) (mask_of (layer ∷ stream)) ≡ is_active layer ∷ mask_bits room (mask_of stream)
 bits-stream room layer stream ends =
-    bits_of-above room (mask_of (layer ∷ stream)) (mask_pos layer stream ends)
-    ∙ (λ i. parity (is_active layer) (mask_of stream) i ∷ bits_of room (half (is_active layer) (mask_of stream) i))
+    mask_bits-above room (mask_of (layer ∷ stream)) (mask_pos layer stream ends)
+    ∙ (λ i. parity (is_active layer) (mask_of stream) i ∷ mask_bits room (half (is_active layer) (mask_of stream) i))
 
 dealt_back : (room : ℕ) (stream : Stream) (more : List Layer) → mask_of stream < 2 ^ room → EndsActive stream → AllByRecursion IsBareUnlessActive stream
-    → dealt (bits_of room (mask_of stream)) (filter is_active stream ++ more) ≡ stream
-dealt_back room [] more below ends bare = ap (λ (marks : List Bool). dealt marks more) (bits_of-zero room)
+    → dealt (mask_bits room (mask_of stream)) (filter is_active stream ++ more) ≡ stream
+dealt_back room [] more below ends bare = ap (λ (marks : List Bool). dealt marks more) (mask_bits-zero room)
 dealt_back zero (layer ∷ stream) more below ends bare = absurd (omega (arith, mask_pos layer stream ends))
 dealt_back (suc room) (layer ∷ stream) more below ends bare =
     let small : mask_of stream < 2 ^ room = omega (arith, pow-suc 2 room) in
     ap (λ (marks : List Bool). dealt marks (filter is_active (layer ∷ stream) ++ more)) (bits-stream room layer stream ends)
-    ∙ dealt_back_one layer stream more (bits_of room (mask_of stream)) (is_active layer) refl bare.0
+    ∙ dealt_back_one layer stream more (mask_bits room (mask_of stream)) (is_active layer) refl bare.0
     (dealt_back room stream more small (EndsActive-tail layer stream ends) bare.1)
 
 marked_one : (b : Bool) (marks : List Bool) (layer : Layer) (layers : List Layer) → marked marks ≡ length layers → marked (b ∷ marks) ≡ length (cond b (layer ∷ layers) layers)
 marked_one true marks layer layers is = ap suc is
 marked_one false marks layer layers is = is
 
-marked_back : (room : ℕ) (stream : Stream) → mask_of stream < 2 ^ room → EndsActive stream → marked (bits_of room (mask_of stream)) ≡ length (filter is_active stream)
-marked_back room [] below ends = ap marked (bits_of-zero room)
+marked_back : (room : ℕ) (stream : Stream) → mask_of stream < 2 ^ room → EndsActive stream → marked (mask_bits room (mask_of stream)) ≡ length (filter is_active stream)
+marked_back room [] below ends = ap marked (mask_bits-zero room)
 marked_back zero (layer ∷ stream) below ends = absurd (omega (arith, mask_pos layer stream ends))
 marked_back (suc room) (layer ∷ stream) below ends =
     let small : mask_of stream < 2 ^ room = omega (arith, pow-suc 2 room) in
     ap marked (bits-stream room layer stream ends)
-    ∙ marked_one (is_active layer) (bits_of room (mask_of stream)) layer (filter is_active stream) (marked_back room stream small (EndsActive-tail layer stream ends))
+    ∙ marked_one (is_active layer) (mask_bits room (mask_of stream)) layer (filter is_active stream) (marked_back room stream small (EndsActive-tail layer stream ends))
 
 readable_back : (stream : Stream) (more : List Layer) → IsReadable stream
     → (dealt (marks_of (mask_of stream)) (filter is_active stream ++ more) ≡ stream) × (active_in (mask_of stream) ≡ length (filter is_active stream))

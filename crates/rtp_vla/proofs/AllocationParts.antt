@@ -58,9 +58,9 @@ AreHalves-read (m ∷ n ∷ masks) (byte ∷ bytes) fit are =
     let low : n ≡ byte % 16 = omega (arith, are.0, fit.0, fit.1.0) in
     ((λ i. high i ∷ low i ∷ rest.0 i), omega (arith, rest.1))
 
-pub HasMasks-halves : (bytes spelled behind masks : List ℕ) (count : ℕ) → bytes ≡ spelled ++ behind → length spelled ≡ (count + 1) / 2 → AreBytes spelled
-    → length masks ≡ count → masks ≡ take count (halves spelled) → HasMasks bytes 0 count masks behind
-HasMasks-halves bytes spelled behind masks count is len all as_many masks-is =
+pub HasMasks-halves : (bytes spelled after masks : List ℕ) (count : ℕ) → bytes ≡ spelled ++ after → length spelled ≡ (count + 1) / 2 → AreBytes spelled
+    → length masks ≡ count → masks ≡ take count (halves spelled) → HasMasks bytes 0 count masks after
+HasMasks-halves bytes spelled after masks count is len all as_many masks-is =
     let from = AreHalves-from count spelled len all in
     record {
       mask_bytes = spelled;
@@ -173,22 +173,22 @@ AreRates-front (suc n) bytes more rest are = (leb_rest bytes, ReadsLeb-read byte
 
 pub AreRates-read : (rates bytes rest : List ℕ) → AreRates rates bytes rest → (rates ≡ rates_of (length rates) bytes) × (rest ≡ after_rates (length rates) bytes)
 AreRates-read [] bytes rest are = (refl, sym are)
-AreRates-read (rate ∷ rates) bytes rest (behind, reads, are) =
-    let first = read-ReadsLeb bytes rate behind reads in
-    let others = AreRates-read rates behind rest are in (
+AreRates-read (rate ∷ rates) bytes rest (after, reads, are) =
+    let first = read-ReadsLeb bytes rate after reads in
+    let others = AreRates-read rates after rest are in (
       (λ i. sym first.0 i ∷ (others.0 ∙ ap (rates_of (length rates)) (sym first.1)) i),
       others.1 ∙ ap (after_rates (length rates)) (sym first.1),
     )
 
 pub AreRates-split : (xs ys bytes rest : List ℕ) → AreRates (xs ++ ys) bytes rest → (mid : List ℕ) × AreRates xs bytes mid × AreRates ys mid rest
 AreRates-split [] ys bytes rest are = (bytes, refl, are)
-AreRates-split (x ∷ xs) ys bytes rest (behind, reads, are) =
-    let others = AreRates-split xs ys behind rest are in (others.0, (behind, reads, others.1), others.2)
+AreRates-split (x ∷ xs) ys bytes rest (after, reads, are) =
+    let others = AreRates-split xs ys after rest are in (others.0, (after, reads, others.1), others.2)
 
 -- ---- Resolutions
 
 no_resolutions : (counts rates resolutions : List ℕ) → length resolutions < 5
-    → AllByRecursion (λ told. told ≡ None) (map (λ layer. layer.resolution_and_framerate) (layers_read counts rates resolutions))
+    → AllByRecursion (λ resolution. resolution ≡ None) (map (λ layer. layer.resolution_and_framerate) (layers_read counts rates resolutions))
 no_resolutions [] rates resolutions short = tt
 no_resolutions (count ∷ counts) rates [] short = (refl, no_resolutions counts (after_rates (suc count) rates) [] short)
 no_resolutions (count ∷ counts) rates (x ∷ []) short = (refl, no_resolutions counts (after_rates (suc count) rates) (x ∷ []) short)
@@ -197,22 +197,22 @@ no_resolutions (count ∷ counts) rates (x ∷ y ∷ z ∷ []) short = (refl, no
 no_resolutions (count ∷ counts) rates (x ∷ y ∷ z ∷ u ∷ []) short = (refl, no_resolutions counts (after_rates (suc count) rates) (x ∷ y ∷ z ∷ u ∷ []) short)
 no_resolutions (count ∷ counts) rates (x ∷ y ∷ z ∷ u ∷ v ∷ bytes) short = absurd (omega arith)
 
-pub AreResolutions-short : (tolds : List (Option ResolutionAndFramerate)) (bytes : List ℕ) → length bytes < 5 → AllByRecursion (λ told. told ≡ None) tolds → AreResolutions tolds bytes
+pub AreResolutions-short : (others : List (Option ResolutionAndFramerate)) (bytes : List ℕ) → length bytes < 5 → AllByRecursion (λ resolution. resolution ≡ None) others → AreResolutions others bytes
 AreResolutions-short [] bytes short none = tt
-AreResolutions-short (told ∷ tolds) [] short none = none
-AreResolutions-short (told ∷ tolds) (x ∷ []) short none = none
-AreResolutions-short (told ∷ tolds) (x ∷ y ∷ []) short none = none
-AreResolutions-short (told ∷ tolds) (x ∷ y ∷ z ∷ []) short none = none
-AreResolutions-short (told ∷ tolds) (x ∷ y ∷ z ∷ u ∷ []) short none = none
-AreResolutions-short (told ∷ tolds) (x ∷ y ∷ z ∷ u ∷ v ∷ bytes) short none = absurd (omega arith)
+AreResolutions-short (first ∷ others) [] short none = none
+AreResolutions-short (first ∷ others) (x ∷ []) short none = none
+AreResolutions-short (first ∷ others) (x ∷ y ∷ []) short none = none
+AreResolutions-short (first ∷ others) (x ∷ y ∷ z ∷ []) short none = none
+AreResolutions-short (first ∷ others) (x ∷ y ∷ z ∷ u ∷ []) short none = none
+AreResolutions-short (first ∷ others) (x ∷ y ∷ z ∷ u ∷ v ∷ bytes) short none = absurd (omega arith)
 
-abbrev pub tolds_of : List Layer → List (Option ResolutionAndFramerate)
-tolds_of layers = map (λ layer. layer.resolution_and_framerate) layers
+abbrev pub resolutions_of : List Layer → List (Option ResolutionAndFramerate)
+resolutions_of layers = map (λ layer. layer.resolution_and_framerate) layers
 
-short_read : (counts rates bytes : List ℕ) → length bytes < 5 → AreResolutions (tolds_of (layers_read counts rates bytes)) bytes
-short_read counts rates bytes short = AreResolutions-short (tolds_of (layers_read counts rates bytes)) bytes short (no_resolutions counts rates bytes short)
+short_read : (counts rates bytes : List ℕ) → length bytes < 5 → AreResolutions (resolutions_of (layers_read counts rates bytes)) bytes
+short_read counts rates bytes short = AreResolutions-short (resolutions_of (layers_read counts rates bytes)) bytes short (no_resolutions counts rates bytes short)
 
-pub resolutions_read : (counts rates resolutions : List ℕ) → FitResolutions (length counts) resolutions → AreResolutions (tolds_of (layers_read counts rates resolutions)) resolutions
+pub resolutions_read : (counts rates resolutions : List ℕ) → FitResolutions (length counts) resolutions → AreResolutions (resolutions_of (layers_read counts rates resolutions)) resolutions
 resolutions_read [] rates resolutions fit = tt
 resolutions_read (count ∷ counts) rates [] fit = short_read (count ∷ counts) rates [] (omega arith)
 resolutions_read (count ∷ counts) rates (x ∷ []) fit = short_read (count ∷ counts) rates (x ∷ []) (omega arith)
@@ -229,22 +229,22 @@ resolutions_read (count ∷ counts) rates (x ∷ y ∷ z ∷ u ∷ v ∷ bytes) 
 )
 
 -- the first resolution, and the others
-pub resolution_same : (told : Option ResolutionAndFramerate) (tolds : List (Option ResolutionAndFramerate)) (bytes : List ℕ) → AreResolutions (told ∷ tolds) bytes
-    → (told ≡ resolution_in bytes) × AreResolutions tolds (after_resolution bytes)
-resolution_same told tolds [] are = (are.0, AreResolutions-short tolds [] (omega arith) are.1)
-resolution_same told tolds (x ∷ []) are = (are.0, AreResolutions-short tolds (x ∷ []) (omega arith) are.1)
-resolution_same told tolds (x ∷ y ∷ []) are = (are.0, AreResolutions-short tolds (x ∷ y ∷ []) (omega arith) are.1)
-resolution_same told tolds (x ∷ y ∷ z ∷ []) are = (are.0, AreResolutions-short tolds (x ∷ y ∷ z ∷ []) (omega arith) are.1)
-resolution_same told tolds (x ∷ y ∷ z ∷ u ∷ []) are = (are.0, AreResolutions-short tolds (x ∷ y ∷ z ∷ u ∷ []) (omega arith) are.1)
-resolution_same told tolds (x ∷ y ∷ z ∷ u ∷ v ∷ bytes) ((resolution, is, r), rest) =
+pub resolution_same : (first : Option ResolutionAndFramerate) (others : List (Option ResolutionAndFramerate)) (bytes : List ℕ) → AreResolutions (first ∷ others) bytes
+    → (first ≡ resolution_in bytes) × AreResolutions others (after_resolution bytes)
+resolution_same first others [] are = (are.0, AreResolutions-short others [] (omega arith) are.1)
+resolution_same first others (x ∷ []) are = (are.0, AreResolutions-short others (x ∷ []) (omega arith) are.1)
+resolution_same first others (x ∷ y ∷ []) are = (are.0, AreResolutions-short others (x ∷ y ∷ []) (omega arith) are.1)
+resolution_same first others (x ∷ y ∷ z ∷ []) are = (are.0, AreResolutions-short others (x ∷ y ∷ z ∷ []) (omega arith) are.1)
+resolution_same first others (x ∷ y ∷ z ∷ u ∷ []) are = (are.0, AreResolutions-short others (x ∷ y ∷ z ∷ u ∷ []) (omega arith) are.1)
+resolution_same first others (x ∷ y ∷ z ∷ u ∷ v ∷ bytes) ((resolution, is, r), rest) =
     (is ∙ (λ i. Some (record { width = r.width i; height = r.height i; framerate = r.framerate i })), rest)
 
-pub AreResolutions-fit : (tolds : List (Option ResolutionAndFramerate)) (bytes : List ℕ) → AreResolutions tolds bytes → FitResolutions (length tolds) bytes
+pub AreResolutions-fit : (others : List (Option ResolutionAndFramerate)) (bytes : List ℕ) → AreResolutions others bytes → FitResolutions (length others) bytes
 AreResolutions-fit [] bytes are = tt
-AreResolutions-fit (told ∷ tolds) [] are = tt
-AreResolutions-fit (told ∷ tolds) (x ∷ []) are = tt
-AreResolutions-fit (told ∷ tolds) (x ∷ y ∷ []) are = tt
-AreResolutions-fit (told ∷ tolds) (x ∷ y ∷ z ∷ []) are = tt
-AreResolutions-fit (told ∷ tolds) (x ∷ y ∷ z ∷ u ∷ []) are = tt
-AreResolutions-fit (told ∷ tolds) (x ∷ y ∷ z ∷ u ∷ v ∷ bytes) ((resolution, is, r), rest) =
-    (omega (arith, r.width, r.width_fits), omega (arith, r.height, r.height_fits), AreResolutions-fit tolds bytes rest)
+AreResolutions-fit (first ∷ others) [] are = tt
+AreResolutions-fit (first ∷ others) (x ∷ []) are = tt
+AreResolutions-fit (first ∷ others) (x ∷ y ∷ []) are = tt
+AreResolutions-fit (first ∷ others) (x ∷ y ∷ z ∷ []) are = tt
+AreResolutions-fit (first ∷ others) (x ∷ y ∷ z ∷ u ∷ []) are = tt
+AreResolutions-fit (first ∷ others) (x ∷ y ∷ z ∷ u ∷ v ∷ bytes) ((resolution, is, r), rest) =
+    (omega (arith, r.width, r.width_fits), omega (arith, r.height, r.height_fits), AreResolutions-fit others bytes rest)

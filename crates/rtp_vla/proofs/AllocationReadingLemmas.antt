@@ -8,7 +8,7 @@ use Rattle.std.proofs.lemmas.Nat.{and_mask}
 use Rattle.std.specs.Int.{w8, leading_zeros}
 use Rattle.std.specs.Int.Count.{ones, count_leading_zeros}
 use Rattle.rtp_vla.specs.LebReading.{leb_value, leb_rest}
-use Rattle.rtp_vla.specs.AllocationReading.{halves, quarters, bits_of, marks_of, marked, active_in, idle_layer, dealt, Deals, DealsOn, rates_of, after_rates, resolution_in, after_resolution, FitResolutions, layers_read, rate_count}
+use Rattle.rtp_vla.specs.AllocationReading.{halves, quarters, mask_bits, marks_of, marked, active_in, idle_layer, dealt, Deals, DealsOn, rates_of, after_rates, resolution_in, after_resolution, FitResolutions, layers_read, rate_count}
 use Rattle.rtp_vla.specs.Allocation.{Layer}
 
 -- ---- Masks and counts
@@ -127,7 +127,7 @@ FitResolutions-next count (x ∷ y ∷ z ∷ []) fit = (tt, FitResolutions-short
 FitResolutions-next count (x ∷ y ∷ z ∷ u ∷ []) fit = (tt, FitResolutions-short count (x ∷ y ∷ z ∷ u ∷ []) (omega arith))
 FitResolutions-next count (x ∷ y ∷ z ∷ u ∷ v ∷ bytes) fit = ((fit.0, fit.1, tt), fit.2)
 
--- the layers behind so many counts, of so many
+-- the layers after the first counts
 abbrev pub layers_from : ℕ → ℕ → List ℕ → List ℕ → List ℕ → List Layer
 layers_from next active counts rates resolutions = layers_read (drop next (take active (quarters counts))) rates resolutions
 
@@ -155,24 +155,24 @@ pub zero_or_more : (n : ℕ) → (n ≡ 0) ⊎ (0 < n)
 zero_or_more zero = inl refl
 zero_or_more (suc n) = inr (omega arith)
 
-pub bits_of-zero : (room : ℕ) → bits_of room 0 ≡ []
-bits_of-zero zero = refl
-bits_of-zero (suc room) = refl
+pub mask_bits-zero : (room : ℕ) → mask_bits room 0 ≡ []
+mask_bits-zero zero = refl
+mask_bits-zero (suc room) = refl
 
-pub bits_of-above : (room mask : ℕ) → 0 < mask → bits_of (suc room) mask ≡ eqb (mask % 2) 1 ∷ bits_of room (mask / 2)
-bits_of-above room mask some = rw (ne_eqb mask 0 (λ none. absurd (omega arith))) refl
+pub mask_bits-above : (room mask : ℕ) → 0 < mask → mask_bits (suc room) mask ≡ eqb (mask % 2) 1 ∷ mask_bits room (mask / 2)
+mask_bits-above room mask some = rw (ne_eqb mask 0 (λ none. absurd (omega arith))) refl
 
-bits_of-room : (room mask : ℕ) → mask < 2 ^ room → bits_of (suc room) mask ≡ bits_of room mask
-bits_of-room zero mask below =
+mask_bits-room : (room mask : ℕ) → mask < 2 ^ room → mask_bits (suc room) mask ≡ mask_bits room mask
+mask_bits-room zero mask below =
     let none : mask ≡ 0 = omega arith in
-    ap (bits_of 1) none
-bits_of-room (suc room) mask below =
+    ap (mask_bits 1) none
+mask_bits-room (suc room) mask below =
     ⊎_elim
-    (λ none. ap (bits_of (suc (suc room))) none ∙ ap (bits_of (suc room)) (sym none))
+    (λ none. ap (mask_bits (suc (suc room))) none ∙ ap (mask_bits (suc room)) (sym none))
     (λ some.
-    bits_of-above (suc room) mask some
-    ∙ ap (λ (bits : List Bool). eqb (mask % 2) 1 ∷ bits) (bits_of-room room (mask / 2) (omega (arith, pow-suc 2 room)))
-    ∙ sym (bits_of-above room mask some))
+    mask_bits-above (suc room) mask some
+    ∙ ap (λ (bits : List Bool). eqb (mask % 2) 1 ∷ bits) (mask_bits-room room (mask / 2) (omega (arith, pow-suc 2 room)))
+    ∙ sym (mask_bits-above room mask some))
     (zero_or_more mask)
 
 pub marks_of-none : marks_of 0 ≡ []
@@ -182,7 +182,7 @@ marks_of-none = refl
 pub marks_of-more : (mask : ℕ) → mask ≤ 15 → 0 < mask → marks_of mask ≡ eqb (mask % 2) 1 ∷ marks_of (mask / 2)
 unfolding marks_of
 marks_of-more mask few some =
-    bits_of-above 3 mask some ∙ ap (λ (bits : List Bool). eqb (mask % 2) 1 ∷ bits) (sym (bits_of-room 3 (mask / 2) (omega arith)))
+    mask_bits-above 3 mask some ∙ ap (λ (bits : List Bool). eqb (mask % 2) 1 ∷ bits) (sym (mask_bits-room 3 (mask / 2) (omega arith)))
 
 -- a mask has as many layers as it has bits up to its highest one
 as_long : (mask : ℕ) → mask ≤ 15 → eqb (length (marks_of mask)) (8 - leading_zeros w8 mask) ≡ true

@@ -6,10 +6,10 @@ use Rattle.std.proofs.lemmas.Bool.{and_parts, and_from, le-leb, lt-ltb, leb-true
 use Rattle.rtp_vla.specs.declared.vla.allocation.ResolutionAndFramerate.{ResolutionAndFramerate}
 use Rattle.rtp_vla.specs.Leb.{ReadsLeb, spelled, unspelled, shortest_of}
 use Rattle.rtp_vla.specs.Allocation.{Layer, AreHalves, AreMasks, AreQuarters, AreRates, AreResolutions, IsCounted}
-use Rattle.rtp_vla.specs.AllocationWritten.{rates_fit, told_fits, resolutions_in_front, shared_of, halves_of, mask_bytes, quarters_of, rate_bytes, told_bytes, resolution_bytes}
+use Rattle.rtp_vla.specs.AllocationWritten.{rates_fit, resolution_fits, resolutions_in_front, shared_of, halves_of, mask_bytes, quarters_of, rate_bytes, resolution_field, resolution_bytes}
 use Rattle.rtp_vla.proofs.LebLemmas.{read_below}
 use Rattle.rtp_vla.proofs.LebSpellingLemmas.{IsShortest-shortest_of, shortest_of-bytes}
-use Rattle.rtp_vla.proofs.AllocationParts.{AreBytes, AreBytes-parts, rates_in, tolds_of}
+use Rattle.rtp_vla.proofs.AllocationParts.{AreBytes, AreBytes-parts, rates_in, resolutions_of}
 
 -- ---- Masks
 
@@ -85,9 +85,9 @@ counted_from (layer ∷ layers) fits =
 
 rates_small : (rates more bytes rest : List ℕ) → AreRates (rates ++ more) bytes rest → (list_all (λ rate. ltb rate 9223372036854775808) rates ≡ true) × ((mid : List ℕ) × AreRates more mid rest)
 rates_small [] more bytes rest are = (refl, (bytes, are))
-rates_small (rate ∷ rates) more bytes rest (behind, reads, are) =
-    let others = rates_small rates more behind rest are in
-    (and_from _ _ (lt-ltb rate 9223372036854775808 (read_below bytes rate behind reads)) others.0, others.1)
+rates_small (rate ∷ rates) more bytes rest (after, reads, are) =
+    let others = rates_small rates more after rest are in
+    (and_from _ _ (lt-ltb rate 9223372036854775808 (read_below bytes rate after reads)) others.0, others.1)
 
 pub layers_small : (layers : List Layer) (bytes rest : List ℕ) → AllByRecursion IsCounted layers → AreRates (rates_in layers) bytes rest → list_all layer_fits layers ≡ true
 layers_small [] bytes rest counted are = refl
@@ -97,13 +97,13 @@ layers_small (layer ∷ layers) bytes rest counted are =
 
 -- ---- Resolutions
 
-ended_one : (o : Option ResolutionAndFramerate) (layers : List Layer) → (told_fits true o && resolutions_in_front (is_none o) layers) ≡ true
-    → (resolutions_in_front true layers ≡ true → (flat_map resolution_bytes layers ≡ []) × AllByRecursion (λ told. told ≡ None) (tolds_of layers))
-    → (told_bytes o ++ flat_map resolution_bytes layers ≡ []) × (o ≡ None) × AllByRecursion (λ told. told ≡ None) (tolds_of layers)
+ended_one : (o : Option ResolutionAndFramerate) (layers : List Layer) → (resolution_fits true o && resolutions_in_front (is_none o) layers) ≡ true
+    → (resolutions_in_front true layers ≡ true → (flat_map resolution_bytes layers ≡ []) × AllByRecursion (λ resolution. resolution ≡ None) (resolutions_of layers))
+    → (resolution_field o ++ flat_map resolution_bytes layers ≡ []) × (o ≡ None) × AllByRecursion (λ resolution. resolution ≡ None) (resolutions_of layers)
 ended_one None layers fits rest = let others = rest fits in (others.0, refl, others.1)
 ended_one (Some r) layers fits rest = absurd (false≢true fits)
 
-pub ended : (layers : List Layer) → resolutions_in_front true layers ≡ true → (flat_map resolution_bytes layers ≡ []) × AllByRecursion (λ told. told ≡ None) (tolds_of layers)
+pub ended : (layers : List Layer) → resolutions_in_front true layers ≡ true → (flat_map resolution_bytes layers ≡ []) × AllByRecursion (λ resolution. resolution ≡ None) (resolutions_of layers)
 ended [] fits = (refl, tt)
 ended (layer ∷ layers) fits =
     let one = ended_one layer.resolution_and_framerate layers fits (ended layers) in (one.0, (one.1, one.2))
@@ -115,7 +115,7 @@ pub record Sizes (r : ResolutionAndFramerate) : Type 0 where
   pub height_fits : r.height < 65536
   pub framerate_fits : r.framerate < 256
 
-pub sizes : (e : Bool) (r : ResolutionAndFramerate) → told_fits e (Some r) ≡ true → Sizes r
+pub sizes : (e : Bool) (r : ResolutionAndFramerate) → resolution_fits e (Some r) ≡ true → Sizes r
 sizes e r fits =
     let all = and_parts (not e) _ fits in
     let parts = and_parts (ltb 0 r.width && ltb r.width 65536) _ all.1 in
@@ -130,47 +130,47 @@ sizes e r fits =
       framerate_fits = ltb-true _ _ others.1;
     }
 
-front_one : (o : Option ResolutionAndFramerate) (layers : List Layer) → (told_fits false o && resolutions_in_front (is_none o) layers) ≡ true
-    → (resolutions_in_front false layers ≡ true → AreResolutions (tolds_of layers) (flat_map resolution_bytes layers))
-    → AreResolutions (o ∷ tolds_of layers) (told_bytes o ++ flat_map resolution_bytes layers)
+front_one : (o : Option ResolutionAndFramerate) (layers : List Layer) → (resolution_fits false o && resolutions_in_front (is_none o) layers) ≡ true
+    → (resolutions_in_front false layers ≡ true → AreResolutions (resolutions_of layers) (flat_map resolution_bytes layers))
+    → AreResolutions (o ∷ resolutions_of layers) (resolution_field o ++ flat_map resolution_bytes layers)
 front_one None layers fits rest =
     let none = ended layers fits in
-    subst (AreResolutions (None ∷ tolds_of layers)) (sym none.0) (refl, none.1)
+    subst (AreResolutions (None ∷ resolutions_of layers)) (sym none.0) (refl, none.1)
 front_one (Some r) layers fits rest =
-    let parts = and_parts (told_fits false (Some r)) (resolutions_in_front false layers) fits in
+    let parts = and_parts (resolution_fits false (Some r)) (resolutions_in_front false layers) fits in
     let s = sizes false r parts.0 in (
       (r, refl, record { width = omega (arith, s.width_some); height = omega (arith, s.height_some); framerate = refl; width_fits = omega (arith, s.width_fits); height_fits = omega (arith, s.height_fits) }),
       rest parts.1,
     )
 
-pub AreResolutions-of : (layers : List Layer) → resolutions_in_front false layers ≡ true → AreResolutions (tolds_of layers) (flat_map resolution_bytes layers)
+pub AreResolutions-of : (layers : List Layer) → resolutions_in_front false layers ≡ true → AreResolutions (resolutions_of layers) (flat_map resolution_bytes layers)
 AreResolutions-of [] fits = tt
 AreResolutions-of (layer ∷ layers) fits = front_one layer.resolution_and_framerate layers fits (AreResolutions-of layers)
 
-none_one : (e : Bool) (o : Option ResolutionAndFramerate) (layers : List Layer) → o ≡ None → ((d : Bool) → resolutions_in_front d layers ≡ true) → (told_fits e o && resolutions_in_front (is_none o) layers) ≡ true
-none_one e o layers is rest = subst (λ (p : Option ResolutionAndFramerate). (told_fits e p && resolutions_in_front (is_none p) layers) ≡ true) (sym is) (rest true)
+none_one : (e : Bool) (o : Option ResolutionAndFramerate) (layers : List Layer) → o ≡ None → ((d : Bool) → resolutions_in_front d layers ≡ true) → (resolution_fits e o && resolutions_in_front (is_none o) layers) ≡ true
+none_one e o layers is rest = subst (λ (p : Option ResolutionAndFramerate). (resolution_fits e p && resolutions_in_front (is_none p) layers) ≡ true) (sym is) (rest true)
 
-none_front : (layers : List Layer) → AllByRecursion (λ told. told ≡ None) (tolds_of layers) → (e : Bool) → resolutions_in_front e layers ≡ true
+none_front : (layers : List Layer) → AllByRecursion (λ resolution. resolution ≡ None) (resolutions_of layers) → (e : Bool) → resolutions_in_front e layers ≡ true
 none_front [] none e = refl
 none_front (layer ∷ layers) none e = none_one e layer.resolution_and_framerate layers none.0 (none_front layers none.1)
 
-some_one : (r : ResolutionAndFramerate) (o : Option ResolutionAndFramerate) (layers : List Layer) → o ≡ Some r → told_fits false (Some r) ≡ true → resolutions_in_front false layers ≡ true
-    → (told_fits false o && resolutions_in_front (is_none o) layers) ≡ true
-some_one r o layers is fits rest = subst (λ (p : Option ResolutionAndFramerate). (told_fits false p && resolutions_in_front (is_none p) layers) ≡ true) (sym is) (and_from _ _ fits rest)
+some_one : (r : ResolutionAndFramerate) (o : Option ResolutionAndFramerate) (layers : List Layer) → o ≡ Some r → resolution_fits false (Some r) ≡ true → resolutions_in_front false layers ≡ true
+    → (resolution_fits false o && resolutions_in_front (is_none o) layers) ≡ true
+some_one r o layers is fits rest = subst (λ (p : Option ResolutionAndFramerate). (resolution_fits false p && resolutions_in_front (is_none p) layers) ≡ true) (sym is) (and_from _ _ fits rest)
 
-pub front_from : (layers : List Layer) (bytes : List ℕ) → AreBytes bytes → AreResolutions (tolds_of layers) bytes → resolutions_in_front false layers ≡ true
+pub front_from : (layers : List Layer) (bytes : List ℕ) → AreBytes bytes → AreResolutions (resolutions_of layers) bytes → resolutions_in_front false layers ≡ true
 front_from [] bytes all are = refl
 front_from (layer ∷ layers) [] all are = none_front (layer ∷ layers) are false
 front_from (layer ∷ layers) (x ∷ []) all are = none_front (layer ∷ layers) are false
 front_from (layer ∷ layers) (x ∷ y ∷ []) all are = none_front (layer ∷ layers) are false
 front_from (layer ∷ layers) (x ∷ y ∷ z ∷ []) all are = none_front (layer ∷ layers) are false
 front_from (layer ∷ layers) (x ∷ y ∷ z ∷ u ∷ []) all are = none_front (layer ∷ layers) are false
-front_from (layer ∷ layers) (x ∷ y ∷ z ∷ u ∷ v ∷ bytes) all ((r, is, told), rest) =
+front_from (layer ∷ layers) (x ∷ y ∷ z ∷ u ∷ v ∷ bytes) all ((r, is, field), rest) =
     some_one r layer.resolution_and_framerate layers is
     (and_from (ltb 0 r.width && ltb r.width 65536) ((ltb 0 r.height && ltb r.height 65536) && ltb r.framerate 256)
-    (and_from _ _ (lt-ltb 0 r.width (omega (arith, told.width))) (lt-ltb r.width 65536 (omega (arith, told.width_fits))))
-    (and_from _ _ (and_from _ _ (lt-ltb 0 r.height (omega (arith, told.height))) (lt-ltb r.height 65536 (omega (arith, told.height_fits))))
-    (lt-ltb r.framerate 256 (omega (arith, told.framerate, all.1.1.1.1.0)))))
+    (and_from _ _ (lt-ltb 0 r.width (omega (arith, field.width))) (lt-ltb r.width 65536 (omega (arith, field.width_fits))))
+    (and_from _ _ (and_from _ _ (lt-ltb 0 r.height (omega (arith, field.height))) (lt-ltb r.height 65536 (omega (arith, field.height_fits))))
+    (lt-ltb r.framerate 256 (omega (arith, field.framerate, all.1.1.1.1.0)))))
     (front_from layers bytes all.1.1.1.1.1 rest)
 
 -- ---- Written bytes are bytes
@@ -203,18 +203,18 @@ pub AreBytes-layers : (layers : List Layer) → AreBytes (flat_map rate_bytes la
 AreBytes-layers [] = tt
 AreBytes-layers (layer ∷ layers) = AreBytes-append (rate_bytes layer) (flat_map rate_bytes layers) (AreBytes-rates layer.temporal_layers) (AreBytes-layers layers)
 
-AreBytes-told : (e : Bool) (o : Option ResolutionAndFramerate) → told_fits e o ≡ true → AreBytes (told_bytes o)
-AreBytes-told e None fits = tt
-AreBytes-told e (Some r) fits =
+AreBytes-resolution : (e : Bool) (o : Option ResolutionAndFramerate) → resolution_fits e o ≡ true → AreBytes (resolution_field o)
+AreBytes-resolution e None fits = tt
+AreBytes-resolution e (Some r) fits =
     let s = sizes e r fits in
     (omega (arith, s.width_fits), (omega arith, (omega (arith, s.height_fits), (omega arith, (s.framerate_fits, tt)))))
 
-pub AreBytes-tolds : (e : Bool) (layers : List Layer) → resolutions_in_front e layers ≡ true → AreBytes (flat_map resolution_bytes layers)
-AreBytes-tolds e [] fits = tt
-AreBytes-tolds e (layer ∷ layers) fits =
-    let parts = and_parts (told_fits e layer.resolution_and_framerate) (resolutions_in_front (is_none layer.resolution_and_framerate) layers) fits in
-    AreBytes-append (told_bytes layer.resolution_and_framerate) (flat_map resolution_bytes layers) (AreBytes-told e layer.resolution_and_framerate parts.0) (AreBytes-tolds (is_none layer.resolution_and_framerate) layers parts.1)
+pub AreBytes-resolutions : (e : Bool) (layers : List Layer) → resolutions_in_front e layers ≡ true → AreBytes (flat_map resolution_bytes layers)
+AreBytes-resolutions e [] fits = tt
+AreBytes-resolutions e (layer ∷ layers) fits =
+    let parts = and_parts (resolution_fits e layer.resolution_and_framerate) (resolutions_in_front (is_none layer.resolution_and_framerate) layers) fits in
+    AreBytes-append (resolution_field layer.resolution_and_framerate) (flat_map resolution_bytes layers) (AreBytes-resolution e layer.resolution_and_framerate parts.0) (AreBytes-resolutions (is_none layer.resolution_and_framerate) layers parts.1)
 
-pub behind_bytes : (bytes : List ℕ) (rate : ℕ) (behind : List ℕ) → AreBytes bytes → ReadsLeb bytes rate behind → AreBytes behind
-behind_bytes bytes rate behind all (spelled front is leb) = (AreBytes-parts front behind (subst AreBytes is all)).1
-behind_bytes bytes rate behind all (unspelled none value is) = subst AreBytes (sym is) all
+pub after_bytes : (bytes : List ℕ) (rate : ℕ) (after : List ℕ) → AreBytes bytes → ReadsLeb bytes rate after → AreBytes after
+after_bytes bytes rate after all (spelled front is leb) = (AreBytes-parts front after (subst AreBytes is all)).1
+after_bytes bytes rate after all (unspelled none value is) = subst AreBytes (sym is) all

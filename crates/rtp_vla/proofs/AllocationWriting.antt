@@ -6,12 +6,12 @@ use Rattle.std.proofs.lemmas.Bool.{and_parts, and_from, le-leb, leb-true, ltb-tr
 use Rattle.std.proofs.lemmas.List.{length-map, nil_from_length}
 use Rattle.rtp_vla.specs.declared.vla.allocation.ResolutionAndFramerate.{ResolutionAndFramerate}
 use Rattle.rtp_vla.specs.Allocation.{Layer, Stream, Allocation, active_layers, mask_of, count_of, AreMasks, AreQuarters, AreRates, AreResolutions, IsCounted, IsPacked, Means}
-use Rattle.rtp_vla.specs.AllocationWritten.{without_bare_tail, trimmed, Writable, bare_or_active, stream_fits, told_fits, resolutions_in_front, layers_fit, streams_fit, can_be_written, shared_of, mask_bytes, quarters_of, rate_bytes, resolution_bytes, packed_bytes, streams_bytes, written_of}
-use Rattle.rtp_vla.specs.AllocationPutting.{HasSmallRates, IsTold, HasTold}
+use Rattle.rtp_vla.specs.AllocationWritten.{without_bare_tail, trimmed, Writable, bare_or_active, stream_fits, resolution_fits, resolutions_in_front, layers_fit, streams_fit, can_be_written, shared_of, mask_bytes, quarters_of, rate_bytes, resolution_bytes, packed_bytes, streams_bytes, written_of}
+use Rattle.rtp_vla.specs.AllocationPutting.{HasSmallRates, IsSized, HasSizedResolution}
 use Rattle.rtp_vla.proofs.AllocationWritingLemmas.{written-bytes, streams_bytes-some}
-use Rattle.rtp_vla.proofs.AllocationParts.{AreBytes, AreBytes-parts, rates_in, tolds_of}
+use Rattle.rtp_vla.proofs.AllocationParts.{AreBytes, AreBytes-parts, rates_in, resolutions_of}
 use Rattle.rtp_vla.proofs.AllocationTrimming.{masks-trimmed, active-trimmed, readable_from, fits_from}
-use Rattle.rtp_vla.proofs.AllocationSpelling.{shared_small, AreMasks-of, AreQuarters-of, layer_fits, AreRates-layers, counted_from, layers_small, sizes, AreResolutions-of, front_from, AreBytes-append, AreBytes-masks, AreBytes-quarters, AreBytes-layers, AreBytes-tolds, behind_bytes}
+use Rattle.rtp_vla.proofs.AllocationSpelling.{shared_small, AreMasks-of, AreQuarters-of, layer_fits, AreRates-layers, counted_from, layers_small, sizes, AreResolutions-of, front_from, AreBytes-append, AreBytes-masks, AreBytes-quarters, AreBytes-layers, AreBytes-resolutions, after_bytes}
 
 -- ---- All of it
 
@@ -36,9 +36,9 @@ packed_means index streams low some few fits layers_ok =
     let same = active-trimmed streams in (
       record {
         shared = shared_of masks;
-        masks = mask_bytes masks;
-        counts = quarters_of (map count_of layers);
-        rates = flat_map rate_bytes layers ++ flat_map resolution_bytes layers;
+        mask_bytes = mask_bytes masks;
+        count_bytes = quarters_of (map count_of layers);
+        rate_bytes = flat_map rate_bytes layers ++ flat_map resolution_bytes layers;
         rest = flat_map resolution_bytes layers;
         bytes_are = ap (λ (n : ℕ). (64 * index + 16 * (n - 1) + shared_of masks) ∷ (mask_bytes masks ++ (quarters_of (map count_of layers) ++ (flat_map rate_bytes layers ++ flat_map resolution_bytes layers)))) (sym many);
         index_fits = low;
@@ -50,13 +50,13 @@ packed_means index streams low some few fits layers_ok =
         masks_are = subst (λ (ms : List ℕ). AreMasks (shared_of masks) ms (mask_bytes masks)) (sym (masks-trimmed streams)) (AreMasks-of masks);
         counts_are = subst (λ (ls : List Layer). AreQuarters (map count_of ls) (quarters_of (map count_of layers))) (sym same) (AreQuarters-of (map count_of layers));
         rates_are = subst (λ (ls : List Layer). AreRates (rates_in ls) (flat_map rate_bytes layers ++ flat_map resolution_bytes layers) (flat_map resolution_bytes layers)) (sym same) (AreRates-layers layers (flat_map resolution_bytes layers) ok.0);
-        resolutions_are = subst (λ (ls : List Layer). AreResolutions (tolds_of ls) (flat_map resolution_bytes layers)) (sym same) (AreResolutions-of layers ok.1);
+        resolutions_are = subst (λ (ls : List Layer). AreResolutions (resolutions_of ls) (flat_map resolution_bytes layers)) (sym same) (AreResolutions-of layers ok.1);
       },
       (
         omega (arith, low, few, shared_small masks small),
         AreBytes-append (mask_bytes masks) (quarters_of (map count_of layers) ++ (flat_map rate_bytes layers ++ flat_map resolution_bytes layers)) (AreBytes-masks (eqb (shared_of masks) 0) masks small)
             (AreBytes-append (quarters_of (map count_of layers)) (flat_map rate_bytes layers ++ flat_map resolution_bytes layers) (AreBytes-quarters (map count_of layers) (small_counts layers (counted_from layers ok.0)))
-            (AreBytes-append (flat_map rate_bytes layers) (flat_map resolution_bytes layers) (AreBytes-layers layers) (AreBytes-tolds false layers ok.1))),
+            (AreBytes-append (flat_map rate_bytes layers) (flat_map resolution_bytes layers) (AreBytes-layers layers) (AreBytes-resolutions false layers ok.1))),
       ),
     )
 
@@ -86,7 +86,7 @@ no_streams (stream ∷ streams) none = cc
 
 rest_bytes : (rates bytes rest : List ℕ) → AreBytes bytes → AreRates rates bytes rest → AreBytes rest
 rest_bytes [] bytes rest all are = subst AreBytes are all
-rest_bytes (rate ∷ rates) bytes rest all (behind, reads, are) = rest_bytes rates behind rest (behind_bytes bytes rate behind all reads) are
+rest_bytes (rate ∷ rates) bytes rest all (after, reads, are) = rest_bytes rates after rest (after_bytes bytes rate after all reads) are
 
 streams_from : (index : ℕ) (streams : List Stream) (bytes : List ℕ) → AreBytes bytes → IsPacked bytes (record { current_simulcast_stream_index = index; simulcast_streams = map without_bare_tail streams })
     → streams_fit index streams ≡ true
@@ -94,15 +94,15 @@ streams_from index [] bytes all p = absurd (omega (arith, p.some_stream))
 streams_from index (stream ∷ streams) bytes all p =
     let ss = stream ∷ streams in
     let same = active-trimmed ss in
-    let inside = AreBytes-parts p.counts p.rates (AreBytes-parts p.masks (p.counts ++ p.rates) (subst AreBytes p.bytes_are all).1).1 in
+    let inside = AreBytes-parts p.count_bytes p.rate_bytes (AreBytes-parts p.mask_bytes (p.count_bytes ++ p.rate_bytes) (subst AreBytes p.bytes_are all).1).1 in
     let counted : AllByRecursion IsCounted (active_layers ss) = subst (AllByRecursion IsCounted) same p.counted in
-    let rates = subst (λ (ls : List Layer). AreRates (rates_in ls) p.rates p.rest) same p.rates_are in
-    let tolds = subst (λ (ls : List Layer). AreResolutions (tolds_of ls) p.rest) same p.resolutions_are in
+    let rates = subst (λ (ls : List Layer). AreRates (rates_in ls) p.rate_bytes p.rest) same p.rates_are in
+    let resolutions = subst (λ (ls : List Layer). AreResolutions (resolutions_of ls) p.rest) same p.resolutions_are in
     and_from _ _
     (and_from _ _ (le-leb index 3 p.index_fits) (le-leb (length ss) 4 (omega (arith, p.few_streams, length-map ss without_bare_tail))))
     (and_from _ _ (fits_from ss p.readable)
-    (and_from _ _ (layers_small (active_layers ss) p.rates p.rest counted rates)
-    (front_from (active_layers ss) p.rest (rest_bytes (rates_in (active_layers ss)) p.rates p.rest inside.1 rates) tolds)))
+    (and_from _ _ (layers_small (active_layers ss) p.rate_bytes p.rest counted rates)
+    (front_from (active_layers ss) p.rest (rest_bytes (rates_in (active_layers ss)) p.rate_bytes p.rest inside.1 rates) resolutions)))
 
 -- what some bytes mean can be written
 pub can_be_written-from : (a : Allocation) → Writable a → can_be_written a ≡ true
@@ -143,15 +143,15 @@ small_all (layer ∷ layers) all =
     let parts = and_parts (layer_fits layer) (list_all layer_fits layers) all in
     (small_one layer.temporal_layers (and_parts (leb (length layer.temporal_layers) 4) (list_all (λ rate. ltb rate 9223372036854775808) layer.temporal_layers) parts.0).1, small_all layers parts.1)
 
-told_one : (e : Bool) (o : Option ResolutionAndFramerate) → told_fits e o ≡ true → IsTold o
-told_one e None fits = tt
-told_one e (Some r) fits = let s = sizes e r fits in (s.width_some, s.height_some)
+sized_one : (e : Bool) (o : Option ResolutionAndFramerate) → resolution_fits e o ≡ true → IsSized o
+sized_one e None fits = tt
+sized_one e (Some r) fits = let s = sizes e r fits in (s.width_some, s.height_some)
 
-told_all : (e : Bool) (layers : List Layer) → resolutions_in_front e layers ≡ true → AllByRecursion HasTold layers
-told_all e [] fits = tt
-told_all e (layer ∷ layers) fits =
-    let parts = and_parts (told_fits e layer.resolution_and_framerate) (resolutions_in_front (is_none layer.resolution_and_framerate) layers) fits in
-    (told_one e layer.resolution_and_framerate parts.0, told_all (is_none layer.resolution_and_framerate) layers parts.1)
+sized_all : (e : Bool) (layers : List Layer) → resolutions_in_front e layers ≡ true → AllByRecursion HasSizedResolution layers
+sized_all e [] fits = tt
+sized_all e (layer ∷ layers) fits =
+    let parts = and_parts (resolution_fits e layer.resolution_and_framerate) (resolutions_in_front (is_none layer.resolution_and_framerate) layers) fits in
+    (sized_one e layer.resolution_and_framerate parts.0, sized_all (is_none layer.resolution_and_framerate) layers parts.1)
 
 pub record CanPut (index : ℕ) (streams : List Stream) : Type 0 where
   pub low : index ≤ 3
@@ -161,7 +161,7 @@ pub record CanPut (index : ℕ) (streams : List Stream) : Type 0 where
   pub shared : shared_of (map mask_of streams) ≤ 15
   pub counted : AllByRecursion IsCounted (active_layers streams)
   pub small : AllByRecursion HasSmallRates (active_layers streams)
-  pub told : AllByRecursion HasTold (active_layers streams)
+  pub sized : AllByRecursion HasSizedResolution (active_layers streams)
 
 pub can_put : (index : ℕ) (streams : List Stream) → 1 ≤ length streams → streams_fit index streams ≡ true → CanPut index streams
 can_put index [] some fits = absurd (omega arith)
@@ -179,7 +179,7 @@ can_put index (stream ∷ streams) some fits =
       shared = shared_small (map mask_of all) (small_masks all rest.0);
       counted = counted_from (active_layers all) ok.0;
       small = small_all (active_layers all) ok.0;
-      told = told_all false (active_layers all) ok.1;
+      sized = sized_all false (active_layers all) ok.1;
     }
 
 pub written-none : (a : Allocation) → length a.simulcast_streams ≡ 0 → written_of a ≡ 0 ∷ []

@@ -11,15 +11,15 @@ use Rattle.rtp_vla.specs.AllocationWritten.{stream_fits, bare_or_active, shared_
 
 -- ---- Masks
 
-mask_behind : (i : ℕ) (stream : Stream) → 0 < i → i ≤ length stream → 2 * mask_of (drop i stream) ≤ mask_of stream
-mask_behind zero stream some within = absurd (omega arith)
-mask_behind (suc i) [] some within = absurd (omega arith)
-mask_behind (suc zero) (layer ∷ stream) some within = omega arith
-mask_behind (suc (suc i)) (layer ∷ stream) some within = omega (arith, mask_behind (suc i) stream (omega arith) (omega arith))
+mask_after : (i : ℕ) (stream : Stream) → 0 < i → i ≤ length stream → 2 * mask_of (drop i stream) ≤ mask_of stream
+mask_after zero stream some within = absurd (omega arith)
+mask_after (suc i) [] some within = absurd (omega arith)
+mask_after (suc zero) (layer ∷ stream) some within = omega arith
+mask_after (suc (suc i)) (layer ∷ stream) some within = omega (arith, mask_after (suc i) stream (omega arith) (omega arith))
 
 pub mask_unfit : (i mask : ℕ) (stream : Stream) → 0 < i → i ≤ length stream → mask ≡ mask_of (drop i stream) → 7 < mask → stream_fits stream ≡ false
 mask_unfit i mask stream some within is large =
-    and_left (leb (mask_of stream) 15) (list_all bare_or_active stream) (lt-leb (mask_of stream) 15 (omega (arith, is, mask_behind i stream some within)))
+    and_left (leb (mask_of stream) 15) (list_all bare_or_active stream) (lt-leb (mask_of stream) 15 (omega (arith, is, mask_after i stream some within)))
 
 -- ---- Rates
 

@@ -6,7 +6,7 @@ use Rattle.std.proofs.Math.Nat.{mod-eq_of_lt, pow-suc, pow-le-pow_right}
 use Rattle.std.proofs.lemmas.Bool.{lt-ltb, le-ltb, cases_lt}
 use Rattle.std.proofs.lemmas.List.{drop_more, drop_all, take-append-drop, drop_at}
 use Rattle.std.proofs.lemmas.Nat.{and_mask, mul-le}
-use Rattle.rtp_vla.specs.Leb.{number_of, IsLeb, BeginsNoLeb, ReadsLeb, spelled, unspelled}
+use Rattle.rtp_vla.specs.Leb.{base128_value, IsLeb, BeginsNoLeb, ReadsLeb, spelled, unspelled}
 use Rattle.rtp_vla.specs.LebReading.{leb_number, weighed, leb_read, leb_value, leb_rest}
 
 abbrev read_as : ℕ → ℕ → Option (ℕ × ℕ)
@@ -95,7 +95,7 @@ value_below value weight byte low below low-is =
 
 -- ---- What is read is spelled, and what is spelled is read
 
--- a spelling in at most so many bytes behind a first
+-- a spelling in at most `more` bytes after a first
 record Spells (more value : ℕ) (bytes : List ℕ) : Type 0 where
   front : List ℕ
   last : ℕ
@@ -103,7 +103,7 @@ record Spells (more value : ℕ) (bytes : List ℕ) : Type 0 where
   few : length front ≤ more
   continued : AllByRecursion (λ byte. 128 ≤ byte) front
   ended : (last < 128) ⊎ (length front ≡ more)
-  value_is : value ≡ number_of bytes
+  value_is : value ≡ base128_value bytes
 
 to_leb : (value : ℕ) (bytes : List ℕ) → Spells 8 value bytes → IsLeb value bytes
 to_leb value bytes s = record {
@@ -118,7 +118,7 @@ to_leb value bytes s = record {
 
 -- the number that is spelled at the front is read
 leb_number-spelled : (more : ℕ) (front : List ℕ) (last : ℕ) (rest : List ℕ) → length front ≤ more → AllByRecursion (λ byte. 128 ≤ byte) front → (last < 128) ⊎ (length front ≡ more)
-    → leb_number (suc more) ((front ++ last ∷ []) ++ rest) ≡ read_as (number_of (front ++ last ∷ [])) (length (front ++ last ∷ []))
+    → leb_number (suc more) ((front ++ last ∷ []) ++ rest) ≡ read_as (base128_value (front ++ last ∷ [])) (length (front ++ last ∷ []))
 leb_number-spelled zero [] last rest few continued ended = leb_number-ninth last rest ∙ same_read _ _ _ _ (omega arith) refl
 leb_number-spelled (suc more) [] last rest few continued (inl low) = leb_number-low (suc more) last rest low ∙ same_read _ _ _ _ (sym (mod-eq_of_lt low) ∙ omega arith) refl
 leb_number-spelled (suc more) [] last rest few continued (inr full) = absurd (omega arith)
@@ -144,7 +144,7 @@ none_high more byte bytes high none [] last rest is few continued ended =
     ⊎_elim (λ low. absurd (omega arith)) (λ full. absurd (omega arith)) ended
 none_high more byte bytes high none (b ∷ front) last rest is few continued ended =
     let tail : bytes ≡ (front ++ last ∷ []) ++ rest = cc in
-    none (number_of (front ++ last ∷ [])) (front ++ last ∷ []) rest tail (record {
+    none (base128_value (front ++ last ∷ [])) (front ++ last ∷ []) rest tail (record {
       front = front;
       last = last;
       bytes_are = refl;
@@ -240,8 +240,8 @@ read-ReadsLeb bytes value rest (spelled front is leb) =
     let front-is : front ≡ leb.front ++ leb.last ∷ [] = leb.bytes_are in
     let all : bytes ≡ (leb.front ++ leb.last ∷ []) ++ rest = is ∙ ap (λ (xs : List ℕ). xs ++ rest) front-is in
     let read = ap (leb_number 9) all ∙ leb_number-spelled 8 leb.front leb.last rest leb.at_most_nine leb.continued leb.ended in
-    let at = leb_read-at bytes (read_as (number_of (leb.front ++ leb.last ∷ [])) (length (leb.front ++ leb.last ∷ []))) (sym read) in (
-      at.0 ∙ ap number_of (sym front-is) ∙ sym leb.value_is,
+    let at = leb_read-at bytes (read_as (base128_value (leb.front ++ leb.last ∷ [])) (length (leb.front ++ leb.last ∷ []))) (sym read) in (
+      at.0 ∙ ap base128_value (sym front-is) ∙ sym leb.value_is,
       at.1 ∙ ap (drop (length (leb.front ++ leb.last ∷ []))) all ∙ drop_at (leb.front ++ leb.last ∷ []) rest _ refl,
     )
 read-ReadsLeb bytes value rest (unspelled none value-is rest-is) =
@@ -265,22 +265,22 @@ first_read bytes byte rest is low = sym (ap (leb_number 9) is ∙ leb_number-low
 
 pub ReadsLeb-first : (bytes : List ℕ) (byte : ℕ) (rest : List ℕ) → bytes ≡ byte ∷ rest → byte < 128 → ReadsLeb bytes byte rest
 ReadsLeb-first bytes byte rest is low =
-    subst (λ (behind : List ℕ). ReadsLeb bytes byte behind) (ap (drop 1) is) (ReadsLeb-value bytes (read_as byte 1) (first_read bytes byte rest is low))
+    subst (λ (after : List ℕ). ReadsLeb bytes byte after) (ap (drop 1) is) (ReadsLeb-value bytes (read_as byte 1) (first_read bytes byte rest is low))
 
-pub only_first : (bytes : List ℕ) (byte : ℕ) (rest : List ℕ) (value : ℕ) (behind : List ℕ) → bytes ≡ byte ∷ rest → byte < 128 → ReadsLeb bytes value behind → (byte ≡ value) × (rest ≡ behind)
-only_first bytes byte rest value behind is low reads =
-    let same = reads_only bytes (read_as byte 1) value behind (first_read bytes byte rest is low) reads in
+pub only_first : (bytes : List ℕ) (byte : ℕ) (rest : List ℕ) (value : ℕ) (after : List ℕ) → bytes ≡ byte ∷ rest → byte < 128 → ReadsLeb bytes value after → (byte ≡ value) × (rest ≡ after)
+only_first bytes byte rest value after is low reads =
+    let same = reads_only bytes (read_as byte 1) value after (first_read bytes byte rest is low) reads in
     (same.0, sym (ap (drop 1) is) ∙ same.1)
 
-pub number_of-below : (bytes : List ℕ) → number_of bytes < 128 ^ length bytes
-number_of-below [] = omega arith
-number_of-below (byte ∷ bytes) = omega (arith, number_of-below bytes, pow-suc 128 (length bytes))
+pub base128_value-below : (bytes : List ℕ) → base128_value bytes < 128 ^ length bytes
+base128_value-below [] = omega arith
+base128_value-below (byte ∷ bytes) = omega (arith, base128_value-below bytes, pow-suc 128 (length bytes))
 
 spelled_below : (value : ℕ) (bytes : List ℕ) → IsLeb value bytes → value < 2 ^ 63
 spelled_below value bytes leb =
     let nine : length bytes ≤ 9 = omega (arith, ap length leb.bytes_are, length-append leb.front (leb.last ∷ []), leb.at_most_nine) in
     let small : 128 ^ length bytes ≤ 128 ^ 9 = pow-le-pow_right {n = 128} (omega arith) {i = length bytes} {j = 9} nine in
-    omega (arith, small, leb.value_is, number_of-below bytes)
+    omega (arith, small, leb.value_is, base128_value-below bytes)
 
 pub read_below : (bytes : List ℕ) (value : ℕ) (rest : List ℕ) → ReadsLeb bytes value rest → value < 2 ^ 63
 read_below bytes value rest (spelled front is leb) = spelled_below value front leb

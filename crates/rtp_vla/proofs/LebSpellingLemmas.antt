@@ -3,11 +3,11 @@ use Rattle.std.proofs.Common.{◌≡◌, ℕ, zero, suc, ◌+◌, ◌/◌, ◌%�
 use Rattle.std.specs.List.{AllByRecursion}
 use Rattle.std.proofs.Math.Nat.{mod-eq_of_lt, pow-suc}
 use Rattle.std.proofs.lemmas.Bool.{lt-ltb, le-ltb, cases_lt}
-use Rattle.rtp_vla.specs.Leb.{number_of, IsShortest, leb_of, shortest_of}
+use Rattle.rtp_vla.specs.Leb.{base128_value, IsShortest, leb_of, shortest_of}
 use Rattle.rtp_base.specs.Overwriting.{overwritten}
 use Rattle.rtp_vla.specs.Leaving.{Leaves}
 use Rattle.rtp_vla.proofs.LeavingLemmas.{Leaves-byte, Leaves-end}
-use Rattle.rtp_vla.proofs.LebLemmas.{number_of-below}
+use Rattle.rtp_vla.proofs.LebLemmas.{base128_value-below}
 
 -- ---- The shortest spelling
 
@@ -40,7 +40,7 @@ record SpellsLow (more value : ℕ) (bytes : List ℕ) : Type 0 where
   few : length front ≤ more
   continued : AllByRecursion (λ byte. 128 ≤ byte) front
   low : last < 128
-  value_is : value ≡ number_of bytes
+  value_is : value ≡ base128_value bytes
 
 low_alone : (more byte : ℕ) → byte < 128 → SpellsLow more byte (byte ∷ [])
 low_alone more byte low = record {
@@ -99,7 +99,7 @@ IsShortest-shortest_of value small = subst (IsShortest value) (sym (shortest-leb
       };
       shortest = λ other leb.
           let len : length other ≡ suc (length leb.front) = ap length leb.bytes_are ∙ length-append leb.front (leb.last ∷ []) ∙ omega arith in
-          let below : value < 128 ^ suc (length leb.front) = subst (λ (n : ℕ). value < 128 ^ n) len (omega (arith, leb.value_is, number_of-below other)) in
+          let below : value < 128 ^ suc (length leb.front) = subst (λ (n : ℕ). value < 128 ^ n) len (omega (arith, leb.value_is, base128_value-below other)) in
           omega (arith, len, length-leb_of-le 9 value (length leb.front) below);
       ends_low = s.low;
     })

@@ -6,7 +6,7 @@ use Rattle.rtp_vla.specs.Leb.{ReadsLeb}
 
 -- ---- What an allocation is
 
--- a spatial layer: the rate of each of its temporal layers, and its resolution where it is told
+-- a spatial layer: the rate of each of its temporal layers, and its resolution where it is known
 pub record Layer : Type 0 where
   pub temporal_layers : List ℕ
   pub resolution_and_framerate : Option ResolutionAndFramerate
@@ -64,10 +64,10 @@ count_of layer = length layer.temporal_layers - 1
 
 -- ---- The rates
 
--- each rate is read behind the one before it, and 0 where no further number is spelled
+-- each rate is read after the one before it, and 0 where no further number is spelled
 abbrev pub AreRates : List ℕ → List ℕ → List ℕ → Type 0
 AreRates [] bytes rest = bytes ≡ rest
-AreRates (rate ∷ rates) bytes rest = (behind : List ℕ) × ReadsLeb bytes rate behind × AreRates rates behind rest
+AreRates (rate ∷ rates) bytes rest = (after : List ℕ) × ReadsLeb bytes rate after × AreRates rates after rest
 
 -- ---- The resolutions
 
@@ -82,9 +82,9 @@ pub record IsResolution (x y z u v : ℕ) (resolution : ResolutionAndFramerate) 
 -- five bytes for each of the first layers, as far as there are five bytes; what follows may be anything
 abbrev pub AreResolutions : List (Option ResolutionAndFramerate) → List ℕ → Type 0
 AreResolutions [] bytes = Unit {0}
-AreResolutions (told ∷ others) (x ∷ y ∷ z ∷ u ∷ v ∷ bytes) =
-    ((resolution : ResolutionAndFramerate) × (told ≡ Some resolution) × IsResolution x y z u v resolution) × AreResolutions others bytes
-AreResolutions (told ∷ others) bytes = (told ≡ None) × AllByRecursion (λ other. other ≡ None) others
+AreResolutions (first ∷ others) (x ∷ y ∷ z ∷ u ∷ v ∷ bytes) =
+    ((resolution : ResolutionAndFramerate) × (first ≡ Some resolution) × IsResolution x y z u v resolution) × AreResolutions others bytes
+AreResolutions (first ∷ others) bytes = (first ≡ None) × AllByRecursion (λ other. other ≡ None) others
 
 -- ---- All of it
 
@@ -109,21 +109,21 @@ IsCounted layer = length layer.temporal_layers ≤ 4
 -- the bytes are a head, masks, counts, rates and resolutions of the allocation
 pub record IsPacked (bytes : List ℕ) (a : Allocation) : Type 0 where
   pub shared : ℕ
-  pub masks : List ℕ
-  pub counts : List ℕ
-  pub rates : List ℕ
+  pub mask_bytes : List ℕ
+  pub count_bytes : List ℕ
+  pub rate_bytes : List ℕ
   pub rest : List ℕ
   pub bytes_are : bytes
-      ≡ (64 * a.current_simulcast_stream_index + 16 * (length a.simulcast_streams - 1) + shared) ∷ (masks ++ (counts ++ rates))
+      ≡ (64 * a.current_simulcast_stream_index + 16 * (length a.simulcast_streams - 1) + shared) ∷ (mask_bytes ++ (count_bytes ++ rate_bytes))
   pub index_fits : a.current_simulcast_stream_index ≤ 3
   pub some_stream : 1 ≤ length a.simulcast_streams
   pub few_streams : length a.simulcast_streams ≤ 4
   pub shared_fits : shared ≤ 15
   pub readable : AllByRecursion IsReadable a.simulcast_streams
   pub counted : AllByRecursion IsCounted (active_layers a.simulcast_streams)
-  pub masks_are : AreMasks shared (map mask_of a.simulcast_streams) masks
-  pub counts_are : AreQuarters (map count_of (active_layers a.simulcast_streams)) counts
-  pub rates_are : AreRates (flat_map (λ layer. layer.temporal_layers) (active_layers a.simulcast_streams)) rates rest
+  pub masks_are : AreMasks shared (map mask_of a.simulcast_streams) mask_bytes
+  pub counts_are : AreQuarters (map count_of (active_layers a.simulcast_streams)) count_bytes
+  pub rates_are : AreRates (flat_map (λ layer. layer.temporal_layers) (active_layers a.simulcast_streams)) rate_bytes rest
   pub resolutions_are : AreResolutions (map (λ layer. layer.resolution_and_framerate) (active_layers a.simulcast_streams)) rest
 
 -- nothing is sent

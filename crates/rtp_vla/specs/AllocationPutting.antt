@@ -13,9 +13,9 @@ abbrev pub HasSmallRates : Layer → Type 0
 HasSmallRates layer = AllByRecursion (λ rate. rate < 9223372036854775808) layer.temporal_layers
 
 -- no width or height of 0
-abbrev pub IsTold : Option ResolutionAndFramerate → Type 0
-IsTold None = Unit {0}
-IsTold (Some r) = (1 ≤ r.width) × (1 ≤ r.height)
+abbrev pub IsSized : Option ResolutionAndFramerate → Type 0
+IsSized None = Unit {0}
+IsSized (Some r) = (1 ≤ r.width) × (1 ≤ r.height)
 
-abbrev pub HasTold : Layer → Type 0
-HasTold layer = IsTold layer.resolution_and_framerate
+abbrev pub HasSizedResolution : Layer → Type 0
+HasSizedResolution layer = IsSized layer.resolution_and_framerate

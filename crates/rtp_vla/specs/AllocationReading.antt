@@ -14,13 +14,13 @@ abbrev pub quarters : List ℕ → List ℕ
 quarters [] = []
 quarters (byte ∷ bytes) = byte / 64 % 4 ∷ byte / 16 % 4 ∷ byte / 4 % 4 ∷ byte % 4 ∷ quarters bytes
 
--- whether each layer up to a mask's highest bit is active, from its lowest bit on; a mask has so many bits at most
-abbrev pub bits_of : ℕ → ℕ → List Bool
-bits_of zero mask = []
-bits_of (suc room) mask = if mask == 0 then [] else ((mask % 2 == 1) ∷ bits_of room (mask / 2))
+-- whether each layer up to a mask's highest bit is active, from its lowest bit on; a mask has at most `room` bits
+abbrev pub mask_bits : ℕ → ℕ → List Bool
+mask_bits zero mask = []
+mask_bits (suc room) mask = if mask == 0 then [] else ((mask % 2 == 1) ∷ mask_bits room (mask / 2))
 
 unfoldable pub marks_of : ℕ → List Bool
-marks_of mask = bits_of 4 mask
+marks_of mask = mask_bits 4 mask
 
 -- how many are marked
 abbrev pub marked : List Bool → ℕ
@@ -58,7 +58,7 @@ abbrev pub dealt_streams : List ℕ → List Layer → List Stream
 dealt_streams [] layers = []
 dealt_streams (mask ∷ masks) layers = dealt (marks_of mask) layers ∷ dealt_streams masks (drop (active_in mask) layers)
 
--- so many rates, and what follows them
+-- the first n rates, and what follows them
 abbrev pub rates_of : ℕ → List ℕ → List ℕ
 rates_of zero bytes = []
 rates_of (suc n) bytes = leb_value bytes ∷ rates_of n (leb_rest bytes)
@@ -76,7 +76,7 @@ abbrev pub after_resolution : List ℕ → List ℕ
 after_resolution (x ∷ y ∷ z ∷ u ∷ v ∷ bytes) = bytes
 after_resolution bytes = bytes
 
--- no width or height of so many resolutions is above 65535
+-- no width or height of the first n resolutions is above 65535
 abbrev pub FitResolutions : ℕ → List ℕ → Type 0
 FitResolutions zero bytes = Unit {0}
 FitResolutions (suc n) (x ∷ y ∷ z ∷ u ∷ v ∷ bytes) = (256 * x + y < 65535) × (256 * z + u < 65535) × FitResolutions n bytes
@@ -99,10 +99,10 @@ abbrev pub active_count : List ℕ → ℕ
 active_count [] = 0
 active_count (mask ∷ masks) = active_in mask + active_count masks
 
--- the masks of so many streams, and what follows them
-pub record HasMasks (bytes : List ℕ) (shared count : ℕ) (masks behind : List ℕ) : Type 0 where
+-- the masks of `count` streams, and what follows them
+pub record HasMasks (bytes : List ℕ) (shared count : ℕ) (masks after : List ℕ) : Type 0 where
   pub mask_bytes : List ℕ
-  pub bytes_are : bytes ≡ mask_bytes ++ behind
+  pub bytes_are : bytes ≡ mask_bytes ++ after
   pub as_many : length masks ≡ count
   pub masks_fit : AllByRecursion (λ mask. mask ≤ 15) masks
   pub masks_are : AreMasks shared masks mask_bytes
@@ -116,20 +116,20 @@ pub record LacksMasks (bytes : List ℕ) (shared count : ℕ) : Type 0 where
 pub record IsLaidOut (bytes : List ℕ) (index : ℕ) (masks : List ℕ) (layers : List Layer) : Type 0 where
   pub shared : ℕ
   pub mask_bytes : List ℕ
-  pub counts : List ℕ
-  pub rates : List ℕ
-  pub bytes_are : bytes ≡ (64 * index + 16 * (length masks - 1) + shared) ∷ (mask_bytes ++ (counts ++ rates))
+  pub count_bytes : List ℕ
+  pub rate_bytes : List ℕ
+  pub bytes_are : bytes ≡ (64 * index + 16 * (length masks - 1) + shared) ∷ (mask_bytes ++ (count_bytes ++ rate_bytes))
   pub index_fits : index ≤ 3
   pub some_mask : 1 ≤ length masks
   pub few_masks : length masks ≤ 4
   pub shared_fits : shared ≤ 15
   pub masks_fit : AllByRecursion (λ mask. mask ≤ 15) masks
   pub masks_are : AreMasks shared masks mask_bytes
-  pub counts_len : length counts ≡ (active_count masks + 3) / 4
-  pub layers_are : layers ≡ layers_read (take (active_count masks) (quarters counts)) rates
-      (after_rates (rate_count (take (active_count masks) (quarters counts))) rates)
-  pub resolutions_fit : FitResolutions (active_count masks) (after_rates (rate_count (take (active_count masks) (quarters counts))) rates)
+  pub counts_len : length count_bytes ≡ (active_count masks + 3) / 4
+  pub layers_are : layers ≡ layers_read (take (active_count masks) (quarters count_bytes)) rate_bytes
+      (after_rates (rate_count (take (active_count masks) (quarters count_bytes))) rate_bytes)
+  pub resolutions_fit : FitResolutions (active_count masks) (after_rates (rate_count (take (active_count masks) (quarters count_bytes))) rate_bytes)
 
--- no parts can be told apart
+-- the bytes have no such parts
 abbrev pub IsCutShort : List ℕ → Type 0
 IsCutShort bytes = (index : ℕ) (masks : List ℕ) (layers : List Layer) → IsLaidOut bytes index masks layers → ⊥

@@ -7,7 +7,7 @@ use Rattle.rtp_vla.specs.Allocation.{Layer, Stream, Allocation, is_active, activ
 
 -- ---- Which can be written
 
--- a layer with neither temporal layers nor a resolution says nothing, and none of them is kept behind the last other one
+-- a layer with neither temporal layers nor a resolution says nothing, and none of them is kept after the last other one
 abbrev pub is_bare : Layer → Bool
 is_bare layer = not (is_active layer) && is_none layer.resolution_and_framerate
 
@@ -45,15 +45,15 @@ abbrev pub rates_fit : List ℕ → Bool
 rates_fit rates = nat_le (length rates) 4 && list_all (λ rate. nat_lt rate 9223372036854775808) rates
 
 -- a resolution follows no active layer without one, and has no width or height of 0
-abbrev pub told_fits : Bool → Option ResolutionAndFramerate → Bool
-told_fits ended None = true
-told_fits ended (Some r) =
+abbrev pub resolution_fits : Bool → Option ResolutionAndFramerate → Bool
+resolution_fits ended None = true
+resolution_fits ended (Some r) =
     not ended && ((nat_lt 0 r.width && nat_lt r.width 65536) && ((nat_lt 0 r.height && nat_lt r.height 65536) && nat_lt r.framerate 256))
 
 abbrev pub resolutions_in_front : Bool → List Layer → Bool
 resolutions_in_front ended [] = true
 resolutions_in_front ended (layer ∷ layers) =
-    told_fits ended layer.resolution_and_framerate && resolutions_in_front (is_none layer.resolution_and_framerate) layers
+    resolution_fits ended layer.resolution_and_framerate && resolutions_in_front (is_none layer.resolution_and_framerate) layers
 
 abbrev pub layers_fit : List Layer → Bool
 layers_fit layers = list_all (λ layer. rates_fit layer.temporal_layers) layers && resolutions_in_front false layers
@@ -75,7 +75,7 @@ abbrev pub shared_of : List ℕ → ℕ
 shared_of [] = 0
 shared_of (mask ∷ masks) = if list_all (λ other. other == mask) masks then mask else 0
 
--- two masks a byte; a spare half is 0 behind one mask and 15 behind three
+-- two masks a byte; a spare half is 0 after one mask and 15 after three, where the description has zeros
 abbrev pub halves_of : ℕ → List ℕ → List ℕ
 halves_of spare [] = []
 halves_of spare (m ∷ []) = (16 * m + spare) ∷ []
@@ -97,12 +97,12 @@ abbrev pub rate_bytes : Layer → List ℕ
 rate_bytes layer = flat_map shortest_of layer.temporal_layers
 
 -- width minus one, height minus one, and the frame rate
-abbrev pub told_bytes : Option ResolutionAndFramerate → List ℕ
-told_bytes None = []
-told_bytes (Some r) = (r.width - 1) / 256 ∷ (r.width - 1) % 256 ∷ (r.height - 1) / 256 ∷ (r.height - 1) % 256 ∷ r.framerate ∷ []
+abbrev pub resolution_field : Option ResolutionAndFramerate → List ℕ
+resolution_field None = []
+resolution_field (Some r) = (r.width - 1) / 256 ∷ (r.width - 1) % 256 ∷ (r.height - 1) / 256 ∷ (r.height - 1) % 256 ∷ r.framerate ∷ []
 
 abbrev pub resolution_bytes : Layer → List ℕ
-resolution_bytes layer = told_bytes layer.resolution_and_framerate
+resolution_bytes layer = resolution_field layer.resolution_and_framerate
 
 abbrev pub packed_bytes : ℕ → List Stream → List ℕ
 packed_bytes index streams =

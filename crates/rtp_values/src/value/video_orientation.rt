@@ -41,7 +41,7 @@ impl From<u8> for VideoOrientation {
 }
 
 // The orientation in two bits.
-fn bits_of(orientation: VideoOrientation) -> u8
+fn orientation_bits(orientation: VideoOrientation) -> u8
     ensures { result ≡ orientation_bits orientation }
 {
     orientation as u8
@@ -60,5 +60,5 @@ pub(super) fn write(buf: &mut [u8], ev: &ExtensionValues) -> Option<usize>
     ensures { HasWritten OrientationKind ev.now buf.old buf.new result }
 {
     let orientation = ev.video_orientation?;
-    Some(put(buf, &[bits_of(orientation)]))
+    Some(put(buf, &[orientation_bits(orientation)]))
 }

@@ -8,7 +8,7 @@ ghost use Rattle.rtp_vla.specs.Allocation.{is_active, active_layers};
 use super::allocation::{SimulcastStreamAllocation, SpatialLayerAllocation};
 use std::marker::Model;
 
-// The first active layer, and the layers behind it.
+// The first active layer, and the layers after it.
 fn first_active(
     layers: &[SpatialLayerAllocation],
 ) -> Option<(&SpatialLayerAllocation, &[SpatialLayerAllocation])>
@@ -17,11 +17,11 @@ fn first_active(
     ensures none { IfNone result (filter is_active layers.now ≡ []) }
 {
     let mut left = layers;
-    while let Some((layer, behind)) = left.split_first() {
+    while let Some((layer, after)) = left.split_first() {
         if !layer.temporal_layers.is_empty() {
-            return Some((layer, behind));
+            return Some((layer, after));
         }
-        left = behind;
+        left = after;
     }
     None
 }
@@ -65,13 +65,13 @@ impl<'a> Iterator for ActiveLayers<'a> {
 
     fn next(&mut self) -> Option<&'a SpatialLayerAllocation> {
         loop {
-            if let Some((layer, behind)) = first_active(self.layers) {
-                self.layers = behind;
+            if let Some((layer, after)) = first_active(self.layers) {
+                self.layers = after;
                 return Some(layer);
             }
-            let (stream, behind) = self.streams.split_first()?;
+            let (stream, after) = self.streams.split_first()?;
             self.layers = &stream.spatial_layers;
-            self.streams = behind;
+            self.streams = after;
         }
     }
 }

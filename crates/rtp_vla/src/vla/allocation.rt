@@ -167,7 +167,7 @@ impl Eq for VideoLayersAllocation {
 
 impl SpatialLayerAllocation {
     /// The same layer in memory of its own, which is taken where it has temporal layers. Where that
-    /// is refused nothing is handed out.
+    /// is refused nothing is returned.
     pub fn clone(&self, alloc: Global) -> Result<Self, AllocError>
         ensures same { IfOk result (λ copy. copy ≡ self.now) }
         ensures succeeds { self.now.temporal_layers ≡ [] → IsOk result }
@@ -183,7 +183,7 @@ impl SpatialLayerAllocation {
 
 impl SimulcastStreamAllocation {
     /// The same stream in memory of its own, which is taken where it has layers. Where that is
-    /// refused nothing is handed out.
+    /// refused nothing is returned.
     pub fn clone(&self, alloc: Global) -> Result<Self, AllocError>
         ensures same { IfOk result (λ copy. copy ≡ self.now) }
         ensures succeeds { self.now ≡ [] → IsOk result }
@@ -198,7 +198,7 @@ impl SimulcastStreamAllocation {
 
 impl VideoLayersAllocation {
     /// The same allocation in memory of its own, which is taken where it has streams. Where that is
-    /// refused nothing is handed out.
+    /// refused nothing is returned.
     pub fn clone(&self, alloc: Global) -> Result<Self, AllocError>
         ensures same { IfOk result (λ copy. copy ≡ self.now) }
         ensures succeeds { self.now.simulcast_streams ≡ [] → IsOk result }

@@ -60,7 +60,7 @@ pub(super) fn leb_len(value: u64) -> usize
     len
 }
 
-// Puts the shortest spelling at an offset, and returns the offset behind it.
+// Puts the shortest spelling at an offset, and returns the offset after it.
 pub(super) fn put_leb(buf: &mut [u8], at: usize, value: u64) -> usize
     requires small { value < 2 ^ 63 }
     requires room { at + length (shortest_of value) ≤ length buf.old }
@@ -79,7 +79,7 @@ pub(super) fn put_leb(buf: &mut [u8], at: usize, value: u64) -> usize
 }
 
 /// Writes the shortest spelling of the number to the front of the buffer, and returns how many
-/// bytes it has, 1 to 9; the bytes behind it stay. It requires a number below 2^63 and room, for
+/// bytes it has, 1 to 9; the bytes after it stay. It requires a number below 2^63 and room, for
 /// which 9 bytes suffice: 300 is written as `AC 02`.
 pub fn encode_leb_u63(value: u64, buf: &mut [u8]) -> usize
     requires small { value < 2 ^ 63 }

@@ -65,17 +65,18 @@ fn rates_len(rates: &[TemporalLayerAllocation]) -> Option<usize>
     Some(len)
 }
 
-// How many bytes the resolution of a layer has that can be written, behind one without where that
-// has ended them.
-fn told_len(told: &Option<ResolutionAndFramerate>, ended: bool) -> Option<usize>
-    ensures fits { IfSome result (λ len. (written.told_fits ended told.now ≡ true)
-        × (len ≡ length (written.told_bytes told.now))) }
-    ensures unfit { IfNone result (written.told_fits ended told.now ≡ false) }
+// How many bytes the resolution of a layer has that can be written; none can after an active layer
+// without one, which has `ended` them.
+fn resolution_len(resolution: &Option<ResolutionAndFramerate>, ended: bool) -> Option<usize>
+    ensures fits { IfSome result (λ len. (written.resolution_fits ended resolution.now ≡ true)
+        × (len ≡ length (written.resolution_field resolution.now))) }
+    ensures unfit { IfNone result (written.resolution_fits ended resolution.now ≡ false) }
     ensures few { IfSome result (λ len. len ≤ 5) }
 {
-    let Some(resolution) = told else {
+    let Some(resolution) = resolution else {
         return Some(0);
     };
+    // Read for the proof alone, which then knows that it is a byte.
     let _framerate = resolution.framerate;
     if ended {
         return None;
@@ -104,10 +105,10 @@ fn layers_len(mut left: ActiveLayers) -> Option<usize>
     let mut ended = false;
     while let Some(layer) = left.next() {
         let rates = rates_len(&layer.temporal_layers)?;
-        let told = told_len(&layer.resolution_and_framerate, ended)?;
+        let resolution = resolution_len(&layer.resolution_and_framerate, ended)?;
         ended = layer.resolution_and_framerate.is_none();
         active += 1;
-        len += rates + told;
+        len += rates + resolution;
     }
     Some((active + 3) / 4 + len)
 }
@@ -144,7 +145,7 @@ pub(super) fn shared_of(masks: &[u8]) -> u8
     if all_are(others, *first) { *first } else { 0 }
 }
 
-// How many bytes the masks have behind the head.
+// How many bytes the masks have after the head.
 fn masks_len(masks: &[u8]) -> usize
     requires { length masks.now ≤ 4 }
     ensures len { result ≡ length (written.mask_bytes masks.now) }

@@ -6,34 +6,34 @@ ghost use Rattle.rtp_vla.specs.AllocationReading as reading;
 
 use super::allocation::VideoLayersAllocation;
 use super::layers::{LayerReader, streams_of};
-use super::parts::{active_count, behind_rates, half_at, rate_count, resolutions_fit};
+use super::parts::{active_count, after_rates, half_at, rate_count, resolutions_fit};
 use std::alloc::{AllocError, Global};
 
 // What the bytes have before any layer is made of them.
 #[derive(Drop)]
 struct Layout<'a> {
     index: u8,
-    // The masks of so many streams; what stands behind them is of no stream.
+    // The masks of the streams; what stands after them is of no stream.
     masks: [u8; 4],
     streams: usize,
     layers: LayerReader<'a>,
 }
 
-// Reads the mask of each stream, one half of a byte each, and returns the bytes behind them.
+// Reads the mask of each stream, one half of a byte each, and returns the bytes after them.
 fn read_halves<'a>(bytes: &'a [u8], masks: &mut [u8]) -> Option<&'a [u8]>
-    ensures found { IfSome result (λ behind.
-        reading.HasMasks bytes.now 0 (length masks.old) masks.new behind.now) }
+    ensures found { IfSome result (λ after.
+        reading.HasMasks bytes.now 0 (length masks.old) masks.new after.now) }
     ensures refused { IfNone result (reading.LacksMasks bytes.now 0 (length masks.old)) }
 {
-    let (spelled, behind) = bytes.split_at_checked((masks.len() + 1) / 2)?;
+    let (spelled, after) = bytes.split_at_checked((masks.len() + 1) / 2)?;
     for i in 0..masks.len() {
         masks[i] = half_at(spelled, i);
     }
-    Some(behind)
+    Some(after)
 }
 
 // Reads the mask of each stream that the head announces, which is the head's for all of them or
-// stands behind the head, and returns how many there are and the bytes behind them.
+// stands after the head, and returns how many there are and the bytes after them.
 fn read_masks<'a>(head: u8, bytes: &'a [u8], masks: &mut [u8; 4]) -> Option<(usize, &'a [u8])>
     ensures found { IfSome result (λ read. reading.HasMasks bytes.now
         (head % 16) (head / 16 % 4 + 1) (take read.0 masks.new) read.1.now) }
@@ -46,8 +46,8 @@ fn read_masks<'a>(head: u8, bytes: &'a [u8], masks: &mut [u8; 4]) -> Option<(usi
     if shared != 0 {
         return Some((streams, bytes));
     }
-    let behind = read_halves(bytes, &mut masks[..streams])?;
-    Some((streams, behind))
+    let after = read_halves(bytes, &mut masks[..streams])?;
+    Some((streams, after))
 }
 
 // Where the parts are, if all of them are there.
@@ -62,7 +62,7 @@ fn layout_of(buf: &[u8]) -> Option<Layout<'_>>
     let (streams, after) = read_masks(*head, after, &mut masks)?;
     let active = active_count(&masks[..streams]);
     let (counts, rates) = after.split_at_checked((active + 3) / 4)?;
-    let resolutions = behind_rates(rates, rate_count(counts, active));
+    let resolutions = after_rates(rates, rate_count(counts, active));
     if !resolutions_fit(resolutions, active) {
         return None;
     }
@@ -82,14 +82,14 @@ fn says_nothing(buf: &[u8]) -> bool
 }
 
 /// Reads an allocation. The bytes are a head, masks, counts of temporal layers, rates and
-/// resolutions (`video-layers-allocation00`); bytes behind the last resolution are not looked at,
+/// resolutions (`video-layers-allocation00`); bytes after the last resolution are not looked at,
 /// rates that are not there are 0, and layers whose resolution isn't there have none. The single
 /// byte 0 says that nothing is sent: index 0, no streams.
 ///
 /// The result is None where there are no bytes, too few for the masks or the counts, or a width or
 /// height above 65535. `01 00 05` is one stream of one layer of 5 kilobits per second.
 ///
-/// Memory is taken for each list that isn't empty; where it is refused nothing is handed out.
+/// Memory is taken for each list that isn't empty; where it is refused nothing is returned.
 pub fn parse(alloc: Global, buf: &[u8]) -> Result<Option<VideoLayersAllocation>, AllocError>
     // The bytes mean the result, and what they mean is the result; they mean no two allocations.
     ensures found { IfOk result (λ read. IfSome read (Means buf.now)) }

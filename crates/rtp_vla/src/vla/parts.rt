@@ -8,34 +8,34 @@ use super::allocation::{ResolutionAndFramerate, TemporalLayerAllocation};
 use super::leb::parse_leb_u63;
 use std::alloc::{AllocError, Global};
 
-// So many rates, and the bytes behind them.
+// The first `count` rates, and the bytes after them.
 pub(super) fn rates_at(
     alloc: Global,
     bytes: &[u8],
     count: usize,
 ) -> Result<(Vec<TemporalLayerAllocation>, &[u8]), AllocError>
     ensures rates { IfOk result (λ read. read.0.items ≡ reading.rates_of count bytes.now) }
-    ensures behind { IfOk result (λ read. read.1.now ≡ reading.after_rates count bytes.now) }
+    ensures after { IfOk result (λ read. read.1.now ≡ reading.after_rates count bytes.now) }
 {
     let mut rates = Vec::with_capacity(alloc, count)?;
-    let mut behind = bytes;
+    let mut after = bytes;
     for _i in 0..count {
-        let (cumulative_kbps, next) = parse_leb_u63(behind);
+        let (cumulative_kbps, next) = parse_leb_u63(after);
         rates.push_reserved(TemporalLayerAllocation { cumulative_kbps });
-        behind = next;
+        after = next;
     }
-    Ok((rates, behind))
+    Ok((rates, after))
 }
 
-// The bytes behind so many rates.
-pub(super) fn behind_rates(bytes: &[u8], count: usize) -> &[u8]
+// The bytes after the first `count` rates.
+pub(super) fn after_rates(bytes: &[u8], count: usize) -> &[u8]
     ensures { result.now ≡ reading.after_rates count bytes.now }
 {
-    let mut behind = bytes;
+    let mut after = bytes;
     for _i in 0..count {
-        behind = parse_leb_u63(behind).1;
+        after = parse_leb_u63(after).1;
     }
-    behind
+    after
 }
 
 // Whether the number in two bytes has a next one in two bytes.
@@ -53,13 +53,13 @@ fn next_of(high: u8, low: u8) -> u16
     u16::from_be_bytes([high, low]) + 1
 }
 
-// Whether no width or height of so many resolutions is too large.
+// Whether no width or height of the first `count` resolutions is too large.
 pub(super) fn resolutions_fit(bytes: &[u8], count: usize) -> bool
     ensures { IsTrue result ↔ reading.FitResolutions count bytes.now }
 {
-    let mut behind = bytes;
+    let mut after = bytes;
     for _i in 0..count {
-        let Some((field, next)) = behind.split_first_chunk::<5>() else {
+        let Some((field, next)) = after.split_first_chunk::<5>() else {
             return true;
         };
         if !has_next(field[0], field[1]) {
@@ -68,18 +68,18 @@ pub(super) fn resolutions_fit(bytes: &[u8], count: usize) -> bool
         if !has_next(field[2], field[3]) {
             return false;
         }
-        behind = next;
+        after = next;
     }
     true
 }
 
-// The resolution at the front, where there are five bytes, and the bytes behind it.
+// The resolution at the front, where there are five bytes, and the bytes after it.
 pub(super) fn resolution_at(bytes: &[u8]) -> (Option<ResolutionAndFramerate>, &[u8])
     requires { reading.FitResolutions 1 bytes.now }
     ensures resolution { result.0 ≡ reading.resolution_in bytes.now }
-    ensures behind { result.1.now ≡ reading.after_resolution bytes.now }
+    ensures after { result.1.now ≡ reading.after_resolution bytes.now }
 {
-    let Some((field, behind)) = bytes.split_first_chunk::<5>() else {
+    let Some((field, after)) = bytes.split_first_chunk::<5>() else {
         return (None, bytes);
     };
     let resolution = ResolutionAndFramerate {
@@ -87,7 +87,7 @@ pub(super) fn resolution_at(bytes: &[u8]) -> (Option<ResolutionAndFramerate>, &[
         height: next_of(field[2], field[3]),
         framerate: field[4],
     };
-    (Some(resolution), behind)
+    (Some(resolution), after)
 }
 
 // One of the masks, two of which stand in each byte.

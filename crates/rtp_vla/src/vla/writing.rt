@@ -34,7 +34,7 @@ fn put_halves(buf: &mut [u8], at: usize, masks: &[u8]) -> usize
     }
 }
 
-// The next count, and 0 behind the last.
+// The next count, and 0 after the last.
 fn next_count(left: &mut ActiveLayers) -> u8
     requires { AllByRecursion IsCounted left.old }
     ensures count { result ≡ putting.first_count left.old }
@@ -99,17 +99,17 @@ fn put_rates(buf: &mut [u8], at: usize, mut left: ActiveLayers) -> usize
 fn high_and_low(number: u16) -> [u8; 2]
     ensures { result ≡ (number / 256) ∷ (number % 256) ∷ [] }
 {
-    [(number / 256) as u8, (number % 256) as u8]
+    number.to_be_bytes()
 }
 
 // Puts the resolution of a layer, if it has one.
-fn put_told(buf: &mut [u8], at: usize, told: &Option<ResolutionAndFramerate>) -> usize
-    requires some { putting.IsTold told.now }
-    requires room { at + length (written.told_bytes told.now) ≤ length buf.old }
-    ensures written { buf.new ≡ overwritten buf.old at (written.told_bytes told.now) }
-    ensures end { result ≡ at + length (written.told_bytes told.now) }
+fn put_resolution(buf: &mut [u8], at: usize, resolution: &Option<ResolutionAndFramerate>) -> usize
+    requires some { putting.IsSized resolution.now }
+    requires room { at + length (written.resolution_field resolution.now) ≤ length buf.old }
+    ensures written { buf.new ≡ overwritten buf.old at (written.resolution_field resolution.now) }
+    ensures end { result ≡ at + length (written.resolution_field resolution.now) }
 {
-    let Some(resolution) = told else {
+    let Some(resolution) = resolution else {
         return at;
     };
     let [x, y] = high_and_low(resolution.width - 1);
@@ -119,14 +119,14 @@ fn put_told(buf: &mut [u8], at: usize, told: &Option<ResolutionAndFramerate>) ->
 
 // Puts the resolutions.
 fn put_resolutions(buf: &mut [u8], at: usize, mut left: ActiveLayers) -> usize
-    requires some { AllByRecursion putting.HasTold left }
+    requires some { AllByRecursion putting.HasSizedResolution left }
     requires room { at + length (flat_map written.resolution_bytes left) ≤ length buf.old }
     ensures written { buf.new ≡ overwritten buf.old at (flat_map written.resolution_bytes left.entry) }
     ensures end { result ≡ at + length (flat_map written.resolution_bytes left.entry) }
 {
     let mut end = at;
     while let Some(layer) = left.next() {
-        end = put_told(buf, end, &layer.resolution_and_framerate);
+        end = put_resolution(buf, end, &layer.resolution_and_framerate);
     }
     end
 }
@@ -202,8 +202,8 @@ pub fn checked_wire_len(v: &VideoLayersAllocation) -> Option<usize>
 }
 
 /// Writes the allocation to the front of the buffer, and returns how many bytes it has; the bytes
-/// behind them stay. Every rate is written, in its shortest spelling; the head has the mask of all
-/// streams where they have one, and spare bits are 0, but for the half of a byte behind a third
+/// after them stay. Every rate is written, in its shortest spelling; the head has the mask of all
+/// streams where they have one, and spare bits are 0, except for the half of a byte after a third
 /// mask, which is 15. What is written is read as the allocation without the layers at the end of
 /// each stream that have neither temporal layers nor a resolution.
 ///

@@ -3,14 +3,14 @@ use Rattle.std.specs.Global.{Vec}
 use Rattle.rtp_report.specs.declared.input.InputError.TheVariants.{BadLine}
 use Rattle.rtp_report.specs.Input.{Spells, IsFirstBadLine}
 use Rattle.rtp_ext.specs.ExtensionMap.{Slots}
-use Rattle.rtp_report.proofs.ReadLemmas.{if_err, IsFirstBadLine-behind, Spells-standard, Spells-mapped}
+use Rattle.rtp_report.proofs.ReadLemmas.{if_err, IsFirstBadLine-after, Spells-standard, Spells-mapped}
 use Rattle.rtp_report.proofs.input.read_input.Goals as goal
 use Rattle.rtp_report.proofs.input.read_input.Goals.{then-count-eq0, else-count-eq0}
 
 pub returns-in_err-datagrams-clause-bad_line : goal.returns-in_err-datagrams-clause-bad_line
 returns-in_err-datagrams-clause-bad_line c =
     if_err c.from_residual-in_err-datagrams.result (λ error. (n : ℕ) → error ≡ BadLine n → IsFirstBadLine c.args.text.now n) c.from_residual-in_err-datagrams.ensures.1 (λ e same n is.
-    IsFirstBadLine-behind c.args.text.now c.in_ok-exts.rest.now c.in_ok-exts.exts c.in_ok-exts.count n c.in_ok-exts.ensures.front c.in_ok-exts.ensures.all
+    IsFirstBadLine-after c.args.text.now c.in_ok-exts.rest.now c.in_ok-exts.exts c.in_ok-exts.count n c.in_ok-exts.ensures.front c.in_ok-exts.ensures.all
     (c.in_err-datagrams.ensures.bad_line n (sym same ∙ is)))
 
 pub returns-clause-spelled : goal.returns-clause-spelled

@@ -6,7 +6,8 @@ use Rattle.std.proofs.lemmas.List.{get_or-map, length-map}
 use Rattle.rtp_wire.specs.NotAHeader.{NotAHeader}
 use Rattle.rtp_wire.specs.declared.header.rtp_header.RtpHeader.{RtpHeader}
 use Rattle.rtp_report.specs.declared.program.RunEnd.TheVariants.{NoMemory, Io}
-use Rattle.rtp_report.specs.Output.{IsHeader, IsPartialReport, Prints, packet_lines}
+use Rattle.rtp_report.specs.Output.{IsHeader, Prints, packet_lines}
+use Rattle.rtp_report.specs.Stopping.{IsPartialReport}
 use Rattle.rtp_report.proofs.PrintLemmas.{Printed-none, Printed-more, Printed-written, Prints-all, Prints-written, Prints-cut, Prints-nothing, handed_on}
 use Rattle.rtp_report.proofs.printing.print_all.Goals as goal
 use Rattle.rtp_report.proofs.printing.print_all.Goals.{then-len-ge-WRITTEN_AT_ONCE+in_ok-write_text-2, else-len-ge-WRITTEN_AT_ONCE}

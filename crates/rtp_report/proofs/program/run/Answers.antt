@@ -2,7 +2,8 @@ use Rattle.std.proofs.Common.{◌≡◌, ℕ, List, Option, subst}
 use Rattle.std.specs.Prelude.{IfSome}
 use Rattle.rtp_report.specs.declared.program.RunEnd.{RunEnd}
 use Rattle.rtp_report.specs.declared.program.RunEnd.TheVariants.{Done, BadLine, NoMemory, Io}
-use Rattle.rtp_report.specs.Output.{IsLeft, Prints}
+use Rattle.rtp_report.specs.Output.{Prints}
+use Rattle.rtp_report.specs.Stopping.{IsLeft}
 use Rattle.rtp_report.proofs.ReadLemmas.{input_has_none, bad_is_none}
 use Rattle.rtp_report.proofs.RunLemmas.{on_known, Prints-want, Prints-part_of_want, IsInput-printed, HasBadLine-printed}
 use Rattle.rtp_report.proofs.program.run.Goals as goal

@@ -3,7 +3,7 @@ use Rattle.std.specs.List.{list_all, flat_map}
 use Rattle.rtp_vla.specs.AllocationWritten.{rates_fit, resolutions_in_front, rate_bytes, resolution_bytes}
 use Rattle.rtp_vla.proofs.vla.measuring.layers_len.Given as goal
 
--- whether all fit is what the layers that are left say, and their bytes come behind those so far
+-- whether all fit is what the layers that are left say, and their bytes come after those so far
 abbrev pub invariant-loop-layer : goal.invariant-loop-layer
 invariant-loop-layer l = record {
   rates : list_all (λ layer. rates_fit layer.temporal_layers) l.left ≡ list_all (λ layer. rates_fit layer.temporal_layers) l.initial.left;

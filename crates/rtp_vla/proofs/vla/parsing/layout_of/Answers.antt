@@ -28,5 +28,5 @@ returns-then-not-resolutions_fit-clause-refused c =
     cut_resolutions c.args.buf.now c.in_ok-head.head.now c.in_ok-head.after.now masks c.in_ok-streams.after.now counts rates c.in_ok-head.ensures.cases.0 c.in_ok-streams.ensures.found
     (sym (take-append-drop k c.in_ok-streams.after.now) ∙ (λ j. sym split.1 j ++ sym split.2 j)) len
     (λ fit. false≢true (c.if-not-resolutions_fit.ensures.1
-    (subst (λ (bytes : List ℕ). FitResolutions c.active_count-active.result bytes) (sym (c.behind_rates-resolutions.ensures ∙ ap (λ (n : ℕ). after_rates n rates) c.rate_count.ensures))
+    (subst (λ (bytes : List ℕ). FitResolutions c.active_count-active.result bytes) (sym (c.after_rates-resolutions.ensures ∙ ap (λ (n : ℕ). after_rates n rates) c.rate_count.ensures))
     (subst (λ (n : ℕ). FitResolutions n (after_rates (rate_count (take n (quarters counts))) rates)) (sym active) fit))))

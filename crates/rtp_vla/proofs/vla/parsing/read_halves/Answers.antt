@@ -23,9 +23,9 @@ returns-clause-found c =
     let n = length c.args.masks.now in
     let bytes = c.args.bytes.now in
     let spelled = c.in_ok-spelled.spelled.now in
-    let split : bytes ≡ spelled ++ c.in_ok-spelled.behind.now = sym (take-append-drop ((n + 1) / 2) bytes) ∙ (λ j. sym c.in_ok-spelled.ensures.cases.1 j ++ sym c.in_ok-spelled.ensures.cases.2 j) in
+    let split : bytes ≡ spelled ++ c.in_ok-spelled.after.now = sym (take-append-drop ((n + 1) / 2) bytes) ∙ (λ j. sym c.in_ok-spelled.ensures.cases.1 j ++ sym c.in_ok-spelled.ensures.cases.2 j) in
     let all : AreBytes bytes = AreBytes-from bytes (λ i. omega (arith, c.type_inv.bytes i)) in
-    let inside : AreBytes spelled = (AreBytes-parts spelled c.in_ok-spelled.behind.now (subst AreBytes split all)).0 in
+    let inside : AreBytes spelled = (AreBytes-parts spelled c.in_ok-spelled.after.now (subst AreBytes split all)).0 in
     let end : c.loop-i.i ≡ n = omega arith in
-    HasMasks-halves bytes spelled c.in_ok-spelled.behind.now c.loop-i.masks n split (spelled_len (goal.at.returns-clause-found c).In_ok-spelled) inside c.loop-i.auto.masks
+    HasMasks-halves bytes spelled c.in_ok-spelled.after.now c.loop-i.masks n split (spelled_len (goal.at.returns-clause-found c).In_ok-spelled) inside c.loop-i.auto.masks
     (sym (take_all n c.loop-i.masks (omega (arith, c.loop-i.auto.masks))) ∙ subst (λ (k : ℕ). take k c.loop-i.masks ≡ take k (halves spelled)) end c.loop-i.invariant)

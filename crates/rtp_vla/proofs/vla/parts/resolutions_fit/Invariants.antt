@@ -4,4 +4,4 @@ use Rattle.rtp_vla.proofs.vla.parts.resolutions_fit.Given as goal
 
 -- those so far fit
 abbrev pub invariant-loop-i : goal.invariant-loop-i
-invariant-loop-i l = FitResolutions (l.count - l._i) l.behind ↔ FitResolutions l.count l.bytes
+invariant-loop-i l = FitResolutions (l.count - l._i) l.after ↔ FitResolutions l.count l.bytes

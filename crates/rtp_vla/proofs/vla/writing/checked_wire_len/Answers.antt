@@ -6,9 +6,9 @@ use Rattle.rtp_vla.proofs.vla.writing.checked_wire_len.Goals as goal
 pub returns : goal.returns
 returns c =
     let v = c.args.v.now in
-    let told = c.writable_len.ensures in
+    let measured = c.writable_len.ensures in
     record {
-      found = some_found c.writable_len.result v (length (written_of v)) told.fits;
-      none = none_found c.writable_len.result v told.unfit;
-      cases = some_is c.writable_len.result (can_be_written v) (length (written_of v)) told.fits told.unfit;
+      found = some_found c.writable_len.result v (length (written_of v)) measured.fits;
+      none = none_found c.writable_len.result v measured.unfit;
+      cases = some_is c.writable_len.result (can_be_written v) (length (written_of v)) measured.fits measured.unfit;
     }

@@ -5,7 +5,7 @@ use Rattle.rtp_vla.specs.AllocationWritten.{quarters_of}
 use Rattle.rtp_vla.specs.Leaving.{Leaves}
 use Rattle.rtp_vla.proofs.vla.writing.put_counts.Given as goal
 
--- what is left is put behind the bytes so far
+-- what is left is put after the bytes so far
 abbrev pub invariant-loop-layer : goal.invariant-loop-layer
 invariant-loop-layer l = record {
   leaves : Leaves l.buf l.end (quarters_of (map count_of l.left)) l.initial.buf l.at (quarters_of (map count_of l.initial.left));

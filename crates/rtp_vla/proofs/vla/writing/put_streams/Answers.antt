@@ -2,7 +2,7 @@ use Rattle.std.proofs.Common.{◌≡◌, ◌≤◌, ◌+◌, ◌-◌, ◌*◌, �
 use Rattle.std.specs.List.{AllByRecursion, flat_map}
 use Rattle.std.proofs.lemmas.Bool.{OnTrue_at}
 use Rattle.rtp_vla.specs.Allocation.{Layer, IsCounted, active_layers, mask_of, count_of}
-use Rattle.rtp_vla.specs.AllocationPutting.{HasSmallRates, HasTold}
+use Rattle.rtp_vla.specs.AllocationPutting.{HasSmallRates, HasSizedResolution}
 use Rattle.rtp_vla.specs.AllocationWritten.{shared_of, mask_bytes, quarters_of, rate_bytes, resolution_bytes, packed_bytes}
 use Rattle.rtp_base.specs.Overwriting.{overwritten}
 use Rattle.rtp_vla.proofs.AllocationWriting.{can_put}
@@ -59,7 +59,7 @@ put_rates-end-requires-clause-room c =
     )
 
 pub put_resolutions-requires-clause-some : goal.put_resolutions-requires-clause-some
-put_resolutions-requires-clause-some c = subst (AllByRecursion HasTold) (sym c.new-3.ensures) (can_put c.args.index c.args.streams.now c.requires.some c.requires.fit).told
+put_resolutions-requires-clause-some c = subst (AllByRecursion HasSizedResolution) (sym c.new-3.ensures) (can_put c.args.index c.args.streams.now c.requires.some c.requires.fit).sized
 
 pub put_resolutions-requires-clause-room : goal.put_resolutions-requires-clause-room
 put_resolutions-requires-clause-room c =
@@ -91,7 +91,7 @@ all_put c =
     let mask_part : mask_bytes c.put_masks_of.new.masks ≡ mask_bytes (map mask_of streams) = ap (λ (ms : List ℕ). mask_bytes ms) masks in
     let count_part : quarters_of (map count_of c.new.result) ≡ quarters_of (map count_of (active_layers streams)) = ap (λ (ls : List Layer). quarters_of (map count_of ls)) c.new.ensures in
     let rate_part : flat_map rate_bytes c.new-2.result ≡ flat_map rate_bytes (active_layers streams) = ap (flat_map rate_bytes) c.new-2.ensures in
-    let told_part : flat_map resolution_bytes c.new-3.result ≡ flat_map resolution_bytes (active_layers streams) = ap (flat_map resolution_bytes) c.new-3.ensures in
+    let resolution_part : flat_map resolution_bytes c.new-3.result ≡ flat_map resolution_bytes (active_layers streams) = ap (flat_map resolution_bytes) c.new-3.ensures in
     overwritten-five c.args.buf.now c.put-end.new.buf c.put_masks-end.new.buf c.put_counts-end.new.buf c.put_rates-end.new.buf c.put_resolutions.new.buf
     ((64 * c.args.index + 16 * (length streams - 1) + shared_of (map mask_of streams)) ∷ [])
     (mask_bytes (map mask_of streams)) (quarters_of (map count_of (active_layers streams))) (flat_map rate_bytes (active_layers streams)) (flat_map resolution_bytes (active_layers streams))
@@ -105,8 +105,8 @@ all_put c =
     (c.put_counts-end.ensures.end ∙ ap (λ (bs : List ℕ). c.put_masks-end.result + length bs) count_part)
     (c.put_rates-end.ensures.written ∙ ap (overwritten c.put_counts-end.new.buf c.put_counts-end.result) rate_part)
     (c.put_rates-end.ensures.end ∙ ap (λ (bs : List ℕ). c.put_counts-end.result + length bs) rate_part)
-    (c.put_resolutions.ensures.written ∙ ap (overwritten c.put_rates-end.new.buf c.put_rates-end.result) told_part)
-    (c.put_resolutions.ensures.end ∙ ap (λ (bs : List ℕ). c.put_rates-end.result + length bs) told_part)
+    (c.put_resolutions.ensures.written ∙ ap (overwritten c.put_rates-end.new.buf c.put_rates-end.result) resolution_part)
+    (c.put_resolutions.ensures.end ∙ ap (λ (bs : List ℕ). c.put_rates-end.result + length bs) resolution_part)
 
 pub returns-clause-written : goal.returns-clause-written
 returns-clause-written c = (all_put c).0

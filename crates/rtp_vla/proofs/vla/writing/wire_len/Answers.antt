@@ -6,5 +6,5 @@ use Rattle.rtp_vla.proofs.vla.writing.wire_len.Goals as goal
 pub returns : goal.returns
 returns c =
     let v = c.args.v.now in
-    let told = c.checked_wire_len.ensures in
-    c.unwrap_or.ensures ∙ some_value c.checked_wire_len.result v (length (written_of v)) told.found told.none c.requires
+    let measured = c.checked_wire_len.ensures in
+    c.unwrap_or.ensures ∙ some_value c.checked_wire_len.result v (length (written_of v)) measured.found measured.none c.requires

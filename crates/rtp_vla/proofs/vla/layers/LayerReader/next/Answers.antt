@@ -20,15 +20,15 @@ invariant_of-self c =
     let r = c.self.inside in
     let before : r.next < r.active = omega (arith, c.requires, ap length c.self.view_is, left_to_read r.next r.active r.counts.now r.rates.now r.resolutions.now c.self.invariant.1) in
     let rest = (FitResolutions-next (r.active - (r.next + 1)) r.resolutions.now (fits (goal.at.invariant_of-self c).After-resolution_at-arg-1)).1 in
-    (omega arith, c.self.invariant.1, rw c.resolution_at-resolution_and_framerate.ensures.behind rest)
+    (omega arith, c.self.invariant.1, rw c.resolution_at-resolution_and_framerate.ensures.after rest)
 
 pub returns : goal.returns
 returns c =
     let r = c.self.inside in
     let before : r.next < r.active = omega (arith, c.requires, ap length c.self.view_is, left_to_read r.next r.active r.counts.now r.rates.now r.resolutions.now c.self.invariant.1) in
     let read = c.in_ok-temporal_layers.ensures in
-    let told = c.resolution_at-resolution_and_framerate.ensures in
+    let found = c.resolution_at-resolution_and_framerate.ensures in
     sym c.self.view_is
     ∙ layers_from-next r.next r.active c.from-rates.result r.counts.now r.rates.now r.resolutions.now c.self.invariant.1 before (c.from-rates.ensures ∙ c.count_at.ensures.count)
-    ∙ (λ i. record { temporal_layers = sym read.rates i; resolution_and_framerate = sym told.resolution i }
-    ∷ layers_from (r.next + 1) r.active r.counts.now (sym read.behind i) (sym told.behind i))
+    ∙ (λ i. record { temporal_layers = sym read.rates i; resolution_and_framerate = sym found.resolution i }
+    ∷ layers_from (r.next + 1) r.active r.counts.now (sym read.after i) (sym found.after i))
