@@ -3,26 +3,26 @@ use Rattle.std.proofs.lemmas.Int.{to_z-of_z}
 use Rattle.std.proofs.lemmas.List.{take_rest, take_all, drop_all, drop-drop, append-nil}
 use Rattle.rtp_values.specs.Values.{offset_of}
 use Rattle.rtp_values.specs.Spelling.{bytes_of, offset_bytes}
-use Rattle.rtp_values.proofs.ValueLemmas.{room_of, spelled-capture, AreData-capture, HasWritten-put}
+use Rattle.rtp_values.proofs.ValueLemmas.{room_of, spelled-capture, AreData-capture, WritesData-put}
 use Rattle.rtp_values.proofs.value.abs_capture_time.write.Goals as goal
 use borrow.Rule.Slice.PartMut.{put_mid}
 
--- what is put behind the first eight bytes
-put_behind : (word offset buf first second : List ℕ) → length word ≡ 8 → length offset ≡ 8 → first ≡ word ++ drop 8 buf
+-- what is put after the first eight bytes
+put_after : (word offset buf first second : List ℕ) → length word ≡ 8 → length offset ≡ 8 → first ≡ word ++ drop 8 buf
     → second ≡ offset ++ drop 8 (take (length first - 8) (drop 8 first)) → put_mid 8 (length first - 8) first second ≡ (word ++ offset) ++ drop 16 buf
-put_behind word offset buf first second word-len offset-len first-is second-is =
+put_after word offset buf first second word-len offset-len first-is second-is =
     let rest = drop 8 buf in
     let front : take 8 first ≡ word = ap (take 8) first-is ∙ take_at word rest 8 word-len in
-    let behind : drop 8 first ≡ rest = ap (drop 8) first-is ∙ drop_at word rest 8 word-len in
+    let after : drop 8 first ≡ rest = ap (drop 8) first-is ∙ drop_at word rest 8 word-len in
     let len : length first - 8 ≡ length rest = omega (arith, ap length first-is, length-append word rest) in
-    rw (len, front, behind, second-is, len, behind, take_all (length rest) rest (omega arith), drop_all (length rest) rest (omega arith), drop-drop 8 8 buf, append-nil (offset ++ drop 16 buf)) (sym (append_assoc word offset (drop 16 buf)))
+    rw (len, front, after, second-is, len, after, take_all (length rest) rest (omega arith), drop_all (length rest) rest (omega arith), drop-drop 8 8 buf, append-nil (offset ++ drop 16 buf)) (sym (append_assoc word offset (drop 16 buf)))
 
 pub put_u64-requires : goal.put_u64-requires
 put_u64-requires c = record { room = room_of (spelled-capture c.ev.view_is c.in_ok-time.was c.in_default.is) (omega arith) c.args.buf.now c.requires.room }
 
 pub returns-in_default : goal.returns-in_default
 returns-in_default c =
-    HasWritten-put (AreData-capture c.ev.view_is c.in_ok-time.was c.in_default.is c.put_u64.ensures.back refl) c.put_u64.ensures.length c.put_u64.ensures.written
+    WritesData-put (AreData-capture c.ev.view_is c.in_ok-time.was c.in_default.is c.put_u64.ensures.back refl) c.put_u64.ensures.length c.put_u64.ensures.written
 
 pub put_u64-requires-2 : goal.put_u64-requires-2
 put_u64-requires-2 c = record { room = omega (arith, room_of (spelled-capture c.ev.view_is c.in_ok-time.was c.in-Some.is) (omega arith) c.args.buf.now c.requires.room) }
@@ -43,6 +43,6 @@ returns c =
     let fits : FitsSigned w64 offset = search rules in
     let same = offset_is offset fits in
     let back = subst (λ (o : Option ℤ). offset_of (offset_bytes o) ≡ o) same c.put_offset.ensures.back in
-    HasWritten-put (AreData-capture c.ev.view_is c.in_ok-time.was c.in-Some.is c.put_u64-2.ensures.back back) refl
-    (put_behind (bytes_of 8 time.capture_time) (offset_bytes (Some offset)) c.args.buf.now c.put_u64-2.new.buf c.put_offset.new.buf refl refl c.put_u64-2.ensures.written
+    WritesData-put (AreData-capture c.ev.view_is c.in_ok-time.was c.in-Some.is c.put_u64-2.ensures.back back) refl
+    (put_after (bytes_of 8 time.capture_time) (offset_bytes (Some offset)) c.args.buf.now c.put_u64-2.new.buf c.put_offset.new.buf refl refl c.put_u64-2.ensures.written
     (c.put_offset.ensures.written ∙ ap (λ (o : Option ℤ). offset_bytes o ++ drop 8 (take (length c.put_u64-2.new.buf - 8) (drop 8 c.put_u64-2.new.buf))) same))
