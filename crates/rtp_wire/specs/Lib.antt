@@ -1,4 +1,4 @@
--- Header extensions and the layer allocation, whose definitions come from the crates below.
+-- Header extensions and the layer allocation, whose definitions come from the lower crates.
 pub use Rattle.rtp_ext.specs.Form
 pub use Rattle.rtp_values.specs.Kind
 pub use Rattle.rtp_ext.specs.ExtensionMap
@@ -21,7 +21,7 @@ pub mod NotAHeader
 pub mod Reading
 pub mod RefusedMemory
 pub mod Written
--- What stands behind the header.
+-- What stands after the header.
 pub mod Padding
 pub mod OriginalNumber
 -- Numbers over time.
