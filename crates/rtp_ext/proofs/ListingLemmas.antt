@@ -99,7 +99,7 @@ record AreItems (passed : ℕ) (left : Slots) (items : List (ℕ × Extension)) 
   here : All (IsItem passed left) items
   all : (k : ℕ) (extension : Extension) → extension_of (get_or left k None) ≡ Some extension → Contains items (passed + k + 1, extension)
 
--- an item of the slots behind one
+-- an item of the slots after one
 IsItem-more : (passed : ℕ) (slot : Option Entry) (left : Slots) (item : ℕ × Extension) → IsItem (passed + 1) left item → IsItem passed (slot ∷ left) item
 IsItem-more passed slot left item found = (suc found.0, omega (arith, found.1), found.2)
 

@@ -1,4 +1,4 @@
--- The map of extension ids: what stands behind an id once slots have changed.
+-- The map of extension ids: what an id stands for once slots have changed.
 use Rattle.std.proofs.Common.{◌≡◌, ◌≢◌, ℕ, ◌+◌, ◌-◌, ◌<◌, ◌⊎◌, inl, inr, suc, zero, List, ◌∷◌, length, map, drop, get_or, set, Option, Some, None, arith, ap, refl, sym, ◌∙◌, subst, get_or-set_same, get_or-set_other, ◌==◌, if◌then◌else◌}
 use Rattle.std.proofs.lemmas.List.{get_or_past, get_or_default, length-map, length-set}
 use Rattle.std.proofs.Math.ListN.{get_or-map}
@@ -10,7 +10,7 @@ use Rattle.std.proofs.lemmas.Bool.{cases_lt, eq-eqb, ne_eqb}
 use Rattle.std.proofs.lemmas.Bool.Decides.{eqb_tells}
 use Rattle.rtp_values.specs.declared.kind.Extension.{Extension}
 use Rattle.rtp_ext.specs.declared.ext.map.TheConstants.{MAX_ID}
-use Rattle.rtp_ext.specs.MapSlots.{IsFirst, IsMapped}
+use Rattle.rtp_ext.specs.MapSlots.{IsFirstSlot, IsMapped}
 use Rattle.rtp_ext.specs.ExtensionMap.{Entry, Slots, IsEmpty, IsId, entry_at, extension_at, extension_of, Sets, Exchanges, IsRenumbered, IsLocked, IsLockedAt, locked, IsLowest, Remaps, AreRemapped, same_slot, moved}
 
 -- nothing stands in a index where nothing does in any
@@ -150,7 +150,7 @@ IsRenumbered-exchanged old new from to extension apart was change = record {
 }
 
 -- the first index in which an extension stands has its lowest id
-pub IsLowest-from_first : (slots : Slots) (extension : Extension) (index : ℕ) → IsFirst slots extension index
+pub IsLowest-from_first : (slots : Slots) (extension : Extension) (index : ℕ) → IsFirstSlot slots extension index
     → IsLowest slots extension (index + 1)
 IsLowest-from_first slots extension index first = record {
   mapped = ap extension_of (entry_at-slot slots index (index + 1) refl) ∙ first.here;
@@ -177,7 +177,7 @@ IsStep-same old id extension step = record { step = step; renumbered = IsRenumbe
 
 -- the entry of the first index is locked, and exchanged with what stands in the index of the id
 pub IsStep-exchanged : (old new : Slots) (from to id : ℕ) (extension : Extension) → length old ≡ MAX_ID → to + 1 ≡ id → to < MAX_ID
-    → IsFirst old extension from → ((from ≡ to) ⊎ ((from ≢ to) × (IsLocked (get_or old from None) → ⊥)))
+    → IsFirstSlot old extension from → ((from ≡ to) ⊎ ((from ≢ to) × (IsLocked (get_or old from None) → ⊥)))
     → new ≡ swap (set old from (option_map (λ entry. locked entry.extension) (get_or old from None))) from to
     → IsStep old new id extension
 IsStep-exchanged old new from to id extension long index within first free is =
@@ -247,7 +247,7 @@ AreRemapped-more f steps i step old between new here is one rest =
     ∙ (ap (λ s. s ∷ drop (suc i) (map f steps)) first ∙ ap (λ (k : ℕ). f step ∷ drop k (map f steps)) next) in
     subst (λ ss. AreRemapped old ss new) (sym split) (between, one, rest)
 
--- what stands behind an id, once each index has been changed alike and an empty one stays so
+-- what an id stands for, once each index has been changed alike and an empty one stays so
 pub entry_at-map : (f : Option Entry → Option Entry) (slots : Slots) (id : ℕ) → f None ≡ None
     → entry_at (map f slots) id ≡ f (entry_at slots id)
 entry_at-map f slots zero none = sym none

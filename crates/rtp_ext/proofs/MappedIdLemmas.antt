@@ -16,7 +16,7 @@ use Rattle.std.specs.Option.{option_map}
 use Rattle.std.specs.List.{cons_option, AllByRecursion}
 use Rattle.std.proofs.lemmas.Bool.{eqb-true}
 
--- what stands behind the ids of the slots left, once one more was passed
+-- what the ids of the slots left stand for, once one more was passed
 here_later : (slots : Slots) (passed : ℕ) (slot : Option Entry) (left : Slots)
     → ((k : ℕ) → entry_at slots (passed + k + 1) ≡ get_or (slot ∷ left) k None)
     → (k : ℕ) → entry_at slots (passed + 1 + k + 1) ≡ get_or left k None
@@ -51,7 +51,7 @@ mapped-left slots passed (Some entry ∷ left) here =
       mapped-left slots (passed + 1) left (here_later slots passed (Some entry) left here),
     )
 
--- an entry stands behind each mapped id
+-- each mapped id has an entry
 pub all_mapped : (slots : Slots) → AllByRecursion (IsMapped slots) (mapped_ids slots)
 all_mapped slots = mapped-left slots 0 slots (λ k. entry_at-slot slots k (0 + k + 1) (omega arith))
 
@@ -177,12 +177,12 @@ moved-and-put ids at count id within room =
     let end : suc at ≡ length front = omega (arith, long) in
     let rest : drop (suc at) (front ++ tail) ≡ tail = ap (λ (n : ℕ). drop n (front ++ tail)) end ∙ drop-append_seam front tail in
     let kept : take at ids ≡ take at (take count ids) = sym (take-take at count ids within) in
-    let behind : tail ≡ drop at (take count ids) = sym (drop-take at (count - at) ids) ∙ ap (λ (n : ℕ). drop at (take n ids)) there in
+    let after : tail ≡ drop at (take count ids) = sym (drop-take at (count - at) ids) ∙ ap (λ (n : ℕ). drop at (take n ids)) there in
     take-set-lt (count + 1) moved at id (omega arith)
     ∙ ap (λ (xs : List ℕ). set xs at id) one
     ∙ set_split (front ++ tail) at id (omega (arith, length-append front tail, long))
     ∙ ap (λ (xs : List ℕ). xs ++ id ∷ drop (suc at) (front ++ tail)) (head ∙ kept)
-    ∙ ap (λ (xs : List ℕ). take at (take count ids) ++ id ∷ xs) (rest ∙ behind)
+    ∙ ap (λ (xs : List ℕ). take at (take count ids) ++ id ∷ xs) (rest ∙ after)
 
 -- a slot that held nothing when it was read, and one that held an entry
 empty_slot : (slots : Slots) (k : ℕ) (old seen : Option Entry) → k < length slots → old ≡ get_or slots k seen → is_some old ≡ false

@@ -13,7 +13,7 @@ split_at [] n x within = absurd (omega arith)
 split_at (y ∷ all) zero x within = refl
 split_at (y ∷ all) (suc n) x within = ap (λ rest. y ∷ rest) (split_at all n x (omega arith))
 
--- memory was refused to the element behind those that were read
+-- memory was refused to the element after those that were read
 pub IsStopped-at : (exts : Slots) (all done : List Element) (n : ℕ) (element : Element) (kind : Extension) (old between new : ExtensionValues)
     → done ≡ take n all → n < length all → element ≡ get_or all n element → extension_at exts element.0 ≡ Some kind → TakesMemory kind element.1
     → AreValues exts done old between → new ≡ between → IsStopped exts all old new

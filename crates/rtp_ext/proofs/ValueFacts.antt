@@ -23,7 +23,7 @@ cut_row = record {
   elements_are = refl;
 }
 
--- two elements, and nothing behind them
+-- two elements, and nothing after them
 two_row : AreElements OneByte (80 ∷ 133 ∷ 16 ∷ 5 ∷ []) ((5, 133 ∷ []) ∷ (1, 5 ∷ []) ∷ [])
 two_row = record {
   pieces = Some (5, 133 ∷ []) ∷ Some (1, 5 ∷ []) ∷ [];
@@ -34,7 +34,7 @@ two_row = record {
   elements_are = refl;
 }
 
--- an element, and a byte of id 15, behind which nothing counts
+-- an element, and a byte of id 15, after which nothing counts
 stopped_row : AreElements OneByte (16 ∷ 170 ∷ 240 ∷ 0 ∷ 16 ∷ 5 ∷ 0 ∷ 0 ∷ []) ((1, 170 ∷ []) ∷ [])
 stopped_row = record {
   pieces = Some (1, 170 ∷ []) ∷ [];
@@ -56,7 +56,7 @@ padded_row = record {
   elements_are = refl;
 }
 
--- two-byte header: an element without data, one of id 255 behind padding, and an id alone
+-- two-byte header: an element without data, one of id 255 after padding, and an id alone
 two_byte_row : AreElements TwoByte (1 ∷ 0 ∷ 0 ∷ 255 ∷ 1 ∷ 7 ∷ 2 ∷ []) ((1, []) ∷ (255, 7 ∷ []) ∷ [])
 two_byte_row = record {
   pieces = Some (1, []) ∷ None ∷ Some (255, 7 ∷ []) ∷ [];

@@ -10,22 +10,22 @@ use Rattle.rtp_ext.specs.ExtensionMap.{Slots, IsEmpty, extension_at, extension_o
 use Rattle.rtp_values.specs.Values.{Reads, SameFields, IsWellFormed}
 use Rattle.rtp_values.proofs.FieldLemmas.{Reads-one, Reads-same, SameFields-joined, SameFields-refl, SameFields-trans, same_values}
 use Rattle.rtp_values.proofs.KindLemmas.{same_or_not, one_kind}
-use Rattle.rtp_ext.specs.BlockValues.{Carries, IsRead, last, none, AreValues}
+use Rattle.rtp_ext.specs.BlockValues.{Carries, AreFields, last, none, AreValues}
 
 -- before any element the values are the old ones
 pub AreValues-none : (exts : Slots) (old : ExtensionValues) → AreValues exts [] old old
 AreValues-none exts old kind = none (All-nil (λ element. Carries exts kind element → ⊥)) (SameFields-refl kind old)
 
 -- one more element, which doesn't carry the kind
-IsRead-passed : (exts : Slots) (done : List Element) (element : Element) (kind : Extension) (old between new : ExtensionValues)
-    → (Carries exts kind element → ⊥) → SameFields kind between new → IsRead exts done kind old between
-    → IsRead exts (done ++ element ∷ []) kind old new
-IsRead-passed exts done element kind old between new not_carried same (last before after found is mapped reads later) =
+AreFields-passed : (exts : Slots) (done : List Element) (element : Element) (kind : Extension) (old between new : ExtensionValues)
+    → (Carries exts kind element → ⊥) → SameFields kind between new → AreFields exts done kind old between
+    → AreFields exts (done ++ element ∷ []) kind old new
+AreFields-passed exts done element kind old between new not_carried same (last before after found is mapped reads later) =
     last before (after ++ element ∷ []) found
     (ap (λ elements. elements ++ element ∷ []) is ∙ append_assoc before (found ∷ after) (element ∷ []))
     mapped (Reads-same kind found.1 between new reads same)
     (All-push (λ e. Carries exts kind e → ⊥) after element later not_carried)
-IsRead-passed exts done element kind old between new not_carried same (none not_before same_before) =
+AreFields-passed exts done element kind old between new not_carried same (none not_before same_before) =
     none (All-push (λ e. Carries exts kind e → ⊥) done element not_before not_carried)
     (SameFields-trans kind old between new same_before same)
 
@@ -33,7 +33,7 @@ pub AreValues-passed : (exts : Slots) (done : List Element) (element : Element) 
     → ((kind : Extension) → Carries exts kind element → ⊥) → AreValues exts done old new
     → AreValues exts (done ++ element ∷ []) old new
 AreValues-passed exts done element old new not_carried values kind =
-    IsRead-passed exts done element kind old new new (not_carried kind) (SameFields-refl kind new) (values kind)
+    AreFields-passed exts done element kind old new new (not_carried kind) (SameFields-refl kind new) (values kind)
 
 -- one more element, whose data are well-formed for its kind
 pub AreValues-read : (exts : Slots) (done : List Element) (element : Element) (kind : Extension) (old between new : ExtensionValues)
@@ -41,9 +41,9 @@ pub AreValues-read : (exts : Slots) (done : List Element) (element : Element) (k
     → ((other : Extension) → other ≢ kind → SameFields other between new) → AreValues exts done old between
     → AreValues exts (done ++ element ∷ []) old new
 AreValues-read exts done element kind old between new mapped reads others values any = elim (same_or_not any kind) [
-  | inl same ↦ subst (λ k. IsRead exts (done ++ element ∷ []) k old new) (sym same)
+  | inl same ↦ subst (λ k. AreFields exts (done ++ element ∷ []) k old new) (sym same)
       (last done [] element refl mapped reads (All-nil (λ later. Carries exts kind later → ⊥)))
-  | inr other ↦ IsRead-passed exts done element any old between new
+  | inr other ↦ AreFields-passed exts done element any old between new
       (λ carries. other (one_kind (sym carries.0 ∙ mapped))) (others any other) (values any)
 ]
 
@@ -74,27 +74,27 @@ carried exts elements before after element kind v is mapped reads not_carried =
     not_among (Carries exts kind) before after element
     (All-same (λ e. Carries exts kind e → ⊥) (before ++ element ∷ after) elements (sym is) not_carried) (mapped, (v, reads))
 
-IsRead-one : (exts : Slots) (elements : List Element) (kind : Extension) (old v w : ExtensionValues)
-    → IsRead exts elements kind old v → IsRead exts elements kind old w → SameFields kind v w
-IsRead-one exts elements kind old v w (last before after x is mapped reads later) (last others rest y also y_mapped y_reads y_later) =
+AreFields-one : (exts : Slots) (elements : List Element) (kind : Extension) (old v w : ExtensionValues)
+    → AreFields exts elements kind old v → AreFields exts elements kind old w → SameFields kind v w
+AreFields-one exts elements kind old v w (last before after x is mapped reads later) (last others rest y also y_mapped y_reads y_later) =
     let same = last_one (Carries exts kind) before after others rest x y (sym is ∙ also) (mapped, (v, reads)) (y_mapped, (w, y_reads))
     later y_later in
     Reads-one kind x.1 v w reads (subst (λ e. Reads kind e.1 w) (sym same) y_reads)
-IsRead-one exts elements kind old v w (last before after x is mapped reads later) (none not_carried same) =
+AreFields-one exts elements kind old v w (last before after x is mapped reads later) (none not_carried same) =
     absurd (carried exts elements before after x kind v is mapped reads not_carried)
-IsRead-one exts elements kind old v w (none not_carried same) (last before after x is mapped reads later) =
+AreFields-one exts elements kind old v w (none not_carried same) (last before after x is mapped reads later) =
     absurd (carried exts elements before after x kind w is mapped reads not_carried)
-IsRead-one exts elements kind old v w (none not_carried same) (none also w_same) = SameFields-joined kind old v w same w_same
+AreFields-one exts elements kind old v w (none not_carried same) (none also w_same) = SameFields-joined kind old v w same w_same
 
 -- the values of a block are the only ones
 pub one_values : (exts : Slots) (elements : List Element) (old v w : ExtensionValues) → AreValues exts elements old v → AreValues exts elements old w → v ≡ w
-one_values exts elements old v w v_values w_values = same_values v w (λ kind. IsRead-one exts elements kind old v w (v_values kind) (w_values kind))
+one_values exts elements old v w v_values w_values = same_values v w (λ kind. AreFields-one exts elements kind old v w (v_values kind) (w_values kind))
 
 -- where nothing is mapped no value changes
 pub unmapped_values : (exts : Slots) (elements : List Element) (old v : ExtensionValues) → IsEmpty exts → AreValues exts elements old v → v ≡ old
 unmapped_values exts elements old v empty values = sym (same_values old v (λ kind. same kind (values kind)))
   where
-    same : (kind : Extension) → IsRead exts elements kind old v → SameFields kind old v
+    same : (kind : Extension) → AreFields exts elements kind old v → SameFields kind old v
     same kind (last before after element is mapped reads later) = let at = ap extension_of (empty element.0) in cc
     same kind (none not_carried is) = is
 

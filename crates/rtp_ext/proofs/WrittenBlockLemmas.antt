@@ -94,12 +94,12 @@ none-without_room form id None header room is fits short = refl
 none-without_room form id (Some bytes) header room is fits short =
     absurd (omega (arith, length-header form id bytes, is id (length bytes)))
 
--- where there is room for the element there is room for its data behind the header
+-- where there is room for the element there is room for its data after the header
 pub room-for_data : (form : ExtensionsForm) (id : ℕ) (bytes : Option (List ℕ)) (header room : ℕ)
     → ((i l : ℕ) → header ≡ length (header_bytes form i l)) → length (bytes_at form id bytes) ≤ room → header ≤ room
     → header + length (unwrap_or bytes []) ≤ room
-room-for_data form id None header room is fits head = omega arith
-room-for_data form id (Some bytes) header room is fits head = omega (arith, length-header form id bytes, is id (length bytes))
+room-for_data form id None header room is fits short = omega arith
+room-for_data form id (Some bytes) header room is fits short = omega (arith, length-header form id bytes, is id (length bytes))
 
 pub none-from_map : (bytes : Option (List ℕ)) → None ≡ option_map length bytes → bytes ≡ None
 none-from_map None is = refl

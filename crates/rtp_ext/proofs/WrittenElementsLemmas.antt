@@ -16,7 +16,7 @@ use Rattle.rtp_values.specs.Values.{Reads}
 use Rattle.rtp_ext.specs.WrittenBlock.{written_elements, elements_bytes}
 use Rattle.rtp_ext.proofs.FormLemmas.{Item, elements_of}
 
--- a byte of padding for each zero behind the elements
+-- a byte of padding for each zero after the elements
 pieces_of : List Element → ℕ → List (Option Element)
 pieces_of [] zero = []
 pieces_of [] (suc zeros) = None ∷ pieces_of [] zeros
@@ -56,7 +56,7 @@ elements-carried form values (item ∷ items) all =
     element-carried form values id kind None rest here all = all
     element-carried form values id kind (Some bytes) rest here all = (here.0, all)
 
--- and zeros behind them are padding
+-- and zeros after them are padding
 pub AreElements-written : (form : ExtensionsForm) (exts : Slots) (values : ExtensionValues) (zeros : ℕ) → AllByRecursion (IsCarried form values) (items_from 0 exts)
     → AreElements form (elements_bytes form (written_elements exts values) ++ replicate zeros 0) (written_elements exts values)
 AreElements-written form exts values zeros all =

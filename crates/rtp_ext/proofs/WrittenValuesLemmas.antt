@@ -16,7 +16,7 @@ use Rattle.rtp_ext.specs.ExtensionMap.{Slots, extension_at}
 use Rattle.rtp_ext.specs.ExtensionMap.{items_from}
 use Rattle.rtp_values.specs.Spelling.{spelled_data, carried_values, element_allocation, of_both}
 use Rattle.rtp_values.specs.Values.{no_values, Reads, SameFields}
-use Rattle.rtp_ext.specs.BlockValues.{Carries, IsRead, last, none, AreValues}
+use Rattle.rtp_ext.specs.BlockValues.{Carries, AreFields, last, none, AreValues}
 use Rattle.rtp_ext.specs.WrittenBlock.{written_elements, is_mapped, where_mapped, image_values}
 use Rattle.rtp_ext.proofs.ListingLemmas.{IsListing-from_slots}
 use Rattle.rtp_values.proofs.FieldLemmas.{Reads-same, SameFields-trans}
@@ -152,9 +152,9 @@ items-mapped : (exts : Slots) → AllByRecursion (IsMappedItem exts) (items_from
 items-mapped exts =
     recursion_from_All (IsMappedItem exts) (items_from 0 exts) (λ k d here. ((IsListing-from_slots exts).mapped k d here).0)
 
-all-behind : {A : Type 0} (P : A → Type 0) (xs ys : List A) → AllByRecursion P (xs ++ ys) → AllByRecursion P ys
-all-behind P [] ys all = all
-all-behind P (x ∷ xs) ys all = all-behind P xs ys all.1
+all-after : {A : Type 0} (P : A → Type 0) (xs ys : List A) → AllByRecursion P (xs ++ ys) → AllByRecursion P ys
+all-after P [] ys all = all
+all-after P (x ∷ xs) ys all = all-after P xs ys all.1
 
 All-cons_option : (P : Element → Type 0) (element : Option Element) (rest : List Element) → IfSome element P → All P rest → All P (cons_option element rest)
 All-cons_option P None rest here all = all
@@ -194,18 +194,18 @@ without_data kind values (item ∷ items) nothing = (λ same. nothing, without_d
 -- ---- the values
 
 -- a kind that is mapped
-IsRead-mapped : (form : ExtensionsForm) (exts : Slots) (values : ExtensionValues) (kind : Extension) (found : LastItem kind (items_from 0 exts))
+AreFields-mapped : (form : ExtensionsForm) (exts : Slots) (values : ExtensionValues) (kind : Extension) (found : LastItem kind (items_from 0 exts))
     → AllByRecursion (IsCarried form values) (items_from 0 exts) → (bytes : Option (List ℕ)) → spelled_data kind values ≡ bytes
-    → IsRead exts (written_elements exts values) kind no_values (image_values exts values)
-IsRead-mapped form exts values kind found carried None is =
+    → AreFields exts (written_elements exts values) kind no_values (image_values exts values)
+AreFields-mapped form exts values kind found carried None is =
     none (none-carry exts kind values (items_from 0 exts) (items-mapped exts) (without_data kind values (items_from 0 exts) is))
     (SameFields-trans kind no_values (carried_values values) (image_values exts values) (carried-none values kind is)
     (image-at exts values kind true (mapped-last exts kind found)))
-IsRead-mapped form exts values kind found carried (Some bytes) is =
+AreFields-mapped form exts values kind found carried (Some bytes) is =
     let here : AllByRecursion (IsCarried form values) ((found.id, kind) ∷ found.after) =
-    all-behind (IsCarried form values) found.before _ (subst (AllByRecursion (IsCarried form values)) found.is carried) in
+    all-after (IsCarried form values) found.before _ (subst (AllByRecursion (IsCarried form values)) found.is carried) in
     let there : AllByRecursion (IsMappedItem exts) ((found.id, kind) ∷ found.after) =
-    all-behind (IsMappedItem exts) found.before _ (subst (AllByRecursion (IsMappedItem exts)) found.is (items-mapped exts)) in
+    all-after (IsMappedItem exts) found.before _ (subst (AllByRecursion (IsMappedItem exts)) found.is (items-mapped exts)) in
     let reads : IsElement form (found.id, bytes) × Reads kind bytes (carried_values values) =
     subst (λ b. IfSome b (λ x. IsElement form (found.id, x) × Reads kind x (carried_values values))) is here.0 in
     last (elements_of values found.before) (elements_of values found.after) (found.id, bytes)
@@ -219,7 +219,7 @@ IsRead-mapped form exts values kind found carried (Some bytes) is =
 pub AreValues-written : (form : ExtensionsForm) (exts : Slots) (values : ExtensionValues) → AllByRecursion (IsCarried form values) (items_from 0 exts)
     → AreValues exts (written_elements exts values) no_values (image_values exts values)
 AreValues-written form exts values carried = λ kind. elim (find_last kind (items_from 0 exts)) [
-  | inl found ↦ IsRead-mapped form exts values kind found carried (spelled_data kind values) refl
+  | inl found ↦ AreFields-mapped form exts values kind found carried (spelled_data kind values) refl
   | inr other ↦ none
       (none-carry exts kind values (items_from 0 exts) (items-mapped exts) (others kind values (items_from 0 exts) other))
       (image-at exts values kind false (any-none kind (items_from 0 exts) other))

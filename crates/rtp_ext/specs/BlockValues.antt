@@ -11,14 +11,14 @@ abbrev pub Carries : Slots → Extension → Element → Type 0
 Carries exts kind element = (extension_at exts element.0 ≡ Some kind) × IsWellFormed kind element.1
 
 -- what the elements make of the fields of one kind
-pub data IsRead (exts : Slots) (elements : List Element) (kind : Extension) (old new : ExtensionValues) : Type 0 where
+pub data AreFields (exts : Slots) (elements : List Element) (kind : Extension) (old new : ExtensionValues) : Type 0 where
   -- they are those of the last element that carries the kind
   last : (before after : List Element) (element : Element) → elements ≡ before ++ element ∷ after
       → extension_at exts element.0 ≡ Some kind → Reads kind element.1 new
-      → All (λ later. Carries exts kind later → ⊥) after → IsRead exts elements kind old new
+      → All (λ later. Carries exts kind later → ⊥) after → AreFields exts elements kind old new
   -- no element carries it, and they are as before
-  none : All (λ element. Carries exts kind element → ⊥) elements → SameFields kind old new → IsRead exts elements kind old new
+  none : All (λ element. Carries exts kind element → ⊥) elements → SameFields kind old new → AreFields exts elements kind old new
 
 -- the values once the elements of a block were read into old ones
 abbrev pub AreValues : Slots → List Element → ExtensionValues → ExtensionValues → Type 0
-AreValues exts elements old new = (kind : Extension) → IsRead exts elements kind old new
+AreValues exts elements old new = (kind : Extension) → AreFields exts elements kind old new

@@ -14,7 +14,7 @@ entry_of (mapping.Free extension) = Some (unlocked extension)
 entry_of (mapping.Locked extension) = Some (locked extension)
 
 -- the first index whose slot has the extension
-pub record IsFirst (map : Slots) (extension : Extension) (index : ℕ) : Type 0 where
+pub record IsFirstSlot (map : Slots) (extension : Extension) (index : ℕ) : Type 0 where
   pub within : index < length map
   pub here : extension_of (slice_index_or map index None) ≡ Some extension
   pub before : (k : ℕ) → k < index → extension_of (slice_index_or map k None) ≢ Some extension

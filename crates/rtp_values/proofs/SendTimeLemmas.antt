@@ -20,7 +20,7 @@ moment_of-same time = omega arith
 one_moment : (a b : ℕ) → a % 64000000 ≡ b % 64000000 → b ≤ a → a < b + 64000000 → a ≡ b
 one_moment a b same up close = omega arith
 
--- a time that was written less than 64 seconds before now is recovered, except for one tick
+-- a time that was written less than 64 seconds before now is recovered, to within one tick
 pub latest-near : {now value moment : ℕ} → IsLatest now value moment → (time : ℕ) → value ≡ carried_send_time time → time ≤ now → now < time + 63999996
     → (moment ≤ time) × (time ≤ moment + 4)
 latest-near {now} {value} {moment} is time value-is past soon =

@@ -20,7 +20,7 @@ use Rattle.rtp_values.specs.declared.value.video_orientation.VideoOrientation.Th
 use Rattle.rtp_base.specs.Flag.{bit}
 use Rattle.rtp_values.specs.Values.{Reads, big_endian, offset_of, orientation_of, hundredths}
 use Rattle.rtp_values.specs.Spelling.{bytes_of, spelled_data, HasRoom, carried_values, longest, send_ticks, delay_of, offset_bytes, orientation_bits, timing_bytes}
-use Rattle.rtp_values.specs.KindBytes.{HasWritten}
+use Rattle.rtp_values.specs.KindBytes.{WritesData}
 
 -- ---- what is written
 
@@ -44,8 +44,8 @@ module _ {kind : Extension} {values : ExtensionValues} {bytes : List ℕ} (are :
   pub room_for : (buf : List ℕ) → HasRoom kind values buf → length bytes ≤ length buf
   room_for buf room = room_of are.spelled (omega (arith, are.few, longest-fits kind)) buf room
 
-  pub HasWritten-put : {old new : List ℕ} {result : ℕ} → result ≡ length bytes → new ≡ bytes ++ drop (length bytes) old → HasWritten kind values old new (Some result)
-  HasWritten-put len put = record {
+  pub WritesData-put : {old new : List ℕ} {result : ℕ} → result ≡ length bytes → new ≡ bytes ++ drop (length bytes) old → WritesData kind values old new (Some result)
+  WritesData-put len put = record {
     length_is = ap Some len ∙ ap (option_map length) (sym are.spelled);
     written = rw are.spelled put;
     read_back = rw are.spelled are.read_back;

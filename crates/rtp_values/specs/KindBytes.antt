@@ -27,14 +27,14 @@ with_fields VideoLayersAllocation old new = record old { video_layers_allocation
 with_fields (UnknownUri uri) old new = old
 
 -- what reading the data of a kind does: where they are well-formed, the kind's fields are what they say and no other is changed; where they aren't, nothing is changed
-pub record HasRead {A : Type 0} (kind : Extension) (bytes : List ℕ) (old new : ExtensionValues) (result : Option A) : Type 0 where
+pub record SetsFields {A : Type 0} (kind : Extension) (bytes : List ℕ) (old new : ExtensionValues) (result : Option A) : Type 0 where
   pub found : IfSome result (λ _. Reads kind bytes new)
   pub others : new ≡ with_fields kind old new
   pub refused : IfNone result (IsWellFormed kind bytes → ⊥)
   pub unchanged : IfNone result (new ≡ old)
 
 -- what writing the data of a kind does: they stand at the front of the buffer, and they are read as the values that they carry
-pub record HasWritten (kind : Extension) (values : ExtensionValues) (old new : List ℕ) (result : Option ℕ) : Type 0 where
+pub record WritesData (kind : Extension) (values : ExtensionValues) (old new : List ℕ) (result : Option ℕ) : Type 0 where
   pub length_is : result ≡ option_map length (spelled_data kind values)
   pub written : new ≡ unwrap_or (spelled_data kind values) [] ++ drop (length (unwrap_or (spelled_data kind values) [])) old
   pub read_back : IfSome (spelled_data kind values) (λ bytes. Reads kind bytes (carried_values values))

@@ -47,14 +47,14 @@ word_at-take bytes offset n fits =
     ap (from_be_bytes w16) (slice_range-take bytes offset (offset + 2) n (omega arith) fits)
 
 -- a word of the first four bytes
-pub head_word : (bytes head : List ℕ) (offset : ℕ) → head ≡ take 4 bytes → offset + 1 < 4 → get_or head offset 0 * 256 + get_or head (offset + 1) 0 ≡ word_at bytes offset
-head_word bytes head offset is within =
-    sym (word_at-cells head offset) ∙ ap (λ (xs : List ℕ). word_at xs offset) is ∙ word_at-take bytes offset 4 (omega arith)
+pub header_word : (bytes header : List ℕ) (offset : ℕ) → header ≡ take 4 bytes → offset + 1 < 4 → get_or header offset 0 * 256 + get_or header (offset + 1) 0 ≡ word_at bytes offset
+header_word bytes header offset is within =
+    sym (word_at-cells header offset) ∙ ap (λ (xs : List ℕ). word_at xs offset) is ∙ word_at-take bytes offset 4 (omega arith)
 
--- what the head says and the words that it counts are a block
-pub HasBlock-from_head : (bytes head after elements : List ℕ) (form : ExtensionsForm) (words : ℕ) → head ≡ take 4 bytes → after ≡ drop 4 bytes → 4 ≤ length bytes
+-- what the header says and the words that it counts are a block
+pub HasBlock-from_header : (bytes header after elements : List ℕ) (form : ExtensionsForm) (words : ℕ) → header ≡ take 4 bytes → after ≡ drop 4 bytes → 4 ≤ length bytes
     → IsFormWord (word_at bytes 0) form → words ≡ word_at bytes 2 → 4 * words ≤ length after → elements ≡ take (4 * words) after → HasBlock bytes form elements
-HasBlock-from_head bytes head after elements form words head-is after-is long form-is words-is fits elements-is =
+HasBlock-from_header bytes header after elements form words header-is after-is long form-is words-is fits elements-is =
     let len : length elements ≡ 4 * words = ap length elements-is ∙ length-take-le (4 * words) after fits in
     let all : 4 + length elements ≤ length bytes = omega (arith, len, ap length after-is, length-drop 4 bytes) in
     let n = 4 + length elements in

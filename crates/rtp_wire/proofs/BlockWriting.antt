@@ -29,7 +29,7 @@ pub length-block : (exts : ExtensionMap) (values : ExtensionValues) (n : ℕ) �
 unfolding block_bytes
 length-block exts values n is = omega (arith, length-body exts values n is)
 
--- whole words behind the four bytes of the form's word and their number
+-- whole words after the four bytes of the form's word and their number
 IsBlock-made : (form : ExtensionsForm) (body : List ℕ) → length body % 4 ≡ 0 → length body < 262144
     → IsBlock (to_be_bytes w16 (form_word form) ++ (to_be_bytes w16 (length body / 4) ++ body)) form body
 IsBlock-made OneByte body whole fits = record {
@@ -59,39 +59,39 @@ IsExtensionPart-written exts values n is few elements are_values =
       are_values,
     )
 
--- the elements, the zeros behind them and the head in front of them
-pub block-put : (exts : ExtensionMap) (values : ExtensionValues) (buf one two three head : List ℕ) (form : ExtensionsForm) (n len : ℕ)
+-- the elements, the zeros after them and the header in front of them
+pub block-put : (exts : ExtensionMap) (values : ExtensionValues) (buf one two three header : List ℕ) (form : ExtensionsForm) (n len : ℕ)
     → form ≡ form_of exts values → n ≡ length (elements_bytes (form_of exts values) (written_elements exts values)) → n ≤ 65535
     → length (block_bytes exts values) ≤ length buf
     → one ≡ overwritten buf 4 (elements_bytes (form_of exts values) (written_elements exts values))
     → two ≡ overwritten one (4 + n) (replicate (padding_of n) 0) → len ≡ 4 + n + padding_of n
-    → head ≡ to_be_bytes w16 (form_word form) ++ to_be_bytes w16 ((n + padding_of n) / 4)
-    → three ≡ overwritten two 0 head → three ≡ block_bytes exts values ++ drop len buf
+    → header ≡ to_be_bytes w16 (form_word form) ++ to_be_bytes w16 ((n + padding_of n) / 4)
+    → three ≡ overwritten two 0 header → three ≡ block_bytes exts values ++ drop len buf
 unfolding block_bytes
-block-put exts values buf one two three head form n len form-is is few room one-is two-is len-is head-is three-is =
+block-put exts values buf one two three header form n len form-is is few room one-is two-is len-is header-is three-is =
     let row = elements_bytes (form_of exts values) (written_elements exts values) in
     let zeros = replicate (padding_of n) 0 in
     let long = length-replicate {A = ℕ} (padding_of n) 0 in
     let body : row ++ zeros ≡ body_bytes exts values = ap (λ (k : ℕ). row ++ replicate (padding_of k) 0) is in
     let size = length-body exts values n is in
     let words : (n + padding_of n) / 4 ≡ length (body_bytes exts values) / 4 = ap (λ (k : ℕ). k / 4) (sym size) in
-    let made : head ≡ to_be_bytes w16 (form_word (form_of exts values)) ++ to_be_bytes w16 (length (body_bytes exts values) / 4) =
-    head-is ∙ ap (λ (f : ExtensionsForm). to_be_bytes w16 (form_word f) ++ to_be_bytes w16 ((n + padding_of n) / 4)) form-is
+    let made : header ≡ to_be_bytes w16 (form_word (form_of exts values)) ++ to_be_bytes w16 (length (body_bytes exts values) / 4) =
+    header-is ∙ ap (λ (f : ExtensionsForm). to_be_bytes w16 (form_word f) ++ to_be_bytes w16 ((n + padding_of n) / 4)) form-is
     ∙ ap (λ (k : ℕ). to_be_bytes w16 (form_word (form_of exts values)) ++ to_be_bytes w16 k) words in
-    let four : length head ≡ 4 = ap length made in
-    let joined : two ≡ overwritten buf (length head) (body_bytes exts values) =
+    let four : length header ≡ 4 = ap length made in
+    let joined : two ≡ overwritten buf (length header) (body_bytes exts values) =
     two-is ∙ ap (λ (xs : List ℕ). overwritten xs (4 + n) zeros) one-is
     ∙ overwritten-overwritten buf row zeros 4 (4 + n) (omega (arith, is)) (omega (arith, size))
     ∙ ap (overwritten buf 4) body ∙ ap (λ (k : ℕ). overwritten buf k (body_bytes exts values)) (sym four) in
-    let whole : head ++ body_bytes exts values ≡ to_be_bytes w16 (form_word (form_of exts values)) ++ (to_be_bytes w16 (length (body_bytes exts values) / 4) ++ body_bytes exts values) =
+    let whole : header ++ body_bytes exts values ≡ to_be_bytes w16 (form_word (form_of exts values)) ++ (to_be_bytes w16 (length (body_bytes exts values) / 4) ++ body_bytes exts values) =
     ap (λ (xs : List ℕ). xs ++ body_bytes exts values) made in
-    three-is ∙ ap (λ (xs : List ℕ). overwritten xs 0 head) joined
-    ∙ overwritten-before buf head (body_bytes exts values) 0 (length head) (omega arith) (omega (arith, size))
-    ∙ overwritten-front buf (head ++ body_bytes exts values)
-    ∙ ap (λ (k : ℕ). (head ++ body_bytes exts values) ++ drop k buf) (omega (arith, length-append head (body_bytes exts values), size))
+    three-is ∙ ap (λ (xs : List ℕ). overwritten xs 0 header) joined
+    ∙ overwritten-before buf header (body_bytes exts values) 0 (length header) (omega arith) (omega (arith, size))
+    ∙ overwritten-front buf (header ++ body_bytes exts values)
+    ∙ ap (λ (k : ℕ). (header ++ body_bytes exts values) ++ drop k buf) (omega (arith, length-append header (body_bytes exts values), size))
     ∙ ap (λ (xs : List ℕ). xs ++ drop len buf) whole
 
--- the elements put behind the first four bytes, and the room for the whole block
+-- the elements put after the first four bytes, and the room for the whole block
 pub record IsRowPut (exts : ExtensionMap) (values : ExtensionValues) (buf one : List ℕ) (n : ℕ) : Type 0 where
   pub row_len : n ≡ length (elements_bytes (form_of exts values) (written_elements exts values))
   pub put : one ≡ overwritten buf 4 (elements_bytes (form_of exts values) (written_elements exts values))

@@ -16,7 +16,7 @@ use Rattle.rtp_values.specs.Values.{no_values}
 use Rattle.rtp_ext.specs.BlockValues.{AreValues}
 use Rattle.rtp_wire.specs.Block.{word_at, IsBlock}
 use Rattle.rtp_wire.specs.Header.{IsWire}
-use Rattle.rtp_wire.specs.NotAHeader.{NotABlock, cut_head, unknown_form, cut_words, NotAHeader, cut_fixed, other_version, cut_sources, no_block}
+use Rattle.rtp_wire.specs.NotAHeader.{NotABlock, cut_header, unknown_form, cut_words, NotAHeader, cut_fixed, other_version, cut_sources, no_block}
 use Rattle.rtp_wire.specs.Reading.{HasExtensionPart}
 use Rattle.rtp_wire.proofs.FlagLemmas.{bit-once, HasFlags, flags_from_first, fields_from_second}
 use Rattle.rtp_wire.proofs.BlockLemmas.{word_at-take}
@@ -24,7 +24,7 @@ use Rattle.rtp_ext.proofs.ElementLemmasOfBodies.{AreElements-only}
 use Rattle.rtp_ext.proofs.ValuesLaws.{one_values}
 use Rattle.rtp_wire.proofs.HeaderLemmas.{IsLaidOut, layout_of}
 
--- how long a block at the front is, by its head
+-- how long a block at the front is, by its header
 block_len : (bytes body : List ℕ) (form : ExtensionsForm) (n : ℕ) → n ≤ length bytes → IsBlock (take n bytes) form body
     → (n ≡ 4 + 4 * word_at bytes 2) × IsFormWord (word_at bytes 0) form
 block_len bytes body form n fits is =
@@ -66,9 +66,9 @@ part_once exts true bytes v v' n n' p q =
 
 -- a block begins here, or none does
 pub not_both : (bytes body : List ℕ) (form : ExtensionsForm) (n : ℕ) → n ≤ length bytes → IsBlock (take n bytes) form body → NotABlock bytes → ⊥
-not_both bytes body form n fits is (cut_head short) = let head = block_len bytes body form n fits is in omega (arith, head.0)
+not_both bytes body form n fits is (cut_header short) = let header = block_len bytes body form n fits is in omega (arith, header.0)
 not_both bytes body form n fits is (unknown_form unknown) = unknown form (block_len bytes body form n fits is).1
-not_both bytes body form n fits is (cut_words short) = let head = block_len bytes body form n fits is in omega (arith, head.0)
+not_both bytes body form n fits is (cut_words short) = let header = block_len bytes body form n fits is in omega (arith, header.0)
 
 -- where no block begins, X announces nothing that is there
 no_part : (exts : ExtensionMap) (bytes : List ℕ) (v : ExtensionValues) (n : ℕ) → NotABlock bytes → HasExtensionPart exts true bytes v n → ⊥

@@ -14,7 +14,7 @@ use Rattle.rtp_wire.specs.declared.receive.verdict.Verdict.{Verdict}
 use Rattle.rtp_wire.specs.Block.{word_at}
 use Rattle.rtp_ext.specs.Form.{form_word, IsFormWord}
 use Rattle.rtp_wire.specs.Header.{IsFixed}
-use Rattle.rtp_wire.specs.NotAHeader.{NotABlock, cut_head, unknown_form, cut_words, NotAHeader, cut_fixed, other_version, cut_sources, no_block}
+use Rattle.rtp_wire.specs.NotAHeader.{NotABlock, cut_header, unknown_form, cut_words, NotAHeader, cut_fixed, other_version, cut_sources, no_block}
 use Rattle.rtp_ext.specs.WrittenBlock.{form_of, body_bytes, block_bytes}
 use Rattle.rtp_wire.specs.Written.{fixed_bytes, source_bytes, extension_bytes, wire_bytes}
 use Rattle.rtp_wire.specs.Verdicts.{PacketId, packet_id_of, IsPacketId, ArePacketIds, IsRun, AreVerdicts}
@@ -39,7 +39,7 @@ no_other_form TwoByte rest unknown = unknown TwoByte (omega arith, omega arith)
 -- a block of this form and body, followed by anything, is a block
 is_block : (form : ExtensionsForm) (body rest : List ℕ) → length body % 4 ≡ 0
     → NotABlock (to_be_bytes w16 (form_word form) ++ (to_be_bytes w16 (length body / 4) ++ (body ++ rest))) → ⊥
-is_block form body rest whole (cut_head short) = omega arith
+is_block form body rest whole (cut_header short) = omega arith
 is_block form body rest whole (unknown_form unknown) = no_other_form form (to_be_bytes w16 (length body / 4) ++ (body ++ rest)) unknown
 is_block form body rest whole (cut_words short) = let low = word_low (length body / 4) in omega (arith, length-append body rest)
 

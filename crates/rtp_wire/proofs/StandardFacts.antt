@@ -5,7 +5,7 @@ use Rattle.rtp_ext.specs.declared.ext.form.ExtensionsForm.TheVariants.{OneByte, 
 use Rattle.rtp_ext.specs.declared.ext.map.ExtensionMap.{ExtensionMap}
 use Rattle.rtp_ext.specs.Form.{IsFormWord}
 use Rattle.rtp_wire.specs.Header.{IsWire, default_header}
-use Rattle.rtp_wire.specs.NotAHeader.{cut_head, unknown_form, cut_words, NotAHeader, cut_fixed, other_version, cut_sources, no_block}
+use Rattle.rtp_wire.specs.NotAHeader.{cut_header, unknown_form, cut_words, NotAHeader, cut_fixed, other_version, cut_sources, no_block}
 use Rattle.rtp_ext.specs.ExtensionMap.{Slots}
 use Rattle.rtp_values.specs.Spelling.{carried_values}
 use Rattle.rtp_ext.specs.WrittenBlock.{block_bytes, image_values}
@@ -104,8 +104,8 @@ other_version_row = other_version (λ e. absurd (omega arith))
 cut_sources_row : NotAHeader (129 ∷ zeros 11)
 cut_sources_row = cut_sources (omega arith)
 
-cut_head_row : NotAHeader (144 ∷ zeros 11 ++ 190 ∷ 222 ∷ 0 ∷ [])
-cut_head_row = no_block refl (cut_head (omega arith))
+cut_header_row : NotAHeader (144 ∷ zeros 11 ++ 190 ∷ 222 ∷ 0 ∷ [])
+cut_header_row = no_block refl (cut_header (omega arith))
 
 no_form : (form : ExtensionsForm) → IsFormWord 8192 form → ⊥
 no_form OneByte is = omega arith

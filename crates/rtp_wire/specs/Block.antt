@@ -18,7 +18,7 @@ use Rattle.rtp_ext.specs.BlockValues.{AreValues}
 abbrev pub word_at : List ℕ → ℕ → ℕ
 word_at bytes offset = from_be_bytes w16 (slice_range bytes offset (offset + 2))
 
--- a block: the word of its form, the number of 32-bit words behind these four bytes, and those words, the body
+-- a block: the word of its form, the number of 32-bit words after these four bytes, and those words, the body
 pub record IsBlock (block : List ℕ) (form : ExtensionsForm) (body : List ℕ) : Type 0 where
   pub form_is : IsFormWord (word_at block 0) form
   pub words : length block ≡ 4 + 4 * word_at block 2

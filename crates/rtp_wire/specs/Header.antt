@@ -36,7 +36,7 @@ pub record IsFixed (fixed : List ℕ) (h : RtpHeader) : Type 0 where
   pub timestamp_is : h.timestamp ≡ from_be_bytes w32 (slice_range fixed 4 8)
   pub ssrc_is : h.ssrc ≡ from_be_bytes w32 (slice_range fixed 8 12)
 
--- the contributing sources: CC groups of four bytes, and a zero in each of the fifteen slots behind them
+-- the contributing sources: CC groups of four bytes, and a zero in each of the fifteen slots after them
 pub record AreSources (groups : List (List ℕ)) (count : ℕ) (slots : List ℕ) : Type 0 where
   pub count_is : length groups ≡ count
   pub of_four : AllByRecursion (λ group. length group ≡ 4) groups

@@ -1,4 +1,4 @@
--- Header extensions and the layer allocation, whose definitions come from the crates below.
+-- Header extensions and the layer allocation, whose definitions come from the lower crates.
 pub use Rattle.rtp_ext.specs.Form
 pub use Rattle.rtp_values.specs.Kind
 pub use Rattle.rtp_ext.specs.ExtensionMap

@@ -4,9 +4,9 @@ use Rattle.rtp_ext.specs.declared.ext.form.ExtensionsForm.{ExtensionsForm}
 use Rattle.rtp_ext.specs.Form.{IsFormWord}
 use Rattle.rtp_wire.specs.Block.{word_at}
 
--- no block begins here: its head is cut short, its form is none that is known, or it is longer than what is left
+-- no block begins here: its header is cut short, its form is none that is known, or it is longer than what is left
 pub data NotABlock (bytes : List ℕ) : Type 0 where
-  cut_head : length bytes < 4 → NotABlock bytes
+  cut_header : length bytes < 4 → NotABlock bytes
   unknown_form : ((form : ExtensionsForm) → IsFormWord (word_at bytes 0) form → ⊥) → NotABlock bytes
   cut_words : length bytes < 4 + 4 * word_at bytes 2 → NotABlock bytes
 

@@ -22,7 +22,7 @@ pub record ReadsBlock (exts : ExtensionMap) (bytes : List ℕ) (len : ℕ) (old 
   pub are_elements : AreElements form body elements
   pub are_values : AreValues exts elements old new
 
--- what X announces is at the front, and has so many bytes
+-- what X announces is at the front, and has that many bytes
 pub record HasExtensionPart (exts : ExtensionMap) (extension : Bool) (bytes : List ℕ) (values : ExtensionValues) (len : ℕ) : Type 0 where
   pub fits : len ≤ length bytes
   pub is_part : IsExtensionPart exts extension (take len bytes) values

@@ -4,7 +4,7 @@ ghost use Rattle.std.specs.Prelude.{◌≡◌, ◌≢◌, ◌↔◌, ℕ, ◌+�
 ghost use Rattle.std.specs.Option.{option_copied, option_map};
 ghost use Rattle.rtp_values.specs.Kind.{IsKnown};
 ghost use Rattle.rtp_ext.specs.ExtensionMap as spec;
-ghost use Rattle.rtp_ext.specs.MapSlots.{IsFirst, IsMapped};
+ghost use Rattle.rtp_ext.specs.MapSlots.{IsFirstSlot, IsMapped};
 
 use super::map::MAX_ID;
 use super::slot::Slot;
@@ -41,7 +41,7 @@ pub(super) fn mapped_extension(slots: &[Slot], id: u8) -> &Extension
 
 // The first index whose slot holds the extension.
 fn slot_with(slots: &[Slot], ext: &Extension) -> Option<usize>
-    ensures found { IfSome result (IsFirst slots.now ext.now) }
+    ensures found { IfSome result (IsFirstSlot slots.now ext.now) }
     ensures none { IfNone result (spec.IsUnmapped slots.now ext.now) }
 {
     slots.iter().position(|slot| slot.holds(ext))

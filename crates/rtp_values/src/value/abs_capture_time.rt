@@ -2,7 +2,7 @@
 
 ghost use Rattle.std.specs.Prelude.{◌≡◌, ◌≤◌, ◌++◌, length, drop, Some};
 ghost use Rattle.rtp_values.specs.declared.kind.Extension.TheVariants.{AbsoluteCaptureTime};
-ghost use Rattle.rtp_values.specs.KindBytes.{HasRead, HasWritten};
+ghost use Rattle.rtp_values.specs.KindBytes.{SetsFields, WritesData};
 ghost use Rattle.rtp_values.specs.Values.{offset_of};
 ghost use Rattle.rtp_values.specs.Spelling.{HasRoom, offset_bytes};
 
@@ -28,7 +28,7 @@ fn first_offset(bytes: &[u8]) -> Option<i64>
 }
 
 pub(super) fn read(buf: &[u8], ev: &mut ExtensionValues) -> Option<()>
-    ensures { HasRead AbsoluteCaptureTime buf.now ev.old ev.new result }
+    ensures { SetsFields AbsoluteCaptureTime buf.now ev.old ev.new result }
 {
     let capture_time = first_u64(buf)?;
     let clock_offset = first_offset(&buf[8..]);
@@ -50,7 +50,7 @@ fn put_offset(buf: &mut [u8], offset: i64)
 
 pub(super) fn write(buf: &mut [u8], ev: &ExtensionValues) -> Option<usize>
     requires room { HasRoom AbsoluteCaptureTime ev.now buf.old }
-    ensures { HasWritten AbsoluteCaptureTime ev.now buf.old buf.new result }
+    ensures { WritesData AbsoluteCaptureTime ev.now buf.old buf.new result }
 {
     let time = ev.abs_capture_time?;
     let Some(offset) = time.clock_offset else {

@@ -4,7 +4,7 @@ ghost use Rattle.std.specs.Prelude.{◌≡◌, ℕ, ◌+◌, ◌<◌, ◌≤◌,
 ghost use Rattle.rtp_values.specs.Spelling.{HasRoom, send_ticks, carried_send_time};
 ghost use Rattle.rtp_values.specs.SendTime.{IsPossible, IsLatest, IsRecovered};
 ghost use Rattle.rtp_values.specs.declared.kind.Extension.TheVariants.{AbsoluteSendTime};
-ghost use Rattle.rtp_values.specs.KindBytes.{HasRead, HasWritten};
+ghost use Rattle.rtp_values.specs.KindBytes.{SetsFields, WritesData};
 
 use super::ExtensionValues;
 use super::front::{first_u24, put_u24};
@@ -26,7 +26,7 @@ fn ticks_of(micros: u64) -> u32
 }
 
 pub(super) fn read(buf: &[u8], ev: &mut ExtensionValues) -> Option<()>
-    ensures { HasRead AbsoluteSendTime buf.now ev.old ev.new result }
+    ensures { SetsFields AbsoluteSendTime buf.now ev.old ev.new result }
 {
     let ticks = first_u24(buf)?;
     ev.abs_send_time = Some(u64::from(ticks) * MICROS_PER_SECOND / TICKS_PER_SECOND);
@@ -35,7 +35,7 @@ pub(super) fn read(buf: &[u8], ev: &mut ExtensionValues) -> Option<()>
 
 pub(super) fn write(buf: &mut [u8], ev: &ExtensionValues) -> Option<usize>
     requires room { HasRoom AbsoluteSendTime ev.now buf.old }
-    ensures { HasWritten AbsoluteSendTime ev.now buf.old buf.new result }
+    ensures { WritesData AbsoluteSendTime ev.now buf.old buf.new result }
 {
     let micros = ev.abs_send_time?;
     Some(put_u24(buf, ticks_of(micros)))

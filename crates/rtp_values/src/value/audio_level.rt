@@ -4,7 +4,7 @@ ghost use Rattle.std.specs.Prelude.{◌≡◌, ◌+◌, ◌*◌, ◌%◌, unsign
 ghost use Rattle.rtp_base.specs.Flag.{bit};
 ghost use Rattle.rtp_values.specs.declared.kind.Extension.TheVariants.{AudioLevel};
 ghost use Rattle.rtp_values.specs.Spelling.{HasRoom};
-ghost use Rattle.rtp_values.specs.KindBytes.{HasRead, HasWritten};
+ghost use Rattle.rtp_values.specs.KindBytes.{SetsFields, WritesData};
 
 use super::ExtensionValues;
 use super::front::put;
@@ -18,7 +18,7 @@ fn level_byte(level: i8, voice: bool) -> u8
 }
 
 pub(super) fn read(buf: &[u8], ev: &mut ExtensionValues) -> Option<()>
-    ensures { HasRead AudioLevel buf.now ev.old ev.new result }
+    ensures { SetsFields AudioLevel buf.now ev.old ev.new result }
 {
     let byte = *buf.first()?;
     ev.audio_level = Some(-((byte & 0x7F) as i8));
@@ -28,7 +28,7 @@ pub(super) fn read(buf: &[u8], ev: &mut ExtensionValues) -> Option<()>
 
 pub(super) fn write(buf: &mut [u8], ev: &ExtensionValues) -> Option<usize>
     requires room { HasRoom AudioLevel ev.now buf.old }
-    ensures { HasWritten AudioLevel ev.now buf.old buf.new result }
+    ensures { WritesData AudioLevel ev.now buf.old buf.new result }
 {
     let level = ev.audio_level?;
     let voice = ev.voice_activity?;

@@ -3,13 +3,13 @@
 
 ghost use Rattle.rtp_values.specs.declared.kind.Extension.TheVariants.{FrameMarking};
 ghost use Rattle.rtp_values.specs.Spelling.{HasRoom};
-ghost use Rattle.rtp_values.specs.KindBytes.{HasRead, HasWritten};
+ghost use Rattle.rtp_values.specs.KindBytes.{SetsFields, WritesData};
 
 use super::ExtensionValues;
 use super::front::{first_u32, put_u32};
 
 pub(super) fn read(buf: &[u8], ev: &mut ExtensionValues) -> Option<()>
-    ensures { HasRead FrameMarking buf.now ev.old ev.new result }
+    ensures { SetsFields FrameMarking buf.now ev.old ev.new result }
 {
     ev.frame_mark = Some(first_u32(buf)?);
     Some(())
@@ -17,7 +17,7 @@ pub(super) fn read(buf: &[u8], ev: &mut ExtensionValues) -> Option<()>
 
 pub(super) fn write(buf: &mut [u8], ev: &ExtensionValues) -> Option<usize>
     requires room { HasRoom FrameMarking ev.now buf.old }
-    ensures { HasWritten FrameMarking ev.now buf.old buf.new result }
+    ensures { WritesData FrameMarking ev.now buf.old buf.new result }
 {
     let marking = ev.frame_mark?;
     Some(put_u32(buf, marking))

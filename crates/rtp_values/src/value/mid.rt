@@ -2,14 +2,14 @@
 
 ghost use Rattle.rtp_values.specs.declared.kind.Extension.TheVariants.{RtpMid};
 ghost use Rattle.rtp_values.specs.Spelling.{HasRoom};
-ghost use Rattle.rtp_values.specs.KindBytes.{HasRead, HasWritten};
+ghost use Rattle.rtp_values.specs.KindBytes.{SetsFields, WritesData};
 
 use super::ExtensionValues;
 use super::front::put;
 use rtp_base::Mid;
 
 pub(super) fn read(buf: &[u8], ev: &mut ExtensionValues) -> Option<()>
-    ensures { HasRead RtpMid buf.now ev.old ev.new result }
+    ensures { SetsFields RtpMid buf.now ev.old ev.new result }
 {
     ev.mid = Some(Mid::from_utf8(buf)?);
     Some(())
@@ -17,7 +17,7 @@ pub(super) fn read(buf: &[u8], ev: &mut ExtensionValues) -> Option<()>
 
 pub(super) fn write(buf: &mut [u8], ev: &ExtensionValues) -> Option<usize>
     requires room { HasRoom RtpMid ev.now buf.old }
-    ensures { HasWritten RtpMid ev.now buf.old buf.new result }
+    ensures { WritesData RtpMid ev.now buf.old buf.new result }
 {
     let mid = ev.mid?;
     Some(put(buf, mid.as_str().as_bytes()))

@@ -3,7 +3,7 @@
 ghost use Rattle.std.specs.Prelude.{◌≡◌};
 ghost use Rattle.rtp_values.specs.Spelling.{HasRoom, delay_of};
 ghost use Rattle.rtp_values.specs.declared.kind.Extension.TheVariants.{PlayoutDelay};
-ghost use Rattle.rtp_values.specs.KindBytes.{HasRead, HasWritten};
+ghost use Rattle.rtp_values.specs.KindBytes.{SetsFields, WritesData};
 
 use super::ExtensionValues;
 use super::front::{first_u24, put_u24};
@@ -18,7 +18,7 @@ fn delay_of(time: MediaTime) -> u32
 }
 
 pub(super) fn read(buf: &[u8], ev: &mut ExtensionValues) -> Option<()>
-    ensures { HasRead PlayoutDelay buf.now ev.old ev.new result }
+    ensures { SetsFields PlayoutDelay buf.now ev.old ev.new result }
 {
     let delays = first_u24(buf)?;
     ev.play_delay_min = Some(MediaTime::from_hundredths(u64::from(delays >> 12)));
@@ -28,7 +28,7 @@ pub(super) fn read(buf: &[u8], ev: &mut ExtensionValues) -> Option<()>
 
 pub(super) fn write(buf: &mut [u8], ev: &ExtensionValues) -> Option<usize>
     requires room { HasRoom PlayoutDelay ev.now buf.old }
-    ensures { HasWritten PlayoutDelay ev.now buf.old buf.new result }
+    ensures { WritesData PlayoutDelay ev.now buf.old buf.new result }
 {
     let min = ev.play_delay_min?;
     let max = ev.play_delay_max?;

@@ -2,14 +2,14 @@
 
 ghost use Rattle.rtp_values.specs.declared.kind.Extension.TheVariants.{RtpStreamId, RepairedRtpStreamId};
 ghost use Rattle.rtp_values.specs.Spelling.{HasRoom};
-ghost use Rattle.rtp_values.specs.KindBytes.{HasRead, HasWritten};
+ghost use Rattle.rtp_values.specs.KindBytes.{SetsFields, WritesData};
 
 use super::ExtensionValues;
 use super::front::put;
 use rtp_base::Rid;
 
 pub(super) fn read(buf: &[u8], ev: &mut ExtensionValues) -> Option<()>
-    ensures { HasRead RtpStreamId buf.now ev.old ev.new result }
+    ensures { SetsFields RtpStreamId buf.now ev.old ev.new result }
 {
     ev.rid = Some(Rid::from_utf8(buf)?);
     Some(())
@@ -17,14 +17,14 @@ pub(super) fn read(buf: &[u8], ev: &mut ExtensionValues) -> Option<()>
 
 pub(super) fn write(buf: &mut [u8], ev: &ExtensionValues) -> Option<usize>
     requires room { HasRoom RtpStreamId ev.now buf.old }
-    ensures { HasWritten RtpStreamId ev.now buf.old buf.new result }
+    ensures { WritesData RtpStreamId ev.now buf.old buf.new result }
 {
     let rid = ev.rid?;
     Some(put(buf, rid.as_str().as_bytes()))
 }
 
 pub(super) fn read_repaired(buf: &[u8], ev: &mut ExtensionValues) -> Option<()>
-    ensures { HasRead RepairedRtpStreamId buf.now ev.old ev.new result }
+    ensures { SetsFields RepairedRtpStreamId buf.now ev.old ev.new result }
 {
     ev.rid_repair = Some(Rid::from_utf8(buf)?);
     Some(())
@@ -32,7 +32,7 @@ pub(super) fn read_repaired(buf: &[u8], ev: &mut ExtensionValues) -> Option<()>
 
 pub(super) fn write_repaired(buf: &mut [u8], ev: &ExtensionValues) -> Option<usize>
     requires room { HasRoom RepairedRtpStreamId ev.now buf.old }
-    ensures { HasWritten RepairedRtpStreamId ev.now buf.old buf.new result }
+    ensures { WritesData RepairedRtpStreamId ev.now buf.old buf.new result }
 {
     let rid_repair = ev.rid_repair?;
     Some(put(buf, rid_repair.as_str().as_bytes()))

@@ -2,13 +2,13 @@
 
 ghost use Rattle.rtp_values.specs.declared.kind.Extension.TheVariants.{TransmissionTimeOffset};
 ghost use Rattle.rtp_values.specs.Spelling.{HasRoom};
-ghost use Rattle.rtp_values.specs.KindBytes.{HasRead, HasWritten};
+ghost use Rattle.rtp_values.specs.KindBytes.{SetsFields, WritesData};
 
 use super::ExtensionValues;
 use super::front::{first_u32, put_u32};
 
 pub(super) fn read(buf: &[u8], ev: &mut ExtensionValues) -> Option<()>
-    ensures { HasRead TransmissionTimeOffset buf.now ev.old ev.new result }
+    ensures { SetsFields TransmissionTimeOffset buf.now ev.old ev.new result }
 {
     ev.tx_time_offs = Some(first_u32(buf)?);
     Some(())
@@ -16,7 +16,7 @@ pub(super) fn read(buf: &[u8], ev: &mut ExtensionValues) -> Option<()>
 
 pub(super) fn write(buf: &mut [u8], ev: &ExtensionValues) -> Option<usize>
     requires room { HasRoom TransmissionTimeOffset ev.now buf.old }
-    ensures { HasWritten TransmissionTimeOffset ev.now buf.old buf.new result }
+    ensures { WritesData TransmissionTimeOffset ev.now buf.old buf.new result }
 {
     let offset = ev.tx_time_offs?;
     Some(put_u32(buf, offset))

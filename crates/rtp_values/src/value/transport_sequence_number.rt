@@ -2,13 +2,13 @@
 
 ghost use Rattle.rtp_values.specs.declared.kind.Extension.TheVariants.{TransportSequenceNumber};
 ghost use Rattle.rtp_values.specs.Spelling.{HasRoom};
-ghost use Rattle.rtp_values.specs.KindBytes.{HasRead, HasWritten};
+ghost use Rattle.rtp_values.specs.KindBytes.{SetsFields, WritesData};
 
 use super::ExtensionValues;
 use super::front::{first_u16, put_u16};
 
 pub(super) fn read(buf: &[u8], ev: &mut ExtensionValues) -> Option<()>
-    ensures { HasRead TransportSequenceNumber buf.now ev.old ev.new result }
+    ensures { SetsFields TransportSequenceNumber buf.now ev.old ev.new result }
 {
     ev.transport_cc = Some(first_u16(buf)?);
     Some(())
@@ -16,7 +16,7 @@ pub(super) fn read(buf: &[u8], ev: &mut ExtensionValues) -> Option<()>
 
 pub(super) fn write(buf: &mut [u8], ev: &ExtensionValues) -> Option<usize>
     requires room { HasRoom TransportSequenceNumber ev.now buf.old }
-    ensures { HasWritten TransportSequenceNumber ev.now buf.old buf.new result }
+    ensures { WritesData TransportSequenceNumber ev.now buf.old buf.new result }
 {
     let number = ev.transport_cc?;
     Some(put_u16(buf, number))

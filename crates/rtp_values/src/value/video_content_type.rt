@@ -2,13 +2,13 @@
 
 ghost use Rattle.rtp_values.specs.declared.kind.Extension.TheVariants.{VideoContentType};
 ghost use Rattle.rtp_values.specs.Spelling.{HasRoom};
-ghost use Rattle.rtp_values.specs.KindBytes.{HasRead, HasWritten};
+ghost use Rattle.rtp_values.specs.KindBytes.{SetsFields, WritesData};
 
 use super::ExtensionValues;
 use super::front::put;
 
 pub(super) fn read(buf: &[u8], ev: &mut ExtensionValues) -> Option<()>
-    ensures { HasRead VideoContentType buf.now ev.old ev.new result }
+    ensures { SetsFields VideoContentType buf.now ev.old ev.new result }
 {
     ev.video_content_type = Some(*buf.first()?);
     Some(())
@@ -16,7 +16,7 @@ pub(super) fn read(buf: &[u8], ev: &mut ExtensionValues) -> Option<()>
 
 pub(super) fn write(buf: &mut [u8], ev: &ExtensionValues) -> Option<usize>
     requires room { HasRoom VideoContentType ev.now buf.old }
-    ensures { HasWritten VideoContentType ev.now buf.old buf.new result }
+    ensures { WritesData VideoContentType ev.now buf.old buf.new result }
 {
     let content = ev.video_content_type?;
     Some(put(buf, &[content]))

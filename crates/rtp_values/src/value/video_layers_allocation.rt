@@ -4,7 +4,7 @@ ghost use Rattle.std.specs.Prelude.{◌≡◌, ◌≤◌, length, IsOk, IfOk, If
 ghost use Rattle.std.specs.Option.{option_map};
 ghost use Rattle.rtp_values.specs.declared.kind.Extension.TheVariants as kind;
 ghost use Rattle.rtp_values.specs.Spelling.{HasRoom, spelled_data};
-ghost use Rattle.rtp_values.specs.KindBytes.{HasRead, HasWritten};
+ghost use Rattle.rtp_values.specs.KindBytes.{SetsFields, WritesData};
 
 use super::ExtensionValues;
 use rtp_vla::vla;
@@ -21,7 +21,7 @@ pub(super) fn read(
     buf: &[u8],
     ev: &mut ExtensionValues,
 ) -> Result<Option<()>, AllocError>
-    ensures read { IfOk result (HasRead kind.VideoLayersAllocation buf.now ev.old ev.new) }
+    ensures read { IfOk result (SetsFields kind.VideoLayersAllocation buf.now ev.old ev.new) }
     ensures refused { IfErr result (λ _. ev.new ≡ ev.old) }
     ensures succeeds { length buf.now ≤ 1 → IsOk result }
 {
@@ -43,7 +43,7 @@ pub(super) fn data_len(ev: &ExtensionValues) -> Option<usize>
 
 pub(super) fn write(buf: &mut [u8], ev: &ExtensionValues) -> Option<usize>
     requires room { HasRoom kind.VideoLayersAllocation ev.now buf.old }
-    ensures { HasWritten kind.VideoLayersAllocation ev.now buf.old buf.new result }
+    ensures { WritesData kind.VideoLayersAllocation ev.now buf.old buf.new result }
 {
     let allocation = ev.video_layers_allocation.as_ref()?;
     data_len(ev)?;

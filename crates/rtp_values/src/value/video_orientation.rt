@@ -2,7 +2,7 @@
 
 ghost use Rattle.std.specs.Prelude.{◌≡◌};
 ghost use Rattle.rtp_values.specs.declared.kind.Extension.TheVariants.{VideoOrientation as OrientationKind};
-ghost use Rattle.rtp_values.specs.KindBytes.{HasRead, HasWritten};
+ghost use Rattle.rtp_values.specs.KindBytes.{SetsFields, WritesData};
 ghost use Rattle.rtp_values.specs.Values.{orientation_of};
 ghost use Rattle.rtp_values.specs.Spelling.{HasRoom, orientation_bits};
 
@@ -48,7 +48,7 @@ fn orientation_bits(orientation: VideoOrientation) -> u8
 }
 
 pub(super) fn read(buf: &[u8], ev: &mut ExtensionValues) -> Option<()>
-    ensures { HasRead OrientationKind buf.now ev.old ev.new result }
+    ensures { SetsFields OrientationKind buf.now ev.old ev.new result }
 {
     let byte = *buf.first()?;
     ev.video_orientation = Some(VideoOrientation::from(byte & 0b11));
@@ -57,7 +57,7 @@ pub(super) fn read(buf: &[u8], ev: &mut ExtensionValues) -> Option<()>
 
 pub(super) fn write(buf: &mut [u8], ev: &ExtensionValues) -> Option<usize>
     requires room { HasRoom OrientationKind ev.now buf.old }
-    ensures { HasWritten OrientationKind ev.now buf.old buf.new result }
+    ensures { WritesData OrientationKind ev.now buf.old buf.new result }
 {
     let orientation = ev.video_orientation?;
     Some(put(buf, &[orientation_bits(orientation)]))

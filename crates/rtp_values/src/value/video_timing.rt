@@ -2,7 +2,7 @@
 
 ghost use Rattle.std.specs.Prelude.{◌≡◌, ◌+◌, ◌≤◌, ◌<◌, length, slice_range};
 ghost use Rattle.rtp_values.specs.declared.kind.Extension.TheVariants.{VideoTiming as TimingKind};
-ghost use Rattle.rtp_values.specs.KindBytes.{HasRead, HasWritten};
+ghost use Rattle.rtp_values.specs.KindBytes.{SetsFields, WritesData};
 ghost use Rattle.rtp_values.specs.Values.{big_endian};
 ghost use Rattle.rtp_values.specs.Spelling.{HasRoom, bytes_of};
 
@@ -33,7 +33,7 @@ fn time_at(bytes: &[u8], offset: usize) -> u16
 }
 
 pub(super) fn read(buf: &[u8], ev: &mut ExtensionValues) -> Option<()>
-    ensures { HasRead TimingKind buf.now ev.old ev.new result }
+    ensures { SetsFields TimingKind buf.now ev.old ev.new result }
 {
     if buf.len() < 9 {
         return None;
@@ -58,7 +58,7 @@ fn time_bytes(time: u16) -> [u8; 2]
 
 pub(super) fn write(buf: &mut [u8], ev: &ExtensionValues) -> Option<usize>
     requires room { HasRoom TimingKind ev.now buf.old }
-    ensures { HasWritten TimingKind ev.now buf.old buf.new result }
+    ensures { WritesData TimingKind ev.now buf.old buf.new result }
 {
     let timing = ev.video_timing?;
     let start = time_bytes(timing.encode_start);

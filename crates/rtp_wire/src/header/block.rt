@@ -16,22 +16,22 @@ use rtp_ext::{ExtensionMap, ExtensionValues, ExtensionsForm};
 use std::alloc::{AllocError, Global};
 
 // How many bytes stand before a block's body.
-const HEAD: usize = 4;
+const HEADER_LEN: usize = 4;
 
 // The block at the front: its form and its body.
 fn split_block(bytes: &[u8]) -> Option<(ExtensionsForm, &[u8])>
     ensures found { IfSome result (λ block. HasBlock bytes.now block.0 block.1.now) }
     ensures refused { IfNone result (NotABlock bytes.now) }
 {
-    let (head, after) = bytes.split_first_chunk::<HEAD>()?;
-    let form = ExtensionsForm::parse([head[0], head[1]])?;
-    let words = u16::from_be_bytes([head[2], head[3]]);
+    let (header, after) = bytes.split_first_chunk::<HEADER_LEN>()?;
+    let form = ExtensionsForm::parse([header[0], header[1]])?;
+    let words = u16::from_be_bytes([header[2], header[3]]);
     let body = after.get(..4 * usize::from(words))?;
     Some((form, body))
 }
 
 // The four bytes before a body of `words` words.
-fn head_of(form: ExtensionsForm, words: u16) -> [u8; HEAD]
+fn block_header(form: ExtensionsForm, words: u16) -> [u8; HEADER_LEN]
     ensures { result ≡ to_be_bytes w16 (form_word form) ++ to_be_bytes w16 words }
 {
     let [form_high, form_low] = form.serialize();
@@ -56,7 +56,7 @@ pub(super) fn parse_block(
         return Ok(None);
     };
     exts.parse(alloc, body, form, ev)?;
-    Ok(Some(HEAD + body.len()))
+    Ok(Some(HEADER_LEN + body.len()))
 }
 
 // The length of the block that `write_block` writes.
@@ -67,7 +67,7 @@ pub(super) fn block_len(exts: &ExtensionMap, ev: &ExtensionValues) -> usize
     ensures bound { result ≤ 65540 }
 {
     let elements_len = exts.wire_len(ev, exts.form(ev));
-    HEAD + elements_len.next_multiple_of(4)
+    HEADER_LEN + elements_len.next_multiple_of(4)
 }
 
 // Writes the block of these values to the front of the buffer, and returns its length.
@@ -84,9 +84,9 @@ pub(super) fn write_block(exts: &ExtensionMap, buf: &mut [u8], ev: &ExtensionVal
         (image_values exts.now ev.now) }
 {
     let form = exts.form(ev);
-    let elements_len = exts.write_to(&mut buf[HEAD..], ev, form);
+    let elements_len = exts.write_to(&mut buf[HEADER_LEN..], ev, form);
     let body_len = elements_len.next_multiple_of(4);
-    let len = put_zeros(buf, HEAD + elements_len, body_len - elements_len);
-    put(buf, 0, &head_of(form, (body_len / 4) as u16));
+    let len = put_zeros(buf, HEADER_LEN + elements_len, body_len - elements_len);
+    put(buf, 0, &block_header(form, (body_len / 4) as u16));
     len
 }

@@ -40,7 +40,7 @@ fn marker_and_type(byte: u8) -> (bool, u8)
     (byte & 0x80 != 0, byte & 0x7F)
 }
 
-// Puts the number of each group into the slots from the first one on; those behind them stay.
+// Puts the number of each group into the slots from the first one on; those after them stay.
 fn put_numbers(groups: &[[u8; 4]], slots: &mut [u32; 15])
     requires { length groups.now ≤ 15 }
     ensures { slots.new
@@ -99,8 +99,8 @@ impl RtpHeader {
     /// map (RFC 3550, 5.1 and 5.3.1; RFC 8285, 4.2 and 4.3). Whatever follows the header is not
     /// looked at.
     ///
-    /// Nothing is allocated but for the lists of a layer allocation: an element of two bytes or
-    /// more whose id is mapped to it. Where that memory is refused nothing is handed out.
+    /// Nothing is allocated except the lists of a layer allocation: an element of two bytes or
+    /// more whose id is mapped to it. Where that memory is refused nothing is returned.
     ///
     /// Returns `None` exactly when no header begins there: under 12 bytes, a version other than 2, a
     /// CSRC list that is cut short, or a set X bit that no block follows, since the block's first

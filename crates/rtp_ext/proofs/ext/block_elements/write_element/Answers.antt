@@ -47,7 +47,7 @@ returns-in_default-clause-written c =
     data_put ∙ (ap (λ bytes. overwritten c.args.buf.now start (unwrap_or bytes [])) none
     ∙ (overwritten-nil c.args.buf.now start ∙ back.written))
 
--- the data are put behind the header, and it in front of them
+-- the data are put after the header, and it in front of them
 element_put : (c : goal.After-slice_known-3-1) →
     (c.write_header.new.buf ≡ overwritten c.args.buf.now c.args.at (bytes_at c.args.form c.args.id (spelled_data c.args.ext.now c.args.ev.now)))
     × (c.args.at + c.header_len-header_len.result + c.in-Some.len ≡ c.args.at + length (bytes_at c.args.form c.args.id (spelled_data c.args.ext.now c.args.ev.now)))

@@ -3,7 +3,7 @@ use Rattle.std.proofs.lemmas.Int.{to_z-of_z}
 use Rattle.std.proofs.lemmas.List.{take_rest, take_all, drop_all, drop-drop, append-nil}
 use Rattle.rtp_values.specs.Values.{offset_of}
 use Rattle.rtp_values.specs.Spelling.{bytes_of, offset_bytes}
-use Rattle.rtp_values.proofs.ValueLemmas.{room_of, spelled-capture, AreData-capture, HasWritten-put}
+use Rattle.rtp_values.proofs.ValueLemmas.{room_of, spelled-capture, AreData-capture, WritesData-put}
 use Rattle.rtp_values.proofs.value.abs_capture_time.write.Goals as goal
 use borrow.Rule.Slice.PartMut.{put_mid}
 
@@ -22,7 +22,7 @@ put_u64-requires c = record { room = room_of (spelled-capture c.ev.view_is c.in_
 
 pub returns-in_default : goal.returns-in_default
 returns-in_default c =
-    HasWritten-put (AreData-capture c.ev.view_is c.in_ok-time.was c.in_default.is c.put_u64.ensures.back refl) c.put_u64.ensures.length c.put_u64.ensures.written
+    WritesData-put (AreData-capture c.ev.view_is c.in_ok-time.was c.in_default.is c.put_u64.ensures.back refl) c.put_u64.ensures.length c.put_u64.ensures.written
 
 pub put_u64-requires-2 : goal.put_u64-requires-2
 put_u64-requires-2 c = record { room = omega (arith, room_of (spelled-capture c.ev.view_is c.in_ok-time.was c.in-Some.is) (omega arith) c.args.buf.now c.requires.room) }
@@ -43,6 +43,6 @@ returns c =
     let fits : FitsSigned w64 offset = search rules in
     let same = offset_is offset fits in
     let back = subst (λ (o : Option ℤ). offset_of (offset_bytes o) ≡ o) same c.put_offset.ensures.back in
-    HasWritten-put (AreData-capture c.ev.view_is c.in_ok-time.was c.in-Some.is c.put_u64-2.ensures.back back) refl
+    WritesData-put (AreData-capture c.ev.view_is c.in_ok-time.was c.in-Some.is c.put_u64-2.ensures.back back) refl
     (put_after (bytes_of 8 time.capture_time) (offset_bytes (Some offset)) c.args.buf.now c.put_u64-2.new.buf c.put_offset.new.buf refl refl c.put_u64-2.ensures.written
     (c.put_offset.ensures.written ∙ ap (λ (o : Option ℤ). offset_bytes o ++ drop 8 (take (length c.put_u64-2.new.buf - 8) (drop 8 c.put_u64-2.new.buf))) same))

@@ -1,6 +1,6 @@
 use Rattle.std.proofs.Common.{arith, ◌≡◌, ℕ, ℤ, Bool, ap, ◌∙◌, rules, w8, to_z, of_z, FitsSigned}
 use Rattle.std.proofs.lemmas.Int.{to_z-of_z}
-use Rattle.rtp_values.proofs.ValueLemmas.{room_of, level_byte, spelled-level, AreData-level, HasWritten-put}
+use Rattle.rtp_values.proofs.ValueLemmas.{room_of, level_byte, spelled-level, AreData-level, WritesData-put}
 use Rattle.rtp_values.proofs.value.audio_level.write.Goals as goal
 
 byte_is : (level : ℤ) (voice : Bool) (byte : ℕ) → FitsSigned w8 level → byte ≡ level_byte (to_z w8 (of_z w8 level)) voice → byte ≡ level_byte level voice
@@ -14,4 +14,4 @@ put-requires c =
 pub returns : goal.returns
 returns c =
     let fits : FitsSigned w8 c.in_ok-level.level = search rules in
-    HasWritten-put (AreData-level c.ev.view_is c.in_ok-level.was c.in_ok-voice.was (byte_is _ _ _ fits c.level_byte.ensures)) c.put.ensures.length c.put.ensures.written
+    WritesData-put (AreData-level c.ev.view_is c.in_ok-level.was c.in_ok-voice.was (byte_is _ _ _ fits c.level_byte.ensures)) c.put.ensures.length c.put.ensures.written

@@ -1,7 +1,7 @@
 use Rattle.std.proofs.Common.{arith, ◌≡◌, ℕ, List, [], ◌∷◌, get_or, refl}
 use Rattle.rtp_values.specs.declared.value.video_timing.VideoTiming as timing
 use Rattle.rtp_values.specs.Spelling.{bytes_of, timing_bytes}
-use Rattle.rtp_values.proofs.ValueLemmas.{room_of, spelled-timing, AreData-timing, HasWritten-put}
+use Rattle.rtp_values.proofs.ValueLemmas.{room_of, spelled-timing, AreData-timing, WritesData-put}
 use Rattle.rtp_values.proofs.value.video_timing.write.Goals as goal
 
 cells : (t : timing.VideoTiming) (start finish complete left : List ℕ) → start ≡ bytes_of 2 t.encode_start → finish ≡ bytes_of 2 t.encode_finish
@@ -22,5 +22,5 @@ returns c =
     let t = c.in_ok-timing.timing in
     let are = cells t c.time_bytes-start.result c.time_bytes-finish.result c.time_bytes-complete.result c.time_bytes-left.result
     c.time_bytes-start.ensures.bytes c.time_bytes-finish.ensures.bytes c.time_bytes-complete.ensures.bytes c.time_bytes-left.ensures.bytes in
-    HasWritten-put (AreData-timing c.ev.view_is c.in_ok-timing.was are c.time_bytes-start.ensures.back c.time_bytes-finish.ensures.back c.time_bytes-complete.ensures.back c.time_bytes-left.ensures.back)
+    WritesData-put (AreData-timing c.ev.view_is c.in_ok-timing.was are c.time_bytes-start.ensures.back c.time_bytes-finish.ensures.back c.time_bytes-complete.ensures.back c.time_bytes-left.ensures.back)
     c.put.ensures.length c.put.ensures.written

@@ -15,7 +15,7 @@ use Rattle.rtp_wire.proofs.header.block.write_block.Goals as goal
 abbrev row : ExtensionMap → ExtensionValues → List ℕ
 row exts ev = elements_bytes (form_of exts ev) (written_elements exts ev)
 
--- room for the elements behind the first four bytes
+-- room for the elements after the first four bytes
 room : (exts : ExtensionMap) (ev : ExtensionValues) (buf : List ℕ) → length (block_bytes exts ev) ≤ length buf → 4 + length (row exts ev) ≤ length buf
 room exts ev buf fits =
     let n = length (row exts ev) in
@@ -44,10 +44,10 @@ put-requires c =
     let one = take 4 c.args.buf.now ++ (c.write_to-elements_len.new.buf ++ drop (length c.args.buf.now - 4) (drop 4 c.args.buf.now)) in
     let row = row-put c.args.exts.now c.args.ev.now c.args.buf.now c.write_to-elements_len.new.buf c.form-form.result c.write_to-elements_len.result
     c.form-form.ensures c.write_to-elements_len.ensures.length c.write_to-elements_len.ensures.written c.requires in
-    let head : length c.head_of.result ≡ 4 = ap length c.head_of.ensures in
+    let header : length c.block_header.result ≡ 4 = ap length c.block_header.ensures in
     omega (
       arith,
-      head,
+      header,
       row.room,
       row.long,
       ap length c.put_zeros-len.ensures.written,
@@ -64,11 +64,11 @@ returns-clause-written c =
     let body = c.next_multiple_of-body_len.result in
     let body-is : body ≡ n + padding_of n = c.next_multiple_of-body_len.ensures.value in
     let pad : body - n ≡ padding_of n = omega (arith, body-is) in
-    block-put c.args.exts.now c.args.ev.now c.args.buf.now one c.put_zeros-len.new.buf c.put.new.buf c.head_of.result c.form-form.result n c.put_zeros-len.result
+    block-put c.args.exts.now c.args.ev.now c.args.buf.now one c.put_zeros-len.new.buf c.put.new.buf c.block_header.result c.form-form.result n c.put_zeros-len.result
     c.form-form.ensures row.row_len c.write_to-elements_len.ensures.bound c.requires row.put
     (c.put_zeros-len.ensures.written ∙ ap (λ (k : ℕ). overwritten one (4 + n) (replicate k 0)) pad)
     (omega (arith, c.put_zeros-len.ensures.end, pad))
-    (c.head_of.ensures ∙ ap (λ (k : ℕ). to_be_bytes w16 (form_word c.form-form.result) ++ to_be_bytes w16 (k / 4)) body-is)
+    (c.block_header.ensures ∙ ap (λ (k : ℕ). to_be_bytes w16 (form_word c.form-form.result) ++ to_be_bytes w16 (k / 4)) body-is)
     c.put.ensures.written
 
 pub returns-clause-length : goal.returns-clause-length
