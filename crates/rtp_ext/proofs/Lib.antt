@@ -8,5 +8,6 @@ pub mod ListingLemmas
 mod MappedIdLemmas
 mod FormLemmas
 pub mod WrittenBlockLemmas
-mod WrittenElementsLemmas
+pub mod WrittenElementsLemmas
 mod WrittenValuesLemmas
+mod RawWritingLemmas

@@ -8,14 +8,14 @@ use Rattle.rtp_ext.specs.declared.ext.form.ExtensionsForm.TheVariants.{OneByte, 
 use Rattle.rtp_values.specs.declared.kind.Extension.{Extension}
 use Rattle.rtp_values.specs.declared.kind.Extension.TheVariants.{VideoLayersAllocation}
 use Rattle.rtp_values.specs.declared.value.values.ExtensionValues.{ExtensionValues}
-use Rattle.rtp_ext.specs.Elements.{Element, IsElement}
+use Rattle.rtp_ext.specs.Elements.{Element, IsElement, elements_bytes}
 use Rattle.rtp_ext.specs.ElementWriting.{header_bytes, bytes_at, items_bytes, CanCarry, IsCarried}
 use Rattle.rtp_ext.specs.ExtensionMap.{Slots}
 use Rattle.rtp_ext.specs.ExtensionMap.{items_from}
 use Rattle.rtp_base.specs.Overwriting.{overwritten}
 use Rattle.rtp_values.specs.Spelling.{spelled_data, carried_values, longest}
 use Rattle.rtp_values.specs.Values.{Reads}
-use Rattle.rtp_ext.specs.WrittenBlock.{written_elements, elements_bytes}
+use Rattle.rtp_ext.specs.WrittenBlock.{written_elements}
 use Rattle.rtp_base.proofs.OverwritingLemmas.{overwritten-overwritten, overwritten-before, overwritten-nil, overwritten-front, length-overwritten}
 use Rattle.rtp_values.proofs.ValueLemmas.{longest-fits}
 use Rattle.rtp_ext.proofs.FormLemmas.{Item, elements_of, IsFit}
@@ -50,11 +50,11 @@ items_bytes-written form exts values = items_bytes-elements form values (items_f
 
 -- ---- one element
 
-length-header : (form : ExtensionsForm) (id : ℕ) (bytes : List ℕ) → length (bytes_at form id (Some bytes)) ≡ length (header_bytes form id (length bytes)) + length bytes
+pub length-header : (form : ExtensionsForm) (id : ℕ) (bytes : List ℕ) → length (bytes_at form id (Some bytes)) ≡ length (header_bytes form id (length bytes)) + length bytes
 length-header OneByte id bytes = omega arith
 length-header TwoByte id bytes = omega arith
 
-header-append : (form : ExtensionsForm) (id : ℕ) (bytes : List ℕ) → header_bytes form id (length bytes) ++ bytes ≡ bytes_at form id (Some bytes)
+pub header-append : (form : ExtensionsForm) (id : ℕ) (bytes : List ℕ) → header_bytes form id (length bytes) ++ bytes ≡ bytes_at form id (Some bytes)
 header-append OneByte id bytes = refl
 header-append TwoByte id bytes = refl
 

@@ -1,4 +1,4 @@
--- The elements that are read from what a map writes.
+-- The elements that are read from elements in a row.
 use Rattle.std.proofs.Common.{◌≡◌, ℕ, List, [], ◌∷◌, ◌++◌, replicate, Option, Some, None, refl, sym, ap, ◌∙◌, append_assoc, zero, suc}
 use Rattle.std.specs.Prelude.{IfSome}
 use Rattle.std.specs.List.{AllByRecursion, flat_map, filter_map, cons_option}
@@ -7,13 +7,13 @@ use Rattle.std.proofs.lemmas.List.{append-nil}
 use Rattle.rtp_ext.specs.declared.ext.form.ExtensionsForm.{ExtensionsForm}
 use Rattle.rtp_values.specs.declared.kind.Extension.{Extension}
 use Rattle.rtp_values.specs.declared.value.values.ExtensionValues.{ExtensionValues}
-use Rattle.rtp_ext.specs.Elements.{Element, IsElement, element_bytes, IsPiece, piece_bytes, AreElements, ended}
+use Rattle.rtp_ext.specs.Elements.{Element, IsElement, element_bytes, IsPiece, piece_bytes, AreElements, ended, elements_bytes}
 use Rattle.rtp_values.specs.Spelling.{spelled_data, carried_values}
 use Rattle.rtp_ext.specs.ElementWriting.{IsCarried}
 use Rattle.rtp_ext.specs.ExtensionMap.{Slots}
 use Rattle.rtp_ext.specs.ExtensionMap.{items_from}
 use Rattle.rtp_values.specs.Values.{Reads}
-use Rattle.rtp_ext.specs.WrittenBlock.{written_elements, elements_bytes}
+use Rattle.rtp_ext.specs.WrittenBlock.{written_elements}
 use Rattle.rtp_ext.proofs.FormLemmas.{Item, elements_of}
 
 -- a byte of padding for each zero after the elements
@@ -56,16 +56,20 @@ elements-carried form values (item ∷ items) all =
     element-carried form values id kind None rest here all = all
     element-carried form values id kind (Some bytes) rest here all = (here.0, all)
 
--- and zeros after them are padding
+-- elements in a row and any zeros after them, which are padding, are a body with these elements
+pub AreElements-in_a_row : (form : ExtensionsForm) (elements : List Element) (zeros : ℕ) → AllByRecursion (IsElement form) elements
+    → AreElements form (elements_bytes form elements ++ replicate zeros 0) elements
+AreElements-in_a_row form elements zeros all = record {
+  pieces = pieces_of elements zeros;
+  tail = [];
+  are_pieces = pieces_of-pieces form elements zeros all;
+  is_tail = ended refl;
+  body_is = pieces_of-bytes form elements zeros ∙ sym (append-nil (flat_map (piece_bytes form) (pieces_of elements zeros)));
+  elements_are = pieces_of-elements elements zeros;
+}
+
+-- those that a map writes
 pub AreElements-written : (form : ExtensionsForm) (exts : Slots) (values : ExtensionValues) (zeros : ℕ) → AllByRecursion (IsCarried form values) (items_from 0 exts)
     → AreElements form (elements_bytes form (written_elements exts values) ++ replicate zeros 0) (written_elements exts values)
 AreElements-written form exts values zeros all =
-    let elements = written_elements exts values in
-    record {
-      pieces = pieces_of elements zeros;
-      tail = [];
-      are_pieces = pieces_of-pieces form elements zeros (elements-carried form values (items_from 0 exts) all);
-      is_tail = ended refl;
-      body_is = pieces_of-bytes form elements zeros ∙ sym (append-nil (flat_map (piece_bytes form) (pieces_of elements zeros)));
-      elements_are = pieces_of-elements elements zeros;
-    }
+    AreElements-in_a_row form (written_elements exts values) zeros (elements-carried form values (items_from 0 exts) all)

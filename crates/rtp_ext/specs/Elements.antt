@@ -23,6 +23,10 @@ abbrev pub element_bytes : ExtensionsForm → Element → List ℕ
 element_bytes OneByte element = (element.0 * 16 + (length element.1 - 1)) ∷ element.1
 element_bytes TwoByte element = element.0 ∷ length element.1 ∷ element.1
 
+-- elements in a row
+abbrev pub elements_bytes : ExtensionsForm → List Element → List ℕ
+elements_bytes form elements = flat_map (element_bytes form) elements
+
 -- a piece of a block: an element, or a byte of padding
 abbrev pub IsPiece : ExtensionsForm → Option Element → Type 0
 IsPiece form None = Unit {0}

@@ -5,6 +5,7 @@ pub mod Elements
 pub mod BlockValues
 pub mod Memory
 pub mod WrittenBlock
+pub mod ElementsInARow
 -- What the inside promises itself.
 pub mod MapSlots
 pub mod EqualMaps

@@ -1,7 +1,7 @@
 -- The elements of a block as they are written (RFC 8285, 4.2 and 4.3).
 use Rattle.std.specs.Prelude.{ℕ, ◌+◌, ◌-◌, ◌/◌, ◌%◌, List, ◌++◌, length, replicate, Bool, ◌||◌, ◌==◌, nat_lt, if◌then◌else◌, Option, None}
 use Rattle.std.specs.Option.{option_map}
-use Rattle.std.specs.List.{flat_map, filter_map, list_any}
+use Rattle.std.specs.List.{filter_map, list_any}
 use Rattle.std.specs.Int.{w16, to_be_bytes}
 use Rattle.rtp_ext.specs.Form.{form_word}
 use Rattle.rtp_ext.specs.declared.ext.form.ExtensionsForm.{ExtensionsForm}
@@ -12,7 +12,7 @@ use Rattle.rtp_values.specs.declared.kind.Extension.TheVariants.{AbsoluteSendTim
 use Rattle.rtp_values.specs.contracts.kind.ExtensionPartialEq.TheImpl as kind_eq
 use Rattle.rtp_ext.specs.ExtensionMap.{Slots}
 use Rattle.rtp_ext.specs.ExtensionMap.{items_from}
-use Rattle.rtp_ext.specs.Elements.{Element, element_bytes}
+use Rattle.rtp_ext.specs.Elements.{Element, elements_bytes}
 use Rattle.rtp_values.specs.Spelling.{spelled_data, carried_values}
 
 -- an element for each mapped id by rising id, where its kind has data to write
@@ -29,10 +29,6 @@ abbrev pub form_of : Slots → ExtensionValues → ExtensionsForm
 form_of exts values =
     if list_any (λ item. nat_lt 14 item.0) (items_from 0 exts) || (is_mapped exts VideoLayersAllocation
     || list_any (λ element. length element.1 == 0) (written_elements exts values)) then TwoByte else OneByte
-
--- the elements in a row
-abbrev pub elements_bytes : ExtensionsForm → List Element → List ℕ
-elements_bytes form elements = flat_map (element_bytes form) elements
 
 -- a value where its kind is mapped, and nothing where it isn't
 abbrev pub where_mapped : {A : Type 0} → Slots → Extension → Option A → Option A

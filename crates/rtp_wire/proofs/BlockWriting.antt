@@ -8,12 +8,12 @@ use Rattle.rtp_ext.specs.declared.ext.form.ExtensionsForm.TheVariants.{OneByte, 
 use Rattle.rtp_ext.specs.declared.ext.map.ExtensionMap.{ExtensionMap}
 use Rattle.rtp_values.specs.declared.value.values.ExtensionValues.{ExtensionValues}
 use Rattle.rtp_ext.specs.Form.{form_word}
-use Rattle.rtp_ext.specs.Elements.{AreElements}
+use Rattle.rtp_ext.specs.Elements.{AreElements, elements_bytes}
 use Rattle.rtp_ext.specs.BlockValues.{AreValues}
 use Rattle.rtp_values.specs.Values.{no_values}
 use Rattle.rtp_wire.specs.Block.{IsBlock, IsExtensionPart}
 use Rattle.rtp_base.specs.Overwriting.{overwritten}
-use Rattle.rtp_ext.specs.WrittenBlock.{written_elements, form_of, elements_bytes, padding_of, body_bytes, block_bytes, image_values}
+use Rattle.rtp_ext.specs.WrittenBlock.{written_elements, form_of, padding_of, body_bytes, block_bytes, image_values}
 use Rattle.rtp_base.proofs.OverwritingLemmas.{overwritten-overwritten, overwritten-before, overwritten-front, overwritten-rest, length-overwritten}
 
 pub length-body : (exts : ExtensionMap) (values : ExtensionValues) (n : ℕ) → n ≡ length (elements_bytes (form_of exts values) (written_elements exts values))

@@ -5,20 +5,20 @@ ghost use Rattle.std.specs.Option.{option_map};
 ghost use Rattle.rtp_ext.specs.declared.ext.form.ExtensionsForm.TheVariants.{OneByte, TwoByte};
 ghost use Rattle.rtp_values.specs.declared.kind.Extension.TheVariants.{VideoLayersAllocation};
 ghost use Rattle.rtp_values.specs.contracts.kind.ExtensionPartialEq.TheImpl as kind_eq;
-ghost use Rattle.rtp_ext.specs.Elements.{AreElements};
+ghost use Rattle.rtp_ext.specs.Elements.{AreElements, elements_bytes};
 ghost use Rattle.rtp_ext.specs.ExtensionMap.{mapped_count};
 ghost use Rattle.rtp_ext.specs.ElementWriting.{header_bytes, bytes_at, CanCarry, IsCarried};
 ghost use Rattle.rtp_values.specs.Spelling.{has_no_data, spelled_data};
 ghost use Rattle.rtp_base.specs.Overwriting.{overwritten};
 ghost use Rattle.rtp_ext.specs.BlockValues.{AreValues};
 ghost use Rattle.rtp_values.specs.Values.{no_values};
-ghost use Rattle.rtp_ext.specs.WrittenBlock.{written_elements, form_of, elements_bytes, image_values};
+ghost use Rattle.rtp_ext.specs.WrittenBlock.{written_elements, form_of, image_values};
 
 use super::{ExtensionMap, ExtensionsForm, MAX_ID_ONE_BYTE_FORM};
 use rtp_values::{Extension, ExtensionValues};
 
 // How many bytes stand before an element's data.
-fn header_len(form: ExtensionsForm) -> usize
+pub(super) fn header_len(form: ExtensionsForm) -> usize
     ensures { (id len : ℕ) → result ≡ length (header_bytes form id len) }
 {
     match form {
@@ -28,7 +28,7 @@ fn header_len(form: ExtensionsForm) -> usize
 }
 
 // Writes the header of an element at the offset, by its id and the length of its data.
-fn write_header(buf: &mut [u8], at: usize, form: ExtensionsForm, id: u8, len: u8)
+pub(super) fn write_header(buf: &mut [u8], at: usize, form: ExtensionsForm, id: u8, len: u8)
     requires room { at + length (header_bytes form id len) ≤ length buf.old }
     requires fits { form ≡ OneByte → (id ≤ 14) × (1 ≤ len) × (len ≤ 16) }
     ensures { buf.new ≡ overwritten buf.old at (header_bytes form id len) }

@@ -7,6 +7,7 @@ mod form;
 mod iter;
 mod map;
 mod mapped_ids;
+mod raw_writing;
 mod slot;
 mod slots;
 
@@ -14,3 +15,4 @@ pub use elements::Elements;
 pub use form::{ExtensionsForm, MAX_ID_ONE_BYTE_FORM};
 pub use iter::{Iter, IterByMediaType};
 pub use map::{ExtensionMap, MAX_ID};
+pub use raw_writing::write_elements;

@@ -1,6 +1,7 @@
 use Rattle.std.proofs.Common.{◌≡◌, ap, ◌∙◌, arith, length}
 use Rattle.rtp_ext.specs.declared.ext.form.ExtensionsForm.{ExtensionsForm}
-use Rattle.rtp_ext.specs.WrittenBlock.{written_elements, form_of, elements_bytes}
+use Rattle.rtp_ext.specs.Elements.{elements_bytes}
+use Rattle.rtp_ext.specs.WrittenBlock.{written_elements, form_of}
 use Rattle.rtp_wire.proofs.BlockWriting.{length-block}
 use Rattle.rtp_wire.proofs.header.block.block_len.Goals as goal
 

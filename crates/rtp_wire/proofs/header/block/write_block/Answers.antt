@@ -6,8 +6,8 @@ use Rattle.rtp_values.specs.declared.value.values.ExtensionValues.{ExtensionValu
 use Rattle.std.specs.Int.{w16, to_be_bytes}
 use Rattle.rtp_ext.specs.Form.{form_word}
 use Rattle.rtp_base.specs.Overwriting.{overwritten}
-use Rattle.rtp_ext.specs.Elements.{AreElements}
-use Rattle.rtp_ext.specs.WrittenBlock.{written_elements, form_of, elements_bytes, block_bytes, padding_of}
+use Rattle.rtp_ext.specs.Elements.{AreElements, elements_bytes}
+use Rattle.rtp_ext.specs.WrittenBlock.{written_elements, form_of, block_bytes, padding_of}
 use Rattle.rtp_wire.proofs.BlockWriting.{length-block, block-put, row-put, IsExtensionPart-written}
 use Rattle.rtp_base.proofs.OverwritingLemmas.{length-overwritten}
 use Rattle.rtp_wire.proofs.header.block.write_block.Goals as goal

@@ -2,7 +2,8 @@ use Rattle.std.proofs.Common.{arith, sym, ap, ◌∙◌, ◌≡◌, ◌++◌, le
 use Rattle.std.specs.List.{AllByRecursion}
 use Rattle.rtp_ext.specs.ElementWriting.{items_bytes, IsCarried}
 use Rattle.rtp_ext.specs.ExtensionMap.{items_from}
-use Rattle.rtp_ext.specs.WrittenBlock.{written_elements, elements_bytes}
+use Rattle.rtp_ext.specs.Elements.{elements_bytes}
+use Rattle.rtp_ext.specs.WrittenBlock.{written_elements}
 use Rattle.rtp_ext.proofs.FormLemmas.{all_fit}
 use Rattle.rtp_ext.proofs.WrittenBlockLemmas.{IsUnderWay, IsUnderWay-start, IsUnderWay-next, IsUnderWay-step, IsUnderWay-end, items_bytes-written, length-items}
 use Rattle.rtp_ext.proofs.WrittenElementsLemmas.{AreElements-written}

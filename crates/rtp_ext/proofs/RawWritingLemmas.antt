@@ -1,0 +1,150 @@
+-- Elements that are written one after the other.
+use Rattle.std.proofs.Common.{◌≡◌, ◌↔◌, ℕ, ◌+◌, ◌-◌, ◌≤◌, ◌<◌, Option, Some, None, List, [], ◌∷◌, ◌++◌, length, map, take, drop, replicate, get_or, refl, sym, ap, ◌∙◌, subst, arith, length-append, take_at}
+use Rattle.std.specs.Prelude.{IfSome, IfNone, SomeIff}
+use Rattle.std.specs.List.{AllByRecursion}
+use Rattle.std.proofs.lemmas.List.{drop_more, drop-map, drop_all}
+use Rattle.rtp_ext.specs.declared.ext.form.ExtensionsForm.{ExtensionsForm}
+use Rattle.rtp_ext.specs.declared.ext.form.ExtensionsForm.TheVariants.{OneByte, TwoByte}
+use Rattle.rtp_ext.specs.Elements.{Element, IsElement, AreElements, element_bytes, elements_bytes}
+use Rattle.rtp_ext.specs.ElementWriting.{header_bytes}
+use Rattle.rtp_ext.specs.ElementsInARow.{IsWritable, FitInARow}
+use Rattle.rtp_base.specs.Overwriting.{overwritten}
+use Rattle.rtp_base.proofs.OverwritingLemmas.{overwritten-overwritten, overwritten-nil, overwritten-front, length-overwritten}
+use Rattle.rtp_ext.proofs.WrittenBlockLemmas.{length-header}
+use Rattle.rtp_ext.proofs.WrittenElementsLemmas.{AreElements-in_a_row}
+
+-- data have at most 255 bytes
+pub IsWritable-short : (form : ExtensionsForm) (element : Element) → IsWritable form element → length element.1 ≤ 255
+IsWritable-short OneByte element is = let few = is.1.2 in omega arith
+IsWritable-short TwoByte element is = is.1.2
+
+-- what the header has to say in the one-byte form
+pub IsWritable-header : (form : ExtensionsForm) (element : Element) → IsWritable form element
+    → form ≡ OneByte → (element.0 ≤ 14) × (1 ≤ length element.1) × (length element.1 ≤ 16)
+IsWritable-header OneByte element is one = (is.1.0, is.1.1, is.1.2)
+IsWritable-header TwoByte element is one = cc
+
+all-elements : (form : ExtensionsForm) (elements : List Element) → AllByRecursion (IsWritable form) elements → AllByRecursion (IsElement form) elements
+all-elements form [] all = tt
+all-elements form (element ∷ elements) all = (all.0.1, all-elements form elements all.1)
+
+-- the elements that are left, where there is one more
+pub left-more : {X : Type 0} (f : X → Element) (xs : List X) (i : ℕ) (x : X) → i < length xs
+    → drop i (map f xs) ≡ f (get_or xs i x) ∷ drop (i + 1) (map f xs)
+left-more f xs i x here =
+    drop-map f i xs ∙ (ap (map f) (drop_more xs i x here) ∙ ap (λ (es : List Element). f (get_or xs i x) ∷ es) (sym (drop-map f (i + 1) xs)))
+
+pub left-none : {X : Type 0} (f : X → Element) (xs : List X) (i : ℕ) → length xs ≤ i → drop i (map f xs) ≡ []
+left-none f xs i past = drop-map f i xs ∙ ap (map f) (drop_all i xs past)
+
+-- ---- the room
+
+-- what is left of the room, where an element takes some of it
+abbrev pub IsRoomAfter : ExtensionsForm → Element → ℕ → Option ℕ → Type 0
+IsRoomAfter form element room left =
+    IfSome left (λ rest. IsWritable form element × (rest + length (element_bytes form element) ≡ room))
+    × IfNone left (IsWritable form element → length (element_bytes form element) ≤ room → ⊥)
+
+pub IsRoomAfter-taken : (form : ExtensionsForm) (id : ℕ) (bytes : List ℕ) (room header : ℕ) (left : Option ℕ) → IsWritable form (id, bytes)
+    → header ≡ length (header_bytes form id (length bytes)) → SomeIff left (header + length bytes ≤ room) (room - (header + length bytes))
+    → IsRoomAfter form (id, bytes) room left
+IsRoomAfter-taken form id bytes room header None writable is none =
+    (tt, λ again fits. none (omega (arith, is, length-header form id bytes)))
+IsRoomAfter-taken form id bytes room header (Some rest) writable is some =
+    ((writable, omega (arith, is, length-header form id bytes, some.0, some.1)), tt)
+
+
+pub FitInARow-more : (form : ExtensionsForm) (left more : List Element) (element : Element) (room rest : ℕ) → left ≡ element ∷ more
+    → IsWritable form element → rest + length (element_bytes form element) ≡ room → FitInARow form more rest ↔ FitInARow form left room
+FitInARow-more form left more element room rest split writable is =
+    let long : length (elements_bytes form left) ≡ length (element_bytes form element) + length (elements_bytes form more) =
+    ap (λ es. length (elements_bytes form es)) split ∙ length-append (element_bytes form element) (elements_bytes form more) in (
+      λ fit. record {
+        writable = subst (AllByRecursion (IsWritable form)) (sym split) (writable, fit.writable);
+        bytes_fit = omega (arith, fit.bytes_fit, long);
+      },
+      λ fit. record {
+        writable = (subst (AllByRecursion (IsWritable form)) split fit.writable).1;
+        bytes_fit = omega (arith, fit.bytes_fit, long);
+      },
+    )
+
+pub FitInARow-not : (form : ExtensionsForm) (left more : List Element) (element : Element) (room : ℕ) → left ≡ element ∷ more
+    → (IsWritable form element → length (element_bytes form element) ≤ room → ⊥) → FitInARow form left room → ⊥
+FitInARow-not form left more element room split none fit =
+    let long : length (elements_bytes form left) ≡ length (element_bytes form element) + length (elements_bytes form more) =
+    ap (λ es. length (elements_bytes form es)) split ∙ length-append (element_bytes form element) (elements_bytes form more) in
+    none (subst (AllByRecursion (IsWritable form)) split fit.writable).0 (omega (arith, fit.bytes_fit, long))
+
+pub FitInARow-end : (form : ExtensionsForm) (left : List Element) (room : ℕ) → left ≡ [] → FitInARow form left room
+FitInARow-end form left room none = record {
+  writable = subst (AllByRecursion (IsWritable form)) (sym none) tt;
+  bytes_fit = rw none (omega arith);
+}
+
+-- ---- the bytes
+
+-- the elements before the offset are written, and with those that are left they are all
+pub record AreUnderWay (form : ExtensionsForm) (old buf : List ℕ) (elements left : List Element) (at : ℕ) : Type 0 where
+  pub makes : overwritten buf at (elements_bytes form left) ≡ overwritten old 0 (elements_bytes form elements)
+  pub ends : at + length (elements_bytes form left) ≡ length (elements_bytes form elements)
+  pub long : length buf ≡ length old
+  pub fit : FitInARow form elements (length old)
+  pub writable : AllByRecursion (IsWritable form) left
+
+pub AreUnderWay-start : (form : ExtensionsForm) (old : List ℕ) (elements : List Element) → FitInARow form elements (length old)
+    → AreUnderWay form old old elements elements 0
+AreUnderWay-start form old elements fit = record { makes = refl; ends = omega arith; long = refl; fit = fit; writable = fit.writable }
+
+-- there is room for the next one
+pub AreUnderWay-room : (form : ExtensionsForm) (old buf : List ℕ) (elements left more : List Element) (element : Element) (at : ℕ)
+    → AreUnderWay form old buf elements left at → left ≡ element ∷ more
+    → (at + length (element_bytes form element) ≤ length buf) × IsWritable form element
+AreUnderWay-room form old buf elements left more element at before split =
+    let long : length (elements_bytes form left) ≡ length (element_bytes form element) + length (elements_bytes form more) =
+    ap (λ es. length (elements_bytes form es)) split ∙ length-append (element_bytes form element) (elements_bytes form more) in (
+      omega (arith, before.ends, before.long, before.fit.bytes_fit, long),
+      (subst (AllByRecursion (IsWritable form)) split before.writable).0,
+    )
+
+-- the next one is written
+pub AreUnderWay-step : (form : ExtensionsForm) (old buf new : List ℕ) (elements left more : List Element) (element : Element) (at end : ℕ)
+    → AreUnderWay form old buf elements left at → left ≡ element ∷ more → new ≡ overwritten buf at (element_bytes form element)
+    → end ≡ at + length (element_bytes form element) → AreUnderWay form old new elements more end
+AreUnderWay-step form old buf new elements left more element at end before split written end-is =
+    let xs = element_bytes form element in
+    let ys = elements_bytes form more in
+    let bytes : elements_bytes form left ≡ xs ++ ys = ap (elements_bytes form) split in
+    let sum = length-append xs ys in
+    let fits : at + length (xs ++ ys) ≤ length buf = omega (arith, before.ends, before.long, before.fit.bytes_fit, ap length bytes) in
+    record {
+      makes = ap (λ (b : List ℕ). overwritten b end ys) written
+          ∙ (overwritten-overwritten buf xs ys at end end-is (omega (arith, sum))
+          ∙ (ap (overwritten buf at) (sym bytes) ∙ before.makes));
+      ends = omega (arith, before.ends, ap length bytes, sum);
+      long = ap length written ∙ (length-overwritten buf xs at (omega (arith, sum)) ∙ before.long);
+      fit = before.fit;
+      writable = (subst (AllByRecursion (IsWritable form)) split before.writable).1;
+    }
+
+-- all are written
+pub record AreInARow (form : ExtensionsForm) (old buf : List ℕ) (elements : List Element) (len : ℕ) : Type 0 where
+  pub written : buf ≡ elements_bytes form elements ++ drop len old
+  pub length_is : len ≡ length (elements_bytes form elements)
+  pub read : (zeros : ℕ) → AreElements form (take len buf ++ replicate zeros 0) elements
+
+pub AreUnderWay-end : (form : ExtensionsForm) (old buf : List ℕ) (elements left : List Element) (at : ℕ)
+    → AreUnderWay form old buf elements left at → left ≡ [] → AreInARow form old buf elements at
+AreUnderWay-end form old buf elements left at before none =
+    let row = elements_bytes form elements in
+    let bytes : elements_bytes form left ≡ [] = ap (elements_bytes form) none in
+    let end : at ≡ length row = omega (arith, before.ends, ap length bytes) in
+    let whole : buf ≡ row ++ drop (length row) old =
+    sym (overwritten-nil buf at) ∙ (ap (overwritten buf at) (sym bytes) ∙ (before.makes ∙ overwritten-front old row)) in
+    let front : take at buf ≡ row = ap (take at) whole ∙ take_at row (drop (length row) old) at (sym end) in
+    record {
+      written = whole ∙ ap (λ (k : ℕ). row ++ drop k old) (sym end);
+      length_is = end;
+      read = λ zeros. subst (λ (b : List ℕ). AreElements form (b ++ replicate zeros 0) elements) (sym front)
+          (AreElements-in_a_row form elements zeros (all-elements form elements before.fit.writable));
+    }
