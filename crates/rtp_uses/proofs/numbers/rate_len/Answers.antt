@@ -1,4 +1,4 @@
-use Rattle.std.proofs.Common.{◌≡◌, ℕ, ◌+◌, ◌/◌, ◌%◌, ◌<◌, ◌≤◌, inl, [], ◌∷◌, length, refl, arith}
+use Rattle.std.proofs.Common.{ℕ, ◌+◌, ◌/◌, ◌%◌, ◌<◌, ◌≤◌, inl, [], ◌∷◌, length, refl, arith}
 use Rattle.rtp_wire.specs.Leb.{IsLeb, shortest_of}
 use Rattle.rtp_uses.proofs.numbers.rate_len.Goals as goal
 
