@@ -6,6 +6,7 @@ ghost use Rattle.rtp_uses.specs.Equality.{AreSameValues, AreSameHeaders};
 use rtp_base::{
     Direction, Frequency, Mid, MidRid, Pt, Rid, SeqNo, SessionId, Ssrc, TwccClusterId, TwccSeq,
 };
+use rtp_report::{InputError, RunEnd};
 use rtp_wire::vla::VideoLayersAllocation;
 use rtp_wire::{
     AbsCaptureTime, Extension, ExtensionValues, ExtensionsForm, RtpHeader, Verdict,
@@ -129,6 +130,20 @@ pub fn is_same_verdict(left: Verdict, right: Verdict) -> bool
     ensures { IsTrue result ↔ (left ≡ right) }
 {
     left == right
+}
+
+/// Each end of a run equals itself alone.
+pub fn is_same_end(a: RunEnd, b: RunEnd) -> bool
+    ensures { IsTrue result ↔ (a ≡ b) }
+{
+    a == b
+}
+
+/// Errors of the input are equal exactly when both are of memory, or name the same line.
+pub fn is_same_input_error(a: InputError, b: InputError) -> bool
+    ensures { IsTrue result ↔ (a ≡ b) }
+{
+    a == b
 }
 
 /// Allocations are equal exactly when the index and all streams, layers, rates and resolutions are.

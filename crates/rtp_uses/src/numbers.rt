@@ -1,11 +1,11 @@
 //! Constants and defaults, and the order of numbers and ids.
 
-ghost use Rattle.std.specs.Prelude.{◌≡◌, ◌-◌, ◌^◌, ◌<◌, ◌↔◌, IsTrue};
+ghost use Rattle.std.specs.Prelude.{◌≡◌, ◌-◌, ◌^◌, ◌<◌, ◌≤◌, ◌↔◌, IsTrue};
 ghost use Rattle.std.specs.Ordering.{nat_cmp};
 ghost use Rattle.std.specs.Cmp.Lexicographic.{slice_cmp};
 
 use rtp_base::{Mid, Pt, SeqNo, SessionId, Ssrc, TwccClusterId, TwccSeq};
-use rtp_wire::{MAX_ID, MAX_ID_ONE_BYTE_FORM};
+use rtp_wire::{MAX_ID, MAX_ID_ONE_BYTE_FORM, vla};
 use std::cmp::Ordering;
 
 /// The greatest extended sequence number is 2^64 - 1.
@@ -83,4 +83,13 @@ pub fn order_of_mids(a: &Mid, b: &Mid) -> Ordering
     ensures { result ≡ slice_cmp nat_cmp a.now b.now }
 {
     a.cmp(b)
+}
+
+/// A rate of 14 bits is written in at most two bytes, since no spelling of it is shorter than the
+/// one that is written.
+pub fn rate_len(value: u64, buf: &mut [u8; 9]) -> usize
+    requires { value < 16384 }
+    ensures { result ≤ 2 }
+{
+    vla::encode_leb_u63(value, buf)
 }
