@@ -1,4 +1,4 @@
-//! Tests of the crates below: against vectors that were made without them, of the proved callers, and
+//! Tests of the lower crates: against vectors that were made without them, of the proved callers, and
 //! of what the program prints.
 #![tactic(auto)]
 
@@ -16,6 +16,8 @@ mod checks;
 mod directions;
 #[cfg(test)]
 mod elements;
+#[cfg(test)]
+mod elements_written;
 #[cfg(test)]
 mod extensions;
 #[cfg(test)]

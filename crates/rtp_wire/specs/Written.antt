@@ -1,5 +1,5 @@
 -- The RTP header as it is written (RFC 3550, 5.1), and the header that the written bytes are read as.
-use Rattle.std.specs.Prelude.{ℕ, ◌+◌, ◌-◌, ◌*◌, List, [], ◌∷◌, ◌++◌, length, take, replicate, Bool, true, false}
+use Rattle.std.specs.Prelude.{ℕ, ◌+◌, ◌-◌, ◌*◌, ◌<◌, List, [], ◌∷◌, ◌++◌, length, take, replicate, Bool, true, false}
 use Rattle.std.specs.List.{flat_map}
 use Rattle.std.specs.Int.{w16, w32, to_be_bytes}
 use Rattle.rtp_ext.specs.declared.ext.map.ExtensionMap.{ExtensionMap}
@@ -42,3 +42,9 @@ image_of exts h = record h {
   ext_vals = carried_image exts h.has_extension h.ext_vals;
   header_len = length (wire_bytes exts h);
 }
+
+-- the header can't be written to a buffer of this room: its payload type has more than seven bits, it counts more than fifteen sources, or the room is short
+pub data CannotBeWritten (exts : ExtensionMap) (h : RtpHeader) (room : ℕ) : Type 0 where
+  large_payload_type : 127 < h.payload_type → CannotBeWritten exts h room
+  many_sources : 15 < h.csrc_count → CannotBeWritten exts h room
+  short_room : room < length (wire_bytes exts h) → CannotBeWritten exts h room

@@ -1,6 +1,6 @@
 //! From a header to bytes.
 
-ghost use Rattle.std.specs.Prelude.{◌≡◌, ℕ, ◌+◌, ◌-◌, ◌*◌, ◌%◌, ◌^◌, ◌<◌, ◌≤◌, ◌++◌, List, length, drop, slice_index};
+ghost use Rattle.std.specs.Prelude.{◌≡◌, ℕ, ◌+◌, ◌-◌, ◌*◌, ◌%◌, ◌^◌, ◌<◌, ◌≤◌, ◌↔◌, ◌++◌, List, length, drop, slice_index, IsNone, IfSome, IfNone};
 ghost use Rattle.std.specs.List.{flat_map};
 ghost use Rattle.std.specs.Int.{w32, to_be_bytes};
 ghost use Rattle.rtp_ext.specs.ExtensionMap.{mapped_count, HasNoIdAbove};
@@ -9,7 +9,7 @@ ghost use Rattle.rtp_wire.specs.Block.{IsExtensionPart};
 ghost use Rattle.rtp_base.specs.Flag.{bit};
 ghost use Rattle.rtp_wire.specs.Header.{IsFirstByte, IsWire};
 ghost use Rattle.rtp_base.specs.Overwriting.{overwritten};
-ghost use Rattle.rtp_wire.specs.Written.{fixed_bytes, extension_bytes, wire_bytes, carried_image, image_of};
+ghost use Rattle.rtp_wire.specs.Written.{fixed_bytes, extension_bytes, wire_bytes, carried_image, image_of, CannotBeWritten};
 
 use super::RtpHeader;
 use super::block::{block_len, write_block};
@@ -147,5 +147,29 @@ impl RtpHeader {
         let end = put(buf, 0, &self.fixed_bytes());
         let end = put_sources(buf, end, sources);
         self.put_extension(buf, end, exts)
+    }
+
+    /// Writes the header as [`write_to`](Self::write_to) does, whatever it holds and however long the
+    /// buffer is. `None` where the payload type is above 127, there are more than 15 contributing
+    /// sources, or the buffer has fewer than [`wire_len`](Self::wire_len) bytes, and then nothing is
+    /// written.
+    pub fn try_write_to(&self, buf: &mut [u8], exts: &ExtensionMap) -> Option<usize>
+        ensures refused { IsNone result ↔ CannotBeWritten exts.now self.now (length buf.old) }
+        ensures unchanged { IfNone result (buf.new ≡ buf.old) }
+        ensures written { IfSome result (λ len.
+            buf.new ≡ wire_bytes exts.now self.now ++ drop len buf.old) }
+        ensures length { IfSome result (λ len. len ≡ length (wire_bytes exts.now self.now)) }
+
+        // What was written, followed by anything, is read as the header's image.
+        ensures read_back { IfSome result (λ _. (rest : List ℕ) →
+            IsWire exts.now (wire_bytes exts.now self.now ++ rest) (image_of exts.now self.now)) }
+    {
+        if self.payload_type.get() > 127 || self.csrc_count > 15 {
+            return None;
+        }
+        if buf.len() < self.wire_len(exts) {
+            return None;
+        }
+        Some(self.write_to(buf, exts))
     }
 }
