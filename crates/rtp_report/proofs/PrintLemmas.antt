@@ -67,7 +67,7 @@ pub record Printed (exts : ExtensionMap) (datagrams : List (List ℕ)) (done : �
 verdicts_of : (exts : ExtensionMap) (datagrams : List (List ℕ)) (verdicts : List Verdict) (receivers : ReceiverStates) → SoFarEach exts datagrams verdicts receivers → AreVerdictsBySource exts datagrams verdicts
 verdicts_of exts datagrams verdicts receivers so_far = record { packet_ids = so_far.packet_ids; are_packet_ids = so_far.are_packet_ids; runs = so_far.runs }
 
-pub Printed-none : (exts : ExtensionMap) (datagrams : List (List ℕ)) (old : Option (List ℕ)) (text : List ℕ) (receivers : ReceiverStates) → Appends old old [] → text ≡ [] → receivers ≡ []
+pub Printed-none : (exts : ExtensionMap) (datagrams : List (List ℕ)) (old : Option (List ℕ)) (text : List ℕ) (receivers : ReceiverStates) → Appends old old [] → text ≡ [] → receivers ≡ record { rollover_count = 0; by_source = [] }
     → Printed exts datagrams 0 old old text receivers
 Printed-none exts datagrams old text receivers same empty none =
     let so_far : SoFarEach exts [] [] receivers = SoFarEach-none exts [] receivers refl none in
@@ -86,8 +86,8 @@ Printed-none exts datagrams old text receivers same empty none =
 -- the lines of one datagram more are put after the text
 pub Printed-more : (exts : ExtensionMap) (datagrams : List (List ℕ)) (done : ℕ) (old new : Option (List ℕ)) (text text' : List ℕ) (before after : ReceiverStates) (header : Option RtpHeader) (verdict : Verdict)
     → Printed exts datagrams done old new text before → done < length datagrams → IsHeader exts (get_or datagrams done []) header → (header ≡ None → NotAHeader (get_or datagrams done []))
-    → ((taken : ℕ → Numbers) → HoldsEach before taken → IsVerdict (numbers_beside taken (option_map packet_id_of header)) (option_map packet_id_of header) verdict)
-    → ((taken : ℕ → Numbers) → HoldsEach before taken → HoldsEach after (taken_after_each taken (option_map packet_id_of header) verdict))
+    → ((taken : ℕ → Numbers) → HoldsEach before 0 taken → IsVerdict 0 (numbers_beside taken (option_map packet_id_of header)) (option_map packet_id_of header) verdict)
+    → ((taken : ℕ → Numbers) → HoldsEach before 0 taken → HoldsEach after 0 (taken_after_each taken (option_map packet_id_of header) verdict))
     → text' ≡ text ++ packet_lines (done + 1) header verdict → Printed exts datagrams (done + 1) old new text' after
 Printed-more exts datagrams done old new text text' before after header verdict p below is refused judged holds grown =
     let report : Report = (header, verdict) in

@@ -30,11 +30,11 @@ fn judged(
 ) -> Result<(Option<RtpHeader>, Verdict), AllocError>
     ensures header { IfOk result (λ report. IsHeader exts.now datagram.now report.0) }
     ensures cause { IfOk result (λ report. report.0 ≡ None → NotAHeader datagram.now) }
-    ensures verdict { (taken : ℕ → Numbers) → HoldsEach receivers.old taken →
-        IfOk result (λ report. IsVerdict (numbers_beside taken (option_map packet_id_of report.0))
-        (option_map packet_id_of report.0) report.1) }
-    ensures after { (taken : ℕ → Numbers) → HoldsEach receivers.old taken →
-        IfOk result (λ report. HoldsEach receivers.new
+    ensures verdict { (taken : ℕ → Numbers) → HoldsEach receivers.old 0 taken →
+        IfOk result (λ report. IsVerdict 0
+        (numbers_beside taken (option_map packet_id_of report.0)) (option_map packet_id_of report.0) report.1) }
+    ensures after { (taken : ℕ → Numbers) → HoldsEach receivers.old 0 taken →
+        IfOk result (λ report. HoldsEach receivers.new 0
         (taken_after_each taken (option_map packet_id_of report.0) report.1)) }
 {
     let header = RtpHeader::parse(alloc, datagram, exts)?;

@@ -1,43 +1,45 @@
 -- The verdicts on some headers, and on one header more; and on the first packet of a source.
-use Rattle.std.proofs.Common.{◌≡◌, ℕ, ◌%◌, ◌<◌, false, List, [], ◌∷◌, ◌++◌, sym, refl, ap, ◌∙◌, inl, inr, arith}
+use Rattle.std.proofs.Common.{◌≡◌, ℕ, ◌+◌, ◌*◌, ◌%◌, ◌^◌, ◌<◌, false, List, [], ◌∷◌, ◌++◌, sym, refl, ap, ◌∙◌, subst, inl, inr, arith}
 use Rattle.std.specs.Prelude.{Option, Some, None}
-use Rattle.std.proofs.lemmas.Bool.{false≢true}
-use Rattle.rtp_base.specs.Window.{Numbers, WindowState, IsGreatest}
+use Rattle.std.proofs.lemmas.Bool.{false≢true, ne_eqb}
+use Rattle.rtp_base.specs.Window.{Numbers, including}
+use Rattle.rtp_wire.specs.declared.receive.state.ReceiverState.{ReceiverState}
 use Rattle.rtp_wire.specs.declared.receive.verdict.Verdict.{Verdict}
 use Rattle.rtp_wire.specs.declared.receive.verdict.Verdict.TheVariants.{Unreadable, Taken, Refused}
-use Rattle.rtp_wire.specs.Widening.{Extends}
-use Rattle.rtp_wire.specs.Receiver.{Holds, IsNothing, IsHighest, IsNumberOf, IsJudged, taken_after}
+use Rattle.rtp_wire.specs.Receiver.{Holds, IsNothing, IsHighest, ExtendsFrom, IsNumberOf, IsFresh, IsJudged, taken_after}
 use Rattle.rtp_wire.specs.Verdicts.{PacketId, taken_by, IsVerdict, IsRun}
+use Rattle.rtp_wire.proofs.TrueNumberLemmas.{one_highest, greatest_of_none}
+use Rattle.rtp_wire.proofs.WideningLemmas.{only_near, Extends-within_half}
 use Rattle.rtp_wire.proofs.VerdictLemmas.{Holds-same, taken_by-push, IsRun-more}
 
 -- ---- one header more
 
 -- the verdicts so far are those of a run, and the receiver holds what they take
-pub record AreSoFar (packet_ids : List (Option PacketId)) (verdicts : List Verdict) (receiver : Option WindowState) : Type 0 where
-  pub run : IsRun packet_ids verdicts
-  pub holds : Holds receiver (taken_by verdicts)
+pub record AreSoFar (packet_ids : List (Option PacketId)) (verdicts : List Verdict) (receiver : ReceiverState) : Type 0 where
+  pub run : IsRun 0 packet_ids verdicts
+  pub holds : Holds receiver 0 (taken_by verdicts)
 
-pub AreSoFar-none : (receiver : Option WindowState) → Holds receiver (taken_by []) → AreSoFar [] [] receiver
+pub AreSoFar-none : (receiver : ReceiverState) → Holds receiver 0 (taken_by []) → AreSoFar [] [] receiver
 AreSoFar-none receiver holds = record { run = record { as_many = refl; each = λ i below. absurd (omega arith) }; holds = holds }
 
-pub AreSoFar-more : (packet_ids : List (Option PacketId)) (verdicts : List Verdict) (old new : Option WindowState) (packet_id : Option PacketId) (verdict : Verdict) → AreSoFar packet_ids verdicts old
-    → IsVerdict (taken_by verdicts) packet_id verdict → Holds new (taken_after (taken_by verdicts) verdict) → AreSoFar (packet_ids ++ packet_id ∷ []) (verdicts ++ verdict ∷ []) new
+pub AreSoFar-more : (packet_ids : List (Option PacketId)) (verdicts : List Verdict) (old new : ReceiverState) (packet_id : Option PacketId) (verdict : Verdict) → AreSoFar packet_ids verdicts old
+    → IsVerdict 0 (taken_by verdicts) packet_id verdict → Holds new 0 (taken_after (taken_by verdicts) verdict) → AreSoFar (packet_ids ++ packet_id ∷ []) (verdicts ++ verdict ∷ []) new
 AreSoFar-more packet_ids verdicts old new packet_id verdict so_far is holds = record {
-  run = IsRun-more packet_ids verdicts packet_id verdict so_far.run is;
-  holds = Holds-same new (taken_after (taken_by verdicts) verdict) (taken_by (verdicts ++ verdict ∷ [])) (taken_by-push verdicts verdict) holds;
+  run = IsRun-more 0 packet_ids verdicts packet_id verdict so_far.run is;
+  holds = Holds-same new 0 (taken_after (taken_by verdicts) verdict) (taken_by (verdicts ++ verdict ∷ [])) (taken_by-push verdicts verdict) holds;
 }
 
 -- ---- the first packet of a source
 
-number_of_none : (taken : Numbers) (highest : Option ℕ) (low number : ℕ) → IsNothing taken → IsHighest taken highest → Extends 16 highest low number → number ≡ low % 65536
-number_of_none taken None low number none is near = near
-number_of_none taken (Some highest) low number none is near = absurd (false≢true (sym (none highest) ∙ is.member))
+number_of_none : (count : ℕ) (taken : Numbers) (highest : Option ℕ) (low number : ℕ) → IsNothing taken → IsHighest taken highest → ExtendsFrom count highest low number → number ≡ 65536 * count + low % 65536
+number_of_none count taken None low number none is near = near
+number_of_none count taken (Some highest) low number none is near = absurd (false≢true (sym (none highest) ∙ is.member))
 
--- where nothing is taken yet, a packet is taken by the number in its header
-pub first_taken : (taken : Numbers) (low : ℕ) (verdict : Verdict) → IsNothing taken → (number : ℕ) × IsNumberOf taken low number × IsJudged taken number verdict → verdict ≡ Taken (low % 65536)
-first_taken taken low (Taken n) none judged = ap Taken (judged.2.0 ∙ number_of_none taken judged.1.0 low judged.0 none judged.1.1 judged.1.2)
-first_taken taken low Refused none judged = absurd (judged.2 (inl none))
-first_taken taken low Unreadable none judged = absurd judged.2
+-- where nothing is taken yet, a packet is taken by the number in its header and the rollover count
+pub first_taken : (count : ℕ) (taken : Numbers) (low : ℕ) (verdict : Verdict) → IsNothing taken → (number : ℕ) × IsNumberOf count taken low number × IsJudged taken number verdict → verdict ≡ Taken (65536 * count + low % 65536)
+first_taken count taken low (Taken n) none judged = ap Taken (judged.2.0 ∙ number_of_none count taken judged.1.0 low judged.0 none judged.1.1 judged.1.2)
+first_taken count taken low Refused none judged = absurd (judged.2 (inl none))
+first_taken count taken low Unreadable none judged = absurd judged.2
 
 -- no number at all
 pub no_number : Numbers
@@ -47,14 +49,28 @@ pub IsNothing-no_number : IsNothing no_number
 unfolding no_number
 IsNothing-no_number n = refl
 
--- a number that nothing is taken before, and one above the highest, is taken
-pub judged_first : (numbers : Numbers) (number : ℕ) (verdict : Verdict) → IsNothing numbers → IsJudged numbers number verdict → verdict ≡ Taken number
-judged_first numbers number (Taken n) none judged = ap Taken judged.0
-judged_first numbers number Refused none judged = absurd (judged (inl none))
-judged_first numbers number Unreadable none judged = absurd judged
+-- a number that may be taken is taken
+pub judged_fresh : (numbers : Numbers) (number : ℕ) (verdict : Verdict) → IsFresh numbers number → IsJudged numbers number verdict → verdict ≡ Taken number
+judged_fresh numbers number (Taken n) fresh judged = ap Taken judged.0
+judged_fresh numbers number Refused fresh judged = absurd (judged fresh)
+judged_fresh numbers number Unreadable fresh judged = absurd judged
 
-pub judged_above : (numbers : Numbers) (highest number : ℕ) (verdict : Verdict) → IsGreatest numbers highest → highest < number → IsJudged numbers number verdict → verdict ≡ Taken number
-judged_above numbers highest number (Taken n) top above judged = ap Taken judged.0
-judged_above numbers highest number Refused top above judged =
-    absurd (judged (inr (record { greatest = highest; is_greatest = top; above_or_new = inl above })))
-judged_above numbers highest number Unreadable top above judged = absurd judged
+-- the number one below the only one that is taken may be taken
+pub fresh_before : (number : ℕ) → IsFresh (including no_number (number + 1)) number
+unfolding no_number
+fresh_before number = inr (record {
+  greatest = number + 1;
+  is_greatest = greatest_of_none no_number (number + 1) IsNothing-no_number;
+  above_or_new = inr (omega arith, ne_eqb number (number + 1) (λ same. absurd (omega (arith, same))));
+})
+
+-- the packet that was sent before the only one that is taken is taken by the number before that one's
+pub before_taken : (number low : ℕ) (verdict : Verdict) → number + 1 < 2 ^ 64 → number % 65536 ≡ low % 65536
+    → (n : ℕ) × IsNumberOf 1 (including no_number (number + 1)) low n × IsJudged (including no_number (number + 1)) n verdict → verdict ≡ Taken number
+before_taken number low verdict fits ends judged =
+    let taken = including no_number (number + 1) in
+    let top = greatest_of_none no_number (number + 1) IsNothing-no_number in
+    let near = subst (λ h. ExtendsFrom 1 h low judged.0) (one_highest taken judged.1.0 (Some (number + 1)) judged.1.1 top) judged.1.2 in
+    let here = only_near 16 (Some (number + 1)) low judged.0 number (omega arith) (omega arith) fits near
+    (Extends-within_half 16 (Some (number + 1)) low number (omega (arith, fits), ends, omega arith)) in
+    judged_fresh taken number verdict (fresh_before number) (subst (λ n. IsJudged taken n verdict) here judged.2)

@@ -1,9 +1,9 @@
 //! Receivers of packets, authenticated and not.
 
-ghost use Rattle.std.specs.Prelude.{◌≡◌, ◌≢◌, ◌+◌, ◌^◌, ◌<◌, ◌≤◌, ◌⊎◌, ◌%◌, ℕ, length, true, false, None, IsSome, IfSome, IfNone, IsOk, IfOk, List};
+ghost use Rattle.std.specs.Prelude.{◌≡◌, ◌≢◌, ◌+◌, ◌^◌, ◌<◌, ◌≤◌, ◌⊎◌, ◌*◌, ◌%◌, ℕ, length, true, false, None, IsSome, IfSome, IfNone, IsOk, IfOk, OnErr, List};
 ghost use Rattle.rtp_base.specs.Window.{Numbers, IsGreatest, including};
-ghost use Rattle.rtp_wire.specs.Receiver.{Holds, IsNumberOf, IsFresh};
-ghost use Rattle.rtp_wire.specs.Receivers.{receiver_of};
+ghost use Rattle.rtp_wire.specs.Receiver.{Holds, IsNumberOf, IsFresh, IsJudged, taken_after};
+ghost use Rattle.rtp_wire.specs.Receivers.{receiver_of, state_of};
 ghost use Rattle.rtp_wire.specs.TrueNumbers.{IsTrueNumber, AreTrue, AreTrueVerdicts};
 ghost use Rattle.rtp_wire.specs.Sending.{packet_ids_of};
 ghost use Rattle.rtp_wire.specs.declared.receive.verdict.Verdict.TheVariants.{Taken};
@@ -20,21 +20,28 @@ pub fn receive_authentic<F: FnOnce(SeqNo) -> bool>(
     is_authentic: F,
 ) -> Option<SeqNo>
     requires { F.IsAlwaysCallable is_authentic }
-    ensures number { (taken : Numbers) → Holds receiver.old taken → IfSome result (λ number.
-        IsNumberOf taken header.now.sequence_number number × IsFresh taken number) }
+    ensures number { (count : ℕ) → (taken : Numbers) →
+        Holds receiver.old count taken → IfSome result (λ number.
+        IsNumberOf count taken header.now.sequence_number number × IsFresh taken number) }
     ensures authentic { IfSome result (λ number. F.post is_authentic number true) }
-    ensures recorded { (taken : Numbers) → Holds receiver.old taken → IfSome result (λ number.
-        Holds receiver.new (including taken number)) }
-    ensures cause { (taken : Numbers) → Holds receiver.old taken → IfNone result (
-        (number : ℕ) × IsNumberOf taken header.now.sequence_number number
+    ensures recorded { (count : ℕ) → (taken : Numbers) →
+        Holds receiver.old count taken → IfSome result (λ number.
+        Holds receiver.new count (including taken number)) }
+    ensures cause { (count : ℕ) → (taken : Numbers) →
+        Holds receiver.old count taken → IfNone result (
+        (number : ℕ) × IsNumberOf count taken header.now.sequence_number number
         × ((IsFresh taken number → ⊥) ⊎ F.post is_authentic number false)) }
-    ensures same { (taken : Numbers) → Holds receiver.old taken → IfNone result (
-        Holds receiver.new taken) }
+    ensures same { (count : ℕ) → (taken : Numbers) →
+        Holds receiver.old count taken → IfNone result (
+        Holds receiver.new count taken) }
 
-    // The number is the one that the sender gave the packet, where that is below 65,536 for the
-    // first packet, and less than 32,768 away from the highest one before it for each later one.
-    ensures true_number { (numbers : Numbers) → (number : ℕ) → Holds receiver.old numbers →
-        IsTrueNumber numbers header.now.sequence_number number → IfSome result (λ n. n ≡ number) }
+    // The number is the one that the sender gave the packet, where that has the rollover count at
+    // which the receiver starts for the first packet, and is less than 32,768 away from the highest
+    // one before it for each later one.
+    ensures true_number { (count : ℕ) → (numbers : Numbers) → (number : ℕ) →
+        Holds receiver.old count numbers →
+        IsTrueNumber count numbers header.now.sequence_number number →
+        IfSome result (λ n. n ≡ number) }
 {
     let number = receiver.number_of(header);
     if !receiver.accepts(number) || !is_authentic(number) {
@@ -49,8 +56,8 @@ pub fn receive_authentic<F: FnOnce(SeqNo) -> bool>(
 /// first is below 65,536 and each later one is less than 32,768 away from the highest one before it
 /// (RFC 3711, 3.3.1).
 pub fn receive_each(alloc: Global, headers: &[RtpHeader]) -> Result<Vec<Verdict>, AllocError>
-    ensures { (numbers : List ℕ) → AreTrue (packet_ids_of headers.now) numbers → IfOk result (λ found.
-        AreTrueVerdicts (packet_ids_of headers.now) numbers found.items) }
+    ensures { (numbers : List ℕ) → AreTrue 0 (packet_ids_of headers.now) numbers →
+        IfOk result (λ found. AreTrueVerdicts (packet_ids_of headers.now) numbers found.items) }
 {
     let mut verdicts = Vec::with_capacity(alloc, headers.len())?;
     let mut receiver = Receiver::new();
@@ -79,15 +86,29 @@ pub fn receive_first_of_two(
 
 /// The verdict on a packet of an unauthenticated transport whose number of sources is limited:
 /// `None`, and nothing changes, where the packet's source is new and there are as many sources as
-/// the limit.
+/// the limit. Otherwise it is that of [`Receivers::receive`].
 pub fn receive_limited(
     receivers: &mut Receivers,
     header: &RtpHeader,
     limit: usize,
 ) -> Result<Option<Verdict>, AllocError>
-    requires { length receivers.old ≤ limit }
-    ensures limited { length receivers.new ≤ limit }
+    requires { length receivers.old.by_source ≤ limit }
+    ensures limited { length receivers.new.by_source ≤ limit }
+    ensures cause { IfOk result (λ verdict. IfNone verdict
+        ((limit ≤ length receivers.old.by_source)
+        × (receiver_of receivers.old header.now.ssrc ≡ None))) }
     ensures same { IfOk result (λ verdict. IfNone verdict (receivers.new ≡ receivers.old)) }
+    ensures verdict { (count : ℕ) → (taken : Numbers) →
+        Holds (state_of receivers.old header.now.ssrc) count taken →
+        IfOk result (λ verdict. IfSome verdict (λ v. (number : ℕ)
+        × IsNumberOf count taken header.now.sequence_number number × IsJudged taken number v)) }
+    ensures after { (count : ℕ) → (taken : Numbers) →
+        Holds (state_of receivers.old header.now.ssrc) count taken →
+        IfOk result (λ verdict. IfSome verdict (λ v.
+        Holds (state_of receivers.new header.now.ssrc) count (taken_after taken v))) }
+    ensures others { (source : ℕ) → source ≢ header.now.ssrc →
+        receiver_of receivers.new source ≡ receiver_of receivers.old source }
+    ensures refused { OnErr result (receivers.new ≡ receivers.old) }
 {
     if receivers.len() >= limit && receivers.get(header.ssrc).is_none() {
         return Ok(None);
@@ -105,10 +126,32 @@ pub fn receive_greatest_first(header: &RtpHeader) -> Verdict
     receiver.receive(header)
 }
 
+/// The verdict on the first packet of a receiver that starts at this rollover count: taken, by the
+/// number of that count with the header's 16 bits.
+pub fn receive_first_at(rollover_count: u64, header: &RtpHeader) -> Verdict
+    requires { rollover_count < 2 ^ 48 }
+    ensures { result ≡ Taken (65536 * rollover_count + header.now.sequence_number % 65536) }
+{
+    let mut receiver = Receiver::starting_at(rollover_count);
+    receiver.receive(header)
+}
+
+/// The verdict on the packet that was sent before the first one that arrived, where the rollover
+/// count is 1: taken by its true number, whatever the first one's 16 bits are.
+pub fn receive_one_before_the_first(first: &RtpHeader, before: &RtpHeader) -> Verdict
+    requires { (before.now.sequence_number + 1) % 65536 ≡ first.now.sequence_number }
+    ensures { result ≡ Taken (65535 + first.now.sequence_number) }
+{
+    let mut receiver = Receiver::starting_at(1);
+    receiver.receive(first);
+    receiver.receive(before)
+}
+
 /// The verdict on a packet that is 32,767 after the highest before it, the most that it may be:
 /// taken by the number that the sender gave it.
 pub fn receive_after_longest_jump(receiver: &mut Receiver, header: &RtpHeader) -> Verdict
-    ensures { (numbers : Numbers) → (highest : ℕ) → Holds receiver.old numbers →
+    ensures { (count : ℕ) → (numbers : Numbers) → (highest : ℕ) →
+        Holds receiver.old count numbers →
         IsGreatest numbers highest → highest + 32767 < 2 ^ 64 →
         (highest + 32767) % 65536 ≡ header.now.sequence_number →
         result ≡ Taken (highest + 32767) }

@@ -8,9 +8,9 @@ mod BlockWriting
 mod RoundTrip
 mod PaddingLemmas
 mod StandardFacts
-mod WideningLemmas
+pub mod WideningLemmas
 mod ReceiverLemmas
-mod ReceiversLemmas
+pub mod ReceiversLemmas
 pub mod VerdictLemmas
 pub mod TrueNumberLemmas
 mod SendingLemmas

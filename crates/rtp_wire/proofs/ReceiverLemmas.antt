@@ -1,9 +1,11 @@
 -- What may be taken is what the replay window accepts.
 use Rattle.std.proofs.Common.{◌≡◌, ℕ, Bool, true, false, if◌then◌else◌, refl, sym, ◌∙◌, inl, inr}
-use Rattle.std.specs.Prelude.{Option, Some, None, IsTrue}
+use Rattle.std.specs.Prelude.{IsTrue}
 use Rattle.std.proofs.lemmas.Bool.{false≢true}
 use Rattle.rtp_base.specs.Window.{Numbers, WindowState, IsGreatest, Keeps, Accepts, including}
 use Rattle.rtp_base.proofs.WindowLemmas.{Keeps-refused}
+use Rattle.rtp_wire.specs.declared.receive.state.ReceiverState.{ReceiverState}
+use Rattle.rtp_wire.specs.declared.receive.state.ReceiverState.TheVariants.{Start, Window}
 use Rattle.rtp_wire.specs.Receiver.{Holds, IsNothing, IsFresh}
 
 -- a set with a greatest number is not empty
@@ -21,6 +23,6 @@ Keeps-taken taken number true window accepted refused = accepted refl
 Keeps-taken taken number false window accepted refused = refused refl
 
 -- a receiver tells a number that it refuses from no number that it took
-pub Holds-refused : (receiver : Option WindowState) (numbers : Numbers) (number : ℕ) → (IsFresh numbers number → ⊥) → Holds receiver numbers → Holds receiver (including numbers number)
-Holds-refused None numbers number refused holds = absurd (refused (inl holds))
-Holds-refused (Some window) numbers number refused holds = Keeps-refused window numbers number holds (λ accepts. refused (inr accepts))
+pub Holds-refused : (receiver : ReceiverState) (count : ℕ) (numbers : Numbers) (number : ℕ) → (IsFresh numbers number → ⊥) → Holds receiver count numbers → Holds receiver count (including numbers number)
+Holds-refused (Start start) count numbers number refused holds = absurd (refused (inl holds.1))
+Holds-refused (Window window) count numbers number refused holds = Keeps-refused window numbers number holds (λ accepts. refused (inr accepts))

@@ -1,11 +1,14 @@
 -- What a map by SSRC has for one source, and for the others.
 use Rattle.std.proofs.Common.{◌≡◌, ◌≢◌, ℕ, Bool, true, false, cond, eqb, ltb, sym, refl, ap, ◌∙◌, subst}
-use Rattle.std.specs.Prelude.{Option, None, IsSome, unwrap_or}
+use Rattle.std.specs.Prelude.{Option, Some, None, IsSome, unwrap_or}
 use Rattle.std.specs.Ordering.{nat_cmp, is_eq}
 use Rattle.std.specs.declared.cmp.Ordering.TheVariants.{Less, Equal, Greater}
 use Rattle.std.specs.BTreeMap.{BTreeMap, Updates, is_at, get}
 use Rattle.std.proofs.lemmas.Bool.{ne_eqb}
-use Rattle.rtp_base.specs.Window.{Numbers, WindowState}
+use Rattle.std.proofs.lemmas.Option.{none-some}
+use Rattle.rtp_base.specs.Window.{Numbers}
+use Rattle.rtp_wire.specs.declared.receive.state.ReceiverState.{ReceiverState}
+use Rattle.rtp_wire.specs.declared.receive.state.ReceiverState.TheVariants.{Start}
 use Rattle.rtp_wire.specs.Receiver.{Holds}
 use Rattle.rtp_wire.specs.Receivers.{ReceiverStates, receiver_of, state_of}
 
@@ -17,17 +20,34 @@ is_other : (source other : ℕ) → other ≢ source → is_at (nat_cmp source) 
 is_other source other apart = not_equal (ltb source other) (eqb source other) (ne_eqb source other (λ same. apart (sym same)))
 
 -- a change at one source leaves the receivers of the others
-pub others_stay : (before after : BTreeMap ℕ (Option WindowState)) (source : ℕ) (receiver : Option (Option WindowState)) → Updates nat_cmp before after source receiver
-    → (other : ℕ) → other ≢ source → receiver_of after.entries other ≡ receiver_of before.entries other
+pub others_stay : (before after : BTreeMap ℕ ReceiverState) (source : ℕ) (receiver : Option ReceiverState) → Updates nat_cmp before after source receiver
+    → (other : ℕ) → other ≢ source → get nat_cmp after other ≡ get nat_cmp before other
 others_stay before after source receiver updates other apart = updates.2 other (is_other source other apart)
 
+-- receivers as they are seen, by the map that has them
+abbrev pub seen : ℕ → BTreeMap ℕ ReceiverState → ReceiverStates
+seen rollover_count map = record { rollover_count = rollover_count; by_source = map.entries }
+
 -- what a source's receiver holds is what the map has for it
-pub Holds-found : (map : BTreeMap ℕ (Option WindowState)) (receivers : ReceiverStates) (source : ℕ) (found : Option (Option WindowState)) (taken : Numbers) → map.entries ≡ receivers
-    → get nat_cmp map source ≡ found → Holds (state_of receivers source) taken → Holds (unwrap_or found None) taken
-Holds-found map receivers source found taken same is holds =
-    subst (λ (state : Option WindowState). Holds state taken) (ap (λ (rs : ReceiverStates). state_of rs source) (sym same) ∙ ap (λ (o : Option (Option WindowState)). unwrap_or o None) is) holds
+pub Holds-found : (rollover_count : ℕ) (map : BTreeMap ℕ ReceiverState) (receivers : ReceiverStates) (source : ℕ) (found : Option ReceiverState) (count : ℕ) (taken : Numbers)
+    → seen rollover_count map ≡ receivers → get nat_cmp map source ≡ found → Holds (state_of receivers source) count taken → Holds (unwrap_or found (Start rollover_count)) count taken
+Holds-found rollover_count map receivers source found count taken same is holds =
+    subst (λ (state : ReceiverState). Holds state count taken)
+    (ap (λ (rs : ReceiverStates). state_of rs source) (sym same) ∙ ap (λ (o : Option ReceiverState). unwrap_or o (Start rollover_count)) is) holds
 
 -- a source for which the map has nothing has no receiver
-pub not_found : (map : BTreeMap ℕ (Option WindowState)) (receivers : ReceiverStates) (source : ℕ) → map.entries ≡ receivers
+pub not_found : (rollover_count : ℕ) (map : BTreeMap ℕ ReceiverState) (receivers : ReceiverStates) (source : ℕ) → seen rollover_count map ≡ receivers
     → get nat_cmp map source ≡ None → IsSome (receiver_of receivers source) → ⊥
-not_found map receivers source same none known = cc (ap (λ (rs : ReceiverStates). receiver_of rs source) (sym same) ∙ none, known)
+not_found rollover_count map receivers source same none known = cc (ap (λ (rs : ReceiverStates). receiver_of rs source) (sym same) ∙ none, known)
+
+-- a source for which the map has a receiver has it
+pub is_found : (rollover_count : ℕ) (map : BTreeMap ℕ ReceiverState) (receivers : ReceiverStates) (source : ℕ) (receiver : ReceiverState) → seen rollover_count map ≡ receivers
+    → get nat_cmp map source ≡ Some receiver → receiver_of receivers source ≡ None → ⊥
+is_found rollover_count map receivers source receiver same found none =
+    none-some receiver (sym (ap (λ (rs : ReceiverStates). receiver_of rs source) same ∙ none) ∙ found)
+
+-- what a source's receiver holds stays with the receiver and the rollover count
+pub same_state : (before after : ReceiverStates) (source : ℕ) → after.rollover_count ≡ before.rollover_count → receiver_of after source ≡ receiver_of before source
+    → state_of after source ≡ state_of before source
+same_state before after source count receiver =
+    ap (λ (o : Option ReceiverState). unwrap_or o (Start after.rollover_count)) receiver ∙ ap (λ (k : ℕ). unwrap_or (receiver_of before source) (Start k)) count

@@ -129,5 +129,5 @@ pub AreTrueVerdicts-sent : (exts : ExtensionMap) (headers : List RtpHeader) (num
     → (are : AreVerdicts exts datagrams verdicts) → AllZip HasCause datagrams are.packet_ids → AreSent exts headers numbers datagrams
     → AreTrueVerdicts (packet_ids_of headers) numbers verdicts
 AreTrueVerdicts-sent exts headers numbers datagrams verdicts are causes sent =
-    AreTrueVerdicts-run (packet_ids_of headers) verdicts numbers
-    (subst (λ rs. IsRun rs verdicts) (packet_ids_sent exts sent.source headers datagrams are.packet_ids sent.of_source sent.arrive are.are_packet_ids causes) are.run) sent.are_true
+    AreTrueVerdicts-run 0 (packet_ids_of headers) verdicts numbers
+    (subst (λ rs. IsRun 0 rs verdicts) (packet_ids_sent exts sent.source headers datagrams are.packet_ids sent.of_source sent.arrive are.are_packet_ids causes) are.run) sent.are_true

@@ -45,7 +45,7 @@ highest_row = record {
 }
 
 -- across the rollover of source 1, whatever source 2 has sent
-rollover_row : IsVerdict before (of 1 0) (Taken 65536)
+rollover_row : IsVerdict 0 before (of 1 0) (Taken 65536)
 rollover_row = (
   65536,
   (Some 65535, highest_row, record { fits = omega arith; ends = refl; near = inl (omega arith) }),

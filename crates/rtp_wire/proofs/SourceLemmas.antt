@@ -1,12 +1,13 @@
 -- Runs of datagrams of many sources: what one datagram more changes, and each source by itself.
 use Rattle.std.proofs.Common.{◌≡◌, ◌≢◌, ℕ, Bool, true, false, if◌then◌else◌, eqb, List, [], ◌∷◌, ◌++◌, length, refl, sym, ap, ◌∙◌, subst, arith}
-use Rattle.std.specs.Prelude.{Option, Some, None, unwrap_or}
+use Rattle.std.specs.Prelude.{Option, Some, None}
 use Rattle.std.specs.List.{AllZip, AllByRecursion}
 use Rattle.std.proofs.lemmas.Bool.{eq-eqb, eqb-true, false≢true}
 use Rattle.std.proofs.lemmas.List.{length-map}
-use Rattle.rtp_base.specs.Window.{Numbers, WindowState}
+use Rattle.rtp_base.specs.Window.{Numbers}
 use Rattle.rtp_ext.specs.declared.ext.map.ExtensionMap.{ExtensionMap}
 use Rattle.rtp_wire.specs.declared.header.rtp_header.RtpHeader.{RtpHeader}
+use Rattle.rtp_wire.specs.declared.receive.state.ReceiverState.{ReceiverState}
 use Rattle.rtp_wire.specs.declared.receive.verdict.Verdict.{Verdict}
 use Rattle.rtp_wire.specs.Receiver.{Holds, taken_after}
 use Rattle.rtp_wire.specs.Receivers.{ReceiverStates, receiver_of, state_of}
@@ -16,6 +17,7 @@ use Rattle.rtp_wire.specs.Sending.{IsOfSource, packet_ids_of, AreSent}
 use Rattle.rtp_wire.specs.Sources.{is_from, at_source, taken_of, numbers_beside, AreRuns}
 use Rattle.rtp_wire.specs.EachSource.{HoldsEach, taken_after_each}
 use Rattle.rtp_wire.proofs.VerdictLemmas.{Holds-same, IsRunBy-more, IsRun-more, taken_by-push, AllZip-more, HasCause, AreRead}
+use Rattle.rtp_wire.proofs.ReceiversLemmas.{same_state}
 use Rattle.rtp_wire.proofs.TrueNumberLemmas.{AreTrueVerdicts-run, one_packet_ids}
 use Rattle.rtp_wire.proofs.SendingLemmas.{packet_ids_sent}
 
@@ -47,21 +49,21 @@ at_source-push source (r ∷ packet_ids) (y ∷ xs) packet_id x many =
 
 -- ---- the receivers after one packet id more
 
-held_at : (before after : ReceiverStates) (taken : ℕ → Numbers) (packet_id : PacketId) (verdict : Verdict) (source : ℕ) (here : Bool) → eqb source packet_id.source ≡ here → HoldsEach before taken
-    → Holds (state_of after packet_id.source) (taken_after (taken packet_id.source) verdict) → ((other : ℕ) → other ≢ packet_id.source → receiver_of after other ≡ receiver_of before other)
-    → Holds (state_of after source) (if here then taken_after (taken source) verdict else taken source)
-held_at before after taken packet_id verdict source true is holds held others =
-    subst (λ s. Holds (state_of after s) (taken_after (taken s) verdict)) (sym (eqb-true source packet_id.source is)) held
-held_at before after taken packet_id verdict source false is holds held others =
-    subst (λ (receiver : Option (Option WindowState)). Holds (unwrap_or receiver None) (taken source))
-    (sym (others source (λ same. false≢true (sym is ∙ eq-eqb source packet_id.source same)))) (holds source)
+held_at : (count : ℕ) (before after : ReceiverStates) (taken : ℕ → Numbers) (packet_id : PacketId) (verdict : Verdict) (source : ℕ) (here : Bool) → eqb source packet_id.source ≡ here → HoldsEach before count taken
+    → after.rollover_count ≡ before.rollover_count → Holds (state_of after packet_id.source) count (taken_after (taken packet_id.source) verdict) → ((other : ℕ) → other ≢ packet_id.source → receiver_of after other ≡ receiver_of before other)
+    → Holds (state_of after source) count (if here then taken_after (taken source) verdict else taken source)
+held_at count before after taken packet_id verdict source true is holds stays held others =
+    subst (λ s. Holds (state_of after s) count (taken_after (taken s) verdict)) (sym (eqb-true source packet_id.source is)) held
+held_at count before after taken packet_id verdict source false is holds stays held others =
+    subst (λ (state : ReceiverState). Holds state count (taken source))
+    (sym (same_state before after source stays (others source (λ same. false≢true (sym is ∙ eq-eqb source packet_id.source same))))) (holds source)
 
 -- what one source's receiver takes is all that changes
-pub HoldsEach-after : (before after : ReceiverStates) (taken : ℕ → Numbers) (packet_id : PacketId) (verdict : Verdict) → HoldsEach before taken
-    → Holds (state_of after packet_id.source) (taken_after (taken packet_id.source) verdict) → ((other : ℕ) → other ≢ packet_id.source → receiver_of after other ≡ receiver_of before other)
-    → HoldsEach after (taken_after_each taken (Some packet_id) verdict)
-HoldsEach-after before after taken packet_id verdict holds held others =
-    λ source. held_at before after taken packet_id verdict source (eqb source packet_id.source) refl holds held others
+pub HoldsEach-after : (count : ℕ) (before after : ReceiverStates) (taken : ℕ → Numbers) (packet_id : PacketId) (verdict : Verdict) → HoldsEach before count taken
+    → after.rollover_count ≡ before.rollover_count → Holds (state_of after packet_id.source) count (taken_after (taken packet_id.source) verdict) → ((other : ℕ) → other ≢ packet_id.source → receiver_of after other ≡ receiver_of before other)
+    → HoldsEach after count (taken_after_each taken (Some packet_id) verdict)
+HoldsEach-after count before after taken packet_id verdict holds stays held others =
+    λ source. held_at count before after taken packet_id verdict source (eqb source packet_id.source) refl holds stays held others
 
 -- ---- the run so far
 
@@ -71,10 +73,10 @@ pub record SoFarEach (exts : ExtensionMap) (datagrams : List (List ℕ)) (verdic
   pub are_packet_ids : ArePacketIds exts datagrams packet_ids
   pub causes : AllZip HasCause datagrams packet_ids
   pub runs : AreRuns packet_ids verdicts
-  pub alone : (source : ℕ) → IsRun (at_source source packet_ids packet_ids) (at_source source packet_ids verdicts)
-  pub holds : HoldsEach receivers (taken_of packet_ids verdicts)
+  pub alone : (source : ℕ) → IsRun 0 (at_source source packet_ids packet_ids) (at_source source packet_ids verdicts)
+  pub holds : HoldsEach receivers 0 (taken_of packet_ids verdicts)
 
-pub SoFarEach-none : (exts : ExtensionMap) (verdicts : List Verdict) (receivers : ReceiverStates) → verdicts ≡ [] → receivers ≡ [] → SoFarEach exts [] verdicts receivers
+pub SoFarEach-none : (exts : ExtensionMap) (verdicts : List Verdict) (receivers : ReceiverStates) → verdicts ≡ [] → receivers ≡ record { rollover_count = 0; by_source = [] } → SoFarEach exts [] verdicts receivers
 SoFarEach-none exts verdicts receivers none empty =
     subst (λ (vs : List Verdict). SoFarEach exts [] vs receivers) (sym none) (subst (λ (rs : ReceiverStates). SoFarEach exts [] [] rs) (sym empty) (record {
       packet_ids = [];
@@ -82,18 +84,18 @@ SoFarEach-none exts verdicts receivers none empty =
       causes = tt;
       runs = record { as_many = refl; each = λ i below. absurd (omega arith) };
       alone = λ source. record { as_many = refl; each = λ i below. absurd (omega arith) };
-      holds = λ source n. refl;
+      holds = λ source. (refl, λ n. refl);
     }))
 
 -- the verdict on a packet id, by the numbers of its source
-beside : (source : ℕ) (taken : ℕ → Numbers) (packet_id : Option PacketId) (verdict : Verdict) → is_from source packet_id ≡ true → IsVerdict (numbers_beside taken packet_id) packet_id verdict
-    → IsVerdict (taken source) packet_id verdict
+beside : (source : ℕ) (taken : ℕ → Numbers) (packet_id : Option PacketId) (verdict : Verdict) → is_from source packet_id ≡ true → IsVerdict 0 (numbers_beside taken packet_id) packet_id verdict
+    → IsVerdict 0 (taken source) packet_id verdict
 beside source taken None verdict is judged = absurd (false≢true is)
-beside source taken (Some packet_id) verdict is judged = subst (λ s. IsVerdict (taken s) (Some packet_id) verdict) (sym (eqb-true source packet_id.source is)) judged
+beside source taken (Some packet_id) verdict is judged = subst (λ s. IsVerdict 0 (taken s) (Some packet_id) verdict) (sym (eqb-true source packet_id.source is)) judged
 
-alone_more : (here : Bool) (packet_ids : List (Option PacketId)) (verdicts : List Verdict) (packet_id : Option PacketId) (verdict : Verdict) → IsRun packet_ids verdicts
-    → (here ≡ true → IsVerdict (taken_by verdicts) packet_id verdict) → IsRun (at_more here packet_ids packet_id) (at_more here verdicts verdict)
-alone_more true packet_ids verdicts packet_id verdict run is = IsRun-more packet_ids verdicts packet_id verdict run (is refl)
+alone_more : (here : Bool) (packet_ids : List (Option PacketId)) (verdicts : List Verdict) (packet_id : Option PacketId) (verdict : Verdict) → IsRun 0 packet_ids verdicts
+    → (here ≡ true → IsVerdict 0 (taken_by verdicts) packet_id verdict) → IsRun 0 (at_more here packet_ids packet_id) (at_more here verdicts verdict)
+alone_more true packet_ids verdicts packet_id verdict run is = IsRun-more 0 packet_ids verdicts packet_id verdict run (is refl)
 alone_more false packet_ids verdicts packet_id verdict run is = run
 
 taken_more : (here : Bool) (verdicts : List Verdict) (verdict : Verdict) (n : ℕ)
@@ -103,7 +105,7 @@ taken_more false verdicts verdict n = refl
 
 pub SoFarEach-more : (exts : ExtensionMap) (datagrams : List (List ℕ)) (datagram : List ℕ) (packet_id : Option PacketId) (verdicts : List Verdict) (verdict : Verdict) (before after : ReceiverStates)
     → (so_far : SoFarEach exts datagrams verdicts before) → IsPacketId exts datagram packet_id → HasCause datagram packet_id
-    → IsVerdict (numbers_beside (taken_of so_far.packet_ids verdicts) packet_id) packet_id verdict → HoldsEach after (taken_after_each (taken_of so_far.packet_ids verdicts) packet_id verdict)
+    → IsVerdict 0 (numbers_beside (taken_of so_far.packet_ids verdicts) packet_id) packet_id verdict → HoldsEach after 0 (taken_after_each (taken_of so_far.packet_ids verdicts) packet_id verdict)
     → SoFarEach exts (datagrams ++ datagram ∷ []) (verdicts ++ verdict ∷ []) after
 SoFarEach-more exts datagrams datagram packet_id verdicts verdict before after so_far read cause is holds =
     let packet_ids = so_far.packet_ids in
@@ -113,13 +115,13 @@ SoFarEach-more exts datagrams datagram packet_id verdicts verdict before after s
       packet_ids = packet_ids ++ packet_id ∷ [];
       are_packet_ids = AllZip-more (IsPacketId exts) datagrams packet_ids datagram packet_id so_far.are_packet_ids read;
       causes = AllZip-more HasCause datagrams packet_ids datagram packet_id so_far.causes cause;
-      runs = IsRunBy-more (λ r rs vs. numbers_beside (taken_of rs vs) r) packet_ids verdicts packet_id verdict so_far.runs is;
+      runs = IsRunBy-more 0 (λ r rs vs. numbers_beside (taken_of rs vs) r) packet_ids verdicts packet_id verdict so_far.runs is;
       alone = λ source.
-          subst (λ (rs : List (Option PacketId)). IsRun rs (at_source source (packet_ids ++ packet_id ∷ []) (verdicts ++ verdict ∷ []))) (sym (at_source-push source packet_ids packet_ids packet_id packet_id refl))
-          (subst (λ (vs : List Verdict). IsRun (at_more (is_from source packet_id) (at_source source packet_ids packet_ids) packet_id) vs) (sym (pushed source))
+          subst (λ (rs : List (Option PacketId)). IsRun 0 rs (at_source source (packet_ids ++ packet_id ∷ []) (verdicts ++ verdict ∷ []))) (sym (at_source-push source packet_ids packet_ids packet_id packet_id refl))
+          (subst (λ (vs : List Verdict). IsRun 0 (at_more (is_from source packet_id) (at_source source packet_ids packet_ids) packet_id) vs) (sym (pushed source))
           (alone_more (is_from source packet_id) (at_source source packet_ids packet_ids) (at_source source packet_ids verdicts) packet_id verdict (so_far.alone source)
           (λ here. beside source (taken_of packet_ids verdicts) packet_id verdict here is)));
-      holds = λ source. Holds-same (state_of after source) (taken_after_each (taken_of packet_ids verdicts) packet_id verdict source) (taken_of (packet_ids ++ packet_id ∷ []) (verdicts ++ verdict ∷ []) source)
+      holds = λ source. Holds-same (state_of after source) 0 (taken_after_each (taken_of packet_ids verdicts) packet_id verdict source) (taken_of (packet_ids ++ packet_id ∷ []) (verdicts ++ verdict ∷ []) source)
           (λ n. ap (λ (vs : List Verdict). taken_by vs n) (pushed source) ∙ taken_more (is_from source packet_id) (at_source source packet_ids verdicts) verdict n) (holds source);
     }
 
@@ -172,9 +174,9 @@ pub AreTrueVerdicts-sent_each : (exts : ExtensionMap) (headers : List RtpHeader)
     → SoFarEach exts datagrams verdicts receivers → AreSent exts headers numbers datagrams → AreTrueVerdicts (packet_ids_of headers) numbers verdicts
 AreTrueVerdicts-sent_each exts headers numbers datagrams verdicts receivers so_far sent =
     let same = packet_ids_sent exts sent.source headers datagrams so_far.packet_ids sent.of_source sent.arrive so_far.are_packet_ids so_far.causes in
-    let alone = subst (λ rs. IsRun (at_source sent.source rs rs) (at_source sent.source rs verdicts)) same (so_far.alone sent.source) in
+    let alone = subst (λ rs. IsRun 0 (at_source sent.source rs rs) (at_source sent.source rs verdicts)) same (so_far.alone sent.source) in
     let many = length-map headers (λ h. Some (packet_id_of h)) in
     let as_many : length verdicts ≡ length headers = so_far.runs.as_many ∙ ap length same ∙ many in
-    AreTrueVerdicts-run (packet_ids_of headers) verdicts numbers
-    (subst (λ rs. IsRun rs verdicts) (at_source-all sent.source headers (packet_ids_of headers) sent.of_source many)
-    (subst (λ vs. IsRun (at_source sent.source (packet_ids_of headers) (packet_ids_of headers)) vs) (at_source-all sent.source headers verdicts sent.of_source as_many) alone)) sent.are_true
+    AreTrueVerdicts-run 0 (packet_ids_of headers) verdicts numbers
+    (subst (λ rs. IsRun 0 rs verdicts) (at_source-all sent.source headers (packet_ids_of headers) sent.of_source many)
+    (subst (λ vs. IsRun 0 (at_source sent.source (packet_ids_of headers) (packet_ids_of headers)) vs) (at_source-all sent.source headers verdicts sent.of_source as_many) alone)) sent.are_true

@@ -8,8 +8,8 @@ use Rattle.rtp_base.proofs.WindowLemmas.{greatest_stays}
 use Rattle.rtp_ext.specs.declared.ext.map.ExtensionMap.{ExtensionMap}
 use Rattle.rtp_wire.specs.declared.receive.verdict.Verdict.{Verdict}
 use Rattle.rtp_wire.specs.declared.receive.verdict.Verdict.TheVariants.{Unreadable, Taken, Refused}
-use Rattle.rtp_wire.specs.Widening.{Extends}
-use Rattle.rtp_wire.specs.Receiver.{IsNothing, IsHighest, IsNumberOf, IsFresh, taken_after}
+use Rattle.rtp_wire.specs.Widening.{IsNearest}
+use Rattle.rtp_wire.specs.Receiver.{IsNothing, IsHighest, ExtendsFrom, IsNumberOf, IsFresh, taken_after}
 use Rattle.rtp_wire.specs.Verdicts.{PacketId, packet_id_of, IsPacketId, ArePacketIds, taken_by, IsVerdict, IsRun, AreVerdicts}
 use Rattle.rtp_wire.specs.TrueNumbers.{IsInReach, IsTrueNumber, numbers_of, AreTrue, IsTrueVerdict, AreTrueVerdicts}
 use Rattle.rtp_wire.proofs.HeaderLemmas.{layout_of}
@@ -21,17 +21,17 @@ use Rattle.rtp_wire.proofs.WideningLemmas.{only_near, Extends-within_half}
 -- ---- the number of a packet
 
 -- a number within reach of the highest one is the extended number of its 16 bits
-pub number_within : (highest : Option ℕ) (low number near : ℕ) → IfSome highest (λ h. h < 2 ^ 64) → number < 2 ^ 64 → number % 65536 ≡ low
-    → IsInReach highest number → Extends 16 highest low near → near ≡ number
-number_within None low number near fits whole ends within is = omega (arith, is, ends, within)
-number_within (Some h) low number near fits whole ends within is =
+pub number_within : (count : ℕ) (highest : Option ℕ) (low number near : ℕ) → IfSome highest (λ h. h < 2 ^ 64) → number < 2 ^ 64 → number % 65536 ≡ low
+    → IsInReach count highest number → ExtendsFrom count highest low near → near ≡ number
+number_within count None low number near fits whole ends within is = omega (arith, is, ends, within.0, within.1)
+number_within count (Some h) low number near fits whole ends within is =
     only_near 16 (Some h) low near number (omega arith) (omega arith) fits is
     (Extends-within_half 16 (Some h) low number (whole, omega (arith, ends), omega (arith, within.0, within.1)))
 
 one_greatest : (numbers : Numbers) (a b : ℕ) → IsGreatest numbers a → IsGreatest numbers b → a ≡ b
 one_greatest numbers a b first second = let low = second.top a first.member in let high = first.top b second.member in omega arith
 
-one_highest : (numbers : Numbers) (a b : Option ℕ) → IsHighest numbers a → IsHighest numbers b → a ≡ b
+pub one_highest : (numbers : Numbers) (a b : Option ℕ) → IsHighest numbers a → IsHighest numbers b → a ≡ b
 one_highest numbers None None first second = refl
 one_highest numbers None (Some b) first second = absurd (not_nothing numbers b second first)
 one_highest numbers (Some a) None first second = absurd (not_nothing numbers a first second)
@@ -64,13 +64,20 @@ fits_of taken numbers None agrees = tt
 fits_of taken numbers (Some h) agrees = agrees.fits
 
 -- the extended number of a packet is its true number
-one_number : (taken numbers : Numbers) (highest : Option ℕ) (low number near : ℕ) → Agrees taken numbers highest → IsTrueNumber numbers low number
-    → IsNumberOf taken low near → near ≡ number
-one_number taken numbers highest low number near agrees is of =
+one_number : (count : ℕ) (taken numbers : Numbers) (highest : Option ℕ) (low number near : ℕ) → Agrees taken numbers highest → IsTrueNumber count numbers low number
+    → IsNumberOf count taken low near → near ≡ number
+one_number count taken numbers highest low number near agrees is of =
     let tops = highest_of taken numbers highest agrees in
-    number_within highest low number near (fits_of taken numbers highest agrees) is.fits is.ends
-    (subst (λ h. IsInReach h number) (one_highest numbers is.highest highest is.is_highest tops.1) is.within)
-    (subst (λ h. Extends 16 h low near) (one_highest taken of.0 highest of.1 tops.0) of.2)
+    number_within count highest low number near (fits_of taken numbers highest agrees) is.fits is.ends
+    (subst (λ h. IsInReach count h number) (one_highest numbers is.highest highest is.is_highest tops.1) is.within)
+    (subst (λ h. ExtendsFrom count h low near) (one_highest taken of.0 highest of.1 tops.0) of.2)
+
+-- the number nearest to the highest one is the true number
+pub number_in_reach : (count : ℕ) (numbers : Numbers) (highest low number near : ℕ) → highest < 2 ^ 64 → IsGreatest numbers highest → IsTrueNumber count numbers low number
+    → IsNearest 16 highest low near → near ≡ number
+number_in_reach count numbers highest low number near fits top is nearest =
+    number_within count (Some highest) low number near fits is.fits is.ends
+    (subst (λ h. IsInReach count h number) (one_highest numbers is.highest (Some highest) is.is_highest top) is.within) nearest
 
 -- a number may be taken after the one exactly where it may after the other
 Accepts-same : (taken numbers : Numbers) (highest number : ℕ) → IsGreatest taken highest → IsGreatest numbers highest
@@ -103,7 +110,7 @@ fresh_here taken numbers (Some h) number agrees (inr accepts) =
 including-self : (numbers : Numbers) (number : ℕ) → including numbers number number ≡ true
 including-self numbers number = or_right (numbers number) (nat_eq number number) (eq-eqb number number refl)
 
-greatest_of_none : (numbers : Numbers) (number : ℕ) → IsNothing numbers → IsGreatest (including numbers number) number
+pub greatest_of_none : (numbers : Numbers) (number : ℕ) → IsNothing numbers → IsGreatest (including numbers number) number
 greatest_of_none numbers number none = record {
   member = including-self numbers number;
   top = λ n is. elim (or_cases (numbers n) (nat_eq n number) is) [
@@ -190,15 +197,15 @@ record IsKept (taken numbers : Numbers) (packet_id : Option PacketId) (number : 
   pub highest : Option ℕ
   pub agrees : Agrees (taken_after taken verdict) (numbers_after numbers packet_id number) highest
 
-kept : (taken numbers : Numbers) (highest : Option ℕ) (packet_id : Option PacketId) (number : ℕ) (verdict : Verdict) → Agrees taken numbers highest
-    → IfSome packet_id (λ r. IsTrueNumber numbers r.low number) → IsVerdict taken packet_id verdict → IsKept taken numbers packet_id number verdict
-kept taken numbers highest None number verdict agrees is judged = record {
+kept : (count : ℕ) (taken numbers : Numbers) (highest : Option ℕ) (packet_id : Option PacketId) (number : ℕ) (verdict : Verdict) → Agrees taken numbers highest
+    → IfSome packet_id (λ r. IsTrueNumber count numbers r.low number) → IsVerdict count taken packet_id verdict → IsKept taken numbers packet_id number verdict
+kept count taken numbers highest None number verdict agrees is judged = record {
   is = judged;
   highest = highest;
   agrees = subst (λ v. Agrees (taken_after taken v) numbers highest) (sym judged) agrees;
 }
-kept taken numbers highest (Some packet_id) number (Taken n) agrees is judged =
-    let here : n ≡ number = judged.2.0 ∙ one_number taken numbers highest packet_id.low number judged.0 agrees is judged.1 in
+kept count taken numbers highest (Some packet_id) number (Taken n) agrees is judged =
+    let here : n ≡ number = judged.2.0 ∙ one_number count taken numbers highest packet_id.low number judged.0 agrees is judged.1 in
     let fresh = subst (IsFresh taken) (sym judged.2.0 ∙ here) judged.2.1 in
     let after = Agrees-taken taken numbers highest number is.fits agrees in
     record {
@@ -206,12 +213,12 @@ kept taken numbers highest (Some packet_id) number (Taken n) agrees is judged =
       highest = after.0;
       agrees = subst (λ k. Agrees (including taken k) (including numbers number) after.0) (sym here) after.1;
     }
-kept taken numbers highest (Some packet_id) number Refused agrees is judged =
-    let here = one_number taken numbers highest packet_id.low number judged.0 agrees is judged.1 in
+kept count taken numbers highest (Some packet_id) number Refused agrees is judged =
+    let here = one_number count taken numbers highest packet_id.low number judged.0 agrees is judged.1 in
     let refused : IsFresh numbers number → ⊥ =
     λ fresh. judged.2 (subst (IsFresh taken) (sym here) (fresh_here taken numbers highest number agrees fresh)) in
     record { is = refused; highest = highest; agrees = Agrees-refused taken numbers highest number agrees refused }
-kept taken numbers highest (Some packet_id) number Unreadable agrees is judged = absurd judged.2
+kept count taken numbers highest (Some packet_id) number Unreadable agrees is judged = absurd judged.2
 
 -- ---- the run
 
@@ -241,17 +248,17 @@ Agrees-same a b c d (Some h) first second agrees = record {
 }
 
 -- what is taken and the true numbers agree before each place
-before_place : (packet_ids : List (Option PacketId)) (verdicts : List Verdict) (numbers : List ℕ) → IsRun packet_ids verdicts → AreTrue packet_ids numbers
+before_place : (count : ℕ) (packet_ids : List (Option PacketId)) (verdicts : List Verdict) (numbers : List ℕ) → IsRun count packet_ids verdicts → AreTrue count packet_ids numbers
     → (i : ℕ) → i ≤ length packet_ids → (highest : Option ℕ) × Agrees (taken_by (take i verdicts)) (numbers_of (take i packet_ids) (take i numbers)) highest
-before_place packet_ids verdicts numbers run are zero within = (None, (λ n. refl, λ n. refl))
-before_place packet_ids verdicts numbers run are (suc i) within =
-    let old = before_place packet_ids verdicts numbers run are i (omega arith) in
+before_place count packet_ids verdicts numbers run are zero within = (None, (λ n. refl, λ n. refl))
+before_place count packet_ids verdicts numbers run are (suc i) within =
+    let old = before_place count packet_ids verdicts numbers run are i (omega arith) in
     let packet_id = get_or packet_ids i None in
     let number = get_or numbers i 0 in
     let verdict = get_or verdicts i Unreadable in
     let here : i < length packet_ids = omega arith in
     let next : suc i ≡ i + 1 = omega arith in
-    let one = kept (taken_by (take i verdicts)) (numbers_of (take i packet_ids) (take i numbers)) old.0 packet_id number verdict old.1 (are.each i here) (run.each i here) in
+    let one = kept count (taken_by (take i verdicts)) (numbers_of (take i packet_ids) (take i numbers)) old.0 packet_id number verdict old.1 (are.each i here) (run.each i here) in
     let packet_ids_are : take (suc i) packet_ids ≡ take i packet_ids ++ packet_id ∷ [] = ap (λ k. take k packet_ids) next ∙ take_more packet_ids i None here in
     let numbers_are : take (suc i) numbers ≡ take i numbers ++ number ∷ [] = ap (λ k. take k numbers) next ∙ take_more numbers i 0 (omega (arith, are.as_many)) in
     let verdicts_are : take (suc i) verdicts ≡ take i verdicts ++ verdict ∷ [] = ap (λ k. take k verdicts) next ∙ take_more verdicts i Unreadable (omega (arith, run.as_many)) in
@@ -264,13 +271,13 @@ before_place packet_ids verdicts numbers run are (suc i) within =
           ∙ numbers_of-push (take i packet_ids) (take i numbers) packet_id number n many) one.agrees,
     )
 
-pub AreTrueVerdicts-run : (packet_ids : List (Option PacketId)) (verdicts : List Verdict) (numbers : List ℕ) → IsRun packet_ids verdicts → AreTrue packet_ids numbers
+pub AreTrueVerdicts-run : (count : ℕ) (packet_ids : List (Option PacketId)) (verdicts : List Verdict) (numbers : List ℕ) → IsRun count packet_ids verdicts → AreTrue count packet_ids numbers
     → AreTrueVerdicts packet_ids numbers verdicts
-AreTrueVerdicts-run packet_ids verdicts numbers run are = record {
+AreTrueVerdicts-run count packet_ids verdicts numbers run are = record {
   as_many = run.as_many;
   each = λ i below.
-      let before = before_place packet_ids verdicts numbers run are i (omega arith) in
-      (kept (taken_by (take i verdicts)) (numbers_of (take i packet_ids) (take i numbers)) before.0 (get_or packet_ids i None) (get_or numbers i 0) (get_or verdicts i Unreadable)
+      let before = before_place count packet_ids verdicts numbers run are i (omega arith) in
+      (kept count (taken_by (take i verdicts)) (numbers_of (take i packet_ids) (take i numbers)) before.0 (get_or packet_ids i None) (get_or numbers i 0) (get_or verdicts i Unreadable)
       before.1 (are.each i below) (run.each i below)).is;
 }
 
@@ -294,7 +301,7 @@ one_packet_ids exts (d ∷ ds) (x ∷ a) (y ∷ b) first second =
 
 -- the verdicts on datagrams, by the true numbers of their packets
 pub AreTrueVerdicts-of : (exts : ExtensionMap) (datagrams : List (List ℕ)) (verdicts : List Verdict) (packet_ids : List (Option PacketId)) (numbers : List ℕ)
-    → AreVerdicts exts datagrams verdicts → ArePacketIds exts datagrams packet_ids → AreTrue packet_ids numbers → AreTrueVerdicts packet_ids numbers verdicts
+    → AreVerdicts exts datagrams verdicts → ArePacketIds exts datagrams packet_ids → AreTrue 0 packet_ids numbers → AreTrueVerdicts packet_ids numbers verdicts
 AreTrueVerdicts-of exts datagrams verdicts packet_ids numbers are read true_are =
-    AreTrueVerdicts-run packet_ids verdicts numbers
-    (subst (λ rs. IsRun rs verdicts) (one_packet_ids exts datagrams are.packet_ids packet_ids are.are_packet_ids read) are.run) true_are
+    AreTrueVerdicts-run 0 packet_ids verdicts numbers
+    (subst (λ rs. IsRun 0 rs verdicts) (one_packet_ids exts datagrams are.packet_ids packet_ids are.are_packet_ids read) are.run) true_are

@@ -6,8 +6,10 @@ use Rattle.std.proofs.lemmas.Option.{none-some}
 use Rattle.std.specs.List.{AllZip}
 use Rattle.std.proofs.lemmas.Bool.{eq-eqb, cases_lt, false≢true, or_left, or_right}
 use Rattle.std.proofs.lemmas.List.{take-append-le, take_at, get_or_append_left, get_or_at, length_push, get_or-take}
-use Rattle.rtp_base.specs.Window.{Numbers, WindowState}
+use Rattle.rtp_base.specs.Window.{Numbers}
 use Rattle.rtp_ext.specs.declared.ext.map.ExtensionMap.{ExtensionMap}
+use Rattle.rtp_wire.specs.declared.receive.state.ReceiverState.{ReceiverState}
+use Rattle.rtp_wire.specs.declared.receive.state.ReceiverState.TheVariants.{Start, Window}
 use Rattle.rtp_wire.specs.declared.receive.verdict.Verdict.{Verdict}
 use Rattle.rtp_wire.specs.declared.receive.verdict.Verdict.TheVariants.{Unreadable, Taken, Refused}
 use Rattle.rtp_wire.specs.declared.header.rtp_header.RtpHeader.{RtpHeader}
@@ -40,45 +42,45 @@ taken_by-push (Unreadable ∷ vs) (Taken t) n = taken_by-push vs (Taken t) n
 taken_by-push (Unreadable ∷ vs) Refused n = taken_by-push vs Refused n
 taken_by-push (Unreadable ∷ vs) Unreadable n = taken_by-push vs Unreadable n
 
--- a window keeps a set that is the same number by number
-pub Holds-same : (window : Option WindowState) (a b : Numbers) → ((n : ℕ) → b n ≡ a n) → Holds window a → Holds window b
-Holds-same None a b same holds = λ n. same n ∙ holds n
-Holds-same (Some window) a b same keeps = record {
+-- a receiver holds a set that is the same number by number
+pub Holds-same : (receiver : ReceiverState) (count : ℕ) (a b : Numbers) → ((n : ℕ) → b n ≡ a n) → Holds receiver count a → Holds receiver count b
+Holds-same (Start start) count a b same holds = (holds.0, λ n. same n ∙ holds.1 n)
+Holds-same (Window window) count a b same keeps = record {
   top = record { member = same window.greatest ∙ keeps.top.member; top = λ n is. keeps.top.top n (sym (same n) ∙ is) };
   recorded = λ n low near. keeps.recorded n low near ∙ sym (same n);
 }
 
 -- a verdict, at equal packet ids and verdicts
-IsVerdict-same : (before : Option PacketId → List (Option PacketId) → List Verdict → Numbers) (r s : Option PacketId) (rs ss : List (Option PacketId)) (vs ws : List Verdict) (v w : Verdict)
-    → r ≡ s → rs ≡ ss → vs ≡ ws → v ≡ w → IsVerdict (before s ss ws) s w → IsVerdict (before r rs vs) r v
-IsVerdict-same before r s rs ss vs ws v w packet_id packet_ids verdicts verdict is =
-    subst (λ (x : Option PacketId). IsVerdict (before x rs vs) x v) (sym packet_id)
-    (subst (λ (xs : List (Option PacketId)). IsVerdict (before s xs vs) s v) (sym packet_ids)
-    (subst (λ (xs : List Verdict). IsVerdict (before s ss xs) s v) (sym verdicts) (subst (IsVerdict (before s ss ws) s) (sym verdict) is)))
+IsVerdict-same : (count : ℕ) (before : Option PacketId → List (Option PacketId) → List Verdict → Numbers) (r s : Option PacketId) (rs ss : List (Option PacketId)) (vs ws : List Verdict) (v w : Verdict)
+    → r ≡ s → rs ≡ ss → vs ≡ ws → v ≡ w → IsVerdict count (before s ss ws) s w → IsVerdict count (before r rs vs) r v
+IsVerdict-same count before r s rs ss vs ws v w packet_id packet_ids verdicts verdict is =
+    subst (λ (x : Option PacketId). IsVerdict count (before x rs vs) x v) (sym packet_id)
+    (subst (λ (xs : List (Option PacketId)). IsVerdict count (before s xs vs) s v) (sym packet_ids)
+    (subst (λ (xs : List Verdict). IsVerdict count (before s ss xs) s v) (sym verdicts) (subst (IsVerdict count (before s ss ws) s) (sym verdict) is)))
 
 -- a run with one packet id more
-pub IsRunBy-more : (before : Option PacketId → List (Option PacketId) → List Verdict → Numbers) (packet_ids : List (Option PacketId)) (verdicts : List Verdict) (packet_id : Option PacketId) (verdict : Verdict)
-    → IsRunBy before packet_ids verdicts → IsVerdict (before packet_id packet_ids verdicts) packet_id verdict → IsRunBy before (packet_ids ++ packet_id ∷ []) (verdicts ++ verdict ∷ [])
-IsRunBy-more before packet_ids verdicts packet_id verdict run is =
+pub IsRunBy-more : (count : ℕ) (before : Option PacketId → List (Option PacketId) → List Verdict → Numbers) (packet_ids : List (Option PacketId)) (verdicts : List Verdict) (packet_id : Option PacketId) (verdict : Verdict)
+    → IsRunBy count before packet_ids verdicts → IsVerdict count (before packet_id packet_ids verdicts) packet_id verdict → IsRunBy count before (packet_ids ++ packet_id ∷ []) (verdicts ++ verdict ∷ [])
+IsRunBy-more count before packet_ids verdicts packet_id verdict run is =
     let many = length_push packet_ids packet_id in
     record {
       as_many = length_push verdicts verdict ∙ ap (λ (k : ℕ). k + 1) run.as_many ∙ sym many;
       each = λ i below. elim (cases_lt i (length packet_ids)) [
         | inl old ↦
             let within : i < length verdicts = omega (arith, run.as_many) in
-            IsVerdict-same before _ _ _ _ _ _ _ _ (get_or_append_left packet_ids (packet_id ∷ []) None i old) (take-append-le i packet_ids (packet_id ∷ []) (omega arith))
+            IsVerdict-same count before _ _ _ _ _ _ _ _ (get_or_append_left packet_ids (packet_id ∷ []) None i old) (take-append-le i packet_ids (packet_id ∷ []) (omega arith))
             (take-append-le i verdicts (verdict ∷ []) (omega arith)) (get_or_append_left verdicts (verdict ∷ []) Unreadable i within) (run.each i old)
         | inr new ↦
             let here : length packet_ids ≡ i = omega (arith, many) in
             let len : length verdicts ≡ i = run.as_many ∙ here in
-            IsVerdict-same before _ _ _ _ _ _ _ _ (get_or_at packet_ids packet_id [] None i here) (take_at packet_ids (packet_id ∷ []) i here)
+            IsVerdict-same count before _ _ _ _ _ _ _ _ (get_or_at packet_ids packet_id [] None i here) (take_at packet_ids (packet_id ∷ []) i here)
             (take_at verdicts (verdict ∷ []) i len) (get_or_at verdicts verdict [] Unreadable i len) is
       ];
     }
 
-pub IsRun-more : (packet_ids : List (Option PacketId)) (verdicts : List Verdict) (packet_id : Option PacketId) (verdict : Verdict) → IsRun packet_ids verdicts
-    → IsVerdict (taken_by verdicts) packet_id verdict → IsRun (packet_ids ++ packet_id ∷ []) (verdicts ++ verdict ∷ [])
-IsRun-more = IsRunBy-more (λ packet_id earlier taken. taken_by taken)
+pub IsRun-more : (count : ℕ) (packet_ids : List (Option PacketId)) (verdicts : List Verdict) (packet_id : Option PacketId) (verdict : Verdict) → IsRun count packet_ids verdicts
+    → IsVerdict count (taken_by verdicts) packet_id verdict → IsRun count (packet_ids ++ packet_id ∷ []) (verdicts ++ verdict ∷ [])
+IsRun-more count = IsRunBy-more count (λ packet_id earlier taken. taken_by taken)
 
 pub AllZip-more : {A B : Type 0} (R : A → B → Type 0) (xs : List A) (ys : List B) (x : A) (y : B) → AllZip R xs ys → R x y → AllZip R (xs ++ x ∷ []) (ys ++ y ∷ [])
 AllZip-more R [] [] x y all one = (one, tt)
@@ -97,11 +99,11 @@ pub record AreRead (exts : ExtensionMap) (datagrams : List (List ℕ)) (verdicts
   pub causes : AllZip HasCause datagrams are.packet_ids
 
 -- the verdicts on the datagrams so far, and what the receiver then holds
-pub record SoFar (exts : ExtensionMap) (datagrams : List (List ℕ)) (verdicts : List Verdict) (receiver : Option WindowState) : Type 0 where
+pub record SoFar (exts : ExtensionMap) (datagrams : List (List ℕ)) (verdicts : List Verdict) (receiver : ReceiverState) : Type 0 where
   pub read : AreRead exts datagrams verdicts
-  pub holds : Holds receiver (taken_by verdicts)
+  pub holds : Holds receiver 0 (taken_by verdicts)
 
-pub SoFar-none : (exts : ExtensionMap) (verdicts : List Verdict) (receiver : Option WindowState) → verdicts ≡ [] → Holds receiver (taken_by []) → SoFar exts [] verdicts receiver
+pub SoFar-none : (exts : ExtensionMap) (verdicts : List Verdict) (receiver : ReceiverState) → verdicts ≡ [] → Holds receiver 0 (taken_by []) → SoFar exts [] verdicts receiver
 SoFar-none exts verdicts receiver empty holds = subst (λ (vs : List Verdict). SoFar exts [] vs receiver) (sym empty) (record {
   read = record {
     are = record { packet_ids = []; are_packet_ids = tt; run = record { as_many = refl; each = λ i below. absurd (omega arith) } };
@@ -110,19 +112,19 @@ SoFar-none exts verdicts receiver empty holds = subst (λ (vs : List Verdict). S
   holds = holds;
 })
 
-pub SoFar-more : (exts : ExtensionMap) (datagrams : List (List ℕ)) (datagram : List ℕ) (packet_id : Option PacketId) (verdicts : List Verdict) (verdict : Verdict) (before after : Option WindowState)
-    → SoFar exts datagrams verdicts before → IsPacketId exts datagram packet_id → HasCause datagram packet_id → IsVerdict (taken_by verdicts) packet_id verdict
-    → Holds after (taken_after (taken_by verdicts) verdict) → SoFar exts (datagrams ++ datagram ∷ []) (verdicts ++ verdict ∷ []) after
+pub SoFar-more : (exts : ExtensionMap) (datagrams : List (List ℕ)) (datagram : List ℕ) (packet_id : Option PacketId) (verdicts : List Verdict) (verdict : Verdict) (before after : ReceiverState)
+    → SoFar exts datagrams verdicts before → IsPacketId exts datagram packet_id → HasCause datagram packet_id → IsVerdict 0 (taken_by verdicts) packet_id verdict
+    → Holds after 0 (taken_after (taken_by verdicts) verdict) → SoFar exts (datagrams ++ datagram ∷ []) (verdicts ++ verdict ∷ []) after
 SoFar-more exts datagrams datagram packet_id verdicts verdict before after so_far read cause is holds = record {
   read = record {
     are = record {
       packet_ids = so_far.read.are.packet_ids ++ packet_id ∷ [];
       are_packet_ids = AllZip-more (IsPacketId exts) datagrams so_far.read.are.packet_ids datagram packet_id so_far.read.are.are_packet_ids read;
-      run = IsRun-more so_far.read.are.packet_ids verdicts packet_id verdict so_far.read.are.run is;
+      run = IsRun-more 0 so_far.read.are.packet_ids verdicts packet_id verdict so_far.read.are.run is;
     };
     causes = AllZip-more HasCause datagrams so_far.read.are.packet_ids datagram packet_id so_far.read.causes cause;
   };
-  holds = Holds-same after (taken_after (taken_by verdicts) verdict) (taken_by (verdicts ++ verdict ∷ [])) (taken_by-push verdicts verdict) holds;
+  holds = Holds-same after 0 (taken_after (taken_by verdicts) verdict) (taken_by (verdicts ++ verdict ∷ [])) (taken_by-push verdicts verdict) holds;
 }
 
 -- ---- no number is taken twice
@@ -142,18 +144,18 @@ not_fresh taken number is (inr accepted) = elim accepted.above_or_new [
   | inr new ↦ false≢true (sym new.1 ∙ is)
 ]
 
-taken_once : (taken : Numbers) (packet_id : Option PacketId) (number : ℕ) → taken number ≡ true → IsVerdict taken packet_id (Taken number) → ⊥
-taken_once taken None number is verdict = absurd cc
-taken_once taken (Some packet_id) number is verdict =
+taken_once : (count : ℕ) (taken : Numbers) (packet_id : Option PacketId) (number : ℕ) → taken number ≡ true → IsVerdict count taken packet_id (Taken number) → ⊥
+taken_once count taken None number is verdict = absurd cc
+taken_once count taken (Some packet_id) number is verdict =
     not_fresh taken verdict.0 (subst (λ (n : ℕ). taken n ≡ true) verdict.2.0 is) verdict.2.1
 
-pub TakesOnce-run : (packet_ids : List (Option PacketId)) (verdicts : List Verdict) → IsRun packet_ids verdicts → TakesOnce verdicts
-TakesOnce-run packet_ids verdicts run i j number before within first second =
+pub TakesOnce-run : (count : ℕ) (packet_ids : List (Option PacketId)) (verdicts : List Verdict) → IsRun count packet_ids verdicts → TakesOnce verdicts
+TakesOnce-run count packet_ids verdicts run i j number before within first second =
     let earlier = take j verdicts in
     let here : i < length earlier = omega (arith, length-take-le j verdicts (omega arith)) in
     let is : taken_by earlier number ≡ true = taken_by-at earlier i number here (get_or-take j verdicts i Unreadable before ∙ first) in
-    taken_once (taken_by earlier) (get_or packet_ids j None) number is
-    (subst (IsVerdict (taken_by earlier) (get_or packet_ids j None)) second (run.each j (omega (arith, run.as_many))))
+    taken_once count (taken_by earlier) (get_or packet_ids j None) number is
+    (subst (IsVerdict count (taken_by earlier) (get_or packet_ids j None)) second (run.each j (omega (arith, run.as_many))))
 
 -- what `parse` returns is the packet id of the datagram
 pub IsPacketId-parsed : (exts : ExtensionMap) (datagram : List ℕ) (answer : Option RtpHeader) → IfSome answer (IsWire exts datagram)

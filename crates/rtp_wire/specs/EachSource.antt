@@ -7,9 +7,9 @@ use Rattle.rtp_wire.specs.Receivers.{ReceiverStates, state_of}
 use Rattle.rtp_wire.specs.Verdicts.{PacketId}
 use Rattle.rtp_wire.specs.Sources.{is_from}
 
--- receivers hold of each source these numbers
-abbrev pub HoldsEach : ReceiverStates → (ℕ → Numbers) → Type 0
-HoldsEach receivers taken = (source : ℕ) → Holds (state_of receivers source) (taken source)
+-- receivers that start at this rollover count hold of each source these numbers
+abbrev pub HoldsEach : ReceiverStates → ℕ → (ℕ → Numbers) → Type 0
+HoldsEach receivers count taken = (source : ℕ) → Holds (state_of receivers source) count (taken source)
 
 -- what is taken of each source after a verdict on a packet id
 abbrev pub taken_after_each : (ℕ → Numbers) → Option PacketId → Verdict → ℕ → Numbers

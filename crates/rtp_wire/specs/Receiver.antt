@@ -1,7 +1,9 @@
 -- What one stream's receiver holds, and its rule for a number (RFC 3711, 3.3.1 and 3.3.2).
-use Rattle.std.specs.Prelude.{◌≡◌, ℕ, ◌⊎◌, false, Option, Some, None}
-use Rattle.rtp_base.specs.Window.{Numbers, WindowState, IsGreatest, Keeps, Accepts, including}
-use Rattle.rtp_wire.specs.Widening.{Extends}
+use Rattle.std.specs.Prelude.{◌≡◌, ℕ, ◌+◌, ◌*◌, ◌%◌, ◌⊎◌, false, Option, Some, None}
+use Rattle.rtp_base.specs.Window.{Numbers, IsGreatest, Keeps, Accepts, including}
+use Rattle.rtp_wire.specs.Widening.{IsNearest}
+use Rattle.rtp_wire.specs.declared.receive.state.ReceiverState.{ReceiverState}
+use Rattle.rtp_wire.specs.declared.receive.state.ReceiverState.TheVariants.{Start, Window}
 use Rattle.rtp_wire.specs.declared.receive.verdict.Verdict.{Verdict}
 use Rattle.rtp_wire.specs.declared.receive.verdict.Verdict.TheVariants.{Unreadable, Taken, Refused}
 
@@ -14,14 +16,19 @@ abbrev pub IsHighest : Numbers → Option ℕ → Type 0
 IsHighest taken None = IsNothing taken
 IsHighest taken (Some highest) = IsGreatest taken highest
 
--- a receiver holds the set of the numbers that it has taken: none yet, or a replay window keeps them
-abbrev pub Holds : Option WindowState → Numbers → Type 0
-Holds None taken = IsNothing taken
-Holds (Some window) taken = Keeps window taken
+-- a receiver holds the set of the numbers that it has taken: none yet where it is to start at this rollover count, or those that a replay window keeps, wherever it started
+abbrev pub Holds : ReceiverState → ℕ → Numbers → Type 0
+Holds (Start start) count taken = (start ≡ count) × IsNothing taken
+Holds (Window window) count taken = Keeps window taken
 
--- the extended sequence number of a packet with these 16 bits: the nearest to the highest number taken
-abbrev pub IsNumberOf : Numbers → ℕ → ℕ → Type 0
-IsNumberOf taken low number = (highest : Option ℕ) × IsHighest taken highest × Extends 16 highest low number
+-- the extended sequence number that ends in these 16 bits: the nearest to the highest number, and where there is none the one of this rollover count
+abbrev pub ExtendsFrom : ℕ → Option ℕ → ℕ → ℕ → Type 0
+ExtendsFrom count None low number = number ≡ 65536 * count + low % 65536
+ExtendsFrom count (Some highest) low number = IsNearest 16 highest low number
+
+-- the extended sequence number of a packet with these 16 bits, after the highest number taken
+abbrev pub IsNumberOf : ℕ → Numbers → ℕ → ℕ → Type 0
+IsNumberOf count taken low number = (highest : Option ℕ) × IsHighest taken highest × ExtendsFrom count highest low number
 
 -- the number may be taken: no number is taken yet, or the replay window accepts it
 abbrev pub IsFresh : Numbers → ℕ → Type 0

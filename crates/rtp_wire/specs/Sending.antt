@@ -29,4 +29,4 @@ pub record AreSent (exts : ExtensionMap) (headers : List RtpHeader) (numbers : L
   pub source : ℕ
   pub of_source : AllByRecursion (IsOfSource source) headers
   pub arrive : AllZip (Arrives exts) headers datagrams
-  pub are_true : AreTrue (packet_ids_of headers) numbers
+  pub are_true : AreTrue 0 (packet_ids_of headers) numbers

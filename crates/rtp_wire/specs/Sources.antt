@@ -28,9 +28,9 @@ abbrev pub numbers_beside : (ℕ → Numbers) → Option PacketId → Numbers
 numbers_beside taken None = taken_by []
 numbers_beside taken (Some packet_id) = taken packet_id.source
 
--- a verdict for each packet id, after the numbers that the verdicts before it take of the same source
+-- a verdict for each packet id, after the numbers that the verdicts before it take of the same source, each of which starts at the rollover count 0
 abbrev pub AreRuns : List (Option PacketId) → List Verdict → Type 0
-AreRuns packet_ids verdicts = IsRunBy (λ packet_id earlier verdicts_before. numbers_beside (taken_of earlier verdicts_before) packet_id) packet_ids verdicts
+AreRuns packet_ids verdicts = IsRunBy 0 (λ packet_id earlier verdicts_before. numbers_beside (taken_of earlier verdicts_before) packet_id) packet_ids verdicts
 
 -- a verdict for each datagram, by its packet id and the verdicts on the datagrams of its source before it
 pub record AreVerdictsBySource (exts : ExtensionMap) (datagrams : List (List ℕ)) (verdicts : List Verdict) : Type 0 where
@@ -57,7 +57,7 @@ TakesEachOnce packet_ids datagrams verdicts = TakesOnce verdicts
 
 -- these numbers decide, where they are the true numbers of the source's packets
 abbrev pub IsDecidedBy : List ℕ → FactOfSource
-IsDecidedBy numbers packet_ids datagrams verdicts = AreTrue packet_ids numbers → AreTrueVerdicts packet_ids numbers verdicts
+IsDecidedBy numbers packet_ids datagrams verdicts = AreTrue 0 packet_ids numbers → AreTrueVerdicts packet_ids numbers verdicts
 
 -- these numbers decide, where they are those of a sender whose headers arrive
 abbrev pub IsDecidedBySender : ExtensionMap → List RtpHeader → List ℕ → FactOfSource

@@ -40,26 +40,26 @@ taken_by (Taken t ∷ verdicts) number = (number == t) || taken_by verdicts numb
 taken_by (Refused ∷ verdicts) number = taken_by verdicts number
 taken_by (Unreadable ∷ verdicts) number = taken_by verdicts number
 
--- the verdict on a packet id, where these numbers are taken before it
-abbrev pub IsVerdict : Numbers → Option PacketId → Verdict → Type 0
-IsVerdict taken None verdict = verdict ≡ Unreadable
-IsVerdict taken (Some packet_id) verdict = (number : ℕ) × IsNumberOf taken packet_id.low number × IsJudged taken number verdict
+-- the verdict on a packet id of a receiver that starts at this rollover count, where these numbers are taken before it
+abbrev pub IsVerdict : ℕ → Numbers → Option PacketId → Verdict → Type 0
+IsVerdict count taken None verdict = verdict ≡ Unreadable
+IsVerdict count taken (Some packet_id) verdict = (number : ℕ) × IsNumberOf count taken packet_id.low number × IsJudged taken number verdict
 
 -- a verdict for each packet id; `before` is the set of the numbers that count as taken before it, by the packet ids and the verdicts before it
-pub record IsRunBy (before : Option PacketId → List (Option PacketId) → List Verdict → Numbers) (packet_ids : List (Option PacketId)) (verdicts : List Verdict) : Type 0 where
+pub record IsRunBy (count : ℕ) (before : Option PacketId → List (Option PacketId) → List Verdict → Numbers) (packet_ids : List (Option PacketId)) (verdicts : List Verdict) : Type 0 where
   pub as_many : length verdicts ≡ length packet_ids
-  pub each : (i : ℕ) → i < length packet_ids → IsVerdict (before (slice_index_or packet_ids i None) (take i packet_ids) (take i verdicts))
+  pub each : (i : ℕ) → i < length packet_ids → IsVerdict count (before (slice_index_or packet_ids i None) (take i packet_ids) (take i verdicts))
       (slice_index_or packet_ids i None) (slice_index_or verdicts i Unreadable)
 
 -- a verdict for each packet id of one stream, after the numbers that the verdicts before it take
-abbrev pub IsRun : List (Option PacketId) → List Verdict → Type 0
-IsRun packet_ids verdicts = IsRunBy (λ packet_id earlier taken. taken_by taken) packet_ids verdicts
+abbrev pub IsRun : ℕ → List (Option PacketId) → List Verdict → Type 0
+IsRun count packet_ids verdicts = IsRunBy count (λ packet_id earlier taken. taken_by taken) packet_ids verdicts
 
--- a verdict for each datagram, by its packet id
+-- a verdict for each datagram, by its packet id, of a receiver that starts at the rollover count 0
 pub record AreVerdicts (exts : ExtensionMap) (datagrams : List (List ℕ)) (verdicts : List Verdict) : Type 0 where
   pub packet_ids : List (Option PacketId)
   pub are_packet_ids : ArePacketIds exts datagrams packet_ids
-  pub run : IsRun packet_ids verdicts
+  pub run : IsRun 0 packet_ids verdicts
 
 -- no number is taken twice
 abbrev pub TakesOnce : List Verdict → Type 0

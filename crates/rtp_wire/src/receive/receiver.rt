@@ -1,19 +1,22 @@
 //! The receive state of one stream.
 
-ghost use Rattle.std.specs.Prelude.{◌≡◌, ◌↔◌, ℕ, Option, IsTrue, false, if◌then◌else◌};
+ghost use Rattle.std.specs.Prelude.{◌≡◌, ◌↔◌, ◌^◌, ◌<◌, ℕ, IsTrue, false, if◌then◌else◌};
 ghost use Rattle.std.specs.Option.{option_map, option_copied};
 ghost use Rattle.rtp_base.specs.Window.{Numbers, including};
-ghost use Rattle.rtp_wire.specs.Receiver.{Holds, IsNothing, IsHighest, IsNumberOf, IsFresh, IsJudged, taken_after};
+ghost use Rattle.rtp_wire.specs.Receiver.{Holds, IsHighest, IsNumberOf, IsFresh, IsJudged, taken_after};
+ghost use Rattle.rtp_wire.specs.declared.receive.state.ReceiverState.TheVariants.{Start};
 ghost use Rattle.rtp_wire.specs.Verdicts.{IsVerdict, packet_id_of};
 ghost use Rattle.rtp_wire.specs.declared.receive.verdict.Verdict.TheVariants.{Refused};
 ghost use Rattle.rtp_wire.specs.TrueNumbers.{IsTrueNumber};
 
 use super::Verdict;
+use super::state::{ReceiverState, RolloverCount};
 use crate::header::RtpHeader;
 use rtp_base::{SeqNo, SeqNoWindow};
 use std::marker::Model;
 
-/// The receive state of one stream: nothing yet, or a replay window (RFC 3711, 3.3.2).
+/// The receive state of one stream: the rollover count at which it starts, and then a replay window
+/// (RFC 3711, 3.3.2).
 ///
 /// For SRTP the three steps are apart, so that a forged packet changes nothing: estimate the
 /// extended sequence number with [`number_of`](Self::number_of), test it with
@@ -21,81 +24,101 @@ use std::marker::Model;
 /// nothing is authenticated [`receive`](Self::receive) does all of it.
 ///
 /// With the packets 65,534, 65,535 and 0 of a stream `receive` takes 65,534, 65,535 and 65,536; the
-/// same packets again are refused.
+/// same packets again are refused. After a first packet 5 the packet 65,533, which was sent before
+/// it, has no number: under [`new`](Self::new) it is taken as 2^64 - 3, and then the packet 6 is
+/// refused. [`starting_at`](Self::starting_at) 1 it is taken as 65,533, between 0 and the first
+/// number 65,541, and so is 6 as 65,542.
 #[derive(Debug, Drop)]
 pub struct Receiver {
-    window: Option<SeqNoWindow>,
+    state: ReceiverState,
 }
 
 impl Model for Receiver {
-    ghost use Rattle.std.specs.Prelude.{Option};
-    ghost use Rattle.rtp_base.specs.Window.{WindowState};
+    ghost use Rattle.rtp_wire.specs.declared.receive.state.ReceiverState.{ReceiverState};
 
-    ghost Value = { Option WindowState };
+    ghost Value = { ReceiverState };
 
-    ghost view = { λ receiver. receiver.window };
+    ghost view = { λ receiver. receiver.state };
 }
 
 impl Receiver {
-    /// A receiver that has taken nothing yet.
+    /// A receiver that has taken nothing yet. The first packet's number is the 16 bits of its
+    /// header: the rollover count is 0 (RFC 3711, 3.3.1).
     pub fn new() -> Self
-        ensures { (taken : Numbers) → (Holds result taken ↔ IsNothing taken) }
+        ensures { result ≡ Start 0 }
     {
-        Receiver { window: None }
+        Self::starting_at(0)
+    }
+
+    /// A receiver that has taken nothing yet, whose first packet has this rollover count: its
+    /// number is 65,536 times the count, and the 16 bits of its header. Under a count of 1 or more
+    /// a packet that was sent before the first one has a number too. Precondition: the count is
+    /// below 2^48.
+    pub fn starting_at(rollover_count: u64) -> Self
+        requires { rollover_count < 2 ^ 48 }
+        ensures { result ≡ Start rollover_count }
+    {
+        Receiver {
+            state: ReceiverState::Start(RolloverCount::new(rollover_count)),
+        }
     }
 
     /// The highest number taken, and `None` where nothing is taken yet.
     pub fn highest(&self) -> Option<SeqNo>
-        ensures highest { (taken : Numbers) → Holds self.now taken → IsHighest taken result }
+        ensures highest { (count : ℕ) → (taken : Numbers) → Holds self.now count taken →
+            IsHighest taken result }
 
         // Each receiver holds some set, so the clauses here always speak of something.
-        ensures some { (taken : Numbers) × Holds self.now taken }
+        ensures some { (count : ℕ) × (taken : Numbers) × Holds self.now count taken }
     {
-        match &self.window {
-            None => None,
-            Some(window) => Some(window.max_seq()),
+        match &self.state {
+            ReceiverState::Start(_) => None,
+            ReceiverState::Window(window) => Some(window.max_seq()),
         }
     }
 
     /// The extended sequence number of a packet with this header: the one nearest to the highest
-    /// number taken (RFC 3711, 3.3.1), and the header's 16 bits where nothing is taken yet.
+    /// number taken (RFC 3711, 3.3.1). Where nothing is taken yet, it is the one with the rollover
+    /// count at which the receiver starts.
     pub fn number_of(&self, header: &RtpHeader) -> SeqNo
-        ensures nearest { (taken : Numbers) → Holds self.now taken →
-            IsNumberOf taken header.now.sequence_number result }
+        ensures nearest { (count : ℕ) → (taken : Numbers) → Holds self.now count taken →
+            IsNumberOf count taken header.now.sequence_number result }
 
-        // It is the number that the sender gave the packet, where that is in reach: below 65,536 for
-        // the first packet, and for each later one less than 32,768 away from the highest of the
-        // packets before it, whether these were taken or not. A first packet of number 70,000 is
-        // taken as 4,464.
-        ensures true_number { (numbers : Numbers) → (number : ℕ) → Holds self.now numbers →
-            IsTrueNumber numbers header.now.sequence_number number → result ≡ number }
+        // It is the number that the sender gave the packet, where that is in reach: of the rollover
+        // count at which the receiver starts for the first packet, and for each later one less than
+        // 32,768 away from the highest of the packets before it, whether these were taken or not.
+        // Under `new` a first packet of number 70,000 is taken as 4,464.
+        ensures true_number { (count : ℕ) → (numbers : Numbers) → (number : ℕ) →
+            Holds self.now count numbers →
+            IsTrueNumber count numbers header.now.sequence_number number → result ≡ number }
     {
-        header.sequence_number(self.highest())
+        match &self.state {
+            ReceiverState::Start(count) => count.number(header.sequence_number),
+            ReceiverState::Window(window) => header.sequence_number(Some(window.max_seq())),
+        }
     }
 
     /// Whether the number may be taken: nothing is taken yet, or it is above the highest number
     /// taken, or less than 128 below it and not taken.
     pub fn accepts(&self, number: SeqNo) -> bool
-        ensures { (taken : Numbers) → Holds self.now taken → (IsTrue result ↔ IsFresh taken number) }
+        ensures { (count : ℕ) → (taken : Numbers) → Holds self.now count taken →
+            (IsTrue result ↔ IsFresh taken number) }
     {
-        match &self.window {
-            None => true,
-            Some(window) => window.accepts(number),
+        match &self.state {
+            ReceiverState::Start(_) => true,
+            ReceiverState::Window(window) => window.accepts(number),
         }
     }
 
     /// Records that the number is taken, once its packet is known to be authentic. A number that
     /// [`accepts`](Self::accepts) refuses changes nothing.
     pub fn record(&mut self, number: SeqNo)
-        ensures recorded { (taken : Numbers) → Holds self.old taken →
-            Holds self.new (including taken number) }
-        ensures unchanged { (taken : Numbers) → Holds self.old taken →
+        ensures recorded { (count : ℕ) → (taken : Numbers) → Holds self.old count taken →
+            Holds self.new count (including taken number) }
+        ensures unchanged { (count : ℕ) → (taken : Numbers) → Holds self.old count taken →
             (IsFresh taken number → ⊥) → self.new ≡ self.old }
     {
-        match &mut self.window {
-            None => self.window = Some(SeqNoWindow::new(number)),
-            Some(window) => window.update(number),
-        }
+        self.take(number);
     }
 
     /// The verdict on a packet with this header: taken, and then recorded, exactly when its
@@ -103,20 +126,23 @@ impl Receiver {
     /// [`number_of`](Self::number_of), [`accepts`](Self::accepts) and [`record`](Self::record) in
     /// one, where nothing is authenticated.
     pub fn receive(&mut self, header: &RtpHeader) -> Verdict
-        ensures verdict { (taken : Numbers) → Holds self.old taken →
-            (number : ℕ) × IsNumberOf taken header.now.sequence_number number
+        ensures verdict { (count : ℕ) → (taken : Numbers) → Holds self.old count taken →
+            (number : ℕ) × IsNumberOf count taken header.now.sequence_number number
             × IsJudged taken number result }
-        ensures after { (taken : Numbers) → Holds self.old taken →
-            Holds self.new (taken_after taken result) }
+        ensures after { (count : ℕ) → (taken : Numbers) → Holds self.old count taken →
+            Holds self.new count (taken_after taken result) }
         ensures refused { result ≡ Refused → self.new ≡ self.old }
 
         // The same by the numbers that the sender gave the packets, where those of all packets
         // before this one count: so the verdicts on a run follow from its numbers alone.
-        ensures true_number { (numbers : Numbers) → (number : ℕ) → Holds self.old numbers →
-            IsTrueNumber numbers header.now.sequence_number number → IsJudged numbers number result }
-        ensures true_numbers { (numbers : Numbers) → (number : ℕ) → Holds self.old numbers →
-            IsTrueNumber numbers header.now.sequence_number number →
-            Holds self.new (including numbers number) }
+        ensures true_number { (count : ℕ) → (numbers : Numbers) → (number : ℕ) →
+            Holds self.old count numbers →
+            IsTrueNumber count numbers header.now.sequence_number number →
+            IsJudged numbers number result }
+        ensures true_numbers { (count : ℕ) → (numbers : Numbers) → (number : ℕ) →
+            Holds self.old count numbers →
+            IsTrueNumber count numbers header.now.sequence_number number →
+            Holds self.new count (including numbers number) }
     {
         let number = self.number_of(header);
         if self.take(number) {
@@ -128,26 +154,27 @@ impl Receiver {
 
     // Records the number where it may be taken, and returns whether it may.
     fn take(&mut self, number: SeqNo) -> bool
-        ensures accepts { (taken : Numbers) → Holds self.old taken → (IsTrue result ↔ IsFresh taken number) }
-        ensures taken { (taken : Numbers) → Holds self.old taken →
-            Holds self.new (if result then including taken number else taken) }
+        ensures accepts { (count : ℕ) → (taken : Numbers) → Holds self.old count taken →
+            (IsTrue result ↔ IsFresh taken number) }
+        ensures taken { (count : ℕ) → (taken : Numbers) → Holds self.old count taken →
+            Holds self.new count (if result then including taken number else taken) }
         ensures refused { result ≡ false → self.new ≡ self.old }
     {
-        match &mut self.window {
-            None => {
-                self.window = Some(SeqNoWindow::new(number));
+        match &mut self.state {
+            ReceiverState::Start(_) => {
+                self.state = ReceiverState::Window(SeqNoWindow::new(number));
                 true
             }
-            Some(window) => window.take(number),
+            ReceiverState::Window(window) => window.take(number),
         }
     }
 
     // The verdict on a datagram, by the header that it begins with.
     pub(super) fn verdict_on(&mut self, header: Option<&RtpHeader>) -> Verdict
-        ensures verdict { (taken : Numbers) → Holds self.old taken →
-            IsVerdict taken (option_map packet_id_of (option_copied header.entry)) result }
-        ensures after { (taken : Numbers) → Holds self.old taken →
-            Holds self.new (taken_after taken result) }
+        ensures verdict { (count : ℕ) → (taken : Numbers) → Holds self.old count taken →
+            IsVerdict count taken (option_map packet_id_of (option_copied header.entry)) result }
+        ensures after { (count : ℕ) → (taken : Numbers) → Holds self.old count taken →
+            Holds self.new count (taken_after taken result) }
     {
         match header {
             None => Verdict::Unreadable,

@@ -1,16 +1,18 @@
 //! The receive state of many streams.
 
-ghost use Rattle.std.specs.Prelude.{◌≡◌, ◌≢◌, ◌↔◌, ◌+◌, ℕ, [], length, Some, None, IsTrue, IsSome, IfSome, IfNone, IsOk, IfOk, OnOk, OnErr};
+ghost use Rattle.std.specs.Prelude.{◌≡◌, ◌≢◌, ◌↔◌, ◌+◌, ◌^◌, ◌<◌, ℕ, [], length, Some, None, IsTrue, IsSome, IfSome, IfNone, IsOk, IfOk, OnOk, OnErr};
 ghost use Rattle.std.specs.Option.{option_map, option_copied};
 ghost use Rattle.rtp_base.specs.Window.{Numbers, including};
 ghost use Rattle.rtp_wire.specs.Receiver.{Holds, IsNumberOf, IsFresh, IsJudged, taken_after};
 ghost use Rattle.rtp_wire.specs.Receivers.{receiver_of, state_of};
 ghost use Rattle.rtp_wire.specs.Verdicts.{IsVerdict, packet_id_of};
 ghost use Rattle.rtp_wire.specs.declared.receive.verdict.Verdict.TheVariants.{Refused};
+ghost use Rattle.rtp_wire.specs.declared.receive.state.ReceiverState.TheVariants.{Start};
 ghost use Rattle.rtp_wire.specs.TrueNumbers.{IsTrueNumber};
 ghost use Rattle.rtp_wire.specs.Sources.{numbers_beside};
 ghost use Rattle.rtp_wire.specs.EachSource.{HoldsEach, taken_after_each};
 
+use super::state::RolloverCount;
 use super::{Receiver, Verdict};
 use crate::header::RtpHeader;
 use rtp_base::{SeqNo, Ssrc};
@@ -30,6 +32,7 @@ use std::marker::Model;
 /// of source 2 and 0 of source 1, `receive` takes 65,535, 10 and 65,536.
 #[derive(Debug, Drop)]
 pub struct Receivers {
+    rollover_count: RolloverCount,
     by_ssrc: BTreeMap<Ssrc, Receiver>,
 }
 
@@ -38,29 +41,51 @@ impl Model for Receivers {
 
     ghost Value = { ReceiverStates };
 
-    ghost view = { λ receivers. receivers.by_ssrc.entries };
+    ghost view = { λ receivers. record {
+      rollover_count = receivers.rollover_count;
+      by_source = receivers.by_ssrc.entries;
+    } };
 }
 
 impl Receivers {
-    /// Receivers of no source yet. Each new one will take its memory from `alloc`.
+    /// Receivers of no source yet, each of which will be as [`Receiver::new`] makes it and take its
+    /// memory from `alloc`.
     pub fn new(alloc: Global) -> Self
-        ensures { result ≡ [] }
+        ensures { result ≡ record { rollover_count = 0; by_source = [] } }
+    {
+        Self::starting_at(alloc, 0)
+    }
+
+    /// Receivers of no source yet, each of which will start at this rollover count
+    /// ([`Receiver::starting_at`]) and take its memory from `alloc`. Precondition: the count is
+    /// below 2^48.
+    pub fn starting_at(alloc: Global, rollover_count: u64) -> Self
+        requires { rollover_count < 2 ^ 48 }
+        ensures { result ≡ record { rollover_count = rollover_count; by_source = [] } }
     {
         Receivers {
+            rollover_count: RolloverCount::new(rollover_count),
             by_ssrc: BTreeMap::new(alloc),
         }
     }
 
+    // The receiver of a source that has none yet.
+    fn new_receiver(&self) -> Receiver
+        ensures { result ≡ Start self.now.rollover_count }
+    {
+        Receiver::starting_at(self.rollover_count.get())
+    }
+
     /// How many sources have a receiver.
     pub fn len(&self) -> usize
-        ensures { result ≡ length self.now }
+        ensures { result ≡ length self.now.by_source }
     {
         self.by_ssrc.len()
     }
 
     /// Whether no source has a receiver.
     pub fn is_empty(&self) -> bool
-        ensures { IsTrue result ↔ (self.now ≡ []) }
+        ensures { IsTrue result ↔ (self.now.by_source ≡ []) }
     {
         self.by_ssrc.is_empty()
     }
@@ -81,27 +106,31 @@ impl Receivers {
         ensures same { IfNone result (self.new ≡ self.old) }
         ensures others { (source : ℕ) → source ≢ ssrc →
             receiver_of self.new source ≡ receiver_of self.old source }
-        ensures fewer { IfSome result (λ _. length self.new + 1 ≡ length self.old) }
+        ensures count { self.new.rollover_count ≡ self.old.rollover_count }
+        ensures fewer { IfSome result (λ _.
+            length self.new.by_source + 1 ≡ length self.old.by_source) }
     {
         self.by_ssrc.remove(&ssrc)
     }
 
     /// The extended sequence number of a packet with this header: the one nearest to the highest
-    /// number taken of its source (RFC 3711, 3.3.1), and the header's 16 bits where none is taken
-    /// yet.
+    /// number taken of its source (RFC 3711, 3.3.1). Where none is taken yet, it is the one with
+    /// the rollover count at which receivers start.
     pub fn number_of(&self, header: &RtpHeader) -> SeqNo
-        ensures nearest { (taken : Numbers) → Holds (state_of self.now header.now.ssrc) taken →
-            IsNumberOf taken header.now.sequence_number result }
+        ensures nearest { (count : ℕ) → (taken : Numbers) →
+            Holds (state_of self.now header.now.ssrc) count taken →
+            IsNumberOf count taken header.now.sequence_number result }
 
-        // It is the number that the sender gave the packet, where that is in reach: below 65,536 for
-        // the source's first packet, and for each later one less than 32,768 away from the highest
-        // of its packets before it, whether these were taken or not.
-        ensures true_number { (numbers : Numbers) → (number : ℕ) →
-            Holds (state_of self.now header.now.ssrc) numbers →
-            IsTrueNumber numbers header.now.sequence_number number → result ≡ number }
+        // It is the number that the sender gave the packet, where that is in reach: of the rollover
+        // count at which receivers start for the source's first packet, and for each later one less
+        // than 32,768 away from the highest of its packets before it, whether these were taken or
+        // not.
+        ensures true_number { (count : ℕ) → (numbers : Numbers) → (number : ℕ) →
+            Holds (state_of self.now header.now.ssrc) count numbers →
+            IsTrueNumber count numbers header.now.sequence_number number → result ≡ number }
     {
         match self.get(header.ssrc) {
-            None => Receiver::new().number_of(header),
+            None => self.new_receiver().number_of(header),
             Some(receiver) => receiver.number_of(header),
         }
     }
@@ -109,7 +138,7 @@ impl Receivers {
     /// Whether the number may be taken of the source: none is taken of it yet, or the number is
     /// above the highest one taken of it, or less than 128 below that and not taken.
     pub fn accepts(&self, ssrc: Ssrc, number: SeqNo) -> bool
-        ensures { (taken : Numbers) → Holds (state_of self.now ssrc) taken →
+        ensures { (count : ℕ) → (taken : Numbers) → Holds (state_of self.now ssrc) count taken →
             (IsTrue result ↔ IsFresh taken number) }
     {
         match self.get(ssrc) {
@@ -123,24 +152,30 @@ impl Receivers {
     ///
     /// Memory is taken for a new receiver alone; where it is refused nothing changes.
     pub fn record(&mut self, ssrc: Ssrc, number: SeqNo) -> Result<(), AllocError>
-        ensures recorded { (taken : Numbers) → Holds (state_of self.old ssrc) taken →
-            OnOk result (Holds (state_of self.new ssrc) (including taken number)) }
+        ensures recorded { (count : ℕ) → (taken : Numbers) →
+            Holds (state_of self.old ssrc) count taken →
+            OnOk result (Holds (state_of self.new ssrc) count (including taken number)) }
+        ensures unchanged { (count : ℕ) → (taken : Numbers) →
+            Holds (state_of self.old ssrc) count taken → (IsFresh taken number → ⊥) →
+            receiver_of self.new ssrc ≡ receiver_of self.old ssrc }
         ensures receiver { OnOk result (IsSome (receiver_of self.new ssrc)) }
         ensures others { (source : ℕ) → source ≢ ssrc →
             receiver_of self.new source ≡ receiver_of self.old source }
+        ensures count { self.new.rollover_count ≡ self.old.rollover_count }
         ensures refused { OnErr result (self.new ≡ self.old) }
         ensures memory { OnErr result (receiver_of self.old ssrc ≡ None) }
 
         // One receiver more exactly where the source had none.
-        ensures as_many { IsSome (receiver_of self.old ssrc) → length self.new ≡ length self.old }
+        ensures as_many { IsSome (receiver_of self.old ssrc) →
+            length self.new.by_source ≡ length self.old.by_source }
         ensures one_more { receiver_of self.old ssrc ≡ None →
-            OnOk result (length self.new ≡ length self.old + 1) }
+            OnOk result (length self.new.by_source ≡ length self.old.by_source + 1) }
     {
         if let Some(receiver) = self.by_ssrc.get_mut(&ssrc) {
             receiver.record(number);
             return Ok(());
         }
-        let mut receiver = Receiver::new();
+        let mut receiver = self.new_receiver();
         receiver.record(number);
         self.by_ssrc.insert(ssrc, receiver)?;
         Ok(())
@@ -154,23 +189,26 @@ impl Receivers {
     ///
     /// Memory is taken for a new receiver alone; where it is refused nothing changes.
     pub fn receive(&mut self, header: &RtpHeader) -> Result<Verdict, AllocError>
-        ensures verdict { (taken : Numbers) → Holds (state_of self.old header.now.ssrc) taken →
+        ensures verdict { (count : ℕ) → (taken : Numbers) →
+            Holds (state_of self.old header.now.ssrc) count taken →
             IfOk result (λ verdict. (number : ℕ)
-            × IsNumberOf taken header.now.sequence_number number × IsJudged taken number verdict) }
-        ensures after { (taken : Numbers) → Holds (state_of self.old header.now.ssrc) taken →
-            IfOk result (λ verdict.
-            Holds (state_of self.new header.now.ssrc) (taken_after taken verdict)) }
+            × IsNumberOf count taken header.now.sequence_number number
+            × IsJudged taken number verdict) }
+        ensures after { (count : ℕ) → (taken : Numbers) →
+            Holds (state_of self.old header.now.ssrc) count taken → IfOk result (λ verdict.
+            Holds (state_of self.new header.now.ssrc) count (taken_after taken verdict)) }
 
         // The same by the numbers that the sender gave the packets, where those of all packets of
         // the source before this one count.
-        ensures true_number { (numbers : Numbers) → (number : ℕ) →
-            Holds (state_of self.old header.now.ssrc) numbers →
-            IsTrueNumber numbers header.now.sequence_number number →
+        ensures true_number { (count : ℕ) → (numbers : Numbers) → (number : ℕ) →
+            Holds (state_of self.old header.now.ssrc) count numbers →
+            IsTrueNumber count numbers header.now.sequence_number number →
             IfOk result (IsJudged numbers number) }
-        ensures true_numbers { (numbers : Numbers) → (number : ℕ) →
-            Holds (state_of self.old header.now.ssrc) numbers →
-            IsTrueNumber numbers header.now.sequence_number number →
-            OnOk result (Holds (state_of self.new header.now.ssrc) (including numbers number)) }
+        ensures true_numbers { (count : ℕ) → (numbers : Numbers) → (number : ℕ) →
+            Holds (state_of self.old header.now.ssrc) count numbers →
+            IsTrueNumber count numbers header.now.sequence_number number →
+            OnOk result
+            (Holds (state_of self.new header.now.ssrc) count (including numbers number)) }
 
         ensures unchanged { IfOk result (λ verdict. verdict ≡ Refused → IsSome
             (receiver_of self.old header.now.ssrc) × (receiver_of self.new header.now.ssrc
@@ -180,19 +218,20 @@ impl Receivers {
         ensures receiver { OnOk result (IsSome (receiver_of self.new header.now.ssrc)) }
         ensures others { (source : ℕ) → source ≢ header.now.ssrc →
             receiver_of self.new source ≡ receiver_of self.old source }
+        ensures count { self.new.rollover_count ≡ self.old.rollover_count }
         ensures refused { OnErr result (self.new ≡ self.old) }
         ensures memory { OnErr result (receiver_of self.old header.now.ssrc ≡ None) }
 
         // One receiver more exactly where the source had none.
         ensures as_many { IsSome (receiver_of self.old header.now.ssrc) →
-            length self.new ≡ length self.old }
+            length self.new.by_source ≡ length self.old.by_source }
         ensures one_more { receiver_of self.old header.now.ssrc ≡ None →
-            OnOk result (length self.new ≡ length self.old + 1) }
+            OnOk result (length self.new.by_source ≡ length self.old.by_source + 1) }
     {
         if let Some(receiver) = self.by_ssrc.get_mut(&header.ssrc) {
             return Ok(receiver.receive(header));
         }
-        let mut receiver = Receiver::new();
+        let mut receiver = self.new_receiver();
         let verdict = receiver.receive(header);
         self.by_ssrc.insert(header.ssrc, receiver)?;
         Ok(verdict)
@@ -200,11 +239,12 @@ impl Receivers {
 
     // The verdict on a datagram, by the header that it begins with.
     pub(super) fn verdict_on(&mut self, header: Option<&RtpHeader>) -> Result<Verdict, AllocError>
-        ensures verdict { (taken : ℕ → Numbers) → HoldsEach self.old taken → IfOk result (IsVerdict
+        ensures verdict { (count : ℕ) → (taken : ℕ → Numbers) → HoldsEach self.old count taken →
+            IfOk result (IsVerdict count
             (numbers_beside taken (option_map packet_id_of (option_copied header.entry)))
             (option_map packet_id_of (option_copied header.entry))) }
-        ensures after { (taken : ℕ → Numbers) → HoldsEach self.old taken → IfOk result (λ verdict.
-            HoldsEach self.new (taken_after_each taken
+        ensures after { (count : ℕ) → (taken : ℕ → Numbers) → HoldsEach self.old count taken →
+            IfOk result (λ verdict. HoldsEach self.new count (taken_after_each taken
             (option_map packet_id_of (option_copied header.entry)) verdict)) }
         ensures succeeds { header.entry ≡ None → IsOk result }
         ensures same { header.entry ≡ None → self.new ≡ self.old }

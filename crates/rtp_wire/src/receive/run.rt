@@ -79,7 +79,7 @@ pub fn receive_run_one(
     // 65,536, and each later one is less than 32,768 away from the highest before it.
     ensures true_numbers { (packet_ids : List (Option PacketId)) → (numbers : List ℕ) →
         ArePacketIds exts.now (map (λ d. d.items) datagrams.now) packet_ids →
-        AreTrue packet_ids numbers →
+        AreTrue 0 packet_ids numbers →
         IfOk result (λ found. AreTrueVerdicts packet_ids numbers found.items) }
 
     // What a sender's headers were written as is read, whatever is lost, repeated or reordered on

@@ -10,6 +10,6 @@ returns-clause-header c = IsHeader-parsed c.args.exts.now c.args.datagram.now c.
 pub returns-clause-after : goal.returns-clause-after
 returns-clause-after c taken holds =
     elim c.match-header.branch [
-      | in-Some+in_ok-verdict-in-Some w ↦ rw (w.receivers-is, w.verdict-is, w.in-Some.is) (HoldsEach-after c.args.receivers.now w.receive.new.self taken (packet_id_of w.in-Some.header) w.in_ok-verdict-in-Some.verdict holds (w.in_ok-verdict-in-Some.ensures.after (taken w.in-Some.header.ssrc) (holds w.in-Some.header.ssrc)) w.in_ok-verdict-in-Some.ensures.others)
+      | in-Some+in_ok-verdict-in-Some w ↦ rw (w.receivers-is, w.verdict-is, w.in-Some.is) (HoldsEach-after 0 c.args.receivers.now w.receive.new.self taken (packet_id_of w.in-Some.header) w.in_ok-verdict-in-Some.verdict holds w.in_ok-verdict-in-Some.ensures.count (w.in_ok-verdict-in-Some.ensures.after 0 (taken w.in-Some.header.ssrc) (holds w.in-Some.header.ssrc)) w.in_ok-verdict-in-Some.ensures.others)
       | in-None w ↦ rw (w.receivers-is, w.verdict-is, w.in-None.is) holds
     ]

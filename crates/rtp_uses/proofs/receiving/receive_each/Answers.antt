@@ -25,7 +25,7 @@ loop-header-preserved c =
       so_far = subst (λ rs. AreSoFar rs c.push_reserved.new.self.items c.receive.new.self) (sym one)
           (subst (λ (vs : List Verdict). AreSoFar (take i packet_ids ++ packet_id header ∷ []) vs c.receive.new.self) (sym c.push_reserved.ensures.items)
           (AreSoFar-more (take i packet_ids) verdicts c.loop-header.receiver c.receive.new.self (packet_id header) c.receive.result so_far
-          (c.receive.ensures.verdict (taken_by verdicts) so_far.holds) (c.receive.ensures.after (taken_by verdicts) so_far.holds)));
+          (c.receive.ensures.verdict 0 (taken_by verdicts) so_far.holds) (c.receive.ensures.after 0 (taken_by verdicts) so_far.holds)));
       room = c.push_reserved.ensures.capacity ∙ c.loop-header.invariant.room;
       as_many = ap length c.push_reserved.ensures.items ∙ length_push verdicts c.receive.result
           ∙ ap (λ (k : ℕ). k + 1) c.loop-header.invariant.as_many;
@@ -36,5 +36,5 @@ returns c numbers are =
     let headers = c.args.headers.now in
     let packet_ids = packet_ids_of headers in
     let whole = take_all c.loop-header.header-index packet_ids (omega (arith, length-map headers (λ h. Some (packet_id_of h)))) in
-    AreTrueVerdicts-run packet_ids c.loop-header.verdicts.items numbers
-    (subst (λ rs. IsRun rs c.loop-header.verdicts.items) whole c.loop-header.invariant.so_far.run) are
+    AreTrueVerdicts-run 0 packet_ids c.loop-header.verdicts.items numbers
+    (subst (λ rs. IsRun 0 rs c.loop-header.verdicts.items) whole c.loop-header.invariant.so_far.run) are

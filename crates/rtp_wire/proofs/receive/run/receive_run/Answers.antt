@@ -36,10 +36,10 @@ loop-datagram-preserved c =
     let packet_id = option_map packet_id_of c.in_ok-header.header in
     let read = IsPacketId-parsed exts c.deref.result.now c.in_ok-header.header c.in_ok-header.ensures.found c.in_ok-header.ensures.only in
     let cause = HasCause-parsed c.deref.result.now c.in_ok-header.header (λ none. c.in_ok-header.ensures.refused.0 (ap Ok none)) in
-    let verdict = subst (λ (h : Option RtpHeader). IsVerdict (numbers_beside taken (option_map packet_id_of h)) (option_map packet_id_of h) c.in_ok-verdict.verdict) c.as_ref.ensures.value
-    (c.in_ok-verdict.ensures.verdict taken so_far.holds) in
-    let holds = subst (λ (h : Option RtpHeader). HoldsEach c.verdict_on.new.self (taken_after_each taken (option_map packet_id_of h) c.in_ok-verdict.verdict)) c.as_ref.ensures.value
-    (c.in_ok-verdict.ensures.after taken so_far.holds) in
+    let verdict = subst (λ (h : Option RtpHeader). IsVerdict 0 (numbers_beside taken (option_map packet_id_of h)) (option_map packet_id_of h) c.in_ok-verdict.verdict) c.as_ref.ensures.value
+    (c.in_ok-verdict.ensures.verdict 0 taken so_far.holds) in
+    let holds = subst (λ (h : Option RtpHeader). HoldsEach c.verdict_on.new.self 0 (taken_after_each taken (option_map packet_id_of h) c.in_ok-verdict.verdict)) c.as_ref.ensures.value
+    (c.in_ok-verdict.ensures.after 0 taken so_far.holds) in
     let more = SoFarEach-more exts (take done datagrams) c.deref.result.now packet_id verdicts c.in_ok-verdict.verdict c.loop-datagram.receivers c.verdict_on.new.self
     so_far read cause verdict holds in
     let one : take (done + 1) datagrams ≡ take done datagrams ++ c.deref.result.now ∷ [] =
@@ -61,7 +61,7 @@ returns-clause-isolated c packet_ids read source =
 pub returns-clause-once : goal.returns-clause-once
 returns-clause-once c packet_ids read source =
     let are = returns-clause-isolated c packet_ids read source in
-    TakesOnce-run are.packet_ids (at_source source packet_ids c.loop-datagram.verdicts.items) are.run
+    TakesOnce-run 0 are.packet_ids (at_source source packet_ids c.loop-datagram.verdicts.items) are.run
 
 pub returns-clause-true_numbers : goal.returns-clause-true_numbers
 returns-clause-true_numbers c numbers packet_ids read source true_are =

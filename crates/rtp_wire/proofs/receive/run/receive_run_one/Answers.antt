@@ -4,7 +4,7 @@ use Rattle.std.specs.Option.{option_map}
 use Rattle.std.proofs.lemmas.List.{get_or-map, length-map, length_push, take_more, take_all}
 use Rattle.rtp_wire.specs.declared.header.rtp_header.RtpHeader.{RtpHeader}
 use Rattle.rtp_wire.specs.declared.receive.verdict.Verdict.{Verdict}
-use Rattle.rtp_wire.specs.Receiver.{IsNothing}
+use Rattle.rtp_wire.specs.Receiver.{Holds, IsNothing}
 use Rattle.rtp_wire.specs.Verdicts.{packet_id_of, taken_by, IsVerdict, AreVerdicts}
 use Rattle.rtp_wire.proofs.VerdictLemmas.{AreRead, SoFar, SoFar-none, SoFar-more, TakesOnce-run, IsPacketId-parsed, HasCause-parsed}
 use Rattle.rtp_wire.proofs.TrueNumberLemmas.{AreTrueVerdicts-of}
@@ -16,7 +16,7 @@ nothing n = refl
 
 pub loop-datagram-init : goal.loop-datagram-init
 loop-datagram-init c = (
-  SoFar-none _ _ c.new-receiver.result c.in_ok-verdicts.ensures.items ((c.new-receiver.ensures (taken_by [])).1 nothing),
+  SoFar-none _ _ c.new-receiver.result c.in_ok-verdicts.ensures.items (subst (λ state. Holds state 0 (taken_by [])) (sym c.new-receiver.ensures) (refl, nothing)),
   c.in_ok-verdicts.ensures.exact,
   ap length c.in_ok-verdicts.ensures.items,
 )
@@ -36,10 +36,10 @@ loop-datagram-preserved c =
     let packet_id = option_map packet_id_of c.in_ok-header.header in
     let read = IsPacketId-parsed exts c.deref.result.now c.in_ok-header.header c.in_ok-header.ensures.found c.in_ok-header.ensures.only in
     let cause = HasCause-parsed c.deref.result.now c.in_ok-header.header (λ none. c.in_ok-header.ensures.refused.0 (ap Ok none)) in
-    let verdict = subst (λ (h : Option RtpHeader). IsVerdict (taken_by verdicts) (option_map packet_id_of h) c.verdict_on-verdict.result) c.as_ref.ensures.value
-    (c.verdict_on-verdict.ensures.verdict (taken_by verdicts) so_far.holds) in
+    let verdict = subst (λ (h : Option RtpHeader). IsVerdict 0 (taken_by verdicts) (option_map packet_id_of h) c.verdict_on-verdict.result) c.as_ref.ensures.value
+    (c.verdict_on-verdict.ensures.verdict 0 (taken_by verdicts) so_far.holds) in
     let more = SoFar-more exts (take done datagrams) c.deref.result.now packet_id verdicts c.verdict_on-verdict.result c.loop-datagram.receiver c.verdict_on-verdict.new.self
-    so_far read cause verdict (c.verdict_on-verdict.ensures.after (taken_by verdicts) so_far.holds) in
+    so_far read cause verdict (c.verdict_on-verdict.ensures.after 0 (taken_by verdicts) so_far.holds) in
     let one : take (done + 1) datagrams ≡ take done datagrams ++ c.deref.result.now ∷ [] =
     take_more datagrams done [] (omega (arith, many, c.loop-datagram-test.true)) ∙ ap (λ (d : List ℕ). take done datagrams ++ d ∷ []) here in (
       subst (λ (ds : List (List ℕ)). SoFar exts ds c.push_reserved.new.self.items c.verdict_on-verdict.new.self) (sym one)
@@ -58,7 +58,7 @@ returns-clause-verdicts c =
 pub returns-clause-once : goal.returns-clause-once
 returns-clause-once c =
     let are = c.loop-datagram.invariant.0.read.are in
-    TakesOnce-run are.packet_ids c.loop-datagram.verdicts.items are.run
+    TakesOnce-run 0 are.packet_ids c.loop-datagram.verdicts.items are.run
 
 pub returns-clause-true_numbers : goal.returns-clause-true_numbers
 returns-clause-true_numbers c packet_ids numbers read are =

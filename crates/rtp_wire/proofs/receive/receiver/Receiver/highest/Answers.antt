@@ -1,5 +1,6 @@
-use Rattle.std.proofs.Common.{false, refl, sym, ◌∙◌, subst, Option}
-use Rattle.rtp_base.specs.Window.{Numbers, WindowState}
+use Rattle.std.proofs.Common.{false, refl, sym, ◌∙◌, subst}
+use Rattle.rtp_base.specs.Window.{Numbers}
+use Rattle.rtp_wire.specs.declared.receive.state.ReceiverState.{ReceiverState}
 use Rattle.rtp_wire.specs.Receiver.{Holds, IsNothing}
 use Rattle.rtp_wire.proofs.receive.receiver.Receiver.highest.Goals as goal
 
@@ -10,9 +11,9 @@ nothing : IsNothing none
 unfolding none
 nothing n = refl
 
-pub returns-in-None-clause-some : goal.returns-in-None-clause-some
-returns-in-None-clause-some c = (none, subst (λ (held : Option WindowState). Holds held none) (sym c.in-None.is ∙ c.self.view_is) nothing)
+pub returns-in-Start-clause-some : goal.returns-in-Start-clause-some
+returns-in-Start-clause-some c = (c.in-Start.field-0, none, subst (λ (held : ReceiverState). Holds held c.in-Start.field-0 none) (sym c.in-Start.is ∙ c.self.view_is) (refl, nothing))
 
-pub returns-in-Some-clause-highest : goal.returns-in-Some-clause-highest
-returns-in-Some-clause-highest c taken holds =
-    c.max_seq.ensures.greatest taken (subst (λ (held : Option WindowState). Holds held taken) (sym c.self.view_is ∙ c.in-Some.is) holds)
+pub returns-in-Window-clause-highest : goal.returns-in-Window-clause-highest
+returns-in-Window-clause-highest c count taken holds =
+    c.max_seq.ensures.greatest taken (subst (λ (held : ReceiverState). Holds held count taken) (sym c.self.view_is ∙ c.in-Window.is) holds)
