@@ -62,7 +62,7 @@ by_own_sign text sign digits is (inr plus) are some =
     let same : text ≡ 43 ∷ digits = is ∙ ap (λ (s : List ℕ). s ++ digits) plus in
     without_leading_plus_plus text (ap (λ (t : List ℕ). get_or t 0 0) same) ∙ ap (drop 1) same
 
--- ---- the answer
+-- ---- the result
 
 -- what `parse` takes, and what it gives, of a frequency's text
 record IsRead (text : List ℕ) (hertz : ℕ) : Type 0 where

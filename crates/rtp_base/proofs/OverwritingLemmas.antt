@@ -95,11 +95,11 @@ overwritten-before buf xs ys at end is fits =
     let len : length (take end buf) ≡ end = length-take-le end buf (omega arith) in
     let front : take at (take end buf ++ rest) ≡ take at buf =
     take-append-le at (take end buf) rest (omega arith) ∙ take-take at end buf (omega arith) in
-    let behind : drop (at + length xs) (take end buf ++ rest) ≡ rest =
+    let after : drop (at + length xs) (take end buf ++ rest) ≡ rest =
     ap (λ (k : ℕ). drop k (take end buf ++ rest)) (sym is) ∙ drop_at (take end buf) rest end len in
     let last : end + length ys ≡ at + length (xs ++ ys) = omega (arith, length-append xs ys) in
     ap (λ (zs : List ℕ). zs ++ (xs ++ drop (at + length xs) (take end buf ++ rest))) front
-    ∙ ap (λ (zs : List ℕ). take at buf ++ (xs ++ zs)) behind
+    ∙ ap (λ (zs : List ℕ). take at buf ++ (xs ++ zs)) after
     ∙ ap (λ (zs : List ℕ). take at buf ++ zs) (sym (append_assoc xs ys (drop (end + length ys) buf))
     ∙ ap (λ (k : ℕ). (xs ++ ys) ++ drop k buf) last)
 

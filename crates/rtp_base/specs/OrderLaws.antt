@@ -21,8 +21,8 @@ per_second-pos : (a : Fraction) → 0 < per_second a
 per_second-pos a = omega arith
 
 -- equal numbers are those that the order does not tell apart
-level : (x y : ℕ) → nat_cmp x y ≡ Equal → x ≡ y
-level x y e = subst (λ (r : Ordering). MatchOrdering r (x < y) (x ≡ y) (y < x)) e (ranks x y)
+equal_where_tied : (x y : ℕ) → nat_cmp x y ≡ Equal → x ≡ y
+equal_where_tied x y e = subst (λ (r : Ordering). MatchOrdering r (x < y) (x ≡ y) (y < x)) e (ranks x y)
 
 -- the order of two fractions, with the parts of a third on both sides
 over : (a b c : Fraction) → nat_cmp (a.numer * per_second b * per_second c) (b.numer * per_second a * per_second c) ≡ fraction_cmp a b
@@ -43,7 +43,7 @@ fraction_total = record {
       ∙ ap (nat_cmp (b.numer * per_second c * per_second a)) (swapped c a b) ∙ over b c a ∙ q in
       sym (over a c b) ∙ nat_cmp_total.trans _ (b.numer * per_second a * per_second c) _ first second;
   congr = λ a b c p.
-      let same : a.numer * per_second b ≡ b.numer * per_second a = level (a.numer * per_second b) (b.numer * per_second a) p in
+      let same : a.numer * per_second b ≡ b.numer * per_second a = equal_where_tied (a.numer * per_second b) (b.numer * per_second a) p in
       let left : a.numer * per_second c * per_second b ≡ b.numer * per_second c * per_second a =
       swapped a c b ∙ ap (λ (n : ℕ). n * per_second c) same ∙ swapped b a c in
       sym (over a c b)
