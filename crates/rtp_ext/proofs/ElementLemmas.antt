@@ -1,14 +1,14 @@
 -- The elements of bytes from the front on, as code meets them.
-use Rattle.std.proofs.Common.{◌≡◌, ◌≢◌, ℕ, zero, suc, ◌+◌, ◌/◌, ◌%◌, ◌^◌, ◌<◌, ◌≤◌, ◌⊎◌, inl, inr, List, [], ◌∷◌, ◌++◌, length, take, drop, Option, Some, None, le-ltb, lt-ltb, le-leb, add-one, get_or, take-append-drop, arith, refl, sym, ap, ◌∙◌, subst, Bor}
-use Rattle.std.specs.List.{IsFirstAndRest, IsSplitAt}
+use Rattle.std.proofs.Common.{◌≡◌, ◌≢◌, ℕ, zero, suc, ◌+◌, ◌/◌, ◌%◌, ◌^◌, ◌<◌, ◌≤◌, ◌⊎◌, inl, inr, List, [], ◌∷◌, ◌++◌, length, take, drop, Some, None, le-ltb, lt-ltb, le-leb, add-one, get_or, take-append-drop, arith, refl, sym, ap, ◌∙◌}
+use Rattle.std.specs.List.{IsFirstAndRest}
 use Rattle.std.specs.Int.{w128, byte_worth, from_le_bytes, sum_through}
 use Rattle.std.proofs.Math.Nat.{one-le-pow, eq_of_mul-eq-mul_right, zero-mul}
 use Rattle.std.proofs.lemmas.Bool.{cases_lt, lt-leb}
-use Rattle.std.proofs.lemmas.List.{length-take-le, nil_from_length}
+use Rattle.std.proofs.lemmas.List.{length-take-le}
 use Rattle.rtp_ext.specs.declared.ext.form.ExtensionsForm.{ExtensionsForm}
 use Rattle.rtp_ext.specs.declared.ext.form.ExtensionsForm.TheVariants.{OneByte, TwoByte}
 use Rattle.rtp_ext.specs.Elements.{Element}
-use Rattle.rtp_ext.specs.ElementReading.{without_padding, IsUnpadded, element_at, in_front, elements_behind, elements_left, IsFirst}
+use Rattle.rtp_ext.specs.ElementReading.{without_padding, IsUnpadded, element_at, in_front, elements_behind, elements_left}
 
 -- the elements behind some bytes are those of what is left without them
 elements_behind-drop : (form : ExtensionsForm) (passed : ℕ) (bytes : List ℕ) → elements_behind form passed bytes ≡ elements_left form (drop passed bytes)
@@ -61,23 +61,12 @@ two_byte-whole id count bytes whole = rw (le-leb count (length bytes) whole, add
 pub two_byte-cut : (id count : ℕ) (bytes : List ℕ) → length bytes < count → element_at TwoByte id (count ∷ bytes) ≡ None
 two_byte-cut id count bytes cut = rw (lt-leb count (length bytes) cut) refl
 
--- padding at the front has no elements, and what is behind it begins with none
-elements_left-unpadded : (form : ExtensionsForm) (bytes : List ℕ) → elements_left form bytes ≡ elements_left form (without_padding bytes)
-unfolding elements_behind without_padding
-elements_left-unpadded form [] = refl
-elements_left-unpadded form (zero ∷ bytes) = elements_left-unpadded form bytes
-elements_left-unpadded form (suc byte ∷ bytes) = refl
-
+-- what follows the padding begins with none
 pub IsUnpadded-behind : (bytes : List ℕ) → IsUnpadded (without_padding bytes)
 unfolding without_padding
 IsUnpadded-behind [] = refl
 IsUnpadded-behind (zero ∷ bytes) = IsUnpadded-behind bytes
 IsUnpadded-behind (suc byte ∷ bytes) = refl
-
-pub IsFirst-padded : (form : ExtensionsForm) (bytes behind : List ℕ) (first : Option (ℕ × Bor (List ℕ) × Bor (List ℕ))) → behind ≡ without_padding bytes
-    → IsFirst form behind first → IsFirst form bytes first
-IsFirst-padded form bytes behind None is first = elements_left-unpadded form bytes ∙ (ap (elements_left form) (sym is) ∙ first)
-IsFirst-padded form bytes behind (Some element) is first = elements_left-unpadded form bytes ∙ (ap (elements_left form) (sym is) ∙ first)
 
 length-without_padding : (bytes : List ℕ) → length (without_padding bytes) ≤ length bytes
 unfolding without_padding
@@ -85,7 +74,7 @@ length-without_padding [] = omega arith
 length-without_padding (zero ∷ bytes) = omega (arith, length-without_padding bytes)
 length-without_padding (suc byte ∷ bytes) = omega arith
 
-IsUnpadded-head : (byte : ℕ) (bytes : List ℕ) → IsUnpadded (byte ∷ bytes) → 1 ≤ byte
+pub IsUnpadded-head : (byte : ℕ) (bytes : List ℕ) → IsUnpadded (byte ∷ bytes) → 1 ≤ byte
 unfolding without_padding
 IsUnpadded-head zero bytes is = absurd (omega (arith, length-without_padding bytes, ap length is))
 IsUnpadded-head (suc byte) bytes is = omega arith
@@ -154,41 +143,3 @@ elements_left-two_byte_cut id count bytes above cut = elements_left-end TwoByte 
 
 pub elements_left-two_byte_end : (id : ℕ) → 1 ≤ id → elements_left TwoByte (id ∷ []) ≡ []
 elements_left-two_byte_end id above = elements_left-end TwoByte id [] above refl
-
--- the same of bytes without padding at their front, as code splits them
-pub nothing_left : (form : ExtensionsForm) (bytes : List ℕ) → length bytes ≡ 0 → elements_left form bytes ≡ []
-nothing_left form bytes none = ap (elements_left form) (nil_from_length bytes none) ∙ elements_left-none form
-
-pub one_byte_read : (head : ℕ) (bytes after front back : List ℕ) → IsUnpadded bytes → IsFirstAndRest bytes head after → head < 240 → IsSplitAt after (head % 16 + 1) front back
-    → elements_left OneByte bytes ≡ (head / 16, front) ∷ elements_left OneByte back
-one_byte_read head bytes after front back unpadded first low split =
-    let above : 1 ≤ head = IsUnpadded-head head after (subst IsUnpadded first.0 unpadded) in
-    ap (elements_left OneByte) first.0 ∙ (elements_left-one_byte head after above low (omega (arith, split.0))
-    ∙ (ap (λ b. (head / 16, b) ∷ elements_left OneByte (drop (head % 16 + 1) after)) (sym split.1)
-    ∙ ap (λ b. (head / 16, front) ∷ elements_left OneByte b) (sym split.2)))
-
-pub one_byte_end : (head : ℕ) (bytes after : List ℕ) → IsUnpadded bytes → IsFirstAndRest bytes head after → (240 ≤ head) ⊎ (length after < head % 16 + 1)
-    → elements_left OneByte bytes ≡ []
-one_byte_end head bytes after unpadded first (inl high) =
-    ap (elements_left OneByte) first.0 ∙ elements_left-one_byte_end head after (IsUnpadded-head head after (subst IsUnpadded first.0 unpadded)) (inl high)
-one_byte_end head bytes after unpadded first (inr cut) =
-    ap (elements_left OneByte) first.0 ∙ elements_left-one_byte_end head after (IsUnpadded-head head after (subst IsUnpadded first.0 unpadded)) (inr (omega arith))
-
-pub two_byte_read : (id count : ℕ) (bytes second after front back : List ℕ) → IsUnpadded bytes → IsFirstAndRest bytes id second → IsFirstAndRest second count after
-    → IsSplitAt after count front back → elements_left TwoByte bytes ≡ (id, front) ∷ elements_left TwoByte back
-two_byte_read id count bytes second after front back unpadded first next split =
-    let above : 1 ≤ id = IsUnpadded-head id second (subst IsUnpadded first.0 unpadded) in
-    ap (elements_left TwoByte) first.0 ∙ (ap (λ b. elements_left TwoByte (id ∷ b)) next.0 ∙ (elements_left-two_byte id count after above split.0
-    ∙ (ap (λ b. (id, b) ∷ elements_left TwoByte (drop count after)) (sym split.1)
-    ∙ ap (λ b. (id, front) ∷ elements_left TwoByte b) (sym split.2))))
-
-pub two_byte_cut : (id count : ℕ) (bytes second after : List ℕ) → IsUnpadded bytes → IsFirstAndRest bytes id second → IsFirstAndRest second count after
-    → length after < count → elements_left TwoByte bytes ≡ []
-two_byte_cut id count bytes second after unpadded first next cut =
-    let above : 1 ≤ id = IsUnpadded-head id second (subst IsUnpadded first.0 unpadded) in
-    ap (elements_left TwoByte) first.0 ∙ (ap (λ b. elements_left TwoByte (id ∷ b)) next.0 ∙ elements_left-two_byte_cut id count after above cut)
-
-pub two_byte_end : (id : ℕ) (bytes second : List ℕ) → IsUnpadded bytes → IsFirstAndRest bytes id second → length second ≡ 0 → elements_left TwoByte bytes ≡ []
-two_byte_end id bytes second unpadded first none =
-    let above : 1 ≤ id = IsUnpadded-head id second (subst IsUnpadded first.0 unpadded) in
-    ap (elements_left TwoByte) first.0 ∙ (ap (λ b. elements_left TwoByte (id ∷ b)) (nil_from_length second none) ∙ elements_left-two_byte_end id above)

@@ -10,7 +10,7 @@ use Rattle.rtp_ext.specs.ElementReading.{element_at, in_front, elements_behind, 
 use Rattle.rtp_ext.proofs.ElementLemmas.{elements_left-none, elements_left-padding, one_byte-whole, one_byte-stops, one_byte-cut, two_byte-whole, two_byte-cut, elements_left-one_byte, elements_left-one_byte_end, elements_left-two_byte, elements_left-two_byte_cut, elements_left-two_byte_end}
 
 -- no list of elements but the one that is read: a whole element, a tail, and all pieces
-elements_left-element : (form : ExtensionsForm) (element : Element) (rest : List ℕ) → IsElement form element
+pub elements_left-element : (form : ExtensionsForm) (element : Element) (rest : List ℕ) → IsElement form element
     → elements_left form (element_bytes form element ++ rest) ≡ element ∷ elements_left form rest
 elements_left-element OneByte (id, bytes) rest is =
     let byte : ℕ = id * 16 + (length bytes - 1) in
@@ -45,7 +45,7 @@ elements_left-cut TwoByte (id, bytes) (byte ∷ count ∷ tail) (next ∷ missin
     let total : length bytes ≡ length tail + suc (length missing) = ap length behind ∙ length-append tail (next ∷ missing) in
     elements_left-two_byte_cut byte count tail (omega arith) (omega arith)
 
-elements_left-tail : (form : ExtensionsForm) (tail : List ℕ) → IsTail form tail → elements_left form tail ≡ []
+pub elements_left-tail : (form : ExtensionsForm) (tail : List ℕ) → IsTail form tail → elements_left form tail ≡ []
 elements_left-tail form tail (ended none) = rw none (elements_left-none form)
 elements_left-tail form tail (cut_short element missing is some missed split) = elements_left-cut form element tail missing is some missed split
 elements_left-tail OneByte tail (stopped first others one high is) =
@@ -126,18 +126,21 @@ IsFound-one_byte byte bytes above low whole =
           ∙ ap (λ rest. (byte / 16 * 16 + (length (take (byte % 16 + 1) bytes) - 1)) ∷ rest) (sym (take-append-drop (byte % 16 + 1) bytes)),
     )
 
-IsTail-one_byte : (byte : ℕ) (bytes : List ℕ) → 1 ≤ byte → byte < 240 → length bytes ≤ byte % 16 → IsTail OneByte (byte ∷ bytes)
+pub IsTail-one_byte : (byte : ℕ) (bytes : List ℕ) → 1 ≤ byte → byte < 240 → length bytes ≤ byte % 16 → IsTail OneByte (byte ∷ bytes)
 IsTail-one_byte byte bytes above low cut =
     let count : length (bytes ++ zeros (byte % 16 + 1 - length bytes)) ≡ byte % 16 + 1 = length-filled bytes (byte % 16 + 1) (omega arith) in
     let head : byte / 16 * 16 + (length (bytes ++ zeros (byte % 16 + 1 - length bytes)) - 1) ≡ byte = omega arith in
     cut_short (byte / 16, bytes ++ zeros (byte % 16 + 1 - length bytes)) (zeros (byte % 16 + 1 - length bytes)) (omega arith, omega arith, omega arith, omega arith)
     (λ none. cc) (zeros_some (byte % 16 + 1 - length bytes) (omega arith)) (ap (λ b. b ∷ (bytes ++ zeros (byte % 16 + 1 - length bytes))) head)
 
-IsTail-two_byte : (id count : ℕ) (bytes : List ℕ) → 1 ≤ id → id < 256 → count < 256 → length bytes < count → IsTail TwoByte (id ∷ count ∷ bytes)
+pub IsTail-two_byte : (id count : ℕ) (bytes : List ℕ) → 1 ≤ id → id < 256 → count < 256 → length bytes < count → IsTail TwoByte (id ∷ count ∷ bytes)
 IsTail-two_byte id count bytes above fits small cut =
     let total : length (bytes ++ zeros (count - length bytes)) ≡ count = length-filled bytes count (omega arith) in
     cut_short (id, bytes ++ zeros (count - length bytes)) (zeros (count - length bytes)) (above, omega arith, omega arith)
     (λ none. cc) (zeros_some (count - length bytes) (omega arith)) (ap (λ n. id ∷ n ∷ (bytes ++ zeros (count - length bytes))) total)
+
+pub IsTail-two_byte_end : (id : ℕ) → 1 ≤ id → id < 256 → IsTail TwoByte (id ∷ [])
+IsTail-two_byte_end id above fits = cut_short (id, []) (0 ∷ []) (above, omega arith, omega arith) (λ none. cc) (λ none. cc) refl
 
 IsFound-at : (form : ExtensionsForm) (byte : ℕ) (bytes : List ℕ) → 1 ≤ byte → byte < 256 → AreBytes bytes → IsFound form byte bytes (element_at form byte bytes)
 IsFound-at OneByte byte bytes above fits are = elim (cases_lt byte 240) [
@@ -147,8 +150,7 @@ IsFound-at OneByte byte bytes above fits are = elim (cases_lt byte 240) [
     | inr cut ↦ subst (IsFound OneByte byte bytes) (sym (one_byte-cut byte bytes cut)) (IsTail-one_byte byte bytes above low cut)
   ]
 ]
-IsFound-at TwoByte byte [] above fits are =
-    cut_short (byte, []) (0 ∷ []) (above, omega arith, omega arith) (λ none. cc) (λ none. cc) refl
+IsFound-at TwoByte byte [] above fits are = IsTail-two_byte_end byte above fits
 IsFound-at TwoByte byte (count ∷ bytes) above fits are = elim (cases_lt (length bytes) count) [
   | inl cut ↦ subst (IsFound TwoByte byte (count ∷ bytes)) (sym (two_byte-cut byte count bytes cut))
       (IsTail-two_byte byte count bytes above fits (are 0) cut)

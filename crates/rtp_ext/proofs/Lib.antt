@@ -2,6 +2,7 @@ pub mod ElementLemmas
 pub mod ValuesLaws
 mod ValueFacts
 pub mod ElementLemmasOfBodies
+pub mod FirstElementLemmas
 pub mod MemoryLemmas
 mod MapLemmas
 pub mod ListingLemmas

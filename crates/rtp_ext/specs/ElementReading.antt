@@ -1,9 +1,9 @@
 -- The elements of bytes from the front on: what `Elements` holds.
-use Rattle.std.specs.Prelude.{◌≡◌, ℕ, zero, suc, ◌+◌, ◌/◌, ◌%◌, List, [], ◌∷◌, length, take, Option, Some, None, nat_lt, nat_le, ◌&&◌, if◌then◌else◌}
+use Rattle.std.specs.Prelude.{◌≡◌, ℕ, zero, suc, ◌+◌, ◌/◌, ◌%◌, List, [], ◌∷◌, ◌++◌, length, take, replicate, Option, Some, None, nat_lt, nat_le, ◌&&◌, if◌then◌else◌}
 use Rattle.std.specs.Borrow.{Bor}
 use Rattle.rtp_ext.specs.declared.ext.form.ExtensionsForm.{ExtensionsForm}
 use Rattle.rtp_ext.specs.declared.ext.form.ExtensionsForm.TheVariants.{OneByte, TwoByte}
-use Rattle.rtp_ext.specs.Elements.{Element}
+use Rattle.rtp_ext.specs.Elements.{Element, IsElement, element_bytes, IsTail}
 
 -- the bytes after the padding at their front
 unfoldable pub without_padding : List ℕ → List ℕ
@@ -41,7 +41,20 @@ elements_behind form zero (suc byte ∷ bytes) = in_front (element_at form (suc 
 abbrev pub elements_left : ExtensionsForm → List ℕ → List Element
 elements_left form bytes = elements_behind form 0 bytes
 
+-- bytes begin with padding and an element, and these bytes follow it
+pub record BeginsWith (form : ExtensionsForm) (bytes : List ℕ) (element : Element) (after : List ℕ) : Type 0 where
+  pub padding : ℕ
+  pub is_element : IsElement form element
+  pub bytes_are : bytes ≡ replicate padding 0 ++ (element_bytes form element ++ after)
+
+-- bytes are padding and then what ends reading
+pub record BeginsWithNone (form : ExtensionsForm) (bytes : List ℕ) : Type 0 where
+  pub padding : ℕ
+  pub tail : List ℕ
+  pub is_tail : IsTail form tail
+  pub bytes_are : bytes ≡ replicate padding 0 ++ tail
+
 -- the first element of bytes, as its id, its data and the bytes after it, or that there is none
 abbrev pub IsFirst : ExtensionsForm → List ℕ → Option (ℕ × Bor (List ℕ) × Bor (List ℕ)) → Type 0
-IsFirst form bytes None = elements_left form bytes ≡ []
-IsFirst form bytes (Some first) = elements_left form bytes ≡ (first.0, first.1.now) ∷ elements_left form first.2.now
+IsFirst form bytes None = BeginsWithNone form bytes
+IsFirst form bytes (Some first) = BeginsWith form bytes (first.0, first.1.now) first.2.now

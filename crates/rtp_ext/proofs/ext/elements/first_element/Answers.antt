@@ -1,7 +1,8 @@
 use Rattle.std.proofs.Common.{sym, subst}
 use Rattle.rtp_ext.specs.declared.ext.form.ExtensionsForm.TheVariants.{OneByte, TwoByte}
 use Rattle.rtp_ext.specs.ElementReading.{IsUnpadded, IsFirst}
-use Rattle.rtp_ext.proofs.ElementLemmas.{IsUnpadded-behind, IsFirst-padded}
+use Rattle.rtp_ext.proofs.ElementLemmas.{IsUnpadded-behind}
+use Rattle.rtp_ext.proofs.FirstElementLemmas.{IsFirst-padded}
 use Rattle.rtp_ext.proofs.ext.elements.first_element.Goals as goal
 
 pub first_of_one_byte-requires : goal.first_of_one_byte-requires
