@@ -1,6 +1,5 @@
 -- Worked rows of maps whose copy takes no memory, computed from the definitions.
 use Rattle.std.proofs.Common.{List, ℕ, zero, suc, [], ◌∷◌, Some, None, refl, ap, subst}
-use Rattle.rtp_values.specs.declared.kind.Extension.{Extension}
 use Rattle.rtp_values.specs.declared.kind.Extension.TheVariants.{AudioLevel, ColorSpace, UnknownUri}
 use Rattle.rtp_values.specs.Kind.{IsKnown}
 use Rattle.rtp_values.proofs.KindLemmas.{one_kind}

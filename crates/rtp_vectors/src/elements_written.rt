@@ -89,12 +89,7 @@ const LONG: [(ExtensionsForm, u8, usize, Option<&[u8]>); 4] = [
 ];
 
 // What is written of the element into 300 bytes that are all 0xE7.
-fn is_long(
-    rt: &impl Abort,
-    form: ExtensionsForm,
-    element: (u8, &[u8]),
-    header: Option<&[u8]>,
-) {
+fn is_long(rt: &impl Abort, form: ExtensionsForm, element: (u8, &[u8]), header: Option<&[u8]>) {
     let mut buf = [0xE7; 300];
     let end = write_elements(&mut buf, form, &[element]);
     let header = header.unwrap_or(&[]);

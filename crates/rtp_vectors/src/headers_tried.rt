@@ -8,7 +8,8 @@ use std::alloc::Global;
 use std::process::Abort;
 
 // What stands in a buffer before anything is written: each byte another one.
-const OLD: &[u8] = b"ABCDEFGHIJKLMNOPQRSTUVWXYZabcdefghijklmnopqrstuvwxyz0123456789!#$%&()*+,-./:;<=>?@[]^_{|}~";
+const OLD: &[u8] = b"ABCDEFGHIJKLMNOPQRSTUVWXYZabcdefghijklmnopqrstuvwxyz0123456789\
+!#$%&()*+,-./:;<=>?@[]^_{|}~";
 
 // The header is written to a buffer of this room as the bytes, in hexadecimal, and those after them
 // stay; or it is refused, and none is changed.
@@ -48,6 +49,7 @@ fn of_sources(csrc_count: usize) -> RtpHeader {
 }
 
 const TYPE_33: Option<&str> = Some("9021b798000027100000002cbede0001302a0000");
+
 const TYPE_127: Option<&str> = Some("907fb798000027100000002cbede0001302a0000");
 
 #[test]
@@ -81,7 +83,9 @@ fn rooms(rt: HostRuntime) {
 }
 
 const NO_SOURCES: Option<&str> = Some("8021b798000027100000002c");
+
 const ONE_SOURCE: Option<&str> = Some("8121b798000027100000002c00000001");
+
 const MOST_SOURCES: Option<&str> = Some(
     "8f21b798000027100000002c\
 0000000100000002000000030000000400000005000000060000000700000008\
