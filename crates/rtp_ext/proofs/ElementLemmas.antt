@@ -8,27 +8,27 @@ use Rattle.std.proofs.lemmas.List.{length-take-le}
 use Rattle.rtp_ext.specs.declared.ext.form.ExtensionsForm.{ExtensionsForm}
 use Rattle.rtp_ext.specs.declared.ext.form.ExtensionsForm.TheVariants.{OneByte, TwoByte}
 use Rattle.rtp_ext.specs.Elements.{Element}
-use Rattle.rtp_ext.specs.ElementReading.{without_padding, IsUnpadded, element_at, in_front, elements_behind, elements_left}
+use Rattle.rtp_ext.specs.ElementReading.{without_padding, HasNoPadding, element_at, in_front, elements_after, elements_left}
 
--- the elements behind some bytes are those of what is left without them
-elements_behind-drop : (form : ExtensionsForm) (passed : ℕ) (bytes : List ℕ) → elements_behind form passed bytes ≡ elements_left form (drop passed bytes)
-unfolding elements_behind
-elements_behind-drop form zero bytes = refl
-elements_behind-drop form (suc passed) [] = refl
-elements_behind-drop form (suc passed) (byte ∷ bytes) = elements_behind-drop form passed bytes
+-- the elements after some bytes are those of what is left without them
+elements_after-drop : (form : ExtensionsForm) (passed : ℕ) (bytes : List ℕ) → elements_after form passed bytes ≡ elements_left form (drop passed bytes)
+unfolding elements_after
+elements_after-drop form zero bytes = refl
+elements_after-drop form (suc passed) [] = refl
+elements_after-drop form (suc passed) (byte ∷ bytes) = elements_after-drop form passed bytes
 
 -- nothing is left, padding, and a byte that is none
 pub elements_left-none : (form : ExtensionsForm) → elements_left form [] ≡ []
-unfolding elements_behind
+unfolding elements_after
 elements_left-none form = refl
 
 pub elements_left-padding : (form : ExtensionsForm) (bytes : List ℕ) → elements_left form (0 ∷ bytes) ≡ elements_left form bytes
-unfolding elements_behind
+unfolding elements_after
 elements_left-padding form bytes = refl
 
 elements_left-other : (form : ExtensionsForm) (byte : ℕ) (bytes : List ℕ) → 1 ≤ byte
-    → elements_left form (byte ∷ bytes) ≡ in_front (element_at form byte bytes) (λ taken. elements_behind form taken bytes)
-unfolding elements_behind
+    → elements_left form (byte ∷ bytes) ≡ in_front (element_at form byte bytes) (λ taken. elements_after form taken bytes)
+unfolding elements_after
 elements_left-other form zero bytes above = absurd (omega arith)
 elements_left-other form (suc byte) bytes above = refl
 
@@ -36,11 +36,11 @@ elements_left-other form (suc byte) bytes above = refl
 elements_left-some : (form : ExtensionsForm) (byte : ℕ) (bytes : List ℕ) (element : Element) (taken : ℕ) → 1 ≤ byte → element_at form byte bytes ≡ Some (element, taken)
     → elements_left form (byte ∷ bytes) ≡ element ∷ elements_left form (drop taken bytes)
 elements_left-some form byte bytes element taken above found =
-    elements_left-other form byte bytes above ∙ (ap (λ f. in_front f (λ n. elements_behind form n bytes)) found ∙ ap (λ es. element ∷ es) (elements_behind-drop form taken bytes))
+    elements_left-other form byte bytes above ∙ (ap (λ f. in_front f (λ n. elements_after form n bytes)) found ∙ ap (λ es. element ∷ es) (elements_after-drop form taken bytes))
 
 elements_left-end : (form : ExtensionsForm) (byte : ℕ) (bytes : List ℕ) → 1 ≤ byte → element_at form byte bytes ≡ None → elements_left form (byte ∷ bytes) ≡ []
 elements_left-end form byte bytes above none =
-    elements_left-other form byte bytes above ∙ ap (λ f. in_front f (λ n. elements_behind form n bytes)) none
+    elements_left-other form byte bytes above ∙ ap (λ f. in_front f (λ n. elements_after form n bytes)) none
 
 pub one_byte-whole : (byte : ℕ) (bytes : List ℕ) → byte < 240 → byte % 16 < length bytes
     → element_at OneByte byte bytes ≡ Some ((byte / 16, take (byte % 16 + 1) bytes), byte % 16 + 1)
@@ -62,11 +62,11 @@ pub two_byte-cut : (id count : ℕ) (bytes : List ℕ) → length bytes < count 
 two_byte-cut id count bytes cut = rw (lt-leb count (length bytes) cut) refl
 
 -- what follows the padding begins with none
-pub IsUnpadded-behind : (bytes : List ℕ) → IsUnpadded (without_padding bytes)
+pub HasNoPadding-after : (bytes : List ℕ) → HasNoPadding (without_padding bytes)
 unfolding without_padding
-IsUnpadded-behind [] = refl
-IsUnpadded-behind (zero ∷ bytes) = IsUnpadded-behind bytes
-IsUnpadded-behind (suc byte ∷ bytes) = refl
+HasNoPadding-after [] = refl
+HasNoPadding-after (zero ∷ bytes) = HasNoPadding-after bytes
+HasNoPadding-after (suc byte ∷ bytes) = refl
 
 length-without_padding : (bytes : List ℕ) → length (without_padding bytes) ≤ length bytes
 unfolding without_padding
@@ -74,10 +74,10 @@ length-without_padding [] = omega arith
 length-without_padding (zero ∷ bytes) = omega (arith, length-without_padding bytes)
 length-without_padding (suc byte ∷ bytes) = omega arith
 
-pub IsUnpadded-head : (byte : ℕ) (bytes : List ℕ) → IsUnpadded (byte ∷ bytes) → 1 ≤ byte
+pub HasNoPadding-first : (byte : ℕ) (bytes : List ℕ) → HasNoPadding (byte ∷ bytes) → 1 ≤ byte
 unfolding without_padding
-IsUnpadded-head zero bytes is = absurd (omega (arith, length-without_padding bytes, ap length is))
-IsUnpadded-head (suc byte) bytes is = omega arith
+HasNoPadding-first zero bytes is = absurd (omega (arith, length-without_padding bytes, ap length is))
+HasNoPadding-first (suc byte) bytes is = omega arith
 
 -- the padding as code passes it
 pub without_padding-none : (bytes : List ℕ) → length bytes ≡ 0 → without_padding bytes ≡ bytes

@@ -6,7 +6,7 @@ use Rattle.std.proofs.lemmas.List.{take_at, drop_at, length-replicate, length-ta
 use Rattle.rtp_ext.specs.declared.ext.form.ExtensionsForm.{ExtensionsForm}
 use Rattle.rtp_ext.specs.declared.ext.form.ExtensionsForm.TheVariants.{OneByte, TwoByte}
 use Rattle.rtp_ext.specs.Elements.{Element, IsElement, element_bytes, IsPiece, piece_bytes, IsTail, ended, cut_short, stopped, AreElements}
-use Rattle.rtp_ext.specs.ElementReading.{element_at, in_front, elements_behind, elements_left}
+use Rattle.rtp_ext.specs.ElementReading.{element_at, in_front, elements_after, elements_left}
 use Rattle.rtp_ext.proofs.ElementLemmas.{elements_left-none, elements_left-padding, one_byte-whole, one_byte-stops, one_byte-cut, two_byte-whole, two_byte-cut, elements_left-one_byte, elements_left-one_byte_end, elements_left-two_byte, elements_left-two_byte_cut, elements_left-two_byte_end}
 
 -- no list of elements but the one that is read: a whole element, a tail, and all pieces
@@ -31,18 +31,18 @@ elements_left-cut : (form : ExtensionsForm) (element : Element) (tail missing : 
 elements_left-cut form element [] missing is some missed split = absurd (some refl)
 elements_left-cut form element tail [] is some missed split = absurd (missed refl)
 elements_left-cut OneByte (id, bytes) (byte ∷ tail) (next ∷ missing) is some missed split =
-    let head : id * 16 + (length bytes - 1) ≡ byte = cc in
-    let behind : bytes ≡ tail ++ next ∷ missing = cc in
-    let count : length bytes ≡ length tail + suc (length missing) = ap length behind ∙ length-append tail (next ∷ missing) in
+    let header : id * 16 + (length bytes - 1) ≡ byte = cc in
+    let after : bytes ≡ tail ++ next ∷ missing = cc in
+    let count : length bytes ≡ length tail + suc (length missing) = ap length after ∙ length-append tail (next ∷ missing) in
     elements_left-one_byte_end byte tail (omega arith) (inr (omega arith))
 elements_left-cut TwoByte (id, bytes) (byte ∷ []) (next ∷ missing) is some missed split =
-    let head : id ≡ byte = cc in
+    let header : id ≡ byte = cc in
     elements_left-two_byte_end byte (omega arith)
 elements_left-cut TwoByte (id, bytes) (byte ∷ count ∷ tail) (next ∷ missing) is some missed split =
-    let head : id ≡ byte = cc in
+    let header : id ≡ byte = cc in
     let second : length bytes ≡ count = cc in
-    let behind : bytes ≡ tail ++ next ∷ missing = cc in
-    let total : length bytes ≡ length tail + suc (length missing) = ap length behind ∙ length-append tail (next ∷ missing) in
+    let after : bytes ≡ tail ++ next ∷ missing = cc in
+    let total : length bytes ≡ length tail + suc (length missing) = ap length after ∙ length-append tail (next ∷ missing) in
     elements_left-two_byte_cut byte count tail (omega arith) (omega arith)
 
 pub elements_left-tail : (form : ExtensionsForm) (tail : List ℕ) → IsTail form tail → elements_left form tail ≡ []
@@ -120,18 +120,18 @@ IsFound-one_byte : (byte : ℕ) (bytes : List ℕ) → 1 ≤ byte → byte < 240
     → IsFound OneByte byte bytes (Some ((byte / 16, take (byte % 16 + 1) bytes), byte % 16 + 1))
 IsFound-one_byte byte bytes above low whole =
     let count : length (take (byte % 16 + 1) bytes) ≡ byte % 16 + 1 = length-take-le (byte % 16 + 1) bytes (omega arith) in
-    let head : byte ≡ byte / 16 * 16 + (length (take (byte % 16 + 1) bytes) - 1) = omega arith in (
+    let header : byte ≡ byte / 16 * 16 + (length (take (byte % 16 + 1) bytes) - 1) = omega arith in (
       (omega arith, omega arith, omega arith, omega arith),
-      ap (λ b. b ∷ bytes) head
+      ap (λ b. b ∷ bytes) header
           ∙ ap (λ rest. (byte / 16 * 16 + (length (take (byte % 16 + 1) bytes) - 1)) ∷ rest) (sym (take-append-drop (byte % 16 + 1) bytes)),
     )
 
 pub IsTail-one_byte : (byte : ℕ) (bytes : List ℕ) → 1 ≤ byte → byte < 240 → length bytes ≤ byte % 16 → IsTail OneByte (byte ∷ bytes)
 IsTail-one_byte byte bytes above low cut =
     let count : length (bytes ++ zeros (byte % 16 + 1 - length bytes)) ≡ byte % 16 + 1 = length-filled bytes (byte % 16 + 1) (omega arith) in
-    let head : byte / 16 * 16 + (length (bytes ++ zeros (byte % 16 + 1 - length bytes)) - 1) ≡ byte = omega arith in
+    let header : byte / 16 * 16 + (length (bytes ++ zeros (byte % 16 + 1 - length bytes)) - 1) ≡ byte = omega arith in
     cut_short (byte / 16, bytes ++ zeros (byte % 16 + 1 - length bytes)) (zeros (byte % 16 + 1 - length bytes)) (omega arith, omega arith, omega arith, omega arith)
-    (λ none. cc) (zeros_some (byte % 16 + 1 - length bytes) (omega arith)) (ap (λ b. b ∷ (bytes ++ zeros (byte % 16 + 1 - length bytes))) head)
+    (λ none. cc) (zeros_some (byte % 16 + 1 - length bytes) (omega arith)) (ap (λ b. b ∷ (bytes ++ zeros (byte % 16 + 1 - length bytes))) header)
 
 pub IsTail-two_byte : (id count : ℕ) (bytes : List ℕ) → 1 ≤ id → id < 256 → count < 256 → length bytes < count → IsTail TwoByte (id ∷ count ∷ bytes)
 IsTail-two_byte id count bytes above fits small cut =
@@ -163,24 +163,24 @@ IsFound-at TwoByte byte (count ∷ bytes) above fits are = elim (cases_lt (lengt
       ))
 ]
 
-AreElements-in_front : (form : ExtensionsForm) (byte : ℕ) (bytes : List ℕ) (found : Option (Element × ℕ)) (behind : ℕ → List Element) → IsFound form byte bytes found
-    → ((taken : ℕ) → AreElements form (drop taken bytes) (behind taken)) → AreElements form (byte ∷ bytes) (in_front found behind)
-AreElements-in_front form byte bytes None behind is are = AreElements-tail form (byte ∷ bytes) is
-AreElements-in_front form byte bytes (Some (element, taken)) behind is are =
-    subst (λ body. AreElements form body (element ∷ behind taken)) (sym is.1)
-    (AreElements-element form element (drop taken bytes) (behind taken) is.0 (are taken))
+AreElements-in_front : (form : ExtensionsForm) (byte : ℕ) (bytes : List ℕ) (found : Option (Element × ℕ)) (after : ℕ → List Element) → IsFound form byte bytes found
+    → ((taken : ℕ) → AreElements form (drop taken bytes) (after taken)) → AreElements form (byte ∷ bytes) (in_front found after)
+AreElements-in_front form byte bytes None after is are = AreElements-tail form (byte ∷ bytes) is
+AreElements-in_front form byte bytes (Some (element, taken)) after is are =
+    subst (λ body. AreElements form body (element ∷ after taken)) (sym is.1)
+    (AreElements-element form element (drop taken bytes) (after taken) is.0 (are taken))
 
-AreElements-behind : (form : ExtensionsForm) (passed : ℕ) (bytes : List ℕ) → AreBytes bytes → AreElements form (drop passed bytes) (elements_behind form passed bytes)
-unfolding elements_behind
-AreElements-behind form zero [] are = AreElements-tail form [] (ended refl)
-AreElements-behind form (suc passed) [] are = AreElements-tail form [] (ended refl)
-AreElements-behind form (suc passed) (byte ∷ bytes) are = AreElements-behind form passed bytes (λ i. are (suc i))
-AreElements-behind form zero (zero ∷ bytes) are =
-    AreElements-padding form bytes (elements_behind form zero bytes) (AreElements-behind form zero bytes (λ i. are (suc i)))
-AreElements-behind form zero (suc byte ∷ bytes) are =
-    AreElements-in_front form (suc byte) bytes (element_at form (suc byte) bytes) (λ taken. elements_behind form taken bytes)
+AreElements-after : (form : ExtensionsForm) (passed : ℕ) (bytes : List ℕ) → AreBytes bytes → AreElements form (drop passed bytes) (elements_after form passed bytes)
+unfolding elements_after
+AreElements-after form zero [] are = AreElements-tail form [] (ended refl)
+AreElements-after form (suc passed) [] are = AreElements-tail form [] (ended refl)
+AreElements-after form (suc passed) (byte ∷ bytes) are = AreElements-after form passed bytes (λ i. are (suc i))
+AreElements-after form zero (zero ∷ bytes) are =
+    AreElements-padding form bytes (elements_after form zero bytes) (AreElements-after form zero bytes (λ i. are (suc i)))
+AreElements-after form zero (suc byte ∷ bytes) are =
+    AreElements-in_front form (suc byte) bytes (element_at form (suc byte) bytes) (λ taken. elements_after form taken bytes)
     (IsFound-at form (suc byte) bytes (omega arith) (are 0) (λ i. are (suc i)))
-    (λ taken. AreElements-behind form taken bytes (λ i. are (suc i)))
+    (λ taken. AreElements-after form taken bytes (λ i. are (suc i)))
 
 pub AreElements-found : (form : ExtensionsForm) (body : List ℕ) → ((i : ℕ) → get_or body i 0 < 256) → AreElements form body (elements_left form body)
-AreElements-found form body are = AreElements-behind form zero body are
+AreElements-found form body are = AreElements-after form zero body are

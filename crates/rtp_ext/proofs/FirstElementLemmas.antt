@@ -5,8 +5,8 @@ use Rattle.std.proofs.lemmas.List.{nil_from_length, replicate-append-replicate}
 use Rattle.rtp_ext.specs.declared.ext.form.ExtensionsForm.{ExtensionsForm}
 use Rattle.rtp_ext.specs.declared.ext.form.ExtensionsForm.TheVariants.{OneByte, TwoByte}
 use Rattle.rtp_ext.specs.Elements.{Element, IsElement, element_bytes, IsTail, ended, stopped}
-use Rattle.rtp_ext.specs.ElementReading.{without_padding, IsUnpadded, elements_left, BeginsWith, BeginsWithNone, IsFirst}
-use Rattle.rtp_ext.proofs.ElementLemmas.{elements_left-padding, IsUnpadded-head}
+use Rattle.rtp_ext.specs.ElementReading.{without_padding, HasNoPadding, elements_left, BeginsWith, BeginsWithNone, IsFirst}
+use Rattle.rtp_ext.proofs.ElementLemmas.{elements_left-padding, HasNoPadding-first}
 use Rattle.rtp_ext.proofs.ElementLemmasOfBodies.{elements_left-element, elements_left-tail, IsTail-one_byte, IsTail-two_byte, IsTail-two_byte_end}
 
 -- bytes without padding at their front
@@ -20,26 +20,26 @@ BeginsWithNone-here form bytes tail bytes_are is = record { padding = 0; tail = 
 pub BeginsWithNone-nothing : (form : ExtensionsForm) (bytes : List ℕ) → length bytes ≡ 0 → BeginsWithNone form bytes
 BeginsWithNone-nothing form bytes none = BeginsWithNone-here form bytes [] (nil_from_length bytes none) (ended refl)
 
-pub BeginsWith-one_byte : (first : ℕ) (bytes after front back : List ℕ) → IsUnpadded bytes → IsFirstAndRest bytes first after → first < 240 → IsSplitAt after (first % 16 + 1) front back
+pub BeginsWith-one_byte : (first : ℕ) (bytes after front back : List ℕ) → HasNoPadding bytes → IsFirstAndRest bytes first after → first < 240 → IsSplitAt after (first % 16 + 1) front back
     → BeginsWith OneByte bytes (first / 16, front) back
 BeginsWith-one_byte first bytes after front back unpadded begins low split =
-    let above : 1 ≤ first = IsUnpadded-head first after (subst IsUnpadded begins.0 unpadded) in
+    let above : 1 ≤ first = HasNoPadding-first first after (subst HasNoPadding begins.0 unpadded) in
     let count : length front ≡ first % 16 + 1 = split.3 in
     let header : first ≡ first / 16 * 16 + (length front - 1) = omega arith in
     BeginsWith-here OneByte bytes (first / 16, front) back (omega arith, omega arith, omega arith, omega arith)
     (begins.0 ∙ (ap (λ b. first ∷ b) (sym (take-append-drop (first % 16 + 1) after) ∙ (ap (λ b. b ++ drop (first % 16 + 1) after) (sym split.1) ∙ ap (λ b. front ++ b) (sym split.2)))
     ∙ ap (λ b. b ∷ (front ++ back)) header))
 
-pub BeginsWithNone-one_byte : (first : ℕ) (bytes after : List ℕ) → IsUnpadded bytes → IsFirstAndRest bytes first after → (240 ≤ first) ⊎ ((first < 240) × (length after ≤ first % 16))
+pub BeginsWithNone-one_byte : (first : ℕ) (bytes after : List ℕ) → HasNoPadding bytes → IsFirstAndRest bytes first after → (240 ≤ first) ⊎ ((first < 240) × (length after ≤ first % 16))
     → BeginsWithNone OneByte bytes
 BeginsWithNone-one_byte first bytes after unpadded begins (inl high) = BeginsWithNone-here OneByte bytes (first ∷ after) begins.0 (stopped first after refl high refl)
 BeginsWithNone-one_byte first bytes after unpadded begins (inr cut) =
-    BeginsWithNone-here OneByte bytes (first ∷ after) begins.0 (IsTail-one_byte first after (IsUnpadded-head first after (subst IsUnpadded begins.0 unpadded)) cut.0 cut.1)
+    BeginsWithNone-here OneByte bytes (first ∷ after) begins.0 (IsTail-one_byte first after (HasNoPadding-first first after (subst HasNoPadding begins.0 unpadded)) cut.0 cut.1)
 
-pub BeginsWith-two_byte : (id count : ℕ) (bytes second after front back : List ℕ) → ((i : ℕ) → get_or bytes i 0 < 256) → IsUnpadded bytes → IsFirstAndRest bytes id second
+pub BeginsWith-two_byte : (id count : ℕ) (bytes second after front back : List ℕ) → ((i : ℕ) → get_or bytes i 0 < 256) → HasNoPadding bytes → IsFirstAndRest bytes id second
     → IsFirstAndRest second count after → IsSplitAt after count front back → BeginsWith TwoByte bytes (id, front) back
 BeginsWith-two_byte id count bytes second after front back are unpadded begins next split =
-    let above : 1 ≤ id = IsUnpadded-head id second (subst IsUnpadded begins.0 unpadded) in
+    let above : 1 ≤ id = HasNoPadding-first id second (subst HasNoPadding begins.0 unpadded) in
     let whole : bytes ≡ id ∷ count ∷ after = begins.0 ∙ ap (λ b. id ∷ b) next.0 in
     let fits : id < 256 = subst (λ b. get_or b 0 0 < 256) whole (are 0) in
     let small : count < 256 = subst (λ b. get_or b 1 0 < 256) whole (are 1) in
@@ -47,19 +47,19 @@ BeginsWith-two_byte id count bytes second after front back are unpadded begins n
     (whole ∙ (ap (λ b. id ∷ count ∷ b) (sym (take-append-drop count after) ∙ (ap (λ b. b ++ drop count after) (sym split.1) ∙ ap (λ b. front ++ b) (sym split.2)))
     ∙ ap (λ n. id ∷ n ∷ (front ++ back)) (sym split.3)))
 
-pub BeginsWithNone-two_byte_cut : (id count : ℕ) (bytes second after : List ℕ) → ((i : ℕ) → get_or bytes i 0 < 256) → IsUnpadded bytes → IsFirstAndRest bytes id second
+pub BeginsWithNone-two_byte_cut : (id count : ℕ) (bytes second after : List ℕ) → ((i : ℕ) → get_or bytes i 0 < 256) → HasNoPadding bytes → IsFirstAndRest bytes id second
     → IsFirstAndRest second count after → length after < count → BeginsWithNone TwoByte bytes
 BeginsWithNone-two_byte_cut id count bytes second after are unpadded begins next cut =
-    let above : 1 ≤ id = IsUnpadded-head id second (subst IsUnpadded begins.0 unpadded) in
+    let above : 1 ≤ id = HasNoPadding-first id second (subst HasNoPadding begins.0 unpadded) in
     let whole : bytes ≡ id ∷ count ∷ after = begins.0 ∙ ap (λ b. id ∷ b) next.0 in
     let fits : id < 256 = subst (λ b. get_or b 0 0 < 256) whole (are 0) in
     let small : count < 256 = subst (λ b. get_or b 1 0 < 256) whole (are 1) in
     BeginsWithNone-here TwoByte bytes (id ∷ count ∷ after) whole (IsTail-two_byte id count after above fits small cut)
 
-pub BeginsWithNone-two_byte_end : (id : ℕ) (bytes second : List ℕ) → ((i : ℕ) → get_or bytes i 0 < 256) → IsUnpadded bytes → IsFirstAndRest bytes id second
+pub BeginsWithNone-two_byte_end : (id : ℕ) (bytes second : List ℕ) → ((i : ℕ) → get_or bytes i 0 < 256) → HasNoPadding bytes → IsFirstAndRest bytes id second
     → length second ≡ 0 → BeginsWithNone TwoByte bytes
 BeginsWithNone-two_byte_end id bytes second are unpadded begins none =
-    let above : 1 ≤ id = IsUnpadded-head id second (subst IsUnpadded begins.0 unpadded) in
+    let above : 1 ≤ id = HasNoPadding-first id second (subst HasNoPadding begins.0 unpadded) in
     let fits : id < 256 = subst (λ b. get_or b 0 0 < 256) begins.0 (are 0) in
     BeginsWithNone-here TwoByte bytes (id ∷ []) (begins.0 ∙ ap (λ b. id ∷ b) (nil_from_length second none)) (IsTail-two_byte_end id above fits)
 

@@ -1,10 +1,10 @@
 -- The form that mapped ids and their values need, and the elements that it can carry.
 use Rattle.std.proofs.Common.{◌≡◌, ℕ, ◌+◌, ◌≤◌, ◌⊎◌, inl, inr, List, [], ◌∷◌, length, Bool, true, false, Option, Some, None, refl, sym, ap, ◌∙◌, arith}
-use Rattle.std.specs.Prelude.{◌||◌, ◌==◌, nat_lt, if◌then◌else◌}
-use Rattle.std.specs.List.{AllByRecursion, filter_map, list_any, cons_option}
+use Rattle.std.specs.Prelude.{◌||◌, nat_lt, if◌then◌else◌}
+use Rattle.std.specs.List.{AllByRecursion, filter_map, list_any}
 use Rattle.std.specs.Option.{option_map}
 use Rattle.std.proofs.lemmas.Bool.{or_parts}
-use Rattle.std.proofs.lemmas.Bool.Decides.{nat_tests, not_from_Decides}
+use Rattle.std.proofs.lemmas.Bool.Decides.{nat_tests}
 use Rattle.rtp_ext.specs.declared.ext.form.ExtensionsForm.{ExtensionsForm}
 use Rattle.rtp_ext.specs.declared.ext.form.ExtensionsForm.TheVariants.{OneByte, TwoByte}
 use Rattle.rtp_values.specs.declared.kind.Extension.{Extension}
@@ -12,12 +12,10 @@ use Rattle.rtp_values.specs.declared.kind.Extension.TheVariants.{VideoLayersAllo
 use Rattle.rtp_values.specs.contracts.kind.ExtensionPartialEq.TheImpl as kind_eq
 use Rattle.rtp_values.specs.declared.value.values.ExtensionValues.{ExtensionValues}
 use Rattle.rtp_ext.specs.Elements.{Element}
-use Rattle.rtp_values.specs.Spelling.{has_no_data, spelled_data}
+use Rattle.rtp_values.specs.Spelling.{has_no_data, spelled_data, longest}
 use Rattle.rtp_ext.specs.ElementWriting.{CanCarry}
-use Rattle.rtp_ext.specs.ExtensionMap.{Slots}
-use Rattle.rtp_ext.specs.ExtensionMap.{items_from}
-use Rattle.rtp_ext.specs.WrittenBlock.{form_of}
-use Rattle.rtp_values.proofs.KindLemmas.{extension_decides}
+use Rattle.rtp_ext.specs.ExtensionMap.{Slots, items_from}
+use Rattle.rtp_ext.specs.WrittenBlock.{needs_two, form_of}
 
 -- a mapped id with its kind
 abbrev pub Item : Type 0
@@ -32,11 +30,14 @@ elements_of values items = filter_map (element_of values) items
 
 -- ---- the form
 
+-- the kind whose data may have more than 16 bytes
+pub long_kind : (kind : Extension) → (kind_eq.ghosts).eq kind VideoLayersAllocation ≡ nat_lt 16 (longest kind)
+long_kind VideoLayersAllocation = refl
+long_kind _ = refl
+
 -- the form for mapped ids in a row
 unfoldable pub form_for : ExtensionValues → List Item → ExtensionsForm
-form_for values items =
-    if list_any (λ item. nat_lt 14 item.0) items || (list_any (λ item. (kind_eq.ghosts).eq item.1 VideoLayersAllocation) items
-    || list_any (λ element. length element.1 == 0) (elements_of values items)) then TwoByte else OneByte
+form_for values items = if list_any (needs_two values) items then TwoByte else OneByte
 
 pub form_for-map : (exts : Slots) (values : ExtensionValues) → form_for values (items_from 0 exts) ≡ form_of exts values
 unfolding form_for
@@ -46,41 +47,14 @@ pub form_for-nil : (values : ExtensionValues) → form_for values [] ≡ OneByte
 unfolding form_for
 form_for-nil values = refl
 
--- no data where there are none, and else whether one of the others has none
-any_empty-cons : (id : ℕ) (bytes : Option (List ℕ)) (rest : List Element)
-    → list_any (λ element. length element.1 == 0) (cons_option (option_map (λ b. (id, b)) bytes) rest)
-    ≡ (has_no_data bytes || list_any (λ element. length element.1 == 0) rest)
-any_empty-cons id None rest = refl
-any_empty-cons id (Some bytes) rest = refl
-
-either_if : (a b c d e f : Bool) (x y : ExtensionsForm)
-    → (if (a || b) || ((c || d) || (e || f)) then x else y) ≡ (if a || (c || e) then x else (if b || (d || f) then x else y))
-either_if true b c d e f x y = refl
-either_if false true true d e f x y = refl
-either_if false true false d true f x y = refl
-either_if false true false d false f x y = refl
-either_if false false true d e f x y = refl
-either_if false false false true true f x y = refl
-either_if false false false true false f x y = refl
-either_if false false false false true f x y = refl
-either_if false false false false false f x y = refl
-
--- whether the one-byte form doesn't serve for a mapped id
-abbrev pub needs_two : ExtensionValues → Item → Bool
-needs_two values item =
-    nat_lt 14 item.0 || ((kind_eq.ghosts).eq item.1 VideoLayersAllocation || has_no_data (spelled_data item.1 values))
+either_if : (a b : Bool) (x y : ExtensionsForm) → (if a || b then x else y) ≡ (if a then x else (if b then x else y))
+either_if true b x y = refl
+either_if false b x y = refl
 
 pub form_for-cons : (values : ExtensionValues) (item : Item) (items : List Item)
     → form_for values (item ∷ items) ≡ (if needs_two values item then TwoByte else form_for values items)
 unfolding form_for
-form_for-cons values item items =
-    let ids = list_any (λ i. nat_lt 14 i.0) items in
-    let kinds = list_any (λ i. (kind_eq.ghosts).eq i.1 VideoLayersAllocation) items in
-    let here = (kind_eq.ghosts).eq item.1 VideoLayersAllocation in
-    ap (λ (empty : Bool). if (nat_lt 14 item.0 || ids) || ((here || kinds) || empty) then TwoByte else OneByte)
-    (any_empty-cons item.0 (spelled_data item.1 values) (elements_of values items))
-    ∙ either_if (nat_lt 14 item.0) ids here kinds (has_no_data (spelled_data item.1 values))
-    (list_any (λ element. length element.1 == 0) (elements_of values items)) TwoByte OneByte
+form_for-cons values item items = either_if (needs_two values item) (list_any (needs_two values) items) TwoByte OneByte
 
 -- the next one decides, or is passed
 pub form_for-next : (values : ExtensionValues) (items more : List Item) (item : Item) (needs : Bool) → items ≡ item ∷ more
@@ -99,15 +73,18 @@ CanCarry-two : (item : Item) (bytes : Option (List ℕ)) → CanCarry TwoByte it
 CanCarry-two item None = tt
 CanCarry-two item (Some bytes) = tt
 
+at_most : (most n : ℕ) → nat_lt most n ≡ false → n ≤ most
+at_most most n not_above = grind (arith, nat_tests)
+
 some_byte : (bytes : List ℕ) → has_no_data (Some bytes) ≡ false → 1 ≤ length bytes
 some_byte bytes some = grind (arith, nat_tests)
 
-CanCarry-one : (item : Item) (bytes : Option (List ℕ)) → (nat_lt 14 item.0 || ((kind_eq.ghosts).eq item.1 VideoLayersAllocation || has_no_data bytes)) ≡ false → CanCarry OneByte item bytes
+CanCarry-one : (item : Item) (bytes : Option (List ℕ)) → (nat_lt 14 item.0 || (nat_lt 16 (longest item.1) || has_no_data bytes)) ≡ false → CanCarry OneByte item bytes
 CanCarry-one item None fits = tt
 CanCarry-one item (Some bytes) fits =
     let low = or_parts (nat_lt 14 item.0) _ fits in
-    let others = or_parts ((kind_eq.ghosts).eq item.1 VideoLayersAllocation) _ low.1 in
-    (grind (arith, nat_tests), not_from_Decides _ (extension_decides item.1 VideoLayersAllocation) others.0, some_byte bytes others.1)
+    let others = or_parts (nat_lt 16 (longest item.1)) _ low.1 in
+    (at_most 14 item.0 low.0, at_most 16 (longest item.1) others.0, some_byte bytes others.1)
 
 two≢one : {A : Type 0} → OneByte ≡ TwoByte → A
 two≢one same = cc

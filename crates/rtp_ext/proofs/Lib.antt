@@ -4,6 +4,7 @@ mod ValueFacts
 pub mod ElementLemmasOfBodies
 pub mod FirstElementLemmas
 pub mod MemoryLemmas
+mod MemoryFacts
 mod MapLemmas
 pub mod ListingLemmas
 mod MappedIdLemmas

@@ -53,7 +53,6 @@ IsRoomAfter-taken form id bytes room header None writable is none =
 IsRoomAfter-taken form id bytes room header (Some rest) writable is some =
     ((writable, omega (arith, is, length-header form id bytes, some.0, some.1)), tt)
 
-
 pub FitInARow-more : (form : ExtensionsForm) (left more : List Element) (element : Element) (room rest : ℕ) → left ≡ element ∷ more
     → IsWritable form element → rest + length (element_bytes form element) ≡ room → FitInARow form more rest ↔ FitInARow form left room
 FitInARow-more form left more element room rest split writable is =

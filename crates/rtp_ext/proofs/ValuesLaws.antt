@@ -7,8 +7,8 @@ use Rattle.rtp_values.specs.declared.kind.Extension.{Extension}
 use Rattle.rtp_values.specs.declared.value.values.ExtensionValues.{ExtensionValues}
 use Rattle.rtp_ext.specs.Elements.{Element}
 use Rattle.rtp_ext.specs.ExtensionMap.{Slots, IsEmpty, extension_at, extension_of}
-use Rattle.rtp_values.specs.Values.{Reads, SameFields, IsWellFormed}
-use Rattle.rtp_values.proofs.FieldLemmas.{Reads-one, Reads-same, SameFields-joined, SameFields-refl, SameFields-trans, same_values}
+use Rattle.rtp_values.specs.Values.{Reads, with_fields, SameFields, IsWellFormed}
+use Rattle.rtp_values.proofs.FieldLemmas.{Reads-one, Reads-same, SameFields-joined, SameFields-refl, SameFields-trans, SameFields-others, same_values}
 use Rattle.rtp_values.proofs.KindLemmas.{same_or_not, one_kind}
 use Rattle.rtp_ext.specs.BlockValues.{Carries, AreFields, last, none, AreValues}
 
@@ -101,13 +101,13 @@ unmapped_values exts elements old v empty values = sym (same_values old v (λ ki
 -- one more element is read, well-formed or not, by a reader that says which
 pub AreValues-parsed : (exts : Slots) (done : List Element) (element : Element) (kind : Extension) (old between new : ExtensionValues)
     (result : Result (Option (Unit {0})) AllocError) → extension_at exts element.0 ≡ Some kind → IsOk result
-    → (result ≡ Ok (Some (record {})) → Reads kind element.1 new)
-    → ((other : Extension) → other ≢ kind → SameFields other between new)
+    → (result ≡ Ok (Some (record {})) → Reads kind element.1 new) → new ≡ with_fields kind between new
     → (IsWellFormed kind element.1 → IfOk result (λ answer. answer ≡ Some (record {}))) → (result ≢ Ok (Some (record {})) → new ≡ between)
     → AreValues exts done old between → AreValues exts (done ++ element ∷ []) old new
 AreValues-parsed exts done element kind old between new (Err e) mapped ok found others only unchanged values = cc
 AreValues-parsed exts done element kind old between new (Ok (Some read)) mapped ok found others only unchanged values =
-    AreValues-read exts done element kind old between new mapped (found refl) others values
+    AreValues-read exts done element kind old between new mapped (found refl)
+    (λ any differs. subst (SameFields any between) (sym others) (SameFields-others kind any between new differs)) values
 AreValues-parsed exts done element kind old between new (Ok None) mapped ok found others only unchanged values =
     subst (λ v. AreValues exts (done ++ element ∷ []) old v) (sym (unchanged (λ same. cc)))
     (AreValues-passed exts done element old between not_carried values)

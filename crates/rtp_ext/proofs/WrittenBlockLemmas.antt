@@ -1,17 +1,15 @@
 -- The elements that a map writes: their bytes, and what those are read as.
-use Rattle.std.proofs.Common.{◌≡◌, ℕ, ◌+◌, ◌*◌, ◌<◌, ◌≤◌, ◌≢◌, List, [], ◌∷◌, ◌++◌, length, drop, Option, Some, None, refl, sym, ap, ◌∙◌, subst, arith, length-append}
+use Rattle.std.proofs.Common.{◌≡◌, ℕ, ◌+◌, ◌*◌, ◌<◌, ◌≤◌, List, [], ◌∷◌, ◌++◌, length, drop, Option, Some, None, refl, sym, ap, ◌∙◌, subst, arith, length-append}
 use Rattle.std.specs.Prelude.{IfSome}
 use Rattle.std.specs.List.{AllByRecursion, cons_option}
 use Rattle.std.specs.Option.{option_map, unwrap_or}
 use Rattle.rtp_ext.specs.declared.ext.form.ExtensionsForm.{ExtensionsForm}
 use Rattle.rtp_ext.specs.declared.ext.form.ExtensionsForm.TheVariants.{OneByte, TwoByte}
 use Rattle.rtp_values.specs.declared.kind.Extension.{Extension}
-use Rattle.rtp_values.specs.declared.kind.Extension.TheVariants.{VideoLayersAllocation}
 use Rattle.rtp_values.specs.declared.value.values.ExtensionValues.{ExtensionValues}
 use Rattle.rtp_ext.specs.Elements.{Element, IsElement, elements_bytes}
 use Rattle.rtp_ext.specs.ElementWriting.{header_bytes, bytes_at, items_bytes, CanCarry, IsCarried}
-use Rattle.rtp_ext.specs.ExtensionMap.{Slots}
-use Rattle.rtp_ext.specs.ExtensionMap.{items_from}
+use Rattle.rtp_ext.specs.ExtensionMap.{Slots, items_from}
 use Rattle.rtp_base.specs.Overwriting.{overwritten}
 use Rattle.rtp_values.specs.Spelling.{spelled_data, carried_values, longest}
 use Rattle.rtp_values.specs.Values.{Reads}
@@ -138,12 +136,8 @@ bytes_at-put form id len at start old data_put new (Some bytes) long start-is fi
     )
 
 -- how long the data of a kind may be
-longest-short : (kind : Extension) → kind ≢ VideoLayersAllocation → longest kind ≤ 16
-longest-short VideoLayersAllocation other = absurd (other refl)
-longest-short _ other = omega arith
-
 pub length-can : (item : Item) (bytes : List ℕ) → CanCarry OneByte item (Some bytes) → length bytes ≤ longest item.1 → length bytes ≤ 16
-length-can item bytes can few = omega (arith, few, longest-short item.1 can.1)
+length-can item bytes can few = omega (arith, few, can.1)
 
 -- what is known of it
 pub IsCarried-from : (form : ExtensionsForm) (values : ExtensionValues) (id : ℕ) (kind : Extension) (bytes : Option (List ℕ))

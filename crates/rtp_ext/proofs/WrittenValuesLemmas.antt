@@ -1,59 +1,46 @@
 -- What the elements that a map writes are read as.
-use Rattle.std.proofs.Common.{◌≡◌, ◌≢◌, ℕ, ◌⊎◌, inl, inr, List, [], ◌∷◌, ◌++◌, Bool, true, false, Option, Some, None, All, refl, sym, ap, ◌∙◌, subst}
-use Rattle.std.specs.Prelude.{◌||◌, IfSome, if◌then◌else◌}
-use Rattle.std.specs.List.{AllByRecursion, list_any, cons_option}
+use Rattle.std.proofs.Common.{◌≡◌, ◌≢◌, ℕ, ◌⊎◌, inl, inr, List, [], ◌∷◌, ◌++◌, Option, Some, None, All, refl, sym, ap, ◌∙◌, subst}
+use Rattle.std.specs.Prelude.{IfSome}
+use Rattle.std.specs.List.{AllByRecursion, cons_option}
 use Rattle.std.specs.Option.{option_map}
 use Rattle.std.proofs.lemmas.List.Elements.{All-cons, All-nil, recursion_from_All, filter_map-append}
-use Rattle.std.proofs.lemmas.List.Folds.{list_any-append}
 use Rattle.rtp_ext.specs.declared.ext.form.ExtensionsForm.{ExtensionsForm}
 use Rattle.rtp_values.specs.declared.kind.Extension.{Extension}
 use Rattle.rtp_values.specs.declared.kind.Extension.TheVariants.{AbsoluteSendTime, AbsoluteCaptureTime, AudioLevel, TransmissionTimeOffset, VideoOrientation, TransportSequenceNumber, PlayoutDelay, VideoContentType, VideoTiming, RtpStreamId, RepairedRtpStreamId, RtpMid, FrameMarking, ColorSpace, VideoLayersAllocation, UnknownUri}
 use Rattle.rtp_values.specs.declared.value.values.ExtensionValues.{ExtensionValues}
-use Rattle.rtp_values.specs.contracts.kind.ExtensionPartialEq.TheImpl as kind_eq
 use Rattle.rtp_ext.specs.Elements.{Element, IsElement}
 use Rattle.rtp_ext.specs.ElementWriting.{IsCarried}
-use Rattle.rtp_ext.specs.ExtensionMap.{Slots, extension_at}
-use Rattle.rtp_ext.specs.ExtensionMap.{items_from}
+use Rattle.rtp_ext.specs.ExtensionMap.{Slots, extension_at, items_from}
 use Rattle.rtp_values.specs.Spelling.{spelled_data, carried_values, element_allocation, of_both}
-use Rattle.rtp_values.specs.Values.{no_values, Reads, SameFields}
+use Rattle.rtp_values.specs.Values.{no_values, with_fields, Reads, SameFields}
 use Rattle.rtp_ext.specs.BlockValues.{Carries, AreFields, last, none, AreValues}
-use Rattle.rtp_ext.specs.WrittenBlock.{written_elements, is_mapped, where_mapped, image_values}
+use Rattle.rtp_ext.specs.WrittenBlock.{written_elements, fields_of_items, image_values}
 use Rattle.rtp_ext.proofs.ListingLemmas.{IsListing-from_slots}
-use Rattle.rtp_values.proofs.FieldLemmas.{Reads-same, SameFields-trans}
-use Rattle.rtp_values.proofs.KindLemmas.{extension_decides, same_or_not}
+use Rattle.rtp_values.proofs.FieldLemmas.{AreSame, Reads-same, SameFields-from_each, SameFields-refl, SameFields-trans, SameFields-taken, SameFields-others}
+use Rattle.rtp_values.proofs.KindLemmas.{same_or_not}
 use Rattle.rtp_ext.proofs.FormLemmas.{Item, element_of, elements_of}
 
 -- ---- the image of a kind
 
--- what is seen of the values where a kind is mapped, and where it isn't
-abbrev seen : Bool → ExtensionValues → ExtensionValues
-seen mapped values = if mapped then carried_values values else no_values
+-- the fields of a kind that an item has are those of the values
+fields-there : (kind : Extension) (id : ℕ) (before after : List Item) (values : ExtensionValues)
+    → SameFields kind values (fields_of_items (before ++ (id, kind) ∷ after) values)
+fields-there kind id [] after values = SameFields-taken kind (fields_of_items after values) values
+fields-there kind id (item ∷ before) after values =
+    let rest = fields_of_items (before ++ (id, kind) ∷ after) values in
+    elim (same_or_not kind item.1) [
+      | inl same ↦ subst (λ (k : Extension). SameFields kind values (with_fields k rest values)) same (SameFields-taken kind rest values)
+      | inr other ↦ SameFields-trans kind values rest (with_fields item.1 rest values) (fields-there kind id before after values)
+          (SameFields-others item.1 kind rest values other)
+    ]
 
-where-at : {A : Type 0} (exts : Slots) (kind : Extension) (values : ExtensionValues) (mapped : Bool) (field : ExtensionValues → Option A)
-    → field no_values ≡ None → is_mapped exts kind ≡ mapped → where_mapped exts kind (field (carried_values values)) ≡ field (seen mapped values)
-where-at exts kind values true field absent is = rw is refl
-where-at exts kind values false field absent is = rw is (sym absent)
-
--- the image has the kind's fields of what is seen
-image-at : (exts : Slots) (values : ExtensionValues) (kind : Extension) (mapped : Bool) → is_mapped exts kind ≡ mapped
-    → SameFields kind (seen mapped values) (image_values exts values)
-unfolding image_values
-image-at exts values AbsoluteSendTime mapped is = where-at exts AbsoluteSendTime values mapped (λ fields. fields.abs_send_time) refl is
-image-at exts values AbsoluteCaptureTime mapped is = where-at exts AbsoluteCaptureTime values mapped (λ fields. fields.abs_capture_time) refl is
-image-at exts values AudioLevel mapped is = (where-at exts AudioLevel values mapped (λ fields. fields.audio_level) refl is, where-at exts AudioLevel values mapped (λ fields. fields.voice_activity) refl is)
-image-at exts values TransmissionTimeOffset mapped is = where-at exts TransmissionTimeOffset values mapped (λ fields. fields.tx_time_offs) refl is
-image-at exts values VideoOrientation mapped is = where-at exts VideoOrientation values mapped (λ fields. fields.video_orientation) refl is
-image-at exts values TransportSequenceNumber mapped is = where-at exts TransportSequenceNumber values mapped (λ fields. fields.transport_cc) refl is
-image-at exts values PlayoutDelay mapped is = (where-at exts PlayoutDelay values mapped (λ fields. fields.play_delay_min) refl is, where-at exts PlayoutDelay values mapped (λ fields. fields.play_delay_max) refl is)
-image-at exts values VideoContentType mapped is = where-at exts VideoContentType values mapped (λ fields. fields.video_content_type) refl is
-image-at exts values VideoTiming mapped is = where-at exts VideoTiming values mapped (λ fields. fields.video_timing) refl is
-image-at exts values RtpStreamId mapped is = where-at exts RtpStreamId values mapped (λ fields. fields.rid) refl is
-image-at exts values RepairedRtpStreamId mapped is = where-at exts RepairedRtpStreamId values mapped (λ fields. fields.rid_repair) refl is
-image-at exts values RtpMid mapped is = where-at exts RtpMid values mapped (λ fields. fields.mid) refl is
-image-at exts values FrameMarking mapped is = where-at exts FrameMarking values mapped (λ fields. fields.frame_mark) refl is
-image-at exts values VideoLayersAllocation mapped is = where-at exts VideoLayersAllocation values mapped (λ fields. fields.video_layers_allocation) refl is
-image-at exts values ColorSpace mapped is = tt
-image-at exts values (UnknownUri uri) mapped is = tt
+-- and those of any other kind are absent
+fields-absent : (kind : Extension) (items : List Item) (values : ExtensionValues) → AllByRecursion (λ item. item.1 ≢ kind) items
+    → SameFields kind no_values (fields_of_items items values)
+fields-absent kind [] values all = SameFields-refl kind no_values
+fields-absent kind (item ∷ items) values all =
+    SameFields-trans kind no_values (fields_of_items items values) _ (fields-absent kind items values all.1)
+    (SameFields-others item.1 kind (fields_of_items items values) values (λ same. all.0 (sym same)))
 
 -- a kind without data carries no value
 map-none : {A B C : Type 0} (f : A → B) (g : A → C) (value : Option A) → option_map f value ≡ None → option_map g value ≡ None
@@ -69,24 +56,27 @@ both-none f g None y is = refl
 both-none f g (Some x) None is = refl
 both-none f g (Some x) (Some y) is = cc
 
-carried-none : (values : ExtensionValues) (kind : Extension) → spelled_data kind values ≡ None → SameFields kind no_values (carried_values values)
+carried-each : (values : ExtensionValues) (kind : Extension) → spelled_data kind values ≡ None → AreSame kind no_values (carried_values values)
 unfolding carried_values
-carried-none values AbsoluteSendTime is = map-none _ _ values.abs_send_time is
-carried-none values AbsoluteCaptureTime is = is-none _ values.abs_capture_time is
-carried-none values AudioLevel is = (both-none _ _ values.audio_level values.voice_activity is, both-none _ _ values.audio_level values.voice_activity is)
-carried-none values TransmissionTimeOffset is = is-none _ values.tx_time_offs is
-carried-none values VideoOrientation is = is-none _ values.video_orientation is
-carried-none values TransportSequenceNumber is = is-none _ values.transport_cc is
-carried-none values PlayoutDelay is = (both-none _ _ values.play_delay_min values.play_delay_max is, both-none _ _ values.play_delay_min values.play_delay_max is)
-carried-none values VideoContentType is = is-none _ values.video_content_type is
-carried-none values VideoTiming is = is-none _ values.video_timing is
-carried-none values RtpStreamId is = is-none _ values.rid is
-carried-none values RepairedRtpStreamId is = is-none _ values.rid_repair is
-carried-none values RtpMid is = is-none _ values.mid is
-carried-none values FrameMarking is = is-none _ values.frame_mark is
-carried-none values VideoLayersAllocation is = map-none _ _ (element_allocation values.video_layers_allocation) is
-carried-none values ColorSpace is = tt
-carried-none values (UnknownUri uri) is = tt
+carried-each values AbsoluteSendTime is = map-none _ _ values.abs_send_time is
+carried-each values AbsoluteCaptureTime is = is-none _ values.abs_capture_time is
+carried-each values AudioLevel is = (both-none _ _ values.audio_level values.voice_activity is, both-none _ _ values.audio_level values.voice_activity is)
+carried-each values TransmissionTimeOffset is = is-none _ values.tx_time_offs is
+carried-each values VideoOrientation is = is-none _ values.video_orientation is
+carried-each values TransportSequenceNumber is = is-none _ values.transport_cc is
+carried-each values PlayoutDelay is = (both-none _ _ values.play_delay_min values.play_delay_max is, both-none _ _ values.play_delay_min values.play_delay_max is)
+carried-each values VideoContentType is = is-none _ values.video_content_type is
+carried-each values VideoTiming is = is-none _ values.video_timing is
+carried-each values RtpStreamId is = is-none _ values.rid is
+carried-each values RepairedRtpStreamId is = is-none _ values.rid_repair is
+carried-each values RtpMid is = is-none _ values.mid is
+carried-each values FrameMarking is = is-none _ values.frame_mark is
+carried-each values VideoLayersAllocation is = map-none _ _ (element_allocation values.video_layers_allocation) is
+carried-each values ColorSpace is = tt
+carried-each values (UnknownUri uri) is = tt
+
+carried-none : (values : ExtensionValues) (kind : Extension) → spelled_data kind values ≡ None → SameFields kind no_values (carried_values values)
+carried-none values kind is = SameFields-from_each kind no_values (carried_values values) (carried-each values kind is)
 
 -- ---- the last id of a kind
 
@@ -97,10 +87,6 @@ record LastItem (kind : Extension) (items : List Item) : Type 0 where
   id : ℕ
   is : items ≡ before ++ (id, kind) ∷ after
   later : AllByRecursion (λ item. item.1 ≢ kind) after
-
-true_or_false : (b : Bool) → (b ≡ true) ⊎ (b ≡ false)
-true_or_false true = inl refl
-true_or_false false = inr refl
 
 find_last : (kind : Extension) (items : List Item) → LastItem kind items ⊎ AllByRecursion (λ item. item.1 ≢ kind) items
 find_last kind [] = inr tt
@@ -124,23 +110,17 @@ find_last kind (item ∷ items) = elim (find_last kind items) [
   ]
 ]
 
-or-true : (a b c : Bool) → b ≡ true → (a || (b || c)) ≡ true
-or-true true b c is = refl
-or-true false b c is = rw is refl
+image-there : (exts : Slots) (values : ExtensionValues) (kind : Extension) → LastItem kind (items_from 0 exts)
+    → SameFields kind (carried_values values) (image_values exts values)
+unfolding image_values
+image-there exts values kind found =
+    subst (λ (items : List Item). SameFields kind (carried_values values) (fields_of_items items (carried_values values))) (sym found.is)
+    (fields-there kind found.id found.before found.after (carried_values values))
 
-mapped-last : (exts : Slots) (kind : Extension) → LastItem kind (items_from 0 exts) → is_mapped exts kind ≡ true
-mapped-last exts kind found =
-    ap (list_any (λ item. (kind_eq.ghosts).eq item.1 kind)) found.is
-    ∙ (list_any-append (λ item. (kind_eq.ghosts).eq item.1 kind) found.before ((found.id, kind) ∷ found.after)
-    ∙ or-true _ _ _ ((extension_decides kind kind).1 refl))
-
-any-none : (kind : Extension) (items : List Item) → AllByRecursion (λ item. item.1 ≢ kind) items
-    → list_any (λ item. (kind_eq.ghosts).eq item.1 kind) items ≡ false
-any-none kind [] all = refl
-any-none kind (item ∷ items) all = elim (true_or_false ((kind_eq.ghosts).eq item.1 kind)) [
-  | inl is ↦ absurd (all.0 ((extension_decides item.1 kind).0 is))
-  | inr isnt ↦ rw isnt (any-none kind items all.1)
-]
+image-absent : (exts : Slots) (values : ExtensionValues) (kind : Extension) → AllByRecursion (λ item. item.1 ≢ kind) (items_from 0 exts)
+    → SameFields kind no_values (image_values exts values)
+unfolding image_values
+image-absent exts values kind all = fields-absent kind (items_from 0 exts) (carried_values values) all
 
 -- ---- which elements carry a kind
 
@@ -200,7 +180,7 @@ AreFields-mapped : (form : ExtensionsForm) (exts : Slots) (values : ExtensionVal
 AreFields-mapped form exts values kind found carried None is =
     none (none-carry exts kind values (items_from 0 exts) (items-mapped exts) (without_data kind values (items_from 0 exts) is))
     (SameFields-trans kind no_values (carried_values values) (image_values exts values) (carried-none values kind is)
-    (image-at exts values kind true (mapped-last exts kind found)))
+    (image-there exts values kind found))
 AreFields-mapped form exts values kind found carried (Some bytes) is =
     let here : AllByRecursion (IsCarried form values) ((found.id, kind) ∷ found.after) =
     all-after (IsCarried form values) found.before _ (subst (AllByRecursion (IsCarried form values)) found.is carried) in
@@ -212,7 +192,7 @@ AreFields-mapped form exts values kind found carried (Some bytes) is =
     (ap (elements_of values) found.is ∙ (filter_map-append (element_of values) found.before ((found.id, kind) ∷ found.after)
     ∙ ap (λ b. elements_of values found.before ++ cons_option (option_map (λ x. (found.id, x)) b) (elements_of values found.after)) is))
     there.0
-    (Reads-same kind bytes (carried_values values) (image_values exts values) reads.1 (image-at exts values kind true (mapped-last exts kind found)))
+    (Reads-same kind bytes (carried_values values) (image_values exts values) reads.1 (image-there exts values kind found))
     (none-carry exts kind values found.after there.1 (others kind values found.after found.later))
 
 -- what was written is read as the image
@@ -222,5 +202,5 @@ AreValues-written form exts values carried = λ kind. elim (find_last kind (item
   | inl found ↦ AreFields-mapped form exts values kind found carried (spelled_data kind values) refl
   | inr other ↦ none
       (none-carry exts kind values (items_from 0 exts) (items-mapped exts) (others kind values (items_from 0 exts) other))
-      (image-at exts values kind false (any-none kind (items_from 0 exts) other))
+      (image-absent exts values kind other)
 ]

@@ -12,8 +12,8 @@ without_padding (zero ∷ bytes) = without_padding bytes
 without_padding (suc byte ∷ bytes) = suc byte ∷ bytes
 
 -- bytes that do not begin with padding
-abbrev pub IsUnpadded : List ℕ → Type 0
-IsUnpadded bytes = without_padding bytes ≡ bytes
+abbrev pub HasNoPadding : List ℕ → Type 0
+HasNoPadding bytes = without_padding bytes ≡ bytes
 
 -- the element whose header begins with this byte, which is no padding, and how many of the bytes after it are the element's; none where it ends reading
 abbrev pub element_at : ExtensionsForm → ℕ → List ℕ → Option (Element × ℕ)
@@ -31,15 +31,15 @@ in_front None others = []
 in_front (Some found) others = found.0 ∷ others found.1
 
 -- the elements of the bytes once `passed` of them are passed over
-unfoldable pub elements_behind : ExtensionsForm → ℕ → List ℕ → List Element
-elements_behind form passed [] = []
-elements_behind form (suc passed) (byte ∷ bytes) = elements_behind form passed bytes
-elements_behind form zero (zero ∷ bytes) = elements_behind form zero bytes
-elements_behind form zero (suc byte ∷ bytes) = in_front (element_at form (suc byte) bytes) (λ taken. elements_behind form taken bytes)
+unfoldable pub elements_after : ExtensionsForm → ℕ → List ℕ → List Element
+elements_after form passed [] = []
+elements_after form (suc passed) (byte ∷ bytes) = elements_after form passed bytes
+elements_after form zero (zero ∷ bytes) = elements_after form zero bytes
+elements_after form zero (suc byte ∷ bytes) = in_front (element_at form (suc byte) bytes) (λ taken. elements_after form taken bytes)
 
 -- the elements of the bytes
 abbrev pub elements_left : ExtensionsForm → List ℕ → List Element
-elements_left form bytes = elements_behind form 0 bytes
+elements_left form bytes = elements_after form 0 bytes
 
 -- bytes begin with padding and an element, and these bytes follow it
 pub record BeginsWith (form : ExtensionsForm) (bytes : List ℕ) (element : Element) (after : List ℕ) : Type 0 where

@@ -1,13 +1,12 @@
 -- The elements of mapped ids in a row: what the functions of `block_elements` promise each other.
-use Rattle.std.specs.Prelude.{◌≢◌, ℕ, ◌+◌, ◌-◌, ◌*◌, ◌≤◌, List, [], ◌∷◌, length, Option, Some, None, IfSome}
+use Rattle.std.specs.Prelude.{ℕ, ◌+◌, ◌-◌, ◌*◌, ◌≤◌, List, [], ◌∷◌, length, Option, Some, None, IfSome}
 use Rattle.std.specs.List.{flat_map}
 use Rattle.rtp_ext.specs.declared.ext.form.ExtensionsForm.{ExtensionsForm}
 use Rattle.rtp_ext.specs.declared.ext.form.ExtensionsForm.TheVariants.{OneByte, TwoByte}
 use Rattle.rtp_values.specs.declared.kind.Extension.{Extension}
-use Rattle.rtp_values.specs.declared.kind.Extension.TheVariants.{VideoLayersAllocation}
 use Rattle.rtp_values.specs.declared.value.values.ExtensionValues.{ExtensionValues}
 use Rattle.rtp_ext.specs.Elements.{IsElement, element_bytes}
-use Rattle.rtp_values.specs.Spelling.{spelled_data, carried_values}
+use Rattle.rtp_values.specs.Spelling.{spelled_data, carried_values, longest}
 use Rattle.rtp_values.specs.Values.{Reads}
 
 -- the bytes in front of an element's data, by its id and the length of its data
@@ -24,10 +23,10 @@ bytes_at form id (Some bytes) = element_bytes form (id, bytes)
 unfoldable pub items_bytes : ExtensionsForm → ExtensionValues → List (ℕ × Extension) → List ℕ
 items_bytes form values items = flat_map (λ item. bytes_at form item.0 (spelled_data item.1 values)) items
 
--- an element of a mapped id that may be written in the form: an allocation never in the one-byte form
+-- an element of a mapped id that may be written in the form: none in the one-byte form whose kind may have more than 16 bytes
 abbrev pub CanCarry : ExtensionsForm → ℕ × Extension → Option (List ℕ) → Type 0
 CanCarry form item None = Unit {0}
-CanCarry OneByte item (Some bytes) = (item.0 ≤ 14) × (item.1 ≢ VideoLayersAllocation) × (1 ≤ length bytes)
+CanCarry OneByte item (Some bytes) = (item.0 ≤ 14) × (longest item.1 ≤ 16) × (1 ≤ length bytes)
 CanCarry TwoByte item (Some bytes) = Unit {0}
 
 -- what was written is an element of the form, and is read as the value that it carries

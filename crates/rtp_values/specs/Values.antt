@@ -83,24 +83,28 @@ Reads ColorSpace bytes values = ⊥
 Reads VideoLayersAllocation bytes values = IsSomeAnd values.video_layers_allocation (Means bytes)
 Reads (UnknownUri uri) bytes values = ⊥
 
--- the kind's fields are the same
+-- the old values with the kind's fields of the new ones
+abbrev pub with_fields : Extension → ExtensionValues → ExtensionValues → ExtensionValues
+with_fields AbsoluteSendTime old new = record old { abs_send_time = new.abs_send_time }
+with_fields AbsoluteCaptureTime old new = record old { abs_capture_time = new.abs_capture_time }
+with_fields AudioLevel old new = record old { audio_level = new.audio_level; voice_activity = new.voice_activity }
+with_fields TransmissionTimeOffset old new = record old { tx_time_offs = new.tx_time_offs }
+with_fields VideoOrientation old new = record old { video_orientation = new.video_orientation }
+with_fields TransportSequenceNumber old new = record old { transport_cc = new.transport_cc }
+with_fields PlayoutDelay old new = record old { play_delay_min = new.play_delay_min; play_delay_max = new.play_delay_max }
+with_fields VideoContentType old new = record old { video_content_type = new.video_content_type }
+with_fields VideoTiming old new = record old { video_timing = new.video_timing }
+with_fields RtpStreamId old new = record old { rid = new.rid }
+with_fields RepairedRtpStreamId old new = record old { rid_repair = new.rid_repair }
+with_fields RtpMid old new = record old { mid = new.mid }
+with_fields FrameMarking old new = record old { frame_mark = new.frame_mark }
+with_fields ColorSpace old new = old
+with_fields VideoLayersAllocation old new = record old { video_layers_allocation = new.video_layers_allocation }
+with_fields (UnknownUri uri) old new = old
+
+-- the kind's fields are the same: with those of the new values the old values are as they were
 abbrev pub SameFields : Extension → ExtensionValues → ExtensionValues → Type 0
-SameFields AbsoluteSendTime old new = new.abs_send_time ≡ old.abs_send_time
-SameFields AbsoluteCaptureTime old new = new.abs_capture_time ≡ old.abs_capture_time
-SameFields AudioLevel old new = (new.audio_level ≡ old.audio_level) × (new.voice_activity ≡ old.voice_activity)
-SameFields TransmissionTimeOffset old new = new.tx_time_offs ≡ old.tx_time_offs
-SameFields VideoOrientation old new = new.video_orientation ≡ old.video_orientation
-SameFields TransportSequenceNumber old new = new.transport_cc ≡ old.transport_cc
-SameFields PlayoutDelay old new = (new.play_delay_min ≡ old.play_delay_min) × (new.play_delay_max ≡ old.play_delay_max)
-SameFields VideoContentType old new = new.video_content_type ≡ old.video_content_type
-SameFields VideoTiming old new = new.video_timing ≡ old.video_timing
-SameFields RtpStreamId old new = new.rid ≡ old.rid
-SameFields RepairedRtpStreamId old new = new.rid_repair ≡ old.rid_repair
-SameFields RtpMid old new = new.mid ≡ old.mid
-SameFields FrameMarking old new = new.frame_mark ≡ old.frame_mark
-SameFields ColorSpace old new = Unit {0}
-SameFields VideoLayersAllocation old new = new.video_layers_allocation ≡ old.video_layers_allocation
-SameFields (UnknownUri uri) old new = Unit {0}
+SameFields kind old new = with_fields kind old new ≡ old
 
 -- the data are well-formed for the kind
 abbrev pub IsWellFormed : Extension → List ℕ → Type 0

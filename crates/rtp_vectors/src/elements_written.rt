@@ -48,8 +48,8 @@ fn written(rt: HostRuntime) {
     for &(form, elements, room, wanted) in &WRITTEN {
         let mut old = OLD;
         let len = wanted.len();
-        let end = write_elements(&mut old[..room], form, elements);
-        same(&rt, room, end, Some(len));
+        let buf = old.get_mut(..room).expect(&rt, "the room");
+        same(&rt, room, write_elements(buf, form, elements), Some(len));
         same(&rt, room, old.get(..len), Some(wanted));
         same(&rt, room, old.get(len..), OLD.get(len..));
         are_read(&rt, form, wanted, elements);
@@ -73,8 +73,8 @@ const REFUSED: [(ExtensionsForm, &[(u8, &[u8])], usize); 8] = [
 fn refused(rt: HostRuntime) {
     for &(form, elements, room) in &REFUSED {
         let mut old = OLD;
-        let end = write_elements(&mut old[..room], form, elements);
-        same(&rt, room, end, None);
+        let buf = old.get_mut(..room).expect(&rt, "the room");
+        same(&rt, room, write_elements(buf, form, elements), None);
         same(&rt, room, old, OLD);
     }
 }
@@ -89,12 +89,7 @@ const LONG: [(ExtensionsForm, u8, usize, Option<&[u8]>); 4] = [
 ];
 
 // What is written of the element into 300 bytes that are all 0xE7.
-fn is_long(
-    rt: &impl Abort,
-    form: ExtensionsForm,
-    element: (u8, &[u8]),
-    header: Option<&[u8]>,
-) {
+fn is_long(rt: &impl Abort, form: ExtensionsForm, element: (u8, &[u8]), header: Option<&[u8]>) {
     let mut buf = [0xE7; 300];
     let end = write_elements(&mut buf, form, &[element]);
     let header = header.unwrap_or(&[]);
@@ -105,7 +100,7 @@ fn is_long(
         same(rt, len, buf, [0xE7; 300]);
         return;
     };
-    same(rt, len, end, start + len);
+    same(rt, len, end.checked_sub(start), Some(len));
     same(rt, len, buf.get(..start), Some(header));
     same(rt, len, buf.get(start..end), Some(element.1));
     same(rt, len, buf.get(end..), [0xE7; 300].get(end..));
@@ -115,6 +110,7 @@ fn is_long(
 fn longest_data(rt: HostRuntime) {
     let data = [0x5A; 256];
     for &(form, id, len, header) in &LONG {
-        is_long(&rt, form, (id, &data[..len]), header);
+        let front = data.get(..len).expect(&rt, "the data");
+        is_long(&rt, form, (id, front), header);
     }
 }

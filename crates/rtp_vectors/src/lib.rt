@@ -27,6 +27,8 @@ mod fixtures;
 #[cfg(test)]
 mod headers_read;
 #[cfg(test)]
+mod headers_tried;
+#[cfg(test)]
 mod headers_with_values;
 #[cfg(test)]
 mod headers_written;

@@ -1,18 +1,16 @@
 //! The elements of a block, from values to bytes.
 
-ghost use Rattle.std.specs.Prelude.{◌≡◌, ◌⊎◌, ℕ, ◌+◌, ◌*◌, ◌≤◌, ◌++◌, ◌||◌, nat_lt, length, drop, replicate};
+ghost use Rattle.std.specs.Prelude.{◌≡◌, ◌⊎◌, ℕ, ◌+◌, ◌*◌, ◌≤◌, ◌++◌, length, drop, replicate};
 ghost use Rattle.std.specs.Option.{option_map};
 ghost use Rattle.rtp_ext.specs.declared.ext.form.ExtensionsForm.TheVariants.{OneByte, TwoByte};
-ghost use Rattle.rtp_values.specs.declared.kind.Extension.TheVariants.{VideoLayersAllocation};
-ghost use Rattle.rtp_values.specs.contracts.kind.ExtensionPartialEq.TheImpl as kind_eq;
 ghost use Rattle.rtp_ext.specs.Elements.{AreElements, elements_bytes};
 ghost use Rattle.rtp_ext.specs.ExtensionMap.{mapped_count};
 ghost use Rattle.rtp_ext.specs.ElementWriting.{header_bytes, bytes_at, CanCarry, IsCarried};
-ghost use Rattle.rtp_values.specs.Spelling.{has_no_data, spelled_data};
+ghost use Rattle.rtp_values.specs.Spelling.{spelled_data};
 ghost use Rattle.rtp_base.specs.Overwriting.{overwritten};
 ghost use Rattle.rtp_ext.specs.BlockValues.{AreValues};
 ghost use Rattle.rtp_values.specs.Values.{no_values};
-ghost use Rattle.rtp_ext.specs.WrittenBlock.{written_elements, form_of, image_values};
+ghost use Rattle.rtp_ext.specs.WrittenBlock.{written_elements, needs_two, form_of, image_values};
 
 use super::{ExtensionMap, ExtensionsForm, MAX_ID_ONE_BYTE_FORM};
 use rtp_values::{Extension, ExtensionValues};
@@ -43,9 +41,9 @@ pub(super) fn write_header(buf: &mut [u8], at: usize, form: ExtensionsForm, id: 
 }
 
 // Whether the one-byte form doesn't serve for a mapped id.
+#[tactic(auto, using(crate::proofs::FormLemmas::long_kind))]
 fn needs_two_bytes(id: u8, ext: &Extension, ev: &ExtensionValues) -> bool
-    ensures { result ≡ (nat_lt 14 id || ((kind_eq.ghosts).eq ext.now VideoLayersAllocation
-        || has_no_data (spelled_data ext.now ev.now))) }
+    ensures { result ≡ needs_two ev.now (id, ext.now) }
 {
     id > MAX_ID_ONE_BYTE_FORM || *ext == Extension::VideoLayersAllocation || ext.has_empty_data(ev)
 }

@@ -4,7 +4,7 @@ ghost use Rattle.std.specs.Prelude.{◌≡◌, List};
 ghost use Rattle.std.specs.Iterator.{YieldsFirstBy, item_count};
 ghost use Rattle.rtp_ext.specs.declared.ext.form.ExtensionsForm.TheVariants.{OneByte, TwoByte};
 ghost use Rattle.rtp_ext.specs.Elements.{Element, AreElements};
-ghost use Rattle.rtp_ext.specs.ElementReading.{without_padding, IsUnpadded, IsFirst};
+ghost use Rattle.rtp_ext.specs.ElementReading.{without_padding, HasNoPadding, IsFirst};
 
 use super::ExtensionsForm;
 use std::marker::Model;
@@ -56,7 +56,7 @@ impl<'a> Iterator for Elements<'a> {
 
     ghost remaining = { item_count (λ left. left) };
 
-    #[tactic(auto, unfolding(crate::specs::ElementReading::elements_behind))]
+    #[tactic(auto, unfolding(crate::specs::ElementReading::elements_after))]
     fn next(&mut self) -> Option<(u8, &'a [u8])> {
         let Some((id, data, left)) = first_element(self.left, self.form) else {
             self.left = &[];
@@ -122,7 +122,7 @@ fn skip_zero_words(bytes: &[u8]) -> &[u8]
 // The first element of bytes in the one-byte form, and what follows it; None where reading
 // ends.
 fn first_of_one_byte(bytes: &[u8]) -> Option<(u8, &[u8], &[u8])>
-    requires { IsUnpadded bytes.now }
+    requires { HasNoPadding bytes.now }
     ensures { IsFirst OneByte bytes.now result }
 {
     let (header, after) = bytes.split_first()?;
@@ -140,7 +140,7 @@ fn first_of_one_byte(bytes: &[u8]) -> Option<(u8, &[u8], &[u8])>
 // The first element of bytes in the two-byte form, and what follows it; None where reading
 // ends.
 fn first_of_two_byte(bytes: &[u8]) -> Option<(u8, &[u8], &[u8])>
-    requires { IsUnpadded bytes.now }
+    requires { HasNoPadding bytes.now }
     ensures { IsFirst TwoByte bytes.now result }
 {
     let (id, after) = bytes.split_first()?;

@@ -59,8 +59,8 @@ fn put_element(buf: &mut [u8], at: usize, form: ExtensionsForm, id: u8, bytes: &
     put(buf, at + header_len(form), bytes)
 }
 
-/// Writes the elements, pairs of an id and its data, to the front of the buffer and returns how many
-/// bytes they take; the bytes after them stay as they were (RFC 8285, 4.2 and 4.3).
+/// Writes the elements, pairs of an id and its data, to the front of the buffer and returns the
+/// length that they take; the bytes after them stay as they were (RFC 8285, 4.2 and 4.3).
 /// [`Elements`](super::Elements) reads what was written, and any zeros after it, as these elements.
 ///
 /// `None` where the buffer is too short or the form can't carry one of them, and then nothing is

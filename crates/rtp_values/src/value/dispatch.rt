@@ -2,7 +2,7 @@
 
 ghost use Rattle.std.specs.Prelude.{◌≡◌, ◌≢◌, ◌≤◌, [], ◌++◌, drop, length, unwrap_or, Some, IfOk, IfSome, IsErr};
 ghost use Rattle.std.specs.Option.{option_map};
-ghost use Rattle.rtp_values.specs.Values.{Reads, SameFields, IsWellFormed, TakesMemory};
+ghost use Rattle.rtp_values.specs.Values.{Reads, with_fields, IsWellFormed, TakesMemory};
 ghost use Rattle.rtp_values.specs.Spelling.{spelled_data, carried_values, longest, HasRoom};
 
 use super::{
@@ -27,7 +27,7 @@ impl Extension {
         ev: &mut ExtensionValues,
     ) -> Result<Option<()>, AllocError>
         ensures found { result ≡ Ok (Some (record {})) → Reads self.now buf.now ev.new }
-        ensures others { (kind : Extension) → kind ≢ self.now → SameFields kind ev.old ev.new }
+        ensures others { ev.new ≡ with_fields self.now ev.old ev.new }
         ensures only { IsWellFormed self.now buf.now → IfOk result (λ answer.
             answer ≡ Some (record {})) }
         ensures unchanged { result ≢ Ok (Some (record {})) → ev.new ≡ ev.old }

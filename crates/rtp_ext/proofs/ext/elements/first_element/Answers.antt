@@ -1,15 +1,15 @@
 use Rattle.std.proofs.Common.{sym, subst}
 use Rattle.rtp_ext.specs.declared.ext.form.ExtensionsForm.TheVariants.{OneByte, TwoByte}
-use Rattle.rtp_ext.specs.ElementReading.{IsUnpadded, IsFirst}
-use Rattle.rtp_ext.proofs.ElementLemmas.{IsUnpadded-behind}
+use Rattle.rtp_ext.specs.ElementReading.{HasNoPadding, IsFirst}
+use Rattle.rtp_ext.proofs.ElementLemmas.{HasNoPadding-after}
 use Rattle.rtp_ext.proofs.FirstElementLemmas.{IsFirst-padded}
 use Rattle.rtp_ext.proofs.ext.elements.first_element.Goals as goal
 
 pub first_of_one_byte-requires : goal.first_of_one_byte-requires
-first_of_one_byte-requires c = subst IsUnpadded (sym c.skip_padding-bytes.ensures) (IsUnpadded-behind c.args.bytes.now)
+first_of_one_byte-requires c = subst HasNoPadding (sym c.skip_padding-bytes.ensures) (HasNoPadding-after c.args.bytes.now)
 
 pub first_of_two_byte-requires : goal.first_of_two_byte-requires
-first_of_two_byte-requires c = subst IsUnpadded (sym c.skip_padding-bytes.ensures) (IsUnpadded-behind c.args.bytes.now)
+first_of_two_byte-requires c = subst HasNoPadding (sym c.skip_padding-bytes.ensures) (HasNoPadding-after c.args.bytes.now)
 
 pub returns-in-OneByte : goal.returns-in-OneByte
 returns-in-OneByte c =

@@ -1,6 +1,6 @@
 use Rattle.std.proofs.Common.{◌+◌, ℕ, List, [], map, drop, get_or, Bor, arith}
 use Rattle.rtp_ext.specs.Elements.{Element}
-use Rattle.rtp_ext.proofs.RawWritingLemmas.{left-more, left-none, AreUnderWay-start, AreUnderWay-room, AreUnderWay-step, AreInARow, AreUnderWay-end}
+use Rattle.rtp_ext.proofs.RawWritingLemmas.{left-more, left-none, AreUnderWay-room, AreUnderWay-step, AreInARow, AreUnderWay-end}
 use Rattle.rtp_ext.proofs.ext.raw_writing.write_elements.Goals as goal
 
 abbrev Given : Type 0

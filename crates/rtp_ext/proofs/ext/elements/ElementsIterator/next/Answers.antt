@@ -15,5 +15,5 @@ returns-clause-steps c =
 pub returns-clause-goes : goal.returns-clause-goes
 returns-clause-goes c =
     let is : c.args.self.now ≡ (c.in-Some.id, c.in-Some.data.now) ∷ elements_left c.self.inside.form c.in-Some.left.now =
-      sym c.self.view_is ∙ elements_left-first c.self.inside.form c.self.inside.left.now (c.in-Some.id, c.in-Some.data.now) c.in-Some.left.now c.in-Some.ensures
+    sym c.self.view_is ∙ elements_left-first c.self.inside.form c.self.inside.left.now (c.in-Some.id, c.in-Some.data.now) c.in-Some.left.now c.in-Some.ensures
     in search rules

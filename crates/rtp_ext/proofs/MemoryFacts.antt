@@ -1,0 +1,25 @@
+-- Worked rows of maps whose copy takes no memory, computed from the definitions.
+use Rattle.std.proofs.Common.{List, ℕ, zero, suc, [], ◌∷◌, Some, None, refl, ap, subst}
+use Rattle.rtp_values.specs.declared.kind.Extension.TheVariants.{AudioLevel, ColorSpace, UnknownUri}
+use Rattle.rtp_values.specs.Kind.{IsKnown}
+use Rattle.rtp_values.proofs.KindLemmas.{one_kind}
+use Rattle.rtp_ext.specs.ExtensionMap.{Slots, HasNoText, IsEmpty, extension_of, locked, unlocked}
+
+-- an empty map
+empty_row : (map : Slots) → IsEmpty map → HasNoText map
+empty_row map empty id extension is = let none = ap extension_of (empty id) in cc
+
+-- known extensions, locked or free, of a medium or of none
+known_row : HasNoText (None ∷ Some (locked AudioLevel) ∷ Some (unlocked ColorSpace) ∷ [])
+known_row zero extension is = cc
+known_row (suc zero) extension is = cc
+known_row (suc (suc zero)) extension is = subst IsKnown (one_kind is) tt
+known_row (suc (suc (suc zero))) extension is = subst IsKnown (one_kind is) tt
+known_row (suc (suc (suc (suc id)))) extension is = cc
+
+-- not a map with an unknown extension, after known ones, whether it is locked or free
+unknown_row : (uri : List ℕ) → HasNoText (Some (unlocked AudioLevel) ∷ Some (unlocked (UnknownUri uri)) ∷ []) → ⊥
+unknown_row uri all = all 2 (UnknownUri uri) refl
+
+locked_unknown_row : (uri : List ℕ) → HasNoText (None ∷ Some (locked (UnknownUri uri)) ∷ []) → ⊥
+locked_unknown_row uri all = all 2 (UnknownUri uri) refl
