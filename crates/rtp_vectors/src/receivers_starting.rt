@@ -1,5 +1,7 @@
 //! Receivers that start at a rollover count.
 
+ghost use Rattle.std.specs.Prelude.{◌≡◌};
+
 use crate::checks::{holds, same};
 use crate::runs::verdict;
 use rtp_base::{SeqNo, Ssrc};
@@ -8,7 +10,9 @@ use rtp_wire::{Receiver, Receivers, RtpHeader, Verdict};
 use std::process::Abort;
 
 // A header of this source and number.
-fn header(source: u32, sequence_number: u16) -> RtpHeader {
+fn header(source: u32, sequence_number: u16) -> RtpHeader
+    ensures { result.sequence_number ≡ sequence_number }
+{
     RtpHeader {
         ssrc: Ssrc::from(source),
         sequence_number,
@@ -133,6 +137,7 @@ fn limited(
     source: u32,
     number: u16,
 ) -> Option<Verdict> {
+    assert!(rt; receivers.len() <= 2);
     let found = receiving::receive_limited(receivers, &header(source, number), 2);
     found.expect(rt, "memory")
 }
