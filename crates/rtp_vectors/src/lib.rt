@@ -63,6 +63,8 @@ mod printed_values;
 #[cfg(test)]
 mod receivers;
 #[cfg(test)]
+mod receivers_starting;
+#[cfg(test)]
 mod refused_blocks;
 #[cfg(test)]
 mod refused_copies;
