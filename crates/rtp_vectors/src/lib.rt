@@ -43,7 +43,13 @@ mod ids;
 #[cfg(test)]
 mod kinds;
 #[cfg(test)]
+mod large_allocations;
+#[cfg(test)]
 mod large_inputs;
+#[cfg(test)]
+mod large_runs;
+#[cfg(test)]
+mod large_texts;
 #[cfg(test)]
 mod leb_numbers;
 #[cfg(test)]
