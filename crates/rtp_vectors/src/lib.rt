@@ -41,6 +41,8 @@ mod hostile_samples;
 #[cfg(test)]
 mod ids;
 #[cfg(test)]
+mod interrupted_streams;
+#[cfg(test)]
 mod kinds;
 #[cfg(test)]
 mod large_allocations;
