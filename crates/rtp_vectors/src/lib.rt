@@ -13,6 +13,8 @@ mod blocks;
 #[cfg(test)]
 mod checks;
 #[cfg(test)]
+mod debug_texts;
+#[cfg(test)]
 mod directions;
 #[cfg(test)]
 mod elements;
