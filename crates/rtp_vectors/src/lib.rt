@@ -77,6 +77,12 @@ mod refused_lines;
 #[cfg(test)]
 mod refused_never;
 #[cfg(test)]
+mod refused_never_maps;
+#[cfg(test)]
+mod refused_never_numbers;
+#[cfg(test)]
+mod refused_never_times;
+#[cfg(test)]
 mod refused_readings;
 #[cfg(test)]
 mod refused_samples;
