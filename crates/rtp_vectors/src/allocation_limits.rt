@@ -58,11 +58,13 @@ fn fronts(rt: HostRuntime) {
     front(&rt, a, 23, 6, 3);
 }
 
-// The allocation can't be written.
+// The allocation can't be written, and is copied.
 fn unwritable(rt: &impl Abort, alloc: Global, index: u8, rows: &[&[Row]]) {
     let v = allocation(rt, alloc, index, rows);
     let unwritable = !is_writable(&v) && checked_wire_len(&v).is_none();
     assert!(rt; unwritable, "{index} {rows:?}");
+    let copy = v.clone(alloc).expect(rt, "memory");
+    assert!(rt; copy == v, "{index} {rows:?}");
 }
 
 #[test]

@@ -9,10 +9,10 @@ use std::process::Abort;
 
 // A reader that gives one byte at a time, and fails after `reads_left` reads.
 #[derive(Drop)]
-struct Trickle<'a> {
-    bytes: &'a [u8],
-    reads_left: usize,
-    kind: ErrorKind,
+pub(crate) struct Trickle<'a> {
+    pub(crate) bytes: &'a [u8],
+    pub(crate) reads_left: usize,
+    pub(crate) kind: ErrorKind,
 }
 
 impl Read for Trickle<'_> {
@@ -33,8 +33,8 @@ impl Read for Trickle<'_> {
 // A writer that takes `width` bytes at a time, and fails after `writes_left` writes: once, or from
 // then on.
 #[derive(Drop)]
-struct Narrow {
-    taken: Vec<u8>,
+pub(crate) struct Narrow {
+    pub(crate) taken: Vec<u8>,
     width: usize,
     writes_left: usize,
     kind: ErrorKind,
@@ -42,7 +42,13 @@ struct Narrow {
 }
 
 impl Narrow {
-    fn new(alloc: Global, width: usize, writes_left: usize, kind: ErrorKind, once: bool) -> Self {
+    pub(crate) fn new(
+        alloc: Global,
+        width: usize,
+        writes_left: usize,
+        kind: ErrorKind,
+        once: bool,
+    ) -> Self {
         Narrow {
             taken: Vec::new(alloc),
             width,
@@ -124,8 +130,14 @@ fn fails_at_each_read(
 
 #[test]
 fn a_failed_read_prints_nothing(rt: HostRuntime) {
-    fails_at_each_read(&rt, rt.alloc(), ErrorKind::Other, RunEnd::Io, b"");
-    fails_at_each_read(&rt, rt.alloc(), ErrorKind::BrokenPipe, RunEnd::Io, b"");
+    for kind in [
+        ErrorKind::Other,
+        ErrorKind::BrokenPipe,
+        ErrorKind::WouldBlock,
+        ErrorKind::UnexpectedEof,
+    ] {
+        fails_at_each_read(&rt, rt.alloc(), kind, RunEnd::Io, b"");
+    }
 }
 
 #[test]
@@ -191,7 +203,13 @@ pub(crate) fn fails_at_each_write(
 #[test]
 fn a_failed_write_leaves_a_beginning(rt: HostRuntime) {
     let bad_line = b"line 1: neither a map line nor hex\n";
-    for kind in [ErrorKind::Other, ErrorKind::OutOfMemory] {
+    for kind in [
+        ErrorKind::Other,
+        ErrorKind::OutOfMemory,
+        ErrorKind::BrokenPipe,
+        ErrorKind::WouldBlock,
+        ErrorKind::WriteZero,
+    ] {
         fails_at_each_write(&rt, rt.alloc(), PLAIN, PLAIN_REPORT.as_bytes(), 1, kind);
         fails_at_each_write(&rt, rt.alloc(), STREAM, STREAM_REPORT.as_bytes(), 7, kind);
         fails_at_each_write(&rt, rt.alloc(), b"xyz", bad_line, 1, kind);

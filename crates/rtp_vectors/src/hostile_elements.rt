@@ -1,9 +1,11 @@
 //! Good packets in which single elements are damaged. Where the data of one are damaged, all others
 //! keep their values; where its length is, those before it do.
 
-use crate::checks::{are_values, bytes_of, same};
+use crate::checks::{are_values, bytes_of, header_of, same};
+use crate::fixtures::level;
 use crate::hostile_damage::damages;
 use crate::hostile_samples::{SAMPLES, Sample, checked, has_same, map, values_of};
+use rtp_base::Mid;
 use rtp_wire::{ExtensionMap, ExtensionValues};
 use std::alloc::Global;
 use std::process::Abort;
@@ -104,6 +106,54 @@ fn damage_length(rt: &impl Abort, alloc: Global, sample: &Sample, begin: u8) {
     for new in 0..=255u8 {
         set_bits(&mut bytes, at, bits, new);
         neighbours(rt, alloc, sample, &bytes, &values, begin, false);
+    }
+}
+
+// A packet with a level of -42, the transport number 258 and the mid `xYj`.
+const SMALL: [u8; 28] = [
+    0x90, 111, 0xB7, 0x98, 0, 0, 0x27, 0x10, 0, 0, 0, 44, 0xBE, 0xDE, 0, 3, 0x10, 0xAA, 0x31, 1, 2,
+    0x42, 0x78, 0x59, 0x6A, 0, 0, 0,
+];
+
+// The packet's values with this header of the transport number, and this low byte of it.
+fn small(rt: &impl Abort, alloc: Global, header: u8, low: u8) -> ExtensionValues {
+    let mut bytes = SMALL;
+    bytes[18] = header;
+    bytes[20] = low;
+    header_of(rt, alloc, &bytes, &map()).ext_vals
+}
+
+// With a greater length the element's data go into the mid's header, and the rest of the mid is read as
+// an element that is cut short.
+#[test]
+fn a_greater_length_loses_the_mid(rt: HostRuntime) {
+    let found = small(&rt, rt.alloc(), 0x32, 2);
+    let wanted = ExtensionValues {
+        transport_cc: Some(258),
+        ..level(-42, true)
+    };
+    are_values(&rt, "0x32", &found, &wanted);
+}
+
+// With a smaller length the number is malformed, and its low byte and the mid's header are read as
+// another level.
+#[test]
+fn a_smaller_length_makes_a_level(rt: HostRuntime) {
+    let found = small(&rt, rt.alloc(), 0x30, 0x10);
+    are_values(&rt, "0x30", &found, &level(-66, false));
+}
+
+// Undamaged, all three are there.
+#[test]
+fn the_right_length(rt: HostRuntime) {
+    for (low, number) in [(2, 258), (0x10, 272)] {
+        let found = small(&rt, rt.alloc(), 0x31, low);
+        let wanted = ExtensionValues {
+            transport_cc: Some(number),
+            mid: Some(Mid::from("xYj")),
+            ..level(-42, true)
+        };
+        are_values(&rt, "0x31", &found, &wanted);
     }
 }
 

@@ -7,12 +7,12 @@ use std::alloc::Global;
 use std::io::{ErrorKind, Write};
 use std::test::Fail;
 
-// The packets of the numbers from 1 to 101, and what is printed of them, which is more than the
-// program's buffer holds.
-fn many(alloc: Global) -> Result<(Vec<u8>, Vec<u8>), Fail> {
+// The packets of the numbers from 1 to this one, and what is printed of them: of 101 packets it is
+// more than the program's buffer holds.
+pub(crate) fn many(alloc: Global, last: u16) -> Result<(Vec<u8>, Vec<u8>), Fail> {
     let mut input = Vec::new(alloc);
     let mut printed = Vec::new(alloc);
-    for number in 1..102u16 {
+    for number in 1..=last {
         writeln!(input, "8060{number:04X}0000000900000008")?;
         write!(
             printed,
@@ -28,7 +28,7 @@ fn many(alloc: Global) -> Result<(Vec<u8>, Vec<u8>), Fail> {
 
 #[test]
 fn many_datagrams(rt: HostRuntime) -> Result<(), Fail> {
-    let (input, printed) = many(rt.alloc())?;
+    let (input, printed) = many(rt.alloc(), 101)?;
     reports(
         &rt,
         rt.alloc(),
@@ -42,7 +42,7 @@ fn many_datagrams(rt: HostRuntime) -> Result<(), Fail> {
 
 #[test]
 fn a_failed_write_beyond_the_buffer(rt: HostRuntime) -> Result<(), Fail> {
-    let (input, printed) = many(rt.alloc())?;
+    let (input, printed) = many(rt.alloc(), 101)?;
     for width in [61, 500, 8192] {
         fails_at_each_write(
             &rt,

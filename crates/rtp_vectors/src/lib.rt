@@ -13,6 +13,8 @@ mod blocks;
 #[cfg(test)]
 mod checks;
 #[cfg(test)]
+mod debug_texts;
+#[cfg(test)]
 mod directions;
 #[cfg(test)]
 mod elements;
@@ -45,9 +47,17 @@ mod hostile_samples;
 #[cfg(test)]
 mod ids;
 #[cfg(test)]
+mod interrupted_streams;
+#[cfg(test)]
 mod kinds;
 #[cfg(test)]
+mod large_allocations;
+#[cfg(test)]
 mod large_inputs;
+#[cfg(test)]
+mod large_runs;
+#[cfg(test)]
+mod large_texts;
 #[cfg(test)]
 mod leb_numbers;
 #[cfg(test)]
@@ -72,6 +82,12 @@ mod refused_copies;
 mod refused_lines;
 #[cfg(test)]
 mod refused_never;
+#[cfg(test)]
+mod refused_never_maps;
+#[cfg(test)]
+mod refused_never_numbers;
+#[cfg(test)]
+mod refused_never_times;
 #[cfg(test)]
 mod refused_readings;
 #[cfg(test)]

@@ -61,3 +61,39 @@ csrc 0 header 32 mid xYj level -42 voice yes send 63531654 transport 0\nverdict 
         printed,
     );
 }
+
+// A marker and four sources, payload type 127, a repaired id of full length, and a send time of 0.
+#[test]
+fn four_sources(rt: HostRuntime) {
+    let line = b"94FF0002000000030000000400000005000000060000000700000008\
+BEDE0004B7636363636363636322000000000000";
+    let printed =
+        b"packet 1: pt 127 seq 2 ts 3 ssrc 4 marker yes padding no extension yes csrc 4 header 48 \
+repaired cccccccc send 0\nverdict 1: taken 2\n";
+    reports(
+        &rt,
+        rt.alloc(),
+        "four sources",
+        line.as_slice(),
+        RunEnd::Done,
+        printed,
+    );
+}
+
+// The CSRCs are 15 times FF, and there is no block.
+#[test]
+fn fifteen_sources(rt: HostRuntime) {
+    let line = b"8FE100020000000300000004\
+FFFFFFFFFFFFFFFFFFFFFFFFFFFFFFFFFFFFFFFFFFFFFFFFFFFFFFFFFFFF\
+FFFFFFFFFFFFFFFFFFFFFFFFFFFFFFFFFFFFFFFFFFFFFFFFFFFFFFFFFFFF";
+    let printed = b"packet 1: pt 97 seq 2 ts 3 ssrc 4 marker yes padding no extension no \
+csrc 15 header 72\nverdict 1: taken 2\n";
+    reports(
+        &rt,
+        rt.alloc(),
+        "fifteen sources",
+        line.as_slice(),
+        RunEnd::Done,
+        printed,
+    );
+}

@@ -7,6 +7,7 @@ use crate::runs::verdict;
 use crate::values::is_written;
 use rtp_wire::{
     Extension, ExtensionMap, ExtensionValues, ExtensionsForm, RtpHeader, Verdict, receive_run,
+    receive_run_one,
 };
 use std::alloc::{AllocError, Global};
 use std::process::Abort;
@@ -142,26 +143,41 @@ fn datagrams(alloc: Global) -> Result<Vec<Vec<u8>>, AllocError> {
     Ok(datagrams)
 }
 
-// The verdicts on the datagrams, with memory at the second try.
-fn run(rt: &impl Abort, alloc: Global, datagrams: &[Vec<u8>]) -> Vec<Verdict> {
-    match receive_run(alloc, datagrams, &map()) {
-        Ok(verdicts) => verdicts,
-        Err(_) => receive_run(alloc, datagrams, &map()).expect(rt, "memory"),
+// The datagrams, with memory at the second try.
+fn made(rt: &impl Abort, alloc: Global) -> Vec<Vec<u8>> {
+    match datagrams(alloc) {
+        Ok(datagrams) => datagrams,
+        Err(_) => datagrams(alloc).expect(rt, "memory"),
     }
 }
 
-#[test]
-fn a_run(rt: HostRuntime) {
-    let datagrams = match datagrams(rt.alloc()) {
-        Ok(datagrams) => datagrams,
-        Err(_) => datagrams(rt.alloc()).expect(&rt, "memory"),
-    };
-    let verdicts = run(&rt, rt.alloc(), &datagrams);
+// The verdicts are those on the four datagrams.
+fn are_due(rt: &impl Abort, verdicts: &[Verdict]) {
     let wanted = [
         verdict(Some(46_999)),
         verdict(Some(47_000)),
         Verdict::Refused,
         Verdict::Unreadable,
     ];
-    same(&rt, "the run", verdicts.as_slice(), wanted.as_slice());
+    same(rt, "the run", verdicts, wanted.as_slice());
+}
+
+#[test]
+fn a_run(rt: HostRuntime) {
+    let datagrams = made(&rt, rt.alloc());
+    let verdicts = match receive_run(rt.alloc(), &datagrams, &map()) {
+        Ok(verdicts) => verdicts,
+        Err(_) => receive_run(rt.alloc(), &datagrams, &map()).expect(&rt, "memory"),
+    };
+    are_due(&rt, &verdicts);
+}
+
+#[test]
+fn a_run_by_one_receiver(rt: HostRuntime) {
+    let datagrams = made(&rt, rt.alloc());
+    let verdicts = match receive_run_one(rt.alloc(), &datagrams, &map()) {
+        Ok(verdicts) => verdicts,
+        Err(_) => receive_run_one(rt.alloc(), &datagrams, &map()).expect(&rt, "memory"),
+    };
+    are_due(&rt, &verdicts);
 }

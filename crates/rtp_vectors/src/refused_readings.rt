@@ -5,7 +5,9 @@ use crate::checks::{holds, same};
 use crate::refused_samples::{ALLOCATION, PACKET, is_whole, map};
 use rtp_base::SeqNo;
 use rtp_wire::vla::{self, VideoLayersAllocation};
-use rtp_wire::{Extension, ExtensionValues, ExtensionsForm, RtpHeader, Verdict, receive_run};
+use rtp_wire::{
+    Extension, ExtensionValues, ExtensionsForm, RtpHeader, Verdict, receive_run, receive_run_one,
+};
 use std::alloc::{AllocError, Global};
 use std::process::Abort;
 
@@ -122,17 +124,55 @@ fn datagrams(alloc: Global) -> Result<Vec<Vec<u8>>, AllocError> {
     Ok(vec![in alloc; packet, short]?)
 }
 
+// Both, with memory at the second try.
+fn made(rt: &impl Abort, alloc: Global) -> Vec<Vec<u8>> {
+    match datagrams(alloc) {
+        Ok(datagrams) => datagrams,
+        Err(_) => datagrams(alloc).expect(rt, "memory"),
+    }
+}
+
+// These are the verdicts, with a receiver for each source.
+fn have_verdicts(rt: &impl Abort, alloc: Global, datagrams: &[Vec<u8>], wanted: &[Verdict]) {
+    let verdicts = match receive_run(alloc, datagrams, &map()) {
+        Ok(verdicts) => verdicts,
+        Err(_) => receive_run(alloc, datagrams, &map()).expect(rt, "memory"),
+    };
+    same(rt, "by source", verdicts.as_slice(), wanted);
+}
+
+// The same with one receiver for all.
+fn have_verdicts_of_one(rt: &impl Abort, alloc: Global, datagrams: &[Vec<u8>], wanted: &[Verdict]) {
+    let verdicts = match receive_run_one(alloc, datagrams, &map()) {
+        Ok(verdicts) => verdicts,
+        Err(_) => receive_run_one(alloc, datagrams, &map()).expect(rt, "memory"),
+    };
+    same(rt, "by one", verdicts.as_slice(), wanted);
+}
+
+// What is said of the packet.
+fn taken() -> Verdict {
+    Verdict::Taken(SeqNo::from(47_000))
+}
+
 #[test]
 fn a_run(rt: HostRuntime) {
-    let datagrams = match datagrams(rt.alloc()) {
-        Ok(datagrams) => datagrams,
-        Err(_) => datagrams(rt.alloc()).expect(&rt, "memory"),
-    };
-    let verdicts = match receive_run(rt.alloc(), &datagrams, &map()) {
-        Ok(verdicts) => verdicts,
-        Err(_) => receive_run(rt.alloc(), &datagrams, &map()).expect(&rt, "memory"),
-    };
-    let taken = Verdict::Taken(SeqNo::from(47_000));
-    let wanted = [taken, Verdict::Unreadable];
-    same(&rt, "the verdicts", verdicts.as_slice(), wanted.as_slice());
+    let datagrams = made(&rt, rt.alloc());
+    let wanted = [taken(), Verdict::Unreadable];
+    have_verdicts(&rt, rt.alloc(), &datagrams, &wanted);
+}
+
+#[test]
+fn a_run_by_one_receiver(rt: HostRuntime) {
+    let datagrams = made(&rt, rt.alloc());
+    let wanted = [taken(), Verdict::Unreadable];
+    have_verdicts_of_one(&rt, rt.alloc(), &datagrams, &wanted);
+}
+
+#[test]
+fn a_run_of_one_datagram(rt: HostRuntime) {
+    let datagrams = made(&rt, rt.alloc());
+    let packet = datagrams.get(..1).expect(&rt, "the packet");
+    have_verdicts(&rt, rt.alloc(), packet, &[taken()]);
+    have_verdicts_of_one(&rt, rt.alloc(), packet, &[taken()]);
 }

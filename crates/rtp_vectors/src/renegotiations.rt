@@ -1,6 +1,6 @@
 //! What renegotiations make of a map.
 
-use crate::checks::{holds, is_map};
+use crate::checks::{holds, is_map, named};
 use crate::fixtures::{one, two};
 use crate::maps::{copy_of, has, have_ids, is_shown, with};
 use rtp_wire::{Extension, ExtensionMap};
@@ -105,4 +105,17 @@ fn locks_count(rt: HostRuntime) {
     is_map(&rt, &level_of_id_1(false), locked.cloned_with_type(true));
     locked.set(1, Extension::AudioLevel);
     is_map(&rt, &locked, level_of_id_1(false));
+}
+
+// A locked entry with a text of its own is copied, and is locked in the copy.
+#[test]
+fn a_locked_unknown_is_copied(rt: HostRuntime) {
+    let alloc = rt.alloc();
+    let own = named(&rt, alloc, "urn:x");
+    let mut map = one(9, named(&rt, alloc, "urn:x"));
+    map.remap(&[(9, &own)]);
+    let mut copy = copy_of(&rt, alloc, &map);
+    is_map(&rt, &copy, map);
+    copy.remap(&[(5, &own)]);
+    is_shown(&rt, alloc, &copy, "Extensions(9=urn:x)");
 }

@@ -1,7 +1,7 @@
 //! What the program prints, over readers and writers in memory.
 
 use crate::checks::same;
-use rtp_report::{RunEnd, datagram, run};
+use rtp_report::{InputError, RunEnd, datagram, run};
 use std::alloc::Global;
 use std::fmt::Display;
 use std::io::Read;
@@ -129,6 +129,32 @@ pub(crate) fn names_bad_line<A: Copy + Display>(
 fn runs(rt: HostRuntime) {
     for (index, (input, end, printed)) in RUNS.iter().enumerate() {
         reports(&rt, rt.alloc(), index, *input, *end, printed.as_bytes());
+    }
+}
+
+#[test]
+fn ends_differ(rt: HostRuntime) {
+    let ends = [RunEnd::Done, RunEnd::BadLine, RunEnd::NoMemory, RunEnd::Io];
+    for (index, one) in ends.iter().enumerate() {
+        for (other_index, other) in ends.iter().enumerate() {
+            same(&rt, index, one == other, index == other_index);
+        }
+    }
+}
+
+#[test]
+fn errors_differ(rt: HostRuntime) {
+    let errors = [
+        InputError::NoMemory,
+        InputError::BadLine(1),
+        InputError::BadLine(2),
+        // Equal to 1 in the low 32 bits.
+        InputError::BadLine(4_294_967_297),
+    ];
+    for (index, one) in errors.iter().enumerate() {
+        for (other_index, other) in errors.iter().enumerate() {
+            same(&rt, index, one == other, index == other_index);
+        }
     }
 }
 

@@ -1,0 +1,153 @@
+//! Runs of thousands of datagrams and of sources, with ample memory.
+
+use crate::checks::{holds, same};
+use crate::reports::reports;
+use crate::runs::verdict;
+use rtp_base::{SeqNo, Ssrc};
+use rtp_report::RunEnd;
+use rtp_wire::{ExtensionMap, Receivers, RtpHeader, Verdict, receive_run, receive_run_one};
+use std::alloc::{AllocError, Global};
+use std::io::Write;
+use std::process::Abort;
+use std::test::Fail;
+
+const SOURCES: u32 = 5_000;
+
+// Each source has a receiver, whose highest number is 7.
+fn have_taken(rt: &impl Abort, receivers: &Receivers) {
+    same(rt, "how many", receivers.len(), SOURCES as usize);
+    for source in 0..SOURCES {
+        let receiver = receivers.get(Ssrc::from(source)).expect(rt, "a receiver");
+        let highest = receiver.highest();
+        assert!(rt; highest == Some(SeqNo::from(7)), "the highest of {source}");
+    }
+}
+
+// The number 7 of the source is taken.
+fn receives(rt: &impl Abort, receivers: &mut Receivers, source: u32) {
+    let header = RtpHeader {
+        ssrc: Ssrc::from(source),
+        sequence_number: 7,
+        ..RtpHeader::default()
+    };
+    let found = receivers.receive(&header).expect(rt, "memory");
+    same(rt, source, found, verdict(Some(7)));
+}
+
+#[test]
+fn received_of_5_000_sources(rt: HostRuntime) {
+    let mut receivers = Receivers::new(rt.alloc());
+    for source in 0..SOURCES {
+        receives(&rt, &mut receivers, source);
+    }
+    have_taken(&rt, &receivers);
+}
+
+#[test]
+fn recorded_of_5_000_sources(rt: HostRuntime) {
+    let mut receivers = Receivers::new(rt.alloc());
+    for source in 0..SOURCES {
+        let recorded = receivers.record(Ssrc::from(source), SeqNo::from(7));
+        recorded.expect(&rt, "memory");
+    }
+    have_taken(&rt, &receivers);
+}
+
+// Plain headers of the number 7, one of each source.
+fn of_each_source(alloc: Global) -> Result<Vec<Vec<u8>>, AllocError> {
+    let mut datagrams = Vec::new(alloc);
+    for source in 0..SOURCES {
+        let mut datagram = Vec::from_slice(alloc, &[0x80, 1, 0, 7, 0, 0, 0, 0])?;
+        datagram.extend_from_slice(&source.to_be_bytes())?;
+        datagrams.push(datagram)?;
+    }
+    Ok(datagrams)
+}
+
+// The first verdict is this one, and each later one that.
+fn are(rt: &impl Abort, verdicts: &[Verdict], first: Verdict, later: Verdict) {
+    same(rt, "how many", verdicts.len(), SOURCES as usize);
+    for (index, found) in verdicts.iter().enumerate() {
+        same(rt, index, *found, if index == 0 { first } else { later });
+    }
+}
+
+#[test]
+fn a_run_of_5_000_sources(rt: HostRuntime) {
+    let run = of_each_source(rt.alloc()).expect(&rt, "memory");
+    let exts = ExtensionMap::empty();
+    let verdicts = receive_run(rt.alloc(), &run, &exts).expect(&rt, "memory");
+    are(&rt, &verdicts, verdict(Some(7)), verdict(Some(7)));
+    let verdicts = receive_run_one(rt.alloc(), &run, &exts).expect(&rt, "memory");
+    are(&rt, &verdicts, verdict(Some(7)), Verdict::Refused);
+}
+
+// Datagrams of 9,000 bytes of one source, with the numbers from 0 to 2,999.
+fn long_datagrams(alloc: Global) -> Result<Vec<Vec<u8>>, AllocError> {
+    let mut datagrams = Vec::new(alloc);
+    for number in 0..3_000u16 {
+        let [high, low] = number.to_be_bytes();
+        let mut datagram = Vec::from_slice(alloc, &[0x80, 1, high, low])?;
+        datagram.resize(9_000, 0)?;
+        datagrams.push(datagram)?;
+    }
+    Ok(datagrams)
+}
+
+// Each verdict is that its own number was taken.
+fn are_taken(rt: &impl Abort, verdicts: &[Verdict]) {
+    same(rt, "how many", verdicts.len(), 3_000);
+    for (number, found) in verdicts.iter().enumerate() {
+        same(rt, number, *found, verdict(Some(number as u64)));
+    }
+}
+
+#[test]
+fn a_run_of_3_000_long_datagrams(rt: HostRuntime) {
+    let run = long_datagrams(rt.alloc()).expect(&rt, "memory");
+    let exts = ExtensionMap::standard();
+    let verdicts = receive_run(rt.alloc(), &run, &exts).expect(&rt, "memory");
+    are_taken(&rt, &verdicts);
+    let verdicts = receive_run_one(rt.alloc(), &run, &exts).expect(&rt, "memory");
+    are_taken(&rt, &verdicts);
+}
+
+// The lines of the packets of the numbers from 1 to 20,000, each with a payload of these digits.
+fn lines(alloc: Global, payload: &str) -> Result<Vec<u8>, Fail> {
+    let mut input = Vec::new(alloc);
+    for number in 1..20_001u16 {
+        writeln!(input, "8060{number:04X}0000000900000008{payload}")?;
+    }
+    Ok(input)
+}
+
+// What is printed of them.
+fn printed(alloc: Global) -> Result<Vec<u8>, Fail> {
+    let mut printed = Vec::new(alloc);
+    for number in 1..20_001u16 {
+        write!(
+            printed,
+            "packet {number}: pt 96 seq {number} ts 9 ssrc 8 marker no padding no "
+        )?;
+        writeln!(
+            printed,
+            "extension no csrc 0 header 12\nverdict {number}: taken {number}"
+        )?;
+    }
+    Ok(printed)
+}
+
+// With a payload of 120 bytes each the text is of more than 5 MB.
+#[test]
+fn a_text_of_20_000_lines(rt: HostRuntime) -> Result<(), Fail> {
+    let alloc = rt.alloc();
+    let printed = printed(alloc)?;
+    for (payload, len) in [(0, 500_000), (240, 5_300_000)] {
+        let digits = format!(in alloc; "{:F>payload$}", "")?;
+        let input = lines(alloc, digits.as_str())?;
+        same(&rt, payload, input.len(), len);
+        let bytes = input.as_slice();
+        reports(&rt, alloc, payload, bytes, RunEnd::Done, printed.as_slice());
+    }
+    Ok(())
+}
