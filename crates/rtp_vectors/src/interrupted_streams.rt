@@ -1,7 +1,7 @@
 //! Readers and writers that are interrupted many times, take no byte, or take a byte at a time of a
 //! long text.
 
-use crate::checks::same;
+use crate::checks::{holds, same};
 use crate::failing_streams::{Narrow, Trickle};
 use crate::large_inputs::many;
 use crate::reports::{PLAIN, PLAIN_REPORT, STREAM, STREAM_REPORT, reports};
@@ -168,11 +168,7 @@ fn many_bytes_one_at_a_time(rt: HostRuntime) -> Result<(), Fail> {
     let mut output = Narrow::new(rt.alloc(), 1, usize::MAX, ErrorKind::Other, false);
     let end = run(rt.alloc(), &mut input, &mut output);
     same(&rt, "the end", end, RunEnd::Done);
-    same(
-        &rt,
-        "the output",
-        output.taken.as_slice(),
-        printed.as_slice(),
-    );
+    let taken = output.taken.as_slice();
+    holds(&rt, "the output", taken == printed.as_slice());
     Ok(())
 }
