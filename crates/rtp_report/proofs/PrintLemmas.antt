@@ -12,12 +12,11 @@ use Rattle.rtp_ext.specs.declared.ext.map.ExtensionMap.{ExtensionMap}
 use Rattle.rtp_wire.specs.declared.header.rtp_header.RtpHeader.{RtpHeader}
 use Rattle.rtp_wire.specs.declared.receive.verdict.Verdict.{Verdict}
 use Rattle.rtp_wire.specs.Header.{IsWire}
-use Rattle.rtp_wire.specs.NotAHeader.{NotAHeader}
 use Rattle.rtp_wire.specs.Receivers.{ReceiverStates}
 use Rattle.rtp_wire.specs.Verdicts.{packet_id_of, IsPacketId, IsVerdict}
 use Rattle.rtp_wire.specs.Sources.{AreVerdictsBySource, taken_of, numbers_beside}
 use Rattle.rtp_wire.specs.EachSource.{HoldsEach, taken_after_each}
-use Rattle.rtp_wire.proofs.VerdictLemmas.{HasCause, AllZip-more}
+use Rattle.rtp_wire.proofs.VerdictLemmas.{AllZip-more}
 use Rattle.rtp_wire.proofs.SourceLemmas.{SoFarEach, SoFarEach-none, SoFarEach-more}
 use Rattle.rtp_report.specs.declared.program.RunEnd.{RunEnd}
 use Rattle.rtp_report.specs.declared.program.RunEnd.TheVariants.{NoMemory, Io}
@@ -34,14 +33,10 @@ pub IsHeader-parsed : (exts : ExtensionMap) (datagram : List ℕ) (answer : Opti
 IsHeader-parsed exts datagram None found only = λ header wire. none-some header (only header wire)
 IsHeader-parsed exts datagram (Some header) found only = found
 
--- the header of a datagram gives its packet id, and its cause where there is none
+-- the header of a datagram gives its packet id
 packet_id : (exts : ExtensionMap) (datagram : List ℕ) (header : Option RtpHeader) → IsHeader exts datagram header → IsPacketId exts datagram (option_map packet_id_of header)
 packet_id exts datagram None none = none
 packet_id exts datagram (Some header) wire = record { header = header; wire = wire; packet_id_is = refl }
-
-cause : (datagram : List ℕ) (header : Option RtpHeader) → (header ≡ None → NotAHeader datagram) → HasCause datagram (option_map packet_id_of header)
-cause datagram None refused = refused refl
-cause datagram (Some header) refused = tt
 
 -- the lines of one datagram more
 lines_from-push : (packet : ℕ) (reports : List Report) (report : Report) → lines_from packet (reports ++ report ∷ []) ≡ lines_from packet reports ++ packet_lines (packet + length reports) report.0 report.1
@@ -85,11 +80,11 @@ Printed-none exts datagrams old text receivers same empty none =
 
 -- the lines of one datagram more are put after the text
 pub Printed-more : (exts : ExtensionMap) (datagrams : List (List ℕ)) (done : ℕ) (old new : Option (List ℕ)) (text text' : List ℕ) (before after : ReceiverStates) (header : Option RtpHeader) (verdict : Verdict)
-    → Printed exts datagrams done old new text before → done < length datagrams → IsHeader exts (get_or datagrams done []) header → (header ≡ None → NotAHeader (get_or datagrams done []))
+    → Printed exts datagrams done old new text before → done < length datagrams → IsHeader exts (get_or datagrams done []) header
     → ((taken : ℕ → Numbers) → HoldsEach before 0 taken → IsVerdict 0 (numbers_beside taken (option_map packet_id_of header)) (option_map packet_id_of header) verdict)
     → ((taken : ℕ → Numbers) → HoldsEach before 0 taken → HoldsEach after 0 (taken_after_each taken (option_map packet_id_of header) verdict))
     → text' ≡ text ++ packet_lines (done + 1) header verdict → Printed exts datagrams (done + 1) old new text' after
-Printed-more exts datagrams done old new text text' before after header verdict p below is refused judged holds grown =
+Printed-more exts datagrams done old new text text' before after header verdict p below is judged holds grown =
     let report : Report = (header, verdict) in
     let datagram = get_or datagrams done [] in
     let verdicts = map (λ (r : Report). r.1) p.reports in
@@ -103,7 +98,7 @@ Printed-more exts datagrams done old new text text' before after header verdict 
       so_far =
           subst (λ (ds : List (List ℕ)). SoFarEach exts ds (map (λ (r : Report). r.1) (p.reports ++ report ∷ [])) after) (sym one)
           (subst (λ (vs : List Verdict). SoFarEach exts (take done datagrams ++ datagram ∷ []) vs after) (sym (map_push (λ (r : Report). r.1) p.reports report))
-          (SoFarEach-more exts (take done datagrams) datagram (option_map packet_id_of header) verdicts verdict before after p.so_far (packet_id exts datagram header is) (cause datagram header refused)
+          (SoFarEach-more exts (take done datagrams) datagram (option_map packet_id_of header) verdicts verdict before after p.so_far (packet_id exts datagram header is)
           (judged (taken_of p.so_far.packet_ids verdicts) p.so_far.holds) (holds (taken_of p.so_far.packet_ids verdicts) p.so_far.holds)));
       written = p.written;
       appended = p.appended;

@@ -1,9 +1,8 @@
 //! The two lines of each datagram, written to the output.
 
-ghost use Rattle.std.specs.Prelude.{◌≡◌, ◌++◌, ℕ, [], map, string_bytes, None, IfOk, IfErr, OnOk, OnErr};
+ghost use Rattle.std.specs.Prelude.{◌≡◌, ◌++◌, ℕ, [], map, string_bytes, IfOk, IfErr, OnOk, OnErr};
 ghost use Rattle.std.specs.Option.{option_map, option_copied};
 ghost use Rattle.rtp_base.specs.Window.{Numbers};
-ghost use Rattle.rtp_wire.specs.NotAHeader.{NotAHeader};
 ghost use Rattle.rtp_wire.specs.Verdicts.{IsVerdict, packet_id_of};
 ghost use Rattle.rtp_wire.specs.Sources.{numbers_beside};
 ghost use Rattle.rtp_wire.specs.EachSource.{HoldsEach, taken_after_each};
@@ -29,7 +28,6 @@ fn judged(
     receivers: &mut Receivers,
 ) -> Result<(Option<RtpHeader>, Verdict), AllocError>
     ensures header { IfOk result (λ report. IsHeader exts.now datagram.now report.0) }
-    ensures cause { IfOk result (λ report. report.0 ≡ None → NotAHeader datagram.now) }
     ensures verdict { (taken : ℕ → Numbers) → HoldsEach receivers.old 0 taken →
         IfOk result (λ report. IsVerdict 0
         (numbers_beside taken (option_map packet_id_of report.0)) (option_map packet_id_of report.0) report.1) }

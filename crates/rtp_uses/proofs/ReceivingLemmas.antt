@@ -3,11 +3,14 @@ use Rattle.std.proofs.Common.{◌≡◌, ℕ, ◌+◌, ◌*◌, ◌%◌, ◌^◌
 use Rattle.std.specs.Prelude.{Option, Some, None}
 use Rattle.std.proofs.lemmas.Bool.{false≢true, ne_eqb}
 use Rattle.rtp_base.specs.Window.{Numbers, including}
+use Rattle.rtp_ext.specs.declared.ext.map.ExtensionMap.{ExtensionMap}
+use Rattle.rtp_wire.specs.declared.header.rtp_header.RtpHeader.{RtpHeader}
 use Rattle.rtp_wire.specs.declared.receive.state.ReceiverState.{ReceiverState}
 use Rattle.rtp_wire.specs.declared.receive.verdict.Verdict.{Verdict}
 use Rattle.rtp_wire.specs.declared.receive.verdict.Verdict.TheVariants.{Unreadable, Taken, Refused}
 use Rattle.rtp_wire.specs.Receiver.{Holds, IsNothing, IsHighest, ExtendsFrom, IsNumberOf, IsFresh, IsJudged, taken_after}
 use Rattle.rtp_wire.specs.Verdicts.{PacketId, taken_by, IsVerdict, IsRun}
+use Rattle.rtp_wire.specs.Written.{image_of}
 use Rattle.rtp_wire.proofs.TrueNumberLemmas.{one_highest, greatest_of_none}
 use Rattle.rtp_wire.proofs.WideningLemmas.{only_near, Extends-within_half}
 use Rattle.rtp_wire.proofs.VerdictLemmas.{Holds-same, taken_by-push, IsRun-more}
@@ -74,3 +77,8 @@ before_taken number low verdict fits ends judged =
     let here = only_near 16 (Some (number + 1)) low judged.0 number (omega arith) (omega arith) fits near
     (Extends-within_half 16 (Some (number + 1)) low number (omega (arith, fits), ends, omega arith)) in
     judged_fresh taken number verdict (fresh_before number) (subst (λ n. IsJudged taken n verdict) here judged.2)
+
+-- a header that is read as the image of another one has its number
+pub number_of_image : (exts : ExtensionMap) (written read : RtpHeader) → read ≡ image_of exts written → read.sequence_number ≡ written.sequence_number
+unfolding image_of
+number_of_image exts written read is = ap (λ (h : RtpHeader). h.sequence_number) is

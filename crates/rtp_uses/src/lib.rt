@@ -14,4 +14,5 @@ pub mod padding;
 pub mod receiving;
 pub mod retransmission;
 pub mod send_times;
+pub mod sending;
 pub mod times;

@@ -11,12 +11,12 @@ use Rattle.rtp_wire.specs.declared.receive.state.ReceiverState.{ReceiverState}
 use Rattle.rtp_wire.specs.declared.receive.verdict.Verdict.{Verdict}
 use Rattle.rtp_wire.specs.Receiver.{Holds, taken_after}
 use Rattle.rtp_wire.specs.Receivers.{ReceiverStates, receiver_of, state_of}
-use Rattle.rtp_wire.specs.Verdicts.{PacketId, packet_id_of, IsPacketId, ArePacketIds, taken_by, IsVerdict, IsRun}
+use Rattle.rtp_wire.specs.Verdicts.{PacketId, packet_id_of, IsPacketId, ArePacketIds, taken_by, IsVerdict, IsRun, AreVerdicts}
 use Rattle.rtp_wire.specs.TrueNumbers.{AreTrueVerdicts}
 use Rattle.rtp_wire.specs.Sending.{IsOfSource, packet_ids_of, AreSent}
 use Rattle.rtp_wire.specs.Sources.{is_from, at_source, taken_of, numbers_beside, AreRuns}
 use Rattle.rtp_wire.specs.EachSource.{HoldsEach, taken_after_each}
-use Rattle.rtp_wire.proofs.VerdictLemmas.{Holds-same, IsRunBy-more, IsRun-more, taken_by-push, AllZip-more, HasCause, AreRead}
+use Rattle.rtp_wire.proofs.VerdictLemmas.{Holds-same, IsRunBy-more, IsRun-more, taken_by-push, AllZip-more}
 use Rattle.rtp_wire.proofs.ReceiversLemmas.{same_state}
 use Rattle.rtp_wire.proofs.TrueNumberLemmas.{AreTrueVerdicts-run, one_packet_ids}
 use Rattle.rtp_wire.proofs.SendingLemmas.{packet_ids_sent}
@@ -71,7 +71,6 @@ HoldsEach-after count before after taken packet_id verdict holds stays held othe
 pub record SoFarEach (exts : ExtensionMap) (datagrams : List (List ℕ)) (verdicts : List Verdict) (receivers : ReceiverStates) : Type 0 where
   pub packet_ids : List (Option PacketId)
   pub are_packet_ids : ArePacketIds exts datagrams packet_ids
-  pub causes : AllZip HasCause datagrams packet_ids
   pub runs : AreRuns packet_ids verdicts
   pub alone : (source : ℕ) → IsRun 0 (at_source source packet_ids packet_ids) (at_source source packet_ids verdicts)
   pub holds : HoldsEach receivers 0 (taken_of packet_ids verdicts)
@@ -81,7 +80,6 @@ SoFarEach-none exts verdicts receivers none empty =
     subst (λ (vs : List Verdict). SoFarEach exts [] vs receivers) (sym none) (subst (λ (rs : ReceiverStates). SoFarEach exts [] [] rs) (sym empty) (record {
       packet_ids = [];
       are_packet_ids = tt;
-      causes = tt;
       runs = record { as_many = refl; each = λ i below. absurd (omega arith) };
       alone = λ source. record { as_many = refl; each = λ i below. absurd (omega arith) };
       holds = λ source. (refl, λ n. refl);
@@ -104,17 +102,16 @@ taken_more true verdicts verdict n = taken_by-push verdicts verdict n
 taken_more false verdicts verdict n = refl
 
 pub SoFarEach-more : (exts : ExtensionMap) (datagrams : List (List ℕ)) (datagram : List ℕ) (packet_id : Option PacketId) (verdicts : List Verdict) (verdict : Verdict) (before after : ReceiverStates)
-    → (so_far : SoFarEach exts datagrams verdicts before) → IsPacketId exts datagram packet_id → HasCause datagram packet_id
+    → (so_far : SoFarEach exts datagrams verdicts before) → IsPacketId exts datagram packet_id
     → IsVerdict 0 (numbers_beside (taken_of so_far.packet_ids verdicts) packet_id) packet_id verdict → HoldsEach after 0 (taken_after_each (taken_of so_far.packet_ids verdicts) packet_id verdict)
     → SoFarEach exts (datagrams ++ datagram ∷ []) (verdicts ++ verdict ∷ []) after
-SoFarEach-more exts datagrams datagram packet_id verdicts verdict before after so_far read cause is holds =
+SoFarEach-more exts datagrams datagram packet_id verdicts verdict before after so_far read is holds =
     let packet_ids = so_far.packet_ids in
     let pushed : (source : ℕ) → at_source source (packet_ids ++ packet_id ∷ []) (verdicts ++ verdict ∷ []) ≡ at_more (is_from source packet_id) (at_source source packet_ids verdicts) verdict =
     λ source. at_source-push source packet_ids verdicts packet_id verdict so_far.runs.as_many in
     record {
       packet_ids = packet_ids ++ packet_id ∷ [];
       are_packet_ids = AllZip-more (IsPacketId exts) datagrams packet_ids datagram packet_id so_far.are_packet_ids read;
-      causes = AllZip-more HasCause datagrams packet_ids datagram packet_id so_far.causes cause;
       runs = IsRunBy-more 0 (λ r rs vs. numbers_beside (taken_of rs vs) r) packet_ids verdicts packet_id verdict so_far.runs is;
       alone = λ source.
           subst (λ (rs : List (Option PacketId)). IsRun 0 rs (at_source source (packet_ids ++ packet_id ∷ []) (verdicts ++ verdict ∷ []))) (sym (at_source-push source packet_ids packet_ids packet_id packet_id refl))
@@ -143,17 +140,14 @@ AllZip-at_source R source (r ∷ packet_ids) (x ∷ xs) (y ∷ ys) all =
     zip_kept R (is_from source r) x y (at_source source packet_ids xs) (at_source source packet_ids ys) all.0 (AllZip-at_source R source packet_ids xs ys all.1)
 
 -- the verdicts on the datagrams of a source are those of a run of them alone
-pub AreRead-each : (exts : ExtensionMap) (datagrams : List (List ℕ)) (verdicts : List Verdict) (receivers : ReceiverStates) (packet_ids : List (Option PacketId)) (source : ℕ)
-    → SoFarEach exts datagrams verdicts receivers → ArePacketIds exts datagrams packet_ids → AreRead exts (at_source source packet_ids datagrams) (at_source source packet_ids verdicts)
-AreRead-each exts datagrams verdicts receivers packet_ids source so_far read =
-    subst (λ rs. AreRead exts (at_source source rs datagrams) (at_source source rs verdicts)) (one_packet_ids exts datagrams so_far.packet_ids packet_ids so_far.are_packet_ids read)
+pub AreVerdicts-each : (exts : ExtensionMap) (datagrams : List (List ℕ)) (verdicts : List Verdict) (receivers : ReceiverStates) (packet_ids : List (Option PacketId)) (source : ℕ)
+    → SoFarEach exts datagrams verdicts receivers → ArePacketIds exts datagrams packet_ids → AreVerdicts exts (at_source source packet_ids datagrams) (at_source source packet_ids verdicts)
+AreVerdicts-each exts datagrams verdicts receivers packet_ids source so_far read =
+    subst (λ rs. AreVerdicts exts (at_source source rs datagrams) (at_source source rs verdicts)) (one_packet_ids exts datagrams so_far.packet_ids packet_ids so_far.are_packet_ids read)
     (record {
-      are = record {
-        packet_ids = at_source source so_far.packet_ids so_far.packet_ids;
-        are_packet_ids = AllZip-at_source (IsPacketId exts) source so_far.packet_ids datagrams so_far.packet_ids so_far.are_packet_ids;
-        run = so_far.alone source;
-      };
-      causes = AllZip-at_source HasCause source so_far.packet_ids datagrams so_far.packet_ids so_far.causes;
+      packet_ids = at_source source so_far.packet_ids so_far.packet_ids;
+      are_packet_ids = AllZip-at_source (IsPacketId exts) source so_far.packet_ids datagrams so_far.packet_ids so_far.are_packet_ids;
+      run = so_far.alone source;
     })
 
 all_kept : {A : Type 0} (here : Bool) (x : A) (xs all : List A) → here ≡ true → xs ≡ all → (if here then x ∷ xs else xs) ≡ x ∷ all
@@ -167,13 +161,13 @@ at_source-all source [] [] of many = refl
 at_source-all source [] (x ∷ xs) of many = absurd (omega (arith, many))
 at_source-all source (h ∷ headers) [] of many = absurd (omega (arith, many))
 at_source-all source (h ∷ headers) (x ∷ xs) of many =
-    all_kept (eqb source h.ssrc) x (at_source source (packet_ids_of headers) xs) xs (eq-eqb source h.ssrc (sym of.0.ssrc_is)) (at_source-all source headers xs of.1 (omega (arith, many)))
+    all_kept (eqb source h.ssrc) x (at_source source (packet_ids_of headers) xs) xs (eq-eqb source h.ssrc (sym of.0)) (at_source-all source headers xs of.1 (omega (arith, many)))
 
 -- the verdicts on what arrives of one sender are those of the sender's numbers
 pub AreTrueVerdicts-sent_each : (exts : ExtensionMap) (headers : List RtpHeader) (numbers : List ℕ) (datagrams : List (List ℕ)) (verdicts : List Verdict) (receivers : ReceiverStates)
     → SoFarEach exts datagrams verdicts receivers → AreSent exts headers numbers datagrams → AreTrueVerdicts (packet_ids_of headers) numbers verdicts
 AreTrueVerdicts-sent_each exts headers numbers datagrams verdicts receivers so_far sent =
-    let same = packet_ids_sent exts sent.source headers datagrams so_far.packet_ids sent.of_source sent.arrive so_far.are_packet_ids so_far.causes in
+    let same = packet_ids_sent exts headers datagrams so_far.packet_ids sent.arrive so_far.are_packet_ids in
     let alone = subst (λ rs. IsRun 0 (at_source sent.source rs rs) (at_source sent.source rs verdicts)) same (so_far.alone sent.source) in
     let many = length-map headers (λ h. Some (packet_id_of h)) in
     let as_many : length verdicts ≡ length headers = so_far.runs.as_many ∙ ap length same ∙ many in

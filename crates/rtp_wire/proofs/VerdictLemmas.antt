@@ -14,7 +14,6 @@ use Rattle.rtp_wire.specs.declared.receive.verdict.Verdict.{Verdict}
 use Rattle.rtp_wire.specs.declared.receive.verdict.Verdict.TheVariants.{Unreadable, Taken, Refused}
 use Rattle.rtp_wire.specs.declared.header.rtp_header.RtpHeader.{RtpHeader}
 use Rattle.rtp_wire.specs.Header.{IsWire}
-use Rattle.rtp_wire.specs.NotAHeader.{NotAHeader}
 use Rattle.rtp_wire.specs.Receiver.{Holds, IsFresh, taken_after}
 use Rattle.rtp_wire.specs.Verdicts.{PacketId, packet_id_of, IsPacketId, taken_by, IsVerdict, IsRunBy, IsRun, AreVerdicts, TakesOnce}
 
@@ -88,41 +87,25 @@ AllZip-more R [] (b ∷ ys) x y all one = absurd all
 AllZip-more R (a ∷ xs) [] x y all one = absurd all
 AllZip-more R (a ∷ xs) (b ∷ ys) x y all one = (all.0, AllZip-more R xs ys x y all.1 one)
 
--- why a datagram has no packet id
-abbrev pub HasCause : List ℕ → Option PacketId → Type 0
-HasCause datagram None = NotAHeader datagram
-HasCause datagram (Some packet_id) = Unit {0}
-
--- the verdicts on datagrams, and the causes where they have no packet id
-pub record AreRead (exts : ExtensionMap) (datagrams : List (List ℕ)) (verdicts : List Verdict) : Type 0 where
-  pub are : AreVerdicts exts datagrams verdicts
-  pub causes : AllZip HasCause datagrams are.packet_ids
-
 -- the verdicts on the datagrams so far, and what the receiver then holds
 pub record SoFar (exts : ExtensionMap) (datagrams : List (List ℕ)) (verdicts : List Verdict) (receiver : ReceiverState) : Type 0 where
-  pub read : AreRead exts datagrams verdicts
+  pub are : AreVerdicts exts datagrams verdicts
   pub holds : Holds receiver 0 (taken_by verdicts)
 
 pub SoFar-none : (exts : ExtensionMap) (verdicts : List Verdict) (receiver : ReceiverState) → verdicts ≡ [] → Holds receiver 0 (taken_by []) → SoFar exts [] verdicts receiver
 SoFar-none exts verdicts receiver empty holds = subst (λ (vs : List Verdict). SoFar exts [] vs receiver) (sym empty) (record {
-  read = record {
-    are = record { packet_ids = []; are_packet_ids = tt; run = record { as_many = refl; each = λ i below. absurd (omega arith) } };
-    causes = tt;
-  };
+  are = record { packet_ids = []; are_packet_ids = tt; run = record { as_many = refl; each = λ i below. absurd (omega arith) } };
   holds = holds;
 })
 
 pub SoFar-more : (exts : ExtensionMap) (datagrams : List (List ℕ)) (datagram : List ℕ) (packet_id : Option PacketId) (verdicts : List Verdict) (verdict : Verdict) (before after : ReceiverState)
-    → SoFar exts datagrams verdicts before → IsPacketId exts datagram packet_id → HasCause datagram packet_id → IsVerdict 0 (taken_by verdicts) packet_id verdict
+    → SoFar exts datagrams verdicts before → IsPacketId exts datagram packet_id → IsVerdict 0 (taken_by verdicts) packet_id verdict
     → Holds after 0 (taken_after (taken_by verdicts) verdict) → SoFar exts (datagrams ++ datagram ∷ []) (verdicts ++ verdict ∷ []) after
-SoFar-more exts datagrams datagram packet_id verdicts verdict before after so_far read cause is holds = record {
-  read = record {
-    are = record {
-      packet_ids = so_far.read.are.packet_ids ++ packet_id ∷ [];
-      are_packet_ids = AllZip-more (IsPacketId exts) datagrams so_far.read.are.packet_ids datagram packet_id so_far.read.are.are_packet_ids read;
-      run = IsRun-more 0 so_far.read.are.packet_ids verdicts packet_id verdict so_far.read.are.run is;
-    };
-    causes = AllZip-more HasCause datagrams so_far.read.are.packet_ids datagram packet_id so_far.read.causes cause;
+SoFar-more exts datagrams datagram packet_id verdicts verdict before after so_far read is holds = record {
+  are = record {
+    packet_ids = so_far.are.packet_ids ++ packet_id ∷ [];
+    are_packet_ids = AllZip-more (IsPacketId exts) datagrams so_far.are.packet_ids datagram packet_id so_far.are.are_packet_ids read;
+    run = IsRun-more 0 so_far.are.packet_ids verdicts packet_id verdict so_far.are.run is;
   };
   holds = Holds-same after 0 (taken_after (taken_by verdicts) verdict) (taken_by (verdicts ++ verdict ∷ [])) (taken_by-push verdicts verdict) holds;
 }
@@ -162,8 +145,3 @@ pub IsPacketId-parsed : (exts : ExtensionMap) (datagram : List ℕ) (answer : Op
     → ((header : RtpHeader) → IsWire exts datagram header → answer ≡ Some header) → IsPacketId exts datagram (option_map packet_id_of answer)
 IsPacketId-parsed exts datagram None found only = λ header wire. none-some header (only header wire)
 IsPacketId-parsed exts datagram (Some header) found only = record { header = header; wire = found; packet_id_is = refl }
-
--- and where it returns none, the bytes are no header
-pub HasCause-parsed : (datagram : List ℕ) (answer : Option RtpHeader) → (answer ≡ None → NotAHeader datagram) → HasCause datagram (option_map packet_id_of answer)
-HasCause-parsed datagram None refused = refused refl
-HasCause-parsed datagram (Some header) refused = tt

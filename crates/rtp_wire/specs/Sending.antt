@@ -1,24 +1,20 @@
 -- Packets of one sender, and what arrives of them (RFC 3550, 5.1; RFC 8285, 4).
-use Rattle.std.specs.Prelude.{◌≡◌, ℕ, ◌^◌, ◌<◌, ◌≤◌, List, ◌++◌, length, map, Option, Some}
+use Rattle.std.specs.Prelude.{◌≡◌, ℕ, List, map, Option, Some}
 use Rattle.std.specs.List.{AllZip, AllByRecursion}
 use Rattle.rtp_ext.specs.declared.ext.map.ExtensionMap.{ExtensionMap}
 use Rattle.rtp_wire.specs.declared.header.rtp_header.RtpHeader.{RtpHeader}
+use Rattle.rtp_wire.specs.Header.{IsWire}
 use Rattle.rtp_wire.specs.TrueNumbers.{AreTrue}
 use Rattle.rtp_wire.specs.Verdicts.{PacketId, packet_id_of}
-use Rattle.rtp_wire.specs.Written.{wire_bytes}
+use Rattle.rtp_wire.specs.Written.{image_of}
 
--- a header of this source that can be written: numbers of the widths that the standard gives them, and at most fifteen contributing sources
-pub record IsOfSource (source : ℕ) (header : RtpHeader) : Type 0 where
-  pub ssrc_is : header.ssrc ≡ source
-  pub ssrc : header.ssrc < 2 ^ 32
-  pub number : header.sequence_number < 2 ^ 16
-  pub payload_type : header.payload_type ≤ 127
-  pub slots : length header.csrc ≡ 15
-  pub sources : header.csrc_count ≤ 15
+-- a header of this source
+abbrev pub IsOfSource : ℕ → RtpHeader → Type 0
+IsOfSource source header = header.ssrc ≡ source
 
--- what arrives of a header: the bytes that it is written as under the map, and then anything
+-- what arrives of a header: a datagram that begins as the header is written under the map
 abbrev pub Arrives : ExtensionMap → RtpHeader → List ℕ → Type 0
-Arrives exts header datagram = (rest : List ℕ) × (datagram ≡ wire_bytes exts header ++ rest)
+Arrives exts header datagram = IsWire exts datagram (image_of exts header)
 
 -- the packet ids of some headers
 abbrev pub packet_ids_of : List RtpHeader → List (Option PacketId)

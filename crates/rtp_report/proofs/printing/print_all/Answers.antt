@@ -3,7 +3,6 @@ use Rattle.std.specs.Global.{Vec}
 use Rattle.std.specs.Io.KnownBytes.{Appends}
 use Rattle.std.proofs.KnownBytes.{Appends-nil, Appends-kept}
 use Rattle.std.proofs.lemmas.List.{get_or-map, length-map}
-use Rattle.rtp_wire.specs.NotAHeader.{NotAHeader}
 use Rattle.rtp_wire.specs.declared.header.rtp_header.RtpHeader.{RtpHeader}
 use Rattle.rtp_report.specs.declared.program.RunEnd.TheVariants.{NoMemory, Io}
 use Rattle.rtp_report.specs.Output.{IsHeader, Prints, packet_lines}
@@ -46,7 +45,7 @@ returns-in_err-write_text-2-clause-err g c =
     handed_on c.from_residual-in_err-write_text-2.result c.in_err-write_text-2.field-0.0 Io _ c.from_residual-in_err-write_text-2.ensures.1 c.in_err-write_text-2.ensures.err
     (Prints-cut _ _ _ _ _ _ _ _ _
     (Printed-more exts (map bytes items) done _ _ (string_bytes c.loop-index.text) (string_bytes c.push_lines.new.text) c.loop-index.receivers c.judged.new.receivers header c.in-Ok.verdict c.loop-index.invariant
-    (omega (arith, length-map items bytes)) (subst (λ (d : List ℕ). IsHeader exts d header) (sym here) c.in-Ok.ensures.header) (λ none. subst NotAHeader (sym here) (c.in-Ok.ensures.cause none))
+    (omega (arith, length-map items bytes)) (subst (λ (d : List ℕ). IsHeader exts d header) (sym here) c.in-Ok.ensures.header)
     c.in-Ok.ensures.verdict c.in-Ok.ensures.after (c.in_ok-push_lines.ensures.ok ∙ shown))
     c.as_bytes-then-len-ge-WRITTEN_AT_ONCE.ensures.value c.in_err-write_text-2.ensures.beginning)
 
@@ -63,7 +62,7 @@ loop-index-preserved g c =
     ∙ ap bytes (sym c.datagram-item.is) ∙ sym c.deref.ensures.value in
     let more =
     Printed-more exts (map bytes items) done _ _ (string_bytes c.loop-index.text) (string_bytes c.push_lines.new.text) c.loop-index.receivers c.judged.new.receivers header c.in-Ok.verdict c.loop-index.invariant
-    (omega (arith, length-map items bytes)) (subst (λ (d : List ℕ). IsHeader exts d header) (sym here) c.in-Ok.ensures.header) (λ none. subst NotAHeader (sym here) (c.in-Ok.ensures.cause none))
+    (omega (arith, length-map items bytes)) (subst (λ (d : List ℕ). IsHeader exts d header) (sym here) c.in-Ok.ensures.header)
     c.in-Ok.ensures.verdict c.in-Ok.ensures.after (c.in_ok-push_lines.ensures.ok ∙ shown) in
     elim c.if-len-ge-WRITTEN_AT_ONCE.branch [
       | then-len-ge-WRITTEN_AT_ONCE+in_ok-write_text-2 w ↦ rw (w.output-is, w.text-is) (Printed-written _ _ _ _ _ _ _ _ _ more

@@ -1,4 +1,4 @@
-use Rattle.std.proofs.Common.{◌≡◌, ℕ, ◌+◌, List, [], ◌∷◌, ◌++◌, map, take, length, get_or, Option, Ok, sym, ap, ◌∙◌, subst, arith}
+use Rattle.std.proofs.Common.{◌≡◌, ℕ, ◌+◌, List, [], ◌∷◌, ◌++◌, map, take, length, get_or, Option, sym, ap, ◌∙◌, subst, arith}
 use Rattle.std.specs.Global.{Vec}
 use Rattle.std.specs.Option.{option_map}
 use Rattle.std.proofs.lemmas.List.{get_or-map, length-map, length_push, take_more, take_all}
@@ -7,10 +7,10 @@ use Rattle.rtp_wire.specs.declared.receive.verdict.Verdict.{Verdict}
 use Rattle.rtp_wire.specs.Verdicts.{packet_id_of, IsPacketId, IsVerdict}
 use Rattle.rtp_wire.specs.Sources.{at_source, taken_of, numbers_beside}
 use Rattle.rtp_wire.specs.EachSource.{HoldsEach, taken_after_each}
-use Rattle.rtp_wire.proofs.VerdictLemmas.{TakesOnce-run, IsPacketId-parsed, HasCause-parsed}
+use Rattle.rtp_wire.proofs.VerdictLemmas.{TakesOnce-run, IsPacketId-parsed}
 use Rattle.rtp_wire.proofs.TrueNumberLemmas.{AreTrueVerdicts-of}
 use Rattle.rtp_wire.proofs.SendingLemmas.{AreTrueVerdicts-sent}
-use Rattle.rtp_wire.proofs.SourceLemmas.{SoFarEach, SoFarEach-none, SoFarEach-more, AreRead-each, AllZip-at_source, AreTrueVerdicts-sent_each}
+use Rattle.rtp_wire.proofs.SourceLemmas.{SoFarEach, SoFarEach-none, SoFarEach-more, AreVerdicts-each, AllZip-at_source, AreTrueVerdicts-sent_each}
 use Rattle.rtp_wire.proofs.receive.run.receive_run.Goals as goal
 
 pub loop-datagram-init : goal.loop-datagram-init
@@ -35,13 +35,12 @@ loop-datagram-preserved c =
     ∙ ap bytes (sym c.datagram-item.is) ∙ sym c.deref.ensures.value in
     let packet_id = option_map packet_id_of c.in_ok-header.header in
     let read = IsPacketId-parsed exts c.deref.result.now c.in_ok-header.header c.in_ok-header.ensures.found c.in_ok-header.ensures.only in
-    let cause = HasCause-parsed c.deref.result.now c.in_ok-header.header (λ none. c.in_ok-header.ensures.refused.0 (ap Ok none)) in
     let verdict = subst (λ (h : Option RtpHeader). IsVerdict 0 (numbers_beside taken (option_map packet_id_of h)) (option_map packet_id_of h) c.in_ok-verdict.verdict) c.as_ref.ensures.value
     (c.in_ok-verdict.ensures.verdict 0 taken so_far.holds) in
     let holds = subst (λ (h : Option RtpHeader). HoldsEach c.verdict_on.new.self 0 (taken_after_each taken (option_map packet_id_of h) c.in_ok-verdict.verdict)) c.as_ref.ensures.value
     (c.in_ok-verdict.ensures.after 0 taken so_far.holds) in
     let more = SoFarEach-more exts (take done datagrams) c.deref.result.now packet_id verdicts c.in_ok-verdict.verdict c.loop-datagram.receivers c.verdict_on.new.self
-    so_far read cause verdict holds in
+    so_far read verdict holds in
     let one : take (done + 1) datagrams ≡ take done datagrams ++ c.deref.result.now ∷ [] =
     take_more datagrams done [] (omega (arith, many, c.loop-datagram-test.true)) ∙ ap (λ (d : List ℕ). take done datagrams ++ d ∷ []) here in (
       subst (λ (ds : List (List ℕ)). SoFarEach exts ds c.push_reserved.new.self.items c.verdict_on.new.self) (sym one)
@@ -56,7 +55,7 @@ returns-clause-isolated c packet_ids read source =
     let datagrams = map bytes c.args.datagrams.now in
     let whole = take_all c.loop-datagram.datagram-index datagrams (omega (arith, length-map c.args.datagrams.now bytes)) in
     let so_far = subst (λ ds. SoFarEach c.args.exts.now ds c.loop-datagram.verdicts.items c.loop-datagram.receivers) whole c.loop-datagram.invariant.0 in
-    (AreRead-each c.args.exts.now datagrams c.loop-datagram.verdicts.items c.loop-datagram.receivers packet_ids source so_far read).are
+    (AreVerdicts-each c.args.exts.now datagrams c.loop-datagram.verdicts.items c.loop-datagram.receivers packet_ids source so_far read)
 
 pub returns-clause-once : goal.returns-clause-once
 returns-clause-once c packet_ids read source =
@@ -77,8 +76,8 @@ returns-clause-sent_among c headers numbers packet_ids read source sent =
     let verdicts = c.loop-datagram.verdicts.items in
     let whole = take_all c.loop-datagram.datagram-index datagrams (omega (arith, length-map c.args.datagrams.now bytes)) in
     let so_far = subst (λ ds. SoFarEach c.args.exts.now ds verdicts c.loop-datagram.receivers) whole c.loop-datagram.invariant.0 in
-    let alone = AreRead-each c.args.exts.now datagrams verdicts c.loop-datagram.receivers packet_ids source so_far read in
-    AreTrueVerdicts-sent c.args.exts.now headers numbers (at_source source packet_ids datagrams) (at_source source packet_ids verdicts) alone.are alone.causes sent
+    let alone = AreVerdicts-each c.args.exts.now datagrams verdicts c.loop-datagram.receivers packet_ids source so_far read in
+    AreTrueVerdicts-sent c.args.exts.now headers numbers (at_source source packet_ids datagrams) (at_source source packet_ids verdicts) alone sent
 
 pub returns-clause-sent : goal.returns-clause-sent
 returns-clause-sent c headers numbers sent =

@@ -1,4 +1,4 @@
-use Rattle.std.proofs.Common.{◌≡◌, ℕ, ◌+◌, List, [], ◌∷◌, ◌++◌, map, take, length, get_or, Option, Ok, refl, sym, ap, ◌∙◌, subst, arith}
+use Rattle.std.proofs.Common.{◌≡◌, ℕ, ◌+◌, List, [], ◌∷◌, ◌++◌, map, take, length, get_or, Option, refl, sym, ap, ◌∙◌, subst, arith}
 use Rattle.std.specs.Global.{Vec}
 use Rattle.std.specs.Option.{option_map}
 use Rattle.std.proofs.lemmas.List.{get_or-map, length-map, length_push, take_more, take_all}
@@ -6,7 +6,7 @@ use Rattle.rtp_wire.specs.declared.header.rtp_header.RtpHeader.{RtpHeader}
 use Rattle.rtp_wire.specs.declared.receive.verdict.Verdict.{Verdict}
 use Rattle.rtp_wire.specs.Receiver.{Holds, IsNothing}
 use Rattle.rtp_wire.specs.Verdicts.{packet_id_of, taken_by, IsVerdict, AreVerdicts}
-use Rattle.rtp_wire.proofs.VerdictLemmas.{AreRead, SoFar, SoFar-none, SoFar-more, TakesOnce-run, IsPacketId-parsed, HasCause-parsed}
+use Rattle.rtp_wire.proofs.VerdictLemmas.{SoFar, SoFar-none, SoFar-more, TakesOnce-run, IsPacketId-parsed}
 use Rattle.rtp_wire.proofs.TrueNumberLemmas.{AreTrueVerdicts-of}
 use Rattle.rtp_wire.proofs.SendingLemmas.{AreTrueVerdicts-sent}
 use Rattle.rtp_wire.proofs.receive.run.receive_run_one.Goals as goal
@@ -35,11 +35,10 @@ loop-datagram-preserved c =
     ∙ ap bytes (sym c.datagram-item.is) ∙ sym c.deref.ensures.value in
     let packet_id = option_map packet_id_of c.in_ok-header.header in
     let read = IsPacketId-parsed exts c.deref.result.now c.in_ok-header.header c.in_ok-header.ensures.found c.in_ok-header.ensures.only in
-    let cause = HasCause-parsed c.deref.result.now c.in_ok-header.header (λ none. c.in_ok-header.ensures.refused.0 (ap Ok none)) in
     let verdict = subst (λ (h : Option RtpHeader). IsVerdict 0 (taken_by verdicts) (option_map packet_id_of h) c.verdict_on-verdict.result) c.as_ref.ensures.value
     (c.verdict_on-verdict.ensures.verdict 0 (taken_by verdicts) so_far.holds) in
     let more = SoFar-more exts (take done datagrams) c.deref.result.now packet_id verdicts c.verdict_on-verdict.result c.loop-datagram.receiver c.verdict_on-verdict.new.self
-    so_far read cause verdict (c.verdict_on-verdict.ensures.after 0 (taken_by verdicts) so_far.holds) in
+    so_far read verdict (c.verdict_on-verdict.ensures.after 0 (taken_by verdicts) so_far.holds) in
     let one : take (done + 1) datagrams ≡ take done datagrams ++ c.deref.result.now ∷ [] =
     take_more datagrams done [] (omega (arith, many, c.loop-datagram-test.true)) ∙ ap (λ (d : List ℕ). take done datagrams ++ d ∷ []) here in (
       subst (λ (ds : List (List ℕ)). SoFar exts ds c.push_reserved.new.self.items c.verdict_on-verdict.new.self) (sym one)
@@ -53,11 +52,11 @@ returns-clause-verdicts c =
     let bytes = λ (d : Vec ℕ). d.items in
     let datagrams = map bytes c.args.datagrams.now in
     subst (λ (ds : List (List ℕ)). AreVerdicts c.args.exts.now ds c.loop-datagram.verdicts.items)
-    (take_all c.loop-datagram.datagram-index datagrams (omega (arith, length-map c.args.datagrams.now bytes))) c.loop-datagram.invariant.0.read.are
+    (take_all c.loop-datagram.datagram-index datagrams (omega (arith, length-map c.args.datagrams.now bytes))) c.loop-datagram.invariant.0.are
 
 pub returns-clause-once : goal.returns-clause-once
 returns-clause-once c =
-    let are = c.loop-datagram.invariant.0.read.are in
+    let are = c.loop-datagram.invariant.0.are in
     TakesOnce-run 0 are.packet_ids c.loop-datagram.verdicts.items are.run
 
 pub returns-clause-true_numbers : goal.returns-clause-true_numbers
@@ -66,7 +65,7 @@ returns-clause-true_numbers c packet_ids numbers read are =
     let datagrams = map bytes c.args.datagrams.now in
     let verdicts = c.loop-datagram.verdicts.items in
     let found = subst (λ (ds : List (List ℕ)). AreVerdicts c.args.exts.now ds verdicts)
-    (take_all c.loop-datagram.datagram-index datagrams (omega (arith, length-map c.args.datagrams.now bytes))) c.loop-datagram.invariant.0.read.are in
+    (take_all c.loop-datagram.datagram-index datagrams (omega (arith, length-map c.args.datagrams.now bytes))) c.loop-datagram.invariant.0.are in
     AreTrueVerdicts-of c.args.exts.now datagrams verdicts packet_ids numbers found read are
 
 pub returns-clause-sent : goal.returns-clause-sent
@@ -74,6 +73,6 @@ returns-clause-sent c headers numbers sent =
     let bytes = λ (d : Vec ℕ). d.items in
     let datagrams = map bytes c.args.datagrams.now in
     let verdicts = c.loop-datagram.verdicts.items in
-    let found = subst (λ (ds : List (List ℕ)). AreRead c.args.exts.now ds verdicts)
-    (take_all c.loop-datagram.datagram-index datagrams (omega (arith, length-map c.args.datagrams.now bytes))) c.loop-datagram.invariant.0.read in
-    AreTrueVerdicts-sent c.args.exts.now headers numbers datagrams verdicts found.are found.causes sent
+    let found = subst (λ (ds : List (List ℕ)). AreVerdicts c.args.exts.now ds verdicts)
+    (take_all c.loop-datagram.datagram-index datagrams (omega (arith, length-map c.args.datagrams.now bytes))) c.loop-datagram.invariant.0.are in
+    AreTrueVerdicts-sent c.args.exts.now headers numbers datagrams verdicts found sent
