@@ -77,7 +77,7 @@ fn joined(rt: &impl Abort, alloc: Global, front: &[u8], others: &[u8]) -> Vec<u8
     block
 }
 
-// Padding before an element, and 40 bytes of it behind.
+// Padding before an element, and 40 bytes of it after.
 fn is_padded(rt: &impl Abort, alloc: Global, padding: &[u8]) {
     check(rt, OneByte, padding, &[]);
     check(rt, TwoByte, padding, &[]);
@@ -88,7 +88,7 @@ fn is_padded(rt: &impl Abort, alloc: Global, padding: &[u8]) {
     check(rt, TwoByte, &block, &[(32, &[0x00])]);
 }
 
-// Padding of any length before an element and behind it.
+// Padding of any length before an element and after it.
 #[test]
 fn padding(rt: HostRuntime) {
     let zeros = [0; 40];
@@ -97,7 +97,7 @@ fn padding(rt: HostRuntime) {
     }
 }
 
-// So many times the pattern, which makes a longest block.
+// The pattern again and again, which makes a longest block.
 fn longest(rt: &impl Abort, alloc: Global, pattern: &[u8], times: usize) -> Vec<u8> {
     let mut block = Vec::new(alloc);
     for _ in 0..times {

@@ -12,7 +12,7 @@ use rtp_wire::{AbsCaptureTime, Extension, ExtensionMap, ExtensionValues, Extensi
 use std::alloc::Global;
 use std::process::Abort;
 
-// What is written into a buffer of ones, and three bytes behind it.
+// What is written into a buffer of ones, and three bytes after it.
 fn written(
     rt: &impl Abort,
     alloc: Global,
