@@ -54,8 +54,8 @@ fn is_kept(
     assert!(rt; has_same(kind, values, read), "{kind}: {bytes:?}");
 }
 
-// The damaged packet has the values of its good elements, except for the one at `damaged`, and for those
-// after it where `behind` is false.
+// The damaged packet has the values of its good elements, except for the one at `damaged`, and for
+// those after it where `behind` is false.
 fn neighbours(
     rt: &impl Abort,
     alloc: Global,
