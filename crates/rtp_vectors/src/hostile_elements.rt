@@ -123,8 +123,8 @@ fn small(rt: &impl Abort, alloc: Global, header: u8, low: u8) -> ExtensionValues
     header_of(rt, alloc, &bytes, &map()).ext_vals
 }
 
-// With a greater length the element's data go into the mid's header, and the rest of the mid is read as
-// an element that is cut short.
+// With a greater length the element's data go into the mid's header, and the rest of the mid is
+// read as an element that is cut short.
 #[test]
 fn a_greater_length_loses_the_mid(rt: HostRuntime) {
     let found = small(&rt, rt.alloc(), 0x32, 2);
