@@ -1,5 +1,5 @@
-//! Tests of the crates below: against vectors that were made without them, of the proved callers, and
-//! of what the program prints.
+//! Tests of the crates below: against vectors that were made without them, of the proved callers,
+//! and of what the program prints.
 #![tactic(auto)]
 
 #[cfg(test)]
