@@ -14,7 +14,7 @@ const WHOLE: [u8; 23] = [
     0x67, 0x1E, 0x04, 0xFF, 0x02, 0xCF, 0x3C,
 ];
 
-// The front of so many bytes has so many of the rates and of the resolutions.
+// The front of `len` bytes has these numbers of the rates and of the resolutions.
 fn front(rt: &impl Abort, alloc: Global, len: usize, rates: usize, resolutions: usize) {
     let mut six = [0u64; 6];
     for (i, rate) in [100, 101, 110, 111, 120, 121].iter().enumerate() {

@@ -76,7 +76,7 @@ pub(crate) fn reads(rt: &impl Abort, alloc: Global, bytes: &[u8], index: u8, row
     mean(rt, alloc, bytes, allocation(rt, alloc, index, rows));
 }
 
-// The allocation is written as the bytes, behind which the buffer stays as it was.
+// The allocation is written as the bytes, after which the buffer stays as it was.
 fn is_written(rt: &impl Abort, v: &VideoLayersAllocation, bytes: &[u8]) {
     assert!(rt; is_writable(v), "{bytes:?}");
     let len = wire_len(v);

@@ -69,7 +69,7 @@ fn data(rt: HostRuntime) {
     let values = carrying(small(&rt, rt.alloc()));
     has_data(&rt, &Extension::VideoLayersAllocation, &values, bytes);
     is_read_as_small(&rt, rt.alloc(), bytes);
-    // Bytes behind the last resolution are passed over.
+    // Bytes after the last resolution are passed over.
     is_read_as_small(&rt, rt.alloc(), &SMALL);
 }
 

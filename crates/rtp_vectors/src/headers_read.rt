@@ -8,7 +8,7 @@ use rtp_wire::{ExtensionMap, ExtensionValues, ExtensionsForm, RtpHeader};
 use std::alloc::Global;
 use std::process::Abort;
 
-// A packet with four elements and 16 bytes behind its header of 32.
+// A packet with four elements and 16 bytes after its header of 32.
 pub(crate) const PACKET: &str = "b06fb798000027102e5715f9bede0004\
 10aa22fe206a3100004278596a000000\
 0102030400000000000000000000000c";
@@ -144,7 +144,7 @@ const ACCEPTED: [(&str, usize); 8] = [
     ("90000000000000000000000010000000", 16),
     ("900000000000000000000000100F0000", 16),
     ("90000000000000000000000010070001AABBCCDD", 20),
-    // Bytes behind the header.
+    // Bytes after the header.
     ("900000000000000000000000BEDE000110AA0000FF", 20),
 ];
 

@@ -7,7 +7,7 @@ use rtp_wire::{Extension, ExtensionMap, ExtensionValues, RtpHeader};
 use std::alloc::Global;
 use std::process::Abort;
 
-// What is written of the header into a buffer of ones, and the three bytes behind it.
+// What is written of the header into a buffer of ones, and the three bytes after it.
 pub(crate) fn written(
     rt: &impl Abort,
     alloc: Global,
@@ -42,7 +42,7 @@ pub(crate) fn is_read(
     }
 }
 
-// The header is written as these bytes, the ones behind them stay, and all of them are read as the
+// The header is written as these bytes, the ones after them stay, and all of them are read as the
 // other header.
 pub(crate) fn check(
     rt: &impl Abort,
@@ -70,7 +70,7 @@ fn check_text(
     check(rt, alloc, exts, header, &bytes_of(rt, alloc, text), image);
 }
 
-// A header with these values, default but for its type, number, timestamp, and source.
+// A header with these values, default except for its type, number, timestamp, and source.
 fn header(ext_vals: ExtensionValues, header_len: usize) -> RtpHeader {
     RtpHeader {
         payload_type: Pt::from(33),
@@ -168,7 +168,7 @@ fn most(header_len: usize) -> RtpHeader {
     }
 }
 
-// What is written of the header is of so many bytes.
+// What is written of the header has this length.
 fn has_len(rt: &impl Abort, header: &RtpHeader, exts: &ExtensionMap, wanted: usize) {
     assert!(rt; header.csrc_count <= 15);
     assert!(rt; header.wire_len(exts) == wanted);

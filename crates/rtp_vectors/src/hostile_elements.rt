@@ -54,8 +54,8 @@ fn is_kept(
     assert!(rt; has_same(kind, values, read), "{kind}: {bytes:?}");
 }
 
-// The damaged packet has the values of its good elements, but for the one that begins at `damaged`,
-// and for those behind it where `behind` is false.
+// The damaged packet has the values of its good elements, except for the one at `damaged`, and for
+// those after it where `behind` is false.
 fn neighbours(
     rt: &impl Abort,
     alloc: Global,
@@ -123,8 +123,8 @@ fn small(rt: &impl Abort, alloc: Global, header: u8, low: u8) -> ExtensionValues
     header_of(rt, alloc, &bytes, &map()).ext_vals
 }
 
-// With a greater length the element's data go into the mid's header, and the rest of the mid is read as
-// an element that is cut short.
+// With a greater length the element's data go into the mid's header, and the rest of the mid is
+// read as an element that is cut short.
 #[test]
 fn a_greater_length_loses_the_mid(rt: HostRuntime) {
     let found = small(&rt, rt.alloc(), 0x32, 2);
@@ -187,7 +187,7 @@ fn exchange_heads(rt: &impl Abort, alloc: Global, sample: &Sample, begin: u8, ot
     }
 }
 
-// Exchanges the heads of an element and of each one behind it.
+// Exchanges the heads of an element and of each one after it.
 fn exchange_with_later(rt: &impl Abort, alloc: Global, sample: &Sample, begin: u8) {
     for &(other, _, _) in sample.elements {
         if begin < other {
@@ -246,7 +246,7 @@ fn doubled(rt: HostRuntime) {
     }
 }
 
-// The last byte of an element is gone, and all behind it is a byte further in front.
+// The last byte of an element is gone, and all after it is a byte further in front.
 fn cut_element(rt: &impl Abort, alloc: Global, sample: &Sample, begin: u8, end: u8) {
     let end = usize::from(end);
     let bytes = spliced(rt, alloc, sample, end.saturating_sub(1), end);

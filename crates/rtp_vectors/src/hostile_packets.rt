@@ -87,7 +87,7 @@ fn blocks_of_zeros(rt: HostRuntime) {
     is_of_zeros(&rt, a, "9000000000000000000000001000FFFF", 65_535);
 }
 
-// So many packets of number 7.
+// These many packets of number 7.
 fn repeated(rt: &impl Abort, alloc: Global, times: u16) -> Vec<Vec<u8>> {
     let mut datagrams = Vec::new(alloc);
     for _ in 0..times {

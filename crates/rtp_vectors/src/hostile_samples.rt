@@ -88,8 +88,8 @@ fn is_near(sent: Option<u64>, read: Option<u64>) -> bool {
     }
 }
 
-// The image is the header, but for the send time and the empty layers at the ends of an allocation's
-// streams.
+// The image is the header, except for the send time and the empty layers at the ends of the streams
+// of an allocation.
 fn is_image(rt: &impl Abort, alloc: Global, header: &RtpHeader, image: &RtpHeader) {
     assert!(rt; fixed(rt, alloc, image) == fixed(rt, alloc, header));
     let (values, carried) = (&header.ext_vals, &image.ext_vals);

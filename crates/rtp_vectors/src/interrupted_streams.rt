@@ -113,7 +113,7 @@ fn interrupted_writes(rt: HostRuntime) {
     }
 }
 
-// A writer that takes so many bytes, and then none.
+// A writer that has room for a number of bytes, and then takes none.
 #[derive(Drop)]
 struct Full {
     taken: Vec<u8>,

@@ -43,7 +43,7 @@ fn levels_without_voice_activity(rt: HostRuntime) {
     }
 }
 
-// What is written of the values into a buffer of nines is of so many bytes, and the whole buffer is
+// What is written of the values into a buffer of nines has this length, and the whole buffer is
 // read as them.
 fn is_read_back(
     rt: &impl Abort,

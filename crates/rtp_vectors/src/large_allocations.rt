@@ -58,8 +58,8 @@ fn whole(rt: &impl Abort, alloc: Global, high: u64) -> VideoLayersAllocation {
     streams(alloc, 4, high).expect(rt, "memory")
 }
 
-// The index, the masks, the numbers of temporal layers, and the 64 rates: the low seven bits of each,
-// and then the bytes of its high bit.
+// The index, the masks, the numbers of temporal layers, and the 64 rates: the low seven bits of
+// each, and then the bytes of its high bit.
 fn rates(alloc: Global, high: &[u8]) -> Result<Vec<u8>, AllocError> {
     let mut data = Vec::from_slice(alloc, &[0xB0, 0xFF, 0xFF, 0xFF, 0xFF, 0xFF, 0xFF])?;
     for rate in 0..64u8 {
@@ -79,8 +79,8 @@ fn data(alloc: Global, high: &[u8]) -> Result<Vec<u8>, AllocError> {
     Ok(data)
 }
 
-// The high bit of the rates, its bytes in a LEB128 number, and the length of all data: with rates of
-// three bytes, and with those of nine bytes the longest.
+// The high bit of the rates, its bytes in a LEB128 number, and the length of all data: with rates
+// of three bytes, and with those of nine bytes the longest.
 const HIGH: [(u64, &[u8], usize); 2] = [
     (1 << 14, &[0x80, 1], 279),
     (1 << 56, &[0x80, 0x80, 0x80, 0x80, 0x80, 0x80, 0x80, 1], 663),

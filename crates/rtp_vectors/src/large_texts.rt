@@ -26,7 +26,8 @@ fn a_long_uri(rt: HostRuntime) {
     shows(&rt, rt.alloc(), &copy, &uri);
 }
 
-// The map of id 9 to the extension of the URI, after the renegotiation of another id, which locks it.
+// The map of id 9 to the extension of the URI, after the renegotiation of another id, which locks
+// it.
 fn locked(rt: &impl Abort, alloc: Global, uri: &str, id: u8) -> ExtensionMap {
     let mut map = one(9, named(rt, alloc, uri));
     map.remap(&[(id, &named(rt, alloc, uri))]);

@@ -31,7 +31,7 @@ fn numbers_read(rt: HostRuntime) {
     }
 }
 
-// The number is written as these bytes, and those behind them stay as they were.
+// The number is written as these bytes, and those after them stay as they were.
 fn is_written(rt: &impl Abort, number: u64, bytes: &[u8]) {
     assert!(rt; number <= 9223372036854775807, "{number} takes 64 bits");
     let mut buf = [7; 9];

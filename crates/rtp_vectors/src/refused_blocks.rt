@@ -16,7 +16,7 @@ use std::process::Abort;
 // transport number 7.
 const BODY: [u8; 9] = [0x10, 0xAA, 0x22, 1, 0, 5, 0x31, 0, 7];
 
-// The same with a second allocation behind the first one, of rate 6.
+// The same with a second allocation after the first one, of rate 6.
 const TWO: [u8; 13] = [0x10, 0xAA, 0x22, 1, 0, 5, 0x22, 1, 0, 6, 0x31, 0, 7];
 
 // The same with a first one that takes no memory.

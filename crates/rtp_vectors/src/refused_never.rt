@@ -36,7 +36,7 @@ const BODIES: [(ExtensionsForm, &[u8], Option<i8>, Option<u16>); 8] = [
         Some(-42),
         None,
     ),
-    // The element of the allocation is cut short, or behind the end of the block.
+    // The element of the allocation is cut short, or after the end of the block.
     (
         ExtensionsForm::OneByte,
         &[0x10, 0xAA, 0x22, 1, 0],

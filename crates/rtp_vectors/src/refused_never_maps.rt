@@ -1,5 +1,5 @@
-//! Calls on maps of known extensions and their iterators, which ask for no memory. `.ci/run` sees that
-//! a test of this file asks for none.
+//! Calls on maps of known extensions and their iterators, which ask for no memory. `.ci/run` sees
+//! that a test of this file asks for none.
 
 use crate::checks::{holds, same};
 use crate::fixtures::{one, two};

@@ -1,5 +1,5 @@
-//! Calls on times and directions, which ask for no memory. `.ci/run` sees that a test of this file asks
-//! for none.
+//! Calls on times and directions, which ask for no memory. `.ci/run` sees that a test of this file
+//! asks for none.
 
 use crate::checks::{holds, same};
 use rtp_base::{Direction, Frequency, MediaTime};

@@ -82,7 +82,7 @@ fn a_value(rt: HostRuntime) {
 fn with_block(rt: &impl Abort, alloc: Global, mut values: ExtensionValues) -> ExtensionValues {
     let (body, form) = (&PACKET[16..], ExtensionsForm::TwoByte);
     if map().parse(alloc, body, form, &mut values).is_err() {
-        // The element in front of the allocation is read, and the one behind it isn't.
+        // The element in front of the allocation is read, and the one after it isn't.
         same(rt, "the level in front", values.audio_level, Some(-43));
         holds(rt, "the old allocation", has_plain(&values));
         same(rt, "no type behind", values.video_content_type, None);

@@ -8,7 +8,7 @@ use rtp_wire::{ExtensionMap, Receivers, RtpHeader, Verdict, receive_run, receive
 use std::alloc::{AllocError, Global};
 use std::process::Abort;
 
-// So many sources that their map grows more than once.
+// With 40 sources their map grows more than once.
 const SOURCES: u32 = 40;
 
 // Sources that came before have their receiver, and this one has none.

@@ -70,7 +70,7 @@ fn read_back(rt: &impl Abort, alloc: Global, time: u64) -> Option<u64> {
 fn written_and_read(rt: HostRuntime) {
     let time = 1_234_567_890;
     let send_time = read_back(&rt, rt.alloc(), time);
-    // The greatest time until which it is recovered, but for one tick.
+    // The greatest time until which it is recovered, except for one tick.
     let again = updated(send_time, time + 63_999_995);
     let moment = again.abs_send_time.expect(&rt, "a time");
     holds(&rt, moment, time - 4 <= moment && moment <= time);

@@ -6,8 +6,8 @@ use rtp_wire::{ExtensionMap, RtpHeader, receive_run};
 use std::alloc::Global;
 use std::process::Abort;
 
-// The sender's packets in the order in which they come, and as what each one is taken: none where it
-// is refused.
+// The sender's packets in the order in which they come, and as what each one is taken: none where
+// it is refused.
 const ARRIVALS: [(u16, Option<u64>); 5] = [
     (65535, Some(65535)),
     (65534, Some(65534)),

@@ -15,7 +15,7 @@ pub(crate) fn nines() -> [u8; 255]
     [9; 255]
 }
 
-// Whether the kind's data are these, at the front of the buffer, with what stood behind them.
+// Whether the kind's data are these, at the front of the buffer, with what stood after them.
 pub(crate) fn is_written(kind: &Extension, values: &ExtensionValues, data: &[u8]) -> bool {
     let mut buf = nines();
     kind.write_to(&mut buf, values) == Some(data.len())
@@ -155,7 +155,7 @@ fn other_kinds_are_as_before(rt: HostRuntime) {
     }
 }
 
-// Data of so many zeros are read if they are at least as many as the kind needs, and else refused.
+// Data of zeros are read if they are at least as many as the kind needs, and else refused.
 fn needs(rt: &impl Abort, alloc: Global, kind: &Extension, needed: usize, data: &[u8]) {
     if data.len() < needed {
         is_refused(rt, alloc, kind, data);
