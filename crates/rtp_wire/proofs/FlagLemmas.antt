@@ -6,7 +6,7 @@ use Rattle.std.proofs.lemmas.Bool.{ne_eqb}
 use Rattle.std.proofs.lemmas.Nat.{pow_pos, and_mask}
 use Rattle.std.proofs.lemmas.Nat.Bits.{and_pow, bit_at-lt}
 use Rattle.rtp_base.specs.Flag.{bit}
-use Rattle.rtp_wire.specs.Header.{IsFirstByte, IsSecondByte}
+use Rattle.rtp_wire.specs.Packet.{IsFirstByte, IsSecondByte}
 
 -- one digit of base 2, by its test
 bit-digit : (digit worth : ℕ) → digit < 2 → 0 < worth → bit (not (nat_eq (digit * worth) 0)) ≡ digit

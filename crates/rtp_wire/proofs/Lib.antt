@@ -2,6 +2,9 @@ mod FlagLemmas
 mod GroupLemmas
 mod BlockLemmas
 mod HeaderLemmas
+mod PacketLemmas
+mod HeaderFound
+mod NotAPacketLemmas
 mod OneHeader
 mod ParseLemmas
 mod BlockWriting

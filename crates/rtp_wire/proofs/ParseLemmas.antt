@@ -7,7 +7,8 @@ use Rattle.std.proofs.lemmas.List.{drop-drop, get_or-take}
 use Rattle.rtp_ext.specs.declared.ext.map.ExtensionMap.{ExtensionMap}
 use Rattle.rtp_wire.specs.declared.header.rtp_header.RtpHeader.{RtpHeader}
 use Rattle.rtp_base.specs.Flag.{bit}
-use Rattle.rtp_wire.specs.Header.{IsFirstByte, IsFixed}
+use Rattle.rtp_wire.specs.Header.{IsFixed}
+use Rattle.rtp_wire.specs.Packet.{IsFirstByte}
 use Rattle.rtp_ext.specs.declared.ext.form.ExtensionsForm.{ExtensionsForm}
 use Rattle.rtp_wire.specs.NotAHeader.{NotABlock, NotAHeader, sources_end, cut_fixed, other_version, cut_sources, no_block}
 use Rattle.rtp_wire.specs.RefusedMemory.{BlockHasAllocation, HeaderHasAllocation}

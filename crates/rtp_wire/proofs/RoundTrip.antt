@@ -8,7 +8,8 @@ use Rattle.std.proofs.lemmas.Nat.{from_be_bytes-to_be_bytes_2, from_be_bytes-to_
 use Rattle.rtp_ext.specs.declared.ext.map.ExtensionMap.{ExtensionMap}
 use Rattle.rtp_wire.specs.declared.header.rtp_header.RtpHeader.{RtpHeader}
 use Rattle.rtp_wire.specs.Block.{IsExtensionPart}
-use Rattle.rtp_wire.specs.Header.{IsFirstByte, IsFixed, IsWire}
+use Rattle.rtp_wire.specs.Header.{IsFixed, IsWire}
+use Rattle.rtp_wire.specs.Packet.{IsFirstByte}
 use Rattle.rtp_base.specs.Overwriting.{overwritten}
 use Rattle.rtp_wire.specs.Written.{fixed_bytes, source_bytes, extension_bytes, wire_bytes, carried_image, image_of}
 use Rattle.rtp_wire.proofs.GroupLemmas.{AreFours}

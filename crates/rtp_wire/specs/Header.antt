@@ -7,24 +7,14 @@
 -- |           synchronization source (SSRC) identifier            |
 -- |            contributing source (CSRC) identifiers             |
 -- |                             ....                              |
-use Rattle.std.specs.Prelude.{◌≡◌, ℕ, ◌+◌, ◌-◌, ◌*◌, ◌≤◌, List, ◌++◌, length, map, replicate, slice_index, slice_range, Bool, true, false}
+use Rattle.std.specs.Prelude.{◌≡◌, ℕ, ◌+◌, ◌-◌, List, ◌++◌, length, map, replicate, slice_index, slice_range, true, false}
 use Rattle.std.specs.List.{concat, AllByRecursion}
 use Rattle.std.specs.Int.{w16, w32, from_be_bytes}
 use Rattle.rtp_ext.specs.declared.ext.map.ExtensionMap.{ExtensionMap}
 use Rattle.rtp_wire.specs.declared.header.rtp_header.RtpHeader.{RtpHeader}
-use Rattle.rtp_base.specs.Flag.{bit}
 use Rattle.rtp_values.specs.Values.{no_values}
 use Rattle.rtp_wire.specs.Block.{IsExtensionPart}
-
--- V=2 in the top two bits, then P, X and the four bits of CC
-pub record IsFirstByte (byte : ℕ) (padding extension : Bool) (count : ℕ) : Type 0 where
-  pub sum : byte ≡ 2 * 64 + bit padding * 32 + bit extension * 16 + count
-  pub few : count ≤ 15
-
--- M in the top bit, then the seven bits of PT
-pub record IsSecondByte (byte : ℕ) (marker : Bool) (payload_type : ℕ) : Type 0 where
-  pub sum : byte ≡ bit marker * 128 + payload_type
-  pub few : payload_type ≤ 127
+use Rattle.rtp_wire.specs.Packet.{IsFirstByte, IsSecondByte}
 
 -- the twelve bytes that every header has, and the fields in them
 pub record IsFixed (fixed : List ℕ) (h : RtpHeader) : Type 0 where

@@ -16,6 +16,9 @@ pub use Rattle.rtp_vla.specs.AllocationWritten
 pub use Rattle.rtp_vla.specs.AllocationEqual
 -- What contracts rest on, from the bytes up.
 pub mod Block
+pub mod Packet
+pub mod NotAPacket
+pub mod PartsOf
 pub mod Header
 pub mod NotAHeader
 pub mod Reading
@@ -33,4 +36,5 @@ pub mod Sending
 pub mod Receivers
 pub mod Sources
 -- What the inside promises itself.
+pub mod PartsAt
 pub mod Moduli

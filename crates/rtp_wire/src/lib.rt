@@ -3,6 +3,7 @@
 #![tactic(auto)]
 
 mod header;
+mod packet;
 mod receive;
 
 pub use header::{
@@ -10,6 +11,7 @@ pub use header::{
     extend_u15, extend_u16, extend_u32, read_original_sequence_number, unpad_payload,
     write_original_sequence_number,
 };
+pub use packet::{NotAPacket, RtpPacket};
 pub use receive::{Receiver, Receivers, Verdict, receive_run, receive_run_one};
 pub use rtp_ext::{
     AbsCaptureTime, Elements, Extension, ExtensionMap, ExtensionValues, ExtensionsForm, Iter,

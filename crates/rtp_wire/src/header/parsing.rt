@@ -5,7 +5,8 @@ ghost use Rattle.std.specs.Int.{w32, from_be_bytes};
 ghost use Rattle.std.specs.Simd.{first_chunks};
 ghost use Rattle.rtp_wire.specs.RefusedMemory.{HeaderHasAllocation};
 ghost use Rattle.rtp_wire.specs.NotAHeader.{NotAHeader};
-ghost use Rattle.rtp_wire.specs.Header.{IsFirstByte, IsSecondByte, IsFixed, IsWire};
+ghost use Rattle.rtp_wire.specs.Header.{IsFixed, IsWire};
+ghost use Rattle.rtp_wire.specs.Packet.{IsFirstByte, IsSecondByte};
 
 use super::RtpHeader;
 use super::block::parse_block;

@@ -7,7 +7,8 @@ ghost use Rattle.rtp_ext.specs.ExtensionMap.{mapped_count, HasNoIdAbove};
 ghost use Rattle.rtp_ext.specs.WrittenBlock.{whole_words};
 ghost use Rattle.rtp_wire.specs.Block.{IsExtensionPart};
 ghost use Rattle.rtp_base.specs.Flag.{bit};
-ghost use Rattle.rtp_wire.specs.Header.{IsFirstByte, IsWire};
+ghost use Rattle.rtp_wire.specs.Header.{IsWire};
+ghost use Rattle.rtp_wire.specs.Packet.{IsFirstByte};
 ghost use Rattle.rtp_base.specs.Overwriting.{overwritten};
 ghost use Rattle.rtp_wire.specs.Written.{fixed_bytes, extension_bytes, wire_bytes, carried_image, image_of};
 

@@ -3,7 +3,7 @@ use Rattle.std.proofs.lemmas.List.{drop-replicate}
 use Rattle.std.specs.Int.{w32, from_be_bytes}
 use Rattle.std.specs.Simd.{first_chunks}
 use Rattle.std.specs.Prelude.{slice_index}
-use Rattle.rtp_wire.specs.Header.{IsSecondByte}
+use Rattle.rtp_wire.specs.Packet.{IsSecondByte}
 use Rattle.rtp_wire.proofs.BlockLemmas.{word_at-cells, quad-cells}
 use Rattle.rtp_wire.proofs.header.parsing.header_of.Goals as goal
 
