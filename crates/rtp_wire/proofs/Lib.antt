@@ -1,14 +1,13 @@
 mod FlagLemmas
 mod GroupLemmas
 mod BlockLemmas
-mod HeaderLemmas
 mod PacketLemmas
 mod PartsLemmas
 mod PacketElementsLemmas
 mod HeaderFound
 mod NotAPacketLemmas
-mod OneHeader
-mod ParseLemmas
+mod ValuesLemmas
+mod HeaderLemmas
 mod BlockWriting
 mod RoundTrip
 mod PaddingLemmas

@@ -1,5 +1,5 @@
 -- The last element of an id, once one more element was passed.
-use Rattle.std.proofs.Common.{◌≡◌, ◌≢◌, ℕ, List, [], ◌∷◌, ◌++◌, Option, Some, None, All, refl, ap, ◌∙◌, append_assoc, Bor}
+use Rattle.std.proofs.Common.{◌≡◌, ◌≢◌, ℕ, List, [], ◌∷◌, ◌++◌, Option, Some, None, ap, ◌∙◌, append_assoc, Bor}
 use Rattle.std.proofs.lemmas.List.Elements.{All-push, All-nil}
 use Rattle.rtp_ext.specs.Elements.{Element}
 use Rattle.rtp_wire.specs.PacketElements.{HasNone, HasLast, IsLast}

@@ -1,17 +1,18 @@
 -- The parts of a packet, as the calls on it find them.
-use Rattle.std.proofs.Common.{◌≡◌, ℕ, ◌+◌, ◌-◌, ◌*◌, ◌/◌, ◌%◌, ◌≤◌, Bool, true, false, List, length, map, take, drop, Option, Some, None, refl, sym, ap, ◌∙◌, subst, arith, length-drop, length-take, length-take-le}
+use Rattle.std.proofs.Common.{◌≡◌, ℕ, ◌+◌, ◌-◌, ◌*◌, ◌/◌, ◌%◌, ◌≤◌, Bool, true, false, List, length, map, take, drop, Option, Some, None, refl, sym, ap, ◌∙◌, subst, arith, ◌++◌, length-append, length-drop, length-take, length-take-le}
 use Rattle.std.specs.Prelude.{slice_index, slice_range, is_some, option_map}
 use Rattle.std.specs.Int.{w32, from_be_bytes}
+use Rattle.std.specs.List.{concat}
 use Rattle.std.specs.Simd.{first_chunks}
 use Rattle.std.proofs.lemmas.List.{length-map}
 use Rattle.rtp_ext.specs.declared.ext.form.ExtensionsForm.{ExtensionsForm}
 use Rattle.rtp_wire.specs.declared.packet.rtp_packet.RtpPacket.{RtpPacket}
 use Rattle.rtp_wire.specs.NotAHeader.{sources_end}
-use Rattle.rtp_wire.specs.Packet.{block_len, header_len_of}
+use Rattle.rtp_wire.specs.Packet.{PacketParts, IsAnnounced, IsPacket, block_len, header_len_of}
 use Rattle.rtp_wire.specs.PartsOf.{parts_of}
 use Rattle.rtp_wire.specs.PartsAt.{has_block, form_in, header_end, parts_at}
-use Rattle.rtp_wire.proofs.GroupLemmas.{length-first_chunks, first_chunks-take}
-use Rattle.rtp_wire.proofs.PacketLemmas.{IsWhole, announced_len}
+use Rattle.rtp_wire.proofs.GroupLemmas.{length-concat, length-first_chunks, first_chunks-take}
+use Rattle.rtp_wire.proofs.PacketLemmas.{IsWhole, IsPacket-whole}
 
 -- a packet's datagram is whole
 pub IsWhole-packet : (packet : RtpPacket) → IsWhole packet.datagram.now
@@ -38,29 +39,6 @@ first_chunks-sources bytes end end-is within =
     let quarter : length (slice_range bytes 12 end) / 4 ≡ count = omega arith in
     ap (λ (k : ℕ). first_chunks 4 k (slice_range bytes 12 end)) quarter ∙ ap (first_chunks 4 count) slice ∙ first_chunks-take count (drop 12 bytes)
 
--- how long a block is that X announces
-block_len-announced : (x : Bool) (form : Option ExtensionsForm) (after body : List ℕ) (n : ℕ) → is_some form ≡ x → n ≡ announced_len x after → length body ≡ n - 4
-    → n ≡ block_len (option_map (λ f. (f, body)) form)
-block_len-announced false None after body n known n-is len = n-is
-block_len-announced false (Some form) after body n known n-is len = absurd cc
-block_len-announced true None after body n known n-is len = absurd cc
-block_len-announced true (Some form) after body n known n-is len = omega arith
-
--- the end of the header is the length of its parts
-pub header_end-len : (bytes : List ℕ) → IsWhole bytes → header_end bytes ≡ header_len_of (parts_at bytes)
-unfolding parts_at header_end form_in
-header_end-len bytes whole =
-    let count = slice_index bytes 0 % 16 in
-    let start = sources_end bytes in
-    let n = announced_len (has_block bytes) (drop start bytes) in
-    let groups = first_chunks 4 count (drop 12 bytes) in
-    let body = slice_range bytes (start + 4) (header_end bytes) in
-    let within : start + n ≤ length bytes = whole.within in
-    let number : length (map (from_be_bytes w32) groups) ≡ count = length-map groups (from_be_bytes w32) ∙ length-first_chunks count (drop 12 bytes) in
-    let len : length body ≡ n - 4 = omega (arith, length-take (start + n - (start + 4)) (drop (start + 4) bytes), length-drop (start + 4) bytes) in
-    let block = block_len-announced (has_block bytes) (form_in bytes) (drop start bytes) body n whole.known refl len in
-    omega (arith, number, block)
-
 -- the block, from the form and the length that the packet keeps
 pub block-packet : (packet : RtpPacket) → option_map (λ form. (form, slice_range packet.datagram.now (sources_end packet.datagram.now + 4) packet.header_len)) packet.form ≡ (parts_of packet).block
 unfolding parts_at
@@ -76,3 +54,37 @@ body_within packet some =
     let x : has_block packet.datagram.now ≡ true = sym packet.known ∙ some in
     let ends = rw x at packet.ends in
     omega arith
+
+-- how many bytes a block takes that X announces
+pub length-announced : (x : Bool) (block : Option (ExtensionsForm × List ℕ)) (part : List ℕ) → IsAnnounced x block part → length part ≡ block_len block
+length-announced false None part is = ap length is
+length-announced false (Some block) part is = absurd is
+length-announced true None part is = absurd is
+length-announced true (Some block) part is = let words = is.words in omega (arith, ap length is.body_is, length-drop 4 part)
+
+-- the header and the payload are the whole packet
+pub length-packet : (bytes : List ℕ) (parts : PacketParts) → IsPacket bytes parts → header_len_of parts + length parts.payload ≡ length bytes
+length-packet bytes parts is =
+    let tail = is.part ++ parts.payload in
+    let number : length is.groups ≡ length parts.sources = sym (ap length is.sources_are.numbers_are ∙ length-map is.groups (from_be_bytes w32)) in
+    omega (
+      arith,
+      ap length is.in_order,
+      length-append is.fixed (concat is.groups ++ tail),
+      length-append (concat is.groups) tail,
+      length-append is.part parts.payload,
+      length-concat is.groups is.sources_are.of_four,
+      is.fixed_is.twelve,
+      number,
+      length-announced parts.has_extension parts.block is.part is.part_is,
+    )
+
+-- the end of the header is the length of its parts
+pub header_end-len : (packet : RtpPacket) → header_end packet.datagram.now ≡ header_len_of (parts_of packet)
+unfolding parts_at
+header_end-len packet =
+    let bytes = packet.datagram.now in
+    let whole = IsWhole-packet packet in
+    let within = whole.within in
+    let all = length-packet bytes (parts_of packet) (IsPacket-whole bytes (packet.bytes 1) whole) in
+    omega (arith, length-drop (header_end bytes) bytes)

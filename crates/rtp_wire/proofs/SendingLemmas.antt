@@ -1,8 +1,8 @@
 -- What arrives of a sender's headers is read as those headers say.
 use Rattle.std.proofs.Common.{◌≡◌, ℕ, ◌+◌, ◌*◌, ◌/◌, ◌%◌, ◌≤◌, Bool, true, false, List, [], ◌∷◌, ◌++◌, length, take, drop, refl, sym, ap, ◌∙◌, subst, arith, length-append, append_assoc, length-take-le, take_at, drop_at}
-use Rattle.std.specs.Prelude.{Option, Some, None, slice_index}
+use Rattle.std.specs.Prelude.{Option, Some, None, slice_index, slice_range}
 use Rattle.std.specs.List.{AllZip, AllByRecursion}
-use Rattle.std.specs.Int.{w16, to_be_bytes, from_be_bytes}
+use Rattle.std.specs.Int.{w16, w32, to_be_bytes, from_be_bytes}
 use Rattle.std.proofs.lemmas.List.{drop-drop}
 use Rattle.std.proofs.lemmas.Nat.{from_be_bytes-to_be_bytes_2, from_be_bytes-to_be_bytes_4}
 use Rattle.rtp_ext.specs.declared.ext.form.ExtensionsForm.{ExtensionsForm}
@@ -13,7 +13,6 @@ use Rattle.rtp_wire.specs.declared.header.rtp_header.RtpHeader.{RtpHeader}
 use Rattle.rtp_wire.specs.declared.receive.verdict.Verdict.{Verdict}
 use Rattle.rtp_wire.specs.Block.{word_at}
 use Rattle.rtp_ext.specs.Form.{form_word, IsFormWord}
-use Rattle.rtp_wire.specs.Header.{IsFixed}
 use Rattle.rtp_wire.specs.NotAHeader.{NotABlock, cut_head, unknown_form, cut_words, NotAHeader, cut_fixed, other_version, cut_sources, no_block}
 use Rattle.rtp_ext.specs.WrittenBlock.{form_of, body_bytes, block_bytes}
 use Rattle.rtp_wire.specs.Written.{fixed_bytes, source_bytes, extension_bytes, wire_bytes}
@@ -22,7 +21,8 @@ use Rattle.rtp_wire.specs.TrueNumbers.{AreTrueVerdicts}
 use Rattle.rtp_wire.specs.Sending.{IsOfSource, Arrives, readings_of, AreSent}
 use Rattle.rtp_wire.proofs.FlagLemmas.{bit-once, HasFlags, flags_from_first}
 use Rattle.rtp_wire.proofs.GroupLemmas.{length-numbers}
-use Rattle.rtp_wire.proofs.HeaderLemmas.{layout_of}
+use Rattle.rtp_wire.proofs.HeaderLemmas.{number-wire, ssrc-wire}
+use Rattle.rtp_wire.proofs.BlockLemmas.{slice_range-take}
 use Rattle.rtp_wire.proofs.BlockWriting.{length-body}
 use Rattle.rtp_wire.proofs.TrueNumberLemmas.{AreTrueVerdicts-run}
 use Rattle.rtp_wire.proofs.VerdictLemmas.{HasCause}
@@ -108,9 +108,11 @@ reading_sent exts source h datagram (Some reading) of arrives read cause =
     let behind = source_bytes h ++ (extension_bytes exts h.has_extension h.ext_vals ++ arrives.0) in
     let front : take 12 datagram ≡ fixed_bytes h =
     ap (λ (xs : List ℕ). take 12 xs) (arrived exts h datagram arrives) ∙ take_at (fixed_bytes h) behind 12 refl in
-    let fixed : IsFixed (fixed_bytes h) g = subst (λ (xs : List ℕ). IsFixed xs g) front (layout_of exts datagram g read.wire).fixed_is in
+    let range : (a b : ℕ) → a ≤ b → b ≤ 12 → slice_range datagram a b ≡ slice_range (fixed_bytes h) a b =
+    λ a b le within. sym (slice_range-take datagram a b 12 le within) ∙ ap (λ (xs : List ℕ). slice_range xs a b) front in
     ap Some (read.reading_is ∙ same_reading (reading_of g) (reading_of h)
-    (fixed.ssrc_is ∙ from_be_bytes-to_be_bytes_4 h.ssrc of.ssrc) (fixed.number_is ∙ from_be_bytes-to_be_bytes_2 h.sequence_number of.number))
+    (ssrc-wire exts datagram g read.wire ∙ ap (from_be_bytes w32) (range 8 12 (omega arith) (omega arith)) ∙ from_be_bytes-to_be_bytes_4 h.ssrc of.ssrc)
+    (number-wire exts datagram g read.wire ∙ ap (from_be_bytes w16) (range 2 4 (omega arith) (omega arith)) ∙ from_be_bytes-to_be_bytes_2 h.sequence_number of.number))
 
 pub readings_sent : (exts : ExtensionMap) (source : ℕ) (headers : List RtpHeader) (datagrams : List (List ℕ)) (readings : List (Option Reading))
     → AllByRecursion (IsOfSource source) headers → AllZip (Arrives exts) headers datagrams → AreReadings exts datagrams readings → AllZip HasCause datagrams readings

@@ -12,8 +12,7 @@ use Rattle.rtp_wire.specs.Widening.{IsNear}
 use Rattle.rtp_wire.specs.Receiver.{IsNothing, IsHighest, IsNumberOf, IsFresh, taken_after}
 use Rattle.rtp_wire.specs.Verdicts.{Reading, reading_of, IsReading, AreReadings, taken_by, IsVerdict, IsRun, AreVerdicts}
 use Rattle.rtp_wire.specs.TrueNumbers.{IsWithinReach, IsTrueNumber, numbers_of, AreTrue, IsTrueVerdict, AreTrueVerdicts}
-use Rattle.rtp_wire.proofs.HeaderLemmas.{layout_of}
-use Rattle.rtp_wire.proofs.OneHeader.{one_header}
+use Rattle.rtp_wire.proofs.HeaderLemmas.{one_header}
 use Rattle.rtp_wire.proofs.ReceiverLemmas.{not_nothing}
 use Rattle.rtp_wire.proofs.VerdictLemmas.{or_assoc, or_false, taken_by-push}
 use Rattle.rtp_wire.proofs.WideningLemmas.{only_near, IsNear-close}
@@ -281,7 +280,7 @@ one_reading exts datagram None None first second = refl
 one_reading exts datagram None (Some b) first second = absurd (first second.header second.wire)
 one_reading exts datagram (Some a) None first second = absurd (second first.header first.wire)
 one_reading exts datagram (Some a) (Some b) first second =
-    ap Some (first.reading_is ∙ ap reading_of (one_header exts datagram first.header second.header (layout_of exts datagram first.header first.wire) second.wire) ∙ sym second.reading_is)
+    ap Some (first.reading_is ∙ ap reading_of (one_header exts datagram first.header second.header first.wire second.wire) ∙ sym second.reading_is)
 
 pub one_readings : (exts : ExtensionMap) (datagrams : List (List ℕ)) (a b : List (Option Reading)) → AreReadings exts datagrams a → AreReadings exts datagrams b → a ≡ b
 one_readings exts [] [] [] first second = refl

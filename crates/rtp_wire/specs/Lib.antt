@@ -22,7 +22,6 @@ pub mod PacketElements
 pub mod PartsOf
 pub mod Header
 pub mod NotAHeader
-pub mod Reading
 pub mod RefusedMemory
 pub mod Written
 -- What stands behind the header.

@@ -1,6 +1,6 @@
 //! The contributing sources of a packet.
 
-ghost use Rattle.std.specs.Prelude.{◌≡◌, map};
+ghost use Rattle.std.specs.Prelude.{◌≡◌, ◌≤◌, length, map};
 ghost use Rattle.std.specs.Int.{w32, from_be_bytes};
 ghost use Rattle.std.specs.Iterator.{YieldsFirst, item_count};
 
@@ -48,11 +48,21 @@ impl<'a> ExactSizeIterator for Csrcs<'a> {
 impl<'a> RtpPacket<'a> {
     ghost use Rattle.rtp_wire.specs.PartsOf.{parts_of};
 
+    // The groups of bytes of the contributing sources.
+    pub(super) fn groups(&self) -> &'a [[u8; 4]]
+        ensures sources { map (from_be_bytes w32) result.now ≡ (parts_of self.now).sources }
+        ensures few { length result.now ≤ 15 }
+    {
+        let (groups, _) = self.datagram[12..sources_end(self.datagram[0])].as_chunks::<4>();
+        groups
+    }
+
     /// The contributing sources.
     pub fn csrc(&self) -> Csrcs<'a>
         ensures { result ≡ (parts_of self.now).sources }
     {
-        let (groups, _) = self.datagram[12..sources_end(self.datagram[0])].as_chunks::<4>();
-        Csrcs { left: groups }
+        Csrcs {
+            left: self.groups(),
+        }
     }
 }

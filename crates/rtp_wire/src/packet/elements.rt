@@ -1,6 +1,6 @@
 //! The block of a packet, and its elements.
 
-ghost use Rattle.std.specs.Prelude.{◌≡◌, List};
+ghost use Rattle.std.specs.Prelude.{◌≡◌, ◌<◌, ℕ, List, slice_index, IfSome};
 ghost use Rattle.std.specs.Option.{option_map};
 ghost use Rattle.rtp_ext.specs.Elements.{Element};
 ghost use Rattle.rtp_wire.specs.PacketElements.{AreElementsOf, IsLast};
@@ -13,8 +13,10 @@ impl<'a> RtpPacket<'a> {
     ghost use Rattle.rtp_wire.specs.PartsOf.{parts_of};
 
     // The form and the body of the block.
-    fn block(&self) -> Option<(ExtensionsForm, &'a [u8])>
-        ensures { option_map (λ block. (block.0, block.1.now)) result ≡ (parts_of self.now).block }
+    pub(super) fn block(&self) -> Option<(ExtensionsForm, &'a [u8])>
+        ensures parts { option_map (λ block. (block.0, block.1.now)) result
+            ≡ (parts_of self.now).block }
+        ensures bytes { IfSome result (λ block. (i : ℕ) → slice_index block.1.now i < 256) }
     {
         let Some(form) = self.form else {
             return None;

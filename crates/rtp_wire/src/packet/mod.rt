@@ -3,10 +3,12 @@
 mod csrcs;
 mod elements;
 mod fields;
+mod header;
 mod not_a_packet;
 mod parsing;
 mod payload;
 mod rtp_packet;
+mod values;
 
 pub use csrcs::Csrcs;
 pub use not_a_packet::NotAPacket;

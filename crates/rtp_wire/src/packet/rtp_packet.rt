@@ -1,6 +1,6 @@
 //! The packet as a value.
 
-ghost use Rattle.std.specs.Prelude.{◌≡◌, ◌/◌, ◌≤◌, length, slice_index, is_some};
+ghost use Rattle.std.specs.Prelude.{◌≡◌, ◌/◌, ◌<◌, ◌≤◌, ℕ, length, slice_index, is_some};
 ghost use Rattle.rtp_wire.specs.PartsAt.{form_in, has_block, header_end};
 
 use rtp_ext::ExtensionsForm;
@@ -14,6 +14,7 @@ pub struct RtpPacket<'a> {
     pub(super) header_len: usize,
     // The form of the block, where X is set.
     pub(super) form: Option<ExtensionsForm>,
+    ghost bytes: { (i : ℕ) → slice_index datagram.now i < 256 },
     ghost fixed: { 12 ≤ length datagram.now },
     ghost version: { slice_index datagram.now 0 / 64 ≡ 2 },
     ghost announced: { form ≡ form_in datagram.now },

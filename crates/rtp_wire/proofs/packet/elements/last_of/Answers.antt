@@ -1,4 +1,4 @@
-use Rattle.std.proofs.Common.{ap, sym, refl, ◌∙◌, subst, ℕ, List, Bor}
+use Rattle.std.proofs.Common.{subst, ℕ, List, Bor}
 use Rattle.std.proofs.lemmas.List.{map-append}
 use Rattle.std.proofs.lemmas.Iterator.Consumers.{YieldsList-from_first, YieldsList-end}
 use Rattle.rtp_ext.specs.Elements.{Element}

@@ -1,8 +1,7 @@
-use Rattle.std.proofs.Common.{arith, refl, sym, ap, ◌∙◌, ◌≡◌, subst, None, [], List, ℕ, Option}
-use Rattle.std.specs.Prelude.{option_map}
+use Rattle.std.proofs.Common.{arith, sym, ◌∙◌, ◌≡◌, subst, None, [], List, ℕ, Option}
 use Rattle.rtp_ext.specs.declared.ext.form.ExtensionsForm.{ExtensionsForm}
 use Rattle.rtp_ext.specs.declared.ext.form.ExtensionsForm.TheVariants.{OneByte}
-use Rattle.rtp_ext.specs.Elements.{Element, AreElements}
+use Rattle.rtp_ext.specs.Elements.{AreElements}
 use Rattle.rtp_ext.proofs.ElementLemmas.{elements_left-none}
 use Rattle.rtp_ext.proofs.ElementLemmasOfBodies.{AreElements-found}
 use Rattle.rtp_wire.specs.PacketElements.{AreElementsOf}
@@ -12,7 +11,7 @@ use Rattle.rtp_wire.proofs.packet.rtp_packet.RtpPacket.elements.Goals as goal
 -- there is no block, and the iterator has no element
 nothing : (c : goal.After-new-in-None) → (None ≡ (parts_of c.args.self.now).block) × ([] ≡ c.new-in-None.result)
 nothing c = (
-  (rw c.in-None.is at c.block.ensures),
+  (rw c.in-None.is at c.block.ensures.parts),
   c.new-in-None.ensures.only [] (subst (AreElements OneByte []) (elements_left-none OneByte) (AreElements-found OneByte [] (λ i. omega arith))),
 )
 

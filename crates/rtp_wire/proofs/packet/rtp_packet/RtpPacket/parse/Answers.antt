@@ -17,7 +17,7 @@ returns-in_default-clause-only c parts is =
 pub invariant_of-result : goal.invariant_of-result
 invariant_of-result c =
     let header = HasHeader-plain c.args.datagram.now c.sources_end-start.result c.if-datagram-lt12.false c.if-first-ne2.false c.sources_end-start.ensures c.in-Some.ensures.cases.0 c.if-first-eq0.true in
-    record { fixed = header.whole.fixed; version = header.whole.version; announced = header.announced; known = header.known; ends = header.ends; within = header.within }
+    record { bytes = λ i. omega (arith, c.type_inv.datagram i); fixed = header.whole.fixed; version = header.whole.version; announced = header.announced; known = header.known; ends = header.ends; within = header.within }
 
 pub returns-then-first-eq0-clause-found : goal.returns-then-first-eq0-clause-found
 returns-then-first-eq0-clause-found c =
@@ -51,7 +51,7 @@ invariant_of-result-2 c =
     let header = HasHeader-extended c.args.datagram.now c.in-Some.after.now c.sources_end-start.result c.in_ok-form.block_len c.in_ok-form.form
     c.if-datagram-lt12.false c.if-first-ne2.false c.sources_end-start.ensures c.in-Some.ensures.cases.0 c.in-Some.ensures.cases.2
     c.if-first-eq0.false c.in_ok-form.ensures.form c.in_ok-form.ensures.length c.in_ok-form.ensures.within in
-    record { fixed = header.whole.fixed; version = header.whole.version; announced = header.announced; known = header.known; ends = header.ends; within = header.within }
+    record { bytes = λ i. omega (arith, c.type_inv.datagram i); fixed = header.whole.fixed; version = header.whole.version; announced = header.announced; known = header.known; ends = header.ends; within = header.within }
 
 -- the packet with a block
 extended : (c : goal.After-result-2-1) → IsPacket c.args.datagram.now (parts_at c.args.datagram.now)
