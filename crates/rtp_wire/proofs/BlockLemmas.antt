@@ -1,9 +1,9 @@
--- Words of two and of four bytes.
+-- Words of two bytes, and parts of a list of bytes.
 use Rattle.std.proofs.Common.{◌≡◌, ℕ, ◌+◌, ◌-◌, ◌*◌, ◌<◌, ◌≤◌, List, take, drop, get_or, sym, ap, ◌∙◌, arith, length-take, add-zero, inl, inr}
 use Rattle.std.specs.Prelude.{slice_index, slice_range}
 use Rattle.std.proofs.lemmas.Bool.{cases_lt}
 use Rattle.std.proofs.lemmas.List.{get_or-take, get_or-drop, get_or_past, drop-take, take-take}
-use Rattle.std.specs.Int.{w16, w32, from_be_bytes}
+use Rattle.std.specs.Int.{w16, from_be_bytes}
 use Rattle.rtp_wire.specs.Block.{word_at}
 
 -- a part of a front is that part of the whole
@@ -19,25 +19,6 @@ pub word_at-cells : (bytes : List ℕ) (offset : ℕ) → word_at bytes offset �
 word_at-cells bytes offset =
     let two : offset + 2 - offset ≡ 2 = omega arith in
     rw (two, get_or-take 2 (drop offset bytes) 0 0 (omega arith), get_or-take 2 (drop offset bytes) 1 0 (omega arith), get_or-drop offset bytes 0 0, get_or-drop offset bytes 1 0, add-zero offset) (omega arith)
-
--- a word of four bytes by its bytes
-pub quad-cells : (bytes : List ℕ) (offset : ℕ) → from_be_bytes w32 (slice_range bytes offset (offset + 4))
-    ≡ slice_index bytes offset * 16777216 + slice_index bytes (offset + 1) * 65536 + slice_index bytes (offset + 2) * 256 + slice_index bytes (offset + 3)
-quad-cells bytes offset =
-    let four : offset + 4 - offset ≡ 4 = omega arith in
-    let part = drop offset bytes in
-    rw (
-      four,
-      get_or-take 4 part 0 0 (omega arith),
-      get_or-take 4 part 1 0 (omega arith),
-      get_or-take 4 part 2 0 (omega arith),
-      get_or-take 4 part 3 0 (omega arith),
-      get_or-drop offset bytes 0 0,
-      get_or-drop offset bytes 1 0,
-      get_or-drop offset bytes 2 0,
-      get_or-drop offset bytes 3 0,
-      add-zero offset,
-    ) (omega arith)
 
 pub word_at-take : (bytes : List ℕ) (offset n : ℕ) → offset + 2 ≤ n → word_at (take n bytes) offset ≡ word_at bytes offset
 word_at-take bytes offset n fits =

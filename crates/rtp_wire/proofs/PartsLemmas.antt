@@ -1,5 +1,5 @@
 -- The parts of a packet, as the calls on it find them.
-use Rattle.std.proofs.Common.{◌≡◌, ℕ, ◌+◌, ◌-◌, ◌*◌, ◌/◌, ◌%◌, ◌≤◌, Bool, true, false, List, length, map, take, drop, Option, Some, None, refl, sym, ap, ◌∙◌, subst, arith, ◌++◌, length-append, length-drop, length-take, length-take-le}
+use Rattle.std.proofs.Common.{◌≡◌, ℕ, ◌+◌, ◌-◌, ◌*◌, ◌/◌, ◌%◌, ◌≤◌, Bool, true, false, List, length, take, drop, Option, Some, None, sym, ap, ◌∙◌, subst, arith, ◌++◌, length-append, length-drop, length-take-le}
 use Rattle.std.specs.Prelude.{slice_index, slice_range, is_some, option_map}
 use Rattle.std.specs.Int.{w32, from_be_bytes}
 use Rattle.std.specs.List.{concat}
@@ -11,7 +11,7 @@ use Rattle.rtp_wire.specs.NotAHeader.{sources_end}
 use Rattle.rtp_wire.specs.Packet.{PacketParts, IsAnnounced, IsPacket, block_len, header_len_of}
 use Rattle.rtp_wire.specs.PartsOf.{parts_of}
 use Rattle.rtp_wire.specs.PartsAt.{has_block, form_in, header_end, parts_at}
-use Rattle.rtp_wire.proofs.GroupLemmas.{length-concat, length-first_chunks, first_chunks-take}
+use Rattle.rtp_wire.proofs.GroupLemmas.{length-concat, first_chunks-take}
 use Rattle.rtp_wire.proofs.PacketLemmas.{IsWhole, IsPacket-whole}
 
 -- a packet's datagram is whole
