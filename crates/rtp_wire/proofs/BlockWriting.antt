@@ -1,5 +1,5 @@
 -- A block as it is put into a buffer, and that it is a block.
-use Rattle.std.proofs.Common.{◌≡◌, ℕ, ◌+◌, ◌-◌, ◌/◌, ◌%◌, ◌<◌, ◌≤◌, List, ◌++◌, length, take, drop, replicate, refl, sym, ap, ◌∙◌, arith, length-append, true}
+use Rattle.std.proofs.Common.{◌≡◌, ℕ, ◌+◌, ◌-◌, ◌/◌, ◌%◌, ◌<◌, ◌≤◌, List, ◌++◌, length, take, drop, replicate, refl, sym, ap, ◌∙◌, arith, length-append, true, Some}
 use Rattle.std.specs.Int.{w16, to_be_bytes}
 use Rattle.std.proofs.lemmas.List.{length-replicate}
 use Rattle.std.proofs.lemmas.Nat.{from_be_bytes-to_be_bytes_2}
@@ -11,7 +11,8 @@ use Rattle.rtp_ext.specs.Form.{form_word}
 use Rattle.rtp_ext.specs.Elements.{AreElements, elements_bytes}
 use Rattle.rtp_ext.specs.BlockValues.{AreValues}
 use Rattle.rtp_values.specs.Values.{no_values}
-use Rattle.rtp_wire.specs.Block.{IsBlock, IsExtensionPart}
+use Rattle.rtp_wire.specs.Block.{IsBlock}
+use Rattle.rtp_wire.specs.Header.{IsExtensionPart}
 use Rattle.rtp_base.specs.Overwriting.{overwritten}
 use Rattle.rtp_ext.specs.WrittenBlock.{written_elements, form_of, padding_of, body_bytes, block_bytes, image_values}
 use Rattle.rtp_base.proofs.OverwritingLemmas.{overwritten-overwritten, overwritten-before, overwritten-front, overwritten-rest, length-overwritten}
@@ -50,14 +51,15 @@ pub IsExtensionPart-written : (exts : ExtensionMap) (values : ExtensionValues) (
     → IsExtensionPart exts true (block_bytes exts values) (image_values exts values)
 unfolding block_bytes
 IsExtensionPart-written exts values n is few elements are_values =
-    let len = length-body exts values n is in (
-      form_of exts values,
-      body_bytes exts values,
-      written_elements exts values,
-      IsBlock-made (form_of exts values) (body_bytes exts values) (omega arith) (omega arith),
-      elements (padding_of (length (elements_bytes (form_of exts values) (written_elements exts values)))),
-      are_values,
-    )
+    let len = length-body exts values n is in record {
+      block = Some (form_of exts values, body_bytes exts values);
+      is_part = IsBlock-made (form_of exts values) (body_bytes exts values) (omega arith) (omega arith);
+      has_values = record {
+        elements = written_elements exts values;
+        are_elements = elements (padding_of (length (elements_bytes (form_of exts values) (written_elements exts values))));
+        are_values = are_values;
+      };
+    }
 
 -- the elements, the zeros after them and the header in front of them
 pub block-put : (exts : ExtensionMap) (values : ExtensionValues) (buf one two three header : List ℕ) (form : ExtensionsForm) (n len : ℕ)

@@ -3,10 +3,10 @@ use Rattle.std.proofs.Common.{◌≡◌, ℕ, zero, suc, ◌*◌, ◌/◌, ◌%�
 use Rattle.std.proofs.Math.Bool.{not}
 use Rattle.std.proofs.Math.Nat.{zero-mul, one-mul}
 use Rattle.std.proofs.lemmas.Bool.{ne_eqb}
-use Rattle.std.proofs.lemmas.Nat.{pow_pos, and_mask}
+use Rattle.std.proofs.lemmas.Nat.{pow_pos}
 use Rattle.std.proofs.lemmas.Nat.Bits.{and_pow, bit_at-lt}
 use Rattle.rtp_base.specs.Flag.{bit}
-use Rattle.rtp_wire.specs.Header.{IsFirstByte, IsSecondByte}
+use Rattle.rtp_wire.specs.Packet.{IsFirstByte, IsSecondByte}
 
 -- one digit of base 2, by its test
 bit-digit : (digit worth : ℕ) → digit < 2 → 0 < worth → bit (not (nat_eq (digit * worth) 0)) ≡ digit
@@ -15,17 +15,8 @@ bit-digit (suc zero) worth small above = rw (one-mul worth, ne_eqb worth 0 (λ e
 bit-digit (suc (suc digit)) worth small above = absurd (omega arith)
 
 -- a test by a mask of one bit gives that bit
-bit-mask : (n k : ℕ) → bit (not (nat_eq (bit_and n (2 ^ k)) 0)) ≡ n / 2 ^ k % 2
+pub bit-mask : (n k : ℕ) → bit (not (nat_eq (bit_and n (2 ^ k)) 0)) ≡ n / 2 ^ k % 2
 bit-mask n k = ap (λ m. bit (not (nat_eq m 0))) (and_pow n k) ∙ bit-digit (n / 2 ^ k % 2) (2 ^ k) (bit_at-lt n k) (pow_pos k)
-
--- the flags of a byte of version 2 are those that the masks test
-pub IsFirstByte-from_masks : (byte count : ℕ) → byte < 256 → byte / 64 ≡ 2 → count ≡ bit_and byte 15
-    → IsFirstByte byte (not (nat_eq (bit_and byte 32) 0)) (not (nat_eq (bit_and byte 16) 0)) count
-IsFirstByte-from_masks byte count fits version is =
-    let padding : bit (not (nat_eq (bit_and byte 32) 0)) ≡ byte / 32 % 2 = bit-mask byte 5 in
-    let extension : bit (not (nat_eq (bit_and byte 16) 0)) ≡ byte / 16 % 2 = bit-mask byte 4 in
-    let low : bit_and byte 15 ≡ byte % 16 = and_mask byte 4 in
-    record { sum = rw (padding, extension) (omega arith); few = omega arith }
 
 -- a bit is one flag's
 pub bit-once : (a b : Bool) → bit a ≡ bit b → a ≡ b

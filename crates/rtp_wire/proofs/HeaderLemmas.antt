@@ -1,71 +1,78 @@
--- A header by the offsets of its parts: it is the header of the split, it is one, and what is refused has none.
-use Rattle.std.proofs.Common.{◌≡◌, ℕ, ◌+◌, ◌*◌, ◌≤◌, List, ◌++◌, length, take, drop, refl, sym, ap, ◌∙◌, subst, arith, length-append, length-drop, take_at, drop_at}
-use Rattle.std.specs.List.{concat}
-use Rattle.std.specs.Simd.{first_chunks}
-use Rattle.std.proofs.lemmas.List.{take-append-drop, drop-drop}
+-- The header of a packet is one, bytes that are refused begin with none, and its values are one.
+use Rattle.std.proofs.Common.{◌≡◌, ℕ, Bool, List, Option, Some, None, refl, sym, ap, ◌∙◌, subst}
+use Rattle.std.specs.Prelude.{slice_range}
+use Rattle.std.specs.Int.{w32, from_be_bytes}
+use Rattle.rtp_ext.specs.declared.ext.form.ExtensionsForm.{ExtensionsForm}
 use Rattle.rtp_ext.specs.declared.ext.map.ExtensionMap.{ExtensionMap}
+use Rattle.rtp_values.specs.declared.value.values.ExtensionValues.{ExtensionValues}
 use Rattle.rtp_wire.specs.declared.header.rtp_header.RtpHeader.{RtpHeader}
-use Rattle.rtp_wire.specs.Header.{IsFixed, AreSources, IsWire}
-use Rattle.rtp_wire.specs.Reading.{HasExtensionPart}
-use Rattle.rtp_wire.proofs.GroupLemmas.{concat-first_chunks, length-concat, first_chunks-concat}
+use Rattle.rtp_ext.specs.Elements.{Element}
+use Rattle.rtp_ext.specs.BlockValues.{AreValues}
+use Rattle.rtp_values.specs.Values.{no_values}
+use Rattle.rtp_wire.specs.Block.{word_at}
+use Rattle.rtp_wire.specs.NotAHeader.{NotAHeader}
+use Rattle.rtp_wire.specs.Packet.{PacketParts}
+use Rattle.rtp_wire.specs.PacketElements.{AreElementsOf, HasValues}
+use Rattle.rtp_wire.specs.PartsAt.{parts_at}
+use Rattle.rtp_wire.specs.Header.{header_of, IsHeaderOf, IsWire}
+use Rattle.rtp_ext.proofs.ElementLemmasOfBodies.{AreElements-only}
+use Rattle.rtp_ext.proofs.ValuesLaws.{one_values}
+use Rattle.rtp_wire.proofs.NotAPacketLemmas.{no_packet-refused}
+use Rattle.rtp_wire.proofs.PacketLemmas.{one_packet}
 
--- the parts of a header, counted from the front
-pub record IsLaidOut (exts : ExtensionMap) (bytes : List ℕ) (h : RtpHeader) : Type 0 where
-  pub fits : 12 + 4 * h.csrc_count ≤ length bytes
-  pub fixed_is : IsFixed (take 12 bytes) h
-  pub sources_are : AreSources (first_chunks 4 h.csrc_count (drop 12 bytes)) h.csrc_count h.csrc
-  pub part_len : ℕ
-  pub part_is : HasExtensionPart exts h.has_extension (drop (12 + 4 * h.csrc_count) bytes) h.ext_vals part_len
-  pub header_len_is : h.header_len ≡ 12 + 4 * h.csrc_count + part_len
+-- a block has one list of elements
+one_list : (block : Option (ExtensionsForm × List ℕ)) (a b : List Element) → AreElementsOf block a → AreElementsOf block b → a ≡ b
+one_list None a b a-is b-is = a-is ∙ sym b-is
+one_list (Some block) a b a-are b-are = AreElements-only block.0 block.1 a a-are ∙ sym (AreElements-only block.0 block.1 b b-are)
 
-pub IsWire-from_layout : (exts : ExtensionMap) (bytes : List ℕ) (h : RtpHeader) → IsLaidOut exts bytes h → IsWire exts bytes h
-IsWire-from_layout exts bytes h at =
-    let sources = 4 * h.csrc_count in
-    let after = drop (12 + sources) bytes in
-    let behind : drop sources (drop 12 bytes) ≡ after = drop-drop sources 12 bytes in
-    record {
-      fixed = take 12 bytes;
-      groups = first_chunks 4 h.csrc_count (drop 12 bytes);
-      part = take at.part_len after;
-      rest = drop at.part_len after;
-      in_order =
-          sym (take-append-drop 12 bytes)
-          ∙ ap (λ (ys : List ℕ). take 12 bytes ++ ys)
-          (sym (take-append-drop sources (drop 12 bytes))
-          ∙ ap (λ (ys : List ℕ). ys ++ drop sources (drop 12 bytes)) (sym (concat-first_chunks h.csrc_count (drop 12 bytes)))
-          ∙ ap (λ (ys : List ℕ). concat (first_chunks 4 h.csrc_count (drop 12 bytes)) ++ ys) (behind ∙ sym (take-append-drop at.part_len after)));
-      fixed_is = at.fixed_is;
-      sources_are = at.sources_are;
-      part_is = at.part_is.is_part;
-      header_len_is = omega (arith, at.header_len_is, at.part_is.fits, at.fits, length-drop at.part_len after, length-drop (12 + sources) bytes);
-    }
+-- and gives one set of values
+pub one_value : (exts : ExtensionMap) (block : Option (ExtensionsForm × List ℕ)) (v w : ExtensionValues) → HasValues exts block v → HasValues exts block w → v ≡ w
+one_value exts block v w has-v has-w =
+    one_values exts has-w.elements no_values v w
+    (subst (λ (es : List Element). AreValues exts es no_values v) (one_list block has-v.elements has-w.elements has-v.are_elements has-w.are_elements) has-v.are_values)
+    has-w.are_values
 
--- the offsets of the parts of a split
-pub layout_of : (exts : ExtensionMap) (bytes : List ℕ) (h : RtpHeader) → IsWire exts bytes h → IsLaidOut exts bytes h
-layout_of exts bytes h wire =
-    let count = h.csrc_count in
-    let behind = wire.part ++ wire.rest in
-    let four = wire.sources_are.of_four in
-    let fixed : take 12 bytes ≡ wire.fixed =
-    ap (λ (xs : List ℕ). take 12 xs) wire.in_order ∙ take_at wire.fixed (concat wire.groups ++ behind) 12 wire.fixed_is.twelve in
-    let sources : drop 12 bytes ≡ concat wire.groups ++ behind =
-    ap (λ (xs : List ℕ). drop 12 xs) wire.in_order ∙ drop_at wire.fixed (concat wire.groups ++ behind) 12 wire.fixed_is.twelve in
-    let groups_len : length (concat wire.groups) ≡ 4 * count =
-    length-concat wire.groups four ∙ ap (λ (k : ℕ). 4 * k) wire.sources_are.count_is in
-    let groups : first_chunks 4 count (drop 12 bytes) ≡ wire.groups =
-    ap (λ (k : ℕ). first_chunks 4 k (drop 12 bytes)) (sym wire.sources_are.count_is)
-    ∙ ap (λ (xs : List ℕ). first_chunks 4 (length wire.groups) xs) sources ∙ first_chunks-concat wire.groups behind four in
-    let after : drop (12 + 4 * count) bytes ≡ behind =
-    sym (drop-drop (4 * count) 12 bytes) ∙ ap (λ (xs : List ℕ). drop (4 * count) xs) sources ∙ drop_at (concat wire.groups) behind (4 * count) groups_len in
-    let all : length bytes ≡ 12 + (4 * count + length behind) =
-    ap length wire.in_order ∙ omega (arith, length-append wire.fixed (concat wire.groups ++ behind), length-append (concat wire.groups) behind, groups_len, wire.fixed_is.twelve) in
-    let parts : length behind ≡ length wire.part + length wire.rest = length-append wire.part wire.rest in
-    record {
-      fits = omega arith;
-      fixed_is = subst (λ (xs : List ℕ). IsFixed xs h) (sym fixed) wire.fixed_is;
-      sources_are = subst (λ (xs : List (List ℕ)). AreSources xs count h.csrc) (sym groups) wire.sources_are;
-      part_len = length wire.part;
-      part_is = subst (λ (xs : List ℕ). HasExtensionPart exts h.has_extension xs h.ext_vals (length wire.part)) (sym after)
-          (record { fits = omega arith; is_part = rw (take_at wire.part wire.rest (length wire.part) refl) wire.part_is });
-      header_len_is = omega (arith, wire.header_len_is);
-    }
+-- parts have one header
+pub one_header-parts : (exts : ExtensionMap) (parts : PacketParts) (h g : RtpHeader) → IsHeaderOf exts parts h → IsHeaderOf exts parts g → h ≡ g
+one_header-parts exts parts h g is-h is-g =
+    is-h.fields_are ∙ ap (header_of parts) (one_value exts parts.block h.ext_vals g.ext_vals is-h.values_are is-g.values_are) ∙ sym is-g.fields_are
+
+-- bytes begin with one header at most
+pub one_header : (exts : ExtensionMap) (bytes : List ℕ) (h g : RtpHeader) → IsWire exts bytes h → IsWire exts bytes g → h ≡ g
+one_header exts bytes h g wire-h wire-g =
+    let same : wire-h.parts ≡ wire-g.parts = sym (one_packet bytes wire-h.parts wire-h.is_packet) ∙ one_packet bytes wire-g.parts wire-g.is_packet in
+    one_header-parts exts wire-g.parts h g (subst (λ (parts : PacketParts). IsHeaderOf exts parts h) same wire-h.is_header) wire-g.is_header
+
+-- bytes that are refused begin with no header
+pub no_header : (exts : ExtensionMap) (bytes : List ℕ) (h : RtpHeader) → NotAHeader bytes → IsWire exts bytes h → ⊥
+no_header exts bytes h none wire = no_packet-refused bytes wire.parts none wire.is_packet
+
+-- the header that is made of a packet's parts and the values of its block
+pub IsHeaderOf-made : (exts : ExtensionMap) (parts : PacketParts) (values : ExtensionValues) (h : RtpHeader) → h ≡ header_of parts values
+    → HasValues exts parts.block values → IsHeaderOf exts parts h
+IsHeaderOf-made exts parts values h is has =
+    subst (IsHeaderOf exts parts) (sym is) (record { fields_are = refl; values_are = has })
+
+-- a header by its fields
+unfoldable whole : ℕ → Bool → Bool → ℕ → Bool → ℕ → ℕ → ℕ → ℕ → List ℕ → ExtensionValues → ℕ → RtpHeader
+whole version padding extension count marker payload_type number timestamp ssrc slots values len = record { version = version; has_padding = padding; has_extension = extension; csrc_count = count; marker = marker; payload_type = payload_type; sequence_number = number; timestamp = timestamp; ssrc = ssrc; csrc = slots; ext_vals = values; header_len = len }
+
+-- headers with the same fields are one
+pub same_header : (h g : RtpHeader) → h.version ≡ g.version → h.has_padding ≡ g.has_padding → h.has_extension ≡ g.has_extension → h.csrc_count ≡ g.csrc_count
+    → h.marker ≡ g.marker → h.payload_type ≡ g.payload_type → h.sequence_number ≡ g.sequence_number → h.timestamp ≡ g.timestamp → h.ssrc ≡ g.ssrc
+    → h.csrc ≡ g.csrc → h.ext_vals ≡ g.ext_vals → h.header_len ≡ g.header_len → h ≡ g
+unfolding whole
+same_header h g version padding extension count marker payload_type number timestamp ssrc slots values len =
+    let fields : whole h.version h.has_padding h.has_extension h.csrc_count h.marker h.payload_type h.sequence_number h.timestamp h.ssrc h.csrc h.ext_vals h.header_len ≡ whole g.version g.has_padding g.has_extension g.csrc_count g.marker g.payload_type g.sequence_number g.timestamp g.ssrc g.csrc g.ext_vals g.header_len = cc in
+    fields
+
+-- the number and the source of a header, by their offsets
+pub number-wire : (exts : ExtensionMap) (bytes : List ℕ) (h : RtpHeader) → IsWire exts bytes h → h.sequence_number ≡ word_at bytes 2
+unfolding parts_at
+number-wire exts bytes h wire =
+    ap (λ (g : RtpHeader). g.sequence_number) wire.is_header.fields_are ∙ ap (λ (parts : PacketParts). parts.sequence_number) (sym (one_packet bytes wire.parts wire.is_packet))
+
+pub ssrc-wire : (exts : ExtensionMap) (bytes : List ℕ) (h : RtpHeader) → IsWire exts bytes h → h.ssrc ≡ from_be_bytes w32 (slice_range bytes 8 12)
+unfolding parts_at
+ssrc-wire exts bytes h wire =
+    ap (λ (g : RtpHeader). g.ssrc) wire.is_header.fields_are ∙ ap (λ (parts : PacketParts). parts.ssrc) (sym (one_packet bytes wire.parts wire.is_packet))

@@ -1,9 +1,13 @@
 mod FlagLemmas
 mod GroupLemmas
 mod BlockLemmas
+mod PacketLemmas
+mod PartsLemmas
+mod PacketElementsLemmas
+mod HeaderFound
+mod NotAPacketLemmas
+mod ValuesLemmas
 mod HeaderLemmas
-mod OneHeader
-mod ParseLemmas
 mod BlockWriting
 mod RoundTrip
 mod PaddingLemmas

@@ -8,7 +8,7 @@ use Rattle.std.proofs.lemmas.Nat.{div-add-mod', and_le_r, or_disjoint, or_shr, o
 use Rattle.std.proofs.lemmas.Nat.Bits.{bit_at_or}
 use Rattle.rtp_base.specs.Overwriting.{overwritten}
 use Rattle.rtp_base.proofs.OverwritingLemmas.{length-overwritten, overwritten-overwritten, overwritten-set}
-use Rattle.rtp_wire.specs.Header.{IsFirstByte}
+use Rattle.rtp_wire.specs.Packet.{IsFirstByte}
 use Rattle.rtp_wire.specs.Padding.{padding_bytes, with_padding_bit, padding_count, IsInBlocks, IsPaddingLength, IsUnpadded}
 
 -- ---- the length

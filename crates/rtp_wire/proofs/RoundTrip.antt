@@ -1,14 +1,17 @@
 -- What is written, followed by anything, is read as the image of the header.
-use Rattle.std.proofs.Common.{◌≡◌, ℕ, suc, get_or, ◌+◌, ◌-◌, ◌*◌, ◌^◌, ◌<◌, ◌≤◌, List, [], ◌∷◌, ◌++◌, length, take, drop, refl, sym, ap, ◌∙◌, arith, append_assoc, length-append, length-take-le}
+use Rattle.std.proofs.Common.{◌≡◌, ℕ, suc, get_or, ◌+◌, ◌-◌, ◌*◌, ◌^◌, ◌<◌, ◌≤◌, List, [], ◌∷◌, ◌++◌, length, take, drop, refl, sym, ap, ◌∙◌, arith, append_assoc, length-append, length-take-le, Option}
 use Rattle.std.specs.Prelude.{map, replicate, slice_index}
 use Rattle.std.specs.List.{flat_map, concat, AllByRecursion}
 use Rattle.std.specs.Int.{w32, to_be_bytes, from_be_bytes}
-use Rattle.std.proofs.lemmas.List.{length-map}
 use Rattle.std.proofs.lemmas.Nat.{from_be_bytes-to_be_bytes_2, from_be_bytes-to_be_bytes_4}
 use Rattle.rtp_ext.specs.declared.ext.map.ExtensionMap.{ExtensionMap}
 use Rattle.rtp_wire.specs.declared.header.rtp_header.RtpHeader.{RtpHeader}
-use Rattle.rtp_wire.specs.Block.{IsExtensionPart}
-use Rattle.rtp_wire.specs.Header.{IsFirstByte, IsFixed, IsWire}
+use Rattle.rtp_values.specs.declared.value.values.ExtensionValues.{ExtensionValues}
+use Rattle.rtp_ext.specs.declared.ext.form.ExtensionsForm.{ExtensionsForm}
+use Rattle.rtp_wire.specs.Header.{IsExtensionPart, header_of, IsWire}
+use Rattle.rtp_wire.specs.Packet.{PacketParts, IsFirstByte, IsFixedPart, IsAnnounced, IsPacket, header_len_of}
+use Rattle.rtp_wire.proofs.HeaderLemmas.{IsHeaderOf-made}
+use Rattle.rtp_wire.proofs.PartsLemmas.{length-announced}
 use Rattle.rtp_base.specs.Overwriting.{overwritten}
 use Rattle.rtp_wire.specs.Written.{fixed_bytes, source_bytes, extension_bytes, wire_bytes, carried_image, image_of}
 use Rattle.rtp_wire.proofs.GroupLemmas.{AreFours}
@@ -65,44 +68,75 @@ AllByRecursion-from_each (x ∷ xs) fits = (fits 0, AllByRecursion-from_each xs 
 
 -- ---- the header
 
-fixed-back : (h : RtpHeader) (exts : ExtensionMap) → IsInRange h → IsFixed (fixed_bytes h) (image_of exts h)
-unfolding image_of
-fixed-back h exts fits = record {
+-- the parts of a written header, with this block, and this payload behind it
+abbrev written_parts : RtpHeader → Option (ExtensionsForm × List ℕ) → List ℕ → PacketParts
+written_parts h block payload = record {
+  has_padding = h.has_padding;
+  has_extension = h.has_extension;
+  marker = h.marker;
+  payload_type = h.payload_type;
+  sequence_number = h.sequence_number;
+  timestamp = h.timestamp;
+  ssrc = h.ssrc;
+  sources = take h.csrc_count h.csrc;
+  block = block;
+  payload = payload;
+}
+
+number : (h : RtpHeader) → IsInRange h → length (take h.csrc_count h.csrc) ≡ h.csrc_count
+number h fits = length-take-le h.csrc_count h.csrc (omega (arith, fits.count, fits.slots))
+
+fixed-back : (h : RtpHeader) (block : Option (ExtensionsForm × List ℕ)) (payload : List ℕ) → IsInRange h → IsFixedPart (fixed_bytes h) (written_parts h block payload)
+fixed-back h block payload fits = record {
   twelve = refl;
-  version_is = refl;
-  first_is = record { sum = refl; few = fits.count };
+  first_is = rw (number h fits) (record { sum = refl; few = fits.count });
   second_is = record { sum = refl; few = fits.payload_type };
   number_is = sym (from_be_bytes-to_be_bytes_2 h.sequence_number fits.number);
   timestamp_is = sym (from_be_bytes-to_be_bytes_4 h.timestamp fits.timestamp);
   ssrc_is = sym (from_be_bytes-to_be_bytes_4 h.ssrc fits.ssrc);
 }
 
-pub IsWire-written : (h : RtpHeader) (exts : ExtensionMap) (rest : List ℕ) → IsInRange h
-    → IsExtensionPart exts h.has_extension (extension_bytes exts h.has_extension h.ext_vals) (carried_image exts h.has_extension h.ext_vals)
-    → IsWire exts (wire_bytes exts h ++ rest) (image_of exts h)
-unfolding wire_bytes image_of
-IsWire-written h exts rest fits part =
+packet-written : (h : RtpHeader) (exts : ExtensionMap) (block : Option (ExtensionsForm × List ℕ)) (rest : List ℕ) → IsInRange h
+    → IsAnnounced h.has_extension block (extension_bytes exts h.has_extension h.ext_vals) → IsPacket (wire_bytes exts h ++ rest) (written_parts h block rest)
+unfolding wire_bytes
+packet-written h exts block rest fits part =
     let sources = take h.csrc_count h.csrc in
-    let block = extension_bytes exts h.has_extension h.ext_vals in
-    let number : length sources ≡ h.csrc_count = length-take-le h.csrc_count h.csrc (omega (arith, fits.count, fits.slots)) in
+    let bytes = extension_bytes exts h.has_extension h.ext_vals in
     record {
       fixed = fixed_bytes h;
       groups = map (to_be_bytes w32) sources;
-      part = block;
-      rest = rest;
+      part = bytes;
       in_order =
-          append_assoc (fixed_bytes h) (source_bytes h ++ block) rest
+          append_assoc (fixed_bytes h) (source_bytes h ++ bytes) rest
           ∙ ap (λ (ys : List ℕ). fixed_bytes h ++ ys)
-          (append_assoc (source_bytes h) block rest ∙ ap (λ (ys : List ℕ). ys ++ (block ++ rest)) (sym (concat-numbers sources)));
-      fixed_is = fixed-back h exts fits;
-      sources_are = record {
-        count_is = length-map sources (to_be_bytes w32) ∙ number;
-        of_four = AreFours-numbers sources;
-        slots_are = ap (λ (xs : List ℕ). xs ++ replicate (15 - h.csrc_count) 0) (sym (numbers-back sources fits.sources));
-      };
+          (append_assoc (source_bytes h) bytes rest ∙ ap (λ (ys : List ℕ). ys ++ (bytes ++ rest)) (sym (concat-numbers sources)));
+      fixed_is = fixed-back h block rest fits;
+      sources_are = record { of_four = AreFours-numbers sources; numbers_are = sym (numbers-back sources fits.sources) };
       part_is = part;
-      header_len_is = sym (length-append (wire_bytes exts h) rest);
     }
+
+-- the image, by how many sources there are and how long it is
+unfoldable image_with : RtpHeader → ExtensionValues → ℕ → ℕ → RtpHeader
+image_with h values count len = record h { version = 2; csrc_count = count; csrc = take h.csrc_count h.csrc ++ replicate (15 - count) 0; ext_vals = values; header_len = len }
+
+image-parts : (h : RtpHeader) (exts : ExtensionMap) (block : Option (ExtensionsForm × List ℕ)) (rest : List ℕ) → IsInRange h
+    → IsAnnounced h.has_extension block (extension_bytes exts h.has_extension h.ext_vals)
+    → image_of exts h ≡ header_of (written_parts h block rest) (carried_image exts h.has_extension h.ext_vals)
+unfolding image_of image_with
+image-parts h exts block rest fits part =
+    let values = carried_image exts h.has_extension h.ext_vals in
+    let len : length (wire_bytes exts h) ≡ header_len_of (written_parts h block rest) =
+    omega (arith, length-wire_bytes exts h (omega (arith, fits.count, fits.slots)), length-announced h.has_extension block (extension_bytes exts h.has_extension h.ext_vals) part, number h fits) in
+    ap (λ (k : ℕ). image_with h values k (length (wire_bytes exts h))) (sym (number h fits)) ∙ ap (image_with h values (length (take h.csrc_count h.csrc))) len
+
+pub IsWire-written : (h : RtpHeader) (exts : ExtensionMap) (rest : List ℕ) → IsInRange h
+    → IsExtensionPart exts h.has_extension (extension_bytes exts h.has_extension h.ext_vals) (carried_image exts h.has_extension h.ext_vals)
+    → IsWire exts (wire_bytes exts h ++ rest) (image_of exts h)
+IsWire-written h exts rest fits part = record {
+  parts = written_parts h part.block rest;
+  is_packet = packet-written h exts part.block rest fits part.is_part;
+  is_header = IsHeaderOf-made exts (written_parts h part.block rest) (carried_image exts h.has_extension h.ext_vals) (image_of exts h) (image-parts h exts part.block rest fits part.is_part) part.has_values;
+}
 
 -- V, P, X and CC in the first byte
 pub IsFirstByte-written : (h : RtpHeader) (exts : ExtensionMap) (bytes rest : List ℕ) → bytes ≡ wire_bytes exts h ++ rest → h.csrc_count ≤ 15

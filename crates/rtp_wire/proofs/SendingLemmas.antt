@@ -9,8 +9,7 @@ use Rattle.rtp_wire.specs.Written.{image_of}
 use Rattle.rtp_wire.specs.Verdicts.{PacketId, packet_id_of, IsPacketId, ArePacketIds, IsRun, AreVerdicts}
 use Rattle.rtp_wire.specs.TrueNumbers.{AreTrueVerdicts}
 use Rattle.rtp_wire.specs.Sending.{Arrives, packet_ids_of, AreSent}
-use Rattle.rtp_wire.proofs.HeaderLemmas.{layout_of}
-use Rattle.rtp_wire.proofs.OneHeader.{one_header}
+use Rattle.rtp_wire.proofs.HeaderLemmas.{one_header}
 use Rattle.rtp_wire.proofs.TrueNumberLemmas.{AreTrueVerdicts-run}
 
 packet_id-image : (exts : ExtensionMap) (h : RtpHeader) → packet_id_of (image_of exts h) ≡ packet_id_of h
@@ -21,7 +20,7 @@ packet_id_sent : (exts : ExtensionMap) (h : RtpHeader) (datagram : List ℕ) (pa
     → packet_id ≡ Some (packet_id_of h)
 packet_id_sent exts h datagram None arrives read = absurd (read (image_of exts h) arrives)
 packet_id_sent exts h datagram (Some packet_id) arrives read =
-    ap Some (read.packet_id_is ∙ ap packet_id_of (one_header exts datagram read.header (image_of exts h) (layout_of exts datagram read.header read.wire) arrives) ∙ packet_id-image exts h)
+    ap Some (read.packet_id_is ∙ ap packet_id_of (one_header exts datagram read.header (image_of exts h) read.wire arrives) ∙ packet_id-image exts h)
 
 pub packet_ids_sent : (exts : ExtensionMap) (headers : List RtpHeader) (datagrams : List (List ℕ)) (packet_ids : List (Option PacketId)) → AllZip (Arrives exts) headers datagrams
     → ArePacketIds exts datagrams packet_ids → packet_ids ≡ packet_ids_of headers

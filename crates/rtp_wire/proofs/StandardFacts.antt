@@ -1,5 +1,5 @@
 -- Worked rows, computed from the definitions.
-use Rattle.std.proofs.Common.{◌≡◌, ℕ, None, true, false, List, [], ◌∷◌, ◌++◌, length, replicate, refl, arith}
+use Rattle.std.proofs.Common.{◌≡◌, ℕ, None, Some, true, false, List, [], ◌∷◌, ◌++◌, length, replicate, refl, arith}
 use Rattle.rtp_ext.specs.declared.ext.form.ExtensionsForm.{ExtensionsForm}
 use Rattle.rtp_ext.specs.declared.ext.form.ExtensionsForm.TheVariants.{OneByte, TwoByte}
 use Rattle.rtp_ext.specs.declared.ext.map.ExtensionMap.{ExtensionMap}
@@ -19,57 +19,62 @@ use Rattle.rtp_ext.proofs.ValuesLaws.{AreValues-none}
 abbrev zeros : ℕ → List ℕ
 zeros n = replicate n 0
 
--- a plain header of twelve bytes, with two bytes behind it
+-- a plain header of twelve bytes, with two bytes after it
 plain_row : (exts : ExtensionMap) → IsWire exts (128 ∷ 33 ∷ 183 ∷ 152 ∷ 0 ∷ 0 ∷ 39 ∷ 16 ∷ 0 ∷ 0 ∷ 0 ∷ 44 ∷ 7 ∷ 7 ∷ [])
     (record { version = 2; has_padding = false; has_extension = false; csrc_count = 0; marker = false; payload_type = 33; sequence_number = 47000; timestamp = 10000; ssrc = 44; csrc = zeros 15; ext_vals = no_values; header_len = 12 })
 plain_row exts = record {
-  fixed = 128 ∷ 33 ∷ 183 ∷ 152 ∷ 0 ∷ 0 ∷ 39 ∷ 16 ∷ 0 ∷ 0 ∷ 0 ∷ 44 ∷ [];
-  groups = [];
-  part = [];
-  rest = 7 ∷ 7 ∷ [];
-  in_order = refl;
-  fixed_is = record {
-    twelve = refl;
-    version_is = refl;
-    first_is = record { sum = refl; few = omega arith };
-    second_is = record { sum = refl; few = omega arith };
-    number_is = refl;
-    timestamp_is = refl;
-    ssrc_is = refl;
+  parts = record { has_padding = false; has_extension = false; marker = false; payload_type = 33; sequence_number = 47000; timestamp = 10000; ssrc = 44; sources = []; block = None; payload = 7 ∷ 7 ∷ [] };
+  is_packet = record {
+    fixed = 128 ∷ 33 ∷ 183 ∷ 152 ∷ 0 ∷ 0 ∷ 39 ∷ 16 ∷ 0 ∷ 0 ∷ 0 ∷ 44 ∷ [];
+    groups = [];
+    part = [];
+    in_order = refl;
+    fixed_is = record {
+      twelve = refl;
+      first_is = record { sum = refl; few = omega arith };
+      second_is = record { sum = refl; few = omega arith };
+      number_is = refl;
+      timestamp_is = refl;
+      ssrc_is = refl;
+    };
+    sources_are = record { of_four = tt; numbers_are = refl };
+    part_is = refl;
   };
-  sources_are = record { count_is = refl; of_four = tt; slots_are = refl };
-  part_is = (refl, refl);
-  header_len_is = refl;
+  is_header = record {
+    fields_are = refl;
+    values_are = record { elements = []; are_elements = refl; are_values = AreValues-none exts no_values };
+  };
 }
 
 -- every flag, two sources, and a block of one word of padding with application bits
 full_row : (exts : ExtensionMap) → IsWire exts (178 ∷ 225 ∷ 255 ∷ 255 ∷ 1 ∷ 2 ∷ 3 ∷ 4 ∷ 0 ∷ 0 ∷ 0 ∷ 0 ∷ 0 ∷ 0 ∷ 0 ∷ 100 ∷ 0 ∷ 0 ∷ 0 ∷ 101 ∷ 16 ∷ 5 ∷ 0 ∷ 1 ∷ 0 ∷ 0 ∷ 0 ∷ 0 ∷ [])
     (record { version = 2; has_padding = true; has_extension = true; csrc_count = 2; marker = true; payload_type = 97; sequence_number = 65535; timestamp = 16909060; ssrc = 0; csrc = 100 ∷ 101 ∷ zeros 13; ext_vals = no_values; header_len = 28 })
 full_row exts = record {
-  fixed = 178 ∷ 225 ∷ 255 ∷ 255 ∷ 1 ∷ 2 ∷ 3 ∷ 4 ∷ 0 ∷ 0 ∷ 0 ∷ 0 ∷ [];
-  groups = (0 ∷ 0 ∷ 0 ∷ 100 ∷ []) ∷ (0 ∷ 0 ∷ 0 ∷ 101 ∷ []) ∷ [];
-  part = 16 ∷ 5 ∷ 0 ∷ 1 ∷ 0 ∷ 0 ∷ 0 ∷ 0 ∷ [];
-  rest = [];
-  in_order = refl;
-  fixed_is = record {
-    twelve = refl;
-    version_is = refl;
-    first_is = record { sum = refl; few = omega arith };
-    second_is = record { sum = refl; few = omega arith };
-    number_is = refl;
-    timestamp_is = refl;
-    ssrc_is = refl;
+  parts = record { has_padding = true; has_extension = true; marker = true; payload_type = 97; sequence_number = 65535; timestamp = 16909060; ssrc = 0; sources = 100 ∷ 101 ∷ []; block = Some (TwoByte, 0 ∷ 0 ∷ 0 ∷ 0 ∷ []); payload = [] };
+  is_packet = record {
+    fixed = 178 ∷ 225 ∷ 255 ∷ 255 ∷ 1 ∷ 2 ∷ 3 ∷ 4 ∷ 0 ∷ 0 ∷ 0 ∷ 0 ∷ [];
+    groups = (0 ∷ 0 ∷ 0 ∷ 100 ∷ []) ∷ (0 ∷ 0 ∷ 0 ∷ 101 ∷ []) ∷ [];
+    part = 16 ∷ 5 ∷ 0 ∷ 1 ∷ 0 ∷ 0 ∷ 0 ∷ 0 ∷ [];
+    in_order = refl;
+    fixed_is = record {
+      twelve = refl;
+      first_is = record { sum = refl; few = omega arith };
+      second_is = record { sum = refl; few = omega arith };
+      number_is = refl;
+      timestamp_is = refl;
+      ssrc_is = refl;
+    };
+    sources_are = record { of_four = (refl, (refl, tt)); numbers_are = refl };
+    part_is = record { form_is = (omega arith, omega arith); words = refl; body_is = refl };
   };
-  sources_are = record { count_is = refl; of_four = (refl, (refl, tt)); slots_are = refl };
-  part_is = (
-    TwoByte,
-    0 ∷ 0 ∷ 0 ∷ 0 ∷ [],
-    [],
-    record { form_is = (omega arith, omega arith); words = refl; body_is = refl },
-    record { pieces = None ∷ None ∷ None ∷ None ∷ []; tail = []; are_pieces = (tt, (tt, (tt, (tt, tt)))); is_tail = ended refl; body_is = refl; elements_are = refl },
-    AreValues-none exts no_values,
-  );
-  header_len_is = refl;
+  is_header = record {
+    fields_are = refl;
+    values_are = record {
+      elements = [];
+      are_elements = record { pieces = None ∷ None ∷ None ∷ None ∷ []; tail = []; are_pieces = (tt, (tt, (tt, (tt, tt)))); is_tail = ended refl; body_is = refl; elements_are = refl };
+      are_values = AreValues-none exts no_values;
+    };
+  };
 }
 
 -- a map in which nothing is mapped

@@ -12,8 +12,7 @@ use Rattle.rtp_wire.specs.Widening.{IsNearest}
 use Rattle.rtp_wire.specs.Receiver.{IsNothing, IsHighest, ExtendsFrom, IsNumberOf, IsFresh, taken_after}
 use Rattle.rtp_wire.specs.Verdicts.{PacketId, packet_id_of, IsPacketId, ArePacketIds, taken_by, IsVerdict, IsRun, AreVerdicts}
 use Rattle.rtp_wire.specs.TrueNumbers.{IsInReach, IsTrueNumber, numbers_of, AreTrue, IsTrueVerdict, AreTrueVerdicts}
-use Rattle.rtp_wire.proofs.HeaderLemmas.{layout_of}
-use Rattle.rtp_wire.proofs.OneHeader.{one_header}
+use Rattle.rtp_wire.proofs.HeaderLemmas.{one_header}
 use Rattle.rtp_wire.proofs.ReceiverLemmas.{not_nothing}
 use Rattle.rtp_wire.proofs.VerdictLemmas.{or_assoc, or_false, taken_by-push}
 use Rattle.rtp_wire.proofs.WideningLemmas.{only_near, Extends-within_half}
@@ -288,7 +287,7 @@ one_packet_id exts datagram None None first second = refl
 one_packet_id exts datagram None (Some b) first second = absurd (first second.header second.wire)
 one_packet_id exts datagram (Some a) None first second = absurd (second first.header first.wire)
 one_packet_id exts datagram (Some a) (Some b) first second =
-    ap Some (first.packet_id_is ∙ ap packet_id_of (one_header exts datagram first.header second.header (layout_of exts datagram first.header first.wire) second.wire) ∙ sym second.packet_id_is)
+    ap Some (first.packet_id_is ∙ ap packet_id_of (one_header exts datagram first.header second.header first.wire second.wire) ∙ sym second.packet_id_is)
 
 pub one_packet_ids : (exts : ExtensionMap) (datagrams : List (List ℕ)) (a b : List (Option PacketId)) → ArePacketIds exts datagrams a → ArePacketIds exts datagrams b → a ≡ b
 one_packet_ids exts [] [] [] first second = refl

@@ -4,15 +4,10 @@
 --  0 1 2 3 4 5 6 7 8 9 0 1 2 3 4 5 6 7 8 9 0 1 2 3 4 5 6 7 8 9 0 1
 -- |      defined by profile       |           length              |
 -- |                        header extension                       |
-use Rattle.std.specs.Prelude.{◌≡◌, ℕ, ◌+◌, ◌*◌, List, [], length, drop, slice_range, Bool, true, false}
+use Rattle.std.specs.Prelude.{◌≡◌, ℕ, ◌+◌, ◌*◌, List, length, drop, slice_range}
 use Rattle.std.specs.Int.{w16, from_be_bytes}
 use Rattle.rtp_ext.specs.declared.ext.form.ExtensionsForm.{ExtensionsForm}
-use Rattle.rtp_ext.specs.declared.ext.map.ExtensionMap.{ExtensionMap}
-use Rattle.rtp_values.specs.declared.value.values.ExtensionValues.{ExtensionValues}
 use Rattle.rtp_ext.specs.Form.{IsFormWord}
-use Rattle.rtp_ext.specs.Elements.{Element, AreElements}
-use Rattle.rtp_values.specs.Values.{no_values}
-use Rattle.rtp_ext.specs.BlockValues.{AreValues}
 
 -- the word in two bytes, the high one first
 abbrev pub word_at : List ℕ → ℕ → ℕ
@@ -23,10 +18,3 @@ pub record IsBlock (block : List ℕ) (form : ExtensionsForm) (body : List ℕ) 
   pub form_is : IsFormWord (word_at block 0) form
   pub words : length block ≡ 4 + 4 * word_at block 2
   pub body_is : body ≡ drop 4 block
-
--- what stands between the CSRC list and the payload, and the values in it: nothing where X is clear, a block where it is set
-abbrev pub IsExtensionPart : ExtensionMap → Bool → List ℕ → ExtensionValues → Type 0
-IsExtensionPart exts false part values = (part ≡ []) × (values ≡ no_values)
-IsExtensionPart exts true part values =
-    (form : ExtensionsForm) × (body : List ℕ) × (elements : List Element)
-    × IsBlock part form body × AreElements form body elements × AreValues exts elements no_values values

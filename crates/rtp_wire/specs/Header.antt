@@ -1,58 +1,46 @@
--- The RTP header as it is read (RFC 3550, 5.1).
---
---  0                   1                   2                   3
---  0 1 2 3 4 5 6 7 8 9 0 1 2 3 4 5 6 7 8 9 0 1 2 3 4 5 6 7 8 9 0 1
--- |V=2|P|X|  CC   |M|     PT      |       sequence number         |
--- |                           timestamp                           |
--- |           synchronization source (SSRC) identifier            |
--- |            contributing source (CSRC) identifiers             |
--- |                             ....                              |
-use Rattle.std.specs.Prelude.{◌≡◌, ℕ, ◌+◌, ◌-◌, ◌*◌, ◌≤◌, List, ◌++◌, length, map, replicate, slice_index, slice_range, Bool, true, false}
-use Rattle.std.specs.List.{concat, AllByRecursion}
-use Rattle.std.specs.Int.{w16, w32, from_be_bytes}
+-- The RTP header as it is read (RFC 3550, 5.1): the parts of a packet before its payload, with the values of the block.
+use Rattle.std.specs.Prelude.{ℕ, ◌≡◌, ◌-◌, List, ◌++◌, length, replicate, Bool, true, false, Option}
+use Rattle.rtp_ext.specs.declared.ext.form.ExtensionsForm.{ExtensionsForm}
 use Rattle.rtp_ext.specs.declared.ext.map.ExtensionMap.{ExtensionMap}
+use Rattle.rtp_values.specs.declared.value.values.ExtensionValues.{ExtensionValues}
 use Rattle.rtp_wire.specs.declared.header.rtp_header.RtpHeader.{RtpHeader}
-use Rattle.rtp_base.specs.Flag.{bit}
 use Rattle.rtp_values.specs.Values.{no_values}
-use Rattle.rtp_wire.specs.Block.{IsExtensionPart}
+use Rattle.rtp_wire.specs.Packet.{PacketParts, IsAnnounced, IsPacket, header_len_of}
+use Rattle.rtp_wire.specs.PacketElements.{HasValues}
 
--- V=2 in the top two bits, then P, X and the four bits of CC
-pub record IsFirstByte (byte : ℕ) (padding extension : Bool) (count : ℕ) : Type 0 where
-  pub sum : byte ≡ 2 * 64 + bit padding * 32 + bit extension * 16 + count
-  pub few : count ≤ 15
+-- what stands between the CSRC list and the payload, and the values in it: nothing where X is clear, a block where it is set
+pub record IsExtensionPart (exts : ExtensionMap) (extension : Bool) (part : List ℕ) (values : ExtensionValues) : Type 0 where
+  pub block : Option (ExtensionsForm × List ℕ)
+  pub is_part : IsAnnounced extension block part
+  pub has_values : HasValues exts block values
 
--- M in the top bit, then the seven bits of PT
-pub record IsSecondByte (byte : ℕ) (marker : Bool) (payload_type : ℕ) : Type 0 where
-  pub sum : byte ≡ bit marker * 128 + payload_type
-  pub few : payload_type ≤ 127
+-- the header of these parts, with these values: version 2, and a zero in each of the fifteen slots after the sources
+abbrev pub header_of : PacketParts → ExtensionValues → RtpHeader
+header_of parts values = record {
+  version = 2;
+  has_padding = parts.has_padding;
+  has_extension = parts.has_extension;
+  csrc_count = length parts.sources;
+  marker = parts.marker;
+  payload_type = parts.payload_type;
+  sequence_number = parts.sequence_number;
+  timestamp = parts.timestamp;
+  ssrc = parts.ssrc;
+  csrc = parts.sources ++ replicate (15 - length parts.sources) 0;
+  ext_vals = values;
+  header_len = header_len_of parts;
+}
 
--- the twelve bytes that every header has, and the fields in them
-pub record IsFixed (fixed : List ℕ) (h : RtpHeader) : Type 0 where
-  pub twelve : length fixed ≡ 12
-  pub version_is : h.version ≡ 2
-  pub first_is : IsFirstByte (slice_index fixed 0) h.has_padding h.has_extension h.csrc_count
-  pub second_is : IsSecondByte (slice_index fixed 1) h.marker h.payload_type
-  pub number_is : h.sequence_number ≡ from_be_bytes w16 (slice_range fixed 2 4)
-  pub timestamp_is : h.timestamp ≡ from_be_bytes w32 (slice_range fixed 4 8)
-  pub ssrc_is : h.ssrc ≡ from_be_bytes w32 (slice_range fixed 8 12)
+-- the header of these parts, whose values are those that the block gives under the map
+pub record IsHeaderOf (exts : ExtensionMap) (parts : PacketParts) (h : RtpHeader) : Type 0 where
+  pub fields_are : h ≡ header_of parts h.ext_vals
+  pub values_are : HasValues exts parts.block h.ext_vals
 
--- the contributing sources: CC groups of four bytes, and a zero in each of the fifteen slots after them
-pub record AreSources (groups : List (List ℕ)) (count : ℕ) (slots : List ℕ) : Type 0 where
-  pub count_is : length groups ≡ count
-  pub of_four : AllByRecursion (λ group. length group ≡ 4) groups
-  pub slots_are : slots ≡ map (from_be_bytes w32) groups ++ replicate (15 - count) 0
-
--- the bytes begin with this header: the fixed bytes, the sources, what X announces, and a rest that is not the header's
+-- the bytes begin with this header: they are a packet, and it is the header of its parts
 pub record IsWire (exts : ExtensionMap) (bytes : List ℕ) (h : RtpHeader) : Type 0 where
-  pub fixed : List ℕ
-  pub groups : List (List ℕ)
-  pub part : List ℕ
-  pub rest : List ℕ
-  pub in_order : bytes ≡ fixed ++ (concat groups ++ (part ++ rest))
-  pub fixed_is : IsFixed fixed h
-  pub sources_are : AreSources groups h.csrc_count h.csrc
-  pub part_is : IsExtensionPart exts h.has_extension part h.ext_vals
-  pub header_len_is : h.header_len + length rest ≡ length bytes
+  pub parts : PacketParts
+  pub is_packet : IsPacket bytes parts
+  pub is_header : IsHeaderOf exts parts h
 
 -- version 2, payload type 1 and a block without words; all else is 0, false or absent
 abbrev pub default_header : RtpHeader

@@ -16,9 +16,12 @@ pub use Rattle.rtp_vla.specs.AllocationWritten
 pub use Rattle.rtp_vla.specs.AllocationEqual
 -- What contracts rest on, from the bytes up.
 pub mod Block
+pub mod Packet
+pub mod NotAPacket
+pub mod PacketElements
+pub mod PartsOf
 pub mod Header
 pub mod NotAHeader
-pub mod Reading
 pub mod RefusedMemory
 pub mod Written
 -- What follows the header.
@@ -33,5 +36,6 @@ pub mod Sending
 pub mod Receivers
 pub mod Sources
 -- What functions inside promise each other.
+pub mod PartsAt
 pub mod Moduli
 pub mod EachSource

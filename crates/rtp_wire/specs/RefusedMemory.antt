@@ -1,22 +1,20 @@
 -- Where memory may be refused to the reading of a header: at an element of its block whose data take it.
-use Rattle.std.specs.Prelude.{◌≡◌, ℕ, ◌/◌, ◌%◌, List, drop, slice_index}
+use Rattle.std.specs.Prelude.{ℕ, List, Option}
 use Rattle.rtp_ext.specs.declared.ext.form.ExtensionsForm.{ExtensionsForm}
-use Rattle.rtp_ext.specs.Elements.{Element, AreElements}
+use Rattle.rtp_ext.specs.Elements.{Element}
 use Rattle.rtp_ext.specs.ExtensionMap.{Slots}
 use Rattle.rtp_ext.specs.Memory.{HasAllocation}
-use Rattle.rtp_wire.specs.NotAHeader.{sources_end}
-use Rattle.rtp_wire.specs.Reading.{HasBlock}
+use Rattle.rtp_wire.specs.Packet.{PacketParts, IsPacket}
+use Rattle.rtp_wire.specs.PacketElements.{AreElementsOf}
 
--- a block is at the front, and one of its elements is mapped to the layer allocation and takes memory
-pub record BlockHasAllocation (exts : Slots) (bytes : List ℕ) : Type 0 where
-  pub form : ExtensionsForm
-  pub body : List ℕ
+-- one of the block's elements is mapped to the layer allocation and takes memory
+pub record BlockHasAllocation (exts : Slots) (block : Option (ExtensionsForm × List ℕ)) : Type 0 where
   pub elements : List Element
-  pub is_block : HasBlock bytes form body
-  pub are_elements : AreElements form body elements
+  pub are_elements : AreElementsOf block elements
   pub has_allocation : HasAllocation exts elements
 
--- X is set, and such a block follows the CSRC list
+-- the bytes are a packet with such a block
 pub record HeaderHasAllocation (exts : Slots) (bytes : List ℕ) : Type 0 where
-  pub extension : slice_index bytes 0 / 16 % 2 ≡ 1
-  pub block : BlockHasAllocation exts (drop (sources_end bytes) bytes)
+  pub parts : PacketParts
+  pub is_packet : IsPacket bytes parts
+  pub has_allocation : BlockHasAllocation exts parts.block

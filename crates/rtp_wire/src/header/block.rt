@@ -1,34 +1,18 @@
-//! A block of header extensions: the word of its form, the number of its words, and its body. Both
-//! sides of this layout stand here.
+//! A block of header extensions as it is written: the word of its form, the number of its words, and
+//! its body.
 
-ghost use Rattle.std.specs.Prelude.{◌≡◌, ◌+◌, ◌*◌, ◌%◌, ◌≤◌, ◌++◌, length, drop, true, IfOk, OnErr, IfSome, IfNone};
+ghost use Rattle.std.specs.Prelude.{◌≡◌, ◌+◌, ◌*◌, ◌%◌, ◌≤◌, ◌++◌, length, drop, true};
 ghost use Rattle.std.specs.Int.{w16, to_be_bytes};
 ghost use Rattle.rtp_ext.specs.Form.{form_word};
-ghost use Rattle.rtp_wire.specs.Block.{IsExtensionPart};
-ghost use Rattle.rtp_wire.specs.RefusedMemory.{BlockHasAllocation};
-ghost use Rattle.rtp_wire.specs.NotAHeader.{NotABlock};
-ghost use Rattle.rtp_wire.specs.Reading.{HasBlock, ReadsBlock};
+ghost use Rattle.rtp_wire.specs.Header.{IsExtensionPart};
 ghost use Rattle.rtp_ext.specs.WrittenBlock.{block_bytes, image_values, whole_words};
 ghost use Rattle.rtp_ext.specs.ExtensionMap.{mapped_count};
 
 use rtp_base::{put, put_zeros};
 use rtp_ext::{ExtensionMap, ExtensionValues, ExtensionsForm};
-use std::alloc::{AllocError, Global};
 
 // How many bytes stand before a block's body.
 const HEADER_LEN: usize = 4;
-
-// The block at the front: its form and its body.
-fn split_block(bytes: &[u8]) -> Option<(ExtensionsForm, &[u8])>
-    ensures found { IfSome result (λ block. HasBlock bytes.now block.0 block.1.now) }
-    ensures refused { IfNone result (NotABlock bytes.now) }
-{
-    let (header, after) = bytes.split_first_chunk::<HEADER_LEN>()?;
-    let form = ExtensionsForm::parse([header[0], header[1]])?;
-    let words = u16::from_be_bytes([header[2], header[3]]);
-    let body = after.get(..4 * usize::from(words))?;
-    Some((form, body))
-}
 
 // The four bytes before a body of `words` words.
 fn block_header(form: ExtensionsForm, words: u16) -> [u8; HEADER_LEN]
@@ -37,26 +21,6 @@ fn block_header(form: ExtensionsForm, words: u16) -> [u8; HEADER_LEN]
     let [form_high, form_low] = form.serialize();
     let [words_high, words_low] = words.to_be_bytes();
     [form_high, form_low, words_high, words_low]
-}
-
-// Reads the block at the front of the bytes into the values, and returns its length; `None` where
-// no block begins there.
-pub(super) fn parse_block(
-    exts: &ExtensionMap,
-    alloc: Global,
-    bytes: &[u8],
-    ev: &mut ExtensionValues,
-) -> Result<Option<usize>, AllocError>
-    ensures memory { OnErr result (BlockHasAllocation exts.now bytes.now) }
-    ensures found { IfOk result (λ answer. IfSome answer (λ len.
-        ReadsBlock exts.now bytes.now len ev.old ev.new)) }
-    ensures refused { IfOk result (λ answer. IfNone answer (NotABlock bytes.now)) }
-{
-    let Some((form, body)) = split_block(bytes) else {
-        return Ok(None);
-    };
-    exts.parse(alloc, body, form, ev)?;
-    Ok(Some(HEADER_LEN + body.len()))
 }
 
 // The length of the block that `write_block` writes.

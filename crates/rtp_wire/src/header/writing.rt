@@ -5,9 +5,9 @@ ghost use Rattle.std.specs.List.{flat_map};
 ghost use Rattle.std.specs.Int.{w32, to_be_bytes};
 ghost use Rattle.rtp_ext.specs.ExtensionMap.{mapped_count, HasNoIdAbove};
 ghost use Rattle.rtp_ext.specs.WrittenBlock.{whole_words};
-ghost use Rattle.rtp_wire.specs.Block.{IsExtensionPart};
 ghost use Rattle.rtp_base.specs.Flag.{bit};
-ghost use Rattle.rtp_wire.specs.Header.{IsFirstByte, IsWire};
+ghost use Rattle.rtp_wire.specs.Header.{IsExtensionPart, IsWire};
+ghost use Rattle.rtp_wire.specs.Packet.{IsFirstByte};
 ghost use Rattle.rtp_base.specs.Overwriting.{overwritten};
 ghost use Rattle.rtp_wire.specs.Written.{fixed_bytes, extension_bytes, wire_bytes, carried_image, image_of, CannotBeWritten};
 

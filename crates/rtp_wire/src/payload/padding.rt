@@ -2,7 +2,7 @@
 
 ghost use Rattle.std.specs.Prelude.{◌≡◌, ℕ, ◌+◌, ◌<◌, ◌≤◌, ◌↔◌, ◌++◌, List, length, slice_index, Bool, true, IfSome, IsSomeAnd};
 ghost use Rattle.rtp_base.specs.Overwriting.{overwritten};
-ghost use Rattle.rtp_wire.specs.Header.{IsFirstByte};
+ghost use Rattle.rtp_wire.specs.Packet.{IsFirstByte};
 ghost use Rattle.rtp_wire.specs.Padding.{padding_bytes, with_padding_bit, IsPaddingLength, padding_count, IsUnpadded};
 
 use rtp_base::put_zeros;

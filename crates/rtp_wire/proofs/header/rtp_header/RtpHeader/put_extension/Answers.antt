@@ -1,5 +1,5 @@
 use Rattle.std.proofs.Common.{◌+◌, ◌-◌, ◌≤◌, Bool, ℕ, sym, ap, subst, ◌∙◌, ◌++◌, length, drop, take}
-use Rattle.rtp_wire.specs.Block.{IsExtensionPart}
+use Rattle.rtp_wire.specs.Header.{IsExtensionPart}
 use Rattle.rtp_base.specs.Overwriting.{overwritten}
 use Rattle.rtp_ext.specs.WrittenBlock.{block_bytes}
 use Rattle.rtp_wire.specs.Written.{extension_bytes, carried_image}

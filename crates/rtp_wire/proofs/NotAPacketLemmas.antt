@@ -1,0 +1,78 @@
+-- The causes for which a datagram is no packet, and the first of them.
+use Rattle.std.proofs.Common.{◌≡◌, ℕ, ◌/◌, ◌%◌, ◌<◌, ◌≤◌, List, length, drop, arith}
+use Rattle.std.specs.Prelude.{slice_index}
+use Rattle.rtp_wire.specs.declared.packet.not_a_packet.NotAPacket.{NotAPacket}
+use Rattle.rtp_wire.specs.declared.packet.not_a_packet.NotAPacket.TheVariants.{CutFixedPart, OtherVersion, CutSources, CutBlockHeader, UnknownForm, CutBlock}
+use Rattle.rtp_ext.specs.declared.ext.form.ExtensionsForm.{ExtensionsForm}
+use Rattle.rtp_ext.specs.Form.{IsFormWord}
+use Rattle.rtp_wire.specs.Block.{word_at}
+use Rattle.rtp_wire.specs.NotAHeader.{cut_header, unknown_form, cut_words, NotAHeader, cut_fixed, other_version, cut_sources, no_block, sources_end}
+use Rattle.rtp_wire.specs.NotAPacket.{AppliesToBlock, Applies, place_of, IsFirst, IsFirstCause}
+use Rattle.rtp_wire.specs.Packet.{PacketParts, IsPacket}
+use Rattle.rtp_wire.proofs.PacketLemmas.{no_packet}
+
+-- bytes to which a cause applies begin with no header
+pub NotAHeader-applies : (bytes : List ℕ) (cause : NotAPacket) → Applies bytes cause → NotAHeader bytes
+NotAHeader-applies bytes CutFixedPart short = cut_fixed short
+NotAHeader-applies bytes OtherVersion other = other_version other
+NotAHeader-applies bytes CutSources short = cut_sources short
+NotAHeader-applies bytes CutBlockHeader short = no_block short.0 (cut_header short.1)
+NotAHeader-applies bytes UnknownForm unknown = no_block unknown.0 (unknown_form unknown.1)
+NotAHeader-applies bytes CutBlock short = no_block short.0 (cut_words short.1)
+
+-- and bytes that begin with no header are no packet
+pub no_packet-refused : (bytes : List ℕ) (parts : PacketParts) → NotAHeader bytes → IsPacket bytes parts → ⊥
+no_packet-refused bytes parts (cut_fixed short) = no_packet bytes CutFixedPart parts short
+no_packet-refused bytes parts (other_version other) = no_packet bytes OtherVersion parts other
+no_packet-refused bytes parts (cut_sources short) = no_packet bytes CutSources parts short
+no_packet-refused bytes parts (no_block set (cut_header short)) = no_packet bytes CutBlockHeader parts (set, short)
+no_packet-refused bytes parts (no_block set (unknown_form unknown)) = no_packet bytes UnknownForm parts (set, unknown)
+no_packet-refused bytes parts (no_block set (cut_words short)) = no_packet bytes CutBlock parts (set, short)
+
+-- what applies to the block where no earlier cause does
+applies-after : (bytes : List ℕ) (cause : NotAPacket) → slice_index bytes 0 / 16 % 2 ≡ 1 → AppliesToBlock (drop (sources_end bytes) bytes) cause → Applies bytes cause
+applies-after bytes CutFixedPart set applies = absurd applies
+applies-after bytes OtherVersion set applies = absurd applies
+applies-after bytes CutSources set applies = absurd applies
+applies-after bytes CutBlockHeader set applies = (set, applies)
+applies-after bytes UnknownForm set applies = (set, applies)
+applies-after bytes CutBlock set applies = (set, applies)
+
+applied-after : (bytes : List ℕ) (cause : NotAPacket) → 12 ≤ length bytes → slice_index bytes 0 / 64 ≡ 2 → sources_end bytes ≤ length bytes
+    → Applies bytes cause → AppliesToBlock (drop (sources_end bytes) bytes) cause
+applied-after bytes CutFixedPart long version room short = omega arith
+applied-after bytes OtherVersion long version room other = other version
+applied-after bytes CutSources long version room short = omega arith
+applied-after bytes CutBlockHeader long version room applies = applies.1
+applied-after bytes UnknownForm long version room applies = applies.1
+applied-after bytes CutBlock long version room applies = applies.1
+
+pub IsFirstCause-block : (bytes : List ℕ) (cause : NotAPacket) → 12 ≤ length bytes → slice_index bytes 0 / 64 ≡ 2 → sources_end bytes ≤ length bytes
+    → slice_index bytes 0 / 16 % 2 ≡ 1 → IsFirst (AppliesToBlock (drop (sources_end bytes) bytes)) cause → IsFirstCause bytes cause
+IsFirstCause-block bytes cause long version room set is = record {
+  applies = applies-after bytes cause set is.applies;
+  none_before = λ earlier before applies. is.none_before earlier before (applied-after bytes earlier long version room applies);
+}
+
+-- the first cause in what is to be a block: its form is unknown, or its words are cut short
+pub IsFirst-unknown_form : (bytes : List ℕ) → 4 ≤ length bytes → AppliesToBlock bytes UnknownForm → IsFirst (AppliesToBlock bytes) UnknownForm
+IsFirst-unknown_form bytes long unknown = record { applies = unknown; none_before = none_before bytes long }
+  where
+    none_before : (bytes : List ℕ) → 4 ≤ length bytes → (earlier : NotAPacket) → place_of earlier < 4 → AppliesToBlock bytes earlier → ⊥
+    none_before bytes long CutFixedPart before applies = applies
+    none_before bytes long OtherVersion before applies = applies
+    none_before bytes long CutSources before applies = applies
+    none_before bytes long CutBlockHeader before applies = omega arith
+    none_before bytes long UnknownForm before applies = omega arith
+    none_before bytes long CutBlock before applies = omega arith
+
+pub IsFirst-cut_block : (bytes : List ℕ) (form : ExtensionsForm) → 4 ≤ length bytes → IsFormWord (word_at bytes 0) form → AppliesToBlock bytes CutBlock → IsFirst (AppliesToBlock bytes) CutBlock
+IsFirst-cut_block bytes form long is short = record { applies = short; none_before = none_before bytes form long is }
+  where
+    none_before : (bytes : List ℕ) (form : ExtensionsForm) → 4 ≤ length bytes → IsFormWord (word_at bytes 0) form → (earlier : NotAPacket) → place_of earlier < 5 → AppliesToBlock bytes earlier → ⊥
+    none_before bytes form long is CutFixedPart before applies = applies
+    none_before bytes form long is OtherVersion before applies = applies
+    none_before bytes form long is CutSources before applies = applies
+    none_before bytes form long is CutBlockHeader before applies = omega arith
+    none_before bytes form long is UnknownForm before applies = applies form is
+    none_before bytes form long is CutBlock before applies = omega arith

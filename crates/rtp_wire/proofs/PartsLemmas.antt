@@ -1,0 +1,90 @@
+-- The parts of a packet, as the calls on it find them.
+use Rattle.std.proofs.Common.{◌≡◌, ℕ, ◌+◌, ◌-◌, ◌*◌, ◌/◌, ◌%◌, ◌≤◌, Bool, true, false, List, length, take, drop, Option, Some, None, sym, ap, ◌∙◌, subst, arith, ◌++◌, length-append, length-drop, length-take-le}
+use Rattle.std.specs.Prelude.{slice_index, slice_range, is_some, option_map}
+use Rattle.std.specs.Int.{w32, from_be_bytes}
+use Rattle.std.specs.List.{concat}
+use Rattle.std.specs.Simd.{first_chunks}
+use Rattle.std.proofs.lemmas.List.{length-map}
+use Rattle.rtp_ext.specs.declared.ext.form.ExtensionsForm.{ExtensionsForm}
+use Rattle.rtp_wire.specs.declared.packet.rtp_packet.RtpPacket.{RtpPacket}
+use Rattle.rtp_wire.specs.NotAHeader.{sources_end}
+use Rattle.rtp_wire.specs.Packet.{PacketParts, IsAnnounced, IsPacket, block_len, header_len_of}
+use Rattle.rtp_wire.specs.PartsOf.{parts_of}
+use Rattle.rtp_wire.specs.PartsAt.{has_block, form_in, header_end, parts_at}
+use Rattle.rtp_wire.proofs.GroupLemmas.{length-concat, first_chunks-take}
+use Rattle.rtp_wire.proofs.PacketLemmas.{IsWhole, IsPacket-whole}
+
+-- a packet's datagram is whole
+pub IsWhole-packet : (packet : RtpPacket) → IsWhole packet.datagram.now
+IsWhole-packet packet = record {
+  fixed = packet.fixed;
+  version = packet.version;
+  known = ap is_some (sym packet.announced) ∙ packet.known;
+  within = subst (λ (k : ℕ). k ≤ length packet.datagram.now) packet.ends packet.within;
+}
+
+-- the sources are within the datagram
+pub sources_within : (bytes : List ℕ) → IsWhole bytes → sources_end bytes ≤ length bytes
+unfolding header_end
+sources_within bytes whole = let within = whole.within in omega arith
+
+-- the groups of the sources, from their part of the bytes
+pub first_chunks-sources : (bytes : List ℕ) (end : ℕ) → end ≡ sources_end bytes → end ≤ length bytes
+    → first_chunks 4 (length (slice_range bytes 12 end) / 4) (slice_range bytes 12 end) ≡ first_chunks 4 (slice_index bytes 0 % 16) (drop 12 bytes)
+first_chunks-sources bytes end end-is within =
+    let count = slice_index bytes 0 % 16 in
+    let four : end - 12 ≡ 4 * count = omega arith in
+    let slice : slice_range bytes 12 end ≡ take (4 * count) (drop 12 bytes) = ap (λ (k : ℕ). take k (drop 12 bytes)) four in
+    let len : length (slice_range bytes 12 end) ≡ 4 * count = ap length slice ∙ length-take-le (4 * count) (drop 12 bytes) (omega (arith, length-drop 12 bytes)) in
+    let quarter : length (slice_range bytes 12 end) / 4 ≡ count = omega arith in
+    ap (λ (k : ℕ). first_chunks 4 k (slice_range bytes 12 end)) quarter ∙ ap (first_chunks 4 count) slice ∙ first_chunks-take count (drop 12 bytes)
+
+-- the block, from the form and the length that the packet keeps
+pub block-packet : (packet : RtpPacket) → option_map (λ form. (form, slice_range packet.datagram.now (sources_end packet.datagram.now + 4) packet.header_len)) packet.form ≡ (parts_of packet).block
+unfolding parts_at
+block-packet packet =
+    let bytes = packet.datagram.now in
+    ap (λ (form : Option ExtensionsForm). option_map (λ f. (f, slice_range bytes (sources_end bytes + 4) packet.header_len)) form) packet.announced
+    ∙ ap (λ (end : ℕ). option_map (λ f. (f, slice_range bytes (sources_end bytes + 4) end)) (form_in bytes)) packet.ends
+
+-- the body begins within the header
+pub body_within : (packet : RtpPacket) → is_some packet.form ≡ true → sources_end packet.datagram.now + 4 ≤ packet.header_len
+unfolding header_end
+body_within packet some =
+    let x : has_block packet.datagram.now ≡ true = sym packet.known ∙ some in
+    let ends = rw x at packet.ends in
+    omega arith
+
+-- how many bytes a block takes that X announces
+pub length-announced : (x : Bool) (block : Option (ExtensionsForm × List ℕ)) (part : List ℕ) → IsAnnounced x block part → length part ≡ block_len block
+length-announced false None part is = ap length is
+length-announced false (Some block) part is = absurd is
+length-announced true None part is = absurd is
+length-announced true (Some block) part is = let words = is.words in omega (arith, ap length is.body_is, length-drop 4 part)
+
+-- the header and the payload are the whole packet
+pub length-packet : (bytes : List ℕ) (parts : PacketParts) → IsPacket bytes parts → header_len_of parts + length parts.payload ≡ length bytes
+length-packet bytes parts is =
+    let tail = is.part ++ parts.payload in
+    let number : length is.groups ≡ length parts.sources = sym (ap length is.sources_are.numbers_are ∙ length-map is.groups (from_be_bytes w32)) in
+    omega (
+      arith,
+      ap length is.in_order,
+      length-append is.fixed (concat is.groups ++ tail),
+      length-append (concat is.groups) tail,
+      length-append is.part parts.payload,
+      length-concat is.groups is.sources_are.of_four,
+      is.fixed_is.twelve,
+      number,
+      length-announced parts.has_extension parts.block is.part is.part_is,
+    )
+
+-- the end of the header is the length of its parts
+pub header_end-len : (packet : RtpPacket) → header_end packet.datagram.now ≡ header_len_of (parts_of packet)
+unfolding parts_at
+header_end-len packet =
+    let bytes = packet.datagram.now in
+    let whole = IsWhole-packet packet in
+    let within = whole.within in
+    let all = length-packet bytes (parts_of packet) (IsPacket-whole bytes (packet.bytes 1) whole) in
+    omega (arith, length-drop (header_end bytes) bytes)

@@ -1,0 +1,33 @@
+-- What the reading of a block's elements tells of its values.
+use Rattle.std.proofs.Common.{◌≡◌, List, [], ℕ, Option, Some, None, Result, Ok, Err, OnOk, OnErr, refl, sym, subst}
+use Rattle.std.specs.declared.alloc.AllocError.{AllocError}
+use Rattle.rtp_ext.specs.declared.ext.form.ExtensionsForm.{ExtensionsForm}
+use Rattle.rtp_ext.specs.declared.ext.map.ExtensionMap.{ExtensionMap}
+use Rattle.rtp_values.specs.declared.value.values.ExtensionValues.{ExtensionValues}
+use Rattle.rtp_ext.specs.Elements.{Element, AreElements}
+use Rattle.rtp_ext.specs.BlockValues.{AreValues}
+use Rattle.rtp_ext.specs.Memory.{IsStopped}
+use Rattle.rtp_values.specs.Values.{no_values}
+use Rattle.rtp_ext.proofs.ValuesLaws.{AreValues-none}
+use Rattle.rtp_wire.specs.PacketElements.{HasValues}
+use Rattle.rtp_wire.specs.RefusedMemory.{BlockHasAllocation}
+
+pub HasValues-none : (exts : ExtensionMap) (block : Option (ExtensionsForm × List ℕ)) (values : ExtensionValues) → None ≡ block → values ≡ no_values → HasValues exts block values
+HasValues-none exts block values block-is none =
+    subst (λ (b : Option (ExtensionsForm × List ℕ)). HasValues exts b values) block-is
+    (record { elements = []; are_elements = refl; are_values = subst (AreValues exts [] no_values) (sym none) (AreValues-none exts no_values) })
+
+pub HasValues-read : (exts : ExtensionMap) (block : Option (ExtensionsForm × List ℕ)) (form : ExtensionsForm) (body : List ℕ) (elements : List Element) (old new : ExtensionValues)
+    (result : Result (Unit {0}) AllocError) → Some (form, body) ≡ block → AreElements form body elements → old ≡ no_values
+    → OnOk result ((es : List Element) → AreElements form body es → AreValues exts es old new) → OnOk result (HasValues exts block new)
+HasValues-read exts block form body elements old new (Err e) block-is are none read = tt
+HasValues-read exts block form body elements old new (Ok u) block-is are none read =
+    subst (λ (b : Option (ExtensionsForm × List ℕ)). HasValues exts b new) block-is
+    (record { elements = elements; are_elements = are; are_values = subst (λ (v : ExtensionValues). AreValues exts elements v new) none (read elements are) })
+
+pub BlockHasAllocation-refused : (exts : ExtensionMap) (block : Option (ExtensionsForm × List ℕ)) (form : ExtensionsForm) (body : List ℕ) (elements : List Element) (old new : ExtensionValues)
+    (result : Result (Unit {0}) AllocError) → Some (form, body) ≡ block → AreElements form body elements
+    → OnErr result ((es : List Element) → AreElements form body es → IsStopped exts es old new) → OnErr result (BlockHasAllocation exts block)
+BlockHasAllocation-refused exts block form body elements old new (Ok u) block-is are stopped = tt
+BlockHasAllocation-refused exts block form body elements old new (Err e) block-is are stopped =
+    subst (BlockHasAllocation exts) block-is (record { elements = elements; are_elements = are; has_allocation = (stopped elements are).at })

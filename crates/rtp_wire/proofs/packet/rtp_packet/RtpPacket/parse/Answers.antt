@@ -1,0 +1,72 @@
+use Rattle.std.proofs.Common.{arith, ap, subst, ◌∙◌, ℕ, List, drop}
+use Rattle.std.proofs.lemmas.Bool.{false≢true}
+use Rattle.std.proofs.lemmas.Result.{err_from_is_err_and}
+use Rattle.rtp_wire.specs.NotAPacket.{IsFirst, AppliesToBlock, IsFirstCause}
+use Rattle.rtp_wire.specs.declared.packet.not_a_packet.NotAPacket.TheVariants.{CutSources}
+use Rattle.rtp_wire.specs.Packet.{IsPacket}
+use Rattle.rtp_wire.specs.PartsAt.{parts_at}
+use Rattle.rtp_wire.proofs.HeaderFound.{x_set, HasHeader-plain, HasHeader-extended}
+use Rattle.rtp_wire.proofs.PacketLemmas.{one_packet, IsPacket-whole, no_packet}
+use Rattle.rtp_wire.proofs.NotAPacketLemmas.{NotAHeader-applies, no_packet-refused, IsFirstCause-block}
+use Rattle.rtp_wire.proofs.packet.rtp_packet.RtpPacket.parse.Goals as goal
+
+pub returns-in_default-clause-only : goal.returns-in_default-clause-only
+returns-in_default-clause-only c parts is =
+    no_packet c.args.datagram.now CutSources parts (omega (arith, c.sources_end-start.ensures, c.in_default.ensures.cases)) is
+
+pub invariant_of-result : goal.invariant_of-result
+invariant_of-result c =
+    let header = HasHeader-plain c.args.datagram.now c.sources_end-start.result c.if-datagram-lt12.false c.if-first-ne2.false c.sources_end-start.ensures c.in-Some.ensures.cases.0 c.if-first-eq0.true in
+    record { bytes = λ i. omega (arith, c.type_inv.datagram i); fixed = header.whole.fixed; version = header.whole.version; announced = header.announced; known = header.known; ends = header.ends; within = header.within }
+
+pub returns-then-first-eq0-clause-found : goal.returns-then-first-eq0-clause-found
+returns-then-first-eq0-clause-found c =
+    IsPacket-whole c.args.datagram.now (omega (arith, c.type_inv.datagram 1))
+    (HasHeader-plain c.args.datagram.now c.sources_end-start.result c.if-datagram-lt12.false c.if-first-ne2.false c.sources_end-start.ensures c.in-Some.ensures.cases.0 c.if-first-eq0.true).whole
+
+pub returns-then-first-eq0-clause-only : goal.returns-then-first-eq0-clause-only
+returns-then-first-eq0-clause-only c parts is = one_packet c.args.datagram.now parts is
+
+-- the cause that was found in the block
+block_cause : (c : goal.After-from_residual) → IsFirstCause c.args.datagram.now c.in_err-form.field-0.0
+block_cause c =
+    let bytes = c.args.datagram.now in
+    let start = c.sources_end-start.ensures in
+    let after = c.in-Some.ensures.cases.2 ∙ ap (λ (k : ℕ). drop k bytes) start in
+    IsFirstCause-block bytes c.in_err-form.field-0.0 c.if-datagram-lt12.false c.if-first-ne2.false (omega (arith, c.in-Some.ensures.cases.0, start)) (x_set _ c.if-first-eq0.false)
+    (subst (λ (b : List ℕ). IsFirst (AppliesToBlock b) c.in_err-form.field-0.0) after c.in_err-form.ensures.cause)
+
+pub returns-in_err-form-clause-only : goal.returns-in_err-form-clause-only
+returns-in_err-form-clause-only c parts is = absurd (no_packet c.args.datagram.now c.in_err-form.field-0.0 parts (block_cause c).applies is)
+
+pub returns-in_err-form-clause-cause : goal.returns-in_err-form-clause-cause
+returns-in_err-form-clause-cause c = let p = err_from_is_err_and c.from_residual.result c.from_residual.ensures.1 in rw (p.1, p.2) (block_cause c)
+
+pub returns-in_err-form-clause-refused : goal.returns-in_err-form-clause-refused
+returns-in_err-form-clause-refused c =
+    (λ _. NotAHeader-applies c.args.datagram.now c.in_err-form.field-0.0 (block_cause c).applies, λ _. c.from_residual.ensures.0)
+
+pub invariant_of-result-2 : goal.invariant_of-result-2
+invariant_of-result-2 c =
+    let header = HasHeader-extended c.args.datagram.now c.in-Some.after.now c.sources_end-start.result c.in_ok-form.block_len c.in_ok-form.form
+    c.if-datagram-lt12.false c.if-first-ne2.false c.sources_end-start.ensures c.in-Some.ensures.cases.0 c.in-Some.ensures.cases.2
+    c.if-first-eq0.false c.in_ok-form.ensures.form c.in_ok-form.ensures.length c.in_ok-form.ensures.within in
+    record { bytes = λ i. omega (arith, c.type_inv.datagram i); fixed = header.whole.fixed; version = header.whole.version; announced = header.announced; known = header.known; ends = header.ends; within = header.within }
+
+-- the packet with a block
+extended : (c : goal.After-result-2-1) → IsPacket c.args.datagram.now (parts_at c.args.datagram.now)
+extended c =
+    IsPacket-whole c.args.datagram.now (omega (arith, c.type_inv.datagram 1))
+    (HasHeader-extended c.args.datagram.now c.in-Some.after.now c.sources_end-start.result c.in_ok-form.block_len c.in_ok-form.form
+    c.if-datagram-lt12.false c.if-first-ne2.false c.sources_end-start.ensures c.in-Some.ensures.cases.0 c.in-Some.ensures.cases.2
+    c.if-first-eq0.false c.in_ok-form.ensures.form c.in_ok-form.ensures.length c.in_ok-form.ensures.within).whole
+
+pub returns-clause-found : goal.returns-clause-found
+returns-clause-found c = extended c
+
+pub returns-clause-only : goal.returns-clause-only
+returns-clause-only c parts is = one_packet c.args.datagram.now parts is
+
+pub returns-clause-refused : goal.returns-clause-refused
+returns-clause-refused c =
+    (λ wrong. absurd (false≢true wrong), λ none. absurd (no_packet-refused c.args.datagram.now _ none (extended c)))

@@ -1,0 +1,67 @@
+//! The header of a packet as a value of its own.
+
+ghost use Rattle.std.specs.Prelude.{◌≡◌, ◌≤◌, ◌++◌, length, drop, map, IsOk, IfOk, OnErr};
+ghost use Rattle.std.specs.Int.{w32, from_be_bytes};
+ghost use Rattle.rtp_wire.specs.Header.{header_of, IsHeaderOf};
+ghost use Rattle.rtp_wire.specs.RefusedMemory.{BlockHasAllocation};
+
+use super::RtpPacket;
+use crate::header::RtpHeader;
+use rtp_ext::{ExtensionMap, ExtensionValues};
+use std::alloc::{AllocError, Global};
+
+// Puts the number of each group into the slots from the first one on; those after them stay.
+fn put_numbers(groups: &[[u8; 4]], slots: &mut [u32; 15])
+    requires { length groups.now ≤ 15 }
+    ensures { slots.new
+        ≡ map (from_be_bytes w32) groups.now ++ drop (length groups.now) slots.old }
+{
+    for (slot, group) in groups.iter().enumerate() {
+        slots[slot] = u32::from_be_bytes(*group);
+    }
+}
+
+impl<'a> RtpPacket<'a> {
+    ghost use Rattle.rtp_wire.specs.declared.header.rtp_header.RtpHeader.{RtpHeader};
+    ghost use Rattle.rtp_wire.specs.PartsOf.{parts_of};
+
+    // The header with these values.
+    #[inline(always)]
+    pub(crate) fn header_with(&self, ext_vals: ExtensionValues) -> RtpHeader
+        ensures { result ≡ header_of (parts_of self.now) ext_vals }
+    {
+        let groups = self.groups();
+        let mut csrc = [0; 15];
+        put_numbers(groups, &mut csrc);
+        RtpHeader {
+            version: 2,
+            has_padding: self.has_padding(),
+            has_extension: self.has_extension(),
+            csrc_count: groups.len(),
+            marker: self.marker(),
+            payload_type: self.payload_type(),
+            sequence_number: self.sequence_number(),
+            timestamp: self.timestamp(),
+            ssrc: self.ssrc(),
+            csrc,
+            ext_vals,
+            header_len: self.header_len(),
+        }
+    }
+
+    /// Returns the header, with the values that the elements of the block give under the map. Where
+    /// memory is refused to a layer allocation nothing is returned.
+    pub fn header(&self, alloc: Global, exts: &ExtensionMap) -> Result<RtpHeader, AllocError>
+        ensures found { IfOk result (IsHeaderOf exts.now (parts_of self.now)) }
+
+        // The packet has no other header.
+        ensures only { (header : RtpHeader) → IsHeaderOf exts.now (parts_of self.now) header →
+            IfOk result (λ found. found ≡ header) }
+        ensures memory { OnErr result (BlockHasAllocation exts.now (parts_of self.now).block) }
+        ensures succeeds { (BlockHasAllocation exts.now (parts_of self.now).block → ⊥) → IsOk result }
+    {
+        let mut ext_vals = ExtensionValues::default();
+        self.read_values(alloc, exts, &mut ext_vals)?;
+        Ok(self.header_with(ext_vals))
+    }
+}
