@@ -3,6 +3,7 @@ pub mod ValuesLaws
 mod ValueFacts
 pub mod ElementLemmasOfBodies
 pub mod FirstElementLemmas
+mod PlaceLemmas
 pub mod MemoryLemmas
 mod MapLemmas
 pub mod ListingLemmas

@@ -5,8 +5,10 @@ pub mod Elements
 pub mod BlockValues
 pub mod Memory
 pub mod WrittenBlock
+pub mod ElementsInPlace
 -- What the inside promises itself.
 pub mod MapSlots
 pub mod EqualMaps
 pub mod ElementReading
 pub mod ElementWriting
+pub mod Places

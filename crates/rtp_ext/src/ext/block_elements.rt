@@ -18,7 +18,7 @@ use super::{ExtensionMap, ExtensionsForm, MAX_ID_ONE_BYTE_FORM};
 use rtp_values::{Extension, ExtensionValues};
 
 // How many bytes stand before an element's data.
-fn header_len(form: ExtensionsForm) -> usize
+pub(super) fn header_len(form: ExtensionsForm) -> usize
     ensures { (id len : ℕ) → result ≡ length (header_bytes form id len) }
 {
     match form {
@@ -28,7 +28,7 @@ fn header_len(form: ExtensionsForm) -> usize
 }
 
 // Writes the header of an element at the offset, by its id and the length of its data.
-fn write_header(buf: &mut [u8], at: usize, form: ExtensionsForm, id: u8, len: u8)
+pub(super) fn write_header(buf: &mut [u8], at: usize, form: ExtensionsForm, id: u8, len: u8)
     requires room { at + length (header_bytes form id len) ≤ length buf.old }
     requires fits { form ≡ OneByte → (id ≤ 14) × (1 ≤ len) × (len ≤ 16) }
     ensures { buf.new ≡ overwritten buf.old at (header_bytes form id len) }

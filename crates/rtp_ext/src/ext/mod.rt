@@ -4,13 +4,16 @@ mod block_elements;
 mod block_values;
 mod elements;
 mod form;
+mod in_place;
 mod iter;
 mod map;
 mod mapped_ids;
+mod place;
 mod slot;
 mod slots;
 
 pub use elements::Elements;
 pub use form::{ExtensionsForm, MAX_ID_ONE_BYTE_FORM};
+pub use in_place::element_of;
 pub use iter::{Iter, IterByMediaType};
 pub use map::{ExtensionMap, MAX_ID};
