@@ -4,6 +4,8 @@ mod ValueFacts
 pub mod ElementLemmasOfBodies
 pub mod FirstElementLemmas
 mod PlaceLemmas
+mod PieceLemmas
+mod LastPlaceLemmas
 pub mod MemoryLemmas
 mod MapLemmas
 pub mod ListingLemmas

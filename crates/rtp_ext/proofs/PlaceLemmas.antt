@@ -23,7 +23,7 @@ pub length-header-some : (form : ExtensionsForm) (id len : ℕ) → 1 ≤ length
 length-header-some OneByte id len = omega arith
 length-header-some TwoByte id len = omega arith
 
-length-element : (form : ExtensionsForm) (id : ℕ) (bytes : List ℕ) → length (element_bytes form (id, bytes)) ≡ length (header_bytes form id (length bytes)) + length bytes
+pub length-element : (form : ExtensionsForm) (id : ℕ) (bytes : List ℕ) → length (element_bytes form (id, bytes)) ≡ length (header_bytes form id (length bytes)) + length bytes
 length-element form id bytes = ap length (element_bytes-split form id bytes) ∙ length-append (header_bytes form id (length bytes)) bytes
 
 -- bytes over as many others
@@ -108,3 +108,29 @@ LiesAt-next form body at place within next = record {
   data_is = next.data_is;
   end_is = next.end_is;
 }
+
+-- a body that was passed up to the offset, and then up to the end of the next element
+pub left_next : (form : ExtensionsForm) (body passed left : List ℕ) (at : ℕ) (place : Place) → body ≡ passed ++ left → at ≡ length passed
+    → (next : IsNextPlace form body at place) → left ≡ replicate next.padding 0 ++ (element_bytes form (place.id, next.bytes) ++ next.after)
+left_next form body passed left at place is at_is next = sym (ap (drop at) is ∙ drop_at passed left at (sym at_is)) ∙ next.left_is
+
+pub passed_next : (form : ExtensionsForm) (body passed left : List ℕ) (at : ℕ) (place : Place) → body ≡ passed ++ left → at ≡ length passed
+    → (next : IsNextPlace form body at place) → body ≡ (passed ++ (replicate next.padding 0 ++ element_bytes form (place.id, next.bytes))) ++ next.after
+passed_next form body passed left at place is at_is next =
+    let element : List ℕ = element_bytes form (place.id, next.bytes) in
+    is ∙ (ap (λ b. passed ++ b) (left_next form body passed left at place is at_is next ∙ sym (append_assoc (replicate next.padding 0) element next.after))
+    ∙ sym (append_assoc passed (replicate next.padding 0 ++ element) next.after))
+
+pub end_next : (form : ExtensionsForm) (body passed : List ℕ) (at : ℕ) (place : Place) → at ≡ length passed
+    → (next : IsNextPlace form body at place) → place.end ≡ length (passed ++ (replicate next.padding 0 ++ element_bytes form (place.id, next.bytes)))
+end_next form body passed at place at_is next =
+    omega (
+      arith,
+      next.start_is,
+      next.data_is,
+      next.end_is,
+      length-append passed (replicate next.padding 0 ++ element_bytes form (place.id, next.bytes)),
+      length-append (replicate next.padding 0) (element_bytes form (place.id, next.bytes)),
+      length-replicate {A = ℕ} next.padding 0,
+      length-element form place.id next.bytes,
+    )

@@ -14,6 +14,6 @@ mod slots;
 
 pub use elements::Elements;
 pub use form::{ExtensionsForm, MAX_ID_ONE_BYTE_FORM};
-pub use in_place::element_of;
+pub use in_place::{element_of, set_element};
 pub use iter::{Iter, IterByMediaType};
 pub use map::{ExtensionMap, MAX_ID};

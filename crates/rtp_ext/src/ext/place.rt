@@ -1,11 +1,11 @@
 //! Where the elements of a body lie.
 
-ghost use Rattle.std.specs.Prelude.{◌≡◌, ◌<◌, ◌≤◌, ◌++◌, length, drop, IfSome, IfNone};
+ghost use Rattle.std.specs.Prelude.{List, ◌≡◌, ◌<◌, ◌≤◌, ◌++◌, length, drop, IfSome, IfNone};
 ghost use Rattle.rtp_ext.specs.declared.ext.form.ExtensionsForm.TheVariants.{OneByte};
-ghost use Rattle.rtp_ext.specs.Elements.{IsElement};
+ghost use Rattle.rtp_ext.specs.Elements.{Element, AreElements};
 ghost use Rattle.rtp_ext.specs.ElementReading.{BeginsWithNone};
-ghost use Rattle.rtp_ext.specs.ElementsInPlace.{bytes_under};
-ghost use Rattle.rtp_ext.specs.Places.{LiesAt, IsNextPlace};
+ghost use Rattle.rtp_ext.specs.ElementsInPlace.{HasNone, bytes_under};
+ghost use Rattle.rtp_ext.specs.Places.{LiesAt, IsNextPlace, IsLastPlace};
 
 use super::ExtensionsForm;
 use super::block_elements::{header_len, write_header};
@@ -38,6 +38,23 @@ pub(super) fn next_place(form: ExtensionsForm, body: &[u8], at: usize) -> Option
         data_start,
         end,
     })
+}
+
+// The place of the last element of the id.
+pub(super) fn last_place(form: ExtensionsForm, body: &[u8], id: u8) -> Option<Place>
+    ensures found { IfSome result (IsLastPlace form id body.now) }
+    ensures none { (elements : List Element) → AreElements form body.now elements →
+        IfNone result (HasNone elements id) }
+{
+    let mut last = None;
+    let mut at = 0;
+    while let Some(place) = next_place(form, body, at) {
+        at = place.end;
+        if place.id == id {
+            last = Some(place);
+        }
+    }
+    last
 }
 
 // Gives the element at the place another id, or makes it padding.
