@@ -72,7 +72,7 @@ abbrev AreBytes : List ℕ → Type 0
 AreBytes bytes = (i : ℕ) → get_or bytes i 0 < 256
 
 -- the elements of a body with one more piece in front, or of one that is a tail
-AreElements-padding : (form : ExtensionsForm) (body : List ℕ) (elements : List Element) → AreElements form body elements → AreElements form (0 ∷ body) elements
+pub AreElements-padding : (form : ExtensionsForm) (body : List ℕ) (elements : List Element) → AreElements form body elements → AreElements form (0 ∷ body) elements
 AreElements-padding form body elements are = record {
   pieces = None ∷ are.pieces;
   tail = are.tail;
@@ -82,7 +82,7 @@ AreElements-padding form body elements are = record {
   elements_are = are.elements_are;
 }
 
-AreElements-element : (form : ExtensionsForm) (element : Element) (body : List ℕ) (elements : List Element) → IsElement form element → AreElements form body elements
+pub AreElements-element : (form : ExtensionsForm) (element : Element) (body : List ℕ) (elements : List Element) → IsElement form element → AreElements form body elements
     → AreElements form (element_bytes form element ++ body) (element ∷ elements)
 AreElements-element form element body elements is are = record {
   pieces = Some element ∷ are.pieces;
@@ -94,7 +94,7 @@ AreElements-element form element body elements is are = record {
   elements_are = ap (λ es. element ∷ es) are.elements_are;
 }
 
-AreElements-tail : (form : ExtensionsForm) (tail : List ℕ) → IsTail form tail → AreElements form tail []
+pub AreElements-tail : (form : ExtensionsForm) (tail : List ℕ) → IsTail form tail → AreElements form tail []
 AreElements-tail form tail is = record { pieces = []; tail = tail; are_pieces = tt; is_tail = is; body_is = refl; elements_are = refl }
 
 -- what a byte that is no padding begins

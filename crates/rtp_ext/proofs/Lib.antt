@@ -3,6 +3,9 @@ pub mod ValuesLaws
 mod ValueFacts
 pub mod ElementLemmasOfBodies
 pub mod FirstElementLemmas
+mod PlaceLemmas
+mod PieceLemmas
+mod LastPlaceLemmas
 pub mod MemoryLemmas
 mod MemoryFacts
 mod MapLemmas

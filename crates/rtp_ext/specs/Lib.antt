@@ -6,8 +6,10 @@ pub mod BlockValues
 pub mod Memory
 pub mod WrittenBlock
 pub mod ElementsInARow
+pub mod ElementsInPlace
 -- What the inside promises itself.
 pub mod MapSlots
 pub mod EqualMaps
 pub mod ElementReading
 pub mod ElementWriting
+pub mod Places

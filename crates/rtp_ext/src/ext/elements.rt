@@ -68,7 +68,7 @@ impl<'a> Iterator for Elements<'a> {
 }
 
 // The first element of bytes, and what follows it; None where reading ends before one.
-fn first_element(bytes: &[u8], form: ExtensionsForm) -> Option<(u8, &[u8], &[u8])>
+pub(super) fn first_element(bytes: &[u8], form: ExtensionsForm) -> Option<(u8, &[u8], &[u8])>
     ensures { IsFirst form bytes.now result }
 {
     let bytes = skip_padding(bytes);

@@ -4,15 +4,18 @@ mod block_elements;
 mod block_values;
 mod elements;
 mod form;
+mod in_place;
 mod iter;
 mod map;
 mod mapped_ids;
+mod place;
 mod raw_writing;
 mod slot;
 mod slots;
 
 pub use elements::Elements;
 pub use form::{ExtensionsForm, MAX_ID_ONE_BYTE_FORM};
+pub use in_place::{element_of, set_element};
 pub use iter::{Iter, IterByMediaType};
 pub use map::{ExtensionMap, MAX_ID};
 pub use raw_writing::write_elements;

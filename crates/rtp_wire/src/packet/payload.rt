@@ -5,7 +5,7 @@ ghost use Rattle.rtp_wire.specs.Packet.{IsWithoutPadding};
 ghost use Rattle.rtp_wire.specs.Padding.{padding_count};
 
 use super::RtpPacket;
-use crate::header::unpad_payload;
+use crate::payload::unpad_payload;
 
 impl<'a> RtpPacket<'a> {
     ghost use Rattle.rtp_wire.specs.PartsOf.{parts_of};

@@ -1,0 +1,221 @@
+-- The last element of an id, and its place.
+use Rattle.std.proofs.Common.{◌≡◌, ◌≢◌, ℕ, ◌-◌, List, [], ◌∷◌, ◌++◌, length, drop, replicate, Option, Some, None, IfSome, IfNone, append_assoc, length-append, arith, refl, sym, ap, ◌∙◌, subst}
+use Rattle.std.proofs.lemmas.List.{append-nil, drop_at, length-replicate}
+use Rattle.std.proofs.lemmas.List.Elements.{All-nil, All-cons, All-append, All-contains, Contains-append_right}
+use Rattle.rtp_ext.specs.declared.ext.form.ExtensionsForm.{ExtensionsForm}
+use Rattle.rtp_ext.specs.declared.ext.form.ExtensionsForm.TheVariants.{OneByte, TwoByte}
+use Rattle.rtp_base.specs.Overwriting.{overwritten}
+use Rattle.rtp_ext.specs.declared.ext.place.Place.{Place}
+use Rattle.rtp_ext.specs.Elements.{Element, IsElement, element_bytes, AreElements}
+use Rattle.rtp_ext.specs.ElementReading.{BeginsWithNone}
+use Rattle.rtp_ext.specs.ElementWriting.{header_bytes}
+use Rattle.rtp_ext.specs.ElementsInPlace.{HasNone, HasLast, HasLastOf, SetsLast}
+use Rattle.rtp_ext.specs.Places.{IsNextPlace, AreWhole, IsLastAt, IsLastPlace, IsLastOrNone, IsPassed}
+use Rattle.rtp_ext.proofs.ElementLemmasOfBodies.{AreElements-only}
+use Rattle.rtp_ext.proofs.PlaceLemmas.{element_bytes-split, overwritten-at, passed_next, end_next}
+use Rattle.rtp_ext.proofs.PieceLemmas.{AreWhole-nil, AreWhole-append, AreElements-after, AreWhole-next, AreElements-none}
+
+-- a body has one list of elements
+pub AreElements-same : (form : ExtensionsForm) (body : List ℕ) (xs ys : List Element) → AreElements form body xs → AreElements form body ys → xs ≡ ys
+AreElements-same form body xs ys are others = AreElements-only form body xs are ∙ sym (AreElements-only form body ys others)
+
+-- an element is followed by another
+IsLastAt-other : (form : ExtensionsForm) (id : ℕ) (bytes more : List ℕ) (place : Place) (element : Element) → IsLastAt form id bytes place
+    → AreWhole form more (element ∷ []) → element.0 ≢ id → IsLastAt form id (bytes ++ more) place
+IsLastAt-other form id bytes more place element is next other = record {
+  front = is.front;
+  was = is.was;
+  rest = is.rest ++ more;
+  before = is.before;
+  after = is.after ++ element ∷ [];
+  bytes_are = ap (λ b. b ++ more) is.bytes_are ∙ (append_assoc is.front (is.was ++ is.rest) more ∙ ap (λ b. is.front ++ b) (append_assoc is.was is.rest more));
+  data_is = is.data_is;
+  end_is = is.end_is;
+  last = All-append (λ (e : Element). e.0 ≢ id) is.after (element ∷ []) is.last
+      (All-cons (λ (e : Element). e.0 ≢ id) element [] other (All-nil (λ (e : Element). e.0 ≢ id)));
+  set = λ others as_many.
+      subst (λ b. AreWhole form b (is.before ++ (id, others) ∷ (is.after ++ element ∷ [])))
+      (append_assoc is.front (others ++ is.rest) more ∙ ap (λ b. is.front ++ b) (append_assoc others is.rest more))
+      (subst (λ es. AreWhole form ((is.front ++ (others ++ is.rest)) ++ more) es) (append_assoc is.before ((id, others) ∷ is.after) (element ∷ []))
+      (AreWhole-append form (is.front ++ (others ++ is.rest)) more (is.before ++ (id, others) ∷ is.after) (element ∷ []) (is.set others as_many) next));
+}
+
+-- an element is the last so far
+IsElement-others : (form : ExtensionsForm) (id : ℕ) (bytes others : List ℕ) → length others ≡ length bytes → IsElement form (id, bytes) → IsElement form (id, others)
+IsElement-others OneByte id bytes others as_many is = (omega arith, omega arith, omega arith, omega arith)
+IsElement-others TwoByte id bytes others as_many is = (omega arith, omega arith, omega arith)
+
+-- padding, a header and as many bytes of data
+next_bytes : (form : ExtensionsForm) (passed : List ℕ) (padding id len : ℕ) (bytes : List ℕ) → length bytes ≡ len
+    → passed ++ (replicate padding 0 ++ element_bytes form (id, bytes)) ≡ (passed ++ (replicate padding 0 ++ header_bytes form id len)) ++ (bytes ++ [])
+next_bytes form passed padding id len bytes len_is =
+    let header : List ℕ = header_bytes form id len in
+    let element : element_bytes form (id, bytes) ≡ header ++ bytes = element_bytes-split form id bytes ∙ ap (λ n. header_bytes form id n ++ bytes) len_is in
+    ap (λ b. passed ++ (replicate padding 0 ++ b)) element
+    ∙ (ap (λ b. passed ++ b) (sym (append_assoc (replicate padding 0) header bytes))
+    ∙ (sym (append_assoc passed (replicate padding 0 ++ header) bytes)
+    ∙ ap (λ b. (passed ++ (replicate padding 0 ++ header)) ++ b) (sym (append-nil bytes))))
+
+IsLastAt-this : (form : ExtensionsForm) (body passed : List ℕ) (at : ℕ) (place : Place) (elements : List Element) → at ≡ length passed → AreWhole form passed elements
+    → (next : IsNextPlace form body at place) → IsLastAt form place.id (passed ++ (replicate next.padding 0 ++ element_bytes form (place.id, next.bytes))) place
+IsLastAt-this form body passed at place elements at_is whole next =
+    let header : List ℕ = header_bytes form place.id (length next.bytes) in
+    record {
+      front = passed ++ (replicate next.padding 0 ++ header);
+      was = next.bytes;
+      rest = [];
+      before = elements;
+      after = [];
+      bytes_are = next_bytes form passed next.padding place.id (length next.bytes) next.bytes refl;
+      data_is = omega (
+        arith,
+        next.start_is,
+        next.data_is,
+        length-append passed (replicate next.padding 0 ++ header),
+        length-append (replicate next.padding 0) header,
+        length-replicate {A = ℕ} next.padding 0,
+      );
+      end_is = next.end_is;
+      last = All-nil (λ (e : Element). e.0 ≢ place.id);
+      set = λ others as_many.
+          subst (λ b. AreWhole form b (elements ++ (place.id, others) ∷ []))
+          (next_bytes form passed next.padding place.id (length next.bytes) others as_many)
+          (AreWhole-append form passed (replicate next.padding 0 ++ element_bytes form (place.id, others)) elements ((place.id, others) ∷ []) whole
+          (AreWhole-next form next.padding (place.id, others) (IsElement-others form place.id next.bytes others as_many next.is_element)));
+    }
+
+-- from the front of a body on
+pub IsPassed-start : (form : ExtensionsForm) (body : List ℕ) (id : ℕ) → IsPassed form body 0 id None
+IsPassed-start form body id = record {
+  passed = [];
+  left = body;
+  elements = [];
+  body_is = refl;
+  at_is = refl;
+  are_whole = AreWhole-nil form;
+  last_is = All-nil (λ (e : Element). e.0 ≢ id);
+}
+
+IsLastOrNone-other : (form : ExtensionsForm) (id : ℕ) (bytes more : List ℕ) (elements : List Element) (last : Option Place) (element : Element)
+    → IsLastOrNone form id bytes elements last → AreWhole form more (element ∷ []) → element.0 ≢ id → IsLastOrNone form id (bytes ++ more) (elements ++ element ∷ []) last
+IsLastOrNone-other form id bytes more elements None element is next other =
+    All-append (λ (e : Element). e.0 ≢ id) elements (element ∷ []) is (All-cons (λ (e : Element). e.0 ≢ id) element [] other (All-nil (λ (e : Element). e.0 ≢ id)))
+IsLastOrNone-other form id bytes more elements (Some place) element is next other = IsLastAt-other form id bytes more place element is next other
+
+passed_by : (form : ExtensionsForm) (body : List ℕ) (at id : ℕ) (last now : Option Place) (place : Place) (was : IsPassed form body at id last) (next : IsNextPlace form body at place)
+    → IsLastOrNone form id (was.passed ++ (replicate next.padding 0 ++ element_bytes form (place.id, next.bytes))) (was.elements ++ (place.id, next.bytes) ∷ []) now
+    → IsPassed form body place.end id now
+passed_by form body at id last now place was next last_is = record {
+  passed = was.passed ++ (replicate next.padding 0 ++ element_bytes form (place.id, next.bytes));
+  left = next.after;
+  elements = was.elements ++ (place.id, next.bytes) ∷ [];
+  body_is = passed_next form body was.passed was.left at place was.body_is was.at_is next;
+  at_is = end_next form body was.passed at place was.at_is next;
+  are_whole = AreWhole-append form was.passed (replicate next.padding 0 ++ element_bytes form (place.id, next.bytes)) was.elements ((place.id, next.bytes) ∷ [])
+      was.are_whole (AreWhole-next form next.padding (place.id, next.bytes) next.is_element);
+  last_is = last_is;
+}
+
+pub IsPassed-other : (form : ExtensionsForm) (body : List ℕ) (at id : ℕ) (last : Option Place) (place : Place) → IsPassed form body at id last → IsNextPlace form body at place
+    → place.id ≢ id → IsPassed form body place.end id last
+IsPassed-other form body at id last place was next other =
+    passed_by form body at id last last place was next
+    (IsLastOrNone-other form id was.passed (replicate next.padding 0 ++ element_bytes form (place.id, next.bytes)) was.elements last (place.id, next.bytes) was.last_is
+    (AreWhole-next form next.padding (place.id, next.bytes) next.is_element) other)
+
+pub IsPassed-this : (form : ExtensionsForm) (body : List ℕ) (at id : ℕ) (last : Option Place) (place : Place) → IsPassed form body at id last → IsNextPlace form body at place
+    → place.id ≡ id → IsPassed form body place.end id (Some place)
+IsPassed-this form body at id last place was next this =
+    passed_by form body at id last (Some place) place was next
+    (subst (λ k. IsLastAt form k (was.passed ++ (replicate next.padding 0 ++ element_bytes form (place.id, next.bytes))) place) this
+    (IsLastAt-this form body was.passed at place was.elements was.at_is was.are_whole next))
+
+-- where reading ends
+ended_left : (form : ExtensionsForm) (body : List ℕ) (at id : ℕ) (last : Option Place) (was : IsPassed form body at id last) → BeginsWithNone form (drop at body) → AreElements form was.left []
+ended_left form body at id last was none =
+    subst (λ b. AreElements form b []) (ap (drop at) was.body_is ∙ drop_at was.passed was.left at (sym was.at_is)) (AreElements-none form (drop at body) none)
+
+pub IsPassed-found : (form : ExtensionsForm) (body : List ℕ) (at id : ℕ) (last : Option Place) → IsPassed form body at id last → BeginsWithNone form (drop at body)
+    → IfSome last (IsLastPlace form id body)
+IsPassed-found form body at id None was none = tt
+IsPassed-found form body at id (Some place) was none =
+    let is : IsLastAt form id was.passed place = was.last_is in
+    record {
+      front = is.front;
+      was = is.was;
+      rest = is.rest ++ was.left;
+      before = is.before;
+      after = is.after;
+      body_is = was.body_is ∙ (ap (λ b. b ++ was.left) is.bytes_are
+          ∙ (append_assoc is.front (is.was ++ is.rest) was.left ∙ ap (λ b. is.front ++ b) (append_assoc is.was is.rest was.left)));
+      data_is = is.data_is;
+      end_is = is.end_is;
+      last = is.last;
+      set = λ others as_many.
+          subst (λ es. AreElements form (is.front ++ (others ++ (is.rest ++ was.left))) es) (append-nil (is.before ++ (id, others) ∷ is.after))
+          (subst (λ b. AreElements form b ((is.before ++ (id, others) ∷ is.after) ++ []))
+          (append_assoc is.front (others ++ is.rest) was.left ∙ ap (λ b. is.front ++ b) (append_assoc others is.rest was.left))
+          (AreElements-after form (is.front ++ (others ++ is.rest)) was.left (is.before ++ (id, others) ∷ is.after) [] (is.set others as_many)
+          (ended_left form body at id (Some place) was none)));
+    }
+
+pub IsPassed-none : (form : ExtensionsForm) (body : List ℕ) (at id : ℕ) (last : Option Place) → IsPassed form body at id last → BeginsWithNone form (drop at body)
+    → (elements : List Element) → AreElements form body elements → IfNone last (HasNone elements id)
+IsPassed-none form body at id (Some place) was none elements are = tt
+IsPassed-none form body at id None was none elements are =
+    let all : AreElements form body (was.elements ++ []) =
+      subst (λ b. AreElements form b (was.elements ++ [])) (sym was.body_is)
+      (AreElements-after form was.passed was.left was.elements [] was.are_whole (ended_left form body at id None was none)) in
+    subst (λ es. HasNone es id) (sym (append-nil was.elements) ∙ AreElements-same form body (was.elements ++ []) elements all are) was.last_is
+
+-- the last of an id is one
+HasNone-absurd : (before after : List Element) (id : ℕ) (bytes : List ℕ) → HasNone (before ++ (id, bytes) ∷ after) id → ⊥
+HasNone-absurd before after id bytes none =
+    All-contains (λ (e : Element). e.0 ≢ id) (before ++ (id, bytes) ∷ after) (id, bytes) none
+    (Contains-append_right before ((id, bytes) ∷ after) (id, bytes) (0, omega arith, refl)) refl
+
+one_last : (id : ℕ) (x y : List ℕ) (b1 a1 b2 a2 : List Element) → b1 ++ (id, x) ∷ a1 ≡ b2 ++ (id, y) ∷ a2 → HasNone a1 id → HasNone a2 id → x ≡ y
+one_last id x y [] a1 [] a2 same none others = let same_first : (id, x) ≡ (id, y) = cc in ap (λ (e : Element). e.1) same_first
+one_last id x y [] a1 (e ∷ b2) a2 same none others =
+    let left : a1 ≡ b2 ++ (id, y) ∷ a2 = cc in absurd (HasNone-absurd b2 a2 id y (subst (λ es. HasNone es id) left none))
+one_last id x y (e ∷ b1) a1 [] a2 same none others =
+    let left : a2 ≡ b1 ++ (id, x) ∷ a1 = cc in absurd (HasNone-absurd b1 a1 id x (subst (λ es. HasNone es id) left others))
+one_last id x y (e ∷ b1) a1 (d ∷ b2) a2 same none others =
+    let left : b1 ++ (id, x) ∷ a1 ≡ b2 ++ (id, y) ∷ a2 = cc in one_last id x y b1 a1 b2 a2 left none others
+
+pub HasLast-only : (elements : List Element) (id : ℕ) (x y : List ℕ) → HasLast elements id x → HasLast elements id y → x ≡ y
+HasLast-only elements id x y one other = one_last id x y one.before one.after other.before other.after (sym one.in_order ∙ other.in_order) one.last other.last
+
+pub HasLastOf-none : (elements : List Element) (id count : ℕ) → HasNone elements id → HasLastOf elements id count → ⊥
+HasLastOf-none elements id count none has = HasNone-absurd has.1.before has.1.after id has.0 (subst (λ es. HasNone es id) has.1.in_order none)
+
+-- what is set
+pub HasLast-place : (form : ExtensionsForm) (id : ℕ) (body : List ℕ) (place : Place) (elements : List Element) → (is : IsLastPlace form id body place) → AreElements form body elements
+    → HasLast elements id is.was
+HasLast-place form id body place elements is are = record {
+  before = is.before;
+  after = is.after;
+  in_order = AreElements-same form body elements (is.before ++ (id, is.was) ∷ is.after) are
+      (subst (λ b. AreElements form b (is.before ++ (id, is.was) ∷ is.after)) (sym is.body_is) (is.set is.was refl));
+  last = is.last;
+}
+
+pub SetsLast-at : (form : ExtensionsForm) (id : ℕ) (bytes body new : List ℕ) (place : Place) → IsLastPlace form id body place → place.end - place.data_start ≡ length bytes
+    → new ≡ overwritten body place.data_start bytes → SetsLast form id bytes body new
+SetsLast-at form id bytes body new place is len written =
+    let as_many : length is.was ≡ length bytes = omega (arith, is.end_is) in
+    let new_is : new ≡ is.front ++ (bytes ++ is.rest) =
+      written ∙ (ap (λ b. overwritten b place.data_start bytes) is.body_is ∙ overwritten-at is.front is.was is.rest bytes place.data_start is.data_is as_many) in
+    record {
+      front = is.front;
+      was = is.was;
+      rest = is.rest;
+      before = is.before;
+      after = is.after;
+      as_many = as_many;
+      old_is = is.body_is;
+      new_is = new_is;
+      old_elements = subst (λ b. AreElements form b (is.before ++ (id, is.was) ∷ is.after)) (sym is.body_is) (is.set is.was refl);
+      new_elements = subst (λ b. AreElements form b (is.before ++ (id, bytes) ∷ is.after)) (sym new_is) (is.set bytes (sym as_many));
+      last = is.last;
+    }

@@ -1,0 +1,136 @@
+-- Places of elements by offsets, and what is written there.
+use Rattle.std.proofs.Common.{◌≡◌, ℕ, ◌+◌, ◌-◌, ◌≤◌, List, ◌++◌, length, take, drop, replicate, append_assoc, length-append, length-drop, length-take-le, take-append-drop, arith, refl, sym, ap, ◌∙◌}
+use Rattle.std.proofs.lemmas.List.{length-replicate, take_at, drop_at, take_rest}
+use Rattle.rtp_base.specs.Overwriting.{overwritten}
+use Rattle.rtp_ext.specs.declared.ext.form.ExtensionsForm.{ExtensionsForm}
+use Rattle.rtp_ext.specs.declared.ext.form.ExtensionsForm.TheVariants.{OneByte, TwoByte}
+use Rattle.rtp_ext.specs.declared.ext.place.Place.{Place}
+use Rattle.rtp_ext.specs.Elements.{element_bytes}
+use Rattle.rtp_ext.specs.ElementReading.{BeginsWith}
+use Rattle.rtp_ext.specs.ElementWriting.{header_bytes}
+use Rattle.rtp_ext.specs.Places.{LiesAt, IsNextPlace}
+
+-- an element is its header and its data
+pub element_bytes-split : (form : ExtensionsForm) (id : ℕ) (bytes : List ℕ) → element_bytes form (id, bytes) ≡ header_bytes form id (length bytes) ++ bytes
+element_bytes-split OneByte id bytes = refl
+element_bytes-split TwoByte id bytes = refl
+
+pub length-header : (form : ExtensionsForm) (id other len : ℕ) → length (header_bytes form id len) ≡ length (header_bytes form other len)
+length-header OneByte id other len = refl
+length-header TwoByte id other len = refl
+
+pub length-header-some : (form : ExtensionsForm) (id len : ℕ) → 1 ≤ length (header_bytes form id len)
+length-header-some OneByte id len = omega arith
+length-header-some TwoByte id len = omega arith
+
+pub length-element : (form : ExtensionsForm) (id : ℕ) (bytes : List ℕ) → length (element_bytes form (id, bytes)) ≡ length (header_bytes form id (length bytes)) + length bytes
+length-element form id bytes = ap length (element_bytes-split form id bytes) ∙ length-append (header_bytes form id (length bytes)) bytes
+
+-- bytes over as many others
+pub overwritten-at : (front was rest bytes : List ℕ) (at : ℕ) → at ≡ length front → length was ≡ length bytes → overwritten (front ++ (was ++ rest)) at bytes ≡ front ++ (bytes ++ rest)
+unfolding overwritten
+overwritten-at front was rest bytes at is as_many =
+    ap (λ b. b ++ (bytes ++ drop (at + length bytes) (front ++ (was ++ rest)))) (take_at front (was ++ rest) at (sym is))
+    ∙ ap (λ b. front ++ (bytes ++ b)) (ap (drop (at + length bytes)) (sym (append_assoc front was rest))
+    ∙ drop_at (front ++ was) rest (at + length bytes) (length-append front was ∙ omega arith))
+
+-- what writing another header leaves, and writing zeros
+pub renumbered_at : (form : ExtensionsForm) (body front bytes after : List ℕ) (start len old id : ℕ) → body ≡ front ++ (element_bytes form (old, bytes) ++ after)
+    → start ≡ length front → len ≡ length bytes → overwritten body start (header_bytes form id len) ≡ front ++ (element_bytes form (id, bytes) ++ after)
+renumbered_at form body front bytes after start len old id is start_is len_is =
+    let header : List ℕ = header_bytes form id (length bytes) in
+    let split : body ≡ front ++ (header_bytes form old (length bytes) ++ (bytes ++ after)) =
+      is ∙ ap (λ b. front ++ b) (ap (λ b. b ++ after) (element_bytes-split form old bytes) ∙ append_assoc (header_bytes form old (length bytes)) bytes after) in
+    ap (λ n. overwritten body start (header_bytes form id n)) len_is
+    ∙ (ap (λ b. overwritten b start header) split
+    ∙ (overwritten-at front (header_bytes form old (length bytes)) (bytes ++ after) header start start_is (length-header form old id (length bytes))
+    ∙ ap (λ b. front ++ b) (sym (append_assoc header bytes after) ∙ ap (λ b. b ++ after) (sym (element_bytes-split form id bytes)))))
+
+pub zeros_at : (form : ExtensionsForm) (body front bytes after : List ℕ) (start count id : ℕ) → body ≡ front ++ (element_bytes form (id, bytes) ++ after)
+    → start ≡ length front → count ≡ length (element_bytes form (id, bytes))
+    → overwritten body start (replicate count 0) ≡ front ++ (replicate (length (element_bytes form (id, bytes))) 0 ++ after)
+zeros_at form body front bytes after start count id is start_is count_is =
+    ap (λ b. overwritten b start (replicate count 0)) is
+    ∙ (overwritten-at front (element_bytes form (id, bytes)) after (replicate count 0) start start_is (sym count_is ∙ sym (length-replicate count 0))
+    ∙ ap (λ n. front ++ (replicate n 0 ++ after)) count_is)
+
+pub length-lies : (form : ExtensionsForm) (body : List ℕ) (place : Place) (lies : LiesAt form body place)
+    → place.end ≡ place.start + length (element_bytes form (place.id, lies.bytes))
+length-lies form body place lies = omega (arith, lies.data_is, lies.end_is, length-element form place.id lies.bytes)
+
+-- the first element from an offset on
+pub length-begins : (form : ExtensionsForm) (body : List ℕ) (at id : ℕ) (bytes after : List ℕ) → at ≤ length body
+    → (begins : BeginsWith form (take (length body - at) (drop at body)) (id, bytes) after)
+    → at + begins.padding + length (header_bytes form id (length bytes)) + length bytes + length after ≡ length body
+length-begins form body at id bytes after within begins =
+    let whole : drop at body ≡ replicate begins.padding 0 ++ (element_bytes form (id, bytes) ++ after) = sym (take_rest body at) ∙ begins.bytes_are in
+    omega (
+      arith,
+      ap length whole,
+      length-drop at body,
+      length-append (replicate begins.padding 0) (element_bytes form (id, bytes) ++ after),
+      length-replicate {A = ℕ} begins.padding 0,
+      length-append (element_bytes form (id, bytes)) after,
+      length-element form id bytes,
+    )
+
+pub IsNextPlace-begins : (form : ExtensionsForm) (body : List ℕ) (at id header : ℕ) (bytes after : List ℕ) → at ≤ length body
+    → BeginsWith form (take (length body - at) (drop at body)) (id, bytes) after → header ≡ length (header_bytes form id (length bytes))
+    → IsNextPlace form body at (record {
+      id = id;
+      start = length body - length after - length bytes - header;
+      data_start = length body - length after - length bytes;
+      end = length body - length after;
+    })
+IsNextPlace-begins form body at id header bytes after within begins header_is =
+    let total : at + begins.padding + length (header_bytes form id (length bytes)) + length bytes + length after ≡ length body = length-begins form body at id bytes after within begins in
+    record {
+      padding = begins.padding;
+      bytes = bytes;
+      after = after;
+      is_element = begins.is_element;
+      left_is = sym (take_rest body at) ∙ begins.bytes_are;
+      start_is = omega arith;
+      data_is = omega arith;
+      end_is = omega arith;
+      within = omega arith;
+    }
+
+pub LiesAt-next : (form : ExtensionsForm) (body : List ℕ) (at : ℕ) (place : Place) → at ≤ length body → IsNextPlace form body at place → LiesAt form body place
+LiesAt-next form body at place within next = record {
+  front = take at body ++ replicate next.padding 0;
+  bytes = next.bytes;
+  after = next.after;
+  is_element = next.is_element;
+  body_is = sym (take-append-drop at body) ∙ (ap (λ b. take at body ++ b) next.left_is
+      ∙ sym (append_assoc (take at body) (replicate next.padding 0) (element_bytes form (place.id, next.bytes) ++ next.after)));
+  start_is = omega (arith, next.start_is, length-append (take at body) (replicate next.padding 0), length-take-le at body within, length-replicate {A = ℕ} next.padding 0);
+  data_is = next.data_is;
+  end_is = next.end_is;
+}
+
+-- a body that was passed up to the offset, and then up to the end of the next element
+pub left_next : (form : ExtensionsForm) (body passed left : List ℕ) (at : ℕ) (place : Place) → body ≡ passed ++ left → at ≡ length passed
+    → (next : IsNextPlace form body at place) → left ≡ replicate next.padding 0 ++ (element_bytes form (place.id, next.bytes) ++ next.after)
+left_next form body passed left at place is at_is next = sym (ap (drop at) is ∙ drop_at passed left at (sym at_is)) ∙ next.left_is
+
+pub passed_next : (form : ExtensionsForm) (body passed left : List ℕ) (at : ℕ) (place : Place) → body ≡ passed ++ left → at ≡ length passed
+    → (next : IsNextPlace form body at place) → body ≡ (passed ++ (replicate next.padding 0 ++ element_bytes form (place.id, next.bytes))) ++ next.after
+passed_next form body passed left at place is at_is next =
+    let element : List ℕ = element_bytes form (place.id, next.bytes) in
+    is ∙ (ap (λ b. passed ++ b) (left_next form body passed left at place is at_is next ∙ sym (append_assoc (replicate next.padding 0) element next.after))
+    ∙ sym (append_assoc passed (replicate next.padding 0 ++ element) next.after))
+
+pub end_next : (form : ExtensionsForm) (body passed : List ℕ) (at : ℕ) (place : Place) → at ≡ length passed
+    → (next : IsNextPlace form body at place) → place.end ≡ length (passed ++ (replicate next.padding 0 ++ element_bytes form (place.id, next.bytes)))
+end_next form body passed at place at_is next =
+    omega (
+      arith,
+      next.start_is,
+      next.data_is,
+      next.end_is,
+      length-append passed (replicate next.padding 0 ++ element_bytes form (place.id, next.bytes)),
+      length-append (replicate next.padding 0) (element_bytes form (place.id, next.bytes)),
+      length-replicate {A = ℕ} next.padding 0,
+      length-element form place.id next.bytes,
+    )

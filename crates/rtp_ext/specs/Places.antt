@@ -1,0 +1,79 @@
+-- Where elements lie in a body, by offsets: what the functions that change elements in place promise each other.
+use Rattle.std.specs.Prelude.{◌≡◌, ℕ, ◌+◌, List, ◌∷◌, ◌++◌, length, drop, replicate, Option, Some, None}
+use Rattle.std.specs.List.{AllByRecursion, flat_map, filter_map}
+use Rattle.rtp_ext.specs.declared.ext.form.ExtensionsForm.{ExtensionsForm}
+use Rattle.rtp_ext.specs.declared.ext.place.Place.{Place}
+use Rattle.rtp_ext.specs.Elements.{Element, IsElement, element_bytes, IsPiece, piece_bytes, AreElements}
+use Rattle.rtp_ext.specs.ElementWriting.{header_bytes}
+use Rattle.rtp_ext.specs.ElementsInPlace.{HasNone}
+
+-- an element with these data lies at the place, between these bytes
+pub record LiesAt (form : ExtensionsForm) (body : List ℕ) (place : Place) : Type 0 where
+  pub front : List ℕ
+  pub bytes : List ℕ
+  pub after : List ℕ
+  pub is_element : IsElement form (place.id, bytes)
+  pub body_is : body ≡ front ++ (element_bytes form (place.id, bytes) ++ after)
+  pub start_is : place.start ≡ length front
+  pub data_is : place.data_start ≡ place.start + length (header_bytes form place.id (length bytes))
+  pub end_is : place.end ≡ place.data_start + length bytes
+
+-- the first element from the offset on lies at the place, and only padding before it
+pub record IsNextPlace (form : ExtensionsForm) (body : List ℕ) (at : ℕ) (place : Place) : Type 0 where
+  pub padding : ℕ
+  pub bytes : List ℕ
+  pub after : List ℕ
+  pub is_element : IsElement form (place.id, bytes)
+  pub left_is : drop at body ≡ replicate padding 0 ++ (element_bytes form (place.id, bytes) ++ after)
+  pub start_is : place.start ≡ at + padding
+  pub data_is : place.data_start ≡ place.start + length (header_bytes form place.id (length bytes))
+  pub end_is : place.end ≡ place.data_start + length bytes
+  pub within : place.end + length after ≡ length body
+
+-- bytes are whole pieces in a row, with these elements
+pub record AreWhole (form : ExtensionsForm) (bytes : List ℕ) (elements : List Element) : Type 0 where
+  pub pieces : List (Option Element)
+  pub are_pieces : AllByRecursion (IsPiece form) pieces
+  pub bytes_are : bytes ≡ flat_map (piece_bytes form) pieces
+  pub elements_are : elements ≡ filter_map (λ piece. piece) pieces
+
+-- the last element of the id in whole pieces has its data at the place, and any others that are as many could stand there
+pub record IsLastAt (form : ExtensionsForm) (id : ℕ) (bytes : List ℕ) (place : Place) : Type 0 where
+  pub front : List ℕ
+  pub was : List ℕ
+  pub rest : List ℕ
+  pub before : List Element
+  pub after : List Element
+  pub bytes_are : bytes ≡ front ++ (was ++ rest)
+  pub data_is : place.data_start ≡ length front
+  pub end_is : place.end ≡ place.data_start + length was
+  pub last : HasNone after id
+  pub set : (others : List ℕ) → length others ≡ length was → AreWhole form (front ++ (others ++ rest)) (before ++ (id, others) ∷ after)
+
+-- the same of a body
+pub record IsLastPlace (form : ExtensionsForm) (id : ℕ) (body : List ℕ) (place : Place) : Type 0 where
+  pub front : List ℕ
+  pub was : List ℕ
+  pub rest : List ℕ
+  pub before : List Element
+  pub after : List Element
+  pub body_is : body ≡ front ++ (was ++ rest)
+  pub data_is : place.data_start ≡ length front
+  pub end_is : place.end ≡ place.data_start + length was
+  pub last : HasNone after id
+  pub set : (others : List ℕ) → length others ≡ length was → AreElements form (front ++ (others ++ rest)) (before ++ (id, others) ∷ after)
+
+-- the place of the last element of the id in whole pieces with these elements, or that there is none
+abbrev pub IsLastOrNone : ExtensionsForm → ℕ → List ℕ → List Element → Option Place → Type 0
+IsLastOrNone form id bytes elements None = HasNone elements id
+IsLastOrNone form id bytes elements (Some place) = IsLastAt form id bytes place
+
+-- a body up to an offset, and the place of the last element of the id there
+pub record IsPassed (form : ExtensionsForm) (body : List ℕ) (at id : ℕ) (last : Option Place) : Type 0 where
+  pub passed : List ℕ
+  pub left : List ℕ
+  pub elements : List Element
+  pub body_is : body ≡ passed ++ left
+  pub at_is : at ≡ length passed
+  pub are_whole : AreWhole form passed elements
+  pub last_is : IsLastOrNone form id passed elements last

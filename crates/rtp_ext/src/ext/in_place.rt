@@ -1,0 +1,52 @@
+//! The elements of a block's body looked up and changed where they lie, without memory.
+
+ghost use Rattle.std.specs.Prelude.{◌≡◌, ◌↔◌, List, length, IsTrue, IfSome, IfNone};
+ghost use Rattle.std.specs.Bool.{OnTrue, OnFalse};
+ghost use Rattle.rtp_ext.specs.Elements.{Element, AreElements};
+ghost use Rattle.rtp_ext.specs.ElementsInPlace.{HasNone, HasLast, HasLastOf, SetsLast};
+
+use super::place::last_place;
+use super::{Elements, ExtensionsForm};
+use rtp_base::put;
+
+/// The data of the last element of the id in a block's body, and `None` exactly where no element
+/// has it (RFC 8285, 4.2 and 4.3). An element of the two-byte form may be without data, and then
+/// they are `Some` of no bytes.
+///
+/// The last element of id 1 in the body `10 AA 21 BB CC 10 DD 00` (hexadecimal) of the one-byte
+/// form has the data `DD`.
+pub fn element_of(form: ExtensionsForm, body: &[u8], id: u8) -> Option<&[u8]>
+    ensures found { (elements : List Element) → AreElements form body.now elements →
+        IfSome result (λ bytes. HasLast elements id bytes.now) }
+    ensures none { (elements : List Element) → AreElements form body.now elements →
+        IfNone result (HasNone elements id) }
+{
+    let mut last = None;
+    for (other, data) in Elements::new(body, form) {
+        if other == id {
+            last = Some(data);
+        }
+    }
+    last
+}
+
+/// Gives the last element of the id in a block's body these data, where it has as many bytes of
+/// them, and returns whether it has; all other bytes stay. Else nothing changes.
+///
+/// In the body `10 AA 21 BB CC 10 DD 00` (hexadecimal) of the one-byte form the data `EE` of id 1
+/// give `10 AA 21 BB CC 10 EE 00`.
+pub fn set_element(form: ExtensionsForm, body: &mut [u8], id: u8, data: &[u8]) -> bool
+    ensures set { OnTrue result (SetsLast form id «data».now body.old body.new) }
+    ensures unchanged { OnFalse result (body.new ≡ body.old) }
+    ensures answer { (elements : List Element) → AreElements form body.old elements →
+        IsTrue result ↔ HasLastOf elements id (length «data».now) }
+{
+    let Some(place) = last_place(form, body, id) else {
+        return false;
+    };
+    if place.end - place.data_start != data.len() {
+        return false;
+    }
+    put(body, place.data_start, data);
+    true
+}
