@@ -4,6 +4,8 @@ mod BlockLemmas
 mod HeaderLemmas
 mod PacketLemmas
 mod HeaderFound
+mod PacketChanges
+mod ChangedPackets
 mod NotAPacketLemmas
 mod OneHeader
 mod ParseLemmas

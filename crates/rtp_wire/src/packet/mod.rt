@@ -3,6 +3,9 @@
 mod not_a_packet;
 mod parsing;
 mod rtp_packet;
+mod rtp_packet_mut;
+mod setting;
 
 pub use not_a_packet::NotAPacket;
 pub use rtp_packet::RtpPacket;
+pub use rtp_packet_mut::RtpPacketMut;
