@@ -15,7 +15,7 @@ bit-digit (suc zero) worth small above = rw (one-mul worth, ne_eqb worth 0 (λ e
 bit-digit (suc (suc digit)) worth small above = absurd (omega arith)
 
 -- a test by a mask of one bit gives that bit
-bit-mask : (n k : ℕ) → bit (not (nat_eq (bit_and n (2 ^ k)) 0)) ≡ n / 2 ^ k % 2
+pub bit-mask : (n k : ℕ) → bit (not (nat_eq (bit_and n (2 ^ k)) 0)) ≡ n / 2 ^ k % 2
 bit-mask n k = ap (λ m. bit (not (nat_eq m 0))) (and_pow n k) ∙ bit-digit (n / 2 ^ k % 2) (2 ^ k) (bit_at-lt n k) (pow_pos k)
 
 -- the flags of a byte of version 2 are those that the masks test

@@ -2,17 +2,12 @@
 use Rattle.std.proofs.Common.{◌≡◌, ℕ, ◌+◌, ◌*◌, ◌/◌, ◌%◌, ◌≤◌, true, false, List, length, drop, Option, Some, None, bit_and, nat_eq, refl, sym, ap, ◌∙◌, subst, arith, length-drop}
 use Rattle.std.specs.Prelude.{slice_index, is_some}
 use Rattle.std.proofs.lemmas.Bool.{eq-eqb, ne_eqb}
-use Rattle.std.proofs.lemmas.Nat.{and_mask}
 use Rattle.std.proofs.lemmas.Nat.Bits.{and_pow}
 use Rattle.rtp_ext.specs.declared.ext.form.ExtensionsForm.{ExtensionsForm}
 use Rattle.rtp_wire.specs.Block.{word_at}
 use Rattle.rtp_wire.specs.NotAHeader.{sources_end}
 use Rattle.rtp_wire.specs.PartsAt.{form_of_word, has_block, form_in, header_end}
 use Rattle.rtp_wire.proofs.PacketLemmas.{IsWhole}
-
--- the end of the sources, by the mask of CC
-pub start_is : (bytes : List ℕ) (count : ℕ) → count ≡ bit_and (slice_index bytes 0) 15 → 12 + 4 * count ≡ sources_end bytes
-start_is bytes count is = ap (λ (k : ℕ). 12 + 4 * k) (is ∙ and_mask (slice_index bytes 0) 4)
 
 -- X, by its mask
 x_clear : (byte : ℕ) → bit_and byte 16 ≡ 0 → nat_eq (byte / 16 % 2) 1 ≡ false
@@ -29,13 +24,12 @@ pub record HasHeader (bytes : List ℕ) (len : ℕ) (form : Option ExtensionsFor
   pub ends : len ≡ header_end bytes
   pub within : len ≤ length bytes
 
-pub HasHeader-plain : (bytes : List ℕ) (count : ℕ) → 12 ≤ length bytes → slice_index bytes 0 / 64 ≡ 2 → count ≡ bit_and (slice_index bytes 0) 15
-    → 12 + 4 * count ≤ length bytes → bit_and (slice_index bytes 0) 16 ≡ 0 → HasHeader bytes (12 + 4 * count) None
+pub HasHeader-plain : (bytes : List ℕ) (start : ℕ) → 12 ≤ length bytes → slice_index bytes 0 / 64 ≡ 2 → start ≡ sources_end bytes
+    → start ≤ length bytes → bit_and (slice_index bytes 0) 16 ≡ 0 → HasHeader bytes start None
 unfolding form_in header_end
-HasHeader-plain bytes count long version count-is room clear =
-    let start : 12 + 4 * count ≡ sources_end bytes = start_is bytes count count-is in
+HasHeader-plain bytes start long version start-is room clear =
     let x : has_block bytes ≡ false = x_clear (slice_index bytes 0) clear in
-    let ends : 12 + 4 * count ≡ header_end bytes = rw x (omega arith) in
+    let ends : start ≡ header_end bytes = rw x (omega arith) in
     let announced : None ≡ form_in bytes = rw x refl in
     record {
       whole = record { fixed = long; version = version; known = rw x refl; within = omega arith };
@@ -45,17 +39,16 @@ HasHeader-plain bytes count long version count-is room clear =
       within = room;
     }
 
-pub HasHeader-extended : (bytes after : List ℕ) (count n : ℕ) (form : ExtensionsForm) → 12 ≤ length bytes → slice_index bytes 0 / 64 ≡ 2
-    → count ≡ bit_and (slice_index bytes 0) 15 → 12 + 4 * count ≤ length bytes → after ≡ drop (12 + 4 * count) bytes → (bit_and (slice_index bytes 0) 16 ≡ 0 → ⊥)
-    → form_of_word (word_at after 0) ≡ Some form → n ≡ 4 + 4 * word_at after 2 → n ≤ length after → HasHeader bytes (12 + 4 * count + n) (Some form)
+pub HasHeader-extended : (bytes after : List ℕ) (start n : ℕ) (form : ExtensionsForm) → 12 ≤ length bytes → slice_index bytes 0 / 64 ≡ 2 → start ≡ sources_end bytes
+    → start ≤ length bytes → after ≡ drop start bytes → (bit_and (slice_index bytes 0) 16 ≡ 0 → ⊥) → form_of_word (word_at after 0) ≡ Some form → n ≡ 4 + 4 * word_at after 2
+    → n ≤ length after → HasHeader bytes (start + n) (Some form)
 unfolding form_in header_end
-HasHeader-extended bytes after count n form long version count-is room after-is set form-is n-is fits =
-    let start : 12 + 4 * count ≡ sources_end bytes = start_is bytes count count-is in
+HasHeader-extended bytes after start n form long version start-is room after-is set form-is n-is fits =
     let x : has_block bytes ≡ true = eq-eqb (slice_index bytes 0 / 16 % 2) 1 (x_set (slice_index bytes 0) set) in
-    let same : after ≡ drop (sources_end bytes) bytes = after-is ∙ ap (λ (k : ℕ). drop k bytes) start in
+    let same : after ≡ drop (sources_end bytes) bytes = after-is ∙ ap (λ (k : ℕ). drop k bytes) start-is in
     let announced : form_in bytes ≡ Some form = rw (x, ← same) form-is in
-    let ends : 12 + 4 * count + n ≡ header_end bytes = rw (x, ← same) (omega arith) in
-    let within : 12 + 4 * count + n ≤ length bytes = omega (arith, ap length after-is, length-drop (12 + 4 * count) bytes) in
+    let ends : start + n ≡ header_end bytes = rw (x, ← same) (omega arith) in
+    let within : start + n ≤ length bytes = omega (arith, ap length after-is, length-drop start bytes) in
     record {
       whole = record { fixed = long; version = version; known = rw (announced, x) refl; within = subst (λ (k : ℕ). k ≤ length bytes) ends within };
       announced = sym announced;

@@ -3,6 +3,8 @@ mod GroupLemmas
 mod BlockLemmas
 mod HeaderLemmas
 mod PacketLemmas
+mod PartsLemmas
+mod PacketElementsLemmas
 mod HeaderFound
 mod PacketChanges
 mod ChangedPackets

@@ -51,7 +51,7 @@ IsFormWord-form_of_word word form is = elim (cases_eq word 0xBEDE) [
 ]
 
 -- how many bytes X announces, and of what form, where these bytes follow the sources
-abbrev announced_len : Bool → List ℕ → ℕ
+abbrev pub announced_len : Bool → List ℕ → ℕ
 announced_len x after = if x then 4 + 4 * word_at after 2 else 0
 
 abbrev announced_form : Bool → List ℕ → Option ExtensionsForm

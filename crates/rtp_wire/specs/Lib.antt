@@ -18,6 +18,7 @@ pub use Rattle.rtp_vla.specs.AllocationEqual
 pub mod Block
 pub mod Packet
 pub mod NotAPacket
+pub mod PacketElements
 pub mod PartsOf
 pub mod Header
 pub mod NotAHeader

@@ -15,6 +15,7 @@ use Rattle.std.specs.Int.{w16, w32, from_be_bytes}
 use Rattle.rtp_ext.specs.declared.ext.form.ExtensionsForm.{ExtensionsForm}
 use Rattle.rtp_base.specs.Flag.{bit}
 use Rattle.rtp_wire.specs.Block.{IsBlock}
+use Rattle.rtp_wire.specs.Padding.{IsUnpadded}
 
 -- what a packet says: the flags and numbers of its header, its block as a form and a body, and its payload with any padding
 pub record PacketParts : Type 0 where
@@ -69,3 +70,16 @@ pub record IsPacket (bytes : List ℕ) (parts : PacketParts) : Type 0 where
   pub fixed_is : IsFixedPart fixed parts
   pub sources_are : AreSourceNumbers groups parts.sources
   pub part_is : IsAnnounced parts.has_extension parts.block part
+
+-- how many bytes the header takes: the fixed ones, four for each source, and a block's four and its body
+abbrev pub block_len : Option (ExtensionsForm × List ℕ) → ℕ
+block_len None = 0
+block_len (Some block) = 4 + length block.1
+
+abbrev pub header_len_of : PacketParts → ℕ
+header_len_of parts = 12 + 4 * length parts.sources + block_len parts.block
+
+-- the payload without its padding: all of it where P is clear, and the bytes before the padding where it is set
+abbrev pub IsWithoutPadding : Bool → List ℕ → List ℕ → Type 0
+IsWithoutPadding false bytes payload = payload ≡ bytes
+IsWithoutPadding true bytes payload = IsUnpadded bytes payload

@@ -11,7 +11,7 @@ pub use header::{
     extend_u15, extend_u16, extend_u32, read_original_sequence_number, unpad_payload,
     write_original_sequence_number,
 };
-pub use packet::{NotAPacket, RtpPacket, RtpPacketMut};
+pub use packet::{Csrcs, NotAPacket, RtpPacket, RtpPacketMut};
 pub use receive::{Receiver, Receivers, Verdict, receive_run, receive_run_one};
 pub use rtp_ext::{
     AbsCaptureTime, Elements, Extension, ExtensionMap, ExtensionValues, ExtensionsForm, Iter,

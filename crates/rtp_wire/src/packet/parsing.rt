@@ -1,6 +1,6 @@
 //! From a datagram to a packet.
 
-ghost use Rattle.std.specs.Prelude.{◌≡◌, ◌↔◌, ℕ, ◌+◌, ◌*◌, ◌≤◌, List, Some, length, IfOk, IfErr, IsErr, IsOkAnd};
+ghost use Rattle.std.specs.Prelude.{◌≡◌, ◌↔◌, ℕ, ◌+◌, ◌*◌, ◌%◌, ◌≤◌, List, Some, length, IfOk, IfErr, IsErr, IsOkAnd};
 ghost use Rattle.rtp_wire.specs.Block.{word_at};
 ghost use Rattle.rtp_wire.specs.NotAHeader.{NotAHeader};
 ghost use Rattle.rtp_wire.specs.NotAPacket.{AppliesToBlock, IsFirst, IsFirstCause};
@@ -38,24 +38,31 @@ impl<'a> RtpPacket<'a> {
         if first >> 6 != 2 {
             return Err(NotAPacket::OtherVersion);
         }
-        let sources_end = 12 + 4 * usize::from(first & 0x0F);
-        let Some((_, after)) = datagram.split_at_checked(sources_end) else {
+        let start = sources_end(first);
+        let Some((_, after)) = datagram.split_at_checked(start) else {
             return Err(NotAPacket::CutSources);
         };
         if first & 0x10 == 0 {
             return Ok(RtpPacket {
                 datagram,
-                header_len: sources_end,
+                header_len: start,
                 form: None,
             });
         }
         let (form, block_len) = first_block(after)?;
         Ok(RtpPacket {
             datagram,
-            header_len: sources_end + block_len,
+            header_len: start + block_len,
             form: Some(form),
         })
     }
+}
+
+// The length of the fixed bytes and the sources, by the first byte.
+pub(super) fn sources_end(first: u8) -> usize
+    ensures { result ≡ 12 + 4 * (first % 16) }
+{
+    12 + 4 * usize::from(first & 0x0F)
 }
 
 // The form of the block at the front of the bytes, and its length.

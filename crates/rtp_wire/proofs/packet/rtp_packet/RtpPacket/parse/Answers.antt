@@ -5,24 +5,24 @@ use Rattle.rtp_wire.specs.NotAPacket.{IsFirst, AppliesToBlock, IsFirstCause}
 use Rattle.rtp_wire.specs.declared.packet.not_a_packet.NotAPacket.TheVariants.{CutSources}
 use Rattle.rtp_wire.specs.Packet.{IsPacket}
 use Rattle.rtp_wire.specs.PartsAt.{parts_at}
-use Rattle.rtp_wire.proofs.HeaderFound.{start_is, x_set, HasHeader-plain, HasHeader-extended}
+use Rattle.rtp_wire.proofs.HeaderFound.{x_set, HasHeader-plain, HasHeader-extended}
 use Rattle.rtp_wire.proofs.PacketLemmas.{one_packet, IsPacket-whole, no_packet}
 use Rattle.rtp_wire.proofs.NotAPacketLemmas.{NotAHeader-applies, no_packet-refused, IsFirstCause-block}
 use Rattle.rtp_wire.proofs.packet.rtp_packet.RtpPacket.parse.Goals as goal
 
 pub returns-in_default-clause-only : goal.returns-in_default-clause-only
 returns-in_default-clause-only c parts is =
-    no_packet c.args.datagram.now CutSources parts (omega (arith, start_is c.args.datagram.now c.from.result c.from.ensures, c.in_default.ensures.cases)) is
+    no_packet c.args.datagram.now CutSources parts (omega (arith, c.sources_end-start.ensures, c.in_default.ensures.cases)) is
 
 pub invariant_of-result : goal.invariant_of-result
 invariant_of-result c =
-    let header = HasHeader-plain c.args.datagram.now c.from.result c.if-datagram-lt12.false c.if-first-ne2.false c.from.ensures c.in-Some.ensures.cases.0 c.if-first-eq0.true in
+    let header = HasHeader-plain c.args.datagram.now c.sources_end-start.result c.if-datagram-lt12.false c.if-first-ne2.false c.sources_end-start.ensures c.in-Some.ensures.cases.0 c.if-first-eq0.true in
     record { fixed = header.whole.fixed; version = header.whole.version; announced = header.announced; known = header.known; ends = header.ends; within = header.within }
 
 pub returns-then-first-eq0-clause-found : goal.returns-then-first-eq0-clause-found
 returns-then-first-eq0-clause-found c =
     IsPacket-whole c.args.datagram.now (omega (arith, c.type_inv.datagram 1))
-    (HasHeader-plain c.args.datagram.now c.from.result c.if-datagram-lt12.false c.if-first-ne2.false c.from.ensures c.in-Some.ensures.cases.0 c.if-first-eq0.true).whole
+    (HasHeader-plain c.args.datagram.now c.sources_end-start.result c.if-datagram-lt12.false c.if-first-ne2.false c.sources_end-start.ensures c.in-Some.ensures.cases.0 c.if-first-eq0.true).whole
 
 pub returns-then-first-eq0-clause-only : goal.returns-then-first-eq0-clause-only
 returns-then-first-eq0-clause-only c parts is = one_packet c.args.datagram.now parts is
@@ -31,7 +31,7 @@ returns-then-first-eq0-clause-only c parts is = one_packet c.args.datagram.now p
 block_cause : (c : goal.After-from_residual) → IsFirstCause c.args.datagram.now c.in_err-form.field-0.0
 block_cause c =
     let bytes = c.args.datagram.now in
-    let start = start_is bytes c.from.result c.from.ensures in
+    let start = c.sources_end-start.ensures in
     let after = c.in-Some.ensures.cases.2 ∙ ap (λ (k : ℕ). drop k bytes) start in
     IsFirstCause-block bytes c.in_err-form.field-0.0 c.if-datagram-lt12.false c.if-first-ne2.false (omega (arith, c.in-Some.ensures.cases.0, start)) (x_set _ c.if-first-eq0.false)
     (subst (λ (b : List ℕ). IsFirst (AppliesToBlock b) c.in_err-form.field-0.0) after c.in_err-form.ensures.cause)
@@ -48,8 +48,8 @@ returns-in_err-form-clause-refused c =
 
 pub invariant_of-result-2 : goal.invariant_of-result-2
 invariant_of-result-2 c =
-    let header = HasHeader-extended c.args.datagram.now c.in-Some.after.now c.from.result c.in_ok-form.block_len c.in_ok-form.form
-    c.if-datagram-lt12.false c.if-first-ne2.false c.from.ensures c.in-Some.ensures.cases.0 c.in-Some.ensures.cases.2
+    let header = HasHeader-extended c.args.datagram.now c.in-Some.after.now c.sources_end-start.result c.in_ok-form.block_len c.in_ok-form.form
+    c.if-datagram-lt12.false c.if-first-ne2.false c.sources_end-start.ensures c.in-Some.ensures.cases.0 c.in-Some.ensures.cases.2
     c.if-first-eq0.false c.in_ok-form.ensures.form c.in_ok-form.ensures.length c.in_ok-form.ensures.within in
     record { fixed = header.whole.fixed; version = header.whole.version; announced = header.announced; known = header.known; ends = header.ends; within = header.within }
 
@@ -57,8 +57,8 @@ invariant_of-result-2 c =
 extended : (c : goal.After-result-2-1) → IsPacket c.args.datagram.now (parts_at c.args.datagram.now)
 extended c =
     IsPacket-whole c.args.datagram.now (omega (arith, c.type_inv.datagram 1))
-    (HasHeader-extended c.args.datagram.now c.in-Some.after.now c.from.result c.in_ok-form.block_len c.in_ok-form.form
-    c.if-datagram-lt12.false c.if-first-ne2.false c.from.ensures c.in-Some.ensures.cases.0 c.in-Some.ensures.cases.2
+    (HasHeader-extended c.args.datagram.now c.in-Some.after.now c.sources_end-start.result c.in_ok-form.block_len c.in_ok-form.form
+    c.if-datagram-lt12.false c.if-first-ne2.false c.sources_end-start.ensures c.in-Some.ensures.cases.0 c.in-Some.ensures.cases.2
     c.if-first-eq0.false c.in_ok-form.ensures.form c.in_ok-form.ensures.length c.in_ok-form.ensures.within).whole
 
 pub returns-clause-found : goal.returns-clause-found
