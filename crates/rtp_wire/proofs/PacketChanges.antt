@@ -1,21 +1,23 @@
 -- A packet whose bytes are changed where they lie: which parts change with them, and which stay.
-use Rattle.std.proofs.Common.{◌≡◌, ℕ, ◌+◌, ◌-◌, ◌*◌, ◌/◌, ◌%◌, ◌<◌, ◌≤◌, ◌^◌, Bool, true, false, List, [], ◌∷◌, ◌++◌, length, map, take, drop, Option, Some, None, refl, sym, ap, subst, ◌∙◌, arith, append_assoc, length-append, length-drop, length-take-le, take_at, drop_at, add-zero}
+use Rattle.std.proofs.Common.{◌≡◌, ℕ, ◌+◌, ◌-◌, ◌*◌, ◌/◌, ◌%◌, ◌<◌, ◌≤◌, ◌^◌, Bool, true, false, bit_and, List, [], ◌∷◌, ◌++◌, length, map, take, drop, Option, Some, None, refl, sym, ap, subst, ◌∙◌, arith, append_assoc, length-append, length-drop, length-take-le, take_at, drop_at, add-zero}
 use Rattle.std.specs.Prelude.{slice_index, slice_range, is_some, option_map, if◌then◌else◌}
 use Rattle.std.specs.Int.{w16, w32, from_be_bytes, to_be_bytes}
 use Rattle.std.specs.Simd.{first_chunks}
 use Rattle.std.proofs.lemmas.Bool.{eq-eqb, ne_eqb}
-use Rattle.std.proofs.lemmas.Nat.{from_be_bytes-to_be_bytes_2, from_be_bytes-to_be_bytes_4}
+use Rattle.std.proofs.lemmas.Nat.{from_be_bytes-to_be_bytes_2, from_be_bytes-to_be_bytes_4, and_mask}
+use Rattle.std.proofs.lemmas.Nat.Bits.{and_pow}
+use Rattle.rtp_base.specs.Flag.{bit}
 use Rattle.std.proofs.lemmas.List.{drop-drop, take-take, take-append-le, get_or-take, get_or-drop}
 use Rattle.rtp_ext.specs.declared.ext.form.ExtensionsForm.{ExtensionsForm}
 use Rattle.rtp_base.specs.Overwriting.{overwritten}
 use Rattle.rtp_base.proofs.OverwritingLemmas.{length-overwritten}
 use Rattle.rtp_wire.specs.Block.{word_at}
 use Rattle.rtp_wire.specs.NotAHeader.{sources_end}
-use Rattle.rtp_wire.specs.Packet.{PacketParts, IsSecondByte}
+use Rattle.rtp_wire.specs.Packet.{PacketParts, IsSecondByte, IsPacket}
 use Rattle.rtp_wire.specs.PartsAt.{IsLaidOut, is_set, form_of_word, has_block, form_in, header_end, parts_at}
 use Rattle.rtp_wire.proofs.BlockLemmas.{slice_range-take}
 use Rattle.rtp_wire.proofs.FlagLemmas.{fields_from_second}
-use Rattle.rtp_wire.proofs.PacketLemmas.{same_parts, IsWhole, IsPacket-whole, whole_and_parts}
+use Rattle.rtp_wire.proofs.PacketLemmas.{bit-is_set, same_parts, IsWhole, whole_and_parts}
 
 -- bytes after those that were put
 pub drop-overwritten : (buf xs : List ℕ) (at k : ℕ) → at + length xs ≤ k → at + length xs ≤ length buf → drop k (overwritten buf at xs) ≡ drop k buf
@@ -192,6 +194,18 @@ marker_is_set : (byte : ℕ) (marker : Bool) (payload_type : ℕ) → IsSecondBy
 marker_is_set byte true payload_type is = let sum = is.sum in let few = is.few in eq-eqb (byte / 128 % 2) 1 (omega arith)
 marker_is_set byte false payload_type is = let sum = is.sum in let few = is.few in ne_eqb (byte / 128 % 2) 1 (omega arith)
 
+-- a second byte with another marker, and one with another payload type
+pub IsSecondByte-marked : (byte : ℕ) (marker : Bool) → IsSecondByte (bit marker * 128 + bit_and byte 127) marker (byte % 128)
+IsSecondByte-marked byte marker =
+    let low : bit_and byte 127 ≡ byte % 128 = and_mask byte 7 in
+    record { sum = ap (λ (n : ℕ). bit marker * 128 + n) low; few = omega arith }
+
+pub IsSecondByte-typed : (byte payload_type : ℕ) → payload_type ≤ 127 → IsSecondByte (bit_and byte 128 + payload_type) (is_set byte 128) payload_type
+IsSecondByte-typed byte payload_type few = record {
+  sum = ap (λ (n : ℕ). n + payload_type) (and_pow byte 7 ∙ ap (λ (n : ℕ). n * 128) (sym (bit-is_set byte 128)));
+  few = few;
+}
+
 -- each number that is put in its place
 pub parts-number : (old : List ℕ) (number : ℕ) → number < 2 ^ 16 → 12 ≤ length old
     → parts_at (overwritten old 2 (to_be_bytes w16 number)) ≡ record (parts_at old) { sequence_number = number }
@@ -265,14 +279,14 @@ HasShape-laid_out bytes header_len form is =
     let within = p.0.within in
     record { whole = p.0; form_is = is.form_is ∙ block; end_is = omega (arith, ap length payload, length-drop (header_end bytes) bytes) }
 
-pub IsLaidOut-shape : (bytes : List ℕ) (header_len : ℕ) (form : Option ExtensionsForm) → slice_index bytes 1 < 256 → HasShape bytes header_len form → IsLaidOut bytes header_len form
+pub IsLaidOut-shape : (bytes : List ℕ) (header_len : ℕ) (form : Option ExtensionsForm) → IsPacket bytes (parts_at bytes) → HasShape bytes header_len form → IsLaidOut bytes header_len form
 unfolding parts_at
-IsLaidOut-shape bytes header_len form fits shape =
+IsLaidOut-shape bytes header_len form is shape =
     let within = shape.whole.within in
     let end_is = shape.end_is in
     record {
       parts = parts_at bytes;
-      is_packet = IsPacket-whole bytes fits shape.whole;
+      is_packet = is;
       form_is = shape.form_is ∙ sym (form-block (form_in bytes) _);
       len_is = omega (arith, length-drop (header_end bytes) bytes);
     }

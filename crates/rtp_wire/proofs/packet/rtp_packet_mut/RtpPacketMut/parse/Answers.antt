@@ -1,7 +1,8 @@
 use Rattle.std.proofs.Common.{ap, sym, subst, ◌∙◌, arith, List, ℕ}
 use Rattle.std.proofs.lemmas.Result.{err_from_is_err_and}
-use Rattle.rtp_wire.specs.PartsAt.{parts_at, IsLaidOut}
-use Rattle.rtp_wire.proofs.PacketChanges.{IsLaidOut-shape}
+use Rattle.rtp_wire.specs.PartsAt.{parts_at}
+use Rattle.rtp_wire.specs.Packet.{IsPacket}
+use Rattle.rtp_wire.proofs.PacketChanges.{HasShape, IsLaidOut-shape}
 use Rattle.rtp_wire.proofs.PacketLemmas.{one_packet}
 use Rattle.rtp_wire.proofs.ChangedPackets.{shape_in}
 use Rattle.rtp_wire.proofs.packet.rtp_packet_mut.RtpPacketMut.parse.Goals as goal
@@ -12,8 +13,11 @@ returns-in_err-packet-clause-only c parts is = absurd (c.in_err-packet.ensures.o
 pub new-requires : goal.new-requires
 new-requires c =
     let packet = c.in_ok-packet.packet in
-    subst (λ (bytes : List ℕ). IsLaidOut bytes packet.header_len packet.form) c.in_ok-packet.ensures.bytes
-    (IsLaidOut-shape packet.datagram.now packet.header_len packet.form (rw c.in_ok-packet.ensures.bytes (c.type_inv.datagram 1)) (shape_in packet))
+    let bytes = c.args.datagram.now in
+    let is = c.in_ok-packet.ensures.bytes in
+    IsLaidOut-shape bytes packet.header_len packet.form
+    (subst (λ (b : List ℕ). IsPacket bytes (parts_at b)) is c.in_ok-packet.ensures.found)
+    (subst (λ (b : List ℕ). HasShape b packet.header_len packet.form) is (shape_in packet))
 
 pub returns-clause-only : goal.returns-clause-only
 returns-clause-only c parts is = ap parts_at c.new.ensures.same_bytes ∙ one_packet c.args.datagram.now parts is
