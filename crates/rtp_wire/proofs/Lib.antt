@@ -7,6 +7,7 @@ mod PartsLemmas
 mod PacketElementsLemmas
 mod HeaderFound
 mod PacketChanges
+mod PacketParts
 mod ChangedPackets
 mod NotAPacketLemmas
 mod OneHeader

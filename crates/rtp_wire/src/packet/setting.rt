@@ -1,6 +1,6 @@
 //! The fields of the fixed part, changed where they lie.
 
-ghost use Rattle.std.specs.Prelude.{◌≡◌, ◌+◌, ◌<◌, ◌≤◌, length};
+ghost use Rattle.std.specs.Prelude.{◌≡◌, ◌↔◌, ◌+◌, ◌<◌, ◌≤◌, length, slice_set, IsTrue, false};
 ghost use Rattle.rtp_base.specs.Overwriting.{overwritten};
 
 use super::RtpPacketMut;
@@ -62,5 +62,21 @@ impl<'a> RtpPacketMut<'a> {
         ensures same_buffer { (buffer_of self.new).ghost_name ≡ (buffer_of self.old).ghost_name }
     {
         self.put_fixed(8, &ssrc.get().to_be_bytes());
+    }
+
+    /// Sets the contributing source at this place of the CSRC list, counted from 0. Returns `false`,
+    /// and changes nothing, where the list has no such place.
+    pub fn set_csrc(&mut self, index: usize, source: u32) -> bool
+        ensures found { IsTrue result ↔ (index < length (parts_in self.old).sources) }
+        ensures parts { IsTrue result → parts_in self.new
+            ≡ record (parts_in self.old) { sources = slice_set (parts_in self.old).sources index source } }
+        ensures unchanged { result ≡ false → self.new ≡ self.old }
+        ensures same_buffer { (buffer_of self.new).ghost_name ≡ (buffer_of self.old).ghost_name }
+    {
+        if index >= usize::from(self.datagram[0] & 0x0F) {
+            return false;
+        }
+        put(self.datagram, 12 + 4 * index, &source.to_be_bytes());
+        true
     }
 }
