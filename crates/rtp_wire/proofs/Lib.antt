@@ -5,6 +5,9 @@ mod PacketLemmas
 mod PartsLemmas
 mod PacketElementsLemmas
 mod HeaderFound
+mod PacketChanges
+mod PacketParts
+mod ChangedPackets
 mod NotAPacketLemmas
 mod ValuesLemmas
 mod HeaderLemmas

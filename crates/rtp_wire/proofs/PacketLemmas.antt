@@ -160,7 +160,7 @@ unfoldable all_parts : Bool → Bool → Bool → ℕ → ℕ → ℕ → ℕ �
 all_parts padding extension marker payload_type number timestamp ssrc sources block payload = record { has_padding = padding; has_extension = extension; marker = marker; payload_type = payload_type; sequence_number = number; timestamp = timestamp; ssrc = ssrc; sources = sources; block = block; payload = payload }
 
 -- parts with the same fields are one
-same_parts : (p q : PacketParts) → p.has_padding ≡ q.has_padding → p.has_extension ≡ q.has_extension → p.marker ≡ q.marker → p.payload_type ≡ q.payload_type
+pub same_parts : (p q : PacketParts) → p.has_padding ≡ q.has_padding → p.has_extension ≡ q.has_extension → p.marker ≡ q.marker → p.payload_type ≡ q.payload_type
     → p.sequence_number ≡ q.sequence_number → p.timestamp ≡ q.timestamp → p.ssrc ≡ q.ssrc → p.sources ≡ q.sources → p.block ≡ q.block → p.payload ≡ q.payload → p ≡ q
 unfolding all_parts
 same_parts p q padding extension marker payload_type number timestamp ssrc sources block payload =
@@ -168,7 +168,7 @@ same_parts p q padding extension marker payload_type number timestamp ssrc sourc
     fields
 
 -- a packet's bytes are whole, and its parts are those at their offsets
-whole_and_parts : (bytes : List ℕ) (parts : PacketParts) → IsPacket bytes parts → IsWhole bytes × (parts ≡ parts_at bytes)
+pub whole_and_parts : (bytes : List ℕ) (parts : PacketParts) → IsPacket bytes parts → IsWhole bytes × (parts ≡ parts_at bytes)
 unfolding parts_at header_end form_in
 whole_and_parts bytes parts is =
     let after-fixed = concat is.groups ++ (is.part ++ parts.payload) in

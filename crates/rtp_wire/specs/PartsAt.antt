@@ -1,12 +1,12 @@
 -- The parts of a packet at their offsets in its bytes.
-use Rattle.std.specs.Prelude.{ℕ, ◌+◌, ◌*◌, ◌/◌, ◌%◌, List, drop, map, slice_index, slice_range, Bool, nat_eq, nat_le, ◌&&◌, if◌then◌else◌, Option, Some, None, option_map}
+use Rattle.std.specs.Prelude.{◌≡◌, ℕ, ◌+◌, ◌*◌, ◌/◌, ◌%◌, List, length, drop, map, slice_index, slice_range, Bool, nat_eq, nat_le, ◌&&◌, if◌then◌else◌, Option, Some, None, option_map}
 use Rattle.std.specs.Int.{w32, from_be_bytes}
 use Rattle.std.specs.Simd.{first_chunks}
 use Rattle.rtp_ext.specs.declared.ext.form.ExtensionsForm.{ExtensionsForm}
 use Rattle.rtp_ext.specs.declared.ext.form.ExtensionsForm.TheVariants.{OneByte, TwoByte}
 use Rattle.rtp_wire.specs.Block.{word_at}
 use Rattle.rtp_wire.specs.NotAHeader.{sources_end}
-use Rattle.rtp_wire.specs.Packet.{PacketParts}
+use Rattle.rtp_wire.specs.Packet.{PacketParts, IsPacket}
 
 -- whether the bit of this worth is set in a byte
 abbrev pub is_set : ℕ → ℕ → Bool
@@ -42,3 +42,10 @@ parts_at bytes = record {
   block = option_map (λ form. (form, slice_range bytes (sources_end bytes + 4) (header_end bytes))) (form_in bytes);
   payload = drop (header_end bytes) bytes;
 }
+
+-- the bytes are a packet with a header of this length and a block of this form, and without a block where there is no form
+pub record IsLaidOut (bytes : List ℕ) (header_len : ℕ) (form : Option ExtensionsForm) : Type 0 where
+  pub parts : PacketParts
+  pub is_packet : IsPacket bytes parts
+  pub form_is : form ≡ option_map (λ block. block.0) parts.block
+  pub len_is : header_len + length parts.payload ≡ length bytes

@@ -1,8 +1,23 @@
 -- The parts of a packet as callers see them.
 use Rattle.rtp_wire.specs.declared.packet.rtp_packet.RtpPacket.{RtpPacket}
+use Rattle.std.specs.Prelude.{ℕ, List}
+use Rattle.std.specs.Borrow.{MutBor}
+use Rattle.rtp_wire.specs.declared.packet.rtp_packet_mut.RtpPacketMut.{RtpPacketMut}
 use Rattle.rtp_wire.specs.Packet.{PacketParts}
 use Rattle.rtp_wire.specs.PartsAt.{parts_at}
 
 -- what stands in the datagram that it was read from
 abbrev pub parts_of : RtpPacket → PacketParts
 parts_of packet = parts_at packet.datagram.now
+
+-- the bytes of the datagram
+abbrev pub bytes_of : RtpPacket → List ℕ
+bytes_of packet = packet.datagram.now
+
+-- the buffer of a packet that can be changed
+abbrev pub buffer_of : RtpPacketMut → MutBor (List ℕ)
+buffer_of packet = packet.datagram
+
+-- what stands in the buffer
+abbrev pub parts_in : RtpPacketMut → PacketParts
+parts_in packet = parts_at packet.datagram.now

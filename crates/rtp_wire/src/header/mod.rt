@@ -6,3 +6,4 @@ mod rtp_header;
 mod writing;
 
 pub use rtp_header::RtpHeader;
+pub(crate) use writing::flag;

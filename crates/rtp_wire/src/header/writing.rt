@@ -31,7 +31,7 @@ fn put_sources(buf: &mut [u8], at: usize, sources: &[u32]) -> usize
 }
 
 // Whether a flag is set, as the number that it adds to its byte.
-fn flag(is_set: bool, worth: u8) -> u8
+pub(crate) fn flag(is_set: bool, worth: u8) -> u8
     ensures { result ≡ bit is_set * worth }
 {
     if is_set { worth } else { 0 }

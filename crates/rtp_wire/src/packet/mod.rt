@@ -8,8 +8,11 @@ mod not_a_packet;
 mod parsing;
 mod payload;
 mod rtp_packet;
+mod rtp_packet_mut;
+mod setting;
 mod values;
 
 pub use csrcs::Csrcs;
 pub use not_a_packet::NotAPacket;
 pub use rtp_packet::RtpPacket;
+pub use rtp_packet_mut::RtpPacketMut;

@@ -11,7 +11,7 @@ use super::{NotAPacket, RtpPacket};
 use rtp_ext::ExtensionsForm;
 
 impl<'a> RtpPacket<'a> {
-    ghost use Rattle.rtp_wire.specs.PartsOf.{parts_of};
+    ghost use Rattle.rtp_wire.specs.PartsOf.{parts_of, bytes_of};
 
     /// Returns the packet that the datagram is (RFC 3550, 5.1 and 5.3.1; RFC 8285, 4), or the first
     /// cause for which it is none. Only the header is looked at, and nothing is allocated.
@@ -24,6 +24,8 @@ impl<'a> RtpPacket<'a> {
         ensures found { IfOk result (λ packet. IsPacket datagram.now (parts_of packet)) }
         ensures only { (parts : PacketParts) → IsPacket datagram.now parts →
             IsOkAnd result (λ packet. parts_of packet ≡ parts) }
+
+        ensures bytes { IfOk result (λ packet. bytes_of packet ≡ datagram.now) }
 
         // The cause is the first that applies, and there are no others.
         ensures cause { IfErr result (IsFirstCause datagram.now) }

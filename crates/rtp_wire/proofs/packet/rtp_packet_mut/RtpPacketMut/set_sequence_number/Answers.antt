@@ -1,0 +1,11 @@
+use Rattle.std.proofs.Common.{ap, ◌∙◌, arith}
+use Rattle.rtp_base.specs.Overwriting.{overwritten}
+use Rattle.rtp_wire.specs.PartsAt.{parts_at}
+use Rattle.rtp_wire.proofs.PacketChanges.{parts-number}
+use Rattle.rtp_wire.proofs.packet.rtp_packet_mut.RtpPacketMut.set_sequence_number.Goals as goal
+
+pub returns-clause-parts : goal.returns-clause-parts
+returns-clause-parts c =
+    let old = c.args.self.now in
+    ap parts_at (c.put_fixed.ensures.written ∙ ap (overwritten old.datagram.now 2) c.to_be_bytes.ensures)
+    ∙ parts-number old.datagram.now c.args.number (omega (arith, c.ranges.number.fits)) old.fixed

@@ -1,0 +1,11 @@
+use Rattle.std.proofs.Common.{ap, ◌∙◌, arith}
+use Rattle.rtp_base.specs.Overwriting.{overwritten}
+use Rattle.rtp_wire.specs.PartsAt.{parts_at}
+use Rattle.rtp_wire.proofs.PacketChanges.{parts-timestamp}
+use Rattle.rtp_wire.proofs.packet.rtp_packet_mut.RtpPacketMut.set_timestamp.Goals as goal
+
+pub returns-clause-parts : goal.returns-clause-parts
+returns-clause-parts c =
+    let old = c.args.self.now in
+    ap parts_at (c.put_fixed.ensures.written ∙ ap (overwritten old.datagram.now 4) c.to_be_bytes.ensures)
+    ∙ parts-timestamp old.datagram.now c.args.timestamp (omega (arith, c.ranges.timestamp.fits)) old.fixed
