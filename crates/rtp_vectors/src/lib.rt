@@ -69,6 +69,10 @@ mod maps;
 #[cfg(test)]
 mod packet_ends;
 #[cfg(test)]
+mod packets;
+#[cfg(test)]
+mod packets_changed;
+#[cfg(test)]
 mod printed_values;
 #[cfg(test)]
 mod receivers;

@@ -1,5 +1,5 @@
 -- A packet whose bytes are changed between two offsets after the fixed part: in the CSRC list, or in the body of its block.
-use Rattle.std.proofs.Common.{◌≡◌, ℕ, zero, suc, ◌+◌, ◌-◌, ◌*◌, ◌/◌, ◌%◌, ◌<◌, ◌≤◌, Bool, List, [], ◌∷◌, ◌++◌, ◌^◌, length, map, take, drop, Option, None, refl, sym, ap, ◌∙◌, arith, set, length-drop, length-take-le, take_at, drop_at}
+use Rattle.std.proofs.Common.{◌≡◌, ℕ, zero, suc, ◌+◌, ◌-◌, ◌*◌, ◌/◌, ◌%◌, ◌<◌, ◌≤◌, List, [], ◌∷◌, ◌++◌, ◌^◌, length, map, take, drop, Option, None, refl, sym, ap, ◌∙◌, arith, set, length-drop, length-take-le, take_at, drop_at}
 use Rattle.std.specs.Prelude.{slice_index, slice_range, is_some, option_map, if◌then◌else◌}
 use Rattle.std.specs.Int.{w16, w32, from_be_bytes, to_be_bytes}
 use Rattle.std.specs.Simd.{first_chunks}
@@ -10,11 +10,10 @@ use Rattle.rtp_base.specs.Overwriting.{overwritten}
 use Rattle.rtp_base.proofs.OverwritingLemmas.{length-overwritten, overwritten-front}
 use Rattle.rtp_wire.specs.Block.{word_at}
 use Rattle.rtp_wire.specs.NotAHeader.{sources_end}
-use Rattle.rtp_wire.specs.Packet.{PacketParts}
 use Rattle.rtp_wire.specs.PartsAt.{is_set, form_of_word, has_block, form_in, header_end, parts_at}
-use Rattle.rtp_wire.proofs.BlockLemmas.{slice_range-take, word_at-take}
+use Rattle.rtp_wire.proofs.BlockLemmas.{slice_range-take}
 use Rattle.rtp_wire.proofs.GroupLemmas.{length-first_chunks}
-use Rattle.rtp_wire.proofs.PacketLemmas.{same_parts, IsWhole}
+use Rattle.rtp_wire.proofs.PacketLemmas.{same_parts}
 use Rattle.rtp_wire.proofs.PacketChanges.{HasShape, drop-overwritten, take-overwritten}
 
 -- a change between two offsets

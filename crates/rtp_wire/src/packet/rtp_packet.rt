@@ -22,3 +22,28 @@ pub struct RtpPacket<'a> {
     ghost ends: { header_len ≡ header_end datagram.now },
     ghost within: { header_len ≤ length datagram.now },
 }
+
+impl<'a> RtpPacket<'a> {
+    ghost use Rattle.rtp_wire.specs.PartsOf.{bytes_of};
+
+    // The packet in the datagram, whose header ends here and whose block has this form.
+    pub(super) fn found(
+        datagram: &'a [u8],
+        header_len: usize,
+        form: Option<ExtensionsForm>,
+    ) -> Self
+        requires fixed { 12 ≤ length datagram.now }
+        requires version { slice_index datagram.now 0 / 64 ≡ 2 }
+        requires announced { form ≡ form_in datagram.now }
+        requires known { is_some form ≡ has_block datagram.now }
+        requires ends { header_len ≡ header_end datagram.now }
+        requires within { header_len ≤ length datagram.now }
+        ensures { bytes_of result ≡ datagram.now }
+    {
+        RtpPacket {
+            datagram,
+            header_len,
+            form,
+        }
+    }
+}

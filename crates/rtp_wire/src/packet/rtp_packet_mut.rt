@@ -63,11 +63,7 @@ impl<'a> RtpPacketMut<'a> {
         ensures parts { parts_of result ≡ parts_in self.now }
         ensures bytes { bytes_of result ≡ (buffer_of self.now).now }
     {
-        RtpPacket {
-            datagram: self.datagram,
-            header_len: self.header_len,
-            form: self.form,
-        }
+        RtpPacket::found(self.datagram, self.header_len, self.form)
     }
 
     /// The buffer, to encrypt the payload in place, say.

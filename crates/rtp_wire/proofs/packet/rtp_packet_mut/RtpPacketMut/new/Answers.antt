@@ -1,4 +1,4 @@
-use Rattle.std.proofs.Common.{ap, sym, ◌∙◌, arith}
+use Rattle.std.proofs.Common.{ap, ◌∙◌, arith}
 use Rattle.std.specs.Prelude.{is_some}
 use Rattle.rtp_wire.proofs.PacketChanges.{HasShape-laid_out}
 use Rattle.rtp_wire.proofs.packet.rtp_packet_mut.RtpPacketMut.new.Goals as goal

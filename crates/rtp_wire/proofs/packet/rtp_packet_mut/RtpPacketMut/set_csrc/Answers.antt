@@ -1,11 +1,10 @@
-use Rattle.std.proofs.Common.{◌≡◌, ◌+◌, ◌*◌, ◌%◌, ◌<◌, ◌≤◌, ℕ, List, length, refl, ap, sym, subst, ◌∙◌, arith}
+use Rattle.std.proofs.Common.{◌≡◌, ◌+◌, ◌*◌, ◌%◌, ◌<◌, ◌≤◌, length, refl, ap, sym, subst, ◌∙◌, arith}
 use Rattle.std.specs.Prelude.{is_some, slice_index}
 use Rattle.std.specs.Int.{w32, to_be_bytes}
 use Rattle.std.proofs.lemmas.Nat.{and_mask}
 use Rattle.rtp_base.specs.Overwriting.{overwritten}
 use Rattle.rtp_wire.specs.NotAHeader.{sources_end}
 use Rattle.rtp_wire.specs.PartsAt.{parts_at}
-use Rattle.rtp_wire.proofs.PacketChanges.{HasShape}
 use Rattle.rtp_wire.proofs.PacketParts.{IsBetween, IsBetween-put, HasShape-in_sources, parts-source, sources_len, sources_fit}
 use Rattle.rtp_wire.proofs.ChangedPackets.{shape_of}
 use Rattle.std.proofs.lemmas.Bool.{false≢true}
