@@ -164,8 +164,8 @@ pub IsPassed-none : (form : ExtensionsForm) (body : List ℕ) (at id : ℕ) (las
 IsPassed-none form body at id (Some place) was none elements are = tt
 IsPassed-none form body at id None was none elements are =
     let all : AreElements form body (was.elements ++ []) =
-      subst (λ b. AreElements form b (was.elements ++ [])) (sym was.body_is)
-      (AreElements-after form was.passed was.left was.elements [] was.are_whole (ended_left form body at id None was none)) in
+    subst (λ b. AreElements form b (was.elements ++ [])) (sym was.body_is)
+    (AreElements-after form was.passed was.left was.elements [] was.are_whole (ended_left form body at id None was none)) in
     subst (λ es. HasNone es id) (sym (append-nil was.elements) ∙ AreElements-same form body (was.elements ++ []) elements all are) was.last_is
 
 -- the last of an id is one
@@ -205,7 +205,7 @@ pub SetsLast-at : (form : ExtensionsForm) (id : ℕ) (bytes body new : List ℕ)
 SetsLast-at form id bytes body new place is len written =
     let as_many : length is.was ≡ length bytes = omega (arith, is.end_is) in
     let new_is : new ≡ is.front ++ (bytes ++ is.rest) =
-      written ∙ (ap (λ b. overwritten b place.data_start bytes) is.body_is ∙ overwritten-at is.front is.was is.rest bytes place.data_start is.data_is as_many) in
+    written ∙ (ap (λ b. overwritten b place.data_start bytes) is.body_is ∙ overwritten-at is.front is.was is.rest bytes place.data_start is.data_is as_many) in
     record {
       front = is.front;
       was = is.was;

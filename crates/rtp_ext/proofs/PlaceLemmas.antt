@@ -40,7 +40,7 @@ pub renumbered_at : (form : ExtensionsForm) (body front bytes after : List ℕ) 
 renumbered_at form body front bytes after start len old id is start_is len_is =
     let header : List ℕ = header_bytes form id (length bytes) in
     let split : body ≡ front ++ (header_bytes form old (length bytes) ++ (bytes ++ after)) =
-      is ∙ ap (λ b. front ++ b) (ap (λ b. b ++ after) (element_bytes-split form old bytes) ∙ append_assoc (header_bytes form old (length bytes)) bytes after) in
+    is ∙ ap (λ b. front ++ b) (ap (λ b. b ++ after) (element_bytes-split form old bytes) ∙ append_assoc (header_bytes form old (length bytes)) bytes after) in
     ap (λ n. overwritten body start (header_bytes form id n)) len_is
     ∙ (ap (λ b. overwritten b start header) split
     ∙ (overwritten-at front (header_bytes form old (length bytes)) (bytes ++ after) header start start_is (length-header form old id (length bytes))

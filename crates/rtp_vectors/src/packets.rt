@@ -27,7 +27,12 @@ fn fields(rt: HostRuntime) {
     same(&rt, "length", packet.header_len(), 40);
     same(&rt, "form", packet.form(), Some(OneByte));
     same(&rt, "payload", packet.payload(), &[1, 2, 3, 4]);
-    same(&rt, "all of it", packet.unpadded_payload(), Some(packet.payload()));
+    same(
+        &rt,
+        "all of it",
+        packet.unpadded_payload(),
+        Some(packet.payload()),
+    );
 }
 
 #[test]
@@ -92,7 +97,12 @@ const LAST: [(&str, ExtensionsForm, u8, Option<&[u8]>); 13] = [
     ("bede000210aaf0bb10cc0000", OneByte, 1, Some(&[0xAA])),
     ("bede000210aaf0bb10cc0000", OneByte, 15, None),
     ("bede000210aa00000032bbcc", OneByte, 3, None),
-    ("100000030101aa0202bbcc0101dd0000", TwoByte, 1, Some(&[0xDD])),
+    (
+        "100000030101aa0202bbcc0101dd0000",
+        TwoByte,
+        1,
+        Some(&[0xDD]),
+    ),
     ("100000020101aa0f01bb0300", TwoByte, 3, Some(&[])),
     ("100f00020101aa0f01bb0300", TwoByte, 15, Some(&[0xBB])),
 ];
@@ -156,7 +166,10 @@ const NONE: [(&str, NotAPacket); 10] = [
     ("9021b798000027100000002cbede00", NotAPacket::CutBlockHeader),
     ("9021b798000027100000002cabcd0000", NotAPacket::UnknownForm),
     ("9021b798000027100000002c10100001", NotAPacket::UnknownForm),
-    ("9021b798000027100000002cbede000110aa00", NotAPacket::CutBlock),
+    (
+        "9021b798000027100000002cbede000110aa00",
+        NotAPacket::CutBlock,
+    ),
 ];
 
 #[test]
@@ -200,7 +213,12 @@ fn is_like_its_header(rt: &impl Abort, alloc: Global, bytes: &[u8]) {
         holds(rt, "the header", read == header);
         holds(rt, "the values", values == header.ext_vals);
         same(rt, "its length", packet.header_len(), header.header_len);
-        same(rt, "payload", packet.payload(), bytes.get(header.header_len..).unwrap_or(&[]));
+        same(
+            rt,
+            "payload",
+            packet.payload(),
+            bytes.get(header.header_len..).unwrap_or(&[]),
+        );
     }
 }
 

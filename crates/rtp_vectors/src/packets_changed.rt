@@ -24,7 +24,12 @@ fn numbers(rt: HostRuntime) {
     packet.set_timestamp(0x89AB_CDEF);
     packet.set_ssrc(Ssrc::from(0x0102_0304));
     same(&rt, "number", packet.as_packet().sequence_number(), 0x1234);
-    same(&rt, "timestamp", packet.as_packet().timestamp(), 0x89AB_CDEF);
+    same(
+        &rt,
+        "timestamp",
+        packet.as_packet().timestamp(),
+        0x89AB_CDEF,
+    );
     same(&rt, "SSRC", packet.as_packet().ssrc().get(), 0x0102_0304);
     let wanted = "93ef123489abcdef010203040000006412345678ffffffff\
 bede000310aa3101024278596aa0780001020304";
@@ -51,7 +56,12 @@ fn sources(rt: HostRuntime) {
     let mut bytes = bytes_of(&rt, rt.alloc(), PACKET);
     let mut packet = RtpPacketMut::parse(&mut bytes).expect(&rt, "a packet");
     same(&rt, "none there", packet.set_csrc(3, 0x0506_0708), false);
-    same(&rt, "far off", packet.set_csrc(usize::MAX, 0x0506_0708), false);
+    same(
+        &rt,
+        "far off",
+        packet.set_csrc(usize::MAX, 0x0506_0708),
+        false,
+    );
     same(&rt, "the second", packet.set_csrc(1, 0xCAFE_BABE), true);
     same(&rt, "the last", packet.set_csrc(2, 0x0102_0304), true);
     let wanted = "93efb798000027102e5715f900000064cafebabe01020304\
@@ -64,28 +74,57 @@ fn refused(rt: HostRuntime) {
     let mut bytes = bytes_of(&rt, rt.alloc(), "9021b798000027100000002cabcd0000");
     let cause = RtpPacketMut::parse(&mut bytes).err();
     same(&rt, "cause", cause, Some(NotAPacket::UnknownForm));
-    are(&rt, rt.alloc(), "all", &bytes, "9021b798000027100000002cabcd0000");
+    are(
+        &rt,
+        rt.alloc(),
+        "all",
+        &bytes,
+        "9021b798000027100000002cabcd0000",
+    );
 }
 
 // A body, an id and data, and the body with these data in the last element of the id: none where no
 // element has the id, or has as many bytes.
 const SET: [(ExtensionsForm, &str, u8, &[u8], Option<&str>); 9] = [
-    (OneByte, "10aa21bbcc10dd00", 1, &[0xEE], Some("10aa21bbcc10ee00")),
+    (
+        OneByte,
+        "10aa21bbcc10dd00",
+        1,
+        &[0xEE],
+        Some("10aa21bbcc10ee00"),
+    ),
     (OneByte, "10aa21bbcc10dd00", 1, &[0xEE, 0xEF], None),
     (OneByte, "10aa21bbcc10dd00", 2, &[1], None),
     (OneByte, "10aa21bbcc10dd00", 3, &[0xEE], None),
     (OneByte, "10aaf0bb10cc", 15, &[0xEE], None),
     (OneByte, "10aa32bbcc", 3, &[1, 2, 3], None),
     (OneByte, "01778810aa00", 0, &[1, 2], Some("01010210aa00")),
-    (TwoByte, "0101aa0202bbcc0101dd0000", 1, &[0xEE], Some("0101aa0202bbcc0101ee0000")),
-    (TwoByte, "0101aa0f01bb0300", 3, &[], Some("0101aa0f01bb0300")),
+    (
+        TwoByte,
+        "0101aa0202bbcc0101dd0000",
+        1,
+        &[0xEE],
+        Some("0101aa0202bbcc0101ee0000"),
+    ),
+    (
+        TwoByte,
+        "0101aa0f01bb0300",
+        3,
+        &[],
+        Some("0101aa0f01bb0300"),
+    ),
 ];
 
 #[test]
 fn elements(rt: HostRuntime) {
     for &(form, old, id, data, new) in &SET {
         let mut body = bytes_of(&rt, rt.alloc(), old);
-        same(&rt, old, set_element(form, &mut body, id, data), new.is_some());
+        same(
+            &rt,
+            old,
+            set_element(form, &mut body, id, data),
+            new.is_some(),
+        );
         are(&rt, rt.alloc(), old, &body, new.unwrap_or(old));
         if new.is_some() {
             same(&rt, old, element_of(form, &body, id), Some(data));

@@ -142,11 +142,11 @@ parts-in_fixed_part old new is =
     ap (λ (form : Option ExtensionsForm). block_by form (slice_range new (sources_end new + 4) (header_end new))) stays.form_is ∙ ap (block_by (form_in old)) body in
     let past : 12 ≤ header_end old = end_past old in
     same_parts (parts_at new) (with_fixed_part (parts_at old) new)
-        (ap (λ (first : ℕ). is_set first 32) is.first_is) stays.has_block_is refl refl refl refl refl
-        (ap (λ (first : ℕ). map (from_be_bytes w32) (first_chunks 4 (first % 16) (drop 12 new))) is.first_is
-        ∙ ap (λ (rest : List ℕ). map (from_be_bytes w32) (first_chunks 4 (slice_index old 0 % 16) rest)) is.rest_is)
-        block
-        (ap (λ (k : ℕ). drop k new) stays.end_is ∙ rest_at old new is (header_end old) past)
+    (ap (λ (first : ℕ). is_set first 32) is.first_is) stays.has_block_is refl refl refl refl refl
+    (ap (λ (first : ℕ). map (from_be_bytes w32) (first_chunks 4 (first % 16) (drop 12 new))) is.first_is
+    ∙ ap (λ (rest : List ℕ). map (from_be_bytes w32) (first_chunks 4 (slice_index old 0 % 16) rest)) is.rest_is)
+    block
+    (ap (λ (k : ℕ). drop k new) stays.end_is ∙ rest_at old new is (header_end old) past)
 
 -- the parts after such a change, by the fields that stand in the fixed bytes
 pub parts-fixed : (old new : List ℕ) (marker : Bool) (payload_type number timestamp ssrc : ℕ) → IsInFixedPart old new
@@ -157,8 +157,8 @@ unfolding with_fixed_part
 parts-fixed old new marker payload_type number timestamp ssrc is marker-is type-is number-is timestamp-is ssrc-is =
     parts-in_fixed_part old new is
     ∙ same_parts (with_fixed_part (parts_at old) new)
-        (record (parts_at old) { marker = marker; payload_type = payload_type; sequence_number = number; timestamp = timestamp; ssrc = ssrc })
-        refl refl marker-is type-is number-is timestamp-is ssrc-is refl refl refl
+    (record (parts_at old) { marker = marker; payload_type = payload_type; sequence_number = number; timestamp = timestamp; ssrc = ssrc })
+    refl refl marker-is type-is number-is timestamp-is ssrc-is refl refl refl
 
 -- what is known of a packet's bytes with its header's length and its block's form
 pub record HasShape (bytes : List ℕ) (header_len : ℕ) (form : Option ExtensionsForm) : Type 0 where
@@ -215,10 +215,10 @@ parts-number old number fits long =
     let new = overwritten old 2 xs in
     let second = index-before old xs 2 1 (omega arith) (omega arith) in
     parts-fixed old new _ _ number _ _ (IsInFixedPart-put old xs 2 (omega arith) (omega arith) long)
-        (ap (λ (byte : ℕ). is_set byte 128) second) (ap (λ (byte : ℕ). byte % 128) second)
-        (ap (from_be_bytes w16) (range-put old xs 2 4 refl (omega arith)) ∙ from_be_bytes-to_be_bytes_2 number fits)
-        (ap (from_be_bytes w32) (range-after old xs 2 4 8 (omega arith) (omega arith)))
-        (ap (from_be_bytes w32) (range-after old xs 2 8 12 (omega arith) (omega arith)))
+    (ap (λ (byte : ℕ). is_set byte 128) second) (ap (λ (byte : ℕ). byte % 128) second)
+    (ap (from_be_bytes w16) (range-put old xs 2 4 refl (omega arith)) ∙ from_be_bytes-to_be_bytes_2 number fits)
+    (ap (from_be_bytes w32) (range-after old xs 2 4 8 (omega arith) (omega arith)))
+    (ap (from_be_bytes w32) (range-after old xs 2 8 12 (omega arith) (omega arith)))
 
 pub parts-timestamp : (old : List ℕ) (timestamp : ℕ) → timestamp < 2 ^ 32 → 12 ≤ length old
     → parts_at (overwritten old 4 (to_be_bytes w32 timestamp)) ≡ record (parts_at old) { timestamp = timestamp }
@@ -228,10 +228,10 @@ parts-timestamp old timestamp fits long =
     let new = overwritten old 4 xs in
     let second = index-before old xs 4 1 (omega arith) (omega arith) in
     parts-fixed old new _ _ _ timestamp _ (IsInFixedPart-put old xs 4 (omega arith) (omega arith) long)
-        (ap (λ (byte : ℕ). is_set byte 128) second) (ap (λ (byte : ℕ). byte % 128) second)
-        (ap (from_be_bytes w16) (range-before old xs 4 2 4 (omega arith) (omega arith) (omega arith)))
-        (ap (from_be_bytes w32) (range-put old xs 4 8 refl (omega arith)) ∙ from_be_bytes-to_be_bytes_4 timestamp fits)
-        (ap (from_be_bytes w32) (range-after old xs 4 8 12 (omega arith) (omega arith)))
+    (ap (λ (byte : ℕ). is_set byte 128) second) (ap (λ (byte : ℕ). byte % 128) second)
+    (ap (from_be_bytes w16) (range-before old xs 4 2 4 (omega arith) (omega arith) (omega arith)))
+    (ap (from_be_bytes w32) (range-put old xs 4 8 refl (omega arith)) ∙ from_be_bytes-to_be_bytes_4 timestamp fits)
+    (ap (from_be_bytes w32) (range-after old xs 4 8 12 (omega arith) (omega arith)))
 
 pub parts-ssrc : (old : List ℕ) (ssrc : ℕ) → ssrc < 2 ^ 32 → 12 ≤ length old
     → parts_at (overwritten old 8 (to_be_bytes w32 ssrc)) ≡ record (parts_at old) { ssrc = ssrc }
@@ -241,10 +241,10 @@ parts-ssrc old ssrc fits long =
     let new = overwritten old 8 xs in
     let second = index-before old xs 8 1 (omega arith) (omega arith) in
     parts-fixed old new _ _ _ _ ssrc (IsInFixedPart-put old xs 8 (omega arith) (omega arith) long)
-        (ap (λ (byte : ℕ). is_set byte 128) second) (ap (λ (byte : ℕ). byte % 128) second)
-        (ap (from_be_bytes w16) (range-before old xs 8 2 4 (omega arith) (omega arith) (omega arith)))
-        (ap (from_be_bytes w32) (range-before old xs 8 4 8 (omega arith) (omega arith) (omega arith)))
-        (ap (from_be_bytes w32) (range-put old xs 8 12 refl (omega arith)) ∙ from_be_bytes-to_be_bytes_4 ssrc fits)
+    (ap (λ (byte : ℕ). is_set byte 128) second) (ap (λ (byte : ℕ). byte % 128) second)
+    (ap (from_be_bytes w16) (range-before old xs 8 2 4 (omega arith) (omega arith) (omega arith)))
+    (ap (from_be_bytes w32) (range-before old xs 8 4 8 (omega arith) (omega arith) (omega arith)))
+    (ap (from_be_bytes w32) (range-put old xs 8 12 refl (omega arith)) ∙ from_be_bytes-to_be_bytes_4 ssrc fits)
 
 -- the second byte, by the marker and the payload type in it
 pub parts-second : (old : List ℕ) (byte payload_type : ℕ) (marker : Bool) → IsSecondByte byte marker payload_type → 12 ≤ length old
@@ -256,11 +256,11 @@ parts-second old byte payload_type marker is long =
     let second = index-put old 1 byte (omega arith) in
     let fields = fields_from_second byte marker payload_type is in
     parts-fixed old new marker payload_type _ _ _ (IsInFixedPart-put old xs 1 (omega arith) (omega arith) long)
-        (ap (λ (b : ℕ). is_set b 128) second ∙ marker_is_set byte marker payload_type is)
-        (ap (λ (b : ℕ). b % 128) second ∙ sym fields.1)
-        (ap (from_be_bytes w16) (range-after old xs 1 2 4 (omega arith) (omega arith)))
-        (ap (from_be_bytes w32) (range-after old xs 1 4 8 (omega arith) (omega arith)))
-        (ap (from_be_bytes w32) (range-after old xs 1 8 12 (omega arith) (omega arith)))
+    (ap (λ (b : ℕ). is_set b 128) second ∙ marker_is_set byte marker payload_type is)
+    (ap (λ (b : ℕ). b % 128) second ∙ sym fields.1)
+    (ap (from_be_bytes w16) (range-after old xs 1 2 4 (omega arith) (omega arith)))
+    (ap (from_be_bytes w32) (range-after old xs 1 4 8 (omega arith) (omega arith)))
+    (ap (from_be_bytes w32) (range-after old xs 1 8 12 (omega arith) (omega arith)))
 
 -- the form of a block with a body
 form-block : (form : Option ExtensionsForm) (body : List ℕ) → option_map (λ (b : ExtensionsForm × List ℕ). b.0) (option_map (λ f. (f, body)) form) ≡ form

@@ -51,12 +51,12 @@ fixed_stays start end old new past is sources block payload sources-is block-is 
     let first = index_before start end old new is 0 (omega arith) in
     let second = index_before start end old new is 1 (omega arith) in
     same_parts (parts_at new) (record (parts_at old) { sources = sources; block = block; payload = payload })
-        (ap (λ (byte : ℕ). is_set byte 32) first) (ap (λ (byte : ℕ). is_set byte 16) first)
-        (ap (λ (byte : ℕ). is_set byte 128) second) (ap (λ (byte : ℕ). byte % 128) second)
-        (ap (from_be_bytes w16) (range_before start end old new is 2 4 (omega arith) (omega arith)))
-        (ap (from_be_bytes w32) (range_before start end old new is 4 8 (omega arith) (omega arith)))
-        (ap (from_be_bytes w32) (range_before start end old new is 8 12 (omega arith) (omega arith)))
-        sources-is block-is payload-is
+    (ap (λ (byte : ℕ). is_set byte 32) first) (ap (λ (byte : ℕ). is_set byte 16) first)
+    (ap (λ (byte : ℕ). is_set byte 128) second) (ap (λ (byte : ℕ). byte % 128) second)
+    (ap (from_be_bytes w16) (range_before start end old new is 2 4 (omega arith) (omega arith)))
+    (ap (from_be_bytes w32) (range_before start end old new is 4 8 (omega arith) (omega arith)))
+    (ap (from_be_bytes w32) (range_before start end old new is 8 12 (omega arith) (omega arith)))
+    sources-is block-is payload-is
 
 -- where the block and the header end, and the form, by the first byte and the first four bytes after the sources
 end_by : ℕ → ℕ → ℕ

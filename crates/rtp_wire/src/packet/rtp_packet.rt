@@ -27,11 +27,7 @@ impl<'a> RtpPacket<'a> {
     ghost use Rattle.rtp_wire.specs.PartsOf.{bytes_of};
 
     // The packet in the datagram, whose header ends here and whose block has this form.
-    pub(super) fn found(
-        datagram: &'a [u8],
-        header_len: usize,
-        form: Option<ExtensionsForm>,
-    ) -> Self
+    pub(super) fn found(datagram: &'a [u8], header_len: usize, form: Option<ExtensionsForm>) -> Self
         requires fixed { 12 ≤ length datagram.now }
         requires version { slice_index datagram.now 0 / 64 ≡ 2 }
         requires announced { form ≡ form_in datagram.now }

@@ -71,7 +71,11 @@ impl<'a> RtpPacketMut<'a> {
         ensures same_buffer { result.ghost_name ≡ (buffer_of self.entry).ghost_name }
         ensures same_bytes { result.now ≡ (buffer_of self.entry).now }
     {
-        let RtpPacketMut { datagram, header_len: _, form: _ } = self;
+        let RtpPacketMut {
+            datagram,
+            header_len: _,
+            form: _,
+        } = self;
         datagram
     }
 }
