@@ -76,10 +76,10 @@ fn fifteen_sources(rt: HostRuntime) {
     let bytes = bytes_of(&rt, rt.alloc(), FIFTEEN);
     let packet = RtpPacket::parse(&bytes).expect(&rt, "a packet");
     same(&rt, "length", packet.header_len(), 72);
-    let mut next = 0x10;
+    let mut next = 0x10_u32;
     for source in packet.csrc() {
         same(&rt, next, source, next);
-        next += 1;
+        next = next.wrapping_add(1);
     }
     same(&rt, "how many", next, 0x1F);
     same(&rt, "payload", packet.payload(), &[]);
