@@ -258,12 +258,15 @@ fn verdicts(rt: HostRuntime) {
 #[test]
 fn receivers(rt: HostRuntime) {
     let alloc = rt.alloc();
-    is_shown(&rt, alloc, &Receiver::new(), "Receiver { window: None }");
-    let mut receivers = Receivers::new(alloc);
-    is_shown(&rt, alloc, &receivers, "Receivers { by_ssrc: {} }");
+    let text = "Receiver { state: Start(RolloverCount { count: 5 }) }";
+    is_shown(&rt, alloc, &Receiver::starting_at(5), text);
+    let mut receivers = Receivers::starting_at(alloc, 3);
+    let text = "Receivers { rollover_count: RolloverCount { count: 3 }, by_ssrc: {} }";
+    is_shown(&rt, alloc, &receivers, text);
     let recorded = receivers.record(Ssrc::from(9), SeqNo::from(7));
     recorded.expect(&rt, "memory");
-    let text = "Receivers { by_ssrc: {Ssrc { number: 9 }: Receiver { window: \
-Some(SeqNoWindow { greatest: 7, recorded: 1 }) }} }";
+    let text =
+        "Receivers { rollover_count: RolloverCount { count: 3 }, by_ssrc: {Ssrc { number: 9 }: \
+Receiver { state: Window(SeqNoWindow { greatest: 7, recorded: 1 }) }} }";
     is_shown(&rt, alloc, &receivers, text);
 }
