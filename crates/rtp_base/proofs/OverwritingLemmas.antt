@@ -112,10 +112,10 @@ overwritten-filled buf new at count is =
     ∙ overwritten-copied buf (replicate count 0) at
 
 -- bytes after what was put to the front of a buffer
-pub overwritten-behind : (front bytes buf : List ℕ) (at end : ℕ) → at ≡ length front → end ≡ at + length bytes
+pub overwritten-after : (front bytes buf : List ℕ) (at end : ℕ) → at ≡ length front → end ≡ at + length bytes
     → overwritten (front ++ drop at buf) at bytes ≡ front ++ (bytes ++ drop end buf)
 unfolding overwritten
-overwritten-behind front bytes buf at end is end-is =
+overwritten-after front bytes buf at end is end-is =
     let rest : List ℕ = front ++ drop at buf in
     let kept : take at rest ≡ front = take_at front (drop at buf) at (sym is) in
     let left : drop (at + length bytes) rest ≡ drop end buf =
@@ -124,9 +124,9 @@ overwritten-behind front bytes buf at end is end-is =
     ap (λ (xs : List ℕ). xs ++ (bytes ++ drop (at + length bytes) rest)) kept ∙ ap (λ (xs : List ℕ). front ++ (bytes ++ xs)) left
 
 -- the same of bytes that are put to the front of what is left of the buffer
-pub put-behind : (front bytes buf between new : List ℕ) (at end : ℕ) → between ≡ front ++ drop at buf → at ≡ length front → end ≡ at + length bytes → end ≤ length between
+pub put-after : (front bytes buf between new : List ℕ) (at end : ℕ) → between ≡ front ++ drop at buf → at ≡ length front → end ≡ at + length bytes → end ≤ length between
     → new ≡ bytes ++ drop (length bytes) (take (length between - at) (drop at between))
     → take at between ++ (new ++ drop (length between - at) (drop at between)) ≡ (front ++ bytes) ++ drop end buf
-put-behind front bytes buf between new at end between-is at-is end-is room is =
+put-after front bytes buf between new at end between-is at-is end-is room is =
     overwritten-rest between new bytes at (omega arith) is ∙ ap (λ (xs : List ℕ). overwritten xs at bytes) between-is
-    ∙ overwritten-behind front bytes buf at end at-is end-is ∙ sym (append_assoc front bytes (drop end buf))
+    ∙ overwritten-after front bytes buf at end at-is end-is ∙ sym (append_assoc front bytes (drop end buf))

@@ -5,10 +5,10 @@ use Rattle.rtp_ext.specs.declared.ext.map.ExtensionMap.{ExtensionMap}
 use Rattle.rtp_wire.specs.declared.header.rtp_header.RtpHeader.{RtpHeader}
 use Rattle.rtp_wire.specs.Header.{IsWire}
 use Rattle.rtp_wire.specs.Written.{wire_bytes, image_of}
-use Rattle.rtp_base.proofs.OverwritingLemmas.{overwritten-behind}
+use Rattle.rtp_base.proofs.OverwritingLemmas.{overwritten-after}
 use Rattle.rtp_uses.specs.Forwarding.{header_in_stream, IsForwarded}
 
--- a header with the low bits of a number is written, and the payload is put behind it
+-- a header with the low bits of a number is written, and the payload is put after it
 pub IsForwarded-put : (from to : ExtensionMap) (datagram : List ℕ) (header : RtpHeader) (ssrc number low : ℕ) (old between new payload : List ℕ) (start end : ℕ)
     → IsWire from datagram header → low ≡ number % 65536
     → between ≡ wire_bytes to (record header { ssrc = ssrc; sequence_number = low }) ++ drop start old
@@ -20,7 +20,7 @@ IsForwarded-put from to datagram header ssrc number low old between new payload 
     let sent : RtpHeader = record header { ssrc = ssrc; sequence_number = low } in
     let same : sent ≡ header_in_stream header ssrc number = ap (λ (k : ℕ). record header { ssrc = ssrc; sequence_number = k }) low-is in
     let bytes : new ≡ wire_bytes to sent ++ (payload ++ drop end old) =
-    put ∙ ap (λ (xs : List ℕ). overwritten xs start payload) written ∙ overwritten-behind (wire_bytes to sent) payload old start end start-is end-is in
+    put ∙ ap (λ (xs : List ℕ). overwritten xs start payload) written ∙ overwritten-after (wire_bytes to sent) payload old start end start-is end-is in
     record {
       header = header;
       wire = wire;

@@ -10,7 +10,7 @@ use rtp_wire::{ExtensionMap, RtpHeader};
 use std::alloc::{AllocError, Global};
 
 /// Sends a packet on in another stream: writes its header with this SSRC and number, under the
-/// receiver's map, and behind it all that was behind the header, padding included. Returns how many
+/// receiver's map, and after it all that followed the header, padding included. Returns how many
 /// bytes that are. Returns `None`, and writes nothing, where the datagram begins with no RTP header
 /// or there is no room.
 pub fn forward(

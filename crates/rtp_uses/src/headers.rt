@@ -17,7 +17,7 @@ pub fn orientation(number: u8) -> VideoOrientation
     VideoOrientation::from(number)
 }
 
-/// The payload of a packet begins where its header ends, which is never behind the packet's end.
+/// The payload of a packet begins where its header ends, which is never after the packet's end.
 pub fn payload<'a>(
     alloc: Global,
     packet: &'a [u8],

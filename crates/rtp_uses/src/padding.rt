@@ -10,7 +10,7 @@ use rtp_wire::{
 };
 
 /// Writes a packet of padding alone (RFC 3550, 5.1): the header, in which the padding bit is set,
-/// and behind it the padding, whose length is `pad_len` in whole blocks, but at most 240 bytes.
+/// and after it the padding, whose length is `pad_len` in whole blocks, but at most 240 bytes.
 /// Returns how many bytes the packet has. Returns `None`, and writes nothing, where there isn't
 /// room for the header and 240 bytes.
 pub fn write_padding(
@@ -39,19 +39,19 @@ pub fn write_padding(
     Some(start + create_padding_packet(out, start, pad_len, block_size))
 }
 
-/// The payload of a packet, by its header and what is behind that: without its padding where the
+/// The payload of a packet, by its header and what follows that: without its padding where the
 /// header announces any. `None` where the padding would be longer than what is there.
-pub fn payload_of<'a>(header: &RtpHeader, behind: &'a [u8]) -> Option<&'a [u8]>
+pub fn payload_of<'a>(header: &RtpHeader, after: &'a [u8]) -> Option<&'a [u8]>
     ensures padded { header.now.has_padding ≡ true →
-        IfSome result (λ payload. IsUnpadded behind.now payload.now) }
+        IfSome result (λ payload. IsUnpadded after.now payload.now) }
     ensures plain { header.now.has_padding ≡ false →
-        IsSomeAnd result (λ payload. payload.now ≡ behind.now) }
-    ensures refused { IfNone result (length behind.now < padding_count behind.now) }
+        IsSomeAnd result (λ payload. payload.now ≡ after.now) }
+    ensures refused { IfNone result (length after.now < padding_count after.now) }
 {
     if !header.has_padding {
-        return Some(behind);
+        return Some(after);
     }
-    unpad_payload(behind)
+    unpad_payload(after)
 }
 
 /// The payload that a receiver finds in a packet of padding: no bytes. `None` where there isn't room

@@ -43,10 +43,10 @@ pub fn retransmit(
 /// retransmission; `None` where that is under two bytes.
 pub fn original(payload: &[u8]) -> Option<(u16, &[u8])>
     ensures number { IfSome result (λ found. HasOriginalNumber payload.now found.0) }
-    ensures behind { IfSome result (λ found. found.1.now ≡ drop 2 payload.now) }
+    ensures after { IfSome result (λ found. found.1.now ≡ drop 2 payload.now) }
     ensures short { (result ≡ None) ↔ (length payload.now < 2) }
 
-    // What `retransmit` puts behind the header is read as it was given, the number modulo 65,536.
+    // What `retransmit` puts after the header is read as it was given, the number modulo 65,536.
     ensures undone { (number : ℕ) → (original : List ℕ) →
         payload.now ≡ retransmission_bytes number original →
         IsSomeAnd result (λ found. (found.0 ≡ number % 65536) × (found.1.now ≡ original)) }

@@ -87,7 +87,7 @@ fn is_written(rt: &impl Abort, v: &VideoLayersAllocation, bytes: &[u8]) {
     same(rt, "the checked length", checked_wire_len(v), Some(len));
     same(rt, "the end", end, len);
     same(rt, "the bytes", buf.get(..end), Some(bytes));
-    same(rt, "the byte behind them", buf.get(end).copied(), Some(7));
+    same(rt, "the byte after them", buf.get(end).copied(), Some(7));
 }
 
 // The allocation of these streams is written as the bytes.

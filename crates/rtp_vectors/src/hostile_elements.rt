@@ -55,7 +55,7 @@ fn is_kept(
 }
 
 // The damaged packet has the values of its good elements, except for the one at `damaged`, and for
-// those after it where `behind` is false.
+// those after it where `after` is false.
 fn neighbours(
     rt: &impl Abort,
     alloc: Global,
@@ -63,12 +63,12 @@ fn neighbours(
     bytes: &[u8],
     values: &ExtensionValues,
     damaged: u8,
-    behind: bool,
+    after: bool,
 ) {
     let read = values_of(rt, alloc, bytes, sample);
     let exts = map();
     for &(begin, _, id) in sample.elements {
-        if begin < damaged || behind && begin > damaged {
+        if begin < damaged || after && begin > damaged {
             is_kept(rt, &exts, id, bytes, values, &read);
         }
     }
@@ -187,7 +187,7 @@ fn exchange_heads(rt: &impl Abort, alloc: Global, sample: &Sample, begin: u8, ot
     }
 }
 
-// Exchanges the heads of an element and of each one after it.
+// Exchanges the headers of an element and of each one after it.
 fn exchange_with_later(rt: &impl Abort, alloc: Global, sample: &Sample, begin: u8) {
     for &(other, _, _) in sample.elements {
         if begin < other {

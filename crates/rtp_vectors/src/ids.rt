@@ -206,12 +206,12 @@ fn last_and_next_packet_number(rt: HostRuntime) {
     same(&rt, "the greatest", SeqNo::MAX.get(), 18446744073709551615);
     holds(
         &rt,
-        "behind the greatest",
+        "after the greatest",
         !SeqNo::MAX.is_next(SeqNo::from(0)),
     );
     let mut next = SeqNo::from(5);
     holds(&rt, "before it moves on", next.inc() == five);
-    same(&rt, "behind it", next.get(), 6);
+    same(&rt, "after it", next.get(), 6);
 }
 
 #[test]
@@ -231,7 +231,7 @@ fn numbers_of_clusters(rt: HostRuntime) {
     same(&rt, "the first", TwccClusterId::default().get(), 0);
     let mut cluster = TwccClusterId::from(18446744073709551615);
     same(&rt, "the last", cluster.inc().get(), 18446744073709551615);
-    same(&rt, "behind it", cluster.get(), 0);
+    same(&rt, "after it", cluster.get(), 0);
     same(&rt, "0 again", cluster.inc().get(), 0);
     shows(&rt, rt.alloc(), &cluster, "1");
 }

@@ -37,8 +37,8 @@ fn is_written(rt: &impl Abort, number: u64, bytes: &[u8]) {
     let mut buf = [7; 9];
     same(rt, number, encode_leb_u63(number, &mut buf), bytes.len());
     holds(rt, number, buf.starts_with(bytes));
-    let mut behind = buf.iter().skip(bytes.len());
-    holds(rt, number, behind.all(|byte| *byte == 7));
+    let mut after = buf.iter().skip(bytes.len());
+    holds(rt, number, after.all(|byte| *byte == 7));
 }
 
 #[test]

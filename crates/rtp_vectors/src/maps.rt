@@ -175,7 +175,7 @@ fn iterators_end(rt: HostRuntime) {
     let mut all = map.iter();
     is_the_mid(&rt, all.next());
     holds(&rt, "the end", all.next().is_none());
-    holds(&rt, "behind the end", all.next().is_none());
+    holds(&rt, "after the end", all.next().is_none());
 }
 
 #[test]
@@ -184,7 +184,7 @@ fn iterators_of_a_medium_end(rt: HostRuntime) {
     let mut audio = map.iter_by_media_type(true);
     is_the_mid(&rt, audio.next());
     holds(&rt, "the end", audio.next().is_none());
-    holds(&rt, "behind the end", audio.next().is_none());
+    holds(&rt, "after the end", audio.next().is_none());
 }
 
 #[test]

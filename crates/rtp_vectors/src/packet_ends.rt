@@ -61,7 +61,7 @@ fn no_padding(rt: HostRuntime) {
     let len = create_padding_packet(&mut buf, 2, 0, 4);
     same(&rt, "a length of 0", len, 0);
     let len = create_padding_packet(&mut buf, 20, 0, 0);
-    same(&rt, "behind the end", len, 0);
+    same(&rt, "after the end", len, 0);
     are(&rt, "the buffer", &buf, &[6; 10]);
     let mut empty: [u8; 0] = [];
     let len = create_padding_packet(&mut empty, 12, 0, 0);

@@ -85,7 +85,7 @@ fn with_block(rt: &impl Abort, alloc: Global, mut values: ExtensionValues) -> Ex
         // The element in front of the allocation is read, and the one after it isn't.
         same(rt, "the level in front", values.audio_level, Some(-43));
         holds(rt, "the old allocation", has_plain(&values));
-        same(rt, "no type behind", values.video_content_type, None);
+        same(rt, "no type after it", values.video_content_type, None);
         map()
             .parse(alloc, body, form, &mut values)
             .expect(rt, "memory");

@@ -173,7 +173,7 @@ fn bytes_that_each_kind_needs(rt: HostRuntime) {
     let data = [0; 20];
     for (kind, needed) in &NEEDS {
         for (len, _) in data.iter().enumerate() {
-            let front = data.get(..len).expect(&rt, "so many zeros");
+            let front = data.get(..len).expect(&rt, "this many zeros");
             needs(&rt, rt.alloc(), kind, *needed, front);
         }
     }

@@ -126,7 +126,7 @@ IsPacket-whole bytes second-fits whole =
     let groups = first_chunks 4 count (drop 12 bytes) in
     let fixed = whole.fixed in
     let within : start + n ≤ length bytes = whole.within in
-    let behind : drop (4 * count) (drop 12 bytes) ≡ after = drop-drop (4 * count) 12 bytes in
+    let after-is : drop (4 * count) (drop 12 bytes) ≡ after = drop-drop (4 * count) 12 bytes in
     let number : length (map (from_be_bytes w32) groups) ≡ count = length-map groups (from_be_bytes w32) ∙ length-first_chunks count (drop 12 bytes) in
     record {
       fixed = take 12 bytes;
@@ -138,7 +138,7 @@ IsPacket-whole bytes second-fits whole =
           (sym (take-append-drop (4 * count) (drop 12 bytes))
           ∙ ap (λ (ys : List ℕ). ys ++ drop (4 * count) (drop 12 bytes)) (sym (concat-first_chunks count (drop 12 bytes)))
           ∙ ap (λ (ys : List ℕ). concat groups ++ ys)
-          (behind ∙ sym (take-append-drop n after) ∙ ap (λ (ys : List ℕ). take n after ++ ys) (drop-drop n start bytes)));
+          (after-is ∙ sym (take-append-drop n after) ∙ ap (λ (ys : List ℕ). take n after ++ ys) (drop-drop n start bytes)));
       fixed_is = record {
         twelve = length-take-le 12 bytes fixed;
         first_is = rw (get_or-take 12 bytes 0 0 (omega arith), number) (IsFirstByte-at (slice_index bytes 0) whole.version);

@@ -99,13 +99,13 @@ IsFirstByte-announced byte false true count is = let sum = is.sum in let few = i
 IsFirstByte-announced byte true false count is = let sum = is.sum in let few = is.few in record { sum = omega arith; few = omega arith }
 IsFirstByte-announced byte true true count is = let sum = is.sum in let few = is.few in record { sum = omega arith; few = omega arith }
 
--- also where bytes are put behind it
+-- also where bytes are put after it
 pub with_padding_bit-announced : (buf new bytes : List ℕ) (at : ℕ) (padding extension : Bool) (count : ℕ) → 1 ≤ length buf → 1 ≤ at
     → new ≡ overwritten (with_padding_bit buf) at bytes → IsFirstByte (slice_index buf 0) padding extension count → IsFirstByte (slice_index new 0) true extension count
 unfolding overwritten
-with_padding_bit-announced [] new bytes at padding extension count none behind is first = absurd (omega arith)
+with_padding_bit-announced [] new bytes at padding extension count none after is first = absurd (omega arith)
 with_padding_bit-announced (byte ∷ rest) new bytes zero padding extension count some none is first = absurd (omega arith)
-with_padding_bit-announced (byte ∷ rest) new bytes (suc at) padding extension count some behind is first =
+with_padding_bit-announced (byte ∷ rest) new bytes (suc at) padding extension count some after is first =
     subst (λ (b : ℕ). IsFirstByte b true extension count) (sym (ap (λ (xs : List ℕ). slice_index xs 0) is)) (IsFirstByte-announced byte padding extension count first)
 
 -- a first byte of version 2 that announces padding has the bit

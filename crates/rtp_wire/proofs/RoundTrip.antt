@@ -68,7 +68,7 @@ AllByRecursion-from_each (x ∷ xs) fits = (fits 0, AllByRecursion-from_each xs 
 
 -- ---- the header
 
--- the parts of a written header, with this block, and this payload behind it
+-- the parts of a written header, with this block, and this payload after it
 abbrev written_parts : RtpHeader → Option (ExtensionsForm × List ℕ) → List ℕ → PacketParts
 written_parts h block payload = record {
   has_padding = h.has_padding;
@@ -144,7 +144,7 @@ pub IsFirstByte-written : (h : RtpHeader) (exts : ExtensionMap) (bytes rest : Li
 unfolding wire_bytes
 IsFirstByte-written h exts bytes rest is few = record { sum = ap (λ (xs : List ℕ). slice_index xs 0) is; few = few }
 
--- the pieces that are put one behind the other are the written header
+-- the pieces that are put one after the other are the written header
 pub wire_bytes-from_pieces : (h : RtpHeader) (exts : ExtensionMap) (buf one two three fixed : List ℕ) (first second third : ℕ)
     → h.csrc_count ≤ length h.csrc → length (wire_bytes exts h) ≤ length buf → fixed ≡ fixed_bytes h
     → one ≡ overwritten buf 0 fixed → first ≡ 0 + length fixed

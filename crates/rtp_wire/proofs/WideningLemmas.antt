@@ -198,10 +198,10 @@ module _ (modulus previous low : ℕ) (is : IsModulus modulus) (fits : previous 
       rw e (rollover_after-near modulus previous low is fits below (elim near [ inl less ↦ omega (arith, after.1, at.below) | inr just ↦ absurd (omega (arith, after.1, at.below, just.0, just.1)) ]))
 
   -- otherwise the one before it is
-  pub IsNearestModulo-behind : (ahead : ℕ) → IsAhead modulus previous low ahead → modulus / 2 ≤ ahead → (ahead ≡ modulus / 2 → modulus / 2 ≤ previous % modulus)
+  pub IsNearestModulo-before : (ahead : ℕ) → IsAhead modulus previous low ahead → modulus / 2 ≤ ahead → (ahead ≡ modulus / 2 → modulus / 2 ≤ previous % modulus)
       → IsNearestModulo modulus previous low (((previous + ahead) % 2 ^ 64 + (2 ^ 64 - modulus)) % 2 ^ 64)
   unfolding IsAhead
-  IsNearestModulo-behind ahead (inl same) far tie =
+  IsNearestModulo-before ahead (inl same) far tie =
       let at = split modulus previous is fits in
       let up = same.0 in
       let halves = is.halves in
@@ -210,7 +210,7 @@ module _ (modulus previous low : ℕ) (is : IsModulus modulus) (fits : previous 
         | inl just ↦ absurd (let high = tie just in omega (arith, same.1, just, high))
         | inr more ↦ omega (arith, same.1, more)
       ]))
-  IsNearestModulo-behind ahead (inr after) far tie =
+  IsNearestModulo-before ahead (inr after) far tie =
       let at = split modulus previous is fits in
       let down = after.0 in
       let halves = is.halves in

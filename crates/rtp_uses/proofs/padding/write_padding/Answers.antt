@@ -2,7 +2,7 @@ use Rattle.std.proofs.Common.{◌≡◌, ◌+◌, ◌-◌, ◌<◌, ◌∷◌, [
 use Rattle.std.proofs.lemmas.List.{length-replicate}
 use Rattle.rtp_base.specs.Overwriting.{overwritten}
 use Rattle.rtp_wire.specs.Padding.{padding_bytes}
-use Rattle.rtp_base.proofs.OverwritingLemmas.{overwritten-behind}
+use Rattle.rtp_base.proofs.OverwritingLemmas.{overwritten-after}
 use Rattle.rtp_uses.proofs.padding.write_padding.Goals as goal
 
 pub returns-clause-written : goal.returns-clause-written
@@ -19,5 +19,5 @@ returns-clause-written c =
       len_is = ap (λ (k : ℕ). k + count) c.write_to-start.ensures.length;
       bytes = c.create_padding_packet.ensures.put wanted _ _ c.write_to-start.ensures.first_byte
           ∙ (ap (λ (xs : List ℕ). overwritten xs start (padding_bytes count)) c.write_to-start.ensures.written
-          ∙ overwritten-behind _ (padding_bytes count) c.args.out.now start (start + count) c.write_to-start.ensures.length (omega (arith, long)));
+          ∙ overwritten-after _ (padding_bytes count) c.args.out.now start (start + count) c.write_to-start.ensures.length (omega (arith, long)));
     }

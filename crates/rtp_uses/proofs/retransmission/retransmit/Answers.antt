@@ -2,7 +2,7 @@ use Rattle.std.proofs.Common.{◌≡◌, ◌+◌, ◌%◌, ◌++◌, List, ℕ, 
 use Rattle.std.specs.Int.{w16, to_be_bytes}
 use Rattle.rtp_base.specs.Overwriting.{overwritten}
 use Rattle.rtp_wire.specs.Written.{wire_bytes}
-use Rattle.rtp_base.proofs.OverwritingLemmas.{overwritten-behind, put-behind}
+use Rattle.rtp_base.proofs.OverwritingLemmas.{overwritten-after, put-after}
 use Rattle.rtp_uses.proofs.retransmission.retransmit.Goals as goal
 
 pub returns-clause-written : goal.returns-clause-written
@@ -16,7 +16,7 @@ returns-clause-written c =
     let start-is : start ≡ length (header ++ number) = omega (arith, length-append header number, c.write_to-at.ensures.length, c.write_original_sequence_number.ensures.length) in
     c.put.ensures.written
     ∙ (ap (λ (xs : List ℕ). overwritten xs start payload)
-    (put-behind header number out c.write_to-at.new.buf c.write_original_sequence_number.new.buf at start c.write_to-at.ensures.written c.write_to-at.ensures.length
+    (put-after header number out c.write_to-at.new.buf c.write_original_sequence_number.new.buf at start c.write_to-at.ensures.written c.write_to-at.ensures.length
     (omega arith) (omega arith) c.write_original_sequence_number.ensures.written)
-    ∙ (overwritten-behind (header ++ number) payload out start c.put.result start-is c.put.ensures.end
+    ∙ (overwritten-after (header ++ number) payload out start c.put.result start-is c.put.ensures.end
     ∙ append_assoc header number (payload ++ drop c.put.result out)))

@@ -15,11 +15,11 @@ put_padding-requires-clause-room c =
     omega (arith, c.requires.room wanted c.padding_len-count.result c.padding_len-count.ensures.length)
 
 pub returns-clause-announced : goal.returns-clause-announced
-returns-clause-announced c wanted behind padding extension sources first =
+returns-clause-announced c wanted after padding extension sources first =
     let room = c.requires.room wanted c.padding_len-count.result c.padding_len-count.ensures.length in
     let put : List ℕ = padding_bytes c.padding_len-count.result in
     with_padding_bit-announced c.args.buf.now c.put_padding.new.buf put c.args.header_len padding extension sources
-    (omega (arith, room, c.padding_len-count.ensures.some)) behind
+    (omega (arith, room, c.padding_len-count.ensures.some)) after
     (c.put_padding.ensures ∙ ap (λ (bytes : List ℕ). overwritten bytes c.args.header_len put) c.set_padding_bit.ensures) first
 
 pub returns-clause-put : goal.returns-clause-put

@@ -1,5 +1,5 @@
 use Rattle.std.proofs.Common.{inl, inr}
-use Rattle.rtp_wire.proofs.WideningLemmas.{IsAhead-computed, IsNearestModulo-ahead, IsNearestModulo-behind}
+use Rattle.rtp_wire.proofs.WideningLemmas.{IsAhead-computed, IsNearestModulo-ahead, IsNearestModulo-before}
 use Rattle.rtp_wire.proofs.receive.widening.nearest.Goals as goal
 use Rattle.rtp_wire.proofs.receive.widening.nearest.Goals.{else-ahead-half-2-via-then-ahead-half-2+else-previous-modulus, else-ahead-half-2-via-else-ahead-half-2}
 
@@ -16,7 +16,7 @@ returns-then-previous-modulus-clause-near c =
 pub returns-clause-near : goal.returns-clause-near
 returns-clause-near c =
     let ahead = IsAhead-computed c.args.modulus c.args.previous c.args.low c.requires.is_modulus c.ranges.previous.fits c.requires.below in
-    IsNearestModulo-behind c.args.modulus c.args.previous c.args.low c.requires.is_modulus c.ranges.previous.fits c.requires.below _ ahead c.if-ahead-half.false
+    IsNearestModulo-before c.args.modulus c.args.previous c.args.low c.requires.is_modulus c.ranges.previous.fits c.requires.below _ ahead c.if-ahead-half.false
     (elim c.else-ahead-half-2.branch [
       | else-ahead-half-2-via-then-ahead-half-2+else-previous-modulus w ↦ λ _. w.if-previous-modulus.false
       | else-ahead-half-2-via-else-ahead-half-2 w ↦ λ just. absurd (w.if-ahead-half-2.false just)
