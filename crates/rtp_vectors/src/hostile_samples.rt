@@ -3,6 +3,7 @@
 use crate::checks::{header_of, holds, parsed, same};
 use crate::headers_read::{PACKET, TWO_BYTE_FORM};
 use crate::headers_written::written;
+use crate::packets_and_headers::{is_changed_alike, is_like_its_header};
 use crate::values::nines;
 use rtp_wire::{Extension, ExtensionMap, ExtensionValues, RtpHeader};
 use std::alloc::Global;
@@ -122,7 +123,8 @@ fn has_image(
 }
 
 // What has to hold of all bytes: a header that is read lies within them, and it is written and read
-// as its image. Returns the header.
+// as its image; a packet where it lies says the same as the header, also once it is changed. Returns
+// the header.
 pub(crate) fn checked(
     rt: &impl Abort,
     alloc: Global,
@@ -130,9 +132,11 @@ pub(crate) fn checked(
     exts: &ExtensionMap,
 ) -> Option<RtpHeader> {
     let header = parsed(rt, alloc, bytes, exts);
+    is_like_its_header(rt, alloc, bytes, exts, header.as_ref());
     if let Some(header) = &header {
         assert!(rt; header.header_len <= bytes.len(), "{bytes:?}");
         has_image(rt, alloc, bytes, header, exts);
+        is_changed_alike(rt, alloc, bytes, exts, header);
     }
     header
 }

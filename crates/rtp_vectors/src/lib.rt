@@ -71,6 +71,8 @@ mod packet_ends;
 #[cfg(test)]
 mod packets;
 #[cfg(test)]
+mod packets_and_headers;
+#[cfg(test)]
 mod packets_changed;
 #[cfg(test)]
 mod printed_values;

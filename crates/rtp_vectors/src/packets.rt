@@ -1,11 +1,9 @@
 //! Packets in the bytes of a datagram: their fields, elements and payloads, and why bytes are none.
 
 use crate::checks::{bytes_of, holds, is_text, parsed, same};
-use crate::hostile_samples::{SAMPLES, map};
+use crate::hostile_samples::map;
 use ExtensionsForm::{OneByte, TwoByte};
 use rtp_wire::{ExtensionsForm, NotAPacket, RtpPacket};
-use std::alloc::Global;
-use std::process::Abort;
 
 // A packet with the marker, three sources, four elements and a payload, and one with padding.
 const WITH_BLOCK: &str = "93efb798000027102e5715f90000006412345678ffffffff\
@@ -199,37 +197,5 @@ fn causes_in_words(rt: HostRuntime) {
     ];
     for (cause, text) in &rows {
         is_text(&rt, format!(in rt.alloc(); "{cause}"), text);
-    }
-}
-
-// The bytes are a packet exactly where a header is read from them, and then they say the same.
-fn is_like_its_header(rt: &impl Abort, alloc: Global, bytes: &[u8]) {
-    let header = parsed(rt, alloc, bytes, &map());
-    let packet = RtpPacket::parse(bytes);
-    same(rt, bytes.len(), packet.is_ok(), header.is_some());
-    if let (Ok(packet), Some(header)) = (packet, header) {
-        let read = packet.header(alloc, &map()).expect(rt, "memory");
-        let values = packet.values(alloc, &map()).expect(rt, "memory");
-        holds(rt, "the header", read == header);
-        holds(rt, "the values", values == header.ext_vals);
-        same(rt, "its length", packet.header_len(), header.header_len);
-        same(
-            rt,
-            "payload",
-            packet.payload(),
-            bytes.get(header.header_len..).unwrap_or(&[]),
-        );
-    }
-}
-
-#[test]
-fn cut_samples(rt: HostRuntime) {
-    for sample in &SAMPLES {
-        let bytes = bytes_of(&rt, rt.alloc(), sample.text);
-        for len in 0..bytes.len() {
-            let cut = bytes.get(..len).expect(&rt, "a beginning");
-            is_like_its_header(&rt, rt.alloc(), cut);
-        }
-        is_like_its_header(&rt, rt.alloc(), &bytes);
     }
 }
