@@ -73,6 +73,8 @@ mod packets;
 #[cfg(test)]
 mod packets_changed;
 #[cfg(test)]
+mod packets_elements;
+#[cfg(test)]
 mod printed_values;
 #[cfg(test)]
 mod receivers;
