@@ -75,6 +75,8 @@ mod packets_and_headers;
 #[cfg(test)]
 mod packets_changed;
 #[cfg(test)]
+mod packets_elements;
+#[cfg(test)]
 mod printed_values;
 #[cfg(test)]
 mod receivers;

@@ -12,7 +12,7 @@ const PACKET: &str = "93efb798000027102e5715f90000006412345678ffffffff\
 bede000310aa3101024278596aa0780001020304";
 
 // The bytes are these, in hexadecimal.
-fn are(rt: &impl Abort, alloc: Global, at: &str, bytes: &[u8], wanted: &str) {
+pub(crate) fn are(rt: &impl Abort, alloc: Global, at: &str, bytes: &[u8], wanted: &str) {
     same(rt, at, bytes, bytes_of(rt, alloc, wanted).as_slice());
 }
 

@@ -1,9 +1,11 @@
 -- A packet whose bytes are changed between two offsets after the fixed part: in the CSRC list, or in the body of its block.
-use Rattle.std.proofs.Common.{◌≡◌, ℕ, zero, suc, ◌+◌, ◌-◌, ◌*◌, ◌/◌, ◌%◌, ◌<◌, ◌≤◌, List, [], ◌∷◌, ◌++◌, ◌^◌, length, map, take, drop, Option, None, refl, sym, ap, ◌∙◌, arith, set, length-drop, length-take-le, take_at, drop_at}
+use Rattle.std.proofs.Common.{◌≡◌, ℕ, zero, suc, ◌+◌, ◌-◌, ◌*◌, ◌/◌, ◌%◌, ◌<◌, ◌≤◌, List, [], ◌∷◌, ◌++◌, ◌^◌, length, map, take, drop, Option, None, refl, sym, ap, ◌∙◌, arith, set, length-append, length-drop, length-take-le, take_at, drop_at}
 use Rattle.std.specs.Prelude.{slice_index, slice_range, is_some, option_map, if◌then◌else◌}
 use Rattle.std.specs.Int.{w16, w32, from_be_bytes, to_be_bytes}
 use Rattle.std.specs.Simd.{first_chunks}
-use Rattle.std.proofs.lemmas.List.{drop-drop, drop-take, drop-append-le, get_or-take, length-map}
+use Rattle.std.proofs.lemmas.List.{drop-drop, drop-take, drop-append-le, get_or-take, length-map, take-take}
+use Rattle.std.proofs.lemmas.Slice.{take-put_mid_below, drop-put_mid}
+use borrow.Rule.Slice.PartMut.{put_mid}
 use Rattle.std.proofs.lemmas.Nat.{from_be_bytes-to_be_bytes_4}
 use Rattle.rtp_ext.specs.declared.ext.form.ExtensionsForm.{ExtensionsForm}
 use Rattle.rtp_base.specs.Overwriting.{overwritten}
@@ -11,8 +13,8 @@ use Rattle.rtp_base.proofs.OverwritingLemmas.{length-overwritten, overwritten-fr
 use Rattle.rtp_wire.specs.Block.{word_at}
 use Rattle.rtp_wire.specs.NotAHeader.{sources_end}
 use Rattle.rtp_wire.specs.PartsAt.{is_set, form_of_word, has_block, form_in, header_end, parts_at}
-use Rattle.rtp_wire.proofs.BlockLemmas.{slice_range-take}
-use Rattle.rtp_wire.proofs.GroupLemmas.{length-first_chunks}
+use Rattle.rtp_wire.proofs.BlockLemmas.{slice_range-take, word_at-take}
+use Rattle.rtp_wire.proofs.GroupLemmas.{length-first_chunks, first_chunks-take}
 use Rattle.rtp_wire.proofs.PacketLemmas.{same_parts}
 use Rattle.rtp_wire.proofs.PacketChanges.{HasShape, drop-overwritten, take-overwritten}
 
@@ -29,9 +31,19 @@ IsBetween-put buf xs start end at after within fits = record {
   after_is = drop-overwritten buf xs at end within (omega arith);
 }
 
+pub IsBetween-part : (xs part : List ℕ) (start end : ℕ) → start ≤ end → end ≤ length xs → length part ≡ end - start → IsBetween start end xs (put_mid start (end - start) xs part)
+IsBetween-part xs part start end le within len = record {
+  length_is = omega (arith, length-append (take start xs) (part ++ drop (end - start) (drop start xs)), length-append part (drop (end - start) (drop start xs)), length-take-le start xs (omega arith), length-drop (end - start) (drop start xs), length-drop start xs);
+  before_is = take-put_mid_below start (end - start) xs part start (omega arith) (omega arith);
+  after_is = drop-put_mid start (end - start) xs part end (omega arith) (omega arith) len;
+}
+
 module _ (start end : ℕ) (old new : List ℕ) (is : IsBetween start end old new) where
   index_before : (i : ℕ) → i < start → slice_index new i ≡ slice_index old i
   index_before i before = sym (get_or-take start new i 0 before) ∙ ap (λ (ys : List ℕ). slice_index ys i) is.before_is ∙ get_or-take start old i 0 before
+
+  take_before : (k : ℕ) → k ≤ start → take k new ≡ take k old
+  take_before k before = sym (take-take k start new before) ∙ ap (take k) is.before_is ∙ take-take k start old before
 
   range_before : (a b : ℕ) → a ≤ b → b ≤ start → slice_range new a b ≡ slice_range old a b
   range_before a b le before = sym (slice_range-take new a b start le before) ∙ ap (λ (ys : List ℕ). slice_range ys a b) is.before_is ∙ slice_range-take old a b start le before
@@ -184,3 +196,39 @@ sources_len bytes = length-map (first_chunks 4 (slice_index bytes 0 % 16) (drop 
 
 pub sources_fit : (bytes : List ℕ) (header_len : ℕ) (form : Option ExtensionsForm) → HasShape bytes header_len form → sources_end bytes ≤ length bytes
 sources_fit bytes header_len form shape = omega (arith, past_sources bytes, shape.whole.within)
+
+-- a change in the body of the block
+module _ (old new : List ℕ) (is : IsBetween (sources_end old + 4) (header_end old) old new) where
+  stays-body : StaysLaidOut old new
+  stays-body =
+      let first = index_before (sources_end old + 4) (header_end old) old new is 0 (omega arith) in
+      let header : take 4 (drop (sources_end new) new) ≡ take 4 (drop (sources_end old) old) =
+      ap (λ (byte : ℕ). take 4 (drop (12 + 4 * (byte % 16)) new)) first
+      ∙ sym (drop-take (sources_end old) 4 new) ∙ ap (drop (sources_end old)) is.before_is ∙ drop-take (sources_end old) 4 old in
+      let word : (offset : ℕ) → offset + 2 ≤ 4 → word_at (drop (sources_end new) new) offset ≡ word_at (drop (sources_end old) old) offset =
+      λ offset within. sym (word_at-take (drop (sources_end new) new) offset 4 within) ∙ ap (λ (xs : List ℕ). word_at xs offset) header
+      ∙ word_at-take (drop (sources_end old) old) offset 4 within in
+      stays_by old new first (word 0 (omega arith)) (word 2 (omega arith))
+
+  pub HasShape-in_body : (header_len : ℕ) (form : Option ExtensionsForm) → HasShape old header_len form → HasShape new header_len form
+  HasShape-in_body header_len form shape =
+      HasShape-stays old new header_len form is.length_is (index_before (sources_end old + 4) (header_end old) old new is 0 (omega arith)) stays-body shape
+
+  pub parts-in_body : parts_at new ≡ record (parts_at old) { block = option_map (λ f. (f, slice_range new (sources_end old + 4) (header_end old))) (form_in old) }
+  unfolding parts_at block_by
+  parts-in_body =
+      let stays = stays-body in
+      let count = slice_index old 0 % 16 in
+      let first = index_before (sources_end old + 4) (header_end old) old new is 0 (omega arith) in
+      let front : take (4 * count) (drop 12 new) ≡ take (4 * count) (drop 12 old) =
+      sym (drop-take 12 (4 * count) new) ∙ ap (drop 12) (take_before (sources_end old + 4) (header_end old) old new is (12 + 4 * count) (omega arith)) ∙ drop-take 12 (4 * count) old in
+      let groups : first_chunks 4 (slice_index new 0 % 16) (drop 12 new) ≡ first_chunks 4 count (drop 12 old) =
+      ap (λ (byte : ℕ). first_chunks 4 (byte % 16) (drop 12 new)) first
+      ∙ sym (first_chunks-take count (drop 12 new)) ∙ ap (first_chunks 4 count) front ∙ first_chunks-take count (drop 12 old) in
+      let body : List ℕ = slice_range new (sources_end old + 4) (header_end old) in
+      let block : block_by (form_in new) (slice_range new (sources_end new + 4) (header_end new)) ≡ block_by (form_in old) body =
+      ap (λ (form : Option ExtensionsForm). block_by form (slice_range new (sources_end new + 4) (header_end new))) stays.form_is
+      ∙ ap (block_by (form_in old)) (ap (λ (k : ℕ). slice_range new (k + 4) (header_end new)) stays.sources_end_is ∙ ap (slice_range new (sources_end old + 4)) stays.end_is) in
+      fixed_stays (sources_end old + 4) (header_end old) old new (omega arith) is (parts_at old).sources _ (parts_at old).payload
+      (ap (map (from_be_bytes w32)) groups) block
+      (ap (λ (k : ℕ). drop k new) stays.end_is ∙ is.after_is)

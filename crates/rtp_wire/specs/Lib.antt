@@ -20,6 +20,7 @@ pub mod Packet
 pub mod NotAPacket
 pub mod PacketElements
 pub mod PartsOf
+pub mod ChangedPacket
 pub mod Header
 pub mod NotAHeader
 pub mod RefusedMemory

@@ -1,5 +1,6 @@
 //! An RTP packet where it lies in the bytes of a datagram.
 
+mod changing;
 mod csrcs;
 mod elements;
 mod fields;

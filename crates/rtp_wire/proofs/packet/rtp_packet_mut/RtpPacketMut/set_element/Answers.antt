@@ -1,0 +1,37 @@
+use Rattle.std.proofs.Common.{rules, ◌+◌, ◌≤◌, length, ◌∷◌, ◌∙◌, arith, ap, sym, length-append}
+use Rattle.std.proofs.lemmas.Bool.{false≢true, OnTrue_at, OnTrue_from}
+use Rattle.rtp_ext.specs.ElementsInPlace.{SetsLast}
+use Rattle.rtp_wire.proofs.ChangedPackets.{fields_of, no_elements, body_in, AreElements-in, HasShape-body, ChangesBlock-body}
+use Rattle.rtp_wire.proofs.packet.rtp_packet_mut.RtpPacketMut.set_element.Goals as goal
+
+pub returns-in_default-clause-answer : goal.returns-in_default-clause-answer
+returns-in_default-clause-answer c elements are = (
+  λ wrong. absurd (false≢true wrong),
+  λ has. absurd (omega (
+    arith,
+    ap length (sym has.1.in_order ∙ no_elements c.args.self.now elements c.in_default.is are),
+    length-append has.1.before ((c.args.id, has.0) ∷ has.1.after),
+  )),
+)
+
+pub slice_bounds-set_element-count : goal.slice_bounds-set_element-count
+slice_bounds-set_element-count c = body_in c.args.self.now c.in-Some.form _ c.in-Some.is (omega (arith, c.sources_end-start.ensures))
+
+pub slice_bounds-set_element-start : goal.slice_bounds-set_element-start
+slice_bounds-set_element-start c =
+    let fits : c.sources_end-start.result + 4 ≤ c.args.self.now.header_len = body_in c.args.self.now c.in-Some.form _ c.in-Some.is (omega (arith, c.sources_end-start.ensures)) in
+    search rules
+
+pub invariant_of-self : goal.invariant_of-self
+invariant_of-self c =
+    fields_of _ _ _ (HasShape-body c.args.self.now c.in-Some.form (c.sources_end-start.result + 4) c.in-Some.is (omega (arith, c.sources_end-start.ensures))
+    c.set_element.new.body c.set_element.auto.body)
+
+pub returns-clause-set : goal.returns-clause-set
+returns-clause-set c = OnTrue_from _ _ (λ set.
+    ChangesBlock-body c.args.self.now c.in-Some.form (c.sources_end-start.result + 4) c.in-Some.is (omega (arith, c.sources_end-start.ensures))
+    c.set_element.new.body c.set_element.auto.body (λ form was body. SetsLast form c.args.id c.args.data.now was body) (OnTrue_at set c.set_element.ensures.set))
+
+pub returns-clause-answer : goal.returns-clause-answer
+returns-clause-answer c elements are =
+    c.set_element.ensures.answer elements (AreElements-in c.args.self.now c.in-Some.form _ c.in-Some.is (omega (arith, c.sources_end-start.ensures)) elements are)
