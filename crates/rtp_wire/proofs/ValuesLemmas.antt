@@ -10,7 +10,7 @@ use Rattle.rtp_ext.specs.Memory.{IsStopped}
 use Rattle.rtp_values.specs.Values.{no_values}
 use Rattle.rtp_ext.proofs.ValuesLaws.{AreValues-none}
 use Rattle.rtp_wire.specs.PacketElements.{HasValues}
-use Rattle.rtp_wire.specs.RefusedMemory.{BlockHasAllocation}
+use Rattle.rtp_wire.specs.RefusedMemory.{BlockHasAllocation, AreValuesStopped}
 
 pub HasValues-none : (exts : ExtensionMap) (block : Option (ExtensionsForm × List ℕ)) (values : ExtensionValues) → None ≡ block → values ≡ no_values → HasValues exts block values
 HasValues-none exts block values block-is none =
@@ -25,9 +25,17 @@ HasValues-read exts block form body elements old new (Ok u) block-is are none re
     subst (λ (b : Option (ExtensionsForm × List ℕ)). HasValues exts b new) block-is
     (record { elements = elements; are_elements = are; are_values = subst (λ (v : ExtensionValues). AreValues exts elements v new) none (read elements are) })
 
-pub BlockHasAllocation-refused : (exts : ExtensionMap) (block : Option (ExtensionsForm × List ℕ)) (form : ExtensionsForm) (body : List ℕ) (elements : List Element) (old new : ExtensionValues)
-    (result : Result (Unit {0}) AllocError) → Some (form, body) ≡ block → AreElements form body elements
-    → OnErr result ((es : List Element) → AreElements form body es → IsStopped exts es old new) → OnErr result (BlockHasAllocation exts block)
-BlockHasAllocation-refused exts block form body elements old new (Ok u) block-is are stopped = tt
-BlockHasAllocation-refused exts block form body elements old new (Err e) block-is are stopped =
-    subst (BlockHasAllocation exts) block-is (record { elements = elements; are_elements = are; has_allocation = (stopped elements are).at })
+-- reading that ended in a refusal
+pub AreValuesStopped-refused : (exts : ExtensionMap) (block : Option (ExtensionsForm × List ℕ)) (form : ExtensionsForm) (body : List ℕ) (elements : List Element) (old new : ExtensionValues)
+    (result : Result (Unit {0}) AllocError) → Some (form, body) ≡ block → AreElements form body elements → old ≡ no_values
+    → OnErr result ((es : List Element) → AreElements form body es → IsStopped exts es old new) → OnErr result (AreValuesStopped exts block new)
+AreValuesStopped-refused exts block form body elements old new (Ok u) block-is are none stopped = tt
+AreValuesStopped-refused exts block form body elements old new (Err e) block-is are none stopped =
+    subst (λ (b : Option (ExtensionsForm × List ℕ)). AreValuesStopped exts b new) block-is
+    (record { elements = elements; are_elements = are; is_stopped = subst (λ (v : ExtensionValues). IsStopped exts elements v new) none (stopped elements are) })
+
+-- was refused at an element of the block
+pub BlockHasAllocation-stopped : (exts : ExtensionMap) (block : Option (ExtensionsForm × List ℕ)) (values : ExtensionValues) (result : Result (Unit {0}) AllocError)
+    → OnErr result (AreValuesStopped exts block values) → OnErr result (BlockHasAllocation exts block)
+BlockHasAllocation-stopped exts block values (Ok u) stopped = tt
+BlockHasAllocation-stopped exts block values (Err e) stopped = record { elements = stopped.elements; are_elements = stopped.are_elements; has_allocation = stopped.is_stopped.at }

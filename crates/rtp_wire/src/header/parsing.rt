@@ -1,7 +1,8 @@
 //! From bytes to a header.
 
-ghost use Rattle.std.specs.Prelude.{◌↔◌, ◌≡◌, ◌≤◌, length, IsOk, IfOk, OnErr, IfSome};
-ghost use Rattle.rtp_wire.specs.RefusedMemory.{HeaderHasAllocation};
+ghost use Rattle.std.specs.Prelude.{◌↔◌, ◌≡◌, ◌≤◌, length, true, false, IsOk, IfOk, OnErr, IfSome};
+ghost use Rattle.std.specs.Bool.{OnTrue};
+ghost use Rattle.rtp_wire.specs.RefusedMemory.{HeaderHasAllocation, IsWireStopped};
 ghost use Rattle.rtp_wire.specs.NotAHeader.{NotAHeader};
 ghost use Rattle.rtp_wire.specs.Header.{IsWire};
 
@@ -54,5 +55,31 @@ impl RtpHeader {
         let mut ext_vals = ExtensionValues::default();
         packet.read_values(alloc, exts, &mut ext_vals)?;
         Ok(Some(packet.header_with(ext_vals)))
+    }
+
+    /// Reads the header that the bytes begin with into this one, as [`parse`](Self::parse) does.
+    pub fn parse_into(
+        &mut self,
+        alloc: Global,
+        buf: &[u8],
+        exts: &ExtensionMap,
+    ) -> Result<bool, AllocError>
+        ensures memory { OnErr result (HeaderHasAllocation exts.now buf.now) }
+        ensures stopped { OnErr result (IsWireStopped exts.now buf.now self.new) }
+        ensures succeeds { (HeaderHasAllocation exts.now buf.now → ⊥) → IsOk result }
+        ensures found { IfOk result (λ found. OnTrue found (IsWire exts.now buf.now self.new)) }
+        ensures only { (header : RtpHeader) → IsWire exts.now buf.now header →
+            IfOk result (λ found. (found ≡ true) × (self.new ≡ header)) }
+        ensures within { IfOk result (λ found. OnTrue found (self.new.header_len ≤ length buf.now)) }
+        ensures refused { (result ≡ Ok false) ↔ NotAHeader buf.now }
+        ensures same { NotAHeader buf.now → self.new ≡ self.old }
+    {
+        let Ok(packet) = RtpPacket::parse(buf) else {
+            return Ok(false);
+        };
+        packet.put_fields(self);
+        self.ext_vals = ExtensionValues::default();
+        packet.read_values(alloc, exts, &mut self.ext_vals)?;
+        Ok(true)
     }
 }

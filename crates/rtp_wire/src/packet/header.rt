@@ -49,6 +49,26 @@ impl<'a> RtpPacket<'a> {
         }
     }
 
+    // Gives the header the fields of the packet. Its values stay.
+    #[inline(always)]
+    pub(crate) fn put_fields(&self, header: &mut RtpHeader)
+        ensures { header.new ≡ header_of (parts_of self.now) header.old.ext_vals }
+    {
+        let groups = self.groups();
+        header.version = 2;
+        header.has_padding = self.has_padding();
+        header.has_extension = self.has_extension();
+        header.csrc_count = groups.len();
+        header.marker = self.marker();
+        header.payload_type = self.payload_type();
+        header.sequence_number = self.sequence_number();
+        header.timestamp = self.timestamp();
+        header.ssrc = self.ssrc();
+        header.csrc = [0; 15];
+        put_numbers(groups, &mut header.csrc);
+        header.header_len = self.header_len();
+    }
+
     /// Returns the header, with the values that the elements of the block give under the map. Where
     /// memory is refused to a layer allocation nothing is returned.
     pub fn header(&self, alloc: Global, exts: &ExtensionMap) -> Result<RtpHeader, AllocError>

@@ -4,7 +4,7 @@ ghost use Rattle.std.specs.Prelude.{◌≡◌, IsOk, IfOk, OnOk, OnErr};
 ghost use Rattle.rtp_values.specs.declared.value.values.ExtensionValues.{ExtensionValues};
 ghost use Rattle.rtp_values.specs.Values.{no_values};
 ghost use Rattle.rtp_wire.specs.PacketElements.{HasValues};
-ghost use Rattle.rtp_wire.specs.RefusedMemory.{BlockHasAllocation};
+ghost use Rattle.rtp_wire.specs.RefusedMemory.{BlockHasAllocation, AreValuesStopped};
 
 use super::RtpPacket;
 use rtp_ext::{ExtensionMap, ExtensionValues};
@@ -23,6 +23,7 @@ impl<'a> RtpPacket<'a> {
         requires { values.old ≡ no_values }
         ensures found { OnOk result (HasValues exts.now (parts_of self.now).block values.new) }
         ensures memory { OnErr result (BlockHasAllocation exts.now (parts_of self.now).block) }
+        ensures stopped { OnErr result (AreValuesStopped exts.now (parts_of self.now).block values.new) }
         ensures succeeds { (BlockHasAllocation exts.now (parts_of self.now).block → ⊥) → IsOk result }
     {
         let Some((form, body)) = self.block() else {
