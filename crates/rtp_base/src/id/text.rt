@@ -35,15 +35,19 @@ fn begins_char(byte: u8) -> bool
     byte < 128 || byte >= 192
 }
 
+// What an identifier keeps, for each first byte of a character.
+#[rattlefmt::skip]
+static KEPT: [u8; 256] = *b"\
+________________________________________________0123456789______\
+_ABCDEFGHIJKLMNOPQRSTUVWXYZ______abcdefghijklmnopqrstuvwxyz_____\
+________________________________________________________________\
+________________________________________________________________";
+
 // The byte that an identifier keeps for a character, by the first byte of the character.
 fn id_byte(byte: u8) -> u8
     ensures { result ≡ id_char byte }
 {
-    if byte.is_ascii_alphanumeric() {
-        byte
-    } else {
-        b'_'
-    }
+    KEPT[usize::from(byte)]
 }
 
 // Whether the byte is a letter, a digit or an underscore.

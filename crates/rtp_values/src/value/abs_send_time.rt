@@ -20,9 +20,7 @@ const PERIOD: u64 = 64 * MICROS_PER_SECOND;
 fn ticks_of(micros: u64) -> u32
     ensures { result ≡ send_ticks micros }
 {
-    let seconds = micros / MICROS_PER_SECOND % 64;
-    let rest = micros % MICROS_PER_SECOND;
-    (seconds * TICKS_PER_SECOND + rest * TICKS_PER_SECOND / MICROS_PER_SECOND) as u32
+    (micros % PERIOD * TICKS_PER_SECOND / MICROS_PER_SECOND) as u32
 }
 
 pub(super) fn read(buf: &[u8], ev: &mut ExtensionValues) -> Option<()>

@@ -47,6 +47,20 @@ pub(super) fn put(buf: &mut [u8], bytes: &[u8]) -> usize
     bytes.len()
 }
 
+// Puts the bytes of a text as `put` does. Most texts have a few, which are put one by one.
+pub(super) fn put_text(buf: &mut [u8], text: &[u8]) -> usize
+    requires room { length text.now ≤ length buf.old }
+    ensures length { result ≡ length text.now }
+    ensures written { buf.new ≡ text.now ++ drop (length text.now) buf.old }
+{
+    match text {
+        [a] => put(buf, &[*a]),
+        [a, b] => put(buf, &[*a, *b]),
+        [a, b, c] => put(buf, &[*a, *b, *c]),
+        _ => put(buf, text),
+    }
+}
+
 // Puts the number in two bytes at the front of the buffer, and returns 2.
 pub(super) fn put_u16(buf: &mut [u8], number: u16) -> usize
     requires room { 2 ≤ length buf.old }

@@ -5,7 +5,7 @@ ghost use Rattle.rtp_values.specs.Spelling.{HasRoom};
 ghost use Rattle.rtp_values.specs.KindBytes.{SetsFields, WritesData};
 
 use super::ExtensionValues;
-use super::front::put;
+use super::front::put_text;
 use rtp_base::Mid;
 
 pub(super) fn read(buf: &[u8], ev: &mut ExtensionValues) -> Option<()>
@@ -19,6 +19,6 @@ pub(super) fn write(buf: &mut [u8], ev: &ExtensionValues) -> Option<usize>
     requires room { HasRoom RtpMid ev.now buf.old }
     ensures { WritesData RtpMid ev.now buf.old buf.new result }
 {
-    let mid = ev.mid?;
-    Some(put(buf, mid.as_str().as_bytes()))
+    let mid = ev.mid.as_ref()?;
+    Some(put_text(buf, mid.as_str().as_bytes()))
 }

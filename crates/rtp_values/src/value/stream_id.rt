@@ -5,7 +5,7 @@ ghost use Rattle.rtp_values.specs.Spelling.{HasRoom};
 ghost use Rattle.rtp_values.specs.KindBytes.{SetsFields, WritesData};
 
 use super::ExtensionValues;
-use super::front::put;
+use super::front::put_text;
 use rtp_base::Rid;
 
 pub(super) fn read(buf: &[u8], ev: &mut ExtensionValues) -> Option<()>
@@ -19,8 +19,8 @@ pub(super) fn write(buf: &mut [u8], ev: &ExtensionValues) -> Option<usize>
     requires room { HasRoom RtpStreamId ev.now buf.old }
     ensures { WritesData RtpStreamId ev.now buf.old buf.new result }
 {
-    let rid = ev.rid?;
-    Some(put(buf, rid.as_str().as_bytes()))
+    let rid = ev.rid.as_ref()?;
+    Some(put_text(buf, rid.as_str().as_bytes()))
 }
 
 pub(super) fn read_repaired(buf: &[u8], ev: &mut ExtensionValues) -> Option<()>
@@ -34,6 +34,6 @@ pub(super) fn write_repaired(buf: &mut [u8], ev: &ExtensionValues) -> Option<usi
     requires room { HasRoom RepairedRtpStreamId ev.now buf.old }
     ensures { WritesData RepairedRtpStreamId ev.now buf.old buf.new result }
 {
-    let rid_repair = ev.rid_repair?;
-    Some(put(buf, rid_repair.as_str().as_bytes()))
+    let rid_repair = ev.rid_repair.as_ref()?;
+    Some(put_text(buf, rid_repair.as_str().as_bytes()))
 }
