@@ -5,25 +5,16 @@ use Rattle.std.specs.List.{AllZip}
 use Rattle.rtp_ext.specs.declared.ext.map.ExtensionMap.{ExtensionMap}
 use Rattle.rtp_wire.specs.declared.header.rtp_header.RtpHeader.{RtpHeader}
 use Rattle.rtp_wire.specs.declared.receive.verdict.Verdict.{Verdict}
-use Rattle.rtp_wire.specs.Header.{IsWire}
 use Rattle.rtp_wire.specs.Written.{image_of}
 use Rattle.rtp_wire.specs.Verdicts.{PacketId, IsPacketId, ArePacketIds, IsRun, AreVerdicts}
 use Rattle.rtp_wire.specs.TrueNumbers.{AreTrueVerdicts}
 use Rattle.rtp_wire.specs.Sending.{packet_id_of, Arrives, packet_ids_of, AreSent}
-use Rattle.rtp_wire.proofs.VerdictLemmas.{one_packet_id}
+use Rattle.rtp_wire.proofs.VerdictLemmas.{IsPacketId-wire, one_packet_id}
 use Rattle.rtp_wire.proofs.TrueNumberLemmas.{AreTrueVerdicts-run}
 
 packet_id-image : (exts : ExtensionMap) (h : RtpHeader) → packet_id_of (image_of exts h) ≡ packet_id_of h
 unfolding image_of
 packet_id-image exts h = refl
-
--- bytes that begin with a header are a packet of its packet id
-pub IsPacketId-wire : (exts : ExtensionMap) (bytes : List ℕ) (h : RtpHeader) → IsWire exts bytes h → IsPacketId bytes (Some (packet_id_of h))
-IsPacketId-wire exts bytes h wire = record {
-  parts = wire.parts;
-  is_packet = wire.is_packet;
-  packet_id_is = ap packet_id_of wire.is_header.fields_are;
-}
 
 packet_id_sent : (exts : ExtensionMap) (h : RtpHeader) (datagram : List ℕ) (packet_id : Option PacketId) → Arrives exts h datagram → IsPacketId datagram packet_id
     → packet_id ≡ Some (packet_id_of h)

@@ -5,14 +5,20 @@ use Rattle.std.specs.List.{AllZip}
 use Rattle.std.proofs.lemmas.Bool.{eq-eqb, cases_lt, false≢true, or_left, or_right}
 use Rattle.std.proofs.lemmas.List.{take-append-le, take_at, get_or_append_left, get_or_at, length_push, get_or-take}
 use Rattle.rtp_base.specs.Window.{Numbers}
+use Rattle.rtp_ext.specs.declared.ext.map.ExtensionMap.{ExtensionMap}
+use Rattle.rtp_wire.specs.declared.header.rtp_header.RtpHeader.{RtpHeader}
 use Rattle.rtp_wire.specs.declared.receive.state.ReceiverState.{ReceiverState}
 use Rattle.rtp_wire.specs.declared.receive.state.ReceiverState.TheVariants.{Start, Window}
 use Rattle.rtp_wire.specs.declared.receive.verdict.Verdict.{Verdict}
 use Rattle.rtp_wire.specs.declared.receive.verdict.Verdict.TheVariants.{Unreadable, Taken, Refused}
 use Rattle.rtp_wire.specs.Packet.{PacketParts, IsPacket}
+use Rattle.rtp_wire.specs.Header.{IsWire}
+use Rattle.rtp_wire.specs.NotAHeader.{NotAHeader}
 use Rattle.rtp_wire.specs.Receiver.{Holds, IsFresh, taken_after}
 use Rattle.rtp_wire.specs.Verdicts.{PacketId, IsPacketId, ArePacketIds, taken_by, IsVerdict, IsRunBy, IsRun, AreVerdicts, TakesOnce}
+use Rattle.rtp_wire.specs.Sending.{packet_id_of}
 use Rattle.rtp_wire.proofs.PacketLemmas.{one_packet}
+use Rattle.rtp_wire.proofs.NotAPacketLemmas.{no_packet-refused}
 
 -- ---- one verdict more
 
@@ -143,6 +149,18 @@ TakesOnce-run count packet_ids verdicts run i j number before within first secon
 pub IsPacketId-fields : (datagram : List ℕ) (parts : PacketParts) (source low : ℕ) → IsPacket datagram parts → source ≡ parts.ssrc → low ≡ parts.sequence_number
     → IsPacketId datagram (Some (record { source = source; low = low }))
 IsPacketId-fields datagram parts source low is source_is low_is = record { parts = parts; is_packet = is; packet_id_is = cc }
+
+-- bytes that begin with a header are a packet of its packet id
+pub IsPacketId-wire : (exts : ExtensionMap) (bytes : List ℕ) (h : RtpHeader) → IsWire exts bytes h → IsPacketId bytes (Some (packet_id_of h))
+IsPacketId-wire exts bytes h wire = record {
+  parts = wire.parts;
+  is_packet = wire.is_packet;
+  packet_id_is = ap packet_id_of wire.is_header.fields_are;
+}
+
+-- and bytes that begin with none have none
+pub IsPacketId-refused : (bytes : List ℕ) → NotAHeader bytes → IsPacketId bytes None
+IsPacketId-refused bytes none parts is = no_packet-refused bytes parts none is
 
 -- a datagram has one packet id, or none
 pub one_packet_id : (datagram : List ℕ) (a b : Option PacketId) → IsPacketId datagram a → IsPacketId datagram b → a ≡ b
