@@ -13,10 +13,12 @@ use Rattle.rtp_wire.specs.declared.header.rtp_header.RtpHeader.{RtpHeader}
 use Rattle.rtp_wire.specs.declared.receive.verdict.Verdict.{Verdict}
 use Rattle.rtp_wire.specs.Header.{IsWire}
 use Rattle.rtp_wire.specs.Receivers.{ReceiverStates}
-use Rattle.rtp_wire.specs.Verdicts.{packet_id_of, IsPacketId, IsVerdict}
+use Rattle.rtp_wire.specs.NotAHeader.{NotAHeader}
+use Rattle.rtp_wire.specs.Verdicts.{IsPacketId, IsVerdict}
+use Rattle.rtp_wire.specs.Sending.{packet_id_of}
 use Rattle.rtp_wire.specs.Sources.{AreVerdictsBySource, taken_of, numbers_beside}
 use Rattle.rtp_wire.specs.EachSource.{HoldsEach, taken_after_each}
-use Rattle.rtp_wire.proofs.VerdictLemmas.{AllZip-more}
+use Rattle.rtp_wire.proofs.VerdictLemmas.{AllZip-more, IsPacketId-wire, IsPacketId-refused}
 use Rattle.rtp_wire.proofs.SourceLemmas.{SoFarEach, SoFarEach-none, SoFarEach-more}
 use Rattle.rtp_report.specs.declared.program.RunEnd.{RunEnd}
 use Rattle.rtp_report.specs.declared.program.RunEnd.TheVariants.{NoMemory, Io}
@@ -33,10 +35,11 @@ pub IsHeader-parsed : (exts : ExtensionMap) (datagram : List ℕ) (answer : Opti
 IsHeader-parsed exts datagram None found only = λ header wire. none-some header (only header wire)
 IsHeader-parsed exts datagram (Some header) found only = found
 
--- the header of a datagram gives its packet id
-packet_id : (exts : ExtensionMap) (datagram : List ℕ) (header : Option RtpHeader) → IsHeader exts datagram header → IsPacketId exts datagram (option_map packet_id_of header)
-packet_id exts datagram None none = none
-packet_id exts datagram (Some header) wire = record { header = header; wire = wire; packet_id_is = refl }
+-- and its packet id is that of the datagram
+pub IsPacketId-parsed : (exts : ExtensionMap) (datagram : List ℕ) (answer : Option RtpHeader) → IfSome answer (IsWire exts datagram) → (answer ≡ None → NotAHeader datagram)
+    → IsPacketId datagram (option_map packet_id_of answer)
+IsPacketId-parsed exts datagram None found refused = IsPacketId-refused datagram (refused refl)
+IsPacketId-parsed exts datagram (Some header) found refused = IsPacketId-wire exts datagram header found
 
 -- the lines of one datagram more
 lines_from-push : (packet : ℕ) (reports : List Report) (report : Report) → lines_from packet (reports ++ report ∷ []) ≡ lines_from packet reports ++ packet_lines (packet + length reports) report.0 report.1
@@ -52,20 +55,20 @@ pub record Printed (exts : ExtensionMap) (datagrams : List (List ℕ)) (done : �
   pub reports : List Report
   pub as_many : length reports ≡ done
   pub headers_are : AllZip (λ (datagram : List ℕ) (report : Report). IsHeader exts datagram report.0) (take done datagrams) reports
-  pub so_far : SoFarEach exts (take done datagrams) (map (λ (report : Report). report.1) reports) receivers
+  pub so_far : SoFarEach (take done datagrams) (map (λ (report : Report). report.1) reports) receivers
   pub written : List ℕ
   pub appended : Appends old new written
   pub lines_are : written ++ text ≡ lines_from 1 reports
   pub count : ℕ
   pub whole : IsReport exts (take count datagrams) written
 
-verdicts_of : (exts : ExtensionMap) (datagrams : List (List ℕ)) (verdicts : List Verdict) (receivers : ReceiverStates) → SoFarEach exts datagrams verdicts receivers → AreVerdictsBySource exts datagrams verdicts
-verdicts_of exts datagrams verdicts receivers so_far = record { packet_ids = so_far.packet_ids; are_packet_ids = so_far.are_packet_ids; runs = so_far.runs }
+verdicts_of : (datagrams : List (List ℕ)) (verdicts : List Verdict) (receivers : ReceiverStates) → SoFarEach datagrams verdicts receivers → AreVerdictsBySource datagrams verdicts
+verdicts_of datagrams verdicts receivers so_far = record { packet_ids = so_far.packet_ids; are_packet_ids = so_far.are_packet_ids; runs = so_far.runs }
 
 pub Printed-none : (exts : ExtensionMap) (datagrams : List (List ℕ)) (old : Option (List ℕ)) (text : List ℕ) (receivers : ReceiverStates) → Appends old old [] → text ≡ [] → receivers ≡ record { rollover_count = 0; by_source = [] }
     → Printed exts datagrams 0 old old text receivers
 Printed-none exts datagrams old text receivers same empty none =
-    let so_far : SoFarEach exts [] [] receivers = SoFarEach-none exts [] receivers refl none in
+    let so_far : SoFarEach [] [] receivers = SoFarEach-none [] receivers refl none in
     record {
       reports = [];
       as_many = refl;
@@ -75,16 +78,16 @@ Printed-none exts datagrams old text receivers same empty none =
       appended = same;
       lines_are = empty;
       count = 0;
-      whole = record { reports = []; headers_are = tt; verdicts_are = verdicts_of exts [] [] receivers so_far; printed_is = refl };
+      whole = record { reports = []; headers_are = tt; verdicts_are = verdicts_of [] [] receivers so_far; printed_is = refl };
     }
 
 -- the lines of one datagram more are put after the text
 pub Printed-more : (exts : ExtensionMap) (datagrams : List (List ℕ)) (done : ℕ) (old new : Option (List ℕ)) (text text' : List ℕ) (before after : ReceiverStates) (header : Option RtpHeader) (verdict : Verdict)
-    → Printed exts datagrams done old new text before → done < length datagrams → IsHeader exts (get_or datagrams done []) header
+    → Printed exts datagrams done old new text before → done < length datagrams → IsHeader exts (get_or datagrams done []) header → IsPacketId (get_or datagrams done []) (option_map packet_id_of header)
     → ((taken : ℕ → Numbers) → HoldsEach before 0 taken → IsVerdict 0 (numbers_beside taken (option_map packet_id_of header)) (option_map packet_id_of header) verdict)
     → ((taken : ℕ → Numbers) → HoldsEach before 0 taken → HoldsEach after 0 (taken_after_each taken (option_map packet_id_of header) verdict))
     → text' ≡ text ++ packet_lines (done + 1) header verdict → Printed exts datagrams (done + 1) old new text' after
-Printed-more exts datagrams done old new text text' before after header verdict p below is judged holds grown =
+Printed-more exts datagrams done old new text text' before after header verdict p below is read judged holds grown =
     let report : Report = (header, verdict) in
     let datagram = get_or datagrams done [] in
     let verdicts = map (λ (r : Report). r.1) p.reports in
@@ -96,9 +99,9 @@ Printed-more exts datagrams done old new text text' before after header verdict 
           subst (λ (ds : List (List ℕ)). AllZip (λ (d : List ℕ) (r : Report). IsHeader exts d r.0) ds (p.reports ++ report ∷ [])) (sym one)
           (AllZip-more (λ (d : List ℕ) (r : Report). IsHeader exts d r.0) (take done datagrams) p.reports datagram report p.headers_are is);
       so_far =
-          subst (λ (ds : List (List ℕ)). SoFarEach exts ds (map (λ (r : Report). r.1) (p.reports ++ report ∷ [])) after) (sym one)
-          (subst (λ (vs : List Verdict). SoFarEach exts (take done datagrams ++ datagram ∷ []) vs after) (sym (map_push (λ (r : Report). r.1) p.reports report))
-          (SoFarEach-more exts (take done datagrams) datagram (option_map packet_id_of header) verdicts verdict before after p.so_far (packet_id exts datagram header is)
+          subst (λ (ds : List (List ℕ)). SoFarEach ds (map (λ (r : Report). r.1) (p.reports ++ report ∷ [])) after) (sym one)
+          (subst (λ (vs : List Verdict). SoFarEach (take done datagrams ++ datagram ∷ []) vs after) (sym (map_push (λ (r : Report). r.1) p.reports report))
+          (SoFarEach-more (take done datagrams) datagram (option_map packet_id_of header) verdicts verdict before after p.so_far read
           (judged (taken_of p.so_far.packet_ids verdicts) p.so_far.holds) (holds (taken_of p.so_far.packet_ids verdicts) p.so_far.holds)));
       written = p.written;
       appended = p.appended;
@@ -114,7 +117,7 @@ Printed-more exts datagrams done old new text text' before after header verdict 
 -- the lines of the first datagrams, whether they are written or in the text
 pub IsReport-printed : (exts : ExtensionMap) (datagrams : List (List ℕ)) (done : ℕ) (old new : Option (List ℕ)) (text : List ℕ) (receivers : ReceiverStates)
     → (p : Printed exts datagrams done old new text receivers) → IsReport exts (take done datagrams) (p.written ++ text)
-IsReport-printed exts datagrams done old new text receivers p = record { reports = p.reports; headers_are = p.headers_are; verdicts_are = verdicts_of exts (take done datagrams) (map (λ (report : Report). report.1) p.reports) receivers p.so_far; printed_is = p.lines_are }
+IsReport-printed exts datagrams done old new text receivers p = record { reports = p.reports; headers_are = p.headers_are; verdicts_are = verdicts_of (take done datagrams) (map (λ (report : Report). report.1) p.reports) receivers p.so_far; printed_is = p.lines_are }
 
 -- the text is written
 pub Printed-written : (exts : ExtensionMap) (datagrams : List (List ℕ)) (done : ℕ) (old new after : Option (List ℕ)) (text text' : List ℕ) (receivers : ReceiverStates)

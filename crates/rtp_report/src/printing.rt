@@ -3,7 +3,8 @@
 ghost use Rattle.std.specs.Prelude.{◌≡◌, ◌++◌, ℕ, [], map, string_bytes, IfOk, IfErr, OnOk, OnErr};
 ghost use Rattle.std.specs.Option.{option_map, option_copied};
 ghost use Rattle.rtp_base.specs.Window.{Numbers};
-ghost use Rattle.rtp_wire.specs.Verdicts.{IsVerdict, packet_id_of};
+ghost use Rattle.rtp_wire.specs.Verdicts.{IsPacketId, IsVerdict};
+ghost use Rattle.rtp_wire.specs.Sending.{packet_id_of};
 ghost use Rattle.rtp_wire.specs.Sources.{numbers_beside};
 ghost use Rattle.rtp_wire.specs.EachSource.{HoldsEach, taken_after_each};
 ghost use Rattle.rtp_report.specs.Output.{IsHeader, packet_lines, IsReport, Prints};
@@ -28,6 +29,8 @@ fn judged(
     receivers: &mut Receivers,
 ) -> Result<(Option<RtpHeader>, Verdict), AllocError>
     ensures header { IfOk result (λ report. IsHeader exts.now datagram.now report.0) }
+    ensures packet_id { IfOk result (λ report.
+        IsPacketId datagram.now (option_map packet_id_of report.0)) }
     ensures verdict { (taken : ℕ → Numbers) → HoldsEach receivers.old 0 taken →
         IfOk result (λ report. IsVerdict 0
         (numbers_beside taken (option_map packet_id_of report.0)) (option_map packet_id_of report.0) report.1) }
@@ -37,7 +40,7 @@ fn judged(
 {
     let header = RtpHeader::parse(alloc, datagram, exts)?;
     let verdict = match &header {
-        Some(header) => receivers.receive(header)?,
+        Some(header) => receivers.receive(header.ssrc, header.sequence_number)?,
         None => Verdict::Unreadable,
     };
     Ok((header, verdict))

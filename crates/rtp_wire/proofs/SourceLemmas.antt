@@ -1,6 +1,7 @@
 -- Runs of datagrams of many sources: what one datagram more changes, and each source by itself.
 use Rattle.std.proofs.Common.{◌≡◌, ◌≢◌, ℕ, Bool, true, false, if◌then◌else◌, eqb, List, [], ◌∷◌, ◌++◌, length, refl, sym, ap, ◌∙◌, subst, arith}
-use Rattle.std.specs.Prelude.{Option, Some, None}
+use Rattle.std.specs.Prelude.{Option, Some, None, Result, Ok, Err, IfOk}
+use Rattle.std.specs.declared.alloc.AllocError.{AllocError}
 use Rattle.std.specs.List.{AllZip, AllByRecursion}
 use Rattle.std.proofs.lemmas.Bool.{eq-eqb, eqb-true, false≢true}
 use Rattle.std.proofs.lemmas.List.{length-map}
@@ -11,14 +12,14 @@ use Rattle.rtp_wire.specs.declared.receive.state.ReceiverState.{ReceiverState}
 use Rattle.rtp_wire.specs.declared.receive.verdict.Verdict.{Verdict}
 use Rattle.rtp_wire.specs.Receiver.{Holds, taken_after}
 use Rattle.rtp_wire.specs.Receivers.{ReceiverStates, receiver_of, state_of}
-use Rattle.rtp_wire.specs.Verdicts.{PacketId, packet_id_of, IsPacketId, ArePacketIds, taken_by, IsVerdict, IsRun, AreVerdicts}
+use Rattle.rtp_wire.specs.Verdicts.{PacketId, IsPacketId, ArePacketIds, taken_by, IsVerdict, IsRun, AreVerdicts}
 use Rattle.rtp_wire.specs.TrueNumbers.{AreTrueVerdicts}
-use Rattle.rtp_wire.specs.Sending.{IsOfSource, packet_ids_of, AreSent}
+use Rattle.rtp_wire.specs.Sending.{IsOfSource, packet_id_of, packet_ids_of, AreSent}
 use Rattle.rtp_wire.specs.Sources.{is_from, at_source, taken_of, numbers_beside, AreRuns}
 use Rattle.rtp_wire.specs.EachSource.{HoldsEach, taken_after_each}
-use Rattle.rtp_wire.proofs.VerdictLemmas.{Holds-same, IsRunBy-more, IsRun-more, taken_by-push, AllZip-more}
+use Rattle.rtp_wire.proofs.VerdictLemmas.{Holds-same, IsRunBy-more, IsRun-more, taken_by-push, AllZip-more, one_packet_ids}
 use Rattle.rtp_wire.proofs.ReceiversLemmas.{same_state}
-use Rattle.rtp_wire.proofs.TrueNumberLemmas.{AreTrueVerdicts-run, one_packet_ids}
+use Rattle.rtp_wire.proofs.TrueNumberLemmas.{AreTrueVerdicts-run}
 use Rattle.rtp_wire.proofs.SendingLemmas.{packet_ids_sent}
 
 -- ---- one place more
@@ -65,19 +66,26 @@ pub HoldsEach-after : (count : ℕ) (before after : ReceiverStates) (taken : ℕ
 HoldsEach-after count before after taken packet_id verdict holds stays held others =
     λ source. held_at count before after taken packet_id verdict source (eqb source packet_id.source) refl holds stays held others
 
+-- the same of the receivers' answer to a packet
+pub HoldsEach-received : (count : ℕ) (before after : ReceiverStates) (taken : ℕ → Numbers) (packet_id : PacketId) (answer : Result Verdict AllocError) → HoldsEach before count taken
+    → after.rollover_count ≡ before.rollover_count → IfOk answer (λ verdict. Holds (state_of after packet_id.source) count (taken_after (taken packet_id.source) verdict))
+    → ((other : ℕ) → other ≢ packet_id.source → receiver_of after other ≡ receiver_of before other) → IfOk answer (λ verdict. HoldsEach after count (taken_after_each taken (Some packet_id) verdict))
+HoldsEach-received count before after taken packet_id (Ok verdict) holds stays held others = HoldsEach-after count before after taken packet_id verdict holds stays held others
+HoldsEach-received count before after taken packet_id (Err error) holds stays held others = tt
+
 -- ---- the run so far
 
 -- the verdicts on the datagrams so far, all together and for each source alone, and what the receivers then hold
-pub record SoFarEach (exts : ExtensionMap) (datagrams : List (List ℕ)) (verdicts : List Verdict) (receivers : ReceiverStates) : Type 0 where
+pub record SoFarEach (datagrams : List (List ℕ)) (verdicts : List Verdict) (receivers : ReceiverStates) : Type 0 where
   pub packet_ids : List (Option PacketId)
-  pub are_packet_ids : ArePacketIds exts datagrams packet_ids
+  pub are_packet_ids : ArePacketIds datagrams packet_ids
   pub runs : AreRuns packet_ids verdicts
   pub alone : (source : ℕ) → IsRun 0 (at_source source packet_ids packet_ids) (at_source source packet_ids verdicts)
   pub holds : HoldsEach receivers 0 (taken_of packet_ids verdicts)
 
-pub SoFarEach-none : (exts : ExtensionMap) (verdicts : List Verdict) (receivers : ReceiverStates) → verdicts ≡ [] → receivers ≡ record { rollover_count = 0; by_source = [] } → SoFarEach exts [] verdicts receivers
-SoFarEach-none exts verdicts receivers none empty =
-    subst (λ (vs : List Verdict). SoFarEach exts [] vs receivers) (sym none) (subst (λ (rs : ReceiverStates). SoFarEach exts [] [] rs) (sym empty) (record {
+pub SoFarEach-none : (verdicts : List Verdict) (receivers : ReceiverStates) → verdicts ≡ [] → receivers ≡ record { rollover_count = 0; by_source = [] } → SoFarEach [] verdicts receivers
+SoFarEach-none verdicts receivers none empty =
+    subst (λ (vs : List Verdict). SoFarEach [] vs receivers) (sym none) (subst (λ (rs : ReceiverStates). SoFarEach [] [] rs) (sym empty) (record {
       packet_ids = [];
       are_packet_ids = tt;
       runs = record { as_many = refl; each = λ i below. absurd (omega arith) };
@@ -101,17 +109,17 @@ taken_more : (here : Bool) (verdicts : List Verdict) (verdict : Verdict) (n : �
 taken_more true verdicts verdict n = taken_by-push verdicts verdict n
 taken_more false verdicts verdict n = refl
 
-pub SoFarEach-more : (exts : ExtensionMap) (datagrams : List (List ℕ)) (datagram : List ℕ) (packet_id : Option PacketId) (verdicts : List Verdict) (verdict : Verdict) (before after : ReceiverStates)
-    → (so_far : SoFarEach exts datagrams verdicts before) → IsPacketId exts datagram packet_id
+pub SoFarEach-more : (datagrams : List (List ℕ)) (datagram : List ℕ) (packet_id : Option PacketId) (verdicts : List Verdict) (verdict : Verdict) (before after : ReceiverStates)
+    → (so_far : SoFarEach datagrams verdicts before) → IsPacketId datagram packet_id
     → IsVerdict 0 (numbers_beside (taken_of so_far.packet_ids verdicts) packet_id) packet_id verdict → HoldsEach after 0 (taken_after_each (taken_of so_far.packet_ids verdicts) packet_id verdict)
-    → SoFarEach exts (datagrams ++ datagram ∷ []) (verdicts ++ verdict ∷ []) after
-SoFarEach-more exts datagrams datagram packet_id verdicts verdict before after so_far read is holds =
+    → SoFarEach (datagrams ++ datagram ∷ []) (verdicts ++ verdict ∷ []) after
+SoFarEach-more datagrams datagram packet_id verdicts verdict before after so_far read is holds =
     let packet_ids = so_far.packet_ids in
     let pushed : (source : ℕ) → at_source source (packet_ids ++ packet_id ∷ []) (verdicts ++ verdict ∷ []) ≡ at_more (is_from source packet_id) (at_source source packet_ids verdicts) verdict =
     λ source. at_source-push source packet_ids verdicts packet_id verdict so_far.runs.as_many in
     record {
       packet_ids = packet_ids ++ packet_id ∷ [];
-      are_packet_ids = AllZip-more (IsPacketId exts) datagrams packet_ids datagram packet_id so_far.are_packet_ids read;
+      are_packet_ids = AllZip-more IsPacketId datagrams packet_ids datagram packet_id so_far.are_packet_ids read;
       runs = IsRunBy-more 0 (λ r rs vs. numbers_beside (taken_of rs vs) r) packet_ids verdicts packet_id verdict so_far.runs is;
       alone = λ source.
           subst (λ (rs : List (Option PacketId)). IsRun 0 rs (at_source source (packet_ids ++ packet_id ∷ []) (verdicts ++ verdict ∷ []))) (sym (at_source-push source packet_ids packet_ids packet_id packet_id refl))
@@ -140,13 +148,13 @@ AllZip-at_source R source (r ∷ packet_ids) (x ∷ xs) (y ∷ ys) all =
     zip_kept R (is_from source r) x y (at_source source packet_ids xs) (at_source source packet_ids ys) all.0 (AllZip-at_source R source packet_ids xs ys all.1)
 
 -- the verdicts on the datagrams of a source are those of a run of them alone
-pub AreVerdicts-each : (exts : ExtensionMap) (datagrams : List (List ℕ)) (verdicts : List Verdict) (receivers : ReceiverStates) (packet_ids : List (Option PacketId)) (source : ℕ)
-    → SoFarEach exts datagrams verdicts receivers → ArePacketIds exts datagrams packet_ids → AreVerdicts exts (at_source source packet_ids datagrams) (at_source source packet_ids verdicts)
-AreVerdicts-each exts datagrams verdicts receivers packet_ids source so_far read =
-    subst (λ rs. AreVerdicts exts (at_source source rs datagrams) (at_source source rs verdicts)) (one_packet_ids exts datagrams so_far.packet_ids packet_ids so_far.are_packet_ids read)
+pub AreVerdicts-each : (datagrams : List (List ℕ)) (verdicts : List Verdict) (receivers : ReceiverStates) (packet_ids : List (Option PacketId)) (source : ℕ)
+    → SoFarEach datagrams verdicts receivers → ArePacketIds datagrams packet_ids → AreVerdicts (at_source source packet_ids datagrams) (at_source source packet_ids verdicts)
+AreVerdicts-each datagrams verdicts receivers packet_ids source so_far read =
+    subst (λ rs. AreVerdicts (at_source source rs datagrams) (at_source source rs verdicts)) (one_packet_ids datagrams so_far.packet_ids packet_ids so_far.are_packet_ids read)
     (record {
       packet_ids = at_source source so_far.packet_ids so_far.packet_ids;
-      are_packet_ids = AllZip-at_source (IsPacketId exts) source so_far.packet_ids datagrams so_far.packet_ids so_far.are_packet_ids;
+      are_packet_ids = AllZip-at_source IsPacketId source so_far.packet_ids datagrams so_far.packet_ids so_far.are_packet_ids;
       run = so_far.alone source;
     })
 
@@ -165,7 +173,7 @@ at_source-all source (h ∷ headers) (x ∷ xs) of many =
 
 -- the verdicts on what arrives of one sender are those of the sender's numbers
 pub AreTrueVerdicts-sent_each : (exts : ExtensionMap) (headers : List RtpHeader) (numbers : List ℕ) (datagrams : List (List ℕ)) (verdicts : List Verdict) (receivers : ReceiverStates)
-    → SoFarEach exts datagrams verdicts receivers → AreSent exts headers numbers datagrams → AreTrueVerdicts (packet_ids_of headers) numbers verdicts
+    → SoFarEach datagrams verdicts receivers → AreSent exts headers numbers datagrams → AreTrueVerdicts (packet_ids_of headers) numbers verdicts
 AreTrueVerdicts-sent_each exts headers numbers datagrams verdicts receivers so_far sent =
     let same = packet_ids_sent exts headers datagrams so_far.packet_ids sent.arrive so_far.are_packet_ids in
     let alone = subst (λ rs. IsRun 0 (at_source sent.source rs rs) (at_source sent.source rs verdicts)) same (so_far.alone sent.source) in

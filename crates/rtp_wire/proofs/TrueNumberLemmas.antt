@@ -5,16 +5,14 @@ use Rattle.std.proofs.lemmas.Bool.{eq-eqb, eqb-true, cases_lt, cases_eq, ne_eqb,
 use Rattle.std.proofs.lemmas.List.{take_more}
 use Rattle.rtp_base.specs.Window.{Numbers, IsGreatest, Accepts, including}
 use Rattle.rtp_base.proofs.WindowLemmas.{greatest_stays}
-use Rattle.rtp_ext.specs.declared.ext.map.ExtensionMap.{ExtensionMap}
 use Rattle.rtp_wire.specs.declared.receive.verdict.Verdict.{Verdict}
 use Rattle.rtp_wire.specs.declared.receive.verdict.Verdict.TheVariants.{Unreadable, Taken, Refused}
 use Rattle.rtp_wire.specs.Widening.{IsNearest}
 use Rattle.rtp_wire.specs.Receiver.{IsNothing, IsHighest, ExtendsFrom, IsNumberOf, IsFresh, taken_after}
-use Rattle.rtp_wire.specs.Verdicts.{PacketId, packet_id_of, IsPacketId, ArePacketIds, taken_by, IsVerdict, IsRun, AreVerdicts}
+use Rattle.rtp_wire.specs.Verdicts.{PacketId, ArePacketIds, taken_by, IsVerdict, IsRun, AreVerdicts}
 use Rattle.rtp_wire.specs.TrueNumbers.{IsInReach, IsTrueNumber, numbers_of, AreTrue, IsTrueVerdict, AreTrueVerdicts}
-use Rattle.rtp_wire.proofs.HeaderLemmas.{one_header}
 use Rattle.rtp_wire.proofs.ReceiverLemmas.{not_nothing}
-use Rattle.rtp_wire.proofs.VerdictLemmas.{or_assoc, or_false, taken_by-push}
+use Rattle.rtp_wire.proofs.VerdictLemmas.{or_assoc, or_false, taken_by-push, one_packet_ids}
 use Rattle.rtp_wire.proofs.WideningLemmas.{only_near, Extends-within_half}
 
 -- ---- the number of a packet
@@ -280,27 +278,9 @@ AreTrueVerdicts-run count packet_ids verdicts numbers run are = record {
       before.1 (are.each i below) (run.each i below)).is;
 }
 
--- ---- the packet ids of datagrams
-
-one_packet_id : (exts : ExtensionMap) (datagram : List ℕ) (a b : Option PacketId) → IsPacketId exts datagram a → IsPacketId exts datagram b → a ≡ b
-one_packet_id exts datagram None None first second = refl
-one_packet_id exts datagram None (Some b) first second = absurd (first second.header second.wire)
-one_packet_id exts datagram (Some a) None first second = absurd (second first.header first.wire)
-one_packet_id exts datagram (Some a) (Some b) first second =
-    ap Some (first.packet_id_is ∙ ap packet_id_of (one_header exts datagram first.header second.header first.wire second.wire) ∙ sym second.packet_id_is)
-
-pub one_packet_ids : (exts : ExtensionMap) (datagrams : List (List ℕ)) (a b : List (Option PacketId)) → ArePacketIds exts datagrams a → ArePacketIds exts datagrams b → a ≡ b
-one_packet_ids exts [] [] [] first second = refl
-one_packet_ids exts [] [] (y ∷ b) first second = absurd second
-one_packet_ids exts [] (x ∷ a) b first second = absurd first
-one_packet_ids exts (d ∷ ds) [] b first second = absurd first
-one_packet_ids exts (d ∷ ds) (x ∷ a) [] first second = absurd second
-one_packet_ids exts (d ∷ ds) (x ∷ a) (y ∷ b) first second =
-    ap (λ (z : Option PacketId). z ∷ a) (one_packet_id exts d x y first.0 second.0) ∙ ap (λ (zs : List (Option PacketId)). y ∷ zs) (one_packet_ids exts ds a b first.1 second.1)
-
 -- the verdicts on datagrams, by the true numbers of their packets
-pub AreTrueVerdicts-of : (exts : ExtensionMap) (datagrams : List (List ℕ)) (verdicts : List Verdict) (packet_ids : List (Option PacketId)) (numbers : List ℕ)
-    → AreVerdicts exts datagrams verdicts → ArePacketIds exts datagrams packet_ids → AreTrue 0 packet_ids numbers → AreTrueVerdicts packet_ids numbers verdicts
-AreTrueVerdicts-of exts datagrams verdicts packet_ids numbers are read true_are =
+pub AreTrueVerdicts-of : (datagrams : List (List ℕ)) (verdicts : List Verdict) (packet_ids : List (Option PacketId)) (numbers : List ℕ)
+    → AreVerdicts datagrams verdicts → ArePacketIds datagrams packet_ids → AreTrue 0 packet_ids numbers → AreTrueVerdicts packet_ids numbers verdicts
+AreTrueVerdicts-of datagrams verdicts packet_ids numbers are read true_are =
     AreTrueVerdicts-run 0 packet_ids verdicts numbers
-    (subst (λ rs. IsRun 0 rs verdicts) (one_packet_ids exts datagrams are.packet_ids packet_ids are.are_packet_ids read) are.run) true_are
+    (subst (λ rs. IsRun 0 rs verdicts) (one_packet_ids datagrams are.packet_ids packet_ids are.are_packet_ids read) are.run) true_are

@@ -1,21 +1,24 @@
 -- Runs of datagrams: one verdict more, and that a number is taken once.
 use Rattle.std.proofs.Common.{◌≡◌, ℕ, zero, suc, ◌+◌, ◌<◌, Bool, true, false, ◌||◌, eqb, List, [], ◌∷◌, ◌++◌, length, take, get_or, refl, sym, ap, ◌∙◌, subst, inl, inr, arith, length-take-le}
-use Rattle.std.specs.Prelude.{Option, Some, None, IfSome}
-use Rattle.std.specs.Option.{option_map}
-use Rattle.std.proofs.lemmas.Option.{none-some}
+use Rattle.std.specs.Prelude.{Option, Some, None}
 use Rattle.std.specs.List.{AllZip}
 use Rattle.std.proofs.lemmas.Bool.{eq-eqb, cases_lt, false≢true, or_left, or_right}
 use Rattle.std.proofs.lemmas.List.{take-append-le, take_at, get_or_append_left, get_or_at, length_push, get_or-take}
 use Rattle.rtp_base.specs.Window.{Numbers}
 use Rattle.rtp_ext.specs.declared.ext.map.ExtensionMap.{ExtensionMap}
+use Rattle.rtp_wire.specs.declared.header.rtp_header.RtpHeader.{RtpHeader}
 use Rattle.rtp_wire.specs.declared.receive.state.ReceiverState.{ReceiverState}
 use Rattle.rtp_wire.specs.declared.receive.state.ReceiverState.TheVariants.{Start, Window}
 use Rattle.rtp_wire.specs.declared.receive.verdict.Verdict.{Verdict}
 use Rattle.rtp_wire.specs.declared.receive.verdict.Verdict.TheVariants.{Unreadable, Taken, Refused}
-use Rattle.rtp_wire.specs.declared.header.rtp_header.RtpHeader.{RtpHeader}
+use Rattle.rtp_wire.specs.Packet.{PacketParts, IsPacket}
 use Rattle.rtp_wire.specs.Header.{IsWire}
+use Rattle.rtp_wire.specs.NotAHeader.{NotAHeader}
 use Rattle.rtp_wire.specs.Receiver.{Holds, IsFresh, taken_after}
-use Rattle.rtp_wire.specs.Verdicts.{PacketId, packet_id_of, IsPacketId, taken_by, IsVerdict, IsRunBy, IsRun, AreVerdicts, TakesOnce}
+use Rattle.rtp_wire.specs.Verdicts.{PacketId, IsPacketId, ArePacketIds, taken_by, IsVerdict, IsRunBy, IsRun, AreVerdicts, TakesOnce}
+use Rattle.rtp_wire.specs.Sending.{packet_id_of}
+use Rattle.rtp_wire.proofs.PacketLemmas.{one_packet}
+use Rattle.rtp_wire.proofs.NotAPacketLemmas.{no_packet-refused}
 
 -- ---- one verdict more
 
@@ -88,23 +91,23 @@ AllZip-more R (a ∷ xs) [] x y all one = absurd all
 AllZip-more R (a ∷ xs) (b ∷ ys) x y all one = (all.0, AllZip-more R xs ys x y all.1 one)
 
 -- the verdicts on the datagrams so far, and what the receiver then holds
-pub record SoFar (exts : ExtensionMap) (datagrams : List (List ℕ)) (verdicts : List Verdict) (receiver : ReceiverState) : Type 0 where
-  pub are : AreVerdicts exts datagrams verdicts
+pub record SoFar (datagrams : List (List ℕ)) (verdicts : List Verdict) (receiver : ReceiverState) : Type 0 where
+  pub are : AreVerdicts datagrams verdicts
   pub holds : Holds receiver 0 (taken_by verdicts)
 
-pub SoFar-none : (exts : ExtensionMap) (verdicts : List Verdict) (receiver : ReceiverState) → verdicts ≡ [] → Holds receiver 0 (taken_by []) → SoFar exts [] verdicts receiver
-SoFar-none exts verdicts receiver empty holds = subst (λ (vs : List Verdict). SoFar exts [] vs receiver) (sym empty) (record {
+pub SoFar-none : (verdicts : List Verdict) (receiver : ReceiverState) → verdicts ≡ [] → Holds receiver 0 (taken_by []) → SoFar [] verdicts receiver
+SoFar-none verdicts receiver empty holds = subst (λ (vs : List Verdict). SoFar [] vs receiver) (sym empty) (record {
   are = record { packet_ids = []; are_packet_ids = tt; run = record { as_many = refl; each = λ i below. absurd (omega arith) } };
   holds = holds;
 })
 
-pub SoFar-more : (exts : ExtensionMap) (datagrams : List (List ℕ)) (datagram : List ℕ) (packet_id : Option PacketId) (verdicts : List Verdict) (verdict : Verdict) (before after : ReceiverState)
-    → SoFar exts datagrams verdicts before → IsPacketId exts datagram packet_id → IsVerdict 0 (taken_by verdicts) packet_id verdict
-    → Holds after 0 (taken_after (taken_by verdicts) verdict) → SoFar exts (datagrams ++ datagram ∷ []) (verdicts ++ verdict ∷ []) after
-SoFar-more exts datagrams datagram packet_id verdicts verdict before after so_far read is holds = record {
+pub SoFar-more : (datagrams : List (List ℕ)) (datagram : List ℕ) (packet_id : Option PacketId) (verdicts : List Verdict) (verdict : Verdict) (before after : ReceiverState)
+    → SoFar datagrams verdicts before → IsPacketId datagram packet_id → IsVerdict 0 (taken_by verdicts) packet_id verdict
+    → Holds after 0 (taken_after (taken_by verdicts) verdict) → SoFar (datagrams ++ datagram ∷ []) (verdicts ++ verdict ∷ []) after
+SoFar-more datagrams datagram packet_id verdicts verdict before after so_far read is holds = record {
   are = record {
     packet_ids = so_far.are.packet_ids ++ packet_id ∷ [];
-    are_packet_ids = AllZip-more (IsPacketId exts) datagrams so_far.are.packet_ids datagram packet_id so_far.are.are_packet_ids read;
+    are_packet_ids = AllZip-more IsPacketId datagrams so_far.are.packet_ids datagram packet_id so_far.are.are_packet_ids read;
     run = IsRun-more 0 so_far.are.packet_ids verdicts packet_id verdict so_far.are.run is;
   };
   holds = Holds-same after 0 (taken_after (taken_by verdicts) verdict) (taken_by (verdicts ++ verdict ∷ [])) (taken_by-push verdicts verdict) holds;
@@ -140,8 +143,40 @@ TakesOnce-run count packet_ids verdicts run i j number before within first secon
     taken_once count (taken_by earlier) (get_or packet_ids j None) number is
     (subst (IsVerdict count (taken_by earlier) (get_or packet_ids j None)) second (run.each j (omega (arith, run.as_many))))
 
--- what `parse` returns is the packet id of the datagram
-pub IsPacketId-parsed : (exts : ExtensionMap) (datagram : List ℕ) (answer : Option RtpHeader) → IfSome answer (IsWire exts datagram)
-    → ((header : RtpHeader) → IsWire exts datagram header → answer ≡ Some header) → IsPacketId exts datagram (option_map packet_id_of answer)
-IsPacketId-parsed exts datagram None found only = λ header wire. none-some header (only header wire)
-IsPacketId-parsed exts datagram (Some header) found only = record { header = header; wire = found; packet_id_is = refl }
+-- ---- the packet ids of datagrams
+
+-- a packet's source and number are its packet id
+pub IsPacketId-fields : (datagram : List ℕ) (parts : PacketParts) (source low : ℕ) → IsPacket datagram parts → source ≡ parts.ssrc → low ≡ parts.sequence_number
+    → IsPacketId datagram (Some (record { source = source; low = low }))
+IsPacketId-fields datagram parts source low is source_is low_is = record { parts = parts; is_packet = is; packet_id_is = cc }
+
+-- bytes that begin with a header are a packet of its packet id
+pub IsPacketId-wire : (exts : ExtensionMap) (bytes : List ℕ) (h : RtpHeader) → IsWire exts bytes h → IsPacketId bytes (Some (packet_id_of h))
+IsPacketId-wire exts bytes h wire = record {
+  parts = wire.parts;
+  is_packet = wire.is_packet;
+  packet_id_is = ap packet_id_of wire.is_header.fields_are;
+}
+
+-- and bytes that begin with none have none
+pub IsPacketId-refused : (bytes : List ℕ) → NotAHeader bytes → IsPacketId bytes None
+IsPacketId-refused bytes none parts is = no_packet-refused bytes parts none is
+
+-- a datagram has one packet id, or none
+pub one_packet_id : (datagram : List ℕ) (a b : Option PacketId) → IsPacketId datagram a → IsPacketId datagram b → a ≡ b
+one_packet_id datagram None None first second = refl
+one_packet_id datagram None (Some b) first second = absurd (first second.parts second.is_packet)
+one_packet_id datagram (Some a) None first second = absurd (second first.parts first.is_packet)
+one_packet_id datagram (Some a) (Some b) first second =
+    let id : PacketParts → PacketId = λ parts. record { source = parts.ssrc; low = parts.sequence_number } in
+    let same : first.parts ≡ second.parts = sym (one_packet datagram first.parts first.is_packet) ∙ one_packet datagram second.parts second.is_packet in
+    ap Some (first.packet_id_is ∙ ap id same ∙ sym second.packet_id_is)
+
+pub one_packet_ids : (datagrams : List (List ℕ)) (a b : List (Option PacketId)) → ArePacketIds datagrams a → ArePacketIds datagrams b → a ≡ b
+one_packet_ids [] [] [] first second = refl
+one_packet_ids [] [] (y ∷ b) first second = absurd second
+one_packet_ids [] (x ∷ a) b first second = absurd first
+one_packet_ids (d ∷ ds) [] b first second = absurd first
+one_packet_ids (d ∷ ds) (x ∷ a) [] first second = absurd second
+one_packet_ids (d ∷ ds) (x ∷ a) (y ∷ b) first second =
+    ap (λ (z : Option PacketId). z ∷ a) (one_packet_id d x y first.0 second.0) ∙ ap (λ (zs : List (Option PacketId)). y ∷ zs) (one_packet_ids ds a b first.1 second.1)

@@ -1,17 +1,17 @@
 //! The receive state of one stream.
 
-ghost use Rattle.std.specs.Prelude.{◌≡◌, ◌↔◌, ◌^◌, ◌<◌, ℕ, IsTrue, false, if◌then◌else◌};
-ghost use Rattle.std.specs.Option.{option_map, option_copied};
+ghost use Rattle.std.specs.Prelude.{◌≡◌, ◌↔◌, ◌^◌, ◌<◌, ℕ, Option, IsTrue, false, if◌then◌else◌};
 ghost use Rattle.rtp_base.specs.Window.{Numbers, including};
 ghost use Rattle.rtp_wire.specs.Receiver.{Holds, IsHighest, IsNumberOf, IsFresh, IsJudged, taken_after};
 ghost use Rattle.rtp_wire.specs.declared.receive.state.ReceiverState.TheVariants.{Start};
-ghost use Rattle.rtp_wire.specs.Verdicts.{IsVerdict, packet_id_of};
+ghost use Rattle.rtp_wire.specs.Verdicts.{PacketId, IsPacketId, IsVerdict};
 ghost use Rattle.rtp_wire.specs.declared.receive.verdict.Verdict.TheVariants.{Refused};
 ghost use Rattle.rtp_wire.specs.TrueNumbers.{IsTrueNumber};
 
 use super::Verdict;
 use super::state::{ReceiverState, RolloverCount};
-use crate::header::RtpHeader;
+use super::widening::extended;
+use crate::packet::RtpPacket;
 use rtp_base::{SeqNo, SeqNoWindow};
 use std::marker::Model;
 
@@ -77,12 +77,12 @@ impl Receiver {
         }
     }
 
-    /// The extended sequence number of a packet with this header: the one nearest to the highest
-    /// number taken (RFC 3711, 3.3.1). Where nothing is taken yet, it is the one with the rollover
-    /// count at which the receiver starts.
-    pub fn number_of(&self, header: &RtpHeader) -> SeqNo
+    /// The extended sequence number of a packet of this sequence number: the one nearest to the
+    /// highest number taken (RFC 3711, 3.3.1). Where nothing is taken yet, it is the one with the
+    /// rollover count at which the receiver starts.
+    pub fn number_of(&self, sequence_number: u16) -> SeqNo
         ensures nearest { (count : ℕ) → (taken : Numbers) → Holds self.now count taken →
-            IsNumberOf count taken header.now.sequence_number result }
+            IsNumberOf count taken sequence_number result }
 
         // It is the number that the sender gave the packet, where that is in reach: of the rollover
         // count at which the receiver starts for the first packet, and for each later one less than
@@ -90,11 +90,11 @@ impl Receiver {
         // Under `new` a first packet of number 70,000 is taken as 4,464.
         ensures true_number { (count : ℕ) → (numbers : Numbers) → (number : ℕ) →
             Holds self.now count numbers →
-            IsTrueNumber count numbers header.now.sequence_number number → result ≡ number }
+            IsTrueNumber count numbers sequence_number number → result ≡ number }
     {
         match &self.state {
-            ReceiverState::Start(count) => count.number(header.sequence_number),
-            ReceiverState::Window(window) => header.sequence_number(Some(window.max_seq())),
+            ReceiverState::Start(count) => count.number(sequence_number),
+            ReceiverState::Window(window) => extended(Some(window.max_seq()), sequence_number),
         }
     }
 
@@ -121,13 +121,13 @@ impl Receiver {
         self.take(number);
     }
 
-    /// The verdict on a packet with this header: taken, and then recorded, exactly when its
+    /// The verdict on a packet of this sequence number: taken, and then recorded, exactly when its
     /// extended sequence number may be taken; refused, and then nothing changes, where not. It is
     /// [`number_of`](Self::number_of), [`accepts`](Self::accepts) and [`record`](Self::record) in
     /// one, where nothing is authenticated.
-    pub fn receive(&mut self, header: &RtpHeader) -> Verdict
+    pub fn receive(&mut self, sequence_number: u16) -> Verdict
         ensures verdict { (count : ℕ) → (taken : Numbers) → Holds self.old count taken →
-            (number : ℕ) × IsNumberOf count taken header.now.sequence_number number
+            (number : ℕ) × IsNumberOf count taken sequence_number number
             × IsJudged taken number result }
         ensures after { (count : ℕ) → (taken : Numbers) → Holds self.old count taken →
             Holds self.new count (taken_after taken result) }
@@ -137,14 +137,14 @@ impl Receiver {
         // before this one count: so the verdicts on a run follow from its numbers alone.
         ensures true_number { (count : ℕ) → (numbers : Numbers) → (number : ℕ) →
             Holds self.old count numbers →
-            IsTrueNumber count numbers header.now.sequence_number number →
+            IsTrueNumber count numbers sequence_number number →
             IsJudged numbers number result }
         ensures true_numbers { (count : ℕ) → (numbers : Numbers) → (number : ℕ) →
             Holds self.old count numbers →
-            IsTrueNumber count numbers header.now.sequence_number number →
+            IsTrueNumber count numbers sequence_number number →
             Holds self.new count (including numbers number) }
     {
-        let number = self.number_of(header);
+        let number = self.number_of(sequence_number);
         if self.take(number) {
             Verdict::Taken(number)
         } else {
@@ -169,16 +169,19 @@ impl Receiver {
         }
     }
 
-    // The verdict on a datagram, by the header that it begins with.
-    pub(super) fn verdict_on(&mut self, header: Option<&RtpHeader>) -> Verdict
-        ensures verdict { (count : ℕ) → (taken : Numbers) → Holds self.old count taken →
-            IsVerdict count taken (option_map packet_id_of (option_copied header.entry)) result }
+    // The verdict on a datagram, by the packet that it is.
+    pub(super) fn verdict_on(&mut self, datagram: &[u8]) -> Verdict
+        // It is a packet of some packet id, or none.
+        ensures read { (packet_id : Option PacketId) × IsPacketId datagram.now packet_id }
+        ensures verdict { (packet_id : Option PacketId) → IsPacketId datagram.now packet_id →
+            (count : ℕ) → (taken : Numbers) → Holds self.old count taken →
+            IsVerdict count taken packet_id result }
         ensures after { (count : ℕ) → (taken : Numbers) → Holds self.old count taken →
             Holds self.new count (taken_after taken result) }
     {
-        match header {
-            None => Verdict::Unreadable,
-            Some(header) => self.receive(header),
+        match RtpPacket::parse(datagram) {
+            Err(_) => Verdict::Unreadable,
+            Ok(packet) => self.receive(packet.sequence_number()),
         }
     }
 }

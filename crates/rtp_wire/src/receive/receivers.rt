@@ -1,11 +1,11 @@
 //! The receive state of many streams.
 
-ghost use Rattle.std.specs.Prelude.{◌≡◌, ◌≢◌, ◌↔◌, ◌+◌, ◌^◌, ◌<◌, ℕ, [], length, Some, None, IsTrue, IsSome, IfSome, IfNone, IsOk, IfOk, OnOk, OnErr};
-ghost use Rattle.std.specs.Option.{option_map, option_copied};
+ghost use Rattle.std.specs.Prelude.{◌≡◌, ◌≢◌, ◌↔◌, ◌+◌, ◌^◌, ◌<◌, ℕ, [], length, Option, Some, None, IsTrue, IsSome, IfSome, IfNone, IsOk, IfOk, OnOk, OnErr};
+ghost use Rattle.std.specs.Option.{option_copied};
 ghost use Rattle.rtp_base.specs.Window.{Numbers, including};
 ghost use Rattle.rtp_wire.specs.Receiver.{Holds, IsNumberOf, IsFresh, IsJudged, taken_after};
 ghost use Rattle.rtp_wire.specs.Receivers.{receiver_of, state_of};
-ghost use Rattle.rtp_wire.specs.Verdicts.{IsVerdict, packet_id_of};
+ghost use Rattle.rtp_wire.specs.Verdicts.{PacketId, IsPacketId, IsVerdict};
 ghost use Rattle.rtp_wire.specs.declared.receive.verdict.Verdict.TheVariants.{Refused};
 ghost use Rattle.rtp_wire.specs.declared.receive.state.ReceiverState.TheVariants.{Start};
 ghost use Rattle.rtp_wire.specs.TrueNumbers.{IsTrueNumber};
@@ -14,7 +14,7 @@ ghost use Rattle.rtp_wire.specs.EachSource.{HoldsEach, taken_after_each};
 
 use super::state::RolloverCount;
 use super::{Receiver, Verdict};
-use crate::header::RtpHeader;
+use crate::packet::RtpPacket;
 use rtp_base::{SeqNo, Ssrc};
 use std::alloc::{AllocError, Global};
 use std::collections::BTreeMap;
@@ -113,25 +113,25 @@ impl Receivers {
         self.by_ssrc.remove(&ssrc)
     }
 
-    /// The extended sequence number of a packet with this header: the one nearest to the highest
-    /// number taken of its source (RFC 3711, 3.3.1). Where none is taken yet, it is the one with
-    /// the rollover count at which receivers start.
-    pub fn number_of(&self, header: &RtpHeader) -> SeqNo
+    /// The extended sequence number of a packet of this source and sequence number: the one nearest
+    /// to the highest number taken of the source (RFC 3711, 3.3.1). Where none is taken yet, it is
+    /// the one with the rollover count at which receivers start.
+    pub fn number_of(&self, ssrc: Ssrc, sequence_number: u16) -> SeqNo
         ensures nearest { (count : ℕ) → (taken : Numbers) →
-            Holds (state_of self.now header.now.ssrc) count taken →
-            IsNumberOf count taken header.now.sequence_number result }
+            Holds (state_of self.now ssrc) count taken →
+            IsNumberOf count taken sequence_number result }
 
         // It is the number that the sender gave the packet, where that is in reach: of the rollover
         // count at which receivers start for the source's first packet, and for each later one less
         // than 32,768 away from the highest of its packets before it, whether these were taken or
         // not.
         ensures true_number { (count : ℕ) → (numbers : Numbers) → (number : ℕ) →
-            Holds (state_of self.now header.now.ssrc) count numbers →
-            IsTrueNumber count numbers header.now.sequence_number number → result ≡ number }
+            Holds (state_of self.now ssrc) count numbers →
+            IsTrueNumber count numbers sequence_number number → result ≡ number }
     {
-        match self.get(header.ssrc) {
-            None => self.new_receiver().number_of(header),
-            Some(receiver) => receiver.number_of(header),
+        match self.get(ssrc) {
+            None => self.new_receiver().number_of(sequence_number),
+            Some(receiver) => receiver.number_of(sequence_number),
         }
     }
 
@@ -181,77 +181,77 @@ impl Receivers {
         Ok(())
     }
 
-    /// The verdict on a packet with this header: taken, and then recorded, exactly when its
-    /// extended sequence number may be taken of its source; refused, and then that source's
+    /// The verdict on a packet of this source and sequence number: taken, and then recorded, exactly
+    /// when its extended sequence number may be taken of the source; refused, and then the source's
     /// receiver holds what it held, where not. It is [`number_of`](Self::number_of),
     /// [`accepts`](Self::accepts) and [`record`](Self::record) in one, where nothing is
     /// authenticated.
     ///
     /// Memory is taken for a new receiver alone; where it is refused nothing changes.
-    pub fn receive(&mut self, header: &RtpHeader) -> Result<Verdict, AllocError>
+    pub fn receive(&mut self, ssrc: Ssrc, sequence_number: u16) -> Result<Verdict, AllocError>
         ensures verdict { (count : ℕ) → (taken : Numbers) →
-            Holds (state_of self.old header.now.ssrc) count taken →
-            IfOk result (λ verdict. (number : ℕ)
-            × IsNumberOf count taken header.now.sequence_number number
+            Holds (state_of self.old ssrc) count taken → IfOk result (λ verdict.
+            (number : ℕ) × IsNumberOf count taken sequence_number number
             × IsJudged taken number verdict) }
         ensures after { (count : ℕ) → (taken : Numbers) →
-            Holds (state_of self.old header.now.ssrc) count taken → IfOk result (λ verdict.
-            Holds (state_of self.new header.now.ssrc) count (taken_after taken verdict)) }
+            Holds (state_of self.old ssrc) count taken → IfOk result (λ verdict.
+            Holds (state_of self.new ssrc) count (taken_after taken verdict)) }
 
         // The same by the numbers that the sender gave the packets, where those of all packets of
         // the source before this one count.
         ensures true_number { (count : ℕ) → (numbers : Numbers) → (number : ℕ) →
-            Holds (state_of self.old header.now.ssrc) count numbers →
-            IsTrueNumber count numbers header.now.sequence_number number →
+            Holds (state_of self.old ssrc) count numbers →
+            IsTrueNumber count numbers sequence_number number →
             IfOk result (IsJudged numbers number) }
         ensures true_numbers { (count : ℕ) → (numbers : Numbers) → (number : ℕ) →
-            Holds (state_of self.old header.now.ssrc) count numbers →
-            IsTrueNumber count numbers header.now.sequence_number number →
-            OnOk result
-            (Holds (state_of self.new header.now.ssrc) count (including numbers number)) }
+            Holds (state_of self.old ssrc) count numbers →
+            IsTrueNumber count numbers sequence_number number →
+            OnOk result (Holds (state_of self.new ssrc) count (including numbers number)) }
 
-        ensures unchanged { IfOk result (λ verdict. verdict ≡ Refused → IsSome
-            (receiver_of self.old header.now.ssrc) × (receiver_of self.new header.now.ssrc
-            ≡ receiver_of self.old header.now.ssrc)) }
+        ensures unchanged { IfOk result (λ verdict. verdict ≡ Refused →
+            IsSome (receiver_of self.old ssrc)
+            × (receiver_of self.new ssrc ≡ receiver_of self.old ssrc)) }
 
         // The source has a receiver now, and the other sources have what they had.
-        ensures receiver { OnOk result (IsSome (receiver_of self.new header.now.ssrc)) }
-        ensures others { (source : ℕ) → source ≢ header.now.ssrc →
+        ensures receiver { OnOk result (IsSome (receiver_of self.new ssrc)) }
+        ensures others { (source : ℕ) → source ≢ ssrc →
             receiver_of self.new source ≡ receiver_of self.old source }
         ensures count { self.new.rollover_count ≡ self.old.rollover_count }
         ensures refused { OnErr result (self.new ≡ self.old) }
-        ensures memory { OnErr result (receiver_of self.old header.now.ssrc ≡ None) }
+        ensures memory { OnErr result (receiver_of self.old ssrc ≡ None) }
 
         // One receiver more exactly where the source had none.
-        ensures as_many { IsSome (receiver_of self.old header.now.ssrc) →
+        ensures as_many { IsSome (receiver_of self.old ssrc) →
             length self.new.by_source ≡ length self.old.by_source }
-        ensures one_more { receiver_of self.old header.now.ssrc ≡ None →
+        ensures one_more { receiver_of self.old ssrc ≡ None →
             OnOk result (length self.new.by_source ≡ length self.old.by_source + 1) }
     {
-        if let Some(receiver) = self.by_ssrc.get_mut(&header.ssrc) {
-            return Ok(receiver.receive(header));
+        if let Some(known) = self.by_ssrc.get_mut(&ssrc) {
+            return Ok(known.receive(sequence_number));
         }
-        let mut receiver = self.new_receiver();
-        let verdict = receiver.receive(header);
-        self.by_ssrc.insert(header.ssrc, receiver)?;
+        let mut added = self.new_receiver();
+        let verdict = added.receive(sequence_number);
+        self.by_ssrc.insert(ssrc, added)?;
         Ok(verdict)
     }
 
-    // The verdict on a datagram, by the header that it begins with.
-    pub(super) fn verdict_on(&mut self, header: Option<&RtpHeader>) -> Result<Verdict, AllocError>
-        ensures verdict { (count : ℕ) → (taken : ℕ → Numbers) → HoldsEach self.old count taken →
-            IfOk result (IsVerdict count
-            (numbers_beside taken (option_map packet_id_of (option_copied header.entry)))
-            (option_map packet_id_of (option_copied header.entry))) }
-        ensures after { (count : ℕ) → (taken : ℕ → Numbers) → HoldsEach self.old count taken →
-            IfOk result (λ verdict. HoldsEach self.new count (taken_after_each taken
-            (option_map packet_id_of (option_copied header.entry)) verdict)) }
-        ensures succeeds { header.entry ≡ None → IsOk result }
-        ensures same { header.entry ≡ None → self.new ≡ self.old }
+    // The verdict on a datagram, by the packet that it is.
+    pub(super) fn verdict_on(&mut self, datagram: &[u8]) -> Result<Verdict, AllocError>
+        // It is a packet of some packet id, or none.
+        ensures read { (packet_id : Option PacketId) × IsPacketId datagram.now packet_id }
+        ensures verdict { (packet_id : Option PacketId) → IsPacketId datagram.now packet_id →
+            (count : ℕ) → (taken : ℕ → Numbers) → HoldsEach self.old count taken →
+            IfOk result (IsVerdict count (numbers_beside taken packet_id) packet_id) }
+        ensures after { (packet_id : Option PacketId) → IsPacketId datagram.now packet_id →
+            (count : ℕ) → (taken : ℕ → Numbers) → HoldsEach self.old count taken →
+            IfOk result (λ verdict.
+            HoldsEach self.new count (taken_after_each taken packet_id verdict)) }
+        ensures succeeds { IsPacketId datagram.now None → IsOk result }
+        ensures same { IsPacketId datagram.now None → self.new ≡ self.old }
     {
-        match header {
-            None => Ok(Verdict::Unreadable),
-            Some(header) => self.receive(header),
+        match RtpPacket::parse(datagram) {
+            Err(_) => Ok(Verdict::Unreadable),
+            Ok(packet) => self.receive(packet.ssrc(), packet.sequence_number()),
         }
     }
 }

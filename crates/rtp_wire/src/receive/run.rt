@@ -1,100 +1,89 @@
 //! A receiver over a whole run of datagrams.
 
 ghost use Rattle.std.specs.Prelude.{◌≡◌, ℕ, List, [], map, Option, IsOk, IfOk};
+ghost use Rattle.rtp_ext.specs.declared.ext.map.ExtensionMap.{ExtensionMap};
+ghost use Rattle.rtp_wire.specs.declared.header.rtp_header.RtpHeader.{RtpHeader};
 ghost use Rattle.rtp_wire.specs.Verdicts.{PacketId, ArePacketIds, AreVerdicts, TakesOnce};
 ghost use Rattle.rtp_wire.specs.TrueNumbers.{AreTrue, AreTrueVerdicts};
 ghost use Rattle.rtp_wire.specs.Sending.{AreSent, packet_ids_of};
 ghost use Rattle.rtp_wire.specs.Sources.{AreVerdictsBySource, OfEachSource, IsRunAlone, TakesEachOnce, IsDecidedBy, IsDecidedBySender};
-ghost use Rattle.rtp_wire.specs.declared.header.rtp_header.RtpHeader.{RtpHeader};
 
 use super::{Receiver, Receivers, Verdict};
-use crate::header::RtpHeader;
-use rtp_ext::ExtensionMap;
 use std::alloc::{AllocError, Global};
 
 /// The verdict on each datagram, in the order in which they came, by a [`Receiver`] for each SSRC
-/// ([`Receivers`]): a datagram without a header is unreadable and changes nothing. Nothing is
+/// ([`Receivers`]): a datagram that is no packet is unreadable and changes nothing. Nothing is
 /// authenticated here.
 ///
-/// Memory is taken for the list of the verdicts, made at once, for the receiver of each SSRC, at
-/// the first datagram that has a header with it, and for the layer allocation of a datagram while
-/// its header is looked at; where it is refused nothing is returned.
-pub fn receive_run(
-    alloc: Global,
-    datagrams: &[Vec<u8>],
-    exts: &ExtensionMap,
-) -> Result<Vec<Verdict>, AllocError>
+/// Memory is taken for the list of the verdicts, made at once, and for the receiver of each SSRC, at
+/// its first packet; where it is refused nothing is returned. What is in a packet's header
+/// extensions takes none, and isn't looked at.
+pub fn receive_run(alloc: Global, datagrams: &[Vec<u8>]) -> Result<Vec<Verdict>, AllocError>
     ensures verdicts { IfOk result (λ found.
-        AreVerdictsBySource exts.now (map (λ d. d.items) datagrams.now) found.items) }
+        AreVerdictsBySource (map (λ d. d.items) datagrams.now) found.items) }
 
     // The verdicts on the datagrams of a source are those of a run of them alone, whatever comes
     // between.
-    ensures isolated { IfOk result (λ found. OfEachSource exts.now
-        (map (λ d. d.items) datagrams.now) found.items (IsRunAlone exts.now)) }
-    ensures once { IfOk result (λ found. OfEachSource exts.now
+    ensures isolated { IfOk result (λ found. OfEachSource
+        (map (λ d. d.items) datagrams.now) found.items IsRunAlone) }
+    ensures once { IfOk result (λ found. OfEachSource
         (map (λ d. d.items) datagrams.now) found.items TakesEachOnce) }
 
     // The numbers that a sender gave the packets of a source decide alone, where the source's first
     // one is below 65,536, and each later one is less than 32,768 away from the highest before it
     // of the source.
-    ensures true_numbers { (numbers : List ℕ) → IfOk result (λ found. OfEachSource exts.now
+    ensures true_numbers { (numbers : List ℕ) → IfOk result (λ found. OfEachSource
         (map (λ d. d.items) datagrams.now) found.items (IsDecidedBy numbers)) }
 
-    // What a sender's headers were written as is read, whatever is lost, repeated or reordered on
-    // the way, and the sender's numbers decide: among the datagrams of other sources, and alone.
-    ensures sent_among { (headers : List RtpHeader) → (numbers : List ℕ) → IfOk result (λ found.
-        OfEachSource exts.now (map (λ d. d.items) datagrams.now) found.items
-        (IsDecidedBySender exts.now headers numbers)) }
-    ensures sent { (headers : List RtpHeader) → (numbers : List ℕ) →
-        AreSent exts.now headers numbers (map (λ d. d.items) datagrams.now) →
+    // What a sender's headers were written as is read, whatever its map is and whatever is lost,
+    // repeated or reordered on the way, and the sender's numbers decide: among the datagrams of
+    // other sources, and alone.
+    ensures sent_among { (exts : ExtensionMap) → (headers : List RtpHeader) → (numbers : List ℕ) →
+        IfOk result (λ found. OfEachSource (map (λ d. d.items) datagrams.now) found.items
+        (IsDecidedBySender exts headers numbers)) }
+    ensures sent { (exts : ExtensionMap) → (headers : List RtpHeader) → (numbers : List ℕ) →
+        AreSent exts headers numbers (map (λ d. d.items) datagrams.now) →
         IfOk result (λ found. AreTrueVerdicts (packet_ids_of headers) numbers found.items) }
     ensures nothing { datagrams.now ≡ [] → IsOk result }
 {
     let mut verdicts = Vec::with_capacity(alloc, datagrams.len())?;
     let mut receivers = Receivers::new(alloc);
     for datagram in datagrams {
-        let header = RtpHeader::parse(alloc, datagram, exts)?;
-        let verdict = receivers.verdict_on(header.as_ref())?;
+        let verdict = receivers.verdict_on(datagram)?;
         verdicts.push_reserved(verdict);
     }
     Ok(verdicts)
 }
 
 /// The verdict on each datagram, in the order in which they came, by one [`Receiver`] for all of
-/// them, whatever their SSRC: a datagram without a header is unreadable and changes nothing. It is
+/// them, whatever their SSRC: a datagram that is no packet is unreadable and changes nothing. It is
 /// meant for the datagrams of one stream, and nothing is authenticated here.
 ///
-/// Memory is taken for the list of the verdicts, made at once, and for the layer allocation of a
-/// datagram while its header is looked at; where it is refused nothing is returned.
-pub fn receive_run_one(
-    alloc: Global,
-    datagrams: &[Vec<u8>],
-    exts: &ExtensionMap,
-) -> Result<Vec<Verdict>, AllocError>
+/// Memory is taken for the list of the verdicts alone, made at once; where it is refused nothing is
+/// returned. What is in a packet's header extensions takes none, and isn't looked at.
+pub fn receive_run_one(alloc: Global, datagrams: &[Vec<u8>]) -> Result<Vec<Verdict>, AllocError>
     ensures verdicts { IfOk result (λ found.
-        AreVerdicts exts.now (map (λ d. d.items) datagrams.now) found.items) }
+        AreVerdicts (map (λ d. d.items) datagrams.now) found.items) }
     ensures once { IfOk result (λ found. TakesOnce found.items) }
 
     // The numbers that the sender gave its packets decide alone, where the first one is below
     // 65,536, and each later one is less than 32,768 away from the highest before it.
     ensures true_numbers { (packet_ids : List (Option PacketId)) → (numbers : List ℕ) →
-        ArePacketIds exts.now (map (λ d. d.items) datagrams.now) packet_ids →
+        ArePacketIds (map (λ d. d.items) datagrams.now) packet_ids →
         AreTrue 0 packet_ids numbers →
         IfOk result (λ found. AreTrueVerdicts packet_ids numbers found.items) }
 
-    // What a sender's headers were written as is read, whatever is lost, repeated or reordered on
-    // the way, and the sender's numbers decide.
-    ensures sent { (headers : List RtpHeader) → (numbers : List ℕ) →
-        AreSent exts.now headers numbers (map (λ d. d.items) datagrams.now) →
+    // What a sender's headers were written as is read, whatever its map is and whatever is lost,
+    // repeated or reordered on the way, and the sender's numbers decide.
+    ensures sent { (exts : ExtensionMap) → (headers : List RtpHeader) → (numbers : List ℕ) →
+        AreSent exts headers numbers (map (λ d. d.items) datagrams.now) →
         IfOk result (λ found. AreTrueVerdicts (packet_ids_of headers) numbers found.items) }
     ensures nothing { datagrams.now ≡ [] → IsOk result }
 {
     let mut verdicts = Vec::with_capacity(alloc, datagrams.len())?;
     let mut receiver = Receiver::new();
     for datagram in datagrams {
-        let header = RtpHeader::parse(alloc, datagram, exts)?;
-        let verdict = receiver.verdict_on(header.as_ref());
-        verdicts.push_reserved(verdict);
+        verdicts.push_reserved(receiver.verdict_on(datagram));
     }
     Ok(verdicts)
 }

@@ -1,11 +1,17 @@
-use Rattle.rtp_wire.specs.Verdicts.{packet_id_of}
-use Rattle.rtp_report.proofs.PrintLemmas.{IsHeader-parsed}
+use Rattle.std.proofs.Common.{ap}
+use Rattle.std.specs.Prelude.{Ok}
+use Rattle.rtp_wire.specs.Sending.{packet_id_of}
+use Rattle.rtp_report.proofs.PrintLemmas.{IsHeader-parsed, IsPacketId-parsed}
 use Rattle.rtp_report.proofs.printing.judged.Goals as goal
 use Rattle.rtp_report.proofs.printing.judged.Goals.{in-Some+in_ok-verdict-in-Some, in-None}
 use Rattle.rtp_wire.proofs.SourceLemmas.{HoldsEach-after}
 
 pub returns-clause-header : goal.returns-clause-header
 returns-clause-header c = IsHeader-parsed c.args.exts.now c.args.datagram.now c.in_ok-header.header c.in_ok-header.ensures.found c.in_ok-header.ensures.only
+
+pub returns-clause-packet_id : goal.returns-clause-packet_id
+returns-clause-packet_id c =
+    IsPacketId-parsed c.args.exts.now c.args.datagram.now c.in_ok-header.header c.in_ok-header.ensures.found (λ none. c.in_ok-header.ensures.refused.0 (ap Ok none))
 
 pub returns-clause-after : goal.returns-clause-after
 returns-clause-after c taken holds =

@@ -1,9 +1,12 @@
 use Rattle.std.proofs.Common.{◌≡◌, ℕ, ◌+◌, List, [], ◌++◌, map, get_or, string_bytes, Option, refl, sym, ap, ◌∙◌, subst, arith, append-nil}
 use Rattle.std.specs.Global.{Vec}
+use Rattle.std.specs.Option.{option_map}
 use Rattle.std.specs.Io.KnownBytes.{Appends}
 use Rattle.std.proofs.KnownBytes.{Appends-nil, Appends-kept}
 use Rattle.std.proofs.lemmas.List.{get_or-map, length-map}
 use Rattle.rtp_wire.specs.declared.header.rtp_header.RtpHeader.{RtpHeader}
+use Rattle.rtp_wire.specs.Verdicts.{IsPacketId}
+use Rattle.rtp_wire.specs.Sending.{packet_id_of}
 use Rattle.rtp_report.specs.declared.program.RunEnd.TheVariants.{NoMemory, Io}
 use Rattle.rtp_report.specs.Output.{IsHeader, Prints, packet_lines}
 use Rattle.rtp_report.specs.Stopping.{IsPartialReport}
@@ -46,6 +49,7 @@ returns-in_err-write_text-2-clause-err g c =
     (Prints-cut _ _ _ _ _ _ _ _ _
     (Printed-more exts (map bytes items) done _ _ (string_bytes c.loop-index.text) (string_bytes c.push_lines.new.text) c.loop-index.receivers c.judged.new.receivers header c.in-Ok.verdict c.loop-index.invariant
     (omega (arith, length-map items bytes)) (subst (λ (d : List ℕ). IsHeader exts d header) (sym here) c.in-Ok.ensures.header)
+    (subst (λ (d : List ℕ). IsPacketId d (option_map packet_id_of header)) (sym here) c.in-Ok.ensures.packet_id)
     c.in-Ok.ensures.verdict c.in-Ok.ensures.after (c.in_ok-push_lines.ensures.ok ∙ shown))
     c.as_bytes-then-len-ge-WRITTEN_AT_ONCE.ensures.value c.in_err-write_text-2.ensures.beginning)
 
@@ -63,6 +67,7 @@ loop-index-preserved g c =
     let more =
     Printed-more exts (map bytes items) done _ _ (string_bytes c.loop-index.text) (string_bytes c.push_lines.new.text) c.loop-index.receivers c.judged.new.receivers header c.in-Ok.verdict c.loop-index.invariant
     (omega (arith, length-map items bytes)) (subst (λ (d : List ℕ). IsHeader exts d header) (sym here) c.in-Ok.ensures.header)
+    (subst (λ (d : List ℕ). IsPacketId d (option_map packet_id_of header)) (sym here) c.in-Ok.ensures.packet_id)
     c.in-Ok.ensures.verdict c.in-Ok.ensures.after (c.in_ok-push_lines.ensures.ok ∙ shown) in
     elim c.if-len-ge-WRITTEN_AT_ONCE.branch [
       | then-len-ge-WRITTEN_AT_ONCE+in_ok-write_text-2 w ↦ rw (w.output-is, w.text-is) (Printed-written _ _ _ _ _ _ _ _ _ more

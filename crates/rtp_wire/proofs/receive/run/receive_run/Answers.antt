@@ -1,13 +1,10 @@
-use Rattle.std.proofs.Common.{◌≡◌, ℕ, ◌+◌, List, [], ◌∷◌, ◌++◌, map, take, length, get_or, Option, sym, ap, ◌∙◌, subst, arith}
+use Rattle.std.proofs.Common.{◌≡◌, ℕ, ◌+◌, List, [], ◌∷◌, ◌++◌, map, take, length, get_or, sym, ap, ◌∙◌, subst, arith}
 use Rattle.std.specs.Global.{Vec}
-use Rattle.std.specs.Option.{option_map}
 use Rattle.std.proofs.lemmas.List.{get_or-map, length-map, length_push, take_more, take_all}
-use Rattle.rtp_wire.specs.declared.header.rtp_header.RtpHeader.{RtpHeader}
 use Rattle.rtp_wire.specs.declared.receive.verdict.Verdict.{Verdict}
-use Rattle.rtp_wire.specs.Verdicts.{packet_id_of, IsPacketId, IsVerdict}
-use Rattle.rtp_wire.specs.Sources.{at_source, taken_of, numbers_beside}
-use Rattle.rtp_wire.specs.EachSource.{HoldsEach, taken_after_each}
-use Rattle.rtp_wire.proofs.VerdictLemmas.{TakesOnce-run, IsPacketId-parsed}
+use Rattle.rtp_wire.specs.Verdicts.{IsPacketId}
+use Rattle.rtp_wire.specs.Sources.{at_source, taken_of}
+use Rattle.rtp_wire.proofs.VerdictLemmas.{TakesOnce-run}
 use Rattle.rtp_wire.proofs.TrueNumberLemmas.{AreTrueVerdicts-of}
 use Rattle.rtp_wire.proofs.SendingLemmas.{AreTrueVerdicts-sent}
 use Rattle.rtp_wire.proofs.SourceLemmas.{SoFarEach, SoFarEach-none, SoFarEach-more, AreVerdicts-each, AllZip-at_source, AreTrueVerdicts-sent_each}
@@ -15,7 +12,7 @@ use Rattle.rtp_wire.proofs.receive.run.receive_run.Goals as goal
 
 pub loop-datagram-init : goal.loop-datagram-init
 loop-datagram-init c = (
-  SoFarEach-none _ _ c.new-receivers.result c.in_ok-verdicts.ensures.items c.new-receivers.ensures,
+  SoFarEach-none _ c.new-receivers.result c.in_ok-verdicts.ensures.items c.new-receivers.ensures,
   c.in_ok-verdicts.ensures.exact,
   ap length c.in_ok-verdicts.ensures.items,
 )
@@ -23,7 +20,6 @@ loop-datagram-init c = (
 pub loop-datagram-preserved : goal.loop-datagram-preserved
 loop-datagram-preserved c =
     let bytes = λ (d : Vec ℕ). d.items in
-    let exts = c.args.exts.now in
     let datagrams = map bytes c.args.datagrams.now in
     let done = c.loop-datagram.datagram-index in
     let verdicts = c.loop-datagram.verdicts.items in
@@ -33,18 +29,13 @@ loop-datagram-preserved c =
     let here : get_or datagrams done [] ≡ c.deref.result.now =
     get_or-map bytes c.args.datagrams.now done c.datagram-item.result [] c.loop-datagram-test.true
     ∙ ap bytes (sym c.datagram-item.is) ∙ sym c.deref.ensures.value in
-    let packet_id = option_map packet_id_of c.in_ok-header.header in
-    let read = IsPacketId-parsed exts c.deref.result.now c.in_ok-header.header c.in_ok-header.ensures.found c.in_ok-header.ensures.only in
-    let verdict = subst (λ (h : Option RtpHeader). IsVerdict 0 (numbers_beside taken (option_map packet_id_of h)) (option_map packet_id_of h) c.in_ok-verdict.verdict) c.as_ref.ensures.value
-    (c.in_ok-verdict.ensures.verdict 0 taken so_far.holds) in
-    let holds = subst (λ (h : Option RtpHeader). HoldsEach c.verdict_on.new.self 0 (taken_after_each taken (option_map packet_id_of h) c.in_ok-verdict.verdict)) c.as_ref.ensures.value
-    (c.in_ok-verdict.ensures.after 0 taken so_far.holds) in
-    let more = SoFarEach-more exts (take done datagrams) c.deref.result.now packet_id verdicts c.in_ok-verdict.verdict c.loop-datagram.receivers c.verdict_on.new.self
-    so_far read verdict holds in
+    let read = c.in_ok-verdict.ensures.read in
+    let more = SoFarEach-more (take done datagrams) c.deref.result.now read.0 verdicts c.in_ok-verdict.verdict c.loop-datagram.receivers c.verdict_on.new.self
+    so_far read.1 (c.in_ok-verdict.ensures.verdict read.0 read.1 0 taken so_far.holds) (c.in_ok-verdict.ensures.after read.0 read.1 0 taken so_far.holds) in
     let one : take (done + 1) datagrams ≡ take done datagrams ++ c.deref.result.now ∷ [] =
     take_more datagrams done [] (omega (arith, many, c.loop-datagram-test.true)) ∙ ap (λ (d : List ℕ). take done datagrams ++ d ∷ []) here in (
-      subst (λ (ds : List (List ℕ)). SoFarEach exts ds c.push_reserved.new.self.items c.verdict_on.new.self) (sym one)
-          (subst (λ (vs : List Verdict). SoFarEach exts (take done datagrams ++ c.deref.result.now ∷ []) vs c.verdict_on.new.self) (sym c.push_reserved.ensures.items) more),
+      subst (λ (ds : List (List ℕ)). SoFarEach ds c.push_reserved.new.self.items c.verdict_on.new.self) (sym one)
+          (subst (λ (vs : List Verdict). SoFarEach (take done datagrams ++ c.deref.result.now ∷ []) vs c.verdict_on.new.self) (sym c.push_reserved.ensures.items) more),
       c.push_reserved.ensures.capacity ∙ c.loop-datagram.invariant.1,
       ap length c.push_reserved.ensures.items ∙ length_push verdicts c.in_ok-verdict.verdict ∙ ap (λ (k : ℕ). k + 1) c.loop-datagram.invariant.2,
     )
@@ -54,8 +45,8 @@ returns-clause-isolated c packet_ids read source =
     let bytes = λ (d : Vec ℕ). d.items in
     let datagrams = map bytes c.args.datagrams.now in
     let whole = take_all c.loop-datagram.datagram-index datagrams (omega (arith, length-map c.args.datagrams.now bytes)) in
-    let so_far = subst (λ ds. SoFarEach c.args.exts.now ds c.loop-datagram.verdicts.items c.loop-datagram.receivers) whole c.loop-datagram.invariant.0 in
-    (AreVerdicts-each c.args.exts.now datagrams c.loop-datagram.verdicts.items c.loop-datagram.receivers packet_ids source so_far read)
+    let so_far = subst (λ ds. SoFarEach ds c.loop-datagram.verdicts.items c.loop-datagram.receivers) whole c.loop-datagram.invariant.0 in
+    (AreVerdicts-each datagrams c.loop-datagram.verdicts.items c.loop-datagram.receivers packet_ids source so_far read)
 
 pub returns-clause-once : goal.returns-clause-once
 returns-clause-once c packet_ids read source =
@@ -64,25 +55,24 @@ returns-clause-once c packet_ids read source =
 
 pub returns-clause-true_numbers : goal.returns-clause-true_numbers
 returns-clause-true_numbers c numbers packet_ids read source true_are =
-    let exts = c.args.exts.now in
     let datagrams = map (λ (d : Vec ℕ). d.items) c.args.datagrams.now in
-    AreTrueVerdicts-of exts (at_source source packet_ids datagrams) (at_source source packet_ids c.loop-datagram.verdicts.items) (at_source source packet_ids packet_ids) numbers
-    (returns-clause-isolated c packet_ids read source) (AllZip-at_source (IsPacketId exts) source packet_ids datagrams packet_ids read) true_are
+    AreTrueVerdicts-of (at_source source packet_ids datagrams) (at_source source packet_ids c.loop-datagram.verdicts.items) (at_source source packet_ids packet_ids) numbers
+    (returns-clause-isolated c packet_ids read source) (AllZip-at_source IsPacketId source packet_ids datagrams packet_ids read) true_are
 
 pub returns-clause-sent_among : goal.returns-clause-sent_among
-returns-clause-sent_among c headers numbers packet_ids read source sent =
+returns-clause-sent_among c exts headers numbers packet_ids read source sent =
     let bytes = λ (d : Vec ℕ). d.items in
     let datagrams = map bytes c.args.datagrams.now in
     let verdicts = c.loop-datagram.verdicts.items in
     let whole = take_all c.loop-datagram.datagram-index datagrams (omega (arith, length-map c.args.datagrams.now bytes)) in
-    let so_far = subst (λ ds. SoFarEach c.args.exts.now ds verdicts c.loop-datagram.receivers) whole c.loop-datagram.invariant.0 in
-    let alone = AreVerdicts-each c.args.exts.now datagrams verdicts c.loop-datagram.receivers packet_ids source so_far read in
-    AreTrueVerdicts-sent c.args.exts.now headers numbers (at_source source packet_ids datagrams) (at_source source packet_ids verdicts) alone sent
+    let so_far = subst (λ ds. SoFarEach ds verdicts c.loop-datagram.receivers) whole c.loop-datagram.invariant.0 in
+    let alone = AreVerdicts-each datagrams verdicts c.loop-datagram.receivers packet_ids source so_far read in
+    AreTrueVerdicts-sent exts headers numbers (at_source source packet_ids datagrams) (at_source source packet_ids verdicts) alone sent
 
 pub returns-clause-sent : goal.returns-clause-sent
-returns-clause-sent c headers numbers sent =
+returns-clause-sent c exts headers numbers sent =
     let bytes = λ (d : Vec ℕ). d.items in
     let datagrams = map bytes c.args.datagrams.now in
     let whole = take_all c.loop-datagram.datagram-index datagrams (omega (arith, length-map c.args.datagrams.now bytes)) in
-    let so_far = subst (λ ds. SoFarEach c.args.exts.now ds c.loop-datagram.verdicts.items c.loop-datagram.receivers) whole c.loop-datagram.invariant.0 in
-    AreTrueVerdicts-sent_each c.args.exts.now headers numbers datagrams c.loop-datagram.verdicts.items c.loop-datagram.receivers so_far sent
+    let so_far = subst (λ ds. SoFarEach ds c.loop-datagram.verdicts.items c.loop-datagram.receivers) whole c.loop-datagram.invariant.0 in
+    AreTrueVerdicts-sent_each exts headers numbers datagrams c.loop-datagram.verdicts.items c.loop-datagram.receivers so_far sent

@@ -5,5 +5,5 @@ use Rattle.rtp_wire.proofs.receive.run.receive_run_one.Given as goal
 -- the verdicts so far, with room for the others
 abbrev pub invariant-loop-datagram : goal.invariant-loop-datagram
 invariant-loop-datagram l =
-    SoFar l.exts (take l.datagram-index (map (λ d. d.items) l.datagrams)) l.verdicts.items l.receiver
+    SoFar (take l.datagram-index (map (λ d. d.items) l.datagrams)) l.verdicts.items l.receiver
     × (vec_capacity l.verdicts ≡ length l.datagrams) × (length l.verdicts.items ≡ l.datagram-index)

@@ -8,10 +8,10 @@ use Rattle.rtp_wire.proofs.receive.receiver.Receiver.number_of.Goals as goal
 pub returns-in-Window-clause-nearest : goal.returns-in-Window-clause-nearest
 returns-in-Window-clause-nearest c count taken holds =
     let keeps = subst (λ (held : ReceiverState). Holds held count taken) (sym c.self.view_is ∙ c.in-Window.is) holds in
-    (Some c.max_seq.result, c.max_seq.ensures.greatest taken keeps, c.sequence_number.ensures.near)
+    (Some c.max_seq.result, c.max_seq.ensures.greatest taken keeps, c.extended.ensures.near)
 
 pub returns-in-Window-clause-true_number : goal.returns-in-Window-clause-true_number
 returns-in-Window-clause-true_number c count numbers number holds is =
     let keeps = subst (λ (held : ReceiverState). Holds held count numbers) (sym c.self.view_is ∙ c.in-Window.is) holds in
-    number_in_reach count numbers c.max_seq.result c.args.header.now.sequence_number number c.sequence_number.result (omega arith)
-    (c.max_seq.ensures.greatest numbers keeps) is c.sequence_number.ensures.near
+    number_in_reach count numbers c.max_seq.result c.args.sequence_number number c.extended.result (omega arith)
+    (c.max_seq.ensures.greatest numbers keeps) is c.extended.ensures.near
