@@ -34,6 +34,6 @@ pub fn sent_and_received(
 {
     match written_and_read(alloc, header, buf, exts)? {
         None => Ok(Verdict::Unreadable),
-        Some(received) => Ok(receiver.receive(&received)),
+        Some(received) => Ok(receiver.receive(received.sequence_number)),
     }
 }

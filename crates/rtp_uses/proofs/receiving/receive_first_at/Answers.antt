@@ -1,4 +1,5 @@
-use Rattle.std.proofs.Common.{refl, sym, subst}
+use Rattle.std.proofs.Common.{refl, sym, ap, ◌∙◌, subst, arith}
+use Rattle.rtp_wire.specs.declared.receive.verdict.Verdict.TheVariants.{Taken}
 use Rattle.rtp_wire.specs.Receiver.{Holds}
 use Rattle.rtp_uses.proofs.ReceivingLemmas.{first_taken, no_number, IsNothing-no_number}
 use Rattle.rtp_uses.proofs.receiving.receive_first_at.Goals as goal
@@ -6,5 +7,6 @@ use Rattle.rtp_uses.proofs.receiving.receive_first_at.Goals as goal
 pub returns : goal.returns
 returns c =
     let count = c.args.rollover_count in
-    first_taken count no_number c.args.header.now.sequence_number c.receive.result IsNothing-no_number
+    first_taken count no_number c.args.sequence_number c.receive.result IsNothing-no_number
     (c.receive.ensures.verdict count no_number (subst (λ state. Holds state count no_number) (sym c.starting_at-receiver.ensures) (refl, IsNothing-no_number)))
+    ∙ ap Taken (omega arith)
