@@ -10,7 +10,7 @@ use Rattle.rtp_ext.specs.Elements.{Element, IsElement, element_bytes, AreElement
 use Rattle.rtp_ext.specs.ElementReading.{BeginsWithNone}
 use Rattle.rtp_ext.specs.ElementWriting.{header_bytes}
 use Rattle.rtp_ext.specs.ElementsInPlace.{HasNone, HasLast, HasLastOf, SetsLast}
-use Rattle.rtp_ext.specs.Places.{IsNextPlace, AreWhole, IsLastAt, IsLastPlace, IsLastOrNone, IsPassed}
+use Rattle.rtp_ext.specs.Places.{IsNextPlace, AreWhole, IsLastPlace, IsLastOrNone, IsPassed}
 use Rattle.rtp_ext.proofs.ElementLemmasOfBodies.{AreElements-only}
 use Rattle.rtp_ext.proofs.PlaceLemmas.{element_bytes-split, overwritten-at, passed_next, end_next}
 use Rattle.rtp_ext.proofs.PieceLemmas.{AreWhole-nil, AreWhole-append, AreElements-after, AreWhole-next, AreElements-none}
@@ -20,9 +20,9 @@ pub AreElements-same : (form : ExtensionsForm) (body : List ℕ) (xs ys : List E
 AreElements-same form body xs ys are others = AreElements-only form body xs are ∙ sym (AreElements-only form body ys others)
 
 -- an element is followed by another
-IsLastAt-other : (form : ExtensionsForm) (id : ℕ) (bytes more : List ℕ) (place : Place) (element : Element) → IsLastAt form id bytes place
-    → AreWhole form more (element ∷ []) → element.0 ≢ id → IsLastAt form id (bytes ++ more) place
-IsLastAt-other form id bytes more place element is next other = record {
+IsLastPlace-other : (form : ExtensionsForm) (id : ℕ) (bytes more : List ℕ) (place : Place) (element : Element) → IsLastPlace (AreWhole form) id bytes place
+    → AreWhole form more (element ∷ []) → element.0 ≢ id → IsLastPlace (AreWhole form) id (bytes ++ more) place
+IsLastPlace-other form id bytes more place element is next other = record {
   front = is.front;
   was = is.was;
   rest = is.rest ++ more;
@@ -56,9 +56,9 @@ next_bytes form passed padding id len bytes len_is =
     ∙ (sym (append_assoc passed (replicate padding 0 ++ header) bytes)
     ∙ ap (λ b. (passed ++ (replicate padding 0 ++ header)) ++ b) (sym (append-nil bytes))))
 
-IsLastAt-this : (form : ExtensionsForm) (body passed : List ℕ) (at : ℕ) (place : Place) (elements : List Element) → at ≡ length passed → AreWhole form passed elements
-    → (next : IsNextPlace form body at place) → IsLastAt form place.id (passed ++ (replicate next.padding 0 ++ element_bytes form (place.id, next.bytes))) place
-IsLastAt-this form body passed at place elements at_is whole next =
+IsLastPlace-this : (form : ExtensionsForm) (body passed : List ℕ) (at : ℕ) (place : Place) (elements : List Element) → at ≡ length passed → AreWhole form passed elements
+    → (next : IsNextPlace form body at place) → IsLastPlace (AreWhole form) place.id (passed ++ (replicate next.padding 0 ++ element_bytes form (place.id, next.bytes))) place
+IsLastPlace-this form body passed at place elements at_is whole next =
     let header : List ℕ = header_bytes form place.id (length next.bytes) in
     record {
       front = passed ++ (replicate next.padding 0 ++ header);
@@ -100,7 +100,7 @@ IsLastOrNone-other : (form : ExtensionsForm) (id : ℕ) (bytes more : List ℕ) 
     → IsLastOrNone form id bytes elements last → AreWhole form more (element ∷ []) → element.0 ≢ id → IsLastOrNone form id (bytes ++ more) (elements ++ element ∷ []) last
 IsLastOrNone-other form id bytes more elements None element is next other =
     All-append (λ (e : Element). e.0 ≢ id) elements (element ∷ []) is (All-cons (λ (e : Element). e.0 ≢ id) element [] other (All-nil (λ (e : Element). e.0 ≢ id)))
-IsLastOrNone-other form id bytes more elements (Some place) element is next other = IsLastAt-other form id bytes more place element is next other
+IsLastOrNone-other form id bytes more elements (Some place) element is next other = IsLastPlace-other form id bytes more place element is next other
 
 passed_by : (form : ExtensionsForm) (body : List ℕ) (at id : ℕ) (last now : Option Place) (place : Place) (was : IsPassed form body at id last) (next : IsNextPlace form body at place)
     → IsLastOrNone form id (was.passed ++ (replicate next.padding 0 ++ element_bytes form (place.id, next.bytes))) (was.elements ++ (place.id, next.bytes) ∷ []) now
@@ -127,8 +127,8 @@ pub IsPassed-this : (form : ExtensionsForm) (body : List ℕ) (at id : ℕ) (las
     → place.id ≡ id → IsPassed form body place.end id (Some place)
 IsPassed-this form body at id last place was next this =
     passed_by form body at id last (Some place) place was next
-    (subst (λ k. IsLastAt form k (was.passed ++ (replicate next.padding 0 ++ element_bytes form (place.id, next.bytes))) place) this
-    (IsLastAt-this form body was.passed at place was.elements was.at_is was.are_whole next))
+    (subst (λ k. IsLastPlace (AreWhole form) k (was.passed ++ (replicate next.padding 0 ++ element_bytes form (place.id, next.bytes))) place) this
+    (IsLastPlace-this form body was.passed at place was.elements was.at_is was.are_whole next))
 
 -- where reading ends
 ended_left : (form : ExtensionsForm) (body : List ℕ) (at id : ℕ) (last : Option Place) (was : IsPassed form body at id last) → BeginsWithNone form (drop at body) → AreElements form was.left []
@@ -136,17 +136,17 @@ ended_left form body at id last was none =
     subst (λ b. AreElements form b []) (ap (drop at) was.body_is ∙ drop_at was.passed was.left at (sym was.at_is)) (AreElements-none form (drop at body) none)
 
 pub IsPassed-found : (form : ExtensionsForm) (body : List ℕ) (at id : ℕ) (last : Option Place) → IsPassed form body at id last → BeginsWithNone form (drop at body)
-    → IfSome last (IsLastPlace form id body)
+    → IfSome last (IsLastPlace (AreElements form) id body)
 IsPassed-found form body at id None was none = tt
 IsPassed-found form body at id (Some place) was none =
-    let is : IsLastAt form id was.passed place = was.last_is in
+    let is : IsLastPlace (AreWhole form) id was.passed place = was.last_is in
     record {
       front = is.front;
       was = is.was;
       rest = is.rest ++ was.left;
       before = is.before;
       after = is.after;
-      body_is = was.body_is ∙ (ap (λ b. b ++ was.left) is.bytes_are
+      bytes_are = was.body_is ∙ (ap (λ b. b ++ was.left) is.bytes_are
           ∙ (append_assoc is.front (is.was ++ is.rest) was.left ∙ ap (λ b. is.front ++ b) (append_assoc is.was is.rest was.left)));
       data_is = is.data_is;
       end_is = is.end_is;
@@ -190,22 +190,22 @@ pub HasLastOf-none : (elements : List Element) (id count : ℕ) → HasNone elem
 HasLastOf-none elements id count none has = HasNone-absurd has.1.before has.1.after id has.0 (subst (λ es. HasNone es id) has.1.in_order none)
 
 -- what is set
-pub HasLast-place : (form : ExtensionsForm) (id : ℕ) (body : List ℕ) (place : Place) (elements : List Element) → (is : IsLastPlace form id body place) → AreElements form body elements
+pub HasLast-place : (form : ExtensionsForm) (id : ℕ) (body : List ℕ) (place : Place) (elements : List Element) → (is : IsLastPlace (AreElements form) id body place) → AreElements form body elements
     → HasLast elements id is.was
 HasLast-place form id body place elements is are = record {
   before = is.before;
   after = is.after;
   in_order = AreElements-same form body elements (is.before ++ (id, is.was) ∷ is.after) are
-      (subst (λ b. AreElements form b (is.before ++ (id, is.was) ∷ is.after)) (sym is.body_is) (is.set is.was refl));
+      (subst (λ b. AreElements form b (is.before ++ (id, is.was) ∷ is.after)) (sym is.bytes_are) (is.set is.was refl));
   last = is.last;
 }
 
-pub SetsLast-at : (form : ExtensionsForm) (id : ℕ) (bytes body new : List ℕ) (place : Place) → IsLastPlace form id body place → place.end - place.data_start ≡ length bytes
+pub SetsLast-at : (form : ExtensionsForm) (id : ℕ) (bytes body new : List ℕ) (place : Place) → IsLastPlace (AreElements form) id body place → place.end - place.data_start ≡ length bytes
     → new ≡ overwritten body place.data_start bytes → SetsLast form id bytes body new
 SetsLast-at form id bytes body new place is len written =
     let as_many : length is.was ≡ length bytes = omega (arith, is.end_is) in
     let new_is : new ≡ is.front ++ (bytes ++ is.rest) =
-    written ∙ (ap (λ b. overwritten b place.data_start bytes) is.body_is ∙ overwritten-at is.front is.was is.rest bytes place.data_start is.data_is as_many) in
+    written ∙ (ap (λ b. overwritten b place.data_start bytes) is.bytes_are ∙ overwritten-at is.front is.was is.rest bytes place.data_start is.data_is as_many) in
     record {
       front = is.front;
       was = is.was;
@@ -213,9 +213,9 @@ SetsLast-at form id bytes body new place is len written =
       before = is.before;
       after = is.after;
       as_many = as_many;
-      old_is = is.body_is;
+      old_is = is.bytes_are;
       new_is = new_is;
-      old_elements = subst (λ b. AreElements form b (is.before ++ (id, is.was) ∷ is.after)) (sym is.body_is) (is.set is.was refl);
+      old_elements = subst (λ b. AreElements form b (is.before ++ (id, is.was) ∷ is.after)) (sym is.bytes_are) (is.set is.was refl);
       new_elements = subst (λ b. AreElements form b (is.before ++ (id, bytes) ∷ is.after)) (sym new_is) (is.set bytes (sym as_many));
       last = is.last;
     }

@@ -6,6 +6,7 @@ pub mod FirstElementLemmas
 mod PlaceLemmas
 mod PieceLemmas
 mod LastPlaceLemmas
+mod RenumberingLemmas
 pub mod MemoryLemmas
 mod MemoryFacts
 mod MapLemmas

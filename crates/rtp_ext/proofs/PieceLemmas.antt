@@ -51,7 +51,7 @@ AreWhole-zeros form (suc count) =
       elements_are = rest.elements_are;
     }
 
-AreWhole-element : (form : ExtensionsForm) (element : Element) → IsElement form element → AreWhole form (element_bytes form element) (element ∷ [])
+pub AreWhole-element : (form : ExtensionsForm) (element : Element) → IsElement form element → AreWhole form (element_bytes form element) (element ∷ [])
 AreWhole-element form element is = record { pieces = Some element ∷ []; are_pieces = (is, tt); bytes_are = sym (append-nil (element_bytes form element)); elements_are = refl }
 
 -- padding and an element; padding and what ends reading

@@ -1,5 +1,5 @@
 -- Places of elements by offsets, and what is written there.
-use Rattle.std.proofs.Common.{◌≡◌, ℕ, ◌+◌, ◌-◌, ◌≤◌, List, ◌++◌, length, take, drop, replicate, append_assoc, length-append, length-drop, length-take-le, take-append-drop, arith, refl, sym, ap, ◌∙◌}
+use Rattle.std.proofs.Common.{◌≡◌, ℕ, ◌+◌, ◌-◌, ◌≤◌, List, ◌++◌, length, take, drop, replicate, Option, append_assoc, length-append, length-drop, length-take-le, take-append-drop, arith, refl, sym, ap, ◌∙◌}
 use Rattle.std.proofs.lemmas.List.{length-replicate, take_at, drop_at, take_rest}
 use Rattle.rtp_base.specs.Overwriting.{overwritten}
 use Rattle.rtp_ext.specs.declared.ext.form.ExtensionsForm.{ExtensionsForm}
@@ -8,6 +8,7 @@ use Rattle.rtp_ext.specs.declared.ext.place.Place.{Place}
 use Rattle.rtp_ext.specs.Elements.{element_bytes}
 use Rattle.rtp_ext.specs.ElementReading.{BeginsWith}
 use Rattle.rtp_ext.specs.ElementWriting.{header_bytes}
+use Rattle.rtp_ext.specs.ElementsInPlace.{bytes_under}
 use Rattle.rtp_ext.specs.Places.{LiesAt, IsNextPlace}
 
 -- an element is its header and its data
@@ -108,6 +109,13 @@ LiesAt-next form body at place within next = record {
   data_is = next.data_is;
   end_is = next.end_is;
 }
+
+-- the next element under another id, or as padding
+pub renumbered_next : (form : ExtensionsForm) (body new : List ℕ) (at : ℕ) (place : Place) (id : Option ℕ) → at ≤ length body → (next : IsNextPlace form body at place)
+    → ((lies : LiesAt form body place) → new ≡ lies.front ++ (bytes_under form (place.id, lies.bytes) id ++ lies.after))
+    → new ≡ (take at body ++ replicate next.padding 0) ++ (bytes_under form (place.id, next.bytes) id ++ next.after)
+unfolding LiesAt-next
+renumbered_next form body new at place id within next written = written (LiesAt-next form body at place within next)
 
 -- a body that was passed up to the offset, and then up to the end of the next element
 pub left_next : (form : ExtensionsForm) (body passed left : List ℕ) (at : ℕ) (place : Place) → body ≡ passed ++ left → at ≡ length passed

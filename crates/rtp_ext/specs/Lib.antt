@@ -7,9 +7,11 @@ pub mod Memory
 pub mod WrittenBlock
 pub mod ElementsInARow
 pub mod ElementsInPlace
+pub mod NewIds
 -- What the inside promises itself.
 pub mod MapSlots
 pub mod EqualMaps
 pub mod ElementReading
 pub mod ElementWriting
 pub mod Places
+pub mod IdChanges

@@ -3,7 +3,7 @@ use Rattle.std.specs.Prelude.{◌≡◌, ℕ, ◌+◌, List, ◌∷◌, ◌++◌
 use Rattle.std.specs.List.{AllByRecursion, flat_map, filter_map}
 use Rattle.rtp_ext.specs.declared.ext.form.ExtensionsForm.{ExtensionsForm}
 use Rattle.rtp_ext.specs.declared.ext.place.Place.{Place}
-use Rattle.rtp_ext.specs.Elements.{Element, IsElement, element_bytes, IsPiece, piece_bytes, AreElements}
+use Rattle.rtp_ext.specs.Elements.{Element, IsElement, element_bytes, IsPiece, piece_bytes}
 use Rattle.rtp_ext.specs.ElementWriting.{header_bytes}
 use Rattle.rtp_ext.specs.ElementsInPlace.{HasNone}
 
@@ -37,8 +37,8 @@ pub record AreWhole (form : ExtensionsForm) (bytes : List ℕ) (elements : List 
   pub bytes_are : bytes ≡ flat_map (piece_bytes form) pieces
   pub elements_are : elements ≡ filter_map (λ piece. piece) pieces
 
--- the last element of the id in whole pieces has its data at the place, and any others that are as many could stand there
-pub record IsLastAt (form : ExtensionsForm) (id : ℕ) (bytes : List ℕ) (place : Place) : Type 0 where
+-- the last element of the id has its data at the place, and with any others that are as many the bytes have the elements with those
+pub record IsLastPlace (AreOf : List ℕ → List Element → Type 0) (id : ℕ) (bytes : List ℕ) (place : Place) : Type 0 where
   pub front : List ℕ
   pub was : List ℕ
   pub rest : List ℕ
@@ -48,25 +48,12 @@ pub record IsLastAt (form : ExtensionsForm) (id : ℕ) (bytes : List ℕ) (place
   pub data_is : place.data_start ≡ length front
   pub end_is : place.end ≡ place.data_start + length was
   pub last : HasNone after id
-  pub set : (others : List ℕ) → length others ≡ length was → AreWhole form (front ++ (others ++ rest)) (before ++ (id, others) ∷ after)
-
--- the same of a body
-pub record IsLastPlace (form : ExtensionsForm) (id : ℕ) (body : List ℕ) (place : Place) : Type 0 where
-  pub front : List ℕ
-  pub was : List ℕ
-  pub rest : List ℕ
-  pub before : List Element
-  pub after : List Element
-  pub body_is : body ≡ front ++ (was ++ rest)
-  pub data_is : place.data_start ≡ length front
-  pub end_is : place.end ≡ place.data_start + length was
-  pub last : HasNone after id
-  pub set : (others : List ℕ) → length others ≡ length was → AreElements form (front ++ (others ++ rest)) (before ++ (id, others) ∷ after)
+  pub set : (others : List ℕ) → length others ≡ length was → AreOf (front ++ (others ++ rest)) (before ++ (id, others) ∷ after)
 
 -- the place of the last element of the id in whole pieces with these elements, or that there is none
 abbrev pub IsLastOrNone : ExtensionsForm → ℕ → List ℕ → List Element → Option Place → Type 0
 IsLastOrNone form id bytes elements None = HasNone elements id
-IsLastOrNone form id bytes elements (Some place) = IsLastAt form id bytes place
+IsLastOrNone form id bytes elements (Some place) = IsLastPlace (AreWhole form) id bytes place
 
 -- a body up to an offset, and the place of the last element of the id there
 pub record IsPassed (form : ExtensionsForm) (body : List ℕ) (at id : ℕ) (last : Option Place) : Type 0 where

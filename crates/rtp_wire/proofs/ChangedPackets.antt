@@ -1,53 +1,59 @@
--- What is known of a packet, as one fact of its bytes.
-use Rattle.std.proofs.Common.{◌≡◌, ℕ, ◌+◌, ◌-◌, ◌/◌, ◌≤◌, true, List, [], length, drop, Option, Some, None, sym, ap, subst, ◌∙◌, arith, length-drop, length-take-le}
-use Rattle.std.specs.Prelude.{is_some, option_map, slice_index, slice_range}
+-- A packet that is changed in its buffer: what is known of its header stays, and what becomes of the body of its block.
+use Rattle.std.proofs.Common.{◌≡◌, ℕ, ◌+◌, ◌-◌, ◌≤◌, List, [], length, drop, Option, Some, None, refl, sym, ap, subst, ◌∙◌, arith, length-drop, length-take-le}
+use Rattle.std.specs.Prelude.{is_some, option_map, slice_range}
 use Rattle.std.proofs.lemmas.Slice.{between-put_mid}
 use borrow.Rule.Slice.PartMut.{put_mid}
 use Rattle.rtp_ext.specs.declared.ext.form.ExtensionsForm.{ExtensionsForm}
 use Rattle.rtp_ext.specs.Elements.{Element, AreElements}
 use Rattle.rtp_wire.specs.declared.packet.rtp_packet_mut.RtpPacketMut.{RtpPacketMut}
-use Rattle.rtp_wire.specs.declared.packet.rtp_packet.RtpPacket.{RtpPacket}
 use Rattle.rtp_wire.specs.NotAHeader.{sources_end}
-use Rattle.rtp_wire.specs.PartsAt.{has_block, form_in, header_end, parts_at}
+use Rattle.rtp_wire.specs.Packet.{PacketParts, IsPacket}
+use Rattle.rtp_wire.specs.PartsAt.{IsLaidOut, form_in, header_end, parts_at}
 use Rattle.rtp_wire.specs.PartsOf.{parts_in}
 use Rattle.rtp_wire.specs.PacketElements.{AreElementsOf}
 use Rattle.rtp_wire.specs.ChangedPacket.{ChangesBlock}
-use Rattle.rtp_wire.proofs.PacketChanges.{HasShape}
-use Rattle.rtp_wire.proofs.PacketParts.{IsBetween, IsBetween-part, HasShape-in_body, parts-in_body}
+use Rattle.rtp_wire.proofs.PacketLemmas.{whole_and_parts}
+use Rattle.rtp_wire.proofs.HeaderFound.{HasHeader, HasHeader-packet_mut}
+use Rattle.rtp_wire.proofs.PartsLemmas.{block-header, body_within}
+use Rattle.rtp_wire.proofs.BytesBetween.{IsBetween, IsBetween-part}
+use Rattle.rtp_wire.proofs.PacketChanges.{HasHeader-stays, stays-in_body}
+use Rattle.rtp_wire.proofs.PacketParts.{parts-in_body}
 
-pub shape_of : (packet : RtpPacketMut) → HasShape packet.datagram.now packet.header_len packet.form
-shape_of packet =
-    let fixed = packet.fixed in
-    let within = packet.within in
-    let ends = packet.ends in
+-- the form of a block with a body
+form-block : (form : Option ExtensionsForm) (body : List ℕ) → option_map (λ (b : ExtensionsForm × List ℕ). b.0) (option_map (λ f. (f, body)) form) ≡ form
+form-block None body = refl
+form-block (Some form) body = refl
+
+-- a packet's bytes are laid out as its header's length and its block's form say
+pub HasHeader-laid_out : (bytes : List ℕ) (header_len : ℕ) (form : Option ExtensionsForm) → IsLaidOut bytes header_len form → HasHeader bytes header_len form
+unfolding parts_at
+HasHeader-laid_out bytes header_len form is =
+    let p = whole_and_parts bytes is.parts is.is_packet in
+    let payload : is.parts.payload ≡ drop (header_end bytes) bytes = ap (λ (q : PacketParts). q.payload) p.1 in
+    let block : option_map (λ b. b.0) is.parts.block ≡ form_in bytes =
+    ap (λ (q : PacketParts). option_map (λ b. b.0) q.block) p.1 ∙ form-block (form_in bytes) _ in
+    let len_is = is.len_is in
+    let end : header_len ≡ header_end bytes = let within = p.0.within in omega (arith, ap length payload, length-drop (header_end bytes) bytes) in
     record {
-      whole = record { fixed = fixed; version = packet.version; known = ap is_some (sym packet.announced) ∙ packet.known; within = omega arith };
-      form_is = packet.announced;
-      end_is = ends;
+      fixed = p.0.fixed;
+      version = p.0.version;
+      announced = is.form_is ∙ block;
+      known = ap is_some (is.form_is ∙ block) ∙ p.0.known;
+      ends = end;
+      within = subst (λ (k : ℕ). k ≤ length bytes) (sym end) p.0.within;
     }
 
-pub shape_in : (packet : RtpPacket) → HasShape packet.datagram.now packet.header_len packet.form
-shape_in packet =
-    let fixed = packet.fixed in
-    let within = packet.within in
-    let ends = packet.ends in
+pub IsLaidOut-header : (bytes : List ℕ) (header_len : ℕ) (form : Option ExtensionsForm) → IsPacket bytes (parts_at bytes) → HasHeader bytes header_len form → IsLaidOut bytes header_len form
+unfolding parts_at
+IsLaidOut-header bytes header_len form is header =
+    let within = header.within in
+    let ends = header.ends in
     record {
-      whole = record { fixed = fixed; version = packet.version; known = ap is_some (sym packet.announced) ∙ packet.known; within = omega arith };
-      form_is = packet.announced;
-      end_is = ends;
+      parts = parts_at bytes;
+      is_packet = is;
+      form_is = header.announced ∙ sym (form-block (form_in bytes) _);
+      len_is = omega (arith, length-drop (header_end bytes) bytes);
     }
-
--- the ghost fields of a packet, from what is known of its bytes
-pub fields_of : (bytes : List ℕ) (header_len : ℕ) (form : Option ExtensionsForm) → HasShape bytes header_len form
-    → record { fixed : 12 ≤ length bytes; version : slice_index bytes 0 / 64 ≡ 2; announced : form ≡ form_in bytes; known : is_some form ≡ has_block bytes; ends : header_len ≡ header_end bytes; within : header_len ≤ length bytes }
-fields_of bytes header_len form shape = record {
-  fixed = shape.whole.fixed;
-  version = shape.whole.version;
-  announced = shape.form_is;
-  known = ap is_some shape.form_is ∙ shape.whole.known;
-  ends = shape.end_is;
-  within = let within = shape.whole.within in let end = shape.end_is in omega arith;
-}
 
 -- without a block there are no elements
 pub no_elements : (packet : RtpPacketMut) (elements : List Element) → packet.form ≡ None → AreElementsOf (parts_in packet).block elements → elements ≡ []
@@ -57,11 +63,7 @@ no_elements packet elements none are = (rw (sym packet.announced ∙ none) at ar
 -- a packet with a block of this form, whose body begins here
 module _ (packet : RtpPacketMut) (form : ExtensionsForm) (start : ℕ) (is : packet.form ≡ Some form) (start-is : start ≡ sources_end packet.datagram.now + 4) where
   pub body_in : start ≤ packet.header_len
-  unfolding header_end
-  body_in =
-      let x : has_block packet.datagram.now ≡ true = sym packet.known ∙ ap is_some is in
-      let ends = rw x at packet.ends in
-      omega arith
+  body_in = subst (λ (k : ℕ). k ≤ packet.header_len) (sym start-is) (body_within packet.datagram.now packet.header_len packet.form (HasHeader-packet_mut packet) (ap is_some is))
 
   block-is : (bytes : List ℕ) → option_map {U = ExtensionsForm × List ℕ} (λ f. (f, slice_range bytes (sources_end packet.datagram.now + 4) (header_end packet.datagram.now))) (form_in packet.datagram.now)
       ≡ Some (form, slice_range bytes start packet.header_len)
@@ -94,8 +96,8 @@ module _ (packet : RtpPacketMut) (form : ExtensionsForm) (start : ℕ) (is : pac
         (subst (λ (k : ℕ). IsBetween start k packet.datagram.now new) packet.ends
         (IsBetween-part packet.datagram.now body start packet.header_len body_in packet.within length-body))
 
-    pub HasShape-body : HasShape new packet.header_len packet.form
-    HasShape-body = HasShape-in_body packet.datagram.now new between packet.header_len packet.form (shape_of packet)
+    pub HasHeader-body : HasHeader new packet.header_len packet.form
+    HasHeader-body = HasHeader-stays packet.datagram.now new packet.header_len packet.form (stays-in_body packet.datagram.now new between) (HasHeader-packet_mut packet)
 
     pub ChangesBlock-body : (Change : ExtensionsForm → List ℕ → List ℕ → Type 0) → Change form (slice_range packet.datagram.now start packet.header_len) body
         → ChangesBlock Change (parts_in packet) (parts_at new)

@@ -4,6 +4,8 @@ use Rattle.std.specs.Prelude.{slice_index, is_some}
 use Rattle.std.proofs.lemmas.Bool.{eq-eqb, ne_eqb}
 use Rattle.std.proofs.lemmas.Nat.Bits.{and_pow}
 use Rattle.rtp_ext.specs.declared.ext.form.ExtensionsForm.{ExtensionsForm}
+use Rattle.rtp_wire.specs.declared.packet.rtp_packet.RtpPacket.{RtpPacket}
+use Rattle.rtp_wire.specs.declared.packet.rtp_packet_mut.RtpPacketMut.{RtpPacketMut}
 use Rattle.rtp_wire.specs.Block.{word_at}
 use Rattle.rtp_wire.specs.NotAHeader.{sources_end}
 use Rattle.rtp_wire.specs.PartsAt.{form_of_word, has_block, form_in, header_end}
@@ -16,13 +18,30 @@ x_clear byte none = ne_eqb (byte / 16 % 2) 1 (λ e. absurd (omega (arith, and_po
 pub x_set : (byte : ℕ) → (bit_and byte 16 ≡ 0 → ⊥) → byte / 16 % 2 ≡ 1
 x_set byte some = omega (arith, and_pow byte 4, some)
 
--- a header of this length, and the form of its block
-pub record HasHeader (bytes : List ℕ) (len : ℕ) (form : Option ExtensionsForm) : Type 0 where
-  pub whole : IsWhole bytes
-  pub announced : form ≡ form_in bytes
-  pub known : is_some form ≡ has_block bytes
-  pub ends : len ≡ header_end bytes
-  pub within : len ≤ length bytes
+-- a header of this length with a block of this form, or without one: what a packet keeps of its bytes
+abbrev pub HasHeader : List ℕ → ℕ → Option ExtensionsForm → Type 0
+HasHeader bytes len form = record {
+  fixed : 12 ≤ length bytes;
+  version : slice_index bytes 0 / 64 ≡ 2;
+  announced : form ≡ form_in bytes;
+  known : is_some form ≡ has_block bytes;
+  ends : len ≡ header_end bytes;
+  within : len ≤ length bytes;
+}
+
+pub HasHeader-packet : (packet : RtpPacket) → HasHeader packet.datagram.now packet.header_len packet.form
+HasHeader-packet packet = record { fixed = packet.fixed; version = packet.version; announced = packet.announced; known = packet.known; ends = packet.ends; within = packet.within }
+
+pub HasHeader-packet_mut : (packet : RtpPacketMut) → HasHeader packet.datagram.now packet.header_len packet.form
+HasHeader-packet_mut packet = record { fixed = packet.fixed; version = packet.version; announced = packet.announced; known = packet.known; ends = packet.ends; within = packet.within }
+
+pub IsWhole-header : (bytes : List ℕ) (len : ℕ) (form : Option ExtensionsForm) → HasHeader bytes len form → IsWhole bytes
+IsWhole-header bytes len form header = record {
+  fixed = header.fixed;
+  version = header.version;
+  known = ap is_some (sym header.announced) ∙ header.known;
+  within = subst (λ (k : ℕ). k ≤ length bytes) header.ends header.within;
+}
 
 pub HasHeader-plain : (bytes : List ℕ) (start : ℕ) → 12 ≤ length bytes → slice_index bytes 0 / 64 ≡ 2 → start ≡ sources_end bytes
     → start ≤ length bytes → bit_and (slice_index bytes 0) 16 ≡ 0 → HasHeader bytes start None
@@ -32,7 +51,8 @@ HasHeader-plain bytes start long version start-is room clear =
     let ends : start ≡ header_end bytes = rw x (omega arith) in
     let announced : None ≡ form_in bytes = rw x refl in
     record {
-      whole = record { fixed = long; version = version; known = rw x refl; within = omega arith };
+      fixed = long;
+      version = version;
       announced = announced;
       known = sym x;
       ends = ends;
@@ -50,7 +70,8 @@ HasHeader-extended bytes after start n form long version start-is room after-is 
     let ends : start + n ≡ header_end bytes = rw (x, ← same) (omega arith) in
     let within : start + n ≤ length bytes = omega (arith, ap length after-is, length-drop start bytes) in
     record {
-      whole = record { fixed = long; version = version; known = rw (announced, x) refl; within = subst (λ (k : ℕ). k ≤ length bytes) ends within };
+      fixed = long;
+      version = version;
       announced = sym announced;
       known = sym x;
       ends = ends;

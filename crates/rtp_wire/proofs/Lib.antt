@@ -2,9 +2,9 @@ mod FlagLemmas
 mod GroupLemmas
 mod BlockLemmas
 mod PacketLemmas
-mod PartsLemmas
-mod PacketElementsLemmas
 mod HeaderFound
+mod PartsLemmas
+mod BytesBetween
 mod PacketChanges
 mod PacketParts
 mod ChangedPackets

@@ -13,20 +13,12 @@ use Rattle.rtp_wire.specs.PartsOf.{parts_of}
 use Rattle.rtp_wire.specs.PartsAt.{has_block, form_in, header_end, parts_at}
 use Rattle.rtp_wire.proofs.GroupLemmas.{length-concat, first_chunks-take}
 use Rattle.rtp_wire.proofs.PacketLemmas.{IsWhole, IsPacket-whole}
-
--- a packet's datagram is whole
-pub IsWhole-packet : (packet : RtpPacket) → IsWhole packet.datagram.now
-IsWhole-packet packet = record {
-  fixed = packet.fixed;
-  version = packet.version;
-  known = ap is_some (sym packet.announced) ∙ packet.known;
-  within = subst (λ (k : ℕ). k ≤ length packet.datagram.now) packet.ends packet.within;
-}
+use Rattle.rtp_wire.proofs.HeaderFound.{HasHeader, HasHeader-packet, IsWhole-header}
 
 -- the sources are within the datagram
-pub sources_within : (bytes : List ℕ) → IsWhole bytes → sources_end bytes ≤ length bytes
+pub sources_within : (bytes : List ℕ) (len : ℕ) (form : Option ExtensionsForm) → HasHeader bytes len form → sources_end bytes ≤ length bytes
 unfolding header_end
-sources_within bytes whole = let within = whole.within in omega arith
+sources_within bytes len form header = let ends = header.ends in let within = header.within in omega arith
 
 -- the groups of the sources, from their part of the bytes
 pub first_chunks-sources : (bytes : List ℕ) (end : ℕ) → end ≡ sources_end bytes → end ≤ length bytes
@@ -39,20 +31,20 @@ first_chunks-sources bytes end end-is within =
     let quarter : length (slice_range bytes 12 end) / 4 ≡ count = omega arith in
     ap (λ (k : ℕ). first_chunks 4 k (slice_range bytes 12 end)) quarter ∙ ap (first_chunks 4 count) slice ∙ first_chunks-take count (drop 12 bytes)
 
--- the block, from the form and the length that the packet keeps
-pub block-packet : (packet : RtpPacket) → option_map (λ form. (form, slice_range packet.datagram.now (sources_end packet.datagram.now + 4) packet.header_len)) packet.form ≡ (parts_of packet).block
+-- the block, by the form and the length of the header
+pub block-header : (bytes : List ℕ) (len : ℕ) (form : Option ExtensionsForm) → HasHeader bytes len form
+    → option_map {U = ExtensionsForm × List ℕ} (λ f. (f, slice_range bytes (sources_end bytes + 4) len)) form ≡ (parts_at bytes).block
 unfolding parts_at
-block-packet packet =
-    let bytes = packet.datagram.now in
-    ap (λ (form : Option ExtensionsForm). option_map (λ f. (f, slice_range bytes (sources_end bytes + 4) packet.header_len)) form) packet.announced
-    ∙ ap (λ (end : ℕ). option_map (λ f. (f, slice_range bytes (sources_end bytes + 4) end)) (form_in bytes)) packet.ends
+block-header bytes len form header =
+    ap (option_map {U = ExtensionsForm × List ℕ} (λ f. (f, slice_range bytes (sources_end bytes + 4) len))) header.announced
+    ∙ ap (λ (end : ℕ). option_map {U = ExtensionsForm × List ℕ} (λ f. (f, slice_range bytes (sources_end bytes + 4) end)) (form_in bytes)) header.ends
 
 -- the body begins within the header
-pub body_within : (packet : RtpPacket) → is_some packet.form ≡ true → sources_end packet.datagram.now + 4 ≤ packet.header_len
+pub body_within : (bytes : List ℕ) (len : ℕ) (form : Option ExtensionsForm) → HasHeader bytes len form → is_some form ≡ true → sources_end bytes + 4 ≤ len
 unfolding header_end
-body_within packet some =
-    let x : has_block packet.datagram.now ≡ true = sym packet.known ∙ some in
-    let ends = rw x at packet.ends in
+body_within bytes len form header some =
+    let x : has_block bytes ≡ true = sym header.known ∙ some in
+    let ends = rw x at header.ends in
     omega arith
 
 -- how many bytes a block takes that X announces
@@ -84,7 +76,7 @@ pub header_end-len : (packet : RtpPacket) → header_end packet.datagram.now ≡
 unfolding parts_at
 header_end-len packet =
     let bytes = packet.datagram.now in
-    let whole = IsWhole-packet packet in
+    let whole = IsWhole-header bytes packet.header_len packet.form (HasHeader-packet packet) in
     let within = whole.within in
     let all = length-packet bytes (parts_of packet) (IsPacket-whole bytes (packet.bytes 1) whole) in
     omega (arith, length-drop (header_end bytes) bytes)

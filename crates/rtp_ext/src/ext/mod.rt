@@ -8,8 +8,10 @@ mod in_place;
 mod iter;
 mod map;
 mod mapped_ids;
+mod new_ids;
 mod place;
 mod raw_writing;
+mod renumbering;
 mod slot;
 mod slots;
 
@@ -18,4 +20,6 @@ pub use form::{ExtensionsForm, MAX_ID_ONE_BYTE_FORM};
 pub use in_place::{element_of, set_element};
 pub use iter::{Iter, IterByMediaType};
 pub use map::{ExtensionMap, MAX_ID};
+pub use new_ids::NewIds;
 pub use raw_writing::write_elements;
+pub use renumbering::remove_element;

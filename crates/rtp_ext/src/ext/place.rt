@@ -42,7 +42,7 @@ pub(super) fn next_place(form: ExtensionsForm, body: &[u8], at: usize) -> Option
 
 // The place of the last element of the id.
 pub(super) fn last_place(form: ExtensionsForm, body: &[u8], id: u8) -> Option<Place>
-    ensures found { IfSome result (IsLastPlace form id body.now) }
+    ensures found { IfSome result (IsLastPlace (AreElements form) id body.now) }
     ensures none { (elements : List Element) → AreElements form body.now elements →
         IfNone result (HasNone elements id) }
 {

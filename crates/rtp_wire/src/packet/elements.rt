@@ -7,7 +7,7 @@ ghost use Rattle.rtp_wire.specs.PacketElements.{AreElementsOf, IsLast};
 
 use super::RtpPacket;
 use super::parsing::sources_end;
-use rtp_ext::{Elements, ExtensionsForm};
+use rtp_ext::{Elements, ExtensionsForm, element_of};
 
 impl<'a> RtpPacket<'a> {
     ghost use Rattle.rtp_wire.specs.PartsOf.{parts_of};
@@ -39,24 +39,13 @@ impl<'a> RtpPacket<'a> {
         }
     }
 
-    /// The data of the last element of this id, and None where no element has it.
+    /// The data of the last element of this id, and `None` exactly where no element has it. An
+    /// element of the two-byte form may be without data, and then they are `Some` of no bytes.
     pub fn element(&self, id: u8) -> Option<&'a [u8]>
         ensures { (elements : List Element) → AreElementsOf (parts_of self.now).block elements →
             IsLast elements id result }
     {
-        last_of(self.elements(), id)
+        let (form, body) = self.block()?;
+        element_of(form, body, id)
     }
-}
-
-// The data of the last element of this id.
-fn last_of<'a>(elements: Elements<'a>, id: u8) -> Option<&'a [u8]>
-    ensures { IsLast elements.entry id result }
-{
-    let mut last = None;
-    for (element, data) in elements {
-        if element == id {
-            last = Some(data);
-        }
-    }
-    last
 }

@@ -5,7 +5,7 @@ use Rattle.rtp_wire.specs.NotAPacket.{IsFirst, AppliesToBlock, IsFirstCause}
 use Rattle.rtp_wire.specs.declared.packet.not_a_packet.NotAPacket.TheVariants.{CutSources}
 use Rattle.rtp_wire.specs.Packet.{IsPacket}
 use Rattle.rtp_wire.specs.PartsAt.{parts_at}
-use Rattle.rtp_wire.proofs.HeaderFound.{x_set, HasHeader-plain, HasHeader-extended}
+use Rattle.rtp_wire.proofs.HeaderFound.{x_set, IsWhole-header, HasHeader-plain, HasHeader-extended}
 use Rattle.rtp_wire.proofs.PacketLemmas.{one_packet, IsPacket-whole, no_packet}
 use Rattle.rtp_wire.proofs.NotAPacketLemmas.{NotAHeader-applies, no_packet-refused, IsFirstCause-block}
 use Rattle.rtp_wire.proofs.packet.rtp_packet.RtpPacket.parse.Goals as goal
@@ -17,12 +17,13 @@ returns-in_default-clause-only c parts is =
 pub invariant_of-result : goal.invariant_of-result
 invariant_of-result c =
     let header = HasHeader-plain c.args.datagram.now c.sources_end-start.result c.if-datagram-lt12.false c.if-first-ne2.false c.sources_end-start.ensures c.in-Some.ensures.cases.0 c.if-first-eq0.true in
-    record { bytes = λ i. omega (arith, c.type_inv.datagram i); fixed = header.whole.fixed; version = header.whole.version; announced = header.announced; known = header.known; ends = header.ends; within = header.within }
+    record { bytes = λ i. omega (arith, c.type_inv.datagram i); fixed = header.fixed; version = header.version; announced = header.announced; known = header.known; ends = header.ends; within = header.within }
 
 pub returns-then-first-eq0-clause-found : goal.returns-then-first-eq0-clause-found
 returns-then-first-eq0-clause-found c =
     IsPacket-whole c.args.datagram.now (omega (arith, c.type_inv.datagram 1))
-    (HasHeader-plain c.args.datagram.now c.sources_end-start.result c.if-datagram-lt12.false c.if-first-ne2.false c.sources_end-start.ensures c.in-Some.ensures.cases.0 c.if-first-eq0.true).whole
+    (IsWhole-header _ _ _
+    (HasHeader-plain c.args.datagram.now c.sources_end-start.result c.if-datagram-lt12.false c.if-first-ne2.false c.sources_end-start.ensures c.in-Some.ensures.cases.0 c.if-first-eq0.true))
 
 pub returns-then-first-eq0-clause-only : goal.returns-then-first-eq0-clause-only
 returns-then-first-eq0-clause-only c parts is = one_packet c.args.datagram.now parts is
@@ -51,15 +52,16 @@ invariant_of-result-2 c =
     let header = HasHeader-extended c.args.datagram.now c.in-Some.after.now c.sources_end-start.result c.in_ok-form.block_len c.in_ok-form.form
     c.if-datagram-lt12.false c.if-first-ne2.false c.sources_end-start.ensures c.in-Some.ensures.cases.0 c.in-Some.ensures.cases.2
     c.if-first-eq0.false c.in_ok-form.ensures.form c.in_ok-form.ensures.length c.in_ok-form.ensures.within in
-    record { bytes = λ i. omega (arith, c.type_inv.datagram i); fixed = header.whole.fixed; version = header.whole.version; announced = header.announced; known = header.known; ends = header.ends; within = header.within }
+    record { bytes = λ i. omega (arith, c.type_inv.datagram i); fixed = header.fixed; version = header.version; announced = header.announced; known = header.known; ends = header.ends; within = header.within }
 
 -- the packet with a block
 extended : (c : goal.After-result-2-1) → IsPacket c.args.datagram.now (parts_at c.args.datagram.now)
 extended c =
     IsPacket-whole c.args.datagram.now (omega (arith, c.type_inv.datagram 1))
+    (IsWhole-header _ _ _
     (HasHeader-extended c.args.datagram.now c.in-Some.after.now c.sources_end-start.result c.in_ok-form.block_len c.in_ok-form.form
     c.if-datagram-lt12.false c.if-first-ne2.false c.sources_end-start.ensures c.in-Some.ensures.cases.0 c.in-Some.ensures.cases.2
-    c.if-first-eq0.false c.in_ok-form.ensures.form c.in_ok-form.ensures.length c.in_ok-form.ensures.within).whole
+    c.if-first-eq0.false c.in_ok-form.ensures.form c.in_ok-form.ensures.length c.in_ok-form.ensures.within))
 
 pub returns-clause-found : goal.returns-clause-found
 returns-clause-found c = extended c

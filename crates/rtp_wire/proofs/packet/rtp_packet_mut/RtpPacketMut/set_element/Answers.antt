@@ -1,7 +1,7 @@
 use Rattle.std.proofs.Common.{rules, ◌+◌, ◌≤◌, length, ◌∷◌, ◌∙◌, arith, ap, sym, length-append}
 use Rattle.std.proofs.lemmas.Bool.{false≢true, OnTrue_at, OnTrue_from}
 use Rattle.rtp_ext.specs.ElementsInPlace.{SetsLast}
-use Rattle.rtp_wire.proofs.ChangedPackets.{fields_of, no_elements, body_in, AreElements-in, HasShape-body, ChangesBlock-body}
+use Rattle.rtp_wire.proofs.ChangedPackets.{no_elements, body_in, AreElements-in, HasHeader-body, ChangesBlock-body}
 use Rattle.rtp_wire.proofs.packet.rtp_packet_mut.RtpPacketMut.set_element.Goals as goal
 
 pub returns-in_default-clause-answer : goal.returns-in_default-clause-answer
@@ -24,8 +24,8 @@ slice_bounds-set_element-start c =
 
 pub invariant_of-self : goal.invariant_of-self
 invariant_of-self c =
-    fields_of _ _ _ (HasShape-body c.args.self.now c.in-Some.form (c.sources_end-start.result + 4) c.in-Some.is (omega (arith, c.sources_end-start.ensures))
-    c.set_element.new.body c.set_element.auto.body)
+    HasHeader-body c.args.self.now c.in-Some.form (c.sources_end-start.result + 4) c.in-Some.is (omega (arith, c.sources_end-start.ensures))
+    c.set_element.new.body c.set_element.auto.body
 
 pub returns-clause-set : goal.returns-clause-set
 returns-clause-set c = OnTrue_from _ _ (λ set.

@@ -1,0 +1,83 @@
+-- Bytes that are changed between two offsets, while all before and after them stay.
+use Rattle.std.proofs.Common.{◌≡◌, ℕ, ◌+◌, ◌-◌, ◌<◌, ◌≤◌, List, [], ◌∷◌, ◌++◌, length, take, drop, refl, sym, ap, ◌∙◌, arith, append_assoc, length-append, length-drop, length-take-le, take_at, drop_at, add-zero}
+use Rattle.std.specs.Prelude.{slice_index, slice_range}
+use Rattle.std.proofs.lemmas.List.{drop-drop, take-take, take-append-le, get_or-take, get_or-drop}
+use Rattle.std.proofs.lemmas.Slice.{take-put_mid_below, drop-put_mid}
+use borrow.Rule.Slice.PartMut.{put_mid}
+use Rattle.rtp_base.specs.Overwriting.{overwritten}
+use Rattle.rtp_base.proofs.OverwritingLemmas.{length-overwritten}
+use Rattle.rtp_wire.proofs.BlockLemmas.{slice_range-take}
+
+-- bytes after those that were put
+pub drop-overwritten : (buf xs : List ℕ) (at k : ℕ) → at + length xs ≤ k → at + length xs ≤ length buf → drop k (overwritten buf at xs) ≡ drop k buf
+unfolding overwritten
+drop-overwritten buf xs at k past fits =
+    let end = at + length xs in
+    let front = take at buf ++ xs in
+    let len : length front ≡ end = omega (arith, length-append (take at buf) xs, length-take-le at buf (omega arith)) in
+    let more : k ≡ end + (k - end) = omega arith in
+    ap (λ (n : ℕ). drop n (take at buf ++ (xs ++ drop end buf))) more
+    ∙ sym (drop-drop (k - end) end (take at buf ++ (xs ++ drop end buf)))
+    ∙ ap (drop (k - end)) (ap (drop end) (sym (append_assoc (take at buf) xs (drop end buf))) ∙ drop_at front (drop end buf) end len)
+    ∙ drop-drop (k - end) end buf
+    ∙ ap (λ (n : ℕ). drop n buf) (sym more)
+
+-- bytes before them
+pub take-overwritten : (buf xs : List ℕ) (at k : ℕ) → k ≤ at → at ≤ length buf → take k (overwritten buf at xs) ≡ take k buf
+unfolding overwritten
+take-overwritten buf xs at k before fits =
+    take-append-le k (take at buf) (xs ++ drop (at + length xs) buf) (omega (arith, length-take-le at buf fits)) ∙ take-take k at buf before
+
+index-drop : (xs : List ℕ) (i : ℕ) → slice_index xs i ≡ slice_index (drop i xs) 0
+index-drop xs i = ap (slice_index xs) (sym (add-zero i)) ∙ sym (get_or-drop i xs 0 0)
+
+-- the bytes that were put
+pub drop-put : (buf xs : List ℕ) (at : ℕ) → at ≤ length buf → drop at (overwritten buf at xs) ≡ xs ++ drop (at + length xs) buf
+unfolding overwritten
+drop-put buf xs at fits = drop_at (take at buf) (xs ++ drop (at + length xs) buf) at (length-take-le at buf fits)
+
+pub index-put : (buf : List ℕ) (at x : ℕ) → at ≤ length buf → slice_index (overwritten buf at (x ∷ [])) at ≡ x
+index-put buf at x fits = index-drop (overwritten buf at (x ∷ [])) at ∙ ap (λ (ys : List ℕ). slice_index ys 0) (drop-put buf (x ∷ []) at fits)
+
+pub range-put : (buf xs : List ℕ) (at end : ℕ) → end ≡ at + length xs → at ≤ length buf → slice_range (overwritten buf at xs) at end ≡ xs
+range-put buf xs at end end-is fits =
+    ap (take (end - at)) (drop-put buf xs at fits) ∙ take_at xs (drop (at + length xs) buf) (end - at) (omega arith)
+
+-- all that changes lies from the first offset on and before the second
+pub record IsBetween (start end : ℕ) (old new : List ℕ) : Type 0 where
+  pub length_is : length new ≡ length old
+  pub before_is : take start new ≡ take start old
+  pub after_is : drop end new ≡ drop end old
+
+pub IsBetween-put : (buf xs : List ℕ) (start end at : ℕ) → start ≤ at → at + length xs ≤ end → end ≤ length buf → IsBetween start end buf (overwritten buf at xs)
+IsBetween-put buf xs start end at after within fits = record {
+  length_is = length-overwritten buf xs at (omega arith);
+  before_is = take-overwritten buf xs at start after (omega arith);
+  after_is = drop-overwritten buf xs at end within (omega arith);
+}
+
+pub IsBetween-part : (xs part : List ℕ) (start end : ℕ) → start ≤ end → end ≤ length xs → length part ≡ end - start → IsBetween start end xs (put_mid start (end - start) xs part)
+IsBetween-part xs part start end le within len = record {
+  length_is = omega (arith, length-append (take start xs) (part ++ drop (end - start) (drop start xs)), length-append part (drop (end - start) (drop start xs)), length-take-le start xs (omega arith), length-drop (end - start) (drop start xs), length-drop start xs);
+  before_is = take-put_mid_below start (end - start) xs part start (omega arith) (omega arith);
+  after_is = drop-put_mid start (end - start) xs part end (omega arith) (omega arith) len;
+}
+
+module _ (start end : ℕ) (old new : List ℕ) (is : IsBetween start end old new) where
+  pub index_before : (i : ℕ) → i < start → slice_index new i ≡ slice_index old i
+  index_before i before = sym (get_or-take start new i 0 before) ∙ ap (λ (ys : List ℕ). slice_index ys i) is.before_is ∙ get_or-take start old i 0 before
+
+  pub take_before : (k : ℕ) → k ≤ start → take k new ≡ take k old
+  take_before k before = sym (take-take k start new before) ∙ ap (take k) is.before_is ∙ take-take k start old before
+
+  pub range_before : (a b : ℕ) → a ≤ b → b ≤ start → slice_range new a b ≡ slice_range old a b
+  range_before a b le before = sym (slice_range-take new a b start le before) ∙ ap (λ (ys : List ℕ). slice_range ys a b) is.before_is ∙ slice_range-take old a b start le before
+
+  pub drop_after : (k : ℕ) → end ≤ k → drop k new ≡ drop k old
+  drop_after k past =
+      let more : k ≡ end + (k - end) = omega arith in
+      ap (λ (n : ℕ). drop n new) more ∙ sym (drop-drop (k - end) end new) ∙ ap (drop (k - end)) is.after_is ∙ drop-drop (k - end) end old
+      ∙ ap (λ (n : ℕ). drop n old) (sym more)
+
+  pub range_after : (a b : ℕ) → end ≤ a → slice_range new a b ≡ slice_range old a b
+  range_after a b past = ap (take (b - a)) (drop_after a past)
