@@ -1,5 +1,5 @@
 -- The header of a packet is one, bytes that are refused begin with none, and its values are one.
-use Rattle.std.proofs.Common.{◌≡◌, ℕ, Bool, List, Option, Some, None, refl, sym, ap, ◌∙◌, subst}
+use Rattle.std.proofs.Common.{◌≡◌, ℕ, Bool, List, Option, Some, None, sym, ap, ◌∙◌, subst}
 use Rattle.std.specs.Prelude.{slice_range}
 use Rattle.std.specs.Int.{w32, from_be_bytes}
 use Rattle.rtp_ext.specs.declared.ext.form.ExtensionsForm.{ExtensionsForm}
@@ -47,11 +47,11 @@ one_header exts bytes h g wire-h wire-g =
 pub no_header : (exts : ExtensionMap) (bytes : List ℕ) (h : RtpHeader) → NotAHeader bytes → IsWire exts bytes h → ⊥
 no_header exts bytes h none wire = no_packet-refused bytes wire.parts none wire.is_packet
 
--- the header that is made of a packet's parts and the values of its block
-pub IsHeaderOf-made : (exts : ExtensionMap) (parts : PacketParts) (values : ExtensionValues) (h : RtpHeader) → h ≡ header_of parts values
-    → HasValues exts parts.block values → IsHeaderOf exts parts h
-IsHeaderOf-made exts parts values h is has =
-    subst (IsHeaderOf exts parts) (sym is) (record { fields_are = refl; values_are = has })
+-- a header with the fields of a packet, given the values of its block
+pub IsHeaderOf-read : (exts : ExtensionMap) (parts : PacketParts) (old values : ExtensionValues) (h : RtpHeader) → h ≡ header_of parts old
+    → HasValues exts parts.block values → IsHeaderOf exts parts (record h { ext_vals = values })
+IsHeaderOf-read exts parts old values h is has =
+    record { fields_are = ap (λ (g : RtpHeader). record g { ext_vals = values }) is; values_are = has }
 
 -- a header by its fields
 unfoldable whole : ℕ → Bool → Bool → ℕ → Bool → ℕ → ℕ → ℕ → ℕ → List ℕ → ExtensionValues → ℕ → RtpHeader

@@ -10,7 +10,7 @@ use Rattle.rtp_values.specs.declared.value.values.ExtensionValues.{ExtensionValu
 use Rattle.rtp_ext.specs.declared.ext.form.ExtensionsForm.{ExtensionsForm}
 use Rattle.rtp_wire.specs.Header.{IsExtensionPart, header_of, IsWire}
 use Rattle.rtp_wire.specs.Packet.{PacketParts, IsFirstByte, IsFixedPart, IsAnnounced, IsPacket, header_len_of}
-use Rattle.rtp_wire.proofs.HeaderLemmas.{IsHeaderOf-made}
+use Rattle.rtp_wire.proofs.HeaderLemmas.{IsHeaderOf-read}
 use Rattle.rtp_wire.proofs.PartsLemmas.{length-announced}
 use Rattle.rtp_base.specs.Overwriting.{overwritten}
 use Rattle.rtp_wire.specs.Written.{fixed_bytes, source_bytes, extension_bytes, wire_bytes, carried_image, image_of}
@@ -132,10 +132,11 @@ image-parts h exts block rest fits part =
 pub IsWire-written : (h : RtpHeader) (exts : ExtensionMap) (rest : List ℕ) → IsInRange h
     → IsExtensionPart exts h.has_extension (extension_bytes exts h.has_extension h.ext_vals) (carried_image exts h.has_extension h.ext_vals)
     → IsWire exts (wire_bytes exts h ++ rest) (image_of exts h)
+unfolding image_of
 IsWire-written h exts rest fits part = record {
   parts = written_parts h part.block rest;
   is_packet = packet-written h exts part.block rest fits part.is_part;
-  is_header = IsHeaderOf-made exts (written_parts h part.block rest) (carried_image exts h.has_extension h.ext_vals) (image_of exts h) (image-parts h exts part.block rest fits part.is_part) part.has_values;
+  is_header = IsHeaderOf-read exts (written_parts h part.block rest) (carried_image exts h.has_extension h.ext_vals) (carried_image exts h.has_extension h.ext_vals) (image_of exts h) (image-parts h exts part.block rest fits part.is_part) part.has_values;
 }
 
 -- V, P, X and CC in the first byte

@@ -28,6 +28,7 @@ impl RtpHeader {
     /// The twenty bytes `90 21 B7 98 00 00 27 10 00 00 00 2C BE DE 00 01 30 2A 00 00`, under a map of
     /// 3 to the audio level, are a header of payload type 33, sequence number 47,000, timestamp
     /// 10,000 and SSRC 44, with an audio level of -42 without voice, and `header_len` is 20.
+    #[inline(always)]
     pub fn parse(
         alloc: Global,
         buf: &[u8],
@@ -49,12 +50,12 @@ impl RtpHeader {
         // The causes for which no header is returned, and there are no others.
         ensures refused { (result ≡ Ok None) ↔ NotAHeader buf.now }
     {
-        let Ok(packet) = RtpPacket::parse(buf) else {
-            return Ok(None);
-        };
-        let mut ext_vals = ExtensionValues::default();
-        packet.read_values(alloc, exts, &mut ext_vals)?;
-        Ok(Some(packet.header_with(ext_vals)))
+        let mut header = RtpHeader::default();
+        if header.parse_into(alloc, buf, exts)? {
+            Ok(Some(header))
+        } else {
+            Ok(None)
+        }
     }
 
     /// Reads the header that the bytes begin with into this one, as [`parse`](Self::parse) does.

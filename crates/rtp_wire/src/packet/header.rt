@@ -7,7 +7,7 @@ ghost use Rattle.rtp_wire.specs.RefusedMemory.{BlockHasAllocation};
 
 use super::RtpPacket;
 use crate::header::RtpHeader;
-use rtp_ext::{ExtensionMap, ExtensionValues};
+use rtp_ext::ExtensionMap;
 use std::alloc::{AllocError, Global};
 
 // Puts the number of each group into the slots from the first one on; those after them stay.
@@ -24,30 +24,6 @@ fn put_numbers(groups: &[[u8; 4]], slots: &mut [u32; 15])
 impl<'a> RtpPacket<'a> {
     ghost use Rattle.rtp_wire.specs.declared.header.rtp_header.RtpHeader.{RtpHeader};
     ghost use Rattle.rtp_wire.specs.PartsOf.{parts_of};
-
-    // The header with these values.
-    #[inline(always)]
-    pub(crate) fn header_with(&self, ext_vals: ExtensionValues) -> RtpHeader
-        ensures { result ≡ header_of (parts_of self.now) ext_vals }
-    {
-        let groups = self.groups();
-        let mut csrc = [0; 15];
-        put_numbers(groups, &mut csrc);
-        RtpHeader {
-            version: 2,
-            has_padding: self.has_padding(),
-            has_extension: self.has_extension(),
-            csrc_count: groups.len(),
-            marker: self.marker(),
-            payload_type: self.payload_type(),
-            sequence_number: self.sequence_number(),
-            timestamp: self.timestamp(),
-            ssrc: self.ssrc(),
-            csrc,
-            ext_vals,
-            header_len: self.header_len(),
-        }
-    }
 
     // Gives the header the fields of the packet. Its values stay.
     #[inline(always)]
@@ -80,8 +56,9 @@ impl<'a> RtpPacket<'a> {
         ensures memory { OnErr result (BlockHasAllocation exts.now (parts_of self.now).block) }
         ensures succeeds { (BlockHasAllocation exts.now (parts_of self.now).block → ⊥) → IsOk result }
     {
-        let mut ext_vals = ExtensionValues::default();
-        self.read_values(alloc, exts, &mut ext_vals)?;
-        Ok(self.header_with(ext_vals))
+        let mut header = RtpHeader::default();
+        self.put_fields(&mut header);
+        self.read_values(alloc, exts, &mut header.ext_vals)?;
+        Ok(header)
     }
 }

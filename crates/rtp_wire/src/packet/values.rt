@@ -14,6 +14,7 @@ impl<'a> RtpPacket<'a> {
     ghost use Rattle.rtp_wire.specs.PartsOf.{parts_of};
 
     // Reads the values of the block, where none are held before.
+    #[inline(always)]
     pub(crate) fn read_values(
         &self,
         alloc: Global,

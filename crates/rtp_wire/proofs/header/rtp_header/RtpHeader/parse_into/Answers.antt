@@ -2,7 +2,7 @@ use Rattle.std.proofs.Common.{arith, refl, ap, subst, IsErr}
 use Rattle.std.proofs.lemmas.Bool.{false≢true}
 use Rattle.rtp_wire.specs.declared.header.rtp_header.RtpHeader.{RtpHeader}
 use Rattle.rtp_wire.specs.PartsOf.{parts_of}
-use Rattle.rtp_wire.proofs.HeaderLemmas.{no_header, one_header, IsHeaderOf-made}
+use Rattle.rtp_wire.proofs.HeaderLemmas.{no_header, one_header, IsHeaderOf-read}
 use Rattle.rtp_wire.proofs.NotAPacketLemmas.{no_packet-refused}
 use Rattle.rtp_wire.proofs.PartsLemmas.{length-packet}
 use Rattle.rtp_wire.proofs.header.rtp_header.RtpHeader.parse_into.Goals as goal
@@ -25,7 +25,7 @@ returns-clause-only c header is =
       one_header exts c.args.buf.now _ header (record {
         parts = parts;
         is_packet = c.in-Ok.ensures.found;
-        is_header = IsHeaderOf-made exts parts values _ (ap (λ (h : RtpHeader). record h { ext_vals = values }) c.put_fields.ensures) c.in_ok-read_values.ensures.found;
+        is_header = IsHeaderOf-read exts parts _ c.read_values.new.values _ c.put_fields.ensures c.in_ok-read_values.ensures.found;
       }) is,
     )
 
