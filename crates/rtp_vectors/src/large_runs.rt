@@ -4,7 +4,7 @@ use crate::checks::{holds, same};
 use crate::runs::verdict;
 use rtp_base::{SeqNo, Ssrc};
 use rtp_report::{RunEnd, run};
-use rtp_wire::{ExtensionMap, Receivers, RtpHeader, Verdict, receive_run, receive_run_one};
+use rtp_wire::{Receivers, Verdict, receive_run, receive_run_one};
 use std::alloc::{AllocError, Global};
 use std::io::Write;
 use std::process::Abort;
@@ -24,13 +24,8 @@ fn have_taken(rt: &impl Abort, receivers: &Receivers) {
 
 // The number 7 of the source is taken.
 fn receives(rt: &impl Abort, receivers: &mut Receivers, source: u32) {
-    let header = RtpHeader {
-        ssrc: Ssrc::from(source),
-        sequence_number: 7,
-        ..RtpHeader::default()
-    };
-    let found = receivers.receive(&header).expect(rt, "memory");
-    same(rt, source, found, verdict(Some(7)));
+    let found = receivers.receive(Ssrc::from(source), 7);
+    same(rt, source, found.expect(rt, "memory"), verdict(Some(7)));
 }
 
 #[test]
@@ -74,10 +69,9 @@ fn are(rt: &impl Abort, verdicts: &[Verdict], first: Verdict, later: Verdict) {
 #[test]
 fn a_run_of_5_000_sources(rt: HostRuntime) {
     let run = of_each_source(rt.alloc()).expect(&rt, "memory");
-    let exts = ExtensionMap::empty();
-    let verdicts = receive_run(rt.alloc(), &run, &exts).expect(&rt, "memory");
+    let verdicts = receive_run(rt.alloc(), &run).expect(&rt, "memory");
     are(&rt, &verdicts, verdict(Some(7)), verdict(Some(7)));
-    let verdicts = receive_run_one(rt.alloc(), &run, &exts).expect(&rt, "memory");
+    let verdicts = receive_run_one(rt.alloc(), &run).expect(&rt, "memory");
     are(&rt, &verdicts, verdict(Some(7)), Verdict::Refused);
 }
 
@@ -104,10 +98,9 @@ fn are_taken(rt: &impl Abort, verdicts: &[Verdict]) {
 #[test]
 fn a_run_of_3_000_long_datagrams(rt: HostRuntime) {
     let run = long_datagrams(rt.alloc()).expect(&rt, "memory");
-    let exts = ExtensionMap::standard();
-    let verdicts = receive_run(rt.alloc(), &run, &exts).expect(&rt, "memory");
+    let verdicts = receive_run(rt.alloc(), &run).expect(&rt, "memory");
     are_taken(&rt, &verdicts);
-    let verdicts = receive_run_one(rt.alloc(), &run, &exts).expect(&rt, "memory");
+    let verdicts = receive_run_one(rt.alloc(), &run).expect(&rt, "memory");
     are_taken(&rt, &verdicts);
 }
 

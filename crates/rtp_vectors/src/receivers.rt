@@ -3,22 +3,14 @@
 use crate::checks::{holds, same};
 use crate::runs::{RUNS, verdict};
 use rtp_base::SeqNo;
-use rtp_wire::{Receiver, RtpHeader, Verdict};
+use rtp_wire::Receiver;
 use std::process::Abort;
-
-// A header of this number.
-fn header(sequence_number: u16) -> RtpHeader {
-    RtpHeader {
-        sequence_number,
-        ..RtpHeader::default()
-    }
-}
 
 // A receiver that took the packets of these numbers.
 fn after(numbers: &[u16]) -> Receiver {
     let mut receiver = Receiver::new();
     for number in numbers {
-        receiver.receive(&header(*number));
+        receiver.receive(*number);
     }
     receiver
 }
@@ -36,14 +28,9 @@ fn has_highest(rt: &impl Abort, receiver: &Receiver, wanted: u64) {
     assert!(rt; receiver.highest() == Some(SeqNo::from(wanted)), "{wanted}");
 }
 
-// The number of a header is estimated as this one.
+// The number of a packet of this sequence number is estimated as that one.
 fn estimates(rt: &impl Abort, receiver: &Receiver, number: u16, wanted: u64) {
-    same(
-        rt,
-        number,
-        receiver.number_of(&header(number)).get(),
-        wanted,
-    );
+    same(rt, number, receiver.number_of(number).get(), wanted);
 }
 
 // The packet of this number is taken as the other one, or refused; then the highest is this one.
@@ -54,12 +41,7 @@ fn receives(
     taken: Option<u64>,
     highest: u64,
 ) {
-    same(
-        rt,
-        number,
-        receiver.receive(&header(number)),
-        verdict(taken),
-    );
+    same(rt, number, receiver.receive(number), verdict(taken));
     has_highest(rt, receiver, highest);
 }
 
@@ -96,9 +78,8 @@ fn takes_both(
     number: u16,
     taken: Option<u64>,
 ) {
-    let header = header(number);
-    same(rt, number, at_once.receive(&header), verdict(taken));
-    let estimated = in_steps.number_of(&header);
+    same(rt, number, at_once.receive(number), verdict(taken));
+    let estimated = in_steps.number_of(number);
     same(rt, number, in_steps.accepts(estimated), taken.is_some());
     if let Some(taken) = taken {
         same(rt, number, estimated.get(), taken);
@@ -166,7 +147,7 @@ fn what_is_refused_changes_nothing(rt: HostRuntime) {
     }
     check(&rt, &receiver, &[(874, true), (999, true), (1001, true)]);
     // Neither does a test alone.
-    let estimated = receiver.number_of(&header(1200));
+    let estimated = receiver.number_of(1200);
     holds(&rt, "1200", receiver.accepts(estimated));
     has_highest(&rt, &receiver, 1000);
     receives(&rt, &mut receiver, 874, Some(874), 1000);

@@ -1,24 +1,11 @@
 //! Receivers that start at a rollover count.
 
-ghost use Rattle.std.specs.Prelude.{◌≡◌};
-
 use crate::checks::{holds, same};
 use crate::runs::verdict;
 use rtp_base::{SeqNo, Ssrc};
 use rtp_uses::receiving;
-use rtp_wire::{Receiver, Receivers, RtpHeader, Verdict};
+use rtp_wire::{Receiver, Receivers, Verdict};
 use std::process::Abort;
-
-// A header of this source and number.
-fn header(source: u32, sequence_number: u16) -> RtpHeader
-    ensures { result.sequence_number ≡ sequence_number }
-{
-    RtpHeader {
-        ssrc: Ssrc::from(source),
-        sequence_number,
-        ..RtpHeader::default()
-    }
-}
 
 // A rollover count, and as what the packets 5, 65,533 and 6 are taken after it: of the second, sent
 // before the first, none is the true number under the count 0.
@@ -38,12 +25,7 @@ const RUNS: [(u64, [Option<u64>; 3]); 3] = [
 // The packets 5, 65,533 and 6 are taken as these numbers, or refused.
 fn takes(rt: &impl Abort, receiver: &mut Receiver, taken: &[Option<u64>]) {
     for (number, taken) in [5, 65533, 6].iter().zip(taken) {
-        same(
-            rt,
-            *number,
-            receiver.receive(&header(0, *number)),
-            verdict(*taken),
-        );
+        same(rt, *number, receiver.receive(*number), verdict(*taken));
     }
 }
 
@@ -61,7 +43,7 @@ fn nothing_is_taken_yet(rt: HostRuntime) {
     let receiver = Receiver::starting_at(3);
     same(&rt, "the highest", receiver.highest(), None);
     for (number, wanted) in [(0, 196608), (40000, 236608), (65535, 262143)] {
-        let estimated = receiver.number_of(&header(0, number)).get();
+        let estimated = receiver.number_of(number).get();
         same(&rt, number, estimated, wanted);
     }
     for number in [0, 196608, 18446744073709551615] {
@@ -77,7 +59,7 @@ fn takes_of(
     number: u16,
     taken: Option<u64>,
 ) {
-    let found = receivers.receive(&header(source, number));
+    let found = receivers.receive(Ssrc::from(source), number);
     same(rt, number, found.expect(rt, "memory"), verdict(taken));
 }
 
@@ -108,7 +90,7 @@ fn a_source_begins_again(rt: HostRuntime) {
     let mut receivers = Receivers::starting_at(rt.alloc(), 2);
     takes_of(&rt, &mut receivers, 1, 65535, Some(196607));
     takes_of(&rt, &mut receivers, 1, 7, Some(196615));
-    let estimated = receivers.number_of(&header(2, 7)).get();
+    let estimated = receivers.number_of(Ssrc::from(2), 7).get();
     same(&rt, "of no receiver", estimated, 131079);
     let forgotten = receivers.forget(Ssrc::from(1)).expect(&rt, "a receiver");
     let highest = Some(SeqNo::from(196615));
@@ -121,12 +103,11 @@ fn a_source_begins_again(rt: HostRuntime) {
 
 #[test]
 fn the_proved_callers(rt: HostRuntime) {
-    let first = header(9, 1);
-    let found = receiving::receive_first_at(4, &first);
+    let found = receiving::receive_first_at(4, 1);
     same(&rt, "the first", found, verdict(Some(262145)));
-    let found = receiving::receive_one_before_the_first(&header(9, 0), &header(9, 65535));
+    let found = receiving::receive_one_before_the_first(0, 65535);
     same(&rt, "before 65,536", found, verdict(Some(65535)));
-    let found = receiving::receive_one_before_the_first(&first, &header(9, 0));
+    let found = receiving::receive_one_before_the_first(1, 0);
     same(&rt, "before 65,537", found, verdict(Some(65536)));
 }
 
@@ -138,7 +119,7 @@ fn limited(
     number: u16,
 ) -> Option<Verdict> {
     assert!(rt; receivers.len() <= 2);
-    let found = receiving::receive_limited(receivers, &header(source, number), 2);
+    let found = receiving::receive_limited(receivers, Ssrc::from(source), number, 2);
     found.expect(rt, "memory")
 }
 

@@ -165,9 +165,9 @@ fn are_due(rt: &impl Abort, verdicts: &[Verdict]) {
 #[test]
 fn a_run(rt: HostRuntime) {
     let datagrams = made(&rt, rt.alloc());
-    let verdicts = match receive_run(rt.alloc(), &datagrams, &map()) {
+    let verdicts = match receive_run(rt.alloc(), &datagrams) {
         Ok(verdicts) => verdicts,
-        Err(_) => receive_run(rt.alloc(), &datagrams, &map()).expect(&rt, "memory"),
+        Err(_) => receive_run(rt.alloc(), &datagrams).expect(&rt, "memory"),
     };
     are_due(&rt, &verdicts);
 }
@@ -175,9 +175,48 @@ fn a_run(rt: HostRuntime) {
 #[test]
 fn a_run_by_one_receiver(rt: HostRuntime) {
     let datagrams = made(&rt, rt.alloc());
-    let verdicts = match receive_run_one(rt.alloc(), &datagrams, &map()) {
+    let verdicts = match receive_run_one(rt.alloc(), &datagrams) {
         Ok(verdicts) => verdicts,
-        Err(_) => receive_run_one(rt.alloc(), &datagrams, &map()).expect(&rt, "memory"),
+        Err(_) => receive_run_one(rt.alloc(), &datagrams).expect(&rt, "memory"),
     };
     are_due(&rt, &verdicts);
+}
+
+// Two packets of one source, each with an allocation.
+fn packets(alloc: Global) -> Result<[Vec<u8>; 2], AllocError> {
+    Ok([
+        Vec::from_slice(alloc, &PACKET)?,
+        Vec::from_slice(alloc, &PACKET)?,
+    ])
+}
+
+// Beside the packets, memory is asked for the list of the verdicts and for the receiver of their
+// source, and for nothing else: `.ci/run` counts four growths.
+#[test]
+fn a_run_of_two_packets(rt: HostRuntime) {
+    let packets = match packets(rt.alloc()) {
+        Ok(packets) => packets,
+        Err(_) => packets(rt.alloc()).expect(&rt, "memory"),
+    };
+    let verdicts = match receive_run(rt.alloc(), &packets) {
+        Ok(verdicts) => verdicts,
+        Err(_) => receive_run(rt.alloc(), &packets).expect(&rt, "memory"),
+    };
+    let wanted = [verdict(Some(47_000)), Verdict::Refused];
+    same(&rt, "the run", verdicts.as_slice(), wanted.as_slice());
+}
+
+// The same by one receiver, for which no memory is asked: three growths.
+#[test]
+fn a_run_of_two_packets_by_one(rt: HostRuntime) {
+    let packets = match packets(rt.alloc()) {
+        Ok(packets) => packets,
+        Err(_) => packets(rt.alloc()).expect(&rt, "memory"),
+    };
+    let verdicts = match receive_run_one(rt.alloc(), &packets) {
+        Ok(verdicts) => verdicts,
+        Err(_) => receive_run_one(rt.alloc(), &packets).expect(&rt, "memory"),
+    };
+    let wanted = [verdict(Some(47_000)), Verdict::Refused];
+    same(&rt, "the run", verdicts.as_slice(), wanted.as_slice());
 }

@@ -4,10 +4,12 @@
 use crate::checks::{are_values, header_of, holds, named, parsed, same};
 use crate::fixtures::{full, level, one};
 use crate::refused_blocks::{PACKET, map};
+use crate::runs::verdict;
 use crate::values::{is_read_into, is_refused, is_written};
+use rtp_base::Ssrc;
 use rtp_wire::{
     Elements, Extension, ExtensionMap, ExtensionValues, ExtensionsForm, Receiver, Receivers,
-    RtpHeader, receive_run, receive_run_one, vla,
+    RtpHeader, RtpPacket, Verdict, receive_run, receive_run_one, vla,
 };
 use std::alloc::Global;
 use std::process::Abort;
@@ -135,9 +137,9 @@ fn allocations_of_one_byte_or_none(rt: HostRuntime) {
 
 // The datagrams have no verdicts, as those of several sources and as those of one.
 fn have_no_verdicts(rt: &impl Abort, alloc: Global, none: &[Vec<u8>]) {
-    let verdicts = receive_run(alloc, none, &map());
+    let verdicts = receive_run(alloc, none);
     assert!(rt; verdicts.expect(rt, "no memory is needed").is_empty());
-    let verdicts = receive_run_one(alloc, none, &map());
+    let verdicts = receive_run_one(alloc, none);
     assert!(rt; verdicts.expect(rt, "no memory is needed").is_empty());
 }
 
@@ -231,18 +233,29 @@ fn elements_and_receiving(rt: HostRuntime) {
     let first = Some((1, [0xAA].as_slice()));
     same(&rt, "the element", elements.next(), first);
     let mut receiver = Receiver::new();
-    receiver.receive(&with(level(-42, true)));
+    receiver.receive(7);
     holds(&rt, "the highest", receiver.highest().is_some());
+}
+
+// A packet with a layer allocation is judged by its number: what it carries takes no memory.
+#[test]
+fn a_packet_with_an_allocation(rt: HostRuntime) {
+    let packet = RtpPacket::parse(&PACKET).expect(&rt, "a packet");
+    let mut receiver = Receiver::new();
+    let taken = receiver.receive(packet.sequence_number());
+    same(&rt, "the first", taken, verdict(Some(47_000)));
+    let again = receiver.receive(packet.sequence_number());
+    same(&rt, "again", again, Verdict::Refused);
 }
 
 // What is asked of a source takes no memory, nor does a source that has no receiver.
 #[test]
 fn no_source(rt: HostRuntime) {
     let mut receivers = Receivers::new(rt.alloc());
-    let header = RtpHeader::default();
-    let number = receivers.number_of(&header);
-    assert!(rt; receivers.accepts(header.ssrc, number));
-    assert!(rt; receivers.get(header.ssrc).is_none());
-    assert!(rt; receivers.forget(header.ssrc).is_none());
+    let ssrc = Ssrc::from(44);
+    let number = receivers.number_of(ssrc, 7);
+    assert!(rt; receivers.accepts(ssrc, number));
+    assert!(rt; receivers.get(ssrc).is_none());
+    assert!(rt; receivers.forget(ssrc).is_none());
     assert!(rt; receivers.is_empty());
 }

@@ -2,9 +2,11 @@
 //! call with memory does all of it. `.ci/run` refuses each growth in turn.
 
 use crate::checks::{holds, same};
+use crate::refused_blocks::PACKET;
 use crate::runs::verdict;
 use rtp_base::{SeqNo, Ssrc};
-use rtp_wire::{ExtensionMap, Receivers, RtpHeader, Verdict, receive_run, receive_run_one};
+use rtp_uses::receiving;
+use rtp_wire::{Receivers, Verdict, receive_run, receive_run_one};
 use std::alloc::{AllocError, Global};
 use std::process::Abort;
 
@@ -23,16 +25,12 @@ fn stays(rt: &impl Abort, receivers: &Receivers, source: u32) {
 
 // The number 7 of the source is taken, whether the first time is refused or not.
 fn receives(rt: &impl Abort, receivers: &mut Receivers, source: u32) {
-    let header = RtpHeader {
-        ssrc: Ssrc::from(source),
-        sequence_number: 7,
-        ..RtpHeader::default()
-    };
-    let found = match receivers.receive(&header) {
+    let ssrc = Ssrc::from(source);
+    let found = match receivers.receive(ssrc, 7) {
         Ok(found) => found,
         Err(_) => {
             stays(rt, receivers, source);
-            receivers.receive(&header).expect(rt, "memory")
+            receivers.receive(ssrc, 7).expect(rt, "memory")
         }
     };
     same(rt, source, found, verdict(Some(7)));
@@ -65,6 +63,22 @@ fn recorded(rt: HostRuntime) {
     stays(&rt, &receivers, SOURCES);
 }
 
+// A packet of a source that has a receiver asks for no memory, though a layer allocation is in it.
+#[test]
+fn a_known_source(rt: HostRuntime) {
+    let mut receivers = Receivers::new(rt.alloc());
+    let (source, before) = (Ssrc::from(44), SeqNo::from(46_999));
+    if receivers.record(source, before).is_err() {
+        receivers.record(source, before).expect(&rt, "memory");
+    }
+    let found = receiving::receive_datagram(&mut receivers, &PACKET);
+    let found = found.expect(&rt, "no memory is needed");
+    same(&rt, "the packet", found, verdict(Some(47_000)));
+    let found = receiving::receive_datagram(&mut receivers, &PACKET[..27]);
+    let found = found.expect(&rt, "no memory is needed");
+    same(&rt, "cut short", found, Verdict::Unreadable);
+}
+
 // A plain header of the number 7 for each source.
 fn datagrams(alloc: Global) -> Result<Vec<Vec<u8>>, AllocError> {
     let mut datagrams = Vec::new(alloc);
@@ -93,10 +107,9 @@ fn are(rt: &impl Abort, verdicts: &[Verdict], first: Verdict, later: Verdict) {
 #[test]
 fn a_run(rt: HostRuntime) {
     let run = run_of_sources(&rt, rt.alloc());
-    let exts = ExtensionMap::empty();
-    let verdicts = match receive_run(rt.alloc(), &run, &exts) {
+    let verdicts = match receive_run(rt.alloc(), &run) {
         Ok(verdicts) => verdicts,
-        Err(_) => receive_run(rt.alloc(), &run, &exts).expect(&rt, "memory"),
+        Err(_) => receive_run(rt.alloc(), &run).expect(&rt, "memory"),
     };
     are(&rt, &verdicts, verdict(Some(7)), verdict(Some(7)));
 }
@@ -104,10 +117,9 @@ fn a_run(rt: HostRuntime) {
 #[test]
 fn a_run_of_one(rt: HostRuntime) {
     let run = run_of_sources(&rt, rt.alloc());
-    let exts = ExtensionMap::empty();
-    let verdicts = match receive_run_one(rt.alloc(), &run, &exts) {
+    let verdicts = match receive_run_one(rt.alloc(), &run) {
         Ok(verdicts) => verdicts,
-        Err(_) => receive_run_one(rt.alloc(), &run, &exts).expect(&rt, "memory"),
+        Err(_) => receive_run_one(rt.alloc(), &run).expect(&rt, "memory"),
     };
     are(&rt, &verdicts, verdict(Some(7)), Verdict::Refused);
 }

@@ -2,7 +2,7 @@
 
 use crate::checks::same;
 use rtp_base::SeqNo;
-use rtp_wire::{ExtensionMap, Verdict, receive_run, receive_run_one};
+use rtp_wire::{Verdict, receive_run, receive_run_one};
 use std::alloc::{AllocError, Global};
 use std::process::Abort;
 
@@ -73,14 +73,13 @@ fn datagrams(alloc: Global, numbers: &[Option<u16>]) -> Result<Vec<Vec<u8>>, All
     Ok(datagrams)
 }
 
-// Runs plain headers of one source, and a datagram without one where there is no number: with a
+// Runs plain packets of one source, and a datagram that is none where there is no number: with a
 // receiver for each source, and with one for all.
 fn check(rt: &impl Abort, alloc: Global, numbers: &[Option<u16>], wanted: &[Verdict]) {
     let datagrams = datagrams(alloc, numbers).expect(rt, "memory");
-    let exts = ExtensionMap::empty();
-    let verdicts = receive_run(alloc, &datagrams, &exts).expect(rt, "memory");
+    let verdicts = receive_run(alloc, &datagrams).expect(rt, "memory");
     same(rt, numbers.len(), verdicts.as_slice(), wanted);
-    let verdicts = receive_run_one(alloc, &datagrams, &exts).expect(rt, "memory");
+    let verdicts = receive_run_one(alloc, &datagrams).expect(rt, "memory");
     same(rt, numbers.len(), verdicts.as_slice(), wanted);
 }
 
@@ -116,7 +115,7 @@ fn runs_of_one_stream(rt: HostRuntime) {
     }
 }
 
-// A datagram without a header changes nothing.
+// A datagram that is no packet changes nothing.
 #[test]
 fn unreadable_datagrams(rt: HostRuntime) {
     check(&rt, rt.alloc(), &[None], &[Verdict::Unreadable]);

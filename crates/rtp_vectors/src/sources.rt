@@ -3,7 +3,7 @@
 use crate::checks::{holds, same};
 use crate::runs::verdict;
 use rtp_base::{SeqNo, Ssrc};
-use rtp_wire::{ExtensionMap, Receivers, RtpHeader, Verdict, receive_run, receive_run_one};
+use rtp_wire::{Receivers, RtpPacket, Verdict, receive_run, receive_run_one};
 use std::alloc::{AllocError, Global};
 use std::process::Abort;
 
@@ -18,10 +18,9 @@ fn datagram(alloc: Global, source: u32, number: u16) -> Result<Vec<u8>, AllocErr
 
 // Runs the datagrams with a receiver for each source, and with one for all.
 fn check(rt: &impl Abort, alloc: Global, run: &[Vec<u8>], by_source: &[Verdict], one: &[Verdict]) {
-    let exts = ExtensionMap::empty();
-    let found = receive_run(alloc, run, &exts).expect(rt, "memory");
+    let found = receive_run(alloc, run).expect(rt, "memory");
     same(rt, "by source", found.as_slice(), by_source);
-    let found = receive_run_one(alloc, run, &exts).expect(rt, "memory");
+    let found = receive_run_one(alloc, run).expect(rt, "memory");
     same(rt, "one for all", found.as_slice(), one);
 }
 
@@ -49,7 +48,7 @@ fn two_sources(rt: HostRuntime) {
     check(&rt, rt.alloc(), &run, &by_source, &one);
 }
 
-// The number 5 of source 1, of source 2, a datagram without a header, and that of source 1 again.
+// The number 5 of source 1, of source 2, a datagram that is no packet, and that of source 1 again.
 fn with_an_unreadable(alloc: Global) -> Result<Vec<Vec<u8>>, AllocError> {
     let first = datagram(alloc, 1, 5)?;
     let second = datagram(alloc, 2, 5)?;
@@ -86,25 +85,15 @@ fn three_hundred_sources(rt: HostRuntime) {
         let taken = if index < 300 { Some(7) } else { None };
         wanted.push(verdict(taken)).expect(&rt, "memory");
     }
-    let found = receive_run(rt.alloc(), &run, &ExtensionMap::empty());
-    let found = found.expect(&rt, "memory");
+    let found = receive_run(rt.alloc(), &run).expect(&rt, "memory");
     same(&rt, "300 sources", found.as_slice(), wanted.as_slice());
-}
-
-// A header of this source and number.
-fn header(source: u32, sequence_number: u16) -> RtpHeader {
-    RtpHeader {
-        ssrc: Ssrc::from(source),
-        sequence_number,
-        ..RtpHeader::default()
-    }
 }
 
 // Receivers that took 65,534 of source 1 and 10 of source 2.
 fn of_two_sources(rt: &impl Abort, alloc: Global) -> Receivers {
     let mut receivers = Receivers::new(alloc);
     for (source, number) in [(1, 65534), (2, 10)] {
-        let verdict = receivers.receive(&header(source, number));
+        let verdict = receivers.receive(Ssrc::from(source), number);
         let taken = Verdict::Taken(SeqNo::from(u64::from(number)));
         same(rt, source, verdict.expect(rt, "memory"), taken);
     }
@@ -117,6 +106,40 @@ fn highest(receivers: &Receivers, source: u32) -> Option<SeqNo> {
         None => None,
         Some(receiver) => receiver.highest(),
     }
+}
+
+// The verdict on the packet that these bytes are, by its own fields.
+fn received(rt: &impl Abort, receivers: &mut Receivers, bytes: &[u8]) -> Verdict {
+    let packet = RtpPacket::parse(bytes).expect(rt, "a packet");
+    let found = receivers.receive(packet.ssrc(), packet.sequence_number());
+    found.expect(rt, "memory")
+}
+
+// The numbers 0 and 65,533 of source 1, and 138 and 11 of source 2, of which the last is 127 below
+// the one before it; with and without a block, and with a CSRC 1.
+#[test]
+fn packets_by_their_fields(rt: HostRuntime) {
+    let mut receivers = of_two_sources(&rt, rt.alloc());
+    let rows: [(&[u8], Option<u64>); 5] = [
+        (&[0x80, 1, 0, 0, 9, 9, 9, 9, 0, 0, 0, 1], Some(65536)),
+        (
+            &[
+                0x90, 1, 255, 253, 0, 1, 0, 2, 0, 0, 0, 1, 0x10, 0, 0, 1, 1, 0, 0, 0, 7,
+            ],
+            Some(65533),
+        ),
+        (
+            &[0x81, 1, 0, 138, 0, 0, 0, 0, 0, 0, 0, 2, 0, 0, 0, 1],
+            Some(138),
+        ),
+        (&[0x80, 129, 0, 11, 0, 0, 0, 0, 0, 0, 0, 2, 7], Some(11)),
+        (&[0x80, 1, 0, 0, 9, 9, 9, 9, 0, 0, 0, 1], None),
+    ];
+    for (index, (bytes, taken)) in rows.iter().enumerate() {
+        let found = received(&rt, &mut receivers, bytes);
+        same(&rt, index, found, verdict(*taken));
+    }
+    hold(&rt, &receivers, 2, [Some(65536), Some(138), None]);
 }
 
 // These many sources have a receiver, and these are the highest numbers taken of 1, 2 and 3.
@@ -135,7 +158,7 @@ fn each_source_has_its_receiver(rt: HostRuntime) {
     let receivers = of_two_sources(&rt, rt.alloc());
     hold(&rt, &receivers, 2, [Some(65534), Some(10), None]);
     for (source, number) in [(1, 65536), (2, 0), (3, 0)] {
-        let estimated = receivers.number_of(&header(source, 0)).get();
+        let estimated = receivers.number_of(Ssrc::from(source), 0).get();
         same(&rt, source, estimated, number);
     }
     for (source, accepted) in [(1, false), (2, true), (3, true)] {
@@ -168,7 +191,7 @@ fn a_source_is_forgotten(rt: HostRuntime) {
     hold(&rt, &receivers, 1, [None, Some(10), None]);
     holds(&rt, "again", receivers.forget(source).is_none());
     hold(&rt, &receivers, 1, [None, Some(10), None]);
-    let verdict = receivers.receive(&header(1, 65534)).expect(&rt, "memory");
+    let verdict = receivers.receive(source, 65534).expect(&rt, "memory");
     let taken = Verdict::Taken(SeqNo::from(65534));
     same(&rt, "a new receiver", verdict, taken);
     hold(&rt, &receivers, 2, [Some(65534), Some(10), None]);

@@ -4,7 +4,7 @@ ghost use Rattle.std.specs.Prelude.{◌≤◌};
 
 use rtp_base::{SeqNo, Ssrc};
 use rtp_uses::{forwarding, negotiating, padding, receiving, retransmission};
-use rtp_wire::{Extension, ExtensionMap, RtpHeader, Verdict};
+use rtp_wire::{Extension, ExtensionMap, RtpHeader, RtpPacket, Verdict};
 use std::test::Fail;
 
 // The header of a packet with this number, without a block.
@@ -42,14 +42,11 @@ fn runs_of_headers(rt: HostRuntime) -> Result<(), Fail> {
 
 #[test]
 fn first_packets_of_two_sources(rt: HostRuntime) -> Result<(), Fail> {
-    let one = RtpHeader {
-        ssrc: Ssrc::from(5),
-        ..header_of(65_534)
-    };
-    let other = RtpHeader {
-        ssrc: Ssrc::from(7),
-        ..header_of(10)
-    };
+    let one = [0x80, 1, 255, 254, 0, 0, 0, 0, 0, 0, 0, 5];
+    let other = [0x80, 1, 0, 10, 0, 0, 0, 0, 0, 0, 0, 7];
+    let one = RtpPacket::parse(&one)?;
+    let other = RtpPacket::parse(&other)?;
+    assert!(rt; one.ssrc() != other.ssrc());
     let (first, second) = receiving::receive_first_of_two(rt.alloc(), &one, &other)?;
     assert_eq!(rt; first, Verdict::Taken(SeqNo::from(65_534)));
     assert_eq!(rt; second, Verdict::Taken(SeqNo::from(10)));

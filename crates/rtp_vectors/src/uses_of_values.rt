@@ -130,20 +130,17 @@ fn equal_headers_and_values(rt: HostRuntime) -> Result<(), Fail> {
 #[test]
 fn authentic_packets(rt: HostRuntime) -> Result<(), Fail> {
     let mut receiver = Receiver::new();
-    let (mut first, mut second) = (RtpHeader::default(), RtpHeader::default());
-    first.sequence_number = 65_535;
-    second.sequence_number = 1;
-    let taken = receiving::receive_authentic(&mut receiver, &first, |_| true);
+    let taken = receiving::receive_authentic(&mut receiver, 65_535, |_| true);
     assert_eq!(rt; taken, Some(SeqNo::from(65_535)));
     // A forged packet changes nothing, and the number may still be taken.
     assert_eq!(rt;
-        receiving::receive_authentic(&mut receiver, &second, |_| false),
+        receiving::receive_authentic(&mut receiver, 1, |_| false),
         None
     );
-    let taken = receiving::receive_authentic(&mut receiver, &second, |n| n.get() == 65_537);
+    let taken = receiving::receive_authentic(&mut receiver, 1, |n| n.get() == 65_537);
     assert_eq!(rt; taken, Some(SeqNo::from(65_537)));
     assert_eq!(rt;
-        receiving::receive_authentic(&mut receiver, &first, |_| true),
+        receiving::receive_authentic(&mut receiver, 65_535, |_| true),
         None
     );
     Ok(())
