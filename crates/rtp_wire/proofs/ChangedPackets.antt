@@ -99,6 +99,15 @@ module _ (packet : RtpPacketMut) (form : ExtensionsForm) (start : ℕ) (is : pac
     pub HasHeader-body : HasHeader new packet.header_len packet.form
     HasHeader-body = HasHeader-stays packet.datagram.now new packet.header_len packet.form (stays-in_body packet.datagram.now new between) (HasHeader-packet_mut packet)
 
+    block_of_new : option_map {U = ExtensionsForm × List ℕ} (λ f. (f, slice_range new (sources_end packet.datagram.now + 4) (header_end packet.datagram.now))) (form_in packet.datagram.now) ≡ Some (form, body)
+    block_of_new =
+        block-is new
+        ∙ ap (λ (b : List ℕ). Some (form, b)) (between-put_mid start (packet.header_len - start) packet.datagram.now body packet.header_len (let within = packet.within in let long = body_in in omega arith) length-body)
+
+    parts_of_new : parts_at new ≡ record (parts_in packet) { block = Some (form, body) }
+    parts_of_new =
+        parts-in_body packet.datagram.now new between ∙ ap (λ (block : Option (ExtensionsForm × List ℕ)). record (parts_in packet) { block = block }) block_of_new
+
     pub ChangesBlock-body : (Change : ExtensionsForm → List ℕ → List ℕ → Type 0) → Change form (slice_range packet.datagram.now start packet.header_len) body
         → ChangesBlock Change (parts_in packet) (parts_at new)
     ChangesBlock-body Change changes = record {
@@ -107,7 +116,9 @@ module _ (packet : RtpPacketMut) (form : ExtensionsForm) (start : ℕ) (is : pac
       body = body;
       block_was = block_in;
       changes = changes;
-      parts_are = parts-in_body packet.datagram.now new between
-          ∙ ap (λ (block : Option (ExtensionsForm × List ℕ)). record (parts_in packet) { block = block })
-          (block-is new ∙ ap (λ (b : List ℕ). Some (form, b)) (between-put_mid start (packet.header_len - start) packet.datagram.now body packet.header_len (let within = packet.within in let long = body_in in omega arith) length-body));
+      parts_are = parts_of_new;
     }
+
+    pub AreElements-out : (elements : List Element) → AreElements form body elements → AreElementsOf (parts_at new).block elements
+    AreElements-out elements are =
+        subst (λ (block : Option (ExtensionsForm × List ℕ)). AreElementsOf block elements) (sym (ap (λ (parts : PacketParts). parts.block) parts_of_new)) are

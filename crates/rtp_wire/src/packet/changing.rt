@@ -2,24 +2,27 @@
 
 ghost use Rattle.std.specs.Prelude.{◌≡◌, ◌↔◌, List, length, IsTrue};
 ghost use Rattle.std.specs.Bool.{OnTrue, OnFalse};
+ghost use Rattle.std.specs.List.{filter_map};
 ghost use Rattle.rtp_ext.specs.Elements.{Element};
-ghost use Rattle.rtp_ext.specs.ElementsInPlace.{HasLastOf, SetsLast};
+ghost use Rattle.rtp_ext.specs.ElementsInPlace.{HasNone, HasLastOf, SetsLast, HasOtherIds, renumbered, all_but};
 ghost use Rattle.rtp_wire.specs.ChangedPacket.{ChangesBlock};
 ghost use Rattle.rtp_wire.specs.PacketElements.{AreElementsOf};
 
 use super::RtpPacketMut;
 use super::parsing::sources_end;
-use rtp_ext::set_element;
+use rtp_ext::{remove_element, set_element};
 
 impl<'a> RtpPacketMut<'a> {
     ghost use Rattle.rtp_wire.specs.PartsOf.{parts_in, buffer_of};
 
     /// Gives the last element of this id these data, where it has as many bytes of them, and returns
     /// whether it has (RFC 8285, 4.2 and 4.3). Else nothing changes.
+    ///
+    /// In a packet whose block has the body `10 AA 21 BB CC 10 DD 00` (hexadecimal) of the one-byte
+    /// form, the data `EE` of id 1 take the place of `DD`.
     pub fn set_element(&mut self, id: u8, data: &[u8]) -> bool
-        ensures set { OnTrue result (ChangesBlock
-            (λ form was body. SetsLast form id «data».now was body)
-            (parts_in self.old) (parts_in self.new)) }
+        ensures set { OnTrue result
+            (ChangesBlock (λ form. SetsLast form id «data».now) (parts_in self.old) (parts_in self.new)) }
         ensures unchanged { OnFalse result ((buffer_of self.new).now ≡ (buffer_of self.old).now) }
         ensures answer { (elements : List Element) → AreElementsOf (parts_in self.old).block elements →
             IsTrue result ↔ HasLastOf elements id (length «data».now) }
@@ -30,5 +33,27 @@ impl<'a> RtpPacketMut<'a> {
         };
         let start = sources_end(self.datagram[0]) + 4;
         set_element(form, &mut self.datagram[start..self.header_len], id, data)
+    }
+
+    /// Makes each element of this id zeros, which are padding, and returns whether there is one (RFC
+    /// 8285, 4.2 and 4.3). All other bytes stay.
+    ///
+    /// In a packet whose block has the body `10 AA 21 BB CC 10 DD 00` (hexadecimal) of the one-byte
+    /// form, the removal of id 1 leaves the body `00 00 21 BB CC 00 00 00`.
+    pub fn remove_element(&mut self, id: u8) -> bool
+        ensures removed { OnTrue result
+            (ChangesBlock (λ form. HasOtherIds form (all_but id)) (parts_in self.old) (parts_in self.new)) }
+        ensures unchanged { OnFalse result ((buffer_of self.new).now ≡ (buffer_of self.old).now) }
+        ensures answer { (elements : List Element) → AreElementsOf (parts_in self.old).block elements →
+            IsTrue result ↔ (HasNone elements id → ⊥) }
+        ensures elements { (elements : List Element) → AreElementsOf (parts_in self.old).block elements →
+            AreElementsOf (parts_in self.new).block (filter_map (renumbered (all_but id)) elements) }
+        ensures same_buffer { (buffer_of self.new).ghost_name ≡ (buffer_of self.old).ghost_name }
+    {
+        let Some(form) = self.form else {
+            return false;
+        };
+        let start = sources_end(self.datagram[0]) + 4;
+        remove_element(form, &mut self.datagram[start..self.header_len], id)
     }
 }

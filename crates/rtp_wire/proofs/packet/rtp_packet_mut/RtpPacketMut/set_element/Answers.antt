@@ -30,7 +30,7 @@ invariant_of-self c =
 pub returns-clause-set : goal.returns-clause-set
 returns-clause-set c = OnTrue_from _ _ (λ set.
     ChangesBlock-body c.args.self.now c.in-Some.form (c.sources_end-start.result + 4) c.in-Some.is (omega (arith, c.sources_end-start.ensures))
-    c.set_element.new.body c.set_element.auto.body (λ form was body. SetsLast form c.args.id c.args.data.now was body) (OnTrue_at set c.set_element.ensures.set))
+    c.set_element.new.body c.set_element.auto.body (λ form. SetsLast form c.args.id c.args.data.now) (OnTrue_at set c.set_element.ensures.set))
 
 pub returns-clause-answer : goal.returns-clause-answer
 returns-clause-answer c elements are =
