@@ -1,6 +1,6 @@
 //! Headers, and the values of their extensions.
 
-ghost use Rattle.std.specs.Prelude.{◌≡◌, ◌↔◌, ◌≤◌, length, drop, Ok, Some, None, IsOk, IfOk, IfSome};
+ghost use Rattle.std.specs.Prelude.{◌≡◌, ◌↔◌, ◌≤◌, length, drop, Ok, Some, None, IsOk, IfOk, IfSome, IfNone};
 ghost use Rattle.rtp_wire.specs.Header.{IsWire};
 ghost use Rattle.rtp_values.specs.Values.{TakesNoMemory, orientation_of};
 ghost use Rattle.rtp_wire.specs.RefusedMemory.{HeaderHasAllocation};
@@ -33,6 +33,28 @@ pub fn payload<'a>(
         return Ok(None);
     };
     Ok(Some(&packet[header.header_len..]))
+}
+
+/// The payload of a packet, found with a header that is used again: it is then that of the packet,
+/// and stays where the packet has none.
+pub fn payload_with<'a>(
+    alloc: Global,
+    packet: &'a [u8],
+    exts: &ExtensionMap,
+    header: &mut RtpHeader,
+) -> Result<Option<&'a [u8]>, AllocError>
+    ensures succeeds { (HeaderHasAllocation exts.now packet.now → ⊥) → IsOk result }
+    ensures found { IfOk result (λ answer. IfSome answer (λ payload.
+        IsWire exts.now packet.now header.new
+        × (payload.now ≡ drop header.new.header_len packet.now))) }
+    ensures refused { (result ≡ Ok None) ↔ NotAHeader packet.now }
+    ensures same { IfOk result (λ answer. IfNone answer (header.new ≡ header.old)) }
+{
+    if !header.parse_into(alloc, packet, exts)? {
+        return Ok(None);
+    }
+    let payload = &packet[header.header_len..];
+    Ok(Some(payload))
 }
 
 /// A header that is written and read back is its image.

@@ -29,6 +29,8 @@ mod fixtures;
 #[cfg(test)]
 mod headers_read;
 #[cfg(test)]
+mod headers_read_again;
+#[cfg(test)]
 mod headers_tried;
 #[cfg(test)]
 mod headers_with_values;

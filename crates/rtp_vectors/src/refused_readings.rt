@@ -3,7 +3,7 @@
 
 use crate::checks::{holds, same};
 use crate::refused_samples::{ALLOCATION, PACKET, is_whole, map};
-use rtp_base::SeqNo;
+use rtp_base::{Mid, SeqNo};
 use rtp_wire::vla::{self, VideoLayersAllocation};
 use rtp_wire::{
     Extension, ExtensionValues, ExtensionsForm, RtpHeader, Verdict, receive_run, receive_run_one,
@@ -114,6 +114,43 @@ fn a_header(rt: HostRuntime) {
     let header = read.expect(&rt, "a header");
     same(&rt, "the length", header.header_len, 36);
     same(&rt, "the level", header.ext_vals.audio_level, Some(-43));
+    holds(&rt, "the allocation", has_whole(&header.ext_vals));
+}
+
+// The header with the packet, whether the first time is refused or not.
+fn with_packet(rt: &impl Abort, alloc: Global, mut header: RtpHeader) -> RtpHeader {
+    if header.parse_into(alloc, &PACKET, &map()).is_err() {
+        // The fields are those of the packet, and the element in front of the allocation is read;
+        // nothing that the header had before stays.
+        same(rt, "the new number", header.sequence_number, 47_000);
+        same(rt, "the new length", header.header_len, 36);
+        let in_front = ExtensionValues {
+            audio_level: Some(-43),
+            voice_activity: Some(true),
+            ..ExtensionValues::default()
+        };
+        holds(rt, "the values in front", header.ext_vals == in_front);
+        let again = header.parse_into(alloc, &PACKET, &map());
+        holds(rt, "the second time", again.expect(rt, "memory"));
+    }
+    header
+}
+
+#[test]
+fn a_header_read_again(rt: HostRuntime) {
+    let header = RtpHeader {
+        ext_vals: ExtensionValues {
+            mid: Some(Mid::from("old")),
+            ..old(rt.alloc())
+        },
+        ..RtpHeader::default()
+    };
+    let header = with_packet(&rt, rt.alloc(), header);
+    same(&rt, "the number", header.sequence_number, 47_000);
+    same(&rt, "the length", header.header_len, 36);
+    same(&rt, "the level", header.ext_vals.audio_level, Some(-43));
+    same(&rt, "the type", header.ext_vals.video_content_type, Some(1));
+    holds(&rt, "no old mid", header.ext_vals.mid.is_none());
     holds(&rt, "the allocation", has_whole(&header.ext_vals));
 }
 

@@ -1,14 +1,14 @@
 -- The parts of an allocation, read one after another.
-use Rattle.std.proofs.Common.{◌≡◌, ℕ, zero, suc, ◌+◌, ◌-◌, ◌*◌, ◌/◌, ◌%◌, ◌^◌, ◌<◌, ◌≤◌, ◌&&◌, ◌↔◌, ◌⊎◌, inl, inr, ⊎_elim, List, [], ◌∷◌, ◌++◌, length, take, drop, get_or, Bool, true, false, leb, eqb, refl, sym, ap, ◌∙◌, subst, arith, bit_and, add-one}
+use Rattle.std.proofs.Common.{◌≡◌, ℕ, zero, suc, ◌+◌, ◌-◌, ◌*◌, ◌/◌, ◌%◌, ◌^◌, ◌<◌, ◌≤◌, ◌&&◌, ◌↔◌, ◌⊎◌, inl, inr, ⊎_elim, List, [], ◌∷◌, ◌++◌, length, take, drop, get_or, Bool, true, false, leb, eqb, refl, sym, ap, ◌∙◌, subst, arith, bit_and}
 use Rattle.std.specs.Bool.{OnTrue}
 use Rattle.std.proofs.Math.Nat.{pow-suc}
 use Rattle.std.proofs.lemmas.Bool.{agree_below_at, and_parts, eqb-true, leb-true, ne_eqb}
-use Rattle.std.proofs.lemmas.List.{take_more, drop_more, append_assoc, append-nil, length-drop, length-take-le, get_or-take}
+use Rattle.std.proofs.lemmas.List.{append_assoc, append-nil}
 use Rattle.std.proofs.lemmas.Nat.{and_mask}
 use Rattle.std.specs.Int.{w8, leading_zeros}
 use Rattle.std.specs.Int.Count.{ones, count_leading_zeros}
 use Rattle.rtp_vla.specs.LebReading.{leb_value, leb_rest}
-use Rattle.rtp_vla.specs.AllocationReading.{halves, quarters, mask_bits, marks_of, marked, active_in, idle_layer, dealt, Deals, DealsOn, rates_of, after_rates, resolution_in, after_resolution, FitResolutions, layers_read, rate_count}
+use Rattle.rtp_vla.specs.AllocationReading.{halves, quarters, mask_bits, marks_of, marked, active_in, idle_layer, dealt, Deals, DealsOn, rates_of, after_rates, after_resolution, FitResolutions, layers_read}
 use Rattle.rtp_vla.specs.Allocation.{Layer}
 
 -- ---- Masks and counts
@@ -21,22 +21,6 @@ pub ones-active_in : (mask : ℕ) → mask ≤ 15 → (ones mask ≡ active_in m
 ones-active_in mask few =
     let parts = and_parts (eqb (ones mask) (active_in mask)) (leb (ones mask) 4) (agrees mask few) in
     (eqb-true _ _ parts.0, leb-true _ _ parts.1)
-
-get_or-quarters : (bytes : List ℕ) (i : ℕ) → i < 4 * length bytes → get_or (quarters bytes) i 0 ≡ get_or bytes (i / 4) 0 / 2 ^ (6 - 2 * (i % 4)) % 4
-get_or-quarters [] i within = absurd (omega arith)
-get_or-quarters (byte ∷ bytes) zero within = refl
-get_or-quarters (byte ∷ bytes) (suc zero) within = refl
-get_or-quarters (byte ∷ bytes) (suc (suc zero)) within = refl
-get_or-quarters (byte ∷ bytes) (suc (suc (suc zero))) within = ap (λ (n : ℕ). n % 4) (omega arith)
-get_or-quarters (byte ∷ bytes) (suc (suc (suc (suc i)))) within =
-    let row : suc (suc (suc (suc i))) / 4 ≡ suc (i / 4) = omega arith in
-    let column : suc (suc (suc (suc i))) % 4 ≡ i % 4 = omega arith in
-    get_or-quarters bytes i (omega arith)
-    ∙ ap (λ (k : ℕ). get_or (byte ∷ bytes) k 0 / 2 ^ (6 - 2 * (i % 4)) % 4) (sym row)
-    ∙ ap (λ (k : ℕ). get_or (byte ∷ bytes) (suc (suc (suc (suc i))) / 4) 0 / 2 ^ (6 - 2 * k) % 4) (sym column)
-
-pub count_read : (bytes : List ℕ) (i : ℕ) → i < 4 * length bytes → bit_and (get_or bytes (i / 4) 0 / 2 ^ (6 - 2 * (i % 4))) 3 ≡ get_or (quarters bytes) i 0
-count_read bytes i within = and_mask (get_or bytes (i / 4) 0 / 2 ^ (6 - 2 * (i % 4))) 2 ∙ sym (get_or-quarters bytes i within)
 
 get_or-halves : (bytes : List ℕ) (i : ℕ) → i < 2 * length bytes → get_or (halves bytes) i 0 ≡ get_or bytes (i / 2) 0 / 2 ^ (4 - 4 * (i % 2)) % 16
 get_or-halves [] i within = absurd (omega arith)
@@ -59,13 +43,6 @@ length-halves (byte ∷ bytes) = omega (arith, length-halves bytes)
 pub length-quarters : (bytes : List ℕ) → length (quarters bytes) ≡ 4 * length bytes
 length-quarters [] = refl
 length-quarters (byte ∷ bytes) = omega (arith, length-quarters bytes)
-
-pub rate_count-append : (xs ys : List ℕ) → rate_count (xs ++ ys) ≡ rate_count xs + rate_count ys
-rate_count-append [] ys = omega arith
-rate_count-append (x ∷ xs) ys = omega (arith, rate_count-append xs ys)
-
-pub rate_count-more : (xs : List ℕ) (i : ℕ) → i < length xs → rate_count (take (i + 1) xs) ≡ rate_count (take i xs) + (get_or xs i 0 + 1)
-rate_count-more xs i within = ap rate_count (take_more xs i 0 within) ∙ rate_count-append (take i xs) (get_or xs i 0 ∷ []) ∙ omega arith
 
 -- ---- Rates
 
@@ -127,27 +104,14 @@ FitResolutions-next count (x ∷ y ∷ z ∷ []) fit = (tt, FitResolutions-short
 FitResolutions-next count (x ∷ y ∷ z ∷ u ∷ []) fit = (tt, FitResolutions-short count (x ∷ y ∷ z ∷ u ∷ []) (omega arith))
 FitResolutions-next count (x ∷ y ∷ z ∷ u ∷ v ∷ bytes) fit = ((fit.0, fit.1, tt), fit.2)
 
--- the layers after the first counts
-abbrev pub layers_from : ℕ → ℕ → List ℕ → List ℕ → List ℕ → List Layer
-layers_from next active counts rates resolutions = layers_read (drop next (take active (quarters counts))) rates resolutions
-
-pub left_to_read : (next active : ℕ) (counts rates resolutions : List ℕ) → active ≤ 4 * length counts → length (layers_from next active counts rates resolutions) ≡ active - next
-left_to_read next active counts rates resolutions within =
-    length-layers_read (drop next (take active (quarters counts))) rates resolutions
-    ∙ length-drop next (take active (quarters counts)) ∙ ap (λ (n : ℕ). n - next) (length-take-le active (quarters counts) (omega (arith, length-quarters counts)))
-
-pub layers_from-next : (next active count : ℕ) (counts rates resolutions : List ℕ) → active ≤ 4 * length counts → next < active → count ≡ get_or (quarters counts) next 0
-    → layers_from next active counts rates resolutions
-    ≡ record { temporal_layers = rates_of (count + 1) rates; resolution_and_framerate = resolution_in resolutions }
-    ∷ layers_from (next + 1) active counts (after_rates (count + 1) rates) (after_resolution resolutions)
-layers_from-next next active count counts rates resolutions within before is =
-    let len : length (take active (quarters counts)) ≡ active = length-take-le active (quarters counts) (omega (arith, length-quarters counts)) in
-    let first : get_or (take active (quarters counts)) next 0 ≡ count = get_or-take active (quarters counts) next 0 before ∙ sym is in
-    let split : drop next (take active (quarters counts)) ≡ count ∷ drop (next + 1) (take active (quarters counts)) =
-    drop_more (take active (quarters counts)) next 0 (omega arith) ∙ ap (λ (n : ℕ). n ∷ drop (next + 1) (take active (quarters counts))) first in
-    ap (λ (cs : List ℕ). layers_read cs rates resolutions) split
-    ∙ ap (λ (n : ℕ). record { temporal_layers = rates_of n rates; resolution_and_framerate = resolution_in resolutions }
-    ∷ layers_from (next + 1) active counts (after_rates n rates) (after_resolution resolutions)) (sym (add-one count))
+pub FitResolutions-fewer : (count : ℕ) (bytes : List ℕ) → FitResolutions (suc count) bytes → FitResolutions count bytes
+FitResolutions-fewer zero bytes fit = tt
+FitResolutions-fewer (suc count) [] fit = tt
+FitResolutions-fewer (suc count) (x ∷ []) fit = tt
+FitResolutions-fewer (suc count) (x ∷ y ∷ []) fit = tt
+FitResolutions-fewer (suc count) (x ∷ y ∷ z ∷ []) fit = tt
+FitResolutions-fewer (suc count) (x ∷ y ∷ z ∷ u ∷ []) fit = tt
+FitResolutions-fewer (suc count) (x ∷ y ∷ z ∷ u ∷ v ∷ bytes) fit = (fit.0, fit.1, FitResolutions-fewer count bytes fit.2)
 
 -- ---- Layers dealt by a mask
 

@@ -1,6 +1,7 @@
 pub mod LeavingLemmas
 pub mod LebLemmas
 pub mod LebSpellingLemmas
+pub mod CountsLemmas
 pub mod AllocationReadingLemmas
 pub mod AllocationDealing
 pub mod AllocationParts

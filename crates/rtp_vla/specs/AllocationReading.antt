@@ -14,6 +14,11 @@ abbrev pub quarters : List ℕ → List ℕ
 quarters [] = []
 quarters (byte ∷ bytes) = byte / 64 % 4 ∷ byte / 16 % 4 ∷ byte / 4 % 4 ∷ byte % 4 ∷ quarters bytes
 
+-- the first n counts of a number of 32 bits, two bits each from the highest on
+unfoldable pub counts_in : ℕ → ℕ → List ℕ
+counts_in zero bits = []
+counts_in (suc n) bits = bits / 1073741824 ∷ counts_in n (bits * 4 % 4294967296)
+
 -- whether each layer up to a mask's highest bit is active, from its lowest bit on; a mask has at most `room` bits
 abbrev pub mask_bits : ℕ → ℕ → List Bool
 mask_bits zero mask = []

@@ -142,7 +142,10 @@ impl MediaTime {
         if from == to {
             return u128::from(self.numer);
         }
-        product(self.numer, to) / u128::from(from)
+        match self.numer.checked_mul(u64::from(to)) {
+            Some(product) => u128::from(product / u64::from(from)),
+            None => product(self.numer, to) / u128::from(from),
+        }
     }
 
     /// Returns the time as [`rebase`](Self::rebase) does, or `None` where the number of ticks does

@@ -48,6 +48,8 @@ fn put_offset(buf: &mut [u8], offset: i64)
     put_u64(buf, offset.cast_unsigned());
 }
 
+// It stays out of line, since few packets have it and the other kinds need the registers.
+#[inline(never)]
 pub(super) fn write(buf: &mut [u8], ev: &ExtensionValues) -> Option<usize>
     requires room { HasRoom AbsoluteCaptureTime ev.now buf.old }
     ensures { WritesData AbsoluteCaptureTime ev.now buf.old buf.new result }

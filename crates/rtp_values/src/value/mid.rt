@@ -15,6 +15,9 @@ pub(super) fn read(buf: &[u8], ev: &mut ExtensionValues) -> Option<()>
     Some(())
 }
 
+// It stays out of line, since the bytes that it puts one by one would make every other kind save
+// registers.
+#[inline(never)]
 pub(super) fn write(buf: &mut [u8], ev: &ExtensionValues) -> Option<usize>
     requires room { HasRoom RtpMid ev.now buf.old }
     ensures { WritesData RtpMid ev.now buf.old buf.new result }

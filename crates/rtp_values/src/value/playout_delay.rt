@@ -26,6 +26,8 @@ pub(super) fn read(buf: &[u8], ev: &mut ExtensionValues) -> Option<()>
     Some(())
 }
 
+// It stays out of line, since few packets have it and the other kinds need the registers.
+#[inline(never)]
 pub(super) fn write(buf: &mut [u8], ev: &ExtensionValues) -> Option<usize>
     requires room { HasRoom PlayoutDelay ev.now buf.old }
     ensures { WritesData PlayoutDelay ev.now buf.old buf.new result }

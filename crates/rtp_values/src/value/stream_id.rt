@@ -15,6 +15,8 @@ pub(super) fn read(buf: &[u8], ev: &mut ExtensionValues) -> Option<()>
     Some(())
 }
 
+// It stays out of line, since few packets have it and the other kinds need the registers.
+#[inline(never)]
 pub(super) fn write(buf: &mut [u8], ev: &ExtensionValues) -> Option<usize>
     requires room { HasRoom RtpStreamId ev.now buf.old }
     ensures { WritesData RtpStreamId ev.now buf.old buf.new result }
@@ -30,6 +32,8 @@ pub(super) fn read_repaired(buf: &[u8], ev: &mut ExtensionValues) -> Option<()>
     Some(())
 }
 
+// It stays out of line, since few packets have it and the other kinds need the registers.
+#[inline(never)]
 pub(super) fn write_repaired(buf: &mut [u8], ev: &ExtensionValues) -> Option<usize>
     requires room { HasRoom RepairedRtpStreamId ev.now buf.old }
     ensures { WritesData RepairedRtpStreamId ev.now buf.old buf.new result }

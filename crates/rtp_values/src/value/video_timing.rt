@@ -56,6 +56,8 @@ fn time_bytes(time: u16) -> [u8; 2]
     time.to_be_bytes()
 }
 
+// It stays out of line, since few packets have it and the other kinds need the registers.
+#[inline(never)]
 pub(super) fn write(buf: &mut [u8], ev: &ExtensionValues) -> Option<usize>
     requires room { HasRoom TimingKind ev.now buf.old }
     ensures { WritesData TimingKind ev.now buf.old buf.new result }

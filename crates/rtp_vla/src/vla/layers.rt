@@ -1,62 +1,45 @@
 //! The active layers that bytes have, and the streams that masks make of them.
 
-ghost use Rattle.std.specs.Prelude.{◌≡◌, ◌+◌, ◌-◌, ◌*◌, ◌<◌, ◌≤◌, ◌∷◌, length, take, drop, IfOk, OnOk};
+ghost use Rattle.std.specs.Prelude.{◌≡◌, ◌≤◌, ◌∷◌, length, drop, IfOk, OnOk};
 ghost use Rattle.std.specs.Bool.{OnTrue};
 ghost use Rattle.std.specs.List.{AllByRecursion};
 ghost use Rattle.rtp_vla.specs.AllocationReading as reading;
 
 use super::allocation::{SimulcastStreamAllocation, SpatialLayerAllocation};
-use super::parts::{count_at, rates_at, resolution_at};
+use super::counts::Counts;
+use super::parts::{rates_at, resolution_at};
 use std::alloc::{AllocError, Global};
 use std::marker::Model;
 
 /// The active layers that are left to read.
 #[derive(Drop)]
 pub(super) struct LayerReader<'a> {
-    // Four counts in each byte.
-    counts: &'a [u8],
-    // The index of the next count, and how many there are.
-    next: usize,
-    active: usize,
-    // What is left of the rates and the resolutions.
+    counts: Counts,
     rates: &'a [u8],
     resolutions: &'a [u8],
 }
 
 impl<'a> Model for LayerReader<'a> {
-    ghost use Rattle.std.specs.Prelude.{◌-◌, ◌*◌, ◌≤◌, List, length, take, drop};
+    ghost use Rattle.std.specs.Prelude.{List, length};
     ghost use Rattle.rtp_vla.specs.Allocation.{Layer};
-    ghost use Rattle.rtp_vla.specs.AllocationReading.{layers_read, quarters, FitResolutions};
+    ghost use Rattle.rtp_vla.specs.AllocationReading.{layers_read, FitResolutions};
 
     ghost Value = { List Layer };
 
     ghost view = { λ reader.
-        layers_read (drop reader.next (take reader.active (quarters reader.counts.now)))
-        reader.rates.now reader.resolutions.now };
+        layers_read reader.counts reader.rates.now reader.resolutions.now };
 
-    ghost invariant = { λ reader. (reader.next ≤ reader.active)
-        × (reader.active ≤ 4 * length reader.counts.now)
-        × FitResolutions (reader.active - reader.next) reader.resolutions.now };
+    ghost invariant = { λ reader. FitResolutions (length reader.counts) reader.resolutions.now };
 }
 
 impl<'a> LayerReader<'a> {
     // The first layers, one for each count.
-    pub(super) fn new(
-        counts: &'a [u8],
-        active: usize,
-        rates: &'a [u8],
-        resolutions: &'a [u8],
-    ) -> Self
-        requires within { active ≤ 4 * length counts.now }
-        requires fit { reading.FitResolutions active resolutions.now }
-        ensures { result
-            ≡ reading.layers_read (take active (reading.quarters counts.now))
-            rates.now resolutions.now }
+    pub(super) fn new(counts: Counts, rates: &'a [u8], resolutions: &'a [u8]) -> Self
+        requires fit { reading.FitResolutions (length counts) resolutions.now }
+        ensures { result ≡ reading.layers_read counts rates.now resolutions.now }
     {
         LayerReader {
             counts,
-            next: 0,
-            active,
             rates,
             resolutions,
         }
@@ -67,12 +50,11 @@ impl<'a> LayerReader<'a> {
         requires { 1 ≤ length self.old }
         ensures { IfOk result (λ layer. self.old ≡ layer ∷ self.new) }
     {
-        let rates = usize::from(count_at(self.counts, self.next)) + 1;
+        let rates = usize::from(self.counts.next()) + 1;
         let (temporal_layers, rates) = rates_at(alloc, self.rates, rates)?;
         let (resolution_and_framerate, resolutions) = resolution_at(self.resolutions);
         self.rates = rates;
         self.resolutions = resolutions;
-        self.next += 1;
         Ok(SpatialLayerAllocation {
             temporal_layers,
             resolution_and_framerate,

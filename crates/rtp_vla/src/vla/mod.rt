@@ -3,6 +3,7 @@
 
 mod active;
 mod allocation;
+mod counts;
 mod layers;
 mod leb;
 mod measuring;

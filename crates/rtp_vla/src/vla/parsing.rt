@@ -5,8 +5,9 @@ ghost use Rattle.rtp_vla.specs.Allocation.{Allocation, Means};
 ghost use Rattle.rtp_vla.specs.AllocationReading as reading;
 
 use super::allocation::VideoLayersAllocation;
+use super::counts::Counts;
 use super::layers::{LayerReader, streams_of};
-use super::parts::{active_count, after_rates, half_at, rate_count, resolutions_fit};
+use super::parts::{active_count, after_rates, half_at, resolutions_fit};
 use std::alloc::{AllocError, Global};
 
 // What the bytes have before any layer is made of them.
@@ -62,7 +63,8 @@ fn layout_of(buf: &[u8]) -> Option<Layout<'_>>
     let (streams, after) = read_masks(*head, after, &mut masks)?;
     let active = active_count(&masks[..streams]);
     let (counts, rates) = after.split_at_checked((active + 3) / 4)?;
-    let resolutions = after_rates(rates, rate_count(counts, active));
+    let layer_counts = Counts::new(counts, active);
+    let resolutions = after_rates(rates, layer_counts.rate_count());
     if !resolutions_fit(resolutions, active) {
         return None;
     }
@@ -70,7 +72,7 @@ fn layout_of(buf: &[u8]) -> Option<Layout<'_>>
         index: *head >> 6,
         masks,
         streams,
-        layers: LayerReader::new(counts, active, rates, resolutions),
+        layers: LayerReader::new(layer_counts, rates, resolutions),
     })
 }
 

@@ -98,28 +98,6 @@ pub(super) fn half_at(bytes: &[u8], i: usize) -> u8
     bytes[i / 2] >> (4 - 4 * (i % 2)) & 15
 }
 
-// One of the counts, four of which stand in each byte.
-pub(super) fn count_at(bytes: &[u8], i: usize) -> u8
-    requires { i < 4 * length bytes.now }
-    ensures count { result ≡ slice_index (reading.quarters bytes.now) i }
-    ensures few { result ≤ 3 }
-{
-    bytes[i / 4] >> (6 - 2 * (i % 4)) & 3
-}
-
-// How many rates the first counts announce.
-pub(super) fn rate_count(bytes: &[u8], active: usize) -> usize
-    requires within { active ≤ 4 * length bytes.now }
-    requires few { active ≤ 16 }
-    ensures { result ≡ reading.rate_count (take active (reading.quarters bytes.now)) }
-{
-    let mut rates = 0;
-    for i in 0..active {
-        rates += usize::from(count_at(bytes, i)) + 1;
-    }
-    rates
-}
-
 // How many layers a mask marks.
 fn active_in(mask: u8) -> usize
     requires { mask ≤ 15 }

@@ -59,6 +59,7 @@ impl RtpHeader {
     }
 
     /// Reads the header that the bytes begin with into this one, as [`parse`](Self::parse) does.
+    #[inline(always)]
     pub fn parse_into(
         &mut self,
         alloc: Global,

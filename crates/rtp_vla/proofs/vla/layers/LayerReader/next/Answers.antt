@@ -1,34 +1,35 @@
-use Rattle.std.proofs.Common.{◌≡◌, ◌<◌, ◌-◌, ◌+◌, suc, sym, ◌∙◌, subst, ap, ℕ, length, arith, ◌∷◌}
-use Rattle.rtp_vla.specs.AllocationReading.{FitResolutions}
-use Rattle.rtp_vla.proofs.AllocationReadingLemmas.{layers_from, left_to_read, layers_from-next, FitResolutions-next}
+use Rattle.std.proofs.Common.{sym, ◌∙◌, ap, subst, ℕ, List, length, arith, ◌+◌, ◌∷◌, add-one}
+use Rattle.rtp_vla.specs.AllocationReading.{layers_read, rates_of, after_rates, resolution_in, after_resolution, FitResolutions}
+use Rattle.rtp_vla.proofs.AllocationReadingLemmas.{length-layers_read, FitResolutions-next, FitResolutions-fewer}
 use Rattle.rtp_vla.proofs.vla.layers.LayerReader.next.Goals as goal
-use Rattle.rtp_vla.proofs.vla.layers.LayerReader.next.Goals.{After-self-1, After-resolution_at-arg-1}
 
--- what the resolutions were when one was left at least
-fits : (c : After-resolution_at-arg-1) → FitResolutions (suc (c.self.inside.active - (c.self.inside.next + 1))) c.self.inside.resolutions.now
-fits c =
+pub next-requires : goal.next-requires
+next-requires c =
     let r = c.self.inside in
-    let before : r.next < r.active = omega (arith, c.requires, ap length c.self.view_is, left_to_read r.next r.active r.counts.now r.rates.now r.resolutions.now c.self.invariant.1) in
-    let one : r.active - r.next ≡ suc (r.active - (r.next + 1)) = omega arith in
-    subst (λ (n : ℕ). FitResolutions n r.resolutions.now) one c.self.invariant.2
+    omega (arith, c.requires, ap length c.self.view_is, length-layers_read r.counts r.rates.now r.resolutions.now)
 
 pub resolution_at-resolution_and_framerate-requires : goal.resolution_at-resolution_and_framerate-requires
-resolution_at-resolution_and_framerate-requires c = (FitResolutions-next _ c.self.inside.resolutions.now (fits c)).0
+resolution_at-resolution_and_framerate-requires c =
+    (FitResolutions-next (length c.next.new.self) _ (subst (λ (n : ℕ). FitResolutions n c.self.inside.resolutions.now) (ap length c.next.ensures.next) c.self.invariant)).0
 
 pub invariant_of-self : goal.invariant_of-self
 invariant_of-self c =
-    let r = c.self.inside in
-    let before : r.next < r.active = omega (arith, c.requires, ap length c.self.view_is, left_to_read r.next r.active r.counts.now r.rates.now r.resolutions.now c.self.invariant.1) in
-    let rest = (FitResolutions-next (r.active - (r.next + 1)) r.resolutions.now (fits (goal.at.invariant_of-self c).After-resolution_at-arg-1)).1 in
-    (omega arith, c.self.invariant.1, rw c.resolution_at-resolution_and_framerate.ensures.after rest)
+    FitResolutions-fewer (length c.next.new.self) _ (subst (λ (n : ℕ). FitResolutions n c.self.inside.resolutions.now) (ap length c.next.ensures.next) c.self.invariant)
+
+pub invariant_of-self-2 : goal.invariant_of-self-2
+invariant_of-self-2 c =
+    rw c.resolution_at-resolution_and_framerate.ensures.after
+    (FitResolutions-next (length c.next.new.self) _ (subst (λ (n : ℕ). FitResolutions n c.self.inside.resolutions.now) (ap length c.next.ensures.next) c.self.invariant)).1
 
 pub returns : goal.returns
 returns c =
     let r = c.self.inside in
-    let before : r.next < r.active = omega (arith, c.requires, ap length c.self.view_is, left_to_read r.next r.active r.counts.now r.rates.now r.resolutions.now c.self.invariant.1) in
     let read = c.in_ok-temporal_layers.ensures in
     let found = c.resolution_at-resolution_and_framerate.ensures in
+    let left = c.next.new.self in
     sym c.self.view_is
-    ∙ layers_from-next r.next r.active c.from-rates.result r.counts.now r.rates.now r.resolutions.now c.self.invariant.1 before (c.from-rates.ensures ∙ c.count_at.ensures.count)
+    ∙ ap (λ (counts : List ℕ). layers_read counts r.rates.now r.resolutions.now) c.next.ensures.next
+    ∙ ap (λ (n : ℕ). record { temporal_layers = rates_of n r.rates.now; resolution_and_framerate = resolution_in r.resolutions.now }
+    ∷ layers_read left (after_rates n r.rates.now) (after_resolution r.resolutions.now)) (sym (add-one c.next.result) ∙ ap (λ (n : ℕ). n + 1) (sym c.from-rates.ensures))
     ∙ (λ i. record { temporal_layers = sym read.rates i; resolution_and_framerate = sym found.resolution i }
-    ∷ layers_from (r.next + 1) r.active r.counts.now (sym read.after i) (sym found.after i))
+    ∷ layers_read left (sym read.after i) (sym found.after i))
