@@ -1,16 +1,15 @@
 -- The ids that elements have under another map, and what a form can carry of them.
-use Rattle.std.proofs.Common.{◌≡◌, ◌≢◌, ℕ, zero, suc, ◌≤◌, ◌<◌, List, [], ◌∷◌, ◌++◌, length, Bool, true, false, ◌&&◌, nat_le, Option, Some, None, IfSome, All, ◌+◌, get_or, set, length-set, ◌↔◌, inl, inr, IsTrue, arith, refl, sym, ap, ◌∙◌, subst}
+use Rattle.std.proofs.Common.{◌≡◌, ℕ, zero, suc, ◌≤◌, ◌<◌, List, [], ◌∷◌, length, Bool, true, false, ◌&&◌, Option, Some, None, IfSome, All, ◌+◌, get_or, set, length-set, ◌↔◌, inl, inr, IsTrue, arith, refl, sym, ap, ◌∙◌, subst}
 use Rattle.std.specs.List.{AllByRecursion, filter_map, list_all}
 use Rattle.std.proofs.lemmas.Bool.{leb-true, le-leb, false≢true, cases_lt}
 use Rattle.std.proofs.lemmas.List.{get_or_past, get_or-set_same, get_or-set_other}
 use Rattle.std.specs.Option.{ForSome}
 use Rattle.std.proofs.lemmas.List.Elements.{All-nil, All-cons, All-head, All-tail}
-use Rattle.rtp_values.specs.declared.kind.Extension.{Extension}
 use Rattle.rtp_ext.specs.declared.ext.form.ExtensionsForm.{ExtensionsForm}
 use Rattle.rtp_ext.specs.declared.ext.form.ExtensionsForm.TheVariants.{OneByte, TwoByte}
 use Rattle.rtp_ext.specs.Elements.{Element, IsElement, IsPiece, AreElements}
 use Rattle.rtp_ext.specs.ElementsInPlace.{CanRenumber}
-use Rattle.rtp_ext.specs.ExtensionMap.{Slots, IsId, entry_at, extension_of, extension_at, HasNoIdAbove}
+use Rattle.rtp_ext.specs.ExtensionMap.{Slots, IsId, entry_at, extension_of, HasNoIdAbove}
 use Rattle.rtp_ext.specs.NewIds.{new_id, IsNewId, AreNewIds}
 use Rattle.rtp_ext.specs.IdChanges.{carries_id}
 

@@ -1,6 +1,5 @@
-use Rattle.std.proofs.Common.{List, All, true, false, IsTrue, ◌↔◌, refl, sym, subst}
+use Rattle.std.proofs.Common.{All, true, false, IsTrue, ◌↔◌, refl, sym, subst}
 use Rattle.std.specs.List.{filter_map}
-use Rattle.rtp_ext.specs.Elements.{Element, IsElement}
 use Rattle.rtp_ext.specs.ElementsInPlace.{CanRenumber, renumbered}
 use Rattle.rtp_ext.specs.NewIds.{new_id}
 use Rattle.rtp_ext.proofs.ElementLemmasOfBodies.{AreElements-only}
