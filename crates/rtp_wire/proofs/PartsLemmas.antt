@@ -80,6 +80,11 @@ length-packet bytes parts is =
       length-announced parts.has_extension parts.block is.part is.part_is,
     )
 
+-- the bytes of a packet are a packet with its parts
+pub IsPacket-found : (packet : RtpPacket) → IsPacket packet.datagram.now (parts_of packet)
+IsPacket-found packet =
+    IsPacket-whole packet.datagram.now (packet.bytes 1) (IsWhole-header packet.datagram.now packet.header_len packet.form (HasHeader-packet packet))
+
 -- the end of the header is the length of its parts
 pub header_end-len : (packet : RtpPacket) → header_end packet.datagram.now ≡ header_len_of (parts_of packet)
 unfolding parts_at
@@ -87,5 +92,5 @@ header_end-len packet =
     let bytes = packet.datagram.now in
     let whole = IsWhole-header bytes packet.header_len packet.form (HasHeader-packet packet) in
     let within = whole.within in
-    let all = length-packet bytes (parts_of packet) (IsPacket-whole bytes (packet.bytes 1) whole) in
+    let all = length-packet bytes (parts_of packet) (IsPacket-found packet) in
     omega (arith, length-drop (header_end bytes) bytes)

@@ -58,10 +58,11 @@ impl<'a> RtpPacketMut<'a> {
         Ok(RtpPacketMut::new(datagram, header_len, form))
     }
 
-    /// The packet as it stands in the buffer.
+    /// The packet as it stands in the buffer: its bytes are read as these parts, whatever was changed.
     pub fn as_packet(&self) -> RtpPacket<'_>
         ensures parts { parts_of result ≡ parts_in self.now }
         ensures bytes { bytes_of result ≡ (buffer_of self.now).now }
+        ensures is_packet { IsPacket (buffer_of self.now).now (parts_in self.now) }
     {
         RtpPacket::found(self.datagram, self.header_len, self.form)
     }
