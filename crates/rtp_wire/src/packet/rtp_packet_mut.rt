@@ -48,6 +48,8 @@ impl<'a> RtpPacketMut<'a> {
         ensures found { IfOk result (λ packet. IsPacket datagram.old (parts_in packet)) }
         ensures only { (parts : PacketParts) → IsPacket datagram.old parts →
             IsOkAnd result (λ packet. parts_in packet ≡ parts) }
+        ensures same_buffer { IfOk result (λ packet.
+            (buffer_of packet).ghost_name ≡ datagram.entry.ghost_name) }
         ensures same_bytes { IfOk result (λ packet. (buffer_of packet).now ≡ datagram.old) }
         ensures cause { IfErr result (IsFirstCause datagram.old) }
         ensures refused { IsErr result ↔ NotAHeader datagram.old }
