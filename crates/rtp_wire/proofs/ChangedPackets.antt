@@ -14,7 +14,7 @@ use Rattle.rtp_wire.specs.PacketElements.{AreElementsOf}
 use Rattle.rtp_wire.specs.ChangedPacket.{ChangesBlock}
 use Rattle.rtp_wire.proofs.PacketLemmas.{whole_and_parts}
 use Rattle.rtp_wire.proofs.HeaderFound.{HasHeader, HasHeader-packet_mut}
-use Rattle.rtp_wire.proofs.PartsLemmas.{block-header, body_within}
+use Rattle.rtp_wire.proofs.PartsLemmas.{body_within}
 use Rattle.rtp_wire.proofs.BytesBetween.{IsBetween, IsBetween-part}
 use Rattle.rtp_wire.proofs.PacketChanges.{HasHeader-stays, stays-in_body}
 use Rattle.rtp_wire.proofs.PacketParts.{parts-in_body}

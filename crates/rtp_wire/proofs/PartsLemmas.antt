@@ -1,5 +1,5 @@
 -- The parts of a packet, as the calls on it find them.
-use Rattle.std.proofs.Common.{◌≡◌, ℕ, ◌+◌, ◌-◌, ◌*◌, ◌/◌, ◌%◌, ◌≤◌, Bool, true, false, List, length, take, drop, Option, Some, None, sym, ap, ◌∙◌, subst, arith, ◌++◌, length-append, length-drop, length-take-le}
+use Rattle.std.proofs.Common.{◌≡◌, ℕ, ◌+◌, ◌-◌, ◌*◌, ◌/◌, ◌%◌, ◌≤◌, Bool, true, false, List, length, take, drop, Option, Some, None, sym, ap, ◌∙◌, arith, ◌++◌, length-append, length-drop, length-take-le}
 use Rattle.std.specs.Prelude.{slice_index, slice_range, is_some, option_map}
 use Rattle.std.specs.Int.{w32, from_be_bytes}
 use Rattle.std.specs.List.{concat}
@@ -12,7 +12,7 @@ use Rattle.rtp_wire.specs.Packet.{PacketParts, IsAnnounced, IsPacket, block_len,
 use Rattle.rtp_wire.specs.PartsOf.{parts_of}
 use Rattle.rtp_wire.specs.PartsAt.{has_block, form_in, header_end, parts_at}
 use Rattle.rtp_wire.proofs.GroupLemmas.{length-concat, first_chunks-take}
-use Rattle.rtp_wire.proofs.PacketLemmas.{IsWhole, IsPacket-whole}
+use Rattle.rtp_wire.proofs.PacketLemmas.{IsPacket-whole}
 use Rattle.rtp_wire.proofs.HeaderFound.{HasHeader, HasHeader-packet, IsWhole-header}
 
 -- the sources are within the datagram
