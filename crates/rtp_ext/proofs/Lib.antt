@@ -7,6 +7,7 @@ mod PlaceLemmas
 mod PieceLemmas
 mod LastPlaceLemmas
 mod RenumberingLemmas
+mod NewIdLemmas
 pub mod MemoryLemmas
 mod MemoryFacts
 mod MapLemmas
@@ -16,4 +17,5 @@ mod FormLemmas
 pub mod WrittenBlockLemmas
 pub mod WrittenElementsLemmas
 mod WrittenValuesLemmas
+mod RenumberedValuesLemmas
 mod RawWritingLemmas

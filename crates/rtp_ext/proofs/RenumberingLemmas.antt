@@ -247,6 +247,10 @@ AreElements-renumbered form ids old new elements has are can =
     (append-nil (filter_map (renumbered ids) had) ∙ ap (filter_map (renumbered ids)) (sym same))
     (AreElements-after form (flat_map (renumbered_bytes form ids) has.pieces) has.tail (filter_map (renumbered ids) had) [] whole none))
 
+pub may-can : (form : ExtensionsForm) (ids : ℕ → Option ℕ) (elements : List Element) → All (CanRenumber form ids) elements
+    → All (λ element. IsElement form element → CanRenumber form ids element) elements
+may-can form ids elements can = λ k d here is. can k d here
+
 -- ---- all ids but one
 
 is_none-all_but : (id k : ℕ) → is_none (all_but id k) ≡ (k == id)

@@ -23,7 +23,7 @@ use Rattle.rtp_ext.proofs.FormLemmas.{Item, element_of, elements_of}
 -- ---- the image of a kind
 
 -- the fields of a kind that an item has are those of the values
-fields-there : (kind : Extension) (id : ℕ) (before after : List Item) (values : ExtensionValues)
+pub fields-there : (kind : Extension) (id : ℕ) (before after : List Item) (values : ExtensionValues)
     → SameFields kind values (fields_of_items (before ++ (id, kind) ∷ after) values)
 fields-there kind id [] after values = SameFields-taken kind (fields_of_items after values) values
 fields-there kind id (item ∷ before) after values =
@@ -35,7 +35,7 @@ fields-there kind id (item ∷ before) after values =
     ]
 
 -- and those of any other kind are absent
-fields-absent : (kind : Extension) (items : List Item) (values : ExtensionValues) → AllByRecursion (λ item. item.1 ≢ kind) items
+pub fields-absent : (kind : Extension) (items : List Item) (values : ExtensionValues) → AllByRecursion (λ item. item.1 ≢ kind) items
     → SameFields kind no_values (fields_of_items items values)
 fields-absent kind [] values all = SameFields-refl kind no_values
 fields-absent kind (item ∷ items) values all =
@@ -81,14 +81,14 @@ carried-none values kind is = SameFields-from_each kind no_values (carried_value
 -- ---- the last id of a kind
 
 -- the last item of the kind
-record LastItem (kind : Extension) (items : List Item) : Type 0 where
-  before : List Item
-  after : List Item
-  id : ℕ
-  is : items ≡ before ++ (id, kind) ∷ after
-  later : AllByRecursion (λ item. item.1 ≢ kind) after
+pub record LastItem (kind : Extension) (items : List Item) : Type 0 where
+  pub before : List Item
+  pub after : List Item
+  pub id : ℕ
+  pub is : items ≡ before ++ (id, kind) ∷ after
+  pub later : AllByRecursion (λ item. item.1 ≢ kind) after
 
-find_last : (kind : Extension) (items : List Item) → LastItem kind items ⊎ AllByRecursion (λ item. item.1 ≢ kind) items
+pub find_last : (kind : Extension) (items : List Item) → LastItem kind items ⊎ AllByRecursion (λ item. item.1 ≢ kind) items
 find_last kind [] = inr tt
 find_last kind (item ∷ items) = elim (find_last kind items) [
   | inl found ↦ inl (record {
@@ -136,7 +136,12 @@ all-after : {A : Type 0} (P : A → Type 0) (xs ys : List A) → AllByRecursion 
 all-after P [] ys all = all
 all-after P (x ∷ xs) ys all = all-after P xs ys all.1
 
-All-cons_option : (P : Element → Type 0) (element : Option Element) (rest : List Element) → IfSome element P → All P rest → All P (cons_option element rest)
+-- a kind that an item has is mapped there
+pub found-mapped : (exts : Slots) (kind : Extension) (found : LastItem kind (items_from 0 exts)) → extension_at exts found.id ≡ Some kind
+found-mapped exts kind found =
+    (all-after (IsMappedItem exts) found.before _ (subst (AllByRecursion (IsMappedItem exts)) found.is (items-mapped exts))).0
+
+pub All-cons_option : (P : Element → Type 0) (element : Option Element) (rest : List Element) → IfSome element P → All P rest → All P (cons_option element rest)
 All-cons_option P None rest here all = all
 All-cons_option P (Some element) rest here all = All-cons P element rest here all
 

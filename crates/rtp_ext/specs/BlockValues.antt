@@ -1,9 +1,10 @@
 -- Which element of a block counts for each kind, and the values of a block.
-use Rattle.std.specs.Prelude.{◌≡◌, List, ◌∷◌, ◌++◌, Some, All}
+use Rattle.std.specs.Prelude.{◌≡◌, ℕ, List, ◌∷◌, ◌++◌, Some, All}
 use Rattle.rtp_values.specs.declared.kind.Extension.{Extension}
 use Rattle.rtp_values.specs.declared.value.values.ExtensionValues.{ExtensionValues}
-use Rattle.rtp_values.specs.Values.{Reads, SameFields, IsWellFormed}
-use Rattle.rtp_ext.specs.Elements.{Element}
+use Rattle.rtp_values.specs.Values.{no_values, Reads, SameFields, IsWellFormed}
+use Rattle.rtp_ext.specs.declared.ext.form.ExtensionsForm.{ExtensionsForm}
+use Rattle.rtp_ext.specs.Elements.{Element, AreElements}
 use Rattle.rtp_ext.specs.ExtensionMap.{Slots, extension_at}
 
 -- an element whose id is mapped to the kind, with data that are well-formed for it
@@ -22,3 +23,9 @@ pub data AreFields (exts : Slots) (elements : List Element) (kind : Extension) (
 -- the values once the elements of a block were read into old ones
 abbrev pub AreValues : Slots → List Element → ExtensionValues → ExtensionValues → Type 0
 AreValues exts elements old new = (kind : Extension) → AreFields exts elements kind old new
+
+-- the body of a block says these values under a map
+pub record SaysValues (form : ExtensionsForm) (exts : Slots) (body : List ℕ) (values : ExtensionValues) : Type 0 where
+  pub elements : List Element
+  pub are_elements : AreElements form body elements
+  pub are_values : AreValues exts elements no_values values

@@ -1,7 +1,8 @@
 -- Which id each element gets, and a body whose elements get them one after another: what the functions of `renumbering` promise each other.
-use Rattle.std.specs.Prelude.{◌≡◌, ℕ, List, ◌++◌, length, All, Bool, Option, is_none}
+use Rattle.std.specs.Prelude.{◌≡◌, ℕ, List, ◌++◌, length, All, Bool, true, nat_le, Option, Some, None, is_none}
 use Rattle.std.specs.List.{AllByRecursion, flat_map, filter_map, list_any}
 use Rattle.rtp_ext.specs.declared.ext.form.ExtensionsForm.{ExtensionsForm}
+use Rattle.rtp_ext.specs.declared.ext.form.ExtensionsForm.TheVariants.{OneByte, TwoByte}
 use Rattle.rtp_ext.specs.declared.ext.renumbering.IdChange.{IdChange}
 use Rattle.rtp_ext.specs.declared.ext.renumbering.IdChange.TheVariants.{AllBut, Table}
 use Rattle.rtp_ext.specs.Elements.{Element, IsElement, IsPiece, piece_bytes}
@@ -13,6 +14,12 @@ use Rattle.rtp_ext.specs.NewIds.{new_id}
 abbrev pub ids_of : IdChange → ℕ → Option ℕ
 ids_of (AllBut id) = all_but id
 ids_of (Table ids) = new_id ids.now
+
+-- whether the form can carry an id, where there is one
+abbrev pub carries_id : ExtensionsForm → Option ℕ → Bool
+carries_id form None = true
+carries_id OneByte (Some id) = nat_le id 14
+carries_id TwoByte (Some id) = true
 
 -- the bytes of a body up to an offset are whole pieces, whose elements have their new ids or are padding, and the others are as they were; and whether an element has become padding
 pub record HasOtherIdsTo (form : ExtensionsForm) (ids : ℕ → Option ℕ) (old new : List ℕ) (at : ℕ) (lost : Bool) : Type 0 where

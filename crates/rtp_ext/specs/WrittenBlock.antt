@@ -31,9 +31,13 @@ abbrev pub fields_of_items : List (ℕ × Extension) → ExtensionValues → Ext
 fields_of_items [] values = no_values
 fields_of_items (item ∷ items) values = with_fields item.1 (fields_of_items items values) values
 
+-- of the values the fields of the kinds that are mapped, and every other field absent
+abbrev pub mapped_fields : Slots → ExtensionValues → ExtensionValues
+mapped_fields exts values = fields_of_items (items_from 0 exts) values
+
 -- what the written elements are read as: the values that the data of each mapped kind carry, and every other value absent
 unfoldable pub image_values : Slots → ExtensionValues → ExtensionValues
-image_values exts values = fields_of_items (items_from 0 exts) (carried_values values)
+image_values exts values = mapped_fields exts (carried_values values)
 
 -- as many bytes as the last word lacks
 abbrev pub padding_of : ℕ → ℕ

@@ -19,6 +19,8 @@ mod directions;
 #[cfg(test)]
 mod elements;
 #[cfg(test)]
+mod elements_in_place;
+#[cfg(test)]
 mod elements_written;
 #[cfg(test)]
 mod extensions;

@@ -4,6 +4,7 @@ ghost use Rattle.std.specs.Prelude.{◌≡◌, ◌≢◌, ◌↔◌, ℕ, true, 
 ghost use Rattle.std.specs.Option.{option_copied};
 ghost use Rattle.rtp_ext.specs.ExtensionMap as spec;
 ghost use Rattle.rtp_ext.specs.ExtensionMap.{items_from};
+ghost use Rattle.rtp_ext.specs.NewIds.{IsNewId};
 ghost use Rattle.rtp_ext.specs.EqualMaps.{same_slots, same_slots-equiv};
 
 use super::iter::write_entries;
@@ -138,6 +139,15 @@ impl ExtensionMap {
         ensures none { IfNone result (spec.IsUnmapped self.now ext) }
     {
         slots::id_of(&self.slots, &ext)
+    }
+
+    // The lowest id that the other map has for the extension of this id.
+    pub(super) fn id_under(&self, other: &Self, id: u8) -> Option<u8>
+        ensures new { IsNewId self.now other.now id result }
+        ensures valid { IfSome result spec.IsId }
+        ensures no_others { spec.HasNoIdAbove 255 self.now }
+    {
+        slots::id_of(&other.slots, slots::extension(&self.slots, id)?)
     }
 
     // The mapped ids by rising id, each with its extension.

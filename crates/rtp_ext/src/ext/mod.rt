@@ -22,4 +22,4 @@ pub use iter::{Iter, IterByMediaType};
 pub use map::{ExtensionMap, MAX_ID};
 pub use new_ids::NewIds;
 pub use raw_writing::write_elements;
-pub use renumbering::remove_element;
+pub use renumbering::{remove_element, renumber};

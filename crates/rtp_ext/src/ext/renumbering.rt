@@ -1,12 +1,17 @@
 //! Elements of a block's body that are removed, or get other ids, where they lie, without memory.
 
 ghost use Rattle.std.specs.Prelude.{◌≡◌, ◌↔◌, List, IsTrue, All, is_none};
-ghost use Rattle.std.specs.Bool.{OnFalse};
+ghost use Rattle.std.specs.Bool.{OnTrue, OnFalse};
 ghost use Rattle.std.specs.List.{filter_map, list_any};
+ghost use Rattle.rtp_values.specs.declared.value.values.ExtensionValues.{ExtensionValues};
 ghost use Rattle.rtp_ext.specs.Elements.{Element, IsElement, AreElements};
 ghost use Rattle.rtp_ext.specs.ElementReading.{elements_left};
 ghost use Rattle.rtp_ext.specs.ElementsInPlace.{HasNone, HasOtherIds, CanRenumber, renumbered, all_but};
+ghost use Rattle.rtp_ext.specs.ExtensionMap.{Slots};
+ghost use Rattle.rtp_ext.specs.NewIds.{new_id, AreNewIds};
 ghost use Rattle.rtp_ext.specs.IdChanges.{ids_of};
+ghost use Rattle.rtp_ext.specs.BlockValues.{SaysValues};
+ghost use Rattle.rtp_ext.specs.WrittenBlock.{mapped_fields};
 
 use super::place::{next_place, write_id};
 use super::{ExtensionsForm, NewIds};
@@ -67,4 +72,30 @@ pub fn remove_element(form: ExtensionsForm, body: &mut [u8], id: u8) -> bool
         AreElements form body.new (filter_map (renumbered (all_but id)) elements) }
 {
     change_ids(form, body, IdChange::AllBut(id))
+}
+
+/// Gives each element of a block's body its new id where it lies, and makes an element whose id has
+/// no new one padding; the data of elements and all other bytes stay (RFC 8285, 4.2 and 4.3).
+/// Returns `false`, and nothing changes, where the form can't carry the new id of an element: one
+/// above [`MAX_ID_ONE_BYTE_FORM`](super::MAX_ID_ONE_BYTE_FORM) in the one-byte form.
+///
+/// The body has the same length afterwards, and says under the second map what it said under the
+/// first, of the kinds that the second maps and no other. Where id 1 becomes 3, and 2 has no new
+/// id, the body `10 AA 21 BB CC 00` (hexadecimal) of the one-byte form becomes `30 AA 00 00 00 00`.
+pub fn renumber(form: ExtensionsForm, body: &mut [u8], ids: &NewIds) -> bool
+    ensures renumbered { OnTrue result (HasOtherIds form (new_id ids.now) body.old body.new) }
+    ensures unchanged { OnFalse result (body.new ≡ body.old) }
+    ensures answer { (elements : List Element) → AreElements form body.old elements →
+        IsTrue result ↔ All (CanRenumber form (new_id ids.now)) elements }
+    ensures elements { (elements : List Element) → AreElements form body.old elements → OnTrue result
+        (AreElements form body.new (filter_map (renumbered (new_id ids.now)) elements)) }
+    ensures values { (from to : Slots) (values : ExtensionValues) → AreNewIds from to ids.now →
+        SaysValues form from body.old values →
+        OnTrue result (SaysValues form to body.new (mapped_fields to values)) }
+{
+    if !ids.can_renumber(form, body) {
+        return false;
+    }
+    change_ids(form, body, IdChange::Table(ids));
+    true
 }
