@@ -76,10 +76,10 @@ impl<'a> RtpPacketMut<'a> {
             ((buffer_of self.new).now ≡ (buffer_of self.old).now) }
         ensures answer { (elements : List Element) → AreElementsOf (parts_in self.old).block elements →
             IsTrue result ↔ IfSome (parts_in self.old).block (λ block.
-                All (CanRenumber block.0 (new_id ids.now)) elements) }
+            All (CanRenumber block.0 (new_id ids.now)) elements) }
         ensures elements { (elements : List Element) → AreElementsOf (parts_in self.old).block elements →
             OnTrue result (AreElementsOf (parts_in self.new).block
-                (filter_map (renumbered (new_id ids.now)) elements)) }
+            (filter_map (renumbered (new_id ids.now)) elements)) }
         ensures values { (from to : Slots) (values : ExtensionValues) → AreNewIds from to ids.now →
             HasValues from (parts_in self.old).block values →
             OnTrue result (HasValues to (parts_in self.new).block (mapped_fields to values)) }

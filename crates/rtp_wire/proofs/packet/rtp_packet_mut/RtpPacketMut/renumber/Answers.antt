@@ -72,7 +72,7 @@ returns-clause-answer c elements are =
     (c.renumber.ensures.answer elements (AreElements-in c.args.self.now c.in-Some.form _ c.in-Some.is start elements are))
 
 pub returns-clause-elements : goal.returns-clause-elements
-returns-clause-elements c elements are = 
+returns-clause-elements c elements are =
     let start : c.sources_end-start.result + 4 ≡ sources_end c.args.self.now.datagram.now + 4 = omega (arith, c.sources_end-start.ensures) in
     OnTrue_from _ _ (λ set. AreElements-out c.args.self.now c.in-Some.form (c.sources_end-start.result + 4) c.in-Some.is start c.renumber.new.body c.renumber.auto.body
     (filter_map (renumbered (new_id c.args.ids.now)) elements)
