@@ -17,5 +17,5 @@ mod FormLemmas
 pub mod WrittenBlockLemmas
 pub mod WrittenElementsLemmas
 mod WrittenValuesLemmas
-mod RenumberedValuesLemmas
+pub mod RenumberedValuesLemmas
 mod RawWritingLemmas

@@ -1,20 +1,24 @@
 -- A packet that is changed in its buffer: what is known of its header stays, and what becomes of the body of its block.
 use Rattle.std.proofs.Common.{◌≡◌, ℕ, ◌+◌, ◌-◌, ◌≤◌, List, [], length, drop, Option, Some, None, refl, sym, ap, subst, ◌∙◌, arith, length-drop, length-take-le}
 use Rattle.std.specs.Prelude.{is_some, option_map, slice_range}
+use Rattle.std.specs.Option.{IfSome, IfNone}
 use Rattle.std.proofs.lemmas.Slice.{between-put_mid}
 use borrow.Rule.Slice.PartMut.{put_mid}
 use Rattle.rtp_ext.specs.declared.ext.form.ExtensionsForm.{ExtensionsForm}
+use Rattle.rtp_values.specs.declared.value.values.ExtensionValues.{ExtensionValues}
 use Rattle.rtp_ext.specs.Elements.{Element, AreElements}
+use Rattle.rtp_ext.specs.ExtensionMap.{Slots}
+use Rattle.rtp_ext.specs.BlockValues.{SaysValues}
 use Rattle.rtp_wire.specs.declared.packet.rtp_packet_mut.RtpPacketMut.{RtpPacketMut}
 use Rattle.rtp_wire.specs.NotAHeader.{sources_end}
 use Rattle.rtp_wire.specs.Packet.{PacketParts, IsPacket}
 use Rattle.rtp_wire.specs.PartsAt.{IsLaidOut, form_in, header_end, parts_at}
 use Rattle.rtp_wire.specs.PartsOf.{parts_in}
-use Rattle.rtp_wire.specs.PacketElements.{AreElementsOf}
+use Rattle.rtp_wire.specs.PacketElements.{AreElementsOf, HasValues}
 use Rattle.rtp_wire.specs.ChangedPacket.{ChangesBlock}
 use Rattle.rtp_wire.proofs.PacketLemmas.{whole_and_parts}
 use Rattle.rtp_wire.proofs.HeaderFound.{HasHeader, HasHeader-packet_mut}
-use Rattle.rtp_wire.proofs.PartsLemmas.{block-header, body_within}
+use Rattle.rtp_wire.proofs.PartsLemmas.{body_within, block-header}
 use Rattle.rtp_wire.proofs.BytesBetween.{IsBetween, IsBetween-part}
 use Rattle.rtp_wire.proofs.PacketChanges.{HasHeader-stays, stays-in_body}
 use Rattle.rtp_wire.proofs.PacketParts.{parts-in_body}
@@ -55,10 +59,27 @@ IsLaidOut-header bytes header_len form is header =
       len_is = omega (arith, length-drop (header_end bytes) bytes);
     }
 
--- without a block there are no elements
+-- without a form there is no block, and without a block there are no elements
+pub no_block : (packet : RtpPacketMut) → packet.form ≡ None → (parts_in packet).block ≡ None
+no_block packet none =
+    sym (block-header packet.datagram.now packet.header_len packet.form (HasHeader-packet_mut packet))
+    ∙ ap (option_map {U = ExtensionsForm × List ℕ} (λ f. (f, slice_range packet.datagram.now (sources_end packet.datagram.now + 4) packet.header_len))) none
+
+-- what is said of a block, and of a packet without one
+pub if_some : (block : Option (ExtensionsForm × List ℕ)) (P : Type 0) → P → IfSome block (λ _. P)
+if_some None P holds = tt
+if_some (Some block) P holds = holds
+
+pub if_none : (block : Option (ExtensionsForm × List ℕ)) (P : ExtensionsForm × List ℕ → Type 0) → block ≡ None → IfSome block P
+if_none None P none = tt
+if_none (Some block) P none = absurd cc
+
+pub if_not_none : (block : Option (ExtensionsForm × List ℕ)) (P : Type 0) (found : ExtensionsForm × List ℕ) → block ≡ Some found → IfNone block P
+if_not_none None P found some = absurd cc
+if_not_none (Some block) P found some = tt
+
 pub no_elements : (packet : RtpPacketMut) (elements : List Element) → packet.form ≡ None → AreElementsOf (parts_in packet).block elements → elements ≡ []
-unfolding parts_at
-no_elements packet elements none are = (rw (sym packet.announced ∙ none) at are)
+no_elements packet elements none are = subst (λ (block : Option (ExtensionsForm × List ℕ)). AreElementsOf block elements) (no_block packet none) are
 
 -- a packet with a block of this form, whose body begins here
 module _ (packet : RtpPacketMut) (form : ExtensionsForm) (start : ℕ) (is : packet.form ≡ Some form) (start-is : start ≡ sources_end packet.datagram.now + 4) where
@@ -79,6 +100,10 @@ module _ (packet : RtpPacketMut) (form : ExtensionsForm) (start : ℕ) (is : pac
 
   pub AreElements-in : (elements : List Element) → AreElementsOf (parts_in packet).block elements → AreElements form (slice_range packet.datagram.now start packet.header_len) elements
   AreElements-in elements are = subst (λ (block : Option (ExtensionsForm × List ℕ)). AreElementsOf block elements) block_in are
+
+  pub HasValues-in : (exts : Slots) (values : ExtensionValues) → HasValues exts (parts_in packet).block values
+      → SaysValues form exts (slice_range packet.datagram.now start packet.header_len) values
+  HasValues-in exts values has = record { elements = has.elements; are_elements = AreElements-in has.elements has.are_elements; are_values = has.are_values }
 
   module _ (body : List ℕ) (as_many : length body ≡ length (slice_range packet.datagram.now start packet.header_len)) where
     abbrev new : List ℕ
@@ -122,3 +147,10 @@ module _ (packet : RtpPacketMut) (form : ExtensionsForm) (start : ℕ) (is : pac
     pub AreElements-out : (elements : List Element) → AreElements form body elements → AreElementsOf (parts_at new).block elements
     AreElements-out elements are =
         subst (λ (block : Option (ExtensionsForm × List ℕ)). AreElementsOf block elements) (sym (ap (λ (parts : PacketParts). parts.block) parts_of_new)) are
+
+    pub HasValues-out : (exts : Slots) (values : ExtensionValues) → SaysValues form exts body values → HasValues exts (parts_at new).block values
+    HasValues-out exts values says = record {
+      elements = says.elements;
+      are_elements = AreElements-out says.elements says.are_elements;
+      are_values = says.are_values;
+    }

@@ -1,6 +1,6 @@
 -- A packet whose bytes are changed where they lie: what says where its parts are stays, and in the fixed part each field changes alone.
-use Rattle.std.proofs.Common.{◌≡◌, ℕ, ◌+◌, ◌-◌, ◌*◌, ◌/◌, ◌%◌, ◌<◌, ◌≤◌, ◌^◌, Bool, true, false, bit_and, List, [], ◌∷◌, length, map, take, drop, Option, None, refl, sym, ap, subst, ◌∙◌, arith}
-use Rattle.std.specs.Prelude.{slice_index, slice_range, is_some, option_map, if◌then◌else◌}
+use Rattle.std.proofs.Common.{◌≡◌, ℕ, ◌+◌, ◌*◌, ◌/◌, ◌%◌, ◌<◌, ◌≤◌, ◌^◌, Bool, true, false, bit_and, List, [], ◌∷◌, length, map, take, drop, Option, None, refl, sym, ap, subst, ◌∙◌, arith}
+use Rattle.std.specs.Prelude.{slice_index, slice_range, option_map, if◌then◌else◌}
 use Rattle.std.specs.Int.{w16, w32, from_be_bytes, to_be_bytes}
 use Rattle.std.specs.Simd.{first_chunks}
 use Rattle.std.proofs.lemmas.Bool.{eq-eqb, ne_eqb}
@@ -12,8 +12,8 @@ use Rattle.rtp_base.specs.Overwriting.{overwritten}
 use Rattle.rtp_ext.specs.declared.ext.form.ExtensionsForm.{ExtensionsForm}
 use Rattle.rtp_wire.specs.Block.{word_at}
 use Rattle.rtp_wire.specs.NotAHeader.{sources_end}
-use Rattle.rtp_wire.specs.Packet.{PacketParts, IsSecondByte}
-use Rattle.rtp_wire.specs.PartsAt.{is_set, form_of_word, has_block, form_in, header_end, parts_at}
+use Rattle.rtp_wire.specs.Packet.{IsSecondByte}
+use Rattle.rtp_wire.specs.PartsAt.{is_set, form_of_word, form_in, header_end, parts_at}
 use Rattle.rtp_wire.proofs.BlockLemmas.{word_at-take}
 use Rattle.rtp_wire.proofs.FlagLemmas.{fields_from_second}
 use Rattle.rtp_wire.proofs.PacketLemmas.{bit-is_set, same_parts}

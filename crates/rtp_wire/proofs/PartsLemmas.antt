@@ -13,7 +13,7 @@ use Rattle.rtp_wire.specs.Packet.{PacketParts, IsAnnounced, IsPacket, block_len,
 use Rattle.rtp_wire.specs.PartsOf.{parts_of}
 use Rattle.rtp_wire.specs.PartsAt.{has_block, form_in, header_end, parts_at}
 use Rattle.rtp_wire.proofs.GroupLemmas.{length-concat, first_chunks-take}
-use Rattle.rtp_wire.proofs.PacketLemmas.{IsWhole, IsPacket-whole}
+use Rattle.rtp_wire.proofs.PacketLemmas.{IsPacket-whole}
 use Rattle.rtp_wire.proofs.HeaderFound.{HasHeader, HasHeader-packet, IsWhole-header}
 
 -- the sources are within the datagram

@@ -1,16 +1,20 @@
 //! The elements of a packet's block, changed where they lie.
 
-ghost use Rattle.std.specs.Prelude.{◌≡◌, ◌↔◌, List, length, IsTrue};
+ghost use Rattle.std.specs.Prelude.{◌≡◌, ◌↔◌, List, length, IsTrue, IfSome, IfNone, All};
 ghost use Rattle.std.specs.Bool.{OnTrue, OnFalse};
 ghost use Rattle.std.specs.List.{filter_map};
+ghost use Rattle.rtp_values.specs.declared.value.values.ExtensionValues.{ExtensionValues};
 ghost use Rattle.rtp_ext.specs.Elements.{Element};
-ghost use Rattle.rtp_ext.specs.ElementsInPlace.{HasNone, HasLastOf, SetsLast, HasOtherIds, renumbered, all_but};
+ghost use Rattle.rtp_ext.specs.ElementsInPlace.{HasNone, HasLastOf, SetsLast, HasOtherIds, CanRenumber, renumbered, all_but};
+ghost use Rattle.rtp_ext.specs.ExtensionMap.{Slots};
+ghost use Rattle.rtp_ext.specs.NewIds.{new_id, AreNewIds};
+ghost use Rattle.rtp_ext.specs.WrittenBlock.{mapped_fields};
 ghost use Rattle.rtp_wire.specs.ChangedPacket.{ChangesBlock};
-ghost use Rattle.rtp_wire.specs.PacketElements.{AreElementsOf};
+ghost use Rattle.rtp_wire.specs.PacketElements.{AreElementsOf, HasValues};
 
 use super::RtpPacketMut;
 use super::parsing::sources_end;
-use rtp_ext::{remove_element, set_element};
+use rtp_ext::{NewIds, remove_element, renumber, set_element};
 
 impl<'a> RtpPacketMut<'a> {
     ghost use Rattle.rtp_wire.specs.PartsOf.{parts_in, buffer_of};
@@ -55,5 +59,36 @@ impl<'a> RtpPacketMut<'a> {
         };
         let start = sources_end(self.datagram[0]) + 4;
         remove_element(form, &mut self.datagram[start..self.header_len], id)
+    }
+
+    /// Gives each element its new id where it lies, and makes an element whose id has no new one
+    /// zeros, which are padding; all other bytes stay (RFC 8285, 4.2 and 4.3). Returns `false`, and
+    /// nothing changes, where the form of the block can't carry the new id of an element: one above
+    /// 14 in the one-byte form. Where X is clear there is nothing to change, and it returns `true`.
+    ///
+    /// The packet then says under the second map what it said under the first, of the kinds that the
+    /// second maps and no other.
+    pub fn renumber(&mut self, ids: &NewIds) -> bool
+        ensures renumbered { OnTrue result (IfSome (parts_in self.old).block (λ _. ChangesBlock
+            (λ form. HasOtherIds form (new_id ids.now)) (parts_in self.old) (parts_in self.new))) }
+        ensures unchanged { OnFalse result ((buffer_of self.new).now ≡ (buffer_of self.old).now) }
+        ensures without_block { IfNone (parts_in self.old).block
+            ((buffer_of self.new).now ≡ (buffer_of self.old).now) }
+        ensures answer { (elements : List Element) → AreElementsOf (parts_in self.old).block elements →
+            IsTrue result ↔ IfSome (parts_in self.old).block (λ block.
+            All (CanRenumber block.0 (new_id ids.now)) elements) }
+        ensures elements { (elements : List Element) → AreElementsOf (parts_in self.old).block elements →
+            OnTrue result (AreElementsOf (parts_in self.new).block
+            (filter_map (renumbered (new_id ids.now)) elements)) }
+        ensures values { (from to : Slots) (values : ExtensionValues) → AreNewIds from to ids.now →
+            HasValues from (parts_in self.old).block values →
+            OnTrue result (HasValues to (parts_in self.new).block (mapped_fields to values)) }
+        ensures same_buffer { (buffer_of self.new).ghost_name ≡ (buffer_of self.old).ghost_name }
+    {
+        let Some(form) = self.form else {
+            return true;
+        };
+        let start = sources_end(self.datagram[0]) + 4;
+        renumber(form, &mut self.datagram[start..self.header_len], ids)
     }
 }

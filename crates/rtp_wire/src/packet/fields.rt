@@ -70,7 +70,7 @@ impl<'a> RtpPacket<'a> {
         self.header_len
     }
 
-    /// The form of the block, and None where X is clear.
+    /// The form of the block, and `None` where X is clear.
     pub fn form(&self) -> Option<ExtensionsForm>
         ensures { result ≡ option_map (λ block. block.0) (parts_of self.now).block }
     {

@@ -19,7 +19,7 @@ impl<'a> RtpPacket<'a> {
     }
 
     /// The payload: where P is set, the bytes before the padding, whose last byte counts it, itself
-    /// included (RFC 3550, 5.1). Returns None where that count is greater than the number of bytes.
+    /// included (RFC 3550, 5.1). Returns `None` where that count is greater than the number of bytes.
     /// A last byte of 0 takes nothing away, and without any byte the payload is empty.
     pub fn unpadded_payload(&self) -> Option<&'a [u8]>
         ensures found { IfSome result (λ payload.
