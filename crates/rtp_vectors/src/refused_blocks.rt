@@ -191,7 +191,7 @@ fn packets(alloc: Global) -> Result<[Vec<u8>; 2], AllocError> {
 }
 
 // Beside the packets, memory is asked for the list of the verdicts and for the receiver of their
-// source, and for nothing else: `.ci/run` counts four growths.
+// source.
 #[test]
 fn a_run_of_two_packets(rt: HostRuntime) {
     let packets = match packets(rt.alloc()) {
@@ -206,7 +206,7 @@ fn a_run_of_two_packets(rt: HostRuntime) {
     same(&rt, "the run", verdicts.as_slice(), wanted.as_slice());
 }
 
-// The same by one receiver, for which no memory is asked: three growths.
+// The same by one receiver, for which no memory is asked.
 #[test]
 fn a_run_of_two_packets_by_one(rt: HostRuntime) {
     let packets = match packets(rt.alloc()) {
