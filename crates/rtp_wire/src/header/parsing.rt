@@ -58,7 +58,17 @@ impl RtpHeader {
         }
     }
 
-    /// Reads the header that the bytes begin with into this one, as [`parse`](Self::parse) does.
+    /// Reads the header that the bytes begin with into this one, as [`parse`](Self::parse) reads it.
+    /// Nothing of the header as it was stays. A header that is used again for packet after packet
+    /// saves a value of its own for each.
+    ///
+    /// Returns `false` exactly when no header begins there, for the causes of `parse`, and then
+    /// nothing changes.
+    ///
+    /// Memory is taken for the lists of a layer allocation alone, and those of the header as it was
+    /// are given back. Where memory is refused, the header has the fields of the packet, and as its
+    /// values those of the elements before the one to which it was refused. The call may be made
+    /// again.
     #[inline(always)]
     pub fn parse_into(
         &mut self,
@@ -66,13 +76,20 @@ impl RtpHeader {
         buf: &[u8],
         exts: &ExtensionMap,
     ) -> Result<bool, AllocError>
+        // Memory is refused only where a layer allocation of two bytes or more is in the block.
         ensures memory { OnErr result (HeaderHasAllocation exts.now buf.now) }
         ensures stopped { OnErr result (IsWireStopped exts.now buf.now self.new) }
         ensures succeeds { (HeaderHasAllocation exts.now buf.now → ⊥) → IsOk result }
+
+        // What is read is a header of these bytes, and each header of these bytes is read.
         ensures found { IfOk result (λ found. OnTrue found (IsWire exts.now buf.now self.new)) }
         ensures only { (header : RtpHeader) → IsWire exts.now buf.now header →
             IfOk result (λ found. (found ≡ true) × (self.new ≡ header)) }
+
+        // So the payload is the bytes from `header_len` on.
         ensures within { IfOk result (λ found. OnTrue found (self.new.header_len ≤ length buf.now)) }
+
+        // The causes for which no header is read, and there are no others.
         ensures refused { (result ≡ Ok false) ↔ NotAHeader buf.now }
         ensures same { NotAHeader buf.now → self.new ≡ self.old }
     {
