@@ -16,3 +16,4 @@ pub mod WrittenBlockLemmas
 pub mod WrittenElementsLemmas
 mod WrittenValuesLemmas
 mod RawWritingLemmas
+pub mod ServingFormLemmas

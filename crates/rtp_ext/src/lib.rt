@@ -6,7 +6,7 @@ mod ext;
 
 pub use ext::{
     Elements, ExtensionMap, ExtensionsForm, Iter, IterByMediaType, MAX_ID, MAX_ID_ONE_BYTE_FORM,
-    element_of, set_element, write_elements,
+    element_of, put_elements, set_element, write_elements,
 };
 pub use rtp_values::{
     AbsCaptureTime, Extension, ExtensionValues, Uri, VideoOrientation, VideoTiming,

@@ -10,6 +10,7 @@ mod map;
 mod mapped_ids;
 mod place;
 mod raw_writing;
+mod serving_form;
 mod slot;
 mod slots;
 
@@ -18,4 +19,4 @@ pub use form::{ExtensionsForm, MAX_ID_ONE_BYTE_FORM};
 pub use in_place::{element_of, set_element};
 pub use iter::{Iter, IterByMediaType};
 pub use map::{ExtensionMap, MAX_ID};
-pub use raw_writing::write_elements;
+pub use raw_writing::{put_elements, write_elements};
