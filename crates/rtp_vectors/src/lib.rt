@@ -31,6 +31,8 @@ mod headers_read;
 #[cfg(test)]
 mod headers_tried;
 #[cfg(test)]
+mod headers_with_elements;
+#[cfg(test)]
 mod headers_with_values;
 #[cfg(test)]
 mod headers_written;
