@@ -19,3 +19,4 @@ pub mod WrittenElementsLemmas
 mod WrittenValuesLemmas
 pub mod RenumberedValuesLemmas
 mod RawWritingLemmas
+pub mod ServingFormLemmas

@@ -127,23 +127,27 @@ AreUnderWay-step form old buf new elements left more element at end before split
     }
 
 -- all are written
-pub record AreInARow (form : ExtensionsForm) (old buf : List ℕ) (elements : List Element) (len : ℕ) : Type 0 where
-  pub written : buf ≡ elements_bytes form elements ++ drop len old
-  pub length_is : len ≡ length (elements_bytes form elements)
-  pub read : (zeros : ℕ) → AreElements form (take len buf ++ replicate zeros 0) elements
-
 pub AreUnderWay-end : (form : ExtensionsForm) (old buf : List ℕ) (elements left : List Element) (at : ℕ)
-    → AreUnderWay form old buf elements left at → left ≡ [] → AreInARow form old buf elements at
+    → AreUnderWay form old buf elements left at → left ≡ []
+    → (at ≡ length (elements_bytes form elements)) × (buf ≡ elements_bytes form elements ++ drop at old)
 AreUnderWay-end form old buf elements left at before none =
     let row = elements_bytes form elements in
     let bytes : elements_bytes form left ≡ [] = ap (elements_bytes form) none in
     let end : at ≡ length row = omega (arith, before.ends, ap length bytes) in
     let whole : buf ≡ row ++ drop (length row) old =
     sym (overwritten-nil buf at) ∙ (ap (overwritten buf at) (sym bytes) ∙ (before.makes ∙ overwritten-front old row)) in
-    let front : take at buf ≡ row = ap (take at) whole ∙ take_at row (drop (length row) old) at (sym end) in
-    record {
-      written = whole ∙ ap (λ (k : ℕ). row ++ drop k old) (sym end);
-      length_is = end;
-      read = λ zeros. subst (λ (b : List ℕ). AreElements form (b ++ replicate zeros 0) elements) (sym front)
-          (AreElements-in_a_row form elements zeros (all-elements form elements before.fit.writable));
-    }
+    (end, whole ∙ ap (λ (k : ℕ). row ++ drop k old) (sym end))
+
+-- and are read, with any zeros after them
+pub FitInARow-read : (form : ExtensionsForm) (elements : List Element) (room zeros : ℕ) → FitInARow form elements room
+    → AreElements form (elements_bytes form elements ++ replicate zeros 0) elements
+FitInARow-read form elements room zeros fit = AreElements-in_a_row form elements zeros (all-elements form elements fit.writable)
+
+-- also as the front of the buffer
+pub AreElements-front : (form : ExtensionsForm) (elements : List Element) (buf rest : List ℕ) (len zeros : ℕ) → len ≡ length (elements_bytes form elements)
+    → buf ≡ elements_bytes form elements ++ rest → AreElements form (elements_bytes form elements ++ replicate zeros 0) elements
+    → AreElements form (take len buf ++ replicate zeros 0) elements
+AreElements-front form elements buf rest len zeros len-is is read =
+    let row = elements_bytes form elements in
+    let front : take len buf ≡ row = ap (take len) is ∙ take_at row rest len (sym len-is) in
+    subst (λ (b : List ℕ). AreElements form (b ++ replicate zeros 0) elements) (sym front) read

@@ -47,14 +47,18 @@ padding_of len = (4 - len % 4) % 4
 abbrev pub whole_words : ℕ → ℕ
 whole_words len = len + padding_of len
 
--- the elements, and zeros that fill the last word
-abbrev pub body_bytes : Slots → ExtensionValues → List ℕ
-body_bytes exts values =
-    let bytes = elements_bytes (form_of exts values) (written_elements exts values) in
-    bytes ++ replicate (padding_of (length bytes)) 0
+-- bytes, and zeros that fill their last word
+abbrev pub filled : List ℕ → List ℕ
+filled bytes = bytes ++ replicate (padding_of (length bytes)) 0
 
 -- a block: the word of its form, the number of its words, and its body
+abbrev pub block_of : ExtensionsForm → List ℕ → List ℕ
+block_of form body = to_be_bytes w16 (form_word form) ++ (to_be_bytes w16 (length body / 4) ++ body)
+
+-- the elements of the values, and zeros that fill the last word
+abbrev pub body_bytes : Slots → ExtensionValues → List ℕ
+body_bytes exts values = filled (elements_bytes (form_of exts values) (written_elements exts values))
+
+-- the block of the values
 unfoldable pub block_bytes : Slots → ExtensionValues → List ℕ
-block_bytes exts values =
-    to_be_bytes w16 (form_word (form_of exts values))
-    ++ (to_be_bytes w16 (length (body_bytes exts values) / 4) ++ body_bytes exts values)
+block_bytes exts values = block_of (form_of exts values) (body_bytes exts values)

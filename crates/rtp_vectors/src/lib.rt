@@ -35,6 +35,8 @@ mod headers_read_again;
 #[cfg(test)]
 mod headers_tried;
 #[cfg(test)]
+mod headers_with_elements;
+#[cfg(test)]
 mod headers_with_values;
 #[cfg(test)]
 mod headers_written;

@@ -14,35 +14,38 @@ use Rattle.rtp_values.specs.Values.{no_values}
 use Rattle.rtp_wire.specs.Block.{IsBlock}
 use Rattle.rtp_wire.specs.Header.{IsExtensionPart}
 use Rattle.rtp_base.specs.Overwriting.{overwritten}
-use Rattle.rtp_ext.specs.WrittenBlock.{written_elements, form_of, padding_of, body_bytes, block_bytes, image_values}
+use Rattle.rtp_ext.specs.WrittenBlock.{written_elements, form_of, padding_of, filled, block_of, body_bytes, block_bytes, image_values}
 use Rattle.rtp_base.proofs.OverwritingLemmas.{overwritten-overwritten, overwritten-before, overwritten-front, overwritten-rest, length-overwritten}
 
-pub length-body : (exts : ExtensionMap) (values : ExtensionValues) (n : ℕ) → n ≡ length (elements_bytes (form_of exts values) (written_elements exts values))
-    → length (body_bytes exts values) ≡ n + padding_of n
-length-body exts values n is =
-    let row = elements_bytes (form_of exts values) (written_elements exts values) in
+pub length-filled : (row : List ℕ) (n : ℕ) → n ≡ length row → length (filled row) ≡ n + padding_of n
+length-filled row n is =
     length-append row (replicate (padding_of (length row)) 0)
     ∙ ap (λ (k : ℕ). length row + k) (length-replicate (padding_of (length row)) 0)
     ∙ ap (λ (k : ℕ). k + padding_of k) (sym is)
 
+pub length-block_of : (form : ExtensionsForm) (row : List ℕ) (n : ℕ) → n ≡ length row → length (block_of form (filled row)) ≡ 4 + (n + padding_of n)
+length-block_of form row n is = omega (arith, length-filled row n is)
+
 pub length-block : (exts : ExtensionMap) (values : ExtensionValues) (n : ℕ) → n ≡ length (elements_bytes (form_of exts values) (written_elements exts values))
     → length (block_bytes exts values) ≡ 4 + (n + padding_of n)
 unfolding block_bytes
-length-block exts values n is = omega (arith, length-body exts values n is)
+length-block exts values n is = length-block_of (form_of exts values) (elements_bytes (form_of exts values) (written_elements exts values)) n is
 
 -- whole words after the four bytes of the form's word and their number
-IsBlock-made : (form : ExtensionsForm) (body : List ℕ) → length body % 4 ≡ 0 → length body < 262144
-    → IsBlock (to_be_bytes w16 (form_word form) ++ (to_be_bytes w16 (length body / 4) ++ body)) form body
-IsBlock-made OneByte body whole fits = record {
-  form_is = refl;
-  words = let number = from_be_bytes-to_be_bytes_2 (length body / 4) (omega arith) in omega arith;
-  body_is = refl;
-}
-IsBlock-made TwoByte body whole fits = record {
-  form_is = (omega arith, omega arith);
-  words = let number = from_be_bytes-to_be_bytes_2 (length body / 4) (omega arith) in omega arith;
-  body_is = refl;
-}
+pub IsBlock-made : (form : ExtensionsForm) (row : List ℕ) → length row ≤ 262140 → IsBlock (block_of form (filled row)) form (filled row)
+IsBlock-made form row few = by_form form (filled row) (omega (arith, length-filled row (length row) refl)) (omega (arith, length-filled row (length row) refl))
+  where
+    by_form : (form : ExtensionsForm) (body : List ℕ) → length body % 4 ≡ 0 → length body < 262144 → IsBlock (block_of form body) form body
+    by_form OneByte body whole fits = record {
+      form_is = refl;
+      words = let number = from_be_bytes-to_be_bytes_2 (length body / 4) (omega arith) in omega arith;
+      body_is = refl;
+    }
+    by_form TwoByte body whole fits = record {
+      form_is = (omega arith, omega arith);
+      words = let number = from_be_bytes-to_be_bytes_2 (length body / 4) (omega arith) in omega arith;
+      body_is = refl;
+    }
 
 -- what is written is read as the image of the values
 pub IsExtensionPart-written : (exts : ExtensionMap) (values : ExtensionValues) (n : ℕ) → n ≡ length (elements_bytes (form_of exts values) (written_elements exts values)) → n ≤ 65535
@@ -51,70 +54,50 @@ pub IsExtensionPart-written : (exts : ExtensionMap) (values : ExtensionValues) (
     → IsExtensionPart exts true (block_bytes exts values) (image_values exts values)
 unfolding block_bytes
 IsExtensionPart-written exts values n is few elements are_values =
-    let len = length-body exts values n is in record {
+    let row = elements_bytes (form_of exts values) (written_elements exts values) in record {
       block = Some (form_of exts values, body_bytes exts values);
-      is_part = IsBlock-made (form_of exts values) (body_bytes exts values) (omega arith) (omega arith);
-      has_values = record {
-        elements = written_elements exts values;
-        are_elements = elements (padding_of (length (elements_bytes (form_of exts values) (written_elements exts values))));
-        are_values = are_values;
-      };
+      is_part = IsBlock-made (form_of exts values) row (omega arith);
+      has_values = record { elements = written_elements exts values; are_elements = elements (padding_of (length row)); are_values = are_values };
     }
 
 -- the elements, the zeros after them and the header in front of them
-pub block-put : (exts : ExtensionMap) (values : ExtensionValues) (buf one two three header : List ℕ) (form : ExtensionsForm) (n len : ℕ)
-    → form ≡ form_of exts values → n ≡ length (elements_bytes (form_of exts values) (written_elements exts values)) → n ≤ 65535
-    → length (block_bytes exts values) ≤ length buf
-    → one ≡ overwritten buf 4 (elements_bytes (form_of exts values) (written_elements exts values))
-    → two ≡ overwritten one (4 + n) (replicate (padding_of n) 0) → len ≡ 4 + n + padding_of n
+pub block-put : (row buf one two three header : List ℕ) (form : ExtensionsForm) (n len : ℕ) → n ≡ length row → 4 + (n + padding_of n) ≤ length buf
+    → one ≡ overwritten buf 4 row → two ≡ overwritten one (4 + n) (replicate (padding_of n) 0) → len ≡ 4 + n + padding_of n
     → header ≡ to_be_bytes w16 (form_word form) ++ to_be_bytes w16 ((n + padding_of n) / 4)
-    → three ≡ overwritten two 0 header → three ≡ block_bytes exts values ++ drop len buf
-unfolding block_bytes
-block-put exts values buf one two three header form n len form-is is few room one-is two-is len-is header-is three-is =
-    let row = elements_bytes (form_of exts values) (written_elements exts values) in
+    → three ≡ overwritten two 0 header → three ≡ block_of form (filled row) ++ drop len buf
+block-put row buf one two three header form n len is room one-is two-is len-is header-is three-is =
     let zeros = replicate (padding_of n) 0 in
-    let long = length-replicate {A = ℕ} (padding_of n) 0 in
-    let body : row ++ zeros ≡ body_bytes exts values = ap (λ (k : ℕ). row ++ replicate (padding_of k) 0) is in
-    let size = length-body exts values n is in
-    let words : (n + padding_of n) / 4 ≡ length (body_bytes exts values) / 4 = ap (λ (k : ℕ). k / 4) (sym size) in
-    let made : header ≡ to_be_bytes w16 (form_word (form_of exts values)) ++ to_be_bytes w16 (length (body_bytes exts values) / 4) =
-    header-is ∙ ap (λ (f : ExtensionsForm). to_be_bytes w16 (form_word f) ++ to_be_bytes w16 ((n + padding_of n) / 4)) form-is
-    ∙ ap (λ (k : ℕ). to_be_bytes w16 (form_word (form_of exts values)) ++ to_be_bytes w16 k) words in
+    let body = filled row in
+    let body-is : row ++ zeros ≡ body = ap (λ (k : ℕ). row ++ replicate (padding_of k) 0) is in
+    let size = length-filled row n is in
+    let made : header ≡ to_be_bytes w16 (form_word form) ++ to_be_bytes w16 (length body / 4) =
+    header-is ∙ ap (λ (k : ℕ). to_be_bytes w16 (form_word form) ++ to_be_bytes w16 (k / 4)) (sym size) in
     let four : length header ≡ 4 = ap length made in
-    let joined : two ≡ overwritten buf (length header) (body_bytes exts values) =
+    let joined : two ≡ overwritten buf (length header) body =
     two-is ∙ ap (λ (xs : List ℕ). overwritten xs (4 + n) zeros) one-is
-    ∙ overwritten-overwritten buf row zeros 4 (4 + n) (omega (arith, is)) (omega (arith, size))
-    ∙ ap (overwritten buf 4) body ∙ ap (λ (k : ℕ). overwritten buf k (body_bytes exts values)) (sym four) in
-    let whole : header ++ body_bytes exts values ≡ to_be_bytes w16 (form_word (form_of exts values)) ++ (to_be_bytes w16 (length (body_bytes exts values) / 4) ++ body_bytes exts values) =
-    ap (λ (xs : List ℕ). xs ++ body_bytes exts values) made in
+    ∙ overwritten-overwritten buf row zeros 4 (4 + n) (omega (arith, is)) (omega arith)
+    ∙ ap (overwritten buf 4) body-is ∙ ap (λ (k : ℕ). overwritten buf k body) (sym four) in
     three-is ∙ ap (λ (xs : List ℕ). overwritten xs 0 header) joined
-    ∙ overwritten-before buf header (body_bytes exts values) 0 (length header) (omega arith) (omega (arith, size))
-    ∙ overwritten-front buf (header ++ body_bytes exts values)
-    ∙ ap (λ (k : ℕ). (header ++ body_bytes exts values) ++ drop k buf) (omega (arith, length-append header (body_bytes exts values), size))
-    ∙ ap (λ (xs : List ℕ). xs ++ drop len buf) whole
+    ∙ overwritten-before buf header body 0 (length header) (omega arith) (omega (arith, size))
+    ∙ overwritten-front buf (header ++ body)
+    ∙ ap (λ (k : ℕ). (header ++ body) ++ drop k buf) (omega (arith, length-append header body, size))
+    ∙ ap (λ (xs : List ℕ). (xs ++ body) ++ drop len buf) made
 
--- the elements put after the first four bytes, and the room for the whole block
-pub record IsRowPut (exts : ExtensionMap) (values : ExtensionValues) (buf one : List ℕ) (n : ℕ) : Type 0 where
-  pub row_len : n ≡ length (elements_bytes (form_of exts values) (written_elements exts values))
-  pub put : one ≡ overwritten buf 4 (elements_bytes (form_of exts values) (written_elements exts values))
+-- the elements put after the first four bytes
+pub record IsRowPut (row buf one : List ℕ) (n : ℕ) : Type 0 where
+  pub put : one ≡ overwritten buf 4 row
   pub long : length one ≡ length buf
-  pub room : 4 + (n + padding_of n) ≤ length buf
 
-pub row-put : (exts : ExtensionMap) (values : ExtensionValues) (buf new : List ℕ) (form : ExtensionsForm) (n : ℕ) → form ≡ form_of exts values
-    → n ≡ length (elements_bytes form (written_elements exts values)) → new ≡ elements_bytes form (written_elements exts values) ++ drop n (take (length buf - 4) (drop 4 buf))
-    → length (block_bytes exts values) ≤ length buf → IsRowPut exts values buf (take 4 buf ++ (new ++ drop (length buf - 4) (drop 4 buf))) n
-row-put exts values buf new form n form-is len new-is fits =
-    let elements = written_elements exts values in
-    let row_len = len ∙ ap (λ (f : ExtensionsForm). length (elements_bytes f elements)) form-is in
-    let size = length-block exts values n row_len in
-    let row = elements_bytes (form_of exts values) elements in
+pub row-put : (row buf new : List ℕ) (n : ℕ) → n ≡ length row → new ≡ row ++ drop n (take (length buf - 4) (drop 4 buf)) → 4 + length row ≤ length buf
+    → IsRowPut row buf (take 4 buf ++ (new ++ drop (length buf - 4) (drop 4 buf))) n
+row-put row buf new n len new-is fits =
     let put : take 4 buf ++ (new ++ drop (length buf - 4) (drop 4 buf)) ≡ overwritten buf 4 row =
-    overwritten-rest buf new row 4 (omega (arith, size))
-    (new-is ∙ ap (λ (f : ExtensionsForm). elements_bytes f elements ++ drop n (take (length buf - 4) (drop 4 buf))) form-is
-    ∙ ap (λ (k : ℕ). row ++ drop k (take (length buf - 4) (drop 4 buf))) row_len) in
-    record {
-      row_len = row_len;
-      put = put;
-      long = ap length put ∙ length-overwritten buf row 4 (omega (arith, size));
-      room = omega (arith, size);
-    }
+    overwritten-rest buf new row 4 fits (new-is ∙ ap (λ (k : ℕ). row ++ drop k (take (length buf - 4) (drop 4 buf))) len) in
+    record { put = put; long = ap length put ∙ length-overwritten buf row 4 fits }
+
+-- the block of the values, by its form
+pub block_bytes-closed : (exts : ExtensionMap) (values : ExtensionValues) (new rest : List ℕ) (form : ExtensionsForm) → form ≡ form_of exts values
+    → new ≡ block_of form (filled (elements_bytes form (written_elements exts values))) ++ rest → new ≡ block_bytes exts values ++ rest
+unfolding block_bytes
+block_bytes-closed exts values new rest form form-is is =
+    is ∙ ap (λ (f : ExtensionsForm). block_of f (filled (elements_bytes f (written_elements exts values))) ++ rest) form-is

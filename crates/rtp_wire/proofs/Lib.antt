@@ -13,6 +13,7 @@ mod ValuesLemmas
 mod HeaderLemmas
 mod BlockWriting
 mod RoundTrip
+mod WritingWithLemmas
 mod PaddingLemmas
 mod StandardFacts
 pub mod WideningLemmas

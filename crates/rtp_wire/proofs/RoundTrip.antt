@@ -13,7 +13,7 @@ use Rattle.rtp_wire.specs.Packet.{PacketParts, IsFirstByte, IsFixedPart, IsAnnou
 use Rattle.rtp_wire.proofs.HeaderLemmas.{IsHeaderOf-read}
 use Rattle.rtp_wire.proofs.PartsLemmas.{length-announced}
 use Rattle.rtp_base.specs.Overwriting.{overwritten}
-use Rattle.rtp_wire.specs.Written.{fixed_bytes, source_bytes, extension_bytes, wire_bytes, carried_image, image_of}
+use Rattle.rtp_wire.specs.Written.{fixed_bytes, source_bytes, header_bytes, parts_written, extension_bytes, wire_bytes, carried_image, image_of}
 use Rattle.rtp_wire.proofs.GroupLemmas.{AreFours}
 use Rattle.rtp_base.proofs.OverwritingLemmas.{overwritten-three}
 use Rattle.rtp_wire.proofs.GroupLemmas.{length-numbers}
@@ -28,22 +28,16 @@ pub record IsInRange (h : RtpHeader) : Type 0 where
   pub ssrc : h.ssrc < 2 ^ 32
   pub sources : AllByRecursion (λ source. source < 2 ^ 32) (take h.csrc_count h.csrc)
 
+pub length-header_bytes : (h : RtpHeader) (part : List ℕ) → h.csrc_count ≤ length h.csrc → length (header_bytes h part) ≡ 12 + 4 * h.csrc_count + length part
+length-header_bytes h part within =
+    let sources : length (source_bytes h) ≡ 4 * h.csrc_count =
+    length-numbers (take h.csrc_count h.csrc) ∙ ap (λ (k : ℕ). 4 * k) (length-take-le h.csrc_count h.csrc within) in
+    omega (arith, length-append (fixed_bytes h) (source_bytes h ++ part), length-append (source_bytes h) part, sources)
+
 pub length-wire_bytes : (exts : ExtensionMap) (h : RtpHeader) → h.csrc_count ≤ length h.csrc
     → length (wire_bytes exts h) ≡ 12 + 4 * h.csrc_count + length (extension_bytes exts h.has_extension h.ext_vals)
 unfolding wire_bytes
-length-wire_bytes exts h within =
-    let block = extension_bytes exts h.has_extension h.ext_vals in
-    let sources : length (source_bytes h) ≡ 4 * h.csrc_count =
-    length-numbers (take h.csrc_count h.csrc) ∙ ap (λ (k : ℕ). 4 * k) (length-take-le h.csrc_count h.csrc within) in
-    omega (arith, length-append (fixed_bytes h) (source_bytes h ++ block), length-append (source_bytes h) block, sources)
-
--- the header in front of what is left of a buffer
-wire_bytes-is : (h : RtpHeader) (exts : ExtensionMap) (buf : List ℕ)
-    → (fixed_bytes h ++ (source_bytes h ++ extension_bytes exts h.has_extension h.ext_vals))
-    ++ drop (length (fixed_bytes h ++ (source_bytes h ++ extension_bytes exts h.has_extension h.ext_vals))) buf
-    ≡ wire_bytes exts h ++ drop (length (wire_bytes exts h)) buf
-unfolding wire_bytes
-wire_bytes-is h exts buf = refl
+length-wire_bytes exts h within = length-header_bytes h (extension_bytes exts h.has_extension h.ext_vals) within
 
 -- ---- the sources
 
@@ -68,25 +62,10 @@ AllByRecursion-from_each (x ∷ xs) fits = (fits 0, AllByRecursion-from_each xs 
 
 -- ---- the header
 
--- the parts of a written header, with this block, and this payload after it
-abbrev written_parts : RtpHeader → Option (ExtensionsForm × List ℕ) → List ℕ → PacketParts
-written_parts h block payload = record {
-  has_padding = h.has_padding;
-  has_extension = h.has_extension;
-  marker = h.marker;
-  payload_type = h.payload_type;
-  sequence_number = h.sequence_number;
-  timestamp = h.timestamp;
-  ssrc = h.ssrc;
-  sources = take h.csrc_count h.csrc;
-  block = block;
-  payload = payload;
-}
-
 number : (h : RtpHeader) → IsInRange h → length (take h.csrc_count h.csrc) ≡ h.csrc_count
 number h fits = length-take-le h.csrc_count h.csrc (omega (arith, fits.count, fits.slots))
 
-fixed-back : (h : RtpHeader) (block : Option (ExtensionsForm × List ℕ)) (payload : List ℕ) → IsInRange h → IsFixedPart (fixed_bytes h) (written_parts h block payload)
+fixed-back : (h : RtpHeader) (block : Option (ExtensionsForm × List ℕ)) (payload : List ℕ) → IsInRange h → IsFixedPart (fixed_bytes h) (parts_written h block payload)
 fixed-back h block payload fits = record {
   twelve = refl;
   first_is = rw (number h fits) (record { sum = refl; few = fits.count });
@@ -96,23 +75,21 @@ fixed-back h block payload fits = record {
   ssrc_is = sym (from_be_bytes-to_be_bytes_4 h.ssrc fits.ssrc);
 }
 
-packet-written : (h : RtpHeader) (exts : ExtensionMap) (block : Option (ExtensionsForm × List ℕ)) (rest : List ℕ) → IsInRange h
-    → IsAnnounced h.has_extension block (extension_bytes exts h.has_extension h.ext_vals) → IsPacket (wire_bytes exts h ++ rest) (written_parts h block rest)
-unfolding wire_bytes
-packet-written h exts block rest fits part =
+pub packet-written : (h : RtpHeader) (part : List ℕ) (block : Option (ExtensionsForm × List ℕ)) (rest : List ℕ) → IsInRange h
+    → IsAnnounced h.has_extension block part → IsPacket (header_bytes h part ++ rest) (parts_written h block rest)
+packet-written h part block rest fits announced =
     let sources = take h.csrc_count h.csrc in
-    let bytes = extension_bytes exts h.has_extension h.ext_vals in
     record {
       fixed = fixed_bytes h;
       groups = map (to_be_bytes w32) sources;
-      part = bytes;
+      part = part;
       in_order =
-          append_assoc (fixed_bytes h) (source_bytes h ++ bytes) rest
+          append_assoc (fixed_bytes h) (source_bytes h ++ part) rest
           ∙ ap (λ (ys : List ℕ). fixed_bytes h ++ ys)
-          (append_assoc (source_bytes h) bytes rest ∙ ap (λ (ys : List ℕ). ys ++ (bytes ++ rest)) (sym (concat-numbers sources)));
+          (append_assoc (source_bytes h) part rest ∙ ap (λ (ys : List ℕ). ys ++ (part ++ rest)) (sym (concat-numbers sources)));
       fixed_is = fixed-back h block rest fits;
       sources_are = record { of_four = AreFours-numbers sources; numbers_are = sym (numbers-back sources fits.sources) };
-      part_is = part;
+      part_is = announced;
     }
 
 -- the image, by how many sources there are and how long it is
@@ -121,22 +98,22 @@ image_with h values count len = record h { version = 2; csrc_count = count; csrc
 
 image-parts : (h : RtpHeader) (exts : ExtensionMap) (block : Option (ExtensionsForm × List ℕ)) (rest : List ℕ) → IsInRange h
     → IsAnnounced h.has_extension block (extension_bytes exts h.has_extension h.ext_vals)
-    → image_of exts h ≡ header_of (written_parts h block rest) (carried_image exts h.has_extension h.ext_vals)
+    → image_of exts h ≡ header_of (parts_written h block rest) (carried_image exts h.has_extension h.ext_vals)
 unfolding image_of image_with
 image-parts h exts block rest fits part =
     let values = carried_image exts h.has_extension h.ext_vals in
-    let len : length (wire_bytes exts h) ≡ header_len_of (written_parts h block rest) =
+    let len : length (wire_bytes exts h) ≡ header_len_of (parts_written h block rest) =
     omega (arith, length-wire_bytes exts h (omega (arith, fits.count, fits.slots)), length-announced h.has_extension block (extension_bytes exts h.has_extension h.ext_vals) part, number h fits) in
     ap (λ (k : ℕ). image_with h values k (length (wire_bytes exts h))) (sym (number h fits)) ∙ ap (image_with h values (length (take h.csrc_count h.csrc))) len
 
 pub IsWire-written : (h : RtpHeader) (exts : ExtensionMap) (rest : List ℕ) → IsInRange h
     → IsExtensionPart exts h.has_extension (extension_bytes exts h.has_extension h.ext_vals) (carried_image exts h.has_extension h.ext_vals)
     → IsWire exts (wire_bytes exts h ++ rest) (image_of exts h)
-unfolding image_of
+unfolding wire_bytes image_of
 IsWire-written h exts rest fits part = record {
-  parts = written_parts h part.block rest;
-  is_packet = packet-written h exts part.block rest fits part.is_part;
-  is_header = IsHeaderOf-read exts (written_parts h part.block rest) (carried_image exts h.has_extension h.ext_vals) (carried_image exts h.has_extension h.ext_vals) (image_of exts h) (image-parts h exts part.block rest fits part.is_part) part.has_values;
+  parts = parts_written h part.block rest;
+  is_packet = packet-written h (extension_bytes exts h.has_extension h.ext_vals) part.block rest fits part.is_part;
+  is_header = IsHeaderOf-read exts (parts_written h part.block rest) (carried_image exts h.has_extension h.ext_vals) (carried_image exts h.has_extension h.ext_vals) (image_of exts h) (image-parts h exts part.block rest fits part.is_part) part.has_values;
 }
 
 -- V, P, X and CC in the first byte
@@ -146,21 +123,30 @@ unfolding wire_bytes
 IsFirstByte-written h exts bytes rest is few = record { sum = ap (λ (xs : List ℕ). slice_index xs 0) is; few = few }
 
 -- the pieces that are put one after the other are the written header
+pub header_bytes-from_pieces : (h : RtpHeader) (part buf one two three fixed : List ℕ) (first second third : ℕ)
+    → h.csrc_count ≤ length h.csrc → length (header_bytes h part) ≤ length buf → fixed ≡ fixed_bytes h
+    → one ≡ overwritten buf 0 fixed → first ≡ 0 + length fixed
+    → two ≡ overwritten one first (source_bytes h) → second ≡ first + 4 * length (take h.csrc_count h.csrc)
+    → three ≡ overwritten two second part → third ≡ second + length part
+    → (third ≡ length (header_bytes h part)) × (three ≡ header_bytes h part ++ drop third buf)
+header_bytes-from_pieces h part buf one two three fixed first second third within room fixed-is one-is first-is two-is second-is three-is third-is =
+    let sources = take h.csrc_count h.csrc in
+    let len = length-header_bytes h part within in
+    let twelve : length fixed ≡ 12 = ap length fixed-is in
+    let number : length sources ≡ h.csrc_count = length-take-le h.csrc_count h.csrc within in
+    let bytes-len : length (source_bytes h) ≡ 4 * length sources = length-numbers sources in
+    let end : third ≡ length (header_bytes h part) = omega arith in
+    let put : three ≡ header_bytes h part ++ drop (length (header_bytes h part)) buf =
+    three-is ∙ rw (two-is, one-is, fixed-is)
+    (overwritten-three buf (fixed_bytes h) (source_bytes h) part first second (omega arith) (omega arith) (omega arith)) in
+    (end, put ∙ ap (λ (k : ℕ). header_bytes h part ++ drop k buf) (sym end))
+
+-- the same where the part is what X announces
 pub wire_bytes-from_pieces : (h : RtpHeader) (exts : ExtensionMap) (buf one two three fixed : List ℕ) (first second third : ℕ)
     → h.csrc_count ≤ length h.csrc → length (wire_bytes exts h) ≤ length buf → fixed ≡ fixed_bytes h
     → one ≡ overwritten buf 0 fixed → first ≡ 0 + length fixed
     → two ≡ overwritten one first (source_bytes h) → second ≡ first + 4 * length (take h.csrc_count h.csrc)
     → three ≡ overwritten two second (extension_bytes exts h.has_extension h.ext_vals) → third ≡ second + length (extension_bytes exts h.has_extension h.ext_vals)
     → (third ≡ length (wire_bytes exts h)) × (three ≡ wire_bytes exts h ++ drop third buf)
-wire_bytes-from_pieces h exts buf one two three fixed first second third within room fixed-is one-is first-is two-is second-is three-is third-is =
-    let sources = take h.csrc_count h.csrc in
-    let block = extension_bytes exts h.has_extension h.ext_vals in
-    let len = length-wire_bytes exts h within in
-    let twelve : length fixed ≡ 12 = ap length fixed-is in
-    let number : length sources ≡ h.csrc_count = length-take-le h.csrc_count h.csrc within in
-    let bytes-len : length (source_bytes h) ≡ 4 * length sources = length-numbers sources in
-    let end : third ≡ length (wire_bytes exts h) = omega arith in
-    let put : three ≡ (fixed_bytes h ++ (source_bytes h ++ block)) ++ drop (length (fixed_bytes h ++ (source_bytes h ++ block))) buf =
-    three-is ∙ rw (two-is, one-is, fixed-is)
-    (overwritten-three buf (fixed_bytes h) (source_bytes h) block first second (omega arith) (omega arith) (omega arith)) in
-    (end, put ∙ wire_bytes-is h exts buf ∙ ap (λ (k : ℕ). wire_bytes exts h ++ drop k buf) (sym end))
+unfolding wire_bytes
+wire_bytes-from_pieces h exts = header_bytes-from_pieces h (extension_bytes exts h.has_extension h.ext_vals)

@@ -11,6 +11,7 @@ pub use Rattle.rtp_ext.specs.BlockValues
 pub use Rattle.rtp_ext.specs.Memory
 pub use Rattle.rtp_values.specs.Spelling
 pub use Rattle.rtp_ext.specs.WrittenBlock
+pub use Rattle.rtp_ext.specs.ElementsInARow
 pub use Rattle.rtp_values.specs.SendTime
 pub use Rattle.rtp_vla.specs.Leb
 pub use Rattle.rtp_vla.specs.Allocation
@@ -27,6 +28,7 @@ pub mod Header
 pub mod NotAHeader
 pub mod RefusedMemory
 pub mod Written
+pub mod WrittenWith
 -- What follows the header.
 pub mod Padding
 pub mod OriginalNumber

@@ -1,13 +1,15 @@
 -- The RTP header as it is written (RFC 3550, 5.1), and the header that the written bytes are read as.
-use Rattle.std.specs.Prelude.{ℕ, ◌+◌, ◌-◌, ◌*◌, ◌<◌, List, [], ◌∷◌, ◌++◌, length, take, replicate, Bool, true, false}
+use Rattle.std.specs.Prelude.{ℕ, ◌+◌, ◌-◌, ◌*◌, ◌<◌, List, [], ◌∷◌, ◌++◌, length, take, replicate, Bool, true, false, Option}
 use Rattle.std.specs.List.{flat_map}
 use Rattle.std.specs.Int.{w16, w32, to_be_bytes}
+use Rattle.rtp_ext.specs.declared.ext.form.ExtensionsForm.{ExtensionsForm}
 use Rattle.rtp_ext.specs.declared.ext.map.ExtensionMap.{ExtensionMap}
 use Rattle.rtp_values.specs.declared.value.values.ExtensionValues.{ExtensionValues}
 use Rattle.rtp_wire.specs.declared.header.rtp_header.RtpHeader.{RtpHeader}
 use Rattle.rtp_values.specs.Values.{no_values}
 use Rattle.rtp_ext.specs.WrittenBlock.{block_bytes, image_values}
 use Rattle.rtp_base.specs.Flag.{bit}
+use Rattle.rtp_wire.specs.Packet.{PacketParts}
 
 -- the twelve fixed bytes, with version 2 whatever the header's field holds
 abbrev pub fixed_bytes : RtpHeader → List ℕ
@@ -20,6 +22,25 @@ fixed_bytes h =
 abbrev pub source_bytes : RtpHeader → List ℕ
 source_bytes h = flat_map (to_be_bytes w32) (take h.csrc_count h.csrc)
 
+-- the fixed bytes, the sources, and what stands between these and the payload
+abbrev pub header_bytes : RtpHeader → List ℕ → List ℕ
+header_bytes h part = fixed_bytes h ++ (source_bytes h ++ part)
+
+-- the parts of the packet that a header with this block makes with this payload behind it
+abbrev pub parts_written : RtpHeader → Option (ExtensionsForm × List ℕ) → List ℕ → PacketParts
+parts_written h block payload = record {
+  has_padding = h.has_padding;
+  has_extension = h.has_extension;
+  marker = h.marker;
+  payload_type = h.payload_type;
+  sequence_number = h.sequence_number;
+  timestamp = h.timestamp;
+  ssrc = h.ssrc;
+  sources = take h.csrc_count h.csrc;
+  block = block;
+  payload = payload;
+}
+
 -- a block where X is set, and nothing where it is clear
 abbrev pub extension_bytes : ExtensionMap → Bool → ExtensionValues → List ℕ
 extension_bytes exts false values = []
@@ -27,7 +48,7 @@ extension_bytes exts true values = block_bytes exts values
 
 -- the bytes of the header under the map
 unfoldable pub wire_bytes : ExtensionMap → RtpHeader → List ℕ
-wire_bytes exts h = fixed_bytes h ++ (source_bytes h ++ extension_bytes exts h.has_extension h.ext_vals)
+wire_bytes exts h = header_bytes h (extension_bytes exts h.has_extension h.ext_vals)
 
 -- the values that the written block is read as, and none without a block
 abbrev pub carried_image : ExtensionMap → Bool → ExtensionValues → ExtensionValues

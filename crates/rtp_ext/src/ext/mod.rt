@@ -12,6 +12,7 @@ mod new_ids;
 mod place;
 mod raw_writing;
 mod renumbering;
+mod serving_form;
 mod slot;
 mod slots;
 
@@ -21,5 +22,5 @@ pub use in_place::{element_of, set_element};
 pub use iter::{Iter, IterByMediaType};
 pub use map::{ExtensionMap, MAX_ID};
 pub use new_ids::NewIds;
-pub use raw_writing::write_elements;
+pub use raw_writing::{put_elements, write_elements};
 pub use renumbering::{remove_element, renumber};

@@ -1,9 +1,9 @@
 //! Elements as they are given, from their ids and data to bytes.
 
-ghost use Rattle.std.specs.Prelude.{◌≡◌, ◌↔◌, ◌≤◌, ◌+◌, ℕ, ◌++◌, map, length, take, drop, replicate, IsTrue, IsSome, IfSome, IfNone};
+ghost use Rattle.std.specs.Prelude.{◌≡◌, ◌↔◌, ◌≤◌, ◌+◌, ℕ, ◌++◌, length, take, drop, replicate, IsTrue, IsSome, IfSome, IfNone};
 ghost use Rattle.rtp_base.specs.Overwriting.{overwritten};
 ghost use Rattle.rtp_ext.specs.Elements.{AreElements, element_bytes, elements_bytes};
-ghost use Rattle.rtp_ext.specs.ElementsInARow.{IsWritable, FitInARow};
+ghost use Rattle.rtp_ext.specs.ElementsInARow.{elements_of, IsWritable, FitInARow};
 
 use super::block_elements::{header_len, write_header};
 use super::{ExtensionsForm, MAX_ID_ONE_BYTE_FORM};
@@ -36,7 +36,7 @@ fn room_after(room: usize, form: ExtensionsForm, id: u8, bytes: &[u8]) -> Option
 
 // Whether the elements can be written in the form, and in the room.
 fn fit(room: usize, form: ExtensionsForm, elements: &[(u8, &[u8])]) -> bool
-    ensures { IsTrue result ↔ FitInARow form (map (λ e. (e.0, e.1.now)) elements.now) room }
+    ensures { IsTrue result ↔ FitInARow form (elements_of elements.now) room }
 {
     let mut left = room;
     for (id, bytes) in elements {
@@ -63,6 +63,30 @@ fn put_element(buf: &mut [u8], at: usize, form: ExtensionsForm, id: u8, bytes: &
 /// length that they take; the bytes after them stay as they were (RFC 8285, 4.2 and 4.3).
 /// [`Elements`](super::Elements) reads what was written, and any zeros after it, as these elements.
 ///
+/// Requires a form that can carry every one of them, and a buffer of at least the length that they
+/// take in it: [`ExtensionsForm::for_elements`] returns such a form.
+pub fn put_elements(buf: &mut [u8], form: ExtensionsForm, elements: &[(u8, &[u8])]) -> usize
+    requires { FitInARow form (elements_of elements.now) (length buf.old) }
+    ensures written { buf.new
+        ≡ elements_bytes form (elements_of elements.now) ++ drop result buf.old }
+    ensures length { result ≡ length (elements_bytes form (elements_of elements.now)) }
+
+    // What was written, and any zeros that follow it, are a block's body with these elements.
+    ensures elements { (zeros : ℕ) → AreElements form
+        (elements_bytes form (elements_of elements.now) ++ replicate zeros 0)
+        (elements_of elements.now) }
+{
+    let mut at = 0;
+    for (id, bytes) in elements {
+        at = put_element(buf, at, form, *id, bytes);
+    }
+    at
+}
+
+/// Writes the elements, pairs of an id and its data, to the front of the buffer and returns the
+/// length that they take; the bytes after them stay as they were (RFC 8285, 4.2 and 4.3).
+/// [`Elements`](super::Elements) reads what was written, and any zeros after it, as these elements.
+///
 /// `None` where the buffer is too short or the form can't carry one of them, and then nothing is
 /// written. The one-byte form carries ids 1 to 14 with 1 to 16 bytes of data, the two-byte form ids
 /// 1 to 255 with 0 to 255 bytes. It takes no memory.
@@ -75,24 +99,20 @@ pub fn write_elements(
     elements: &[(u8, &[u8])],
 ) -> Option<usize>
     ensures fits { IsSome result
-        ↔ FitInARow form (map (λ e. (e.0, e.1.now)) elements.now) (length buf.old) }
+        ↔ FitInARow form (elements_of elements.now) (length buf.old) }
     ensures unchanged { IfNone result (buf.new ≡ buf.old) }
     ensures written { IfSome result (λ len. buf.new
-        ≡ elements_bytes form (map (λ e. (e.0, e.1.now)) elements.now) ++ drop len buf.old) }
+        ≡ elements_bytes form (elements_of elements.now) ++ drop len buf.old) }
     ensures length { IfSome result (λ len.
-        len ≡ length (elements_bytes form (map (λ e. (e.0, e.1.now)) elements.now))) }
+        len ≡ length (elements_bytes form (elements_of elements.now))) }
 
     // What was written, and any zeros that follow it, are a block's body with these elements.
     ensures elements { IfSome result (λ len. (zeros : ℕ) →
         AreElements form (take len buf.new ++ replicate zeros 0)
-        (map (λ e. (e.0, e.1.now)) elements.now)) }
+        (elements_of elements.now)) }
 {
     if !fit(buf.len(), form, elements) {
         return None;
     }
-    let mut at = 0;
-    for (id, bytes) in elements {
-        at = put_element(buf, at, form, *id, bytes);
-    }
-    Some(at)
+    Some(put_elements(buf, form, elements))
 }

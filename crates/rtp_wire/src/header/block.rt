@@ -1,15 +1,19 @@
 //! A block of header extensions as it is written: the word of its form, the number of its words, and
 //! its body.
 
-ghost use Rattle.std.specs.Prelude.{◌≡◌, ◌+◌, ◌*◌, ◌%◌, ◌≤◌, ◌++◌, length, drop, true};
+ghost use Rattle.std.specs.Prelude.{◌≡◌, ◌⊎◌, ℕ, ◌+◌, ◌*◌, ◌%◌, ◌≤◌, ◌<◌, List, ◌++◌, length, drop, true, IfSome, IfNone};
 ghost use Rattle.std.specs.Int.{w16, to_be_bytes};
+ghost use Rattle.rtp_base.specs.Overwriting.{overwritten};
 ghost use Rattle.rtp_ext.specs.Form.{form_word};
+ghost use Rattle.rtp_ext.specs.Elements.{AreElements, elements_bytes};
+ghost use Rattle.rtp_ext.specs.ElementsInARow.{elements_of, form_for, FitInARow, CannotBeInARow};
 ghost use Rattle.rtp_wire.specs.Header.{IsExtensionPart};
-ghost use Rattle.rtp_ext.specs.WrittenBlock.{block_bytes, image_values, whole_words};
+ghost use Rattle.rtp_wire.specs.WrittenWith.{body_with};
+ghost use Rattle.rtp_ext.specs.WrittenBlock.{block_of, filled, block_bytes, image_values, whole_words};
 ghost use Rattle.rtp_ext.specs.ExtensionMap.{mapped_count};
 
 use rtp_base::{put, put_zeros};
-use rtp_ext::{ExtensionMap, ExtensionValues, ExtensionsForm};
+use rtp_ext::{ExtensionMap, ExtensionValues, ExtensionsForm, put_elements};
 
 // How many bytes stand before a block's body.
 const HEADER_LEN: usize = 4;
@@ -34,6 +38,22 @@ pub(super) fn block_len(exts: &ExtensionMap, ev: &ExtensionValues) -> usize
     HEADER_LEN + elements_len.next_multiple_of(4)
 }
 
+// Puts the four bytes before a body in front of elements that stand after these, and behind them the
+// zeros that fill their last word, and returns the block's length.
+fn close_block(buf: &mut [u8], form: ExtensionsForm, elements_len: usize) -> usize
+    requires few { elements_len ≤ 262140 }
+    requires room { 4 + whole_words elements_len ≤ length buf.old }
+    ensures closed { (before row : List ℕ) → buf.old ≡ overwritten before 4 row →
+        length buf.old ≡ length before → elements_len ≡ length row →
+        buf.new ≡ block_of form (filled row) ++ drop result before }
+    ensures length { result ≡ 4 + whole_words elements_len }
+{
+    let body_len = elements_len.next_multiple_of(4);
+    let len = put_zeros(buf, HEADER_LEN + elements_len, body_len - elements_len);
+    put(buf, 0, &block_header(form, (body_len / 4) as u16));
+    len
+}
+
 // Writes the block of these values to the front of the buffer, and returns its length.
 pub(super) fn write_block(exts: &ExtensionMap, buf: &mut [u8], ev: &ExtensionValues) -> usize
     requires { length (block_bytes exts.now ev.now) ≤ length buf.old }
@@ -49,8 +69,39 @@ pub(super) fn write_block(exts: &ExtensionMap, buf: &mut [u8], ev: &ExtensionVal
 {
     let form = exts.form(ev);
     let elements_len = exts.write_to(&mut buf[HEADER_LEN..], ev, form);
-    let body_len = elements_len.next_multiple_of(4);
-    let len = put_zeros(buf, HEADER_LEN + elements_len, body_len - elements_len);
-    put(buf, 0, &block_header(form, (body_len / 4) as u16));
-    len
+    close_block(buf, form, elements_len)
+}
+
+// Writes the block of these elements in the form to the front of the buffer, and returns its length.
+pub(super) fn write_block_of(
+    buf: &mut [u8],
+    form: ExtensionsForm,
+    elements: &[(u8, &[u8])],
+) -> usize
+    requires fit { FitInARow form (elements_of elements.now) 262140 }
+    requires room { length (block_of form (filled (elements_bytes form (elements_of elements.now))))
+        ≤ length buf.old }
+    ensures written { buf.new
+        ≡ block_of form (filled (elements_bytes form (elements_of elements.now)))
+        ++ drop result buf.old }
+    ensures length { result
+        ≡ length (block_of form (filled (elements_bytes form (elements_of elements.now)))) }
+    ensures elements { AreElements form (filled (elements_bytes form (elements_of elements.now)))
+        (elements_of elements.now) }
+{
+    let elements_len = put_elements(&mut buf[HEADER_LEN..], form, elements);
+    close_block(buf, form, elements_len)
+}
+
+// The form of a block of these elements that has room.
+pub(super) fn block_form(room: usize, elements: &[(u8, &[u8])]) -> Option<ExtensionsForm>
+    ensures refused { IfNone result (CannotBeInARow (elements_of elements.now) 262140
+        ⊎ (room < length (block_of (form_for (elements_of elements.now)) (body_with (elements_of elements.now))))) }
+    ensures form { IfSome result (λ form. form ≡ form_for (elements_of elements.now)) }
+    ensures fit { IfSome result (λ form. FitInARow form (elements_of elements.now) 262140) }
+    ensures room { IfSome result (λ form.
+        length (block_of form (filled (elements_bytes form (elements_of elements.now)))) ≤ room) }
+{
+    let words = (room / 4).checked_sub(1)?.min(usize::from(u16::MAX));
+    ExtensionsForm::for_elements(elements, 4 * words)
 }

@@ -17,7 +17,7 @@ use rtp_base::put;
 use rtp_ext::ExtensionMap;
 
 // Puts four bytes for each source, and returns the offset after them.
-fn put_sources(buf: &mut [u8], at: usize, sources: &[u32]) -> usize
+pub(super) fn put_sources(buf: &mut [u8], at: usize, sources: &[u32]) -> usize
     requires { at + 4 * length sources.now ≤ length buf.old }
     ensures written { buf.new ≡ overwritten buf.old at (flat_map (to_be_bytes w32) sources.now) }
     ensures end { result ≡ at + 4 * length sources.now }
@@ -38,11 +38,11 @@ pub(crate) fn flag(is_set: bool, worth: u8) -> u8
 }
 
 impl RtpHeader {
-    // The twelve bytes that every header begins with.
-    fn fixed_bytes(&self) -> [u8; 12]
+    // The twelve bytes that every header begins with, with this X.
+    pub(super) fn fixed_bytes(&self, has_extension: bool) -> [u8; 12]
         requires payload_type { self.now.payload_type ≤ 127 }
         requires sources { self.now.csrc_count ≤ 15 }
-        ensures bytes { result ≡ fixed_bytes self.now }
+        ensures bytes { result ≡ fixed_bytes (record self.now { has_extension = has_extension }) }
         ensures number { self.now.sequence_number < 2 ^ 16 }
         ensures timestamp { self.now.timestamp < 2 ^ 32 }
         ensures ssrc { self.now.ssrc < 2 ^ 32 }
@@ -54,7 +54,7 @@ impl RtpHeader {
         // The bits lie apart, so the sums are their `|`.
         let first = 0x80
             + flag(self.has_padding, 0x20)
-            + flag(self.has_extension, 0x10)
+            + flag(has_extension, 0x10)
             + self.csrc_count as u8;
         let second = flag(self.marker, 0x80) + self.payload_type.get();
         [first, second, n0, n1, t0, t1, t2, t3, s0, s1, s2, s3]
@@ -144,7 +144,7 @@ impl RtpHeader {
             IsWire exts.now (wire_bytes exts.now self.now ++ rest) (image_of exts.now self.now) }
     {
         let sources = &self.csrc[..self.csrc_count];
-        let end = put(buf, 0, &self.fixed_bytes());
+        let end = put(buf, 0, &self.fixed_bytes(self.has_extension));
         let end = put_sources(buf, end, sources);
         self.put_extension(buf, end, exts)
     }

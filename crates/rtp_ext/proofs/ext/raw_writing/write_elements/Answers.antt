@@ -1,47 +1,9 @@
-use Rattle.std.proofs.Common.{◌+◌, ℕ, List, [], map, drop, get_or, Bor, arith}
-use Rattle.rtp_ext.specs.Elements.{Element}
-use Rattle.rtp_ext.proofs.RawWritingLemmas.{left-more, left-none, AreUnderWay-room, AreUnderWay-step, AreInARow, AreUnderWay-end}
+use Rattle.std.proofs.Common.{drop}
+use Rattle.rtp_ext.specs.ElementsInARow.{elements_of}
+use Rattle.rtp_ext.proofs.RawWritingLemmas.{AreElements-front}
 use Rattle.rtp_ext.proofs.ext.raw_writing.write_elements.Goals as goal
 
-abbrev Given : Type 0
-Given = ℕ × Bor (List ℕ)
-
-abbrev no_element : Given
-no_element = (0, record { ref_ptr = (0, 0); now = [] })
-
-abbrev shown : Given → Element
-shown e = (e.0, e.1.now)
-
-pub put_element-at-requires-clause-room : goal.put_element-at-requires-clause-room
-put_element-at-requires-clause-room c =
-    let given = c.args.elements.now in
-    let i = c.loop-id.id-index in
-    (AreUnderWay-room c.args.form c.args.buf.now c.loop-id.buf (map shown given) _ (drop (i + 1) (map shown given)) (shown (get_or given i no_element)) c.loop-id.at
-    c.loop-id.invariant (left-more shown given i no_element c.loop-id-test.true)).0
-
-pub put_element-at-requires-clause-writable : goal.put_element-at-requires-clause-writable
-put_element-at-requires-clause-writable c =
-    let given = c.args.elements.now in
-    let i = c.loop-id.id-index in
-    (AreUnderWay-room c.args.form c.args.buf.now c.loop-id.buf (map shown given) _ (drop (i + 1) (map shown given)) (shown (get_or given i no_element)) c.loop-id.at
-    c.loop-id.invariant (left-more shown given i no_element c.loop-id-test.true)).1
-
-pub loop-id-preserved : goal.loop-id-preserved
-loop-id-preserved c =
-    let given = c.args.elements.now in
-    let i = c.loop-id.id-index in
-    AreUnderWay-step c.args.form c.args.buf.now c.loop-id.buf c.put_element-at.new.buf (map shown given) _ (drop (i + 1) (map shown given))
-    (shown (get_or given i no_element)) c.loop-id.at c.put_element-at.result
-    c.loop-id.invariant (left-more shown given i no_element c.loop-id-test.true) c.put_element-at.ensures.written c.put_element-at.ensures.end
-
--- all are written
-all : (c : goal.After-loop-id) → AreInARow c.args.form c.args.buf.now c.loop-id.buf (map shown c.args.elements.now) c.loop-id.at
-all c =
-    AreUnderWay-end c.args.form c.args.buf.now c.loop-id.buf (map shown c.args.elements.now) _ c.loop-id.at
-    c.loop-id.invariant (left-none shown c.args.elements.now c.loop-id.id-index (omega (arith, c.loop-id-test.false)))
-
-pub returns-clause-written : goal.returns-clause-written
-returns-clause-written c = (all c).written
-
 pub returns-clause-elements : goal.returns-clause-elements
-returns-clause-elements c = (all c).read
+returns-clause-elements c zeros =
+    AreElements-front c.args.form (elements_of c.args.elements.now) c.put_elements.new.buf (drop c.put_elements.result c.args.buf.now) c.put_elements.result zeros
+    c.put_elements.ensures.length c.put_elements.ensures.written (c.put_elements.ensures.elements zeros)

@@ -1,6 +1,6 @@
 use Rattle.std.proofs.Common.{drop, map}
 use Rattle.rtp_ext.proofs.RawWritingLemmas.{AreUnderWay}
-use Rattle.rtp_ext.proofs.ext.raw_writing.write_elements.Given as goal
+use Rattle.rtp_ext.proofs.ext.raw_writing.put_elements.Given as goal
 
 -- the elements that were passed are written
 abbrev pub invariant-loop-id : goal.invariant-loop-id

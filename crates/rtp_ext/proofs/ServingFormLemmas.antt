@@ -1,0 +1,143 @@
+-- The form that serves for elements, and the room that they take in it.
+use Rattle.std.proofs.Common.{◌≡◌, ℕ, zero, suc, ◌+◌, ◌-◌, ◌≤◌, ◌<◌, Bool, true, false, List, [], ◌∷◌, length, map, get_or, refl, sym, ap, ◌∙◌, subst, arith, inl, inr, length-append}
+use Rattle.std.specs.Prelude.{Any, ◌&&◌, nat_le, if◌then◌else◌}
+use Rattle.std.specs.List.{AllByRecursion, list_all}
+use Rattle.std.proofs.lemmas.Bool.{leb-true}
+use Rattle.std.proofs.lemmas.List.{get_or-map, length-map}
+use Rattle.rtp_ext.specs.declared.ext.form.ExtensionsForm.{ExtensionsForm}
+use Rattle.rtp_ext.specs.declared.ext.form.ExtensionsForm.TheVariants.{OneByte, TwoByte}
+use Rattle.rtp_ext.specs.Elements.{Element, element_bytes, elements_bytes}
+use Rattle.rtp_ext.specs.ElementsInARow.{IsWritable, IsUnwritable, FitInARow, CannotBeInARow, unwritable, short_room, serves_one_byte, form_for}
+
+and_parts : (a b : Bool) → (a && b) ≡ true → (a ≡ true) × (b ≡ true)
+and_parts true b e = (refl, e)
+and_parts false b e = absurd cc
+
+-- an element that the one-byte form can carry
+IsWritable-one : (element : Element) → serves_one_byte element ≡ true → IsWritable OneByte element
+IsWritable-one element serves =
+    let halves = and_parts (nat_le 1 element.0 && nat_le element.0 14) (nat_le 1 (length element.1) && nat_le (length element.1) 16) serves in
+    let id = and_parts (nat_le 1 element.0) (nat_le element.0 14) halves.0 in
+    let len = and_parts (nat_le 1 (length element.1)) (nat_le (length element.1) 16) halves.1 in
+    let above = leb-true 1 element.0 id.0 in
+    (above, (leb-true element.0 14 id.1, leb-true 1 (length element.1) len.0, leb-true (length element.1) 16 len.1, omega arith))
+
+AllByRecursion-one : (elements : List Element) → list_all serves_one_byte elements ≡ true → AllByRecursion (IsWritable OneByte) elements
+AllByRecursion-one [] serves = tt
+AllByRecursion-one (element ∷ elements) serves =
+    let parts = and_parts (serves_one_byte element) (list_all serves_one_byte elements) serves in
+    (IsWritable-one element parts.0, AllByRecursion-one elements parts.1)
+
+-- the form that serves for elements can carry each
+AllByRecursion-serving : (elements : List Element) → AllByRecursion (IsWritable TwoByte) elements → AllByRecursion (IsWritable (form_for elements)) elements
+AllByRecursion-serving elements all = by_form (list_all serves_one_byte elements) refl
+  where
+    by_form : (serves : Bool) → list_all serves_one_byte elements ≡ serves → AllByRecursion (IsWritable (if serves then OneByte else TwoByte)) elements
+    by_form true is = AllByRecursion-one elements is
+    by_form false is = all
+
+-- an element that neither form can carry is in neither
+IsWritable-not : (form : ExtensionsForm) (element : Element) → IsWritable form element → IsUnwritable element → ⊥
+IsWritable-not form element is (inl none) = let above = is.0 in absurd (omega arith)
+IsWritable-not OneByte element is (inr long) = let few = is.1.2 in absurd (omega arith)
+IsWritable-not TwoByte element is (inr long) = let few = is.1.2 in absurd (omega arith)
+
+AllByRecursion-not : (form : ExtensionsForm) (elements : List Element) → AllByRecursion (IsWritable form) elements → Any IsUnwritable elements → ⊥
+AllByRecursion-not form [] all (k, x, within, is, bad) = absurd (omega arith)
+AllByRecursion-not form (element ∷ elements) all (zero, x, within, is, bad) = IsWritable-not form x (subst (IsWritable form) is all.0) bad
+AllByRecursion-not form (element ∷ elements) all (suc k, x, within, is, bad) = AllByRecursion-not form elements all.1 (k, x, omega arith, is, bad)
+
+-- that they fit rules out each refusal
+pub CannotBeInARow-not : (elements : List Element) (room : ℕ) (form : ExtensionsForm) → form ≡ form_for elements → FitInARow form elements room → CannotBeInARow elements room → ⊥
+CannotBeInARow-not elements room form form-is fit (unwritable any) = AllByRecursion-not form elements fit.writable any
+CannotBeInARow-not elements room form form-is fit (short_room short) =
+    let fits = fit.bytes_fit in omega (arith, ap (λ (f : ExtensionsForm). length (elements_bytes f elements)) form-is)
+
+-- an element that is given, where neither form can carry it
+pub Any-given : {X : Type 0} (f : X → Element) (xs : List X) (i : ℕ) (x : X) → i < length xs → IsUnwritable (f (get_or xs i x)) → Any IsUnwritable (map f xs)
+Any-given f xs i x here bad = (i, f (get_or xs i x), omega (arith, length-map xs f), get_or-map f xs i x (f (get_or xs i x)) here, bad)
+
+-- ---- how long they are
+
+pub length-two : (elements : List Element) → length (elements_bytes TwoByte elements) ≡ length (elements_bytes OneByte elements) + length elements
+length-two [] = refl
+length-two (element ∷ elements) =
+    omega (
+      arith,
+      length-append (element_bytes TwoByte element) (elements_bytes TwoByte elements),
+      length-append (element_bytes OneByte element) (elements_bytes OneByte elements),
+      length-two elements,
+    )
+
+length-one-le : (form : ExtensionsForm) (elements : List Element) → length (elements_bytes OneByte elements) ≤ length (elements_bytes form elements)
+length-one-le OneByte elements = omega arith
+length-one-le TwoByte elements = omega (arith, length-two elements)
+
+-- ---- element by element
+
+-- the form for the elements where this one serves for those that are passed
+abbrev pub serving : ExtensionsForm → List Element → ExtensionsForm
+serving form left = if list_all serves_one_byte left then form else TwoByte
+
+serving-more : (form : ExtensionsForm) (element : Element) (more : List Element)
+    → serving form (element ∷ more) ≡ serving (if serves_one_byte element then form else TwoByte) more
+serving-more form element more = by_test (serves_one_byte element) (list_all serves_one_byte more)
+  where
+    by_test : (here others : Bool) → (if (here && others) then form else TwoByte) ≡ (if others then (if here then form else TwoByte) else TwoByte)
+    by_test true others = refl
+    by_test false true = refl
+    by_test false false = refl
+
+-- the elements that are passed are counted, and those that are left are still to be
+pub record AreCounted (elements left : List Element) (form : ExtensionsForm) (room rest : ℕ) : Type 0 where
+  pub form_is : form_for elements ≡ serving form left
+  pub bytes : rest + length (elements_bytes OneByte elements) ≡ room + length (elements_bytes OneByte left)
+  pub writable : AllByRecursion (IsWritable TwoByte) left → AllByRecursion (IsWritable TwoByte) elements
+  pub within : rest ≤ room
+
+pub AreCounted-start : (elements : List Element) (room : ℕ) → AreCounted elements elements OneByte room room
+AreCounted-start elements room = record { form_is = refl; bytes = refl; writable = λ all. all; within = omega arith }
+
+pub AreCounted-step : (elements left more : List Element) (element : Element) (form next : ExtensionsForm) (room rest rest' : ℕ) → left ≡ element ∷ more
+    → IsWritable TwoByte element → next ≡ (if serves_one_byte element then form else TwoByte) → 1 + length element.1 ≤ rest → rest' ≡ rest - (1 + length element.1)
+    → AreCounted elements left form room rest → AreCounted elements more next room rest'
+AreCounted-step elements left more element form next room rest rest' split writable next-is fits rest-is before =
+    let long : length (elements_bytes OneByte left) ≡ length (element_bytes OneByte element) + length (elements_bytes OneByte more) =
+    ap (λ es. length (elements_bytes OneByte es)) split ∙ length-append (element_bytes OneByte element) (elements_bytes OneByte more) in
+    record {
+      form_is = before.form_is ∙ ap (serving form) split ∙ serving-more form element more ∙ ap (λ (f : ExtensionsForm). serving f more) (sym next-is);
+      bytes = omega (arith, before.bytes, before.within, long);
+      writable = λ all. before.writable (subst (AllByRecursion (IsWritable TwoByte)) (sym split) (writable, all));
+      within = omega (arith, before.within);
+    }
+
+-- no room for the next one
+pub AreCounted-short : (elements left more : List Element) (element : Element) (form : ExtensionsForm) (room rest : ℕ) → left ≡ element ∷ more
+    → (1 + length element.1 ≤ rest → ⊥) → AreCounted elements left form room rest → CannotBeInARow elements room
+AreCounted-short elements left more element form room rest split short before =
+    let long : length (elements_bytes OneByte left) ≡ length (element_bytes OneByte element) + length (elements_bytes OneByte more) =
+    ap (λ es. length (elements_bytes OneByte es)) split ∙ length-append (element_bytes OneByte element) (elements_bytes OneByte more) in
+    short_room (omega (arith, before.bytes, before.within, long, length-one-le (form_for elements) elements, short))
+
+-- all are counted, and fit where there is room for longer headers too
+pub AreCounted-fit : (elements left : List Element) (form : ExtensionsForm) (room rest more : ℕ) → left ≡ [] → AreCounted elements left form room rest
+    → length (elements_bytes form elements) ≡ length (elements_bytes OneByte elements) + more → more ≤ rest
+    → (form ≡ form_for elements) × FitInARow form elements room
+AreCounted-fit elements left form room rest more none counted longer fits =
+    let form_is : form ≡ form_for elements = sym (counted.form_is ∙ ap (serving form) none) in
+    let all : AllByRecursion (IsWritable TwoByte) elements = counted.writable (subst (AllByRecursion (IsWritable TwoByte)) (sym none) tt) in
+    let bytes = counted.bytes ∙ ap (λ (es : List Element). room + length (elements_bytes OneByte es)) none in (
+      form_is,
+      record {
+        writable = subst (λ (f : ExtensionsForm). AllByRecursion (IsWritable f) elements) (sym form_is) (AllByRecursion-serving elements all);
+        bytes_fit = omega (arith, bytes);
+      },
+    )
+
+-- and not where there is none
+pub AreCounted-longer : (elements left : List Element) (form : ExtensionsForm) (room rest more : ℕ) → left ≡ [] → AreCounted elements left form room rest
+    → length (elements_bytes form elements) ≡ length (elements_bytes OneByte elements) + more → (more ≤ rest → ⊥) → CannotBeInARow elements room
+AreCounted-longer elements left form room rest more none counted longer short =
+    let form_is : form ≡ form_for elements = sym (counted.form_is ∙ ap (serving form) none) in
+    let bytes = counted.bytes ∙ ap (λ (es : List Element). room + length (elements_bytes OneByte es)) none in
+    short_room (omega (arith, bytes, short, ap (λ (f : ExtensionsForm). length (elements_bytes f elements)) form_is))

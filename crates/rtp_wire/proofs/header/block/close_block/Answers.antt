@@ -1,0 +1,21 @@
+use Rattle.std.proofs.Common.{◌≡◌, ◌+◌, ◌-◌, ◌/◌, ◌++◌, ℕ, replicate, ap, ◌∙◌, arith}
+use Rattle.std.specs.Int.{w16, to_be_bytes}
+use Rattle.rtp_base.specs.Overwriting.{overwritten}
+use Rattle.rtp_ext.specs.Form.{form_word}
+use Rattle.rtp_ext.specs.WrittenBlock.{padding_of}
+use Rattle.rtp_wire.proofs.BlockWriting.{block-put}
+use Rattle.rtp_wire.proofs.header.block.close_block.Goals as goal
+
+pub returns-clause-closed : goal.returns-clause-closed
+returns-clause-closed c before row put long len =
+    let buf = c.args.buf.now in
+    let n = c.args.elements_len in
+    let body = c.next_multiple_of-body_len.result in
+    let body-is : body ≡ n + padding_of n = c.next_multiple_of-body_len.ensures.value in
+    let pad : body - n ≡ padding_of n = omega (arith, body-is) in
+    block-put row before buf c.put_zeros-len.new.buf c.put.new.buf c.block_header.result c.args.form n c.put_zeros-len.result
+    len (omega (arith, c.requires.room, long)) put
+    (c.put_zeros-len.ensures.written ∙ ap (λ (k : ℕ). overwritten buf (4 + n) (replicate k 0)) pad)
+    (omega (arith, c.put_zeros-len.ensures.end, pad))
+    (c.block_header.ensures ∙ ap (λ (k : ℕ). to_be_bytes w16 (form_word c.args.form) ++ to_be_bytes w16 (k / 4)) body-is)
+    c.put.ensures.written

@@ -1,0 +1,88 @@
+use Rattle.std.proofs.Common.{rules, length, take, sym, arith}
+use Rattle.std.proofs.lemmas.Bool.{false≢true}
+use Rattle.rtp_ext.specs.ElementsInARow.{elements_of}
+use Rattle.rtp_wire.proofs.RoundTrip.{AllByRecursion-from_each}
+use Rattle.rtp_wire.proofs.WritingWithLemmas.{CanBeWrittenWith, ArePut, CannotBeWrittenWith-refused, CannotBeWrittenWith-not, wire_bytes_with-from_pieces, IsPacket-written_with}
+use Rattle.rtp_wire.proofs.header.rtp_header.RtpHeader.write_with.Goals as goal
+
+pub returns-in_err-form-clause-refused : goal.returns-in_err-form-clause-refused
+returns-in_err-form-clause-refused c = (
+  λ _. CannotBeWrittenWith-refused c.args.self.now (elements_of c.args.elements.now) (length c.args.buf.now) c.saturating_sub.result (omega arith)
+      (omega (arith, c.saturating_sub.ensures)) c.in_err-form.ensures.refused,
+  λ _. search rules,
+)
+
+pub returns-clause-refused : goal.returns-clause-refused
+returns-clause-refused c =
+    let can : CanBeWrittenWith c.args.self.now (elements_of c.args.elements.now) (length c.args.buf.now) c.saturating_sub.result c.in_ok-form.form = record {
+      payload_type = omega arith;
+      count = omega arith;
+      slots = omega arith;
+      left_is = omega (arith, c.saturating_sub.ensures);
+      form_is = c.in_ok-form.ensures.form;
+      fit = c.in_ok-form.ensures.fit;
+      block_fits = c.in_ok-form.ensures.room;
+    } in (
+      λ some. absurd (false≢true (sym some)),
+      λ cannot. absurd (CannotBeWrittenWith-not c.args.self.now (elements_of c.args.elements.now) (length c.args.buf.now) c.saturating_sub.result c.in_ok-form.form can cannot),
+    )
+
+pub returns-clause-written : goal.returns-clause-written
+returns-clause-written c =
+    let can : CanBeWrittenWith c.args.self.now (elements_of c.args.elements.now) (length c.args.buf.now) c.saturating_sub.result c.in_ok-form.form = record {
+      payload_type = omega arith;
+      count = omega arith;
+      slots = omega arith;
+      left_is = omega (arith, c.saturating_sub.ensures);
+      form_is = c.in_ok-form.ensures.form;
+      fit = c.in_ok-form.ensures.fit;
+      block_fits = c.in_ok-form.ensures.room;
+    } in
+    let are : ArePut c.args.self.now (elements_of c.args.elements.now) c.in_ok-form.form c.args.buf.now c.put-end.new.buf c.put_sources-end.new.buf c.write_block_of.new.buf
+    c.fixed_bytes.result c.put-end.result c.put_sources-end.result c.write_block_of.result = record {
+      fixed_is = c.fixed_bytes.ensures.bytes;
+      one_is = c.put-end.ensures.written;
+      first_is = c.put-end.ensures.end;
+      two_is = c.put_sources-end.ensures.written;
+      second_is = c.put_sources-end.ensures.end;
+      new_is = c.write_block_of.ensures.written;
+      n_is = c.write_block_of.ensures.length;
+    } in
+    (wire_bytes_with-from_pieces c.args.self.now (elements_of c.args.elements.now) c.saturating_sub.result c.in_ok-form.form c.args.buf.now c.put-end.new.buf c.put_sources-end.new.buf c.write_block_of.new.buf
+    c.fixed_bytes.result c.put-end.result c.put_sources-end.result c.write_block_of.result can are).1
+
+pub returns-clause-length : goal.returns-clause-length
+returns-clause-length c =
+    let can : CanBeWrittenWith c.args.self.now (elements_of c.args.elements.now) (length c.args.buf.now) c.saturating_sub.result c.in_ok-form.form = record {
+      payload_type = omega arith;
+      count = omega arith;
+      slots = omega arith;
+      left_is = omega (arith, c.saturating_sub.ensures);
+      form_is = c.in_ok-form.ensures.form;
+      fit = c.in_ok-form.ensures.fit;
+      block_fits = c.in_ok-form.ensures.room;
+    } in
+    let are : ArePut c.args.self.now (elements_of c.args.elements.now) c.in_ok-form.form c.args.buf.now c.put-end.new.buf c.put_sources-end.new.buf c.write_block_of.new.buf
+    c.fixed_bytes.result c.put-end.result c.put_sources-end.result c.write_block_of.result = record {
+      fixed_is = c.fixed_bytes.ensures.bytes;
+      one_is = c.put-end.ensures.written;
+      first_is = c.put-end.ensures.end;
+      two_is = c.put_sources-end.ensures.written;
+      second_is = c.put_sources-end.ensures.end;
+      new_is = c.write_block_of.ensures.written;
+      n_is = c.write_block_of.ensures.length;
+    } in
+    (wire_bytes_with-from_pieces c.args.self.now (elements_of c.args.elements.now) c.saturating_sub.result c.in_ok-form.form c.args.buf.now c.put-end.new.buf c.put_sources-end.new.buf c.write_block_of.new.buf
+    c.fixed_bytes.result c.put-end.result c.put_sources-end.result c.write_block_of.result can are).0
+
+pub returns-clause-read_back : goal.returns-clause-read_back
+returns-clause-read_back c rest =
+    IsPacket-written_with c.args.self.now (elements_of c.args.elements.now) c.in_ok-form.form rest (record {
+      payload_type = omega arith;
+      count = omega arith;
+      slots = omega arith;
+      number = c.fixed_bytes.ensures.number;
+      timestamp = c.fixed_bytes.ensures.timestamp;
+      ssrc = c.fixed_bytes.ensures.ssrc;
+      sources = AllByRecursion-from_each (take c.args.self.now.csrc_count c.args.self.now.csrc) c.put_sources-end.ensures.in_range;
+    }) c.in_ok-form.ensures.form c.in_ok-form.ensures.fit
