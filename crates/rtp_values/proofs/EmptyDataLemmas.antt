@@ -3,8 +3,9 @@ use Rattle.std.proofs.Common.{◌≡◌, ◌≢◌, ◌==◌, ℕ, false, length
 use Rattle.std.specs.Option.{option_map}
 use Rattle.std.proofs.lemmas.Bool.{ne_eqb}
 use Rattle.rtp_vla.proofs.AllocationWritingLemmas.{written-long}
-use Rattle.rtp_values.specs.declared.kind.Extension.{Extension}
-use Rattle.rtp_values.specs.declared.kind.Extension.TheVariants.{AbsoluteSendTime, AbsoluteCaptureTime, AudioLevel, TransmissionTimeOffset, VideoOrientation, TransportSequenceNumber, PlayoutDelay, VideoContentType, VideoTiming, RtpStreamId, RepairedRtpStreamId, RtpMid, FrameMarking, ColorSpace, VideoLayersAllocation, UnknownUri}
+use Rattle.rtp_values.specs.declared.known_kind.KnownKind.{KnownKind}
+use Rattle.rtp_values.specs.declared.known_kind.KnownKind.TheVariants.{AbsoluteSendTime, AbsoluteCaptureTime, AudioLevel, TransmissionTimeOffset, VideoOrientation, TransportSequenceNumber, PlayoutDelay, VideoContentType, VideoTiming, RtpStreamId, RepairedRtpStreamId, RtpMid, FrameMarking, ColorSpace, VideoLayersAllocation}
+use Rattle.rtp_values.specs.KnownKind.{extension_of_kind}
 use Rattle.rtp_values.specs.declared.value.values.ExtensionValues.{ExtensionValues}
 use Rattle.rtp_values.specs.Spelling.{has_no_data, bytes_of, offset_bytes, of_both, element_allocation, spelled_data}
 
@@ -19,7 +20,7 @@ some_of_both f (Some x) None some = refl
 some_of_both f (Some x) (Some y) some = some x y
 
 -- no data but those of a text are empty
-pub no_empty_data : (kind : Extension) (values : ExtensionValues) → kind ≢ RtpStreamId → kind ≢ RepairedRtpStreamId → kind ≢ RtpMid → has_no_data (spelled_data kind values) ≡ false
+pub no_empty_data : (kind : KnownKind) (values : ExtensionValues) → kind ≢ RtpStreamId → kind ≢ RepairedRtpStreamId → kind ≢ RtpMid → has_no_data (spelled_data (extension_of_kind kind) values) ≡ false
 no_empty_data AbsoluteSendTime values a b c = some_data _ values.abs_send_time (λ x. refl)
 no_empty_data AbsoluteCaptureTime values a b c =
     some_data _ values.abs_capture_time (λ x. ne_eqb _ 0 (λ e. omega (arith, length-append (bytes_of 8 x.capture_time) (offset_bytes x.clock_offset))))
@@ -37,4 +38,3 @@ no_empty_data FrameMarking values a b c = some_data _ values.frame_mark (λ x. r
 no_empty_data VideoLayersAllocation values a b c =
     some_data _ (element_allocation values.video_layers_allocation) (λ x. ne_eqb _ 0 (λ e. omega (arith, written-long x)))
 no_empty_data ColorSpace values a b c = refl
-no_empty_data (UnknownUri uri) values a b c = refl
