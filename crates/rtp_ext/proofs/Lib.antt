@@ -11,6 +11,7 @@ mod MemoryFacts
 mod MapLemmas
 pub mod ListingLemmas
 mod MappedIdLemmas
+mod KindsByIdLemmas
 mod FormLemmas
 pub mod WrittenBlockLemmas
 pub mod WrittenElementsLemmas

@@ -5,9 +5,9 @@
 mod ext;
 
 pub use ext::{
-    Elements, ExtensionMap, ExtensionsForm, Iter, IterByMediaType, MAX_ID, MAX_ID_ONE_BYTE_FORM,
-    element_of, set_element, write_elements,
+    Elements, ExtensionMap, ExtensionsForm, Iter, IterByMediaType, KindsById, MAX_ID,
+    MAX_ID_ONE_BYTE_FORM, element_of, set_element, write_elements,
 };
 pub use rtp_values::{
-    AbsCaptureTime, Extension, ExtensionValues, Uri, VideoOrientation, VideoTiming,
+    AbsCaptureTime, Extension, ExtensionValues, KnownKind, Uri, VideoOrientation, VideoTiming,
 };

@@ -4,12 +4,13 @@ ghost use Rattle.std.specs.Prelude.{◌≡◌, ◌≢◌, ◌↔◌, ℕ, true, 
 ghost use Rattle.std.specs.Option.{option_copied};
 ghost use Rattle.rtp_ext.specs.ExtensionMap as spec;
 ghost use Rattle.rtp_ext.specs.ExtensionMap.{items_from};
+ghost use Rattle.rtp_ext.specs.KindsById.{slots_of, known_slots};
 ghost use Rattle.rtp_ext.specs.EqualMaps.{same_slots, same_slots-equiv};
 
 use super::iter::write_entries;
 use super::mapped_ids::MappedIds;
 use super::slot::Slot;
-use super::{Iter, IterByMediaType, slots};
+use super::{Iter, IterByMediaType, KindsById, slots};
 use rtp_values::Extension;
 use std::alloc::{AllocError, Global};
 use std::marker::Model;
@@ -32,12 +33,15 @@ pub struct ExtensionMap {
     slots: [Slot; MAX_ID as usize],
     // The mapped ids, so that a walk goes over these alone.
     mapped: MappedIds,
+    // The known extensions, by which elements are read and written.
+    kinds: KindsById,
 }
 
 impl Model for ExtensionMap {
     ghost use Rattle.std.specs.Prelude.{◌≡◌, length};
     ghost use Rattle.rtp_ext.specs.ExtensionMap.{Slots};
     ghost use Rattle.rtp_ext.specs.MapSlots.{mapped_ids};
+    ghost use Rattle.rtp_ext.specs.KindsById.{slots_of, known_slots};
     ghost use Rattle.rtp_ext.specs.declared.ext.map.TheConstants.{MAX_ID};
 
     ghost Value = { Slots };
@@ -45,7 +49,8 @@ impl Model for ExtensionMap {
     ghost view = { λ map. map.slots };
 
     ghost invariant = { λ map. (length map.slots ≡ MAX_ID)
-        × (map.mapped ≡ mapped_ids map.slots) };
+        × (map.mapped ≡ mapped_ids map.slots)
+        × (slots_of map.kinds ≡ known_slots map.slots) };
 }
 
 impl PartialEq for ExtensionMap {
@@ -73,9 +78,11 @@ impl ExtensionMap {
     pub fn empty() -> Self
         ensures { spec.IsEmpty result }
     {
+        let slots = array::from_fn(|_| Slot::unmapped());
         ExtensionMap {
-            slots: array::from_fn(|_| Slot::unmapped()),
             mapped: MappedIds::none(),
+            kinds: KindsById::of_slots(&slots),
+            slots,
         }
     }
 
@@ -119,6 +126,7 @@ impl ExtensionMap {
     {
         if let Some(slot) = slots::slot_of(id) {
             let old = mem::replace(&mut self.slots[slot], Slot::from(ext));
+            self.kinds = KindsById::of_slots(&self.slots);
             if !old.is_mapped() {
                 self.mapped.insert(id);
             }
@@ -130,6 +138,13 @@ impl ExtensionMap {
         ensures { option_copied result ≡ spec.extension_at self.now id }
     {
         slots::extension(&self.slots, id)
+    }
+
+    /// The known extensions by their ids, by which the elements of packets are read and written.
+    pub fn kinds(&self) -> &KindsById
+        ensures { slots_of result.now ≡ known_slots self.now }
+    {
+        &self.kinds
     }
 
     /// The lowest id that is mapped to the extension.
@@ -186,6 +201,7 @@ impl ExtensionMap {
         let mut exts = Self::empty();
         slots::copy_of_medium(&self.slots, &mut exts.slots, audio);
         exts.mapped = MappedIds::of(&exts.slots);
+        exts.kinds = KindsById::of_slots(&exts.slots);
         exts
     }
 
@@ -204,6 +220,7 @@ impl ExtensionMap {
     {
         slots::remap(&mut self.slots, steps);
         self.mapped = MappedIds::of(&self.slots);
+        self.kinds = KindsById::of_slots(&self.slots);
     }
 
     /// The same map. Only the texts of unknown extensions take memory, and where that is refused
@@ -215,6 +232,7 @@ impl ExtensionMap {
         let mut copy = Self::empty();
         slots::copy(alloc, &self.slots, &mut copy.slots)?;
         copy.mapped = MappedIds::of(&copy.slots);
+        copy.kinds = KindsById::of_slots(&copy.slots);
         Ok(copy)
     }
 }

@@ -1,10 +1,12 @@
 //! The ids of a map that are mapped.
 
-ghost use Rattle.std.specs.Prelude.{◌≡◌, ◌<◌, ◌≤◌, ◌∷◌, ◌++◌, [], length, take, drop};
+ghost use Rattle.std.specs.Prelude.{◌≡◌, ◌<◌, ◌≤◌, ◌∷◌, ◌++◌, [], length, take, drop, map};
+ghost use Rattle.rtp_ext.specs.KindsById.{entry_of_kind};
 ghost use Rattle.rtp_ext.specs.MapSlots.{mapped_ids, inserted};
 
 use super::map::MAX_ID;
 use super::slot::Slot;
+use rtp_values::KnownKind;
 use std::array;
 use std::marker::Model;
 
@@ -56,6 +58,20 @@ impl MappedIds {
         let mut mapped = Self::none();
         for (index, slot) in slots.iter().enumerate() {
             if slot.is_mapped() {
+                mapped.push(index as u8 + 1);
+            }
+        }
+        mapped
+    }
+
+    // The ids that have a kind.
+    pub(super) fn of_kinds(kinds: &[Option<KnownKind>]) -> Self
+        requires { length kinds.now ≡ MAX_ID }
+        ensures { result ≡ mapped_ids (map entry_of_kind kinds.now) }
+    {
+        let mut mapped = Self::none();
+        for (index, kind) in kinds.iter().enumerate() {
+            if kind.is_some() {
                 mapped.push(index as u8 + 1);
             }
         }
