@@ -1,8 +1,8 @@
 -- The known extensions by their ids: what a table of kinds shows, and what the known extensions of a map read.
-use Rattle.std.proofs.Common.{◌≡◌, ◌≢◌, ℕ, ◌+◌, ◌<◌, ◌≤◌, suc, zero, List, [], ◌∷◌, ◌++◌, length, map, drop, replicate, set, get_or, Bool, true, false, Option, Some, None, Result, Ok, Err, OnOk, OnErr, All, arith, ap, refl, sym, ◌∙◌, subst, append_assoc, get_or-set_same, get_or-set_other}
+use Rattle.std.proofs.Common.{◌≡◌, ◌≢◌, ℕ, ◌+◌, ◌<◌, ◌≤◌, suc, zero, List, [], ◌∷◌, ◌++◌, length, map, take, drop, replicate, set, get_or, Bool, true, false, Option, Some, None, Result, Ok, Err, OnOk, OnErr, All, arith, ap, refl, sym, ◌∙◌, subst, append_assoc, get_or-set_same, get_or-set_other, length-drop}
 use Rattle.std.specs.Option.{is_some, option_map}
 use Rattle.std.proofs.Math.ListN.{get_or-map}
-use Rattle.std.proofs.lemmas.List.{get_or_default}
+use Rattle.std.proofs.lemmas.List.{get_or_default, take_all}
 use Rattle.rtp_values.specs.declared.kind.Extension.{Extension}
 use Rattle.rtp_values.specs.declared.kind.Extension.TheVariants.{UnknownUri}
 use Rattle.rtp_values.specs.declared.known_kind.KnownKind.{KnownKind}
@@ -13,6 +13,8 @@ use Rattle.rtp_values.proofs.KindLemmas.{one_kind}
 use Rattle.rtp_ext.specs.Elements.{Element}
 use Rattle.rtp_ext.specs.ExtensionMap.{Entry, Slots, IsId, entry_at, extension_at, extension_of, items_from}
 use Rattle.rtp_ext.specs.KindsById.{entry_of_kind, slots_of, known_alone, known_entry, known_slots}
+use Rattle.rtp_ext.specs.MapSlots.{mapped_ids, IsMapped}
+use Rattle.rtp_values.specs.KnownKind.{extension_of_kind}
 use Rattle.rtp_ext.specs.BlockValues.{Carries, AreFields, last, none, AreValues}
 use Rattle.rtp_ext.specs.Memory.{IsAllocation, HasAllocation, IsStopped}
 use Rattle.rtp_ext.proofs.ListingLemmas.{All-weaker}
@@ -52,7 +54,26 @@ slots_of-none n zero = refl
 slots_of-none zero (suc k) = refl
 slots_of-none (suc n) (suc k) = none_at n k
 
+-- the kind of a mapped id
+from_entry : (kind : Option KnownKind) (entry : Entry) → entry_of_kind kind ≡ Some entry → (found : KnownKind) × (kind ≡ Some found)
+from_entry None entry is = cc
+from_entry (Some kind) entry is = (kind, refl)
+
+pub kind_there : (kinds : List (Option KnownKind)) (id : ℕ) → IsMapped (slots_of kinds) id → (kind : KnownKind) × (get_or kinds id None ≡ Some kind)
+kind_there kinds zero mapped = let found = mapped.1 in cc
+kind_there kinds (suc k) mapped = from_entry (get_or kinds (suc k) None) mapped.0 (sym (entry_at-kinds kinds k) ∙ mapped.1)
+
+pub extension_there : (kinds : List (Option KnownKind)) (id : ℕ) (kind : KnownKind) → IsMapped (slots_of kinds) id → get_or kinds id None ≡ Some kind
+    → extension_at (slots_of kinds) id ≡ Some (extension_of_kind kind)
+extension_there kinds zero kind mapped is = let found = mapped.1 in cc
+extension_there kinds (suc k) kind mapped is = ap extension_of (entry_at-kinds kinds k ∙ ap entry_of_kind is)
+
 -- ---- the mapped ids, one kind after another
+
+pub mapped-slots : (kinds : List (Option KnownKind)) (ids : List ℕ) → length kinds ≡ 256 → ids ≡ mapped_ids (map entry_of_kind (take 255 (drop 1 kinds)))
+    → ids ≡ mapped_ids (slots_of kinds)
+mapped-slots kinds ids long is =
+    is ∙ ap (λ (left : List (Option KnownKind)). mapped_ids (map entry_of_kind left)) (take_all 255 (drop 1 kinds) (omega (arith, long, length-drop 1 kinds)))
 
 left_at : (kinds : List (Option KnownKind)) (index : ℕ) → index < length kinds
     → drop index (map entry_of_kind kinds) ≡ entry_of_kind (get_or kinds index None) ∷ drop (suc index) (map entry_of_kind kinds)

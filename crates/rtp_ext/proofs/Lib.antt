@@ -13,6 +13,7 @@ pub mod ListingLemmas
 mod MappedIdLemmas
 mod KindsByIdLemmas
 mod FormLemmas
+mod KnownItemsLemmas
 pub mod WrittenBlockLemmas
 pub mod WrittenElementsLemmas
 mod WrittenValuesLemmas

@@ -5,13 +5,15 @@ ghost use Rattle.std.specs.Option.{option_copied};
 ghost use Rattle.rtp_ext.specs.ExtensionMap as spec;
 ghost use Rattle.rtp_ext.specs.ExtensionMap.{items_from};
 ghost use Rattle.rtp_ext.specs.KindsById.{slots_of, known_slots};
+ghost use Rattle.std.specs.List.{list_any};
+ghost use Rattle.rtp_ext.specs.WrittenBlock.{needs_two};
 ghost use Rattle.rtp_ext.specs.EqualMaps.{same_slots, same_slots-equiv};
 
 use super::iter::write_entries;
 use super::mapped_ids::MappedIds;
 use super::slot::Slot;
-use super::{Iter, IterByMediaType, KindsById, slots};
-use rtp_values::Extension;
+use super::{Iter, IterByMediaType, KindsById, MAX_ID_ONE_BYTE_FORM, slots};
+use rtp_values::{Extension, ExtensionValues};
 use std::alloc::{AllocError, Global};
 use std::marker::Model;
 use std::{array, fmt, mem};
@@ -153,6 +155,14 @@ impl ExtensionMap {
         ensures none { IfNone result (spec.IsUnmapped self.now ext) }
     {
         slots::id_of(&self.slots, &ext)
+    }
+
+    // Whether the one-byte form doesn't serve: an unknown extension too may have an id above 14.
+    #[tactic(auto, using(crate::proofs::KnownItemsLemmas::needs_two_known))]
+    pub(super) fn needs_two_bytes(&self, ev: &ExtensionValues) -> bool
+        ensures { result ≡ list_any (needs_two ev.now) (items_from 0 self.now) }
+    {
+        self.mapped.has_above(MAX_ID_ONE_BYTE_FORM) || self.kinds.needs_two_bytes(ev)
     }
 
     // The mapped ids by rising id, each with its extension.

@@ -1,6 +1,7 @@
 //! The ids of a map that are mapped.
 
-ghost use Rattle.std.specs.Prelude.{◌≡◌, ◌<◌, ◌≤◌, ◌∷◌, ◌++◌, [], length, take, drop, map};
+ghost use Rattle.std.specs.Prelude.{◌≡◌, ◌<◌, ◌≤◌, ◌∷◌, ◌++◌, [], length, take, drop, map, nat_lt};
+ghost use Rattle.std.specs.List.{list_any};
 ghost use Rattle.rtp_ext.specs.KindsById.{entry_of_kind};
 ghost use Rattle.rtp_ext.specs.MapSlots.{mapped_ids, inserted};
 
@@ -103,6 +104,19 @@ impl MappedIds {
             .copy_within(place..usize::from(self.count), place + 1);
         self.ids[place] = id;
         self.count += 1;
+    }
+
+    // Whether an id is above this one.
+    pub(super) fn has_above(&self, greatest: u8) -> bool
+        ensures { result ≡ list_any (nat_lt greatest) self.now }
+    {
+        let ids = self.as_slice();
+        for id in ids {
+            if *id > greatest {
+                return true;
+            }
+        }
+        false
     }
 
     pub(super) fn as_slice(&self) -> &[u8]

@@ -6,6 +6,7 @@ mod elements;
 mod form;
 mod in_place;
 mod iter;
+mod kind_items;
 mod kinds_by_id;
 mod map;
 mod mapped_ids;

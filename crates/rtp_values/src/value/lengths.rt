@@ -4,7 +4,7 @@ ghost use Rattle.std.specs.Prelude.{◌≡◌, ◌≤◌, ◌++◌, length, IfSo
 ghost use Rattle.std.specs.Option.{option_map};
 ghost use Rattle.rtp_base.specs.Id.{before_padding};
 ghost use Rattle.rtp_values.specs.KnownKind.{extension_of_kind};
-ghost use Rattle.rtp_values.specs.Spelling.{has_no_data, spelled_data, bytes_of, offset_bytes, of_both};
+ghost use Rattle.rtp_values.specs.Spelling.{has_no_data, has_empty_text, spelled_data, bytes_of, offset_bytes, of_both};
 
 use super::{AbsCaptureTime, ExtensionValues, video_layers_allocation};
 use crate::KnownKind;
@@ -68,6 +68,16 @@ fn is_empty_mid(mid: &Option<Mid>) -> bool
     match mid {
         Some(mid) => mid.as_str().is_empty(),
         None => false,
+    }
+}
+
+impl ExtensionValues {
+    /// Whether a mid, a stream id or a repaired stream id is there and has no characters. Only then
+    /// can data of no bytes be written.
+    pub fn has_empty_text(&self) -> bool
+        ensures { result ≡ has_empty_text self.now }
+    {
+        is_empty_mid(&self.mid) || is_empty_rid(&self.rid) || is_empty_rid(&self.rid_repair)
     }
 }
 
