@@ -1,6 +1,6 @@
 -- The known extensions by their ids: what a table of kinds shows, and what the known extensions of a map read.
-use Rattle.std.proofs.Common.{◌≡◌, ◌≢◌, ℕ, ◌+◌, ◌<◌, ◌≤◌, suc, zero, List, [], ◌∷◌, ◌++◌, length, map, take, drop, replicate, set, get_or, Bool, true, false, Option, Some, None, Result, Ok, Err, OnOk, OnErr, All, arith, ap, refl, sym, ◌∙◌, subst, append_assoc, get_or-set_same, get_or-set_other, length-drop}
-use Rattle.std.specs.Option.{is_some, option_map}
+use Rattle.std.proofs.Common.{◌≡◌, ◌≢◌, ℕ, ◌+◌, ◌<◌, suc, zero, List, [], ◌∷◌, ◌++◌, length, map, take, drop, replicate, set, get_or, true, false, Option, Some, None, Result, Ok, Err, OnOk, OnErr, All, arith, ap, refl, sym, ◌∙◌, subst, append_assoc, get_or-set_same, get_or-set_other, length-drop}
+use Rattle.std.specs.Option.{is_some}
 use Rattle.std.proofs.Math.ListN.{get_or-map}
 use Rattle.std.proofs.lemmas.List.{get_or_default, take_all}
 use Rattle.rtp_values.specs.declared.kind.Extension.{Extension}
@@ -16,7 +16,7 @@ use Rattle.rtp_ext.specs.KindsById.{entry_of_kind, slots_of, known_alone, known_
 use Rattle.rtp_ext.specs.MapSlots.{mapped_ids, IsMapped}
 use Rattle.rtp_values.specs.KnownKind.{extension_of_kind}
 use Rattle.rtp_ext.specs.BlockValues.{Carries, AreFields, last, none, AreValues}
-use Rattle.rtp_ext.specs.Memory.{IsAllocation, HasAllocation, IsStopped}
+use Rattle.rtp_ext.specs.Memory.{HasAllocation, IsStopped}
 use Rattle.rtp_ext.proofs.ListingLemmas.{All-weaker}
 use Rattle.rtp_ext.proofs.MapLemmas.{entry_at-map}
 use Rattle.rtp_ext.proofs.MappedIdLemmas.{ids_from}

@@ -1,5 +1,5 @@
 -- The mapped ids whose extensions are known: what a map writes is what its known extensions do.
-use Rattle.std.proofs.Common.{◌≡◌, ℕ, ◌+◌, ◌≤◌, ◌⊎◌, inl, inr, suc, List, [], ◌∷◌, length, map, Bool, true, false, Option, Some, None, refl, sym, ap, ◌∙◌, arith}
+use Rattle.std.proofs.Common.{◌≡◌, ℕ, ◌+◌, ◌≤◌, ◌⊎◌, inl, inr, suc, List, [], ◌∷◌, length, map, Bool, true, false, Some, None, refl, sym, ap, ◌∙◌, arith}
 use Rattle.std.specs.Prelude.{◌||◌, nat_lt, if◌then◌else◌}
 use Rattle.std.specs.List.{list_any, cons_option}
 use Rattle.rtp_values.specs.declared.kind.Extension.{Extension}
@@ -11,7 +11,7 @@ use Rattle.rtp_values.proofs.EmptyDataLemmas.{no_empty_text}
 use Rattle.rtp_ext.specs.declared.ext.form.ExtensionsForm.{ExtensionsForm}
 use Rattle.rtp_ext.specs.declared.ext.form.ExtensionsForm.TheVariants.{OneByte, TwoByte}
 use Rattle.rtp_ext.specs.Elements.{Element}
-use Rattle.rtp_ext.specs.ExtensionMap.{Entry, Slots, items_from, mapped_count}
+use Rattle.rtp_ext.specs.ExtensionMap.{Slots, items_from, mapped_count}
 use Rattle.rtp_ext.specs.KindsById.{known_alone, known_slots, is_long_item, has_empty}
 use Rattle.rtp_ext.specs.MapSlots.{mapped_ids}
 use Rattle.rtp_ext.specs.WrittenBlock.{written_elements, needs_two, form_of, fields_of_items, image_values}

@@ -1,4 +1,4 @@
-use Rattle.std.proofs.Common.{arith, ap, length, map, drop, sym, ◌∙◌, subst, length-drop}
+use Rattle.std.proofs.Common.{arith, ap, length, drop, sym, ◌∙◌, subst, length-drop}
 use Rattle.std.proofs.lemmas.List.{length-map}
 use Rattle.std.specs.List.{AllByRecursion}
 use Rattle.rtp_ext.specs.ExtensionMap.{items_from}

@@ -1,4 +1,4 @@
-use Rattle.std.proofs.Common.{◌≡◌, ◌≤◌, ◌++◌, arith, ap, sym, ◌∙◌, length, List, drop, replicate, subst}
+use Rattle.std.proofs.Common.{◌≤◌, ◌++◌, arith, ap, sym, ◌∙◌, length, List, drop, replicate, subst}
 use Rattle.rtp_values.specs.declared.value.values.ExtensionValues.{ExtensionValues}
 use Rattle.rtp_values.specs.Values.{no_values}
 use Rattle.rtp_ext.specs.BlockValues.{AreValues}
