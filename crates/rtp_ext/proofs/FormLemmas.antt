@@ -1,5 +1,5 @@
 -- The form that mapped ids and their values need, and the elements that it can carry.
-use Rattle.std.proofs.Common.{◌≡◌, ℕ, ◌+◌, ◌≤◌, ◌⊎◌, inl, inr, List, [], ◌∷◌, length, Bool, true, false, Option, Some, None, refl, sym, ap, ◌∙◌, arith}
+use Rattle.std.proofs.Common.{◌≡◌, ℕ, ◌+◌, ◌≤◌, ◌⊎◌, inl, inr, List, [], ◌∷◌, length, Bool, true, false, Option, Some, None, refl, sym, ◌∙◌, arith}
 use Rattle.std.specs.Prelude.{◌||◌, nat_lt, if◌then◌else◌}
 use Rattle.std.specs.List.{AllByRecursion, filter_map, list_any}
 use Rattle.std.specs.Option.{option_map}
@@ -8,8 +8,10 @@ use Rattle.std.proofs.lemmas.Bool.Decides.{nat_tests}
 use Rattle.rtp_ext.specs.declared.ext.form.ExtensionsForm.{ExtensionsForm}
 use Rattle.rtp_ext.specs.declared.ext.form.ExtensionsForm.TheVariants.{OneByte, TwoByte}
 use Rattle.rtp_values.specs.declared.kind.Extension.{Extension}
-use Rattle.rtp_values.specs.declared.kind.Extension.TheVariants.{VideoLayersAllocation}
-use Rattle.rtp_values.specs.contracts.kind.ExtensionPartialEq.TheImpl as kind_eq
+use Rattle.rtp_values.specs.declared.known_kind.KnownKind.{KnownKind}
+use Rattle.rtp_values.specs.declared.known_kind.KnownKind.TheVariants.{VideoLayersAllocation}
+use Rattle.rtp_values.specs.contracts.known_kind.KnownKindPartialEq.TheImpl as kind_eq
+use Rattle.rtp_values.specs.KnownKind.{extension_of_kind}
 use Rattle.rtp_values.specs.declared.value.values.ExtensionValues.{ExtensionValues}
 use Rattle.rtp_ext.specs.Elements.{Element}
 use Rattle.rtp_values.specs.Spelling.{has_no_data, spelled_data, longest}
@@ -31,7 +33,7 @@ elements_of values items = filter_map (element_of values) items
 -- ---- the form
 
 -- the kind whose data may have more than 16 bytes
-pub long_kind : (kind : Extension) → (kind_eq.ghosts).eq kind VideoLayersAllocation ≡ nat_lt 16 (longest kind)
+pub long_kind : (kind : KnownKind) → (kind_eq.ghosts).eq kind VideoLayersAllocation ≡ nat_lt 16 (longest (extension_of_kind kind))
 long_kind VideoLayersAllocation = refl
 long_kind _ = refl
 
@@ -43,10 +45,6 @@ pub form_for-map : (exts : Slots) (values : ExtensionValues) → form_for values
 unfolding form_for
 form_for-map exts values = refl
 
-pub form_for-nil : (values : ExtensionValues) → form_for values [] ≡ OneByte
-unfolding form_for
-form_for-nil values = refl
-
 either_if : (a b : Bool) (x y : ExtensionsForm) → (if a || b then x else y) ≡ (if a then x else (if b then x else y))
 either_if true b x y = refl
 either_if false b x y = refl
@@ -55,13 +53,6 @@ pub form_for-cons : (values : ExtensionValues) (item : Item) (items : List Item)
     → form_for values (item ∷ items) ≡ (if needs_two values item then TwoByte else form_for values items)
 unfolding form_for
 form_for-cons values item items = either_if (needs_two values item) (list_any (needs_two values) items) TwoByte OneByte
-
--- the next one decides, or is passed
-pub form_for-next : (values : ExtensionValues) (items more : List Item) (item : Item) (needs : Bool) → items ≡ item ∷ more
-    → needs ≡ needs_two values item
-    → form_for values items ≡ (if needs then TwoByte else form_for values more)
-form_for-next values items more item needs split is =
-    ap (form_for values) split ∙ (form_for-cons values item more ∙ ap (λ (b : Bool). if b then TwoByte else form_for values more) (sym is))
 
 -- ---- what the form can carry
 

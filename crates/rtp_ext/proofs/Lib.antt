@@ -13,7 +13,9 @@ mod MemoryFacts
 mod MapLemmas
 pub mod ListingLemmas
 mod MappedIdLemmas
+mod KindsByIdLemmas
 mod FormLemmas
+mod KnownItemsLemmas
 pub mod WrittenBlockLemmas
 pub mod WrittenElementsLemmas
 mod WrittenValuesLemmas

@@ -16,7 +16,7 @@ All-head P x xs all = all 0 x (omega arith)
 All-tail : {X : Type 0} (P : X → Type 0) (x : X) (xs : List X) → All P (x ∷ xs) → All P xs
 All-tail P x xs all = λ k d here. all (suc k) d (omega arith)
 
-All-weaker : {X : Type 0} (P Q : X → Type 0) (xs : List X) → ((x : X) → P x → Q x) → All P xs → All Q xs
+pub All-weaker : {X : Type 0} (P Q : X → Type 0) (xs : List X) → ((x : X) → P x → Q x) → All P xs → All Q xs
 All-weaker P Q xs weaker all = λ k d here. weaker (get_or xs k d) (all k d here)
 
 -- one more at the end

@@ -1,6 +1,7 @@
 -- What contracts rest on, from the bytes up.
 pub mod Form
 pub mod ExtensionMap
+pub mod KindsById
 pub mod Elements
 pub mod BlockValues
 pub mod Memory

@@ -5,9 +5,10 @@
 mod ext;
 
 pub use ext::{
-    Elements, ExtensionMap, ExtensionsForm, Iter, IterByMediaType, MAX_ID, MAX_ID_ONE_BYTE_FORM,
-    NewIds, element_of, put_elements, remove_element, renumber, set_element, write_elements,
+    Elements, ExtensionMap, ExtensionsForm, Iter, IterByMediaType, KindsById, MAX_ID,
+    MAX_ID_ONE_BYTE_FORM, NewIds, element_of, put_elements, remove_element, renumber, set_element,
+    write_elements,
 };
 pub use rtp_values::{
-    AbsCaptureTime, Extension, ExtensionValues, Uri, VideoOrientation, VideoTiming,
+    AbsCaptureTime, Extension, ExtensionValues, KnownKind, Uri, VideoOrientation, VideoTiming,
 };

@@ -1,7 +1,7 @@
 pub mod KindLemmas
 pub mod FieldLemmas
 pub mod ValueLemmas
-mod EmptyDataLemmas
+pub mod EmptyDataLemmas
 mod SendTimeLemmas
 mod SendTimeFacts
 mod MemoryFacts

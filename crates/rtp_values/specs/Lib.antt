@@ -1,5 +1,6 @@
 -- What contracts rest on, from the bytes up.
 pub mod Kind
+pub mod KnownKind
 pub mod HeaderValues
 pub mod Values
 pub mod Spelling

@@ -1,5 +1,5 @@
 -- The data that each kind's values are written as, and what they are read as again.
-use Rattle.std.specs.Prelude.{◌&&◌, nat_le, if◌then◌else◌, Bool, false, ◌==◌, ℕ, zero, suc, ℤ, ◌+◌, ◌*◌, ◌/◌, ◌%◌, ◌^◌, ◌<◌, ◌≤◌, List, [], ◌∷◌, ◌++◌, length, replicate, unsigned_abs, neg_ℤ, pos, Option, Some, None}
+use Rattle.std.specs.Prelude.{◌&&◌, ◌||◌, nat_le, if◌then◌else◌, Bool, false, ◌==◌, ℕ, zero, suc, ℤ, ◌+◌, ◌*◌, ◌/◌, ◌%◌, ◌^◌, ◌<◌, ◌≤◌, List, [], ◌∷◌, ◌++◌, length, replicate, unsigned_abs, neg_ℤ, pos, Option, Some, None}
 use Rattle.std.specs.Option.{option_map, ForSome}
 use Rattle.std.specs.Int.{w64, cast_unsigned}
 use Rattle.rtp_base.specs.Id.{before_padding}
@@ -87,6 +87,12 @@ spelled_data (UnknownUri uri) values = None
 abbrev pub has_no_data : Option (List ℕ) → Bool
 has_no_data None = false
 has_no_data (Some bytes) = length bytes == 0
+
+-- whether a text is there and has no characters
+abbrev pub has_empty_text : ExtensionValues → Bool
+has_empty_text values =
+    has_no_data (spelled_data RtpMid values)
+    || (has_no_data (spelled_data RtpStreamId values) || has_no_data (spelled_data RepairedRtpStreamId values))
 
 -- the most bytes that the data of a kind have
 abbrev pub longest : Extension → ℕ

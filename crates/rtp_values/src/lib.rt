@@ -3,10 +3,12 @@
 #![tactic(auto)]
 
 mod kind;
+mod known_kind;
 mod table;
 mod uri;
 mod value;
 
 pub use kind::Extension;
+pub use known_kind::KnownKind;
 pub use uri::Uri;
 pub use value::{AbsCaptureTime, ExtensionValues, VideoOrientation, VideoTiming};

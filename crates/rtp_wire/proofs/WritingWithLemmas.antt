@@ -59,7 +59,7 @@ CannotBeWrittenWith-not h elements room left form can (short_room short) =
     let within : h.csrc_count ≤ length h.csrc = omega (arith, can.count, can.slots) in
     omega (arith, short, has_room h elements room left form can, length-in_form elements form can.form_is, length-wire_bytes_with h elements within)
 
--- the fixed part, the sources and the block, put one behind the other
+-- the fixed part, the sources and the block, put one after the other
 pub record ArePut (h : RtpHeader) (elements : List Element) (form : ExtensionsForm) (buf one two new fixed : List ℕ) (first second n : ℕ) : Type 0 where
   pub fixed_is : fixed ≡ fixed_bytes (with_block h)
   pub one_is : one ≡ overwritten buf 0 fixed

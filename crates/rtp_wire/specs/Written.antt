@@ -26,7 +26,7 @@ source_bytes h = flat_map (to_be_bytes w32) (take h.csrc_count h.csrc)
 abbrev pub header_bytes : RtpHeader → List ℕ → List ℕ
 header_bytes h part = fixed_bytes h ++ (source_bytes h ++ part)
 
--- the parts of the packet that a header with this block makes with this payload behind it
+-- the parts of the packet that a header with this block makes with this payload after it
 abbrev pub parts_written : RtpHeader → Option (ExtensionsForm × List ℕ) → List ℕ → PacketParts
 parts_written h block payload = record {
   has_padding = h.has_padding;

@@ -19,7 +19,7 @@ body_with elements = filled (elements_bytes (form_for elements) elements)
 unfoldable pub wire_bytes_with : RtpHeader → List Element → List ℕ
 wire_bytes_with h elements = header_bytes (with_block h) (block_of (form_for elements) (body_with elements))
 
--- the parts of the packet that they make with this payload behind them
+-- the parts of the packet that they make with this payload after them
 abbrev pub parts_with : RtpHeader → List Element → List ℕ → PacketParts
 parts_with h elements payload = parts_written (with_block h) (Some (form_for elements, body_with elements)) payload
 

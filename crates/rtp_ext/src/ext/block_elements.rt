@@ -7,13 +7,15 @@ ghost use Rattle.rtp_ext.specs.Elements.{AreElements, elements_bytes};
 ghost use Rattle.rtp_ext.specs.ExtensionMap.{mapped_count};
 ghost use Rattle.rtp_ext.specs.ElementWriting.{header_bytes, bytes_at, CanCarry, IsCarried};
 ghost use Rattle.rtp_values.specs.Spelling.{spelled_data};
+ghost use Rattle.rtp_values.specs.KnownKind.{extension_of_kind};
+ghost use Rattle.rtp_ext.specs.KindsById.{slots_of};
 ghost use Rattle.rtp_base.specs.Overwriting.{overwritten};
 ghost use Rattle.rtp_ext.specs.BlockValues.{AreValues};
 ghost use Rattle.rtp_values.specs.Values.{no_values};
-ghost use Rattle.rtp_ext.specs.WrittenBlock.{written_elements, needs_two, form_of, image_values};
+ghost use Rattle.rtp_ext.specs.WrittenBlock.{written_elements, form_of, image_values};
 
-use super::{ExtensionMap, ExtensionsForm, MAX_ID_ONE_BYTE_FORM};
-use rtp_values::{Extension, ExtensionValues};
+use super::{ExtensionMap, ExtensionsForm, KindsById};
+use rtp_values::{ExtensionValues, KnownKind};
 
 // How many bytes stand before an element's data.
 pub(super) fn header_len(form: ExtensionsForm) -> usize
@@ -40,20 +42,12 @@ pub(super) fn write_header(buf: &mut [u8], at: usize, form: ExtensionsForm, id: 
     }
 }
 
-// Whether the one-byte form doesn't serve for a mapped id.
-#[tactic(auto, using(crate::proofs::FormLemmas::long_kind))]
-fn needs_two_bytes(id: u8, ext: &Extension, ev: &ExtensionValues) -> bool
-    ensures { result ≡ needs_two ev.now (id, ext.now) }
-{
-    id > MAX_ID_ONE_BYTE_FORM || *ext == Extension::VideoLayersAllocation || ext.has_empty_data(ev)
-}
-
 // How many bytes the element of a kind takes, 0 where a value that it needs is absent.
-fn element_len(form: ExtensionsForm, ext: &Extension, ev: &ExtensionValues) -> usize
-    ensures length { (id : ℕ) → result ≡ length (bytes_at form id (spelled_data ext.now ev.now)) }
+fn element_len(form: ExtensionsForm, kind: KnownKind, ev: &ExtensionValues) -> usize
+    ensures length { (id : ℕ) → result ≡ length (bytes_at form id (spelled_data (extension_of_kind kind) ev.now)) }
     ensures few { result ≤ 257 }
 {
-    match ext.data_len(ev) {
+    match kind.data_len(ev) {
         Some(len) => header_len(form) + len,
         None => 0,
     }
@@ -66,23 +60,23 @@ fn write_element(
     at: usize,
     form: ExtensionsForm,
     id: u8,
-    ext: &Extension,
+    kind: KnownKind,
     ev: &ExtensionValues,
 ) -> usize
-    requires room { at + length (bytes_at form id (spelled_data ext.now ev.now)) ≤ length buf.old }
+    requires room { at + length (bytes_at form id (spelled_data (extension_of_kind kind) ev.now)) ≤ length buf.old }
     requires id { 1 ≤ id }
-    requires fits { CanCarry form (id, ext.now) (spelled_data ext.now ev.now) }
+    requires fits { CanCarry form (id, (extension_of_kind kind)) (spelled_data (extension_of_kind kind) ev.now) }
     ensures written { buf.new
-        ≡ overwritten buf.old at (bytes_at form id (spelled_data ext.now ev.now)) }
-    ensures end { result ≡ at + length (bytes_at form id (spelled_data ext.now ev.now)) }
-    ensures carried { IsCarried form ev.now (id, ext.now) }
+        ≡ overwritten buf.old at (bytes_at form id (spelled_data (extension_of_kind kind) ev.now)) }
+    ensures end { result ≡ at + length (bytes_at form id (spelled_data (extension_of_kind kind) ev.now)) }
+    ensures carried { IsCarried form ev.now (id, (extension_of_kind kind)) }
 {
     let header_len = header_len(form);
     if buf.len() - at < header_len {
         return at;
     }
     let start = at + header_len;
-    let Some(len) = ext.write_to(&mut buf[start..], ev) else {
+    let Some(len) = kind.write_to(&mut buf[start..], ev) else {
         return at;
     };
     write_header(buf, at, form, id, len as u8);
@@ -96,12 +90,11 @@ impl ExtensionMap {
     pub fn form(&self, ev: &ExtensionValues) -> ExtensionsForm
         ensures { result ≡ form_of self.now ev.now }
     {
-        for (id, ext) in self.items() {
-            if needs_two_bytes(id, ext, ev) {
-                return ExtensionsForm::TwoByte;
-            }
+        if self.needs_two_bytes(ev) {
+            ExtensionsForm::TwoByte
+        } else {
+            ExtensionsForm::OneByte
         }
-        ExtensionsForm::OneByte
     }
 
     /// How many bytes [`write_to`](Self::write_to) writes in the form, which is
@@ -113,11 +106,7 @@ impl ExtensionMap {
         ensures by_map { result ≤ 257 * mapped_count self.now }
         ensures bound { result ≤ 65535 }
     {
-        let mut len = 0;
-        for (_, ext) in self.items() {
-            len += element_len(form, ext, ev);
-        }
-        len
+        self.kinds().wire_len(ev, form)
     }
 
     /// Writes an element for each mapped id whose kind has its values, by rising id, to the front
@@ -147,9 +136,61 @@ impl ExtensionMap {
         ensures values { AreValues self.now (written_elements self.now ev.now) no_values
             (image_values self.now ev.now) }
     {
+        self.kinds().write_to(buf, ev, form)
+    }
+}
+
+impl KindsById {
+    /// The form that a block of these values needs, as [`ExtensionMap::form`] has it of the known
+    /// extensions.
+    pub fn form(&self, ev: &ExtensionValues) -> ExtensionsForm
+        ensures { result ≡ form_of (slots_of self.now) ev.now }
+    {
+        if self.needs_two_bytes(ev) {
+            ExtensionsForm::TwoByte
+        } else {
+            ExtensionsForm::OneByte
+        }
+    }
+
+    /// How many bytes [`write_to`](Self::write_to) writes in the form, as [`ExtensionMap::wire_len`]
+    /// has it.
+    pub fn wire_len(&self, ev: &ExtensionValues, form: ExtensionsForm) -> usize
+        ensures length { result ≡ length (elements_bytes form (written_elements (slots_of self.now) ev.now)) }
+        ensures by_map { result ≤ 257 * mapped_count (slots_of self.now) }
+        ensures bound { result ≤ 65535 }
+    {
+        let mut len = 0;
+        for (_, kind) in self.items() {
+            len += element_len(form, kind, ev);
+        }
+        len
+    }
+
+    /// Writes an element for each mapped id whose kind has its values as [`ExtensionMap::write_to`]
+    /// does.
+    pub fn write_to(&self, buf: &mut [u8], ev: &ExtensionValues, form: ExtensionsForm) -> usize
+        requires form { (form ≡ form_of (slots_of self.now) ev.now) ⊎ (form ≡ TwoByte) }
+        requires room { length (elements_bytes form (written_elements (slots_of self.now) ev.now))
+            ≤ length buf.old }
+        ensures length { result ≡ length (elements_bytes form (written_elements (slots_of self.now) ev.now)) }
+        ensures written { buf.new
+            ≡ elements_bytes form (written_elements (slots_of self.now) ev.now) ++ drop result buf.old }
+        ensures by_map { result ≤ 257 * mapped_count (slots_of self.now) }
+        ensures bound { result ≤ 65535 }
+
+        // What was written, and any zeros that follow it, are a block's body with these elements.
+        ensures elements { (zeros : ℕ) → AreElements form
+            (elements_bytes form (written_elements (slots_of self.now) ev.now) ++ replicate zeros 0)
+            (written_elements (slots_of self.now) ev.now) }
+
+        // These elements are read as the image of the values.
+        ensures values { AreValues (slots_of self.now) (written_elements (slots_of self.now) ev.now) no_values
+            (image_values (slots_of self.now) ev.now) }
+    {
         let mut at = 0;
-        for (id, ext) in self.items() {
-            at = write_element(buf, at, form, id, ext, ev);
+        for (id, kind) in self.items() {
+            at = write_element(buf, at, form, id, kind, ev);
         }
         at
     }

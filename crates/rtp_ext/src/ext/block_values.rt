@@ -4,8 +4,9 @@ ghost use Rattle.std.specs.Prelude.{List, IsOk, OnOk, OnErr};
 ghost use Rattle.rtp_ext.specs.Elements.{Element, AreElements};
 ghost use Rattle.rtp_ext.specs.Memory.{HasAllocation, IsStopped};
 ghost use Rattle.rtp_ext.specs.BlockValues.{AreValues};
+ghost use Rattle.rtp_ext.specs.KindsById.{slots_of};
 
-use super::{Elements, ExtensionMap, ExtensionsForm};
+use super::{Elements, ExtensionMap, ExtensionsForm, KindsById};
 use rtp_values::ExtensionValues;
 use std::alloc::{AllocError, Global};
 
@@ -37,8 +38,29 @@ impl ExtensionMap {
         ensures succeeds { (elements : List Element) → AreElements form buf.now elements →
             (HasAllocation self.now elements → ⊥) → IsOk result }
     {
+        self.kinds().parse(alloc, buf, form, ev)
+    }
+}
+
+impl KindsById {
+    /// Reads the elements of a block's body into the values as
+    /// [`ExtensionMap::parse`] does, by the known kinds of the table.
+    pub fn parse(
+        &self,
+        alloc: Global,
+        buf: &[u8],
+        form: ExtensionsForm,
+        ev: &mut ExtensionValues,
+    ) -> Result<(), AllocError>
+        ensures values { OnOk result ((elements : List Element) →
+            AreElements form buf.now elements → AreValues (slots_of self.now) elements ev.old ev.new) }
+        ensures refused { OnErr result ((elements : List Element) →
+            AreElements form buf.now elements → IsStopped (slots_of self.now) elements ev.old ev.new) }
+        ensures succeeds { (elements : List Element) → AreElements form buf.now elements →
+            (HasAllocation (slots_of self.now) elements → ⊥) → IsOk result }
+    {
         for (id, bytes) in Elements::new(buf, form) {
-            if let Some(kind) = self.lookup(id) {
+            if let Some(kind) = self.get(id) {
                 kind.parse_value(alloc, bytes, ev)?;
             }
         }

@@ -5,13 +5,16 @@ ghost use Rattle.std.specs.Option.{option_copied};
 ghost use Rattle.rtp_ext.specs.ExtensionMap as spec;
 ghost use Rattle.rtp_ext.specs.ExtensionMap.{items_from};
 ghost use Rattle.rtp_ext.specs.NewIds.{IsNewId};
+ghost use Rattle.rtp_ext.specs.KindsById.{slots_of, known_slots};
+ghost use Rattle.std.specs.List.{list_any};
+ghost use Rattle.rtp_ext.specs.WrittenBlock.{needs_two};
 ghost use Rattle.rtp_ext.specs.EqualMaps.{same_slots, same_slots-equiv};
 
 use super::iter::write_entries;
 use super::mapped_ids::MappedIds;
 use super::slot::Slot;
-use super::{Iter, IterByMediaType, slots};
-use rtp_values::Extension;
+use super::{Iter, IterByMediaType, KindsById, MAX_ID_ONE_BYTE_FORM, slots};
+use rtp_values::{Extension, ExtensionValues};
 use std::alloc::{AllocError, Global};
 use std::marker::Model;
 use std::{array, fmt, mem};
@@ -33,12 +36,15 @@ pub struct ExtensionMap {
     slots: [Slot; MAX_ID as usize],
     // The mapped ids, so that a walk goes over these alone.
     mapped: MappedIds,
+    // The known extensions, by which elements are read and written.
+    kinds: KindsById,
 }
 
 impl Model for ExtensionMap {
     ghost use Rattle.std.specs.Prelude.{◌≡◌, length};
     ghost use Rattle.rtp_ext.specs.ExtensionMap.{Slots};
     ghost use Rattle.rtp_ext.specs.MapSlots.{mapped_ids};
+    ghost use Rattle.rtp_ext.specs.KindsById.{slots_of, known_slots};
     ghost use Rattle.rtp_ext.specs.declared.ext.map.TheConstants.{MAX_ID};
 
     ghost Value = { Slots };
@@ -46,7 +52,8 @@ impl Model for ExtensionMap {
     ghost view = { λ map. map.slots };
 
     ghost invariant = { λ map. (length map.slots ≡ MAX_ID)
-        × (map.mapped ≡ mapped_ids map.slots) };
+        × (map.mapped ≡ mapped_ids map.slots)
+        × (slots_of map.kinds ≡ known_slots map.slots) };
 }
 
 impl PartialEq for ExtensionMap {
@@ -74,9 +81,11 @@ impl ExtensionMap {
     pub fn empty() -> Self
         ensures { spec.IsEmpty result }
     {
+        let slots = array::from_fn(|_| Slot::unmapped());
         ExtensionMap {
-            slots: array::from_fn(|_| Slot::unmapped()),
             mapped: MappedIds::none(),
+            kinds: KindsById::of_slots(&slots),
+            slots,
         }
     }
 
@@ -120,6 +129,7 @@ impl ExtensionMap {
     {
         if let Some(slot) = slots::slot_of(id) {
             let old = mem::replace(&mut self.slots[slot], Slot::from(ext));
+            self.kinds = KindsById::of_slots(&self.slots);
             if !old.is_mapped() {
                 self.mapped.insert(id);
             }
@@ -131,6 +141,13 @@ impl ExtensionMap {
         ensures { option_copied result ≡ spec.extension_at self.now id }
     {
         slots::extension(&self.slots, id)
+    }
+
+    /// The known extensions by their ids, by which the elements of packets are read and written.
+    pub fn kinds(&self) -> &KindsById
+        ensures { slots_of result.now ≡ known_slots self.now }
+    {
+        &self.kinds
     }
 
     /// The lowest id that is mapped to the extension.
@@ -148,6 +165,14 @@ impl ExtensionMap {
         ensures no_others { spec.HasNoIdAbove 255 self.now }
     {
         slots::id_of(&other.slots, slots::extension(&self.slots, id)?)
+    }
+
+    // Whether the one-byte form doesn't serve: an unknown extension too may have an id above 14.
+    #[tactic(auto, using(crate::proofs::KnownItemsLemmas::needs_two_known))]
+    pub(super) fn needs_two_bytes(&self, ev: &ExtensionValues) -> bool
+        ensures { result ≡ list_any (needs_two ev.now) (items_from 0 self.now) }
+    {
+        self.mapped.has_above(MAX_ID_ONE_BYTE_FORM) || self.kinds.needs_two_bytes(ev)
     }
 
     // The mapped ids by rising id, each with its extension.
@@ -196,6 +221,7 @@ impl ExtensionMap {
         let mut exts = Self::empty();
         slots::copy_of_medium(&self.slots, &mut exts.slots, audio);
         exts.mapped = MappedIds::of(&exts.slots);
+        exts.kinds = KindsById::of_slots(&exts.slots);
         exts
     }
 
@@ -214,6 +240,7 @@ impl ExtensionMap {
     {
         slots::remap(&mut self.slots, steps);
         self.mapped = MappedIds::of(&self.slots);
+        self.kinds = KindsById::of_slots(&self.slots);
     }
 
     /// The same map. Only the texts of unknown extensions take memory, and where that is refused
@@ -225,6 +252,7 @@ impl ExtensionMap {
         let mut copy = Self::empty();
         slots::copy(alloc, &self.slots, &mut copy.slots)?;
         copy.mapped = MappedIds::of(&copy.slots);
+        copy.kinds = KindsById::of_slots(&copy.slots);
         Ok(copy)
     }
 }

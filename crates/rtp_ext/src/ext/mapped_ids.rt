@@ -1,10 +1,13 @@
 //! The ids of a map that are mapped.
 
-ghost use Rattle.std.specs.Prelude.{◌≡◌, ◌<◌, ◌≤◌, ◌∷◌, ◌++◌, [], length, take, drop};
+ghost use Rattle.std.specs.Prelude.{◌≡◌, ◌<◌, ◌≤◌, ◌∷◌, ◌++◌, [], length, take, drop, map, nat_lt};
+ghost use Rattle.std.specs.List.{list_any};
+ghost use Rattle.rtp_ext.specs.KindsById.{entry_of_kind};
 ghost use Rattle.rtp_ext.specs.MapSlots.{mapped_ids, inserted};
 
 use super::map::MAX_ID;
 use super::slot::Slot;
+use rtp_values::KnownKind;
 use std::array;
 use std::marker::Model;
 
@@ -62,6 +65,20 @@ impl MappedIds {
         mapped
     }
 
+    // The ids that have a kind.
+    pub(super) fn of_kinds(kinds: &[Option<KnownKind>]) -> Self
+        requires { length kinds.now ≡ MAX_ID }
+        ensures { result ≡ mapped_ids (map entry_of_kind kinds.now) }
+    {
+        let mut mapped = Self::none();
+        for (index, kind) in kinds.iter().enumerate() {
+            if kind.is_some() {
+                mapped.push(index as u8 + 1);
+            }
+        }
+        mapped
+    }
+
     // How many ids are lower than this one.
     fn place_of(&self, id: u8) -> usize
         ensures within { result ≤ length self.now }
@@ -87,6 +104,19 @@ impl MappedIds {
             .copy_within(place..usize::from(self.count), place + 1);
         self.ids[place] = id;
         self.count += 1;
+    }
+
+    // Whether an id is above this one.
+    pub(super) fn has_above(&self, greatest: u8) -> bool
+        ensures { result ≡ list_any (nat_lt greatest) self.now }
+    {
+        let ids = self.as_slice();
+        for id in ids {
+            if *id > greatest {
+                return true;
+            }
+        }
+        false
     }
 
     pub(super) fn as_slice(&self) -> &[u8]

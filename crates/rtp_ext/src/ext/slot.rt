@@ -6,8 +6,9 @@ ghost use Rattle.std.specs.Option.{is_some, option_copied, option_map};
 ghost use Rattle.rtp_values.specs.Kind.{IsKnown};
 ghost use Rattle.rtp_ext.specs.EqualMaps.{same_slot, same_slot-equiv};
 ghost use Rattle.rtp_ext.specs.ExtensionMap as spec;
+ghost use Rattle.rtp_ext.specs.KindsById.{entry_of_kind, known_entry};
 
-use rtp_values::Extension;
+use rtp_values::{Extension, KnownKind};
 use std::alloc::{AllocError, Global};
 use std::marker::Model;
 use std::mem;
@@ -93,6 +94,13 @@ impl Slot {
             Mapping::Unmapped => None,
             Mapping::Free(extension) | Mapping::Locked(extension) => Some(extension),
         }
+    }
+
+    // The known kind that the id is mapped to.
+    pub(super) fn known_kind(&self) -> Option<KnownKind>
+        ensures { entry_of_kind result ≡ known_entry self.now }
+    {
+        self.extension()?.known_kind()
     }
 
     // Whether the id is mapped.

@@ -1,7 +1,8 @@
-//! The data of an element, by its kind.
+//! The data of an element, by its known kind.
 
 ghost use Rattle.std.specs.Prelude.{◌≡◌, ◌≢◌, ◌≤◌, [], ◌++◌, drop, length, unwrap_or, Some, IfOk, IfSome, IsErr};
 ghost use Rattle.std.specs.Option.{option_map};
+ghost use Rattle.rtp_values.specs.KnownKind.{extension_of_kind};
 ghost use Rattle.rtp_values.specs.Values.{Reads, with_fields, IsWellFormed, TakesMemory};
 ghost use Rattle.rtp_values.specs.Spelling.{spelled_data, carried_values, longest, HasRoom};
 
@@ -10,10 +11,10 @@ use super::{
     playout_delay, stream_id, transmission_offset, transport_sequence_number, video_content_type,
     video_layers_allocation, video_orientation, video_timing,
 };
-use crate::Extension;
+use crate::KnownKind;
 use std::alloc::{AllocError, Global};
 
-impl Extension {
+impl KnownKind {
     /// Reads the data of an element of this kind into the values: `Some` exactly when the data are
     /// well-formed for the kind, and then the kind's fields are what they say, and all other fields
     /// are as before. `None` changes nothing.
@@ -21,36 +22,36 @@ impl Extension {
     /// Only a layer allocation of two bytes or more takes memory. Where that is refused no field is
     /// changed.
     pub fn parse_value(
-        &self,
+        self,
         alloc: Global,
         buf: &[u8],
         ev: &mut ExtensionValues,
     ) -> Result<Option<()>, AllocError>
-        ensures found { result ≡ Ok (Some (record {})) → Reads self.now buf.now ev.new }
-        ensures others { ev.new ≡ with_fields self.now ev.old ev.new }
-        ensures only { IsWellFormed self.now buf.now → IfOk result (λ answer.
+        ensures found { result ≡ Ok (Some (record {})) → Reads (extension_of_kind self) buf.now ev.new }
+        ensures others { ev.new ≡ with_fields (extension_of_kind self) ev.old ev.new }
+        ensures only { IsWellFormed (extension_of_kind self) buf.now → IfOk result (λ answer.
             answer ≡ Some (record {})) }
         ensures unchanged { result ≢ Ok (Some (record {})) → ev.new ≡ ev.old }
-        ensures refused { IsErr result → TakesMemory self.now buf.now }
+        ensures refused { IsErr result → TakesMemory (extension_of_kind self) buf.now }
     {
         Ok(match self {
-            Extension::AbsoluteSendTime => abs_send_time::read(buf, ev),
-            Extension::AbsoluteCaptureTime => abs_capture_time::read(buf, ev),
-            Extension::AudioLevel => audio_level::read(buf, ev),
-            Extension::TransmissionTimeOffset => transmission_offset::read(buf, ev),
-            Extension::VideoOrientation => video_orientation::read(buf, ev),
-            Extension::TransportSequenceNumber => transport_sequence_number::read(buf, ev),
-            Extension::PlayoutDelay => playout_delay::read(buf, ev),
-            Extension::VideoContentType => video_content_type::read(buf, ev),
-            Extension::VideoTiming => video_timing::read(buf, ev),
-            Extension::RtpStreamId => stream_id::read(buf, ev),
-            Extension::RepairedRtpStreamId => stream_id::read_repaired(buf, ev),
-            Extension::RtpMid => mid::read(buf, ev),
-            Extension::FrameMarking => frame_marking::read(buf, ev),
-            Extension::VideoLayersAllocation => {
+            KnownKind::AbsoluteSendTime => abs_send_time::read(buf, ev),
+            KnownKind::AbsoluteCaptureTime => abs_capture_time::read(buf, ev),
+            KnownKind::AudioLevel => audio_level::read(buf, ev),
+            KnownKind::TransmissionTimeOffset => transmission_offset::read(buf, ev),
+            KnownKind::VideoOrientation => video_orientation::read(buf, ev),
+            KnownKind::TransportSequenceNumber => transport_sequence_number::read(buf, ev),
+            KnownKind::PlayoutDelay => playout_delay::read(buf, ev),
+            KnownKind::VideoContentType => video_content_type::read(buf, ev),
+            KnownKind::VideoTiming => video_timing::read(buf, ev),
+            KnownKind::RtpStreamId => stream_id::read(buf, ev),
+            KnownKind::RepairedRtpStreamId => stream_id::read_repaired(buf, ev),
+            KnownKind::RtpMid => mid::read(buf, ev),
+            KnownKind::FrameMarking => frame_marking::read(buf, ev),
+            KnownKind::VideoLayersAllocation => {
                 return video_layers_allocation::read(alloc, buf, ev);
             }
-            Extension::ColorSpace | Extension::UnknownUri(_) => None,
+            KnownKind::ColorSpace => None,
         })
     }
 
@@ -58,33 +59,33 @@ impl Extension {
     /// or returns `None` and changes nothing where a value that the kind needs is absent, or is an
     /// allocation that can't be written in 255 bytes. The bytes after the data stay as they were.
     /// It requires room for the data; 255 bytes always suffice.
-    pub fn write_to(&self, buf: &mut [u8], ev: &ExtensionValues) -> Option<usize>
-        requires room { HasRoom self.now ev.now buf.old }
-        ensures length { result ≡ option_map length (spelled_data self.now ev.now) }
-        ensures written { buf.new ≡ unwrap_or (spelled_data self.now ev.now) []
-            ++ drop (length (unwrap_or (spelled_data self.now ev.now) [])) buf.old }
+    pub fn write_to(self, buf: &mut [u8], ev: &ExtensionValues) -> Option<usize>
+        requires room { HasRoom (extension_of_kind self) ev.now buf.old }
+        ensures length { result ≡ option_map length (spelled_data (extension_of_kind self) ev.now) }
+        ensures written { buf.new ≡ unwrap_or (spelled_data (extension_of_kind self) ev.now) []
+            ++ drop (length (unwrap_or (spelled_data (extension_of_kind self) ev.now) [])) buf.old }
 
         // What was written is read as the value that these bytes carry.
-        ensures read_back { IfSome (spelled_data self.now ev.now) (λ bytes.
-            Reads self.now bytes (carried_values ev.now)) }
-        ensures few { IfSome (spelled_data self.now ev.now) (λ bytes. length bytes ≤ longest self.now) }
+        ensures read_back { IfSome (spelled_data (extension_of_kind self) ev.now) (λ bytes.
+            Reads (extension_of_kind self) bytes (carried_values ev.now)) }
+        ensures few { IfSome (spelled_data (extension_of_kind self) ev.now) (λ bytes. length bytes ≤ longest (extension_of_kind self)) }
     {
         match self {
-            Extension::AbsoluteSendTime => abs_send_time::write(buf, ev),
-            Extension::AbsoluteCaptureTime => abs_capture_time::write(buf, ev),
-            Extension::AudioLevel => audio_level::write(buf, ev),
-            Extension::TransmissionTimeOffset => transmission_offset::write(buf, ev),
-            Extension::VideoOrientation => video_orientation::write(buf, ev),
-            Extension::TransportSequenceNumber => transport_sequence_number::write(buf, ev),
-            Extension::PlayoutDelay => playout_delay::write(buf, ev),
-            Extension::VideoContentType => video_content_type::write(buf, ev),
-            Extension::VideoTiming => video_timing::write(buf, ev),
-            Extension::RtpStreamId => stream_id::write(buf, ev),
-            Extension::RepairedRtpStreamId => stream_id::write_repaired(buf, ev),
-            Extension::RtpMid => mid::write(buf, ev),
-            Extension::FrameMarking => frame_marking::write(buf, ev),
-            Extension::VideoLayersAllocation => video_layers_allocation::write(buf, ev),
-            Extension::ColorSpace | Extension::UnknownUri(_) => None,
+            KnownKind::AbsoluteSendTime => abs_send_time::write(buf, ev),
+            KnownKind::AbsoluteCaptureTime => abs_capture_time::write(buf, ev),
+            KnownKind::AudioLevel => audio_level::write(buf, ev),
+            KnownKind::TransmissionTimeOffset => transmission_offset::write(buf, ev),
+            KnownKind::VideoOrientation => video_orientation::write(buf, ev),
+            KnownKind::TransportSequenceNumber => transport_sequence_number::write(buf, ev),
+            KnownKind::PlayoutDelay => playout_delay::write(buf, ev),
+            KnownKind::VideoContentType => video_content_type::write(buf, ev),
+            KnownKind::VideoTiming => video_timing::write(buf, ev),
+            KnownKind::RtpStreamId => stream_id::write(buf, ev),
+            KnownKind::RepairedRtpStreamId => stream_id::write_repaired(buf, ev),
+            KnownKind::RtpMid => mid::write(buf, ev),
+            KnownKind::FrameMarking => frame_marking::write(buf, ev),
+            KnownKind::VideoLayersAllocation => video_layers_allocation::write(buf, ev),
+            KnownKind::ColorSpace => None,
         }
     }
 }

@@ -3,10 +3,11 @@
 ghost use Rattle.std.specs.Prelude.{◌≡◌, ◌≤◌, ◌++◌, length, IfSome};
 ghost use Rattle.std.specs.Option.{option_map};
 ghost use Rattle.rtp_base.specs.Id.{before_padding};
-ghost use Rattle.rtp_values.specs.Spelling.{has_no_data, spelled_data, bytes_of, offset_bytes, of_both};
+ghost use Rattle.rtp_values.specs.KnownKind.{extension_of_kind};
+ghost use Rattle.rtp_values.specs.Spelling.{has_no_data, has_empty_text, spelled_data, bytes_of, offset_bytes, of_both};
 
 use super::{AbsCaptureTime, ExtensionValues, video_layers_allocation};
-use crate::Extension;
+use crate::KnownKind;
 use rtp_base::{Mid, Rid};
 
 // The length where the value is there.
@@ -70,40 +71,50 @@ fn is_empty_mid(mid: &Option<Mid>) -> bool
     }
 }
 
-impl Extension {
+impl ExtensionValues {
+    /// Whether a mid, a stream id or a repaired stream id is there and has no characters. Only then
+    /// can data of no bytes be written.
+    pub fn has_empty_text(&self) -> bool
+        ensures { result ≡ has_empty_text self.now }
+    {
+        is_empty_mid(&self.mid) || is_empty_rid(&self.rid) || is_empty_rid(&self.rid_repair)
+    }
+}
+
+impl KnownKind {
     /// Whether [`write_to`](Self::write_to) writes data of no bytes, which only a text can have.
-    pub fn has_empty_data(&self, ev: &ExtensionValues) -> bool
-        ensures { result ≡ has_no_data (spelled_data self.now ev.now) }
+    pub fn has_empty_data(self, ev: &ExtensionValues) -> bool
+        ensures { result ≡ has_no_data (spelled_data (extension_of_kind self) ev.now) }
     {
         match self {
-            Extension::RtpStreamId => is_empty_rid(&ev.rid),
-            Extension::RepairedRtpStreamId => is_empty_rid(&ev.rid_repair),
-            Extension::RtpMid => is_empty_mid(&ev.mid),
+            KnownKind::RtpStreamId => is_empty_rid(&ev.rid),
+            KnownKind::RepairedRtpStreamId => is_empty_rid(&ev.rid_repair),
+            KnownKind::RtpMid => is_empty_mid(&ev.mid),
             _ => false,
         }
     }
 
     /// How many bytes [`write_to`](Self::write_to) writes, and `None` where it writes no element.
-    pub fn data_len(&self, ev: &ExtensionValues) -> Option<usize>
-        ensures length { result ≡ option_map length (spelled_data self.now ev.now) }
+    pub fn data_len(self, ev: &ExtensionValues) -> Option<usize>
+        ensures length { result ≡ option_map length (spelled_data (extension_of_kind self) ev.now) }
         ensures few { IfSome result (λ len. len ≤ 255) }
     {
         match self {
-            Extension::AbsoluteSendTime => len_of(&ev.abs_send_time, 3),
-            Extension::AbsoluteCaptureTime => capture_len(&ev.abs_capture_time),
-            Extension::AudioLevel => len_of_both(&ev.audio_level, &ev.voice_activity, 1),
-            Extension::TransmissionTimeOffset => len_of(&ev.tx_time_offs, 4),
-            Extension::VideoOrientation => len_of(&ev.video_orientation, 1),
-            Extension::TransportSequenceNumber => len_of(&ev.transport_cc, 2),
-            Extension::PlayoutDelay => len_of_both(&ev.play_delay_min, &ev.play_delay_max, 3),
-            Extension::VideoContentType => len_of(&ev.video_content_type, 1),
-            Extension::VideoTiming => len_of(&ev.video_timing, 13),
-            Extension::RtpStreamId => ev.rid.as_ref().map(rid_len),
-            Extension::RepairedRtpStreamId => ev.rid_repair.as_ref().map(rid_len),
-            Extension::RtpMid => ev.mid.as_ref().map(mid_len),
-            Extension::FrameMarking => len_of(&ev.frame_mark, 4),
-            Extension::VideoLayersAllocation => video_layers_allocation::data_len(ev),
-            Extension::ColorSpace | Extension::UnknownUri(_) => None,
+            KnownKind::AbsoluteSendTime => len_of(&ev.abs_send_time, 3),
+            KnownKind::AbsoluteCaptureTime => capture_len(&ev.abs_capture_time),
+            KnownKind::AudioLevel => len_of_both(&ev.audio_level, &ev.voice_activity, 1),
+            KnownKind::TransmissionTimeOffset => len_of(&ev.tx_time_offs, 4),
+            KnownKind::VideoOrientation => len_of(&ev.video_orientation, 1),
+            KnownKind::TransportSequenceNumber => len_of(&ev.transport_cc, 2),
+            KnownKind::PlayoutDelay => len_of_both(&ev.play_delay_min, &ev.play_delay_max, 3),
+            KnownKind::VideoContentType => len_of(&ev.video_content_type, 1),
+            KnownKind::VideoTiming => len_of(&ev.video_timing, 13),
+            KnownKind::RtpStreamId => ev.rid.as_ref().map(rid_len),
+            KnownKind::RepairedRtpStreamId => ev.rid_repair.as_ref().map(rid_len),
+            KnownKind::RtpMid => ev.mid.as_ref().map(mid_len),
+            KnownKind::FrameMarking => len_of(&ev.frame_mark, 4),
+            KnownKind::VideoLayersAllocation => video_layers_allocation::data_len(ev),
+            KnownKind::ColorSpace => None,
         }
     }
 }

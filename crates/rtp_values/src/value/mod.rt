@@ -8,6 +8,7 @@ mod frame_marking;
 mod front;
 mod lengths;
 mod mid;
+mod of_extension;
 mod playout_delay;
 mod stream_id;
 mod transmission_offset;

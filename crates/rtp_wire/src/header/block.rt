@@ -38,7 +38,7 @@ pub(super) fn block_len(exts: &ExtensionMap, ev: &ExtensionValues) -> usize
     HEADER_LEN + elements_len.next_multiple_of(4)
 }
 
-// Puts the four bytes before a body in front of elements that stand after these, and behind them the
+// Puts the four bytes before a body in front of elements that stand after these, and after them the
 // zeros that fill their last word, and returns the block's length.
 fn close_block(buf: &mut [u8], form: ExtensionsForm, elements_len: usize) -> usize
     requires few { elements_len ≤ 262140 }

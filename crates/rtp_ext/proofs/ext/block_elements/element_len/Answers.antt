@@ -1,4 +1,5 @@
 use Rattle.std.proofs.Common.{arith, sym, ◌∙◌}
+use Rattle.rtp_values.specs.KnownKind.{extension_of_kind}
 use Rattle.rtp_values.specs.Spelling.{spelled_data}
 use Rattle.rtp_ext.proofs.WrittenBlockLemmas.{length-header_bytes, length-element}
 use Rattle.rtp_ext.proofs.ext.block_elements.element_len.Goals as goal
@@ -8,7 +9,7 @@ overflow_add-result c = omega (arith, c.in-Some.ensures.few, c.header_len.ensure
 
 pub returns-in-Some-clause-length : goal.returns-in-Some-clause-length
 returns-in-Some-clause-length c = λ id.
-    length-element c.args.form id c.header_len.result c.in-Some.len (spelled_data c.args.ext.now c.args.ev.now)
+    length-element c.args.form id c.header_len.result c.in-Some.len (spelled_data (extension_of_kind c.args.kind) c.args.ev.now)
     (sym c.in-Some.is ∙ c.data_len.ensures.length) (c.header_len.ensures id c.in-Some.len)
 
 pub returns-in-Some-clause-few : goal.returns-in-Some-clause-few

@@ -1,62 +1,48 @@
-use Rattle.std.proofs.Common.{arith, sym, ap, ◌∙◌, ◌≡◌, ◌++◌, length, drop, subst}
-use Rattle.std.specs.List.{AllByRecursion}
-use Rattle.rtp_ext.specs.ElementWriting.{items_bytes, IsCarried}
-use Rattle.rtp_ext.specs.ExtensionMap.{items_from}
-use Rattle.rtp_ext.specs.Elements.{elements_bytes}
-use Rattle.rtp_ext.specs.WrittenBlock.{written_elements}
-use Rattle.rtp_ext.proofs.FormLemmas.{all_fit}
-use Rattle.rtp_ext.proofs.WrittenBlockLemmas.{IsUnderWay, IsUnderWay-start, IsUnderWay-next, IsUnderWay-step, IsUnderWay-end, items_bytes-written, length-items}
-use Rattle.rtp_ext.proofs.WrittenElementsLemmas.{AreElements-written}
-use Rattle.rtp_ext.proofs.WrittenValuesLemmas.{AreValues-written}
+use Rattle.std.proofs.Common.{◌≤◌, ◌++◌, arith, ap, sym, ◌∙◌, length, List, drop, replicate, subst}
+use Rattle.rtp_values.specs.declared.value.values.ExtensionValues.{ExtensionValues}
+use Rattle.rtp_values.specs.Values.{no_values}
+use Rattle.rtp_ext.specs.BlockValues.{AreValues}
+use Rattle.rtp_ext.specs.Elements.{Element, AreElements, elements_bytes}
+use Rattle.rtp_ext.specs.KindsById.{slots_of}
+use Rattle.rtp_ext.specs.WrittenBlock.{written_elements, image_values}
+use Rattle.rtp_ext.proofs.KindsByIdLemmas.{AreValues-known}
+use Rattle.rtp_ext.proofs.KnownItemsLemmas.{chosen_known, written_known, image_known, count_known}
 use Rattle.rtp_ext.proofs.ext.map.ExtensionMap.write_to.Goals as goal
 
-pub loop-id-init : goal.loop-id-init
-loop-id-init c =
-    let exts = c.args.self.now in
-    subst (λ items. IsUnderWay c.args.form c.args.ev.now c.args.buf.now c.args.buf.now (items_from 0 exts) items 0)
-    (sym (c.into_iter-id-iterator.ensures.into_iter_gives ∙ c.items-id-items.ensures.items))
-    (IsUnderWay-start c.args.form c.args.ev.now c.args.buf.now (items_from 0 exts) (all_fit exts c.args.ev.now c.args.form c.requires.form))
-
-pub write_element-at-requires : goal.write_element-at-requires
-write_element-at-requires c =
-    let next = IsUnderWay-next _ _ _ _ (items_from 0 c.args.self.now) _ c.next.new.self (c.in-Some.id, c.in-Some.ext.now) c.loop-id.at
-    c.loop-id.invariant c.in-Some.ensures.steps
-    (omega (arith, c.requires.room, ap length (items_bytes-written c.args.form c.args.self.now c.args.ev.now))) in
-    record { room = next.0; id = next.1.0; fits = next.1.1 }
-
-pub loop-id-preserved : goal.loop-id-preserved
-loop-id-preserved c =
-    IsUnderWay-step c.args.form c.args.ev.now c.args.buf.now c.loop-id.buf _ (items_from 0 c.args.self.now) _ c.next.new.self (c.in-Some.id, c.in-Some.ext.now)
-    c.loop-id.at _ c.loop-id.invariant c.in-Some.ensures.steps
-    (omega (arith, c.requires.room, ap length (items_bytes-written c.args.form c.args.self.now c.args.ev.now)))
-    c.write_element-at.ensures.written c.write_element-at.ensures.end c.write_element-at.ensures.carried
-
--- all are written
-ended : (c : goal.In-None) →
-    (c.loop-id.at ≡ length (items_bytes c.args.form c.args.ev.now (items_from 0 c.args.self.now)))
-    × (c.loop-id.buf ≡ items_bytes c.args.form c.args.ev.now (items_from 0 c.args.self.now)
-    ++ drop (length (items_bytes c.args.form c.args.ev.now (items_from 0 c.args.self.now))) c.args.buf.now)
-    × AllByRecursion (IsCarried c.args.form c.args.ev.now) (items_from 0 c.args.self.now)
-ended c = IsUnderWay-end _ _ _ _ _ _ _ c.loop-id.invariant c.in-None.ensures.steps.0
+pub write_to-requires : goal.write_to-requires
+write_to-requires c = record {
+  form = chosen_known c.args.self.now (slots_of c.kinds.result.now) c.args.ev.now c.args.form c.kinds.ensures c.requires.form;
+  room = subst (λ (elements : List Element). length (elements_bytes c.args.form elements) ≤ length c.args.buf.now)
+      (sym (written_known c.args.self.now (slots_of c.kinds.result.now) c.args.ev.now c.kinds.ensures)) c.requires.room;
+}
 
 pub returns-clause-length : goal.returns-clause-length
-returns-clause-length c = (ended c).0 ∙ ap length (items_bytes-written c.args.form c.args.self.now c.args.ev.now)
+returns-clause-length c =
+    c.write_to.ensures.length
+    ∙ ap (λ (elements : List Element). length (elements_bytes c.args.form elements))
+    (written_known c.args.self.now (slots_of c.kinds.result.now) c.args.ev.now c.kinds.ensures)
 
 pub returns-clause-written : goal.returns-clause-written
 returns-clause-written c =
-    (ended c).1 ∙ ap (λ bytes. bytes ++ drop (length bytes) c.args.buf.now) (items_bytes-written c.args.form c.args.self.now c.args.ev.now)
-    ∙ ap (λ end. elements_bytes c.args.form (written_elements c.args.self.now c.args.ev.now) ++ drop end c.args.buf.now) (sym (returns-clause-length c))
-
-pub returns-clause-bound : goal.returns-clause-bound
-returns-clause-bound c =
-    omega (arith, (ended c).0, length-items c.args.form c.args.ev.now (items_from 0 c.args.self.now) (ended c).2, c.items-id-items.ensures.few)
+    c.write_to.ensures.written
+    ∙ ap (λ (elements : List Element). elements_bytes c.args.form elements ++ drop c.write_to.result c.args.buf.now)
+    (written_known c.args.self.now (slots_of c.kinds.result.now) c.args.ev.now c.kinds.ensures)
 
 pub returns-clause-by_map : goal.returns-clause-by_map
 returns-clause-by_map c =
-    omega (arith, (ended c).0, length-items c.args.form c.args.ev.now (items_from 0 c.args.self.now) (ended c).2)
+    omega (arith, c.write_to.ensures.by_map, count_known c.args.self.now (slots_of c.kinds.result.now) c.kinds.ensures)
 
 pub returns-clause-elements : goal.returns-clause-elements
-returns-clause-elements c = λ zeros. AreElements-written c.args.form c.args.self.now c.args.ev.now zeros (ended c).2
+returns-clause-elements c = λ zeros.
+    subst (λ (elements : List Element). AreElements c.args.form (elements_bytes c.args.form elements ++ replicate zeros 0) elements)
+    (written_known c.args.self.now (slots_of c.kinds.result.now) c.args.ev.now c.kinds.ensures) (c.write_to.ensures.elements zeros)
 
 pub returns-clause-values : goal.returns-clause-values
-returns-clause-values c = AreValues-written c.args.form c.args.self.now c.args.ev.now (ended c).2
+returns-clause-values c =
+    let exts = c.args.self.now in
+    let known = slots_of c.kinds.result.now in
+    let ev = c.args.ev.now in
+    let is = c.kinds.ensures in
+    subst (λ (elements : List Element). AreValues exts elements no_values (image_values exts ev)) (written_known exts known ev is)
+    (subst (λ (values : ExtensionValues). AreValues exts (written_elements known ev) no_values values) (image_known exts known ev is)
+    (AreValues-known exts known (written_elements known ev) no_values (image_values known ev) is c.write_to.ensures.values))

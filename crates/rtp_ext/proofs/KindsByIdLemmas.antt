@@ -1,0 +1,200 @@
+-- The known extensions by their ids: what a table of kinds shows, and what the known extensions of a map read.
+use Rattle.std.proofs.Common.{◌≡◌, ◌≢◌, ℕ, ◌+◌, ◌<◌, suc, zero, List, [], ◌∷◌, ◌++◌, length, map, take, drop, replicate, set, get_or, true, false, Option, Some, None, Result, Ok, Err, OnOk, OnErr, All, arith, ap, refl, sym, ◌∙◌, subst, append_assoc, get_or-set_same, get_or-set_other, length-drop}
+use Rattle.std.specs.Option.{is_some}
+use Rattle.std.proofs.Math.ListN.{get_or-map}
+use Rattle.std.proofs.lemmas.List.{get_or_default, take_all}
+use Rattle.rtp_values.specs.declared.kind.Extension.{Extension}
+use Rattle.rtp_values.specs.declared.kind.Extension.TheVariants.{UnknownUri}
+use Rattle.rtp_values.specs.declared.known_kind.KnownKind.{KnownKind}
+use Rattle.rtp_values.specs.declared.value.values.ExtensionValues.{ExtensionValues}
+use Rattle.rtp_values.specs.Kind.{IsKnown}
+use Rattle.rtp_values.specs.Values.{IsWellFormed}
+use Rattle.rtp_values.proofs.KindLemmas.{one_kind}
+use Rattle.rtp_ext.specs.Elements.{Element}
+use Rattle.rtp_ext.specs.ExtensionMap.{Entry, Slots, IsId, entry_at, extension_at, extension_of, items_from}
+use Rattle.rtp_ext.specs.KindsById.{entry_of_kind, slots_of, known_alone, known_entry, known_slots}
+use Rattle.rtp_ext.specs.MapSlots.{mapped_ids, IsMapped}
+use Rattle.rtp_values.specs.KnownKind.{extension_of_kind}
+use Rattle.rtp_ext.specs.BlockValues.{Carries, AreFields, last, none, AreValues}
+use Rattle.rtp_ext.specs.Memory.{HasAllocation, IsStopped}
+use Rattle.rtp_ext.proofs.ListingLemmas.{All-weaker}
+use Rattle.rtp_ext.proofs.MapLemmas.{entry_at-map}
+use Rattle.rtp_ext.proofs.MappedIdLemmas.{ids_from}
+
+-- ---- the table
+
+-- the entry of an id
+entry_at-kinds : (kinds : List (Option KnownKind)) (k : ℕ) → entry_at (slots_of kinds) (suc k) ≡ entry_of_kind (get_or kinds (suc k) None)
+entry_at-kinds [] k = refl
+entry_at-kinds (kind ∷ kinds) k = get_or-map entry_of_kind kinds k None
+
+-- one kind is set
+pub slots_of-set : (kinds new : List (Option KnownKind)) (id : ℕ) (kind : Option KnownKind) → slots_of new ≡ slots_of (set kinds id kind)
+    → id < length kinds → IsId id → entry_at (slots_of new) id ≡ entry_of_kind kind
+slots_of-set kinds new zero kind is within is_id = absurd (omega (arith, is_id.0))
+slots_of-set kinds new (suc k) kind is within is_id =
+    ap (λ (slots : Slots). entry_at slots (suc k)) is ∙ entry_at-kinds (set kinds (suc k) kind) k
+    ∙ ap entry_of_kind (get_or-set_same kinds (suc k) kind None within)
+
+pub slots_of-set_others : (kinds new : List (Option KnownKind)) (id : ℕ) (kind : Option KnownKind) → slots_of new ≡ slots_of (set kinds id kind)
+    → (k : ℕ) → k ≢ id → entry_at (slots_of new) k ≡ entry_at (slots_of kinds) k
+slots_of-set_others kinds new id kind is zero other = refl
+slots_of-set_others kinds new id kind is (suc k) other =
+    ap (λ (slots : Slots). entry_at slots (suc k)) is ∙ entry_at-kinds (set kinds id kind) k
+    ∙ ap entry_of_kind (get_or-set_other kinds id (suc k) kind None other) ∙ sym (entry_at-kinds kinds k)
+
+-- no kind is there
+none_at : (n k : ℕ) → get_or (map entry_of_kind (replicate n None)) k None ≡ None
+none_at zero k = refl
+none_at (suc n) zero = refl
+none_at (suc n) (suc k) = none_at n k
+
+pub slots_of-none : (n id : ℕ) → entry_at (slots_of (replicate n None)) id ≡ None
+slots_of-none n zero = refl
+slots_of-none zero (suc k) = refl
+slots_of-none (suc n) (suc k) = none_at n k
+
+-- the kind of a mapped id
+from_entry : (kind : Option KnownKind) (entry : Entry) → entry_of_kind kind ≡ Some entry → (found : KnownKind) × (kind ≡ Some found)
+from_entry None entry is = cc
+from_entry (Some kind) entry is = (kind, refl)
+
+pub kind_there : (kinds : List (Option KnownKind)) (id : ℕ) → IsMapped (slots_of kinds) id → (kind : KnownKind) × (get_or kinds id None ≡ Some kind)
+kind_there kinds zero mapped = let found = mapped.1 in cc
+kind_there kinds (suc k) mapped = from_entry (get_or kinds (suc k) None) mapped.0 (sym (entry_at-kinds kinds k) ∙ mapped.1)
+
+pub extension_there : (kinds : List (Option KnownKind)) (id : ℕ) (kind : KnownKind) → IsMapped (slots_of kinds) id → get_or kinds id None ≡ Some kind
+    → extension_at (slots_of kinds) id ≡ Some (extension_of_kind kind)
+extension_there kinds zero kind mapped is = let found = mapped.1 in cc
+extension_there kinds (suc k) kind mapped is = ap extension_of (entry_at-kinds kinds k ∙ ap entry_of_kind is)
+
+-- ---- the mapped ids, one kind after another
+
+pub mapped-slots : (kinds : List (Option KnownKind)) (ids : List ℕ) → length kinds ≡ 256 → ids ≡ mapped_ids (map entry_of_kind (take 255 (drop 1 kinds)))
+    → ids ≡ mapped_ids (slots_of kinds)
+mapped-slots kinds ids long is =
+    is ∙ ap (λ (left : List (Option KnownKind)). mapped_ids (map entry_of_kind left)) (take_all 255 (drop 1 kinds) (omega (arith, long, length-drop 1 kinds)))
+
+left_at : (kinds : List (Option KnownKind)) (index : ℕ) → index < length kinds
+    → drop index (map entry_of_kind kinds) ≡ entry_of_kind (get_or kinds index None) ∷ drop (suc index) (map entry_of_kind kinds)
+left_at [] index here = absurd (omega (arith, here))
+left_at (kind ∷ kinds) zero here = refl
+left_at (kind ∷ kinds) (suc index) here = left_at kinds index (omega (arith, here))
+
+-- the ids from an index on, where a kind stands there and where none does
+ids_with : (index : ℕ) (kind : Option KnownKind) (left : Slots) → is_some kind ≡ true
+    → map (λ item. item.0) (items_from index (entry_of_kind kind ∷ left)) ≡ (index + 1) ∷ map (λ item. item.0) (items_from (index + 1) left)
+ids_with index None left some = cc
+ids_with index (Some kind) left some = refl
+
+ids_without : (index : ℕ) (kind : Option KnownKind) (left : Slots) → is_some kind ≡ false
+    → map (λ item. item.0) (items_from index (entry_of_kind kind ∷ left)) ≡ map (λ item. item.0) (items_from (index + 1) left)
+ids_without index None left missing = refl
+ids_without index (Some kind) left missing = cc
+
+ids_from-step : (kinds : List (Option KnownKind)) (index : ℕ) → index < length kinds
+    → ids_from (map entry_of_kind kinds) index
+    ≡ map (λ item. item.0) (items_from index (entry_of_kind (get_or kinds index None) ∷ drop (index + 1) (map entry_of_kind kinds)))
+ids_from-step kinds index here =
+    let next : suc index ≡ index + 1 = omega arith in
+    ap (λ (left : Slots). map (λ item. item.0) (items_from index left))
+    (left_at kinds index here ∙ ap (λ (n : ℕ). entry_of_kind (get_or kinds index None) ∷ drop n (map entry_of_kind kinds)) next)
+
+pub ids-pushed : (kinds : List (Option KnownKind)) (index : ℕ) (d : Option KnownKind) (mapped after all : List ℕ) → index < length kinds → is_some (get_or kinds index d) ≡ true
+    → mapped ++ ids_from (map entry_of_kind kinds) index ≡ all → after ≡ mapped ++ (index + 1) ∷ []
+    → after ++ ids_from (map entry_of_kind kinds) (index + 1) ≡ all
+ids-pushed kinds index d mapped after all here some so_far pushed =
+    let left = drop (index + 1) (map entry_of_kind kinds) in
+    ap (λ (ids : List ℕ). ids ++ ids_from (map entry_of_kind kinds) (index + 1)) pushed
+    ∙ append_assoc mapped ((index + 1) ∷ []) (ids_from (map entry_of_kind kinds) (index + 1))
+    ∙ ap (λ (ids : List ℕ). mapped ++ ids) (sym (ids_from-step kinds index here ∙ ids_with index (get_or kinds index None) left (ap is_some (get_or_default kinds index None d here) ∙ some)))
+    ∙ so_far
+
+pub ids-passed : (kinds : List (Option KnownKind)) (index : ℕ) (d : Option KnownKind) (mapped after all : List ℕ) → index < length kinds → is_some (get_or kinds index d) ≡ false
+    → mapped ++ ids_from (map entry_of_kind kinds) index ≡ all → after ≡ mapped → after ++ ids_from (map entry_of_kind kinds) (index + 1) ≡ all
+ids-passed kinds index d mapped after all here missing so_far same =
+    let left = drop (index + 1) (map entry_of_kind kinds) in
+    let step = ids_without index (get_or kinds index None) left (ap is_some (get_or_default kinds index None d here) ∙ missing) in
+    ap (λ (ids : List ℕ). ids ++ ids_from (map entry_of_kind kinds) (index + 1)) same
+    ∙ ap (λ (ids : List ℕ). mapped ++ ids) (sym (ids_from-step kinds index here ∙ step))
+    ∙ so_far
+
+-- ---- the known extensions of a map
+
+known_alone-known : (extension : Extension) → IsKnown extension → extension_of (known_alone extension) ≡ Some extension
+known_alone-known (UnknownUri uri) known = absurd known
+known_alone-known _ known = refl
+
+known_alone-back : (extension kind : Extension) → extension_of (known_alone extension) ≡ Some kind → Some extension ≡ Some kind
+known_alone-back (UnknownUri uri) kind is = cc
+known_alone-back _ kind is = is
+
+known_entry-keeps : (slot : Option Entry) (kind : Extension) → IsKnown kind → extension_of slot ≡ Some kind → extension_of (known_entry slot) ≡ Some kind
+known_entry-keeps None kind known is = cc
+known_entry-keeps (Some entry) kind known is =
+    subst (λ (k : Extension). extension_of (known_alone k) ≡ Some kind) (sym (one_kind is)) (known_alone-known kind known)
+
+known_entry-back : (slot : Option Entry) (kind : Extension) → extension_of (known_entry slot) ≡ Some kind → extension_of slot ≡ Some kind
+known_entry-back None kind is = is
+known_entry-back (Some entry) kind is = known_alone-back entry.extension kind is
+
+pub known_slots-keep : (exts : Slots) (id : ℕ) (kind : Extension) → IsKnown kind → extension_at exts id ≡ Some kind → extension_at (known_slots exts) id ≡ Some kind
+known_slots-keep exts id kind known is = ap extension_of (entry_at-map known_entry exts id refl) ∙ known_entry-keeps (entry_at exts id) kind known is
+
+pub known_slots-back : (exts : Slots) (id : ℕ) (kind : Extension) → extension_at (known_slots exts) id ≡ Some kind → extension_at exts id ≡ Some kind
+known_slots-back exts id kind is = known_entry-back (entry_at exts id) kind (sym (ap extension_of (entry_at-map known_entry exts id refl)) ∙ is)
+
+-- ---- what they read
+
+well_formed-known : (kind : Extension) (bytes : List ℕ) → IsWellFormed kind bytes → IsKnown kind
+well_formed-known (UnknownUri uri) bytes well_formed = absurd well_formed.1
+well_formed-known _ bytes well_formed = tt
+
+Carries-known : (exts : Slots) (kind : Extension) (element : Element) → Carries exts kind element → Carries (known_slots exts) kind element
+Carries-known exts kind element carries =
+    (known_slots-keep exts element.0 kind (well_formed-known kind element.1 carries.1) carries.0, carries.1)
+
+none-known : (exts : Slots) (kind : Extension) (elements : List Element) → All (λ e. Carries (known_slots exts) kind e → ⊥) elements
+    → All (λ e. Carries exts kind e → ⊥) elements
+none-known exts kind elements all =
+    All-weaker (λ e. Carries (known_slots exts) kind e → ⊥) (λ e. Carries exts kind e → ⊥) elements
+    (λ element not_carried carries. not_carried (Carries-known exts kind element carries)) all
+
+AreFields-known : (exts : Slots) (elements : List Element) (kind : Extension) (old new : ExtensionValues) → AreFields (known_slots exts) elements kind old new
+    → AreFields exts elements kind old new
+AreFields-known exts elements kind old new (last before after element is mapped reads later) =
+    last before after element is (known_slots-back exts element.0 kind mapped) reads (none-known exts kind after later)
+AreFields-known exts elements kind old new (none not_carried same) = none (none-known exts kind elements not_carried) same
+
+pub AreValues-known : (exts known : Slots) (elements : List Element) (old new : ExtensionValues) → known ≡ known_slots exts
+    → AreValues known elements old new → AreValues exts elements old new
+AreValues-known exts known elements old new is values kind =
+    AreFields-known exts elements kind old new (subst (λ (slots : Slots). AreFields slots elements kind old new) is (values kind))
+
+pub HasAllocation-known : (exts known : Slots) (elements : List Element) → known ≡ known_slots exts → HasAllocation known elements → HasAllocation exts elements
+HasAllocation-known exts known elements is has = record {
+  before = has.before;
+  element = has.element;
+  after = has.after;
+  elements_are = has.elements_are;
+  is_allocation = (
+    known_slots-back exts has.element.0 _ (ap (λ (slots : Slots). extension_at slots has.element.0) (sym is) ∙ has.is_allocation.0),
+    has.is_allocation.1,
+  );
+}
+
+pub IsStopped-known : (exts known : Slots) (elements : List Element) (old new : ExtensionValues) → known ≡ known_slots exts
+    → IsStopped known elements old new → IsStopped exts elements old new
+unfolding HasAllocation-known
+IsStopped-known exts known elements old new is stopped = record {
+  at = HasAllocation-known exts known elements is stopped.at;
+  values_are = AreValues-known exts known stopped.at.before old new is stopped.values_are;
+}
+
+pub OnOk-weaker : {T E : Type 0} (r : Result T E) (P Q : Type 0) → (P → Q) → OnOk r P → OnOk r Q
+OnOk-weaker (Ok x) P Q weaker p = weaker p
+OnOk-weaker (Err e) P Q weaker p = tt
+
+pub OnErr-weaker : {T E : Type 0} (r : Result T E) (P Q : Type 0) → (P → Q) → OnErr r P → OnErr r Q
+OnErr-weaker (Ok x) P Q weaker p = tt
+OnErr-weaker (Err e) P Q weaker p = weaker p

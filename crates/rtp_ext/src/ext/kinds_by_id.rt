@@ -1,0 +1,146 @@
+//! The known extensions by their ids.
+
+ghost use Rattle.std.specs.Prelude.{◌≡◌, ◌≢◌, ◌≤◌, ℕ, length, map};
+ghost use Rattle.std.specs.Option.{option_map};
+ghost use Rattle.std.specs.List.{list_any};
+ghost use Rattle.rtp_values.specs.declared.known_kind.KnownKind.{KnownKind};
+ghost use Rattle.rtp_values.specs.KnownKind.{extension_of_kind};
+ghost use Rattle.rtp_ext.specs.ExtensionMap.{IsId, IsEmpty, entry_at, extension_at, items_from};
+ghost use Rattle.rtp_ext.specs.KindsById.{slots_of, entry_of_kind, known_entry, known_slots, has_empty};
+ghost use Rattle.rtp_ext.specs.WrittenBlock.{needs_two};
+
+use super::kind_items::{KindItems, has_long};
+use super::map::MAX_ID;
+use super::mapped_ids::MappedIds;
+use super::slot::Slot;
+use rtp_values::{ExtensionValues, KnownKind};
+use std::marker::Model;
+
+// How many ids there are, with that of padding.
+pub(super) const IDS: usize = MAX_ID as usize + 1;
+
+/// The known extensions by their ids (RFC 8285, 5): all that reading and writing the elements of a
+/// packet needs of an [`ExtensionMap`](super::ExtensionMap), which lends such a table
+/// ([`kinds`](super::ExtensionMap::kinds)). It takes no memory.
+#[derive(Drop)]
+pub struct KindsById {
+    // What each id is mapped to, the id 0 to nothing.
+    kinds: [Option<KnownKind>; IDS],
+    // The mapped ids, so that a walk goes over these alone.
+    mapped: MappedIds,
+    // Whether the one-byte form can't carry a mapped id or the longest data of a mapped kind.
+    is_long: bool,
+}
+
+impl Model for KindsById {
+    ghost use Rattle.std.specs.Prelude.{◌≡◌, List, Option, None, length, slice_index_or};
+    ghost use Rattle.rtp_values.specs.declared.known_kind.KnownKind.{KnownKind};
+    ghost use Rattle.std.specs.List.{list_any};
+    ghost use Rattle.rtp_ext.specs.ExtensionMap.{items_from};
+    ghost use Rattle.rtp_ext.specs.KindsById.{slots_of, is_long_item};
+    ghost use Rattle.rtp_ext.specs.MapSlots.{mapped_ids};
+    ghost use Rattle.rtp_ext.specs.declared.ext.kinds_by_id.TheConstants.{IDS};
+
+    ghost Value = { List (Option KnownKind) };
+
+    ghost view = { λ table. table.kinds };
+
+    ghost invariant = { λ table. (length table.kinds ≡ IDS)
+        × (slice_index_or table.kinds 0 None ≡ None)
+        × (table.mapped ≡ mapped_ids (slots_of table.kinds))
+        × (table.is_long ≡ list_any is_long_item (items_from 0 (slots_of table.kinds))) };
+}
+
+impl KindsById {
+    /// The table of these kinds, each at the index of its id; what stands at index 0 is passed over.
+    pub fn new(kinds: [Option<KnownKind>; IDS]) -> Self
+        ensures { slots_of result ≡ slots_of kinds }
+    {
+        let mut kinds = kinds;
+        kinds[0] = None;
+        let mapped = MappedIds::of_kinds(&kinds[1..]);
+        let is_long = has_long(&kinds, mapped.as_slice());
+        KindsById {
+            kinds,
+            mapped,
+            is_long,
+        }
+    }
+
+    /// A table in which no id is mapped.
+    pub fn empty() -> Self
+        ensures { IsEmpty (slots_of result) }
+    {
+        Self::new([None; IDS])
+    }
+
+    // The known extensions of the slots.
+    pub(super) fn of_slots(slots: &[Slot]) -> Self
+        requires { length slots.now ≡ MAX_ID }
+        ensures { slots_of result ≡ known_slots slots.now }
+    {
+        let mut kinds = [None; IDS];
+        copy_known(slots, &mut kinds[1..]);
+        Self::new(kinds)
+    }
+
+    /// The kind that the id is mapped to, and `None` where there is none, as always for 0.
+    pub fn get(&self, id: u8) -> Option<KnownKind>
+        ensures { option_map extension_of_kind result ≡ extension_at (slots_of self.now) id }
+    {
+        self.kinds[usize::from(id)]
+    }
+
+    /// Maps the id to the kind, or to nothing, instead of what it was mapped to. The id 0, which is
+    /// that of padding, changes nothing.
+    pub fn set(&mut self, id: u8, kind: Option<KnownKind>)
+        ensures this { IsId id → entry_at (slots_of self.new) id ≡ entry_of_kind kind }
+        ensures others { (k : ℕ) → k ≢ id →
+            entry_at (slots_of self.new) k ≡ entry_at (slots_of self.old) k }
+    {
+        let mut kinds = self.kinds;
+        kinds[usize::from(id)] = kind;
+        *self = Self::new(kinds);
+    }
+
+    // The mapped ids by rising id, each with its kind.
+    pub(super) fn items(&self) -> KindItems<'_>
+        ensures items { result ≡ items_from 0 (slots_of self.now) }
+        ensures few { length (items_from 0 (slots_of self.now)) ≤ MAX_ID }
+    {
+        KindItems::new(&self.kinds, self.mapped.as_slice())
+    }
+
+    // Whether a text is written that is empty.
+    fn has_empty_data(&self, ev: &ExtensionValues) -> bool
+        ensures { result ≡ has_empty (items_from 0 (slots_of self.now)) ev.now }
+    {
+        for (_, kind) in self.items() {
+            if kind.has_empty_data(ev) {
+                return true;
+            }
+        }
+        false
+    }
+
+    // Whether the one-byte form doesn't serve.
+    #[tactic(auto, using(crate::proofs::KnownItemsLemmas::needs_two_split, crate::proofs::KnownItemsLemmas::no_empty))]
+    pub(super) fn needs_two_bytes(&self, ev: &ExtensionValues) -> bool
+        ensures { result ≡ list_any (needs_two ev.now) (items_from 0 (slots_of self.now)) }
+    {
+        if self.is_long {
+            return true;
+        }
+        ev.has_empty_text() && self.has_empty_data(ev)
+    }
+}
+
+// Copies the known kinds of slots.
+fn copy_known(from: &[Slot], to: &mut [Option<KnownKind>])
+    requires { length from.now ≡ length to.old }
+    ensures { map entry_of_kind to.new ≡ map known_entry from.now }
+{
+    for (index, slot) in from.iter().enumerate() {
+        to[index] = slot.known_kind();
+    }
+}
