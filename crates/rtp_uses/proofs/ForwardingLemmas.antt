@@ -1,32 +1,24 @@
 -- Packets that are sent on.
-use Rattle.std.proofs.Common.{◌≡◌, ℕ, ◌+◌, ◌%◌, List, ◌++◌, length, drop, ap, ◌∙◌, subst}
-use Rattle.rtp_base.specs.Overwriting.{overwritten}
-use Rattle.rtp_ext.specs.declared.ext.map.ExtensionMap.{ExtensionMap}
-use Rattle.rtp_wire.specs.declared.header.rtp_header.RtpHeader.{RtpHeader}
-use Rattle.rtp_wire.specs.Header.{IsWire}
-use Rattle.rtp_wire.specs.Written.{wire_bytes, image_of}
-use Rattle.rtp_base.proofs.OverwritingLemmas.{overwritten-after}
-use Rattle.rtp_uses.specs.Forwarding.{header_in_stream, IsForwarded}
+use Rattle.std.proofs.Common.{◌≡◌, ℕ, ◌%◌, List, Option, Some, None, IfSome, IfNone, refl, sym, ap, ◌∙◌}
+use Rattle.rtp_ext.specs.declared.ext.form.ExtensionsForm.{ExtensionsForm}
+use Rattle.rtp_wire.specs.Packet.{PacketParts}
+use Rattle.rtp_wire.specs.ChangedPacket.{ChangesBlock}
 
--- a header with the low bits of a number is written, and the payload is put after it
-pub IsForwarded-put : (from to : ExtensionMap) (datagram : List ℕ) (header : RtpHeader) (ssrc number low : ℕ) (old between new payload : List ℕ) (start end : ℕ)
-    → IsWire from datagram header → low ≡ number % 65536
-    → between ≡ wire_bytes to (record header { ssrc = ssrc; sequence_number = low }) ++ drop start old
-    → start ≡ length (wire_bytes to (record header { ssrc = ssrc; sequence_number = low }))
-    → ((rest : List ℕ) → IsWire to (wire_bytes to (record header { ssrc = ssrc; sequence_number = low }) ++ rest) (image_of to (record header { ssrc = ssrc; sequence_number = low })))
-    → payload ≡ drop header.header_len datagram → new ≡ overwritten between start payload → end ≡ start + length payload
-    → IsForwarded from to datagram ssrc number old new end
-IsForwarded-put from to datagram header ssrc number low old between new payload start end wire low-is written start-is back payload-is put end-is =
-    let sent : RtpHeader = record header { ssrc = ssrc; sequence_number = low } in
-    let same : sent ≡ header_in_stream header ssrc number = ap (λ (k : ℕ). record header { ssrc = ssrc; sequence_number = k }) low-is in
-    let bytes : new ≡ wire_bytes to sent ++ (payload ++ drop end old) =
-    put ∙ ap (λ (xs : List ℕ). overwritten xs start payload) written ∙ overwritten-after (wire_bytes to sent) payload old start end start-is end-is in
-    record {
-      header = header;
-      wire = wire;
-      bytes = bytes ∙ ap (λ (h : RtpHeader). wire_bytes to h ++ (payload ++ drop end old)) same
-          ∙ ap (λ (xs : List ℕ). wire_bytes to (header_in_stream header ssrc number) ++ (xs ++ drop end old)) payload-is;
-      len_is = end-is ∙ ap (λ (k : ℕ). k + length payload) (start-is ∙ ap (λ (h : RtpHeader). length (wire_bytes to h)) same)
-          ∙ ap (λ (xs : List ℕ). length (wire_bytes to (header_in_stream header ssrc number)) + length xs) payload-is;
-      read_back = subst (λ (h : RtpHeader). (rest : List ℕ) → IsWire to (wire_bytes to h ++ rest) (image_of to h)) same back;
-    }
+-- of a packet whose elements got other ids at most the block is another one
+pub only_block : (Change : ExtensionsForm → List ℕ → List ℕ → Type 0) (was new : PacketParts) (block : Option (ExtensionsForm × List ℕ)) → block ≡ was.block
+    → IfSome block (λ _. ChangesBlock Change was new) → IfNone block (new ≡ was) → new ≡ record was { block = new.block }
+only_block Change was new None is changed same =
+    same ∙ ap (λ (b : Option (ExtensionsForm × List ℕ)). record was { block = b }) (ap (λ (p : PacketParts). p.block) (sym same))
+only_block Change was new (Some block) is changed same =
+    changed.parts_are ∙ ap (λ (b : Option (ExtensionsForm × List ℕ)). record was { block = b }) (ap (λ (p : PacketParts). p.block) (sym changed.parts_are))
+
+-- and then its number and its source are set
+pub sent_parts : (was renumbered numbered sent : PacketParts) (ssrc low number : ℕ) → renumbered ≡ record was { block = renumbered.block }
+    → numbered ≡ record renumbered { sequence_number = low } → low ≡ number % 65536 → sent ≡ record numbered { ssrc = ssrc }
+    → sent ≡ record was { ssrc = ssrc; sequence_number = number % 65536; block = sent.block }
+sent_parts was renumbered numbered sent ssrc low number renumbered-is numbered-is low-is sent-is =
+    let block : sent.block ≡ renumbered.block = ap (λ (p : PacketParts). p.block) sent-is ∙ ap (λ (p : PacketParts). p.block) numbered-is in
+    sent-is ∙ ap (λ (p : PacketParts). record p { ssrc = ssrc }) numbered-is
+    ∙ ap (λ (k : ℕ). record renumbered { sequence_number = k; ssrc = ssrc }) low-is
+    ∙ ap (λ (p : PacketParts). record p { sequence_number = number % 65536; ssrc = ssrc }) renumbered-is
+    ∙ ap (λ (b : Option (ExtensionsForm × List ℕ)). record was { ssrc = ssrc; sequence_number = number % 65536; block = b }) (sym block)

@@ -4,7 +4,7 @@ ghost use Rattle.std.specs.Prelude.{◌≤◌};
 
 use rtp_base::{SeqNo, Ssrc};
 use rtp_uses::{forwarding, negotiating, padding, receiving, retransmission};
-use rtp_wire::{Extension, ExtensionMap, RtpHeader, RtpPacket, Verdict};
+use rtp_wire::{Extension, ExtensionMap, NewIds, RtpHeader, RtpPacket, RtpPacketMut, Verdict};
 use std::test::Fail;
 
 // The header of a packet with this number, without a block.
@@ -57,27 +57,31 @@ fn first_packets_of_two_sources(rt: HostRuntime) -> Result<(), Fail> {
 fn forwarded_packets(rt: HostRuntime) -> Result<(), Fail> {
     let (mut from, mut to) = (ExtensionMap::empty(), ExtensionMap::empty());
     from.set(3, Extension::AudioLevel);
+    from.set(2, Extension::RtpMid);
     to.set(5, Extension::AudioLevel);
-    let packet = [
-        0x90, 0x21, 0xB7, 0x98, 0, 0, 0x27, 0x10, 0, 0, 0, 44, 0xBE, 0xDE, 0, 1, 0x30, 0x2A, 0, 0,
-        7, 8,
-    ];
-    // The number 65,538 ends in 00 02, and the element has the id 5.
-    let expected = [
-        0x90, 0x21, 0, 2, 0, 0, 0x27, 0x10, 0, 0, 0, 45, 0xBE, 0xDE, 0, 1, 0x50, 0x2A, 0, 0, 7, 8,
-        9,
+    let datagram = [
+        0x90, 0x21, 0xB7, 0x98, 0, 0, 0x27, 0x10, 0, 0, 0, 44, 0xBE, 0xDE, 0, 1, 0x30, 0x2A, 0x20,
+        0x61, 7, 8,
     ];
     let (ssrc, number) = (Ssrc::from(45), SeqNo::from(65_538));
-    let (alloc, mut out) = (rt.alloc(), [9; 23]);
-    let short = &mut out[..21];
-    assert_eq!(rt;
-        forwarding::forward(alloc, &packet, &from, &to, ssrc, number, short)?,
-        None
-    );
-    let none = forwarding::forward(alloc, &packet[..11], &from, &to, ssrc, number, &mut out)?;
-    assert_eq!(rt; (none, out), (None, [9; 23]));
-    let len = forwarding::forward(alloc, &packet, &from, &to, ssrc, number, &mut out)?;
-    assert_eq!(rt; (len, out), (Some(22), expected));
+
+    // The number 65,538 ends in 00 02, the level has the id 5, and the mid is padding.
+    let expected = [
+        0x90, 0x21, 0, 2, 0, 0, 0x27, 0x10, 0, 0, 0, 45, 0xBE, 0xDE, 0, 1, 0x50, 0x2A, 0, 0, 7, 8,
+    ];
+    let ids = NewIds::between(&from, &to);
+    let mut sent = datagram;
+    let mut packet = RtpPacketMut::parse(&mut sent).expect(&rt, "a packet");
+    assert!(rt; forwarding::forward(&mut packet, ssrc, number, &ids));
+    assert_eq!(rt; packet.into_datagram(), expected.as_slice());
+
+    // The one-byte form has no id 15.
+    to.set(15, Extension::RtpMid);
+    let ids = NewIds::between(&from, &to);
+    let mut kept = datagram;
+    let mut packet = RtpPacketMut::parse(&mut kept).expect(&rt, "a packet");
+    assert!(rt; !forwarding::forward(&mut packet, ssrc, number, &ids));
+    assert_eq!(rt; packet.into_datagram(), datagram.as_slice());
     Ok(())
 }
 
