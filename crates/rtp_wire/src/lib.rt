@@ -19,12 +19,7 @@ pub use receive::{
 };
 pub use rtp_ext::{
     AbsCaptureTime, Elements, Extension, ExtensionMap, ExtensionValues, ExtensionsForm, Iter,
-<<<<<<< HEAD
-    IterByMediaType, KindsById, KnownKind, MAX_ID, MAX_ID_ONE_BYTE_FORM, Uri, VideoOrientation,
-    VideoTiming, write_elements,
-=======
-    IterByMediaType, MAX_ID, MAX_ID_ONE_BYTE_FORM, NewIds, Uri, VideoOrientation, VideoTiming,
-    write_elements,
->>>>>>> w-fwd
+    IterByMediaType, KindsById, KnownKind, MAX_ID, MAX_ID_ONE_BYTE_FORM, NewIds, Uri,
+    VideoOrientation, VideoTiming, write_elements,
 };
 pub use rtp_vla::vla;
