@@ -50,12 +50,11 @@ impl RtpHeader {
         // The causes for which no header is returned, and there are no others.
         ensures refused { (result ≡ Ok None) ↔ NotAHeader buf.now }
     {
-        let mut header = RtpHeader::default();
-        if header.parse_into(alloc, buf, exts)? {
-            Ok(Some(header))
-        } else {
-            Ok(None)
-        }
+        let Ok(packet) = RtpPacket::parse(buf) else {
+            return Ok(None);
+        };
+        let header = packet.header(alloc, exts)?;
+        Ok(Some(header))
     }
 
     /// Reads the header that the bytes begin with into this one, as [`parse`](Self::parse) reads it.

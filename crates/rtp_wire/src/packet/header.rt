@@ -47,6 +47,7 @@ impl<'a> RtpPacket<'a> {
 
     /// Returns the header, with the values that the elements of the block give under the map. Where
     /// memory is refused to a layer allocation nothing is returned.
+    #[inline(always)]
     pub fn header(&self, alloc: Global, exts: &ExtensionMap) -> Result<RtpHeader, AllocError>
         ensures found { IfOk result (IsHeaderOf exts.now (parts_of self.now)) }
 
