@@ -1,4 +1,4 @@
--- Which id each element gets, and a body whose elements get them one after another: what the functions of `renumbering` promise each other.
+-- Which id each element gets, and a body whose elements get them one after another (RFC 8285, 4.2 and 4.3): what the functions of `renumbering` promise each other.
 use Rattle.std.specs.Prelude.{◌≡◌, ℕ, List, ◌++◌, length, All, Bool, true, nat_le, Option, Some, None, is_none}
 use Rattle.std.specs.List.{AllByRecursion, flat_map, filter_map, list_any}
 use Rattle.rtp_ext.specs.declared.ext.form.ExtensionsForm.{ExtensionsForm}

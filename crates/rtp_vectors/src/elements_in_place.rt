@@ -122,8 +122,8 @@ fn removed(rt: HostRuntime) {
 // A map of these ids.
 fn map_of(rt: &impl Abort, alloc: Global, items: &[(u8, &Extension)]) -> ExtensionMap {
     let mut exts = ExtensionMap::empty();
-    for (id, ext) in items {
-        exts.set(*id, ext.clone(alloc).expect(rt, "memory"));
+    for &(id, ext) in items {
+        exts.set(id, ext.clone(alloc).expect(rt, "memory"));
     }
     exts
 }
