@@ -2,7 +2,8 @@
 
 use crate::checks::{bytes_of, holds, same};
 use crate::packets_changed::are;
-use rtp_wire::{RtpPacket, RtpPacketMut};
+use rtp_ext::NewIds;
+use rtp_wire::{Extension, ExtensionMap, RtpPacket, RtpPacketMut};
 use std::alloc::Global;
 use std::process::Abort;
 
@@ -283,4 +284,66 @@ fn others_stay(rt: HostRuntime) {
     same(&rt, "first", read.next(), Some((2, &[0xBB, 0xCC])));
     same(&rt, "the end", read.next(), None);
     same(&rt, "payload", left.payload(), &[0x10, 0xAA]);
+}
+
+// A packet, and the packet under the new ids: none where its form can't carry one of them.
+type Renumbering = (&'static str, Option<&'static str>);
+
+// The id 1 becomes 3, 2 becomes 200, and no other id has a new one. X is clear; the block has no words;
+// ids that have no new one; an id of 15 that ends reading; an element that is cut short, before which
+// nothing changes; a source that looks like an element, and padding at the end.
+const RENUMBERED: [Renumbering; 9] = [
+    (
+        "8021b798000027100000002cbede000110aa0000",
+        Some("8021b798000027100000002cbede000110aa0000"),
+    ),
+    (
+        "9021b798000027100000002cbede000010aa",
+        Some("9021b798000027100000002cbede000010aa"),
+    ),
+    (
+        "9021b798000027100000002cbede000210aa31bbcc10dd0010aa",
+        Some("9021b798000027100000002cbede000230aa00000030dd0010aa"),
+    ),
+    ("9021b798000027100000002cbede000210aa20bb10dd000010aa", None),
+    (
+        "9021b798000027100000002cbede000210aaf0bb20cc0000",
+        Some("9021b798000027100000002cbede000230aaf0bb20cc0000"),
+    ),
+    (
+        "9021b798000027100000002cbede000210aa00000022bbccdd",
+        Some("9021b798000027100000002cbede000230aa00000022bbccdd"),
+    ),
+    (
+        "9021b798000027100000002c100000030101aa0202bbcc0300010000",
+        Some("9021b798000027100000002c100000030301aac802bbcc0000030000"),
+    ),
+    (
+        "9121b798000027100000002c10aa10aabede000110bb0000",
+        Some("9121b798000027100000002c10aa10aabede000130bb0000"),
+    ),
+    (
+        "b0efb798000027100000002cbede000140bb10ccaabb0002",
+        Some("b0efb798000027100000002cbede0001000030ccaabb0002"),
+    ),
+];
+
+// The map that has the audio level and the orientation under these ids.
+fn map_of(audio_level: u8, orientation: u8) -> ExtensionMap {
+    let mut exts = ExtensionMap::empty();
+    exts.set(audio_level, Extension::AudioLevel);
+    exts.set(orientation, Extension::VideoOrientation);
+    exts
+}
+
+#[test]
+fn renumbered(rt: HostRuntime) {
+    let ids = NewIds::between(&map_of(1, 2), &map_of(3, 200));
+    for &(old, new) in &RENUMBERED {
+        let mut bytes = bytes_of(&rt, rt.alloc(), old);
+        let mut packet = RtpPacketMut::parse(&mut bytes).expect(&rt, "a packet");
+        same(&rt, old, packet.renumber(&ids), new.is_some());
+        are(&rt, rt.alloc(), old, &bytes, new.unwrap_or(old));
+        holds(&rt, old, RtpPacket::parse(&bytes).is_ok());
+    }
 }

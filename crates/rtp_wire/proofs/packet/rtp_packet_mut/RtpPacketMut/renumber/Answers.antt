@@ -1,8 +1,6 @@
-use Rattle.std.proofs.Common.{rules, ◌≡◌, ◌+◌, ◌≤◌, ◌↔◌, arith, refl, sym, subst, ◌∙◌, ap, ℕ, [], List, Option, Some, None, IsTrue, All, IfSome}
-use Rattle.std.specs.Option.{IfNone}
+use Rattle.std.proofs.Common.{rules, ◌≡◌, ◌+◌, ◌≤◌, ◌↔◌, arith, refl, sym, subst, ◌∙◌, ap, ℕ, [], List, Option, IsTrue, All, IfSome}
 use Rattle.std.specs.List.{filter_map}
 use Rattle.std.proofs.lemmas.Bool.{OnTrue_at, OnTrue_from}
-use Rattle.rtp_values.specs.declared.value.values.ExtensionValues.{ExtensionValues}
 use Rattle.rtp_values.specs.Values.{no_values}
 use Rattle.rtp_ext.specs.declared.ext.form.ExtensionsForm.{ExtensionsForm}
 use Rattle.rtp_ext.specs.Elements.{Element}
@@ -55,9 +53,11 @@ invariant_of-self c =
     c.renumber.new.body c.renumber.auto.body
 
 pub returns-clause-renumbered : goal.returns-clause-renumbered
-returns-clause-renumbered c = OnTrue_from _ _ (λ set.
+returns-clause-renumbered c =
+    let start : c.sources_end-start.result + 4 ≡ sources_end c.args.self.now.datagram.now + 4 = omega (arith, c.sources_end-start.ensures) in
+    OnTrue_from _ _ (λ set.
     if_some _ _
-    (ChangesBlock-body c.args.self.now c.in-Some.form (c.sources_end-start.result + 4) c.in-Some.is (omega (arith, c.sources_end-start.ensures))
+    (ChangesBlock-body c.args.self.now c.in-Some.form (c.sources_end-start.result + 4) c.in-Some.is start
     c.renumber.new.body c.renumber.auto.body (λ form. HasOtherIds form (new_id c.args.ids.now)) (OnTrue_at set c.renumber.ensures.renumbered)))
 
 pub returns-clause-without_block : goal.returns-clause-without_block
