@@ -123,6 +123,8 @@ mod sent_runs;
 #[cfg(test)]
 mod sources;
 #[cfg(test)]
+mod tables_of_kinds;
+#[cfg(test)]
 mod times;
 #[cfg(test)]
 mod uses_of_packets;
