@@ -9,7 +9,7 @@ use Rattle.rtp_wire.specs.declared.header.rtp_header.RtpHeader.{RtpHeader}
 use Rattle.rtp_values.specs.declared.value.values.ExtensionValues.{ExtensionValues}
 use Rattle.rtp_ext.specs.declared.ext.form.ExtensionsForm.{ExtensionsForm}
 use Rattle.rtp_wire.specs.Header.{IsExtensionPart, header_of, IsWire}
-use Rattle.rtp_wire.specs.Packet.{PacketParts, IsFirstByte, IsFixedPart, IsAnnounced, IsPacket, header_len_of}
+use Rattle.rtp_wire.specs.Packet.{IsFirstByte, IsFixedPart, IsAnnounced, IsPacket, header_len_of}
 use Rattle.rtp_wire.proofs.HeaderLemmas.{IsHeaderOf-read}
 use Rattle.rtp_wire.proofs.PartsLemmas.{length-announced}
 use Rattle.rtp_base.specs.Overwriting.{overwritten}

@@ -1,11 +1,11 @@
-use Rattle.std.proofs.Common.{◌≡◌, ◌+◌, ◌-◌, ◌≤◌, ◌++◌, ap, sym, refl, ◌∙◌, subst, arith, length, length-drop, ℕ, List, take, drop, replicate}
+use Rattle.std.proofs.Common.{◌≡◌, ◌+◌, ◌≤◌, ◌++◌, ap, refl, ◌∙◌, subst, arith, length, length-drop, ℕ, List, drop, replicate}
 use Rattle.std.proofs.lemmas.List.{take_rest}
 use Rattle.rtp_ext.specs.declared.ext.form.ExtensionsForm.{ExtensionsForm}
 use Rattle.rtp_ext.specs.declared.ext.map.ExtensionMap.{ExtensionMap}
 use Rattle.rtp_values.specs.declared.value.values.ExtensionValues.{ExtensionValues}
 use Rattle.rtp_ext.specs.Elements.{AreElements, elements_bytes}
 use Rattle.rtp_ext.specs.WrittenBlock.{written_elements, form_of, padding_of, block_bytes}
-use Rattle.rtp_wire.proofs.BlockWriting.{length-block, IsRowPut, row-put, block_bytes-closed, IsExtensionPart-written}
+use Rattle.rtp_wire.proofs.BlockWriting.{length-block, row-put, block_bytes-closed, IsExtensionPart-written}
 use Rattle.rtp_wire.proofs.header.block.write_block.Goals as goal
 
 abbrev row : ExtensionMap → ExtensionValues → ExtensionsForm → List ℕ
