@@ -46,7 +46,7 @@ no_form (Some form) none = absurd (false≢true (sym none))
 
 -- a packet without a form has no block
 pub no_block : (packet : RtpPacket) → is_some packet.form ≡ false → None ≡ (parts_of packet).block
-no_block packet none = rw (no_form packet.form none) at (block-packet packet)
+no_block packet none = rw (no_form packet.form none) at (block-header packet.datagram.now packet.header_len packet.form (HasHeader-packet packet))
 
 -- the body begins within the header
 pub body_within : (bytes : List ℕ) (len : ℕ) (form : Option ExtensionsForm) → HasHeader bytes len form → is_some form ≡ true → sources_end bytes + 4 ≤ len
