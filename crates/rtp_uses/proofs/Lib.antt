@@ -1,4 +1,3 @@
 mod EqualityLemmas
 mod ReceivingLemmas
-mod ForwardingLemmas
 mod NegotiatingLemmas
