@@ -73,7 +73,7 @@ fn forwarded_packets(rt: HostRuntime) -> Result<(), Fail> {
     let mut sent = datagram;
     let mut packet = RtpPacketMut::parse(&mut sent).expect(&rt, "a packet");
     assert!(rt; forwarding::forward(&mut packet, ssrc, number, &ids));
-    assert_eq!(rt; packet.into_datagram(), expected.as_slice());
+    assert_eq!(rt; &*packet.into_datagram(), expected.as_slice());
 
     // The one-byte form has no id 15.
     to.set(15, Extension::RtpMid);
@@ -81,7 +81,7 @@ fn forwarded_packets(rt: HostRuntime) -> Result<(), Fail> {
     let mut kept = datagram;
     let mut packet = RtpPacketMut::parse(&mut kept).expect(&rt, "a packet");
     assert!(rt; !forwarding::forward(&mut packet, ssrc, number, &ids));
-    assert_eq!(rt; packet.into_datagram(), datagram.as_slice());
+    assert_eq!(rt; &*packet.into_datagram(), datagram.as_slice());
     Ok(())
 }
 
