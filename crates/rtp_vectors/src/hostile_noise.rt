@@ -46,6 +46,7 @@ fn frame(bytes: &mut [u8], form: [u8; 2]) -> bool {
 // Draws 20,000 datagrams of up to 127 bytes, which have the bits of the mask only, and are framed
 // where a form is given. Returns how many of them have an audio level.
 fn draw(rt: &impl Abort, alloc: Global, noise: &mut Noise, form: Option<[u8; 2]>, mask: u8) -> u32 {
+    let exts = map();
     let mut bytes = [0; 128];
     let mut levels = 0u32;
     for _ in 0..20_000u32 {
@@ -56,7 +57,7 @@ fn draw(rt: &impl Abort, alloc: Global, noise: &mut Noise, form: Option<[u8; 2]>
             Some(form) => frame(datagram, form),
             None => false,
         };
-        let header = checked(rt, alloc, datagram, &map());
+        let header = checked(rt, alloc, datagram, &exts);
         assert!(rt; !is_framed || header.is_some(), "{datagram:?}");
         if header.is_some_and(|header| header.ext_vals.audio_level.is_some()) {
             levels = levels.saturating_add(1);
