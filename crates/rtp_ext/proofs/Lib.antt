@@ -20,5 +20,6 @@ pub mod WrittenBlockLemmas
 pub mod WrittenElementsLemmas
 mod WrittenValuesLemmas
 pub mod RenumberedValuesLemmas
+mod SetValuesLemmas
 mod RawWritingLemmas
 pub mod ServingFormLemmas

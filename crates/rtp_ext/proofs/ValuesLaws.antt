@@ -74,7 +74,7 @@ carried exts elements before after element kind v is mapped reads not_carried =
     not_among (Carries exts kind) before after element
     (All-same (λ e. Carries exts kind e → ⊥) (before ++ element ∷ after) elements (sym is) not_carried) (mapped, (v, reads))
 
-AreFields-one : (exts : Slots) (elements : List Element) (kind : Extension) (old v w : ExtensionValues)
+pub AreFields-one : (exts : Slots) (elements : List Element) (kind : Extension) (old v w : ExtensionValues)
     → AreFields exts elements kind old v → AreFields exts elements kind old w → SameFields kind v w
 AreFields-one exts elements kind old v w (last before after x is mapped reads later) (last others rest y also y_mapped y_reads y_later) =
     let same = last_one (Carries exts kind) before after others rest x y (sym is ∙ also) (mapped, (v, reads)) (y_mapped, (w, y_reads))

@@ -57,6 +57,11 @@ pub record IsLowest (map : Slots) (extension : Extension) (id : ℕ) : Type 0 wh
   pub mapped : extension_at map id ≡ Some extension
   pub lowest : (k : ℕ) → k < id → extension_at map k ≢ Some extension
 
+-- the id is mapped to the extension, and no other id is
+pub record IsOnlyId (map : Slots) (extension : Extension) (id : ℕ) : Type 0 where
+  pub mapped : extension_at map id ≡ Some extension
+  pub only : (k : ℕ) → extension_at map k ≡ Some extension → k ≡ id
+
 -- an entry that is locked, and an id whose entry is
 abbrev pub IsLocked : Option Entry → Type 0
 IsLocked None = ⊥

@@ -66,10 +66,10 @@ pub block-put : (row buf one two three header : List ℕ) (form : ExtensionsForm
     → header ≡ to_be_bytes w16 (form_word form) ++ to_be_bytes w16 ((n + padding_of n) / 4)
     → three ≡ overwritten two 0 header → three ≡ block_of form (filled row) ++ drop len buf
 block-put row buf one two three header form n len is room one-is two-is len-is header-is three-is =
-    let zeros = replicate (padding_of n) 0 in
-    let body = filled row in
+    let zeros : List ℕ = replicate (padding_of n) 0 in
+    let body : List ℕ = filled row in
     let body-is : row ++ zeros ≡ body = ap (λ (k : ℕ). row ++ replicate (padding_of k) 0) is in
-    let size = length-filled row n is in
+    let size : length body ≡ n + padding_of n = length-filled row n is in
     let made : header ≡ to_be_bytes w16 (form_word form) ++ to_be_bytes w16 (length body / 4) =
     header-is ∙ ap (λ (k : ℕ). to_be_bytes w16 (form_word form) ++ to_be_bytes w16 (k / 4)) (sym size) in
     let four : length header ≡ 4 = ap length made in

@@ -148,6 +148,13 @@ module _ (packet : RtpPacketMut) (form : ExtensionsForm) (start : ℕ) (is : pac
     AreElements-out elements are =
         subst (λ (block : Option (ExtensionsForm × List ℕ)). AreElementsOf block elements) (sym (ap (λ (parts : PacketParts). parts.block) parts_of_new)) are
 
+    pub HasValues-new : (exts : Slots) (values : ExtensionValues) → HasValues exts (parts_at new).block values → SaysValues form exts body values
+    HasValues-new exts values has = record {
+      elements = has.elements;
+      are_elements = subst (λ (block : Option (ExtensionsForm × List ℕ)). AreElementsOf block has.elements) (ap (λ (parts : PacketParts). parts.block) parts_of_new) has.are_elements;
+      are_values = has.are_values;
+    }
+
     pub HasValues-out : (exts : Slots) (values : ExtensionValues) → SaysValues form exts body values → HasValues exts (parts_at new).block values
     HasValues-out exts values says = record {
       elements = says.elements;

@@ -1,7 +1,5 @@
 -- The header of a packet is one, bytes that are refused begin with none, and its values are one.
 use Rattle.std.proofs.Common.{◌≡◌, ℕ, Bool, List, Option, Some, None, sym, ap, ◌∙◌, subst}
-use Rattle.std.specs.Prelude.{slice_range}
-use Rattle.std.specs.Int.{w32, from_be_bytes}
 use Rattle.rtp_ext.specs.declared.ext.form.ExtensionsForm.{ExtensionsForm}
 use Rattle.rtp_ext.specs.declared.ext.map.ExtensionMap.{ExtensionMap}
 use Rattle.rtp_values.specs.declared.value.values.ExtensionValues.{ExtensionValues}
@@ -9,11 +7,9 @@ use Rattle.rtp_wire.specs.declared.header.rtp_header.RtpHeader.{RtpHeader}
 use Rattle.rtp_ext.specs.Elements.{Element}
 use Rattle.rtp_ext.specs.BlockValues.{AreValues}
 use Rattle.rtp_values.specs.Values.{no_values}
-use Rattle.rtp_wire.specs.Block.{word_at}
 use Rattle.rtp_wire.specs.NotAHeader.{NotAHeader}
 use Rattle.rtp_wire.specs.Packet.{PacketParts}
 use Rattle.rtp_wire.specs.PacketElements.{AreElementsOf, HasValues}
-use Rattle.rtp_wire.specs.PartsAt.{parts_at}
 use Rattle.rtp_wire.specs.Header.{header_of, IsHeaderOf, IsWire}
 use Rattle.rtp_ext.proofs.ElementLemmasOfBodies.{AreElements-only}
 use Rattle.rtp_ext.proofs.ValuesLaws.{one_values}
@@ -65,14 +61,3 @@ unfolding whole
 same_header h g version padding extension count marker payload_type number timestamp ssrc slots values len =
     let fields : whole h.version h.has_padding h.has_extension h.csrc_count h.marker h.payload_type h.sequence_number h.timestamp h.ssrc h.csrc h.ext_vals h.header_len ≡ whole g.version g.has_padding g.has_extension g.csrc_count g.marker g.payload_type g.sequence_number g.timestamp g.ssrc g.csrc g.ext_vals g.header_len = cc in
     fields
-
--- the number and the source of a header, by their offsets
-pub number-wire : (exts : ExtensionMap) (bytes : List ℕ) (h : RtpHeader) → IsWire exts bytes h → h.sequence_number ≡ word_at bytes 2
-unfolding parts_at
-number-wire exts bytes h wire =
-    ap (λ (g : RtpHeader). g.sequence_number) wire.is_header.fields_are ∙ ap (λ (parts : PacketParts). parts.sequence_number) (sym (one_packet bytes wire.parts wire.is_packet))
-
-pub ssrc-wire : (exts : ExtensionMap) (bytes : List ℕ) (h : RtpHeader) → IsWire exts bytes h → h.ssrc ≡ from_be_bytes w32 (slice_range bytes 8 12)
-unfolding parts_at
-ssrc-wire exts bytes h wire =
-    ap (λ (g : RtpHeader). g.ssrc) wire.is_header.fields_are ∙ ap (λ (parts : PacketParts). parts.ssrc) (sym (one_packet bytes wire.parts wire.is_packet))

@@ -1,9 +1,14 @@
 //! The elements of a block's body looked up and changed where they lie, without memory.
 
-ghost use Rattle.std.specs.Prelude.{◌≡◌, ◌↔◌, List, length, IsTrue, IfSome, IfNone};
+ghost use Rattle.std.specs.Prelude.{◌≡◌, ◌↔◌, List, length, IsTrue, IfSome, IfNone, Some};
 ghost use Rattle.std.specs.Bool.{OnTrue, OnFalse};
 ghost use Rattle.rtp_ext.specs.Elements.{Element, AreElements};
 ghost use Rattle.rtp_ext.specs.ElementsInPlace.{HasNone, HasLast, HasLastOf, SetsLast};
+ghost use Rattle.rtp_ext.specs.ExtensionMap.{Slots, extension_at, IsOnlyId};
+ghost use Rattle.rtp_ext.specs.BlockValues.{SaysValues};
+ghost use Rattle.rtp_values.specs.declared.kind.Extension.{Extension};
+ghost use Rattle.rtp_values.specs.declared.value.values.ExtensionValues.{ExtensionValues};
+ghost use Rattle.rtp_values.specs.Values.{Reads, with_fields, IsWellFormed};
 
 use super::place::last_place;
 use super::{Elements, ExtensionsForm};
@@ -33,6 +38,9 @@ pub fn element_of(form: ExtensionsForm, body: &[u8], id: u8) -> Option<&[u8]>
 /// Gives the last element of the id in a block's body these data, where it has as many bytes of
 /// them, and returns whether it has; all other bytes stay. Else nothing changes.
 ///
+/// Under a map in which a kind has this id and no other, the body then says what it said, except for
+/// the fields of that kind; these are what the data say, where they are well-formed for it.
+///
 /// In the body `10 AA 21 BB CC 10 DD 00` (hexadecimal) of the one-byte form the data `EE` of id 1
 /// give `10 AA 21 BB CC 10 EE 00`.
 pub fn set_element(form: ExtensionsForm, body: &mut [u8], id: u8, data: &[u8]) -> bool
@@ -40,6 +48,12 @@ pub fn set_element(form: ExtensionsForm, body: &mut [u8], id: u8, data: &[u8]) -
     ensures unchanged { OnFalse result (body.new ≡ body.old) }
     ensures answer { (elements : List Element) → AreElements form body.old elements →
         IsTrue result ↔ HasLastOf elements id (length «data».now) }
+    ensures other_values { (exts : Slots) (kind : Extension) (old new : ExtensionValues) →
+        extension_at exts id ≡ Some kind → SaysValues form exts body.old old →
+        SaysValues form exts body.new new → OnTrue result (new ≡ with_fields kind old new) }
+    ensures values { (exts : Slots) (kind : Extension) (new : ExtensionValues) → IsOnlyId exts kind id →
+        IsWellFormed kind «data».now → SaysValues form exts body.new new →
+        OnTrue result (Reads kind «data».now new) }
 {
     let Some(place) = last_place(form, body, id) else {
         return false;

@@ -1,12 +1,14 @@
 //! The elements of a packet's block, changed where they lie.
 
-ghost use Rattle.std.specs.Prelude.{◌≡◌, ◌↔◌, List, length, IsTrue, IfSome, IfNone, All};
+ghost use Rattle.std.specs.Prelude.{◌≡◌, ◌↔◌, List, length, IsTrue, Some, IfSome, IfNone, All};
 ghost use Rattle.std.specs.Bool.{OnTrue, OnFalse};
 ghost use Rattle.std.specs.List.{filter_map};
+ghost use Rattle.rtp_values.specs.declared.kind.Extension.{Extension};
 ghost use Rattle.rtp_values.specs.declared.value.values.ExtensionValues.{ExtensionValues};
+ghost use Rattle.rtp_values.specs.Values.{Reads, with_fields, IsWellFormed};
 ghost use Rattle.rtp_ext.specs.Elements.{Element};
 ghost use Rattle.rtp_ext.specs.ElementsInPlace.{HasNone, HasLastOf, SetsLast, HasOtherIds, CanRenumber, renumbered, all_but};
-ghost use Rattle.rtp_ext.specs.ExtensionMap.{Slots};
+ghost use Rattle.rtp_ext.specs.ExtensionMap.{Slots, extension_at, IsOnlyId};
 ghost use Rattle.rtp_ext.specs.NewIds.{new_id, AreNewIds};
 ghost use Rattle.rtp_ext.specs.WrittenBlock.{mapped_fields};
 ghost use Rattle.rtp_wire.specs.ChangedPacket.{ChangesBlock};
@@ -22,6 +24,10 @@ impl<'a> RtpPacketMut<'a> {
     /// Gives the last element of this id these data, where it has as many bytes of them, and returns
     /// whether it has (RFC 8285, 4.2 and 4.3). Else nothing changes.
     ///
+    /// Under a map in which a kind has this id and no other, the packet then says what it said,
+    /// except for the fields of that kind; these are what the data say, where they are well-formed
+    /// for it.
+    ///
     /// In a packet whose block has the body `10 AA 21 BB CC 10 DD 00` (hexadecimal) of the one-byte
     /// form, the data `EE` of id 1 take the place of `DD`.
     pub fn set_element(&mut self, id: u8, data: &[u8]) -> bool
@@ -30,6 +36,12 @@ impl<'a> RtpPacketMut<'a> {
         ensures unchanged { OnFalse result ((buffer_of self.new).now ≡ (buffer_of self.old).now) }
         ensures answer { (elements : List Element) → AreElementsOf (parts_in self.old).block elements →
             IsTrue result ↔ HasLastOf elements id (length «data».now) }
+        ensures other_values { (exts : Slots) (kind : Extension) (old new : ExtensionValues) →
+            extension_at exts id ≡ Some kind → HasValues exts (parts_in self.old).block old →
+            HasValues exts (parts_in self.new).block new → OnTrue result (new ≡ with_fields kind old new) }
+        ensures values { (exts : Slots) (kind : Extension) (new : ExtensionValues) → IsOnlyId exts kind id →
+            IsWellFormed kind «data».now → HasValues exts (parts_in self.new).block new →
+            OnTrue result (Reads kind «data».now new) }
         ensures same_buffer { (buffer_of self.new).ghost_name ≡ (buffer_of self.old).ghost_name }
     {
         let Some(form) = self.form else {

@@ -12,68 +12,41 @@ returns-in_err-form-clause-refused c = (
   λ _. search rules,
 )
 
+-- it can be written, and its pieces were
+can : (c : goal.After-slice_known-4-1) → CanBeWrittenWith c.args.self.now (elements_of c.args.elements.now) (length c.args.buf.now) c.saturating_sub.result c.in_ok-form.form
+can c = record {
+  payload_type = omega arith;
+  count = omega arith;
+  slots = omega arith;
+  left_is = omega (arith, c.saturating_sub.ensures);
+  form_is = c.in_ok-form.ensures.form;
+  fit = c.in_ok-form.ensures.fit;
+  block_fits = c.in_ok-form.ensures.room;
+}
+
+are : (c : goal.After-slice_known-4-1) → ArePut c.args.self.now (elements_of c.args.elements.now) c.in_ok-form.form c.args.buf.now c.put-end.new.buf c.put_sources-end.new.buf c.write_block_of.new.buf
+    c.fixed_bytes.result c.put-end.result c.put_sources-end.result c.write_block_of.result
+are c = record {
+  fixed_is = c.fixed_bytes.ensures.bytes;
+  one_is = c.put-end.ensures.written;
+  first_is = c.put-end.ensures.end;
+  two_is = c.put_sources-end.ensures.written;
+  second_is = c.put_sources-end.ensures.end;
+  new_is = c.write_block_of.ensures.written;
+  n_is = c.write_block_of.ensures.length;
+}
+
 pub returns-clause-refused : goal.returns-clause-refused
-returns-clause-refused c =
-    let can : CanBeWrittenWith c.args.self.now (elements_of c.args.elements.now) (length c.args.buf.now) c.saturating_sub.result c.in_ok-form.form = record {
-      payload_type = omega arith;
-      count = omega arith;
-      slots = omega arith;
-      left_is = omega (arith, c.saturating_sub.ensures);
-      form_is = c.in_ok-form.ensures.form;
-      fit = c.in_ok-form.ensures.fit;
-      block_fits = c.in_ok-form.ensures.room;
-    } in (
-      λ some. absurd (false≢true (sym some)),
-      λ cannot. absurd (CannotBeWrittenWith-not c.args.self.now (elements_of c.args.elements.now) (length c.args.buf.now) c.saturating_sub.result c.in_ok-form.form can cannot),
-    )
+returns-clause-refused c = (
+  λ some. absurd (false≢true (sym some)),
+  λ cannot. absurd (CannotBeWrittenWith-not c.args.self.now (elements_of c.args.elements.now) (length c.args.buf.now) c.saturating_sub.result c.in_ok-form.form (can c) cannot),
+)
 
 pub returns-clause-written : goal.returns-clause-written
-returns-clause-written c =
-    let can : CanBeWrittenWith c.args.self.now (elements_of c.args.elements.now) (length c.args.buf.now) c.saturating_sub.result c.in_ok-form.form = record {
-      payload_type = omega arith;
-      count = omega arith;
-      slots = omega arith;
-      left_is = omega (arith, c.saturating_sub.ensures);
-      form_is = c.in_ok-form.ensures.form;
-      fit = c.in_ok-form.ensures.fit;
-      block_fits = c.in_ok-form.ensures.room;
-    } in
-    let are : ArePut c.args.self.now (elements_of c.args.elements.now) c.in_ok-form.form c.args.buf.now c.put-end.new.buf c.put_sources-end.new.buf c.write_block_of.new.buf
-    c.fixed_bytes.result c.put-end.result c.put_sources-end.result c.write_block_of.result = record {
-      fixed_is = c.fixed_bytes.ensures.bytes;
-      one_is = c.put-end.ensures.written;
-      first_is = c.put-end.ensures.end;
-      two_is = c.put_sources-end.ensures.written;
-      second_is = c.put_sources-end.ensures.end;
-      new_is = c.write_block_of.ensures.written;
-      n_is = c.write_block_of.ensures.length;
-    } in
-    (wire_bytes_with-from_pieces c.args.self.now (elements_of c.args.elements.now) c.saturating_sub.result c.in_ok-form.form c.args.buf.now c.put-end.new.buf c.put_sources-end.new.buf c.write_block_of.new.buf
-    c.fixed_bytes.result c.put-end.result c.put_sources-end.result c.write_block_of.result can are).1
+returns-clause-written c = (wire_bytes_with-from_pieces _ _ _ _ _ _ _ _ _ _ _ _ (can c) (are c)).1
 
 pub returns-clause-length : goal.returns-clause-length
-returns-clause-length c =
-    let can : CanBeWrittenWith c.args.self.now (elements_of c.args.elements.now) (length c.args.buf.now) c.saturating_sub.result c.in_ok-form.form = record {
-      payload_type = omega arith;
-      count = omega arith;
-      slots = omega arith;
-      left_is = omega (arith, c.saturating_sub.ensures);
-      form_is = c.in_ok-form.ensures.form;
-      fit = c.in_ok-form.ensures.fit;
-      block_fits = c.in_ok-form.ensures.room;
-    } in
-    let are : ArePut c.args.self.now (elements_of c.args.elements.now) c.in_ok-form.form c.args.buf.now c.put-end.new.buf c.put_sources-end.new.buf c.write_block_of.new.buf
-    c.fixed_bytes.result c.put-end.result c.put_sources-end.result c.write_block_of.result = record {
-      fixed_is = c.fixed_bytes.ensures.bytes;
-      one_is = c.put-end.ensures.written;
-      first_is = c.put-end.ensures.end;
-      two_is = c.put_sources-end.ensures.written;
-      second_is = c.put_sources-end.ensures.end;
-      new_is = c.write_block_of.ensures.written;
-      n_is = c.write_block_of.ensures.length;
-    } in
-    (wire_bytes_with-from_pieces c.args.self.now (elements_of c.args.elements.now) c.saturating_sub.result c.in_ok-form.form c.args.buf.now c.put-end.new.buf c.put_sources-end.new.buf c.write_block_of.new.buf
-    c.fixed_bytes.result c.put-end.result c.put_sources-end.result c.write_block_of.result can are).0
+returns-clause-length c = (wire_bytes_with-from_pieces _ _ _ _ _ _ _ _ _ _ _ _ (can c) (are c)).0
 
 pub returns-clause-read_back : goal.returns-clause-read_back
 returns-clause-read_back c rest =

@@ -1,7 +1,8 @@
-use Rattle.std.proofs.Common.{rules, ◌+◌, ◌≤◌, length, ◌∷◌, ◌∙◌, arith, ap, sym, length-append}
+use Rattle.std.proofs.Common.{rules, ◌≡◌, ◌+◌, ◌≤◌, length, ◌∷◌, ◌∙◌, arith, ap, sym, length-append}
 use Rattle.std.proofs.lemmas.Bool.{false≢true, OnTrue_at, OnTrue_from}
 use Rattle.rtp_ext.specs.ElementsInPlace.{SetsLast}
-use Rattle.rtp_wire.proofs.ChangedPackets.{no_elements, body_in, AreElements-in, HasHeader-body, ChangesBlock-body}
+use Rattle.rtp_wire.specs.NotAHeader.{sources_end}
+use Rattle.rtp_wire.proofs.ChangedPackets.{no_elements, body_in, AreElements-in, HasValues-in, HasValues-new, HasHeader-body, ChangesBlock-body}
 use Rattle.rtp_wire.proofs.packet.rtp_packet_mut.RtpPacketMut.set_element.Goals as goal
 
 pub returns-in_default-clause-answer : goal.returns-in_default-clause-answer
@@ -35,3 +36,16 @@ returns-clause-set c = OnTrue_from _ _ (λ set.
 pub returns-clause-answer : goal.returns-clause-answer
 returns-clause-answer c elements are =
     c.set_element.ensures.answer elements (AreElements-in c.args.self.now c.in-Some.form _ c.in-Some.is (omega (arith, c.sources_end-start.ensures)) elements are)
+
+pub returns-clause-other_values : goal.returns-clause-other_values
+returns-clause-other_values c exts kind old new mapped was says =
+    let start : c.sources_end-start.result + 4 ≡ sources_end c.args.self.now.datagram.now + 4 = omega (arith, c.sources_end-start.ensures) in
+    c.set_element.ensures.other_values exts kind old new mapped
+    (HasValues-in c.args.self.now c.in-Some.form (c.sources_end-start.result + 4) c.in-Some.is start exts old was)
+    (HasValues-new c.args.self.now c.in-Some.form (c.sources_end-start.result + 4) c.in-Some.is start c.set_element.new.body c.set_element.auto.body exts new says)
+
+pub returns-clause-values : goal.returns-clause-values
+returns-clause-values c exts kind new only well_formed says =
+    let start : c.sources_end-start.result + 4 ≡ sources_end c.args.self.now.datagram.now + 4 = omega (arith, c.sources_end-start.ensures) in
+    c.set_element.ensures.values exts kind new only well_formed
+    (HasValues-new c.args.self.now c.in-Some.form (c.sources_end-start.result + 4) c.in-Some.is start c.set_element.new.body c.set_element.auto.body exts new says)
