@@ -45,7 +45,6 @@ impl ExtensionMap {
 impl KindsById {
     /// Reads the elements of a block's body into the values as
     /// [`ExtensionMap::parse`] does, by the known kinds of the table.
-    #[inline(never)]
     pub fn parse(
         &self,
         alloc: Global,
