@@ -6,13 +6,13 @@ use std::process::Abort;
 
 // A linear congruential generator modulo 2^64.
 #[derive(Drop)]
-struct Noise {
-    state: u64,
+pub(crate) struct Noise {
+    pub(crate) state: u64,
 }
 
 impl Noise {
     // The next byte: the highest bits, which are the least regular ones.
-    fn next_byte(&mut self) -> u8 {
+    pub(crate) fn next_byte(&mut self) -> u8 {
         self.state = self
             .state
             .wrapping_mul(6_364_136_223_846_793_005)
@@ -21,7 +21,7 @@ impl Noise {
     }
 
     // Fills the bytes, with only the bits of the mask.
-    fn fill(&mut self, bytes: &mut [u8], mask: u8) {
+    pub(crate) fn fill(&mut self, bytes: &mut [u8], mask: u8) {
         for byte in bytes {
             *byte = self.next_byte() & mask;
         }
@@ -30,7 +30,7 @@ impl Noise {
 
 // Makes the front of the bytes that of a packet without sources, and of a block of this form that
 // takes all the words that are left, which are less than 256. Returns whether there was room.
-fn frame(bytes: &mut [u8], form: [u8; 2]) -> bool {
+pub(crate) fn frame(bytes: &mut [u8], form: [u8; 2]) -> bool {
     let words = bytes.len().saturating_sub(16) / 4;
     let Some((front, _)) = bytes.split_first_chunk_mut::<16>() else {
         return false;
@@ -66,9 +66,9 @@ fn draw(rt: &impl Abort, alloc: Global, noise: &mut Noise, form: Option<[u8; 2]>
     levels
 }
 
-const ONE_BYTE: Option<[u8; 2]> = Some([0xBE, 0xDE]);
+pub(crate) const ONE_BYTE: Option<[u8; 2]> = Some([0xBE, 0xDE]);
 
-const TWO_BYTE: Option<[u8; 2]> = Some([0x10, 0x00]);
+pub(crate) const TWO_BYTE: Option<[u8; 2]> = Some([0x10, 0x00]);
 
 #[test]
 fn any_bytes(rt: HostRuntime) {

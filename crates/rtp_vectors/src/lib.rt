@@ -41,6 +41,8 @@ mod headers_with_values;
 #[cfg(test)]
 mod headers_written;
 #[cfg(test)]
+mod hostile_changes;
+#[cfg(test)]
 mod hostile_damage;
 #[cfg(test)]
 mod hostile_elements;
@@ -50,6 +52,8 @@ mod hostile_noise;
 mod hostile_packets;
 #[cfg(test)]
 mod hostile_samples;
+#[cfg(test)]
+mod hostile_walks;
 #[cfg(test)]
 mod ids;
 #[cfg(test)]

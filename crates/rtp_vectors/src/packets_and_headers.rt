@@ -10,7 +10,7 @@ use std::process::Abort;
 
 // Packets of real senders, whose payload is cut: one-byte and two-byte forms, with a layer
 // allocation, with texts of 16 bytes, of sound and of pictures.
-const REAL: [&str; 5] = [
+pub(crate) const REAL: [&str; 5] = [
     "90ef33815e289f7740e75ae7bede0003220ce204310001403010ff00e1757592",
     "90f61378ae2f2d1a137186a6bede0008220d1ead31000540318306060610d0007c010001000e000f0011000000000\
 0009771f422",
