@@ -29,9 +29,12 @@ last_still P [] after (w ∷ others) rest x y e same not_x not_y is never =
     let left : after ≡ others ++ e ∷ rest = cc in (y ∷ others, rest, ap (λ zs. y ∷ zs) left, never)
 last_still P (z ∷ before) after [] rest x y e same not_x not_y is never =
     let first : z ≡ e = cc in
-    let left : before ++ x ∷ after ≡ rest = cc in
-    ([], before ++ y ∷ after, ap (λ w. w ∷ (before ++ y ∷ after)) first,
-    none_still P before after x y not_y (All-same (λ w. P w → ⊥) (before ++ x ∷ after) rest left never))
+    let left : before ++ x ∷ after ≡ rest = cc in (
+      [],
+      before ++ y ∷ after,
+      ap (λ w. w ∷ (before ++ y ∷ after)) first,
+      none_still P before after x y not_y (All-same (λ w. P w → ⊥) (before ++ x ∷ after) rest left never),
+    )
 last_still P (z ∷ before) after (w ∷ others) rest x y e same not_x not_y is never =
     let first : z ≡ w = cc in
     let left : before ++ x ∷ after ≡ others ++ e ∷ rest = cc in
