@@ -1,8 +1,8 @@
 -- The known extensions by their ids: what a table of kinds shows, and what the known extensions of a map read.
-use Rattle.std.proofs.Common.{◌≡◌, ◌≢◌, ℕ, ◌+◌, ◌<◌, suc, zero, List, [], ◌∷◌, ◌++◌, length, map, take, drop, replicate, set, get_or, true, false, Option, Some, None, Result, Ok, Err, OnOk, OnErr, All, arith, ap, refl, sym, ◌∙◌, subst, append_assoc, get_or-set_same, get_or-set_other, length-drop}
+use Rattle.std.proofs.Common.{◌≡◌, ◌≢◌, ℕ, ◌+◌, ◌-◌, ◌<◌, suc, zero, List, [], ◌∷◌, ◌++◌, length, map, take, drop, replicate, set, get_or, true, false, Option, Some, None, Result, Ok, Err, OnOk, OnErr, All, arith, ap, refl, sym, ◌∙◌, subst, append_assoc, get_or-set_same, get_or-set_other, length-drop}
 use Rattle.std.specs.Option.{is_some}
 use Rattle.std.proofs.Math.ListN.{get_or-map}
-use Rattle.std.proofs.lemmas.List.{get_or_default, take_all}
+use Rattle.std.proofs.lemmas.List.{get_or_default, map-set, take_all}
 use Rattle.rtp_values.specs.declared.kind.Extension.{Extension}
 use Rattle.rtp_values.specs.declared.kind.Extension.TheVariants.{UnknownUri}
 use Rattle.rtp_values.specs.declared.known_kind.KnownKind.{KnownKind}
@@ -42,6 +42,15 @@ slots_of-set_others kinds new id kind is zero other = refl
 slots_of-set_others kinds new id kind is (suc k) other =
     ap (λ (slots : Slots). entry_at slots (suc k)) is ∙ entry_at-kinds (set kinds id kind) k
     ∙ ap entry_of_kind (get_or-set_other kinds id (suc k) kind None other) ∙ sym (entry_at-kinds kinds k)
+
+-- the slots are the old ones, except for that of the id
+pub slots_of-put : (kinds : List (Option KnownKind)) (id : ℕ) (kind : Option KnownKind) → IsId id
+    → slots_of (set kinds id kind) ≡ set (slots_of kinds) (id - 1) (entry_of_kind kind)
+slots_of-put kinds zero kind is_id = absurd (omega (arith, is_id.0))
+slots_of-put [] (suc k) kind is_id = refl
+slots_of-put (first ∷ kinds) (suc k) kind is_id =
+    let index : k ≡ suc k - 1 = omega arith in
+    map-set entry_of_kind kinds k kind ∙ ap (λ (i : ℕ). set (map entry_of_kind kinds) i (entry_of_kind kind)) index
 
 -- no kind is there
 none_at : (n k : ℕ) → get_or (map entry_of_kind (replicate n None)) k None ≡ None
@@ -128,6 +137,14 @@ known_alone-known _ known = refl
 known_alone-back : (extension kind : Extension) → extension_of (known_alone extension) ≡ Some kind → Some extension ≡ Some kind
 known_alone-back (UnknownUri uri) kind is = cc
 known_alone-back _ kind is = is
+
+-- one slot of a map is set, and so is that of the table which is in step with it
+pub known_slots-put : (slots table new : Slots) (k id : ℕ) (slot put : Option Entry) → table ≡ known_slots slots → k + 1 ≡ id
+    → new ≡ set table (id - 1) put → put ≡ known_entry slot → new ≡ known_slots (set slots k slot)
+known_slots-put slots table new k id slot put in_step is new_is put_is =
+    let index : id - 1 ≡ k = omega (arith, is) in
+    new_is ∙ ap (λ (i : ℕ). set table i put) index ∙ ap (λ (t : Slots). set t k put) in_step ∙ ap (set (known_slots slots) k) put_is
+    ∙ sym (map-set known_entry slots k slot)
 
 known_entry-keeps : (slot : Option Entry) (kind : Extension) → IsKnown kind → extension_of slot ≡ Some kind → extension_of (known_entry slot) ≡ Some kind
 known_entry-keeps None kind known is = cc

@@ -1,6 +1,6 @@
 //! The known extensions by their ids.
 
-ghost use Rattle.std.specs.Prelude.{◌≡◌, ◌≢◌, ◌≤◌, ℕ, length, map};
+ghost use Rattle.std.specs.Prelude.{◌≡◌, ◌≢◌, ◌≤◌, ◌-◌, ℕ, length, map, slice_set};
 ghost use Rattle.std.specs.Option.{option_map};
 ghost use Rattle.std.specs.List.{list_any};
 ghost use Rattle.rtp_values.specs.declared.known_kind.KnownKind.{KnownKind};
@@ -97,6 +97,10 @@ impl KindsById {
         ensures this { IsId id → entry_at (slots_of self.new) id ≡ entry_of_kind kind }
         ensures others { (k : ℕ) → k ≢ id →
             entry_at (slots_of self.new) k ≡ entry_at (slots_of self.old) k }
+
+        // The same of all slots at once: that of id 1 is the first.
+        ensures slots { IsId id → slots_of self.new
+            ≡ slice_set (slots_of self.old) (id - 1) (entry_of_kind kind) }
     {
         let mut kinds = self.kinds;
         kinds[usize::from(id)] = kind;

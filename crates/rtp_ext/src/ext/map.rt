@@ -128,8 +128,9 @@ impl ExtensionMap {
         ensures outside { (spec.IsId id → ⊥) → self.new ≡ self.old }
     {
         if let Some(slot) = slots::slot_of(id) {
-            let old = mem::replace(&mut self.slots[slot], Slot::from(ext));
-            self.kinds = KindsById::of_slots(&self.slots);
+            let new = Slot::from(ext);
+            self.kinds.set(id, new.known_kind());
+            let old = mem::replace(&mut self.slots[slot], new);
             if !old.is_mapped() {
                 self.mapped.insert(id);
             }
