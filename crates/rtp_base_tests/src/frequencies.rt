@@ -1,6 +1,7 @@
 //! Frequencies and their texts.
 
 use crate::checks::{holds, is_text, same, shows};
+use crate::times::at;
 use rtp_base::{Frequency, ParseFrequencyError};
 use std::process::Abort;
 

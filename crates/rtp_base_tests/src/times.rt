@@ -10,7 +10,7 @@ use std::process::Abort;
 const MOST: u64 = 18446744073709551615;
 
 // The time of this many ticks at a frequency above 0.
-fn at(numer: u64, hertz: u32) -> MediaTime
+pub(crate) fn at(numer: u64, hertz: u32) -> MediaTime
     ensures { 0 < hertz → result ≡ record { numer = numer; denom = hertz } }
 {
     MediaTime::new(numer, Frequency::new(hertz).unwrap_or(Frequency::SECONDS))
