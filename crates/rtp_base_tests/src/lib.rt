@@ -19,3 +19,5 @@ mod refused_never_times;
 mod times;
 #[cfg(test)]
 mod windows;
+#[cfg(test)]
+mod windows_in_parts;

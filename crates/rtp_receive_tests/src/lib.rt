@@ -12,6 +12,8 @@ mod receivers;
 #[cfg(test)]
 mod receivers_starting;
 #[cfg(test)]
+mod receivers_stored;
+#[cfg(test)]
 mod refused_sources;
 #[cfg(test)]
 mod runs;
