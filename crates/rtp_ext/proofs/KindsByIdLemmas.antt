@@ -11,7 +11,7 @@ use Rattle.rtp_values.specs.Kind.{IsKnown}
 use Rattle.rtp_values.specs.Values.{IsWellFormed}
 use Rattle.rtp_values.proofs.KindLemmas.{one_kind}
 use Rattle.rtp_ext.specs.Elements.{Element}
-use Rattle.rtp_ext.specs.ExtensionMap.{Entry, Slots, IsId, entry_at, extension_at, extension_of, items_from}
+use Rattle.rtp_ext.specs.ExtensionMap.{Entry, Slots, IsEmpty, IsId, entry_at, extension_at, extension_of, items_from}
 use Rattle.rtp_ext.specs.KindsById.{entry_of_kind, slots_of, known_alone, known_entry, known_slots}
 use Rattle.rtp_ext.specs.MapSlots.{mapped_ids, IsMapped}
 use Rattle.rtp_values.specs.KnownKind.{extension_of_kind}
@@ -62,6 +62,26 @@ pub slots_of-none : (n id : ℕ) → entry_at (slots_of (replicate n None)) id �
 slots_of-none n zero = refl
 slots_of-none zero (suc k) = refl
 slots_of-none (suc n) (suc k) = none_at n k
+
+kinds-none : (n : ℕ) → map entry_of_kind (replicate n None) ≡ replicate n None
+kinds-none zero = refl
+kinds-none (suc n) = ap (λ (slots : Slots). None ∷ slots) (kinds-none n)
+
+pub slots_of-replicate : (n : ℕ) → slots_of (replicate (suc n) None) ≡ replicate n None
+slots_of-replicate n = kinds-none n
+
+later-IsEmpty : (slot : Option Entry) (slots : Slots) → IsEmpty (slot ∷ slots) → IsEmpty slots
+later-IsEmpty slot slots empty zero = refl
+later-IsEmpty slot slots empty (suc k) = empty (suc (suc k))
+
+-- an empty map has no known extensions
+pub known_slots-empty : (n : ℕ) (slots : Slots) → length slots ≡ n → IsEmpty slots → replicate n None ≡ known_slots slots
+known_slots-empty zero [] long empty = refl
+known_slots-empty zero (slot ∷ slots) long empty = cc
+known_slots-empty (suc n) [] long empty = cc
+known_slots-empty (suc n) (slot ∷ slots) long empty =
+    ap (λ (others : Slots). None ∷ others) (known_slots-empty n slots (omega (arith, long)) (later-IsEmpty slot slots empty))
+    ∙ ap (λ (first : Option Entry). first ∷ known_slots slots) (sym (ap known_entry (empty 1)))
 
 -- the kind of a mapped id
 from_entry : (kind : Option KnownKind) (entry : Entry) → entry_of_kind kind ≡ Some entry → (found : KnownKind) × (kind ≡ Some found)

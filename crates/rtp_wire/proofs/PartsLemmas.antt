@@ -1,10 +1,9 @@
 -- The parts of a packet, as the calls on it find them.
-use Rattle.std.proofs.Common.{◌≡◌, ℕ, ◌+◌, ◌-◌, ◌*◌, ◌/◌, ◌%◌, ◌≤◌, Bool, true, false, List, length, take, drop, Option, Some, None, refl, sym, ap, ◌∙◌, subst, arith, ◌++◌, length-append, length-drop, length-take-le}
+use Rattle.std.proofs.Common.{◌≡◌, ℕ, ◌+◌, ◌-◌, ◌*◌, ◌/◌, ◌%◌, ◌≤◌, Bool, true, false, List, length, take, drop, Option, Some, None, sym, ap, ◌∙◌, arith, ◌++◌, length-append, length-drop, length-take-le}
 use Rattle.std.specs.Prelude.{slice_index, slice_range, is_some, option_map}
 use Rattle.std.specs.Int.{w32, from_be_bytes}
 use Rattle.std.specs.List.{concat}
 use Rattle.std.specs.Simd.{first_chunks}
-use Rattle.std.proofs.lemmas.Bool.{false≢true}
 use Rattle.std.proofs.lemmas.List.{length-map}
 use Rattle.rtp_ext.specs.declared.ext.form.ExtensionsForm.{ExtensionsForm}
 use Rattle.rtp_wire.specs.declared.packet.rtp_packet.RtpPacket.{RtpPacket}
@@ -39,14 +38,6 @@ unfolding parts_at
 block-header bytes len form header =
     ap (option_map {U = ExtensionsForm × List ℕ} (λ f. (f, slice_range bytes (sources_end bytes + 4) len))) header.announced
     ∙ ap (λ (end : ℕ). option_map {U = ExtensionsForm × List ℕ} (λ f. (f, slice_range bytes (sources_end bytes + 4) end)) (form_in bytes)) header.ends
-
-no_form : (form : Option ExtensionsForm) → is_some form ≡ false → form ≡ None
-no_form None none = refl
-no_form (Some form) none = absurd (false≢true (sym none))
-
--- a packet without a form has no block
-pub no_block : (packet : RtpPacket) → is_some packet.form ≡ false → None ≡ (parts_of packet).block
-no_block packet none = rw (no_form packet.form none) at (block-header packet.datagram.now packet.header_len packet.form (HasHeader-packet packet))
 
 -- the body begins within the header
 pub body_within : (bytes : List ℕ) (len : ℕ) (form : Option ExtensionsForm) → HasHeader bytes len form → is_some form ≡ true → sources_end bytes + 4 ≤ len

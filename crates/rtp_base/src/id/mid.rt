@@ -45,6 +45,7 @@ impl From<&str> for Mid {
 impl Mid {
     /// Returns the identifier of the text that the bytes spell in UTF-8, as
     /// [`From<&str>`](Self::from) makes it, and `None` exactly when they are not UTF-8.
+    #[inline(always)]
     pub fn from_utf8(bytes: &[u8]) -> Option<Mid>
         ensures found { IfSome result (IsIdOf 16 bytes.now) }
         ensures some { IsSome result ↔ IsUtf8 bytes.now }

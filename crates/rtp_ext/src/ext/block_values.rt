@@ -45,7 +45,30 @@ impl ExtensionMap {
 impl KindsById {
     /// Reads the elements of a block's body into the values as
     /// [`ExtensionMap::parse`] does, by the known kinds of the table.
+    #[inline(never)]
     pub fn parse(
+        &self,
+        alloc: Global,
+        buf: &[u8],
+        form: ExtensionsForm,
+        ev: &mut ExtensionValues,
+    ) -> Result<(), AllocError>
+        ensures values { OnOk result ((elements : List Element) →
+            AreElements form buf.now elements → AreValues (slots_of self.now) elements ev.old ev.new) }
+        ensures refused { OnErr result ((elements : List Element) →
+            AreElements form buf.now elements → IsStopped (slots_of self.now) elements ev.old ev.new) }
+        ensures succeeds { (elements : List Element) → AreElements form buf.now elements →
+            (HasAllocation (slots_of self.now) elements → ⊥) → IsOk result }
+    {
+        match form {
+            ExtensionsForm::OneByte => self.parse_in(alloc, buf, ExtensionsForm::OneByte, ev),
+            ExtensionsForm::TwoByte => self.parse_in(alloc, buf, ExtensionsForm::TwoByte, ev),
+        }
+    }
+
+    // The same. It is inlined, so that each form has a loop of its own.
+    #[inline(always)]
+    fn parse_in(
         &self,
         alloc: Global,
         buf: &[u8],

@@ -1,6 +1,6 @@
 //! The known extensions by their ids.
 
-ghost use Rattle.std.specs.Prelude.{◌≡◌, ◌≢◌, ◌≤◌, ◌-◌, ℕ, length, map, slice_set};
+ghost use Rattle.std.specs.Prelude.{◌≡◌, ◌≢◌, ◌≤◌, ◌-◌, ℕ, length, map, replicate, None, slice_set};
 ghost use Rattle.std.specs.Option.{option_map};
 ghost use Rattle.std.specs.List.{list_any};
 ghost use Rattle.rtp_values.specs.declared.known_kind.KnownKind.{KnownKind};
@@ -69,9 +69,16 @@ impl KindsById {
 
     /// A table in which no id is mapped.
     pub fn empty() -> Self
-        ensures { IsEmpty (slots_of result) }
+        ensures empty { IsEmpty (slots_of result) }
+
+        // The same of all slots at once.
+        ensures slots { slots_of result ≡ replicate MAX_ID None }
     {
-        Self::new([None; IDS])
+        KindsById {
+            kinds: [None; IDS],
+            mapped: MappedIds::none(),
+            is_long: false,
+        }
     }
 
     // The known extensions of the slots.

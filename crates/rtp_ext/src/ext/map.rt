@@ -81,11 +81,10 @@ impl ExtensionMap {
     pub fn empty() -> Self
         ensures { spec.IsEmpty result }
     {
-        let slots = array::from_fn(|_| Slot::unmapped());
         ExtensionMap {
+            slots: array::from_fn(|_| Slot::unmapped()),
             mapped: MappedIds::none(),
-            kinds: KindsById::of_slots(&slots),
-            slots,
+            kinds: KindsById::empty(),
         }
     }
 

@@ -21,6 +21,7 @@ impl KnownKind {
     ///
     /// Only a layer allocation of two bytes or more takes memory. Where that is refused no field is
     /// changed.
+    #[inline(always)]
     pub fn parse_value(
         self,
         alloc: Global,

@@ -8,6 +8,7 @@ use super::ExtensionValues;
 use super::front::put_text;
 use rtp_base::Mid;
 
+#[inline(always)]
 pub(super) fn read(buf: &[u8], ev: &mut ExtensionValues) -> Option<()>
     ensures { SetsFields RtpMid buf.now ev.old ev.new result }
 {

@@ -5,6 +5,7 @@ ghost use Rattle.std.specs.Bool.{OnTrue};
 ghost use Rattle.rtp_wire.specs.RefusedMemory.{HeaderHasAllocation, IsWireStopped};
 ghost use Rattle.rtp_wire.specs.NotAHeader.{NotAHeader};
 ghost use Rattle.rtp_wire.specs.Header.{IsWire};
+ghost use Rattle.rtp_values.specs.Values.{no_values};
 
 use super::RtpHeader;
 use crate::packet::RtpPacket;
@@ -96,8 +97,19 @@ impl RtpHeader {
             return Ok(false);
         };
         packet.put_fields(self);
-        self.ext_vals = ExtensionValues::default();
+        clear(&mut self.ext_vals);
         packet.read_values(alloc, exts, &mut self.ext_vals)?;
         Ok(true)
     }
+}
+
+// Makes every value absent.
+fn clear(values: &mut ExtensionValues)
+    ensures { values.new ≡ no_values }
+{
+    // Without an allocation, as most are, the values are overwritten and not looked at.
+    if values.video_layers_allocation.is_some() {
+        values.video_layers_allocation = None;
+    }
+    *values = ExtensionValues::default();
 }

@@ -27,26 +27,6 @@ impl<'a> RtpPacket<'a> {
         ensures stopped { OnErr result (AreValuesStopped exts.now (parts_of self.now).block values.new) }
         ensures succeeds { (BlockHasAllocation exts.now (parts_of self.now).block → ⊥) → IsOk result }
     {
-        if self.form.is_none() {
-            return Ok(());
-        }
-        self.read_block(alloc, exts, values)
-    }
-
-    // The same, as a call of its own: most of a header's code is here.
-    #[inline(never)]
-    fn read_block(
-        &self,
-        alloc: Global,
-        exts: &ExtensionMap,
-        values: &mut ExtensionValues,
-    ) -> Result<(), AllocError>
-        requires { values.old ≡ no_values }
-        ensures found { OnOk result (HasValues exts.now (parts_of self.now).block values.new) }
-        ensures memory { OnErr result (BlockHasAllocation exts.now (parts_of self.now).block) }
-        ensures stopped { OnErr result (AreValuesStopped exts.now (parts_of self.now).block values.new) }
-        ensures succeeds { (BlockHasAllocation exts.now (parts_of self.now).block → ⊥) → IsOk result }
-    {
         let Some((form, body)) = self.block() else {
             return Ok(());
         };

@@ -1,7 +1,21 @@
-use Rattle.std.proofs.Common.{ap, ◌∙◌}
-use Rattle.rtp_ext.specs.ExtensionMap.{Slots, entry_at}
-use Rattle.rtp_ext.proofs.KindsByIdLemmas.{slots_of-none}
+use Rattle.std.proofs.Common.{suc, ap, sym, refl, ◌∙◌, replicate, None}
+use Rattle.std.specs.List.{list_any}
+use Rattle.rtp_ext.specs.KindsById.{slots_of, is_long_item}
+use Rattle.rtp_ext.proofs.KindsByIdLemmas.{slots_of-none, slots_of-replicate}
+use Rattle.rtp_ext.proofs.ListingLemmas.{items_from-empty}
+use Rattle.rtp_ext.proofs.MappedIdLemmas.{no_ids-IsEmpty}
 use Rattle.rtp_ext.proofs.ext.kinds_by_id.KindsById.empty.Goals as goal
 
-pub returns : goal.returns
-returns c = λ id. ap (λ (slots : Slots). entry_at slots id) c.new.ensures ∙ slots_of-none 256 id
+pub invariant_of-result : goal.invariant_of-result
+invariant_of-result c = (
+  refl,
+  refl,
+  c.none.ensures ∙ sym (no_ids-IsEmpty (slots_of (replicate 256 None)) (slots_of-none 256)),
+  sym (ap (list_any is_long_item) (items_from-empty 0 (slots_of (replicate 256 None)) (λ k. slots_of-none 256 (suc k)))),
+)
+
+pub returns-clause-empty : goal.returns-clause-empty
+returns-clause-empty c = slots_of-none 256
+
+pub returns-clause-slots : goal.returns-clause-slots
+returns-clause-slots c = slots_of-replicate 255

@@ -1,7 +1,7 @@
 use Rattle.std.proofs.Common.{map}
 use Rattle.rtp_ext.specs.KindsById.{slots_of}
 use Rattle.rtp_ext.specs.BlockValues.{AreValues}
-use Rattle.rtp_ext.proofs.ext.kinds_by_id.KindsById.parse.Given as goal
+use Rattle.rtp_ext.proofs.ext.kinds_by_id.KindsById.parse_in.Given as goal
 
 -- the values are those of the elements that were passed
 abbrev pub invariant-loop-id : goal.invariant-loop-id
