@@ -115,7 +115,9 @@ impl KindsById {
         KindItems::new(&self.kinds, self.mapped.as_slice())
     }
 
-    // Whether a text is written that is empty.
+    // Whether a text is written that is empty. It stays out of line, since few values have an empty
+    // text and its loop would make every other call save registers.
+    #[inline(never)]
     fn has_empty_data(&self, ev: &ExtensionValues) -> bool
         ensures { result ≡ has_empty (items_from 0 (slots_of self.now)) ev.now }
     {
