@@ -64,7 +64,7 @@ CanCarry-two : (item : Item) (bytes : Option (List ℕ)) → CanCarry TwoByte it
 CanCarry-two item None = tt
 CanCarry-two item (Some bytes) = tt
 
-at_most : (most n : ℕ) → nat_lt most n ≡ false → n ≤ most
+pub at_most : (most n : ℕ) → nat_lt most n ≡ false → n ≤ most
 at_most most n not_above = grind (arith, nat_tests)
 
 some_byte : (bytes : List ℕ) → has_no_data (Some bytes) ≡ false → 1 ≤ length bytes

@@ -13,6 +13,8 @@ mod MemoryFacts
 mod MapLemmas
 pub mod ListingLemmas
 mod MappedIdLemmas
+mod RisingIdLemmas
+mod ShortBlockLemmas
 mod KindsByIdLemmas
 mod FormLemmas
 mod KnownItemsLemmas

@@ -27,6 +27,11 @@ IsMapped slots id = (entry : Entry) × (entry_at slots id ≡ Some entry)
 abbrev pub mapped_ids : Slots → List ℕ
 mapped_ids slots = map (λ item. item.0) (items_from 0 slots)
 
+-- each id is above the one before it, and the first is above this one
+abbrev pub RiseAbove : ℕ → List ℕ → Type 0
+RiseAbove low [] = Unit {0}
+RiseAbove low (id ∷ ids) = (low < id) × RiseAbove id ids
+
 -- rising ids and one more
 abbrev pub inserted : ℕ → List ℕ → List ℕ
 inserted id [] = id ∷ []

@@ -1,5 +1,5 @@
 -- The elements of a block as they are written (RFC 8285, 4.2 and 4.3).
-use Rattle.std.specs.Prelude.{ℕ, ◌+◌, ◌-◌, ◌/◌, ◌%◌, List, [], ◌∷◌, ◌++◌, length, replicate, Bool, ◌||◌, nat_lt, if◌then◌else◌}
+use Rattle.std.specs.Prelude.{ℕ, ◌+◌, ◌-◌, ◌*◌, ◌≤◌, ◌/◌, ◌%◌, List, [], ◌∷◌, ◌++◌, length, replicate, Bool, ◌||◌, nat_lt, if◌then◌else◌}
 use Rattle.std.specs.Option.{option_map}
 use Rattle.std.specs.List.{filter_map, list_any}
 use Rattle.std.specs.Int.{w16, to_be_bytes}
@@ -8,7 +8,7 @@ use Rattle.rtp_ext.specs.declared.ext.form.ExtensionsForm.{ExtensionsForm}
 use Rattle.rtp_ext.specs.declared.ext.form.ExtensionsForm.TheVariants.{OneByte, TwoByte}
 use Rattle.rtp_values.specs.declared.value.values.ExtensionValues.{ExtensionValues}
 use Rattle.rtp_values.specs.declared.kind.Extension.{Extension}
-use Rattle.rtp_ext.specs.ExtensionMap.{Slots, items_from}
+use Rattle.rtp_ext.specs.ExtensionMap.{Slots, items_from, mapped_count}
 use Rattle.rtp_ext.specs.Elements.{Element, elements_bytes}
 use Rattle.rtp_values.specs.Spelling.{spelled_data, has_no_data, longest, carried_values}
 use Rattle.rtp_values.specs.Values.{no_values, with_fields}
@@ -25,6 +25,10 @@ needs_two values item = nat_lt 14 item.0 || (nat_lt 16 (longest item.1) || has_n
 -- the two-byte form exactly where a mapped id needs it
 abbrev pub form_of : Slots → ExtensionValues → ExtensionsForm
 form_of exts values = if list_any (needs_two values) (items_from 0 exts) then TwoByte else OneByte
+
+-- the elements of the one-byte form have at most 17 bytes for each mapped id
+abbrev pub IsShort : Slots → ExtensionValues → Type 0
+IsShort exts values = length (elements_bytes OneByte (written_elements exts values)) ≤ 17 * mapped_count exts
 
 -- of the values the fields of the kinds of these items, and every other field absent
 abbrev pub fields_of_items : List (ℕ × Extension) → ExtensionValues → ExtensionValues

@@ -83,6 +83,7 @@ fn ids_of_kinds(rt: HostRuntime) {
     let mut map = with(one(4, Extension::RtpMid), 255, Extension::RtpMid);
     same(&rt, "mid", map.id_of(Extension::RtpMid), Some(4));
     same(&rt, "color space", map.id_of(Extension::ColorSpace), None);
+    same(&rt, "both", map.len(), 2);
     map.set(4, Extension::ColorSpace);
     same(&rt, "mid", map.id_of(Extension::RtpMid), Some(255));
     same(
@@ -97,8 +98,10 @@ fn ids_of_kinds(rt: HostRuntime) {
 fn cleared(rt: HostRuntime) {
     let mut map = one(4, Extension::RtpMid);
     holds(&rt, "an entry", !map.is_empty());
+    same(&rt, "an entry", map.len(), 1);
     map.clear();
     holds(&rt, "no entry", map.is_empty());
+    same(&rt, "no entry", map.len(), 0);
     is_map(&rt, &map, ExtensionMap::empty());
 }
 

@@ -75,6 +75,8 @@ fn rooms(rt: HostRuntime) {
         (19, None),
         (20, TYPE_33),
         (21, TYPE_33),
+        (35, TYPE_33),
+        (36, TYPE_33),
         (90, TYPE_33),
     ];
     for (room, wanted) in rows {

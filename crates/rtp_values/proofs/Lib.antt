@@ -2,6 +2,7 @@ pub mod KindLemmas
 pub mod FieldLemmas
 pub mod ValueLemmas
 pub mod EmptyDataLemmas
+pub mod DataLengthLemmas
 mod SendTimeLemmas
 mod SendTimeFacts
 mod MemoryFacts

@@ -70,7 +70,7 @@ capture_again : (t : capture.AbsCaptureTime) (word : ℕ) (offset : Option ℤ) 
     → t ≡ record { capture_time = word; clock_offset = offset }
 capture_again t word offset word-is offset-is = rw (word-is, offset-is) refl
 
-length-offset_bytes : (offset : Option ℤ) → length (offset_bytes offset) ≤ 8
+pub length-offset_bytes : (offset : Option ℤ) → length (offset_bytes offset) ≤ 8
 length-offset_bytes None = omega arith
 length-offset_bytes (Some offset) = omega arith
 

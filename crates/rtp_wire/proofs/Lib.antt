@@ -1,4 +1,5 @@
 mod FlagLemmas
+mod FixedLemmas
 mod GroupLemmas
 mod BlockLemmas
 mod PacketLemmas

@@ -12,7 +12,7 @@ ghost use Rattle.rtp_ext.specs.KindsById.{slots_of};
 ghost use Rattle.rtp_base.specs.Overwriting.{overwritten};
 ghost use Rattle.rtp_ext.specs.BlockValues.{AreValues};
 ghost use Rattle.rtp_values.specs.Values.{no_values};
-ghost use Rattle.rtp_ext.specs.WrittenBlock.{written_elements, form_of, image_values};
+ghost use Rattle.rtp_ext.specs.WrittenBlock.{written_elements, form_of, image_values, IsShort};
 
 use super::{ExtensionMap, ExtensionsForm, KindsById};
 use rtp_values::{ExtensionValues, KnownKind};
@@ -86,9 +86,13 @@ fn write_element(
 impl ExtensionMap {
     /// The form that a block of these values needs: the two-byte form exactly when an id above
     /// [`MAX_ID_ONE_BYTE_FORM`] is mapped, the layer allocation is mapped, or a text that is
-    /// written is empty (RFC 8285, 4.2 and 4.3).
+    /// written is empty (RFC 8285, 4.2 and 4.3). In the one-byte form the elements take at most 17
+    /// bytes for each mapped id.
     pub fn form(&self, ev: &ExtensionValues) -> ExtensionsForm
-        ensures { result ≡ form_of self.now ev.now }
+        ensures form { result ≡ form_of self.now ev.now }
+
+        // An element of the one-byte form has at most 17 bytes.
+        ensures short { result ≡ OneByte → IsShort self.now ev.now }
     {
         if self.needs_two_bytes(ev) {
             ExtensionsForm::TwoByte
@@ -144,7 +148,10 @@ impl KindsById {
     /// The form that a block of these values needs, as [`ExtensionMap::form`] has it of the known
     /// extensions.
     pub fn form(&self, ev: &ExtensionValues) -> ExtensionsForm
-        ensures { result ≡ form_of (slots_of self.now) ev.now }
+        ensures form { result ≡ form_of (slots_of self.now) ev.now }
+
+        // An element of the one-byte form has at most 17 bytes.
+        ensures short { result ≡ OneByte → IsShort (slots_of self.now) ev.now }
     {
         if self.needs_two_bytes(ev) {
             ExtensionsForm::TwoByte

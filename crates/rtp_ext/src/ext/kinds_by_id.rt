@@ -1,13 +1,13 @@
 //! The known extensions by their ids.
 
-ghost use Rattle.std.specs.Prelude.{◌≡◌, ◌≢◌, ◌≤◌, ◌-◌, ℕ, length, map, replicate, None, slice_set};
+ghost use Rattle.std.specs.Prelude.{◌≡◌, ◌≢◌, ◌≤◌, ◌-◌, ℕ, false, length, map, replicate, None, slice_set};
 ghost use Rattle.std.specs.Option.{option_map};
 ghost use Rattle.std.specs.List.{list_any};
 ghost use Rattle.rtp_values.specs.declared.known_kind.KnownKind.{KnownKind};
 ghost use Rattle.rtp_values.specs.KnownKind.{extension_of_kind};
 ghost use Rattle.rtp_ext.specs.ExtensionMap.{IsId, IsEmpty, entry_at, extension_at, items_from};
 ghost use Rattle.rtp_ext.specs.KindsById.{slots_of, entry_of_kind, known_entry, known_slots, has_empty};
-ghost use Rattle.rtp_ext.specs.WrittenBlock.{needs_two};
+ghost use Rattle.rtp_ext.specs.WrittenBlock.{needs_two, IsShort};
 
 use super::kind_items::{KindItems, has_long};
 use super::map::MAX_ID;
@@ -122,7 +122,9 @@ impl KindsById {
         KindItems::new(&self.kinds, self.mapped.as_slice())
     }
 
-    // Whether a text is written that is empty.
+    // Whether a text is written that is empty. It stays out of line, since few values have an empty
+    // text and its loop would make every other call save registers.
+    #[inline(never)]
     fn has_empty_data(&self, ev: &ExtensionValues) -> bool
         ensures { result ≡ has_empty (items_from 0 (slots_of self.now)) ev.now }
     {
@@ -135,9 +137,10 @@ impl KindsById {
     }
 
     // Whether the one-byte form doesn't serve.
-    #[tactic(auto, using(crate::proofs::KnownItemsLemmas::needs_two_split, crate::proofs::KnownItemsLemmas::no_empty))]
+    #[tactic(auto, using(crate::proofs::KnownItemsLemmas::needs_two_split, crate::proofs::KnownItemsLemmas::no_empty, crate::proofs::ShortBlockLemmas::short_block))]
     pub(super) fn needs_two_bytes(&self, ev: &ExtensionValues) -> bool
-        ensures { result ≡ list_any (needs_two ev.now) (items_from 0 (slots_of self.now)) }
+        ensures needed { result ≡ list_any (needs_two ev.now) (items_from 0 (slots_of self.now)) }
+        ensures short { result ≡ false → IsShort (slots_of self.now) ev.now }
     {
         if self.is_long {
             return true;

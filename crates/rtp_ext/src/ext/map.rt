@@ -7,7 +7,7 @@ ghost use Rattle.rtp_ext.specs.ExtensionMap.{items_from};
 ghost use Rattle.rtp_ext.specs.NewIds.{IsNewId};
 ghost use Rattle.rtp_ext.specs.KindsById.{slots_of, known_slots};
 ghost use Rattle.std.specs.List.{list_any};
-ghost use Rattle.rtp_ext.specs.WrittenBlock.{needs_two};
+ghost use Rattle.rtp_ext.specs.WrittenBlock.{needs_two, IsShort};
 ghost use Rattle.rtp_ext.specs.EqualMaps.{same_slots, same_slots-equiv};
 
 use super::iter::write_entries;
@@ -120,6 +120,14 @@ impl ExtensionMap {
         self.mapped.as_slice().is_empty()
     }
 
+    /// How many ids are mapped.
+    pub fn len(&self) -> usize
+        ensures count { result ≡ spec.mapped_count self.now }
+        ensures few { result ≤ MAX_ID }
+    {
+        self.mapped.len()
+    }
+
     /// Maps the id to the extension, unlocked, instead of what it was mapped to. The id 0, which a
     /// map has no room for, changes nothing.
     pub fn set(&mut self, id: u8, ext: Extension)
@@ -168,9 +176,10 @@ impl ExtensionMap {
     }
 
     // Whether the one-byte form doesn't serve: an unknown extension too may have an id above 14.
-    #[tactic(auto, using(crate::proofs::KnownItemsLemmas::needs_two_known))]
+    #[tactic(auto, using(crate::proofs::KnownItemsLemmas::needs_two_known, crate::proofs::ShortBlockLemmas::short_known, crate::proofs::RisingIdLemmas::mapped_rise))]
     pub(super) fn needs_two_bytes(&self, ev: &ExtensionValues) -> bool
-        ensures { result ≡ list_any (needs_two ev.now) (items_from 0 self.now) }
+        ensures needed { result ≡ list_any (needs_two ev.now) (items_from 0 self.now) }
+        ensures short { result ≡ false → IsShort self.now ev.now }
     {
         self.mapped.has_above(MAX_ID_ONE_BYTE_FORM) || self.kinds.needs_two_bytes(ev)
     }

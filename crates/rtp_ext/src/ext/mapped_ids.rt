@@ -3,7 +3,7 @@
 ghost use Rattle.std.specs.Prelude.{◌≡◌, ◌<◌, ◌≤◌, ◌∷◌, ◌++◌, [], length, take, drop, map, nat_lt};
 ghost use Rattle.std.specs.List.{list_any};
 ghost use Rattle.rtp_ext.specs.KindsById.{entry_of_kind};
-ghost use Rattle.rtp_ext.specs.MapSlots.{mapped_ids, inserted};
+ghost use Rattle.rtp_ext.specs.MapSlots.{mapped_ids, inserted, RiseAbove};
 
 use super::map::MAX_ID;
 use super::slot::Slot;
@@ -106,17 +106,24 @@ impl MappedIds {
         self.count += 1;
     }
 
-    // Whether an id is above this one.
+    // How many there are.
+    pub(super) fn len(&self) -> usize
+        ensures length { result ≡ length self.now }
+        ensures few { result ≤ MAX_ID }
+    {
+        usize::from(self.count)
+    }
+
+    // Whether an id is above this one, as the last one is then.
+    #[tactic(auto, using(crate::proofs::RisingIdLemmas::last_above, crate::proofs::RisingIdLemmas::none_above))]
     pub(super) fn has_above(&self, greatest: u8) -> bool
+        requires rising { RiseAbove 0 self.now }
         ensures { result ≡ list_any (nat_lt greatest) self.now }
     {
-        let ids = self.as_slice();
-        for id in ids {
-            if *id > greatest {
-                return true;
-            }
+        match self.as_slice().last() {
+            Some(last) => *last > greatest,
+            None => false,
         }
-        false
     }
 
     pub(super) fn as_slice(&self) -> &[u8]

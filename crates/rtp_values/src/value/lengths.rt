@@ -4,7 +4,8 @@ ghost use Rattle.std.specs.Prelude.{◌≡◌, ◌≤◌, ◌++◌, length, IfSo
 ghost use Rattle.std.specs.Option.{option_map};
 ghost use Rattle.rtp_base.specs.Id.{before_padding};
 ghost use Rattle.rtp_values.specs.KnownKind.{extension_of_kind};
-ghost use Rattle.rtp_values.specs.Spelling.{has_no_data, has_empty_text, spelled_data, bytes_of, offset_bytes, of_both};
+ghost use Rattle.rtp_values.specs.declared.kind.Extension.{Extension};
+ghost use Rattle.rtp_values.specs.Spelling.{has_no_data, has_empty_text, spelled_data, bytes_of, offset_bytes, of_both, longest};
 
 use super::{AbsCaptureTime, ExtensionValues, video_layers_allocation};
 use crate::KnownKind;
@@ -53,7 +54,8 @@ fn rid_len(rid: &Rid) -> usize
 
 // Whether the id is there, and its text is empty.
 fn is_empty_rid(rid: &Option<Rid>) -> bool
-    ensures { result ≡ has_no_data (option_map before_padding rid.now) }
+    ensures empty { result ≡ has_no_data (option_map before_padding rid.now) }
+    ensures few { IfSome rid.now (λ id. length (before_padding id) ≤ 16) }
 {
     match rid {
         Some(rid) => rid.as_str().is_empty(),
@@ -63,7 +65,8 @@ fn is_empty_rid(rid: &Option<Rid>) -> bool
 
 // Whether the id is there, and its text is empty.
 fn is_empty_mid(mid: &Option<Mid>) -> bool
-    ensures { result ≡ has_no_data (option_map before_padding mid.now) }
+    ensures empty { result ≡ has_no_data (option_map before_padding mid.now) }
+    ensures few { IfSome mid.now (λ id. length (before_padding id) ≤ 16) }
 {
     match mid {
         Some(mid) => mid.as_str().is_empty(),
@@ -74,10 +77,18 @@ fn is_empty_mid(mid: &Option<Mid>) -> bool
 impl ExtensionValues {
     /// Whether a mid, a stream id or a repaired stream id is there and has no characters. Only then
     /// can data of no bytes be written.
+    #[tactic(auto, using(crate::proofs::DataLengthLemmas::few_data))]
     pub fn has_empty_text(&self) -> bool
-        ensures { result ≡ has_empty_text self.now }
+        ensures empty { result ≡ has_empty_text self.now }
+
+        // Only a layer allocation has data of more than 16 bytes.
+        ensures few { (kind : Extension) → IfSome (spelled_data kind self.now) (λ bytes.
+            length bytes ≤ longest kind) }
     {
-        is_empty_mid(&self.mid) || is_empty_rid(&self.rid) || is_empty_rid(&self.rid_repair)
+        let mid = is_empty_mid(&self.mid);
+        let rid = is_empty_rid(&self.rid);
+        let rid_repair = is_empty_rid(&self.rid_repair);
+        mid || rid || rid_repair
     }
 }
 

@@ -1,7 +1,7 @@
 //! A block of header extensions as it is written: the word of its form, the number of its words, and
 //! its body.
 
-ghost use Rattle.std.specs.Prelude.{◌≡◌, ◌⊎◌, ℕ, ◌+◌, ◌*◌, ◌%◌, ◌≤◌, ◌<◌, List, ◌++◌, length, drop, true, IfSome, IfNone};
+ghost use Rattle.std.specs.Prelude.{◌≡◌, ◌⊎◌, ℕ, ◌+◌, ◌*◌, ◌%◌, ◌≤◌, ◌<◌, List, ◌++◌, length, drop, replicate, true, IsTrue, ◌↔◌, IfSome, IfNone};
 ghost use Rattle.std.specs.Int.{w16, to_be_bytes};
 ghost use Rattle.rtp_base.specs.Overwriting.{overwritten};
 ghost use Rattle.rtp_ext.specs.Form.{form_word};
@@ -12,11 +12,14 @@ ghost use Rattle.rtp_wire.specs.WrittenWith.{body_with};
 ghost use Rattle.rtp_ext.specs.WrittenBlock.{block_of, filled, block_bytes, image_values, whole_words};
 ghost use Rattle.rtp_ext.specs.ExtensionMap.{mapped_count};
 
-use rtp_base::{put, put_zeros};
+use rtp_base::put;
 use rtp_ext::{ExtensionMap, ExtensionValues, ExtensionsForm, put_elements};
 
 // How many bytes stand before a block's body.
 const HEADER_LEN: usize = 4;
+
+// The most bytes that an element of the one-byte form has (RFC 8285, 4.2).
+const MAX_LEN_ONE_BYTE_FORM: usize = 17;
 
 // The four bytes before a body of `words` words.
 fn block_header(form: ExtensionsForm, words: u16) -> [u8; HEADER_LEN]
@@ -25,6 +28,21 @@ fn block_header(form: ExtensionsForm, words: u16) -> [u8; HEADER_LEN]
     let [form_high, form_low] = form.serialize();
     let [words_high, words_low] = words.to_be_bytes();
     [form_high, form_low, words_high, words_low]
+}
+
+// Puts up to three zeros at an offset, those that fill a word, and returns the offset after them.
+fn fill_word(buf: &mut [u8], at: usize, count: usize) -> usize
+    requires few { count ≤ 3 }
+    requires room { at + count ≤ length buf.old }
+    ensures written { buf.new ≡ overwritten buf.old at (replicate count 0) }
+    ensures end { result ≡ at + count }
+{
+    match count {
+        0 => at,
+        1 => put(buf, at, &[0]),
+        2 => put(buf, at, &[0, 0]),
+        _ => put(buf, at, &[0, 0, 0]),
+    }
 }
 
 // The length of the block that `write_block` writes.
@@ -38,6 +56,18 @@ pub(super) fn block_len(exts: &ExtensionMap, ev: &ExtensionValues) -> usize
     HEADER_LEN + elements_len.next_multiple_of(4)
 }
 
+// Whether the block that `write_block` writes has room. In the one-byte form most buffers have it
+// whatever the values are, so that no length is asked for.
+pub(super) fn block_fits(exts: &ExtensionMap, ev: &ExtensionValues, room: usize) -> bool
+    ensures { IsTrue result ↔ (length (block_bytes exts.now ev.now) ≤ room) }
+{
+    let most = MAX_LEN_ONE_BYTE_FORM * exts.len();
+    if exts.form(ev) == ExtensionsForm::OneByte && HEADER_LEN + most.next_multiple_of(4) <= room {
+        return true;
+    }
+    block_len(exts, ev) <= room
+}
+
 // Puts the four bytes before a body in front of elements that stand after these, and after them the
 // zeros that fill their last word, and returns the block's length.
 fn close_block(buf: &mut [u8], form: ExtensionsForm, elements_len: usize) -> usize
@@ -49,7 +79,7 @@ fn close_block(buf: &mut [u8], form: ExtensionsForm, elements_len: usize) -> usi
     ensures length { result ≡ 4 + whole_words elements_len }
 {
     let body_len = elements_len.next_multiple_of(4);
-    let len = put_zeros(buf, HEADER_LEN + elements_len, body_len - elements_len);
+    let len = fill_word(buf, HEADER_LEN + elements_len, body_len - elements_len);
     put(buf, 0, &block_header(form, (body_len / 4) as u16));
     len
 }

@@ -1,6 +1,6 @@
 //! From a header to bytes.
 
-ghost use Rattle.std.specs.Prelude.{◌≡◌, ℕ, ◌+◌, ◌-◌, ◌*◌, ◌%◌, ◌^◌, ◌<◌, ◌≤◌, ◌↔◌, ◌++◌, List, length, drop, slice_index, IsNone, IfSome, IfNone};
+ghost use Rattle.std.specs.Prelude.{◌≡◌, ℕ, ◌+◌, ◌-◌, ◌*◌, ◌%◌, ◌^◌, ◌<◌, ◌≤◌, ◌↔◌, ◌++◌, List, length, drop, slice_index, IsTrue, IsNone, IfSome, IfNone};
 ghost use Rattle.std.specs.List.{flat_map};
 ghost use Rattle.std.specs.Int.{w32, to_be_bytes};
 ghost use Rattle.rtp_ext.specs.ExtensionMap.{mapped_count, HasNoIdAbove};
@@ -12,7 +12,7 @@ ghost use Rattle.rtp_base.specs.Overwriting.{overwritten};
 ghost use Rattle.rtp_wire.specs.Written.{fixed_bytes, extension_bytes, wire_bytes, carried_image, image_of, CannotBeWritten};
 
 use super::RtpHeader;
-use super::block::{block_len, write_block};
+use super::block::{block_fits, block_len, write_block};
 use rtp_base::put;
 use rtp_ext::ExtensionMap;
 
@@ -47,17 +47,19 @@ impl RtpHeader {
         ensures timestamp { self.now.timestamp < 2 ^ 32 }
         ensures ssrc { self.now.ssrc < 2 ^ 32 }
     {
+        let sequence_number = self.sequence_number;
         let timestamp = self.timestamp;
-        let [n0, n1] = self.sequence_number.to_be_bytes();
-        let [t0, t1, t2, t3] = timestamp.to_be_bytes();
-        let [s0, s1, s2, s3] = self.ssrc.get().to_be_bytes();
         // The bits lie apart, so the sums are their `|`.
         let first = 0x80
             + flag(self.has_padding, 0x20)
             + flag(has_extension, 0x10)
             + self.csrc_count as u8;
         let second = flag(self.marker, 0x80) + self.payload_type.get();
-        [first, second, n0, n1, t0, t1, t2, t3, s0, s1, s2, s3]
+        let mut bytes = [first, second, 0, 0, 0, 0, 0, 0, 0, 0, 0, 0];
+        put(&mut bytes, 2, &sequence_number.to_be_bytes());
+        put(&mut bytes, 4, &timestamp.to_be_bytes());
+        put(&mut bytes, 8, &self.ssrc.get().to_be_bytes());
+        bytes
     }
 
     // How many bytes the block has that X announces.
@@ -72,6 +74,17 @@ impl RtpHeader {
         } else {
             0
         }
+    }
+
+    // Whether the header has room.
+    fn fits(&self, room: usize, exts: &ExtensionMap) -> bool
+        requires sources { self.now.csrc_count ≤ 15 }
+        ensures { IsTrue result ↔ (length (wire_bytes exts.now self.now) ≤ room) }
+    {
+        let Some(left) = room.checked_sub(12 + 4 * self.csrc_count) else {
+            return false;
+        };
+        !self.has_extension || block_fits(exts, &self.ext_vals, left)
     }
 
     // Puts the block that X announces, and returns the offset after it.
@@ -167,7 +180,7 @@ impl RtpHeader {
         if self.payload_type.get() > 127 || self.csrc_count > 15 {
             return None;
         }
-        if buf.len() < self.wire_len(exts) {
+        if !self.fits(buf.len(), exts) {
             return None;
         }
         Some(self.write_to(buf, exts))

@@ -9,5 +9,5 @@ pub returns-clause-length : goal.returns-clause-length
 returns-clause-length c =
     let n : c.wire_len-elements_len.result ≡ length (elements_bytes (form_of c.args.exts.now c.args.ev.now) (written_elements c.args.exts.now c.args.ev.now)) =
     c.wire_len-elements_len.ensures.length
-    ∙ ap (λ (f : ExtensionsForm). length (elements_bytes f (written_elements c.args.exts.now c.args.ev.now))) c.form.ensures in
+    ∙ ap (λ (f : ExtensionsForm). length (elements_bytes f (written_elements c.args.exts.now c.args.ev.now))) c.form.ensures.form in
     omega (arith, c.next_multiple_of.ensures.value, length-block c.args.exts.now c.args.ev.now c.wire_len-elements_len.result n)

@@ -13,9 +13,9 @@ returns-clause-closed c before row put long len =
     let body = c.next_multiple_of-body_len.result in
     let body-is : body ≡ n + padding_of n = c.next_multiple_of-body_len.ensures.value in
     let pad : body - n ≡ padding_of n = omega (arith, body-is) in
-    block-put row before buf c.put_zeros-len.new.buf c.put.new.buf c.block_header.result c.args.form n c.put_zeros-len.result
+    block-put row before buf c.fill_word-len.new.buf c.put.new.buf c.block_header.result c.args.form n c.fill_word-len.result
     len (omega (arith, c.requires.room, long)) put
-    (c.put_zeros-len.ensures.written ∙ ap (λ (k : ℕ). overwritten buf (4 + n) (replicate k 0)) pad)
-    (omega (arith, c.put_zeros-len.ensures.end, pad))
+    (c.fill_word-len.ensures.written ∙ ap (λ (k : ℕ). overwritten buf (4 + n) (replicate k 0)) pad)
+    (omega (arith, c.fill_word-len.ensures.end, pad))
     (c.block_header.ensures ∙ ap (λ (k : ℕ). to_be_bytes w16 (form_word c.args.form) ++ to_be_bytes w16 (k / 4)) body-is)
     c.put.ensures.written

@@ -20,17 +20,17 @@ room : (exts : ExtensionMap) (ev : ExtensionValues) (form : ExtensionsForm) (buf
 room exts ev form buf is fits = omega (arith, fits, size exts ev form (length (row exts ev form)) is refl)
 
 pub slice_bounds-write_to-count : goal.slice_bounds-write_to-count
-slice_bounds-write_to-count c = omega (arith, room c.args.exts.now c.args.ev.now c.form-form.result c.args.buf.now c.form-form.ensures c.requires)
+slice_bounds-write_to-count c = omega (arith, room c.args.exts.now c.args.ev.now c.form-form.result c.args.buf.now c.form-form.ensures.form c.requires)
 
 pub slice_bounds-write_to-start : goal.slice_bounds-write_to-start
-slice_bounds-write_to-start c = omega (arith, room c.args.exts.now c.args.ev.now c.form-form.result c.args.buf.now c.form-form.ensures c.requires)
+slice_bounds-write_to-start c = omega (arith, room c.args.exts.now c.args.ev.now c.form-form.result c.args.buf.now c.form-form.ensures.form c.requires)
 
 pub write_to-elements_len-requires-clause-room : goal.write_to-elements_len-requires-clause-room
 write_to-elements_len-requires-clause-room c =
     let buf = c.args.buf.now in
     omega (
       arith,
-      room c.args.exts.now c.args.ev.now c.form-form.result buf c.form-form.ensures c.requires,
+      room c.args.exts.now c.args.ev.now c.form-form.result buf c.form-form.ensures.form c.requires,
       ap length (take_rest buf 4),
       length-drop 4 buf,
     )
@@ -39,8 +39,8 @@ pub close_block-requires-clause-room : goal.close_block-requires-clause-room
 close_block-requires-clause-room c =
     let put = row-put (row c.args.exts.now c.args.ev.now c.form-form.result) c.args.buf.now c.write_to-elements_len.new.buf c.write_to-elements_len.result
     c.write_to-elements_len.ensures.length c.write_to-elements_len.ensures.written
-    (room c.args.exts.now c.args.ev.now c.form-form.result c.args.buf.now c.form-form.ensures c.requires) in
-    omega (arith, put.long, c.requires, size c.args.exts.now c.args.ev.now c.form-form.result c.write_to-elements_len.result c.form-form.ensures c.write_to-elements_len.ensures.length)
+    (room c.args.exts.now c.args.ev.now c.form-form.result c.args.buf.now c.form-form.ensures.form c.requires) in
+    omega (arith, put.long, c.requires, size c.args.exts.now c.args.ev.now c.form-form.result c.write_to-elements_len.result c.form-form.ensures.form c.write_to-elements_len.ensures.length)
 
 pub returns-clause-written : goal.returns-clause-written
 returns-clause-written c =
@@ -48,8 +48,8 @@ returns-clause-written c =
     let bytes = row c.args.exts.now c.args.ev.now c.form-form.result in
     let put = row-put bytes buf c.write_to-elements_len.new.buf c.write_to-elements_len.result
     c.write_to-elements_len.ensures.length c.write_to-elements_len.ensures.written
-    (room c.args.exts.now c.args.ev.now c.form-form.result buf c.form-form.ensures c.requires) in
-    block_bytes-closed c.args.exts.now c.args.ev.now c.close_block.new.buf (drop c.close_block.result buf) c.form-form.result c.form-form.ensures
+    (room c.args.exts.now c.args.ev.now c.form-form.result buf c.form-form.ensures.form c.requires) in
+    block_bytes-closed c.args.exts.now c.args.ev.now c.close_block.new.buf (drop c.close_block.result buf) c.form-form.result c.form-form.ensures.form
     (c.close_block.ensures.closed buf bytes put.put put.long c.write_to-elements_len.ensures.length)
 
 pub returns-clause-length : goal.returns-clause-length
@@ -57,13 +57,13 @@ returns-clause-length c =
     omega (
       arith,
       c.close_block.ensures.length,
-      size c.args.exts.now c.args.ev.now c.form-form.result c.write_to-elements_len.result c.form-form.ensures c.write_to-elements_len.ensures.length,
+      size c.args.exts.now c.args.ev.now c.form-form.result c.write_to-elements_len.result c.form-form.ensures.form c.write_to-elements_len.ensures.length,
     )
 
 pub returns-clause-read_back : goal.returns-clause-read_back
 returns-clause-read_back c =
     IsExtensionPart-written c.args.exts.now c.args.ev.now c.write_to-elements_len.result
-    (c.write_to-elements_len.ensures.length ∙ ap (λ (f : ExtensionsForm). length (row c.args.exts.now c.args.ev.now f)) c.form-form.ensures) c.write_to-elements_len.ensures.bound
+    (c.write_to-elements_len.ensures.length ∙ ap (λ (f : ExtensionsForm). length (row c.args.exts.now c.args.ev.now f)) c.form-form.ensures.form) c.write_to-elements_len.ensures.bound
     (subst (λ (f : ExtensionsForm). (zeros : ℕ) → AreElements f (row c.args.exts.now c.args.ev.now f ++ replicate zeros 0) (written_elements c.args.exts.now c.args.ev.now))
-    c.form-form.ensures c.write_to-elements_len.ensures.elements)
+    c.form-form.ensures.form c.write_to-elements_len.ensures.elements)
     c.write_to-elements_len.ensures.values
