@@ -104,6 +104,7 @@ impl RtpHeader {
 }
 
 // Makes every value absent.
+#[inline(always)]
 fn clear(values: &mut ExtensionValues)
     ensures { values.new ≡ no_values }
 {
