@@ -1,10 +1,11 @@
 -- Equality of the values of headers, and of headers.
-use Rattle.std.proofs.Common.{rules, ◌≡◌, refl, ℕ, List, Bool, Option, None, Some, ◌==◌}
+use Rattle.std.proofs.Common.{rules, ◌≡◌, true≢false, refl, sym, ℕ, List, Bool, true, false, Option, None, Some, ◌==◌}
 use Rattle.std.specs.Bool.{Decides}
 use Rattle.std.specs.Option.{option_eq}
 use Rattle.std.specs.Cmp.{unsigned_Decides, signed_Decides, booleans_Decides}
 use Rattle.std.specs.Cmp.Lexicographic.{pointwise}
-use Rattle.std.proofs.lemmas.Bool.Decides.{Decides-and, Decides-like}
+use Rattle.std.specs.Prelude.{◌&&◌}
+use Rattle.std.proofs.lemmas.Bool.Decides.{Decides-like}
 use Rattle.std.proofs.lemmas.Slice.Eq.{slice_eq-Decides}
 use Rattle.rtp_base.specs.MediaTime.{Fraction, fraction_eq}
 use Rattle.rtp_base.specs.contracts.id.mid.MidPartialEq.TheImpl as mid_eq
@@ -56,44 +57,78 @@ rids a b = search rules
 sources : (a b : List ℕ) → Decides (pointwise (λ x y. x == y) a b) (a ≡ b)
 sources a b = slice_eq-Decides unsigned_Decides a b _ refl
 
--- of all values
+-- a fact of several fields, which a test decides field by field: P is what it says of the first one, and where that holds the other tests decide it
+module _ {P Q : Type 0} where
+  first : {x y : Bool} → (Q → P) → Decides x P → (P → Decides y Q) → Decides (x && y) Q
+  first {x = true} part one others = others (one.0 refl)
+  first {x = false} part one others = (λ is. absurd (true≢false (sym is)), λ all. one.1 (part all))
+
+  -- and P is what it says of the last one
+  last : {x : Bool} → (Q → P) → Decides x P → (P → Q) → Decides x Q
+  last {x} part one whole = Decides-like x whole part one
+
+-- of all values: a line for each field, in the order of the fields, and then its name
 pub values : (a b : HeaderValues) → Decides ((values_eq.ghosts).eq a b) (AreSameValues a b)
 values a b =
-    Decides-like _
-    (λ d. record { audio_level = d.0; voice_activity = d.1.0; video_orientation = d.1.1.0; video_content_type = d.1.1.1.0; tx_time_offs = d.1.1.1.1.0; abs_send_time = d.1.1.1.1.1.0; abs_capture_time = d.1.1.1.1.1.1.0; transport_cc = d.1.1.1.1.1.1.1.0; play_delay_min = d.1.1.1.1.1.1.1.1.0; play_delay_max = d.1.1.1.1.1.1.1.1.1.0; video_timing = d.1.1.1.1.1.1.1.1.1.1.0; rid = d.1.1.1.1.1.1.1.1.1.1.1.0; rid_repair = d.1.1.1.1.1.1.1.1.1.1.1.1.0; mid = d.1.1.1.1.1.1.1.1.1.1.1.1.1.0; frame_mark = d.1.1.1.1.1.1.1.1.1.1.1.1.1.1.0; video_layers_allocation = d.1.1.1.1.1.1.1.1.1.1.1.1.1.1.1 })
-    (λ same. (same.audio_level, (same.voice_activity, (same.video_orientation, (same.video_content_type, (same.tx_time_offs, (same.abs_send_time, (same.abs_capture_time, (same.transport_cc, (same.play_delay_min, (same.play_delay_max, (same.video_timing, (same.rid, (same.rid_repair, (same.mid, (same.frame_mark, same.video_layers_allocation))))))))))))))))
-    (Decides-and _ _ (options signed_Decides a.audio_level b.audio_level)
-    (Decides-and _ _ (options booleans_Decides a.voice_activity b.voice_activity)
-    (Decides-and _ _ (options orientations a.video_orientation b.video_orientation)
-    (Decides-and _ _ (options unsigned_Decides a.video_content_type b.video_content_type)
-    (Decides-and _ _ (options unsigned_Decides a.tx_time_offs b.tx_time_offs)
-    (Decides-and _ _ (options unsigned_Decides a.abs_send_time b.abs_send_time)
-    (Decides-and _ _ (options capture_times a.abs_capture_time b.abs_capture_time)
-    (Decides-and _ _ (options unsigned_Decides a.transport_cc b.transport_cc)
-    (Decides-and _ _ (times a.play_delay_min b.play_delay_min)
-    (Decides-and _ _ (times a.play_delay_max b.play_delay_max)
-    (Decides-and _ _ (options timings a.video_timing b.video_timing)
-    (Decides-and _ _ (options rids a.rid b.rid)
-    (Decides-and _ _ (options rids a.rid_repair b.rid_repair)
-    (Decides-and _ _ (options mids a.mid b.mid)
-    (Decides-and _ _ (options unsigned_Decides a.frame_mark b.frame_mark)
-    (options same_allocation-decides a.video_layers_allocation b.video_layers_allocation))))))))))))))))
+    first (λ all. all.audio_level) (options signed_Decides a.audio_level b.audio_level) λ audio_level.
+    first (λ all. all.voice_activity) (options booleans_Decides a.voice_activity b.voice_activity) λ voice_activity.
+    first (λ all. all.video_orientation) (options orientations a.video_orientation b.video_orientation) λ video_orientation.
+    first (λ all. all.video_content_type) (options unsigned_Decides a.video_content_type b.video_content_type) λ video_content_type.
+    first (λ all. all.tx_time_offs) (options unsigned_Decides a.tx_time_offs b.tx_time_offs) λ tx_time_offs.
+    first (λ all. all.abs_send_time) (options unsigned_Decides a.abs_send_time b.abs_send_time) λ abs_send_time.
+    first (λ all. all.abs_capture_time) (options capture_times a.abs_capture_time b.abs_capture_time) λ abs_capture_time.
+    first (λ all. all.transport_cc) (options unsigned_Decides a.transport_cc b.transport_cc) λ transport_cc.
+    first (λ all. all.play_delay_min) (times a.play_delay_min b.play_delay_min) λ play_delay_min.
+    first (λ all. all.play_delay_max) (times a.play_delay_max b.play_delay_max) λ play_delay_max.
+    first (λ all. all.video_timing) (options timings a.video_timing b.video_timing) λ video_timing.
+    first (λ all. all.rid) (options rids a.rid b.rid) λ rid.
+    first (λ all. all.rid_repair) (options rids a.rid_repair b.rid_repair) λ rid_repair.
+    first (λ all. all.mid) (options mids a.mid b.mid) λ mid.
+    first (λ all. all.frame_mark) (options unsigned_Decides a.frame_mark b.frame_mark) λ frame_mark.
+    last (λ all. all.video_layers_allocation) (options same_allocation-decides a.video_layers_allocation b.video_layers_allocation) λ video_layers_allocation. record {
+      audio_level = audio_level;
+      voice_activity = voice_activity;
+      video_orientation = video_orientation;
+      video_content_type = video_content_type;
+      tx_time_offs = tx_time_offs;
+      abs_send_time = abs_send_time;
+      abs_capture_time = abs_capture_time;
+      transport_cc = transport_cc;
+      play_delay_min = play_delay_min;
+      play_delay_max = play_delay_max;
+      video_timing = video_timing;
+      rid = rid;
+      rid_repair = rid_repair;
+      mid = mid;
+      frame_mark = frame_mark;
+      video_layers_allocation = video_layers_allocation;
+    }
 
 -- of headers
 pub headers : (a b : RtpHeader) → Decides ((header_eq.ghosts).eq a b) (AreSameHeaders a b)
 headers a b =
-    Decides-like _
-    (λ d. record { version = d.0; has_padding = d.1.0; has_extension = d.1.1.0; csrc_count = d.1.1.1.0; marker = d.1.1.1.1.0; payload_type = d.1.1.1.1.1.0; sequence_number = d.1.1.1.1.1.1.0; timestamp = d.1.1.1.1.1.1.1.0; ssrc = d.1.1.1.1.1.1.1.1.0; csrc = d.1.1.1.1.1.1.1.1.1.0; ext_vals = d.1.1.1.1.1.1.1.1.1.1.0; header_len = d.1.1.1.1.1.1.1.1.1.1.1 })
-    (λ same. (same.version, (same.has_padding, (same.has_extension, (same.csrc_count, (same.marker, (same.payload_type, (same.sequence_number, (same.timestamp, (same.ssrc, (same.csrc, (same.ext_vals, same.header_len))))))))))))
-    (Decides-and _ _ (unsigned_Decides a.version b.version)
-    (Decides-and _ _ (booleans_Decides a.has_padding b.has_padding)
-    (Decides-and _ _ (booleans_Decides a.has_extension b.has_extension)
-    (Decides-and _ _ (unsigned_Decides a.csrc_count b.csrc_count)
-    (Decides-and _ _ (booleans_Decides a.marker b.marker)
-    (Decides-and _ _ (unsigned_Decides a.payload_type b.payload_type)
-    (Decides-and _ _ (unsigned_Decides a.sequence_number b.sequence_number)
-    (Decides-and _ _ (unsigned_Decides a.timestamp b.timestamp)
-    (Decides-and _ _ (unsigned_Decides a.ssrc b.ssrc)
-    (Decides-and _ _ (sources a.csrc b.csrc)
-    (Decides-and _ _ (values a.ext_vals b.ext_vals)
-    (unsigned_Decides a.header_len b.header_len))))))))))))
+    first (λ all. all.version) (unsigned_Decides a.version b.version) λ version.
+    first (λ all. all.has_padding) (booleans_Decides a.has_padding b.has_padding) λ has_padding.
+    first (λ all. all.has_extension) (booleans_Decides a.has_extension b.has_extension) λ has_extension.
+    first (λ all. all.csrc_count) (unsigned_Decides a.csrc_count b.csrc_count) λ csrc_count.
+    first (λ all. all.marker) (booleans_Decides a.marker b.marker) λ marker.
+    first (λ all. all.payload_type) (unsigned_Decides a.payload_type b.payload_type) λ payload_type.
+    first (λ all. all.sequence_number) (unsigned_Decides a.sequence_number b.sequence_number) λ sequence_number.
+    first (λ all. all.timestamp) (unsigned_Decides a.timestamp b.timestamp) λ timestamp.
+    first (λ all. all.ssrc) (unsigned_Decides a.ssrc b.ssrc) λ ssrc.
+    first (λ all. all.csrc) (sources a.csrc b.csrc) λ csrc.
+    first (λ all. all.ext_vals) (values a.ext_vals b.ext_vals) λ ext_vals.
+    last (λ all. all.header_len) (unsigned_Decides a.header_len b.header_len) λ header_len. record {
+      version = version;
+      has_padding = has_padding;
+      has_extension = has_extension;
+      csrc_count = csrc_count;
+      marker = marker;
+      payload_type = payload_type;
+      sequence_number = sequence_number;
+      timestamp = timestamp;
+      ssrc = ssrc;
+      csrc = csrc;
+      ext_vals = ext_vals;
+      header_len = header_len;
+    }
