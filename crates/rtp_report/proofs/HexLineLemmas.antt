@@ -15,7 +15,8 @@ passes c digit = grind (arith, common_steps)
 is_digit : (c : ℕ) → is_hex_digit c ≡ true → IsAsciiHexdigit c
 is_digit c pass = grind (arith, common_steps)
 
-value : (r : Result (List ℕ) FromHexError) → IsOk r → (bytes : List ℕ) × (r ≡ Ok bytes)
+-- the bytes of a line that decodes
+pub value : (r : Result (List ℕ) FromHexError) → IsOk r → (bytes : List ℕ) × (r ≡ Ok bytes)
 value (Ok bytes) ok = (bytes, refl)
 value (Err e) ok = cc ok
 

@@ -1,6 +1,6 @@
 //! The lines that are datagrams in hexadecimal.
 
-ghost use Rattle.std.specs.Prelude.{◌≡◌, ◌↔◌, List, ℕ, All, IfOk, IfSome, IsErr, IsOk, IsSomeAnd, IsTrue};
+ghost use Rattle.std.specs.Prelude.{◌≡◌, ◌↔◌, List, ℕ, All, IfOk, IfSome, IsErr, IsOk, IsSomeAnd, IsTrue, OnOk};
 ghost use Rattle.std.specs.Char.{IsAsciiHexdigit};
 ghost use Rattle.hex.specs.Hex.{decode_of};
 
@@ -14,8 +14,8 @@ fn are_hex_digits(line: &[u8]) -> bool
     line.iter().all(|byte| byte.is_ascii_hexdigit())
 }
 
-// Whether the line is hexadecimal: an even number of digits.
-fn is_hex(line: &[u8]) -> bool
+/// Whether the line is hexadecimal: an even number of digits.
+pub(super) fn is_hex(line: &[u8]) -> bool
     ensures { IsTrue result ↔ IsOk (decode_of line.now) }
 {
     line.len() % 2 == 0 && are_hex_digits(line)
@@ -36,5 +36,20 @@ pub fn datagram(alloc: Global, line: &[u8]) -> Result<Option<Vec<u8>>, AllocErro
         Ok(bytes) => Ok(Some(bytes)),
         Err(FromHexError::OutOfMemory) if is_hex(line) => Err(AllocError),
         Err(_) => Ok(None),
+    }
+}
+
+/// Puts the bytes of a line of hexadecimal into the buffer, in place of what it held.
+///
+/// Returns `AllocError` only when memory for a longer buffer is refused. Requires that the line is
+/// hexadecimal.
+pub(super) fn decode_into(line: &[u8], bytes: &mut Vec<u8>) -> Result<(), AllocError>
+    requires { IsOk (decode_of line.now) }
+    ensures { OnOk result (decode_of line.now ≡ Ok bytes.new.items) }
+{
+    bytes.resize(line.len() / 2, 0)?;
+    match hex::decode_to_slice(line, bytes.as_mut_slice()) {
+        Ok(()) => Ok(()),
+        Err(_) => unreachable!(),
     }
 }
