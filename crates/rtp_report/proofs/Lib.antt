@@ -5,4 +5,5 @@ mod InputLemmas
 mod FrontLemmas
 mod ReadLemmas
 mod PrintLemmas
+mod PrintingLemmas
 mod RunLemmas

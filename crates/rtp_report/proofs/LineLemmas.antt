@@ -1,9 +1,9 @@
 -- The first line of a text, and the lines after it.
-use Rattle.std.proofs.Common.{◌≡◌, ℕ, ◌+◌, ◌<◌, Bool, false, eqb, List, [], ◌∷◌, ◌++◌, length, take, drop, get_or, refl, sym, ap, ◌∙◌, arith}
+use Rattle.std.proofs.Common.{◌≡◌, ℕ, ◌+◌, ◌-◌, ◌<◌, ◌≤◌, Bool, false, inl, inr, eqb, List, [], ◌∷◌, ◌++◌, length, take, drop, get_or, refl, sym, ap, ◌∙◌, arith}
 use Rattle.std.specs.List.{slice_split, All}
 use Rattle.std.specs.Str.Lines.{lines, lines_of_parts, strip_carriage_return}
-use Rattle.std.proofs.lemmas.Bool.{ne_eqb}
-use Rattle.std.proofs.lemmas.List.{take-append-drop, drop_more, get_or-take, length-take-le}
+use Rattle.std.proofs.lemmas.Bool.{ne_eqb, cases_lt}
+use Rattle.std.proofs.lemmas.List.{take-append-drop, drop_more, get_or-take, get_or-drop, length-take-le}
 use Rattle.std.proofs.lemmas.List.Elements.{All-from_get_or}
 use Rattle.std.proofs.lemmas.List.Splits.{slice_split_none, slice_split_at, length-slice_split}
 
@@ -35,3 +35,17 @@ lines-last text some none =
     let whole : slice_split is_feed text ≡ text ∷ [] =
     slice_split_none is_feed text (All-from_get_or (λ b. is_feed b ≡ false) text 0 (λ i below. ne_eqb _ 10 (none i below))) in
     ap lines_of_parts whole ∙ rw (ne_eqb (length text) 0 (λ e. absurd (omega arith))) refl
+
+-- a byte that isn't in a front, nor in what follows, isn't in both
+pub none_before : (text : List ℕ) (byte front n : ℕ) → ((k : ℕ) → k < front → get_or text k 0 ≡ byte → ⊥) → ((k : ℕ) → k < n → get_or (drop front text) k 0 ≡ byte → ⊥)
+    → (k : ℕ) → k < front + n → get_or text k 0 ≡ byte → ⊥
+none_before text byte front n before after k below is =
+    elim (cases_lt k front) [
+      | inl here ↦ before k here is
+      | inr there ↦ after (k - front) (omega arith) (get_or-drop front text (k - front) 0 ∙ ap (λ (j : ℕ). get_or text j 0) (omega arith) ∙ is)
+    ]
+
+pub none_in_chunk : (text : List ℕ) (byte front n : ℕ) → n ≤ length (drop front text) → ((k : ℕ) → k < length (take n (drop front text)) → get_or (take n (drop front text)) k 0 ≡ byte → ⊥)
+    → (k : ℕ) → k < n → get_or (drop front text) k 0 ≡ byte → ⊥
+none_in_chunk text byte front n fits none k below is =
+    none k (omega (arith, length-take-le n (drop front text) fits)) (get_or-take n (drop front text) k 0 below ∙ is)

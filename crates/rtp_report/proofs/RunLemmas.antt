@@ -1,13 +1,13 @@
 -- What a run prints, put together.
 use Rattle.std.proofs.Common.{◌≡◌, ℕ, List, [], ◌++◌, Option, Some, None, Result, Ok, Err, refl, sym, append_assoc, ap, ◌∙◌, codes}
-use Rattle.std.specs.Prelude.{IfSome, IfErr}
+use Rattle.std.specs.Prelude.{IfSome, IfErr, OnOk}
 use Rattle.std.specs.Io.KnownBytes.{Appends}
 use Rattle.std.proofs.KnownBytes.{Appends-nil, Appends-trans}
 use Rattle.rtp_ext.specs.declared.ext.map.ExtensionMap.{ExtensionMap}
 use Rattle.rtp_report.specs.declared.program.RunEnd.{RunEnd}
 use Rattle.rtp_report.specs.declared.program.RunEnd.TheVariants.{Done, BadLine, NoMemory, Io}
 use Rattle.rtp_report.specs.Input.{Spells, IsInput, HasBadLine}
-use Rattle.rtp_report.specs.Output.{IsOutputOf, IsBadLineOf, IsFrontOf, nothing, some, IsWantOf, IsBeginningOf, of_lines, of_want, Prints}
+use Rattle.rtp_report.specs.Output.{IsReport, IsOutputOf, IsBadLineOf, IsFrontOf, nothing, some, IsWantOf, IsBeginningOf, of_lines, of_want, Prints}
 use Rattle.rtp_report.specs.Stopping.{IsPartialReport, IsLeft}
 
 -- what follows from a fact on an error, and from one on a known input
@@ -29,6 +29,13 @@ Prints-none text old = ([], Appends-nil old, nothing refl)
 
 pub Prints-unread : (text : List ℕ) (old : Option (List ℕ)) → Prints old old (IsLeft text Io)
 Prints-unread text old = ([], Appends-nil old, of_lines [] (nothing refl))
+
+-- where the lines of all datagrams are printed, the output is
+pub IsOutputOf-reported : {A : Type 0} (r : Result A RunEnd) (text : List ℕ) (exts : ExtensionMap) (datagrams : List (List ℕ)) (old new : Option (List ℕ)) → Spells text exts datagrams
+    → OnOk r (Prints old new (IsReport exts datagrams)) → OnOk r (Prints old new (IsOutputOf text))
+IsOutputOf-reported (Ok x) text exts datagrams old new spells (printed, appends, report) =
+    (printed, appends, record { exts = exts; datagrams = datagrams; spelled = spells; report = report })
+IsOutputOf-reported (Err end) text exts datagrams old new spells is = tt
 
 -- where the lines of the datagrams stop, the output stops
 pub IsLeft-stopped : (text : List ℕ) (exts : ExtensionMap) (datagrams : List (List ℕ)) (old new : Option (List ℕ)) → Spells text exts datagrams

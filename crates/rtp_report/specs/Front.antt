@@ -27,6 +27,10 @@ pub record IsFront (text : List ℕ) (exts : Slots) (count : ℕ) (rest : List �
   pub count_is : count ≡ length maps
   pub fits : count + length rest ≤ length text
 
+-- the lines of the text are hexadecimal of some datagrams
+abbrev pub IsHexText : List ℕ → Type 0
+IsHexText text = (datagrams : List (List ℕ)) × AreHex (lines text) datagrams
+
 -- the first line that is not hexadecimal has this number, where the lines are counted from start + 1
 pub record IsFirstNotHex (all : List (List ℕ)) (start number : ℕ) : Type 0 where
   pub before : List (List ℕ)

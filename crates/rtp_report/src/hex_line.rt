@@ -1,21 +1,47 @@
 //! The lines that are datagrams in hexadecimal.
 
-ghost use Rattle.std.specs.Prelude.{◌≡◌, ◌↔◌, List, ℕ, All, IfOk, IfSome, IsErr, IsOk, IsSomeAnd, IsTrue};
+ghost use Rattle.std.specs.Prelude.{◌≡◌, ◌↔◌, ◌*◌, ◌<◌, List, ℕ, length, All, IfOk, IfSome, IsErr, IsOk, IsSomeAnd, IsTrue, OnOk};
 ghost use Rattle.std.specs.Char.{IsAsciiHexdigit};
-ghost use Rattle.hex.specs.Hex.{decode_of};
+ghost use Rattle.hex.specs.Hex.{decode_of, hex_digit_value};
 
 use hex::FromHexError;
 use std::alloc::{AllocError, Global};
 
-// Whether each byte is a hexadecimal digit of either case.
+// Whether each byte is a hexadecimal digit of either case. No byte ends the loop early, so that many
+// are tested at once.
 fn are_hex_digits(line: &[u8]) -> bool
     ensures { IsTrue result ↔ All IsAsciiHexdigit line.now }
 {
-    line.iter().all(|byte| byte.is_ascii_hexdigit())
+    let mut all = true;
+    for byte in line {
+        all &= byte.is_ascii_hexdigit();
+    }
+    all
 }
 
-// Whether the line is hexadecimal: an even number of digits.
-fn is_hex(line: &[u8]) -> bool
+// The value of a hexadecimal digit: the low four bits of `0` to `9` are its value, and those of the
+// letters of either case count from 1. Requires such a digit.
+fn value_of(digit: u8) -> u8
+    requires { IsAsciiHexdigit digit }
+    ensures value { hex_digit_value digit ≡ Some result }
+    ensures small { result < 16 }
+{
+    digit % 16 + digit / 64 * 9
+}
+
+// Writes the bytes of the digits, two digits a byte. Requires digits, twice as many as bytes.
+fn write_bytes(digits: &[u8], bytes: &mut [u8])
+    requires digits { All IsAsciiHexdigit digits.now }
+    requires room { length digits.now ≡ 2 * length bytes.old }
+    ensures { decode_of digits.now ≡ Ok bytes.new }
+{
+    'bytes: for i in 0..bytes.len() {
+        bytes[i] = value_of(digits[2 * i]) * 16 + value_of(digits[2 * i + 1]);
+    }
+}
+
+/// Whether the line is hexadecimal: an even number of digits.
+pub(super) fn is_hex(line: &[u8]) -> bool
     ensures { IsTrue result ↔ IsOk (decode_of line.now) }
 {
     line.len() % 2 == 0 && are_hex_digits(line)
@@ -37,4 +63,17 @@ pub fn datagram(alloc: Global, line: &[u8]) -> Result<Option<Vec<u8>>, AllocErro
         Err(FromHexError::OutOfMemory) if is_hex(line) => Err(AllocError),
         Err(_) => Ok(None),
     }
+}
+
+/// Puts the bytes of a line of hexadecimal into the buffer, in place of what it held.
+///
+/// Returns `AllocError` only when memory for a longer buffer is refused. Requires that the line is
+/// hexadecimal.
+pub(super) fn decode_into(line: &[u8], bytes: &mut Vec<u8>) -> Result<(), AllocError>
+    requires { IsOk (decode_of line.now) }
+    ensures { OnOk result (decode_of line.now ≡ Ok bytes.new.items) }
+{
+    bytes.resize(line.len() / 2, 0)?;
+    write_bytes(line, bytes.as_mut_slice());
+    Ok(())
 }

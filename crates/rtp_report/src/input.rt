@@ -1,25 +1,25 @@
 //! What the input says: the extension map, and the datagrams.
 
-ghost use Rattle.std.specs.Prelude.{◌≡◌, ◌+◌, ◌<◌, ◌^◌, ℕ, length, map, IfOk, IfErr, IfSome, IfNone, IsErr};
+ghost use Rattle.std.specs.Prelude.{◌≡◌, ◌+◌, ◌<◌, ◌^◌, ℕ, List, length, IfOk, IfErr, IfSome, IfNone};
 ghost use Rattle.std.specs.Str.Lines.{lines};
-ghost use Rattle.hex.specs.Hex.{decode_of};
 ghost use Rattle.rtp_report.specs.declared.input.InputError.TheVariants.{NoMemory};
 ghost use Rattle.rtp_report.specs.Input.{AreHex, Spells, IsFirstBadLine};
-ghost use Rattle.rtp_report.specs.Front.{MapsFirst, MapsNoneFirst, IsFront, IsFirstNotHex};
+ghost use Rattle.rtp_report.specs.Front.{MapsFirst, MapsNoneFirst, IsFront, IsFirstNotHex, IsHexText};
 
-use super::hex_line::datagram;
+use super::hex_line::is_hex;
 use super::line::first_line;
 use super::map_line::map_line;
 use rtp_wire::{Extension, ExtensionMap};
-use std::alloc::{AllocError, AllocFailed, Global};
+use std::alloc::{AllocError, Global};
 
 /// What the lines of the input say.
 #[derive(Drop)]
-pub struct Input {
+pub struct Input<'a> {
     /// The extension that each id is mapped to.
     pub exts: ExtensionMap,
-    /// The datagrams, in the order of their lines.
-    pub datagrams: Vec<Vec<u8>>,
+    /// The lines after the map lines: the datagrams in hexadecimal, one a line, as
+    /// [`datagram`](super::datagram) reads them.
+    pub datagrams: &'a [u8],
 }
 
 /// Why the input could not be read.
@@ -36,14 +36,6 @@ impl From<AllocError> for InputError {
     ghost from_gives = { λ _ error. error ≡ NoMemory };
 
     fn from(_: AllocError) -> Self {
-        InputError::NoMemory
-    }
-}
-
-impl<T: Drop> From<AllocFailed<T>> for InputError {
-    ghost from_gives = { λ _ error. error ≡ NoMemory };
-
-    fn from(_: AllocFailed<T>) -> Self {
         InputError::NoMemory
     }
 }
@@ -77,55 +69,49 @@ fn map_lines(alloc: Global, text: &[u8]) -> Result<(ExtensionMap, u64, &[u8]), A
     Ok((exts, count, rest))
 }
 
-// The datagram of the line with this number.
-fn datagram_of(alloc: Global, line: &[u8], number: u64) -> Result<Vec<u8>, InputError>
-    ensures spelled { IfOk result (λ bytes. decode_of line.now ≡ Ok bytes.items) }
-    ensures bad_line { IfErr result (λ error. (n : ℕ) → error ≡ InputError.BadLine n →
-        (n ≡ number) × IsErr (decode_of line.now)) }
-{
-    match datagram(alloc, line)? {
-        Some(bytes) => Ok(bytes),
-        None => Err(InputError::BadLine(number)),
-    }
-}
-
-// The datagrams of the lines, in order. `lines_before` is the number of lines before the text.
-fn datagrams(alloc: Global, text: &[u8], lines_before: u64) -> Result<Vec<Vec<u8>>, InputError>
+// The number of the first line that is not hexadecimal. `lines_before` is the number of lines before
+// the text.
+fn first_not_hex(text: &[u8], lines_before: u64) -> Option<u64>
     requires { lines_before + length text.now < 2 ^ 64 }
-    ensures spelled { IfOk result (λ found. AreHex (lines text.now) (map (λ v. v.items) found.items)) }
-    ensures bad_line { IfErr result (λ error. (n : ℕ) → error ≡ InputError.BadLine n →
-        IsFirstNotHex (lines text.now) lines_before n) }
+    ensures found { IfSome result (IsFirstNotHex (lines text.now) lines_before) }
+    ensures none { IfNone result (IsHexText text.now) }
 {
-    let mut datagrams = Vec::new(alloc);
     let mut rest = text;
     let mut number = lines_before;
     while !rest.is_empty() {
         let (line, after) = first_line(rest);
         number += 1;
-        let bytes = datagram_of(alloc, line, number)?;
-        datagrams.push(bytes)?;
+        if !is_hex(line) {
+            return Some(number);
+        }
         rest = after;
     }
-    Ok(datagrams)
+    None
 }
 
-/// Reads the map lines at the front and then the datagrams. Without any map line the map is the
-/// standard one.
+/// Reads the map lines at the front, and finds the lines of datagrams after them. Without any map
+/// line the map is the standard one.
 ///
-/// Returns `BadLine` with the first line that is neither, and `NoMemory` only when memory is refused.
-/// A line is read only after all lines before it.
-pub fn read_input(alloc: Global, text: &[u8]) -> Result<Input, InputError>
-    ensures spelled { IfOk result (λ input.
-        Spells text.now input.exts (map (λ v. v.items) input.datagrams.items)) }
+/// Returns `BadLine` with the first line that is neither, and `NoMemory` only when memory for the map
+/// is refused: the lines of datagrams take none.
+pub fn read_input(alloc: Global, text: &[u8]) -> Result<Input<'_>, InputError>
+    // What the lines of datagrams decode to is what the text says.
+    ensures spelled { IfOk result (λ input. (datagrams : List (List ℕ)) ×
+        AreHex (lines input.datagrams.now) datagrams × Spells text.now input.exts datagrams) }
     ensures bad_line { IfErr result (λ error. (n : ℕ) → error ≡ InputError.BadLine n →
         IsFirstBadLine text.now n) }
 {
     let (exts, count, rest) = map_lines(alloc, text)?;
-    let datagrams = datagrams(alloc, rest, count)?;
+    if let Some(number) = first_not_hex(rest, count) {
+        return Err(InputError::BadLine(number));
+    }
     let exts = if count == 0 {
         ExtensionMap::standard()
     } else {
         exts
     };
-    Ok(Input { exts, datagrams })
+    Ok(Input {
+        exts,
+        datagrams: rest,
+    })
 }

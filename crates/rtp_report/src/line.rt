@@ -1,6 +1,6 @@
 //! The lines of a text.
 
-ghost use Rattle.std.specs.Prelude.{◌≡◌, ◌<◌, ◌∷◌, ◌≢◌, ℕ, length, slice_index, IfSome, IfNone};
+ghost use Rattle.std.specs.Prelude.{◌≡◌, ◌<◌, ◌≤◌, ◌∷◌, ◌≢◌, ℕ, length, slice_index, false, IfSome, IfNone};
 ghost use Rattle.std.specs.Str.Lines.{lines, strip_carriage_return};
 
 // The line without the one CR that ends it, if any.
@@ -13,13 +13,55 @@ fn without_return(line: &[u8]) -> &[u8]
     }
 }
 
+// How many bytes are tested at once.
+const TESTED_AT_ONCE: usize = 16;
+
+// Whether one of the bytes has this value. None ends the loop early, so that many are tested at once.
+fn has(bytes: &[u8], value: u8) -> bool
+    ensures { result ≡ false → (k : ℕ) → k < length bytes.now → slice_index bytes.now k ≢ value }
+{
+    let mut found = false;
+    for byte in bytes {
+        found |= *byte == value;
+    }
+    found
+}
+
+// The length of a front that this byte isn't in.
+fn front_without(text: &[u8], byte: u8) -> usize
+    ensures within { result ≤ length text.now }
+    ensures without { (k : ℕ) → k < result → slice_index text.now k ≢ byte }
+{
+    let mut len = 0;
+    while text.len() - len >= TESTED_AT_ONCE {
+        if has(&text[len..len + TESTED_AT_ONCE], byte) {
+            return len;
+        }
+        len += TESTED_AT_ONCE;
+    }
+    len
+}
+
+// The index of the first byte of this value, tested one by one.
+fn first_of(text: &[u8], byte: u8) -> Option<usize>
+    ensures found { IfSome result (λ at. (at < length text.now) × (slice_index text.now at ≡ byte)
+        × ((k : ℕ) → k < at → slice_index text.now k ≢ byte)) }
+    ensures none { IfNone result ((k : ℕ) → k < length text.now → slice_index text.now k ≢ byte) }
+{
+    text.iter().position(|candidate| *candidate == byte)
+}
+
 /// The index of the first byte of this value, `None` when there is none.
 pub(super) fn position_of(text: &[u8], byte: u8) -> Option<usize>
     ensures found { IfSome result (λ at. (at < length text.now) × (slice_index text.now at ≡ byte)
         × ((k : ℕ) → k < at → slice_index text.now k ≢ byte)) }
     ensures none { IfNone result ((k : ℕ) → k < length text.now → slice_index text.now k ≢ byte) }
 {
-    text.iter().position(|candidate| *candidate == byte)
+    let front = front_without(text, byte);
+    match first_of(&text[front..], byte) {
+        Some(at) => Some(front + at),
+        None => None,
+    }
 }
 
 /// The first line without its LF or CR LF, and the text after it. Requires that the text is not empty.

@@ -1,16 +1,22 @@
 //! The two lines of each datagram, written to the output.
 
-ghost use Rattle.std.specs.Prelude.{◌≡◌, ◌++◌, ℕ, [], map, string_bytes, IfOk, IfErr, OnOk, OnErr};
+ghost use Rattle.std.specs.Prelude.{◌≡◌, ◌++◌, List, ℕ, [], string_bytes, IsOk, IfOk, IfErr, OnOk, OnErr};
+ghost use Rattle.std.specs.Str.Lines.{lines};
+ghost use Rattle.hex.specs.Hex.{decode_of};
 ghost use Rattle.std.specs.Option.{option_map, option_copied};
 ghost use Rattle.rtp_base.specs.Window.{Numbers};
 ghost use Rattle.rtp_wire.specs.Verdicts.{IsPacketId, IsVerdict};
 ghost use Rattle.rtp_wire.specs.Sending.{packet_id_of};
 ghost use Rattle.rtp_wire.specs.Sources.{numbers_beside};
 ghost use Rattle.rtp_wire.specs.EachSource.{HoldsEach, taken_after_each};
+ghost use Rattle.rtp_report.specs.Input.{AreHex};
+ghost use Rattle.rtp_report.specs.Front.{IsHexText};
 ghost use Rattle.rtp_report.specs.Output.{IsHeader, packet_lines, IsReport, Prints};
 ghost use Rattle.rtp_report.specs.Stopping.{IsPartialReport};
 
+use super::hex_line::decode_into;
 use super::input::Input;
+use super::line::first_line;
 use super::output::write_text;
 use super::program::RunEnd;
 use super::report::{HeaderLine, VerdictLine};
@@ -21,16 +27,21 @@ use std::io::Write;
 // How many bytes are gathered before they are written.
 const WRITTEN_AT_ONCE: usize = 8192;
 
-// The header that the datagram begins with, if it begins with one, and the verdict on it.
+// The header that the datagram of this line begins with, if it begins with one, and the verdict on
+// it. The datagram is put into the buffer, in place of what that held. Requires that the line is
+// hexadecimal.
 fn judged(
     alloc: Global,
-    datagram: &[u8],
+    line: &[u8],
+    datagram: &mut Vec<u8>,
     exts: &ExtensionMap,
     receivers: &mut Receivers,
 ) -> Result<(Option<RtpHeader>, Verdict), AllocError>
-    ensures header { IfOk result (λ report. IsHeader exts.now datagram.now report.0) }
-    ensures packet_id { IfOk result (λ report.
-        IsPacketId datagram.now (option_map packet_id_of report.0)) }
+    requires { IsOk (decode_of line.now) }
+    ensures header { (bytes : List ℕ) → decode_of line.now ≡ Ok bytes →
+        IfOk result (λ report. IsHeader exts.now bytes report.0) }
+    ensures packet_id { (bytes : List ℕ) → decode_of line.now ≡ Ok bytes →
+        IfOk result (λ report. IsPacketId bytes (option_map packet_id_of report.0)) }
     ensures verdict { (taken : ℕ → Numbers) → HoldsEach receivers.old 0 taken →
         IfOk result (λ report. IsVerdict 0
         (numbers_beside taken (option_map packet_id_of report.0)) (option_map packet_id_of report.0) report.1) }
@@ -38,6 +49,7 @@ fn judged(
         IfOk result (λ report. HoldsEach receivers.new 0
         (taken_after_each taken (option_map packet_id_of report.0) report.1)) }
 {
+    decode_into(line, datagram)?;
     let header = RtpHeader::parse(alloc, datagram, exts)?;
     let verdict = match &header {
         Some(header) => receivers.receive(header.ssrc, header.sequence_number)?,
@@ -68,35 +80,45 @@ fn push_lines(
 }
 
 /// Prints the two lines of each datagram in order: its RTP header, and the verdict of the receiver of
-/// its SSRC.
+/// its SSRC. Requires that the lines of the datagrams are hexadecimal.
 ///
 /// Returns `NoMemory` when memory is refused, with the lines of the first datagrams printed, and `Io`
 /// when a write fails, with a beginning of the lines printed.
 pub(super) fn print_all<W: Write>(
     alloc: Global,
-    input: &Input,
+    input: &Input<'_>,
     output: &mut W,
 ) -> Result<(), RunEnd>
-    ensures ok { OnOk result (Prints (W.contents output.old) (W.contents output.new)
-        (IsReport input.now.exts (map (λ v. v.items) input.now.datagrams.items))) }
-    ensures err { IfErr result (λ end. Prints (W.contents output.old) (W.contents output.new)
-        (IsPartialReport input.now.exts (map (λ v. v.items) input.now.datagrams.items) end)) }
+    requires { IsHexText input.now.datagrams.now }
+    ensures ok { (datagrams : List (List ℕ)) → AreHex (lines input.now.datagrams.now) datagrams →
+        OnOk result (Prints (W.contents output.old) (W.contents output.new)
+        (IsReport input.now.exts datagrams)) }
+    ensures err { (datagrams : List (List ℕ)) → AreHex (lines input.now.datagrams.now) datagrams →
+        IfErr result (λ end. Prints (W.contents output.old) (W.contents output.new)
+        (IsPartialReport input.now.exts datagrams end)) }
 {
     let mut receivers = Receivers::new(alloc);
+    let mut datagram = Vec::new(alloc);
     let mut text = String::with_capacity(alloc, 2 * WRITTEN_AT_ONCE)?;
-    for (index, datagram) in input.datagrams.iter().enumerate() {
-        let Ok((header, verdict)) = judged(alloc, datagram, &input.exts, &mut receivers) else {
+    let mut rest = input.datagrams;
+    let mut packet = 0u64;
+    while !rest.is_empty() {
+        let (line, after) = first_line(rest);
+        let read = judged(alloc, line, &mut datagram, &input.exts, &mut receivers);
+        let Ok((header, verdict)) = read else {
             write_text(output, text.as_bytes())?;
             return Err(RunEnd::NoMemory);
         };
-        push_lines(&mut text, index as u64 + 1, header.as_ref(), verdict)?;
+        rest = after;
+        packet += 1;
+        push_lines(&mut text, packet, header.as_ref(), verdict)?;
         if text.len() >= WRITTEN_AT_ONCE {
             write_text(output, text.as_bytes())?;
             text.clear();
         }
     }
-    let rest = text.as_bytes();
-    write_text(output, rest)?;
+    let last = text.as_bytes();
+    write_text(output, last)?;
     match output.flush() {
         Ok(()) => Ok(()),
         Err(_) => Err(RunEnd::Io),

@@ -134,10 +134,8 @@ fn datagrams_after_map_lines(rt: HostRuntime) -> Result<(), Fail> {
     let input = read_input(rt.alloc(), b"map 1 x\n80\n\n21\n")
         .ok()
         .ok_or("an input")?;
-    assert_eq!(rt; input.datagrams.len(), 3);
-    assert_eq!(rt; input.datagrams[0].as_slice(), [0x80].as_slice());
-    assert!(rt; input.datagrams[1].is_empty());
-    assert_eq!(rt; input.datagrams[2].as_slice(), [0x21].as_slice());
+    // A line for each datagram, as it was.
+    assert_eq!(rt; input.datagrams, b"80\n\n21\n".as_slice());
     Ok(())
 }
 

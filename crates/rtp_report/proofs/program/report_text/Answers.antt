@@ -1,14 +1,19 @@
-use Rattle.std.proofs.Common.{ℕ, map, refl, sym, ◌∙◌}
-use Rattle.std.specs.Global.{Vec}
+use Rattle.std.proofs.Common.{refl, sym, ◌∙◌}
 use Rattle.rtp_report.specs.declared.program.RunEnd.TheVariants.{NoMemory, Io}
 use Rattle.rtp_report.specs.Output.{of_bad_line}
 use Rattle.rtp_report.proofs.PrintLemmas.{handed_on}
-use Rattle.rtp_report.proofs.RunLemmas.{on_err, Prints-none, IsLeft-stopped}
+use Rattle.rtp_report.proofs.RunLemmas.{on_err, Prints-none, IsOutputOf-reported, IsLeft-stopped}
 use Rattle.rtp_report.proofs.program.report_text.Goals as goal
+
+pub returns-in-Ok-clause-ok : goal.returns-in-Ok-clause-ok
+returns-in-Ok-clause-ok g c =
+    let (datagrams, hex, spells) = c.in-Ok.ensures.spelled in
+    IsOutputOf-reported c.print_all.result c.args.text.now c.in-Ok.input.exts datagrams _ _ spells (c.print_all.ensures.ok datagrams hex)
 
 pub returns-in-Ok-clause-err : goal.returns-in-Ok-clause-err
 returns-in-Ok-clause-err g c =
-    on_err c.print_all.result _ _ (IsLeft-stopped c.args.text.now c.in-Ok.input.exts (map (λ (v : Vec ℕ). v.items) c.in-Ok.input.datagrams.items) _ _ c.in-Ok.ensures.spelled) c.print_all.ensures.err
+    let (datagrams, hex, spells) = c.in-Ok.ensures.spelled in
+    on_err c.print_all.result _ _ (IsLeft-stopped c.args.text.now c.in-Ok.input.exts datagrams _ _ spells) (c.print_all.ensures.err datagrams hex)
 
 pub returns-in_err-line-in-Err-BadLine-clause-err : goal.returns-in_err-line-in-Err-BadLine-clause-err
 returns-in_err-line-in-Err-BadLine-clause-err g c =
