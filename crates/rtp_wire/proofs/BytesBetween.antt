@@ -1,11 +1,12 @@
 -- Bytes that are changed between two offsets, while all before and after them stay.
-use Rattle.std.proofs.Common.{◌≡◌, ℕ, ◌+◌, ◌-◌, ◌<◌, ◌≤◌, List, [], ◌∷◌, ◌++◌, length, take, drop, sym, ap, ◌∙◌, arith, append_assoc, length-append, length-drop, length-take-le, take_at, drop_at, add-zero}
+use Rattle.std.proofs.Common.{◌≡◌, ℕ, ◌+◌, ◌-◌, ◌<◌, ◌≤◌, List, [], ◌∷◌, ◌++◌, length, take, drop, refl, sym, ap, ◌∙◌, arith, append_assoc, length-append, length-drop, length-take-le, take_at, drop_at, add-zero}
 use Rattle.std.specs.Prelude.{slice_index, slice_range}
 use Rattle.std.proofs.lemmas.List.{drop-drop, take-take, take-append-le, get_or-take, get_or-drop}
 use Rattle.std.proofs.lemmas.Slice.{take-put_mid_below, drop-put_mid}
 use borrow.Rule.Slice.PartMut.{put_mid}
 use Rattle.rtp_base.specs.Overwriting.{overwritten}
 use Rattle.rtp_base.proofs.OverwritingLemmas.{length-overwritten}
+use Rattle.rtp_wire.specs.ChangedPacket.{ChangesOnly}
 use Rattle.rtp_wire.proofs.BlockLemmas.{slice_range-take}
 
 -- bytes after those that were put
@@ -43,27 +44,24 @@ pub range-put : (buf xs : List ℕ) (at end : ℕ) → end ≡ at + length xs �
 range-put buf xs at end end-is fits =
     ap (take (end - at)) (drop-put buf xs at fits) ∙ take_at xs (drop (at + length xs) buf) (end - at) (omega arith)
 
--- all that changes lies from the first offset on and before the second
-pub record IsBetween (start end : ℕ) (old new : List ℕ) : Type 0 where
-  pub length_is : length new ≡ length old
-  pub before_is : take start new ≡ take start old
-  pub after_is : drop end new ≡ drop end old
+pub ChangesOnly-nothing : (start end : ℕ) (bytes : List ℕ) → ChangesOnly start end bytes bytes
+ChangesOnly-nothing start end bytes = record { length_is = refl; before_is = refl; after_is = refl }
 
-pub IsBetween-put : (buf xs : List ℕ) (start end at : ℕ) → start ≤ at → at + length xs ≤ end → end ≤ length buf → IsBetween start end buf (overwritten buf at xs)
-IsBetween-put buf xs start end at after within fits = record {
+pub ChangesOnly-put : (buf xs : List ℕ) (start end at : ℕ) → start ≤ at → at + length xs ≤ end → end ≤ length buf → ChangesOnly start end buf (overwritten buf at xs)
+ChangesOnly-put buf xs start end at after within fits = record {
   length_is = length-overwritten buf xs at (omega arith);
   before_is = take-overwritten buf xs at start after (omega arith);
   after_is = drop-overwritten buf xs at end within (omega arith);
 }
 
-pub IsBetween-part : (xs part : List ℕ) (start end : ℕ) → start ≤ end → end ≤ length xs → length part ≡ end - start → IsBetween start end xs (put_mid start (end - start) xs part)
-IsBetween-part xs part start end le within len = record {
+pub ChangesOnly-part : (xs part : List ℕ) (start end : ℕ) → start ≤ end → end ≤ length xs → length part ≡ end - start → ChangesOnly start end xs (put_mid start (end - start) xs part)
+ChangesOnly-part xs part start end le within len = record {
   length_is = omega (arith, length-append (take start xs) (part ++ drop (end - start) (drop start xs)), length-append part (drop (end - start) (drop start xs)), length-take-le start xs (omega arith), length-drop (end - start) (drop start xs), length-drop start xs);
   before_is = take-put_mid_below start (end - start) xs part start (omega arith) (omega arith);
   after_is = drop-put_mid start (end - start) xs part end (omega arith) (omega arith) len;
 }
 
-module _ (start end : ℕ) (old new : List ℕ) (is : IsBetween start end old new) where
+module _ (start end : ℕ) (old new : List ℕ) (is : ChangesOnly start end old new) where
   pub index_before : (i : ℕ) → i < start → slice_index new i ≡ slice_index old i
   index_before i before = sym (get_or-take start new i 0 before) ∙ ap (λ (ys : List ℕ). slice_index ys i) is.before_is ∙ get_or-take start old i 0 before
 

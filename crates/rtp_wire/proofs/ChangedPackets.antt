@@ -15,11 +15,11 @@ use Rattle.rtp_wire.specs.Packet.{PacketParts, IsPacket}
 use Rattle.rtp_wire.specs.PartsAt.{IsLaidOut, form_in, header_end, parts_at}
 use Rattle.rtp_wire.specs.PartsOf.{parts_in}
 use Rattle.rtp_wire.specs.PacketElements.{AreElementsOf, HasValues}
-use Rattle.rtp_wire.specs.ChangedPacket.{ChangesBlock}
+use Rattle.rtp_wire.specs.ChangedPacket.{ChangesBlock, ChangesOnly, ChangesOnlyBody}
 use Rattle.rtp_wire.proofs.PacketLemmas.{whole_and_parts}
 use Rattle.rtp_wire.proofs.HeaderFound.{HasHeader, HasHeader-packet_mut}
 use Rattle.rtp_wire.proofs.PartsLemmas.{body_within, block-header}
-use Rattle.rtp_wire.proofs.BytesBetween.{IsBetween, IsBetween-part}
+use Rattle.rtp_wire.proofs.BytesBetween.{ChangesOnly-part, ChangesOnly-put, ChangesOnly-nothing}
 use Rattle.rtp_wire.proofs.PacketChanges.{HasHeader-stays, stays-in_body}
 use Rattle.rtp_wire.proofs.PacketParts.{parts-in_body}
 
@@ -115,11 +115,11 @@ module _ (packet : RtpPacketMut) (form : ExtensionsForm) (start : ℕ) (is : pac
         let long = body_in in
         as_many ∙ length-take-le (packet.header_len - start) (drop start packet.datagram.now) (omega (arith, length-drop start packet.datagram.now))
 
-    between : IsBetween (sources_end packet.datagram.now + 4) (header_end packet.datagram.now) packet.datagram.now new
+    pub between : ChangesOnlyBody packet.datagram.now new
     between =
-        subst (λ (k : ℕ). IsBetween k (header_end packet.datagram.now) packet.datagram.now new) start-is
-        (subst (λ (k : ℕ). IsBetween start k packet.datagram.now new) packet.ends
-        (IsBetween-part packet.datagram.now body start packet.header_len body_in packet.within length-body))
+        subst (λ (k : ℕ). ChangesOnly k (header_end packet.datagram.now) packet.datagram.now new) start-is
+        (subst (λ (k : ℕ). ChangesOnly start k packet.datagram.now new) packet.ends
+        (ChangesOnly-part packet.datagram.now body start packet.header_len body_in packet.within length-body))
 
     pub HasHeader-body : HasHeader new packet.header_len packet.form
     HasHeader-body = HasHeader-stays packet.datagram.now new packet.header_len packet.form (stays-in_body packet.datagram.now new between) (HasHeader-packet_mut packet)

@@ -18,7 +18,8 @@ use Rattle.rtp_wire.proofs.BlockLemmas.{word_at-take}
 use Rattle.rtp_wire.proofs.FlagLemmas.{fields_from_second}
 use Rattle.rtp_wire.proofs.PacketLemmas.{bit-is_set, same_parts}
 use Rattle.rtp_wire.proofs.HeaderFound.{HasHeader}
-use Rattle.rtp_wire.proofs.BytesBetween.{IsBetween, IsBetween-put, index_before, range_before, drop_after, range_after, index-put, range-put}
+use Rattle.rtp_wire.specs.ChangedPacket.{ChangesOnly}
+use Rattle.rtp_wire.proofs.BytesBetween.{ChangesOnly-put, index_before, range_before, drop_after, range_after, index-put, range-put}
 
 -- where the block and the header end, and the form, by the first byte and the first four bytes after the sources
 end_by : ℕ → ℕ → ℕ
@@ -68,7 +69,7 @@ unfolding header_end
 past_sources bytes = omega arith
 
 -- a change after the first byte and before the block
-module _ (start end : ℕ) (old new : List ℕ) (is : IsBetween start end old new) (past : 0 < start) (within : end ≤ sources_end old) where
+module _ (start end : ℕ) (old new : List ℕ) (is : ChangesOnly start end old new) (past : 0 < start) (within : end ≤ sources_end old) where
   pub stays-before_block : StaysLaidOut old new
   stays-before_block =
       let first = index_before start end old new is 0 past in
@@ -101,10 +102,10 @@ HasHeader-put old new xs at len form new-is past within header =
     let fits = header.within in
     subst (λ (bytes : List ℕ). HasHeader bytes len form) (sym new-is)
     (HasHeader-stays old (overwritten old at xs) len form
-    (stays-before_block at (at + length xs) old (overwritten old at xs) (IsBetween-put old xs at (at + length xs) at (omega arith) (omega arith) (omega arith)) past within) header)
+    (stays-before_block at (at + length xs) old (overwritten old at xs) (ChangesOnly-put old xs at (at + length xs) at (omega arith) (omega arith) (omega arith)) past within) header)
 
 -- a change in the body of the block
-pub stays-in_body : (old new : List ℕ) → IsBetween (sources_end old + 4) (header_end old) old new → StaysLaidOut old new
+pub stays-in_body : (old new : List ℕ) → ChangesOnly (sources_end old + 4) (header_end old) old new → StaysLaidOut old new
 stays-in_body old new is =
     let start = sources_end old in
     let first = index_before (start + 4) (header_end old) old new is 0 (omega arith) in
@@ -116,7 +117,7 @@ stays-in_body old new is =
     stays_by old new is.length_is first (word 0 (omega arith)) (word 2 (omega arith))
 
 -- the parts after a change in the fixed part, by the fields that may change there
-pub parts-fixed : (start end : ℕ) (old new : List ℕ) (marker : Bool) (payload_type number timestamp ssrc : ℕ) → IsBetween start end old new → 0 < start → end ≤ 12
+pub parts-fixed : (start end : ℕ) (old new : List ℕ) (marker : Bool) (payload_type number timestamp ssrc : ℕ) → ChangesOnly start end old new → 0 < start → end ≤ 12
     → is_set (slice_index new 1) 128 ≡ marker → slice_index new 1 % 128 ≡ payload_type → word_at new 2 ≡ number
     → from_be_bytes w32 (slice_range new 4 8) ≡ timestamp → from_be_bytes w32 (slice_range new 8 12) ≡ ssrc
     → parts_at new ≡ record (parts_at old) { marker = marker; payload_type = payload_type; sequence_number = number; timestamp = timestamp; ssrc = ssrc }
@@ -147,8 +148,13 @@ IsSecondByte-typed byte payload_type few = record {
 }
 
 -- bytes that are put into the fixed part
-pub IsInFixedPart-put : (old xs : List ℕ) (at : ℕ) → at + length xs ≤ 12 → 12 ≤ length old → IsBetween at (at + length xs) old (overwritten old at xs)
-IsInFixedPart-put old xs at within long = IsBetween-put old xs at (at + length xs) at (omega arith) (omega arith) (omega arith)
+pub IsInFixedPart-put : (old xs : List ℕ) (at : ℕ) → at + length xs ≤ 12 → 12 ≤ length old → ChangesOnly at (at + length xs) old (overwritten old at xs)
+IsInFixedPart-put old xs at within long = ChangesOnly-put old xs at (at + length xs) at (omega arith) (omega arith) (omega arith)
+
+-- the same of a buffer that was made so
+pub only-put : (old new xs : List ℕ) (at end : ℕ) → new ≡ overwritten old at xs → at + length xs ≡ end → end ≤ length old → ChangesOnly at end old new
+only-put old new xs at end is end-is fits =
+    subst (λ (bytes : List ℕ). ChangesOnly at end old bytes) (sym is) (ChangesOnly-put old xs at end at (omega arith) (omega arith) fits)
 
 -- bytes that are put after the first two: the numbers, by the words that then stand there
 parts-numbers : (old xs : List ℕ) (at number timestamp ssrc : ℕ) → 2 ≤ at → at + length xs ≤ 12 → 12 ≤ length old

@@ -12,11 +12,12 @@ use Rattle.rtp_wire.specs.NotAHeader.{sources_end}
 use Rattle.rtp_wire.specs.PartsAt.{is_set, form_in, header_end, parts_at}
 use Rattle.rtp_wire.proofs.GroupLemmas.{length-first_chunks, first_chunks-take}
 use Rattle.rtp_wire.proofs.PacketLemmas.{same_parts}
-use Rattle.rtp_wire.proofs.BytesBetween.{IsBetween, IsBetween-put, index_before, take_before, range_before, take-overwritten}
+use Rattle.rtp_wire.specs.ChangedPacket.{ChangesOnly}
+use Rattle.rtp_wire.proofs.BytesBetween.{ChangesOnly-put, index_before, take_before, range_before, take-overwritten}
 use Rattle.rtp_wire.proofs.PacketChanges.{block-stays, payload-stays, stays-in_body}
 
 -- the fields of the fixed part stay, and so does what the first byte says
-fixed_stays : (start end : ℕ) (old new : List ℕ) → 12 ≤ start → IsBetween start end old new → (sources : List ℕ) (block : Option (ExtensionsForm × List ℕ)) (payload : List ℕ)
+fixed_stays : (start end : ℕ) (old new : List ℕ) → 12 ≤ start → ChangesOnly start end old new → (sources : List ℕ) (block : Option (ExtensionsForm × List ℕ)) (payload : List ℕ)
     → (parts_at new).sources ≡ sources → (parts_at new).block ≡ block → (parts_at new).payload ≡ payload
     → parts_at new ≡ record (parts_at old) { sources = sources; block = block; payload = payload }
 unfolding parts_at
@@ -32,7 +33,7 @@ fixed_stays start end old new past is sources block payload sources-is block-is 
     sources-is block-is payload-is
 
 -- a change in the CSRC list
-parts-in_sources : (old new : List ℕ) → IsBetween 12 (sources_end old) old new
+parts-in_sources : (old new : List ℕ) → ChangesOnly 12 (sources_end old) old new
     → parts_at new ≡ record (parts_at old) { sources = map (from_be_bytes w32) (first_chunks 4 (slice_index old 0 % 16) (drop 12 new)) }
 unfolding parts_at
 parts-in_sources old new is =
@@ -75,7 +76,7 @@ unfolding parts_at
 parts-source old i source within fits long =
     let group = to_be_bytes w32 source in
     let count = slice_index old 0 % 16 in
-    let is = IsBetween-put old group 12 (sources_end old) (12 + 4 * i) (omega arith) (omega arith) long in
+    let is = ChangesOnly-put old group 12 (sources_end old) (12 + 4 * i) (omega arith) (omega arith) long in
     let groups : first_chunks 4 count (drop 12 (overwritten old (12 + 4 * i) group)) ≡ set (first_chunks 4 count (drop 12 old)) i group =
     ap (first_chunks 4 count) (drop-overwritten_after old group 12 (4 * i) (omega arith))
     ∙ first_chunks-put count i (drop 12 old) group within refl (omega (arith, length-drop 12 old)) in
@@ -89,7 +90,7 @@ unfolding parts_at
 sources_len bytes = length-map (first_chunks 4 (slice_index bytes 0 % 16) (drop 12 bytes)) (from_be_bytes w32) ∙ length-first_chunks (slice_index bytes 0 % 16) (drop 12 bytes)
 
 -- a change in the body of the block
-pub parts-in_body : (old new : List ℕ) → IsBetween (sources_end old + 4) (header_end old) old new
+pub parts-in_body : (old new : List ℕ) → ChangesOnly (sources_end old + 4) (header_end old) old new
     → parts_at new ≡ record (parts_at old) { block = option_map (λ f. (f, slice_range new (sources_end old + 4) (header_end old))) (form_in old) }
 unfolding parts_at
 parts-in_body old new is =

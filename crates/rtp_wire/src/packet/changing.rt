@@ -11,7 +11,7 @@ ghost use Rattle.rtp_ext.specs.ElementsInPlace.{HasNone, HasLastOf, SetsLast, Ha
 ghost use Rattle.rtp_ext.specs.ExtensionMap.{Slots, extension_at, IsOnlyId};
 ghost use Rattle.rtp_ext.specs.NewIds.{new_id, AreNewIds};
 ghost use Rattle.rtp_ext.specs.WrittenBlock.{mapped_fields};
-ghost use Rattle.rtp_wire.specs.ChangedPacket.{ChangesBlock};
+ghost use Rattle.rtp_wire.specs.ChangedPacket.{ChangesBlock, ChangesOnlyBody};
 ghost use Rattle.rtp_wire.specs.PacketElements.{AreElementsOf, HasValues};
 
 use super::RtpPacketMut;
@@ -34,6 +34,7 @@ impl<'a> RtpPacketMut<'a> {
         ensures set { OnTrue result
             (ChangesBlock (λ form. SetsLast form id «data».now) (parts_in self.old) (parts_in self.new)) }
         ensures unchanged { OnFalse result ((buffer_of self.new).now ≡ (buffer_of self.old).now) }
+        ensures bytes { ChangesOnlyBody (buffer_of self.old).now (buffer_of self.new).now }
         ensures answer { (elements : List Element) → AreElementsOf (parts_in self.old).block elements →
             IsTrue result ↔ HasLastOf elements id (length «data».now) }
         ensures other_values { (exts : Slots) (kind : Extension) (old new : ExtensionValues) →
@@ -60,6 +61,7 @@ impl<'a> RtpPacketMut<'a> {
         ensures removed { OnTrue result
             (ChangesBlock (λ form. HasOtherIds form (all_but id)) (parts_in self.old) (parts_in self.new)) }
         ensures unchanged { OnFalse result ((buffer_of self.new).now ≡ (buffer_of self.old).now) }
+        ensures bytes { ChangesOnlyBody (buffer_of self.old).now (buffer_of self.new).now }
         ensures answer { (elements : List Element) → AreElementsOf (parts_in self.old).block elements →
             IsTrue result ↔ (HasNone elements id → ⊥) }
         ensures elements { (elements : List Element) → AreElementsOf (parts_in self.old).block elements →
@@ -84,6 +86,7 @@ impl<'a> RtpPacketMut<'a> {
         ensures renumbered { OnTrue result (IfSome (parts_in self.old).block (λ _. ChangesBlock
             (λ form. HasOtherIds form (new_id ids.now)) (parts_in self.old) (parts_in self.new))) }
         ensures unchanged { OnFalse result ((buffer_of self.new).now ≡ (buffer_of self.old).now) }
+        ensures bytes { ChangesOnlyBody (buffer_of self.old).now (buffer_of self.new).now }
         ensures without_block { IfNone (parts_in self.old).block
             ((buffer_of self.new).now ≡ (buffer_of self.old).now) }
         ensures answer { (elements : List Element) → AreElementsOf (parts_in self.old).block elements →

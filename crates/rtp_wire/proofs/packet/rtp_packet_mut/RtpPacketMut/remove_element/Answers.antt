@@ -7,7 +7,8 @@ use Rattle.rtp_ext.specs.ElementsInPlace.{HasNone, HasOtherIds, renumbered, all_
 use Rattle.rtp_wire.specs.NotAHeader.{sources_end}
 use Rattle.rtp_wire.specs.PartsOf.{parts_in}
 use Rattle.rtp_wire.specs.PacketElements.{AreElementsOf}
-use Rattle.rtp_wire.proofs.ChangedPackets.{no_elements, body_in, AreElements-in, AreElements-out, HasHeader-body, ChangesBlock-body}
+use Rattle.rtp_wire.proofs.BytesBetween.{ChangesOnly-nothing}
+use Rattle.rtp_wire.proofs.ChangedPackets.{no_elements, body_in, AreElements-in, AreElements-out, HasHeader-body, ChangesBlock-body, between}
 use Rattle.rtp_wire.proofs.packet.rtp_packet_mut.RtpPacketMut.remove_element.Goals as goal
 
 pub returns-in_default-clause-answer : goal.returns-in_default-clause-answer
@@ -50,3 +51,11 @@ returns-clause-elements c elements are =
     AreElements-out c.args.self.now c.in-Some.form (c.sources_end-start.result + 4) c.in-Some.is start c.remove_element.new.body c.remove_element.auto.body
     (filter_map (renumbered (all_but c.args.id)) elements)
     (c.remove_element.ensures.elements elements (AreElements-in c.args.self.now c.in-Some.form _ c.in-Some.is start elements are))
+
+pub returns-in_default-clause-bytes : goal.returns-in_default-clause-bytes
+returns-in_default-clause-bytes c = ChangesOnly-nothing _ _ c.args.self.now.datagram.now
+
+pub returns-clause-bytes : goal.returns-clause-bytes
+returns-clause-bytes c =
+    between c.args.self.now c.in-Some.form (c.sources_end-start.result + 4) c.in-Some.is (omega (arith, c.sources_end-start.ensures))
+    c.remove_element.new.body c.remove_element.auto.body

@@ -12,7 +12,8 @@ use Rattle.rtp_ext.proofs.RenumberedValuesLemmas.{AreValues-renumbered}
 use Rattle.rtp_wire.specs.NotAHeader.{sources_end}
 use Rattle.rtp_wire.specs.PartsOf.{parts_in}
 use Rattle.rtp_wire.specs.PacketElements.{AreElementsOf}
-use Rattle.rtp_wire.proofs.ChangedPackets.{no_block, no_elements, if_some, if_none, if_not_none, body_in, block_in, HasValues-in, HasValues-out, AreElements-in, AreElements-out, HasHeader-body, ChangesBlock-body}
+use Rattle.rtp_wire.proofs.BytesBetween.{ChangesOnly-nothing}
+use Rattle.rtp_wire.proofs.ChangedPackets.{no_block, no_elements, if_some, if_none, if_not_none, body_in, block_in, HasValues-in, HasValues-out, AreElements-in, AreElements-out, HasHeader-body, ChangesBlock-body, between}
 use Rattle.rtp_wire.proofs.packet.rtp_packet_mut.RtpPacketMut.renumber.Goals as goal
 
 pub returns-in_default-clause-renumbered : goal.returns-in_default-clause-renumbered
@@ -84,3 +85,11 @@ returns-clause-values c from to values new has =
     let says = HasValues-in c.args.self.now c.in-Some.form (c.sources_end-start.result + 4) c.in-Some.is start from values has in
     OnTrue_from _ _ (λ set. HasValues-out c.args.self.now c.in-Some.form (c.sources_end-start.result + 4) c.in-Some.is start
     c.renumber.new.body c.renumber.auto.body to (mapped_fields to values) (OnTrue_at set (c.renumber.ensures.values from to values new says)))
+
+pub returns-in_default-clause-bytes : goal.returns-in_default-clause-bytes
+returns-in_default-clause-bytes c = ChangesOnly-nothing _ _ c.args.self.now.datagram.now
+
+pub returns-clause-bytes : goal.returns-clause-bytes
+returns-clause-bytes c =
+    between c.args.self.now c.in-Some.form (c.sources_end-start.result + 4) c.in-Some.is (omega (arith, c.sources_end-start.ensures))
+    c.renumber.new.body c.renumber.auto.body

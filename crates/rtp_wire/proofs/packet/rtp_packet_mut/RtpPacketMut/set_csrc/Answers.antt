@@ -8,7 +8,8 @@ use Rattle.rtp_wire.specs.PartsAt.{parts_at}
 use Rattle.rtp_wire.proofs.PacketParts.{parts-source, sources_len}
 use Rattle.rtp_wire.proofs.HeaderFound.{HasHeader-packet_mut}
 use Rattle.rtp_wire.proofs.PartsLemmas.{sources_within}
-use Rattle.rtp_wire.proofs.PacketChanges.{HasHeader-put}
+use Rattle.rtp_wire.proofs.BytesBetween.{ChangesOnly-nothing}
+use Rattle.rtp_wire.proofs.PacketChanges.{HasHeader-put, only-put}
 use Rattle.std.proofs.lemmas.Bool.{false≢true}
 use Rattle.rtp_wire.proofs.packet.rtp_packet_mut.RtpPacketMut.set_csrc.Goals as goal
 use Rattle.rtp_wire.proofs.packet.rtp_packet_mut.RtpPacketMut.set_csrc.Goals.{After-put}
@@ -47,3 +48,11 @@ pub returns-clause-parts : goal.returns-clause-parts
 returns-clause-parts c _ =
     let bytes = c.args.self.now.datagram.now in
     ap parts_at (put_is c.before) ∙ parts-source bytes c.args.index c.args.source (in_list c.before.before) (omega (arith, c.ranges.source.fits)) (fits c.before.before)
+
+pub returns-then-index-from-clause-bytes : goal.returns-then-index-from-clause-bytes
+returns-then-index-from-clause-bytes c = ChangesOnly-nothing (12 + 4 * c.args.index) (16 + 4 * c.args.index) c.args.self.now.datagram.now
+
+pub returns-clause-bytes : goal.returns-clause-bytes
+returns-clause-bytes c =
+    only-put c.args.self.now.datagram.now _ (to_be_bytes w32 c.args.source) (12 + 4 * c.args.index) (16 + 4 * c.args.index) (put_is c.before) (omega arith)
+    (omega (arith, in_list c.before.before, fits c.before.before))

@@ -2,7 +2,8 @@ use Rattle.std.proofs.Common.{rules, ◌≡◌, ◌+◌, ◌≤◌, length, ◌�
 use Rattle.std.proofs.lemmas.Bool.{false≢true, OnTrue_at, OnTrue_from}
 use Rattle.rtp_ext.specs.ElementsInPlace.{SetsLast}
 use Rattle.rtp_wire.specs.NotAHeader.{sources_end}
-use Rattle.rtp_wire.proofs.ChangedPackets.{no_elements, body_in, AreElements-in, HasValues-in, HasValues-new, HasHeader-body, ChangesBlock-body}
+use Rattle.rtp_wire.proofs.BytesBetween.{ChangesOnly-nothing}
+use Rattle.rtp_wire.proofs.ChangedPackets.{no_elements, body_in, AreElements-in, HasValues-in, HasValues-new, HasHeader-body, ChangesBlock-body, between}
 use Rattle.rtp_wire.proofs.packet.rtp_packet_mut.RtpPacketMut.set_element.Goals as goal
 
 pub returns-in_default-clause-answer : goal.returns-in_default-clause-answer
@@ -49,3 +50,11 @@ returns-clause-values c exts kind new only well_formed says =
     let start : c.sources_end-start.result + 4 ≡ sources_end c.args.self.now.datagram.now + 4 = omega (arith, c.sources_end-start.ensures) in
     c.set_element.ensures.values exts kind new only well_formed
     (HasValues-new c.args.self.now c.in-Some.form (c.sources_end-start.result + 4) c.in-Some.is start c.set_element.new.body c.set_element.auto.body exts new says)
+
+pub returns-in_default-clause-bytes : goal.returns-in_default-clause-bytes
+returns-in_default-clause-bytes c = ChangesOnly-nothing _ _ c.args.self.now.datagram.now
+
+pub returns-clause-bytes : goal.returns-clause-bytes
+returns-clause-bytes c =
+    between c.args.self.now c.in-Some.form (c.sources_end-start.result + 4) c.in-Some.is (omega (arith, c.sources_end-start.ensures))
+    c.set_element.new.body c.set_element.auto.body

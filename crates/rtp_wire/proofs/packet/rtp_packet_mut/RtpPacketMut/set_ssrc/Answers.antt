@@ -1,7 +1,7 @@
-use Rattle.std.proofs.Common.{ap, ◌∙◌, arith, ℕ}
+use Rattle.std.proofs.Common.{ap, ◌∙◌, length, arith, ℕ}
 use Rattle.rtp_base.specs.Overwriting.{overwritten}
 use Rattle.rtp_wire.specs.PartsAt.{parts_at}
-use Rattle.rtp_wire.proofs.PacketChanges.{parts-ssrc}
+use Rattle.rtp_wire.proofs.PacketChanges.{only-put, parts-ssrc}
 use Rattle.rtp_wire.proofs.packet.rtp_packet_mut.RtpPacketMut.set_ssrc.Goals as goal
 
 pub returns-clause-parts : goal.returns-clause-parts
@@ -10,3 +10,9 @@ returns-clause-parts c =
     ap parts_at (c.put_fixed.ensures.written ∙ ap (overwritten old.datagram.now 8) c.to_be_bytes.ensures)
     ∙ parts-ssrc old.datagram.now c.get.result (omega (arith, c.get.type_inv)) old.fixed
     ∙ ap (λ (ssrc : ℕ). record (parts_at old.datagram.now) { ssrc = ssrc }) c.get.ensures
+
+pub returns-clause-bytes : goal.returns-clause-bytes
+returns-clause-bytes c =
+    let old = c.args.self.now in
+    let fixed = old.fixed in
+    only-put old.datagram.now _ c.to_be_bytes.result 8 12 c.put_fixed.ensures.written (omega (arith, ap length c.to_be_bytes.ensures)) (omega arith)
