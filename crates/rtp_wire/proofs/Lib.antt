@@ -3,7 +3,7 @@ mod GroupLemmas
 mod BlockLemmas
 mod PacketLemmas
 mod HeaderFound
-mod PartsLemmas
+pub mod PartsLemmas
 mod BytesBetween
 mod PacketChanges
 mod PacketParts

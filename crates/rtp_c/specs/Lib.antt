@@ -1,0 +1,3 @@
+-- What the exports' contracts cite.
+pub mod Status
+pub mod PacketView

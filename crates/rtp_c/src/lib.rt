@@ -1,0 +1,8 @@
+//! The library for C: what crosses to it is numbers and structs of numbers in the caller's memory.
+//!
+//! Each exported function may be called with any values. It returns a status, or a value, and writes
+//! its outputs whole or not at all.
+#![tactic(auto)]
+
+mod packet;
+mod status;
