@@ -1,3 +1,4 @@
 -- What the exports' contracts cite.
 pub mod Status
 pub mod PacketView
+pub mod ChangedElements

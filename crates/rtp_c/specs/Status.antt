@@ -17,6 +17,14 @@ cause_status CutBlockHeader = pos 4
 cause_status UnknownForm = pos 5
 cause_status CutBlock = pos 6
 
+-- a value that no packet can carry
+abbrev pub bad_field : ℤ
+bad_field = pos 9
+
+-- there is no such element
+abbrev pub none : ℤ
+none = pos 11
+
 -- the status of the first cause for which these bytes are no packet
 pub record IsCauseStatus (bytes : List ℕ) (status : ℤ) : Type 0 where
   pub cause : NotAPacket

@@ -4,5 +4,7 @@
 //! its outputs whole or not at all.
 #![tactic(auto)]
 
+mod changing;
+mod layout;
 mod packet;
 mod status;

@@ -19,6 +19,10 @@ pub const CUT_BLOCK_HEADER: i32 = 4;
 pub const UNKNOWN_FORM: i32 = 5;
 /// The block is longer than what is left.
 pub const CUT_BLOCK: i32 = 6;
+/// A value is one that no packet can carry.
+pub const BAD_FIELD: i32 = 9;
+/// There is no such element.
+pub const NONE: i32 = 11;
 
 // The status of this cause.
 pub fn status_of(cause: NotAPacket) -> i32

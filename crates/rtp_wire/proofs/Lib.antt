@@ -1,14 +1,14 @@
 mod FlagLemmas
 mod GroupLemmas
 mod BlockLemmas
-mod PacketLemmas
-mod HeaderFound
+pub mod PacketLemmas
+pub mod HeaderFound
 pub mod PartsLemmas
 mod BytesBetween
 mod PacketChanges
 mod PacketParts
 mod ChangedPackets
-mod NotAPacketLemmas
+pub mod NotAPacketLemmas
 mod ValuesLemmas
 mod HeaderLemmas
 mod BlockWriting

@@ -1,0 +1,123 @@
+/* The calls on a packet where it lies. The expected values are worked out by hand from RFC 3550, 5.1
+ * and RFC 8285, 4.2 and 4.3. */
+#include "../rtp_wire.h"
+
+#include <stdio.h>
+#include <string.h>
+
+static int failed = 0;
+
+#define CHECK(holds) \
+    do { \
+        if (!(holds)) { \
+            printf("line %d: %s\n", __LINE__, #holds); \
+            failed = 1; \
+        } \
+    } while (0)
+
+/* V=2, P, X, CC=2; M, PT=33; 47,000; 10,000; 44; the sources 1 and 2; a block of two words; a payload
+ * of 3 bytes and 2 of padding. */
+static const uint8_t SAMPLE[41] = {
+    0xB2, 0xA1, 0xB7, 0x98, 0x00, 0x00, 0x27, 0x10, 0x00, 0x00, 0x00, 0x2C, 0x00, 0x00,
+    0x00, 0x01, 0x00, 0x00, 0x00, 0x02, 0xBE, 0xDE, 0x00, 0x02, 0x10, 0xAA, 0x21, 0xBB,
+    0xCC, 0x10, 0xDD, 0x00, 0x01, 0x02, 0x03, 0x00, 0x02, 0xEE, 0xEE, 0xEE, 0xEE};
+static const size_t LEN = 37;
+
+static void is_read(void) {
+    rtp_packet packet;
+    memset(&packet, 0xA5, sizeof packet);
+    CHECK(sizeof packet == 56);
+    CHECK(rtp_packet_parse(SAMPLE, LEN, &packet) == RTP_OK);
+    CHECK(packet.payload_at == 32);
+    CHECK(packet.payload_len == 5);
+    CHECK(packet.unpadded_len == 3);
+    CHECK(packet.body_at == 24);
+    CHECK(packet.body_len == 8);
+    CHECK(packet.timestamp == 10000);
+    CHECK(packet.ssrc == 44);
+    CHECK(packet.sequence_number == 47000);
+    CHECK(packet.payload_type == 33);
+    CHECK(packet.csrc_count == 2);
+    CHECK(packet.marker == 1);
+    CHECK(packet.has_padding == 1);
+    CHECK(packet.padding_fits == 1);
+    CHECK(packet.block_form == RTP_ONE_BYTE_FORM);
+}
+
+static void padding_is_too_long(void) {
+    uint8_t bytes[37];
+    rtp_packet packet;
+    memcpy(bytes, SAMPLE, LEN);
+    bytes[36] = 6;
+    CHECK(rtp_packet_parse(bytes, LEN, &packet) == RTP_OK);
+    CHECK(packet.payload_len == 5);
+    CHECK(packet.padding_fits == 0);
+    CHECK(packet.unpadded_len == 0);
+}
+
+static void is_refused(void) {
+    uint8_t bytes[37];
+    rtp_packet packet, same;
+    memset(&packet, 0x5A, sizeof packet);
+    memcpy(&same, &packet, sizeof packet);
+    memcpy(bytes, SAMPLE, LEN);
+    CHECK(rtp_packet_parse(bytes, 0, &packet) == RTP_CUT_FIXED_PART);
+    CHECK(rtp_packet_parse(bytes, 11, &packet) == RTP_CUT_FIXED_PART);
+    CHECK(rtp_packet_parse(bytes, 19, &packet) == RTP_CUT_SOURCES);
+    CHECK(rtp_packet_parse(bytes, 23, &packet) == RTP_CUT_BLOCK_HEADER);
+    CHECK(rtp_packet_parse(bytes, 31, &packet) == RTP_CUT_BLOCK);
+    bytes[21] = 0xDF;
+    CHECK(rtp_packet_parse(bytes, LEN, &packet) == RTP_UNKNOWN_FORM);
+    bytes[0] = 0x72;
+    CHECK(rtp_packet_parse(bytes, LEN, &packet) == RTP_OTHER_VERSION);
+    CHECK(memcmp(&packet, &same, sizeof packet) == 0);
+}
+
+static void fields_are_set(void) {
+    uint8_t bytes[41];
+    rtp_packet packet;
+    memcpy(bytes, SAMPLE, sizeof bytes);
+    CHECK(rtp_set_marker(bytes, LEN, false) == RTP_OK);
+    CHECK(bytes[1] == 0x21);
+    CHECK(rtp_set_payload_type(bytes, LEN, 96) == RTP_OK);
+    CHECK(rtp_set_payload_type(bytes, LEN, 128) == RTP_BAD_FIELD);
+    CHECK(rtp_set_sequence_number(bytes, LEN, 0x1234) == RTP_OK);
+    CHECK(rtp_set_timestamp(bytes, LEN, 0x56789ABC) == RTP_OK);
+    CHECK(rtp_set_ssrc(bytes, LEN, 0xDEF01234) == RTP_OK);
+    CHECK(rtp_packet_parse(bytes, LEN, &packet) == RTP_OK);
+    CHECK(packet.marker == 0);
+    CHECK(packet.payload_type == 96);
+    CHECK(packet.sequence_number == 0x1234);
+    CHECK(packet.timestamp == 0x56789ABC);
+    CHECK(packet.ssrc == 0xDEF01234);
+    CHECK(memcmp(bytes + 12, SAMPLE + 12, sizeof bytes - 12) == 0);
+    CHECK(rtp_set_ssrc(bytes, 31, 1) == RTP_CUT_BLOCK);
+    CHECK(bytes[11] == 0x34);
+}
+
+static void elements_are_set(void) {
+    uint8_t bytes[41];
+    const uint8_t data[2] = {0xEE, 0xFF};
+    memcpy(bytes, SAMPLE, sizeof bytes);
+    /* the last element of id 1 has one byte, DD at 30 */
+    CHECK(rtp_set_element(bytes, LEN, 1, data, 1) == RTP_OK);
+    CHECK(bytes[30] == 0xEE && bytes[25] == 0xAA);
+    CHECK(rtp_set_element(bytes, LEN, 1, data, 2) == RTP_NONE);
+    CHECK(rtp_set_element(bytes, LEN, 3, data, 1) == RTP_NONE);
+    CHECK(rtp_set_element(bytes, 11, 1, data, 1) == RTP_CUT_FIXED_PART);
+    CHECK(rtp_remove_element(bytes, LEN, 1) == RTP_OK);
+    CHECK(bytes[24] == 0 && bytes[25] == 0 && bytes[26] == 0x21 && bytes[27] == 0xBB);
+    CHECK(bytes[28] == 0xCC && bytes[29] == 0 && bytes[30] == 0 && bytes[31] == 0);
+    CHECK(rtp_remove_element(bytes, LEN, 1) == RTP_NONE);
+    CHECK(memcmp(bytes + 32, SAMPLE + 32, sizeof bytes - 32) == 0);
+    CHECK(memcmp(bytes, SAMPLE, 24) == 0);
+}
+
+int main(void) {
+    is_read();
+    padding_is_too_long();
+    is_refused();
+    fields_are_set();
+    elements_are_set();
+    return failed;
+}
