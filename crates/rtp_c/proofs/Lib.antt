@@ -1,2 +1,3 @@
+mod StatusLemmas
 mod PacketLemmas
 mod ChangeLemmas

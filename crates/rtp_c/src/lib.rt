@@ -5,6 +5,7 @@
 #![tactic(auto)]
 
 mod changing;
+mod changing_elements;
 mod layout;
 mod packet;
 mod status;
