@@ -1,7 +1,7 @@
 //! The replay window: which packets of a stream were recorded, near the greatest number.
 
 ghost use Rattle.std.specs.Prelude.{◌≡◌, ℕ, ◌-◌, ◌<◌, ◌≤◌, ◌↔◌, Bool, true, false, ◌||◌, ◌==◌, slice_index_or, IsTrue};
-ghost use Rattle.rtp_base.specs.Window.{Numbers, only, up_to, including, IsGreatest, Keeps, Accepts};
+ghost use Rattle.rtp_base.specs.Window.{Numbers, WindowState, only, up_to, including, IsGreatest, Keeps, Accepts};
 ghost use Rattle.rtp_base.specs.Bitmap.{bits_of};
 
 use crate::id::SeqNo;
@@ -111,6 +111,44 @@ impl SeqNoWindow {
             greatest: seq.get(),
             recorded: u128::MAX,
         }
+    }
+
+    /// Returns the window that [`parts`](Self::parts) took apart. Any two numbers are the parts of a
+    /// window: the greatest number is recorded, whatever its bit says.
+    ///
+    /// ```
+    /// let window = SeqNoWindow::from_parts(SeqNo::from(1000), 0b1010);
+    /// assert!(window.accepts(SeqNo::from(998)));
+    /// assert!(!window.accepts(SeqNo::from(999)));
+    /// assert_eq!(window.parts(), (SeqNo::from(1000), 0b1011));
+    /// ```
+    pub fn from_parts(greatest: SeqNo, recorded: u128) -> Self
+        ensures greatest { result.greatest ≡ greatest }
+        ensures recorded { (k : ℕ) → k < 128 →
+            slice_index_or result.recorded k false
+            ≡ (slice_index_or (bits_of recorded) k false || k == 0) }
+
+        // The parts of a window give that window again.
+        ensures restored { (window : WindowState) → greatest ≡ window.greatest →
+            bits_of recorded ≡ window.recorded →
+            slice_index_or window.recorded 0 false ≡ true → result ≡ window }
+    {
+        let mut recorded = recorded;
+        set(&mut recorded, 0);
+        SeqNoWindow {
+            greatest: greatest.get(),
+            recorded,
+        }
+    }
+
+    /// Returns the window taken apart, so that it can be stored and put together again by
+    /// [`from_parts`](Self::from_parts): the greatest recorded number, and for each i from 0 to 127
+    /// in bit i of the other number, from the lowest up, whether the greatest minus i is recorded.
+    pub fn parts(&self) -> (SeqNo, u128)
+        ensures greatest { result.0 ≡ self.now.greatest }
+        ensures recorded { bits_of result.1 ≡ self.now.recorded }
+    {
+        (SeqNo::from(self.greatest), self.recorded)
     }
 
     /// Returns the greatest recorded number.

@@ -1,9 +1,9 @@
 //! The receive state of one stream.
 
-ghost use Rattle.std.specs.Prelude.{◌≡◌, ◌↔◌, ◌^◌, ◌<◌, ℕ, Option, IsTrue, false, if◌then◌else◌};
-ghost use Rattle.rtp_base.specs.Window.{Numbers, including};
+ghost use Rattle.std.specs.Prelude.{◌≡◌, ◌↔◌, ◌^◌, ◌<◌, ◌/◌, ℕ, Option, Some, None, option_copied, IsTrue, false, if◌then◌else◌};
+ghost use Rattle.rtp_base.specs.Window.{Numbers, WindowState, including};
 ghost use Rattle.rtp_wire.specs.Receiver.{Holds, IsHighest, IsNumberOf, IsFresh, IsJudged, taken_after};
-ghost use Rattle.rtp_wire.specs.declared.receive.state.ReceiverState.TheVariants.{Start};
+ghost use Rattle.rtp_wire.specs.declared.receive.state.ReceiverState.TheVariants.{Start, Window};
 ghost use Rattle.rtp_wire.specs.Verdicts.{PacketId, IsPacketId, IsVerdict};
 ghost use Rattle.rtp_wire.specs.declared.receive.verdict.Verdict.TheVariants.{Refused};
 ghost use Rattle.rtp_wire.specs.TrueNumbers.{IsTrueNumber};
@@ -41,6 +41,20 @@ impl Model for Receiver {
     ghost view = { λ receiver. receiver.state };
 }
 
+impl From<SeqNoWindow> for Receiver {
+    ghost use Rattle.std.specs.Prelude.{◌≡◌};
+    ghost use Rattle.rtp_wire.specs.declared.receive.state.ReceiverState.TheVariants.{Window};
+
+    ghost from_gives = { λ window receiver. receiver ≡ Window window };
+
+    /// A receiver that goes on from this window.
+    fn from(window: SeqNoWindow) -> Self {
+        Receiver {
+            state: ReceiverState::Window(window),
+        }
+    }
+}
+
 impl Receiver {
     /// A receiver that has taken nothing yet. The first packet's number is the 16 bits of its
     /// header: the rollover count is 0 (RFC 3711, 3.3.1).
@@ -60,6 +74,35 @@ impl Receiver {
     {
         Receiver {
             state: ReceiverState::Start(RolloverCount::new(rollover_count)),
+        }
+    }
+
+    /// The replay window, and `None` where nothing is taken yet. With
+    /// [`rollover_count`](Self::rollover_count) it is all that a receiver holds, so that one can be
+    /// stored and made again, by `Receiver::from` of the window or by
+    /// [`starting_at`](Self::starting_at).
+    pub fn window(&self) -> Option<&SeqNoWindow>
+        ensures started { (window : WindowState) → self.now ≡ Window window →
+            option_copied result ≡ Some window }
+        ensures empty { (count : ℕ) → self.now ≡ Start count → option_copied result ≡ None }
+    {
+        match &self.state {
+            ReceiverState::Start(_) => None,
+            ReceiverState::Window(window) => Some(window),
+        }
+    }
+
+    /// The rollover count: that of the highest number taken, and where nothing is taken yet that of
+    /// the first packet.
+    pub fn rollover_count(&self) -> u64
+        ensures started { (window : WindowState) → self.now ≡ Window window →
+            result ≡ window.greatest / 65536 }
+        ensures empty { (count : ℕ) → self.now ≡ Start count → result ≡ count }
+        ensures fits { result < 2 ^ 48 }
+    {
+        match &self.state {
+            ReceiverState::Start(count) => count.get(),
+            ReceiverState::Window(window) => window.parts().0.roc(),
         }
     }
 
