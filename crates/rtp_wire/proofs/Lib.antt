@@ -2,14 +2,14 @@ mod FlagLemmas
 mod FixedLemmas
 mod GroupLemmas
 mod BlockLemmas
-mod PacketLemmas
-mod HeaderFound
-mod PartsLemmas
+pub mod PacketLemmas
+pub mod HeaderFound
+pub mod PartsLemmas
 mod BytesBetween
 mod PacketChanges
 mod PacketParts
 mod ChangedPackets
-mod NotAPacketLemmas
+pub mod NotAPacketLemmas
 mod ValuesLemmas
 mod HeaderLemmas
 mod BlockWriting

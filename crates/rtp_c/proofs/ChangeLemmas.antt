@@ -1,0 +1,39 @@
+-- A packet that is changed where it lies.
+use Rattle.std.proofs.Common.{◌≡◌, ℕ, ◌<◌, List, sym, ap, ◌∙◌, subst}
+use Rattle.std.specs.Prelude.{slice_index}
+use Rattle.rtp_wire.specs.declared.packet.rtp_packet_mut.RtpPacketMut.{RtpPacketMut}
+use Rattle.rtp_wire.specs.Packet.{PacketParts, IsPacket}
+use Rattle.rtp_ext.specs.declared.ext.form.ExtensionsForm.{ExtensionsForm}
+use Rattle.rtp_wire.specs.ChangedPacket.{ChangesBlock}
+use Rattle.rtp_wire.specs.PartsAt.{parts_at}
+use Rattle.rtp_wire.specs.PartsOf.{parts_in}
+use Rattle.rtp_c.specs.ChangedElements.{BecomesPacket}
+use Rattle.rtp_wire.proofs.HeaderFound.{HasHeader-packet_mut, IsWhole-header}
+use Rattle.rtp_wire.proofs.PacketLemmas.{IsPacket-whole, one_packet}
+
+-- the buffer of a packet holds a packet of its parts
+pub IsPacket-in : (packet : RtpPacketMut) (bytes : List ℕ) → slice_index bytes 1 < 256 → packet.datagram.now ≡ bytes → IsPacket bytes (parts_in packet)
+IsPacket-in packet bytes fits is =
+    let now = packet.datagram.now in
+    subst (λ (b : List ℕ). IsPacket b (parts_in packet)) is
+    (IsPacket-whole now (subst (λ (b : List ℕ). slice_index b 1 < 256) (sym is) fits) (IsWhole-header now packet.header_len packet.form (HasHeader-packet_mut packet)))
+
+-- the parts of a packet in a buffer
+pub parts-in : (was : List ℕ) (parts : PacketParts) (packet : RtpPacketMut) → IsPacket was parts → packet.datagram.now ≡ was → parts_in packet ≡ parts
+parts-in was parts packet is same = ap parts_at same ∙ one_packet was parts is
+
+-- a packet whose parts were set
+pub IsPacket-set : (Set : PacketParts → PacketParts) (was : List ℕ) (parts : PacketParts) (old new : RtpPacketMut) (bytes : List ℕ) → IsPacket was parts
+    → old.datagram.now ≡ was → parts_in new ≡ Set (parts_in old) → slice_index bytes 1 < 256 → new.datagram.now ≡ bytes → IsPacket bytes (Set parts)
+IsPacket-set Set was parts old new bytes is same set fits ends =
+    subst (λ (q : PacketParts). IsPacket bytes q) (set ∙ ap Set (parts-in was parts old is same)) (IsPacket-in new bytes fits ends)
+
+-- a packet whose block was changed
+pub BecomesPacket-changed : (Change : ExtensionsForm → List ℕ → List ℕ → Type 0) (was : List ℕ) (parts : PacketParts) (old new : RtpPacketMut) (bytes : List ℕ) → IsPacket was parts
+    → old.datagram.now ≡ was → ChangesBlock Change (parts_in old) (parts_in new) → slice_index bytes 1 < 256 → new.datagram.now ≡ bytes → BecomesPacket Change parts bytes
+BecomesPacket-changed Change was parts old new bytes is same change fits ends =
+    record {
+      parts = parts_in new;
+      is_packet = IsPacket-in new bytes fits ends;
+      changes = subst (λ (q : PacketParts). ChangesBlock Change q (parts_in new)) (parts-in was parts old is same) change;
+    }

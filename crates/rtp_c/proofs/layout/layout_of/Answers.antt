@@ -1,0 +1,21 @@
+use Rattle.std.proofs.Common.{ap, ◌∙◌, arith}
+use Rattle.rtp_wire.specs.Packet.{header_len_of, PacketParts}
+use Rattle.rtp_wire.specs.PartsOf.{parts_of}
+use Rattle.rtp_wire.proofs.PartsLemmas.{length-packet}
+use Rattle.rtp_c.proofs.layout.layout_of.Goals as goal
+
+pub returns-in-Ok-clause-found : goal.returns-in-Ok-clause-found
+returns-in-Ok-clause-found c =
+    let parts = parts_of c.in-Ok.packet in
+    record {
+      parts = parts;
+      is_packet = c.in-Ok.ensures.found;
+      form_is = c.form.ensures;
+      len_is = omega (arith, c.header_len.ensures, length-packet c.args.datagram.now parts c.in-Ok.ensures.found);
+    }
+
+pub returns-in-Ok-clause-only : goal.returns-in-Ok-clause-only
+returns-in-Ok-clause-only c parts is = c.header_len.ensures ∙ ap (λ (q : PacketParts). header_len_of q) (c.in-Ok.ensures.only parts is)
+
+pub returns-in-Err-clause-only : goal.returns-in-Err-clause-only
+returns-in-Err-clause-only c parts is = absurd (c.in-Err.ensures.only parts is)

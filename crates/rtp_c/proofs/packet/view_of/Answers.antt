@@ -1,0 +1,34 @@
+use Rattle.std.proofs.Common.{◌≡◌, ◌+◌, ◌-◌, ap, ◌∙◌, arith, ℕ, rules, length}
+use Rattle.rtp_wire.specs.Packet.{header_len_of}
+use Rattle.rtp_wire.specs.PartsOf.{parts_of, bytes_of}
+use Rattle.rtp_wire.proofs.PartsLemmas.{length-packet}
+use Rattle.rtp_c.specs.PacketView.{bytes_at, body_of}
+use Rattle.rtp_c.proofs.PacketLemmas.{body-at, payload-at, body-within}
+use Rattle.rtp_c.proofs.packet.view_of.Goals as goal
+
+pub returns : goal.returns
+returns c =
+    let parts = parts_of c.args.packet.now in
+    let bytes = bytes_of c.args.packet.now in
+    let header = c.header_len-payload_at.result in
+    let body = c.body_len_of-body_len.result in
+    let header_is : header ≡ header_len_of parts = c.header_len-payload_at.ensures in
+    let body_is : body ≡ length (body_of parts.block) = c.body_len_of-body_len.ensures in
+    let payload_is = c.payload.ensures in
+    let ends : header - body + body ≡ header = omega (arith, header_is, body_is, body-within parts) in
+    record {
+      padding_is = search rules;
+      marker_is = search rules;
+      payload_type_is = search rules;
+      number_is = search rules;
+      timestamp_is = search rules;
+      ssrc_is = search rules;
+      sources_are = search rules;
+      form_is = search rules;
+      body_is = ap (bytes_at bytes (header - body)) body_is ∙ body-at bytes parts c.requires (header - body) (omega (arith, ends, body_is, header_is));
+      body_ends = ends;
+      payload_is = ap (λ (n : ℕ). bytes_at bytes header n) (ap length payload_is)
+          ∙ ap (λ (n : ℕ). bytes_at bytes n (length parts.payload)) header_is ∙ payload-at bytes parts c.requires;
+      payload_ends = omega (arith, header_is, ap length payload_is, length-packet bytes parts c.requires);
+      unpadded_is = c.unpadded_len_of-unpadded_len.ensures;
+    }

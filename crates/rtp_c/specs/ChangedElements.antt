@@ -1,0 +1,11 @@
+-- A packet whose elements are changed where they lie (RFC 8285, 4.2 and 4.3).
+use Rattle.std.specs.Prelude.{ℕ, List}
+use Rattle.rtp_ext.specs.declared.ext.form.ExtensionsForm.{ExtensionsForm}
+use Rattle.rtp_wire.specs.Packet.{PacketParts, IsPacket}
+use Rattle.rtp_wire.specs.ChangedPacket.{ChangesBlock}
+
+-- the bytes are a packet which the change of the body makes of these parts
+pub record BecomesPacket (Change : ExtensionsForm → List ℕ → List ℕ → Type 0) (was : PacketParts) (bytes : List ℕ) : Type 0 where
+  pub parts : PacketParts
+  pub is_packet : IsPacket bytes parts
+  pub changes : ChangesBlock Change was parts

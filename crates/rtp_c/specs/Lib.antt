@@ -1,0 +1,11 @@
+-- What the exports' contracts cite.
+pub mod Status
+pub mod PacketView
+pub mod ChangedElements
+pub mod StoredReceiver
+pub mod Judging
+pub mod ElementView
+pub mod KindNumbers
+pub mod KindsOfIds
+pub mod Held
+pub mod ValuesView

@@ -1,0 +1,45 @@
+-- What C is told of a packet where it lies (RFC 3550, 5.1; RFC 8285, 4).
+use Rattle.std.specs.Prelude.{◌≡◌, ℕ, ◌+◌, ◌<◌, ◌⊎◌, List, [], length, slice_range, Option, Some, None, option_map, true}
+use Rattle.rtp_ext.specs.declared.ext.form.ExtensionsForm.{ExtensionsForm}
+use Rattle.rtp_ext.specs.declared.ext.form.ExtensionsForm.TheVariants.{OneByte, TwoByte}
+use Rattle.rtp_base.specs.Flag.{bit}
+use Rattle.rtp_wire.specs.Packet.{PacketParts, IsWithoutPadding}
+use Rattle.rtp_wire.specs.Padding.{padding_count}
+use Rattle.rtp_c.specs.declared.packet.PacketView.{PacketView}
+
+-- the number of a block's form, and of none
+abbrev pub form_number : Option ExtensionsForm → ℕ
+form_number None = 0
+form_number (Some OneByte) = 1
+form_number (Some TwoByte) = 2
+
+-- the body of a block, and no bytes without one
+abbrev pub body_of : Option (ExtensionsForm × List ℕ) → List ℕ
+body_of None = []
+body_of (Some block) = block.1
+
+-- the bytes of this length at this offset
+abbrev pub bytes_at : List ℕ → ℕ → ℕ → List ℕ
+bytes_at bytes offset len = slice_range bytes offset (offset + len)
+
+-- how many bytes a payload has without its padding, where there are as many as the padding counts; where there are fewer, the length is 0
+abbrev pub IsUnpaddedLen : PacketParts → ℕ → ℕ → Type 0
+IsUnpaddedLen parts fits len =
+    ((fits ≡ 1) × (payload : List ℕ) × IsWithoutPadding parts.has_padding parts.payload payload × (len ≡ length payload))
+    ⊎ ((fits ≡ 0) × (parts.has_padding ≡ true) × (length parts.payload < padding_count parts.payload) × (len ≡ 0))
+
+-- what C is told of a packet with these bytes and parts
+pub record IsViewOf (bytes : List ℕ) (parts : PacketParts) (view : PacketView) : Type 0 where
+  pub padding_is : view.has_padding ≡ bit parts.has_padding
+  pub marker_is : view.marker ≡ bit parts.marker
+  pub payload_type_is : view.payload_type ≡ parts.payload_type
+  pub number_is : view.sequence_number ≡ parts.sequence_number
+  pub timestamp_is : view.timestamp ≡ parts.timestamp
+  pub ssrc_is : view.ssrc ≡ parts.ssrc
+  pub sources_are : view.csrc_count ≡ length parts.sources
+  pub form_is : view.block_form ≡ form_number (option_map (λ block. block.0) parts.block)
+  pub body_is : bytes_at bytes view.body_at view.body_len ≡ body_of parts.block
+  pub body_ends : view.body_at + view.body_len ≡ view.payload_at
+  pub payload_is : bytes_at bytes view.payload_at view.payload_len ≡ parts.payload
+  pub payload_ends : view.payload_at + view.payload_len ≡ length bytes
+  pub unpadded_is : IsUnpaddedLen parts view.padding_fits view.unpadded_len

@@ -1,0 +1,40 @@
+-- The statuses.
+use Rattle.std.specs.Prelude.{◌≡◌, ℕ, List, ℤ, pos}
+use Rattle.rtp_wire.specs.declared.packet.not_a_packet.NotAPacket.{NotAPacket}
+use Rattle.rtp_wire.specs.declared.packet.not_a_packet.NotAPacket.TheVariants.{CutFixedPart, OtherVersion, CutSources, CutBlockHeader, UnknownForm, CutBlock}
+use Rattle.rtp_wire.specs.NotAPacket.{IsFirstCause}
+
+-- the call did what it is for
+abbrev pub ok : ℤ
+ok = pos 0
+
+-- the status of each cause for which bytes are no packet
+abbrev pub cause_status : NotAPacket → ℤ
+cause_status CutFixedPart = pos 1
+cause_status OtherVersion = pos 2
+cause_status CutSources = pos 3
+cause_status CutBlockHeader = pos 4
+cause_status UnknownForm = pos 5
+cause_status CutBlock = pos 6
+
+-- memory was refused
+abbrev pub no_memory : ℤ
+no_memory = pos 7
+
+-- a value that no packet can carry
+abbrev pub bad_field : ℤ
+bad_field = pos 9
+
+-- a replay, or too old to tell
+abbrev pub refused : ℤ
+refused = pos 10
+
+-- there is no such element
+abbrev pub none : ℤ
+none = pos 11
+
+-- the status of the first cause for which these bytes are no packet
+pub record IsCauseStatus (bytes : List ℕ) (status : ℤ) : Type 0 where
+  pub cause : NotAPacket
+  pub is_first : IsFirstCause bytes cause
+  pub status_is : status ≡ cause_status cause

@@ -1,0 +1,15 @@
+//! The library for C: what crosses to it is numbers and structs of numbers in the caller's memory.
+//!
+//! Each exported function may be called with any values. It returns a status, or a value, and writes
+//! its outputs whole or not at all.
+#![tactic(auto)]
+
+mod changing;
+mod changing_elements;
+mod elements;
+mod layout;
+mod map;
+mod packet;
+mod receiver;
+mod status;
+mod values;

@@ -1,0 +1,142 @@
+//! A packet where it lies: its fields, and where its parts begin.
+
+ghost use Rattle.std.specs.Prelude.{◌≡◌, ◌≢◌, ◌↔◌, ◌≤◌, length};
+ghost use Rattle.rtp_wire.specs.Packet.{PacketParts, IsPacket, header_len_of};
+ghost use Rattle.rtp_wire.specs.NotAHeader.{NotAHeader};
+ghost use Rattle.rtp_wire.specs.PartsOf.{parts_of, bytes_of};
+ghost use Rattle.rtp_c.specs.Status.{ok, IsCauseStatus};
+ghost use Rattle.rtp_c.specs.PacketView.{IsViewOf, IsUnpaddedLen, body_of, form_number};
+ghost use Rattle.rtp_base.specs.Flag.{bit};
+
+use super::status::{OK, status_of};
+use rtp_wire::{ExtensionsForm, RtpPacket};
+
+/// What the header of a packet says, and where the parts of the packet lie, as offsets in the bytes
+/// of its datagram: `rtp_packet` in C, 56 bytes. The CSRC list begins at 12.
+#[repr(C)]
+#[derive(Clone, Copy)]
+pub struct PacketView {
+    /// Where the payload begins: how many bytes the header takes.
+    pub payload_at: usize,
+    /// How many bytes the payload has, with any padding.
+    pub payload_len: usize,
+    /// How many bytes the payload has without its padding, and 0 where `padding_fits` is 0.
+    pub unpadded_len: usize,
+    /// Where the body of the block begins, whose header is the four bytes before it: `body_len`
+    /// before the payload.
+    pub body_at: usize,
+    /// How many bytes the body of the block has, and 0 where X is clear.
+    pub body_len: usize,
+    /// The moment of the payload's first byte, in ticks of the payload's own clock.
+    pub timestamp: u32,
+    /// The source whose stream this is.
+    pub ssrc: u32,
+    /// The low 16 bits of the packet's number.
+    pub sequence_number: u16,
+    /// What the payload is, 0 to 127.
+    pub payload_type: u8,
+    /// How many contributing sources there are, 0 to 15.
+    pub csrc_count: u8,
+    /// M, 0 or 1.
+    pub marker: u8,
+    /// P, 0 or 1.
+    pub has_padding: u8,
+    /// 1, and 0 where the padding's count is greater than the number of the payload's bytes.
+    pub padding_fits: u8,
+    /// The form of the block: 1 the one-byte form, 2 the two-byte form, and 0 where X is clear.
+    pub block_form: u8,
+}
+
+// A flag as a number.
+fn flag_number(is_set: bool) -> u8
+    ensures { result ≡ bit is_set }
+{
+    if is_set { 1 } else { 0 }
+}
+
+// The number of the block's form.
+fn form_number_of(form: Option<ExtensionsForm>) -> u8
+    ensures { result ≡ form_number form }
+{
+    match form {
+        None => 0,
+        Some(ExtensionsForm::OneByte) => 1,
+        Some(ExtensionsForm::TwoByte) => 2,
+    }
+}
+
+// How many contributing sources the packet has.
+fn csrc_count_of(packet: &RtpPacket<'_>) -> u8
+    requires { length (parts_of packet.now).sources ≤ 15 }
+    ensures { result ≡ length (parts_of packet.now).sources }
+{
+    packet.csrc().len() as u8
+}
+
+// How many bytes the body of the block has.
+fn body_len_of(packet: &RtpPacket<'_>) -> usize
+    ensures { result ≡ length (body_of (parts_of packet.now).block) }
+{
+    match packet.form() {
+        None => 0,
+        Some(_) => packet.header_len() - (16 + 4 * packet.csrc().len()),
+    }
+}
+
+// How many bytes the payload has without its padding, and whether the padding fits.
+fn unpadded_len_of(packet: &RtpPacket<'_>) -> (usize, u8)
+    ensures { IsUnpaddedLen (parts_of packet.now) result.1 result.0 }
+{
+    match packet.unpadded_payload() {
+        None => (0, 0),
+        Some(payload) => (payload.len(), 1),
+    }
+}
+
+// What C is told of the packet.
+fn view_of(packet: &RtpPacket<'_>) -> PacketView
+    requires { IsPacket (bytes_of packet.now) (parts_of packet.now) }
+    ensures { IsViewOf (bytes_of packet.now) (parts_of packet.now) result }
+{
+    let payload_at = packet.header_len();
+    let body_len = body_len_of(packet);
+    let (unpadded_len, padding_fits) = unpadded_len_of(packet);
+    PacketView {
+        payload_at,
+        payload_len: packet.payload().len(),
+        unpadded_len,
+        body_at: payload_at - body_len,
+        body_len,
+        timestamp: packet.timestamp(),
+        ssrc: packet.ssrc().get(),
+        sequence_number: packet.sequence_number(),
+        payload_type: packet.payload_type().get(),
+        csrc_count: csrc_count_of(packet),
+        marker: flag_number(packet.marker()),
+        has_padding: flag_number(packet.has_padding()),
+        padding_fits,
+        block_form: form_number_of(packet.form()),
+    }
+}
+
+/// Reads the header of the packet that the datagram is. `OK`, or the status of the first cause for
+/// which it is none, and then nothing is written.
+#[unsafe(no_mangle)]
+pub extern "C" fn rtp_packet_parse(datagram: &[u8], packet: &mut PacketView) -> i32
+    // Of a packet of these parts all of them are told, and bytes are a packet of such parts where
+    // the status is OK.
+    ensures parts { (parts : PacketParts) → IsPacket datagram.now parts →
+        (result ≡ ok) × IsViewOf datagram.now parts packet.new }
+    ensures found { result ≡ ok → (parts : PacketParts) × IsPacket datagram.now parts }
+    ensures cause { result ≢ ok → IsCauseStatus datagram.now result }
+    ensures refused { result ≢ ok ↔ NotAHeader datagram.now }
+    ensures unchanged { result ≢ ok → packet.new ≡ packet.old }
+{
+    match RtpPacket::parse(datagram) {
+        Ok(found) => {
+            *packet = view_of(&found);
+            OK
+        }
+        Err(cause) => status_of(cause),
+    }
+}

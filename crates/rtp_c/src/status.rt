@@ -1,0 +1,43 @@
+//! What a call returns where it is refused.
+
+ghost use Rattle.std.specs.Prelude.{◌≡◌};
+ghost use Rattle.rtp_c.specs.Status.{cause_status};
+
+use rtp_wire::NotAPacket;
+
+/// The call did what it is for.
+pub const OK: i32 = 0;
+/// The datagram has fewer than the twelve bytes that every header has.
+pub const CUT_FIXED_PART: i32 = 1;
+/// The datagram's version is another than 2.
+pub const OTHER_VERSION: i32 = 2;
+/// The CSRC list is cut short.
+pub const CUT_SOURCES: i32 = 3;
+/// X is set, and the first four bytes of the block are cut short.
+pub const CUT_BLOCK_HEADER: i32 = 4;
+/// The block's form is neither 0xBEDE nor 0x1000 to 0x100F.
+pub const UNKNOWN_FORM: i32 = 5;
+/// The block is longer than what is left.
+pub const CUT_BLOCK: i32 = 6;
+/// Memory was refused.
+pub const NO_MEMORY: i32 = 7;
+/// A value is one that no packet can carry.
+pub const BAD_FIELD: i32 = 9;
+/// A packet is a replay, or too old to tell.
+pub const REFUSED: i32 = 10;
+/// There is no such element.
+pub const NONE: i32 = 11;
+
+// The status of this cause.
+pub fn status_of(cause: NotAPacket) -> i32
+    ensures { result ≡ cause_status cause }
+{
+    match cause {
+        NotAPacket::CutFixedPart => CUT_FIXED_PART,
+        NotAPacket::OtherVersion => OTHER_VERSION,
+        NotAPacket::CutSources => CUT_SOURCES,
+        NotAPacket::CutBlockHeader => CUT_BLOCK_HEADER,
+        NotAPacket::UnknownForm => UNKNOWN_FORM,
+        NotAPacket::CutBlock => CUT_BLOCK,
+    }
+}
