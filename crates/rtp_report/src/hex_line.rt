@@ -4,7 +4,6 @@ ghost use Rattle.std.specs.Prelude.{◌≡◌, ◌↔◌, ◌*◌, ◌<◌, List
 ghost use Rattle.std.specs.Char.{IsAsciiHexdigit};
 ghost use Rattle.hex.specs.Hex.{decode_of, hex_digit_value};
 
-use hex::FromHexError;
 use std::alloc::{AllocError, Global};
 
 // Whether each byte is a hexadecimal digit of either case. No byte ends the loop early, so that many
@@ -58,11 +57,12 @@ pub fn datagram(alloc: Global, line: &[u8]) -> Result<Option<Vec<u8>>, AllocErro
         IfOk result (λ answer. IsSomeAnd answer (λ found. found.items ≡ bytes)) }
     ensures none { IsErr (decode_of line.now) → result ≡ Ok None }
 {
-    match hex::decode(alloc, line) {
-        Ok(bytes) => Ok(Some(bytes)),
-        Err(FromHexError::OutOfMemory) if is_hex(line) => Err(AllocError),
-        Err(_) => Ok(None),
+    if !is_hex(line) {
+        return Ok(None);
     }
+    let mut bytes = Vec::new(alloc);
+    decode_into(line, &mut bytes)?;
+    Ok(Some(bytes))
 }
 
 /// Puts the bytes of a line of hexadecimal into the buffer, in place of what it held.
