@@ -6,10 +6,13 @@
 
 mod changing;
 mod changing_elements;
+mod changing_sources;
 mod elements;
 mod layout;
 mod map;
 mod packet;
+mod payload;
 mod receiver;
 mod status;
 mod values;
+mod version;
