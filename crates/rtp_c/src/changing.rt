@@ -2,6 +2,7 @@
 
 ghost use Rattle.std.specs.Prelude.{◌≡◌, ◌≢◌, ◌↔◌, ◌≤◌, ◌<◌};
 ghost use Rattle.rtp_wire.specs.Packet.{PacketParts, IsPacket};
+ghost use Rattle.rtp_wire.specs.ChangedPacket.{ChangesOnly};
 ghost use Rattle.rtp_wire.specs.NotAHeader.{NotAHeader};
 ghost use Rattle.rtp_c.specs.Status.{ok, bad_field, IsCauseStatus};
 
@@ -18,6 +19,7 @@ pub extern "C" fn rtp_set_marker(datagram: &mut [u8], marker: bool) -> i32
         (result ≡ ok) × IsPacket datagram.new (record parts { marker = marker }) }
     ensures cause { result ≢ ok → IsCauseStatus datagram.old result }
     ensures refused { result ≢ ok ↔ NotAHeader datagram.old }
+    ensures bytes { ChangesOnly 1 2 datagram.old datagram.new }
     ensures unchanged { result ≢ ok → datagram.new ≡ datagram.old }
 {
     match layout_of(datagram) {
@@ -40,6 +42,7 @@ pub extern "C" fn rtp_set_payload_type(datagram: &mut [u8], payload_type: u8) ->
     ensures too_high { 127 < payload_type → result ≡ bad_field }
     ensures cause { payload_type ≤ 127 → result ≢ ok → IsCauseStatus datagram.old result }
     ensures refused { payload_type ≤ 127 → result ≢ ok ↔ NotAHeader datagram.old }
+    ensures bytes { ChangesOnly 1 2 datagram.old datagram.new }
     ensures unchanged { result ≢ ok → datagram.new ≡ datagram.old }
 {
     if payload_type > 127 {
@@ -63,6 +66,7 @@ pub extern "C" fn rtp_set_sequence_number(datagram: &mut [u8], number: u16) -> i
         (result ≡ ok) × IsPacket datagram.new (record parts { sequence_number = number }) }
     ensures cause { result ≢ ok → IsCauseStatus datagram.old result }
     ensures refused { result ≢ ok ↔ NotAHeader datagram.old }
+    ensures bytes { ChangesOnly 2 4 datagram.old datagram.new }
     ensures unchanged { result ≢ ok → datagram.new ≡ datagram.old }
 {
     match layout_of(datagram) {
@@ -83,6 +87,7 @@ pub extern "C" fn rtp_set_timestamp(datagram: &mut [u8], timestamp: u32) -> i32
         (result ≡ ok) × IsPacket datagram.new (record parts { timestamp = timestamp }) }
     ensures cause { result ≢ ok → IsCauseStatus datagram.old result }
     ensures refused { result ≢ ok ↔ NotAHeader datagram.old }
+    ensures bytes { ChangesOnly 4 8 datagram.old datagram.new }
     ensures unchanged { result ≢ ok → datagram.new ≡ datagram.old }
 {
     match layout_of(datagram) {
@@ -103,6 +108,7 @@ pub extern "C" fn rtp_set_ssrc(datagram: &mut [u8], ssrc: u32) -> i32
         (result ≡ ok) × IsPacket datagram.new (record parts { ssrc = ssrc }) }
     ensures cause { result ≢ ok → IsCauseStatus datagram.old result }
     ensures refused { result ≢ ok ↔ NotAHeader datagram.old }
+    ensures bytes { ChangesOnly 8 12 datagram.old datagram.new }
     ensures unchanged { result ≢ ok → datagram.new ≡ datagram.old }
 {
     match layout_of(datagram) {

@@ -4,6 +4,7 @@ ghost use Rattle.std.specs.Prelude.{◌≡◌, ◌≢◌, ◌↔◌, List, lengt
 ghost use Rattle.rtp_ext.specs.Elements.{Element};
 ghost use Rattle.rtp_ext.specs.ElementsInPlace.{HasNone, HasLastOf, SetsLast, HasOtherIds, all_but};
 ghost use Rattle.rtp_wire.specs.Packet.{PacketParts, IsPacket};
+ghost use Rattle.rtp_wire.specs.ChangedPacket.{ChangesOnlyBody};
 ghost use Rattle.rtp_wire.specs.NotAHeader.{NotAHeader};
 ghost use Rattle.rtp_wire.specs.PacketElements.{AreElementsOf};
 ghost use Rattle.rtp_c.specs.Status.{ok, none, IsCauseStatus};
@@ -26,6 +27,7 @@ pub extern "C" fn rtp_set_element(datagram: &mut [u8], id: u8, data: &[u8]) -> i
     ensures otherwise { (parts : PacketParts) → IsPacket datagram.old parts → result ≢ ok →
         result ≡ none }
     ensures cause { NotAHeader datagram.old → IsCauseStatus datagram.old result }
+    ensures bytes { ChangesOnlyBody datagram.old datagram.new }
     ensures unchanged { result ≢ ok → datagram.new ≡ datagram.old }
 {
     match layout_of(datagram) {
@@ -54,6 +56,7 @@ pub extern "C" fn rtp_remove_element(datagram: &mut [u8], id: u8) -> i32
     ensures otherwise { (parts : PacketParts) → IsPacket datagram.old parts → result ≢ ok →
         result ≡ none }
     ensures cause { NotAHeader datagram.old → IsCauseStatus datagram.old result }
+    ensures bytes { ChangesOnlyBody datagram.old datagram.new }
     ensures unchanged { result ≢ ok → datagram.new ≡ datagram.old }
 {
     match layout_of(datagram) {

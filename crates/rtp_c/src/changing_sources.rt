@@ -1,7 +1,8 @@
 //! The contributing sources of a packet, changed where they lie.
 
-ghost use Rattle.std.specs.Prelude.{◌≡◌, ◌≢◌, ◌<◌, ◌≤◌, length, slice_set};
+ghost use Rattle.std.specs.Prelude.{◌≡◌, ◌≢◌, ◌+◌, ◌*◌, ◌<◌, ◌≤◌, length, slice_set};
 ghost use Rattle.rtp_wire.specs.Packet.{PacketParts, IsPacket};
+ghost use Rattle.rtp_wire.specs.ChangedPacket.{ChangesOnly};
 ghost use Rattle.rtp_wire.specs.NotAHeader.{NotAHeader};
 ghost use Rattle.rtp_c.specs.Status.{ok, none, IsCauseStatus};
 
@@ -21,6 +22,7 @@ pub extern "C" fn rtp_set_csrc(datagram: &mut [u8], index: usize, source: u32) -
     ensures otherwise { (parts : PacketParts) → IsPacket datagram.old parts →
         length parts.sources ≤ index → result ≡ none }
     ensures cause { NotAHeader datagram.old → IsCauseStatus datagram.old result }
+    ensures bytes { ChangesOnly (12 + 4 * index) (16 + 4 * index) datagram.old datagram.new }
     ensures unchanged { result ≢ ok → datagram.new ≡ datagram.old }
 {
     match layout_of(datagram) {
