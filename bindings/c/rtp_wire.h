@@ -39,8 +39,8 @@ extern "C" {
 
 /* ---- Statuses ---- */
 
-/* What a function returns as an int32_t. The first six causes are those for which bytes are no RTP
- * packet, in the order in which they are looked for. */
+/* What a function returns as an int32_t. Those from 1 to 6 are the causes for which bytes are no RTP
+ * packet, in the order in which they are looked for: the first that applies is returned. */
 enum {
     RTP_OK = 0,               /* the call did what it is for */
     RTP_CUT_FIXED_PART = 1,   /* fewer than the twelve bytes that every header has */
@@ -48,8 +48,28 @@ enum {
     RTP_CUT_SOURCES = 3,      /* the CSRC list is cut short */
     RTP_CUT_BLOCK_HEADER = 4, /* X is set, and the first four bytes of the block are cut short */
     RTP_UNKNOWN_FORM = 5,     /* the block's form is neither 0xBEDE nor 0x1000 to 0x100F */
-    RTP_CUT_BLOCK = 6         /* the block is longer than what is left */
+    RTP_CUT_BLOCK = 6,        /* the block is longer than what is left */
+    RTP_BAD_FIELD = 9,        /* an argument is out of its range */
+    RTP_REFUSED = 10,         /* a replay, or too old to tell */
+    RTP_NONE = 11             /* there is no such element */
 };
+
+/* What a status says, in words. */
+static inline const char *rtp_status_text(int32_t status) {
+    switch (status) {
+    case RTP_OK: return "done";
+    case RTP_CUT_FIXED_PART: return "fewer than twelve bytes";
+    case RTP_OTHER_VERSION: return "another version than 2";
+    case RTP_CUT_SOURCES: return "the CSRC list is cut short";
+    case RTP_CUT_BLOCK_HEADER: return "the header of the extension block is cut short";
+    case RTP_UNKNOWN_FORM: return "a header extension of an unknown form";
+    case RTP_CUT_BLOCK: return "the extension block is cut short";
+    case RTP_BAD_FIELD: return "an argument is out of its range";
+    case RTP_REFUSED: return "a replay, or too old to tell";
+    case RTP_NONE: return "no such element";
+    default: return "no status of this library";
+    }
+}
 
 /* ---- A packet where it lies ---- */
 
@@ -83,6 +103,81 @@ typedef struct {
 
 /* Reads the header of the packet in the buffer. RTP_OK, or the first cause for which it holds none. */
 int32_t rtp_packet_parse(const uint8_t *datagram, size_t len, rtp_packet *packet);
+
+/* ---- A packet, changed where it lies ---- */
+
+/* Each changes the part of the packet in the buffer that it names, and no other byte. RTP_OK, or the
+ * first cause for which the buffer holds no packet; rtp_set_payload_type also RTP_BAD_FIELD, where
+ * the payload type is above 127. Where it isn't RTP_OK nothing changes. */
+int32_t rtp_set_marker(uint8_t *datagram, size_t len, bool marker);
+int32_t rtp_set_payload_type(uint8_t *datagram, size_t len, uint8_t payload_type);
+int32_t rtp_set_sequence_number(uint8_t *datagram, size_t len, uint16_t number);
+int32_t rtp_set_timestamp(uint8_t *datagram, size_t len, uint32_t timestamp);
+int32_t rtp_set_ssrc(uint8_t *datagram, size_t len, uint32_t ssrc);
+
+/* Gives the last element of this id these data. RTP_NONE where the packet has no element of the id,
+ * or its last one has another number of bytes. */
+int32_t rtp_set_element(uint8_t *datagram, size_t len, uint8_t id, const uint8_t *data, size_t data_len);
+/* Makes each element of this id padding. RTP_NONE where the packet has none. */
+int32_t rtp_remove_element(uint8_t *datagram, size_t len, uint8_t id);
+
+/* ---- The elements of a block ---- */
+
+/* Where an element lies, in bytes from the first one of the block's body. 32 bytes. */
+typedef struct {
+    size_t data_at;  /* where its data begin */
+    size_t data_len; /* 0 to 255 */
+    size_t end;      /* where its data end */
+    uint8_t id;      /* 0 to 14 in the one-byte form, 1 to 255 in the two-byte form */
+} rtp_element;
+
+/* The first element from an offset on. RTP_OK; RTP_NONE where reading ends before an element;
+ * RTP_BAD_FIELD where the form is none of the two, or the offset is past the body's end.
+ *
+ *     const uint8_t *body = datagram + packet.body_at;
+ *     rtp_element element = {0};
+ *     while (rtp_next_element(body, packet.body_len, packet.block_form, element.end, &element) == RTP_OK) {
+ *         look(element.id, body + element.data_at, element.data_len);
+ *     }
+ */
+int32_t rtp_next_element(const uint8_t *body, size_t body_len, uint8_t form, size_t at, rtp_element *element);
+/* The last element of an id, which is the one that counts. RTP_OK; RTP_NONE where no element has the
+ * id; RTP_BAD_FIELD where the form is none of the two. */
+int32_t rtp_last_element(const uint8_t *body, size_t body_len, uint8_t form, uint8_t id, rtp_element *element);
+
+/* ---- The numbers of a stream ---- */
+
+/* The receive state of one stream, a replay window of 128 numbers (RFC 3711, 3.3.1 and 3.3.2). 32
+ * bytes of plain memory, of which each value is a state: it may be copied and stored. {0} has taken
+ * nothing yet, and its first packet has the rollover count 0.
+ *
+ * SRTP: number_of, accepts, authenticate the packet, record; a forged packet then changes nothing.
+ * Where nothing is authenticated: receive. */
+typedef struct {
+    uint64_t highest;       /* the highest number taken; before that, 65,536 times the first packet's rollover count */
+    uint64_t recorded_low;  /* bit i: whether highest - i is taken */
+    uint64_t recorded_high; /* bit i: whether highest - 64 - i is taken */
+    uint8_t started;        /* 0 where nothing is taken yet */
+} rtp_receiver;
+
+/* Nothing is taken yet, and the first packet has this rollover count. RTP_OK, or RTP_BAD_FIELD where
+ * the count is 2^48 or more. With a count of 1 or more a packet from before the first one has a
+ * number too. */
+int32_t rtp_receiver_start(rtp_receiver *receiver, uint64_t rollover_count);
+/* The extended sequence number: the nearest to the highest taken that ends in these 16 bits. Its low
+ * 48 bits are SRTP's packet index. */
+uint64_t rtp_receiver_number_of(const rtp_receiver *receiver, uint16_t sequence_number);
+/* Whether the number may be taken: nothing is taken yet, or it is above the highest taken, or less
+ * than 128 below it and not taken. */
+bool rtp_receiver_accepts(const rtp_receiver *receiver, uint64_t number);
+/* Records that the number is taken. One that isn't accepted changes nothing of what is held. */
+void rtp_receiver_record(rtp_receiver *receiver, uint64_t number);
+/* RTP_OK, and the number is written and recorded; or RTP_REFUSED where it may not be taken. */
+int32_t rtp_receiver_receive(rtp_receiver *receiver, uint16_t sequence_number, uint64_t *number);
+
+/* The number nearest to the previous one, modulo 2^64, that ends in these 16 bits. Where two are
+ * equally near it is the one with the rollover count of the previous one. */
+uint64_t rtp_extend_u16(uint64_t previous, uint16_t number);
 
 #ifdef __cplusplus
 }

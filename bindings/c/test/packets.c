@@ -113,11 +113,89 @@ static void elements_are_set(void) {
     CHECK(memcmp(bytes, SAMPLE, 24) == 0);
 }
 
+static void elements_are_found(void) {
+    const uint8_t *body = SAMPLE + 24;
+    rtp_element element = {0};
+    CHECK(sizeof element == 32);
+    CHECK(rtp_next_element(body, 8, RTP_ONE_BYTE_FORM, element.end, &element) == RTP_OK);
+    CHECK(element.id == 1 && element.data_at == 1 && element.data_len == 1 && element.end == 2);
+    CHECK(rtp_next_element(body, 8, RTP_ONE_BYTE_FORM, element.end, &element) == RTP_OK);
+    CHECK(element.id == 2 && element.data_at == 3 && element.data_len == 2 && element.end == 5);
+    CHECK(rtp_next_element(body, 8, RTP_ONE_BYTE_FORM, element.end, &element) == RTP_OK);
+    CHECK(element.id == 1 && element.data_at == 6 && element.data_len == 1 && element.end == 7);
+    CHECK(rtp_next_element(body, 8, RTP_ONE_BYTE_FORM, element.end, &element) == RTP_NONE);
+    CHECK(rtp_next_element(body, 8, RTP_ONE_BYTE_FORM, 8, &element) == RTP_NONE);
+    CHECK(rtp_next_element(body, 8, RTP_ONE_BYTE_FORM, 9, &element) == RTP_BAD_FIELD);
+    CHECK(rtp_next_element(body, 8, RTP_NO_BLOCK, 0, &element) == RTP_BAD_FIELD);
+    CHECK(rtp_next_element(body, 8, 3, 0, &element) == RTP_BAD_FIELD);
+    CHECK(element.id == 1 && element.data_at == 6 && element.data_len == 1 && element.end == 7);
+    CHECK(rtp_last_element(body, 8, RTP_ONE_BYTE_FORM, 2, &element) == RTP_OK);
+    CHECK(element.id == 2 && element.data_at == 3 && element.data_len == 2 && element.end == 5);
+    CHECK(rtp_last_element(body, 8, RTP_ONE_BYTE_FORM, 1, &element) == RTP_OK);
+    CHECK(element.id == 1 && element.data_at == 6 && element.data_len == 1 && element.end == 7);
+    CHECK(rtp_last_element(body, 8, RTP_ONE_BYTE_FORM, 3, &element) == RTP_NONE);
+    CHECK(rtp_last_element(body, 8, 0xFF, 1, &element) == RTP_BAD_FIELD);
+    /* the same bytes in the two-byte form: the header 10 AA announces 170 bytes, which are not there */
+    CHECK(rtp_next_element(body, 8, RTP_TWO_BYTE_FORM, 0, &element) == RTP_NONE);
+    /* from 5 on: the element 16 would have 221 bytes; from 7 on there is padding alone */
+    CHECK(rtp_next_element(body, 8, RTP_TWO_BYTE_FORM, 7, &element) == RTP_NONE);
+}
+
+static void numbers_are_taken(void) {
+    static const rtp_receiver NEW = {0};
+    rtp_receiver receiver = NEW;
+    uint64_t number = 7;
+    CHECK(sizeof receiver == 32);
+    CHECK(rtp_receiver_number_of(&receiver, 65534) == 65534);
+    CHECK(rtp_receiver_receive(&receiver, 65534, &number) == RTP_OK && number == 65534);
+    CHECK(rtp_receiver_receive(&receiver, 65535, &number) == RTP_OK && number == 65535);
+    CHECK(rtp_receiver_receive(&receiver, 0, &number) == RTP_OK && number == 65536);
+    CHECK(receiver.highest == 65536 && receiver.recorded_low == 7 && receiver.recorded_high == 0);
+    CHECK(rtp_receiver_receive(&receiver, 65534, &number) == RTP_REFUSED && number == 65536);
+    CHECK(rtp_receiver_number_of(&receiver, 65535) == 65535);
+    CHECK(!rtp_receiver_accepts(&receiver, 65535));
+    CHECK(rtp_receiver_accepts(&receiver, 65409) && !rtp_receiver_accepts(&receiver, 65408));
+    rtp_receiver_record(&receiver, 65472);
+    CHECK(receiver.recorded_low == 7 && receiver.recorded_high == 1);
+    rtp_receiver_record(&receiver, 65600);
+    CHECK(receiver.highest == 65600 && receiver.recorded_low == 1 && receiver.recorded_high == 7);
+}
+
+static void receivers_start(void) {
+    rtp_receiver receiver;
+    uint64_t number;
+    memset(&receiver, 0xFF, sizeof receiver);
+    CHECK(rtp_receiver_start(&receiver, UINT64_C(1) << 48) == RTP_BAD_FIELD);
+    CHECK(receiver.started == 0xFF);
+    CHECK(rtp_receiver_start(&receiver, 1) == RTP_OK);
+    CHECK(rtp_receiver_receive(&receiver, 5, &number) == RTP_OK && number == 65541);
+    CHECK(rtp_receiver_receive(&receiver, 65533, &number) == RTP_OK && number == 65533);
+    CHECK(rtp_receiver_receive(&receiver, 6, &number) == RTP_OK && number == 65542);
+    CHECK(rtp_receiver_start(&receiver, (UINT64_C(1) << 48) - 1) == RTP_OK);
+    CHECK(rtp_receiver_number_of(&receiver, 9) == UINT64_MAX - 65526);
+    CHECK(rtp_extend_u16(65535, 0) == 65536);
+    CHECK(rtp_extend_u16(65538, 1) == 65537);
+    CHECK(rtp_extend_u16(0, 65533) == UINT64_MAX - 2);
+}
+
+static void statuses_are_told(void) {
+    int32_t status;
+    for (status = RTP_OK; status <= RTP_CUT_BLOCK; status++) {
+        CHECK(strlen(rtp_status_text(status)) > 3);
+    }
+    CHECK(strcmp(rtp_status_text(RTP_NONE), "no such element") == 0);
+    CHECK(strcmp(rtp_status_text(-1), "no status of this library") == 0);
+}
+
 int main(void) {
     is_read();
     padding_is_too_long();
     is_refused();
     fields_are_set();
     elements_are_set();
+    elements_are_found();
+    numbers_are_taken();
+    receivers_start();
+    statuses_are_told();
     return failed;
 }

@@ -1,3 +1,4 @@
 mod StatusLemmas
 mod PacketLemmas
 mod ChangeLemmas
+mod ElementLemmas

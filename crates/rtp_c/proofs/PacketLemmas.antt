@@ -1,6 +1,5 @@
 -- Where the parts of a packet lie in its bytes.
 use Rattle.std.proofs.Common.{◌≡◌, ℕ, ◌+◌, ◌-◌, ◌*◌, ◌≤◌, List, [], ◌++◌, length, take, drop, Bool, true, false, Option, Some, None, refl, sym, ap, ◌∙◌, append_assoc, append-nil, length-append, take_at, drop_at, arith}
-use Rattle.std.specs.Prelude.{option_map}
 use Rattle.std.specs.List.{concat}
 use Rattle.std.proofs.lemmas.List.{take-append-drop}
 use Rattle.rtp_ext.specs.declared.ext.form.ExtensionsForm.{ExtensionsForm}
@@ -9,7 +8,7 @@ use Rattle.rtp_wire.proofs.PartsLemmas.{length-packet}
 use Rattle.rtp_c.specs.PacketView.{body_of, bytes_at}
 
 -- bytes between others
-middle : (bytes before it after : List ℕ) (offset len : ℕ) → bytes ≡ before ++ (it ++ after) → length before ≡ offset → length it ≡ len → bytes_at bytes offset len ≡ it
+pub middle : (bytes before it after : List ℕ) (offset len : ℕ) → bytes ≡ before ++ (it ++ after) → length before ≡ offset → length it ≡ len → bytes_at bytes offset len ≡ it
 middle bytes before it after offset len in_order offset-is len-is =
     let n : offset + len - offset ≡ len = omega arith in
     ap (λ (k : ℕ). take k (drop offset bytes)) n

@@ -2,3 +2,6 @@
 pub mod Status
 pub mod PacketView
 pub mod ChangedElements
+pub mod StoredReceiver
+pub mod Judging
+pub mod ElementView

@@ -21,6 +21,10 @@ cause_status CutBlock = pos 6
 abbrev pub bad_field : ℤ
 bad_field = pos 9
 
+-- a replay, or too old to tell
+abbrev pub refused : ℤ
+refused = pos 10
+
 -- there is no such element
 abbrev pub none : ℤ
 none = pos 11

@@ -6,6 +6,8 @@
 
 mod changing;
 mod changing_elements;
+mod elements;
 mod layout;
 mod packet;
+mod receiver;
 mod status;

@@ -21,6 +21,8 @@ pub const UNKNOWN_FORM: i32 = 5;
 pub const CUT_BLOCK: i32 = 6;
 /// A value is one that no packet can carry.
 pub const BAD_FIELD: i32 = 9;
+/// A packet is a replay, or too old to tell.
+pub const REFUSED: i32 = 10;
 /// There is no such element.
 pub const NONE: i32 = 11;
 

@@ -25,5 +25,6 @@ pub use iter::{Iter, IterByMediaType};
 pub use kinds_by_id::KindsById;
 pub use map::{ExtensionMap, MAX_ID};
 pub use new_ids::NewIds;
+pub use place::{Place, last_place, next_place};
 pub use raw_writing::{put_elements, write_elements};
 pub use renumbering::{remove_element, renumber};

@@ -12,17 +12,25 @@ use super::block_elements::{header_len, write_header};
 use super::elements::first_element;
 use rtp_base::put_zeros;
 
-// Where an element lies: the offsets of its header, of its data and of what follows them.
+/// Where an element lies in the body of a block, as offsets from the body's first byte.
 #[derive(Clone, Copy, Drop)]
-pub(super) struct Place {
-    pub(super) id: u8,
-    pub(super) start: usize,
-    pub(super) data_start: usize,
-    pub(super) end: usize,
+pub struct Place {
+    /// The element's id.
+    pub id: u8,
+    /// Where its header begins.
+    pub start: usize,
+    /// Where its data begin.
+    pub data_start: usize,
+    /// Where its data end, and with them the element.
+    pub end: usize,
 }
 
-// The place of the first element from the offset on; None where reading ends before one.
-pub(super) fn next_place(form: ExtensionsForm, body: &[u8], at: usize) -> Option<Place>
+/// The place of the first element of a block's body from the offset on, and `None` where reading ends
+/// before one (RFC 8285, 4.2 and 4.3). The elements of the body are found one after another from the
+/// offset 0 on, each from the end of the one before it.
+///
+/// Requires an offset within the body.
+pub fn next_place(form: ExtensionsForm, body: &[u8], at: usize) -> Option<Place>
     requires { at ≤ length body.now }
     ensures found { IfSome result (IsNextPlace form body.now at) }
     ensures further { IfSome result (λ place. (at < place.end) × (place.end ≤ length body.now)) }
@@ -40,8 +48,8 @@ pub(super) fn next_place(form: ExtensionsForm, body: &[u8], at: usize) -> Option
     })
 }
 
-// The place of the last element of the id.
-pub(super) fn last_place(form: ExtensionsForm, body: &[u8], id: u8) -> Option<Place>
+/// The place of the last element of the id in a block's body, and `None` where no element has it.
+pub fn last_place(form: ExtensionsForm, body: &[u8], id: u8) -> Option<Place>
     ensures found { IfSome result (IsLastPlace (AreElements form) id body.now) }
     ensures none { (elements : List Element) → AreElements form body.now elements →
         IfNone result (HasNone elements id) }

@@ -1,4 +1,4 @@
-use Rattle.std.proofs.Common.{◌≡◌, ◌+◌, ◌-◌, ap, sym, ◌∙◌, arith, List, ℕ, rules, length}
+use Rattle.std.proofs.Common.{◌≡◌, ◌+◌, ◌-◌, ap, ◌∙◌, arith, ℕ, rules, length}
 use Rattle.rtp_wire.specs.Packet.{header_len_of}
 use Rattle.rtp_wire.specs.PartsOf.{parts_of, bytes_of}
 use Rattle.rtp_wire.proofs.PartsLemmas.{length-packet}

@@ -1,0 +1,72 @@
+-- Where an element lies in the body of a block.
+use Rattle.std.proofs.Common.{◌≡◌, ℕ, ◌-◌, ◌≤◌, List, ◌∷◌, ◌++◌, length, take, drop, replicate, refl, sym, ap, ◌∙◌, subst, append_assoc, length-append, length-take-le, drop_at, arith}
+use Rattle.std.proofs.lemmas.List.{take-append-drop, length-replicate}
+use Rattle.rtp_ext.specs.declared.ext.form.ExtensionsForm.{ExtensionsForm}
+use Rattle.rtp_ext.specs.declared.ext.form.ExtensionsForm.TheVariants.{OneByte, TwoByte}
+use Rattle.rtp_ext.specs.declared.ext.place.Place.{Place}
+use Rattle.rtp_ext.specs.Elements.{IsElement, element_bytes, AreElements}
+use Rattle.rtp_ext.specs.ElementWriting.{header_bytes}
+use Rattle.rtp_ext.specs.Places.{IsNextPlace, IsLastPlace}
+use Rattle.rtp_c.specs.declared.elements.ElementView.{ElementView}
+use Rattle.rtp_c.specs.PacketView.{bytes_at}
+use Rattle.rtp_c.specs.ElementView.{IsNextElement, IsLastElement}
+use Rattle.rtp_c.proofs.PacketLemmas.{middle}
+
+-- the place as C is told of it
+abbrev pub view_of : Place → ElementView
+view_of place = record { data_at = place.data_start; data_len = place.end - place.data_start; end = place.end; id = place.id }
+
+-- the bytes of an element are its header and its data
+element_split : (form : ExtensionsForm) (id : ℕ) (bytes : List ℕ) → element_bytes form (id, bytes) ≡ header_bytes form id (length bytes) ++ bytes
+element_split OneByte id bytes = refl
+element_split TwoByte id bytes = refl
+
+pub IsNextElement-place : (form : ExtensionsForm) (body : List ℕ) (at : ℕ) (place : Place) → at ≤ length body → IsNextPlace form body at place → IsNextElement form body at (view_of place)
+IsNextElement-place form body at place within is =
+    let head = header_bytes form place.id (length is.bytes) in
+    let zeros = replicate is.padding 0 in
+    let front = take at body ++ (zeros ++ head) in
+    let in_order : body ≡ front ++ (is.bytes ++ is.after) =
+    sym (take-append-drop at body)
+    ∙ ap (λ (xs : List ℕ). take at body ++ xs) (is.left_is ∙ ap (λ (xs : List ℕ). zeros ++ (xs ++ is.after)) (element_split form place.id is.bytes)
+    ∙ ap (λ (xs : List ℕ). zeros ++ xs) (append_assoc head is.bytes is.after) ∙ sym (append_assoc zeros head (is.bytes ++ is.after)))
+    ∙ sym (append_assoc (take at body) (zeros ++ head) (is.bytes ++ is.after)) in
+    let front_len : length front ≡ place.data_start =
+    omega (
+      arith,
+      length-append (take at body) (zeros ++ head),
+      length-append zeros head,
+      length-take-le at body within,
+      length-replicate {A = ℕ} is.padding 0,
+      is.start_is,
+      is.data_is,
+    ) in
+    let found : bytes_at body place.data_start (place.end - place.data_start) ≡ is.bytes =
+    middle body front is.bytes is.after place.data_start (place.end - place.data_start) in_order front_len (omega (arith, is.end_is)) in
+    let after : drop place.end body ≡ is.after =
+    ap (drop place.end) (in_order ∙ sym (append_assoc front is.bytes is.after))
+    ∙ drop_at (front ++ is.bytes) is.after place.end (length-append front is.bytes ∙ omega (arith, front_len, is.end_is)) in
+    record {
+      padding = is.padding;
+      is_element = subst (λ (xs : List ℕ). IsElement form (place.id, xs)) (sym found) is.is_element;
+      left_is =
+          is.left_is
+          ∙ ap (λ (xs : List ℕ). zeros ++ (element_bytes form (place.id, xs) ++ is.after)) (sym found)
+          ∙ ap (λ (xs : List ℕ). zeros ++ (element_bytes form (place.id, bytes_at body place.data_start (place.end - place.data_start)) ++ xs)) (sym after);
+      end_is = omega (arith, is.end_is);
+    }
+
+pub IsLastElement-place : (form : ExtensionsForm) (body : List ℕ) (id : ℕ) (place : Place) → IsLastPlace (AreElements form) id body place
+    → IsLastElement form body id (record (view_of place) { id = id })
+IsLastElement-place form body id place is =
+    let found : bytes_at body place.data_start (place.end - place.data_start) ≡ is.was =
+    middle body is.front is.was is.rest place.data_start (place.end - place.data_start) is.bytes_are (sym is.data_is) (omega (arith, is.end_is)) in
+    record {
+      before = is.before;
+      after = is.after;
+      id_is = refl;
+      are_elements = subst (λ (xs : List ℕ). AreElements form body (is.before ++ (id, xs) ∷ is.after)) (sym found)
+          (subst (λ (xs : List ℕ). AreElements form xs (is.before ++ (id, is.was) ∷ is.after)) (sym is.bytes_are) (is.set is.was refl));
+      last = is.last;
+      end_is = omega (arith, is.end_is);
+    }

@@ -1,0 +1,27 @@
+-- What C is told of an element where it lies in the body of a block (RFC 8285, 4.2 and 4.3).
+use Rattle.std.specs.Prelude.{◌≡◌, ℕ, ◌+◌, List, ◌∷◌, ◌++◌, drop, replicate}
+use Rattle.rtp_ext.specs.declared.ext.form.ExtensionsForm.{ExtensionsForm}
+use Rattle.rtp_ext.specs.Elements.{Element, IsElement, element_bytes, AreElements}
+use Rattle.rtp_ext.specs.ElementsInPlace.{HasNone}
+use Rattle.rtp_c.specs.declared.elements.ElementView.{ElementView}
+use Rattle.rtp_c.specs.PacketView.{bytes_at}
+
+-- the id and the data of the element
+abbrev pub element_in : List ℕ → ElementView → Element
+element_in body view = (view.id, bytes_at body view.data_at view.data_len)
+
+-- from the offset on there is only padding, then the element, and after it what follows its end
+pub record IsNextElement (form : ExtensionsForm) (body : List ℕ) (at : ℕ) (view : ElementView) : Type 0 where
+  pub padding : ℕ
+  pub is_element : IsElement form (element_in body view)
+  pub left_is : drop at body ≡ replicate padding 0 ++ (element_bytes form (element_in body view) ++ drop view.end body)
+  pub end_is : view.end ≡ view.data_at + view.data_len
+
+-- of the elements of the body it is the last of its id
+pub record IsLastElement (form : ExtensionsForm) (body : List ℕ) (id : ℕ) (view : ElementView) : Type 0 where
+  pub before : List Element
+  pub after : List Element
+  pub id_is : view.id ≡ id
+  pub are_elements : AreElements form body (before ++ element_in body view ∷ after)
+  pub last : HasNone after id
+  pub end_is : view.end ≡ view.data_at + view.data_len

@@ -1,0 +1,27 @@
+-- A receiver in the memory of C: what it holds of the numbers of one stream (RFC 3711, 3.3.1 and 3.3.2).
+use Rattle.std.specs.Prelude.{◌≡◌, ℕ, ◌+◌, ◌*◌, ◌/◌, ◌^◌, ◌<◌, ◌⊎◌, false, ◌||◌, ◌==◌, slice_index_or}
+use Rattle.rtp_base.specs.Bitmap.{bits_of}
+use Rattle.rtp_base.specs.Window.{Numbers, WindowState, Keeps}
+use Rattle.rtp_wire.specs.Receiver.{IsNothing}
+use Rattle.rtp_c.specs.declared.receiver.StoredReceiver.{StoredReceiver}
+
+-- the two halves of its bits as one number
+abbrev pub recorded_bits : StoredReceiver → ℕ
+recorded_bits stored = stored.recorded_high * 2 ^ 64 + stored.recorded_low
+
+-- the window that it holds: the highest number is recorded whatever its bit says
+pub record IsWindowOf (stored : StoredReceiver) (window : WindowState) : Type 0 where
+  pub greatest_is : window.greatest ≡ stored.highest
+  pub recorded_are : (k : ℕ) → k < 128 →
+      slice_index_or window.recorded k false ≡ (slice_index_or (bits_of (recorded_bits stored)) k false || k == 0)
+
+-- these numbers are those that its window keeps
+pub record HoldsWindow (stored : StoredReceiver) (taken : Numbers) : Type 0 where
+  pub window : WindowState
+  pub is_window : IsWindowOf stored window
+  pub keeps : Keeps window taken
+
+-- these numbers were taken: none yet, and the first packet has this rollover count, or those that its window keeps
+abbrev pub HoldsNumbers : StoredReceiver → ℕ → Numbers → Type 0
+HoldsNumbers stored count taken =
+    ((stored.started ≡ 0) × (stored.highest / 65536 ≡ count) × IsNothing taken) ⊎ ((0 < stored.started) × HoldsWindow stored taken)

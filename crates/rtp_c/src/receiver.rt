@@ -1,0 +1,163 @@
+//! The numbers of one stream: widened, and judged by a replay window.
+
+ghost use Rattle.std.specs.Prelude.{◌≡◌, ◌≢◌, ◌↔◌, ◌^◌, ◌<◌, ◌≤◌, ℕ, IsTrue, Some};
+ghost use Rattle.rtp_base.specs.Window.{Numbers, including};
+ghost use Rattle.rtp_wire.specs.Receiver.{Holds, IsNothing, IsNumberOf, IsFresh};
+ghost use Rattle.rtp_wire.specs.Widening.{Extends};
+ghost use Rattle.rtp_c.specs.Status.{ok, bad_field, refused};
+ghost use Rattle.rtp_c.specs.StoredReceiver.{HoldsNumbers};
+ghost use Rattle.rtp_c.specs.Judging.{IsJudgedBy};
+
+use super::status::{BAD_FIELD, OK, REFUSED};
+use rtp_base::{SeqNo, SeqNoWindow};
+use rtp_wire::{Receiver, Verdict, extend_u16};
+
+// How many numbers a half of the window's bits stands for, as the worth of the bit above it.
+const HALF: u128 = 1 << 64;
+
+/// The receive state of one stream: `rtp_receiver` in C, 32 bytes. Each value is one; all zeros have
+/// taken nothing yet, and the first packet has the rollover count 0.
+#[repr(C)]
+#[derive(Clone, Copy)]
+pub struct StoredReceiver {
+    /// The highest number taken. Where nothing is taken yet, the first packet's rollover count stands
+    /// in the bits above the low sixteen.
+    pub highest: u64,
+    /// Bit i says whether the highest number minus i is taken.
+    pub recorded_low: u64,
+    /// Bit i says whether the highest number minus 64 + i is taken.
+    pub recorded_high: u64,
+    /// 0 where nothing is taken yet.
+    pub started: u8,
+}
+
+// The receiver that is stored there.
+fn receiver_of(stored: &StoredReceiver) -> Receiver
+    ensures held { (count : ℕ) (taken : Numbers) → HoldsNumbers stored.now count taken →
+        Holds result count taken }
+    ensures only { (count : ℕ) (taken : Numbers) → Holds result count taken →
+        HoldsNumbers stored.now count taken }
+    ensures some { (count : ℕ) × (taken : Numbers) × Holds result count taken }
+{
+    if stored.started == 0 {
+        return Receiver::starting_at(stored.highest / 65_536);
+    }
+    let recorded = u128::from(stored.recorded_high) * HALF + u128::from(stored.recorded_low);
+    Receiver::from(SeqNoWindow::from_parts(SeqNo::from(stored.highest), recorded))
+}
+
+// What is stored of the receiver.
+fn stored_of(receiver: &Receiver) -> StoredReceiver
+    ensures { (count : ℕ) (taken : Numbers) → Holds receiver.now count taken →
+        HoldsNumbers result count taken }
+{
+    let Some(window) = receiver.window() else {
+        return StoredReceiver {
+            highest: receiver.rollover_count() * 65_536,
+            recorded_low: 0,
+            recorded_high: 0,
+            started: 0,
+        };
+    };
+    let (highest, recorded) = window.parts();
+    StoredReceiver {
+        highest: highest.get(),
+        recorded_low: (recorded % HALF) as u64,
+        recorded_high: (recorded / HALF) as u64,
+        started: 1,
+    }
+}
+
+/// Makes the receiver one that has taken nothing yet, whose first packet has this rollover count:
+/// below 2^48, and 0 for a stream that is received from its beginning. With a count of 1 or more a
+/// packet from before the first one has a number too. `OK`, or `BAD_FIELD` where the count is 2^48 or
+/// more, and then nothing is written.
+#[unsafe(no_mangle)]
+pub extern "C" fn rtp_receiver_start(receiver: &mut StoredReceiver, rollover_count: u64) -> i32
+    ensures started { rollover_count < 2 ^ 48 → (taken : Numbers) → IsNothing taken →
+        HoldsNumbers receiver.new rollover_count taken }
+    ensures done { rollover_count < 2 ^ 48 → result ≡ ok }
+    ensures too_high { 2 ^ 48 ≤ rollover_count → result ≡ bad_field }
+    ensures unchanged { result ≢ ok → receiver.new ≡ receiver.old }
+{
+    if rollover_count >= 1 << 48 {
+        return BAD_FIELD;
+    }
+    *receiver = stored_of(&Receiver::starting_at(rollover_count));
+    OK
+}
+
+/// The extended sequence number of a packet of this sequence number: the one nearest to the highest
+/// number taken (RFC 3711, 3.3.1). Where nothing is taken yet, it is the one with the rollover count
+/// at which the receiver starts.
+#[unsafe(no_mangle)]
+pub extern "C" fn rtp_receiver_number_of(receiver: &StoredReceiver, sequence_number: u16) -> u64
+    ensures nearest { (count : ℕ) (taken : Numbers) → HoldsNumbers receiver.now count taken →
+        IsNumberOf count taken sequence_number result }
+
+    // Each value of the struct holds some set, so the clauses here always speak of something.
+    ensures some { (count : ℕ) × (taken : Numbers) × HoldsNumbers receiver.now count taken }
+{
+    receiver_of(receiver).number_of(sequence_number).get()
+}
+
+/// Whether the number may be taken: nothing is taken yet, or it is above the highest number taken,
+/// or less than 128 below it and not taken.
+#[unsafe(no_mangle)]
+pub extern "C" fn rtp_receiver_accepts(receiver: &StoredReceiver, number: u64) -> bool
+    ensures { (count : ℕ) (taken : Numbers) → HoldsNumbers receiver.now count taken →
+        (IsTrue result ↔ IsFresh taken number) }
+{
+    receiver_of(receiver).accepts(SeqNo::from(number))
+}
+
+/// Records that the number is taken, once its packet is known to be authentic. After one that
+/// `rtp_receiver_accepts` refuses the same numbers are held as before.
+#[unsafe(no_mangle)]
+pub extern "C" fn rtp_receiver_record(receiver: &mut StoredReceiver, number: u64)
+    ensures recorded { (count : ℕ) (taken : Numbers) → HoldsNumbers receiver.old count taken →
+        HoldsNumbers receiver.new count (including taken number) }
+    ensures same { (count : ℕ) (taken : Numbers) → HoldsNumbers receiver.old count taken →
+        (IsFresh taken number → ⊥) → HoldsNumbers receiver.new count taken }
+{
+    let mut changed = receiver_of(receiver);
+    changed.record(SeqNo::from(number));
+    *receiver = stored_of(&changed);
+}
+
+/// Takes a packet of this sequence number, where its extended number may be taken: `OK`, and the
+/// number is written and recorded. `REFUSED` where it may not, and then nothing is written. It is
+/// `rtp_receiver_number_of`, `rtp_receiver_accepts` and `rtp_receiver_record` in one, where nothing is
+/// authenticated.
+#[unsafe(no_mangle)]
+pub extern "C" fn rtp_receiver_receive(
+    receiver: &mut StoredReceiver,
+    sequence_number: u16,
+    number: &mut u64,
+) -> i32
+    ensures judged { (count : ℕ) (taken : Numbers) → HoldsNumbers receiver.old count taken →
+        IsJudgedBy count taken sequence_number result number.new receiver.new }
+    ensures unchanged { result ≢ ok → (receiver.new ≡ receiver.old) × (number.new ≡ number.old) }
+{
+    let mut changed = receiver_of(receiver);
+    match changed.receive(sequence_number) {
+        Verdict::Taken(taken) => {
+            *receiver = stored_of(&changed);
+            *number = taken.get();
+            OK
+        }
+        Verdict::Refused => REFUSED,
+        Verdict::Unreadable => REFUSED,
+    }
+}
+
+/// Extends a number of 16 bits to 64 bits: the number nearest to `previous`, modulo 2^64, that ends
+/// in these 16 bits. Where two are equally near, 32,768 away on either side, it is the one with the
+/// rollover count of `previous` (RFC 3711, 3.3.1).
+#[unsafe(no_mangle)]
+pub extern "C" fn rtp_extend_u16(previous: u64, number: u16) -> u64
+    ensures near { Extends 16 (Some previous) number result }
+    ensures only { (n : ℕ) → Extends 16 (Some previous) number n → result ≡ n }
+{
+    extend_u16(Some(previous), number)
+}
