@@ -1,0 +1,229 @@
+//! The functions of `rtp_wire.h`, called with the types of Rust. This is the one module with `unsafe`.
+//!
+//! Each of them may be called with any values: it asks only that a pointer isn't NULL, is aligned, and
+//! is to as many bytes as is said, and that what it writes overlaps nothing else that it is given. A
+//! reference of Rust is never NULL, an exclusive one overlaps no other, and a slice of no bytes has an
+//! address too. No function keeps a pointer. That is the reason of each call below.
+#![allow(unsafe_code)]
+
+pub const OK: i32 = 0;
+pub const CUT_FIXED_PART: i32 = 1;
+pub const OTHER_VERSION: i32 = 2;
+pub const CUT_SOURCES: i32 = 3;
+pub const CUT_BLOCK_HEADER: i32 = 4;
+pub const UNKNOWN_FORM: i32 = 5;
+pub const CUT_BLOCK: i32 = 6;
+
+pub const ONE_BYTE_FORM: u8 = 1;
+pub const TWO_BYTE_FORM: u8 = 2;
+pub const CSRC_AT: usize = 12;
+
+/// `rtp_packet`
+#[repr(C)]
+#[derive(Clone, Copy, Debug, Default, PartialEq, Eq)]
+pub struct PacketParts {
+    pub payload_at: usize,
+    pub payload_len: usize,
+    pub unpadded_len: usize,
+    pub body_at: usize,
+    pub body_len: usize,
+    pub timestamp: u32,
+    pub ssrc: u32,
+    pub sequence_number: u16,
+    pub payload_type: u8,
+    pub csrc_count: u8,
+    pub marker: u8,
+    pub has_padding: u8,
+    pub padding_fits: u8,
+    pub block_form: u8,
+}
+
+/// `rtp_element`
+#[repr(C)]
+#[derive(Clone, Copy, Debug, Default, PartialEq, Eq)]
+pub struct ElementPlace {
+    pub data_at: usize,
+    pub data_len: usize,
+    pub end: usize,
+    pub id: u8,
+}
+
+impl ElementPlace {
+    /// The data of the element in the body where it was found.
+    pub fn data_in<'a>(&self, body: &'a [u8]) -> &'a [u8] {
+        &body[self.data_at..self.end]
+    }
+}
+
+/// `rtp_receiver`
+#[repr(C)]
+#[derive(Clone, Copy, Debug, Default)]
+pub struct ReceiverState {
+    pub highest: u64,
+    pub recorded_low: u64,
+    pub recorded_high: u64,
+    pub started: u8,
+}
+
+mod c {
+    use super::{ElementPlace, PacketParts, ReceiverState};
+
+    extern "C" {
+        pub fn rtp_packet_parse(datagram: *const u8, len: usize, packet: *mut PacketParts) -> i32;
+        pub fn rtp_set_marker(datagram: *mut u8, len: usize, marker: bool) -> i32;
+        pub fn rtp_set_payload_type(datagram: *mut u8, len: usize, payload_type: u8) -> i32;
+        pub fn rtp_set_sequence_number(datagram: *mut u8, len: usize, number: u16) -> i32;
+        pub fn rtp_set_timestamp(datagram: *mut u8, len: usize, timestamp: u32) -> i32;
+        pub fn rtp_set_ssrc(datagram: *mut u8, len: usize, ssrc: u32) -> i32;
+        pub fn rtp_set_element(
+            datagram: *mut u8,
+            len: usize,
+            id: u8,
+            data: *const u8,
+            data_len: usize,
+        ) -> i32;
+        pub fn rtp_remove_element(datagram: *mut u8, len: usize, id: u8) -> i32;
+        pub fn rtp_next_element(
+            body: *const u8,
+            body_len: usize,
+            form: u8,
+            at: usize,
+            element: *mut ElementPlace,
+        ) -> i32;
+        pub fn rtp_last_element(
+            body: *const u8,
+            body_len: usize,
+            form: u8,
+            id: u8,
+            element: *mut ElementPlace,
+        ) -> i32;
+        pub fn rtp_receiver_start(receiver: *mut ReceiverState, rollover_count: u64) -> i32;
+        pub fn rtp_receiver_number_of(receiver: *const ReceiverState, sequence_number: u16) -> u64;
+        pub fn rtp_receiver_accepts(receiver: *const ReceiverState, number: u64) -> bool;
+        pub fn rtp_receiver_record(receiver: *mut ReceiverState, number: u64);
+        pub fn rtp_receiver_receive(
+            receiver: *mut ReceiverState,
+            sequence_number: u16,
+            number: *mut u64,
+        ) -> i32;
+        pub fn rtp_extend_u16(previous: u64, number: u16) -> u64;
+    }
+}
+
+pub fn packet_parse(datagram: &[u8], parts: &mut PacketParts) -> i32 {
+    // SAFETY: a slice that is read, and an exclusive reference.
+    unsafe { c::rtp_packet_parse(datagram.as_ptr(), datagram.len(), parts) }
+}
+
+pub fn set_marker(datagram: &mut [u8], marker: bool) -> i32 {
+    // SAFETY: an exclusive slice.
+    unsafe { c::rtp_set_marker(datagram.as_mut_ptr(), datagram.len(), marker) }
+}
+
+pub fn set_payload_type(datagram: &mut [u8], payload_type: u8) -> i32 {
+    // SAFETY: an exclusive slice.
+    unsafe { c::rtp_set_payload_type(datagram.as_mut_ptr(), datagram.len(), payload_type) }
+}
+
+pub fn set_sequence_number(datagram: &mut [u8], number: u16) -> i32 {
+    // SAFETY: an exclusive slice.
+    unsafe { c::rtp_set_sequence_number(datagram.as_mut_ptr(), datagram.len(), number) }
+}
+
+pub fn set_timestamp(datagram: &mut [u8], timestamp: u32) -> i32 {
+    // SAFETY: an exclusive slice.
+    unsafe { c::rtp_set_timestamp(datagram.as_mut_ptr(), datagram.len(), timestamp) }
+}
+
+pub fn set_ssrc(datagram: &mut [u8], ssrc: u32) -> i32 {
+    // SAFETY: an exclusive slice.
+    unsafe { c::rtp_set_ssrc(datagram.as_mut_ptr(), datagram.len(), ssrc) }
+}
+
+pub fn set_element(datagram: &mut [u8], id: u8, data: &[u8]) -> i32 {
+    // SAFETY: an exclusive slice, and one that is read and so overlaps nothing of it.
+    unsafe {
+        c::rtp_set_element(
+            datagram.as_mut_ptr(),
+            datagram.len(),
+            id,
+            data.as_ptr(),
+            data.len(),
+        )
+    }
+}
+
+pub fn remove_element(datagram: &mut [u8], id: u8) -> i32 {
+    // SAFETY: an exclusive slice.
+    unsafe { c::rtp_remove_element(datagram.as_mut_ptr(), datagram.len(), id) }
+}
+
+pub fn next_element(body: &[u8], form: u8, at: usize) -> Option<ElementPlace> {
+    let mut place = ElementPlace::default();
+    // SAFETY: a slice that is read, and an exclusive reference.
+    let status = unsafe { c::rtp_next_element(body.as_ptr(), body.len(), form, at, &mut place) };
+    (status == OK).then_some(place)
+}
+
+pub fn last_element(body: &[u8], form: u8, id: u8) -> Option<ElementPlace> {
+    let mut place = ElementPlace::default();
+    // SAFETY: a slice that is read, and an exclusive reference.
+    let status = unsafe { c::rtp_last_element(body.as_ptr(), body.len(), form, id, &mut place) };
+    (status == OK).then_some(place)
+}
+
+pub fn receiver_start(receiver: &mut ReceiverState, rollover_count: u64) -> i32 {
+    // SAFETY: an exclusive reference.
+    unsafe { c::rtp_receiver_start(receiver, rollover_count) }
+}
+
+pub fn receiver_number_of(receiver: &ReceiverState, sequence_number: u16) -> u64 {
+    // SAFETY: a reference that is read.
+    unsafe { c::rtp_receiver_number_of(receiver, sequence_number) }
+}
+
+pub fn receiver_accepts(receiver: &ReceiverState, number: u64) -> bool {
+    // SAFETY: a reference that is read.
+    unsafe { c::rtp_receiver_accepts(receiver, number) }
+}
+
+pub fn receiver_record(receiver: &mut ReceiverState, number: u64) {
+    // SAFETY: an exclusive reference.
+    unsafe { c::rtp_receiver_record(receiver, number) }
+}
+
+pub fn receiver_receive(receiver: &mut ReceiverState, sequence_number: u16) -> Option<u64> {
+    let mut number = 0;
+    // SAFETY: two exclusive references.
+    let status = unsafe { c::rtp_receiver_receive(receiver, sequence_number, &mut number) };
+    (status == OK).then_some(number)
+}
+
+pub fn extend_u16(previous: u64, number: u16) -> u64 {
+    // SAFETY: no memory is passed.
+    unsafe { c::rtp_extend_u16(previous, number) }
+}
+
+#[cfg(test)]
+mod tests {
+    use super::{ElementPlace, PacketParts, ReceiverState};
+    use core::mem::{align_of, offset_of, size_of};
+
+    /// The struct's size, and where each field lies.
+    macro_rules! lies {
+        ($it:ty, $size:expr, $($field:ident $at:expr),*) => {
+            assert_eq!(size_of::<$it>(), $size);
+            assert_eq!(align_of::<$it>(), 8);
+            $(assert_eq!(offset_of!($it, $field), $at, stringify!($field));)*
+        };
+    }
+
+    #[test]
+    fn structs_are_those_of_the_header_file() {
+        lies!(PacketParts, 56, payload_at 0, payload_len 8, unpadded_len 16, body_at 24, body_len 32,
+            timestamp 40, ssrc 44, sequence_number 48, payload_type 50, csrc_count 51, marker 52,
+            has_padding 53, padding_fits 54, block_form 55);
+        lies!(ElementPlace, 32, data_at 0, data_len 8, end 16, id 24);
+        lies!(ReceiverState, 32, highest 0, recorded_low 8, recorded_high 16, started 24);
+    }
+}
