@@ -12,7 +12,7 @@
  *     deliver(packet.ssrc, packet.timestamp, datagram + packet.payload_at, packet.unpadded_len);
  *
  * Each function may be called with any values, and returns. It keeps no pointer, has no state of its
- * own and takes no memory. Calls on several threads at once are safe as long as nothing that one of
+ * own and takes no memory but where it says so. Calls on several threads at once are safe as long as nothing that one of
  * them writes is read or written by another.
  *
  * The caller owes what C asks anyway:
@@ -49,6 +49,7 @@ enum {
     RTP_CUT_BLOCK_HEADER = 4, /* X is set, and the first four bytes of the block are cut short */
     RTP_UNKNOWN_FORM = 5,     /* the block's form is neither 0xBEDE nor 0x1000 to 0x100F */
     RTP_CUT_BLOCK = 6,        /* the block is longer than what is left */
+    RTP_NO_MEMORY = 7,        /* memory was refused */
     RTP_BAD_FIELD = 9,        /* an argument is out of its range */
     RTP_REFUSED = 10,         /* a replay, or too old to tell */
     RTP_NONE = 11             /* there is no such element */
@@ -64,6 +65,7 @@ static inline const char *rtp_status_text(int32_t status) {
     case RTP_CUT_BLOCK_HEADER: return "the header of the extension block is cut short";
     case RTP_UNKNOWN_FORM: return "a header extension of an unknown form";
     case RTP_CUT_BLOCK: return "the extension block is cut short";
+    case RTP_NO_MEMORY: return "memory was refused";
     case RTP_BAD_FIELD: return "an argument is out of its range";
     case RTP_REFUSED: return "a replay, or too old to tell";
     case RTP_NONE: return "no such element";
@@ -144,6 +146,69 @@ int32_t rtp_next_element(const uint8_t *body, size_t body_len, uint8_t form, siz
 /* The last element of an id, which is the one that counts. RTP_OK; RTP_NONE where no element has the
  * id; RTP_BAD_FIELD where the form is none of the two. */
 int32_t rtp_last_element(const uint8_t *body, size_t body_len, uint8_t form, uint8_t id, rtp_element *element);
+
+/* ---- The values of a block ---- */
+
+/* The kinds of extension, by numbers of this library. */
+enum {
+    RTP_KIND_NONE = 0,
+    RTP_KIND_ABS_SEND_TIME = 1,
+    RTP_KIND_ABS_CAPTURE_TIME = 2,
+    RTP_KIND_AUDIO_LEVEL = 3,
+    RTP_KIND_TRANSMISSION_OFFSET = 4,
+    RTP_KIND_VIDEO_ORIENTATION = 5,
+    RTP_KIND_TRANSPORT_NUMBER = 6,
+    RTP_KIND_PLAYOUT_DELAY = 7,
+    RTP_KIND_VIDEO_CONTENT_TYPE = 8,
+    RTP_KIND_VIDEO_TIMING = 9,
+    RTP_KIND_RID = 10,
+    RTP_KIND_REPAIRED_RID = 11,
+    RTP_KIND_MID = 12,
+    RTP_KIND_FRAME_MARKING = 13,
+    RTP_KIND_COLOR_SPACE = 14,
+    RTP_KIND_LAYERS = 15
+};
+
+/* kind[id] is the kind that the id means; another number than one of those above means none, and
+ * kind[0] isn't looked at. It may be copied, stored, and shared as static const:
+ *
+ *     rtp_map map = {{0}};
+ *     map.kind[3] = RTP_KIND_AUDIO_LEVEL;
+ */
+typedef struct {
+    uint8_t kind[256];
+} rtp_map;
+
+/* The values of a block's elements. Each has_ is 1 where the value is there; one that is absent is 0.
+ * The data of a text (mid, rid) are the text: rtp_last_element finds them. 56 bytes. */
+typedef struct {
+    uint64_t send_time;           /* microseconds, modulo 64 seconds */
+    uint64_t capture_time;        /* an NTP timestamp, 32.32 */
+    int64_t capture_offset;       /* the capturer's clock is ahead by these seconds, 32.32 */
+    uint32_t transmission_offset; /* ticks of the stream's clock; an element of four bytes */
+    uint32_t frame_marking;       /* the first four bytes */
+    uint16_t transport_number;    /* over all streams of the transport */
+    uint16_t video_orientation;   /* degrees counter-clockwise: 0, 90, 180 or 270 */
+    uint8_t video_content_type;   /* 0 unspecified, 1 a screen */
+    int8_t audio_level;           /* dB relative to the overload point, -127 to 0 */
+    uint8_t voice_activity;       /* 0 or 1 */
+    uint8_t has_send_time;
+    uint8_t has_capture_time;
+    uint8_t has_capture_offset;
+    uint8_t has_transmission_offset;
+    uint8_t has_frame_marking;
+    uint8_t has_transport_number;
+    uint8_t has_video_orientation;
+    uint8_t has_video_content_type;
+    uint8_t has_audio_level;
+    uint8_t has_voice_activity;
+} rtp_values;
+
+/* The values that the elements of a body give under the map: for each kind those of the last element
+ * whose id means it and whose data are well-formed for it. RTP_OK; RTP_BAD_FIELD where the form is none
+ * of the two; RTP_NO_MEMORY. Memory is taken for a layer allocation alone (RTP_KIND_LAYERS mapped to the
+ * id of an element of two bytes or more), and given back before the call returns. */
+int32_t rtp_values_read(const uint8_t *body, size_t body_len, uint8_t form, const rtp_map *map, rtp_values *values);
 
 /* ---- The numbers of a stream ---- */
 

@@ -141,6 +141,52 @@ static void elements_are_found(void) {
     CHECK(rtp_next_element(body, 8, RTP_TWO_BYTE_FORM, 7, &element) == RTP_NONE);
 }
 
+static void values_are_read(void) {
+    /* two-byte form: a send time of one second; a capture time, and an offset of -0.5 s; 90 degrees; a
+     * screen; 258 ticks; a frame marking; an id whose number is that of no kind */
+    static const uint8_t BODY[44] = {0x03, 0x03, 0x04, 0x00, 0x00, 0x04, 0x10, 0xE0, 0x00, 0x00, 0x01,
+                                     0x80, 0x00, 0x00, 0x00, 0xFF, 0xFF, 0xFF, 0xFF, 0x80, 0x00, 0x00,
+                                     0x00, 0x05, 0x01, 0x0B, 0x06, 0x01, 0x01, 0x07, 0x04, 0x00, 0x00,
+                                     0x01, 0x02, 0x08, 0x04, 0x80, 0x01, 0x02, 0x03, 0xC8, 0x01, 0x55};
+    rtp_map map = {{0}};
+    rtp_values values, same;
+    memset(&values, 0xA5, sizeof values);
+    memcpy(&same, &values, sizeof values);
+    CHECK(sizeof map == 256 && sizeof values == 56);
+    map.kind[1] = RTP_KIND_AUDIO_LEVEL;
+    map.kind[2] = RTP_KIND_TRANSPORT_NUMBER;
+    map.kind[3] = RTP_KIND_ABS_SEND_TIME;
+    map.kind[4] = RTP_KIND_ABS_CAPTURE_TIME;
+    map.kind[5] = RTP_KIND_VIDEO_ORIENTATION;
+    map.kind[6] = RTP_KIND_VIDEO_CONTENT_TYPE;
+    map.kind[7] = RTP_KIND_TRANSMISSION_OFFSET;
+    map.kind[8] = RTP_KIND_FRAME_MARKING;
+    map.kind[200] = 77;
+    CHECK(rtp_values_read(SAMPLE + 24, 8, RTP_NO_BLOCK, &map, &values) == RTP_BAD_FIELD);
+    CHECK(memcmp(&values, &same, sizeof values) == 0);
+    CHECK(rtp_values_read(SAMPLE + 24, 8, RTP_ONE_BYTE_FORM, &map, &values) == RTP_OK);
+    /* the last element of id 1 is DD: voice, and 93 below the overload point */
+    CHECK(values.has_audio_level == 1 && values.audio_level == -93);
+    CHECK(values.has_voice_activity == 1 && values.voice_activity == 1);
+    CHECK(values.has_transport_number == 1 && values.transport_number == 0xBBCC);
+    CHECK(values.has_send_time == 0 && values.send_time == 0);
+    CHECK(values.has_video_orientation == 0 && values.has_frame_marking == 0);
+    CHECK(rtp_values_read(BODY, sizeof BODY, RTP_TWO_BYTE_FORM, &map, &values) == RTP_OK);
+    CHECK(values.has_send_time == 1 && values.send_time == 1000000);
+    CHECK(values.has_capture_time == 1 && values.capture_time == UINT64_C(0xE000000180000000));
+    CHECK(values.has_capture_offset == 1 && values.capture_offset == INT64_C(-2147483648));
+    CHECK(values.has_video_orientation == 1 && values.video_orientation == 90);
+    CHECK(values.has_video_content_type == 1 && values.video_content_type == 1);
+    CHECK(values.has_transmission_offset == 1 && values.transmission_offset == 258);
+    CHECK(values.has_frame_marking == 1 && values.frame_marking == 0x80010203);
+    CHECK(values.has_audio_level == 0 && values.audio_level == 0);
+    CHECK(values.has_voice_activity == 0 && values.has_transport_number == 0);
+    map.kind[3] = RTP_KIND_LAYERS;
+    map.kind[4] = RTP_KIND_NONE;
+    CHECK(rtp_values_read(BODY, sizeof BODY, RTP_TWO_BYTE_FORM, &map, &values) == RTP_OK);
+    CHECK(values.has_send_time == 0 && values.has_capture_time == 0);
+}
+
 static void numbers_are_taken(void) {
     static const rtp_receiver NEW = {0};
     rtp_receiver receiver = NEW;
@@ -194,6 +240,7 @@ int main(void) {
     fields_are_set();
     elements_are_set();
     elements_are_found();
+    values_are_read();
     numbers_are_taken();
     receivers_start();
     statuses_are_told();

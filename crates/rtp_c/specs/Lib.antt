@@ -5,3 +5,7 @@ pub mod ChangedElements
 pub mod StoredReceiver
 pub mod Judging
 pub mod ElementView
+pub mod KindNumbers
+pub mod KindsOfIds
+pub mod Held
+pub mod ValuesView

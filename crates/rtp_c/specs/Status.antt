@@ -17,6 +17,10 @@ cause_status CutBlockHeader = pos 4
 cause_status UnknownForm = pos 5
 cause_status CutBlock = pos 6
 
+-- memory was refused
+abbrev pub no_memory : ℤ
+no_memory = pos 7
+
 -- a value that no packet can carry
 abbrev pub bad_field : ℤ
 bad_field = pos 9

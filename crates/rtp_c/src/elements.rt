@@ -28,7 +28,7 @@ pub struct ElementView {
 }
 
 // The form of this number.
-fn form_of(number: u8) -> Option<ExtensionsForm>
+pub fn form_of(number: u8) -> Option<ExtensionsForm>
     ensures found { IfSome result (λ form. form_number (Some form) ≡ number) }
     ensures none { IfNone result ((form : ExtensionsForm) → form_number (Some form) ≢ number) }
 {

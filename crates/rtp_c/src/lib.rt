@@ -8,6 +8,8 @@ mod changing;
 mod changing_elements;
 mod elements;
 mod layout;
+mod map;
 mod packet;
 mod receiver;
 mod status;
+mod values;

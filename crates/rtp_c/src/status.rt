@@ -19,6 +19,8 @@ pub const CUT_BLOCK_HEADER: i32 = 4;
 pub const UNKNOWN_FORM: i32 = 5;
 /// The block is longer than what is left.
 pub const CUT_BLOCK: i32 = 6;
+/// Memory was refused.
+pub const NO_MEMORY: i32 = 7;
 /// A value is one that no packet can carry.
 pub const BAD_FIELD: i32 = 9;
 /// A packet is a replay, or too old to tell.

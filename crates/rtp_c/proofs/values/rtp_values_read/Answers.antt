@@ -1,0 +1,46 @@
+use Rattle.std.proofs.Common.{subst, arith}
+use Rattle.rtp_values.specs.declared.value.values.ExtensionValues.{ExtensionValues}
+use Rattle.rtp_ext.specs.BlockValues.{AreValues}
+use Rattle.rtp_ext.specs.ElementReading.{elements_left}
+use Rattle.rtp_ext.specs.KindsById.{slots_of}
+use Rattle.rtp_ext.proofs.ElementLemmasOfBodies.{AreElements-found}
+use Rattle.rtp_c.proofs.values.rtp_values_read.Goals as goal
+
+pub returns-in-Ok-clause-read : goal.returns-in-Ok-clause-read
+returns-in-Ok-clause-read c is_ok =
+    let form = c.in-Some.form in
+    let body = c.args.body.now in
+    let slots = slots_of c.kinds_of-kinds.result in
+    let elements = elements_left form body in
+    let are = AreElements-found form body (λ i. omega (arith, c.type_inv.body i)) in (
+      form,
+      c.in-Some.ensures.found,
+      record {
+        slots = slots;
+        has_kinds = c.kinds_of-kinds.ensures;
+        values = c.parse.new.ev;
+        says_values = record {
+          elements = elements;
+          are_elements = are;
+          are_values = subst (λ (old : ExtensionValues). AreValues slots elements old c.parse.new.ev) c.default-read.ensures (c.in-Ok.ensures.values elements are);
+        };
+        is_view = c.view_of_values.ensures;
+      },
+    )
+
+pub returns-clause-memory : goal.returns-clause-memory
+returns-clause-memory c refused =
+    let form = c.in-Some.form in
+    let body = c.args.body.now in
+    let elements = elements_left form body in
+    let are = AreElements-found form body (λ i. omega (arith, c.type_inv.body i)) in (
+      form,
+      c.in-Some.ensures.found,
+      record {
+        slots = slots_of c.kinds_of-kinds.result;
+        has_kinds = c.kinds_of-kinds.ensures;
+        elements = elements;
+        are_elements = are;
+        has_allocation = (c.in-Err.ensures.refused elements are).at;
+      },
+    )

@@ -1,0 +1,27 @@
+-- The numbers by which C names the known kinds of extension (RFC 8285, 5).
+use Rattle.std.specs.Prelude.{◌≡◌, ◌≢◌, ℕ, Option, Some, None}
+use Rattle.rtp_values.specs.declared.known_kind.KnownKind.{KnownKind}
+use Rattle.rtp_values.specs.declared.known_kind.KnownKind.TheVariants.{AbsoluteSendTime, AbsoluteCaptureTime, AudioLevel, TransmissionTimeOffset, VideoOrientation, TransportSequenceNumber, PlayoutDelay, VideoContentType, VideoTiming, RtpStreamId, RepairedRtpStreamId, RtpMid, FrameMarking, ColorSpace, VideoLayersAllocation}
+
+-- the number of each
+abbrev pub kind_number : KnownKind → ℕ
+kind_number AbsoluteSendTime = 1
+kind_number AbsoluteCaptureTime = 2
+kind_number AudioLevel = 3
+kind_number TransmissionTimeOffset = 4
+kind_number VideoOrientation = 5
+kind_number TransportSequenceNumber = 6
+kind_number PlayoutDelay = 7
+kind_number VideoContentType = 8
+kind_number VideoTiming = 9
+kind_number RtpStreamId = 10
+kind_number RepairedRtpStreamId = 11
+kind_number RtpMid = 12
+kind_number FrameMarking = 13
+kind_number ColorSpace = 14
+kind_number VideoLayersAllocation = 15
+
+-- the kind of a number, and none where it is that of no kind
+abbrev pub IsKindNumbered : ℕ → Option KnownKind → Type 0
+IsKindNumbered number None = (kind : KnownKind) → kind_number kind ≢ number
+IsKindNumbered number (Some kind) = kind_number kind ≡ number
