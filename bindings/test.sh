@@ -62,7 +62,7 @@ c++ -std=c++11 "${strict[@]}" -Wno-missing-field-initializers -x c++ bindings/c/
 "$scratch/packets"
 said 'values worked out by hand, as C99 and C++11'
 
-# The examples print what rtp_lines does up to the length of the header.
+# The examples print what rtp_lines does.
 cargo=(cargo --quiet)
 export CARGO_TARGET_DIR=$here/out/cargo CARGO_NET_OFFLINE=true RUSTFLAGS='-D warnings' RUSTDOCFLAGS='-D warnings'
 crate=(--manifest-path bindings/rust/rtp-wire/Cargo.toml)
@@ -75,15 +75,14 @@ c++ -std=c++11 "${strict[@]}" "${include[@]}" bindings/examples/lines.cpp "$libr
 cp -- "$CARGO_TARGET_DIR/debug/examples/lines" "$scratch/lines_rust"
 compare() {
     for lines in examples/*.lines; do
-        sed 's/\( header [0-9]*\) .*/\1/' "${lines%.lines}.expected" >"$scratch/expected"
-        "$@" <"$lines" | cmp - "$scratch/expected" >&2 || fail "$*, $lines"
+        "$@" <"$lines" | cmp - "${lines%.lines}.expected" >&2 || fail "$*, $lines"
     done
     printf '80\n\n80210001000000020000000\n' >"$scratch/bad"
     printf 'packet 1: unreadable\nverdict 1: unreadable\npacket 2: unreadable\nverdict 2: unreadable\nline 3: neither a map line nor hex\n' >"$scratch/expected"
     { "$@" <"$scratch/bad" || [ $? -eq 2 ]; } | cmp - "$scratch/expected" >&2 || fail "$*, a bad line"
 }
 for program in "$scratch"/lines_*; do compare "$program"; done
-said 'the examples in C (static, shared and all static), C++ and Rust against examples/*.expected, up to the length of the header'
+said 'the examples in C (static, shared and all static), C++ and Rust against examples/*.expected'
 
 # SSRC 44 -> 77; 47,000 -> 1,000; at 5 s the send time is 5 * 2^18 = 0x140000, and 40 ms later
 # 1,321,205 = 0x1428F5; the mid (id 3) becomes padding. The second packet says no send time, and the third
@@ -120,6 +119,11 @@ cc -std=c99 -D_GNU_SOURCE "${strict[@]}" bindings/test/stack.c "$library" -Wl,-z
 "$scratch/stack"
 said 'four threads that share what is const, and the stack, at most 4,096 bytes'
 
+wrap=-Wl,--wrap=malloc,--wrap=realloc,--wrap=free
+cc -std=c99 "${strict[@]}" bindings/test/refused.c "$library" "$wrap" -o "$scratch/refused"
+"$scratch/refused" || fail 'refused memory'
+said 'each growth of memory refused: what stands then, and no memory lost'
+
 if command -v aarch64-linux-gnu-gcc >/dev/null && command -v qemu-aarch64 >/dev/null; then
     bindings/install.sh --target aarch64-unknown-linux-gnu
     arm=$here/out/aarch64-unknown-linux-gnu/lib/librtp_wire.a
@@ -130,9 +134,11 @@ if command -v aarch64-linux-gnu-gcc >/dev/null && command -v qemu-aarch64 >/dev/
     qemu-aarch64 "$scratch/arm"
     aarch64-linux-gnu-gcc -std=c99 -D_GNU_SOURCE "${strict[@]}" -static bindings/test/stack.c "$arm" -o "$scratch/arm"
     qemu-aarch64 "$scratch/arm"
+    aarch64-linux-gnu-gcc -std=c99 "${strict[@]}" -static bindings/test/refused.c "$arm" "$wrap" -o "$scratch/arm"
+    qemu-aarch64 "$scratch/arm" || fail 'refused memory, on ARM'
     aarch64-linux-gnu-gcc -std=c99 -D_GNU_SOURCE "${strict[@]}" -static bindings/test/hostile*.c "$arm" -o "$scratch/arm"
     qemu-aarch64 "$scratch/arm" 4 20000
-    said 'on ARM, emulated: layouts, the example, the values worked out by hand, the stack, and random bytes 20,000 times'
+    said 'on ARM, emulated: layouts, the example, the values worked out by hand, the stack, refused memory, and random bytes 20,000 times'
 else
     said 'ARM was left out: there is no aarch64-linux-gnu-gcc or no qemu-aarch64'
 fi

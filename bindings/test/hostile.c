@@ -92,6 +92,7 @@ int main(int argc, char **argv) {
         changes_round();
         elements_round();
         receivers_round();
+        values_round();
     }
     printf("hostile: %llu rounds, seed %llu\n", (unsigned long long)rounds, (unsigned long long)seed);
     return 0;

@@ -20,5 +20,6 @@ void packets_round(void);
 void changes_round(void);
 void elements_round(void);
 void receivers_round(void);
+void values_round(void);
 
 #endif

@@ -21,6 +21,8 @@ static uint8_t datagram[12 + 60 + 4 + 262140 + 8];
 static rtp_packet packet;
 static rtp_element element;
 static rtp_receiver receiver;
+static rtp_map map;
+static rtp_values values;
 static uint64_t number;
 static const uint8_t data[1] = {7};
 
@@ -51,6 +53,7 @@ static void receiver_number_of(void) { number = rtp_receiver_number_of(&receiver
 static void receiver_accepts(void) { number = rtp_receiver_accepts(&receiver, 9); }
 static void receiver_record(void) { rtp_receiver_record(&receiver, 65545); }
 static void receiver_receive(void) { rtp_receiver_receive(&receiver, 99, &number); }
+static void values_read(void) { rtp_values_read(datagram + 76, 262140, RTP_ONE_BYTE_FORM, &map, &values); }
 static void extend_u16(void) { number = rtp_extend_u16(70000, 99); }
 
 static ucontext_t here, there;
@@ -83,8 +86,13 @@ int main(void) {
         CALL(set_timestamp), CALL(set_ssrc), CALL(set_element), CALL(remove_element),
         CALL(next_element), CALL(last_element), CALL(receiver_start), CALL(receiver_number_of),
         CALL(receiver_accepts), CALL(receiver_record), CALL(receiver_receive), CALL(extend_u16),
+        CALL(values_read),
     };
     memory stacks = memory_of(ROOM);
+    for (int i = 0; i < 256; i++) {
+        map.kind[i] = (uint8_t)i; /* each kind, and a layer allocation */
+    }
+    map.kind[14] = RTP_KIND_LAYERS;
     uint8_t *stack = stacks.room;
     size_t nothing = taken_by(empty, stack), most = 0;
     const char *name = "";

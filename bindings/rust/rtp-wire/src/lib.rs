@@ -1,8 +1,8 @@
 //! RTP packets where they lie in memory (RFC 3550, 5.1; RFC 8285), and the numbers of their streams.
 //!
 //! The work is done by a library whose functions are proved: each returns for every input, and its
-//! result is what its contract says. This crate gives it the types of Rust. It takes no memory, needs
-//! no `std` and has no state.
+//! result is what its contract says. This crate gives it the types of Rust. It needs no
+//! `std`, has no state, and takes no memory but for a layer allocation ([`Packet::values`]).
 //!
 //! ```
 //! use rtp_wire::{NotAPacket, Packet, Receiver};
@@ -29,9 +29,11 @@ mod packet;
 mod packet_mut;
 mod receiver;
 mod sys;
+mod values;
 
 pub use elements::{Element, Elements};
 pub use error::NotAPacket;
 pub use packet::{Csrcs, Form, Packet};
 pub use packet_mut::PacketMut;
 pub use receiver::{extend_u16, Receiver};
+pub use values::{Kind, Map, NoMemory, Values};

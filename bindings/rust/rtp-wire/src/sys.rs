@@ -65,8 +65,41 @@ pub struct ReceiverState {
     pub started: u8,
 }
 
+/// `rtp_map`
+#[repr(C)]
+#[derive(Clone, Copy, PartialEq, Eq)]
+pub struct KindsOfIds {
+    pub kind: [u8; 256],
+}
+
+/// `rtp_values`
+#[repr(C)]
+#[derive(Clone, Copy, Debug, Default)]
+pub struct ValuesView {
+    pub send_time: u64,
+    pub capture_time: u64,
+    pub capture_offset: i64,
+    pub transmission_offset: u32,
+    pub frame_marking: u32,
+    pub transport_number: u16,
+    pub video_orientation: u16,
+    pub video_content_type: u8,
+    pub audio_level: i8,
+    pub voice_activity: u8,
+    pub has_send_time: u8,
+    pub has_capture_time: u8,
+    pub has_capture_offset: u8,
+    pub has_transmission_offset: u8,
+    pub has_frame_marking: u8,
+    pub has_transport_number: u8,
+    pub has_video_orientation: u8,
+    pub has_video_content_type: u8,
+    pub has_audio_level: u8,
+    pub has_voice_activity: u8,
+}
+
 mod c {
-    use super::{ElementPlace, PacketParts, ReceiverState};
+    use super::{ElementPlace, KindsOfIds, PacketParts, ReceiverState, ValuesView};
 
     extern "C" {
         pub fn rtp_packet_parse(datagram: *const u8, len: usize, packet: *mut PacketParts) -> i32;
@@ -105,6 +138,13 @@ mod c {
             receiver: *mut ReceiverState,
             sequence_number: u16,
             number: *mut u64,
+        ) -> i32;
+        pub fn rtp_values_read(
+            body: *const u8,
+            body_len: usize,
+            form: u8,
+            map: *const KindsOfIds,
+            values: *mut ValuesView,
         ) -> i32;
         pub fn rtp_extend_u16(previous: u64, number: u16) -> u64;
     }
@@ -172,6 +212,11 @@ pub fn last_element(body: &[u8], form: u8, id: u8) -> Option<ElementPlace> {
     (status == OK).then_some(place)
 }
 
+pub fn values_read(body: &[u8], form: u8, map: &KindsOfIds, values: &mut ValuesView) -> i32 {
+    // SAFETY: a slice and a reference that are read, and an exclusive reference.
+    unsafe { c::rtp_values_read(body.as_ptr(), body.len(), form, map, values) }
+}
+
 pub fn receiver_start(receiver: &mut ReceiverState, rollover_count: u64) -> i32 {
     // SAFETY: an exclusive reference.
     unsafe { c::rtp_receiver_start(receiver, rollover_count) }
@@ -206,7 +251,7 @@ pub fn extend_u16(previous: u64, number: u16) -> u64 {
 
 #[cfg(test)]
 mod tests {
-    use super::{ElementPlace, PacketParts, ReceiverState};
+    use super::{ElementPlace, KindsOfIds, PacketParts, ReceiverState, ValuesView};
     use core::mem::{align_of, offset_of, size_of};
 
     /// The struct's size, and where each field lies.
@@ -225,5 +270,7 @@ mod tests {
             has_padding 53, padding_fits 54, block_form 55);
         lies!(ElementPlace, 32, data_at 0, data_len 8, end 16, id 24);
         lies!(ReceiverState, 32, highest 0, recorded_low 8, recorded_high 16, started 24);
+        lies!(ValuesView, 56, send_time 0, capture_time 8, capture_offset 16, transmission_offset 24, frame_marking 28, transport_number 32, video_orientation 34, video_content_type 36, audio_level 37, voice_activity 38, has_send_time 39, has_capture_time 40, has_capture_offset 41, has_transmission_offset 42, has_frame_marking 43, has_transport_number 44, has_video_orientation 45, has_video_content_type 46, has_audio_level 47, has_voice_activity 48);
+        assert_eq!(size_of::<KindsOfIds>(), 256);
     }
 }

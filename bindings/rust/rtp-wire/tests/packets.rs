@@ -1,6 +1,8 @@
 //! The types of the crate. Expected values are worked out by hand from RFC 3550, 5.1 and RFC 8285.
 
-use rtp_wire::{extend_u16, Element, Form, NotAPacket, Packet, PacketMut, Receiver};
+use rtp_wire::{
+    extend_u16, Element, Form, Kind, Map, NoMemory, NotAPacket, Packet, PacketMut, Receiver, Values,
+};
 
 /// V=2, P, X, CC=2; M, PT=33; 47,000; 10,000; 44; the sources 1 and 2; a block of two words with the
 /// elements 1 (AA), 2 (BB CC) and 1 (DD); a payload of 3 bytes and 2 of padding.
@@ -23,6 +25,8 @@ fn types_cross_threads() {
     crosses_threads(&Packet::parse(&SAMPLE).unwrap());
     crosses_threads(&Receiver::new());
     crosses_threads(&NotAPacket::CutBlock);
+    crosses_threads(&Map::new());
+    crosses_threads(&Values::default());
     static mut DATAGRAM: [u8; 12] = [0x80; 12];
     // SAFETY: no other reference to it is made.
     #[allow(static_mut_refs)]
@@ -164,4 +168,28 @@ fn a_receiver_judges() {
     assert_eq!(receiver.receive(9), Some(3 * 65_536 + 9));
     assert!(Receiver::starting_at(1 << 48).is_none());
     assert_eq!(extend_u16(70_000, 0), 65_536);
+}
+
+#[test]
+fn values_are_read() {
+    const MAP: Map = Map::new()
+        .with(0, Kind::Mid)
+        .with(1, Kind::VideoOrientation)
+        .with(2, Kind::TransportNumber);
+    assert_eq!(MAP.get(0), None);
+    assert_eq!(MAP.get(1), Some(Kind::VideoOrientation));
+    assert_eq!(MAP.get(3), None);
+    assert_eq!(
+        format!("{MAP:?}"),
+        "{1: VideoOrientation, 2: TransportNumber}"
+    );
+    let values = Packet::parse(&SAMPLE).unwrap().values(&MAP).unwrap();
+    assert_eq!(values.video_orientation, Some(270)); // DD ends in 01
+    assert_eq!(values.transport_number, Some(0xBBCC));
+    assert_eq!(values.audio_level, None);
+    assert_eq!(
+        Packet::parse(&[0x80; 12]).unwrap().values(&MAP),
+        Ok(Values::default())
+    );
+    assert_eq!(NoMemory.to_string(), "memory was refused");
 }
