@@ -6,14 +6,17 @@
 #include <stdint.h>
 #include <stdlib.h>
 
-/* A block, or that there is no memory for it. Given back in two registers. */
+/* A block, or that there is no memory for it: `block` isn't NULL then either, but to no memory that is
+ * owned. Given back in two registers. */
 typedef struct {
     uint64_t is_given;
     void *block;
 } growth;
 
+static const char nothing;
+
 static growth given(void *block) {
-    growth answer = {block != NULL, block};
+    growth answer = {block != NULL, block != NULL ? block : (void *)&nothing};
     return answer;
 }
 

@@ -48,7 +48,7 @@ int main(void) {
     memset(&before, 0x5A, sizeof before);
     for (refused_growth = 1;; refused_growth++) {
         memcpy(&values, &before, sizeof values);
-        growths = 0;
+        growths = held = 0;
         int32_t status = rtp_values_read(BODY, sizeof BODY, RTP_ONE_BYTE_FORM, &map, &values);
         if (held != 0) {
             return 1;
