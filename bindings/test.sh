@@ -71,6 +71,7 @@ cc -std=c99 "${strict[@]}" "${include[@]}" bindings/examples/lines.c "$library" 
 cc -std=c99 "${strict[@]}" "${include[@]}" -static bindings/examples/lines.c "$library" -o "$scratch/lines_static"
 cc -std=c99 "${strict[@]}" "${include[@]}" bindings/examples/lines.c "${shared[@]}" -o "$scratch/lines_shared"
 c++ -std=c++11 "${strict[@]}" "${include[@]}" bindings/examples/lines.cpp "$library" -o "$scratch/lines_cpp"
+"${cargo[@]}" build "${crate[@]}"
 "${cargo[@]}" build "${crate[@]}" --example lines
 cp -- "$CARGO_TARGET_DIR/debug/examples/lines" "$scratch/lines_rust"
 compare() {
@@ -100,6 +101,35 @@ said 'the forwarder in C'
 "${cargo[@]}" doc "${crate[@]}" --no-deps
 "${cargo[@]}" fmt "${crate[@]}" --check
 said 'the crate for Rust: cargo test, cargo doc and cargo fmt, without a warning'
+
+# The programs of README.md print what stands there. The first block of each language is the program, and
+# the next block of output follows it.
+block() { # language, which of its blocks
+    awk -v language="$1" -v which="$2" '
+        /^```/ { open = !open; if (open && substr($0, 4) == language) count++; here = open && substr($0, 4) == language; next }
+        here && count == which' \
+        bindings/README.md
+}
+block c 1 >"$scratch/call.c"
+block cpp 1 >"$scratch/call.cpp"
+block rust 1 >"$scratch/call.rs"
+cc -std=c99 "${strict[@]}" "${include[@]}" "$scratch/call.c" "$library" -o "$scratch/call_1"
+c++ -std=c++11 "${strict[@]}" "${include[@]}" "$scratch/call.cpp" "$library" -o "$scratch/call_2"
+rustc --edition 2021 -D warnings -L "$prefix/lib" --extern "rtp_wire=$CARGO_TARGET_DIR/debug/librtp_wire.rlib" \
+    "$scratch/call.rs" -o "$scratch/call_3"
+"$scratch/call_1" >"$scratch/said_1"
+"$scratch/call_2" >"$scratch/said_2"
+"$scratch/call_3" >"$scratch/said_3"
+for it in 1 2 3; do
+    block '' $((it + 1)) | grep -v '^\$' | diff - "$scratch/said_$it" >&2 || fail "program $it of bindings/README.md"
+done
+if command -v pkg-config >/dev/null; then
+    flags=$(PKG_CONFIG_PATH=$prefix/lib/pkgconfig pkg-config --cflags --libs rtp_wire)
+    # shellcheck disable=SC2086
+    cc -std=c99 "$scratch/call.c" $flags -Wl,-rpath,"$prefix/lib" -o "$scratch/call_1"
+    "$scratch/call_1" | cmp - "$scratch/said_1" >&2 || fail pkg-config
+fi
+said 'the programs of bindings/README.md in C, C++ and Rust'
 
 hostile() { # compiler, library, program
     "$1" -std=c99 -g "${strict[@]}" -D_GNU_SOURCE bindings/test/hostile*.c "$2" -o "$3"
