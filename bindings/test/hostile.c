@@ -25,8 +25,12 @@ uint8_t random_id(void) {
 
 void random_body(uint8_t *body, size_t len, int form) {
     fill(body, len);
-    if (random_u64() % 8 == 0) {
+    uint64_t kind = random_u64() % 16;
+    if (kind < 2) {
         return;
+    }
+    if (kind == 2) {
+        memset(body, 0xFF, len); /* the greatest values */
     }
     for (size_t at = 0; at < len;) {
         uint64_t x = random_u64();
