@@ -37,6 +37,10 @@ extern "C" {
 
 #define RTP_WIRE_VERSION "0.1.0"
 
+/* The version of the library that is linked: 65,536 times its major number, 256 times the minor one,
+ * and the patch. That of this header file is 256. */
+uint32_t rtp_version(void);
+
 /* ---- Statuses ---- */
 
 /* What a function returns as an int32_t. Those from 1 to 6 are the causes for which bytes are no RTP
@@ -50,6 +54,7 @@ enum {
     RTP_UNKNOWN_FORM = 5,     /* the block's form is neither 0xBEDE nor 0x1000 to 0x100F */
     RTP_CUT_BLOCK = 6,        /* the block is longer than what is left */
     RTP_NO_MEMORY = 7,        /* memory was refused */
+    RTP_SHORT_BUFFER = 8,     /* a buffer is too short */
     RTP_BAD_FIELD = 9,        /* an argument is out of its range */
     RTP_REFUSED = 10,         /* a replay, or too old to tell */
     RTP_NONE = 11             /* there is no such element */
@@ -66,6 +71,7 @@ static inline const char *rtp_status_text(int32_t status) {
     case RTP_UNKNOWN_FORM: return "a header extension of an unknown form";
     case RTP_CUT_BLOCK: return "the extension block is cut short";
     case RTP_NO_MEMORY: return "memory was refused";
+    case RTP_SHORT_BUFFER: return "a buffer is too short";
     case RTP_BAD_FIELD: return "an argument is out of its range";
     case RTP_REFUSED: return "a replay, or too old to tell";
     case RTP_NONE: return "no such element";
@@ -209,6 +215,21 @@ typedef struct {
  * of the two; RTP_NO_MEMORY. Memory is taken for a layer allocation alone (RTP_KIND_LAYERS mapped to the
  * id of an element of two bytes or more), and given back before the call returns. */
 int32_t rtp_values_read(const uint8_t *body, size_t body_len, uint8_t form, const rtp_map *map, rtp_values *values);
+
+/* ---- Padding and retransmissions ---- */
+
+/* Makes a packet of padding alone after its header: sets P, and writes the padding from header_len on,
+ * zeros and in the last byte their count. It is pad_len in whole blocks, but at most 240 bytes; with a
+ * pad_len of 0 nothing changes, and the count is 0. To pad a packet with a payload, pass the end of the
+ * payload as header_len. RTP_OK; RTP_BAD_FIELD where block_size is 0; RTP_SHORT_BUFFER where size is
+ * below header_len + 240. The packet then has header_len + *count bytes. */
+int32_t rtp_pad(uint8_t *datagram, size_t size, size_t header_len, uint8_t pad_len, size_t block_size, size_t *count);
+
+/* The original sequence number that the payload of a retransmission packet begins with (RFC 4588, 4),
+ * before the original payload: read, or the low 16 bits of it written. RTP_OK, or RTP_SHORT_BUFFER where
+ * there are fewer than two bytes. */
+int32_t rtp_read_original(const uint8_t *payload, size_t len, uint16_t *number);
+int32_t rtp_write_original(uint8_t *payload, size_t size, uint64_t number);
 
 /* ---- The numbers of a stream ---- */
 

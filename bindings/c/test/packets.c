@@ -224,6 +224,36 @@ static void receivers_start(void) {
     CHECK(rtp_extend_u16(0, 65533) == UINT64_MAX - 2);
 }
 
+static void padding_is_made(void) {
+    uint8_t bytes[254];
+    size_t count = 77, i;
+    memset(bytes, 0x11, sizeof bytes);
+    bytes[0] = 0x80;
+    CHECK(rtp_pad(bytes, sizeof bytes, 12, 3, 0, &count) == RTP_BAD_FIELD);
+    CHECK(rtp_pad(bytes, 251, 12, 3, 4, &count) == RTP_SHORT_BUFFER);
+    CHECK(rtp_pad(bytes, 239, 0, 3, 4, &count) == RTP_SHORT_BUFFER);
+    CHECK(rtp_pad(bytes, sizeof bytes, SIZE_MAX, 3, 4, &count) == RTP_SHORT_BUFFER);
+    CHECK(count == 77 && bytes[0] == 0x80 && bytes[12] == 0x11);
+    CHECK(rtp_pad(bytes, sizeof bytes, 12, 0, 4, &count) == RTP_OK && count == 0 && bytes[0] == 0x80);
+    CHECK(rtp_pad(bytes, 252, 12, 3, 4, &count) == RTP_OK && count == 4);
+    CHECK(bytes[0] == 0xA0 && bytes[11] == 0x11 && bytes[12] == 0 && bytes[13] == 0);
+    CHECK(bytes[14] == 0 && bytes[15] == 4);
+    for (i = 16; i < sizeof bytes; i++) {
+        CHECK(bytes[i] == 0x11);
+    }
+}
+
+static void originals_are_passed_on(void) {
+    uint8_t bytes[3] = {0x01, 0x02, 0x03};
+    uint16_t number = 9;
+    CHECK(rtp_read_original(bytes, 1, &number) == RTP_SHORT_BUFFER && number == 9);
+    CHECK(rtp_read_original(bytes, 3, &number) == RTP_OK && number == 258);
+    CHECK(rtp_write_original(bytes, 1, 65538) == RTP_SHORT_BUFFER && bytes[0] == 0x01);
+    CHECK(rtp_write_original(bytes, 3, 65538) == RTP_OK);
+    CHECK(bytes[0] == 0x00 && bytes[1] == 0x02 && bytes[2] == 0x03);
+    CHECK(rtp_version() == 256);
+}
+
 static void statuses_are_told(void) {
     int32_t status;
     for (status = RTP_OK; status <= RTP_CUT_BLOCK; status++) {
@@ -243,6 +273,8 @@ int main(void) {
     values_are_read();
     numbers_are_taken();
     receivers_start();
+    padding_is_made();
+    originals_are_passed_on();
     statuses_are_told();
     return failed;
 }

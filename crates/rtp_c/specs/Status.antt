@@ -21,6 +21,10 @@ cause_status CutBlock = pos 6
 abbrev pub no_memory : ℤ
 no_memory = pos 7
 
+-- a buffer is too short
+abbrev pub short_buffer : ℤ
+short_buffer = pos 8
+
 -- a value that no packet can carry
 abbrev pub bad_field : ℤ
 bad_field = pos 9

@@ -10,6 +10,8 @@ mod elements;
 mod layout;
 mod map;
 mod packet;
+mod payload;
 mod receiver;
 mod status;
 mod values;
+mod version;

@@ -21,6 +21,8 @@ pub const UNKNOWN_FORM: i32 = 5;
 pub const CUT_BLOCK: i32 = 6;
 /// Memory was refused.
 pub const NO_MEMORY: i32 = 7;
+/// A buffer is too short.
+pub const SHORT_BUFFER: i32 = 8;
 /// A value is one that no packet can carry.
 pub const BAD_FIELD: i32 = 9;
 /// A packet is a replay, or too old to tell.
