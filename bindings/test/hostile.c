@@ -97,6 +97,7 @@ int main(int argc, char **argv) {
         elements_round();
         receivers_round();
         values_round();
+        payload_round();
     }
     printf("hostile: %llu rounds, seed %llu\n", (unsigned long long)rounds, (unsigned long long)seed);
     return 0;

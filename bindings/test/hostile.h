@@ -21,5 +21,6 @@ void changes_round(void);
 void elements_round(void);
 void receivers_round(void);
 void values_round(void);
+void payload_round(void);
 
 #endif

@@ -24,6 +24,8 @@ static rtp_receiver receiver;
 static rtp_map map;
 static rtp_values values;
 static uint64_t number;
+static uint16_t original;
+static size_t count;
 static const uint8_t data[1] = {7};
 
 static void packet_of_elements(void) {
@@ -54,6 +56,10 @@ static void receiver_accepts(void) { number = rtp_receiver_accepts(&receiver, 9)
 static void receiver_record(void) { rtp_receiver_record(&receiver, 65545); }
 static void receiver_receive(void) { rtp_receiver_receive(&receiver, 99, &number); }
 static void values_read(void) { rtp_values_read(datagram + 76, 262140, RTP_ONE_BYTE_FORM, &map, &values); }
+static void pad(void) { rtp_pad(datagram, sizeof datagram, 32, 200, 16, &count); }
+static void read_original(void) { rtp_read_original(datagram, sizeof datagram, &original); }
+static void write_original(void) { rtp_write_original(datagram, sizeof datagram, 7); }
+static void version(void) { number = rtp_version(); }
 static void extend_u16(void) { number = rtp_extend_u16(70000, 99); }
 
 static ucontext_t here, there;
@@ -86,7 +92,7 @@ int main(void) {
         CALL(set_timestamp), CALL(set_ssrc), CALL(set_element), CALL(remove_element),
         CALL(next_element), CALL(last_element), CALL(receiver_start), CALL(receiver_number_of),
         CALL(receiver_accepts), CALL(receiver_record), CALL(receiver_receive), CALL(extend_u16),
-        CALL(values_read),
+        CALL(values_read), CALL(pad), CALL(read_original), CALL(write_original), CALL(version),
     };
     memory stacks = memory_of(ROOM);
     for (int i = 0; i < 256; i++) {

@@ -146,6 +146,17 @@ mod c {
             map: *const KindsOfIds,
             values: *mut ValuesView,
         ) -> i32;
+        pub fn rtp_pad(
+            datagram: *mut u8,
+            size: usize,
+            header_len: usize,
+            pad_len: u8,
+            block_size: usize,
+            count: *mut usize,
+        ) -> i32;
+        pub fn rtp_read_original(payload: *const u8, len: usize, number: *mut u16) -> i32;
+        pub fn rtp_write_original(payload: *mut u8, size: usize, number: u64) -> i32;
+        pub fn rtp_version() -> u32;
         pub fn rtp_extend_u16(previous: u64, number: u16) -> u64;
     }
 }
@@ -215,6 +226,44 @@ pub fn last_element(body: &[u8], form: u8, id: u8) -> Option<ElementPlace> {
 pub fn values_read(body: &[u8], form: u8, map: &KindsOfIds, values: &mut ValuesView) -> i32 {
     // SAFETY: a slice and a reference that are read, and an exclusive reference.
     unsafe { c::rtp_values_read(body.as_ptr(), body.len(), form, map, values) }
+}
+
+pub fn pad(
+    datagram: &mut [u8],
+    header_len: usize,
+    pad_len: u8,
+    block_size: usize,
+) -> Option<usize> {
+    let mut count = 0;
+    // SAFETY: an exclusive slice, and an exclusive reference.
+    let status = unsafe {
+        c::rtp_pad(
+            datagram.as_mut_ptr(),
+            datagram.len(),
+            header_len,
+            pad_len,
+            block_size,
+            &mut count,
+        )
+    };
+    (status == OK).then_some(count)
+}
+
+pub fn read_original(payload: &[u8]) -> Option<u16> {
+    let mut number = 0;
+    // SAFETY: a slice that is read, and an exclusive reference.
+    let status = unsafe { c::rtp_read_original(payload.as_ptr(), payload.len(), &mut number) };
+    (status == OK).then_some(number)
+}
+
+pub fn write_original(payload: &mut [u8], number: u64) -> i32 {
+    // SAFETY: an exclusive slice.
+    unsafe { c::rtp_write_original(payload.as_mut_ptr(), payload.len(), number) }
+}
+
+pub fn version() -> u32 {
+    // SAFETY: no memory is passed.
+    unsafe { c::rtp_version() }
 }
 
 pub fn receiver_start(receiver: &mut ReceiverState, rollover_count: u64) -> i32 {

@@ -193,3 +193,15 @@ fn values_are_read() {
     );
     assert_eq!(NoMemory.to_string(), "memory was refused");
 }
+
+#[test]
+fn padding_and_originals_have_limits() {
+    let mut buf = [0x80; 251];
+    assert_eq!(rtp_wire::pad(&mut buf, 12, 3, 4), None);
+    assert_eq!(rtp_wire::pad(&mut buf, 11, 3, 0), None);
+    assert_eq!(buf, [0x80; 251]);
+    assert_eq!(rtp_wire::pad(&mut buf, 11, 255, 16), Some(240));
+    assert_eq!(rtp_wire::read_original(&[1]), None);
+    assert!(!rtp_wire::write_original(&mut [1], 2));
+    assert_eq!(rtp_wire::version(), 256); // 0.1.0
+}
