@@ -3,8 +3,8 @@
 # bindings/test, bindings/c/test and bindings/examples are run with it. Prints a line for each thing
 # that was checked, and ends at the first one that fails.
 #
-# It needs the kit, cc, c++, cargo and valgrind; and for ARM, which is left out where they are missing,
-# aarch64-linux-gnu-gcc and qemu-aarch64.
+# It needs the kit, cc and c++. What needs cargo, valgrind, or aarch64-linux-gnu-gcc and qemu-aarch64 is
+# left out where they are missing, and a line says so.
 set -euo pipefail
 here=$(cd -- "$(dirname -- "$(readlink -f -- "${BASH_SOURCE[0]}")")" && pwd)
 cd -- "$here/.."
@@ -15,6 +15,7 @@ fail() {
     echo "test.sh: $*" >&2
     exit 1
 }
+has() { command -v "$1" >/dev/null; }
 
 bindings/install.sh
 prefix=$here/out/x86_64-unknown-linux-gnu
@@ -71,9 +72,13 @@ cc -std=c99 "${strict[@]}" "${include[@]}" bindings/examples/lines.c "$library" 
 cc -std=c99 "${strict[@]}" "${include[@]}" -static bindings/examples/lines.c "$library" -o "$scratch/lines_static"
 cc -std=c99 "${strict[@]}" "${include[@]}" bindings/examples/lines.c "${shared[@]}" -o "$scratch/lines_shared"
 c++ -std=c++11 "${strict[@]}" "${include[@]}" bindings/examples/lines.cpp "$library" -o "$scratch/lines_cpp"
-"${cargo[@]}" build "${crate[@]}"
-"${cargo[@]}" build "${crate[@]}" --example lines
-cp -- "$CARGO_TARGET_DIR/debug/examples/lines" "$scratch/lines_rust"
+if has cargo; then
+    "${cargo[@]}" build "${crate[@]}"
+    "${cargo[@]}" build "${crate[@]}" --example lines
+    cp -- "$CARGO_TARGET_DIR/debug/examples/lines" "$scratch/lines_rust"
+else
+    said 'Rust was left out: there is no cargo'
+fi
 compare() {
     for lines in examples/*.lines; do
         "$@" <"$lines" | cmp - "${lines%.lines}.expected" >&2 || fail "$*, $lines"
@@ -96,11 +101,13 @@ printf '%s\n' 902103E8000027100000004DBEDE000242140000000000000102 902103E900002
 diff "$scratch/expected" "$scratch/forwarded" >&2 || fail 'the forwarder'
 said 'the forwarder in C'
 
-"${cargo[@]}" test "${crate[@]}" >"$scratch/cargo.log" 2>&1 || { cat "$scratch/cargo.log" >&2; fail 'cargo test'; }
-"${cargo[@]}" test "${crate[@]}" --release >"$scratch/cargo.log" 2>&1 || { cat "$scratch/cargo.log" >&2; fail 'cargo test'; }
-"${cargo[@]}" doc "${crate[@]}" --no-deps
-"${cargo[@]}" fmt "${crate[@]}" --check
-said 'the crate for Rust: cargo test, cargo doc and cargo fmt, without a warning'
+if has cargo; then
+    "${cargo[@]}" test "${crate[@]}" >"$scratch/cargo.log" 2>&1 || { cat "$scratch/cargo.log" >&2; fail 'cargo test'; }
+    "${cargo[@]}" test "${crate[@]}" --release >"$scratch/cargo.log" 2>&1 || { cat "$scratch/cargo.log" >&2; fail 'cargo test'; }
+    "${cargo[@]}" doc "${crate[@]}" --no-deps
+    "${cargo[@]}" fmt "${crate[@]}" --check
+    said 'the crate for Rust: cargo test, cargo doc and cargo fmt, without a warning'
+fi
 
 # The programs of README.md print what stands there. The first block of each language is the program, and
 # the next block of output follows it.
@@ -115,15 +122,16 @@ block cpp 1 >"$scratch/call.cpp"
 block rust 1 >"$scratch/call.rs"
 cc -std=c99 "${strict[@]}" "${include[@]}" "$scratch/call.c" "$library" -o "$scratch/call_1"
 c++ -std=c++11 "${strict[@]}" "${include[@]}" "$scratch/call.cpp" "$library" -o "$scratch/call_2"
-rustc --edition 2021 -D warnings -L "$prefix/lib" --extern "rtp_wire=$CARGO_TARGET_DIR/debug/librtp_wire.rlib" \
-    "$scratch/call.rs" -o "$scratch/call_3"
-"$scratch/call_1" >"$scratch/said_1"
-"$scratch/call_2" >"$scratch/said_2"
-"$scratch/call_3" >"$scratch/said_3"
-for it in 1 2 3; do
+if has cargo; then
+    rustc --edition 2021 -D warnings -L "$prefix/lib" "$scratch/call.rs" -o "$scratch/call_3" \
+        --extern "rtp_wire=$CARGO_TARGET_DIR/debug/librtp_wire.rlib"
+fi
+for program in "$scratch"/call_?; do
+    it=${program##*_}
+    "$program" >"$scratch/said_$it"
     block '' $((it + 1)) | grep -v '^\$' | diff - "$scratch/said_$it" >&2 || fail "program $it of bindings/README.md"
 done
-if command -v pkg-config >/dev/null; then
+if has pkg-config; then
     flags=$(PKG_CONFIG_PATH=$prefix/lib/pkgconfig pkg-config --cflags --libs rtp_wire)
     # shellcheck disable=SC2086
     cc -std=c99 "$scratch/call.c" $flags -Wl,-rpath,"$prefix/lib" -o "$scratch/call_1"
@@ -140,8 +148,12 @@ hostile cc "$library" "$scratch/hostile"
 wait $! || { cat "$scratch/first" >&2; fail hostile; }
 said 'each function with random bytes and structs between pages that may not be touched, a million times'
 
-valgrind --quiet --error-exitcode=9 --leak-check=full "$scratch/hostile" 3 20000 malloc
-said 'the same under valgrind, 20,000 times'
+if has valgrind; then
+    valgrind --quiet --error-exitcode=9 --leak-check=full "$scratch/hostile" 3 20000 malloc
+    said 'the same under valgrind, 20,000 times'
+else
+    said 'valgrind was left out: it is not there'
+fi
 
 cc -std=c99 "${strict[@]}" bindings/test/threads.c "$library" -lpthread -o "$scratch/threads"
 "$scratch/threads"
@@ -154,7 +166,7 @@ cc -std=c99 "${strict[@]}" bindings/test/refused.c "$library" "$wrap" -o "$scrat
 "$scratch/refused" || fail 'refused memory'
 said 'each growth of memory refused: what stands then, and no memory lost'
 
-if command -v aarch64-linux-gnu-gcc >/dev/null && command -v qemu-aarch64 >/dev/null; then
+if has aarch64-linux-gnu-gcc && has qemu-aarch64; then
     bindings/install.sh --target aarch64-unknown-linux-gnu
     arm=$here/out/aarch64-unknown-linux-gnu/lib/librtp_wire.a
     aarch64-linux-gnu-gcc -std=c11 "${strict[@]}" -fsyntax-only bindings/test/layout.c
