@@ -122,6 +122,8 @@ int32_t rtp_set_payload_type(uint8_t *datagram, size_t len, uint8_t payload_type
 int32_t rtp_set_sequence_number(uint8_t *datagram, size_t len, uint16_t number);
 int32_t rtp_set_timestamp(uint8_t *datagram, size_t len, uint32_t timestamp);
 int32_t rtp_set_ssrc(uint8_t *datagram, size_t len, uint32_t ssrc);
+/* The contributing source at this place, counted from 0. RTP_NONE where the list has no such place. */
+int32_t rtp_set_csrc(uint8_t *datagram, size_t len, size_t index, uint32_t source);
 
 /* Gives the last element of this id these data. RTP_NONE where the packet has no element of the id,
  * or its last one has another number of bytes. */

@@ -91,6 +91,10 @@ static void fields_are_set(void) {
     CHECK(packet.timestamp == 0x56789ABC);
     CHECK(packet.ssrc == 0xDEF01234);
     CHECK(memcmp(bytes + 12, SAMPLE + 12, sizeof bytes - 12) == 0);
+    CHECK(rtp_set_csrc(bytes, LEN, 1, 0xA1B2C3D4) == RTP_OK);
+    CHECK(bytes[15] == 1 && bytes[16] == 0xA1 && bytes[17] == 0xB2 && bytes[18] == 0xC3 && bytes[19] == 0xD4);
+    CHECK(rtp_set_csrc(bytes, LEN, 2, 5) == RTP_NONE && rtp_set_csrc(bytes, LEN, SIZE_MAX, 5) == RTP_NONE);
+    CHECK(memcmp(bytes + 20, SAMPLE + 20, sizeof bytes - 20) == 0);
     CHECK(rtp_set_ssrc(bytes, 31, 1) == RTP_CUT_BLOCK);
     CHECK(bytes[11] == 0x34);
 }

@@ -6,6 +6,7 @@
 
 mod changing;
 mod changing_elements;
+mod changing_sources;
 mod elements;
 mod layout;
 mod map;
