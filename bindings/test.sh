@@ -16,6 +16,7 @@ fail() {
     exit 1
 }
 has() { command -v "$1" >/dev/null; }
+languages='C, C++ and Rust'
 
 bindings/install.sh
 prefix=$here/out/x86_64-unknown-linux-gnu
@@ -77,6 +78,7 @@ if has cargo; then
     "${cargo[@]}" build "${crate[@]}" --example lines
     cp -- "$CARGO_TARGET_DIR/debug/examples/lines" "$scratch/lines_rust"
 else
+    languages='C and C++'
     said 'Rust was left out: there is no cargo'
 fi
 compare() {
@@ -88,7 +90,7 @@ compare() {
     { "$@" <"$scratch/bad" || [ $? -eq 2 ]; } | cmp - "$scratch/expected" >&2 || fail "$*, a bad line"
 }
 for program in "$scratch"/lines_*; do compare "$program"; done
-said 'the examples in C (static, shared and all static), C++ and Rust against examples/*.expected'
+said "the examples in $languages (in C static, shared and all static) against examples/*.expected"
 
 # SSRC 44 -> 77; 47,000 -> 1,000; at 5 s the send time is 5 * 2^18 = 0x140000, and 40 ms later
 # 1,321,205 = 0x1428F5; the mid (id 3) becomes padding. The second packet says no send time, and the third
@@ -137,7 +139,7 @@ if has pkg-config; then
     cc -std=c99 "$scratch/call.c" $flags -Wl,-rpath,"$prefix/lib" -o "$scratch/call_1"
     "$scratch/call_1" | cmp - "$scratch/said_1" >&2 || fail pkg-config
 fi
-said 'the programs of bindings/README.md in C, C++ and Rust'
+said "the programs of bindings/README.md in $languages"
 
 hostile() { # compiler, library, program
     "$1" -std=c99 -g "${strict[@]}" -D_GNU_SOURCE bindings/test/hostile*.c "$2" -o "$3"

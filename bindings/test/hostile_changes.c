@@ -1,5 +1,5 @@
 /* rtp_set_marker, rtp_set_payload_type, rtp_set_sequence_number, rtp_set_timestamp, rtp_set_ssrc,
- * rtp_set_element, rtp_remove_element */
+ * rtp_set_csrc, rtp_set_element, rtp_remove_element */
 #include "hostile.h"
 
 #include "../c/rtp_wire.h"
@@ -51,6 +51,12 @@ static void fixed_part(void) {
         put_number(8, 4, (uint32_t)(x >> 32));
     }
     expect(rtp_set_ssrc(bytes, len, (uint32_t)(x >> 32)), it.cause);
+    size_t index = random_u64() % 4 == 0 ? (size_t)random_u64() >> random_below(64) : random_below(4);
+    bool is_there = it.cause == 0 && index < it.csrc_count;
+    if (is_there) {
+        put_number(12 + 4 * index, 4, (uint32_t)x);
+    }
+    expect(rtp_set_csrc(bytes, len, index, (uint32_t)x), it.cause != 0 ? it.cause : is_there ? RTP_OK : RTP_NONE);
 }
 
 static void set_element(void) {

@@ -46,6 +46,7 @@ static void set_payload_type(void) { rtp_set_payload_type(datagram, sizeof datag
 static void set_sequence_number(void) { rtp_set_sequence_number(datagram, sizeof datagram, 1); }
 static void set_timestamp(void) { rtp_set_timestamp(datagram, sizeof datagram, 2); }
 static void set_ssrc(void) { rtp_set_ssrc(datagram, sizeof datagram, 3); }
+static void set_csrc(void) { rtp_set_csrc(datagram, sizeof datagram, 14, 4); }
 static void set_element(void) { rtp_set_element(datagram, sizeof datagram, 3, data, sizeof data); }
 static void remove_element(void) { rtp_remove_element(datagram, sizeof datagram, 3); }
 static void next_element(void) { rtp_next_element(datagram + 76, 262140, RTP_ONE_BYTE_FORM, 0, &element); }
@@ -89,7 +90,7 @@ int main(void) {
         void (*call)(void);
     } calls[] = {
         CALL(packet_parse), CALL(set_marker), CALL(set_payload_type), CALL(set_sequence_number),
-        CALL(set_timestamp), CALL(set_ssrc), CALL(set_element), CALL(remove_element),
+        CALL(set_timestamp), CALL(set_ssrc), CALL(set_csrc), CALL(set_element), CALL(remove_element),
         CALL(next_element), CALL(last_element), CALL(receiver_start), CALL(receiver_number_of),
         CALL(receiver_accepts), CALL(receiver_record), CALL(receiver_receive), CALL(extend_u16),
         CALL(values_read), CALL(pad), CALL(read_original), CALL(write_original), CALL(version),

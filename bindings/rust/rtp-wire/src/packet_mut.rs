@@ -57,6 +57,13 @@ impl<'a> PacketMut<'a> {
         done(sys::set_ssrc(self.datagram, ssrc));
     }
 
+    /// Sets the contributing source at this place, counted from 0. Returns `false`, and changes nothing,
+    /// where the list has no such place.
+    #[must_use]
+    pub fn set_csrc(&mut self, index: usize, source: u32) -> bool {
+        sys::set_csrc(self.datagram, index, source) == sys::OK
+    }
+
     /// Gives the last element of this id these data. Returns `false`, and changes nothing, where there
     /// is no element of the id, or its last one has another number of bytes.
     #[must_use]

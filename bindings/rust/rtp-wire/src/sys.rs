@@ -108,6 +108,7 @@ mod c {
         pub fn rtp_set_sequence_number(datagram: *mut u8, len: usize, number: u16) -> i32;
         pub fn rtp_set_timestamp(datagram: *mut u8, len: usize, timestamp: u32) -> i32;
         pub fn rtp_set_ssrc(datagram: *mut u8, len: usize, ssrc: u32) -> i32;
+        pub fn rtp_set_csrc(datagram: *mut u8, len: usize, index: usize, source: u32) -> i32;
         pub fn rtp_set_element(
             datagram: *mut u8,
             len: usize,
@@ -189,6 +190,11 @@ pub fn set_timestamp(datagram: &mut [u8], timestamp: u32) -> i32 {
 pub fn set_ssrc(datagram: &mut [u8], ssrc: u32) -> i32 {
     // SAFETY: an exclusive slice.
     unsafe { c::rtp_set_ssrc(datagram.as_mut_ptr(), datagram.len(), ssrc) }
+}
+
+pub fn set_csrc(datagram: &mut [u8], index: usize, source: u32) -> i32 {
+    // SAFETY: an exclusive slice.
+    unsafe { c::rtp_set_csrc(datagram.as_mut_ptr(), datagram.len(), index, source) }
 }
 
 pub fn set_element(datagram: &mut [u8], id: u8, data: &[u8]) -> i32 {

@@ -134,6 +134,13 @@ fn a_packet_is_changed() {
     packet.set_sequence_number(0x1234);
     packet.set_timestamp(0x5678_9ABC);
     packet.set_ssrc(0xDEF0_1234);
+    assert!(packet.set_csrc(1, 0xA1B2_C3D4));
+    assert!(!packet.set_csrc(2, 5));
+    assert_eq!(
+        packet.as_packet().csrcs().collect::<Vec<_>>(),
+        [1, 0xA1B2_C3D4]
+    );
+    assert!(packet.set_csrc(1, 2));
     assert!(packet.set_element(1, &[0xEE]));
     assert!(!packet.set_element(1, &[0xEE, 0xFF]));
     assert!(packet.remove_element(2));
