@@ -1,0 +1,41 @@
+//! RTP packets where they lie in memory (RFC 3550, 5.1; RFC 8285), and the numbers of their streams.
+//!
+//! The work is done by a library whose functions are proved: each returns for every input, and its
+//! result is what its contract says. This crate gives it the types of Rust. It needs no
+//! `std`, has no state, and takes no memory but for a layer allocation ([`Packet::values`]).
+//!
+//! ```
+//! use rtp_wire::{NotAPacket, Packet, Receiver};
+//!
+//! let datagram = [0x80, 0x21, 0xB7, 0x98, 0, 0, 0x27, 0x10, 0, 0, 0, 0x2C, 1, 2, 3];
+//! let packet = Packet::parse(&datagram)?;
+//! assert_eq!(packet.payload_type(), 33);
+//! assert_eq!(packet.payload(), [1, 2, 3]);
+//!
+//! let mut receiver = Receiver::new();
+//! assert_eq!(receiver.receive(packet.sequence_number()), Some(47_000));
+//! assert_eq!(receiver.receive(packet.sequence_number()), None); // a replay
+//!
+//! assert_eq!(Packet::parse(&datagram[..11]), Err(NotAPacket::CutFixedPart));
+//! # Ok::<(), NotAPacket>(())
+//! ```
+#![no_std]
+#![deny(unsafe_code)]
+#![warn(missing_docs)]
+
+mod elements;
+mod error;
+mod packet;
+mod packet_mut;
+mod payload;
+mod receiver;
+mod sys;
+mod values;
+
+pub use elements::{Element, Elements};
+pub use error::NotAPacket;
+pub use packet::{Csrcs, Form, Packet};
+pub use packet_mut::PacketMut;
+pub use payload::{pad, read_original, version, write_original};
+pub use receiver::{extend_u16, Receiver};
+pub use values::{Kind, Map, NoMemory, Values};

@@ -1,0 +1,178 @@
+use core::fmt;
+use core::iter::FusedIterator;
+
+use crate::elements::Elements;
+use crate::error::NotAPacket;
+use crate::sys;
+
+/// The form of an extension block (RFC 8285, 4.2 and 4.3).
+#[derive(Clone, Copy, Debug, PartialEq, Eq, Hash)]
+pub enum Form {
+    /// 0xBEDE: ids up to 14, and 1 to 16 bytes of data.
+    OneByte,
+    /// 0x1000 to 0x100F: ids up to 255, and up to 255 bytes of data.
+    TwoByte,
+}
+
+impl Form {
+    pub(crate) fn number(self) -> u8 {
+        match self {
+            Form::OneByte => sys::ONE_BYTE_FORM,
+            Form::TwoByte => sys::TWO_BYTE_FORM,
+        }
+    }
+}
+
+/// A packet in the bytes of its datagram: nothing is copied.
+#[derive(Clone, Copy, PartialEq, Eq)]
+pub struct Packet<'a> {
+    datagram: &'a [u8],
+    parts: sys::PacketParts,
+}
+
+impl<'a> Packet<'a> {
+    /// Reads the header of the packet that the datagram is.
+    ///
+    /// # Errors
+    ///
+    /// The first cause for which it is none.
+    pub fn parse(datagram: &'a [u8]) -> Result<Packet<'a>, NotAPacket> {
+        let mut parts = sys::PacketParts::default();
+        NotAPacket::of_status(sys::packet_parse(datagram, &mut parts))?;
+        Ok(Packet { datagram, parts })
+    }
+
+    /// The whole datagram.
+    pub fn datagram(&self) -> &'a [u8] {
+        self.datagram
+    }
+
+    /// M.
+    pub fn marker(&self) -> bool {
+        self.parts.marker != 0
+    }
+
+    /// What the payload is, 0 to 127.
+    pub fn payload_type(&self) -> u8 {
+        self.parts.payload_type
+    }
+
+    /// The low 16 bits of the packet's number.
+    pub fn sequence_number(&self) -> u16 {
+        self.parts.sequence_number
+    }
+
+    /// The moment of the payload's first byte, in ticks of its own clock.
+    pub fn timestamp(&self) -> u32 {
+        self.parts.timestamp
+    }
+
+    /// The stream's source.
+    pub fn ssrc(&self) -> u32 {
+        self.parts.ssrc
+    }
+
+    /// The contributing sources, at most 15, in order.
+    pub fn csrcs(&self) -> Csrcs<'a> {
+        let list = &self.datagram[sys::CSRC_AT..];
+        Csrcs {
+            list: &list[..4 * usize::from(self.parts.csrc_count)],
+        }
+    }
+
+    /// How many bytes the header takes: 12 to 262,216.
+    pub fn header_len(&self) -> usize {
+        self.parts.payload_at
+    }
+
+    /// The payload with any padding.
+    pub fn payload(&self) -> &'a [u8] {
+        &self.datagram[self.parts.payload_at..]
+    }
+
+    /// P: whether there is padding at the end of the payload.
+    pub fn has_padding(&self) -> bool {
+        self.parts.has_padding != 0
+    }
+
+    /// The payload without its padding; `None` where the padding's last byte counts more bytes than the
+    /// payload has. Of SRTP the padding is encrypted: decrypt first.
+    pub fn unpadded_payload(&self) -> Option<&'a [u8]> {
+        if self.parts.padding_fits == 0 {
+            return None;
+        }
+        Some(&self.payload()[..self.parts.unpadded_len])
+    }
+
+    /// The form of the block; `None` where the packet has none (X is clear).
+    pub fn form(&self) -> Option<Form> {
+        match self.parts.block_form {
+            sys::ONE_BYTE_FORM => Some(Form::OneByte),
+            sys::TWO_BYTE_FORM => Some(Form::TwoByte),
+            _ => None,
+        }
+    }
+
+    /// The form and the body of the block, after the four bytes of its header.
+    pub fn block(&self) -> Option<(Form, &'a [u8])> {
+        let body = &self.datagram[self.parts.body_at..self.parts.payload_at];
+        Some((self.form()?, body))
+    }
+
+    /// The elements of the block, in order: none where there is no block.
+    pub fn elements(&self) -> Elements<'a> {
+        Elements::of(self.block())
+    }
+
+    /// The data of the last element of this id, which is the one that counts.
+    pub fn element(&self, id: u8) -> Option<&'a [u8]> {
+        let (form, body) = self.block()?;
+        Some(sys::last_element(body, form.number(), id)?.data_in(body))
+    }
+}
+
+impl fmt::Debug for Packet<'_> {
+    fn fmt(&self, f: &mut fmt::Formatter<'_>) -> fmt::Result {
+        f.debug_struct("Packet")
+            .field("marker", &self.marker())
+            .field("payload_type", &self.payload_type())
+            .field("sequence_number", &self.sequence_number())
+            .field("timestamp", &self.timestamp())
+            .field("ssrc", &self.ssrc())
+            .field("form", &self.form())
+            .field("header_len", &self.header_len())
+            .field("payload_len", &self.payload().len())
+            .finish_non_exhaustive()
+    }
+}
+
+impl<'a> TryFrom<&'a [u8]> for Packet<'a> {
+    type Error = NotAPacket;
+
+    fn try_from(datagram: &'a [u8]) -> Result<Packet<'a>, NotAPacket> {
+        Packet::parse(datagram)
+    }
+}
+
+/// The contributing sources of a packet: what [`Packet::csrcs`] returns.
+#[derive(Clone, Debug)]
+pub struct Csrcs<'a> {
+    list: &'a [u8],
+}
+
+impl Iterator for Csrcs<'_> {
+    type Item = u32;
+
+    fn next(&mut self) -> Option<u32> {
+        let (source, rest) = self.list.split_first_chunk::<4>()?;
+        self.list = rest;
+        Some(u32::from_be_bytes(*source))
+    }
+
+    fn size_hint(&self) -> (usize, Option<usize>) {
+        (self.list.len() / 4, Some(self.list.len() / 4))
+    }
+}
+
+impl ExactSizeIterator for Csrcs<'_> {}
+impl FusedIterator for Csrcs<'_> {}

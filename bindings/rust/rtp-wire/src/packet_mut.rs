@@ -1,0 +1,89 @@
+use core::fmt;
+
+use crate::error::NotAPacket;
+use crate::packet::Packet;
+use crate::sys;
+
+/// A packet that is changed in the bytes of its datagram: each call changes the part that it names, and
+/// no other byte. The datagram stays a packet, of the same length and with the same block form.
+pub struct PacketMut<'a> {
+    datagram: &'a mut [u8],
+}
+
+impl<'a> PacketMut<'a> {
+    /// Takes the packet that the datagram is.
+    ///
+    /// # Errors
+    ///
+    /// The first cause for which it is none.
+    pub fn parse(datagram: &'a mut [u8]) -> Result<PacketMut<'a>, NotAPacket> {
+        Packet::parse(datagram)?;
+        Ok(PacketMut { datagram })
+    }
+
+    /// The packet as it is now.
+    pub fn as_packet(&self) -> Packet<'_> {
+        Packet::parse(self.datagram).expect("what was a packet stays one")
+    }
+
+    /// The bytes of the packet, to encrypt the payload in place, say.
+    pub fn into_datagram(self) -> &'a mut [u8] {
+        self.datagram
+    }
+
+    /// Sets M.
+    pub fn set_marker(&mut self, marker: bool) {
+        done(sys::set_marker(self.datagram, marker));
+    }
+
+    /// Sets the payload type. Returns `false`, and changes nothing, where it is above 127.
+    #[must_use]
+    pub fn set_payload_type(&mut self, payload_type: u8) -> bool {
+        sys::set_payload_type(self.datagram, payload_type) == sys::OK
+    }
+
+    /// Sets the sequence number.
+    pub fn set_sequence_number(&mut self, number: u16) {
+        done(sys::set_sequence_number(self.datagram, number));
+    }
+
+    /// Sets the timestamp.
+    pub fn set_timestamp(&mut self, timestamp: u32) {
+        done(sys::set_timestamp(self.datagram, timestamp));
+    }
+
+    /// Sets the SSRC.
+    pub fn set_ssrc(&mut self, ssrc: u32) {
+        done(sys::set_ssrc(self.datagram, ssrc));
+    }
+
+    /// Sets the contributing source at this place, counted from 0. Returns `false`, and changes nothing,
+    /// where the list has no such place.
+    #[must_use]
+    pub fn set_csrc(&mut self, index: usize, source: u32) -> bool {
+        sys::set_csrc(self.datagram, index, source) == sys::OK
+    }
+
+    /// Gives the last element of this id these data. Returns `false`, and changes nothing, where there
+    /// is no element of the id, or its last one has another number of bytes.
+    #[must_use]
+    pub fn set_element(&mut self, id: u8, data: &[u8]) -> bool {
+        sys::set_element(self.datagram, id, data) == sys::OK
+    }
+
+    /// Makes each element of this id padding. Returns whether there was one.
+    pub fn remove_element(&mut self, id: u8) -> bool {
+        sys::remove_element(self.datagram, id) == sys::OK
+    }
+}
+
+/// A call on a packet does what it is for.
+fn done(status: i32) {
+    debug_assert_eq!(status, sys::OK);
+}
+
+impl fmt::Debug for PacketMut<'_> {
+    fn fmt(&self, f: &mut fmt::Formatter<'_>) -> fmt::Result {
+        self.as_packet().fmt(f)
+    }
+}

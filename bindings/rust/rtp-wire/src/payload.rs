@@ -1,0 +1,52 @@
+use crate::sys;
+
+/// Makes a packet of padding alone after its header: sets P, and writes the padding from `header_len`
+/// on, zeros and in the last byte their count, which is returned. It is `pad_len` in whole blocks, but
+/// at most 240 bytes; with a `pad_len` of 0 nothing changes. To pad a packet with a payload, pass the
+/// end of the payload as `header_len`. `None`, and nothing changes, where `block_size` is 0, or there
+/// is no room for 240 bytes after the header.
+///
+/// ```
+/// let mut buf = [0x80; 12 + 240];
+/// assert_eq!(rtp_wire::pad(&mut buf, 12, 3, 4), Some(4));
+/// assert_eq!(buf[..1], [0xA0]);
+/// assert_eq!(buf[12..16], [0, 0, 0, 4]);
+/// ```
+#[must_use]
+pub fn pad(
+    datagram: &mut [u8],
+    header_len: usize,
+    pad_len: u8,
+    block_size: usize,
+) -> Option<usize> {
+    sys::pad(datagram, header_len, pad_len, block_size)
+}
+
+/// The original sequence number that the payload of a retransmission packet begins with (RFC 4588, 4),
+/// and the original payload behind it; `None` where there are fewer than two bytes.
+///
+/// ```
+/// assert_eq!(rtp_wire::read_original(&[1, 2, 3]), Some((258, &[3][..])));
+/// ```
+pub fn read_original(payload: &[u8]) -> Option<(u16, &[u8])> {
+    Some((sys::read_original(payload)?, &payload[2..]))
+}
+
+/// Writes the low 16 bits of the original sequence number to the front of the payload of a
+/// retransmission packet. Returns `false`, and changes nothing, where there are fewer than two bytes.
+///
+/// ```
+/// let mut payload = [0xFF; 3];
+/// assert!(rtp_wire::write_original(&mut payload, 65_538));
+/// assert_eq!(payload, [0, 2, 0xFF]);
+/// ```
+#[must_use]
+pub fn write_original(payload: &mut [u8], number: u64) -> bool {
+    sys::write_original(payload, number) == sys::OK
+}
+
+/// The version of the library that is linked: 65,536 times its major number, 256 times the minor one,
+/// and the patch.
+pub fn version() -> u32 {
+    sys::version()
+}

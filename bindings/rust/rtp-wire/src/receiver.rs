@@ -1,0 +1,72 @@
+use crate::sys;
+
+/// The receive state of one stream: a replay window of 128 numbers, and the rollover count (RFC 3711,
+/// 3.3.1 and 3.3.2). It is plain memory of 32 bytes, and may be copied and stored.
+///
+/// A packet is taken where its number is above the highest taken, or less than 128 below it and not
+/// taken. With SRTP, ask [`number_of`](Receiver::number_of) and [`accepts`](Receiver::accepts),
+/// authenticate the packet, and [`record`](Receiver::record): a forged packet then changes nothing.
+///
+/// ```
+/// let mut receiver = rtp_wire::Receiver::new();
+/// assert_eq!(receiver.receive(65_535), Some(65_535));
+/// assert_eq!(receiver.receive(0), Some(65_536)); // a rollover
+/// assert_eq!(receiver.receive(65_535), None); // a replay
+/// ```
+#[derive(Clone, Copy, Debug, Default)]
+pub struct Receiver {
+    state: sys::ReceiverState,
+}
+
+impl Receiver {
+    /// A receiver that has taken nothing yet, of a stream from its beginning.
+    pub fn new() -> Receiver {
+        Receiver::default()
+    }
+
+    /// A receiver that has taken nothing yet, whose first packet has this rollover count. `None` where
+    /// it is 2^48 or more. With a count of 1 or more a packet from before the first one has a number
+    /// too.
+    pub fn starting_at(rollover_count: u64) -> Option<Receiver> {
+        let mut receiver = Receiver::new();
+        let status = sys::receiver_start(&mut receiver.state, rollover_count);
+        (status == sys::OK).then_some(receiver)
+    }
+
+    /// The highest number taken; `None` where nothing is taken yet.
+    pub fn highest(&self) -> Option<u64> {
+        (self.state.started != 0).then_some(self.state.highest)
+    }
+
+    /// The extended sequence number of a packet: the nearest to the highest taken that ends in these 16
+    /// bits. Its low 48 bits are SRTP's packet index.
+    pub fn number_of(&self, sequence_number: u16) -> u64 {
+        sys::receiver_number_of(&self.state, sequence_number)
+    }
+
+    /// Whether the number may be taken.
+    pub fn accepts(&self, number: u64) -> bool {
+        sys::receiver_accepts(&self.state, number)
+    }
+
+    /// Records that the number is taken. One that isn't accepted changes nothing of what is held.
+    pub fn record(&mut self, number: u64) {
+        sys::receiver_record(&mut self.state, number);
+    }
+
+    /// Takes a packet that needn't be authenticated, and returns its extended number; `None`, and
+    /// nothing changes, where it is a replay or too old to tell.
+    pub fn receive(&mut self, sequence_number: u16) -> Option<u64> {
+        sys::receiver_receive(&mut self.state, sequence_number)
+    }
+}
+
+/// The number nearest to the previous one, modulo 2^64, that ends in these 16 bits. Where two are
+/// equally near it is the one with the rollover count of the previous one.
+///
+/// ```
+/// assert_eq!(rtp_wire::extend_u16(65_530, 4), 65_540);
+/// ```
+pub fn extend_u16(previous: u64, number: u16) -> u64 {
+    sys::extend_u16(previous, number)
+}

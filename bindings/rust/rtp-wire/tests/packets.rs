@@ -1,0 +1,214 @@
+//! The types of the crate. Expected values are worked out by hand from RFC 3550, 5.1 and RFC 8285.
+
+use rtp_wire::{
+    extend_u16, Element, Form, Kind, Map, NoMemory, NotAPacket, Packet, PacketMut, Receiver, Values,
+};
+
+/// V=2, P, X, CC=2; M, PT=33; 47,000; 10,000; 44; the sources 1 and 2; a block of two words with the
+/// elements 1 (AA), 2 (BB CC) and 1 (DD); a payload of 3 bytes and 2 of padding.
+const SAMPLE: [u8; 37] = [
+    0xB2, 0xA1, 0xB7, 0x98, 0x00, 0x00, 0x27, 0x10, 0x00, 0x00, 0x00, 0x2C, 0x00, 0x00, 0x00, 0x01,
+    0x00, 0x00, 0x00, 0x02, 0xBE, 0xDE, 0x00, 0x02, 0x10, 0xAA, 0x21, 0xBB, 0xCC, 0x10, 0xDD, 0x00,
+    0x01, 0x02, 0x03, 0x00, 0x02,
+];
+
+/// V=2, X; PT=0; 5; 6; 7; a block of one word in the two-byte form, with the element 200 of no bytes.
+const TWO_BYTE: [u8; 20] = [
+    0x90, 0x00, 0x00, 0x05, 0x00, 0x00, 0x00, 0x06, 0x00, 0x00, 0x00, 0x07, 0x10, 0x00, 0x00, 0x01,
+    0x00, 200, 0x00, 0x00,
+];
+
+fn crosses_threads<T: Send + Sync + 'static>(_: &T) {}
+
+#[test]
+fn types_cross_threads() {
+    crosses_threads(&Packet::parse(&SAMPLE).unwrap());
+    crosses_threads(&Receiver::new());
+    crosses_threads(&NotAPacket::CutBlock);
+    crosses_threads(&Map::new());
+    crosses_threads(&Values::default());
+    static mut DATAGRAM: [u8; 12] = [0x80; 12];
+    // SAFETY: no other reference to it is made.
+    #[allow(static_mut_refs)]
+    crosses_threads(&PacketMut::parse(unsafe { &mut DATAGRAM }).unwrap());
+}
+
+#[test]
+fn a_packet_is_read() {
+    let packet = Packet::parse(&SAMPLE).unwrap();
+    assert!(packet.marker());
+    assert_eq!(packet.payload_type(), 33);
+    assert_eq!(packet.sequence_number(), 47_000);
+    assert_eq!(packet.timestamp(), 10_000);
+    assert_eq!(packet.ssrc(), 44);
+    assert_eq!(packet.csrcs().len(), 2);
+    assert_eq!(packet.csrcs().collect::<Vec<_>>(), [1, 2]);
+    assert_eq!(packet.header_len(), 32);
+    assert!(packet.has_padding());
+    assert_eq!(packet.payload(), [1, 2, 3, 0, 2]);
+    assert_eq!(packet.unpadded_payload(), Some(&[1, 2, 3][..]));
+    assert_eq!(packet.form(), Some(Form::OneByte));
+    assert_eq!(packet.block(), Some((Form::OneByte, &SAMPLE[24..32])));
+    assert_eq!(packet.datagram(), SAMPLE);
+}
+
+#[test]
+fn padding_may_be_too_long() {
+    let mut bytes = SAMPLE;
+    bytes[36] = 6;
+    assert_eq!(Packet::parse(&bytes).unwrap().unpadded_payload(), None);
+}
+
+#[test]
+fn elements_are_found() {
+    let packet = Packet::parse(&SAMPLE).unwrap();
+    let elements: Vec<_> = packet
+        .elements()
+        .map(|Element { id, data }| (id, data))
+        .collect();
+    assert_eq!(
+        elements,
+        [(1, &[0xAA][..]), (2, &[0xBB, 0xCC]), (1, &[0xDD])]
+    );
+    assert_eq!(packet.element(1), Some(&[0xDD][..])); // the last one
+    assert_eq!(packet.element(3), None);
+
+    let packet = Packet::parse(&TWO_BYTE).unwrap();
+    assert_eq!(packet.form(), Some(Form::TwoByte));
+    assert_eq!(packet.element(200), Some(&[][..]));
+
+    let plain = Packet::parse(&[0x80; 12]).unwrap();
+    assert_eq!(plain.block(), None);
+    assert_eq!(plain.elements().next(), None);
+    assert_eq!(plain.element(1), None);
+}
+
+#[test]
+fn other_bytes_are_refused() {
+    let cases = [
+        (
+            &SAMPLE[..0],
+            NotAPacket::CutFixedPart,
+            "fewer than twelve bytes",
+        ),
+        (
+            &SAMPLE[..19],
+            NotAPacket::CutSources,
+            "the CSRC list is cut short",
+        ),
+        (
+            &SAMPLE[..23],
+            NotAPacket::CutBlockHeader,
+            "the header of the extension block is cut short",
+        ),
+        (
+            &SAMPLE[..31],
+            NotAPacket::CutBlock,
+            "the extension block is cut short",
+        ),
+        (
+            &[0x40; 12],
+            NotAPacket::OtherVersion,
+            "another version than 2",
+        ),
+        (
+            &[0x90; 16],
+            NotAPacket::UnknownForm,
+            "a header extension of an unknown form",
+        ),
+    ];
+    for (bytes, cause, text) in cases {
+        assert_eq!(Packet::parse(bytes), Err(cause));
+        assert_eq!(PacketMut::parse(&mut bytes.to_vec()).unwrap_err(), cause);
+        assert_eq!(cause.to_string(), text);
+    }
+}
+
+#[test]
+fn a_packet_is_changed() {
+    let mut bytes = SAMPLE;
+    let mut packet = PacketMut::parse(&mut bytes).unwrap();
+    packet.set_marker(false);
+    assert!(packet.set_payload_type(96));
+    assert!(!packet.set_payload_type(128));
+    packet.set_sequence_number(0x1234);
+    packet.set_timestamp(0x5678_9ABC);
+    packet.set_ssrc(0xDEF0_1234);
+    assert!(packet.set_csrc(1, 0xA1B2_C3D4));
+    assert!(!packet.set_csrc(2, 5));
+    assert_eq!(
+        packet.as_packet().csrcs().collect::<Vec<_>>(),
+        [1, 0xA1B2_C3D4]
+    );
+    assert!(packet.set_csrc(1, 2));
+    assert!(packet.set_element(1, &[0xEE]));
+    assert!(!packet.set_element(1, &[0xEE, 0xFF]));
+    assert!(packet.remove_element(2));
+    assert!(!packet.remove_element(2));
+    assert_eq!(packet.as_packet().element(1), Some(&[0xEE][..]));
+    assert_eq!(
+        packet.into_datagram()[..32],
+        [
+            0xB2, 0x60, 0x12, 0x34, 0x56, 0x78, 0x9A, 0xBC, 0xDE, 0xF0, 0x12, 0x34, 0x00, 0x00,
+            0x00, 0x01, 0x00, 0x00, 0x00, 0x02, 0xBE, 0xDE, 0x00, 0x02, 0x10, 0xAA, 0x00, 0x00,
+            0x00, 0x10, 0xEE, 0x00,
+        ]
+    );
+    assert_eq!(bytes[32..], SAMPLE[32..]);
+}
+
+#[test]
+fn a_receiver_judges() {
+    let mut receiver = Receiver::new();
+    assert_eq!(receiver.highest(), None);
+    assert_eq!(receiver.receive(65_500), Some(65_500));
+    assert_eq!(receiver.number_of(10), 65_546);
+    assert!(receiver.accepts(65_546));
+    receiver.record(65_546);
+    assert!(!receiver.accepts(65_546));
+    assert_eq!(receiver.highest(), Some(65_546));
+    assert_eq!(receiver.receive(65_500), None); // taken
+    assert_eq!(receiver.receive(65_419), Some(65_419)); // 127 below the highest
+    assert_eq!(receiver.receive(65_418), None); // 128 below it
+
+    let mut receiver = Receiver::starting_at(3).unwrap();
+    assert_eq!(receiver.receive(9), Some(3 * 65_536 + 9));
+    assert!(Receiver::starting_at(1 << 48).is_none());
+    assert_eq!(extend_u16(70_000, 0), 65_536);
+}
+
+#[test]
+fn values_are_read() {
+    const MAP: Map = Map::new()
+        .with(0, Kind::Mid)
+        .with(1, Kind::VideoOrientation)
+        .with(2, Kind::TransportNumber);
+    assert_eq!(MAP.get(0), None);
+    assert_eq!(MAP.get(1), Some(Kind::VideoOrientation));
+    assert_eq!(MAP.get(3), None);
+    assert_eq!(
+        format!("{MAP:?}"),
+        "{1: VideoOrientation, 2: TransportNumber}"
+    );
+    let values = Packet::parse(&SAMPLE).unwrap().values(&MAP).unwrap();
+    assert_eq!(values.video_orientation, Some(270)); // DD ends in 01
+    assert_eq!(values.transport_number, Some(0xBBCC));
+    assert_eq!(values.audio_level, None);
+    assert_eq!(
+        Packet::parse(&[0x80; 12]).unwrap().values(&MAP),
+        Ok(Values::default())
+    );
+    assert_eq!(NoMemory.to_string(), "memory was refused");
+}
+
+#[test]
+fn padding_and_originals_have_limits() {
+    let mut buf = [0x80; 251];
+    assert_eq!(rtp_wire::pad(&mut buf, 12, 3, 4), None);
+    assert_eq!(rtp_wire::pad(&mut buf, 11, 3, 0), None);
+    assert_eq!(buf, [0x80; 251]);
+    assert_eq!(rtp_wire::pad(&mut buf, 11, 255, 16), Some(240));
+    assert_eq!(rtp_wire::read_original(&[1]), None);
+    assert!(!rtp_wire::write_original(&mut [1], 2));
+    assert_eq!(rtp_wire::version(), 256); // 0.1.0
+}

@@ -1,0 +1,188 @@
+#!/usr/bin/env bash
+# Tests the library for C, C++ and Rust: it is proved, built and installed, and the programs of
+# bindings/test, bindings/c/test and bindings/examples are run with it. Prints a line for each thing
+# that was checked, and ends at the first one that fails.
+#
+# It needs the kit, cc and c++. What needs cargo, valgrind, or aarch64-linux-gnu-gcc and qemu-aarch64 is
+# left out where they are missing, and a line says so.
+set -euo pipefail
+here=$(cd -- "$(dirname -- "$(readlink -f -- "${BASH_SOURCE[0]}")")" && pwd)
+cd -- "$here/.."
+scratch=$(mktemp -d)
+trap 'rm -rf -- "$scratch"' EXIT
+said() { printf '%4d s  %s\n' "$SECONDS" "$*"; }
+fail() {
+    echo "test.sh: $*" >&2
+    exit 1
+}
+has() { command -v "$1" >/dev/null; }
+languages='C, C++ and Rust'
+
+bindings/install.sh
+prefix=$here/out/x86_64-unknown-linux-gnu
+library=$prefix/lib/librtp_wire.a
+strict=(-O2 -Wall -Wextra -Wpedantic -Werror)
+include=(-I"$prefix/include")
+
+# The names that can be seen, and those that are wanted.
+cc -E -P bindings/c/rtp_wire.h | tr '\n' ' ' | grep -oE '\brtp_[a-z0-9_]+ ?\([^(){}]*\);' |
+    grep -oE '^rtp_[a-z0-9_]+' | sort >"$scratch/declared"
+nm -g --defined-only "$library" | awk 'NF == 3 { print $3 }' | sort >"$scratch/exported"
+nm -D --defined-only "$prefix/lib/librtp_wire.so" | awk '{ print $3 }' | sort >"$scratch/shared"
+diff "$scratch/declared" "$scratch/exported" >&2 || fail 'the header file and the library differ'
+diff "$scratch/declared" "$scratch/shared" >&2 || fail 'the header file and the shared library differ'
+wanted=$(nm -u "$library" | awk '$1 == "U" { print $2 }' | sort -u | tr '\n' ' ')
+for name in $wanted; do
+    case $name in
+    malloc | realloc | free | memcpy | memmove | memset | memcmp | bcmp | __udivti3 | __umodti3) ;;
+    *) fail "the library wants $name" ;;
+    esac
+done
+for name in $(cat "$scratch/exported"); do
+    for callers in 'bindings/test/hostile*.c' bindings/test/stack.c bindings/rust/rtp-wire/src/sys.rs; do
+        case $callers in *stack.c) word=${name#rtp_} ;; *) word=$name ;; esac
+        # shellcheck disable=SC2086
+        grep -qw -- "$word" $callers || fail "$name is not called in $callers"
+    done
+done
+said "symbols: $(wc -l <"$scratch/exported") functions, all named rtp_*, as declared and each tested; wanted: $wanted"
+
+echo '#include <rtp_wire.h>' >"$scratch/header.c"
+for standard in c99 c11 c17; do
+    cc -std=$standard "${strict[@]}" "${include[@]}" -fsyntax-only "$scratch/header.c"
+done
+for standard in c++11 c++17; do
+    c++ -std=$standard "${strict[@]}" "${include[@]}" -fsyntax-only -x c++ "$scratch/header.c"
+done
+cc -std=c11 "${strict[@]}" -fsyntax-only bindings/test/layout.c
+c++ -std=c++11 "${strict[@]}" -fsyntax-only -x c++ bindings/test/layout.c
+said 'the header file, as C99 to C17 and C++11 to C++17, and where each field lies'
+
+cc -std=c99 "${strict[@]}" bindings/c/test/packets.c "$library" -o "$scratch/packets"
+"$scratch/packets"
+c++ -std=c++11 "${strict[@]}" -Wno-missing-field-initializers -x c++ bindings/c/test/packets.c -x none "$library" -o "$scratch/packets"
+"$scratch/packets"
+said 'values worked out by hand, as C99 and C++11'
+
+# The examples print what rtp_lines does.
+cargo=(cargo --quiet)
+export CARGO_TARGET_DIR=$here/out/cargo CARGO_NET_OFFLINE=true RUSTFLAGS='-D warnings' RUSTDOCFLAGS='-D warnings'
+crate=(--manifest-path bindings/rust/rtp-wire/Cargo.toml)
+shared=(-L"$prefix/lib" -lrtp_wire -Wl,-rpath,"$prefix/lib")
+cc -std=c99 "${strict[@]}" "${include[@]}" bindings/examples/lines.c "$library" -o "$scratch/lines_c"
+cc -std=c99 "${strict[@]}" "${include[@]}" -static bindings/examples/lines.c "$library" -o "$scratch/lines_static"
+cc -std=c99 "${strict[@]}" "${include[@]}" bindings/examples/lines.c "${shared[@]}" -o "$scratch/lines_shared"
+c++ -std=c++11 "${strict[@]}" "${include[@]}" bindings/examples/lines.cpp "$library" -o "$scratch/lines_cpp"
+if has cargo; then
+    "${cargo[@]}" build "${crate[@]}"
+    "${cargo[@]}" build "${crate[@]}" --example lines
+    cp -- "$CARGO_TARGET_DIR/debug/examples/lines" "$scratch/lines_rust"
+else
+    languages='C and C++'
+    said 'Rust was left out: there is no cargo'
+fi
+compare() {
+    for lines in examples/*.lines; do
+        "$@" <"$lines" | cmp - "${lines%.lines}.expected" >&2 || fail "$*, $lines"
+    done
+    printf '80\n\n80210001000000020000000\n' >"$scratch/bad"
+    printf 'packet 1: unreadable\nverdict 1: unreadable\npacket 2: unreadable\nverdict 2: unreadable\nline 3: neither a map line nor hex\n' >"$scratch/expected"
+    { "$@" <"$scratch/bad" || [ $? -eq 2 ]; } | cmp - "$scratch/expected" >&2 || fail "$*, a bad line"
+}
+for program in "$scratch"/lines_*; do compare "$program"; done
+said "the examples in $languages (in C static, shared and all static) against examples/*.expected"
+
+# SSRC 44 -> 77; 47,000 -> 1,000; at 5 s the send time is 5 * 2^18 = 0x140000, and 40 ms later
+# 1,321,205 = 0x1428F5; the mid (id 3) becomes padding. The second packet says no send time, and the third
+# line is no packet.
+cc -std=c99 "${strict[@]}" "${include[@]}" bindings/examples/forward.c "$library" -o "$scratch/forward"
+printf '%s\n' 9021B798000027100000002CBEDE000242AABBCC303100000102 9021B799000027110000002CBEDE0001303100000304 80 \
+    9021B79A000027110000002CBEDE000142AABBCC05 | "$scratch/forward" 77 1000 4 3 5 >"$scratch/forwarded"
+printf '%s\n' 902103E8000027100000004DBEDE000242140000000000000102 902103E9000027110000004DBEDE0001000000000304 \
+    902103EA000027110000004DBEDE0001421428F505 >"$scratch/expected"
+diff "$scratch/expected" "$scratch/forwarded" >&2 || fail 'the forwarder'
+said 'the forwarder in C'
+
+if has cargo; then
+    "${cargo[@]}" test "${crate[@]}" >"$scratch/cargo.log" 2>&1 || { cat "$scratch/cargo.log" >&2; fail 'cargo test'; }
+    "${cargo[@]}" test "${crate[@]}" --release >"$scratch/cargo.log" 2>&1 || { cat "$scratch/cargo.log" >&2; fail 'cargo test'; }
+    "${cargo[@]}" doc "${crate[@]}" --no-deps
+    "${cargo[@]}" fmt "${crate[@]}" --check
+    said 'the crate for Rust: cargo test, cargo doc and cargo fmt, without a warning'
+fi
+
+# The programs of README.md print what stands there. The first block of each language is the program, and
+# the next block of output follows it.
+block() { # language, which of its blocks
+    awk -v language="$1" -v which="$2" '
+        /^```/ { open = !open; if (open && substr($0, 4) == language) count++; here = open && substr($0, 4) == language; next }
+        here && count == which' \
+        bindings/README.md
+}
+block c 1 >"$scratch/call.c"
+block cpp 1 >"$scratch/call.cpp"
+block rust 1 >"$scratch/call.rs"
+cc -std=c99 "${strict[@]}" "${include[@]}" "$scratch/call.c" "$library" -o "$scratch/call_1"
+c++ -std=c++11 "${strict[@]}" "${include[@]}" "$scratch/call.cpp" "$library" -o "$scratch/call_2"
+if has cargo; then
+    rustc --edition 2021 -D warnings -L "$prefix/lib" "$scratch/call.rs" -o "$scratch/call_3" \
+        --extern "rtp_wire=$CARGO_TARGET_DIR/debug/librtp_wire.rlib"
+fi
+for program in "$scratch"/call_?; do
+    it=${program##*_}
+    "$program" >"$scratch/said_$it"
+    block '' $((it + 1)) | grep -v '^\$' | diff - "$scratch/said_$it" >&2 || fail "program $it of bindings/README.md"
+done
+if has pkg-config; then
+    flags=$(PKG_CONFIG_PATH=$prefix/lib/pkgconfig pkg-config --cflags --libs rtp_wire)
+    # shellcheck disable=SC2086
+    cc -std=c99 "$scratch/call.c" $flags -Wl,-rpath,"$prefix/lib" -o "$scratch/call_1"
+    "$scratch/call_1" | cmp - "$scratch/said_1" >&2 || fail pkg-config
+fi
+said "the programs of bindings/README.md in $languages"
+
+hostile() { # compiler, library, program
+    "$1" -std=c99 -g "${strict[@]}" -D_GNU_SOURCE bindings/test/hostile*.c "$2" -o "$3"
+}
+hostile cc "$library" "$scratch/hostile"
+"$scratch/hostile" 1 500000 >"$scratch/first" &
+"$scratch/hostile" 2000003 500000
+wait $! || { cat "$scratch/first" >&2; fail hostile; }
+said 'each function with random bytes and structs between pages that may not be touched, a million times'
+
+if has valgrind; then
+    valgrind --quiet --error-exitcode=9 --leak-check=full "$scratch/hostile" 3 20000 malloc
+    said 'the same under valgrind, 20,000 times'
+else
+    said 'valgrind was left out: it is not there'
+fi
+
+cc -std=c99 "${strict[@]}" bindings/test/threads.c "$library" -lpthread -o "$scratch/threads"
+"$scratch/threads"
+cc -std=c99 -D_GNU_SOURCE "${strict[@]}" bindings/test/stack.c "$library" -Wl,-z,now -o "$scratch/stack"
+"$scratch/stack"
+said 'four threads that share what is const, and the stack, at most 4,096 bytes'
+
+wrap=-Wl,--wrap=malloc,--wrap=realloc,--wrap=free
+cc -std=c99 "${strict[@]}" bindings/test/refused.c "$library" "$wrap" -o "$scratch/refused"
+"$scratch/refused" || fail 'refused memory'
+said 'each growth of memory refused: what stands then, and no memory lost'
+
+if has aarch64-linux-gnu-gcc && has qemu-aarch64; then
+    bindings/install.sh --target aarch64-unknown-linux-gnu
+    arm=$here/out/aarch64-unknown-linux-gnu/lib/librtp_wire.a
+    aarch64-linux-gnu-gcc -std=c11 "${strict[@]}" -fsyntax-only bindings/test/layout.c
+    aarch64-linux-gnu-gcc -std=c99 "${strict[@]}" "${include[@]}" -static bindings/examples/lines.c "$arm" -o "$scratch/arm"
+    compare qemu-aarch64 "$scratch/arm"
+    aarch64-linux-gnu-gcc -std=c99 "${strict[@]}" -static bindings/c/test/packets.c "$arm" -o "$scratch/arm"
+    qemu-aarch64 "$scratch/arm"
+    aarch64-linux-gnu-gcc -std=c99 -D_GNU_SOURCE "${strict[@]}" -static bindings/test/stack.c "$arm" -o "$scratch/arm"
+    qemu-aarch64 "$scratch/arm"
+    aarch64-linux-gnu-gcc -std=c99 "${strict[@]}" -static bindings/test/refused.c "$arm" "$wrap" -o "$scratch/arm"
+    qemu-aarch64 "$scratch/arm" || fail 'refused memory, on ARM'
+    aarch64-linux-gnu-gcc -std=c99 -D_GNU_SOURCE "${strict[@]}" -static bindings/test/hostile*.c "$arm" -o "$scratch/arm"
+    qemu-aarch64 "$scratch/arm" 4 20000
+    said 'on ARM, emulated: layouts, the example, the values worked out by hand, the stack, refused memory, and random bytes 20,000 times'
+else
+    said 'ARM was left out: there is no aarch64-linux-gnu-gcc or no qemu-aarch64'
+fi

@@ -1,0 +1,112 @@
+/* rtp_set_marker, rtp_set_payload_type, rtp_set_sequence_number, rtp_set_timestamp, rtp_set_ssrc,
+ * rtp_set_csrc, rtp_set_element, rtp_remove_element */
+#include "hostile.h"
+
+#include "../c/rtp_wire.h"
+#include "walk.h"
+
+/* The packet of this round, what it was before the call, and what it has to be after it. */
+static uint8_t before[LONGEST], expected[LONGEST];
+static uint8_t *bytes;
+static size_t len;
+static walked it;
+
+static void put_number(size_t at, size_t width, uint32_t number) {
+    for (size_t i = 0; i < width; i++) {
+        expected[at + i] = (uint8_t)(number >> (8 * (width - 1 - i)));
+    }
+}
+
+/* The packet must be as is expected, and is then what it was before. */
+static void expect(int32_t status, int32_t expected_status) {
+    CHECK(status == expected_status);
+    if (expected_status != RTP_OK) {
+        memcpy(expected, before, len);
+    }
+    CHECK(memcmp(bytes, expected, len) == 0);
+    memcpy(bytes, before, len);
+    memcpy(expected, before, len);
+}
+
+static void fixed_part(void) {
+    uint64_t x = random_u64();
+    if (it.cause == 0) {
+        expected[1] = (uint8_t)(before[1] % 128 + (x % 2 != 0 ? 128 : 0));
+    }
+    expect(rtp_set_marker(bytes, len, x % 2 != 0), it.cause);
+    uint8_t payload_type = (uint8_t)(x >> 8);
+    if (it.cause == 0) {
+        expected[1] = (uint8_t)(before[1] / 128 * 128 + payload_type % 128);
+    }
+    expect(rtp_set_payload_type(bytes, len, payload_type), payload_type > 127 ? RTP_BAD_FIELD : it.cause);
+    if (it.cause == 0) {
+        put_number(2, 2, (uint16_t)x);
+    }
+    expect(rtp_set_sequence_number(bytes, len, (uint16_t)x), it.cause);
+    if (it.cause == 0) {
+        put_number(4, 4, (uint32_t)(x >> 16));
+    }
+    expect(rtp_set_timestamp(bytes, len, (uint32_t)(x >> 16)), it.cause);
+    if (it.cause == 0) {
+        put_number(8, 4, (uint32_t)(x >> 32));
+    }
+    expect(rtp_set_ssrc(bytes, len, (uint32_t)(x >> 32)), it.cause);
+    size_t index = random_u64() % 4 == 0 ? (size_t)random_u64() >> random_below(64) : random_below(4);
+    bool is_there = it.cause == 0 && index < it.csrc_count;
+    if (is_there) {
+        put_number(12 + 4 * index, 4, (uint32_t)x);
+    }
+    expect(rtp_set_csrc(bytes, len, index, (uint32_t)x), it.cause != 0 ? it.cause : is_there ? RTP_OK : RTP_NONE);
+}
+
+static void set_element(void) {
+    static memory data_memory;
+    static uint8_t data_before[300];
+    if (data_memory.size == 0) {
+        data_memory = memory_of(300);
+    }
+    uint8_t id = random_id();
+    found last = {0, 0, 0, 0};
+    int has_last = it.cause == 0 && walk_last(before + it.body_at, it.body_len, it.form, id, &last);
+    size_t data_len = has_last && random_u64() % 4 != 0 ? last.data_len : random_below(300);
+    uint8_t *data = block_in(&data_memory, data_len);
+    fill(data, data_len);
+    memcpy(data_before, data, data_len);
+    int is_set = has_last && last.data_len == data_len;
+    if (is_set) {
+        memcpy(expected + it.body_at + last.data_at, data, data_len);
+    }
+    expect(rtp_set_element(bytes, len, id, data, data_len), it.cause != 0 ? it.cause : is_set ? RTP_OK : RTP_NONE);
+    CHECK(memcmp(data, data_before, data_len) == 0);
+}
+
+static void remove_element(void) {
+    uint8_t id = random_id();
+    const uint8_t *body = before + it.body_at;
+    int is_removed = 0;
+    found element;
+    for (size_t at = 0; it.cause == 0 && walk_on(body, it.body_len, it.form, at, &element);) {
+        at = element.data_at + element.data_len;
+        if (element.id == id) {
+            memset(expected + it.body_at + element.start, 0, at - element.start);
+            is_removed = 1;
+        }
+    }
+    expect(rtp_remove_element(bytes, len, id), it.cause != 0 ? it.cause : is_removed ? RTP_OK : RTP_NONE);
+}
+
+void changes_round(void) {
+    static memory datagrams;
+    if (datagrams.size == 0) {
+        datagrams = memory_of(LONGEST);
+    }
+    len = random_len();
+    bytes = block_in(&datagrams, len);
+    random_packet(bytes, len);
+    memcpy(before, bytes, len);
+    memcpy(expected, bytes, len);
+    it = walk(before, len);
+    fixed_part();
+    set_element();
+    remove_element();
+}

@@ -1,0 +1,53 @@
+/* rtp_packet_parse */
+#include "hostile.h"
+
+#include "../c/rtp_wire.h"
+#include "walk.h"
+
+/* What has to be told of the packet. */
+static void expected_of(const uint8_t *bytes, size_t len, const walked *it, rtp_packet *packet) {
+    size_t payload_len = len - it->header_len;
+    size_t padding = 0;
+    packet->has_padding = bytes[0] / 32 % 2;
+    if (packet->has_padding != 0) {
+        /* with no payload there is no count, and nothing to take off */
+        padding = payload_len == 0 ? 0 : bytes[len - 1];
+    }
+    packet->padding_fits = padding <= payload_len;
+    packet->payload_at = it->header_len;
+    packet->payload_len = payload_len;
+    packet->unpadded_len = packet->padding_fits ? payload_len - padding : 0;
+    packet->body_at = it->body_at;
+    packet->body_len = it->body_len;
+    packet->block_form = (uint8_t)it->form;
+    packet->csrc_count = (uint8_t)it->csrc_count;
+    packet->marker = bytes[1] / 128;
+    packet->payload_type = bytes[1] % 128;
+    packet->sequence_number = (uint16_t)(bytes[2] * 256u + bytes[3]);
+    packet->timestamp = (uint32_t)bytes[4] << 24 | (uint32_t)bytes[5] << 16 | (uint32_t)bytes[6] << 8 | bytes[7];
+    packet->ssrc = (uint32_t)bytes[8] << 24 | (uint32_t)bytes[9] << 16 | (uint32_t)bytes[10] << 8 | bytes[11];
+}
+
+void packets_round(void) {
+    static memory datagrams, packets;
+    static uint8_t copy[LONGEST];
+    if (packets.size == 0) {
+        datagrams = memory_of(LONGEST);
+        packets = memory_of(sizeof(rtp_packet));
+    }
+    size_t len = random_len();
+    uint8_t *bytes = block_in(&datagrams, len);
+    random_packet(bytes, len);
+    memcpy(copy, bytes, len);
+    rtp_packet *packet = block_in(&packets, sizeof *packet), expected;
+    fill(packet, sizeof *packet);
+    memcpy(&expected, packet, sizeof expected);
+
+    walked it = walk(copy, len);
+    if (it.cause == 0) {
+        expected_of(copy, len, &it, &expected);
+    }
+    CHECK(rtp_packet_parse(bytes, len, packet) == it.cause);
+    CHECK(memcmp(packet, &expected, sizeof expected) == 0);
+    CHECK(memcmp(bytes, copy, len) == 0);
+}

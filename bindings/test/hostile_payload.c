@@ -1,0 +1,67 @@
+/* rtp_pad, rtp_read_original, rtp_write_original, rtp_version */
+#include "hostile.h"
+
+#include "../c/rtp_wire.h"
+
+static memory payloads, counts, numbers;
+static uint8_t before[LONGEST];
+
+static void pad(size_t len, uint8_t *datagram) {
+    static const size_t blocks[] = {0, 1, 4, 8, 16, 100, 240, 241, 255, 256, 1000};
+    size_t *count = block_in(&counts, sizeof *count), same_count;
+    fill(count, sizeof *count);
+    same_count = *count;
+    uint64_t x = random_u64();
+    uint8_t pad_len = x % 8 == 0 ? 0 : (uint8_t)(x >> 8);
+    size_t block = x / 8 % 4 == 0 ? (size_t)random_u64() >> random_below(64) : blocks[random_below(11)];
+    size_t header_len = x / 32 % 4 == 0 ? (size_t)random_u64() >> random_below(64) : random_below(len + 2);
+    bool has_room = len >= 240 && header_len <= len - 240;
+    int32_t expected = block == 0 ? RTP_BAD_FIELD : has_room ? RTP_OK : RTP_SHORT_BUFFER;
+    int32_t status = rtp_pad(datagram, len, header_len, pad_len, block, count);
+    CHECK(status == expected);
+    if (status != RTP_OK) {
+        CHECK(*count == same_count);
+    } else if (pad_len == 0) {
+        CHECK(*count == 0);
+    } else {
+        /* the first multiple of the block that is not below pad_len */
+        size_t wanted = block;
+        while (wanted < pad_len) {
+            wanted += block;
+        }
+        wanted = wanted > 240 ? 240 : wanted;
+        CHECK(*count == wanted);
+        before[0] |= 0x20;
+        memset(before + header_len, 0, wanted);
+        before[header_len + wanted - 1] = (uint8_t)wanted;
+    }
+    CHECK(memcmp(datagram, before, len) == 0);
+}
+
+void payload_round(void) {
+    if (payloads.size == 0) {
+        payloads = memory_of(LONGEST);
+        counts = memory_of(sizeof(size_t));
+        numbers = memory_of(sizeof(uint16_t));
+    }
+    size_t len = random_len();
+    uint8_t *payload = block_in(&payloads, len);
+    random_packet(payload, len);
+    memcpy(before, payload, len);
+    uint16_t *number = block_in(&numbers, sizeof *number), same_number;
+    fill(number, sizeof *number);
+    same_number = *number;
+    CHECK(rtp_read_original(payload, len, number) == (len < 2 ? RTP_SHORT_BUFFER : RTP_OK));
+    CHECK(*number == (len < 2 ? same_number : before[0] * 256 + before[1]));
+    CHECK(memcmp(payload, before, len) == 0);
+
+    uint64_t original = random_u64();
+    CHECK(rtp_write_original(payload, len, original) == (len < 2 ? RTP_SHORT_BUFFER : RTP_OK));
+    if (len >= 2) {
+        before[0] = (uint8_t)(original >> 8);
+        before[1] = (uint8_t)original;
+    }
+    CHECK(memcmp(payload, before, len) == 0);
+    pad(len, payload);
+    CHECK(rtp_version() == 256); /* 0.1.0 */
+}

@@ -1,0 +1,153 @@
+/* rtp_receiver_start, rtp_receiver_number_of, rtp_receiver_accepts, rtp_receiver_record,
+ * rtp_receiver_receive, rtp_extend_u16 */
+#include "hostile.h"
+
+#include "../c/rtp_wire.h"
+
+/* A receiver by the list of what it has taken: taken[i] is whether highest - i is. */
+typedef struct {
+    bool is_started;
+    uint64_t highest, rollover_count;
+    bool taken[128];
+} model;
+
+static model model_of(const rtp_receiver *receiver) {
+    model it;
+    it.is_started = receiver->started != 0;
+    it.highest = receiver->highest;
+    it.rollover_count = receiver->highest / 65536;
+    for (unsigned i = 0; i < 128; i++) {
+        uint64_t half = i < 64 ? receiver->recorded_low : receiver->recorded_high;
+        it.taken[i] = i == 0 || (half >> i % 64) % 2 != 0;
+    }
+    return it;
+}
+
+static bool are_same(const model *a, const model *b) {
+    if (!a->is_started || !b->is_started) {
+        return a->is_started == b->is_started && a->rollover_count == b->rollover_count;
+    }
+    return a->highest == b->highest && memcmp(a->taken, b->taken, sizeof a->taken) == 0;
+}
+
+/* RFC 3711, 3.3.1: of the three numbers with these low bits about the previous one, the nearest. */
+static uint64_t nearest(uint64_t previous, uint16_t low) {
+    uint64_t same = previous / 65536 * 65536 + low;
+    uint64_t lower = same - 65536, higher = same + 65536;
+    uint64_t away = same > previous ? same - previous : previous - same;
+    if (away <= 32768) {
+        return same;
+    }
+    return same > previous ? lower : higher;
+}
+
+static uint64_t number_of(const model *it, uint16_t low) {
+    return it->is_started ? nearest(it->highest, low) : it->rollover_count * 65536 + low;
+}
+
+static bool accepts(const model *it, uint64_t number) {
+    if (!it->is_started || number > it->highest) {
+        return true;
+    }
+    return it->highest - number < 128 && !it->taken[it->highest - number];
+}
+
+static void record(model *it, uint64_t number) {
+    if (!accepts(it, number)) {
+        return;
+    }
+    if (it->is_started && number < it->highest) {
+        it->taken[it->highest - number] = true;
+        return;
+    }
+    model old = *it;
+    it->highest = number;
+    it->is_started = true;
+    for (uint64_t i = 0; i < 128; i++) {
+        uint64_t ahead = number - old.highest;
+        it->taken[i] = i == 0 || (old.is_started && i >= ahead && old.taken[i - ahead]);
+    }
+}
+
+static uint64_t random_number(uint64_t near) {
+    switch (random_u64() % 4) {
+    case 0: return random_u64();
+    case 1: return near + random_below(200);
+    default: return near - random_below(200);
+    }
+}
+
+static void random_receiver(rtp_receiver *receiver) {
+    fill(receiver, sizeof *receiver);
+    uint64_t x = random_u64();
+    if (x % 4 == 0) {
+        receiver->started = 0;
+    }
+    if (x % 32 >= 16) {
+        receiver->highest >>= x / 32 % 64;
+    }
+    if (x % 16 == 15) {
+        receiver->highest = 0 - receiver->highest;
+    }
+}
+
+static void judged(rtp_receiver *receiver, uint16_t low, uint64_t *number) {
+    rtp_receiver before;
+    memcpy(&before, receiver, sizeof before);
+    model it = model_of(receiver), after;
+    uint64_t wanted = number_of(&it, low), old_number = *number;
+    int32_t status = rtp_receiver_receive(receiver, low, number);
+    if (!accepts(&it, wanted)) {
+        CHECK(status == RTP_REFUSED);
+        CHECK(*number == old_number);
+        CHECK(memcmp(receiver, &before, sizeof before) == 0);
+        return;
+    }
+    record(&it, wanted);
+    after = model_of(receiver);
+    CHECK(status == RTP_OK);
+    CHECK(*number == wanted);
+    CHECK(are_same(&after, &it));
+}
+
+void receivers_round(void) {
+    static memory receivers, numbers;
+    if (receivers.size == 0) {
+        receivers = memory_of(sizeof(rtp_receiver));
+        numbers = memory_of(sizeof(uint64_t));
+    }
+    rtp_receiver *receiver = block_in(&receivers, sizeof *receiver), before;
+    uint64_t *number = block_in(&numbers, sizeof *number);
+    fill(number, sizeof *number);
+    random_receiver(receiver);
+    memcpy(&before, receiver, sizeof before);
+    model it = model_of(receiver), after;
+
+    uint16_t low = (uint16_t)random_number(it.highest);
+    uint64_t tried = random_number(it.highest);
+    CHECK(rtp_receiver_number_of(receiver, low) == number_of(&it, low));
+    CHECK(rtp_receiver_accepts(receiver, tried) == accepts(&it, tried));
+    CHECK(rtp_extend_u16(it.highest, low) == nearest(it.highest, low));
+    CHECK(memcmp(receiver, &before, sizeof before) == 0);
+
+    rtp_receiver_record(receiver, tried);
+    record(&it, tried);
+    after = model_of(receiver);
+    CHECK(are_same(&after, &it));
+    for (int i = 0; i < 8; i++) {
+        judged(receiver, (uint16_t)random_number(receiver->highest), number);
+    }
+
+    random_receiver(receiver);
+    memcpy(&before, receiver, sizeof before);
+    uint64_t count = random_u64() >> random_below(64);
+    bool is_count = count < (uint64_t)1 << 48;
+    CHECK(rtp_receiver_start(receiver, count) == (is_count ? RTP_OK : RTP_BAD_FIELD));
+    if (is_count) {
+        CHECK(receiver->started == 0);
+        CHECK(receiver->highest == count * 65536);
+        CHECK(receiver->recorded_low == 0 && receiver->recorded_high == 0);
+    } else {
+        CHECK(memcmp(receiver, &before, sizeof before) == 0);
+    }
+}

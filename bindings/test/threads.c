@@ -1,0 +1,51 @@
+/* Four threads read one const packet under one const map at once, and each has a receiver of its own. */
+#include "../c/rtp_wire.h"
+
+#include <pthread.h>
+#include <stdio.h>
+
+#define THREADS 4
+#define ROUNDS 200000
+
+/* V=2, X, M, PT=96; 5; 160; 7; the elements 1 (AA) and 2 (BB CC); a payload of two bytes */
+static const uint8_t DATAGRAM[26] = {0x90, 0xE0, 0, 5, 0, 0, 0, 160, 0, 0, 0, 7, 0xBE,
+                                     0xDE, 0, 2, 0x10, 0xAA, 0x21, 0xBB, 0xCC, 0, 0, 0, 1, 2};
+
+static const rtp_map MAP = {{0, RTP_KIND_AUDIO_LEVEL, RTP_KIND_TRANSPORT_NUMBER}};
+
+static void *reads(void *failed) {
+    rtp_receiver receiver = {0, 0, 0, 0};
+    for (int i = 0; i < ROUNDS; i++) {
+        rtp_packet packet;
+        rtp_element element;
+        rtp_values values;
+        uint64_t number;
+        if (rtp_packet_parse(DATAGRAM, sizeof DATAGRAM, &packet) != RTP_OK || packet.ssrc != 7 ||
+            packet.payload_len != 2 ||
+            rtp_last_element(DATAGRAM + packet.body_at, packet.body_len, packet.block_form, 2, &element) != RTP_OK ||
+            element.data_at != 3 || element.data_len != 2 ||
+            rtp_values_read(DATAGRAM + packet.body_at, packet.body_len, packet.block_form, &MAP, &values) != RTP_OK ||
+            values.audio_level != -42 || values.voice_activity != 1 || values.transport_number != 0xBBCC ||
+            rtp_receiver_receive(&receiver, (uint16_t)i, &number) != RTP_OK || number != (uint64_t)i) {
+            *(int *)failed = 1;
+        }
+    }
+    return NULL;
+}
+
+int main(void) {
+    pthread_t threads[THREADS];
+    int failed[THREADS] = {0, 0, 0, 0};
+    for (int i = 0; i < THREADS; i++) {
+        if (pthread_create(&threads[i], NULL, reads, &failed[i]) != 0) {
+            return 2;
+        }
+    }
+    int all = 0;
+    for (int i = 0; i < THREADS; i++) {
+        pthread_join(threads[i], NULL);
+        all |= failed[i];
+    }
+    printf("threads: %d of them, %d rounds each: %s\n", THREADS, ROUNDS, all ? "FAILED" : "same");
+    return all;
+}
