@@ -128,6 +128,15 @@ if has cargo; then
     rustc --edition 2021 -D warnings -L "$prefix/lib" "$scratch/call.rs" -o "$scratch/call_3" \
         --extern "rtp_wire=$CARGO_TARGET_DIR/debug/librtp_wire.rlib"
 fi
+if has go && has pkg-config; then
+    mkdir "$scratch/go"
+    block go 1 >"$scratch/go/main.go"
+    (
+        export PKG_CONFIG_PATH=$prefix/lib/pkgconfig CGO_LDFLAGS="-Wl,-rpath,$prefix/lib" CGO_LDFLAGS_ALLOW=.*
+        cd "$scratch/go" && GO111MODULE=off GOCACHE=$scratch/gocache go build -o "$scratch/call_4" main.go
+    )
+    languages+=' and Go'
+fi
 for program in "$scratch"/call_?; do
     it=${program##*_}
     "$program" >"$scratch/said_$it"
