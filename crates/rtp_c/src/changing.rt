@@ -32,9 +32,9 @@ pub extern "C" fn rtp_set_marker(datagram: &mut [u8], marker: bool) -> i32
     }
 }
 
-/// Sets the payload type, 0 to 127, of the packet in the buffer. `OK`; `BAD_FIELD` where it is above
-/// 127; or the status of the first cause for which the buffer holds no packet. Where it isn't `OK`
-/// nothing changes.
+/// Sets the payload type, 0 to 127, of the packet in the buffer. `OK`; `BAD_FIELD` where it is
+/// above 127; or the status of the first cause for which the buffer holds no packet. Where it isn't
+/// `OK` nothing changes.
 #[unsafe(no_mangle)]
 pub extern "C" fn rtp_set_payload_type(datagram: &mut [u8], payload_type: u8) -> i32
     ensures set { (parts : PacketParts) → IsPacket datagram.old parts → payload_type ≤ 127 →
@@ -58,8 +58,8 @@ pub extern "C" fn rtp_set_payload_type(datagram: &mut [u8], payload_type: u8) ->
     }
 }
 
-/// Sets the sequence number of the packet in the buffer. `OK`, or the status of the first cause for which the buffer
-/// holds no packet, and then nothing changes.
+/// Sets the sequence number of the packet in the buffer. `OK`, or the status of the first cause for
+/// which the buffer holds no packet, and then nothing changes.
 #[unsafe(no_mangle)]
 pub extern "C" fn rtp_set_sequence_number(datagram: &mut [u8], number: u16) -> i32
     ensures set { (parts : PacketParts) → IsPacket datagram.old parts →
@@ -79,8 +79,8 @@ pub extern "C" fn rtp_set_sequence_number(datagram: &mut [u8], number: u16) -> i
     }
 }
 
-/// Sets the timestamp of the packet in the buffer. `OK`, or the status of the first cause for which the buffer
-/// holds no packet, and then nothing changes.
+/// Sets the timestamp of the packet in the buffer. `OK`, or the status of the first cause for which
+/// the buffer holds no packet, and then nothing changes.
 #[unsafe(no_mangle)]
 pub extern "C" fn rtp_set_timestamp(datagram: &mut [u8], timestamp: u32) -> i32
     ensures set { (parts : PacketParts) → IsPacket datagram.old parts →
@@ -100,8 +100,8 @@ pub extern "C" fn rtp_set_timestamp(datagram: &mut [u8], timestamp: u32) -> i32
     }
 }
 
-/// Sets the SSRC of the packet in the buffer. `OK`, or the status of the first cause for which the buffer
-/// holds no packet, and then nothing changes.
+/// Sets the SSRC of the packet in the buffer. `OK`, or the status of the first cause for which the
+/// buffer holds no packet, and then nothing changes.
 #[unsafe(no_mangle)]
 pub extern "C" fn rtp_set_ssrc(datagram: &mut [u8], ssrc: u32) -> i32
     ensures set { (parts : PacketParts) → IsPacket datagram.old parts →
