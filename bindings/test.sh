@@ -135,7 +135,7 @@ if has go && has pkg-config; then
         export PKG_CONFIG_PATH=$prefix/lib/pkgconfig CGO_LDFLAGS="-Wl,-rpath,$prefix/lib" CGO_LDFLAGS_ALLOW=.*
         cd "$scratch/go" && GO111MODULE=off GOCACHE=$scratch/gocache go build -o "$scratch/call_4" main.go
     )
-    languages+=' and Go'
+    languages="${languages/ and /, } and Go"
 fi
 for program in "$scratch"/call_?; do
     it=${program##*_}
