@@ -2,7 +2,7 @@
  * rtp_wire.h: RTP packets where they lie in memory (RFC 3550, 5.1; RFC 8285).
  *
  * The functions are those of the library rtp-wire, each proved: what is said here of results and
- * outputs holds for every input.
+ * outputs holds for every input. Only rtp_status_text is written in C, and tested.
  *
  *     rtp_packet packet;
  *     int32_t status = rtp_packet_parse(datagram, len, &packet);
@@ -12,8 +12,8 @@
  *     deliver(packet.ssrc, packet.timestamp, datagram + packet.payload_at, packet.unpadded_len);
  *
  * Each function may be called with any values, and returns. It keeps no pointer, has no state of its
- * own and takes no memory but where it says so. Calls on several threads at once are safe as long as nothing that one of
- * them writes is read or written by another.
+ * own and takes no memory but where it says so. Calls on several threads at once are safe as long as
+ * nothing that one of them writes is read or written by another.
  *
  * The caller owes what C asks anyway:
  *   - a pointer is to as much memory as is said, aligned for its type, and no pointer is NULL, not
