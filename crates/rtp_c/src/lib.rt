@@ -8,6 +8,8 @@ mod changing;
 mod changing_elements;
 mod changing_sources;
 mod elements;
+mod header_view;
+mod layers;
 mod layout;
 mod map;
 mod packet;
