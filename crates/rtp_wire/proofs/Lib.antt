@@ -15,6 +15,7 @@ mod HeaderLemmas
 mod KnownKindsLemmas
 mod BlockWriting
 mod RoundTrip
+mod WrittenInFormLemmas
 mod WritingWithLemmas
 mod PaddingLemmas
 mod StandardFacts
