@@ -12,8 +12,10 @@ mod ChangedPackets
 pub mod NotAPacketLemmas
 mod ValuesLemmas
 mod HeaderLemmas
+mod KnownKindsLemmas
 mod BlockWriting
 mod RoundTrip
+mod WrittenInFormLemmas
 mod WritingWithLemmas
 mod PaddingLemmas
 mod StandardFacts
