@@ -68,3 +68,7 @@ any_none (Some value) x = tt
 pub none_given : {A : Type 0} (has : ℕ) (IsIt : A → Type 0) (o : Option A) → (0 < has) × ((value : A) → IsIt value → ⊥) → IsGiven has IsIt o → ⊥
 none_given has IsIt None none is = omega (arith, none.0, is)
 none_given has IsIt (Some value) none is = none.1 value is.1
+
+pub weaker_none : {A X Y : Type 0} (o : Option A) → (X → Y) → IfNone o X → IfNone o Y
+weaker_none None f x = f x
+weaker_none (Some value) f x = tt

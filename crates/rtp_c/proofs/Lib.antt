@@ -4,3 +4,4 @@ mod ChangeLemmas
 mod ElementLemmas
 mod GivenLemmas
 mod WritingLemmas
+mod WrittenHeaderLemmas

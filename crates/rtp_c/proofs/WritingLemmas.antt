@@ -1,5 +1,5 @@
 -- The elements that C names, as they are written.
-use Rattle.std.proofs.Common.{◌≡◌, ◌↔◌, ℕ, ◌+◌, ◌<◌, ◌≤◌, List, [], ◌∷◌, ◌++◌, length, map, drop, refl, sym, ap, ◌∙◌, subst, All, Bor, arith, length-append, lt_of_not-le, take, take_all, get_or, below_more}
+use Rattle.std.proofs.Common.{◌≡◌, ◌↔◌, ℕ, ◌+◌, ◌<◌, ◌≤◌, List, [], ◌∷◌, ◌++◌, length, map, drop, refl, sym, ap, ◌∙◌, subst, All, Bor, arith, length-append, lt_of_not-le, take, take_all, get_or, below_more, Some}
 use Rattle.std.proofs.lemmas.List.{take_more, map_push, get_or_default}
 use Rattle.std.specs.List.{AllByRecursion}
 use Rattle.std.proofs.lemmas.List.Elements.{All-from_recursion, recursion_from_All}
@@ -8,6 +8,7 @@ use Rattle.rtp_ext.specs.declared.ext.form.ExtensionsForm.TheVariants.{OneByte, 
 use Rattle.rtp_ext.specs.Elements.{Element, elements_bytes}
 use Rattle.rtp_ext.specs.ElementsInARow.{elements_of, IsWritable, FitInARow}
 use Rattle.rtp_c.specs.declared.elements.ElementView.{ElementView}
+use Rattle.rtp_c.specs.PacketView.{form_number}
 use Rattle.rtp_c.specs.ElementView.{element_in}
 use Rattle.rtp_c.specs.WrittenElements.{LiesIn, LieIn, elements_in, AreWritable, AreWrittenElements, AreTooLong}
 
@@ -44,41 +45,6 @@ pub record AreFirst (bytes : List ℕ) (views : List ElementView) (pairs : List 
   pub within : (k : ℕ) → k < i → (d : ElementView) → LiesIn bytes (get_or views k d)
   pub named : elements_of pairs ≡ elements_in bytes (take i views)
 
-pub AreFirst-none : (bytes : List ℕ) (views : List ElementView) → AreFirst bytes views [] 0
-AreFirst-none bytes views = record { within = λ k lt d. absurd (omega arith); named = refl }
-
-pub AreFirst-more : (bytes : List ℕ) (views : List ElementView) (pairs : List (ℕ × Bor (List ℕ))) (i : ℕ) (d : ElementView) (pair : ℕ × Bor (List ℕ))
-    → i < length views → AreFirst bytes views pairs i → LiesIn bytes (get_or views i d) → (pair.0, pair.1.now) ≡ element_in bytes (get_or views i d)
-    → AreFirst bytes views (pairs ++ pair ∷ []) (i + 1)
-AreFirst-more bytes views pairs i d pair here first lies is = record {
-  within = below_more _ _ first.within (λ e. subst (LiesIn bytes) (get_or_default views i d e here) lies);
-  named =
-      map_push (λ (p : ℕ × Bor (List ℕ)). (p.0, p.1.now)) pairs pair
-      ∙ (λ j. first.named j ++ is j ∷ [])
-      ∙ sym (ap (map (element_in bytes)) (take_more views i d here) ∙ map_push (element_in bytes) (take i views) (get_or views i d));
-}
-
-pub AreFirst-all : (bytes : List ℕ) (views : List ElementView) (pairs : List (ℕ × Bor (List ℕ))) (i : ℕ) → length views ≡ i → AreFirst bytes views pairs i
-    → LieIn bytes views × (elements_of pairs ≡ elements_in bytes views)
-AreFirst-all bytes views pairs i all first = (
-  λ k d lt. first.within k (omega (arith, all)) d,
-  first.named ∙ ap (elements_in bytes) (take_all i views (omega (arith, all))),
-)
-
--- elements that were written
-pub AreWrittenElements-named : (form : ExtensionsForm) (bytes : List ℕ) (views : List ElementView) (elements : List Element) (old new : List ℕ) (len : ℕ)
-    → LieIn bytes views → elements ≡ elements_in bytes views → FitInARow form elements (length old)
-    → new ≡ elements_bytes form elements ++ drop len old → len ≡ length (elements_bytes form elements)
-    → AreWrittenElements form bytes views old new len
-AreWrittenElements-named form bytes views elements old new len within named fit written len-is = record {
-  writable = record {
-    within = within;
-    carried = subst (All (IsWritable form)) named (All-from_recursion (IsWritable form) elements fit.writable);
-  };
-  len_is = len-is ∙ ap (λ (es : List Element). length (elements_bytes form es)) named;
-  written = written ∙ ap (λ (es : List Element). elements_bytes form es ++ drop len old) named;
-}
-
 -- elements for which only the room is short
 pub AreTooLong-named : (form : ExtensionsForm) (bytes : List ℕ) (views : List ElementView) (elements : List Element) (room : ℕ)
     → LieIn bytes views → elements ≡ elements_in bytes views → (FitInARow form elements room → ⊥) → All (IsWritable form) elements
@@ -88,3 +54,10 @@ AreTooLong-named form bytes views elements room within named short all = record 
   too_long = subst (λ (es : List Element). room < length (elements_bytes form es)) named
       (lt_of_not-le (λ fits. short (record { writable = recursion_from_All (IsWritable form) elements all; bytes_fit = fits })));
 }
+
+-- the forms have different numbers
+pub one_form : (f g : ExtensionsForm) → form_number (Some f) ≡ form_number (Some g) → f ≡ g
+one_form OneByte OneByte same = refl
+one_form OneByte TwoByte same = absurd (omega (arith, same))
+one_form TwoByte OneByte same = absurd (omega (arith, same))
+one_form TwoByte TwoByte same = refl

@@ -19,5 +19,5 @@ mod receiver;
 mod status;
 mod values;
 mod version;
-// mod writing;
+mod writing;
 mod writing_elements;

@@ -3,11 +3,13 @@
 ghost use Rattle.std.specs.Prelude.{◌≡◌, ◌≢◌, ◌≤◌, ◌⊎◌, length};
 ghost use Rattle.rtp_wire.specs.declared.header.rtp_header.RtpHeader.{RtpHeader as Header};
 ghost use Rattle.rtp_c.specs.Status.{ok, no_memory, short_buffer, bad_field};
-ghost use Rattle.rtp_c.specs.WrittenHeader.{CanBeWrittenWith, IsWrittenWith, IsTooLongWith};
+ghost use Rattle.rtp_c.specs.Given.{IsGivenHeader};
+ghost use Rattle.rtp_c.specs.WrittenHeader.{IsLengthOf, IsWrittenHeader, IsTooLong, CanBeWrittenWith, IsWrittenWith, IsTooLongWith};
 
 use super::elements::ElementView;
-use super::given::header_with;
+use super::given::{given_header, header_with};
 use super::header_view::HeaderView;
+use super::map::{KindsOfIds, kinds_of};
 use super::status::{BAD_FIELD, OK, SHORT_BUFFER};
 use super::writing_elements::pairs_in;
 use rtp_ext::ExtensionsForm;
@@ -63,4 +65,57 @@ pub extern "C" fn rtp_write_with(
         None => BAD_FIELD,
         Some(_) => SHORT_BUFFER,
     }
+}
+
+/// How many bytes [`rtp_write`] writes of the header: a multiple of four, 12 without CSRC list and
+/// block. `OK`, and they are written; `BAD_FIELD` where the header is none that can be written, and
+/// then nothing is written.
+#[unsafe(no_mangle)]
+pub extern "C" fn rtp_wire_len(map: &KindsOfIds, header: &HeaderView, len: &mut usize) -> i32
+    ensures length { result ≡ ok → IsLengthOf map.now.kind header.now len.new }
+    ensures bad_field { result ≡ bad_field → (h : Header) → IsGivenHeader header.now h → ⊥ }
+    ensures statuses { (result ≡ ok) ⊎ (result ≡ bad_field) }
+    ensures unchanged { result ≢ ok → len.new ≡ len.old }
+{
+    let Some(header) = given_header(header) else {
+        return BAD_FIELD;
+    };
+    *len = header.wire_len_by_kinds(&kinds_of(map));
+    OK
+}
+
+/// Writes the header to the front of the buffer (RFC 3550, 5.1; RFC 8285, 4.2 and 4.3). A flag counts
+/// as set where it isn't 0, and a value as absent where its `has_` is 0; `header_len` and `has_layers`
+/// are not looked at. Where `has_extension` is set a block is written, with an element for each mapped
+/// id, by rising id, whose value is there: in the two-byte form exactly where an id above 14 is mapped,
+/// the layer allocation is mapped, or a text that is written is empty. Zeros fill its last word. Where
+/// `has_extension` is clear nothing is written of the values.
+///
+/// `OK`, and how many bytes they take is written too. `BAD_FIELD` where the payload type is above 127,
+/// there are more than 15 contributing sources, or a value that is there is none: a text has another
+/// character than letters, digits and underscores before its first zero or has no zero, an orientation
+/// is none of 0, 90, 180 and 270, or a delay has 0 ticks in a second. `SHORT_BUFFER` where only the
+/// room is short. Where it isn't `OK` nothing is written.
+#[unsafe(no_mangle)]
+pub extern "C" fn rtp_write(
+    map: &KindsOfIds,
+    header: &HeaderView,
+    buf: &mut [u8],
+    len: &mut usize,
+) -> i32
+    ensures written { result ≡ ok →
+        IsWrittenHeader map.now.kind header.now buf.old buf.new len.new }
+    ensures short { result ≡ short_buffer → IsTooLong map.now.kind header.now (length buf.old) }
+    ensures bad_field { result ≡ bad_field → (h : Header) → IsGivenHeader header.now h → ⊥ }
+    ensures statuses { (result ≡ ok) ⊎ ((result ≡ short_buffer) ⊎ (result ≡ bad_field)) }
+    ensures unchanged { result ≢ ok → (buf.new ≡ buf.old) × (len.new ≡ len.old) }
+{
+    let Some(header) = given_header(header) else {
+        return BAD_FIELD;
+    };
+    let Some(written) = header.try_write_by_kinds(buf, &kinds_of(map)) else {
+        return SHORT_BUFFER;
+    };
+    *len = written;
+    OK
 }
