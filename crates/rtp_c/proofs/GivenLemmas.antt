@@ -1,5 +1,5 @@
 -- Texts that end at a zero.
-use Rattle.std.proofs.Common.{◌≡◌, ◌≢◌, ℕ, ◌+◌, ◌-◌, ◌<◌, ◌≤◌, List, ◌∷◌, ◌++◌, length, take, drop, replicate, get_or, sym, ap, ◌∙◌, subst, All, arith, length-append, get_or-append-add, take_at, take-append-drop, Option, Some, None, IfNone}
+use Rattle.std.proofs.Common.{◌≡◌, ◌≢◌, ℕ, ◌+◌, ◌<◌, List, ◌∷◌, ◌++◌, length, take, drop, replicate, get_or, sym, ap, ◌∙◌, subst, All, arith, length-append, get_or-append-add, take_at, take-append-drop, Option, Some, None, IfNone}
 use Rattle.std.proofs.lemmas.Bool.{false≢true}
 use Rattle.std.proofs.lemmas.List.{get_or_append_left, drop_more, drop-replicate}
 use Rattle.rtp_base.specs.Id.{IsIdByte, padded}

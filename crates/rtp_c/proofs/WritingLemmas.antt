@@ -1,6 +1,5 @@
 -- The elements that C names, as they are written.
-use Rattle.std.proofs.Common.{◌≡◌, ◌↔◌, ℕ, ◌+◌, ◌<◌, ◌≤◌, List, [], ◌∷◌, ◌++◌, length, map, drop, refl, sym, ap, ◌∙◌, subst, All, Bor, arith, length-append, lt_of_not-le, take, take_all, get_or, below_more, Some}
-use Rattle.std.proofs.lemmas.List.{take_more, map_push, get_or_default}
+use Rattle.std.proofs.Common.{◌≡◌, ◌↔◌, ℕ, ◌<◌, List, [], ◌∷◌, length, map, refl, subst, All, Bor, arith, length-append, lt_of_not-le, take, get_or, Some}
 use Rattle.std.specs.List.{AllByRecursion}
 use Rattle.std.proofs.lemmas.List.Elements.{All-from_recursion, recursion_from_All}
 use Rattle.rtp_ext.specs.declared.ext.form.ExtensionsForm.{ExtensionsForm}
@@ -9,8 +8,7 @@ use Rattle.rtp_ext.specs.Elements.{Element, elements_bytes}
 use Rattle.rtp_ext.specs.ElementsInARow.{elements_of, IsWritable, FitInARow}
 use Rattle.rtp_c.specs.declared.elements.ElementView.{ElementView}
 use Rattle.rtp_c.specs.PacketView.{form_number}
-use Rattle.rtp_c.specs.ElementView.{element_in}
-use Rattle.rtp_c.specs.WrittenElements.{LiesIn, LieIn, elements_in, AreWritable, AreWrittenElements, AreTooLong}
+use Rattle.rtp_c.specs.WrittenElements.{LiesIn, LieIn, elements_in, AreTooLong}
 
 -- an element that the form can carry has at most two bytes before its data, and 255 of these
 pub FitInARow-one : (form : ExtensionsForm) (element : Element) → IsWritable form element → FitInARow form (element ∷ []) 257

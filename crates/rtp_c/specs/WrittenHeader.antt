@@ -1,7 +1,6 @@
 -- The header that C gives, as it is written (RFC 3550, 5.1; RFC 8285, 4.2 and 4.3).
 use Rattle.std.specs.Prelude.{◌≡◌, ℕ, ◌<◌, List, ◌++◌, length, drop}
 use Rattle.rtp_ext.specs.ExtensionMap.{Slots}
-use Rattle.rtp_ext.specs.Elements.{Element}
 use Rattle.rtp_ext.specs.ElementsInARow.{CannotBeInARow}
 use Rattle.rtp_wire.specs.declared.header.rtp_header.RtpHeader.{RtpHeader}
 use Rattle.rtp_wire.specs.Header.{IsWire}

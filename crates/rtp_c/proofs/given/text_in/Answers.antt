@@ -1,6 +1,6 @@
 use Rattle.std.proofs.Common.{sym, ◌∙◌}
 use Rattle.std.proofs.lemmas.Bool.{false≢true}
-use Rattle.rtp_c.proofs.GivenLemmas.{IsFirstZero, IsTextIn-first, all-text, no_text}
+use Rattle.rtp_c.proofs.GivenLemmas.{IsTextIn-first, all-text, no_text}
 use Rattle.rtp_c.proofs.given.text_in.Goals as goal
 
 pub returns-in_default-clause-none : goal.returns-in_default-clause-none

@@ -1,5 +1,4 @@
 use Rattle.std.proofs.Common.{◌≡◌, ℕ, List, Bor, refl, sym, ap, ◌∙◌, subst, length, true≢false}
-use Rattle.rtp_ext.specs.Elements.{Element}
 use Rattle.rtp_ext.specs.ElementsInARow.{elements_of, CannotBeInARow}
 use Rattle.rtp_wire.specs.WrittenWith.{no_block}
 use Rattle.rtp_c.specs.WrittenElements.{elements_in}

@@ -1,7 +1,4 @@
-use Rattle.std.proofs.Common.{◌≡◌, ◌≤◌, ℕ, ◌<◌, length, take, get_or, vec_len, vec_capacity}
-use Rattle.rtp_ext.specs.ElementsInARow.{elements_of}
-use Rattle.rtp_c.specs.declared.elements.ElementView.{ElementView}
-use Rattle.rtp_c.specs.WrittenElements.{LiesIn, elements_in}
+use Rattle.std.proofs.Common.{◌≡◌, ◌≤◌, length, vec_len, vec_capacity}
 use Rattle.rtp_c.proofs.WritingLemmas.{AreFirst}
 use Rattle.rtp_c.proofs.writing_elements.pairs_in.Given as goal
 
