@@ -1,6 +1,6 @@
 //! The known header extensions by themselves.
 
-ghost use Rattle.std.specs.Prelude.{◌≡◌, ◌≢◌, IfSome, IfNone};
+ghost use Rattle.std.specs.Prelude.{◌≡◌, ◌≢◌, Some, IfSome, IfNone};
 ghost use Rattle.rtp_values.specs.Kind.{kind_of, IsKnown};
 ghost use Rattle.rtp_values.specs.KnownKind.{extension_of_kind};
 
@@ -50,6 +50,10 @@ impl KnownKind {
     pub fn from_uri(uri: &str) -> Option<Self>
         ensures named { IfSome result (λ kind. (kind_of (extension_of_kind kind)).uri ≡ uri.now) }
         ensures none { IfNone result ((kind : Extension) → IsKnown kind → (kind_of kind).uri ≢ uri.now) }
+
+        // No other kind has the URI.
+        ensures known { (kind : KnownKind) → (kind_of (extension_of_kind kind)).uri ≡ uri.now →
+            result ≡ Some kind }
     {
         known_by_uri(uri)?.known_kind()
     }
