@@ -24,7 +24,7 @@ use Rattle.rtp_ext.proofs.MappedIdLemmas.{ids_from}
 -- ---- the table
 
 -- the entry of an id
-entry_at-kinds : (kinds : List (Option KnownKind)) (k : ℕ) → entry_at (slots_of kinds) (suc k) ≡ entry_of_kind (get_or kinds (suc k) None)
+pub entry_at-kinds : (kinds : List (Option KnownKind)) (k : ℕ) → entry_at (slots_of kinds) (suc k) ≡ entry_of_kind (get_or kinds (suc k) None)
 entry_at-kinds [] k = refl
 entry_at-kinds (kind ∷ kinds) k = get_or-map entry_of_kind kinds k None
 

@@ -15,7 +15,8 @@ pub mod ListingLemmas
 mod MappedIdLemmas
 mod RisingIdLemmas
 mod ShortBlockLemmas
-mod KindsByIdLemmas
+pub mod KindsByIdLemmas
+mod LowestKindLemmas
 mod FormLemmas
 mod KnownItemsLemmas
 pub mod WrittenBlockLemmas

@@ -24,4 +24,6 @@ mod renegotiations;
 #[cfg(test)]
 mod tables_of_kinds;
 #[cfg(test)]
+mod tables_of_new_ids;
+#[cfg(test)]
 mod written_blocks;

@@ -1,12 +1,13 @@
 //! The known extensions by their ids.
 
-ghost use Rattle.std.specs.Prelude.{◌≡◌, ◌≢◌, ◌≤◌, ◌-◌, ℕ, false, length, map, replicate, None, slice_set};
+ghost use Rattle.std.specs.Prelude.{◌≡◌, ◌≢◌, ◌↔◌, ◌≤◌, ◌-◌, ℕ, IsTrue, false, length, map, replicate, Some, None, IfSome, IfNone, slice_index_or, slice_set};
 ghost use Rattle.std.specs.Option.{option_map};
 ghost use Rattle.std.specs.List.{list_any};
 ghost use Rattle.rtp_values.specs.declared.known_kind.KnownKind.{KnownKind};
 ghost use Rattle.rtp_values.specs.KnownKind.{extension_of_kind};
-ghost use Rattle.rtp_ext.specs.ExtensionMap.{IsId, IsEmpty, entry_at, extension_at, items_from};
+ghost use Rattle.rtp_ext.specs.ExtensionMap.{IsId, IsEmpty, IsLowest, IsUnmapped, HasNoIdAbove, entry_at, extension_at, items_from};
 ghost use Rattle.rtp_ext.specs.KindsById.{slots_of, entry_of_kind, known_entry, known_slots, has_empty};
+ghost use Rattle.rtp_ext.specs.NewIds.{IsNewId, IsFirstKind};
 ghost use Rattle.rtp_ext.specs.WrittenBlock.{needs_two, IsShort};
 
 use super::kind_items::{KindItems, has_long};
@@ -114,6 +115,26 @@ impl KindsById {
         *self = Self::new(kinds);
     }
 
+    // The lowest id that is mapped to the kind.
+    fn id_of(&self, kind: KnownKind) -> Option<u8>
+        ensures found { IfSome result (IsLowest (slots_of self.now) (extension_of_kind kind)) }
+        ensures none { IfNone result (IsUnmapped (slots_of self.now) (extension_of_kind kind)) }
+        ensures valid { IfSome result IsId }
+    {
+        let id = first_with(&self.kinds, kind)?;
+        Some(id as u8)
+    }
+
+    // The lowest id that the other table has for the kind of this id.
+    pub(super) fn id_under(&self, other: &Self, id: u8) -> Option<u8>
+        ensures new { IsNewId (slots_of self.now) (slots_of other.now) id result }
+        ensures valid { IfSome result IsId }
+        ensures no_others { HasNoIdAbove 255 (slots_of self.now) }
+    {
+        let kind = self.kinds[usize::from(id)]?;
+        other.id_of(kind)
+    }
+
     // The mapped ids by rising id, each with its kind.
     pub(super) fn items(&self) -> KindItems<'_>
         ensures items { result ≡ items_from 0 (slots_of self.now) }
@@ -147,6 +168,24 @@ impl KindsById {
         }
         ev.has_empty_text() && self.has_empty_data(ev)
     }
+}
+
+// Whether an id is mapped to the kind.
+fn is_kind(mapped: Option<KnownKind>, kind: KnownKind) -> bool
+    ensures { IsTrue result ↔ (mapped ≡ Some kind) }
+{
+    match mapped {
+        Some(other) => other == kind,
+        None => false,
+    }
+}
+
+// The first index where the kind stands.
+fn first_with(kinds: &[Option<KnownKind>], kind: KnownKind) -> Option<usize>
+    ensures found { IfSome result (IsFirstKind kinds.now kind) }
+    ensures none { IfNone result ((k : ℕ) → slice_index_or kinds.now k None ≢ Some kind) }
+{
+    kinds.iter().position(|mapped| is_kind(*mapped, kind))
 }
 
 // Copies the known kinds of slots.
