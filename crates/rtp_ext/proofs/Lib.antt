@@ -18,7 +18,7 @@ mod ShortBlockLemmas
 pub mod KindsByIdLemmas
 mod LowestKindLemmas
 mod FormLemmas
-mod KnownItemsLemmas
+pub mod KnownItemsLemmas
 pub mod WrittenBlockLemmas
 pub mod WrittenElementsLemmas
 mod WrittenValuesLemmas
