@@ -14,8 +14,10 @@ mod MapLemmas
 pub mod ListingLemmas
 mod MappedIdLemmas
 mod RisingIdLemmas
+mod PaddedIdLemmas
 mod ShortBlockLemmas
 mod KindsByIdLemmas
+mod TableLemmas
 mod FormLemmas
 mod KnownItemsLemmas
 pub mod WrittenBlockLemmas
