@@ -10,7 +10,7 @@ ghost use Rattle.rtp_ext.specs.KindsById.{slots_of, entry_of_kind, known_entry, 
 ghost use Rattle.rtp_ext.specs.NewIds.{IsNewId, IsFirstKind};
 ghost use Rattle.rtp_ext.specs.WrittenBlock.{needs_two, IsShort};
 
-use super::kind_items::{KindItems, has_long};
+use super::kind_items::{KindItems, has_long, is_long};
 use super::map::MAX_ID;
 use super::mapped_ids::MappedIds;
 use super::slot::Slot;
@@ -23,7 +23,7 @@ pub(super) const IDS: usize = MAX_ID as usize + 1;
 /// The known extensions by their ids (RFC 8285, 5): all that reading and writing the elements of a
 /// packet needs of an [`ExtensionMap`](super::ExtensionMap), which lends such a table
 /// ([`kinds`](super::ExtensionMap::kinds)). It takes no memory.
-#[derive(Drop)]
+#[derive(Clone, Copy)]
 pub struct KindsById {
     // What each id is mapped to, the id 0 to nothing.
     kinds: [Option<KnownKind>; IDS],
@@ -41,6 +41,7 @@ impl Model for KindsById {
     ghost use Rattle.rtp_ext.specs.KindsById.{slots_of, is_long_item};
     ghost use Rattle.rtp_ext.specs.MapSlots.{mapped_ids};
     ghost use Rattle.rtp_ext.specs.declared.ext.kinds_by_id.TheConstants.{IDS};
+    ghost use Rattle.std.proofs.Common.{sym};
 
     ghost Value = { List (Option KnownKind) };
 
@@ -50,6 +51,18 @@ impl Model for KindsById {
         × (slice_index_or table.kinds 0 None ≡ None)
         × (table.mapped ≡ mapped_ids (slots_of table.kinds))
         × (table.is_long ≡ list_any is_long_item (items_from 0 (slots_of table.kinds))) };
+
+    ghost inverse = { λ kinds. record {
+      kinds = kinds;
+      mapped = mapped_ids (slots_of kinds);
+      is_long = list_any is_long_item (items_from 0 (slots_of kinds));
+    } };
+
+    ghost inverse_ok = { λ table known i. record {
+      kinds = table.kinds;
+      mapped = sym known.2 i;
+      is_long = sym known.3 i;
+    } };
 }
 
 impl KindsById {
@@ -118,9 +131,18 @@ impl KindsById {
         ensures slots { IsId id → slots_of self.new
             ≡ slice_set (slots_of self.old) (id - 1) (entry_of_kind kind) }
     {
-        let mut kinds = self.kinds;
-        kinds[usize::from(id)] = kind;
-        *self = Self::new(kinds);
+        if id == 0 {
+            return;
+        }
+        let old = self.kinds[usize::from(id)];
+        self.kinds[usize::from(id)] = kind;
+        if old.is_some() {
+            self.mapped = MappedIds::of_kinds(&self.kinds[1..]);
+            self.is_long = has_long(&self.kinds, self.mapped.as_slice());
+        } else if let Some(kind) = kind {
+            self.mapped.insert(id);
+            self.is_long |= is_long(id, kind);
+        }
     }
 
     // The lowest id that is mapped to the kind.
