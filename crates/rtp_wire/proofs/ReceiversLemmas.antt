@@ -1,5 +1,5 @@
 -- What the receivers have for one source, and for the others, by the places of their list.
-use Rattle.std.proofs.Common.{◌≡◌, ◌≢◌, ℕ, ◌<◌, List, length, get_or, set, length-set, sym, refl, ap, ◌∙◌, subst}
+use Rattle.std.proofs.Common.{◌≡◌, ◌≢◌, ℕ, List, get_or, set, length-set, sym, refl, ap, ◌∙◌, subst}
 use Rattle.std.specs.Prelude.{Option, Some, None, unwrap_or, Result, Ok, Err, OnErr}
 use Rattle.std.specs.Option.{option_map}
 use Rattle.std.specs.Ordering.{nat_cmp}
@@ -11,7 +11,7 @@ use Rattle.rtp_wire.specs.declared.receive.state.ReceiverState.{ReceiverState}
 use Rattle.rtp_wire.specs.declared.receive.state.ReceiverState.TheVariants.{Start}
 use Rattle.rtp_wire.specs.Receiver.{Holds}
 use Rattle.rtp_wire.specs.Receivers.{ReceiverStates, receiver_of, state_of}
-use Rattle.rtp_wire.specs.Places.{past_the_end, source_at, held_at, held, ArePlaces}
+use Rattle.rtp_wire.specs.Places.{past_the_end, held_at, held, ArePlaces}
 use Rattle.rtp_wire.proofs.PlacesLemmas.{held_of-place, held_of-found, held_of-none, ArePlaces-set, held-set_same, held-set_other}
 
 -- receivers as they are seen, by the list that has them and the places in it

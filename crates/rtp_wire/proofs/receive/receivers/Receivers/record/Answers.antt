@@ -1,12 +1,10 @@
-use Rattle.std.proofs.Common.{◌≡◌, ℕ, arith, inl, refl, subst, sym, ap, ◌∙◌}
-use Rattle.std.specs.Prelude.{Option, Some, None, IsSome, false}
+use Rattle.std.proofs.Common.{arith, inl, refl, subst, sym, ap, ◌∙◌}
+use Rattle.std.specs.Prelude.{Option, Some, IsSome}
 use Rattle.std.proofs.lemmas.Option.{none-some}
 use Rattle.rtp_base.specs.Window.{including}
-use Rattle.rtp_wire.specs.declared.receive.verdict.Verdict.{Verdict}
 use Rattle.rtp_wire.specs.declared.receive.state.ReceiverState.{ReceiverState}
 use Rattle.rtp_wire.specs.declared.receive.state.ReceiverState.TheVariants.{Start}
 use Rattle.rtp_wire.specs.Receiver.{Holds}
-use Rattle.rtp_wire.specs.Receivers.{receiver_of}
 use Rattle.rtp_wire.proofs.PlacesLemmas.{is_none}
 use Rattle.rtp_wire.proofs.ReceiversLemmas.{no_receiver, Holds-new, receiver_read, Holds-read, ArePlaces-written, receiver_written, Holds-written, others_written, state_is, on_err}
 use Rattle.rtp_wire.proofs.receive.receivers.Receivers.record.Goals as goal
