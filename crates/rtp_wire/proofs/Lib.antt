@@ -16,6 +16,7 @@ mod HeaderLemmas
 mod KnownKindsLemmas
 mod BlockWriting
 mod RoundTrip
+mod WrittenInFormLemmas
 mod WritingWithLemmas
 mod PaddingLemmas
 mod StandardFacts

@@ -42,6 +42,7 @@ pub mod Sending
 pub mod Receivers
 pub mod Sources
 -- What functions inside promise each other.
+pub mod WrittenInForm
 pub mod PartsAt
 pub mod Moduli
 pub mod EachSource

@@ -57,7 +57,7 @@ impl RtpHeader {
 
     /// Returns the header that the bytes begin with, as [`parse`](Self::parse) reads it, with the
     /// values of its extensions under a table of kinds (RFC 3550, 5.1 and 5.3.1; RFC 8285, 4.2 and
-    /// 4.3). It is for who fills such a table and has no [`ExtensionMap`]; a map lends its own by
+    /// 4.3). It is for callers that fill a table and have no [`ExtensionMap`]; a map lends its own by
     /// [`kinds`](ExtensionMap::kinds), and both read the same.
     ///
     /// Memory is taken, and refused, as by `parse`, and `None` is returned for its causes: they don't

@@ -1,5 +1,4 @@
 use Rattle.std.proofs.lemmas.Result.{IfOk-weaker, on_err_weaker}
-use Rattle.rtp_ext.specs.KindsById.{slots_of}
 use Rattle.rtp_wire.specs.PartsOf.{parts_of}
 use Rattle.rtp_wire.proofs.HeaderLemmas.{one_header-parts}
 use Rattle.rtp_wire.proofs.KnownKindsLemmas.{IsHeaderOf-known, BlockHasAllocation-known}
