@@ -2,3 +2,6 @@ mod StatusLemmas
 mod PacketLemmas
 mod ChangeLemmas
 mod ElementLemmas
+mod GivenLemmas
+mod WritingLemmas
+mod WrittenHeaderLemmas

@@ -9,3 +9,6 @@ pub mod KindNumbers
 pub mod KindsOfIds
 pub mod Held
 pub mod ValuesView
+pub mod Given
+pub mod WrittenElements
+pub mod WrittenHeader

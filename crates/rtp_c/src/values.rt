@@ -15,8 +15,18 @@ use super::status::{BAD_FIELD, NO_MEMORY, OK};
 use rtp_values::{AbsCaptureTime, ExtensionValues, VideoOrientation};
 use std::alloc::Global;
 
-/// The values of a block's elements, except texts, playout delays, video timing and the layer
-/// allocation: `rtp_values` in C, 56 bytes. A value that is absent is 0.
+/// A time as a number of ticks of a clock: `rtp_time` in C, 16 bytes. It is `ticks / hertz` seconds.
+#[repr(C)]
+#[derive(Clone, Copy)]
+pub struct Time {
+    /// How many ticks of the clock it is.
+    pub ticks: u64,
+    /// How many ticks the clock has in a second: 100 as read.
+    pub hertz: u32,
+}
+
+/// The values of a block's elements: `rtp_values` in C, 136 bytes. A value that is absent is 0. A
+/// text is ASCII letters, digits and underscores, and zeros end it.
 #[repr(C)]
 #[derive(Clone, Copy)]
 pub struct ValuesView {
@@ -26,6 +36,10 @@ pub struct ValuesView {
     pub capture_time: u64,
     /// How far the capturer's clock is ahead of the sender's, with 32 fractional bits.
     pub capture_offset: i64,
+    /// The least time for which the receiver may hold the frame before it shows it.
+    pub playout_delay_min: Time,
+    /// The greatest such time.
+    pub playout_delay_max: Time,
     /// How long after its timestamp the packet was sent, in ticks of the stream's clock.
     pub transmission_offset: u32,
     /// The frame marking.
@@ -34,12 +48,28 @@ pub struct ValuesView {
     pub transport_number: u16,
     /// How the receiver has to turn the picture, in degrees counter-clockwise: 0, 90, 180 or 270.
     pub video_orientation: u16,
+    /// The video timing: when the frame's encoding began, in milliseconds after its capture.
+    pub encode_start: u16,
+    /// When its encoding ended.
+    pub encode_finish: u16,
+    /// When its last packet was made.
+    pub packetize_complete: u16,
+    /// When its last packet left the pacer.
+    pub last_left_pacer: u16,
+    /// Why the times were sent: bit 0 for a timer, bit 1 for a large frame.
+    pub timing_flags: u8,
     /// What the video shows: 0 is unspecified, 1 a screen.
     pub video_content_type: u8,
     /// The audio level in decibels relative to the overload point, -127 to 0.
     pub audio_level: i8,
     /// Whether the packet's audio has voice: 0 or 1.
     pub voice_activity: u8,
+    /// The media section's identification tag (RFC 9143), of up to 16 characters.
+    pub mid: [u8; 17],
+    /// The RTP stream id (RFC 8852), of up to 8 characters.
+    pub rid: [u8; 9],
+    /// The id of the stream that this one repairs (RFC 8852), of up to 8 characters.
+    pub repaired_rid: [u8; 9],
     /// Whether the send time is there: 0 or 1, and so for each other value.
     pub has_send_time: u8,
     pub has_capture_time: u8,
@@ -51,6 +81,15 @@ pub struct ValuesView {
     pub has_video_content_type: u8,
     pub has_audio_level: u8,
     pub has_voice_activity: u8,
+    pub has_playout_delay_min: u8,
+    pub has_playout_delay_max: u8,
+    /// Whether the four times of the video timing and its flags are there.
+    pub has_video_timing: u8,
+    pub has_mid: u8,
+    pub has_rid: u8,
+    pub has_repaired_rid: u8,
+    /// Whether there is a layer allocation, which `rtp_layers` holds.
+    pub has_layers: u8,
 }
 
 fn held_u8(value: Option<u8>) -> (u8, u8)
@@ -165,13 +204,23 @@ fn view_of_values(values: &ExtensionValues) -> ValuesView
         send_time,
         capture_time,
         capture_offset,
+        playout_delay_min: Time { ticks: 0, hertz: 0 },
+        playout_delay_max: Time { ticks: 0, hertz: 0 },
         transmission_offset,
         frame_marking,
         transport_number,
         video_orientation,
+        encode_start: 0,
+        encode_finish: 0,
+        packetize_complete: 0,
+        last_left_pacer: 0,
+        timing_flags: 0,
         video_content_type,
         audio_level,
         voice_activity,
+        mid: [0; 17],
+        rid: [0; 9],
+        repaired_rid: [0; 9],
         has_send_time,
         has_capture_time,
         has_capture_offset,
@@ -182,6 +231,13 @@ fn view_of_values(values: &ExtensionValues) -> ValuesView
         has_video_content_type,
         has_audio_level,
         has_voice_activity,
+        has_playout_delay_min: 0,
+        has_playout_delay_max: 0,
+        has_video_timing: 0,
+        has_mid: 0,
+        has_rid: 0,
+        has_repaired_rid: 0,
+        has_layers: 0,
     }
 }
 
