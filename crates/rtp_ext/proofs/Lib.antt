@@ -15,9 +15,9 @@ pub mod ListingLemmas
 mod MappedIdLemmas
 mod RisingIdLemmas
 mod ShortBlockLemmas
-mod KindsByIdLemmas
+pub mod KindsByIdLemmas
 mod FormLemmas
-mod KnownItemsLemmas
+pub mod KnownItemsLemmas
 pub mod WrittenBlockLemmas
 pub mod WrittenElementsLemmas
 mod WrittenValuesLemmas

@@ -12,6 +12,7 @@ mod ChangedPackets
 pub mod NotAPacketLemmas
 mod ValuesLemmas
 mod HeaderLemmas
+mod KnownKindsLemmas
 mod BlockWriting
 mod RoundTrip
 mod WritingWithLemmas

@@ -5,7 +5,7 @@ ghost use Rattle.std.specs.Option.{option_map};
 ghost use Rattle.std.specs.List.{list_any};
 ghost use Rattle.rtp_values.specs.declared.known_kind.KnownKind.{KnownKind};
 ghost use Rattle.rtp_values.specs.KnownKind.{extension_of_kind};
-ghost use Rattle.rtp_ext.specs.ExtensionMap.{IsId, IsEmpty, entry_at, extension_at, items_from};
+ghost use Rattle.rtp_ext.specs.ExtensionMap.{IsId, IsEmpty, entry_at, extension_at, items_from, mapped_count};
 ghost use Rattle.rtp_ext.specs.KindsById.{slots_of, entry_of_kind, known_entry, known_slots, has_empty};
 ghost use Rattle.rtp_ext.specs.WrittenBlock.{needs_two, IsShort};
 
@@ -89,6 +89,14 @@ impl KindsById {
         let mut kinds = [None; IDS];
         copy_known(slots, &mut kinds[1..]);
         Self::new(kinds)
+    }
+
+    /// How many ids are mapped.
+    pub fn len(&self) -> usize
+        ensures count { result ≡ mapped_count (slots_of self.now) }
+        ensures few { result ≤ MAX_ID }
+    {
+        self.mapped.len()
     }
 
     /// The kind that the id is mapped to, and `None` where there is none, as always for 0.
