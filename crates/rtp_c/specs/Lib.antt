@@ -9,3 +9,5 @@ pub mod KindNumbers
 pub mod KindsOfIds
 pub mod Held
 pub mod ValuesView
+pub mod LayersView
+pub mod HeaderView
