@@ -2,6 +2,8 @@ mod StatusLemmas
 mod PacketLemmas
 mod ChangeLemmas
 mod ElementLemmas
+mod LayersLemmas
+mod HeaderViewLemmas
 mod GivenLemmas
 mod WritingLemmas
 mod WrittenHeaderLemmas
