@@ -2,3 +2,5 @@ mod StatusLemmas
 mod PacketLemmas
 mod ChangeLemmas
 mod ElementLemmas
+mod KindNumberLemmas
+mod KindsOfIdsLemmas

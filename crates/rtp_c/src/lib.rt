@@ -10,6 +10,7 @@ mod changing_sources;
 mod elements;
 mod layout;
 mod map;
+mod new_ids;
 mod packet;
 mod payload;
 mod receiver;
