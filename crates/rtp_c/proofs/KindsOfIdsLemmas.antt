@@ -1,7 +1,6 @@
 -- The map that C fills, as slots.
-use Rattle.std.proofs.Common.{◌≡◌, ◌≢◌, ℕ, zero, suc, ◌+◌, ◌-◌, ◌≤◌, ◌<◌, ◌⊎◌, inl, inr, List, [], ◌∷◌, length, map, drop, get_or, set, take, replicate, true, Option, Some, None, arith, refl, sym, ap, ◌∙◌, subst, get_or-set_same, get_or-set_other, length-set}
+use Rattle.std.proofs.Common.{◌≡◌, ℕ, zero, suc, ◌+◌, ◌-◌, ◌≤◌, ◌<◌, inl, inr, List, [], ◌∷◌, length, map, drop, get_or, set, take, replicate, true, Option, Some, None, arith, refl, sym, ap, ◌∙◌, subst, get_or-set_same, get_or-set_other, length-set}
 use Rattle.std.proofs.lemmas.Bool.{cases_lt}
-use Rattle.std.proofs.lemmas.Bool.Decides.{eqb_tells}
 use Rattle.std.proofs.lemmas.List.{length-map, get_or-take, get_or-drop, drop-drop}
 use Rattle.std.proofs.Math.ListN.{get_or-map}
 use Rattle.rtp_values.specs.declared.known_kind.KnownKind.{KnownKind}

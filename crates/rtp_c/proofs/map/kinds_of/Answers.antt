@@ -1,4 +1,4 @@
-use Rattle.std.proofs.Common.{◌≡◌, ◌+◌, ◌*◌, ℕ, rules, arith, refl, ap, sym, ◌∙◌, drop, take, length}
+use Rattle.std.proofs.Common.{◌≡◌, ◌+◌, rules, arith, refl, ap, ◌∙◌, take, length}
 use Rattle.rtp_ext.specs.KindsById.{slots_of}
 use Rattle.rtp_c.proofs.KindsOfIdsLemmas.{HasKindsTo-start, HasKinds-whole, later_word}
 use Rattle.rtp_c.proofs.map.kinds_of.Goals as goal

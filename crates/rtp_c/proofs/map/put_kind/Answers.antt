@@ -1,8 +1,5 @@
-use Rattle.std.proofs.Common.{◌≡◌, ℕ, ◌<◌, List, length, Option, None, Some, arith, sym, ap, ◌∙◌, subst}
-use Rattle.rtp_values.specs.declared.known_kind.KnownKind.{KnownKind}
+use Rattle.std.proofs.Common.{arith, sym, ◌∙◌}
 use Rattle.rtp_ext.specs.KindsById.{slots_of}
-use Rattle.rtp_c.specs.KindNumbers.{IsKindNumbered}
-use Rattle.rtp_c.specs.KindsOfIds.{HasKindsTo}
 use Rattle.rtp_c.proofs.KindsOfIdsLemmas.{HasKindsTo-some, HasKindsTo-zero}
 use Rattle.rtp_c.proofs.map.put_kind.Goals as goal
 

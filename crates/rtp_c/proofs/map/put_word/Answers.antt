@@ -1,4 +1,4 @@
-use Rattle.std.proofs.Common.{◌≡◌, ◌+◌, ◌<◌, ℕ, arith, length, ◌∙◌, sym, subst}
+use Rattle.std.proofs.Common.{◌≡◌, ◌+◌, ◌<◌, ℕ, arith, ◌∙◌, sym, subst}
 use Rattle.rtp_ext.specs.KindsById.{slots_of}
 use Rattle.rtp_c.specs.KindsOfIds.{HasKindsTo}
 use Rattle.rtp_c.proofs.KindsOfIdsLemmas.{HasKindsTo-word, zeros_in_word, number_in_word}

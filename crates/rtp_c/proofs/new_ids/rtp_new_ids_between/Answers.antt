@@ -1,4 +1,4 @@
-use Rattle.std.proofs.Common.{subst, ℕ, List, ◌∙◌, ap, sym}
+use Rattle.std.proofs.Common.{subst, ℕ, List, sym}
 use Rattle.std.specs.Prelude.{Option}
 use Rattle.rtp_ext.specs.KindsById.{slots_of}
 use Rattle.rtp_ext.specs.NewIds.{AreNewIds}
