@@ -2,6 +2,8 @@ mod StatusLemmas
 mod PacketLemmas
 mod ChangeLemmas
 mod ElementLemmas
+mod KindNumberLemmas
+mod KindsOfIdsLemmas
 mod LayersLemmas
 mod HeaderViewLemmas
 mod GivenLemmas

@@ -4,10 +4,13 @@ use Rattle.rtp_wire.specs.declared.packet.not_a_packet.NotAPacket.{NotAPacket}
 use Rattle.rtp_wire.specs.declared.packet.not_a_packet.NotAPacket.TheVariants.{CutFixedPart, OtherVersion, CutSources, CutBlockHeader, UnknownForm, CutBlock}
 use Rattle.rtp_wire.specs.NotAHeader.{NotAHeader}
 use Rattle.rtp_wire.proofs.NotAPacketLemmas.{NotAHeader-applies}
-use Rattle.rtp_c.specs.Status.{ok, none, no_memory, cause_status, IsCauseStatus}
+use Rattle.rtp_c.specs.Status.{ok, none, no_memory, bad_field, cause_status, IsCauseStatus}
 
 pub none≢ok : none ≡ ok → ⊥
 none≢ok same = cc
+
+pub bad_field≢ok : bad_field ≡ ok → ⊥
+bad_field≢ok same = cc
 
 ok≢cause : (cause : NotAPacket) → ok ≡ cause_status cause → ⊥
 ok≢cause CutFixedPart same = cc

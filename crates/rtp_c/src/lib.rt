@@ -14,6 +14,7 @@ mod held;
 mod layers;
 mod layout;
 mod map;
+mod new_ids;
 mod packet;
 mod payload;
 mod reading;
