@@ -14,8 +14,11 @@ mod MapLemmas
 pub mod ListingLemmas
 mod MappedIdLemmas
 mod RisingIdLemmas
+mod PaddedIdLemmas
 mod ShortBlockLemmas
 pub mod KindsByIdLemmas
+mod LowestKindLemmas
+mod TableLemmas
 mod FormLemmas
 pub mod KnownItemsLemmas
 pub mod WrittenBlockLemmas

@@ -5,6 +5,7 @@ mod BlockLemmas
 pub mod PacketLemmas
 pub mod HeaderFound
 pub mod PartsLemmas
+pub mod PlacesLemmas
 mod BytesBetween
 mod PacketChanges
 mod PacketParts

@@ -23,6 +23,7 @@ pub mod Packet
 pub mod NotAPacket
 pub mod PacketElements
 pub mod PartsOf
+pub mod Places
 pub mod ChangedPacket
 pub mod Header
 pub mod NotAHeader
