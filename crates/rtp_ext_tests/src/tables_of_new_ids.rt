@@ -48,7 +48,11 @@ fn ids_between_tables_of_kinds(rt: HostRuntime) {
     wanted[3] = 5;
     wanted[254] = 1;
     wanted[255] = 255;
-    holds(&rt, "the ids", NewIds::between_kinds(&from, &to).ids() == wanted);
+    holds(
+        &rt,
+        "the ids",
+        NewIds::between_kinds(&from, &to).ids() == wanted,
+    );
 }
 
 #[test]
@@ -56,6 +60,14 @@ fn no_ids_between_a_table_and_an_empty_one(rt: HostRuntime) {
     let mut from = KindsById::empty();
     from.set(1, Some(KnownKind::RtpMid));
     let empty = KindsById::empty();
-    holds(&rt, "to none", NewIds::between_kinds(&from, &empty).ids() == [0; 256]);
-    holds(&rt, "of none", NewIds::between_kinds(&empty, &from).ids() == [0; 256]);
+    holds(
+        &rt,
+        "to none",
+        NewIds::between_kinds(&from, &empty).ids() == [0; 256],
+    );
+    holds(
+        &rt,
+        "of none",
+        NewIds::between_kinds(&empty, &from).ids() == [0; 256],
+    );
 }
