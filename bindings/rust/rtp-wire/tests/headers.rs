@@ -16,7 +16,7 @@ const MAP: Map = Map::new()
     .with(4, Kind::Rid)
     .with(5, Kind::Layers);
 
-/// V=2, X, CC=1; M, PT=33; 47,000; 10,000; 44; the source 9; a block of seven words in the two-byte form:
+/// V=2, X, CC=1; M, PT=33; 47,000; 10,000; 44; the source 9; a block of nine words in the two-byte form:
 /// 1 "video", 2 (10 ms to 4,095 hundredths), 3 (flags 2; 1, 2, 3, 4; four bytes more), 4 ""; the payload 7.
 const SAMPLE: [u8; 57] = [
     0x91, 0xA1, 0xB7, 0x98, 0, 0, 0x27, 0x10, 0, 0, 0, 0x2C, 0, 0, 0, 9, 0x10, 0, 0, 9, 1, 5, b'v',
