@@ -321,7 +321,7 @@ int32_t rtp_wire_len(const rtp_map *map, const rtp_header *header, size_t *len);
 
 /* Writes the header to the front of the buffer; bytes after it stay. Where has_extension isn't 0 there is
  * a block: by rising id an element for each mapped id whose value is there (its has_ isn't 0), in the
- * one-byte form unless an id above 14 or RTP_KIND_LAYERS is mapped or a text of a mapped kind is empty.
+ * one-byte form unless an id above 14 or RTP_KIND_LAYERS is mapped or a text that it writes is empty.
  * An audio level takes has_voice_activity too, a playout delay both its times, and a capture offset
  * a capture time; a layer allocation is not written. Of a time the whole ticks are written of 2^-18
  * seconds (send time, modulo 64 seconds) or of 1/100 second (playout delay, modulo 4,096); of a level
