@@ -327,10 +327,10 @@ int32_t rtp_wire_len(const rtp_map *map, const rtp_header *header, size_t *len);
  * seconds (send time, modulo 64 seconds) or of 1/100 second (playout delay, modulo 4,096); of a level
  * its magnitude modulo 128. Flags count as set where they aren't 0.
  *
- * RTP_OK; RTP_BAD_FIELD where payload_type is above 127, csrc_count above 15, or a value that is there
- * is none: a text with another character than letters, digits and underscores or without a zero, an
- * orientation that is none of the four, a time of 0 hertz; RTP_SHORT_BUFFER where the buffer alone is at
- * fault.
+ * RTP_OK; RTP_BAD_FIELD where payload_type is above 127, csrc_count above 15, or a value that is there,
+ * mapped or not, is none: a text with another character than letters, digits and underscores before its
+ * zero or without a zero, an orientation that is none of the four, a time of 0 hertz; RTP_SHORT_BUFFER
+ * where the buffer alone is at fault.
  *
  *     rtp_header header = {0};
  *     header.payload_type = 111;
@@ -355,7 +355,7 @@ int32_t rtp_write(const rtp_map *map, const rtp_header *header, uint8_t *buf, si
  * RTP_OK; RTP_BAD_FIELD where payload_type is above 127, csrc_count above 15, or an element has the id 0,
  * more than 255 bytes, or bytes past the end of the data, or all of them take more than the 262,140 bytes
  * of a block; RTP_SHORT_BUFFER where the buffer alone is at fault; RTP_NO_MEMORY. Memory is taken for a
- * list of the elements, and given back before the call returns. */
+ * list of the elements, where there are any, and given back before the call returns. */
 int32_t rtp_write_with(const rtp_header *header, const uint8_t *data, size_t data_len, const rtp_element *elements,
                        size_t count, uint8_t *buf, size_t size, size_t *len);
 
