@@ -2,3 +2,10 @@ mod StatusLemmas
 mod PacketLemmas
 mod ChangeLemmas
 mod ElementLemmas
+mod KindNumberLemmas
+mod KindsOfIdsLemmas
+mod LayersLemmas
+mod HeaderViewLemmas
+mod GivenLemmas
+mod WritingLemmas
+mod WrittenHeaderLemmas

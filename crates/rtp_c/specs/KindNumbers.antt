@@ -1,5 +1,7 @@
 -- The numbers by which C names the known kinds of extension (RFC 8285, 5).
-use Rattle.std.specs.Prelude.{◌≡◌, ◌≢◌, ℕ, Option, Some, None}
+use Rattle.std.specs.Prelude.{◌≡◌, ◌≢◌, ℕ, List, Option, Some, None}
+use Rattle.rtp_values.specs.Kind.{kind_of}
+use Rattle.rtp_values.specs.KnownKind.{extension_of_kind}
 use Rattle.rtp_values.specs.declared.known_kind.KnownKind.{KnownKind}
 use Rattle.rtp_values.specs.declared.known_kind.KnownKind.TheVariants.{AbsoluteSendTime, AbsoluteCaptureTime, AudioLevel, TransmissionTimeOffset, VideoOrientation, TransportSequenceNumber, PlayoutDelay, VideoContentType, VideoTiming, RtpStreamId, RepairedRtpStreamId, RtpMid, FrameMarking, ColorSpace, VideoLayersAllocation}
 
@@ -25,3 +27,11 @@ kind_number VideoLayersAllocation = 15
 abbrev pub IsKindNumbered : ℕ → Option KnownKind → Type 0
 IsKindNumbered number None = (kind : KnownKind) → kind_number kind ≢ number
 IsKindNumbered number (Some kind) = kind_number kind ≡ number
+
+-- the greatest number
+abbrev pub last_number : ℕ
+last_number = 15
+
+-- the URI that names a kind in SDP
+abbrev pub uri_of : KnownKind → List ℕ
+uri_of kind = (kind_of (extension_of_kind kind)).uri

@@ -9,3 +9,8 @@ pub mod KindNumbers
 pub mod KindsOfIds
 pub mod Held
 pub mod ValuesView
+pub mod LayersView
+pub mod HeaderView
+pub mod Given
+pub mod WrittenElements
+pub mod WrittenHeader

@@ -1,6 +1,11 @@
 //! A whole header.
 
-use super::values::ValuesView;
+ghost use Rattle.std.specs.Prelude.{◌≤◌};
+ghost use Rattle.rtp_c.specs.HeaderView.{IsViewOfHeader};
+
+use super::packet::flag_number;
+use super::values::{ValuesView, put_values};
+use rtp_wire::RtpHeader;
 
 /// The header of a packet (RFC 3550, 5.1), with the values of its block: `rtp_header` in C, 224
 /// bytes.
@@ -29,4 +34,22 @@ pub struct HeaderView {
     pub has_extension: u8,
     /// The values that the block's elements carry.
     pub values: ValuesView,
+}
+
+// Puts what C is told of a header.
+pub fn put_header(header: &RtpHeader, view: &mut HeaderView)
+    requires { header.now.csrc_count ≤ 15 }
+    ensures { IsViewOfHeader header.now view.new }
+{
+    view.header_len = header.header_len;
+    view.timestamp = header.timestamp;
+    view.ssrc = header.ssrc.get();
+    view.csrc = header.csrc;
+    view.sequence_number = header.sequence_number;
+    view.payload_type = header.payload_type.get();
+    view.csrc_count = header.csrc_count as u8;
+    view.marker = flag_number(header.marker);
+    view.has_padding = flag_number(header.has_padding);
+    view.has_extension = flag_number(header.has_extension);
+    put_values(&header.ext_vals, &mut view.values);
 }

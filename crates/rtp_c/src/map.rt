@@ -1,14 +1,18 @@
 //! Which id means which extension.
 
-ghost use Rattle.std.specs.Prelude.{◌≡◌, length, slice_index, slice_index_or, None, EachIndex};
+ghost use Rattle.std.specs.Prelude.{◌≡◌, ◌≢◌, ◌↔◌, ◌⊎◌, ℕ, ◌+◌, ◌<◌, ◌≤◌, List, length, take, drop, slice_index, slice_set};
+ghost use Rattle.rtp_values.specs.declared.known_kind.KnownKind.{KnownKind};
 ghost use Rattle.rtp_ext.specs.KindsById.{slots_of};
-ghost use Rattle.rtp_c.specs.KindNumbers.{IsKindNumbered};
-ghost use Rattle.rtp_c.specs.KindsOfIds.{HasKinds};
+ghost use Rattle.rtp_c.specs.KindNumbers.{IsKindNumbered, kind_number, last_number, uri_of};
+ghost use Rattle.rtp_c.specs.KindsOfIds.{HasKinds, HasKindsTo, IsStandard};
+ghost use Rattle.rtp_c.specs.Status.{ok, bad_field};
 
+use super::status::{BAD_FIELD, OK};
 use rtp_ext::KindsById;
 use rtp_values::KnownKind;
+use std::str;
 
-/// The extensions by their ids (RFC 8285, 5): `rtp_map` in C, 256 bytes, which C fills itself. Each
+/// The extensions by their ids (RFC 8285, 5): `rtp_map` in C, 256 bytes, which C may fill itself. Each
 /// value is one: a number that is no kind's maps its id to nothing, and what stands at index 0 is
 /// passed over.
 #[repr(C)]
@@ -17,6 +21,12 @@ pub struct KindsOfIds {
     /// The number of the kind of each id.
     pub kind: [u8; 256],
 }
+
+// The greatest number of a kind.
+const LAST_NUMBER: u8 = 15;
+
+// How many ids are looked at at once.
+const WORD: usize = 8;
 
 // The kind of this number.
 fn kind_numbered(number: u8) -> Option<KnownKind>
@@ -42,14 +52,53 @@ fn kind_numbered(number: u8) -> Option<KnownKind>
     }
 }
 
-// Puts the kind of each number.
-fn put_kinds(numbers: &[u8], kinds: &mut [Option<KnownKind>])
-    requires { length numbers.now ≡ length kinds.old }
-    ensures { EachIndex numbers.now (λ i.
-        IsKindNumbered (slice_index numbers.now i) (slice_index_or kinds.new i None)) }
+// The number of the kind.
+fn number_of(kind: KnownKind) -> u8
+    ensures { result ≡ kind_number kind }
 {
-    for (index, number) in numbers.iter().enumerate() {
-        kinds[index] = kind_numbered(*number);
+    match kind {
+        KnownKind::AbsoluteSendTime => 1,
+        KnownKind::AbsoluteCaptureTime => 2,
+        KnownKind::AudioLevel => 3,
+        KnownKind::TransmissionTimeOffset => 4,
+        KnownKind::VideoOrientation => 5,
+        KnownKind::TransportSequenceNumber => 6,
+        KnownKind::PlayoutDelay => 7,
+        KnownKind::VideoContentType => 8,
+        KnownKind::VideoTiming => 9,
+        KnownKind::RtpStreamId => 10,
+        KnownKind::RepairedRtpStreamId => 11,
+        KnownKind::RtpMid => 12,
+        KnownKind::FrameMarking => 13,
+        KnownKind::ColorSpace => 14,
+        KnownKind::VideoLayersAllocation => 15,
+    }
+}
+
+// Maps the id to the kind of this number. The id 0 is passed over.
+fn put_kind(number: u8, id: u8, kinds: &mut KindsById)
+    ensures { (numbers : List ℕ) → id < length numbers → slice_index numbers id ≡ number →
+        HasKindsTo numbers id (slots_of kinds.old) → HasKindsTo numbers (id + 1) (slots_of kinds.new) }
+{
+    match kind_numbered(number) {
+        Some(kind) if id != 0 => kinds.set(id, Some(kind)),
+        _ => {}
+    }
+}
+
+// Maps the ids from this one on to the kinds of the numbers in a word. Few ids are mapped, so most
+// words are zeros.
+fn put_word(word: &[u8; WORD], first: usize, kinds: &mut KindsById)
+    requires { first + 8 ≤ 256 }
+    ensures { (numbers : List ℕ) → length numbers ≡ 256 → word.now ≡ take 8 (drop first numbers) →
+        HasKindsTo numbers first (slots_of kinds.old) →
+        HasKindsTo numbers (first + 8) (slots_of kinds.new) }
+{
+    if u64::from_ne_bytes(*word) == 0 {
+        return;
+    }
+    for (index, number) in word.iter().enumerate() {
+        put_kind(*number, (first + index) as u8, kinds);
     }
 }
 
@@ -57,7 +106,81 @@ fn put_kinds(numbers: &[u8], kinds: &mut [Option<KnownKind>])
 pub fn kinds_of(map: &KindsOfIds) -> KindsById
     ensures { HasKinds map.now.kind (slots_of result) }
 {
-    let mut kinds = [None; 256];
-    put_kinds(&map.kind, &mut kinds);
-    KindsById::new(kinds)
+    let mut kinds = KindsById::empty();
+    let mut rest = map.kind.as_slice();
+    let mut first = 0;
+    while let Some((word, after)) = rest.split_first_chunk::<WORD>() {
+        put_word(word, first, &mut kinds);
+        rest = after;
+        first += WORD;
+    }
+    kinds
+}
+
+/// Maps the id to the kind of this number, or to nothing where it is 0, instead of what it was mapped
+/// to (RFC 8285, 5). `OK`; `BAD_FIELD` where the id is 0, which is that of padding, or the number is
+/// above 15 and so no kind's: then nothing changes.
+#[unsafe(no_mangle)]
+pub extern "C" fn rtp_map_set(map: &mut KindsOfIds, id: u8, kind: u8) -> i32
+    ensures set { 1 ≤ id → kind ≤ last_number →
+        (result ≡ ok) × (map.new.kind ≡ slice_set map.old.kind id kind) }
+    ensures refused { (id ≡ 0) ⊎ (last_number < kind) → result ≡ bad_field }
+    ensures unchanged { result ≢ ok → map.new ≡ map.old }
+{
+    if id == 0 || kind > LAST_NUMBER {
+        return BAD_FIELD;
+    }
+    map.kind[usize::from(id)] = kind;
+    OK
+}
+
+/// The number of the kind that the id is mapped to, and 0 where it is mapped to nothing: where its
+/// number is no kind's, and always for the id 0.
+#[unsafe(no_mangle)]
+pub extern "C" fn rtp_map_get(map: &KindsOfIds, id: u8) -> u8
+    ensures number { 1 ≤ id → slice_index map.now.kind id ≤ last_number →
+        result ≡ slice_index map.now.kind id }
+    ensures other_number { last_number < slice_index map.now.kind id → result ≡ 0 }
+    ensures padding { id ≡ 0 → result ≡ 0 }
+{
+    let number = map.kind[usize::from(id)];
+    if id == 0 || number > LAST_NUMBER {
+        0
+    } else {
+        number
+    }
+}
+
+/// The usual ids of the usual extensions, for audio and video, and no others: 1 audio level, 2
+/// absolute send time, 3 transport sequence number, 4 mid, 10 stream id, 11 repaired stream id, 13
+/// video orientation.
+#[unsafe(no_mangle)]
+pub extern "C" fn rtp_map_standard(map: &mut KindsOfIds)
+    ensures { IsStandard map.new.kind }
+{
+    let mut numbers = [0; 256];
+    numbers[1] = number_of(KnownKind::AudioLevel);
+    numbers[2] = number_of(KnownKind::AbsoluteSendTime);
+    numbers[3] = number_of(KnownKind::TransportSequenceNumber);
+    numbers[4] = number_of(KnownKind::RtpMid);
+    numbers[10] = number_of(KnownKind::RtpStreamId);
+    numbers[11] = number_of(KnownKind::RepairedRtpStreamId);
+    numbers[13] = number_of(KnownKind::VideoOrientation);
+    map.kind = numbers;
+}
+
+/// The number of the kind that this URI names in SDP (`a=extmap`; RFC 8285, 5), and 0 where it names
+/// none that this library knows. Takes no memory.
+#[unsafe(no_mangle)]
+pub extern "C" fn rtp_kind_of_uri(uri: &[u8]) -> u8
+    ensures kind { (kind : KnownKind) → (result ≡ kind_number kind) ↔ (uri_of kind ≡ uri.now) }
+    ensures none { (result ≡ 0) ↔ ((kind : KnownKind) → uri_of kind ≢ uri.now) }
+{
+    match str::from_utf8(uri) {
+        Ok(text) => match KnownKind::from_uri(text) {
+            Some(kind) => number_of(kind),
+            None => 0,
+        },
+        Err(_) => 0,
+    }
 }

@@ -48,7 +48,7 @@ pub struct PacketView {
 }
 
 // A flag as a number.
-fn flag_number(is_set: bool) -> u8
+pub fn flag_number(is_set: bool) -> u8
     ensures { result ≡ bit is_set }
 {
     if is_set { 1 } else { 0 }

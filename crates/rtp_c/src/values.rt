@@ -1,18 +1,20 @@
 //! The values of a block's elements.
 
 ghost use Rattle.std.specs.Prelude.{◌≡◌, ◌≢◌, ◌⊎◌, Some};
-ghost use Rattle.std.specs.Option.{option_map, option_and_then};
-ghost use Rattle.rtp_base.specs.Flag.{bit};
 ghost use Rattle.rtp_ext.specs.declared.ext.form.ExtensionsForm.{ExtensionsForm};
 ghost use Rattle.rtp_c.specs.Status.{ok, bad_field, no_memory};
 ghost use Rattle.rtp_c.specs.PacketView.{form_number};
-ghost use Rattle.rtp_c.specs.Held.{IsHeld, IsHeldSigned, degrees_of};
 ghost use Rattle.rtp_c.specs.ValuesView.{IsViewOfValues, IsReadAs, TakesMemoryIn};
 
 use super::elements::form_of;
+use super::held::{
+    capture_offset, capture_time, held, held_flag, held_mid, held_orientation, held_rid, held_time,
+    held_timing,
+};
 use super::map::{KindsOfIds, kinds_of};
+use super::packet::flag_number;
 use super::status::{BAD_FIELD, NO_MEMORY, OK};
-use rtp_values::{AbsCaptureTime, ExtensionValues, VideoOrientation};
+use rtp_values::ExtensionValues;
 use std::alloc::Global;
 
 /// A time as a number of ticks of a clock: `rtp_time` in C, 16 bytes. It is `ticks / hertz` seconds.
@@ -92,153 +94,35 @@ pub struct ValuesView {
     pub has_layers: u8,
 }
 
-fn held_u8(value: Option<u8>) -> (u8, u8)
-    ensures { IsHeld result.0 result.1 value }
+// Puts what C is told of the values.
+pub fn put_values(values: &ExtensionValues, view: &mut ValuesView)
+    ensures { IsViewOfValues values.now view.new }
 {
-    match value {
-        Some(value) => (1, value),
-        None => (0, 0),
-    }
-}
-
-fn held_u16(value: Option<u16>) -> (u8, u16)
-    ensures { IsHeld result.0 result.1 value }
-{
-    match value {
-        Some(value) => (1, value),
-        None => (0, 0),
-    }
-}
-
-fn held_u32(value: Option<u32>) -> (u8, u32)
-    ensures { IsHeld result.0 result.1 value }
-{
-    match value {
-        Some(value) => (1, value),
-        None => (0, 0),
-    }
-}
-
-fn held_u64(value: Option<u64>) -> (u8, u64)
-    ensures { IsHeld result.0 result.1 value }
-{
-    match value {
-        Some(value) => (1, value),
-        None => (0, 0),
-    }
-}
-
-fn held_i8(value: Option<i8>) -> (u8, i8)
-    ensures { IsHeldSigned result.0 result.1 value }
-{
-    match value {
-        Some(value) => (1, value),
-        None => (0, 0),
-    }
-}
-
-fn held_i64(value: Option<i64>) -> (u8, i64)
-    ensures { IsHeldSigned result.0 result.1 value }
-{
-    match value {
-        Some(value) => (1, value),
-        None => (0, 0),
-    }
-}
-
-fn held_flag(value: Option<bool>) -> (u8, u8)
-    ensures { IsHeld result.0 result.1 (option_map bit value) }
-{
-    match value {
-        Some(true) => (1, 1),
-        Some(false) => (1, 0),
-        None => (0, 0),
-    }
-}
-
-fn held_orientation(value: Option<VideoOrientation>) -> (u8, u16)
-    ensures { IsHeld result.0 result.1 (option_map degrees_of value) }
-{
-    match value {
-        Some(VideoOrientation::Deg0) => (1, 0),
-        Some(VideoOrientation::Deg90) => (1, 90),
-        Some(VideoOrientation::Deg180) => (1, 180),
-        Some(VideoOrientation::Deg270) => (1, 270),
-        None => (0, 0),
-    }
-}
-
-fn capture_time_of(value: Option<AbsCaptureTime>) -> Option<u64>
-    ensures { result ≡ option_map (λ time. time.capture_time) value }
-{
-    match value {
-        Some(time) => Some(time.capture_time),
-        None => None,
-    }
-}
-
-fn capture_offset_of(value: Option<AbsCaptureTime>) -> Option<i64>
-    ensures { result ≡ option_and_then (λ time. time.clock_offset) value }
-{
-    match value {
-        Some(time) => time.clock_offset,
-        None => None,
-    }
-}
-
-// What C is told of the values.
-fn view_of_values(values: &ExtensionValues) -> ValuesView
-    ensures { IsViewOfValues values.now result }
-{
-    let (has_send_time, send_time) = held_u64(values.abs_send_time);
-    let (has_capture_time, capture_time) = held_u64(capture_time_of(values.abs_capture_time));
-    let (has_capture_offset, capture_offset) = held_i64(capture_offset_of(values.abs_capture_time));
-    let (has_transmission_offset, transmission_offset) = held_u32(values.tx_time_offs);
-    let (has_frame_marking, frame_marking) = held_u32(values.frame_mark);
-    let (has_transport_number, transport_number) = held_u16(values.transport_cc);
-    let (has_video_orientation, video_orientation) = held_orientation(values.video_orientation);
-    let (has_video_content_type, video_content_type) = held_u8(values.video_content_type);
-    let (has_audio_level, audio_level) = held_i8(values.audio_level);
-    let (has_voice_activity, voice_activity) = held_flag(values.voice_activity);
-    ValuesView {
-        send_time,
-        capture_time,
-        capture_offset,
-        playout_delay_min: Time { ticks: 0, hertz: 0 },
-        playout_delay_max: Time { ticks: 0, hertz: 0 },
-        transmission_offset,
-        frame_marking,
-        transport_number,
-        video_orientation,
-        encode_start: 0,
-        encode_finish: 0,
-        packetize_complete: 0,
-        last_left_pacer: 0,
-        timing_flags: 0,
-        video_content_type,
-        audio_level,
-        voice_activity,
-        mid: [0; 17],
-        rid: [0; 9],
-        repaired_rid: [0; 9],
-        has_send_time,
-        has_capture_time,
-        has_capture_offset,
-        has_transmission_offset,
-        has_frame_marking,
-        has_transport_number,
-        has_video_orientation,
-        has_video_content_type,
-        has_audio_level,
-        has_voice_activity,
-        has_playout_delay_min: 0,
-        has_playout_delay_max: 0,
-        has_video_timing: 0,
-        has_mid: 0,
-        has_rid: 0,
-        has_repaired_rid: 0,
-        has_layers: 0,
-    }
+    (view.has_send_time, view.send_time) = held(values.abs_send_time);
+    (view.has_capture_time, view.capture_time) = held(capture_time(values.abs_capture_time));
+    (view.has_capture_offset, view.capture_offset) = held(capture_offset(values.abs_capture_time));
+    (view.has_playout_delay_min, view.playout_delay_min) = held_time(values.play_delay_min);
+    (view.has_playout_delay_max, view.playout_delay_max) = held_time(values.play_delay_max);
+    (view.has_transmission_offset, view.transmission_offset) = held(values.tx_time_offs);
+    (view.has_frame_marking, view.frame_marking) = held(values.frame_mark);
+    (view.has_transport_number, view.transport_number) = held(values.transport_cc);
+    (view.has_video_orientation, view.video_orientation) = held_orientation(
+        values.video_orientation,
+    );
+    (view.has_video_content_type, view.video_content_type) = held(values.video_content_type);
+    (view.has_audio_level, view.audio_level) = held(values.audio_level);
+    (view.has_voice_activity, view.voice_activity) = held_flag(values.voice_activity);
+    (view.has_mid, view.mid) = held_mid(values.mid);
+    (view.has_rid, view.rid) = held_rid(values.rid);
+    (view.has_repaired_rid, view.repaired_rid) = held_rid(values.rid_repair);
+    view.has_layers = flag_number(values.video_layers_allocation.is_some());
+    let (has_video_timing, timing) = held_timing(values.video_timing);
+    view.has_video_timing = has_video_timing;
+    view.timing_flags = timing.flags;
+    view.encode_start = timing.encode_start;
+    view.encode_finish = timing.encode_finish;
+    view.packetize_complete = timing.packetize_complete;
+    view.last_left_pacer = timing.last_left_pacer;
 }
 
 /// Reads the values that the elements of a block's body give under the map (RFC 8285, 4.2 and 4.3).
@@ -268,7 +152,7 @@ pub extern "C" fn rtp_values_read(
     let mut read = ExtensionValues::default();
     match kinds.parse(alloc, body, form, &mut read) {
         Ok(_) => {
-            *values = view_of_values(&read);
+            put_values(&read, values);
             OK
         }
         Err(_) => NO_MEMORY,

@@ -95,7 +95,7 @@ unfolding without_padding
 without_padding-zero byte bytes after first is = ap without_padding (first.0 ∙ ap (λ b. b ∷ after) is)
 
 -- words of 16 bytes: where the number is 0, each byte is
-sum_through-zero : (f : ℕ → ℕ) (last i : ℕ) → sum_through f last ≡ 0 → i ≤ last → f i ≡ 0
+pub sum_through-zero : (f : ℕ → ℕ) (last i : ℕ) → sum_through f last ≡ 0 → i ≤ last → f i ≡ 0
 sum_through-zero f zero zero is within = is
 sum_through-zero f zero (suc i) is within = absurd (omega arith)
 sum_through-zero f (suc last) i is within = elim (cases_lt i (suc last)) [
@@ -103,7 +103,7 @@ sum_through-zero f (suc last) i is within = elim (cases_lt i (suc last)) [
   | inr here ↦ let same : i ≡ suc last = omega arith in ap f same ∙ omega arith
 ]
 
-byte_worth-zero : (i byte : ℕ) → byte_worth i byte ≡ 0 → byte ≡ 0
+pub byte_worth-zero : (i byte : ℕ) → byte_worth i byte ≡ 0 → byte ≡ 0
 byte_worth-zero zero byte is = is
 byte_worth-zero (suc i) byte is =
     let above : 1 ≤ 256 ^ suc i = one-le-pow (suc i) 256 (omega arith) in

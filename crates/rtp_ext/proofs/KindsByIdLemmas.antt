@@ -24,24 +24,25 @@ use Rattle.rtp_ext.proofs.MappedIdLemmas.{ids_from}
 -- ---- the table
 
 -- the entry of an id
-entry_at-kinds : (kinds : List (Option KnownKind)) (k : ℕ) → entry_at (slots_of kinds) (suc k) ≡ entry_of_kind (get_or kinds (suc k) None)
+pub entry_at-kinds : (kinds : List (Option KnownKind)) (k : ℕ) → entry_at (slots_of kinds) (suc k) ≡ entry_of_kind (get_or kinds (suc k) None)
 entry_at-kinds [] k = refl
 entry_at-kinds (kind ∷ kinds) k = get_or-map entry_of_kind kinds k None
 
 -- one kind is set
-pub slots_of-set : (kinds new : List (Option KnownKind)) (id : ℕ) (kind : Option KnownKind) → slots_of new ≡ slots_of (set kinds id kind)
-    → id < length kinds → IsId id → entry_at (slots_of new) id ≡ entry_of_kind kind
-slots_of-set kinds new zero kind is within is_id = absurd (omega (arith, is_id.0))
-slots_of-set kinds new (suc k) kind is within is_id =
-    ap (λ (slots : Slots). entry_at slots (suc k)) is ∙ entry_at-kinds (set kinds (suc k) kind) k
+pub slots_of-set : (kinds : List (Option KnownKind)) (at id : ℕ) (kind : Option KnownKind) → at ≡ id → id < length kinds → IsId id
+    → entry_at (slots_of (set kinds at kind)) id ≡ entry_of_kind kind
+slots_of-set kinds at zero kind is within is_id = absurd (omega (arith, is_id.0))
+slots_of-set kinds at (suc k) kind is within is_id =
+    ap (λ (n : ℕ). entry_at (slots_of (set kinds n kind)) (suc k)) is ∙ entry_at-kinds (set kinds (suc k) kind) k
     ∙ ap entry_of_kind (get_or-set_same kinds (suc k) kind None within)
 
-pub slots_of-set_others : (kinds new : List (Option KnownKind)) (id : ℕ) (kind : Option KnownKind) → slots_of new ≡ slots_of (set kinds id kind)
-    → (k : ℕ) → k ≢ id → entry_at (slots_of new) k ≡ entry_at (slots_of kinds) k
-slots_of-set_others kinds new id kind is zero other = refl
-slots_of-set_others kinds new id kind is (suc k) other =
-    ap (λ (slots : Slots). entry_at slots (suc k)) is ∙ entry_at-kinds (set kinds id kind) k
+pub slots_of-set_others : (kinds old : List (Option KnownKind)) (at id : ℕ) (kind : Option KnownKind) → at ≡ id → kinds ≡ old
+    → (k : ℕ) → k ≢ id → entry_at (slots_of (set kinds at kind)) k ≡ entry_at (slots_of old) k
+slots_of-set_others kinds old at id kind is shows zero other = refl
+slots_of-set_others kinds old at id kind is shows (suc k) other =
+    ap (λ (n : ℕ). entry_at (slots_of (set kinds n kind)) (suc k)) is ∙ entry_at-kinds (set kinds id kind) k
     ∙ ap entry_of_kind (get_or-set_other kinds id (suc k) kind None other) ∙ sym (entry_at-kinds kinds k)
+    ∙ ap (λ (ks : List (Option KnownKind)). entry_at (slots_of ks) (suc k)) shows
 
 -- the slots are the old ones, except for that of the id
 pub slots_of-put : (kinds : List (Option KnownKind)) (id : ℕ) (kind : Option KnownKind) → IsId id
@@ -51,6 +52,12 @@ slots_of-put [] (suc k) kind is_id = refl
 slots_of-put (first ∷ kinds) (suc k) kind is_id =
     let index : k ≡ suc k - 1 = omega arith in
     map-set entry_of_kind kinds k kind ∙ ap (λ (i : ℕ). set (map entry_of_kind kinds) i (entry_of_kind kind)) index
+
+pub slots_of-set_slots : (kinds old : List (Option KnownKind)) (at id : ℕ) (kind : Option KnownKind) → at ≡ id → kinds ≡ old → IsId id
+    → slots_of (set kinds at kind) ≡ set (slots_of old) (id - 1) (entry_of_kind kind)
+slots_of-set_slots kinds old at id kind is shows is_id =
+    ap (λ (n : ℕ). slots_of (set kinds n kind)) is ∙ slots_of-put kinds id kind is_id
+    ∙ ap (λ (ks : List (Option KnownKind)). set (slots_of ks) (id - 1) (entry_of_kind kind)) shows
 
 -- no kind is there
 none_at : (n k : ℕ) → get_or (map entry_of_kind (replicate n None)) k None ≡ None

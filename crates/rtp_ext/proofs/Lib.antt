@@ -14,10 +14,13 @@ mod MapLemmas
 pub mod ListingLemmas
 mod MappedIdLemmas
 mod RisingIdLemmas
+mod PaddedIdLemmas
 mod ShortBlockLemmas
-mod KindsByIdLemmas
+pub mod KindsByIdLemmas
+mod LowestKindLemmas
+mod TableLemmas
 mod FormLemmas
-mod KnownItemsLemmas
+pub mod KnownItemsLemmas
 pub mod WrittenBlockLemmas
 pub mod WrittenElementsLemmas
 mod WrittenValuesLemmas

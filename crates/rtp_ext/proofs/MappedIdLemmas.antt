@@ -95,7 +95,7 @@ inserted-first id (item ∷ items) above =
     let less : id ≤ item.0 = omega (arith, All-head (λ i. id < i.0) item items above) in
     rw (le-ltb item.0 id less) refl
 
-inserted-later : (id first : ℕ) (ids : List ℕ) → first < id → inserted id (first ∷ ids) ≡ first ∷ inserted id ids
+pub inserted-later : (id first : ℕ) (ids : List ℕ) → first < id → inserted id (first ∷ ids) ≡ first ∷ inserted id ids
 inserted-later id first ids less = rw (lt-ltb first id less) refl
 
 -- an entry in an empty slot inserts its id
@@ -118,7 +118,7 @@ ids_from-set passed (Some old ∷ left) (suc k) entry here none =
     ∙ ap (λ (id : ℕ). inserted id (ids_of (items_from (passed + 1) left))) index)
     ∙ sym (inserted-later (passed + suc k + 1) (passed + 1) (ids_of (items_from (passed + 1) left)) (omega arith))
 
-mapped_ids-set : (slots : Slots) (k id : ℕ) (entry : Entry) → k + 1 ≡ id → k < length slots → get_or slots k None ≡ None
+pub mapped_ids-set : (slots : Slots) (k id : ℕ) (entry : Entry) → k + 1 ≡ id → k < length slots → get_or slots k None ≡ None
     → mapped_ids (set slots k (Some entry)) ≡ inserted id (mapped_ids slots)
 mapped_ids-set slots k id entry is here none =
     let index : 0 + k + 1 ≡ id = omega (arith, is) in
@@ -144,7 +144,7 @@ length-ids passed [] = omega arith
 length-ids passed (None ∷ left) = omega (arith, length-ids (passed + 1) left)
 length-ids passed (Some entry ∷ left) = omega (arith, length-ids (passed + 1) left)
 
-fewer_ids : (passed : ℕ) (left : Slots) (k : ℕ) → k < length left → get_or left k None ≡ None → length (ids_of (items_from passed left)) < length left
+pub fewer_ids : (passed : ℕ) (left : Slots) (k : ℕ) → k < length left → get_or left k None ≡ None → length (ids_of (items_from passed left)) < length left
 fewer_ids passed [] k here none = absurd (omega (arith, here))
 fewer_ids passed (None ∷ left) k here none = omega (arith, length-ids (passed + 1) left)
 fewer_ids passed (Some entry ∷ left) zero here none = cc

@@ -1,16 +1,16 @@
 -- The ids that elements have under another map, and what a form can carry of them.
-use Rattle.std.proofs.Common.{◌≡◌, ℕ, zero, suc, ◌≤◌, ◌<◌, List, [], ◌∷◌, length, Bool, true, false, ◌&&◌, Option, Some, None, IfSome, All, ◌+◌, get_or, set, length-set, ◌↔◌, inl, inr, IsTrue, arith, refl, sym, ap, ◌∙◌, subst}
+use Rattle.std.proofs.Common.{◌≡◌, ℕ, zero, suc, ◌≤◌, ◌<◌, List, [], ◌∷◌, length, Bool, true, false, ◌&&◌, Option, Some, None, IfSome, All, ◌+◌, get_or, set, map, drop, length-set, nat_le, ◌↔◌, inl, inr, IsTrue, arith, refl, sym, ap, ◌∙◌, subst}
 use Rattle.std.specs.List.{AllByRecursion, filter_map, list_all}
 use Rattle.std.proofs.lemmas.Bool.{leb-true, le-leb, false≢true, cases_lt}
-use Rattle.std.proofs.lemmas.List.{get_or_past, get_or-set_same, get_or-set_other}
-use Rattle.std.specs.Option.{ForSome}
+use Rattle.std.proofs.Math.ListN.{get_or-map}
+use Rattle.std.proofs.lemmas.List.{get_or_past, get_or-set_same, get_or-set_other, map-set, length-map}
 use Rattle.std.proofs.lemmas.List.Elements.{All-nil, All-cons, All-head, All-tail}
 use Rattle.rtp_ext.specs.declared.ext.form.ExtensionsForm.{ExtensionsForm}
 use Rattle.rtp_ext.specs.declared.ext.form.ExtensionsForm.TheVariants.{OneByte, TwoByte}
 use Rattle.rtp_ext.specs.Elements.{Element, IsElement, IsPiece, AreElements}
 use Rattle.rtp_ext.specs.ElementsInPlace.{CanRenumber}
 use Rattle.rtp_ext.specs.ExtensionMap.{Slots, IsId, entry_at, extension_of, HasNoIdAbove}
-use Rattle.rtp_ext.specs.NewIds.{new_id, IsNewId, AreNewIds}
+use Rattle.rtp_ext.specs.NewIds.{new_id, IsNewId, AreNewIds, id_in_byte, ids_in_bytes, byte_of_id}
 use Rattle.rtp_ext.specs.IdChanges.{carries_id}
 
 -- ---- what a form can carry
@@ -82,16 +82,6 @@ HasNoIdAbove-length slots long = λ id above. past slots id long above
     past slots zero long above = absurd (omega arith)
     past slots (suc k) long above = get_or_past slots k None (omega arith)
 
--- each new id of a table is one that an element can have
-pub IsId-table : (ids : List (Option ℕ)) (id new : ℕ) → All (λ slot. ForSome slot IsId) ids → new_id ids id ≡ Some new → IsId new
-IsId-table ids id new all is = elim (cases_lt id (length ids)) [
-  | inl below ↦ all id None below new is
-  | inr above ↦ absurd (none_some (get_or_past ids id None above) is)
-]
-  where
-    none_some : {X : Type 0} {slot : Option X} {x : X} → slot ≡ None → slot ≡ Some x → ⊥
-    none_some empty filled = cc
-
 -- the ids below an id have their new ids in the table
 pub record HasNewIdsTo (from to : Slots) (ids : List (Option ℕ)) (passed : ℕ) : Type 0 where
   pub long : length ids ≡ 256
@@ -125,9 +115,6 @@ HasNewIdsTo-next from to ids passed new within was is valid no_others = record {
   valid = λ id e below. set_each (λ k slot. IfSome slot IsId) ids passed new (omega (arith, was.long)) (λ k d here. was.valid k d here) valid id e below;
 }
 
-pub HasNewIdsTo-valid : (from to : Slots) (ids : List (Option ℕ)) (passed : ℕ) → 256 ≤ passed → HasNewIdsTo from to ids passed → All (λ slot. ForSome slot IsId) ids
-HasNewIdsTo-valid from to ids passed whole are = λ k d here x is. subst (λ id. IfSome id IsId) is (are.valid k d (omega (arith, are.long)))
-
 -- a table of the new ids from 0 on has the new id of each
 pub AreNewIds-table : (from to : Slots) (ids : List (Option ℕ)) (passed : ℕ) → 256 ≤ passed → HasNewIdsTo from to ids passed → AreNewIds from to ids
 AreNewIds-table from to ids passed whole are = λ id. elim (cases_lt id 256) [
@@ -138,3 +125,83 @@ AreNewIds-table from to ids passed whole are = λ id. elim (cases_lt id 256) [
   where
     unmapped : {X : Type 0} {slot : Option X} {x : X} → slot ≡ None → slot ≡ Some x → ⊥
     unmapped empty filled = cc
+
+-- ---- a table of bytes
+
+pub new_id-byte : (bytes : List ℕ) (id : ℕ) → new_id (map id_in_byte bytes) id ≡ id_in_byte (get_or bytes id 0)
+new_id-byte bytes id = get_or-map id_in_byte bytes id 0
+
+-- the form can carry what the byte says
+pub carried_byte : (byte : ℕ) → nat_le byte 14 ≡ carries_id OneByte (id_in_byte byte)
+carried_byte zero = refl
+carried_byte (suc k) = refl
+
+-- what a byte says is an id
+one : {X : Type 0} {a b : X} → Some a ≡ Some b → a ≡ b
+one same = cc
+
+IsId-byte : (byte new : ℕ) → byte < 256 → id_in_byte byte ≡ Some new → IsId new
+IsId-byte zero new below is = cc
+IsId-byte (suc k) new below is = let same : suc k ≡ new = one is in (omega arith, omega arith)
+
+pub IsId-bytes : (bytes : List ℕ) (id new : ℕ) → ((i : ℕ) → get_or bytes i 0 < 256) → new_id (map id_in_byte bytes) id ≡ Some new → IsId new
+IsId-bytes bytes id new below is = IsId-byte (get_or bytes id 0) new (below id) (sym (new_id-byte bytes id) ∙ is)
+
+-- the first byte is passed over
+pub ids_in_bytes-after : (bytes after : List ℕ) → length bytes ≡ 256 → after ≡ drop 1 bytes → None ∷ map id_in_byte after ≡ ids_in_bytes bytes
+ids_in_bytes-after [] after long is = absurd (omega (arith, long))
+ids_in_bytes-after (first ∷ bytes) after long is = ap (λ (left : List ℕ). None ∷ map id_in_byte left) is
+
+pub table_after : (bytes after : List ℕ) → length bytes ≡ 256 → after ≡ drop 1 bytes → ((i : ℕ) → get_or bytes i 0 < 256)
+    → (length (0 ∷ after) ≡ 256) × (get_or (0 ∷ after) 0 0 ≡ 0) × ((id : ℕ) → get_or (0 ∷ after) id 0 < 256)
+table_after [] after long is below = absurd (omega (arith, long))
+table_after (first ∷ bytes) after long is below = (ap (λ (left : List ℕ). suc (length left)) is ∙ long, refl, each)
+  where
+    each : (id : ℕ) → get_or (0 ∷ after) id 0 < 256
+    each zero = omega arith
+    each (suc k) = subst (λ (left : List ℕ). get_or left k 0 < 256) (sym is) (below (suc k))
+
+pub ids_in_bytes-zero : (bytes : List ℕ) → get_or bytes 0 0 ≡ 0 → ids_in_bytes bytes ≡ map id_in_byte bytes
+ids_in_bytes-zero [] is = refl
+ids_in_bytes-zero (first ∷ bytes) is = ap (λ (id : Option ℕ). id ∷ map id_in_byte bytes) (sym (ap id_in_byte is))
+
+-- the ids below an id have their new ids in a table of bytes
+abbrev pub HasNewBytesTo : Slots → Slots → List ℕ → ℕ → Type 0
+HasNewBytesTo from to bytes passed = HasNewIdsTo from to (map id_in_byte bytes) passed
+
+pub HasNewBytesTo-start : (from to : Slots) (bytes : List ℕ) → length bytes ≡ 256 → HasNewBytesTo from to bytes 0
+HasNewBytesTo-start from to bytes long = HasNewIdsTo-start from to (map id_in_byte bytes) (length-map bytes id_in_byte ∙ long)
+
+byte_said : (new : Option ℕ) → IfSome new IsId → id_in_byte (byte_of_id new) ≡ new
+byte_said None valid = refl
+byte_said (Some zero) valid = absurd (omega (arith, valid.0))
+byte_said (Some (suc k)) valid = refl
+
+pub HasNewBytesTo-next : (from to : Slots) (bytes : List ℕ) (passed : ℕ) (new : Option ℕ) → passed < 256 → HasNewBytesTo from to bytes passed
+    → IsNewId from to passed new → IfSome new IsId → HasNoIdAbove 255 from → HasNewBytesTo from to (set bytes passed (byte_of_id new)) (passed + 1)
+HasNewBytesTo-next from to bytes passed new within was is valid no_others =
+    subst (λ (ids : List (Option ℕ)). HasNewIdsTo from to ids (passed + 1))
+    (sym (map-set id_in_byte bytes passed (byte_of_id new) ∙ ap (set (map id_in_byte bytes) passed) (byte_said new valid)))
+    (HasNewIdsTo-next from to (map id_in_byte bytes) passed new within was is valid no_others)
+
+first_byte : (from to : Slots) (byte : ℕ) → IsNewId from to 0 (id_in_byte byte) → byte ≡ 0
+first_byte from to zero is = refl
+first_byte from to (suc k) is = let found = is.1 in cc
+
+byte_below : (byte : ℕ) → IfSome (id_in_byte byte) IsId → byte < 256
+byte_below zero valid = omega arith
+byte_below (suc k) valid = let below : suc k ≤ 255 = valid.1 in omega arith
+
+pub HasNewBytesTo-table : (from to : Slots) (bytes : List ℕ) (passed : ℕ) → 256 ≤ passed → HasNewBytesTo from to bytes passed
+    → (length bytes ≡ 256) × (get_or bytes 0 0 ≡ 0) × ((id : ℕ) → get_or bytes id 0 < 256)
+HasNewBytesTo-table from to bytes passed whole are = (
+  long,
+  first_byte from to (get_or bytes 0 0) (subst (IsNewId from to 0) (new_id-byte bytes 0) (are.new 0 None (omega arith))),
+  λ id. elim (cases_lt id 256) [
+    | inl below ↦ byte_below (get_or bytes id 0) (subst (λ (new : Option ℕ). IfSome new IsId) (new_id-byte bytes id) (are.valid id None (omega arith)))
+    | inr above ↦ subst (λ (byte : ℕ). byte < 256) (sym (get_or_past bytes id 0 (omega (arith, long)))) (omega arith)
+  ],
+)
+  where
+    long : length bytes ≡ 256
+    long = sym (length-map bytes id_in_byte) ∙ are.long

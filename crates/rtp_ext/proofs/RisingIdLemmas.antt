@@ -1,10 +1,12 @@
 -- The mapped ids rise, so the last of them is the greatest.
-use Rattle.std.proofs.Common.{◌≡◌, ℕ, suc, zero, ◌+◌, ◌-◌, ◌<◌, ◌≤◌, List, [], ◌∷◌, length, map, Bool, true, false, Some, None, refl, sym, ap, ◌∙◌, arith, ⊎_elim, lt-ltb, le-ltb}
+use Rattle.std.proofs.Common.{◌≡◌, ℕ, suc, zero, ◌+◌, ◌-◌, ◌<◌, ◌≤◌, List, [], ◌∷◌, ◌++◌, length, map, Bool, true, false, Some, None, refl, sym, ap, ◌∙◌, arith, ⊎_elim, lt-ltb, le-ltb}
 use Rattle.std.specs.Prelude.{◌||◌, nat_lt, slice_get}
 use Rattle.std.specs.List.{list_any}
-use Rattle.std.proofs.lemmas.Bool.{cases_lt}
+use Rattle.std.proofs.lemmas.Bool.{cases_lt, or_parts}
 use Rattle.rtp_ext.specs.ExtensionMap.{Slots, items_from}
-use Rattle.rtp_ext.specs.MapSlots.{mapped_ids, RiseAbove}
+use Rattle.rtp_ext.specs.MapSlots.{mapped_ids, inserted, RiseAbove}
+use Rattle.rtp_ext.proofs.FormLemmas.{at_most}
+use Rattle.rtp_ext.proofs.MappedIdLemmas.{inserted-later}
 
 -- ids that rise above one rise above every lower one
 rise-lower : (low high : ℕ) (ids : List ℕ) → low ≤ high → RiseAbove high ids → RiseAbove low ids
@@ -68,3 +70,23 @@ none_above greatest (id ∷ ids) at =
     item_there : {A : Type 0} (id : ℕ) (ids : List ℕ) → None ≡ slice_get (id ∷ ids) (length ids) → A
     item_there id [] at = cc
     item_there id (next ∷ ids) at = item_there next ids at
+
+-- an id that none is above stands last
+pub inserted_last : (id low : ℕ) (ids : List ℕ) → RiseAbove low ids → list_any (nat_lt id) ids ≡ false → inserted id ids ≡ ids ++ id ∷ []
+inserted_last id low [] rise none = refl
+inserted_last id low (first ∷ []) rise none =
+    ⊎_elim
+    (λ less. inserted-later id first [] less)
+    (λ not_less. let same : first ≡ id = omega (arith, not_less, at_most id first (or_parts (nat_lt id first) _ none).0) in in_front not_less ∙ exchanged same)
+    (cases_lt first id)
+  where
+    in_front : id ≤ first → inserted id (first ∷ []) ≡ id ∷ first ∷ []
+    in_front not_less = rw (le-ltb first id not_less) refl
+
+    exchanged : first ≡ id → id ∷ first ∷ [] ≡ first ∷ id ∷ []
+    exchanged same = ap (λ (n : ℕ). n ∷ first ∷ []) (sym same) ∙ ap (λ (n : ℕ). first ∷ n ∷ []) same
+inserted_last id low (first ∷ next ∷ ids) rise none =
+    let others = or_parts (nat_lt id first) _ none in
+    let below : next ≤ id = at_most id next (or_parts (nat_lt id next) _ others.1).0 in
+    inserted-later id first (next ∷ ids) (omega (arith, rise.1.0, below))
+    ∙ ap (λ (rest : List ℕ). first ∷ rest) (inserted_last id first (next ∷ ids) rise.1 others.1)

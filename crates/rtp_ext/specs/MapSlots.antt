@@ -1,7 +1,8 @@
 -- The slots of a map as the code goes through them: that of id 1 is index 0.
-use Rattle.std.specs.Prelude.{◌≡◌, ◌≢◌, ℕ, ◌<◌, nat_lt, if◌then◌else◌, List, [], ◌∷◌, length, map, Option, Some, None, slice_index_or}
+use Rattle.std.specs.Prelude.{◌≡◌, ◌≢◌, ℕ, ◌-◌, ◌<◌, ◌≤◌, nat_lt, if◌then◌else◌, List, [], ◌∷◌, ◌++◌, length, map, take, drop, replicate, Option, Some, None, slice_index_or}
 use Rattle.std.specs.Option.{option_map}
 use Rattle.std.specs.List.{filter_map}
+use Rattle.std.proofs.Common.{sym, ap, ◌∙◌, length-take-le, take-append-drop}
 use Rattle.rtp_values.specs.declared.kind.Extension.{Extension}
 use Rattle.rtp_ext.specs.declared.ext.slot.Mapping.{Mapping}
 use Rattle.rtp_ext.specs.declared.ext.slot.Mapping.TheVariants as mapping
@@ -40,3 +41,17 @@ inserted id (first ∷ ids) = if nat_lt first id then first ∷ inserted id ids 
 -- the extensions of some ids, each with its id
 abbrev pub items_at : Slots → List ℕ → List (ℕ × Extension)
 items_at slots ids = filter_map (λ id. option_map (λ extension. (id, extension)) (extension_at slots id)) ids
+
+-- some ids, and zeros for those of the 255 that are left
+abbrev pub padded : List ℕ → List ℕ
+padded ids = ids ++ replicate (255 - length ids) 0
+
+-- For the prover: a list that is zeros from a place on is the padded list of what stands before.
+pub padded-front : (ids : List ℕ) (count : ℕ) → count ≤ length ids → drop count ids ≡ replicate (255 - count) 0 → padded (take count ids) ≡ ids
+padded-front ids count within zeros =
+    ap (λ (n : ℕ). take count ids ++ replicate (255 - n) 0) (length-take-le count ids within)
+    ∙ ap (λ (left : List ℕ). take count ids ++ left) (sym zeros)
+    ∙ take-append-drop count ids
+
+pub length-front : (ids : List ℕ) (count : ℕ) → count ≤ length ids → length (take count ids) ≡ count
+length-front ids count within = length-take-le count ids within

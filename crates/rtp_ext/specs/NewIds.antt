@@ -1,6 +1,9 @@
 -- The ids that elements have under another map (RFC 8285, 5).
-use Rattle.std.specs.Prelude.{◌≡◌, ℕ, List, Option, Some, None, slice_index_or}
+use Rattle.std.specs.Prelude.{◌≡◌, ◌≢◌, ℕ, zero, suc, ◌<◌, List, [], ◌∷◌, length, map, Option, Some, None, slice_index_or}
+use Rattle.std.specs.Option.{unwrap_or}
+use Rattle.std.proofs.Common.{refl, ap}
 use Rattle.rtp_values.specs.declared.kind.Extension.{Extension}
+use Rattle.rtp_values.specs.declared.known_kind.KnownKind.{KnownKind}
 use Rattle.rtp_ext.specs.ExtensionMap.{Slots, extension_at, IsUnmapped, IsLowest}
 
 -- the new id that a table has for an id
@@ -15,3 +18,29 @@ IsNewId from to id (Some new) = (extension : Extension) × (extension_at from id
 -- the table has the new id of each id
 abbrev pub AreNewIds : Slots → Slots → List (Option ℕ) → Type 0
 AreNewIds from to ids = (id : ℕ) → IsNewId from to id (new_id ids id)
+
+-- the new id that a byte of a table says, and none where it is 0, which is the id of no extension
+abbrev pub id_in_byte : ℕ → Option ℕ
+id_in_byte zero = None
+id_in_byte (suc k) = Some (suc k)
+
+-- the new ids that a table of bytes says; the first byte, that of the id 0, is passed over
+abbrev pub ids_in_bytes : List ℕ → List (Option ℕ)
+ids_in_bytes [] = []
+ids_in_bytes (first ∷ bytes) = None ∷ map id_in_byte bytes
+
+-- the byte that says a new id
+abbrev pub byte_of_id : Option ℕ → ℕ
+byte_of_id id = unwrap_or id 0
+
+-- For the prover: the bytes of the new ids that bytes say are these bytes.
+pub bytes_back : (bytes : List ℕ) → map byte_of_id (map id_in_byte bytes) ≡ bytes
+bytes_back [] = refl
+bytes_back (zero ∷ bytes) = ap (λ (left : List ℕ). zero ∷ left) (bytes_back bytes)
+bytes_back (suc k ∷ bytes) = ap (λ (left : List ℕ). suc k ∷ left) (bytes_back bytes)
+
+-- the first index of a table where the kind stands
+pub record IsFirstKind (kinds : List (Option KnownKind)) (kind : KnownKind) (index : ℕ) : Type 0 where
+  pub within : index < length kinds
+  pub here : slice_index_or kinds index None ≡ Some kind
+  pub before : (k : ℕ) → k < index → slice_index_or kinds k None ≢ Some kind

@@ -22,6 +22,10 @@ mod refused_never_maps;
 #[cfg(test)]
 mod renegotiations;
 #[cfg(test)]
+mod tables_in_step;
+#[cfg(test)]
 mod tables_of_kinds;
+#[cfg(test)]
+mod tables_of_new_ids;
 #[cfg(test)]
 mod written_blocks;

@@ -10,6 +10,8 @@ mod checks;
 #[cfg(test)]
 mod debug_texts;
 #[cfg(test)]
+mod headers_by_kinds;
+#[cfg(test)]
 mod headers_read;
 #[cfg(test)]
 mod headers_read_again;

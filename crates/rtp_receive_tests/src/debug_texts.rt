@@ -28,12 +28,14 @@ fn receivers(rt: HostRuntime) {
     let text = "Receiver { state: Start(RolloverCount { count: 5 }) }";
     is_shown(&rt, alloc, &Receiver::starting_at(5), text);
     let mut receivers = Receivers::starting_at(alloc, 3);
-    let text = "Receivers { rollover_count: RolloverCount { count: 3 }, by_ssrc: {} }";
+    let text = "Receivers { rollover_count: RolloverCount { count: 3 }, \
+sources: Sources { list: [], places: {}, last: 0 } }";
     is_shown(&rt, alloc, &receivers, text);
     let recorded = receivers.record(Ssrc::from(9), SeqNo::from(7));
     recorded.expect(&rt, "memory");
-    let text =
-        "Receivers { rollover_count: RolloverCount { count: 3 }, by_ssrc: {Ssrc { number: 9 }: \
-Receiver { state: Window(SeqNoWindow { greatest: 7, recorded: 1 }) }} }";
+    let text = "Receivers { rollover_count: RolloverCount { count: 3 }, \
+sources: Sources { list: [(Ssrc { number: 9 }, \
+Receiver { state: Window(SeqNoWindow { greatest: 7, recorded: 1 }) })], \
+places: {Ssrc { number: 9 }: 0}, last: 0 } }";
     is_shown(&rt, alloc, &receivers, text);
 }

@@ -1,10 +1,11 @@
 //! The known header extensions by themselves.
 
-ghost use Rattle.std.specs.Prelude.{◌≡◌, IfSome, IfNone};
-ghost use Rattle.rtp_values.specs.Kind.{IsKnown};
+ghost use Rattle.std.specs.Prelude.{◌≡◌, ◌≢◌, Some, IfSome, IfNone};
+ghost use Rattle.rtp_values.specs.Kind.{kind_of, IsKnown};
 ghost use Rattle.rtp_values.specs.KnownKind.{extension_of_kind};
 
 use super::Extension;
+use super::table::known_by_uri;
 
 /// One of the fifteen header extensions that this library knows (RFC 8285, 5), in a byte. It is what
 /// a packet needs of an [`Extension`]: how the data of its element are read and written.
@@ -40,6 +41,22 @@ pub enum KnownKind {
     ColorSpace,
     /// [`Extension::VideoLayersAllocation`].
     VideoLayersAllocation,
+}
+
+impl KnownKind {
+    /// The known kind that this URI names in SDP (`a=extmap`; RFC 8285, 5), and `None` exactly where
+    /// it is the URI of none. Each character counts, also whether it is upper or lower case. Takes no
+    /// memory.
+    pub fn from_uri(uri: &str) -> Option<Self>
+        ensures named { IfSome result (λ kind. (kind_of (extension_of_kind kind)).uri ≡ uri.now) }
+        ensures none { IfNone result ((kind : Extension) → IsKnown kind → (kind_of kind).uri ≢ uri.now) }
+
+        // No other kind has the URI.
+        ensures known { (kind : KnownKind) → (kind_of (extension_of_kind kind)).uri ≡ uri.now →
+            result ≡ Some kind }
+    {
+        known_by_uri(uri)?.known_kind()
+    }
 }
 
 impl From<KnownKind> for Extension {

@@ -1,7 +1,7 @@
 //! The kinds of header extension: their URIs, texts and media.
 
 use crate::checks::{holds, named, same, shows};
-use rtp_values::{Extension, Uri};
+use rtp_values::{Extension, KnownKind, Uri};
 use std::alloc::Global;
 use std::process::Abort;
 
@@ -128,9 +128,10 @@ fn is_copied(rt: &impl Abort, alloc: Global, kind: &Extension) {
     assert!(rt; kind.clone(alloc).expect(rt, "memory") == *kind, "{kind}");
 }
 
-// The kind has this URI, which names it.
+// The kind has this URI, which names it: also by itself, where it is a known one, and else nothing.
 fn has_uri(rt: &impl Abort, alloc: Global, kind: &Extension, uri: &str) {
     same(rt, uri, kind.as_uri(), uri);
+    same(rt, uri, KnownKind::from_uri(uri), kind.known_kind());
     assert!(rt; named(rt, alloc, uri) == *kind, "{uri}");
 }
 

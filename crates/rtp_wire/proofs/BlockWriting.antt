@@ -5,8 +5,8 @@ use Rattle.std.proofs.lemmas.List.{length-replicate}
 use Rattle.std.proofs.lemmas.Nat.{from_be_bytes-to_be_bytes_2}
 use Rattle.rtp_ext.specs.declared.ext.form.ExtensionsForm.{ExtensionsForm}
 use Rattle.rtp_ext.specs.declared.ext.form.ExtensionsForm.TheVariants.{OneByte, TwoByte}
-use Rattle.rtp_ext.specs.declared.ext.map.ExtensionMap.{ExtensionMap}
 use Rattle.rtp_values.specs.declared.value.values.ExtensionValues.{ExtensionValues}
+use Rattle.rtp_ext.specs.ExtensionMap.{Slots}
 use Rattle.rtp_ext.specs.Form.{form_word}
 use Rattle.rtp_ext.specs.Elements.{AreElements, elements_bytes}
 use Rattle.rtp_ext.specs.BlockValues.{AreValues}
@@ -14,7 +14,8 @@ use Rattle.rtp_values.specs.Values.{no_values}
 use Rattle.rtp_wire.specs.Block.{IsBlock}
 use Rattle.rtp_wire.specs.Header.{IsExtensionPart}
 use Rattle.rtp_base.specs.Overwriting.{overwritten}
-use Rattle.rtp_ext.specs.WrittenBlock.{written_elements, form_of, padding_of, filled, block_of, body_bytes, block_bytes, image_values}
+use Rattle.rtp_ext.specs.WrittenBlock.{written_elements, padding_of, filled, block_of, image_values}
+use Rattle.rtp_wire.specs.WrittenInForm.{block_bytes_in}
 use Rattle.rtp_base.proofs.OverwritingLemmas.{overwritten-overwritten, overwritten-before, overwritten-front, overwritten-rest, length-overwritten}
 
 pub length-filled : (row : List ℕ) (n : ℕ) → n ≡ length row → length (filled row) ≡ n + padding_of n
@@ -26,10 +27,10 @@ length-filled row n is =
 pub length-block_of : (form : ExtensionsForm) (row : List ℕ) (n : ℕ) → n ≡ length row → length (block_of form (filled row)) ≡ 4 + (n + padding_of n)
 length-block_of form row n is = omega (arith, length-filled row n is)
 
-pub length-block : (exts : ExtensionMap) (values : ExtensionValues) (n : ℕ) → n ≡ length (elements_bytes (form_of exts values) (written_elements exts values))
-    → length (block_bytes exts values) ≡ 4 + (n + padding_of n)
-unfolding block_bytes
-length-block exts values n is = length-block_of (form_of exts values) (elements_bytes (form_of exts values) (written_elements exts values)) n is
+pub length-block : (form : ExtensionsForm) (exts : Slots) (values : ExtensionValues) (n : ℕ) → n ≡ length (elements_bytes form (written_elements exts values))
+    → length (block_bytes_in form exts values) ≡ 4 + (n + padding_of n)
+unfolding block_bytes_in
+length-block form exts values n is = length-block_of form (elements_bytes form (written_elements exts values)) n is
 
 -- whole words after the four bytes of the form's word and their number
 pub IsBlock-made : (form : ExtensionsForm) (row : List ℕ) → length row ≤ 262140 → IsBlock (block_of form (filled row)) form (filled row)
@@ -48,15 +49,15 @@ IsBlock-made form row few = by_form form (filled row) (omega (arith, length-fill
     }
 
 -- what is written is read as the image of the values
-pub IsExtensionPart-written : (exts : ExtensionMap) (values : ExtensionValues) (n : ℕ) → n ≡ length (elements_bytes (form_of exts values) (written_elements exts values)) → n ≤ 65535
-    → ((zeros : ℕ) → AreElements (form_of exts values) (elements_bytes (form_of exts values) (written_elements exts values) ++ replicate zeros 0) (written_elements exts values))
+pub IsExtensionPart-written : (form : ExtensionsForm) (exts : Slots) (values : ExtensionValues) (n : ℕ) → n ≡ length (elements_bytes form (written_elements exts values)) → n ≤ 65535
+    → ((zeros : ℕ) → AreElements form (elements_bytes form (written_elements exts values) ++ replicate zeros 0) (written_elements exts values))
     → AreValues exts (written_elements exts values) no_values (image_values exts values)
-    → IsExtensionPart exts true (block_bytes exts values) (image_values exts values)
-unfolding block_bytes
-IsExtensionPart-written exts values n is few elements are_values =
-    let row = elements_bytes (form_of exts values) (written_elements exts values) in record {
-      block = Some (form_of exts values, body_bytes exts values);
-      is_part = IsBlock-made (form_of exts values) row (omega arith);
+    → IsExtensionPart exts true (block_bytes_in form exts values) (image_values exts values)
+unfolding block_bytes_in
+IsExtensionPart-written form exts values n is few elements are_values =
+    let row = elements_bytes form (written_elements exts values) in record {
+      block = Some (form, filled row);
+      is_part = IsBlock-made form row (omega arith);
       has_values = record { elements = written_elements exts values; are_elements = elements (padding_of (length row)); are_values = are_values };
     }
 
@@ -95,9 +96,8 @@ row-put row buf new n len new-is fits =
     overwritten-rest buf new row 4 fits (new-is ∙ ap (λ (k : ℕ). row ++ drop k (take (length buf - 4) (drop 4 buf))) len) in
     record { put = put; long = ap length put ∙ length-overwritten buf row 4 fits }
 
--- the block of the values, by its form
-pub block_bytes-closed : (exts : ExtensionMap) (values : ExtensionValues) (new rest : List ℕ) (form : ExtensionsForm) → form ≡ form_of exts values
-    → new ≡ block_of form (filled (elements_bytes form (written_elements exts values))) ++ rest → new ≡ block_bytes exts values ++ rest
-unfolding block_bytes
-block_bytes-closed exts values new rest form form-is is =
-    is ∙ ap (λ (f : ExtensionsForm). block_of f (filled (elements_bytes f (written_elements exts values))) ++ rest) form-is
+-- the block of the values in the form
+pub block_bytes_in-closed : (form : ExtensionsForm) (exts : Slots) (values : ExtensionValues) (new rest : List ℕ)
+    → new ≡ block_of form (filled (elements_bytes form (written_elements exts values))) ++ rest → new ≡ block_bytes_in form exts values ++ rest
+unfolding block_bytes_in
+block_bytes_in-closed form exts values new rest is = is

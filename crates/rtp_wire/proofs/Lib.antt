@@ -5,6 +5,7 @@ mod BlockLemmas
 pub mod PacketLemmas
 pub mod HeaderFound
 pub mod PartsLemmas
+pub mod PlacesLemmas
 mod BytesBetween
 mod PacketChanges
 mod PacketParts
@@ -12,8 +13,10 @@ mod ChangedPackets
 pub mod NotAPacketLemmas
 mod ValuesLemmas
 mod HeaderLemmas
+mod KnownKindsLemmas
 mod BlockWriting
 mod RoundTrip
+mod WrittenInFormLemmas
 mod WritingWithLemmas
 mod PaddingLemmas
 mod StandardFacts

@@ -23,6 +23,7 @@ pub mod Packet
 pub mod NotAPacket
 pub mod PacketElements
 pub mod PartsOf
+pub mod Places
 pub mod ChangedPacket
 pub mod Header
 pub mod NotAHeader
@@ -41,6 +42,7 @@ pub mod Sending
 pub mod Receivers
 pub mod Sources
 -- What functions inside promise each other.
+pub mod WrittenInForm
 pub mod PartsAt
 pub mod Moduli
 pub mod EachSource

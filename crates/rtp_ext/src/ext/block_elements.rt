@@ -8,7 +8,7 @@ ghost use Rattle.rtp_ext.specs.ExtensionMap.{mapped_count};
 ghost use Rattle.rtp_ext.specs.ElementWriting.{header_bytes, bytes_at, CanCarry, IsCarried};
 ghost use Rattle.rtp_values.specs.Spelling.{spelled_data};
 ghost use Rattle.rtp_values.specs.KnownKind.{extension_of_kind};
-ghost use Rattle.rtp_ext.specs.KindsById.{slots_of};
+ghost use Rattle.rtp_ext.specs.KindsById.{slots_of, known_slots};
 ghost use Rattle.rtp_base.specs.Overwriting.{overwritten};
 ghost use Rattle.rtp_ext.specs.BlockValues.{AreValues};
 ghost use Rattle.rtp_values.specs.Values.{no_values};
@@ -93,6 +93,7 @@ impl ExtensionMap {
 
         // An element of the one-byte form has at most 17 bytes.
         ensures short { result ≡ OneByte → IsShort self.now ev.now }
+        ensures known { result ≡ OneByte → IsShort (known_slots self.now) ev.now }
     {
         if self.needs_two_bytes(ev) {
             ExtensionsForm::TwoByte

@@ -75,7 +75,7 @@ impl<'a> Iterator for KindItems<'a> {
 
 // Whether the one-byte form can't carry the element of a mapped id, whatever its data are.
 #[tactic(auto, using(crate::proofs::FormLemmas::long_kind))]
-fn is_long(id: u8, kind: KnownKind) -> bool
+pub(super) fn is_long(id: u8, kind: KnownKind) -> bool
     ensures { result ≡ is_long_item (id, extension_of_kind kind) }
 {
     id > MAX_ID_ONE_BYTE_FORM || kind == KnownKind::VideoLayersAllocation

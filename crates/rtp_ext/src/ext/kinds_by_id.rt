@@ -1,15 +1,16 @@
 //! The known extensions by their ids.
 
-ghost use Rattle.std.specs.Prelude.{◌≡◌, ◌≢◌, ◌≤◌, ◌-◌, ℕ, false, length, map, replicate, None, slice_set};
+ghost use Rattle.std.specs.Prelude.{◌≡◌, ◌≢◌, ◌↔◌, ◌≤◌, ◌-◌, ℕ, IsTrue, false, length, map, replicate, Some, None, IfSome, IfNone, slice_index_or, slice_set};
 ghost use Rattle.std.specs.Option.{option_map};
 ghost use Rattle.std.specs.List.{list_any};
 ghost use Rattle.rtp_values.specs.declared.known_kind.KnownKind.{KnownKind};
 ghost use Rattle.rtp_values.specs.KnownKind.{extension_of_kind};
-ghost use Rattle.rtp_ext.specs.ExtensionMap.{IsId, IsEmpty, entry_at, extension_at, items_from};
+ghost use Rattle.rtp_ext.specs.ExtensionMap.{IsId, IsEmpty, IsLowest, IsUnmapped, HasNoIdAbove, entry_at, extension_at, items_from, mapped_count};
 ghost use Rattle.rtp_ext.specs.KindsById.{slots_of, entry_of_kind, known_entry, known_slots, has_empty};
+ghost use Rattle.rtp_ext.specs.NewIds.{IsNewId, IsFirstKind};
 ghost use Rattle.rtp_ext.specs.WrittenBlock.{needs_two, IsShort};
 
-use super::kind_items::{KindItems, has_long};
+use super::kind_items::{KindItems, has_long, is_long};
 use super::map::MAX_ID;
 use super::mapped_ids::MappedIds;
 use super::slot::Slot;
@@ -22,7 +23,7 @@ pub(super) const IDS: usize = MAX_ID as usize + 1;
 /// The known extensions by their ids (RFC 8285, 5): all that reading and writing the elements of a
 /// packet needs of an [`ExtensionMap`](super::ExtensionMap), which lends such a table
 /// ([`kinds`](super::ExtensionMap::kinds)). It takes no memory.
-#[derive(Drop)]
+#[derive(Clone, Copy)]
 pub struct KindsById {
     // What each id is mapped to, the id 0 to nothing.
     kinds: [Option<KnownKind>; IDS],
@@ -40,6 +41,7 @@ impl Model for KindsById {
     ghost use Rattle.rtp_ext.specs.KindsById.{slots_of, is_long_item};
     ghost use Rattle.rtp_ext.specs.MapSlots.{mapped_ids};
     ghost use Rattle.rtp_ext.specs.declared.ext.kinds_by_id.TheConstants.{IDS};
+    ghost use Rattle.std.proofs.Common.{sym};
 
     ghost Value = { List (Option KnownKind) };
 
@@ -49,6 +51,18 @@ impl Model for KindsById {
         × (slice_index_or table.kinds 0 None ≡ None)
         × (table.mapped ≡ mapped_ids (slots_of table.kinds))
         × (table.is_long ≡ list_any is_long_item (items_from 0 (slots_of table.kinds))) };
+
+    ghost inverse = { λ kinds. record {
+      kinds = kinds;
+      mapped = mapped_ids (slots_of kinds);
+      is_long = list_any is_long_item (items_from 0 (slots_of kinds));
+    } };
+
+    ghost inverse_ok = { λ table known i. record {
+      kinds = table.kinds;
+      mapped = sym known.2 i;
+      is_long = sym known.3 i;
+    } };
 }
 
 impl KindsById {
@@ -91,6 +105,14 @@ impl KindsById {
         Self::new(kinds)
     }
 
+    /// How many ids are mapped.
+    pub fn len(&self) -> usize
+        ensures count { result ≡ mapped_count (slots_of self.now) }
+        ensures few { result ≤ MAX_ID }
+    {
+        self.mapped.len()
+    }
+
     /// The kind that the id is mapped to, and `None` where there is none, as always for 0.
     pub fn get(&self, id: u8) -> Option<KnownKind>
         ensures { option_map extension_of_kind result ≡ extension_at (slots_of self.now) id }
@@ -109,9 +131,38 @@ impl KindsById {
         ensures slots { IsId id → slots_of self.new
             ≡ slice_set (slots_of self.old) (id - 1) (entry_of_kind kind) }
     {
-        let mut kinds = self.kinds;
-        kinds[usize::from(id)] = kind;
-        *self = Self::new(kinds);
+        if id == 0 {
+            return;
+        }
+        let old = self.kinds[usize::from(id)];
+        self.kinds[usize::from(id)] = kind;
+        if old.is_some() {
+            self.mapped = MappedIds::of_kinds(&self.kinds[1..]);
+            self.is_long = has_long(&self.kinds, self.mapped.as_slice());
+        } else if let Some(kind) = kind {
+            self.mapped.insert(id);
+            self.is_long |= is_long(id, kind);
+        }
+    }
+
+    // The lowest id that is mapped to the kind.
+    fn id_of(&self, kind: KnownKind) -> Option<u8>
+        ensures found { IfSome result (IsLowest (slots_of self.now) (extension_of_kind kind)) }
+        ensures none { IfNone result (IsUnmapped (slots_of self.now) (extension_of_kind kind)) }
+        ensures valid { IfSome result IsId }
+    {
+        let id = first_with(&self.kinds, kind)?;
+        Some(id as u8)
+    }
+
+    // The lowest id that the other table has for the kind of this id.
+    pub(super) fn id_under(&self, other: &Self, id: u8) -> Option<u8>
+        ensures new { IsNewId (slots_of self.now) (slots_of other.now) id result }
+        ensures valid { IfSome result IsId }
+        ensures no_others { HasNoIdAbove 255 (slots_of self.now) }
+    {
+        let kind = self.kinds[usize::from(id)]?;
+        other.id_of(kind)
     }
 
     // The mapped ids by rising id, each with its kind.
@@ -147,6 +198,24 @@ impl KindsById {
         }
         ev.has_empty_text() && self.has_empty_data(ev)
     }
+}
+
+// Whether an id is mapped to the kind.
+fn is_kind(mapped: Option<KnownKind>, kind: KnownKind) -> bool
+    ensures { IsTrue result ↔ (mapped ≡ Some kind) }
+{
+    match mapped {
+        Some(other) => other == kind,
+        None => false,
+    }
+}
+
+// The first index where the kind stands.
+fn first_with(kinds: &[Option<KnownKind>], kind: KnownKind) -> Option<usize>
+    ensures found { IfSome result (IsFirstKind kinds.now kind) }
+    ensures none { IfNone result ((k : ℕ) → slice_index_or kinds.now k None ≢ Some kind) }
+{
+    kinds.iter().position(|mapped| is_kind(*mapped, kind))
 }
 
 // Copies the known kinds of slots.

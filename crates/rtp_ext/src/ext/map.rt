@@ -180,6 +180,7 @@ impl ExtensionMap {
     pub(super) fn needs_two_bytes(&self, ev: &ExtensionValues) -> bool
         ensures needed { result ≡ list_any (needs_two ev.now) (items_from 0 self.now) }
         ensures short { result ≡ false → IsShort self.now ev.now }
+        ensures known { result ≡ false → IsShort (known_slots self.now) ev.now }
     {
         self.mapped.has_above(MAX_ID_ONE_BYTE_FORM) || self.kinds.needs_two_bytes(ev)
     }

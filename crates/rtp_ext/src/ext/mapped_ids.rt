@@ -8,11 +8,10 @@ ghost use Rattle.rtp_ext.specs.MapSlots.{mapped_ids, inserted, RiseAbove};
 use super::map::MAX_ID;
 use super::slot::Slot;
 use rtp_values::KnownKind;
-use std::array;
 use std::marker::Model;
 
 // The mapped ids, rising.
-#[derive(Drop)]
+#[derive(Clone, Copy)]
 pub(super) struct MappedIds {
     // The ids, followed by zeros.
     ids: [u8; MAX_ID as usize],
@@ -21,14 +20,24 @@ pub(super) struct MappedIds {
 }
 
 impl Model for MappedIds {
-    ghost use Rattle.std.specs.Prelude.{◌≡◌, ℕ, ◌≤◌, List, length, take};
+    ghost use Rattle.std.specs.Prelude.{◌≡◌, ℕ, ◌-◌, ◌≤◌, List, length, take, drop, replicate};
+    ghost use Rattle.rtp_ext.specs.MapSlots.{padded, padded-front, length-front};
     ghost use Rattle.rtp_ext.specs.declared.ext.map.TheConstants.{MAX_ID};
 
     ghost Value = { List ℕ };
 
     ghost view = { λ mapped. take mapped.count mapped.ids };
 
-    ghost invariant = { λ mapped. (length mapped.ids ≡ MAX_ID) × (mapped.count ≤ MAX_ID) };
+    ghost invariant = { λ mapped. (length mapped.ids ≡ MAX_ID)
+        × (mapped.count ≤ length mapped.ids)
+        × (drop mapped.count mapped.ids ≡ replicate (MAX_ID - mapped.count) 0) };
+
+    ghost inverse = { λ ids. record { ids = padded ids; count = length ids } };
+
+    ghost inverse_ok = { λ mapped known i. record {
+      ids = padded-front mapped.ids mapped.count known.1 known.2 i;
+      count = length-front mapped.ids mapped.count known.1 i;
+    } };
 }
 
 impl MappedIds {
@@ -37,7 +46,7 @@ impl MappedIds {
         ensures { result ≡ [] }
     {
         MappedIds {
-            ids: array::from_fn(|_| 0),
+            ids: [0; MAX_ID as usize],
             count: 0,
         }
     }
@@ -94,8 +103,8 @@ impl MappedIds {
         ids.len()
     }
 
-    // Puts in an id that isn't mapped yet.
-    pub(super) fn insert(&mut self, id: u8)
+    // Puts in an id before the higher ones.
+    fn insert_between(&mut self, id: u8)
         requires { length self.old < MAX_ID }
         ensures { self.new ≡ inserted id self.old }
     {
@@ -104,6 +113,20 @@ impl MappedIds {
             .copy_within(place..usize::from(self.count), place + 1);
         self.ids[place] = id;
         self.count += 1;
+    }
+
+    // Puts in an id that isn't mapped yet. One above the others moves none of them.
+    #[tactic(auto, using(crate::proofs::RisingIdLemmas::inserted_last))]
+    pub(super) fn insert(&mut self, id: u8)
+        requires room { length self.old < MAX_ID }
+        requires rising { RiseAbove 0 self.old }
+        ensures { self.new ≡ inserted id self.old }
+    {
+        if self.has_above(id) {
+            self.insert_between(id);
+        } else {
+            self.push(id);
+        }
     }
 
     // How many there are.

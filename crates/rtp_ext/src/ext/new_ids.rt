@@ -1,46 +1,50 @@
 //! Which ids elements have under another map.
 
-ghost use Rattle.std.specs.Prelude.{◌≡◌, ◌↔◌, IsTrue, All};
+ghost use Rattle.std.specs.Prelude.{◌≡◌, ◌↔◌, IsTrue, All, slice_index_or};
 ghost use Rattle.rtp_ext.specs.declared.ext.form.ExtensionsForm.TheVariants.{OneByte};
 ghost use Rattle.rtp_ext.specs.ElementReading.{elements_left};
 ghost use Rattle.rtp_ext.specs.ElementsInPlace.{CanRenumber};
-ghost use Rattle.rtp_ext.specs.NewIds.{new_id, AreNewIds};
+ghost use Rattle.rtp_ext.specs.KindsById.{slots_of};
+ghost use Rattle.rtp_ext.specs.NewIds.{new_id, AreNewIds, id_in_byte, ids_in_bytes};
 ghost use Rattle.rtp_ext.specs.IdChanges.{carries_id};
 
-use super::{Elements, ExtensionMap, ExtensionsForm, MAX_ID, MAX_ID_ONE_BYTE_FORM};
-use std::array;
+use super::{Elements, ExtensionMap, ExtensionsForm, KindsById, MAX_ID, MAX_ID_ONE_BYTE_FORM};
 use std::marker::Model;
 
+// How many ids an element can have, with 0.
+const IDS: usize = MAX_ID as usize + 1;
+
 /// The ids that elements get where a block goes from one map of extensions to another, as in a
-/// server that forwards packets: a table of 512 bytes, made once for the two maps.
+/// server that forwards packets: a table of 256 bytes, made once for the two maps.
 #[derive(Clone, Copy)]
 pub struct NewIds {
-    // The new id of each id from 0 on.
-    ids: [Option<u8>; MAX_ID as usize + 1],
+    // The new id of each id from 0 on, and 0 where it has none: no extension has the id 0.
+    ids: [u8; IDS],
 }
 
 impl Model for NewIds {
-    ghost use Rattle.std.specs.Prelude.{◌≡◌, ℕ, List, Option, length, All};
-    ghost use Rattle.std.specs.Option.{ForSome};
-    ghost use Rattle.rtp_ext.specs.ExtensionMap.{IsId};
+    ghost use Rattle.std.specs.Prelude.{◌≡◌, ◌<◌, ℕ, List, Option, length, map, slice_index_or};
+    ghost use Rattle.rtp_ext.specs.NewIds.{id_in_byte, byte_of_id, bytes_back};
 
     ghost Value = { List (Option ℕ) };
 
-    ghost view = { λ new. new.ids };
+    ghost view = { λ new. map id_in_byte new.ids };
 
-    ghost invariant = { λ new. (length new.ids ≡ 256) × All (λ id. ForSome id IsId) new.ids };
+    ghost invariant = { λ new. (length new.ids ≡ 256)
+        × (slice_index_or new.ids 0 0 ≡ 0)
+        × ((id : ℕ) → slice_index_or new.ids id 0 < 256) };
 
-    ghost inverse = { λ ids. record { ids = ids } };
+    ghost inverse = { λ ids. record { ids = map byte_of_id ids } };
+
+    ghost inverse_ok = { λ new known i. record { ids = bytes_back new.ids i } };
 }
 
-// Whether the one-byte form can carry the id, if there is one.
-fn fits_one_byte_form(id: Option<u8>) -> bool
-    ensures { result ≡ carries_id OneByte id }
+// Whether the one-byte form can carry the new id in a byte of a table, if there is one.
+#[tactic(auto, using(crate::proofs::NewIdLemmas::carried_byte))]
+fn fits_one_byte_form(byte: u8) -> bool
+    ensures { result ≡ carries_id OneByte (id_in_byte byte) }
 {
-    match id {
-        Some(id) => id <= MAX_ID_ONE_BYTE_FORM,
-        None => true,
-    }
+    byte <= MAX_ID_ONE_BYTE_FORM
 }
 
 impl NewIds {
@@ -49,18 +53,54 @@ impl NewIds {
     pub fn between(from: &ExtensionMap, to: &ExtensionMap) -> Self
         ensures { AreNewIds from.now to.now result }
     {
-        let mut ids = array::from_fn(|_| None);
+        let mut ids = [0; IDS];
         for (id, new) in ids.iter_mut().enumerate() {
-            *new = from.id_under(to, id as u8);
+            *new = from.id_under(to, id as u8).unwrap_or(0);
         }
         NewIds { ids }
     }
 
-    // The new id of an id.
-    pub(super) fn new_id(&self, id: u8) -> Option<u8>
+    /// The same of known extensions: for each id that `from` maps to a kind that `to` maps as well,
+    /// the lowest id that `to` has for it. Every other id has no new one.
+    pub fn between_kinds(from: &KindsById, to: &KindsById) -> Self
+        ensures { AreNewIds (slots_of from.now) (slots_of to.now) result }
+    {
+        let mut ids = [0; IDS];
+        for (id, byte) in ids.iter_mut().enumerate() {
+            *byte = from.id_under(to, id as u8).unwrap_or(0);
+        }
+        NewIds { ids }
+    }
+
+    /// The table of these new ids, each at the index of the old one, with 0 where an id has none.
+    /// What stands at index 0 is passed over: an element whose id is 0 has no new one, since 0 is
+    /// the id of no extension.
+    pub fn from_ids(ids: &[u8; 256]) -> Self
+        ensures { result ≡ ids_in_bytes ids.now }
+    {
+        let after_first = &ids[1..];
+        let mut ids = [0; IDS];
+        ids[1..].copy_from_slice(after_first);
+        NewIds { ids }
+    }
+
+    /// The new ids, each at the index of the old one, with 0 where an id has none, as at index 0:
+    /// [`from_ids`](Self::from_ids) makes the same table of them.
+    pub fn ids(&self) -> [u8; 256]
+        ensures ids { ids_in_bytes result ≡ self.now }
+        ensures first { slice_index_or result 0 0 ≡ 0 }
+    {
+        self.ids
+    }
+
+    /// The new id of an id, and `None` where it has none, as always for 0.
+    pub fn new_id(&self, id: u8) -> Option<u8>
         ensures { result ≡ new_id self.now id }
     {
-        self.ids[usize::from(id)]
+        match self.ids[usize::from(id)] {
+            0 => None,
+            new => Some(new),
+        }
     }
 
     // Whether the form can carry the new ids of a body's elements.

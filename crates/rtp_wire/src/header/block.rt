@@ -9,11 +9,14 @@ ghost use Rattle.rtp_ext.specs.Elements.{AreElements, elements_bytes};
 ghost use Rattle.rtp_ext.specs.ElementsInARow.{elements_of, form_for, FitInARow, CannotBeInARow};
 ghost use Rattle.rtp_wire.specs.Header.{IsExtensionPart};
 ghost use Rattle.rtp_wire.specs.WrittenWith.{body_with};
-ghost use Rattle.rtp_ext.specs.WrittenBlock.{block_of, filled, block_bytes, image_values, whole_words};
+ghost use Rattle.rtp_ext.specs.WrittenBlock.{IsShort, form_of, block_of, filled, image_values, whole_words};
+ghost use Rattle.rtp_wire.specs.WrittenInForm.{block_bytes_in};
 ghost use Rattle.rtp_ext.specs.ExtensionMap.{mapped_count};
+ghost use Rattle.rtp_ext.specs.KindsById.{slots_of};
+ghost use Rattle.rtp_ext.specs.declared.ext.form.ExtensionsForm.TheVariants.{OneByte, TwoByte};
 
 use rtp_base::put;
-use rtp_ext::{ExtensionMap, ExtensionValues, ExtensionsForm, put_elements};
+use rtp_ext::{ExtensionValues, ExtensionsForm, KindsById, put_elements};
 
 // How many bytes stand before a block's body.
 const HEADER_LEN: usize = 4;
@@ -46,26 +49,32 @@ fn fill_word(buf: &mut [u8], at: usize, count: usize) -> usize
 }
 
 // The length of the block that `write_block` writes.
-pub(super) fn block_len(exts: &ExtensionMap, ev: &ExtensionValues) -> usize
-    ensures length { result ≡ length (block_bytes exts.now ev.now) }
+pub(super) fn block_len(kinds: &KindsById, form: ExtensionsForm, ev: &ExtensionValues) -> usize
+    ensures length { result ≡ length (block_bytes_in form (slots_of kinds.now) ev.now) }
     ensures words { result % 4 ≡ 0 }
-    ensures by_map { result ≤ 4 + whole_words (257 * mapped_count exts.now) }
+    ensures by_map { result ≤ 4 + whole_words (257 * mapped_count (slots_of kinds.now)) }
     ensures bound { result ≤ 65540 }
 {
-    let elements_len = exts.wire_len(ev, exts.form(ev));
+    let elements_len = kinds.wire_len(ev, form);
     HEADER_LEN + elements_len.next_multiple_of(4)
 }
 
 // Whether the block that `write_block` writes has room. In the one-byte form most buffers have it
 // whatever the values are, so that no length is asked for.
-pub(super) fn block_fits(exts: &ExtensionMap, ev: &ExtensionValues, room: usize) -> bool
-    ensures { IsTrue result ↔ (length (block_bytes exts.now ev.now) ≤ room) }
+pub(super) fn block_fits(
+    kinds: &KindsById,
+    form: ExtensionsForm,
+    ev: &ExtensionValues,
+    room: usize,
+) -> bool
+    requires { form ≡ OneByte → IsShort (slots_of kinds.now) ev.now }
+    ensures { IsTrue result ↔ (length (block_bytes_in form (slots_of kinds.now) ev.now) ≤ room) }
 {
-    let most = MAX_LEN_ONE_BYTE_FORM * exts.len();
-    if exts.form(ev) == ExtensionsForm::OneByte && HEADER_LEN + most.next_multiple_of(4) <= room {
+    let most = MAX_LEN_ONE_BYTE_FORM * kinds.len();
+    if form == ExtensionsForm::OneByte && HEADER_LEN + most.next_multiple_of(4) <= room {
         return true;
     }
-    block_len(exts, ev) <= room
+    block_len(kinds, form, ev) <= room
 }
 
 // Puts the four bytes before a body in front of elements that stand after these, and after them the
@@ -84,21 +93,28 @@ fn close_block(buf: &mut [u8], form: ExtensionsForm, elements_len: usize) -> usi
     len
 }
 
-// Writes the block of these values to the front of the buffer, and returns its length.
-pub(super) fn write_block(exts: &ExtensionMap, buf: &mut [u8], ev: &ExtensionValues) -> usize
-    requires { length (block_bytes exts.now ev.now) ≤ length buf.old }
-    ensures written { buf.new ≡ block_bytes exts.now ev.now ++ drop result buf.old }
-    ensures length { result ≡ length (block_bytes exts.now ev.now) }
+// Writes the block of these values in the form to the front of the buffer, and returns its length.
+pub(super) fn write_block(
+    kinds: &KindsById,
+    form: ExtensionsForm,
+    buf: &mut [u8],
+    ev: &ExtensionValues,
+) -> usize
+    requires form { (form ≡ form_of (slots_of kinds.now) ev.now) ⊎ (form ≡ TwoByte) }
+    requires room { length (block_bytes_in form (slots_of kinds.now) ev.now) ≤ length buf.old }
+    ensures written { buf.new
+        ≡ block_bytes_in form (slots_of kinds.now) ev.now ++ drop result buf.old }
+    ensures length { result ≡ length (block_bytes_in form (slots_of kinds.now) ev.now) }
     ensures words { result % 4 ≡ 0 }
-    ensures by_map { result ≤ 4 + whole_words (257 * mapped_count exts.now) }
+    ensures by_map { result ≤ 4 + whole_words (257 * mapped_count (slots_of kinds.now)) }
     ensures bound { result ≤ 65540 }
 
     // What was written is read as the image of the values.
-    ensures read_back { IsExtensionPart exts.now true (block_bytes exts.now ev.now)
-        (image_values exts.now ev.now) }
+    ensures read_back { IsExtensionPart (slots_of kinds.now) true
+        (block_bytes_in form (slots_of kinds.now) ev.now)
+        (image_values (slots_of kinds.now) ev.now) }
 {
-    let form = exts.form(ev);
-    let elements_len = exts.write_to(&mut buf[HEADER_LEN..], ev, form);
+    let elements_len = kinds.write_to(&mut buf[HEADER_LEN..], ev, form);
     close_block(buf, form, elements_len)
 }
 

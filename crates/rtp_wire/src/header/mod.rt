@@ -2,9 +2,10 @@
 
 mod block;
 mod parsing;
+mod pieces;
 mod rtp_header;
 mod writing;
 mod writing_with;
 
+pub(crate) use pieces::flag;
 pub use rtp_header::RtpHeader;
-pub(crate) use writing::flag;

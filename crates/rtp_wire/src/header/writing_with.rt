@@ -8,7 +8,7 @@ ghost use Rattle.rtp_wire.specs.WrittenWith.{body_with, wire_bytes_with, parts_w
 
 use super::RtpHeader;
 use super::block::{block_form, write_block_of};
-use super::writing::put_sources;
+use super::pieces::put_sources;
 use rtp_base::put;
 
 impl RtpHeader {

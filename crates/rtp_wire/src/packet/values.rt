@@ -3,11 +3,12 @@
 ghost use Rattle.std.specs.Prelude.{◌≡◌, IsOk, IfOk, OnOk, OnErr};
 ghost use Rattle.rtp_values.specs.declared.value.values.ExtensionValues.{ExtensionValues};
 ghost use Rattle.rtp_values.specs.Values.{no_values};
+ghost use Rattle.rtp_ext.specs.KindsById.{slots_of};
 ghost use Rattle.rtp_wire.specs.PacketElements.{HasValues};
 ghost use Rattle.rtp_wire.specs.RefusedMemory.{BlockHasAllocation, AreValuesStopped};
 
 use super::RtpPacket;
-use rtp_ext::{ExtensionMap, ExtensionValues};
+use rtp_ext::{ExtensionMap, ExtensionValues, KindsById};
 use std::alloc::{AllocError, Global};
 
 impl<'a> RtpPacket<'a> {
@@ -18,19 +19,19 @@ impl<'a> RtpPacket<'a> {
     pub(crate) fn read_values(
         &self,
         alloc: Global,
-        exts: &ExtensionMap,
+        kinds: &KindsById,
         values: &mut ExtensionValues,
     ) -> Result<(), AllocError>
         requires { values.old ≡ no_values }
-        ensures found { OnOk result (HasValues exts.now (parts_of self.now).block values.new) }
-        ensures memory { OnErr result (BlockHasAllocation exts.now (parts_of self.now).block) }
-        ensures stopped { OnErr result (AreValuesStopped exts.now (parts_of self.now).block values.new) }
-        ensures succeeds { (BlockHasAllocation exts.now (parts_of self.now).block → ⊥) → IsOk result }
+        ensures found { OnOk result (HasValues (slots_of kinds.now) (parts_of self.now).block values.new) }
+        ensures memory { OnErr result (BlockHasAllocation (slots_of kinds.now) (parts_of self.now).block) }
+        ensures stopped { OnErr result (AreValuesStopped (slots_of kinds.now) (parts_of self.now).block values.new) }
+        ensures succeeds { (BlockHasAllocation (slots_of kinds.now) (parts_of self.now).block → ⊥) → IsOk result }
     {
         let Some((form, body)) = self.block() else {
             return Ok(());
         };
-        exts.parse(alloc, body, form, values)
+        kinds.parse(alloc, body, form, values)
     }
 
     /// Returns the values that the elements of the block give under the map, and none where X is
@@ -46,7 +47,7 @@ impl<'a> RtpPacket<'a> {
         ensures succeeds { (BlockHasAllocation exts.now (parts_of self.now).block → ⊥) → IsOk result }
     {
         let mut values = ExtensionValues::default();
-        self.read_values(alloc, exts, &mut values)?;
+        self.read_values(alloc, exts.kinds(), &mut values)?;
         Ok(values)
     }
 }

@@ -3,6 +3,7 @@
 mod receiver;
 mod receivers;
 mod run;
+mod sources;
 mod state;
 mod verdict;
 mod widening;

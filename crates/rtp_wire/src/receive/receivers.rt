@@ -12,12 +12,12 @@ ghost use Rattle.rtp_wire.specs.TrueNumbers.{IsTrueNumber};
 ghost use Rattle.rtp_wire.specs.Sources.{numbers_beside};
 ghost use Rattle.rtp_wire.specs.EachSource.{HoldsEach, taken_after_each};
 
+use super::sources::Sources;
 use super::state::RolloverCount;
 use super::{Receiver, Verdict};
 use crate::packet::RtpPacket;
 use rtp_base::{SeqNo, Ssrc};
 use std::alloc::{AllocError, Global};
-use std::collections::BTreeMap;
 use std::marker::Model;
 
 /// The receive state of the streams that share a transport: a [`Receiver`] for each SSRC (RFC 3550,
@@ -25,26 +25,31 @@ use std::marker::Model;
 ///
 /// A source gets its receiver with the first packet that is recorded or received of it, and keeps
 /// it until it is forgotten ([`forget`](Self::forget)). The number of receivers has no limit: where
-/// packets are not authenticated, a caller may set one of its own ([`len`](Self::len)). What a
-/// packet costs grows with the logarithm of that number, whoever chooses the SSRCs.
+/// packets are not authenticated, a caller may set one of its own ([`len`](Self::len)). A packet of
+/// the same source as the one before it is not looked up; what another one costs grows with the
+/// logarithm of that number, whoever chooses the SSRCs.
 ///
 /// No source changes what another one's receiver holds. So with the packets 65,535 of source 1, 10
 /// of source 2 and 0 of source 1, `receive` takes 65,535, 10 and 65,536.
 #[derive(Debug, Drop)]
 pub struct Receivers {
     rollover_count: RolloverCount,
-    by_ssrc: BTreeMap<Ssrc, Receiver>,
+    sources: Sources,
 }
 
 impl Model for Receivers {
     ghost use Rattle.rtp_wire.specs.Receivers.{ReceiverStates};
+    ghost use Rattle.rtp_wire.specs.Places.{held, ArePlaces};
 
     ghost Value = { ReceiverStates };
 
     ghost view = { λ receivers. record {
       rollover_count = receivers.rollover_count;
-      by_source = receivers.by_ssrc.entries;
+      by_source = held receivers.sources.places receivers.sources.list.items;
     } };
+
+    ghost invariant = { λ receivers.
+        ArePlaces receivers.sources.places receivers.sources.list.items };
 }
 
 impl Receivers {
@@ -65,7 +70,7 @@ impl Receivers {
     {
         Receivers {
             rollover_count: RolloverCount::new(rollover_count),
-            by_ssrc: BTreeMap::new(alloc),
+            sources: Sources::new(alloc),
         }
     }
 
@@ -80,21 +85,21 @@ impl Receivers {
     pub fn len(&self) -> usize
         ensures { result ≡ length self.now.by_source }
     {
-        self.by_ssrc.len()
+        self.sources.len()
     }
 
     /// Whether no source has a receiver.
     pub fn is_empty(&self) -> bool
         ensures { IsTrue result ↔ (self.now.by_source ≡ []) }
     {
-        self.by_ssrc.is_empty()
+        self.len() == 0
     }
 
     /// The receiver of the source, and `None` where it has none.
     pub fn get(&self, ssrc: Ssrc) -> Option<&Receiver>
         ensures { option_copied result ≡ receiver_of self.now ssrc }
     {
-        self.by_ssrc.get(&ssrc)
+        self.sources.get(ssrc)
     }
 
     /// Drops the source, as after it said goodbye (RFC 3550, 6.6), and returns its receiver;
@@ -110,7 +115,7 @@ impl Receivers {
         ensures fewer { IfSome result (λ _.
             length self.new.by_source + 1 ≡ length self.old.by_source) }
     {
-        self.by_ssrc.remove(&ssrc)
+        self.sources.remove(ssrc)
     }
 
     /// The extended sequence number of a packet of this source and sequence number: the one nearest
@@ -171,13 +176,14 @@ impl Receivers {
         ensures one_more { receiver_of self.old ssrc ≡ None →
             OnOk result (length self.new.by_source ≡ length self.old.by_source + 1) }
     {
-        if let Some(receiver) = self.by_ssrc.get_mut(&ssrc) {
-            receiver.record(number);
+        if let Some(place) = self.sources.place_of(ssrc) {
+            self.sources.last = place;
+            self.sources.list[place].1.record(number);
             return Ok(());
         }
         let mut receiver = self.new_receiver();
         receiver.record(number);
-        self.by_ssrc.insert(ssrc, receiver)?;
+        self.add(ssrc, receiver)?;
         Ok(())
     }
 
@@ -226,13 +232,29 @@ impl Receivers {
         ensures one_more { receiver_of self.old ssrc ≡ None →
             OnOk result (length self.new.by_source ≡ length self.old.by_source + 1) }
     {
-        if let Some(known) = self.by_ssrc.get_mut(&ssrc) {
-            return Ok(known.receive(sequence_number));
+        if let Some(place) = self.sources.place_of(ssrc) {
+            self.sources.last = place;
+            return Ok(self.sources.list[place].1.receive(sequence_number));
         }
         let mut added = self.new_receiver();
         let verdict = added.receive(sequence_number);
-        self.by_ssrc.insert(ssrc, added)?;
+        self.add(ssrc, added)?;
         Ok(verdict)
+    }
+
+    // Adds a source that has no receiver. Where memory is refused nothing changes.
+    fn add(&mut self, ssrc: Ssrc, receiver: Receiver) -> Result<(), AllocError>
+        requires { receiver_of self.old ssrc ≡ None }
+        ensures added { OnOk result (receiver_of self.new ssrc ≡ Some receiver) }
+        ensures others { (source : ℕ) → source ≢ ssrc →
+            receiver_of self.new source ≡ receiver_of self.old source }
+        ensures count { self.new.rollover_count ≡ self.old.rollover_count }
+        ensures refused { OnErr result (self.new ≡ self.old) }
+        ensures one_more { OnOk result
+            (length self.new.by_source ≡ length self.old.by_source + 1) }
+    {
+        self.sources.add(ssrc, receiver)?;
+        Ok(())
     }
 
     // The verdict on a datagram, by the packet that it is.

@@ -24,7 +24,7 @@ returns-in-Ok-clause-read c is_ok =
           are_elements = are;
           are_values = subst (λ (old : ExtensionValues). AreValues slots elements old c.parse.new.ev) c.default-read.ensures (c.in-Ok.ensures.values elements are);
         };
-        is_view = c.view_of_values.ensures;
+        is_view = c.put_values.ensures;
       },
     )
 

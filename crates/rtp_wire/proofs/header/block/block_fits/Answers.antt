@@ -3,7 +3,8 @@ use Rattle.rtp_ext.specs.declared.ext.form.ExtensionsForm.{ExtensionsForm}
 use Rattle.rtp_ext.specs.declared.ext.form.ExtensionsForm.TheVariants.{OneByte, TwoByte}
 use Rattle.rtp_ext.specs.contracts.ext.form.ExtensionsFormPartialEq.TheImpl as form_eq
 use Rattle.rtp_ext.specs.Elements.{elements_bytes}
-use Rattle.rtp_ext.specs.WrittenBlock.{written_elements, form_of}
+use Rattle.rtp_ext.specs.KindsById.{slots_of}
+use Rattle.rtp_ext.specs.WrittenBlock.{written_elements}
 use Rattle.rtp_wire.proofs.BlockWriting.{length-block}
 use Rattle.rtp_wire.proofs.header.block.block_fits.Goals as goal
 
@@ -13,12 +14,12 @@ one_byte TwoByte same = cc
 
 pub returns-then-next_multiple_of-room : goal.returns-then-next_multiple_of-room
 returns-then-next_multiple_of-room c =
-    let exts = c.args.exts.now in
+    let exts = slots_of c.args.kinds.now in
     let ev = c.args.ev.now in
-    let form : c.form.result ≡ OneByte = one_byte c.form.result (sym c.eq.ensures ∙ c.if-eq.true) in
-    let len = length (elements_bytes (form_of exts ev) (written_elements exts ev)) in
+    let form : c.args.form ≡ OneByte = one_byte c.args.form (sym c.eq.ensures ∙ c.if-eq.true) in
+    let len = length (elements_bytes c.args.form (written_elements exts ev)) in
     let same : len ≡ length (elements_bytes OneByte (written_elements exts ev)) =
-    ap (λ (f : ExtensionsForm). length (elements_bytes f (written_elements exts ev))) (sym c.form.ensures.form ∙ form) in (
-      λ _. omega (arith, length-block exts ev len refl, same, c.form.ensures.short form, c.len-most.ensures.count, c.next_multiple_of.ensures.value, c.if-next_multiple_of-room.true),
+    ap (λ (f : ExtensionsForm). length (elements_bytes f (written_elements exts ev))) form in (
+      λ _. omega (arith, length-block c.args.form exts ev len refl, same, c.requires form, c.len-most.ensures.count, c.next_multiple_of.ensures.value, c.if-next_multiple_of-room.true),
       λ _. refl,
     )

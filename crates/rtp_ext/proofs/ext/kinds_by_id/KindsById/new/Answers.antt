@@ -1,27 +1,16 @@
-use Rattle.std.proofs.Common.{◌≡◌, ℕ, rules, ap, sym, ◌∙◌, set, length, None, List, subst}
-use Rattle.std.specs.List.{AllByRecursion, list_any}
-use Rattle.rtp_ext.specs.KindsById.{slots_of, is_long_item}
-use Rattle.rtp_ext.specs.MapSlots.{items_at, IsMapped}
-use Rattle.rtp_ext.proofs.KindsByIdLemmas.{mapped-slots}
-use Rattle.rtp_ext.proofs.MappedIdLemmas.{items_at-mapped, all_mapped}
+use Rattle.std.proofs.Common.{◌≡◌, rules, set, length, None}
+use Rattle.rtp_ext.proofs.TableLemmas.{anew-mapped, anew-table}
 use Rattle.rtp_ext.proofs.ext.kinds_by_id.KindsById.new.Goals as goal
 
 pub has_long-is_long-requires-clause-mapped : goal.has_long-is_long-requires-clause-mapped
 has_long-is_long-requires-clause-mapped c =
     let kinds = set c.args.kinds 0 None in
-    let long : length kinds ≡ 256 = search rules in
-    subst (AllByRecursion (IsMapped (slots_of kinds))) (sym (c.as_slice.ensures ∙ mapped-slots kinds c.of_kinds-mapped.result long c.of_kinds-mapped.ensures))
-    (all_mapped (slots_of kinds))
+    let many : length kinds ≡ 256 = search rules in
+    anew-mapped kinds c.of_kinds-mapped.result c.as_slice.result.now many c.of_kinds-mapped.ensures c.as_slice.ensures
 
 pub invariant_of-result : goal.invariant_of-result
 invariant_of-result c =
     let kinds = set c.args.kinds 0 None in
-    let long : length kinds ≡ 256 = search rules in
-    let ids = mapped-slots kinds c.of_kinds-mapped.result long c.of_kinds-mapped.ensures in (
-      long,
-      search rules,
-      ids,
-      c.has_long-is_long.ensures
-          ∙ ap (λ (list : List ℕ). list_any is_long_item (items_at (slots_of kinds) list)) (c.as_slice.ensures ∙ ids)
-          ∙ ap (list_any is_long_item) (items_at-mapped (slots_of kinds)),
-    )
+    let many : length kinds ≡ 256 = search rules in
+    anew-table kinds c.of_kinds-mapped.result c.as_slice.result.now c.has_long-is_long.result many (search rules) c.of_kinds-mapped.ensures c.as_slice.ensures
+    c.has_long-is_long.ensures

@@ -3,10 +3,11 @@ use Rattle.rtp_ext.specs.ExtensionMap.{unlocked, IsId}
 use Rattle.rtp_ext.specs.KindsById.{known_entry}
 use Rattle.rtp_ext.proofs.KindsByIdLemmas.{known_slots-put}
 use Rattle.rtp_ext.proofs.MappedIdLemmas.{room_for_new, new_id, same_ids}
+use Rattle.rtp_ext.proofs.RisingIdLemmas.{mapped_rise}
 use Rattle.rtp_ext.proofs.ext.map.ExtensionMap.set.Goals as goal
 
-pub insert-requires : goal.insert-requires
-insert-requires c =
+pub insert-requires-clause-room : goal.insert-requires-clause-room
+insert-requires-clause-room c =
     let found = c.in-Some.ensures.found in
     omega (
       arith,
@@ -14,6 +15,9 @@ insert-requires c =
       room_for_new c.self.inside.slots c.self.inside.mapped c.in-Some.slot c.replace-old.result _ c.self.invariant.1
           (omega (arith, found.1, c.self.invariant.0)) c.replace-old.ensures.value (sym c.is_mapped.ensures ∙ c.if-not-is_mapped.true),
     )
+
+pub insert-requires-clause-rising : goal.insert-requires-clause-rising
+insert-requires-clause-rising c = mapped_rise c.self.inside.slots c.self.inside.mapped c.self.invariant.1
 
 pub invariant_of-self : goal.invariant_of-self
 invariant_of-self c =

@@ -1,6 +1,6 @@
-use Rattle.rtp_ext.proofs.NewIdLemmas.{HasNewIdsTo}
+use Rattle.rtp_ext.proofs.NewIdLemmas.{HasNewBytesTo}
 use Rattle.rtp_ext.proofs.ext.new_ids.NewIds.between.Given as goal
 
 -- the ids that were passed have their new ids
 abbrev pub invariant-loop-id : goal.invariant-loop-id
-invariant-loop-id l = HasNewIdsTo l.from l.to l.new-items l.id
+invariant-loop-id l = HasNewBytesTo l.from l.to l.new-items l.id

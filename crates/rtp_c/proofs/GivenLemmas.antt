@@ -1,0 +1,74 @@
+-- Texts that end at a zero.
+use Rattle.std.proofs.Common.{◌≡◌, ◌≢◌, ℕ, ◌+◌, ◌-◌, ◌<◌, ◌≤◌, List, ◌∷◌, ◌++◌, length, take, drop, replicate, get_or, sym, ap, ◌∙◌, subst, All, arith, length-append, get_or-append-add, take_at, take-append-drop, Option, Some, None, IfNone}
+use Rattle.std.proofs.lemmas.Bool.{false≢true}
+use Rattle.std.proofs.lemmas.List.{get_or_append_left, drop_more, drop-replicate}
+use Rattle.rtp_base.specs.Id.{IsIdByte, padded}
+use Rattle.rtp_base.specs.Overwriting.{overwritten}
+use Rattle.rtp_base.proofs.OverwritingLemmas.{overwritten-front}
+use Rattle.rtp_c.specs.Given.{IsGiven, IsTextIn}
+
+-- a zero is none of an id's characters
+zero-no_id_byte : (b : ℕ) → b ≡ 0 → IsIdByte b → ⊥
+zero-no_id_byte b none is = false≢true (subst IsIdByte none is)
+
+-- after the text stands a zero
+zero-after : (bytes text : List ℕ) → (is : IsTextIn bytes text) → (length text < length bytes) × (get_or bytes (length text) 0 ≡ 0)
+zero-after bytes text is =
+    let n : length text ≡ length text + 0 = omega arith in (
+      omega (arith, ap length is.bytes_are, length-append text (0 ∷ is.after)),
+      ap (λ (xs : List ℕ). get_or xs (length text) 0) is.bytes_are
+          ∙ ap (λ (k : ℕ). get_or (text ++ 0 ∷ is.after) k 0) n
+          ∙ get_or-append-add text (0 ∷ is.after) 0 0,
+    )
+
+-- the first zero
+pub record IsFirstZero (bytes : List ℕ) (n : ℕ) : Type 0 where
+  pub within : n < length bytes
+  pub zero : get_or bytes n 0 ≡ 0
+  pub before : (k : ℕ) → k < n → get_or bytes k 0 ≢ 0
+
+one_text : (bytes text : List ℕ) (n : ℕ) → IsTextIn bytes text → IsFirstZero bytes n → n ≡ length text
+one_text bytes text n is first =
+    let after = zero-after bytes text is in
+    let not_later : length text < n → ⊥ = λ lt. first.before (length text) lt after.1 in
+    let not_sooner : n < length text → ⊥ = λ lt.
+    zero-no_id_byte (get_or text n 0)
+    (sym (get_or_append_left text (0 ∷ is.after) 0 n lt) ∙ sym (ap (λ (xs : List ℕ). get_or xs n 0) is.bytes_are) ∙ first.zero)
+    (is.text_is n 0 lt) in
+    omega (arith, not_later, not_sooner)
+
+pub no_text : (bytes text : List ℕ) → ((k : ℕ) → k < length bytes → get_or bytes k 0 ≢ 0) → IsTextIn bytes text → ⊥
+no_text bytes text none is = let after = zero-after bytes text is in none (length text) after.0 after.1
+
+-- the text before the first zero
+pub IsTextIn-first : (bytes : List ℕ) (n : ℕ) → IsFirstZero bytes n → All IsIdByte (take n bytes) → IsTextIn bytes (take n bytes)
+IsTextIn-first bytes n first all = record {
+  after = drop (n + 1) bytes;
+  bytes_are = sym (take-append-drop n bytes)
+      ∙ ap (λ (xs : List ℕ). take n bytes ++ xs) (drop_more bytes n 0 first.within ∙ ap (λ (b : ℕ). b ∷ drop (n + 1) bytes) first.zero);
+  text_is = all;
+}
+
+pub all-text : (bytes text : List ℕ) (n : ℕ) → IsTextIn bytes text → IsFirstZero bytes n → All IsIdByte (take n bytes)
+all-text bytes text n is first =
+    subst (All IsIdByte)
+    (sym (ap (take n) is.bytes_are ∙ take_at text (0 ∷ is.after) n (sym (one_text bytes text n is first)))) is.text_is
+
+-- a text put to the front of spaces
+pub padded-put : (size : ℕ) (text : List ℕ) → overwritten (replicate size 32) 0 text ≡ padded size text
+padded-put size text =
+    overwritten-front (replicate size 32) text ∙ ap (λ (xs : List ℕ). text ++ xs) (drop-replicate (length text) size 32)
+
+-- ---- what isn't given
+
+pub any_none : {A X : Type 0} (o : Option A) → X → IfNone o X
+any_none None x = x
+any_none (Some value) x = tt
+
+pub none_given : {A : Type 0} (has : ℕ) (IsIt : A → Type 0) (o : Option A) → (0 < has) × ((value : A) → IsIt value → ⊥) → IsGiven has IsIt o → ⊥
+none_given has IsIt None none is = omega (arith, none.0, is)
+none_given has IsIt (Some value) none is = none.1 value is.1
+
+pub weaker_none : {A X Y : Type 0} (o : Option A) → (X → Y) → IfNone o X → IfNone o Y
+weaker_none None f x = f x
+weaker_none (Some value) f x = tt

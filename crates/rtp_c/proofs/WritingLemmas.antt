@@ -1,0 +1,63 @@
+-- The elements that C names, as they are written.
+use Rattle.std.proofs.Common.{◌≡◌, ◌↔◌, ℕ, ◌+◌, ◌<◌, ◌≤◌, List, [], ◌∷◌, ◌++◌, length, map, drop, refl, sym, ap, ◌∙◌, subst, All, Bor, arith, length-append, lt_of_not-le, take, take_all, get_or, below_more, Some}
+use Rattle.std.proofs.lemmas.List.{take_more, map_push, get_or_default}
+use Rattle.std.specs.List.{AllByRecursion}
+use Rattle.std.proofs.lemmas.List.Elements.{All-from_recursion, recursion_from_All}
+use Rattle.rtp_ext.specs.declared.ext.form.ExtensionsForm.{ExtensionsForm}
+use Rattle.rtp_ext.specs.declared.ext.form.ExtensionsForm.TheVariants.{OneByte, TwoByte}
+use Rattle.rtp_ext.specs.Elements.{Element, elements_bytes}
+use Rattle.rtp_ext.specs.ElementsInARow.{elements_of, IsWritable, FitInARow}
+use Rattle.rtp_c.specs.declared.elements.ElementView.{ElementView}
+use Rattle.rtp_c.specs.PacketView.{form_number}
+use Rattle.rtp_c.specs.ElementView.{element_in}
+use Rattle.rtp_c.specs.WrittenElements.{LiesIn, LieIn, elements_in, AreWritable, AreWrittenElements, AreTooLong}
+
+-- an element that the form can carry has at most two bytes before its data, and 255 of these
+pub FitInARow-one : (form : ExtensionsForm) (element : Element) → IsWritable form element → FitInARow form (element ∷ []) 257
+FitInARow-one OneByte element is =
+    let few = is.1.2 in
+    record { writable = (is, tt); bytes_fit = omega (arith, length-append element.1 []) }
+FitInARow-one TwoByte element is =
+    let few = is.1.2 in
+    record { writable = (is, tt); bytes_fit = omega (arith, length-append element.1 []) }
+
+to_map : {X Y : Type 0} (P : Y → Type 0) (f : X → Y) (xs : List X) → AllByRecursion (λ x. P (f x)) xs → AllByRecursion P (map f xs)
+to_map P f [] all = tt
+to_map P f (x ∷ xs) all = (all.0, to_map P f xs all.1)
+
+from_map : {X Y : Type 0} (P : Y → Type 0) (f : X → Y) (xs : List X) → AllByRecursion P (map f xs) → AllByRecursion (λ x. P (f x)) xs
+from_map P f [] all = tt
+from_map P f (x ∷ xs) all = (all.0, from_map P f xs all.1)
+
+abbrev Pair : Type 0
+Pair = ℕ × Bor (List ℕ)
+
+-- the pairs and the elements that they are
+pub All-elements : (form : ExtensionsForm) (pairs : List Pair) → All (λ pair. IsWritable form (pair.0, pair.1.now)) pairs ↔ All (IsWritable form) (elements_of pairs)
+All-elements form pairs =
+    let f : Pair → Element = λ pair. (pair.0, pair.1.now) in (
+      λ all. All-from_recursion (IsWritable form) (map f pairs) (to_map (IsWritable form) f pairs (recursion_from_All (λ pair. IsWritable form (f pair)) pairs all)),
+      λ all. All-from_recursion (λ pair. IsWritable form (f pair)) pairs (from_map (IsWritable form) f pairs (recursion_from_All (IsWritable form) (map f pairs) all)),
+    )
+
+-- the first of the elements lie in the bytes, and the pairs are these
+pub record AreFirst (bytes : List ℕ) (views : List ElementView) (pairs : List (ℕ × Bor (List ℕ))) (i : ℕ) : Type 0 where
+  pub within : (k : ℕ) → k < i → (d : ElementView) → LiesIn bytes (get_or views k d)
+  pub named : elements_of pairs ≡ elements_in bytes (take i views)
+
+-- elements for which only the room is short
+pub AreTooLong-named : (form : ExtensionsForm) (bytes : List ℕ) (views : List ElementView) (elements : List Element) (room : ℕ)
+    → LieIn bytes views → elements ≡ elements_in bytes views → (FitInARow form elements room → ⊥) → All (IsWritable form) elements
+    → AreTooLong form bytes views room
+AreTooLong-named form bytes views elements room within named short all = record {
+  writable = record { within = within; carried = subst (All (IsWritable form)) named all };
+  too_long = subst (λ (es : List Element). room < length (elements_bytes form es)) named
+      (lt_of_not-le (λ fits. short (record { writable = recursion_from_All (IsWritable form) elements all; bytes_fit = fits })));
+}
+
+-- the forms have different numbers
+pub one_form : (f g : ExtensionsForm) → form_number (Some f) ≡ form_number (Some g) → f ≡ g
+one_form OneByte OneByte same = refl
+one_form OneByte TwoByte same = absurd (omega (arith, same))
+one_form TwoByte OneByte same = absurd (omega (arith, same))
+one_form TwoByte TwoByte same = refl

@@ -1,0 +1,92 @@
+-- The header and the values that C gives to be written (RFC 3550, 5.1; RFC 8285, 4).
+use Rattle.std.specs.Prelude.{◌≡◌, ℕ, ◌<◌, ◌≤◌, List, ◌∷◌, ◌++◌, Bool, nat_lt, if◌then◌else◌, Option, Some, None}
+use Rattle.std.specs.List.{All}
+use Rattle.rtp_base.specs.Id.{IsIdByte, padded}
+use Rattle.rtp_base.specs.MediaTime.{Fraction}
+use Rattle.rtp_values.specs.declared.value.values.ExtensionValues.{ExtensionValues}
+use Rattle.rtp_wire.specs.declared.header.rtp_header.RtpHeader.{RtpHeader}
+use Rattle.rtp_c.specs.declared.values.Time.{Time}
+use Rattle.rtp_c.specs.declared.values.ValuesView.{ValuesView}
+use Rattle.rtp_c.specs.declared.header_view.HeaderView.{HeaderView}
+use Rattle.rtp_c.specs.Held.{degrees_of}
+
+-- whether a flag is set: it is where it isn't 0
+abbrev pub is_set : ℕ → Bool
+is_set flag = nat_lt 0 flag
+
+-- a value, where its flag is set
+abbrev pub given : {A : Type 0} → ℕ → A → Option A
+given has value = if is_set has then Some value else None
+
+-- a value of this kind where its flag is set, and else none
+abbrev pub IsGiven : {A : Type 0} → ℕ → (A → Type 0) → Option A → Type 0
+IsGiven has IsIt None = has ≡ 0
+IsGiven has IsIt (Some value) = (0 < has) × IsIt value
+
+-- the text before the first zero of the bytes: letters, digits and underscores
+pub record IsTextIn (bytes text : List ℕ) : Type 0 where
+  pub after : List ℕ
+  pub bytes_are : bytes ≡ text ++ 0 ∷ after
+  pub text_is : All IsIdByte text
+
+-- the id of this size with that text
+pub record IsIdIn (size : ℕ) (bytes id : List ℕ) : Type 0 where
+  pub text : List ℕ
+  pub is_text : IsTextIn bytes text
+  pub id_is : id ≡ padded size text
+
+-- the time of these ticks, where there are any in a second
+abbrev pub IsTimeOf : Time → Fraction → Type 0
+IsTimeOf time fraction = (0 < time.hertz) × (fraction ≡ record { numer = time.ticks; denom = time.hertz })
+
+-- the values that are given, and no layer allocation
+pub record AreGivenValues (view : ValuesView) (values : ExtensionValues) : Type 0 where
+  pub send_time_is : values.abs_send_time ≡ given view.has_send_time view.send_time
+  pub capture_time_is : values.abs_capture_time ≡ given view.has_capture_time (record {
+    capture_time = view.capture_time;
+    clock_offset = given view.has_capture_offset view.capture_offset;
+  })
+  pub transmission_offset_is : values.tx_time_offs ≡ given view.has_transmission_offset view.transmission_offset
+  pub frame_marking_is : values.frame_mark ≡ given view.has_frame_marking view.frame_marking
+  pub transport_number_is : values.transport_cc ≡ given view.has_transport_number view.transport_number
+  pub video_orientation_is : IsGiven view.has_video_orientation (λ turn. degrees_of turn ≡ view.video_orientation) values.video_orientation
+  pub video_content_type_is : values.video_content_type ≡ given view.has_video_content_type view.video_content_type
+  pub audio_level_is : values.audio_level ≡ given view.has_audio_level view.audio_level
+  pub voice_activity_is : values.voice_activity ≡ given view.has_voice_activity (is_set view.voice_activity)
+  pub playout_delay_min_is : IsGiven view.has_playout_delay_min (IsTimeOf view.playout_delay_min) values.play_delay_min
+  pub playout_delay_max_is : IsGiven view.has_playout_delay_max (IsTimeOf view.playout_delay_max) values.play_delay_max
+  pub video_timing_is : values.video_timing ≡ given view.has_video_timing (record {
+    flags = view.timing_flags;
+    encode_start = view.encode_start;
+    encode_finish = view.encode_finish;
+    packetize_complete = view.packetize_complete;
+    last_left_pacer = view.last_left_pacer;
+  })
+  pub mid_is : IsGiven view.has_mid (IsIdIn 16 view.mid) values.mid
+  pub rid_is : IsGiven view.has_rid (IsIdIn 8 view.rid) values.rid
+  pub repaired_rid_is : IsGiven view.has_repaired_rid (IsIdIn 8 view.repaired_rid) values.rid_repair
+  pub no_layers : values.video_layers_allocation ≡ None
+
+-- the fields that are given, beside the values, where a header can have them: its payload type has seven bits, and it counts at most fifteen sources
+pub record AreGivenFields (view : HeaderView) (header : RtpHeader) : Type 0 where
+  pub padding_is : header.has_padding ≡ is_set view.has_padding
+  pub extension_is : header.has_extension ≡ is_set view.has_extension
+  pub marker_is : header.marker ≡ is_set view.marker
+  pub payload_type_is : header.payload_type ≡ view.payload_type
+  pub payload_type_fits : view.payload_type ≤ 127
+  pub number_is : header.sequence_number ≡ view.sequence_number
+  pub timestamp_is : header.timestamp ≡ view.timestamp
+  pub ssrc_is : header.ssrc ≡ view.ssrc
+  pub count_is : header.csrc_count ≡ view.csrc_count
+  pub few_sources : view.csrc_count ≤ 15
+  pub sources_are : header.csrc ≡ view.csrc
+
+-- the header that is given, with the values that are given
+pub record IsGivenHeader (view : HeaderView) (header : RtpHeader) : Type 0 where
+  pub fields : AreGivenFields view header
+  pub values : AreGivenValues view.values header.ext_vals
+
+-- what the search for a value finds: the value or none as it is given, and nothing where its flag is set and there is no such value
+abbrev pub FindsGiven : {A : Type 0} → ℕ → (A → Type 0) → Option (Option A) → Type 0
+FindsGiven {A} has IsIt None = (0 < has) × ((value : A) → IsIt value → ⊥)
+FindsGiven has IsIt (Some found) = IsGiven has IsIt found

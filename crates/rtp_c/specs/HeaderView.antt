@@ -1,0 +1,52 @@
+-- What C is told of a whole header (RFC 3550, 5.1).
+use Rattle.std.specs.Prelude.{◌≡◌, ℕ, List, unwrap_or}
+use Rattle.rtp_base.specs.Flag.{bit}
+use Rattle.rtp_vla.specs.Allocation.{nothing_sent}
+use Rattle.rtp_ext.specs.ExtensionMap.{Slots}
+use Rattle.rtp_wire.specs.declared.header.rtp_header.RtpHeader.{RtpHeader}
+use Rattle.rtp_wire.specs.Header.{IsWire}
+use Rattle.rtp_wire.specs.RefusedMemory.{HeaderHasAllocation}
+use Rattle.rtp_c.specs.declared.header_view.HeaderView.{HeaderView}
+use Rattle.rtp_c.specs.declared.layers.Layers.{Layers}
+use Rattle.rtp_c.specs.KindsOfIds.{HasKinds}
+use Rattle.rtp_c.specs.ValuesView.{IsViewOfValues}
+use Rattle.rtp_c.specs.LayersView.{IsViewOfLayers}
+
+-- the fields, each in its place
+pub record IsViewOfHeader (header : RtpHeader) (view : HeaderView) : Type 0 where
+  pub padding_is : view.has_padding ≡ bit header.has_padding
+  pub extension_is : view.has_extension ≡ bit header.has_extension
+  pub count_is : view.csrc_count ≡ header.csrc_count
+  pub marker_is : view.marker ≡ bit header.marker
+  pub payload_type_is : view.payload_type ≡ header.payload_type
+  pub number_is : view.sequence_number ≡ header.sequence_number
+  pub timestamp_is : view.timestamp ≡ header.timestamp
+  pub ssrc_is : view.ssrc ≡ header.ssrc
+  pub sources_are : view.csrc ≡ header.csrc
+  pub values_are : IsViewOfValues header.ext_vals view.values
+  pub header_len_is : view.header_len ≡ header.header_len
+
+-- the bytes begin with this header under the map of these numbers
+pub record BeginsWith (numbers bytes : List ℕ) (header : RtpHeader) : Type 0 where
+  pub slots : Slots
+  pub has_kinds : HasKinds numbers slots
+  pub is_wire : IsWire slots bytes header
+
+-- it is told
+pub record IsParsedAs (numbers bytes : List ℕ) (view : HeaderView) : Type 0 where
+  pub header : RtpHeader
+  pub begins : BeginsWith numbers bytes header
+  pub is_view : IsViewOfHeader header view
+
+-- it is told with its layer allocation: of a header without one, as where nothing is sent
+pub record IsParsedWithLayersAs (numbers bytes : List ℕ) (view : HeaderView) (layers : Layers) : Type 0 where
+  pub header : RtpHeader
+  pub begins : BeginsWith numbers bytes header
+  pub is_view : IsViewOfHeader header view
+  pub layers_are : IsViewOfLayers (unwrap_or header.ext_vals.video_layers_allocation nothing_sent) layers
+
+-- one of the elements of the bytes' block is mapped to the layer allocation and takes memory
+pub record TakesMemoryFrom (numbers bytes : List ℕ) : Type 0 where
+  pub slots : Slots
+  pub has_kinds : HasKinds numbers slots
+  pub has_allocation : HeaderHasAllocation slots bytes

@@ -1,0 +1,64 @@
+-- The header that C gives, as it is written (RFC 3550, 5.1; RFC 8285, 4.2 and 4.3).
+use Rattle.std.specs.Prelude.{◌≡◌, ℕ, ◌<◌, List, ◌++◌, length, drop}
+use Rattle.rtp_ext.specs.ExtensionMap.{Slots}
+use Rattle.rtp_ext.specs.Elements.{Element}
+use Rattle.rtp_ext.specs.ElementsInARow.{CannotBeInARow}
+use Rattle.rtp_wire.specs.declared.header.rtp_header.RtpHeader.{RtpHeader}
+use Rattle.rtp_wire.specs.Header.{IsWire}
+use Rattle.rtp_wire.specs.Packet.{IsPacket}
+use Rattle.rtp_wire.specs.Written.{wire_bytes, image_of}
+use Rattle.rtp_wire.specs.WrittenWith.{wire_bytes_with, parts_with}
+use Rattle.rtp_c.specs.declared.header_view.HeaderView.{HeaderView}
+use Rattle.rtp_c.specs.declared.elements.ElementView.{ElementView}
+use Rattle.rtp_c.specs.KindsOfIds.{HasKinds}
+use Rattle.rtp_c.specs.Given.{IsGivenHeader, AreGivenFields}
+use Rattle.rtp_c.specs.WrittenElements.{LieIn, elements_in}
+
+-- the slots of the map of these numbers, and the header that is given
+pub record IsToBeWritten (numbers : List ℕ) (view : HeaderView) (slots : Slots) (header : RtpHeader) : Type 0 where
+  pub has_kinds : HasKinds numbers slots
+  pub is_given : IsGivenHeader view header
+
+-- as many bytes as the header takes under the map
+pub record IsLengthOf (numbers : List ℕ) (view : HeaderView) (len : ℕ) : Type 0 where
+  pub slots : Slots
+  pub header : RtpHeader
+  pub is_given : IsToBeWritten numbers view slots header
+  pub len_is : len ≡ length (wire_bytes slots header)
+
+-- the header stands at the front of the buffer, and its other bytes are as they were; followed by anything it is read as its image
+pub record IsWrittenHeader (numbers : List ℕ) (view : HeaderView) (old new : List ℕ) (len : ℕ) : Type 0 where
+  pub slots : Slots
+  pub header : RtpHeader
+  pub is_given : IsToBeWritten numbers view slots header
+  pub len_is : len ≡ length (wire_bytes slots header)
+  pub written : new ≡ wire_bytes slots header ++ drop len old
+  pub read_back : (rest : List ℕ) → IsWire slots (wire_bytes slots header ++ rest) (image_of slots header)
+
+-- the header takes more than the room
+pub record IsTooLong (numbers : List ℕ) (view : HeaderView) (room : ℕ) : Type 0 where
+  pub slots : Slots
+  pub header : RtpHeader
+  pub is_given : IsToBeWritten numbers view slots header
+  pub too_long : room < length (wire_bytes slots header)
+
+-- the fields of the header are given, the data of the elements lie within the bytes, and a block can have them
+pub record CanBeWrittenWith (view : HeaderView) (bytes : List ℕ) (views : List ElementView) (header : RtpHeader) : Type 0 where
+  pub fields : AreGivenFields view header
+  pub within : LieIn bytes views
+  pub in_a_row : CannotBeInARow (elements_in bytes views) 262140 → ⊥
+
+-- the header and a block with the elements stand at the front of the buffer, and its other bytes are as they were; followed by anything they are a packet
+pub record IsWrittenWith (view : HeaderView) (bytes : List ℕ) (views : List ElementView) (old new : List ℕ) (len : ℕ) : Type 0 where
+  pub header : RtpHeader
+  pub is_given : CanBeWrittenWith view bytes views header
+  pub len_is : len ≡ length (wire_bytes_with header (elements_in bytes views))
+  pub written : new ≡ wire_bytes_with header (elements_in bytes views) ++ drop len old
+  pub read_back : (rest : List ℕ) →
+      IsPacket (wire_bytes_with header (elements_in bytes views) ++ rest) (parts_with header (elements_in bytes views) rest)
+
+-- they take more than the room
+pub record IsTooLongWith (view : HeaderView) (bytes : List ℕ) (views : List ElementView) (room : ℕ) : Type 0 where
+  pub header : RtpHeader
+  pub is_given : CanBeWrittenWith view bytes views header
+  pub too_long : room < length (wire_bytes_with header (elements_in bytes views))

@@ -1,0 +1,121 @@
+//! Headers as C gives them, from their fields and values to bytes.
+
+ghost use Rattle.std.specs.Prelude.{◌≡◌, ◌≢◌, ◌≤◌, ◌⊎◌, length};
+ghost use Rattle.rtp_wire.specs.declared.header.rtp_header.RtpHeader.{RtpHeader as Header};
+ghost use Rattle.rtp_c.specs.Status.{ok, no_memory, short_buffer, bad_field};
+ghost use Rattle.rtp_c.specs.Given.{IsGivenHeader};
+ghost use Rattle.rtp_c.specs.WrittenHeader.{IsLengthOf, IsWrittenHeader, IsTooLong, CanBeWrittenWith, IsWrittenWith, IsTooLongWith};
+
+use super::elements::ElementView;
+use super::given::{given_header, header_with};
+use super::header_view::HeaderView;
+use super::map::{KindsOfIds, kinds_of};
+use super::status::{BAD_FIELD, OK, SHORT_BUFFER};
+use super::writing_elements::pairs_in;
+use rtp_ext::ExtensionsForm;
+use rtp_values::ExtensionValues;
+use std::alloc::Global;
+
+// The most bytes that the body of a block has: 65,535 words (RFC 3550, 5.3.1).
+const MAX_BODY_LEN: usize = 4 * 65_535;
+
+/// Writes the fixed part and the CSRC list of the header, and a block with these elements, to the front
+/// of the buffer (RFC 3550, 5.1; RFC 8285, 4.2 and 4.3). X is set whatever `has_extension` holds, and
+/// the values of the header are not looked at. An element has its id and the `data_len` bytes of
+/// `bytes` from its `data_at` on; its `end` is not looked at. The block is in the one-byte form exactly
+/// where that can carry every element, ids 1 to 14 with 1 to 16 bytes of data; zeros fill its last word.
+///
+/// `OK`, and how many bytes they take is written too. `BAD_FIELD` where the payload type is above 127,
+/// there are more than 15 contributing sources, the data of an element reach past `bytes`, an element
+/// has the id 0 or more than 255 bytes of data, or the elements take more than the 65,535 words that a
+/// block can have; `SHORT_BUFFER` where only the room is short; `NO_MEMORY` where memory is refused,
+/// which is taken for the call where there are elements. Where it isn't `OK` nothing is written.
+#[unsafe(no_mangle)]
+pub extern "C" fn rtp_write_with(
+    alloc: Global,
+    header: &HeaderView,
+    bytes: &[u8],
+    elements: &[ElementView],
+    buf: &mut [u8],
+    len: &mut usize,
+) -> i32
+    ensures written { result ≡ ok →
+        IsWrittenWith header.now bytes.now elements.now buf.old buf.new len.new }
+    ensures short { result ≡ short_buffer →
+        IsTooLongWith header.now bytes.now elements.now (length buf.old) }
+    ensures bad_field { result ≡ bad_field → (h : Header) →
+        CanBeWrittenWith header.now bytes.now elements.now h → ⊥ }
+    ensures memory { result ≡ no_memory → 1 ≤ length elements.now }
+    ensures statuses { (result ≡ ok) ⊎ ((result ≡ short_buffer) ⊎ ((result ≡ bad_field)
+        ⊎ (result ≡ no_memory))) }
+    ensures unchanged { result ≢ ok → (buf.new ≡ buf.old) × (len.new ≡ len.old) }
+{
+    let Some(header) = header_with(header, ExtensionValues::default()) else {
+        return BAD_FIELD;
+    };
+    let pairs = match pairs_in(alloc, bytes, elements) {
+        Ok(pairs) => pairs,
+        Err(status) => return status,
+    };
+    if let Some(written) = header.write_with(buf, &pairs) {
+        *len = written;
+        return OK;
+    }
+    match ExtensionsForm::for_elements(&pairs, MAX_BODY_LEN) {
+        None => BAD_FIELD,
+        Some(_) => SHORT_BUFFER,
+    }
+}
+
+/// How many bytes [`rtp_write`] writes of the header: a multiple of four, 12 without CSRC list and
+/// block. `OK`, and they are written; `BAD_FIELD` where the header is none that can be written, and
+/// then nothing is written.
+#[unsafe(no_mangle)]
+pub extern "C" fn rtp_wire_len(map: &KindsOfIds, header: &HeaderView, len: &mut usize) -> i32
+    ensures length { result ≡ ok → IsLengthOf map.now.kind header.now len.new }
+    ensures bad_field { result ≡ bad_field → (h : Header) → IsGivenHeader header.now h → ⊥ }
+    ensures statuses { (result ≡ ok) ⊎ (result ≡ bad_field) }
+    ensures unchanged { result ≢ ok → len.new ≡ len.old }
+{
+    let Some(header) = given_header(header) else {
+        return BAD_FIELD;
+    };
+    *len = header.wire_len_by_kinds(&kinds_of(map));
+    OK
+}
+
+/// Writes the header to the front of the buffer (RFC 3550, 5.1; RFC 8285, 4.2 and 4.3). A flag counts
+/// as set where it isn't 0, and a value as absent where its `has_` is 0; `header_len` and `has_layers`
+/// are not looked at. Where `has_extension` is set a block is written, with an element for each mapped
+/// id, by rising id, whose value is there: in the two-byte form exactly where an id above 14 is mapped,
+/// the layer allocation is mapped, or a text that is written is empty. Zeros fill its last word. Where
+/// `has_extension` is clear nothing is written of the values.
+///
+/// `OK`, and how many bytes they take is written too. `BAD_FIELD` where the payload type is above 127,
+/// there are more than 15 contributing sources, or a value that is there is none: a text has another
+/// character than letters, digits and underscores before its first zero or has no zero, an orientation
+/// is none of 0, 90, 180 and 270, or a delay has 0 ticks in a second. `SHORT_BUFFER` where only the
+/// room is short. Where it isn't `OK` nothing is written.
+#[unsafe(no_mangle)]
+pub extern "C" fn rtp_write(
+    map: &KindsOfIds,
+    header: &HeaderView,
+    buf: &mut [u8],
+    len: &mut usize,
+) -> i32
+    ensures written { result ≡ ok →
+        IsWrittenHeader map.now.kind header.now buf.old buf.new len.new }
+    ensures short { result ≡ short_buffer → IsTooLong map.now.kind header.now (length buf.old) }
+    ensures bad_field { result ≡ bad_field → (h : Header) → IsGivenHeader header.now h → ⊥ }
+    ensures statuses { (result ≡ ok) ⊎ ((result ≡ short_buffer) ⊎ (result ≡ bad_field)) }
+    ensures unchanged { result ≢ ok → (buf.new ≡ buf.old) × (len.new ≡ len.old) }
+{
+    let Some(header) = given_header(header) else {
+        return BAD_FIELD;
+    };
+    let Some(written) = header.try_write_by_kinds(buf, &kinds_of(map)) else {
+        return SHORT_BUFFER;
+    };
+    *len = written;
+    OK
+}

@@ -1,0 +1,37 @@
+use Rattle.std.proofs.Common.{arith, refl, ap, subst, Some, IsErr}
+use Rattle.std.proofs.lemmas.Bool.{false≢true}
+use Rattle.rtp_ext.specs.KindsById.{slots_of}
+use Rattle.rtp_wire.specs.declared.header.rtp_header.RtpHeader.{RtpHeader}
+use Rattle.rtp_wire.specs.Header.{IsWire}
+use Rattle.rtp_wire.specs.PartsOf.{parts_of}
+use Rattle.rtp_wire.proofs.HeaderLemmas.{no_header, one_header}
+use Rattle.rtp_wire.proofs.NotAPacketLemmas.{no_packet-refused}
+use Rattle.rtp_wire.proofs.PartsLemmas.{length-packet}
+use Rattle.rtp_wire.proofs.header.rtp_header.RtpHeader.parse_by_kinds.Goals as goal
+
+pub returns-in_default-clause-only : goal.returns-in_default-clause-only
+returns-in_default-clause-only c header wire = absurd (no_header (slots_of c.args.kinds.now) c.args.buf.now header (c.in_default.ensures.refused.0 refl) wire)
+
+pub returns-in_err-header-clause-refused : goal.returns-in_err-header-clause-refused
+returns-in_err-header-clause-refused c = (
+  λ e. absurd (false≢true (subst IsErr e c.from_residual.ensures.0)),
+  λ none. absurd (no_packet-refused c.args.buf.now (parts_of c.in-Ok.packet) none c.in-Ok.ensures.found),
+)
+
+-- the header is that of the bytes
+wire : (c : goal.In_ok-header) → IsWire (slots_of c.args.kinds.now) c.args.buf.now c.in_ok-header.header
+wire c = record { parts = parts_of c.in-Ok.packet; is_packet = c.in-Ok.ensures.found; is_header = c.in_ok-header.ensures.found }
+
+pub returns-clause-found : goal.returns-clause-found
+returns-clause-found c = wire c
+
+pub returns-clause-only : goal.returns-clause-only
+returns-clause-only c header is = ap Some (one_header (slots_of c.args.kinds.now) c.args.buf.now _ header (wire c) is)
+
+pub returns-clause-within : goal.returns-clause-within
+returns-clause-within c =
+    omega (arith, ap (λ (h : RtpHeader). h.header_len) c.in_ok-header.ensures.found.fields_are, length-packet c.args.buf.now (parts_of c.in-Ok.packet) c.in-Ok.ensures.found)
+
+pub returns-clause-refused : goal.returns-clause-refused
+returns-clause-refused c =
+    (λ e. absurd cc, λ none. absurd (no_packet-refused c.args.buf.now (parts_of c.in-Ok.packet) none c.in-Ok.ensures.found))

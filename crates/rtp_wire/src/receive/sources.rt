@@ -1,0 +1,127 @@
+//! A receiver for each source, and how it is found.
+
+ghost use Rattle.std.specs.Prelude.{◌≡◌, ◌≢◌, ◌+◌, ◌<◌, ◌≤◌, ◌++◌, ◌∷◌, [], ℕ, length, Some, None, IsSome, OnOk, OnErr, IfSome, IfNone};
+ghost use Rattle.std.specs.Option.{option_copied};
+ghost use Rattle.std.specs.Ordering.{nat_cmp};
+ghost use Rattle.std.specs.BTreeMap.{get, Updates};
+ghost use Rattle.rtp_wire.specs.Places.{source_at, held_of, ArePlaces};
+
+use super::Receiver;
+use rtp_base::Ssrc;
+use std::alloc::{AllocError, Global};
+use std::collections::BTreeMap;
+
+// The sources with their receivers, in a list that has any order, and the place of each source in
+// it. Packets come in bursts of one source, so the place of the last one's source is kept, and a
+// source is looked up only where another one stands there.
+#[derive(Debug, Drop)]
+pub(super) struct Sources {
+    pub(super) list: Vec<(Ssrc, Receiver)>,
+    pub(super) places: BTreeMap<Ssrc, usize>,
+    pub(super) last: usize,
+}
+
+impl Sources {
+    // No source yet.
+    pub(super) fn new(alloc: Global) -> Self
+        ensures list { result.list.items ≡ [] }
+        ensures places { result.places.entries ≡ [] }
+    {
+        Sources {
+            list: Vec::new(alloc),
+            places: BTreeMap::new(alloc),
+            last: 0,
+        }
+    }
+
+    // How many sources there are.
+    pub(super) fn len(&self) -> usize
+        ensures { result ≡ length self.now.places.entries }
+    {
+        self.places.len()
+    }
+
+    // The place of the source in the list, and `None` where it has none.
+    pub(super) fn place_of(&self, ssrc: Ssrc) -> Option<usize>
+        requires { ArePlaces self.now.places self.now.list.items }
+        ensures { result ≡ get nat_cmp self.now.places ssrc }
+    {
+        match self.list.get(self.last) {
+            Some((source, _)) if *source == ssrc => Some(self.last),
+            _ => self.places.get(&ssrc).copied(),
+        }
+    }
+
+    // The receiver of the source, and `None` where it has none.
+    pub(super) fn get(&self, ssrc: Ssrc) -> Option<&Receiver>
+        requires { ArePlaces self.now.places self.now.list.items }
+        ensures { option_copied result ≡ held_of self.now.places self.now.list.items ssrc }
+    {
+        match self.place_of(ssrc) {
+            None => None,
+            Some(place) => Some(&self.list[place].1),
+        }
+    }
+
+    // Puts a source that has no receiver at the end of the list.
+    pub(super) fn add(&mut self, ssrc: Ssrc, receiver: Receiver) -> Result<(), AllocError>
+        requires { get nat_cmp self.old.places ssrc ≡ None }
+        ensures list { OnOk result
+            (self.new.list.items ≡ self.old.list.items ++ (ssrc, receiver) ∷ []) }
+        ensures places { OnOk result (Updates nat_cmp self.old.places self.new.places
+            ssrc (Some (length self.old.list.items))) }
+        ensures more { OnOk result
+            (length self.new.places.entries ≡ length self.old.places.entries + 1) }
+        ensures same_list { OnErr result (self.new.list.items ≡ self.old.list.items) }
+        ensures same_places { OnErr result (self.new.places.entries ≡ self.old.places.entries) }
+    {
+        self.list.reserve(1)?;
+        self.places.insert(ssrc, self.list.len())?;
+        self.list.push_reserved((ssrc, receiver));
+        Ok(())
+    }
+
+    // Takes the source out of the list, where the last source then has its place, and returns its
+    // receiver; `None`, and nothing changes, where it has none.
+    pub(super) fn remove(&mut self, ssrc: Ssrc) -> Option<Receiver>
+        requires { ArePlaces self.old.places self.old.list.items }
+        ensures index { ArePlaces self.new.places self.new.list.items }
+        ensures value { result ≡ held_of self.old.places self.old.list.items ssrc }
+        ensures gone { held_of self.new.places self.new.list.items ssrc ≡ None }
+        ensures others { (source : ℕ) → source ≢ ssrc →
+            held_of self.new.places self.new.list.items source
+            ≡ held_of self.old.places self.old.list.items source }
+        ensures same_list { IfNone result (self.new.list.items ≡ self.old.list.items) }
+        ensures same_places { IfNone result
+            (self.new.places.entries ≡ self.old.places.entries) }
+        ensures fewer { IfSome result (λ _.
+            length self.new.places.entries + 1 ≡ length self.old.places.entries) }
+    {
+        let Some(place) = self.places.remove(&ssrc) else {
+            return None;
+        };
+        let (_, receiver) = self.list.swap_remove(place);
+        self.renumber(place);
+        Some(receiver)
+    }
+
+    // Writes this place for the source that stands there, if one does.
+    fn renumber(&mut self, place: usize)
+        requires { place < length self.old.list.items →
+            IsSome (get nat_cmp self.old.places (source_at self.old.list.items place)) }
+        ensures list { self.new.list ≡ self.old.list }
+        ensures moved { place < length self.old.list.items →
+            Updates nat_cmp self.old.places self.new.places
+            (source_at self.old.list.items place) (Some place) }
+        ensures none { length self.old.list.items ≤ place →
+            self.new.places.entries ≡ self.old.places.entries }
+        ensures as_many { length self.new.places.entries ≡ length self.old.places.entries }
+    {
+        let Some((source, _)) = self.list.get(place) else {
+            return;
+        };
+        if let Some(found) = self.places.get_mut(source) {
+            *found = place;
+        }
+    }
+}
