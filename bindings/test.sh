@@ -58,10 +58,12 @@ cc -std=c11 "${strict[@]}" -fsyntax-only bindings/test/layout.c
 c++ -std=c++11 "${strict[@]}" -fsyntax-only -x c++ bindings/test/layout.c
 said 'the header file, as C99 to C17 and C++11 to C++17, and where each field lies'
 
-cc -std=c99 "${strict[@]}" bindings/c/test/packets.c "$library" -o "$scratch/packets"
-"$scratch/packets"
-c++ -std=c++11 "${strict[@]}" -Wno-missing-field-initializers -x c++ bindings/c/test/packets.c -x none "$library" -o "$scratch/packets"
-"$scratch/packets"
+for it in packets headers; do
+    cc -std=c99 "${strict[@]}" bindings/c/test/$it.c "$library" -o "$scratch/by_hand"
+    "$scratch/by_hand"
+    c++ -std=c++11 "${strict[@]}" -Wno-missing-field-initializers -x c++ bindings/c/test/$it.c -x none "$library" -o "$scratch/by_hand"
+    "$scratch/by_hand"
+done
 said 'values worked out by hand, as C99 and C++11'
 
 # The examples print what rtp_lines does.
@@ -93,13 +95,13 @@ for program in "$scratch"/lines_*; do compare "$program"; done
 said "the examples in $languages (in C static, shared and all static) against examples/*.expected"
 
 # SSRC 44 -> 77; 47,000 -> 1,000; at 5 s the send time is 5 * 2^18 = 0x140000, and 40 ms later
-# 1,321,205 = 0x1428F5; the mid (id 3) becomes padding. The second packet says no send time, and the third
-# line is no packet.
+# 1,321,205 = 0x1428F5; its id 4 becomes 2, and the mid (id 3) becomes padding. The second packet says no send
+# time, and the third line is no packet.
 cc -std=c99 "${strict[@]}" "${include[@]}" bindings/examples/forward.c "$library" -o "$scratch/forward"
 printf '%s\n' 9021B798000027100000002CBEDE000242AABBCC303100000102 9021B799000027110000002CBEDE0001303100000304 80 \
-    9021B79A000027110000002CBEDE000142AABBCC05 | "$scratch/forward" 77 1000 4 3 5 >"$scratch/forwarded"
-printf '%s\n' 902103E8000027100000004DBEDE000242140000000000000102 902103E9000027110000004DBEDE0001000000000304 \
-    902103EA000027110000004DBEDE0001421428F505 >"$scratch/expected"
+    9021B79A000027110000002CBEDE000142AABBCC05 | "$scratch/forward" 77 1000 5 >"$scratch/forwarded"
+printf '%s\n' 902103E8000027100000004DBEDE000222140000000000000102 902103E9000027110000004DBEDE0001000000000304 \
+    902103EA000027110000004DBEDE0001221428F505 >"$scratch/expected"
 diff "$scratch/expected" "$scratch/forwarded" >&2 || fail 'the forwarder'
 said 'the forwarder in C'
 
@@ -183,8 +185,10 @@ if has aarch64-linux-gnu-gcc && has qemu-aarch64; then
     aarch64-linux-gnu-gcc -std=c11 "${strict[@]}" -fsyntax-only bindings/test/layout.c
     aarch64-linux-gnu-gcc -std=c99 "${strict[@]}" "${include[@]}" -static bindings/examples/lines.c "$arm" -o "$scratch/arm"
     compare qemu-aarch64 "$scratch/arm"
-    aarch64-linux-gnu-gcc -std=c99 "${strict[@]}" -static bindings/c/test/packets.c "$arm" -o "$scratch/arm"
-    qemu-aarch64 "$scratch/arm"
+    for it in packets headers; do
+        aarch64-linux-gnu-gcc -std=c99 "${strict[@]}" -static bindings/c/test/$it.c "$arm" -o "$scratch/arm"
+        qemu-aarch64 "$scratch/arm"
+    done
     aarch64-linux-gnu-gcc -std=c99 -D_GNU_SOURCE "${strict[@]}" -static bindings/test/stack.c "$arm" -o "$scratch/arm"
     qemu-aarch64 "$scratch/arm"
     aarch64-linux-gnu-gcc -std=c99 "${strict[@]}" -static bindings/test/refused.c "$arm" "$wrap" -o "$scratch/arm"

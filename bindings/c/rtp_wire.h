@@ -178,28 +178,63 @@ enum {
 };
 
 /* kind[id] is the kind that the id means; another number than one of those above means none, and
- * kind[0] isn't looked at. It may be copied, stored, and shared as static const:
+ * kind[0] isn't looked at. It may be filled by hand, copied, stored, and shared as static const:
  *
  *     rtp_map map = {{0}};
  *     map.kind[3] = RTP_KIND_AUDIO_LEVEL;
+ *
+ * Or from the lines of an SDP, `a=extmap:ID URI` (RFC 8285, 5 and 6):
+ *
+ *     uint8_t kind = rtp_kind_of_uri((const uint8_t *)uri, strlen(uri));
+ *     if (kind != RTP_KIND_NONE && rtp_map_set(&map, id, kind) != RTP_OK) {
+ *         return refuse(id);
+ *     }
  */
 typedef struct {
     uint8_t kind[256];
 } rtp_map;
 
-/* The values of a block's elements. Each has_ is 1 where the value is there; one that is absent is 0.
- * The data of a text (mid, rid) are the text: rtp_last_element finds them. 56 bytes. */
+/* The kind whose URI these bytes are, letter for letter; RTP_KIND_NONE where it is that of none. The
+ * URI is the bytes alone, without a zero behind them. */
+uint8_t rtp_kind_of_uri(const uint8_t *uri, size_t len);
+/* The id means the kind from now on, or nothing with RTP_KIND_NONE. RTP_OK, or RTP_BAD_FIELD where the
+ * id is 0 or the kind is none of those above; then nothing changes. */
+int32_t rtp_map_set(rtp_map *map, uint8_t id, uint8_t kind);
+/* The kind that the id means; RTP_KIND_NONE where it means none. */
+uint8_t rtp_map_get(const rtp_map *map, uint8_t id);
+/* The map of the usual ids, whatever it was: 1 audio level, 2 send time, 3 transport number, 4 mid, 10
+ * rid, 11 repaired rid, 13 video orientation. */
+void rtp_map_standard(rtp_map *map);
+
+/* A time: ticks / hertz seconds. 16 bytes. */
+typedef struct {
+    uint64_t ticks;
+    uint32_t hertz; /* ticks of a second: 100 where the time was read */
+} rtp_time;
+
+/* The values of a block's elements. Each has_ is 1 where the value is there; as read, one that is absent
+ * is 0. The texts are letters, digits and underscores, and a zero ends them. 136 bytes. */
 typedef struct {
     uint64_t send_time;           /* microseconds, modulo 64 seconds */
     uint64_t capture_time;        /* an NTP timestamp, 32.32 */
     int64_t capture_offset;       /* the capturer's clock is ahead by these seconds, 32.32 */
+    rtp_time playout_delay_min;   /* the receiver may hold the frame for so long at least */
+    rtp_time playout_delay_max;   /* and for so long at most */
     uint32_t transmission_offset; /* ticks of the stream's clock; an element of four bytes */
     uint32_t frame_marking;       /* the first four bytes */
     uint16_t transport_number;    /* over all streams of the transport */
     uint16_t video_orientation;   /* degrees counter-clockwise: 0, 90, 180 or 270 */
+    uint16_t encode_start;        /* video timing, in milliseconds after the frame's capture: its encoding began, */
+    uint16_t encode_finish;       /* and ended, */
+    uint16_t packetize_complete;  /* its last packet was made, */
+    uint16_t last_left_pacer;     /* and left the pacer */
+    uint8_t timing_flags;         /* why these were sent: bit 0 a timer, bit 1 a large frame */
     uint8_t video_content_type;   /* 0 unspecified, 1 a screen */
     int8_t audio_level;           /* dB relative to the overload point, -127 to 0 */
     uint8_t voice_activity;       /* 0 or 1 */
+    char mid[17];                 /* the media section, up to 16 characters (RFC 9143) */
+    char rid[9];                  /* the stream, up to 8 characters (RFC 8852) */
+    char repaired_rid[9];         /* the stream that this one repairs, up to 8 characters (RFC 8852) */
     uint8_t has_send_time;
     uint8_t has_capture_time;
     uint8_t has_capture_offset;
@@ -210,6 +245,13 @@ typedef struct {
     uint8_t has_video_content_type;
     uint8_t has_audio_level;
     uint8_t has_voice_activity;
+    uint8_t has_playout_delay_min;
+    uint8_t has_playout_delay_max;
+    uint8_t has_video_timing; /* the four times and timing_flags */
+    uint8_t has_mid;
+    uint8_t has_rid;
+    uint8_t has_repaired_rid;
+    uint8_t has_layers; /* a layer allocation: rtp_parse_layers tells it */
 } rtp_values;
 
 /* The values that the elements of a body give under the map: for each kind those of the last element
@@ -217,6 +259,134 @@ typedef struct {
  * of the two; RTP_NO_MEMORY. Memory is taken for a layer allocation alone (RTP_KIND_LAYERS mapped to the
  * id of an element of two bytes or more), and given back before the call returns. */
 int32_t rtp_values_read(const uint8_t *body, size_t body_len, uint8_t form, const rtp_map *map, rtp_values *values);
+
+/* ---- A header, read and written ---- */
+
+/* The header of a packet, with the values of its block. 224 bytes. */
+typedef struct {
+    size_t header_len;        /* of the header that was read: the payload begins there; nothing is written of it */
+    uint32_t timestamp;       /* in ticks of the payload's clock */
+    uint32_t ssrc;            /* the stream's source */
+    uint32_t csrc[15];        /* the contributing sources, csrc_count of them; as read the others are 0 */
+    uint16_t sequence_number; /* the low 16 bits of the packet's number */
+    uint8_t payload_type;     /* 0 to 127 */
+    uint8_t csrc_count;       /* 0 to 15 */
+    uint8_t marker;           /* M: 0 or 1 */
+    uint8_t has_padding;      /* P: 0 or 1 */
+    uint8_t has_extension;    /* X: 0 or 1, whether there is a block */
+    rtp_values values;        /* of the block: none where there is none */
+} rtp_header;
+
+/* Reads the header that the bytes begin with, and the values of its block under the map: in one call
+ * what rtp_packet_parse and rtp_values_read tell. RTP_OK; the first cause for which there is none; or
+ * RTP_NO_MEMORY, as rtp_values_read.
+ *
+ *     rtp_header header;
+ *     if (rtp_parse(datagram, len, &map, &header) == RTP_OK && header.values.has_mid) {
+ *         deliver(header.values.mid, datagram + header.header_len, len - header.header_len);
+ *     }
+ */
+int32_t rtp_parse(const uint8_t *datagram, size_t len, const rtp_map *map, rtp_header *header);
+
+/* A spatial layer. 40 bytes. */
+typedef struct {
+    uint64_t kbps[4];       /* of each temporal layer with those below it, in kilobits per second; 0 after the last */
+    uint16_t width;         /* in pixels, 1 to 65,535; 0 where has_resolution is 0 */
+    uint16_t height;        /* the same */
+    uint8_t framerate;      /* at most so many frames per second; 0 where has_resolution is 0 */
+    uint8_t has_resolution; /* 0 or 1 */
+    uint8_t rates;          /* how many temporal layers there are, 0 to 4: 0 where the layer isn't active */
+} rtp_layer;
+
+/* A simulcast stream: its spatial layers by rising resolution, all zeros after the last. 168 bytes. */
+typedef struct {
+    rtp_layer layers[4];
+    uint8_t count; /* 0 to 4 */
+} rtp_stream;
+
+/* Which simulcast streams and layers a sender of video keeps active (video-layers-allocation00); all
+ * zeros after the last stream. 680 bytes. */
+typedef struct {
+    rtp_stream streams[4];
+    uint8_t count;   /* 0 to 4; 0 where nothing is sent */
+    uint8_t current; /* which of the streams the packet is of, from 0 */
+} rtp_layers;
+
+/* As rtp_parse, and the layer allocation where values.has_layers is 1; else *layers becomes all zeros. */
+int32_t rtp_parse_layers(const uint8_t *datagram, size_t len, const rtp_map *map, rtp_header *header,
+                         rtp_layers *layers);
+
+/* How many bytes rtp_write writes: a multiple of 4, 12 to 65,612. RTP_OK; RTP_BAD_FIELD as rtp_write. */
+int32_t rtp_wire_len(const rtp_map *map, const rtp_header *header, size_t *len);
+
+/* Writes the header to the front of the buffer; bytes after it stay. Where has_extension isn't 0 there is
+ * a block: by rising id an element for each mapped id whose value is there (its has_ isn't 0), in the
+ * one-byte form unless an id above 14 or RTP_KIND_LAYERS is mapped or a text that it writes is empty.
+ * An audio level takes has_voice_activity too, a playout delay both its times, and a capture offset
+ * a capture time; a layer allocation is not written. Of a time the whole ticks are written of 2^-18
+ * seconds (send time, modulo 64 seconds) or of 1/100 second (playout delay, modulo 4,096); of a level
+ * its magnitude modulo 128. Flags count as set where they aren't 0.
+ *
+ * RTP_OK; RTP_BAD_FIELD where payload_type is above 127, csrc_count above 15, or a value that is there,
+ * mapped or not, is none: a text with another character than letters, digits and underscores before its
+ * zero or without a zero, an orientation that is none of the four, a time of 0 hertz; RTP_SHORT_BUFFER
+ * where the buffer alone is at fault.
+ *
+ *     rtp_header header = {0};
+ *     header.payload_type = 111;
+ *     header.sequence_number = (uint16_t)number;
+ *     header.ssrc = ssrc;
+ *     header.has_extension = 1;
+ *     header.values.has_mid = 1;
+ *     strcpy(header.values.mid, "audio");
+ *     uint8_t packet[1500];
+ *     size_t header_len;
+ *     if (rtp_write(&map, &header, packet, sizeof packet, &header_len) == RTP_OK) {
+ *         put_payload(packet + header_len, sizeof packet - header_len);
+ *     }
+ */
+int32_t rtp_write(const rtp_map *map, const rtp_header *header, uint8_t *buf, size_t size, size_t *len);
+
+/* The same with a block of these elements, whatever has_extension and the values hold. The data of each
+ * are the data_len bytes at data_at of `data`: those that rtp_next_element told of a body, say. What `end`
+ * holds isn't looked at. The block is in the one-byte form where that can carry each element (ids 1 to 14,
+ * 1 to 16 bytes), and else in the two-byte form (ids 1 to 255, 0 to 255 bytes).
+ *
+ * RTP_OK; RTP_BAD_FIELD where payload_type is above 127, csrc_count above 15, or an element has the id 0,
+ * more than 255 bytes, or bytes past the end of the data, or all of them take more than the 262,140 bytes
+ * of a block; RTP_SHORT_BUFFER where the buffer alone is at fault; RTP_NO_MEMORY. Memory is taken for a
+ * list of the elements, where there are any, and given back before the call returns. */
+int32_t rtp_write_with(const rtp_header *header, const uint8_t *data, size_t data_len, const rtp_element *elements,
+                       size_t count, uint8_t *buf, size_t size, size_t *len);
+
+/* Writes elements, one after the other, as a block's body has them, to the front of the buffer; bytes
+ * after them stay. RTP_OK; RTP_BAD_FIELD where the form is none of the two or can't carry one of them, or
+ * one has bytes past the end of the data; RTP_SHORT_BUFFER where the buffer alone is at fault;
+ * RTP_NO_MEMORY, as rtp_write_with. */
+int32_t rtp_write_elements(const uint8_t *data, size_t data_len, const rtp_element *elements, size_t count,
+                           uint8_t form, uint8_t *buf, size_t size, size_t *len);
+
+/* ---- From one map to another ---- */
+
+/* id[i] is the id that elements of the id i get, and 0 where they get none; id[0] isn't looked at. As a
+ * map it may be filled by hand, copied, stored and shared. */
+typedef struct {
+    uint8_t id[256];
+} rtp_new_ids;
+
+/* For each id that means a kind in `from` the lowest id that means it in `to`, and 0 for all others. Make
+ * it once for two streams:
+ *
+ *     rtp_new_ids_between(&publisher.map, &subscriber.map, &route.ids);
+ *     ...
+ *     int32_t status = rtp_renumber(datagram, len, &route.ids); // for each packet
+ */
+void rtp_new_ids_between(const rtp_map *from, const rtp_map *to, rtp_new_ids *ids);
+/* Gives each element of the packet in the buffer its new id, and makes one that gets none padding; no
+ * other byte changes. A packet without a block stays as it is. RTP_OK; RTP_BAD_FIELD where the packet's
+ * form can't carry a new id that an element gets (one above 14 in the one-byte form); or the first cause
+ * for which the buffer holds no packet. Where it isn't RTP_OK nothing changes. */
+int32_t rtp_renumber(uint8_t *datagram, size_t len, const rtp_new_ids *ids);
 
 /* ---- Padding and retransmissions ---- */
 

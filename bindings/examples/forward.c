@@ -1,9 +1,9 @@
 /*
- * Sends the packets of a stream on under another SSRC: reads datagrams, one a line in hexadecimal, and
- * prints them with the SSRC and the numbers of the new stream, with the time at which they go in the
- * element of abs-send-time, and without the element of the sender's own mid.
+ * Sends the packets of a stream on to a subscriber: reads datagrams, one a line in hexadecimal, and prints
+ * them under the SSRC and the numbers of the new stream, with its ids of extensions, and with the time at
+ * which they go. Of what the subscriber's map has not, here the mid, nothing goes on.
  *
- * usage: forward SSRC FIRST_NUMBER SEND_TIME_ID MID_ID SECONDS < lines
+ * usage: forward SSRC FIRST_NUMBER SECONDS < lines
  *        SECONDS: when the first packet goes; each goes 20 milliseconds after the one before it
  */
 #include <rtp_wire.h>
@@ -12,28 +12,20 @@
 #include <stdlib.h>
 #include <string.h>
 
-#define LONGEST 65536
+static const rtp_map PUBLISHER = {.kind = {[3] = RTP_KIND_MID, [4] = RTP_KIND_ABS_SEND_TIME}};
+static const rtp_map SUBSCRIBER = {.kind = {[1] = RTP_KIND_AUDIO_LEVEL, [2] = RTP_KIND_ABS_SEND_TIME}};
 
-typedef struct {
-    uint32_t ssrc;
-    uint16_t number_offset; /* modulo 2^16 */
-    uint8_t send_time_id, mid_id;
-} route;
-
-/* Whether the datagram is a packet, and goes on. */
-static int forward(uint8_t *datagram, size_t len, const route *to, uint64_t microseconds) {
-    rtp_packet packet;
-    if (rtp_packet_parse(datagram, len, &packet) != RTP_OK) {
-        return 0;
-    }
+/* Changes the packet where it lies; the status is RTP_OK where it goes on. */
+static int32_t forward(uint8_t *datagram, size_t len, const rtp_new_ids *ids, uint32_t ssrc, uint64_t microseconds) {
     /* 24 bits, in units of 2^-18 seconds */
     uint32_t time = (uint32_t)(microseconds * 262144 / 1000000);
     uint8_t bytes[3] = {(uint8_t)(time >> 16), (uint8_t)(time >> 8), (uint8_t)time};
-    rtp_set_ssrc(datagram, len, to->ssrc);
-    rtp_set_sequence_number(datagram, len, (uint16_t)(packet.sequence_number + to->number_offset));
-    rtp_set_element(datagram, len, to->send_time_id, bytes, sizeof bytes); /* RTP_NONE: it has none */
-    rtp_remove_element(datagram, len, to->mid_id);
-    return 1;
+    int32_t status = rtp_renumber(datagram, len, ids);
+    if (status == RTP_OK) {
+        rtp_set_ssrc(datagram, len, ssrc);
+        rtp_set_element(datagram, len, 2, bytes, sizeof bytes); /* RTP_NONE: it has none */
+    }
+    return status;
 }
 
 /* How many bytes the line spells, which then stand at its beginning; 0 where it isn't hexadecimal. */
@@ -50,22 +42,28 @@ static size_t bytes_of(char *line) {
 }
 
 int main(int argc, char **argv) {
-    static char line[2 * LONGEST + 2];
+    static char line[2 * 65536 + 2];
     uint8_t *datagram = (uint8_t *)line;
-    if (argc != 6) {
+    if (argc != 4) {
         return 2;
     }
-    route to = {(uint32_t)strtoul(argv[1], NULL, 10), 0, (uint8_t)atoi(argv[3]), (uint8_t)atoi(argv[4])};
-    uint64_t microseconds = strtoull(argv[5], NULL, 10) * 1000000;
+    uint64_t microseconds = strtoull(argv[3], NULL, 10) * 1000000;
+    uint16_t offset = 0; /* of the numbers, modulo 2^16 */
     int is_first = 1;
+    rtp_new_ids ids;
+    rtp_new_ids_between(&PUBLISHER, &SUBSCRIBER, &ids);
     while (fgets(line, sizeof line, stdin) != NULL) {
         rtp_packet packet;
         size_t len = bytes_of(line);
-        if (is_first && rtp_packet_parse(datagram, len, &packet) == RTP_OK) {
-            to.number_offset = (uint16_t)(strtoul(argv[2], NULL, 10) - packet.sequence_number);
+        if (rtp_packet_parse(datagram, len, &packet) != RTP_OK) {
+            continue;
+        }
+        if (is_first) {
+            offset = (uint16_t)(strtoul(argv[2], NULL, 10) - packet.sequence_number);
             is_first = 0;
         }
-        if (forward(datagram, len, &to, microseconds)) {
+        rtp_set_sequence_number(datagram, len, (uint16_t)(packet.sequence_number + offset));
+        if (forward(datagram, len, &ids, (uint32_t)strtoul(argv[1], NULL, 10), microseconds) == RTP_OK) {
             for (size_t i = 0; i < len; i++) {
                 printf("%02X", datagram[i]);
             }

@@ -3,8 +3,6 @@
 // `map ID URI` before the first datagram say which extension an id means.
 #include <rtp_wire.h>
 
-#include <algorithm>
-#include <cctype>
 #include <cstdint>
 #include <iostream>
 #include <map>
@@ -14,27 +12,16 @@
 
 namespace {
 
-// The extensions that are printed.
-const std::map<std::string, std::uint8_t> KINDS = {
-    {"http://www.webrtc.org/experiments/rtp-hdrext/abs-send-time", RTP_KIND_ABS_SEND_TIME},
-    {"http://www.ietf.org/id/draft-holmer-rmcat-transport-wide-cc-extensions-01", RTP_KIND_TRANSPORT_NUMBER},
-    {"urn:ietf:params:rtp-hdrext:ssrc-audio-level", RTP_KIND_AUDIO_LEVEL},
-    {"urn:ietf:params:rtp-hdrext:sdes:mid", RTP_KIND_MID},
-    {"urn:ietf:params:rtp-hdrext:sdes:rtp-stream-id", RTP_KIND_RID},
-    {"urn:ietf:params:rtp-hdrext:sdes:repaired-rtp-stream-id", RTP_KIND_REPAIRED_RID},
-};
-
 // Whether the line maps an id, which is done.
 bool map_line(const std::string &line, rtp_map &map) {
     std::istringstream words(line);
     std::string word, uri;
     unsigned id;
-    if (!(words >> word >> id >> uri) || word != "map" || id < 1 || id > 255) {
+    if (!(words >> word >> id >> uri) || word != "map" || id > 255) {
         return false;
     }
-    const auto known = KINDS.find(uri);
-    map.kind[id] = known == KINDS.end() ? std::uint8_t(RTP_KIND_NONE) : known->second;
-    return true;
+    const auto *bytes = reinterpret_cast<const std::uint8_t *>(uri.data());
+    return rtp_map_set(&map, static_cast<std::uint8_t>(id), rtp_kind_of_uri(bytes, uri.size())) == RTP_OK;
 }
 
 // The bytes that the text spells, and whether it is hexadecimal.
@@ -54,43 +41,23 @@ const char *yes_or_no(bool flag) {
     return flag ? "yes" : "no";
 }
 
-void print_header(unsigned long count, const rtp_packet &packet) {
-    std::cout << "packet " << count << ": pt " << unsigned(packet.payload_type) << " seq " << packet.sequence_number
-              << " ts " << packet.timestamp << " ssrc " << packet.ssrc << " marker " << yes_or_no(packet.marker != 0)
-              << " padding " << yes_or_no(packet.has_padding != 0) << " extension "
-              << yes_or_no(packet.block_form != RTP_NO_BLOCK) << " csrc " << unsigned(packet.csrc_count) << " header "
-              << packet.payload_at;
+void print_header(unsigned long count, const rtp_header &header) {
+    std::cout << "packet " << count << ": pt " << unsigned(header.payload_type) << " seq " << header.sequence_number
+              << " ts " << header.timestamp << " ssrc " << header.ssrc << " marker " << yes_or_no(header.marker != 0)
+              << " padding " << yes_or_no(header.has_padding != 0) << " extension "
+              << yes_or_no(header.has_extension != 0) << " csrc " << unsigned(header.csrc_count) << " header "
+              << header.header_len;
 }
 
-// The text of the last element whose id means the kind, with '_' for what is no letter or digit.
-void print_text(const char *name, const std::uint8_t *body, const rtp_packet &packet, const rtp_map &map,
-                std::uint8_t kind, std::size_t longest) {
-    rtp_element element = {};
-    std::string text;
-    bool is_there = false;
-    while (rtp_next_element(body, packet.body_len, packet.block_form, element.end, &element) == RTP_OK) {
-        if (element.id != 0 && map.kind[element.id] == kind) {
-            const std::uint8_t *data = body + element.data_at;
-            text.assign(data, data + std::min(element.data_len, longest));
-            is_there = true;
-        }
+void print_values(const rtp_values &values) {
+    if (values.has_mid) {
+        std::cout << " mid " << values.mid;
     }
-    if (is_there) {
-        for (char &character : text) {
-            character = std::isalnum(static_cast<unsigned char>(character)) ? character : '_';
-        }
-        std::cout << ' ' << name << ' ' << text;
+    if (values.has_rid) {
+        std::cout << " rid " << values.rid;
     }
-}
-
-// What the elements say. No layer allocation is mapped, so no memory is taken.
-void print_elements(const std::uint8_t *body, const rtp_packet &packet, const rtp_map &map) {
-    print_text("mid", body, packet, map, RTP_KIND_MID, 16);
-    print_text("rid", body, packet, map, RTP_KIND_RID, 8);
-    print_text("repaired", body, packet, map, RTP_KIND_REPAIRED_RID, 8);
-    rtp_values values;
-    if (rtp_values_read(body, packet.body_len, packet.block_form, &map, &values) != RTP_OK) {
-        return; // no block
+    if (values.has_repaired_rid) {
+        std::cout << " repaired " << values.repaired_rid;
     }
     if (values.has_audio_level) {
         std::cout << " level " << int(values.audio_level);
@@ -104,6 +71,7 @@ void print_elements(const std::uint8_t *body, const rtp_packet &packet, const rt
     if (values.has_transport_number) {
         std::cout << " transport " << values.transport_number;
     }
+    std::cout << '\n';
 }
 
 void print_verdict(unsigned long count, rtp_receiver &receiver, std::uint16_t sequence_number) {
@@ -133,15 +101,18 @@ int main() {
             return 2;
         }
         packets++;
-        rtp_packet packet;
-        if (rtp_packet_parse(datagram.data(), datagram.size(), &packet) != RTP_OK) {
+        rtp_header header;
+        const std::int32_t status = rtp_parse(datagram.data(), datagram.size(), &map, &header);
+        if (status == RTP_NO_MEMORY) {
+            return 3;
+        }
+        if (status != RTP_OK) {
             std::cout << "packet " << packets << ": unreadable\nverdict " << packets << ": unreadable\n";
             continue;
         }
-        print_header(packets, packet);
-        print_elements(datagram.data() + packet.body_at, packet, map);
-        std::cout << '\n';
-        print_verdict(packets, receivers[packet.ssrc], packet.sequence_number);
+        print_header(packets, header);
+        print_values(header.values);
+        print_verdict(packets, receivers[header.ssrc], header.sequence_number);
     }
     return std::cin.bad() || !std::cout.flush();
 }

@@ -6,38 +6,16 @@ use std::collections::HashMap;
 use std::io::{self, BufRead, Write};
 use std::process::ExitCode;
 
-use rtp_wire::{Kind, Map, Packet, Receiver, Values};
+use rtp_wire::{Header, Kind, Map, NotAHeader, Receiver, Values};
 
-/// The extensions that are printed.
-const KINDS: [(&str, Kind); 6] = [
-    (
-        "http://www.webrtc.org/experiments/rtp-hdrext/abs-send-time",
-        Kind::AbsSendTime,
-    ),
-    (
-        "http://www.ietf.org/id/draft-holmer-rmcat-transport-wide-cc-extensions-01",
-        Kind::TransportNumber,
-    ),
-    (
-        "urn:ietf:params:rtp-hdrext:ssrc-audio-level",
-        Kind::AudioLevel,
-    ),
-    ("urn:ietf:params:rtp-hdrext:sdes:mid", Kind::Mid),
-    ("urn:ietf:params:rtp-hdrext:sdes:rtp-stream-id", Kind::Rid),
-    (
-        "urn:ietf:params:rtp-hdrext:sdes:repaired-rtp-stream-id",
-        Kind::RepairedRid,
-    ),
-];
-
-/// The map with what the line adds to it, where it is a map line.
-fn mapped(map: Map, line: &str) -> Option<Map> {
-    let (id, uri) = line.strip_prefix("map ")?.split_once(' ')?;
-    let id: u8 = id.parse().ok().filter(|id| *id != 0)?;
-    match KINDS.iter().find(|(known, _)| *known == uri) {
-        Some((_, kind)) => Some(map.with(id, *kind)),
-        None => Some(map),
-    }
+/// Maps the id of the line, where it is a map line.
+fn is_mapped(map: &mut Map, line: &str) -> bool {
+    let words = line.strip_prefix("map ").and_then(|it| it.split_once(' '));
+    let Some((id, uri)) = words else {
+        return false;
+    };
+    id.parse()
+        .is_ok_and(|id| map.set(id, Kind::from_uri(uri)).is_ok())
 }
 
 /// The bytes that the text spells.
@@ -59,47 +37,32 @@ fn yes_or_no(flag: bool) -> &'static str {
     }
 }
 
-/// The text of the last element whose id means the kind, with '_' for what is no letter or digit.
-fn text(packet: &Packet<'_>, map: &Map, kind: Kind, longest: usize) -> Option<String> {
-    let element = packet
-        .elements()
-        .filter(|element| map.get(element.id) == Some(kind))
-        .last()?;
-    let text = std::str::from_utf8(element.data).ok()?;
-    let plain = |c: char| if c.is_ascii_alphanumeric() { c } else { '_' };
-    Some(text.chars().map(plain).take(longest).collect())
-}
-
-fn print_header(out: &mut impl Write, count: u64, packet: &Packet<'_>) -> io::Result<()> {
+fn print_header(out: &mut impl Write, count: u64, header: &Header) -> io::Result<()> {
     write!(
         out,
         "packet {count}: pt {} seq {} ts {} ssrc {} marker {} padding {} extension {} csrc {} header {}",
-        packet.payload_type(),
-        packet.sequence_number(),
-        packet.timestamp(),
-        packet.ssrc(),
-        yes_or_no(packet.marker()),
-        yes_or_no(packet.has_padding()),
-        yes_or_no(packet.form().is_some()),
-        packet.csrcs().len(),
-        packet.header_len(),
+        header.payload_type,
+        header.sequence_number,
+        header.timestamp,
+        header.ssrc,
+        yes_or_no(header.marker),
+        yes_or_no(header.has_padding),
+        yes_or_no(header.has_extension),
+        header.csrcs().len(),
+        header.header_len(),
     )
 }
 
-fn print_texts(out: &mut impl Write, packet: &Packet<'_>, map: &Map) -> io::Result<()> {
-    for (name, kind, longest) in [
-        ("mid", Kind::Mid, 16),
-        ("rid", Kind::Rid, 8),
-        ("repaired", Kind::RepairedRid, 8),
-    ] {
-        if let Some(text) = text(packet, map, kind, longest) {
-            write!(out, " {name} {text}")?;
-        }
-    }
-    Ok(())
-}
-
 fn print_values(out: &mut impl Write, values: &Values) -> io::Result<()> {
+    if let Some(mid) = values.mid {
+        write!(out, " mid {mid}")?;
+    }
+    if let Some(rid) = values.rid {
+        write!(out, " rid {rid}")?;
+    }
+    if let Some(rid) = values.repaired_rid {
+        write!(out, " repaired {rid}")?;
+    }
     if let Some(level) = values.audio_level {
         write!(out, " level {level}")?;
     }
@@ -122,8 +85,7 @@ fn main() -> io::Result<ExitCode> {
     let mut count = 0;
     for (index, line) in io::stdin().lock().lines().enumerate() {
         let line = line?;
-        if let (0, Some(more)) = (count, mapped(map, &line)) {
-            map = more;
+        if count == 0 && is_mapped(&mut map, &line) {
             continue;
         }
         let Some(datagram) = bytes_of(&line) else {
@@ -132,17 +94,17 @@ fn main() -> io::Result<ExitCode> {
             return Ok(ExitCode::from(2));
         };
         count += 1;
-        match Packet::parse(&datagram) {
-            Err(_) => writeln!(
+        match Header::parse(&datagram, &map) {
+            Err(NotAHeader::NoMemory) => return Err(io::ErrorKind::OutOfMemory.into()),
+            Err(NotAHeader::NotAPacket(_)) => writeln!(
                 out,
                 "packet {count}: unreadable\nverdict {count}: unreadable"
             )?,
-            Ok(packet) => {
-                print_header(&mut out, count, &packet)?;
-                print_texts(&mut out, &packet, &map)?;
-                print_values(&mut out, &packet.values(&map).map_err(io::Error::other)?)?;
-                let receiver = receivers.entry(packet.ssrc()).or_default();
-                match receiver.receive(packet.sequence_number()) {
+            Ok(header) => {
+                print_header(&mut out, count, &header)?;
+                print_values(&mut out, &header.values)?;
+                let receiver = receivers.entry(header.ssrc).or_default();
+                match receiver.receive(header.sequence_number) {
                     Some(number) => writeln!(out, "verdict {count}: taken {number}")?,
                     None => writeln!(out, "verdict {count}: refused")?,
                 }

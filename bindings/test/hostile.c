@@ -1,7 +1,8 @@
 /*
  * Calls every function of the library with random bytes and structs, in blocks of exactly their
- * length between pages that may not be touched, and compares each output with that of walk.h. A call
- * that is refused must change nothing, and no call may change what it isn't to.
+ * length between pages that may not be touched, and compares each output with that of walk.h, of
+ * walk_values.h, or of the test's own writer. A call that is refused must change nothing, and no call may
+ * change what it isn't to.
  *
  * usage: hostile SEED ROUNDS [malloc]      with `malloc`: blocks of malloc, for a memory checker
  */
@@ -23,6 +24,24 @@ uint8_t random_id(void) {
     return (uint8_t)(random_u64() % 4 == 0 ? random_u64() : random_u64() % 5);
 }
 
+/* Characters of one to four bytes in UTF-8, the first and the last of each length, and bytes that are none. */
+static void random_text(uint8_t *text, size_t len) {
+    static const char *const characters[] = {
+        "a", "Z", "0", "9", "_", "-", " ", "/", ":", "@", "[", "`", "{", "\x7F", "\xC2\x80", "\xDF\xBF",
+        "\xE0\xA0\x80", "\xED\x9F\xBF", "\xEE\x80\x80", "\xEF\xBF\xBF", "\xF0\x90\x80\x80",
+        "\xF4\x8F\xBF\xBF", "\xC1\xBF", "\xE0\x9F\xBF", "\xED\xA0\x80", "\xF0\x8F\xBF\xBF",
+        "\xF4\x90\x80\x80", "\x80", "\xFF",
+    };
+    const size_t all = sizeof characters / sizeof *characters, plain = 14, good = 22;
+    for (size_t at = 0; at < len;) {
+        uint64_t x = random_u64();
+        const char *it = characters[random_below(x % 64 == 0 ? all : x % 8 == 0 ? good : plain)];
+        for (size_t i = 0; it[i] != '\0' && at < len; i++) {
+            text[at++] = (uint8_t)it[i];
+        }
+    }
+}
+
 void random_body(uint8_t *body, size_t len, int form) {
     fill(body, len);
     uint64_t kind = random_u64() % 16;
@@ -31,6 +50,8 @@ void random_body(uint8_t *body, size_t len, int form) {
     }
     if (kind == 2) {
         memset(body, 0xFF, len); /* the greatest values */
+    } else if (kind < 6) {
+        random_text(body, len);
     }
     for (size_t at = 0; at < len;) {
         uint64_t x = random_u64();
@@ -38,7 +59,7 @@ void random_body(uint8_t *body, size_t len, int form) {
             body[at++] = 0;
             continue;
         }
-        size_t data_len = x / 8 % (form == 1 ? 16 : 24);
+        size_t data_len = x / 8 % (form == 1 ? 16 : x % 64 == 1 ? 256 : 24);
         body[at] = form == 1 ? (uint8_t)(random_id() * 16u + data_len) : random_id();
         if (form == 2 && at + 1 < len) {
             body[at + 1] = (uint8_t)data_len;
@@ -97,6 +118,10 @@ int main(int argc, char **argv) {
         elements_round();
         receivers_round();
         values_round();
+        headers_round();
+        maps_round();
+        writing_round();
+        written_elements_round();
         payload_round();
     }
     printf("hostile: %llu rounds, seed %llu\n", (unsigned long long)rounds, (unsigned long long)seed);

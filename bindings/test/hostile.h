@@ -4,6 +4,8 @@
 
 #include "memory.h"
 
+#include "../c/rtp_wire.h"
+
 /* The longest datagram that is tried: the longest header and a little. */
 #define LONGEST 262300
 
@@ -15,12 +17,22 @@ void random_packet(uint8_t *bytes, size_t len);
 void random_body(uint8_t *body, size_t len, int form);
 /* An id, mostly one of those that the bodies have. */
 uint8_t random_id(void);
+/* A map in which most numbers are those of kinds. */
+void random_map(rtp_map *map);
+/* A header, most of which can be written. */
+void random_header(rtp_header *header);
+/* Writes the fixed part and the CSRC list of a header that has at most 15 sources: how many bytes they take. */
+size_t write_fixed(const rtp_header *header, bool has_extension, uint8_t *bytes);
 
 void packets_round(void);
 void changes_round(void);
 void elements_round(void);
 void receivers_round(void);
 void values_round(void);
+void headers_round(void);
+void maps_round(void);
+void writing_round(void);
+void written_elements_round(void);
 void payload_round(void);
 
 #endif

@@ -23,19 +23,47 @@ static rtp_element element;
 static rtp_receiver receiver;
 static rtp_map map;
 static rtp_values values;
+static rtp_header header, given;
+static rtp_layers layers;
+static rtp_map usual;
+static rtp_new_ids ids;
+static rtp_element many[255];
 static uint64_t number;
 static uint16_t original;
 static size_t count;
 static const uint8_t data[1] = {7};
+static const char LAST_URI[] = "http://www.webrtc.org/experiments/rtp-hdrext/video-layers-allocation00";
+
+/* Four streams of a layer each, of 5 kbit/s, two of which have a resolution. */
+static const uint8_t ALLOCATION[16] = {0x31, 0, 5, 5, 5, 5, 1, 0, 1, 0, 30, 1, 0, 1, 0, 30};
 
 static void packet_of_elements(void) {
     datagram[0] = 0x9F;
     datagram[72] = 0xBE;
     datagram[73] = 0xDE;
     datagram[74] = datagram[75] = 0xFF;
-    for (size_t at = 76; at < 76 + 262140; at += 2) {
+    datagram[76] = 0xEF;
+    memcpy(datagram + 77, ALLOCATION, sizeof ALLOCATION);
+    for (size_t at = 93; at < 76 + 262140; at += 2) {
         datagram[at] = (uint8_t)(at % 28 / 2 * 16);
         datagram[at + 1] = 1;
+    }
+}
+
+/* Each value is there, and 255 elements are to be written. */
+static void give_all(void) {
+    rtp_values *it = &given.values;
+    given.csrc_count = 15;
+    given.has_extension = 1;
+    memset(&it->has_send_time, 1, 17); /* the flags */
+    it->playout_delay_min.hertz = it->playout_delay_max.hertz = 90000;
+    it->playout_delay_min.ticks = it->playout_delay_max.ticks = UINT64_MAX;
+    strcpy(it->mid, "abcdefghijklmnop");
+    strcpy(it->rid, "abcdefgh");
+    strcpy(it->repaired_rid, "12345678");
+    for (int i = 0; i < 255; i++) {
+        many[i].id = (uint8_t)(i + 1);
+        many[i].data_len = sizeof data;
     }
 }
 
@@ -57,6 +85,22 @@ static void receiver_accepts(void) { number = rtp_receiver_accepts(&receiver, 9)
 static void receiver_record(void) { rtp_receiver_record(&receiver, 65545); }
 static void receiver_receive(void) { rtp_receiver_receive(&receiver, 99, &number); }
 static void values_read(void) { rtp_values_read(datagram + 76, 262140, RTP_ONE_BYTE_FORM, &map, &values); }
+static void kind_of_uri(void) { number = rtp_kind_of_uri((const uint8_t *)LAST_URI, sizeof LAST_URI - 1); }
+static void map_set(void) { rtp_map_set(&usual, 255, RTP_KIND_MID); }
+static void map_get(void) { number = rtp_map_get(&map, 3); }
+static void map_standard(void) { rtp_map_standard(&usual); }
+static void parse(void) { rtp_parse(datagram, sizeof datagram, &map, &header); }
+static void parse_layers(void) { rtp_parse_layers(datagram, sizeof datagram, &map, &header, &layers); }
+static void wire_len(void) { rtp_wire_len(&map, &given, &count); }
+static void write(void) { rtp_write(&map, &given, datagram, sizeof datagram, &count); }
+static void write_with(void) {
+    rtp_write_with(&given, data, sizeof data, many, 255, datagram, sizeof datagram, &count);
+}
+static void write_elements(void) {
+    rtp_write_elements(data, sizeof data, many, 255, RTP_TWO_BYTE_FORM, datagram, sizeof datagram, &count);
+}
+static void new_ids_between(void) { rtp_new_ids_between(&map, &usual, &ids); }
+static void renumber(void) { rtp_renumber(datagram, sizeof datagram, &ids); }
 static void pad(void) { rtp_pad(datagram, sizeof datagram, 32, 200, 16, &count); }
 static void read_original(void) { rtp_read_original(datagram, sizeof datagram, &original); }
 static void write_original(void) { rtp_write_original(datagram, sizeof datagram, 7); }
@@ -93,13 +137,16 @@ int main(void) {
         CALL(set_timestamp), CALL(set_ssrc), CALL(set_csrc), CALL(set_element), CALL(remove_element),
         CALL(next_element), CALL(last_element), CALL(receiver_start), CALL(receiver_number_of),
         CALL(receiver_accepts), CALL(receiver_record), CALL(receiver_receive), CALL(extend_u16),
-        CALL(values_read), CALL(pad), CALL(read_original), CALL(write_original), CALL(version),
+        CALL(values_read), CALL(kind_of_uri), CALL(map_set), CALL(map_get), CALL(map_standard), CALL(parse),
+        CALL(parse_layers), CALL(wire_len), CALL(write), CALL(write_with), CALL(write_elements),
+        CALL(new_ids_between), CALL(renumber), CALL(pad), CALL(read_original), CALL(write_original), CALL(version),
     };
     memory stacks = memory_of(ROOM);
     for (int i = 0; i < 256; i++) {
         map.kind[i] = (uint8_t)i; /* each kind, and a layer allocation */
     }
     map.kind[14] = RTP_KIND_LAYERS;
+    give_all();
     uint8_t *stack = stacks.room;
     size_t nothing = taken_by(empty, stack), most = 0;
     const char *name = "";

@@ -1,8 +1,10 @@
-/* Four threads read one const packet under one const map at once, and each has a receiver of its own. */
+/* Four threads read one const packet under one const map, and write one const header, at once. Each has a
+ * receiver and a buffer of its own. */
 #include "../c/rtp_wire.h"
 
 #include <pthread.h>
 #include <stdio.h>
+#include <string.h>
 
 #define THREADS 4
 #define ROUNDS 200000
@@ -12,6 +14,18 @@ static const uint8_t DATAGRAM[26] = {0x90, 0xE0, 0, 5, 0, 0, 0, 160, 0, 0, 0, 7,
                                      0xDE, 0, 2, 0x10, 0xAA, 0x21, 0xBB, 0xCC, 0, 0, 0, 1, 2};
 
 static const rtp_map MAP = {{0, RTP_KIND_AUDIO_LEVEL, RTP_KIND_TRANSPORT_NUMBER}};
+
+static const rtp_new_ids IDS = {{0, 2, 1}};
+
+/* The header of DATAGRAM is written again as it was, and then has its two ids the other way round. */
+static int is_written(void) {
+    rtp_header header;
+    uint8_t buf[sizeof DATAGRAM];
+    size_t len;
+    return rtp_parse(DATAGRAM, sizeof DATAGRAM, &MAP, &header) == RTP_OK && header.header_len == 24 &&
+           rtp_write(&MAP, &header, buf, sizeof buf, &len) == RTP_OK && len == 24 && memcmp(buf, DATAGRAM, 24) == 0 &&
+           rtp_renumber(buf, len, &IDS) == RTP_OK && buf[16] == 0x20 && buf[18] == 0x11;
+}
 
 static void *reads(void *failed) {
     rtp_receiver receiver = {0, 0, 0, 0};
@@ -26,7 +40,8 @@ static void *reads(void *failed) {
             element.data_at != 3 || element.data_len != 2 ||
             rtp_values_read(DATAGRAM + packet.body_at, packet.body_len, packet.block_form, &MAP, &values) != RTP_OK ||
             values.audio_level != -42 || values.voice_activity != 1 || values.transport_number != 0xBBCC ||
-            rtp_receiver_receive(&receiver, (uint16_t)i, &number) != RTP_OK || number != (uint64_t)i) {
+            rtp_receiver_receive(&receiver, (uint16_t)i, &number) != RTP_OK || number != (uint64_t)i ||
+            !is_written()) {
             *(int *)failed = 1;
         }
     }

@@ -156,7 +156,7 @@ static void values_are_read(void) {
     rtp_values values, same;
     memset(&values, 0xA5, sizeof values);
     memcpy(&same, &values, sizeof values);
-    CHECK(sizeof map == 256 && sizeof values == 56);
+    CHECK(sizeof map == 256 && sizeof values == 136);
     map.kind[1] = RTP_KIND_AUDIO_LEVEL;
     map.kind[2] = RTP_KIND_TRANSPORT_NUMBER;
     map.kind[3] = RTP_KIND_ABS_SEND_TIME;

@@ -173,7 +173,9 @@ fn put_allocation(allocation: &VideoLayersAllocation, view: &mut Layers)
     view.current = allocation.current_simulcast_stream_index;
 }
 
-// Puts what C is told of the values' allocation, and of nothing that is sent where there is none.
+// Puts what C is told of the values' allocation, and of nothing that is sent where there is none. It
+// stays out of line, so that the layers that it makes aren't on the stack while the header is read.
+#[inline(never)]
 pub fn put_layers(values: &ExtensionValues, view: &mut Layers)
     requires { IfSome values.now.video_layers_allocation spec.HasFewStreams }
     ensures { spec.IsViewOfLayers

@@ -2,7 +2,8 @@
 //!
 //! The work is done by a library whose functions are proved: each returns for every input, and its
 //! result is what its contract says. This crate gives it the types of Rust. It needs no
-//! `std`, has no state, and takes no memory but for a layer allocation ([`Packet::values`]).
+//! `std`, has no state, and takes no memory but for a layer allocation that is read ([`Kind::Layers`]) and
+//! for a list of elements that is written ([`write_elements`], [`Header::write_with`]).
 //!
 //! ```
 //! use rtp_wire::{NotAPacket, Packet, Receiver};
@@ -25,17 +26,28 @@
 
 mod elements;
 mod error;
+mod header;
+mod layers;
+mod map;
+mod new_ids;
 mod packet;
 mod packet_mut;
 mod payload;
 mod receiver;
 mod sys;
+mod text;
 mod values;
+mod views;
 
-pub use elements::{Element, Elements};
-pub use error::NotAPacket;
+pub use elements::{write_elements, Element, Elements, Place, Places};
+pub use error::{BadId, NoMemory, NotAHeader, NotAPacket, NotWritten};
+pub use header::Header;
+pub use layers::{Layer, Layers, Resolution, Stream};
+pub use map::{Kind, Map};
+pub use new_ids::NewIds;
 pub use packet::{Csrcs, Form, Packet};
 pub use packet_mut::PacketMut;
 pub use payload::{pad, read_original, version, write_original};
 pub use receiver::{extend_u16, Receiver};
-pub use values::{Kind, Map, NoMemory, Values};
+pub use text::{Mid, NotAText, Rid, Text};
+pub use values::{Values, VideoTiming};

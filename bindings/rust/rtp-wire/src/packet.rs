@@ -4,6 +4,7 @@ use core::iter::FusedIterator;
 use crate::elements::Elements;
 use crate::error::NotAPacket;
 use crate::sys;
+use crate::views::PacketParts;
 
 /// The form of an extension block (RFC 8285, 4.2 and 4.3).
 #[derive(Clone, Copy, Debug, PartialEq, Eq, Hash)]
@@ -27,7 +28,7 @@ impl Form {
 #[derive(Clone, Copy, PartialEq, Eq)]
 pub struct Packet<'a> {
     datagram: &'a [u8],
-    parts: sys::PacketParts,
+    parts: PacketParts,
 }
 
 impl<'a> Packet<'a> {
@@ -37,7 +38,7 @@ impl<'a> Packet<'a> {
     ///
     /// The first cause for which it is none.
     pub fn parse(datagram: &'a [u8]) -> Result<Packet<'a>, NotAPacket> {
-        let mut parts = sys::PacketParts::default();
+        let mut parts = PacketParts::default();
         NotAPacket::of_status(sys::packet_parse(datagram, &mut parts))?;
         Ok(Packet { datagram, parts })
     }
@@ -127,7 +128,8 @@ impl<'a> Packet<'a> {
     /// The data of the last element of this id, which is the one that counts.
     pub fn element(&self, id: u8) -> Option<&'a [u8]> {
         let (form, body) = self.block()?;
-        Some(sys::last_element(body, form.number(), id)?.data_in(body))
+        let place = sys::last_element(body, form.number(), id)?;
+        Some(&body[place.data()])
     }
 }
 

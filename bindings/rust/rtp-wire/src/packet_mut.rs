@@ -1,6 +1,7 @@
 use core::fmt;
 
 use crate::error::NotAPacket;
+use crate::new_ids::NewIds;
 use crate::packet::Packet;
 use crate::sys;
 
@@ -74,6 +75,14 @@ impl<'a> PacketMut<'a> {
     /// Makes each element of this id padding. Returns whether there was one.
     pub fn remove_element(&mut self, id: u8) -> bool {
         sys::remove_element(self.datagram, id) == sys::OK
+    }
+
+    /// Gives each element its new id, and makes one that has none padding. Returns `false`, and changes
+    /// nothing, where the packet's form can't carry a new id that an element gets: one above 14 in the
+    /// one-byte form.
+    #[must_use]
+    pub fn renumber(&mut self, ids: &NewIds) -> bool {
+        sys::renumber(self.datagram, &ids.ids) == sys::OK
     }
 }
 

@@ -1,4 +1,5 @@
 use crate::sys;
+use crate::views::ReceiverState;
 
 /// The receive state of one stream: a replay window of 128 numbers, and the rollover count (RFC 3711,
 /// 3.3.1 and 3.3.2). It is plain memory of 32 bytes, and may be copied and stored.
@@ -15,7 +16,7 @@ use crate::sys;
 /// ```
 #[derive(Clone, Copy, Debug, Default)]
 pub struct Receiver {
-    state: sys::ReceiverState,
+    state: ReceiverState,
 }
 
 impl Receiver {

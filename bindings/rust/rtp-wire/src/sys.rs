@@ -6,6 +6,10 @@
 //! address too. No function keeps a pointer. That is the reason of each call below.
 #![allow(unsafe_code)]
 
+use crate::views::{
+    HeaderView, IdsOfIds, KindsOfIds, Layers, PacketParts, Place, ReceiverState, ValuesView,
+};
+
 pub const OK: i32 = 0;
 pub const CUT_FIXED_PART: i32 = 1;
 pub const OTHER_VERSION: i32 = 2;
@@ -13,93 +17,17 @@ pub const CUT_SOURCES: i32 = 3;
 pub const CUT_BLOCK_HEADER: i32 = 4;
 pub const UNKNOWN_FORM: i32 = 5;
 pub const CUT_BLOCK: i32 = 6;
+pub const NO_MEMORY: i32 = 7;
+pub const SHORT_BUFFER: i32 = 8;
 
 pub const ONE_BYTE_FORM: u8 = 1;
 pub const TWO_BYTE_FORM: u8 = 2;
 pub const CSRC_AT: usize = 12;
 
-/// `rtp_packet`
-#[repr(C)]
-#[derive(Clone, Copy, Debug, Default, PartialEq, Eq)]
-pub struct PacketParts {
-    pub payload_at: usize,
-    pub payload_len: usize,
-    pub unpadded_len: usize,
-    pub body_at: usize,
-    pub body_len: usize,
-    pub timestamp: u32,
-    pub ssrc: u32,
-    pub sequence_number: u16,
-    pub payload_type: u8,
-    pub csrc_count: u8,
-    pub marker: u8,
-    pub has_padding: u8,
-    pub padding_fits: u8,
-    pub block_form: u8,
-}
-
-/// `rtp_element`
-#[repr(C)]
-#[derive(Clone, Copy, Debug, Default, PartialEq, Eq)]
-pub struct ElementPlace {
-    pub data_at: usize,
-    pub data_len: usize,
-    pub end: usize,
-    pub id: u8,
-}
-
-impl ElementPlace {
-    /// The data of the element in the body where it was found.
-    pub fn data_in<'a>(&self, body: &'a [u8]) -> &'a [u8] {
-        &body[self.data_at..self.end]
-    }
-}
-
-/// `rtp_receiver`
-#[repr(C)]
-#[derive(Clone, Copy, Debug, Default)]
-pub struct ReceiverState {
-    pub highest: u64,
-    pub recorded_low: u64,
-    pub recorded_high: u64,
-    pub started: u8,
-}
-
-/// `rtp_map`
-#[repr(C)]
-#[derive(Clone, Copy, PartialEq, Eq)]
-pub struct KindsOfIds {
-    pub kind: [u8; 256],
-}
-
-/// `rtp_values`
-#[repr(C)]
-#[derive(Clone, Copy, Debug, Default)]
-pub struct ValuesView {
-    pub send_time: u64,
-    pub capture_time: u64,
-    pub capture_offset: i64,
-    pub transmission_offset: u32,
-    pub frame_marking: u32,
-    pub transport_number: u16,
-    pub video_orientation: u16,
-    pub video_content_type: u8,
-    pub audio_level: i8,
-    pub voice_activity: u8,
-    pub has_send_time: u8,
-    pub has_capture_time: u8,
-    pub has_capture_offset: u8,
-    pub has_transmission_offset: u8,
-    pub has_frame_marking: u8,
-    pub has_transport_number: u8,
-    pub has_video_orientation: u8,
-    pub has_video_content_type: u8,
-    pub has_audio_level: u8,
-    pub has_voice_activity: u8,
-}
-
 mod c {
-    use super::{ElementPlace, KindsOfIds, PacketParts, ReceiverState, ValuesView};
+    use super::{
+        HeaderView, IdsOfIds, KindsOfIds, Layers, PacketParts, Place, ReceiverState, ValuesView,
+    };
 
     extern "C" {
         pub fn rtp_packet_parse(datagram: *const u8, len: usize, packet: *mut PacketParts) -> i32;
@@ -122,14 +50,14 @@ mod c {
             body_len: usize,
             form: u8,
             at: usize,
-            element: *mut ElementPlace,
+            element: *mut Place,
         ) -> i32;
         pub fn rtp_last_element(
             body: *const u8,
             body_len: usize,
             form: u8,
             id: u8,
-            element: *mut ElementPlace,
+            element: *mut Place,
         ) -> i32;
         pub fn rtp_receiver_start(receiver: *mut ReceiverState, rollover_count: u64) -> i32;
         pub fn rtp_receiver_number_of(receiver: *const ReceiverState, sequence_number: u16) -> u64;
@@ -147,6 +75,61 @@ mod c {
             map: *const KindsOfIds,
             values: *mut ValuesView,
         ) -> i32;
+        pub fn rtp_kind_of_uri(uri: *const u8, len: usize) -> u8;
+        pub fn rtp_map_set(map: *mut KindsOfIds, id: u8, kind: u8) -> i32;
+        pub fn rtp_map_get(map: *const KindsOfIds, id: u8) -> u8;
+        pub fn rtp_map_standard(map: *mut KindsOfIds);
+        pub fn rtp_parse(
+            datagram: *const u8,
+            len: usize,
+            map: *const KindsOfIds,
+            header: *mut HeaderView,
+        ) -> i32;
+        pub fn rtp_parse_layers(
+            datagram: *const u8,
+            len: usize,
+            map: *const KindsOfIds,
+            header: *mut HeaderView,
+            layers: *mut Layers,
+        ) -> i32;
+        pub fn rtp_wire_len(
+            map: *const KindsOfIds,
+            header: *const HeaderView,
+            len: *mut usize,
+        ) -> i32;
+        pub fn rtp_write(
+            map: *const KindsOfIds,
+            header: *const HeaderView,
+            buf: *mut u8,
+            size: usize,
+            len: *mut usize,
+        ) -> i32;
+        pub fn rtp_write_with(
+            header: *const HeaderView,
+            data: *const u8,
+            data_len: usize,
+            elements: *const Place,
+            count: usize,
+            buf: *mut u8,
+            size: usize,
+            len: *mut usize,
+        ) -> i32;
+        pub fn rtp_write_elements(
+            data: *const u8,
+            data_len: usize,
+            elements: *const Place,
+            count: usize,
+            form: u8,
+            buf: *mut u8,
+            size: usize,
+            len: *mut usize,
+        ) -> i32;
+        pub fn rtp_new_ids_between(
+            from: *const KindsOfIds,
+            to: *const KindsOfIds,
+            ids: *mut IdsOfIds,
+        );
+        pub fn rtp_renumber(datagram: *mut u8, len: usize, ids: *const IdsOfIds) -> i32;
         pub fn rtp_pad(
             datagram: *mut u8,
             size: usize,
@@ -215,15 +198,15 @@ pub fn remove_element(datagram: &mut [u8], id: u8) -> i32 {
     unsafe { c::rtp_remove_element(datagram.as_mut_ptr(), datagram.len(), id) }
 }
 
-pub fn next_element(body: &[u8], form: u8, at: usize) -> Option<ElementPlace> {
-    let mut place = ElementPlace::default();
+pub fn next_element(body: &[u8], form: u8, at: usize) -> Option<Place> {
+    let mut place = Place::default();
     // SAFETY: a slice that is read, and an exclusive reference.
     let status = unsafe { c::rtp_next_element(body.as_ptr(), body.len(), form, at, &mut place) };
     (status == OK).then_some(place)
 }
 
-pub fn last_element(body: &[u8], form: u8, id: u8) -> Option<ElementPlace> {
-    let mut place = ElementPlace::default();
+pub fn last_element(body: &[u8], form: u8, id: u8) -> Option<Place> {
+    let mut place = Place::default();
     // SAFETY: a slice that is read, and an exclusive reference.
     let status = unsafe { c::rtp_last_element(body.as_ptr(), body.len(), form, id, &mut place) };
     (status == OK).then_some(place)
@@ -232,6 +215,105 @@ pub fn last_element(body: &[u8], form: u8, id: u8) -> Option<ElementPlace> {
 pub fn values_read(body: &[u8], form: u8, map: &KindsOfIds, values: &mut ValuesView) -> i32 {
     // SAFETY: a slice and a reference that are read, and an exclusive reference.
     unsafe { c::rtp_values_read(body.as_ptr(), body.len(), form, map, values) }
+}
+
+pub fn kind_of_uri(uri: &[u8]) -> u8 {
+    // SAFETY: a slice that is read.
+    unsafe { c::rtp_kind_of_uri(uri.as_ptr(), uri.len()) }
+}
+
+pub fn map_set(map: &mut KindsOfIds, id: u8, kind: u8) -> i32 {
+    // SAFETY: an exclusive reference.
+    unsafe { c::rtp_map_set(map, id, kind) }
+}
+
+pub fn map_get(map: &KindsOfIds, id: u8) -> u8 {
+    // SAFETY: a reference that is read.
+    unsafe { c::rtp_map_get(map, id) }
+}
+
+pub fn map_standard(map: &mut KindsOfIds) {
+    // SAFETY: an exclusive reference.
+    unsafe { c::rtp_map_standard(map) }
+}
+
+pub fn parse(datagram: &[u8], map: &KindsOfIds, header: &mut HeaderView) -> i32 {
+    // SAFETY: a slice and a reference that are read, and an exclusive reference.
+    unsafe { c::rtp_parse(datagram.as_ptr(), datagram.len(), map, header) }
+}
+
+pub fn parse_layers(
+    datagram: &[u8],
+    map: &KindsOfIds,
+    header: &mut HeaderView,
+    layers: &mut Layers,
+) -> i32 {
+    // SAFETY: a slice and a reference that are read, and two exclusive references.
+    unsafe { c::rtp_parse_layers(datagram.as_ptr(), datagram.len(), map, header, layers) }
+}
+
+pub fn wire_len(map: &KindsOfIds, header: &HeaderView, len: &mut usize) -> i32 {
+    // SAFETY: two references that are read, and an exclusive reference.
+    unsafe { c::rtp_wire_len(map, header, len) }
+}
+
+pub fn write(map: &KindsOfIds, header: &HeaderView, buf: &mut [u8], len: &mut usize) -> i32 {
+    // SAFETY: two references that are read, an exclusive slice, and an exclusive reference.
+    unsafe { c::rtp_write(map, header, buf.as_mut_ptr(), buf.len(), len) }
+}
+
+pub fn write_with(
+    header: &HeaderView,
+    data: &[u8],
+    elements: &[Place],
+    buf: &mut [u8],
+    len: &mut usize,
+) -> i32 {
+    // SAFETY: a reference and two slices that are read, an exclusive slice, and an exclusive reference.
+    unsafe {
+        c::rtp_write_with(
+            header,
+            data.as_ptr(),
+            data.len(),
+            elements.as_ptr(),
+            elements.len(),
+            buf.as_mut_ptr(),
+            buf.len(),
+            len,
+        )
+    }
+}
+
+pub fn write_elements(
+    data: &[u8],
+    elements: &[Place],
+    form: u8,
+    buf: &mut [u8],
+    len: &mut usize,
+) -> i32 {
+    // SAFETY: two slices that are read, an exclusive slice, and an exclusive reference.
+    unsafe {
+        c::rtp_write_elements(
+            data.as_ptr(),
+            data.len(),
+            elements.as_ptr(),
+            elements.len(),
+            form,
+            buf.as_mut_ptr(),
+            buf.len(),
+            len,
+        )
+    }
+}
+
+pub fn new_ids_between(from: &KindsOfIds, to: &KindsOfIds, ids: &mut IdsOfIds) {
+    // SAFETY: two references that are read, and an exclusive reference.
+    unsafe { c::rtp_new_ids_between(from, to, ids) }
+}
+
+pub fn renumber(datagram: &mut [u8], ids: &IdsOfIds) -> i32 {
+    // SAFETY: an exclusive slice, and a reference that is read.
+    unsafe { c::rtp_renumber(datagram.as_mut_ptr(), datagram.len(), ids) }
 }
 
 pub fn pad(
@@ -302,30 +384,4 @@ pub fn receiver_receive(receiver: &mut ReceiverState, sequence_number: u16) -> O
 pub fn extend_u16(previous: u64, number: u16) -> u64 {
     // SAFETY: no memory is passed.
     unsafe { c::rtp_extend_u16(previous, number) }
-}
-
-#[cfg(test)]
-mod tests {
-    use super::{ElementPlace, KindsOfIds, PacketParts, ReceiverState, ValuesView};
-    use core::mem::{align_of, offset_of, size_of};
-
-    /// The struct's size, and where each field lies.
-    macro_rules! lies {
-        ($it:ty, $size:expr, $($field:ident $at:expr),*) => {
-            assert_eq!(size_of::<$it>(), $size);
-            assert_eq!(align_of::<$it>(), 8);
-            $(assert_eq!(offset_of!($it, $field), $at, stringify!($field));)*
-        };
-    }
-
-    #[test]
-    fn structs_are_those_of_the_header_file() {
-        lies!(PacketParts, 56, payload_at 0, payload_len 8, unpadded_len 16, body_at 24, body_len 32,
-            timestamp 40, ssrc 44, sequence_number 48, payload_type 50, csrc_count 51, marker 52,
-            has_padding 53, padding_fits 54, block_form 55);
-        lies!(ElementPlace, 32, data_at 0, data_len 8, end 16, id 24);
-        lies!(ReceiverState, 32, highest 0, recorded_low 8, recorded_high 16, started 24);
-        lies!(ValuesView, 56, send_time 0, capture_time 8, capture_offset 16, transmission_offset 24, frame_marking 28, transport_number 32, video_orientation 34, video_content_type 36, audio_level 37, voice_activity 38, has_send_time 39, has_capture_time 40, has_capture_offset 41, has_transmission_offset 42, has_frame_marking 43, has_transport_number 44, has_video_orientation 45, has_video_content_type 46, has_audio_level 47, has_voice_activity 48);
-        assert_eq!(size_of::<KindsOfIds>(), 256);
-    }
 }

@@ -1,105 +1,44 @@
-use core::error::Error;
-use core::fmt;
+use core::time::Duration;
 
+use crate::error::NoMemory;
+use crate::map::Map;
 use crate::packet::Packet;
 use crate::sys;
+use crate::text::{Mid, Rid};
+use crate::views::{Time, ValuesView};
 
-/// What a header extension says of its packet.
-#[derive(Clone, Copy, Debug, PartialEq, Eq, Hash)]
-#[allow(missing_docs)] // the names are those of the extensions
-pub enum Kind {
-    AbsSendTime = 1,
-    AbsCaptureTime = 2,
-    AudioLevel = 3,
-    TransmissionOffset = 4,
-    VideoOrientation = 5,
-    TransportNumber = 6,
-    PlayoutDelay = 7,
-    VideoContentType = 8,
-    VideoTiming = 9,
-    Rid = 10,
-    RepairedRid = 11,
-    Mid = 12,
-    FrameMarking = 13,
-    ColorSpace = 14,
-    Layers = 15,
+/// When a frame passed each step on its way out, in milliseconds after its capture.
+#[derive(Clone, Copy, Debug, Default, PartialEq, Eq, Hash)]
+pub struct VideoTiming {
+    /// Why the times were sent: bit 0 a timer, bit 1 a large frame.
+    pub flags: u8,
+    /// When its encoding began.
+    pub encode_start: u16,
+    /// When its encoding ended.
+    pub encode_finish: u16,
+    /// When its last packet was made.
+    pub packetize_complete: u16,
+    /// When its last packet left the pacer.
+    pub last_left_pacer: u16,
 }
 
-impl Kind {
-    const ALL: [Kind; 15] = [
-        Kind::AbsSendTime,
-        Kind::AbsCaptureTime,
-        Kind::AudioLevel,
-        Kind::TransmissionOffset,
-        Kind::VideoOrientation,
-        Kind::TransportNumber,
-        Kind::PlayoutDelay,
-        Kind::VideoContentType,
-        Kind::VideoTiming,
-        Kind::Rid,
-        Kind::RepairedRid,
-        Kind::Mid,
-        Kind::FrameMarking,
-        Kind::ColorSpace,
-        Kind::Layers,
-    ];
-}
-
-/// Which extension each id means, as the two peers agreed. It may be a `const` or a `static`.
-#[derive(Clone, Copy, PartialEq, Eq)]
-pub struct Map {
-    kinds: sys::KindsOfIds,
-}
-
-impl Map {
-    /// A map in which no id means anything.
-    pub const fn new() -> Map {
-        Map {
-            kinds: sys::KindsOfIds { kind: [0; 256] },
-        }
-    }
-
-    /// The map in which this id means this kind too, or another kind than before. The id 0, which is
-    /// padding, never means anything.
-    #[must_use]
-    pub const fn with(mut self, id: u8, kind: Kind) -> Map {
-        if id != 0 {
-            self.kinds.kind[id as usize] = kind as u8;
-        }
-        self
-    }
-
-    /// The kind that the id means.
-    pub fn get(&self, id: u8) -> Option<Kind> {
-        let number = self.kinds.kind[usize::from(id)];
-        Kind::ALL.into_iter().find(|kind| *kind as u8 == number)
-    }
-}
-
-impl Default for Map {
-    fn default() -> Map {
-        Map::new()
-    }
-}
-
-impl fmt::Debug for Map {
-    fn fmt(&self, f: &mut fmt::Formatter<'_>) -> fmt::Result {
-        let known = (1..=255).filter_map(|id| Some((id, self.get(id)?)));
-        f.debug_map().entries(known).finish()
-    }
-}
-
-/// What the elements of a packet say under a map. The data of a text (a mid or a rid) are the text:
-/// [`Packet::element`] finds them.
+/// What the elements of a packet say under a map, all but a layer allocation
+/// ([`Header::parse_with_layers`](crate::Header::parse_with_layers)).
 #[derive(Clone, Copy, Debug, Default, PartialEq, Eq)]
 #[non_exhaustive]
 pub struct Values {
-    /// When the packet left its sender, in microseconds modulo 64 seconds.
+    /// When the packet left its sender, in microseconds: as read modulo 64 seconds.
     pub send_time: Option<u64>,
     /// When the frame was captured, as an NTP timestamp with 32 bits of fraction.
     pub capture_time: Option<u64>,
-    /// How far the capturer's clock is ahead of the sender's, in seconds with 32 bits of fraction.
+    /// How far the capturer's clock is ahead of the sender's, in seconds with 32 bits of fraction. It is
+    /// written with a capture time alone.
     pub capture_offset: Option<i64>,
+    /// For how long the receiver may hold the frame at least: whole hundredths of a second, up to 40.95
+    /// seconds. Of the two delays both are written, or none.
+    pub playout_delay_min: Option<Duration>,
+    /// And for how long at most.
+    pub playout_delay_max: Option<Duration>,
     /// Ticks of the stream's clock; an element of four bytes.
     pub transmission_offset: Option<u32>,
     /// The first four bytes of the frame marking.
@@ -108,44 +47,136 @@ pub struct Values {
     pub transport_number: Option<u16>,
     /// How the picture is to be turned, in degrees counter-clockwise: 0, 90, 180 or 270.
     pub video_orientation: Option<u16>,
+    /// When the frame was encoded and sent.
+    pub video_timing: Option<VideoTiming>,
     /// 0 unspecified, 1 a screen.
     pub video_content_type: Option<u8>,
-    /// Decibels relative to the overload point, -127 to 0.
+    /// Decibels relative to the overload point, -127 to 0. It is written together with the voice
+    /// activity, or not.
     pub audio_level: Option<i8>,
     /// Whether the audio has voice.
     pub voice_activity: Option<bool>,
+    /// The media section that the packet is of.
+    pub mid: Option<Mid>,
+    /// The stream that the packet is of.
+    pub rid: Option<Rid>,
+    /// The stream that this one repairs.
+    pub repaired_rid: Option<Rid>,
 }
-
-/// Memory was refused, which only a layer allocation takes ([`Kind::Layers`]).
-#[derive(Clone, Copy, Debug, PartialEq, Eq, Hash)]
-pub struct NoMemory;
-
-impl fmt::Display for NoMemory {
-    fn fmt(&self, f: &mut fmt::Formatter<'_>) -> fmt::Result {
-        f.write_str("memory was refused")
-    }
-}
-
-impl Error for NoMemory {}
 
 /// The value, where it is there.
 fn held<T>(is_there: u8, value: T) -> Option<T> {
     (is_there != 0).then_some(value)
 }
 
+/// Whether the value is there, and the value.
+fn told<T: Default>(value: Option<T>) -> (u8, T) {
+    value.map_or((0, T::default()), |value| (1, value))
+}
+
+const NANOS: u32 = 1_000_000_000;
+
+fn duration_of(time: Time) -> Duration {
+    let hertz = u64::from(time.hertz);
+    let nanos = time.ticks % hertz * u64::from(NANOS) / hertz;
+    Duration::new(time.ticks / hertz, nanos as u32) // below 10^9
+}
+
+/// The time in nanoseconds, and after 584 years the greatest that there is.
+fn time_of(duration: Duration) -> Time {
+    Time {
+        ticks: u64::try_from(duration.as_nanos()).unwrap_or(u64::MAX),
+        hertz: NANOS,
+    }
+}
+
 impl Values {
-    fn of(view: &sys::ValuesView) -> Values {
+    pub(crate) fn of(view: &ValuesView) -> Values {
+        let delay = |is_there, time| held(is_there, time).map(duration_of);
         Values {
             send_time: held(view.has_send_time, view.send_time),
             capture_time: held(view.has_capture_time, view.capture_time),
             capture_offset: held(view.has_capture_offset, view.capture_offset),
+            playout_delay_min: delay(view.has_playout_delay_min, view.playout_delay_min),
+            playout_delay_max: delay(view.has_playout_delay_max, view.playout_delay_max),
             transmission_offset: held(view.has_transmission_offset, view.transmission_offset),
             frame_marking: held(view.has_frame_marking, view.frame_marking),
             transport_number: held(view.has_transport_number, view.transport_number),
             video_orientation: held(view.has_video_orientation, view.video_orientation),
+            video_timing: held(
+                view.has_video_timing,
+                VideoTiming {
+                    flags: view.timing_flags,
+                    encode_start: view.encode_start,
+                    encode_finish: view.encode_finish,
+                    packetize_complete: view.packetize_complete,
+                    last_left_pacer: view.last_left_pacer,
+                },
+            ),
             video_content_type: held(view.has_video_content_type, view.video_content_type),
             audio_level: held(view.has_audio_level, view.audio_level),
             voice_activity: held(view.has_voice_activity, view.voice_activity != 0),
+            mid: held(view.has_mid, Mid::of(view.mid)),
+            rid: held(view.has_rid, Rid::of(view.rid)),
+            repaired_rid: held(view.has_repaired_rid, Rid::of(view.repaired_rid)),
+        }
+    }
+
+    pub(crate) fn view(&self) -> ValuesView {
+        let (has_send_time, send_time) = told(self.send_time);
+        let (has_capture_time, capture_time) = told(self.capture_time);
+        let (has_capture_offset, capture_offset) = told(self.capture_offset);
+        let (has_playout_delay_min, playout_delay_min) = told(self.playout_delay_min.map(time_of));
+        let (has_playout_delay_max, playout_delay_max) = told(self.playout_delay_max.map(time_of));
+        let (has_transmission_offset, transmission_offset) = told(self.transmission_offset);
+        let (has_frame_marking, frame_marking) = told(self.frame_marking);
+        let (has_transport_number, transport_number) = told(self.transport_number);
+        let (has_video_orientation, video_orientation) = told(self.video_orientation);
+        let (has_video_timing, timing) = told(self.video_timing);
+        let (has_video_content_type, video_content_type) = told(self.video_content_type);
+        let (has_audio_level, audio_level) = told(self.audio_level);
+        let (has_voice_activity, voice_activity) = told(self.voice_activity.map(u8::from));
+        let (has_mid, mid) = told(self.mid.map(|mid| mid.bytes()));
+        let (has_rid, rid) = told(self.rid.map(|rid| rid.bytes()));
+        let (has_repaired_rid, repaired_rid) = told(self.repaired_rid.map(|rid| rid.bytes()));
+        ValuesView {
+            send_time,
+            capture_time,
+            capture_offset,
+            playout_delay_min,
+            playout_delay_max,
+            transmission_offset,
+            frame_marking,
+            transport_number,
+            video_orientation,
+            encode_start: timing.encode_start,
+            encode_finish: timing.encode_finish,
+            packetize_complete: timing.packetize_complete,
+            last_left_pacer: timing.last_left_pacer,
+            timing_flags: timing.flags,
+            video_content_type,
+            audio_level,
+            voice_activity,
+            mid,
+            rid,
+            repaired_rid,
+            has_send_time,
+            has_capture_time,
+            has_capture_offset,
+            has_transmission_offset,
+            has_frame_marking,
+            has_transport_number,
+            has_video_orientation,
+            has_video_content_type,
+            has_audio_level,
+            has_voice_activity,
+            has_playout_delay_min,
+            has_playout_delay_max,
+            has_video_timing,
+            has_mid,
+            has_rid,
+            has_repaired_rid,
+            has_layers: 0,
         }
     }
 }
@@ -156,7 +187,8 @@ impl Packet<'_> {
     ///
     /// # Errors
     ///
-    /// [`NoMemory`], only where the map has [`Kind::Layers`] and the packet such an element.
+    /// [`NoMemory`], only where the map has [`Kind::Layers`](crate::Kind::Layers) and the packet such an
+    /// element.
     ///
     /// ```
     /// use rtp_wire::{Kind, Map, Packet};
@@ -172,7 +204,7 @@ impl Packet<'_> {
         let Some((form, body)) = self.block() else {
             return Ok(Values::default());
         };
-        let mut view = sys::ValuesView::default();
+        let mut view = ValuesView::default();
         match sys::values_read(body, form.number(), &map.kinds, &mut view) {
             sys::OK => Ok(Values::of(&view)),
             _ => Err(NoMemory),

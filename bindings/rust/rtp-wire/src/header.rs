@@ -1,0 +1,196 @@
+use crate::elements::Place;
+use crate::error::{NotAHeader, NotWritten};
+use crate::layers::Layers;
+use crate::map::Map;
+use crate::sys;
+use crate::values::Values;
+use crate::views::HeaderView;
+
+/// The header of a packet (RFC 3550, 5.1), with the values of its block: read by
+/// [`parse`](Header::parse), or filled and written by [`write_to`](Header::write_to).
+///
+/// ```
+/// use rtp_wire::{Header, Kind, Map};
+///
+/// const MAP: Map = Map::new().with(3, Kind::Mid);
+/// let mut header = Header::default();
+/// header.payload_type = 33;
+/// header.sequence_number = 47_000;
+/// header.has_extension = true;
+/// header.values.mid = Some("1".parse()?);
+///
+/// let mut datagram = [0; 1500];
+/// let len = header.write_to(&mut datagram, &MAP)?;
+/// assert_eq!(datagram[..len], [0x90, 33, 0xB7, 0x98, 0, 0, 0, 0, 0, 0, 0, 0, 0xBE, 0xDE, 0, 1, 0x30, b'1', 0, 0]);
+///
+/// let read = Header::parse(&datagram, &MAP)?;
+/// assert_eq!(read.values.mid.as_deref(), Some("1"));
+/// # Ok::<(), Box<dyn std::error::Error>>(())
+/// ```
+#[derive(Clone, Copy, Debug, Default, PartialEq, Eq)]
+pub struct Header {
+    /// M.
+    pub marker: bool,
+    /// What the payload is, 0 to 127.
+    pub payload_type: u8,
+    /// The low 16 bits of the packet's number.
+    pub sequence_number: u16,
+    /// The moment of the payload's first byte, in ticks of its own clock.
+    pub timestamp: u32,
+    /// The stream's source.
+    pub ssrc: u32,
+    /// P: whether there is padding at the end of the payload.
+    pub has_padding: bool,
+    /// X: whether there is a block of elements.
+    pub has_extension: bool,
+    /// What the elements of the block say: nothing without a block.
+    pub values: Values,
+    csrcs: [u32; 15],
+    csrc_count: u8,
+    header_len: usize,
+}
+
+impl Header {
+    /// Reads the header that the datagram begins with, and the values of its block under the map.
+    ///
+    /// # Errors
+    ///
+    /// The first cause for which there is none, or that memory was refused, which only a layer allocation
+    /// takes ([`Kind::Layers`](crate::Kind::Layers)).
+    pub fn parse(datagram: &[u8], map: &Map) -> Result<Header, NotAHeader> {
+        let mut view = HeaderView::default();
+        NotAHeader::of_status(sys::parse(datagram, &map.kinds, &mut view))?;
+        Ok(Header::of(&view))
+    }
+
+    /// Reads the header and, where the packet has one, the layer allocation.
+    ///
+    /// # Errors
+    ///
+    /// Those of [`parse`](Header::parse).
+    pub fn parse_with_layers(
+        datagram: &[u8],
+        map: &Map,
+    ) -> Result<(Header, Option<Layers>), NotAHeader> {
+        let mut view = HeaderView::default();
+        let mut layers = Layers::default();
+        let status = sys::parse_layers(datagram, &map.kinds, &mut view, &mut layers);
+        NotAHeader::of_status(status)?;
+        let layers = (view.values.has_layers != 0).then_some(layers);
+        Ok((Header::of(&view), layers))
+    }
+
+    /// How many bytes the header took that was read: the payload begins there. It is 0 where none was.
+    pub fn header_len(&self) -> usize {
+        self.header_len
+    }
+
+    /// The contributing sources, in order.
+    pub fn csrcs(&self) -> &[u32] {
+        &self.csrcs[..usize::from(self.csrc_count)]
+    }
+
+    /// Sets the contributing sources. Returns `false`, and changes nothing, where there are more than 15.
+    #[must_use]
+    pub fn set_csrcs(&mut self, csrcs: &[u32]) -> bool {
+        if csrcs.len() > self.csrcs.len() {
+            return false;
+        }
+        self.csrcs = [0; 15];
+        self.csrcs[..csrcs.len()].copy_from_slice(csrcs);
+        self.csrc_count = csrcs.len() as u8;
+        true
+    }
+
+    /// How many bytes [`write_to`](Header::write_to) writes: a multiple of 4, 12 to 65,612.
+    ///
+    /// # Errors
+    ///
+    /// [`NotWritten::BadField`], as `write_to`.
+    pub fn wire_len(&self, map: &Map) -> Result<usize, NotWritten> {
+        let mut len = 0;
+        NotWritten::of_status(sys::wire_len(&map.kinds, &self.view(), &mut len))?;
+        Ok(len)
+    }
+
+    /// Writes the header to the front of the buffer, and returns how many bytes it took; those after
+    /// them stay. Where there is a block it has an element for each mapped id whose value is there, by
+    /// rising id, in the one-byte form where no id above 14 and no [`Kind::Layers`](crate::Kind::Layers)
+    /// is mapped, and no text of a mapped kind is empty. A layer allocation is not written.
+    ///
+    /// # Errors
+    ///
+    /// [`NotWritten::BadField`] where the payload type is above 127 or the orientation none of the four,
+    /// and else [`NotWritten::ShortBuffer`] where the buffer has too few bytes; nothing is written then.
+    pub fn write_to(&self, buf: &mut [u8], map: &Map) -> Result<usize, NotWritten> {
+        let mut len = 0;
+        NotWritten::of_status(sys::write(&map.kinds, &self.view(), buf, &mut len))?;
+        Ok(len)
+    }
+
+    /// Writes the header with a block of these elements, whatever `has_extension` and `values` hold, and
+    /// returns how many bytes it took; those after them stay. Each place is one in `data`. The block is in
+    /// the one-byte form where that can carry each element: ids 1 to 14, 1 to 16 bytes.
+    ///
+    /// # Errors
+    ///
+    /// [`NotWritten::BadField`] where the payload type is above 127, or an element has the id 0, more than
+    /// 255 bytes or bytes past the end of `data`, or all of them are too long for a block;
+    /// [`NotWritten::ShortBuffer`]; [`NotWritten::NoMemory`]. Nothing is written then.
+    ///
+    /// ```
+    /// use rtp_wire::{Header, Packet, Place};
+    ///
+    /// let datagram = [0x90, 0, 0, 1, 0, 0, 0, 2, 0, 0, 0, 3, 0xBE, 0xDE, 0, 1, 0x30, 0x8A, 0, 0];
+    /// let packet = Packet::parse(&datagram)?;
+    /// let (_, body) = packet.block().expect("X is set");
+    /// let places: Vec<Place> = packet.elements().places().map(|it| it.with_id(20)).collect();
+    /// let mut buf = [0; 100];
+    /// let len = Header::default().write_with(&mut buf, body, &places)?;
+    /// assert_eq!(buf[12..len], [0x10, 0, 0, 1, 20, 1, 0x8A, 0]);
+    /// # Ok::<(), Box<dyn std::error::Error>>(())
+    /// ```
+    pub fn write_with(
+        &self,
+        buf: &mut [u8],
+        data: &[u8],
+        elements: &[Place],
+    ) -> Result<usize, NotWritten> {
+        let mut len = 0;
+        let status = sys::write_with(&self.view(), data, elements, buf, &mut len);
+        NotWritten::of_status(status)?;
+        Ok(len)
+    }
+
+    fn of(view: &HeaderView) -> Header {
+        Header {
+            marker: view.marker != 0,
+            payload_type: view.payload_type,
+            sequence_number: view.sequence_number,
+            timestamp: view.timestamp,
+            ssrc: view.ssrc,
+            has_padding: view.has_padding != 0,
+            has_extension: view.has_extension != 0,
+            values: Values::of(&view.values),
+            csrcs: view.csrc,
+            csrc_count: view.csrc_count,
+            header_len: view.header_len,
+        }
+    }
+
+    fn view(&self) -> HeaderView {
+        HeaderView {
+            header_len: self.header_len,
+            timestamp: self.timestamp,
+            ssrc: self.ssrc,
+            csrc: self.csrcs,
+            sequence_number: self.sequence_number,
+            payload_type: self.payload_type,
+            csrc_count: self.csrc_count,
+            marker: u8::from(self.marker),
+            has_padding: u8::from(self.has_padding),
+            has_extension: u8::from(self.has_extension),
+            values: self.values.view(),
+        }
+    }
+}

@@ -1,0 +1,152 @@
+use core::fmt;
+
+use crate::error::BadId;
+use crate::sys;
+use crate::views::KindsOfIds;
+
+/// What a header extension says of its packet.
+#[derive(Clone, Copy, Debug, PartialEq, Eq, Hash)]
+#[allow(missing_docs)] // the names are those of the extensions
+pub enum Kind {
+    AbsSendTime = 1,
+    AbsCaptureTime = 2,
+    AudioLevel = 3,
+    TransmissionOffset = 4,
+    VideoOrientation = 5,
+    TransportNumber = 6,
+    PlayoutDelay = 7,
+    VideoContentType = 8,
+    VideoTiming = 9,
+    Rid = 10,
+    RepairedRid = 11,
+    Mid = 12,
+    FrameMarking = 13,
+    ColorSpace = 14,
+    Layers = 15,
+}
+
+impl Kind {
+    const ALL: [Kind; 15] = [
+        Kind::AbsSendTime,
+        Kind::AbsCaptureTime,
+        Kind::AudioLevel,
+        Kind::TransmissionOffset,
+        Kind::VideoOrientation,
+        Kind::TransportNumber,
+        Kind::PlayoutDelay,
+        Kind::VideoContentType,
+        Kind::VideoTiming,
+        Kind::Rid,
+        Kind::RepairedRid,
+        Kind::Mid,
+        Kind::FrameMarking,
+        Kind::ColorSpace,
+        Kind::Layers,
+    ];
+
+    /// The kind that this URI names in SDP (RFC 8285, 5); `None` where it names none of these.
+    ///
+    /// ```
+    /// use rtp_wire::Kind;
+    ///
+    /// assert_eq!(Kind::from_uri("urn:ietf:params:rtp-hdrext:sdes:mid"), Some(Kind::Mid));
+    /// assert_eq!(Kind::from_uri("urn:ietf:params:rtp-hdrext:sdes"), None);
+    /// ```
+    pub fn from_uri(uri: &str) -> Option<Kind> {
+        Kind::of_number(sys::kind_of_uri(uri.as_bytes()))
+    }
+
+    fn of_number(number: u8) -> Option<Kind> {
+        let index = usize::from(number).checked_sub(1)?;
+        Kind::ALL.get(index).copied()
+    }
+}
+
+/// Which extension each id means, as the two peers agreed (RFC 8285, 5). It may be a `const` or a
+/// `static`.
+///
+/// ```
+/// use rtp_wire::{Kind, Map};
+///
+/// const MAP: Map = Map::new().with(3, Kind::AudioLevel);
+/// let map = Map::from_uris([(3, "urn:ietf:params:rtp-hdrext:ssrc-audio-level"), (4, "urn:other")])?;
+/// assert_eq!(map, MAP);
+/// # Ok::<(), rtp_wire::BadId>(())
+/// ```
+#[derive(Clone, Copy, PartialEq, Eq)]
+pub struct Map {
+    pub(crate) kinds: KindsOfIds,
+}
+
+impl Map {
+    /// A map in which no id means anything.
+    pub const fn new() -> Map {
+        Map {
+            kinds: KindsOfIds { kind: [0; 256] },
+        }
+    }
+
+    /// The usual ids: 1 audio level, 2 send time, 3 transport number, 4 mid, 10 rid, 11 repaired rid, 13
+    /// video orientation.
+    pub fn standard() -> Map {
+        let mut map = Map::new();
+        sys::map_standard(&mut map.kinds);
+        map
+    }
+
+    /// The map of the lines `a=extmap:ID URI` of an SDP. One whose URI names no [`Kind`] is passed over.
+    ///
+    /// # Errors
+    ///
+    /// [`BadId`] where the id of a kind is 0.
+    pub fn from_uris<'a>(lines: impl IntoIterator<Item = (u8, &'a str)>) -> Result<Map, BadId> {
+        let mut map = Map::new();
+        for (id, uri) in lines {
+            if let Some(kind) = Kind::from_uri(uri) {
+                map.set(id, Some(kind))?;
+            }
+        }
+        Ok(map)
+    }
+
+    /// The map in which this id means this kind too, or another kind than before. The id 0, which is
+    /// padding, never means anything.
+    #[must_use]
+    pub const fn with(mut self, id: u8, kind: Kind) -> Map {
+        if id != 0 {
+            self.kinds.kind[id as usize] = kind as u8;
+        }
+        self
+    }
+
+    /// The id means this kind from now on, or nothing.
+    ///
+    /// # Errors
+    ///
+    /// [`BadId`], and nothing changes, where the id is 0.
+    pub fn set(&mut self, id: u8, kind: Option<Kind>) -> Result<(), BadId> {
+        let number = kind.map_or(0, |kind| kind as u8);
+        match sys::map_set(&mut self.kinds, id, number) {
+            sys::OK => Ok(()),
+            _ => Err(BadId),
+        }
+    }
+
+    /// The kind that the id means.
+    pub fn get(&self, id: u8) -> Option<Kind> {
+        Kind::of_number(sys::map_get(&self.kinds, id))
+    }
+}
+
+impl Default for Map {
+    fn default() -> Map {
+        Map::new()
+    }
+}
+
+impl fmt::Debug for Map {
+    fn fmt(&self, f: &mut fmt::Formatter<'_>) -> fmt::Result {
+        let known = (1..=255).filter_map(|id| Some((id, self.get(id)?)));
+        f.debug_map().entries(known).finish()
+    }
+}

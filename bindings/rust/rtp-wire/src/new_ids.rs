@@ -1,0 +1,64 @@
+use core::fmt;
+
+use crate::map::Map;
+use crate::sys;
+use crate::views::IdsOfIds;
+
+/// Which ids elements get where a packet goes from one map to another: 256 bytes, made once for the two
+/// maps. [`PacketMut::renumber`](crate::PacketMut::renumber) takes it.
+///
+/// ```
+/// use rtp_wire::{Kind, Map, NewIds};
+///
+/// let from = Map::new().with(1, Kind::AudioLevel).with(2, Kind::Mid);
+/// let to = Map::new().with(5, Kind::AudioLevel);
+/// let ids = NewIds::between(&from, &to);
+/// assert_eq!((ids.get(1), ids.get(2)), (Some(5), None));
+/// ```
+#[derive(Clone, Copy, PartialEq, Eq)]
+pub struct NewIds {
+    pub(crate) ids: IdsOfIds,
+}
+
+impl NewIds {
+    /// No id has a new one.
+    pub const fn new() -> NewIds {
+        NewIds {
+            ids: IdsOfIds { id: [0; 256] },
+        }
+    }
+
+    /// For each id that means a kind in `from` the lowest id that means it in `to`.
+    pub fn between(from: &Map, to: &Map) -> NewIds {
+        let mut new = NewIds::new();
+        sys::new_ids_between(&from.kinds, &to.kinds, &mut new.ids);
+        new
+    }
+
+    /// The ids in which this id has this new one too. The id 0, which is padding, has none, and is none.
+    #[must_use]
+    pub const fn with(mut self, id: u8, new: u8) -> NewIds {
+        if id != 0 {
+            self.ids.id[id as usize] = new;
+        }
+        self
+    }
+
+    /// The new id of an id.
+    pub fn get(&self, id: u8) -> Option<u8> {
+        Some(self.ids.id[usize::from(id)]).filter(|new| id != 0 && *new != 0)
+    }
+}
+
+impl Default for NewIds {
+    fn default() -> NewIds {
+        NewIds::new()
+    }
+}
+
+impl fmt::Debug for NewIds {
+    fn fmt(&self, f: &mut fmt::Formatter<'_>) -> fmt::Result {
+        let changes = (1..=255).filter_map(|id| Some((id, self.get(id)?)));
+        f.debug_map().entries(changes).finish()
+    }
+}

@@ -1,0 +1,199 @@
+//! The structs of `rtp_wire.h`.
+
+/// `rtp_packet`
+#[repr(C)]
+#[derive(Clone, Copy, Debug, Default, PartialEq, Eq)]
+pub struct PacketParts {
+    pub payload_at: usize,
+    pub payload_len: usize,
+    pub unpadded_len: usize,
+    pub body_at: usize,
+    pub body_len: usize,
+    pub timestamp: u32,
+    pub ssrc: u32,
+    pub sequence_number: u16,
+    pub payload_type: u8,
+    pub csrc_count: u8,
+    pub marker: u8,
+    pub has_padding: u8,
+    pub padding_fits: u8,
+    pub block_form: u8,
+}
+
+/// Where the data of an element lie: `rtp_element` in C. [`Elements::places`](crate::Elements::places)
+/// tells it of a block, and [`write_elements`](crate::write_elements) and
+/// [`Header::write_with`](crate::Header::write_with) take it.
+#[repr(C)]
+#[derive(Clone, Copy, Debug, Default, PartialEq, Eq, Hash)]
+pub struct Place {
+    pub(crate) data_at: usize,
+    pub(crate) data_len: usize,
+    pub(crate) end: usize,
+    pub(crate) id: u8,
+}
+
+/// `rtp_receiver`
+#[repr(C)]
+#[derive(Clone, Copy, Debug, Default)]
+pub struct ReceiverState {
+    pub highest: u64,
+    pub recorded_low: u64,
+    pub recorded_high: u64,
+    pub started: u8,
+}
+
+/// `rtp_map`
+#[repr(C)]
+#[derive(Clone, Copy, PartialEq, Eq)]
+pub struct KindsOfIds {
+    pub kind: [u8; 256],
+}
+
+/// `rtp_new_ids`
+#[repr(C)]
+#[derive(Clone, Copy, PartialEq, Eq)]
+pub struct IdsOfIds {
+    pub id: [u8; 256],
+}
+
+/// `rtp_time`
+#[repr(C)]
+#[derive(Clone, Copy, Debug, Default)]
+pub struct Time {
+    pub ticks: u64,
+    pub hertz: u32,
+}
+
+/// `rtp_values`
+#[repr(C)]
+#[derive(Clone, Copy, Debug, Default)]
+pub struct ValuesView {
+    pub send_time: u64,
+    pub capture_time: u64,
+    pub capture_offset: i64,
+    pub playout_delay_min: Time,
+    pub playout_delay_max: Time,
+    pub transmission_offset: u32,
+    pub frame_marking: u32,
+    pub transport_number: u16,
+    pub video_orientation: u16,
+    pub encode_start: u16,
+    pub encode_finish: u16,
+    pub packetize_complete: u16,
+    pub last_left_pacer: u16,
+    pub timing_flags: u8,
+    pub video_content_type: u8,
+    pub audio_level: i8,
+    pub voice_activity: u8,
+    pub mid: [u8; 17],
+    pub rid: [u8; 9],
+    pub repaired_rid: [u8; 9],
+    pub has_send_time: u8,
+    pub has_capture_time: u8,
+    pub has_capture_offset: u8,
+    pub has_transmission_offset: u8,
+    pub has_frame_marking: u8,
+    pub has_transport_number: u8,
+    pub has_video_orientation: u8,
+    pub has_video_content_type: u8,
+    pub has_audio_level: u8,
+    pub has_voice_activity: u8,
+    pub has_playout_delay_min: u8,
+    pub has_playout_delay_max: u8,
+    pub has_video_timing: u8,
+    pub has_mid: u8,
+    pub has_rid: u8,
+    pub has_repaired_rid: u8,
+    pub has_layers: u8,
+}
+
+/// `rtp_header`
+#[repr(C)]
+#[derive(Clone, Copy, Debug, Default)]
+pub struct HeaderView {
+    pub header_len: usize,
+    pub timestamp: u32,
+    pub ssrc: u32,
+    pub csrc: [u32; 15],
+    pub sequence_number: u16,
+    pub payload_type: u8,
+    pub csrc_count: u8,
+    pub marker: u8,
+    pub has_padding: u8,
+    pub has_extension: u8,
+    pub values: ValuesView,
+}
+
+/// A spatial layer of a [`Stream`].
+#[repr(C)]
+#[derive(Clone, Copy, Debug, Default, PartialEq, Eq)]
+pub struct Layer {
+    pub(crate) kbps: [u64; 4],
+    pub(crate) width: u16,
+    pub(crate) height: u16,
+    pub(crate) framerate: u8,
+    pub(crate) has_resolution: u8,
+    pub(crate) rates: u8,
+}
+
+/// A simulcast stream of a [`Layers`].
+#[repr(C)]
+#[derive(Clone, Copy, Debug, Default, PartialEq, Eq)]
+pub struct Stream {
+    pub(crate) layers: [Layer; 4],
+    pub(crate) count: u8,
+}
+
+/// Which simulcast streams and layers a sender of video keeps active (`video-layers-allocation00`).
+#[repr(C)]
+#[derive(Clone, Copy, Debug, Default, PartialEq, Eq)]
+pub struct Layers {
+    pub(crate) streams: [Stream; 4],
+    pub(crate) count: u8,
+    pub(crate) current: u8,
+}
+
+#[cfg(test)]
+mod tests {
+    use super::*;
+    use core::mem::{align_of, offset_of, size_of};
+
+    /// The struct's size, and where each field lies.
+    macro_rules! lies {
+        ($it:ty, $size:expr, $($field:ident $at:expr),* $(,)?) => {
+            assert_eq!(size_of::<$it>(), $size);
+            assert_eq!(align_of::<$it>(), 8);
+            $(assert_eq!(offset_of!($it, $field), $at, stringify!($field));)*
+        };
+    }
+
+    #[test]
+    fn structs_are_those_of_the_header_file() {
+        lies!(PacketParts, 56, payload_at 0, payload_len 8, unpadded_len 16, body_at 24, body_len 32,
+            timestamp 40, ssrc 44, sequence_number 48, payload_type 50, csrc_count 51, marker 52,
+            has_padding 53, padding_fits 54, block_form 55);
+        lies!(Place, 32, data_at 0, data_len 8, end 16, id 24);
+        lies!(ReceiverState, 32, highest 0, recorded_low 8, recorded_high 16, started 24);
+        lies!(Time, 16, ticks 0, hertz 8);
+        lies!(HeaderView, 224, header_len 0, timestamp 8, ssrc 12, csrc 16, sequence_number 76,
+            payload_type 78, csrc_count 79, marker 80, has_padding 81, has_extension 82, values 88);
+        lies!(Layer, 40, kbps 0, width 32, height 34, framerate 36, has_resolution 37, rates 38);
+        lies!(Stream, 168, layers 0, count 160);
+        lies!(Layers, 680, streams 0, count 672, current 673);
+        assert_eq!((size_of::<KindsOfIds>(), size_of::<IdsOfIds>()), (256, 256));
+    }
+
+    #[test]
+    fn values_are_those_of_the_header_file() {
+        lies!(ValuesView, 136, send_time 0, capture_time 8, capture_offset 16, playout_delay_min 24,
+            playout_delay_max 40, transmission_offset 56, frame_marking 60, transport_number 64,
+            video_orientation 66, encode_start 68, encode_finish 70, packetize_complete 72,
+            last_left_pacer 74, timing_flags 76, video_content_type 77, audio_level 78,
+            voice_activity 79, mid 80, rid 97, repaired_rid 106, has_send_time 115,
+            has_capture_time 116, has_capture_offset 117, has_transmission_offset 118,
+            has_frame_marking 119, has_transport_number 120, has_video_orientation 121,
+            has_video_content_type 122, has_audio_level 123, has_voice_activity 124,
+            has_playout_delay_min 125, has_playout_delay_max 126, has_video_timing 127, has_mid 128,
+            has_rid 129, has_repaired_rid 130, has_layers 131);
+    }
+}

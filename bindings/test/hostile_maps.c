@@ -1,0 +1,174 @@
+/* rtp_kind_of_uri, rtp_map_set, rtp_map_get, rtp_map_standard, rtp_new_ids_between, rtp_renumber */
+#include "hostile.h"
+
+#include "walk_values.h"
+
+/* The URIs of the kinds, by their numbers. */
+static const char *const URIS[16] = {
+    "",
+    "http://www.webrtc.org/experiments/rtp-hdrext/abs-send-time",
+    "http://www.webrtc.org/experiments/rtp-hdrext/abs-capture-time",
+    "urn:ietf:params:rtp-hdrext:ssrc-audio-level",
+    "urn:ietf:params:rtp-hdrext:toffset",
+    "urn:3gpp:video-orientation",
+    "http://www.ietf.org/id/draft-holmer-rmcat-transport-wide-cc-extensions-01",
+    "http://www.webrtc.org/experiments/rtp-hdrext/playout-delay",
+    "http://www.webrtc.org/experiments/rtp-hdrext/video-content-type",
+    "http://www.webrtc.org/experiments/rtp-hdrext/video-timing",
+    "urn:ietf:params:rtp-hdrext:sdes:rtp-stream-id",
+    "urn:ietf:params:rtp-hdrext:sdes:repaired-rtp-stream-id",
+    "urn:ietf:params:rtp-hdrext:sdes:mid",
+    "http://tools.ietf.org/html/draft-ietf-avtext-framemarking-07",
+    "http://www.webrtc.org/experiments/rtp-hdrext/color-space",
+    "http://www.webrtc.org/experiments/rtp-hdrext/video-layers-allocation00",
+};
+
+static memory datagrams, uris, maps, other_maps, tables;
+
+/* A URI, at times with a byte changed, more or fewer, or bytes of any kind. */
+static void uri(void) {
+    static uint8_t copy[200];
+    uint64_t x = random_u64();
+    const char *known = URIS[x % 16];
+    size_t len = strlen(known);
+    memset(copy, 0, sizeof copy);
+    memcpy(copy, known, len);
+    size_t way = x / 16 % 8;
+    if (way == 0) {
+        fill(copy, sizeof copy);
+        len = random_below(sizeof copy);
+    } else if (way == 1 && len != 0) {
+        copy[random_below(len)] ^= (uint8_t)(1u << random_below(8));
+    } else if (way == 2) {
+        len = random_below(len + 2); /* with a zero behind it, say */
+    }
+    uint8_t kind = 0;
+    for (uint8_t i = 1; i < 16; i++) {
+        if (strlen(URIS[i]) == len && memcmp(URIS[i], copy, len) == 0) {
+            kind = i;
+        }
+    }
+    uint8_t *bytes = block_in(&uris, len);
+    memcpy(bytes, copy, len);
+    CHECK(rtp_kind_of_uri(bytes, len) == kind);
+    CHECK(memcmp(bytes, copy, len) == 0);
+}
+
+static void map_calls(rtp_map *map) {
+    rtp_map expected;
+    memcpy(&expected, map, sizeof expected);
+    uint64_t x = random_u64();
+    uint8_t id = (uint8_t)(x % 8 == 0 ? 0 : x / 8), kind = (uint8_t)(x / 65536 % 4 == 0 ? x >> 32 : x >> 32 & 15);
+    uint8_t held = id != 0 && map->kind[id] <= 15 ? map->kind[id] : 0;
+    CHECK(rtp_map_get(map, id) == held);
+    bool is_set = id != 0 && kind <= 15;
+    CHECK(rtp_map_set(map, id, kind) == (is_set ? RTP_OK : RTP_BAD_FIELD));
+    if (is_set) {
+        expected.kind[id] = kind;
+        CHECK(rtp_map_get(map, id) == kind);
+    }
+    CHECK(memcmp(map, &expected, sizeof expected) == 0);
+    if (x / 4096 % 64 == 0) {
+        static const uint8_t usual[16] = {0, 3, 1, 6, 12, 0, 0, 0, 0, 0, 10, 11, 0, 5, 0, 0};
+        rtp_map_standard(map);
+        for (size_t i = 1; i < 256; i++) {
+            CHECK(map->kind[i] == (i < 16 ? usual[i] : 0));
+        }
+    }
+}
+
+static void new_ids(const rtp_map *from, const rtp_map *to, rtp_new_ids *ids) {
+    rtp_map same_from, same_to;
+    memcpy(&same_from, from, sizeof same_from);
+    memcpy(&same_to, to, sizeof same_to);
+    fill(ids, sizeof *ids);
+    rtp_new_ids_between(from, to, ids);
+    CHECK(memcmp(from, &same_from, sizeof same_from) == 0 && memcmp(to, &same_to, sizeof same_to) == 0);
+    uint8_t lowest[16] = {0};
+    for (size_t id = 255; id > 0; id--) {
+        if (same_to.kind[id] <= 15) {
+            lowest[same_to.kind[id]] = (uint8_t)id;
+        }
+    }
+    for (size_t id = 1; id < 256; id++) {
+        uint8_t kind = same_from.kind[id];
+        CHECK(ids->id[id] == (kind == 0 || kind > 15 ? 0 : lowest[kind]));
+    }
+    CHECK(ids->id[0] == 0);
+}
+
+/* The new id that the table has for an element's. */
+static unsigned new_id(const rtp_new_ids *ids, const found *element) {
+    return element->id == 0 ? 0 : ids->id[element->id];
+}
+
+static bool is_carried(const uint8_t *body, const walked *it, const rtp_new_ids *ids) {
+    found element;
+    for (size_t at = 0; it->form == 1 && walk_on(body, it->body_len, 1, at, &element);) {
+        at = element.data_at + element.data_len;
+        if (new_id(ids, &element) > 14) {
+            return false;
+        }
+    }
+    return true;
+}
+
+static void renumber_in(uint8_t *body, const walked *it, const rtp_new_ids *ids) {
+    found element;
+    for (size_t at = 0; walk_on(body, it->body_len, it->form, at, &element);) {
+        unsigned id = new_id(ids, &element);
+        at = element.data_at + element.data_len;
+        if (id == 0) {
+            memset(body + element.start, 0, at - element.start);
+        } else {
+            body[element.start] = (uint8_t)(it->form == 1 ? id * 16 + body[element.start] % 16 : id);
+        }
+    }
+}
+
+static void renumber(const rtp_new_ids *ids) {
+    static uint8_t expected[LONGEST];
+    rtp_new_ids same;
+    memcpy(&same, ids, sizeof same);
+    size_t len = random_len();
+    uint8_t *bytes = block_in(&datagrams, len);
+    random_packet(bytes, len);
+    memcpy(expected, bytes, len);
+    walked it = walk(expected, len);
+    int32_t status = it.cause;
+    if (it.cause == 0 && it.form != 0) {
+        bool is_renumbered = is_carried(expected + it.body_at, &it, &same);
+        status = is_renumbered ? RTP_OK : RTP_BAD_FIELD;
+        if (is_renumbered) {
+            renumber_in(expected + it.body_at, &it, &same);
+        }
+    }
+    CHECK(rtp_renumber(bytes, len, ids) == status);
+    CHECK(memcmp(bytes, expected, len) == 0);
+    CHECK(memcmp(ids, &same, sizeof same) == 0);
+}
+
+void maps_round(void) {
+    if (maps.size == 0) {
+        datagrams = memory_of(LONGEST);
+        uris = memory_of(200);
+        maps = memory_of(sizeof(rtp_map));
+        other_maps = memory_of(sizeof(rtp_map));
+        tables = memory_of(sizeof(rtp_new_ids));
+    }
+    uri();
+    rtp_map *from = block_in(&maps, sizeof *from), *to = block_in(&other_maps, sizeof *to);
+    random_map(from);
+    random_map(to);
+    map_calls(from);
+    rtp_new_ids *ids = block_in(&tables, sizeof *ids);
+    new_ids(from, to, ids);
+    uint64_t x = random_u64();
+    if (x % 4 == 0) {
+        fill(ids, sizeof *ids);
+    }
+    for (size_t i = 0; x % 4 == 1 && i < 256; i++) {
+        ids->id[i] %= 15;
+    }
+    renumber(ids);
+}
