@@ -10,10 +10,10 @@ use Rattle.rtp_values.specs.declared.known_kind.KnownKind.TheVariants.{AbsoluteS
 use Rattle.rtp_c.specs.KindNumbers.{kind_number, uri_of}
 
 -- the kinds by their numbers, and one more for 0
-kinds_by_number : List KnownKind
+pub kinds_by_number : List KnownKind
 kinds_by_number = RtpMid ∷ AbsoluteSendTime ∷ AbsoluteCaptureTime ∷ AudioLevel ∷ TransmissionTimeOffset ∷ VideoOrientation ∷ TransportSequenceNumber ∷ PlayoutDelay ∷ VideoContentType ∷ VideoTiming ∷ RtpStreamId ∷ RepairedRtpStreamId ∷ RtpMid ∷ FrameMarking ∷ ColorSpace ∷ VideoLayersAllocation ∷ []
 
-kind_back : (kind : KnownKind) → get_or kinds_by_number (kind_number kind) RtpMid ≡ kind
+pub kind_back : (kind : KnownKind) → get_or kinds_by_number (kind_number kind) RtpMid ≡ kind
 unfolding kinds_by_number
 kind_back AbsoluteSendTime = refl
 kind_back AbsoluteCaptureTime = refl

@@ -4,6 +4,7 @@ mod ChangeLemmas
 mod ElementLemmas
 mod KindNumberLemmas
 mod KindsOfIdsLemmas
+mod MapReadingLemmas
 mod LayersLemmas
 mod HeaderViewLemmas
 mod GivenLemmas

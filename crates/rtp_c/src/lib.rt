@@ -4,6 +4,7 @@
 //! its outputs whole or not at all.
 #![tactic(auto)]
 
+mod block_values;
 mod changing;
 mod changing_elements;
 mod changing_sources;

@@ -29,7 +29,7 @@ const LAST_NUMBER: u8 = 15;
 const WORD: usize = 8;
 
 // The kind of this number.
-fn kind_numbered(number: u8) -> Option<KnownKind>
+pub fn kind_numbered(number: u8) -> Option<KnownKind>
     ensures { IsKindNumbered number result }
 {
     match number {

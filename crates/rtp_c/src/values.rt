@@ -6,12 +6,13 @@ ghost use Rattle.rtp_c.specs.Status.{ok, bad_field, no_memory};
 ghost use Rattle.rtp_c.specs.PacketView.{form_number};
 ghost use Rattle.rtp_c.specs.ValuesView.{IsViewOfValues, IsReadAs, TakesMemoryIn};
 
+use super::block_values::read_values;
 use super::elements::form_of;
 use super::held::{
     capture_offset, capture_time, held, held_flag, held_mid, held_orientation, held_rid, held_time,
     held_timing,
 };
-use super::map::{KindsOfIds, kinds_of};
+use super::map::KindsOfIds;
 use super::packet::flag_number;
 use super::status::{BAD_FIELD, NO_MEMORY, OK};
 use rtp_values::ExtensionValues;
@@ -148,9 +149,8 @@ pub extern "C" fn rtp_values_read(
     let Some(form) = form_of(form) else {
         return BAD_FIELD;
     };
-    let kinds = kinds_of(map);
     let mut read = ExtensionValues::default();
-    match kinds.parse(alloc, body, form, &mut read) {
+    match read_values(alloc, map, body, form, &mut read) {
         Ok(_) => {
             put_values(&read, values);
             OK
