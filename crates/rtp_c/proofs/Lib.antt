@@ -5,6 +5,7 @@ mod ElementLemmas
 mod KindNumberLemmas
 mod KindsOfIdsLemmas
 mod MapReadingLemmas
+mod BodyLemmas
 mod LayersLemmas
 mod HeaderViewLemmas
 mod GivenLemmas

@@ -1,11 +1,14 @@
 //! A whole header.
 
-ghost use Rattle.std.specs.Prelude.{◌≤◌};
+ghost use Rattle.std.specs.Prelude.{◌≡◌, ◌≤◌, ◌-◌, ◌++◌, length, replicate};
+ghost use Rattle.rtp_wire.specs.Header.{header_of};
+ghost use Rattle.rtp_wire.specs.PartsOf.{parts_of};
 ghost use Rattle.rtp_c.specs.HeaderView.{IsViewOfHeader};
 
 use super::packet::flag_number;
 use super::values::{ValuesView, put_values};
-use rtp_wire::RtpHeader;
+use rtp_values::ExtensionValues;
+use rtp_wire::{Csrcs, RtpPacket};
 
 /// The header of a packet (RFC 3550, 5.1), with the values of its block: `rtp_header` in C, 224
 /// bytes.
@@ -36,20 +39,36 @@ pub struct HeaderView {
     pub values: ValuesView,
 }
 
-// Puts what C is told of a header.
-pub fn put_header(header: &RtpHeader, view: &mut HeaderView)
-    requires { header.now.csrc_count ≤ 15 }
-    ensures { IsViewOfHeader header.now view.new }
+// Puts the sources into the first slots and zeros into the others, and returns how many sources
+// there are.
+fn put_sources(sources: Csrcs<'_>, slots: &mut [u32; 15]) -> u8
+    requires { length sources ≤ 15 }
+    ensures sources { slots.new
+        ≡ sources.entry ++ replicate (15 - length sources.entry) 0 }
+    ensures count { result ≡ length sources.entry }
 {
-    view.header_len = header.header_len;
-    view.timestamp = header.timestamp;
-    view.ssrc = header.ssrc.get();
-    view.csrc = header.csrc;
-    view.sequence_number = header.sequence_number;
-    view.payload_type = header.payload_type.get();
-    view.csrc_count = header.csrc_count as u8;
-    view.marker = flag_number(header.marker);
-    view.has_padding = flag_number(header.has_padding);
-    view.has_extension = flag_number(header.has_extension);
-    put_values(&header.ext_vals, &mut view.values);
+    *slots = [0; 15];
+    let mut count = 0;
+    for source in sources {
+        slots[usize::from(count)] = source;
+        count += 1;
+    }
+    count
+}
+
+// Puts what C is told of the packet's header, whose block gives these values.
+pub fn put_header(packet: &RtpPacket<'_>, values: &ExtensionValues, view: &mut HeaderView)
+    requires { length (parts_of packet.now).sources ≤ 15 }
+    ensures { IsViewOfHeader (header_of (parts_of packet.now) values.now) view.new }
+{
+    view.header_len = packet.header_len();
+    view.timestamp = packet.timestamp();
+    view.ssrc = packet.ssrc().get();
+    view.csrc_count = put_sources(packet.csrc(), &mut view.csrc);
+    view.sequence_number = packet.sequence_number();
+    view.payload_type = packet.payload_type().get();
+    view.marker = flag_number(packet.marker());
+    view.has_padding = flag_number(packet.has_padding());
+    view.has_extension = flag_number(packet.has_extension());
+    put_values(values, &mut view.values);
 }

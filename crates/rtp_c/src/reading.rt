@@ -1,41 +1,74 @@
 //! Whole headers, read from bytes.
 
-ghost use Rattle.std.specs.Prelude.{◌≡◌, ◌≢◌, ◌⊎◌, ◌↔◌, IfOk, IfErr};
+ghost use Rattle.std.specs.Prelude.{◌≡◌, ◌≢◌, ◌⊎◌, ◌↔◌, IfOk, IfErr, OnOk, OnErr};
+ghost use Rattle.rtp_values.specs.Values.{no_values};
+ghost use Rattle.rtp_ext.specs.ExtensionMap.{Slots};
+ghost use Rattle.rtp_wire.specs.Header.{header_of};
 ghost use Rattle.rtp_wire.specs.NotAHeader.{NotAHeader};
-ghost use Rattle.rtp_c.specs.Status.{ok, no_memory, IsCauseStatus};
+ghost use Rattle.rtp_wire.specs.Packet.{IsPacket};
+ghost use Rattle.rtp_wire.specs.PacketElements.{HasValues};
+ghost use Rattle.rtp_wire.specs.PartsOf.{parts_of};
+ghost use Rattle.rtp_wire.specs.RefusedMemory.{BlockHasAllocation};
 ghost use Rattle.rtp_c.specs.HeaderView.{BeginsWith, IsParsedAs, IsParsedWithLayersAs, TakesMemoryFrom};
+ghost use Rattle.rtp_c.specs.KindsOfIds.{HasKinds};
+ghost use Rattle.rtp_c.specs.Status.{ok, no_memory, IsCauseStatus};
 
+use super::block_values::read_values;
 use super::header_view::{HeaderView, put_header};
 use super::layers::{Layers, put_layers};
-use super::map::{KindsOfIds, kinds_of};
+use super::map::KindsOfIds;
 use super::status::{NO_MEMORY, OK, status_of};
-use rtp_wire::{RtpHeader, RtpPacket};
-use std::alloc::Global;
+use rtp_values::ExtensionValues;
+use rtp_wire::RtpPacket;
+use std::alloc::{AllocError, Global};
 
-// The status of the first cause for which these bytes begin with no header.
-fn cause_in(buf: &[u8]) -> i32
-    requires { NotAHeader buf.now }
-    ensures { IsCauseStatus buf.now result }
+// Reads the values of the packet's block under the map, where none are held before.
+#[inline(always)]
+fn read_block(
+    alloc: Global,
+    buf: &[u8],
+    packet: &RtpPacket<'_>,
+    map: &KindsOfIds,
+    values: &mut ExtensionValues,
+) -> Result<(), AllocError>
+    requires packet { IsPacket buf.now (parts_of packet.now) }
+    requires empty { values.old ≡ no_values }
+    ensures found { OnOk result ((slots : Slots) → HasKinds map.now.kind slots →
+        HasValues slots (parts_of packet.now).block values.new) }
+    ensures memory { OnErr result ((slots : Slots) → HasKinds map.now.kind slots →
+        BlockHasAllocation slots (parts_of packet.now).block) }
 {
-    match RtpPacket::parse(buf) {
-        Ok(_) => unreachable!(),
-        Err(cause) => status_of(cause),
-    }
+    let Some(form) = packet.form() else {
+        return Ok(());
+    };
+    let start = 16 + 4 * packet.csrc().len();
+    read_values(alloc, map, &buf[start..packet.header_len()], form, values)
 }
 
-// The header that the bytes begin with under the map, or the status of what stands against it.
-fn header_in(alloc: Global, buf: &[u8], map: &KindsOfIds) -> Result<RtpHeader, i32>
-    ensures found { IfOk result (BeginsWith map.now.kind buf.now) }
+// The packet whose header the bytes begin with, the values of which are read under the map, or the
+// status of what stands against it.
+#[inline(always)]
+fn read_packet<'a>(
+    alloc: Global,
+    buf: &'a [u8],
+    map: &KindsOfIds,
+    values: &mut ExtensionValues,
+) -> Result<RtpPacket<'a>, i32>
+    requires { values.old ≡ no_values }
+    ensures found { IfOk result (λ packet.
+        BeginsWith map.now.kind buf.now (header_of (parts_of packet) values.new)) }
     ensures memory { IfErr result (λ status.
         status ≡ no_memory → TakesMemoryFrom map.now.kind buf.now) }
     ensures statuses { IfErr result (λ status.
         (status ≡ no_memory) ⊎ IsCauseStatus buf.now status) }
     ensures refused { NotAHeader buf.now → IfErr result (IsCauseStatus buf.now) }
 {
-    let kinds = kinds_of(map);
-    match RtpHeader::parse_by_kinds(alloc, buf, &kinds) {
-        Ok(Some(header)) => Ok(header),
-        Ok(None) => Err(cause_in(buf)),
+    let packet = match RtpPacket::parse(buf) {
+        Ok(packet) => packet,
+        Err(cause) => return Err(status_of(cause)),
+    };
+    match read_block(alloc, buf, &packet, map, values) {
+        Ok(()) => Ok(packet),
         Err(_) => Err(NO_MEMORY),
     }
 }
@@ -60,9 +93,10 @@ pub extern "C" fn rtp_parse(
     ensures statuses { (result ≡ ok) ⊎ ((result ≡ no_memory) ⊎ IsCauseStatus buf.now result) }
     ensures unchanged { result ≢ ok → header.new ≡ header.old }
 {
-    match header_in(alloc, buf, map) {
-        Ok(found) => {
-            put_header(&found, header);
+    let mut values = ExtensionValues::default();
+    match read_packet(alloc, buf, map, &mut values) {
+        Ok(packet) => {
+            put_header(&packet, &values, header);
             OK
         }
         Err(status) => status,
@@ -89,10 +123,11 @@ pub extern "C" fn rtp_parse_layers(
     ensures statuses { (result ≡ ok) ⊎ ((result ≡ no_memory) ⊎ IsCauseStatus buf.now result) }
     ensures unchanged { result ≢ ok → (header.new ≡ header.old) × (layers.new ≡ layers.old) }
 {
-    match header_in(alloc, buf, map) {
-        Ok(found) => {
-            put_header(&found, header);
-            put_layers(&found.ext_vals, layers);
+    let mut values = ExtensionValues::default();
+    match read_packet(alloc, buf, map, &mut values) {
+        Ok(packet) => {
+            put_header(&packet, &values, header);
+            put_layers(&values, layers);
             OK
         }
         Err(status) => status,
