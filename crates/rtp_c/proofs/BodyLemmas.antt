@@ -1,5 +1,5 @@
 -- Where the body of a packet's block lies, and what is read from it.
-use Rattle.std.proofs.Common.{◌≡◌, ℕ, ◌+◌, ◌-◌, ◌*◌, ◌<◌, inl, inr, List, [], length, length-take, drop, get_or, get_or-take, get_or-drop, Option, Some, None, refl, sym, ap, ◌∙◌, subst, arith}
+use Rattle.std.proofs.Common.{◌≡◌, ℕ, ◌+◌, ◌-◌, ◌<◌, inl, inr, List, [], length, length-take, drop, get_or, get_or-take, get_or-drop, Option, Some, None, refl, sym, ap, ◌∙◌, subst, arith}
 use Rattle.std.specs.Prelude.{slice_range, option_map}
 use Rattle.std.proofs.lemmas.Bool.{cases_lt}
 use Rattle.std.proofs.lemmas.List.{get_or_past}
@@ -13,22 +13,13 @@ use Rattle.rtp_ext.specs.ExtensionMap.{Slots}
 use Rattle.rtp_ext.specs.Memory.{HasAllocation}
 use Rattle.rtp_ext.proofs.ElementLemmasOfBodies.{AreElements-found}
 use Rattle.rtp_ext.proofs.ValuesLaws.{AreValues-none}
-use Rattle.rtp_wire.specs.Packet.{PacketParts, IsPacket, block_len, header_len_of}
+use Rattle.rtp_wire.specs.Packet.{PacketParts, IsPacket, header_len_of}
 use Rattle.rtp_wire.specs.PacketElements.{HasValues}
 use Rattle.rtp_wire.specs.RefusedMemory.{BlockHasAllocation}
 use Rattle.rtp_c.specs.PacketView.{body_of}
 use Rattle.rtp_c.proofs.PacketLemmas.{body-at}
 
 -- ---- where it lies
-
--- it ends where the header does
-pub body_ends : (parts : PacketParts) (form : ExtensionsForm) → Some form ≡ option_map (λ block. block.0) parts.block
-    → 16 + 4 * length parts.sources + length (body_of parts.block) ≡ header_len_of parts
-body_ends parts form some = ends parts.block (length parts.sources) some
-  where
-    ends : (block : Option (ExtensionsForm × List ℕ)) (n : ℕ) → Some form ≡ option_map (λ b. b.0) block → 16 + 4 * n + length (body_of block) ≡ 12 + 4 * n + block_len block
-    ends None n some = cc
-    ends (Some block) n some = omega arith
 
 -- a block is its form and its body
 block-is : (block : Option (ExtensionsForm × List ℕ)) (form : ExtensionsForm) (body : List ℕ) → Some form ≡ option_map (λ b. b.0) block → body ≡ body_of block
@@ -38,14 +29,11 @@ block-is (Some block) form body some is =
     let same : form ≡ block.0 = cc in
     ap (λ (f : ExtensionsForm). Some (f, body)) same ∙ ap (λ (b : List ℕ). Some (block.0, b)) is
 
--- so the bytes up to there are the body
+-- the bytes that end where the header does, as many as the body has, are the body
 pub block-here : (bytes : List ℕ) (parts : PacketParts) (form : ExtensionsForm) (start end : ℕ) → IsPacket bytes parts → Some form ≡ option_map (λ block. block.0) parts.block
-    → start ≡ 16 + 4 * length parts.sources → end ≡ header_len_of parts → Some (form, slice_range bytes start end) ≡ parts.block
-block-here bytes parts form start end packet some start-is end-is =
-    let len = length (body_of parts.block) in
-    let ends : start + len ≡ header_len_of parts = omega (arith, start-is, body_ends parts form some) in
-    let same : end ≡ start + len = omega (arith, end-is, ends) in
-    block-is parts.block form (slice_range bytes start end) some (ap (λ (e : ℕ). slice_range bytes start e) same ∙ body-at bytes parts packet start ends)
+    → start + length (body_of parts.block) ≡ end → end ≡ header_len_of parts → Some (form, slice_range bytes start end) ≡ parts.block
+block-here bytes parts form start end packet some ends header =
+    block-is parts.block form (slice_range bytes start end) some (ap (λ (e : ℕ). slice_range bytes start e) (sym ends) ∙ body-at bytes parts packet start (ends ∙ header))
 
 -- ---- what is read from it
 

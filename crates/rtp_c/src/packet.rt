@@ -74,7 +74,7 @@ fn csrc_count_of(packet: &RtpPacket<'_>) -> u8
 }
 
 // How many bytes the body of the block has.
-fn body_len_of(packet: &RtpPacket<'_>) -> usize
+pub fn body_len_of(packet: &RtpPacket<'_>) -> usize
     ensures { result ≡ length (body_of (parts_of packet.now).block) }
 {
     match packet.form() {

@@ -17,6 +17,7 @@ use super::block_values::read_values;
 use super::header_view::{HeaderView, put_header};
 use super::layers::{Layers, put_layers};
 use super::map::KindsOfIds;
+use super::packet::body_len_of;
 use super::status::{NO_MEMORY, OK, status_of};
 use rtp_values::ExtensionValues;
 use rtp_wire::RtpPacket;
@@ -41,8 +42,9 @@ fn read_block(
     let Some(form) = packet.form() else {
         return Ok(());
     };
-    let start = 16 + 4 * packet.csrc().len();
-    read_values(alloc, map, &buf[start..packet.header_len()], form, values)
+    let end = packet.header_len();
+    let start = end - body_len_of(packet);
+    read_values(alloc, map, &buf[start..end], form, values)
 }
 
 // The packet whose header the bytes begin with, the values of which are read under the map, or the

@@ -1,11 +1,12 @@
-use Rattle.std.proofs.Common.{◌≡◌, ◌+◌, ◌*◌, ◌≤◌, ℕ, List, Some, length, rules, arith, ap}
+use Rattle.std.proofs.Common.{◌≡◌, ◌-◌, ◌≤◌, ℕ, List, Some, length, rules, arith}
 use Rattle.std.specs.Prelude.{slice_range}
 use Rattle.rtp_ext.specs.ElementReading.{elements_left}
 use Rattle.rtp_ext.specs.Elements.{AreElements}
 use Rattle.rtp_ext.proofs.KindsByIdLemmas.{OnOk-weaker, OnErr-weaker}
 use Rattle.rtp_wire.specs.PartsOf.{parts_of}
 use Rattle.rtp_wire.proofs.PartsLemmas.{length-packet}
-use Rattle.rtp_c.proofs.BodyLemmas.{body_ends, block-here, elements_in, HasValues-none, HasValues-body, BlockHasAllocation-body}
+use Rattle.rtp_c.proofs.PacketLemmas.{body-within}
+use Rattle.rtp_c.proofs.BodyLemmas.{block-here, elements_in, HasValues-none, HasValues-body, BlockHasAllocation-body}
 use Rattle.rtp_c.proofs.reading.read_block.Goals as goal
 
 pub returns-in_default-clause-found : goal.returns-in_default-clause-found
@@ -13,25 +14,22 @@ returns-in_default-clause-found c slots has = HasValues-none slots (parts_of c.a
 
 pub slice_bounds-read_values-end : goal.slice_bounds-read_values-end
 slice_bounds-read_values-end c =
-    let parts = parts_of c.args.packet.now in
-    let ends = body_ends parts c.in-Some.form c.in-Some.ensures in
-    let start : 16 + 4 * c.len.result ≤ c.header_len.result = omega (arith, ends, c.header_len.ensures, c.len.ensures.value, ap length c.csrc.ensures) in
-    let end : c.header_len.result ≤ length c.args.buf.now = omega (arith, c.header_len.ensures, length-packet c.args.buf.now parts c.requires.packet) in
+    let end : c.header_len-end.result ≤ length c.args.buf.now = omega (arith, c.header_len-end.ensures, length-packet c.args.buf.now (parts_of c.args.packet.now) c.requires.packet) in
     search rules
 
 -- the body of the block, and its elements
 body : goal.After-read_values → List ℕ
-body c = slice_range c.args.buf.now (16 + 4 * c.len.result) c.header_len.result
+body c = slice_range c.args.buf.now (c.header_len-end.result - c.body_len_of.result) c.header_len-end.result
 
 block : (c : goal.After-read_values) → Some (c.in-Some.form, body c) ≡ (parts_of c.args.packet.now).block
 unfolding body
 block c =
-    block-here c.args.buf.now (parts_of c.args.packet.now) c.in-Some.form (16 + 4 * c.len.result) c.header_len.result c.requires.packet c.in-Some.ensures
-    (omega (arith, c.len.ensures.value, ap length c.csrc.ensures)) c.header_len.ensures
+    block-here c.args.buf.now (parts_of c.args.packet.now) c.in-Some.form (c.header_len-end.result - c.body_len_of.result) c.header_len-end.result c.requires.packet c.in-Some.ensures
+    (omega (arith, c.body_len_of.ensures, c.header_len-end.ensures, body-within (parts_of c.args.packet.now))) c.header_len-end.ensures
 
 elements : (c : goal.After-read_values) → AreElements c.in-Some.form (body c) (elements_left c.in-Some.form (body c))
 unfolding body
-elements c = elements_in c.in-Some.form c.args.buf.now (16 + 4 * c.len.result) c.header_len.result (λ i. omega (arith, c.type_inv.buf i))
+elements c = elements_in c.in-Some.form c.args.buf.now (c.header_len-end.result - c.body_len_of.result) c.header_len-end.result (λ i. omega (arith, c.type_inv.buf i))
 
 pub returns-clause-found : goal.returns-clause-found
 unfolding body
