@@ -5,7 +5,7 @@ use Rattle.std.proofs.lemmas.List.{length-map, get_or-take, get_or-drop, drop-dr
 use Rattle.std.proofs.Math.ListN.{get_or-map}
 use Rattle.rtp_values.specs.declared.known_kind.KnownKind.{KnownKind}
 use Rattle.rtp_values.specs.declared.known_kind.KnownKind.TheVariants.{AbsoluteSendTime, AudioLevel, VideoOrientation, TransportSequenceNumber, RtpStreamId, RepairedRtpStreamId, RtpMid}
-use Rattle.std.specs.Int.{w64, byte_worth, from_le_bytes}
+use Rattle.std.specs.Int.{w128, byte_worth, from_le_bytes}
 use Rattle.rtp_ext.specs.ExtensionMap.{Slots, IsId, IsListing, items_from, standard_items}
 use Rattle.rtp_ext.specs.KindsById.{slots_of, entry_of_kind}
 use Rattle.rtp_ext.proofs.ElementLemmas.{sum_through-zero, byte_worth-zero}
@@ -94,7 +94,7 @@ zero_is_none : IsKindNumbered 0 None
 zero_is_none = number≢0
 
 pub HasKindsTo-word : (numbers : List ℕ) (at : ℕ) (slots : Slots) → HasKindsTo numbers at slots
-    → ((i : ℕ) → at ≤ i → i < at + 8 → get_or numbers i 0 ≡ 0) → HasKindsTo numbers (at + 8) slots
+    → ((i : ℕ) → at ≤ i → i < at + 16 → get_or numbers i 0 ≡ 0) → HasKindsTo numbers (at + 16) slots
 HasKindsTo-word numbers at slots has zeros = record {
   kinds = has.kinds;
   as_many = has.as_many;
@@ -108,21 +108,21 @@ HasKindsTo-word numbers at slots has zeros = record {
   slots_are = has.slots_are;
 }
 
-pub number_in_word : (numbers word : List ℕ) (first k : ℕ) → word ≡ take 8 (drop first numbers) → k < 8 → get_or word k 0 ≡ get_or numbers (first + k) 0
+pub number_in_word : (numbers word : List ℕ) (first k : ℕ) → word ≡ take 16 (drop first numbers) → k < 16 → get_or word k 0 ≡ get_or numbers (first + k) 0
 number_in_word numbers word first k is here =
-    ap (λ (w : List ℕ). get_or w k 0) is ∙ get_or-take 8 (drop first numbers) k 0 here ∙ get_or-drop first numbers k 0
+    ap (λ (w : List ℕ). get_or w k 0) is ∙ get_or-take 16 (drop first numbers) k 0 here ∙ get_or-drop first numbers k 0
 
-pub zeros_in_word : (numbers word : List ℕ) (first : ℕ) → word ≡ take 8 (drop first numbers) → from_le_bytes w64 word ≡ 0
-    → (i : ℕ) → first ≤ i → i < first + 8 → get_or numbers i 0 ≡ 0
+pub zeros_in_word : (numbers word : List ℕ) (first : ℕ) → word ≡ take 16 (drop first numbers) → from_le_bytes w128 word ≡ 0
+    → (i : ℕ) → first ≤ i → i < first + 16 → get_or numbers i 0 ≡ 0
 zeros_in_word numbers word first is zero_word i above below =
     let k : ℕ = i - first in
     let same : first + k ≡ i = omega arith in
-    let here : k < 8 = omega arith in
+    let here : k < 16 = omega arith in
     ap (λ (j : ℕ). get_or numbers j 0) (sym same) ∙ sym (number_in_word numbers word first k is here)
-    ∙ byte_worth-zero k (get_or word k 0) (sum_through-zero (λ j. byte_worth j (get_or word j 0)) 7 k zero_word (omega arith))
+    ∙ byte_worth-zero k (get_or word k 0) (sum_through-zero (λ j. byte_worth j (get_or word j 0)) 15 k zero_word (omega arith))
 
-pub later_word : (numbers rest after : List ℕ) (first : ℕ) → rest ≡ drop first numbers → after ≡ drop 8 rest → after ≡ drop (first + 8) numbers
-later_word numbers rest after first rest_is after_is = after_is ∙ ap (λ (left : List ℕ). drop 8 left) rest_is ∙ drop-drop 8 first numbers
+pub later_word : (numbers rest after : List ℕ) (first : ℕ) → rest ≡ drop first numbers → after ≡ drop 16 rest → after ≡ drop (first + 16) numbers
+later_word numbers rest after first rest_is after_is = after_is ∙ ap (λ (left : List ℕ). drop 16 left) rest_is ∙ drop-drop 16 first numbers
 
 -- all numbers
 pub HasKinds-whole : (numbers : List ℕ) (at : ℕ) (slots : Slots) → length numbers ≤ at → HasKindsTo numbers at slots → HasKinds numbers slots

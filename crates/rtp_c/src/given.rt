@@ -147,6 +147,7 @@ fn given_rid(has: u8, bytes: &[u8; 9]) -> Option<Option<Rid>>
 }
 
 // The values that are given; `None` where a text, an orientation or a time is none.
+#[inline(always)]
 fn given_values(view: &ValuesView) -> Option<ExtensionValues>
     ensures found { IfSome result (AreGivenValues view.now) }
     ensures none { IfNone result ((values : Values) → AreGivenValues view.now values → ⊥) }
@@ -189,6 +190,7 @@ fn given_values(view: &ValuesView) -> Option<ExtensionValues>
 }
 
 // The header of these fields and values; `None` where no header can have the fields.
+#[inline(always)]
 pub fn header_with(view: &HeaderView, values: ExtensionValues) -> Option<RtpHeader>
     ensures found { IfSome result (λ header.
         AreGivenFields view.now header × (header.ext_vals ≡ values)) }
@@ -214,6 +216,7 @@ pub fn header_with(view: &HeaderView, values: ExtensionValues) -> Option<RtpHead
 }
 
 // The header that is given; `None` where no header can have its fields or its values.
+#[inline(always)]
 pub fn given_header(view: &HeaderView) -> Option<RtpHeader>
     ensures found { IfSome result (IsGivenHeader view.now) }
     ensures none { IfNone result ((header : Header) → IsGivenHeader view.now header → ⊥) }

@@ -1,6 +1,6 @@
 //! Which id means which extension.
 
-ghost use Rattle.std.specs.Prelude.{◌≡◌, ◌≢◌, ◌↔◌, ◌⊎◌, ℕ, ◌+◌, ◌<◌, ◌≤◌, List, length, take, drop, slice_index, slice_set};
+ghost use Rattle.std.specs.Prelude.{◌≡◌, ◌≢◌, ◌↔◌, ◌⊎◌, ℕ, ◌+◌, ◌<◌, ◌≤◌, List, length, take, drop, replicate, None, slice_index, slice_set};
 ghost use Rattle.rtp_values.specs.declared.known_kind.KnownKind.{KnownKind};
 ghost use Rattle.rtp_ext.specs.KindsById.{slots_of};
 ghost use Rattle.rtp_c.specs.KindNumbers.{IsKindNumbered, kind_number, last_number, uri_of};
@@ -26,7 +26,7 @@ pub struct KindsOfIds {
 const LAST_NUMBER: u8 = 15;
 
 // How many ids are looked at at once.
-const WORD: usize = 8;
+const WORD: usize = 16;
 
 // The kind of this number.
 fn kind_numbered(number: u8) -> Option<KnownKind>
@@ -89,16 +89,30 @@ fn put_kind(number: u8, id: u8, kinds: &mut KindsById)
 // Maps the ids from this one on to the kinds of the numbers in a word. Few ids are mapped, so most
 // words are zeros.
 fn put_word(word: &[u8; WORD], first: usize, kinds: &mut KindsById)
-    requires { first + 8 ≤ 256 }
-    ensures { (numbers : List ℕ) → length numbers ≡ 256 → word.now ≡ take 8 (drop first numbers) →
+    requires { first + 16 ≤ 256 }
+    ensures { (numbers : List ℕ) → length numbers ≡ 256 → word.now ≡ take 16 (drop first numbers) →
         HasKindsTo numbers first (slots_of kinds.old) →
-        HasKindsTo numbers (first + 8) (slots_of kinds.new) }
+        HasKindsTo numbers (first + 16) (slots_of kinds.new) }
 {
-    if u64::from_ne_bytes(*word) == 0 {
+    if u128::from_ne_bytes(*word) == 0 {
         return;
     }
     for (index, number) in word.iter().enumerate() {
         put_kind(*number, (first + index) as u8, kinds);
+    }
+}
+
+// Puts these kinds into a table that is empty.
+pub fn put_kinds(map: &KindsOfIds, kinds: &mut KindsById)
+    requires { slots_of kinds.old ≡ replicate 255 None }
+    ensures { HasKinds map.now.kind (slots_of kinds.new) }
+{
+    let mut rest = map.kind.as_slice();
+    let mut first = 0;
+    while let Some((word, after)) = rest.split_first_chunk::<WORD>() {
+        put_word(word, first, kinds);
+        rest = after;
+        first += WORD;
     }
 }
 
@@ -107,13 +121,7 @@ pub fn kinds_of(map: &KindsOfIds) -> KindsById
     ensures { HasKinds map.now.kind (slots_of result) }
 {
     let mut kinds = KindsById::empty();
-    let mut rest = map.kind.as_slice();
-    let mut first = 0;
-    while let Some((word, after)) = rest.split_first_chunk::<WORD>() {
-        put_word(word, first, &mut kinds);
-        rest = after;
-        first += WORD;
-    }
+    put_kinds(map, &mut kinds);
     kinds
 }
 

@@ -9,10 +9,10 @@ ghost use Rattle.rtp_c.specs.WrittenHeader.{IsLengthOf, IsWrittenHeader, IsTooLo
 use super::elements::ElementView;
 use super::given::{given_header, header_with};
 use super::header_view::HeaderView;
-use super::map::{KindsOfIds, kinds_of};
+use super::map::{KindsOfIds, put_kinds};
 use super::status::{BAD_FIELD, OK, SHORT_BUFFER};
 use super::writing_elements::pairs_in;
-use rtp_ext::ExtensionsForm;
+use rtp_ext::{ExtensionsForm, KindsById};
 use rtp_values::ExtensionValues;
 use std::alloc::Global;
 
@@ -80,7 +80,9 @@ pub extern "C" fn rtp_wire_len(map: &KindsOfIds, header: &HeaderView, len: &mut 
     let Some(header) = given_header(header) else {
         return BAD_FIELD;
     };
-    *len = header.wire_len_by_kinds(&kinds_of(map));
+    let mut kinds = KindsById::empty();
+    put_kinds(map, &mut kinds);
+    *len = header.wire_len_by_kinds(&kinds);
     OK
 }
 
@@ -113,7 +115,9 @@ pub extern "C" fn rtp_write(
     let Some(header) = given_header(header) else {
         return BAD_FIELD;
     };
-    let Some(written) = header.try_write_by_kinds(buf, &kinds_of(map)) else {
+    let mut kinds = KindsById::empty();
+    put_kinds(map, &mut kinds);
+    let Some(written) = header.try_write_by_kinds(buf, &kinds) else {
         return SHORT_BUFFER;
     };
     *len = written;

@@ -11,7 +11,7 @@ returns-then-from_ne_bytes-eq0 c numbers long is has =
 
 pub loop-index-preserved : goal.loop-index-preserved
 loop-index-preserved c numbers long is has =
-    let here : c.loop-index.index < 8 = omega (arith, c.loop-index-test.true, c.told-word) in
+    let here : c.loop-index.index < 16 = omega (arith, c.loop-index-test.true, c.told-word) in
     let next : (c.args.first + c.loop-index.index) + 1 ≡ c.args.first + (c.loop-index.index + 1) = omega arith in
     subst (λ (at : ℕ). HasKindsTo numbers at (slots_of c.put_kind.new.kinds)) next
     (c.put_kind.ensures numbers (omega (arith, here, long, c.requires)) (sym (number_in_word numbers c.args.word.now c.args.first c.loop-index.index is here))

@@ -6,5 +6,5 @@ use Rattle.rtp_c.proofs.map.put_word.Given as goal
 -- the numbers that were passed are put
 abbrev pub invariant-loop-index : goal.invariant-loop-index
 invariant-loop-index l =
-    (numbers : List ℕ) → length numbers ≡ 256 → l.word ≡ take 8 (drop l.first numbers) → HasKindsTo numbers l.first (slots_of l.initial.kinds)
+    (numbers : List ℕ) → length numbers ≡ 256 → l.word ≡ take 16 (drop l.first numbers) → HasKindsTo numbers l.first (slots_of l.initial.kinds)
     → HasKindsTo numbers (l.first + l.index) (slots_of l.kinds)

@@ -3,8 +3,8 @@ use Rattle.rtp_c.proofs.writing.rtp_wire_len.Goals as goal
 
 pub returns-clause-length : goal.returns-clause-length
 returns-clause-length c is_ok = record {
-  slots = slots_of c.kinds_of.result;
+  slots = slots_of c.put_kinds.new.kinds;
   header = c.in-Some.header;
-  is_given = record { has_kinds = c.kinds_of.ensures; is_given = c.in-Some.ensures.found };
+  is_given = record { has_kinds = c.put_kinds.ensures; is_given = c.in-Some.ensures.found };
   len_is = c.wire_len_by_kinds.ensures.length;
 }

@@ -5,9 +5,9 @@ use Rattle.rtp_c.proofs.writing.rtp_write.Goals as goal
 
 pub returns-clause-written : goal.returns-clause-written
 returns-clause-written c is_ok = record {
-  slots = slots_of c.kinds_of.result;
+  slots = slots_of c.put_kinds.new.kinds;
   header = c.in-Some.header;
-  is_given = record { has_kinds = c.kinds_of.ensures; is_given = c.in-Some.ensures.found };
+  is_given = record { has_kinds = c.put_kinds.ensures; is_given = c.in-Some.ensures.found };
   len_is = c.in-Some-try_write_by_kinds.ensures.length;
   written = c.in-Some-try_write_by_kinds.ensures.written;
   read_back = c.in-Some-try_write_by_kinds.ensures.read_back;
@@ -15,6 +15,6 @@ returns-clause-written c is_ok = record {
 
 pub returns-in_default-try_write_by_kinds-clause-short : goal.returns-in_default-try_write_by_kinds-clause-short
 returns-in_default-try_write_by_kinds-clause-short c is_short =
-    IsTooLong-refused c.args.map.now.kind c.args.header.now (slots_of c.kinds_of.result) c.in-Some.header (length c.args.buf.now)
-    (record { has_kinds = c.kinds_of.ensures; is_given = c.in-Some.ensures.found })
+    IsTooLong-refused c.args.map.now.kind c.args.header.now (slots_of c.put_kinds.new.kinds) c.in-Some.header (length c.args.buf.now)
+    (record { has_kinds = c.put_kinds.ensures; is_given = c.in-Some.ensures.found })
     (c.in_default-try_write_by_kinds.ensures.refused.0 refl)

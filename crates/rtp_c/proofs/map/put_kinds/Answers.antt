@@ -1,12 +1,12 @@
 use Rattle.std.proofs.Common.{◌≡◌, ◌+◌, rules, arith, refl, ap, ◌∙◌, take, length}
 use Rattle.rtp_ext.specs.KindsById.{slots_of}
 use Rattle.rtp_c.proofs.KindsOfIdsLemmas.{HasKindsTo-start, HasKinds-whole, later_word}
-use Rattle.rtp_c.proofs.map.kinds_of.Goals as goal
+use Rattle.rtp_c.proofs.map.put_kinds.Goals as goal
 
 pub loop-word-init : goal.loop-word-init
 loop-word-init c =
     let long : length c.args.map.now.kind ≡ 256 = search rules in
-    (c.as_slice-rest.ensures, omega (arith, long, ap length c.as_slice-rest.ensures), (0, refl), HasKindsTo-start c.args.map.now.kind (slots_of c.empty-kinds.result) long c.empty-kinds.ensures.slots)
+    (c.as_slice-rest.ensures, omega (arith, long, ap length c.as_slice-rest.ensures), (0, refl), HasKindsTo-start c.args.map.now.kind (slots_of c.args.kinds.now) long c.requires)
 
 pub loop-word-preserved : goal.loop-word-preserved
 loop-word-preserved c =
@@ -16,7 +16,7 @@ loop-word-preserved c =
       later_word c.args.map.now.kind c.loop-word.rest.now c.in-Some.after.now c.loop-word.first passed.0 split.1,
       omega (arith, passed.1, split.2),
       (passed.2.0 + 1, omega (arith, passed.2.1)),
-      c.put_word.ensures c.args.map.now.kind long (split.0 ∙ ap (take 8) passed.0) passed.3,
+      c.put_word.ensures c.args.map.now.kind long (split.0 ∙ ap (take 16) passed.0) passed.3,
     )
 
 pub returns : goal.returns
