@@ -327,10 +327,10 @@ int32_t rtp_wire_len(const rtp_map *map, const rtp_header *header, size_t *len);
  * seconds (send time, modulo 64 seconds) or of 1/100 second (playout delay, modulo 4,096); of a level
  * its magnitude modulo 128. Flags count as set where they aren't 0.
  *
- * RTP_OK; RTP_BAD_FIELD where payload_type is above 127, csrc_count above 15, or a value that is there,
- * mapped or not, is none: a text with another character than letters, digits and underscores before its
- * zero or without a zero, an orientation that is none of the four, a time of 0 hertz; RTP_SHORT_BUFFER
- * where the buffer alone is at fault.
+ * RTP_OK; RTP_BAD_FIELD where payload_type is above 127, csrc_count above 15, or of the values that are
+ * there, mapped or not, a text has another character than letters, digits and underscores before its
+ * first zero or has no zero, an orientation is none of the four, or a time has 0 hertz; RTP_SHORT_BUFFER
+ * where only the buffer is too short.
  *
  *     rtp_header header = {0};
  *     header.payload_type = 111;
