@@ -95,7 +95,7 @@ enum {
 typedef struct {
     size_t payload_at;        /* where the payload begins: the length of the header, 12 to 262,216 */
     size_t payload_len;       /* of the payload with any padding: payload_at + payload_len is the packet's length */
-    size_t unpadded_len;      /* of the payload without its padding; 0 where padding_fits is 0 */
+    size_t unpadded_len;      /* of the payload without its padding (with SRTP decrypt first); 0 where padding_fits is 0 */
     size_t body_at;           /* where the body of the extension block begins, after the four bytes of its header */
     size_t body_len;          /* of the body, which ends where the payload begins; 0 without a block */
     uint32_t timestamp;       /* in ticks of the payload's clock */
@@ -316,7 +316,7 @@ typedef struct {
 int32_t rtp_parse_layers(const uint8_t *datagram, size_t len, const rtp_map *map, rtp_header *header,
                          rtp_layers *layers);
 
-/* How many bytes rtp_write writes: a multiple of 4, 12 to 65,612. RTP_OK; RTP_BAD_FIELD as rtp_write. */
+/* How many bytes rtp_write writes: a multiple of 4, 12 to 4,668. RTP_OK; RTP_BAD_FIELD as rtp_write. */
 int32_t rtp_wire_len(const rtp_map *map, const rtp_header *header, size_t *len);
 
 /* Writes the header to the front of the buffer; bytes after it stay. Where has_extension isn't 0 there is
@@ -327,10 +327,10 @@ int32_t rtp_wire_len(const rtp_map *map, const rtp_header *header, size_t *len);
  * seconds (send time, modulo 64 seconds) or of 1/100 second (playout delay, modulo 4,096); of a level
  * its magnitude modulo 128. Flags count as set where they aren't 0.
  *
- * RTP_OK; RTP_BAD_FIELD where payload_type is above 127, csrc_count above 15, or a value that is there,
- * mapped or not, is none: a text with another character than letters, digits and underscores before its
- * zero or without a zero, an orientation that is none of the four, a time of 0 hertz; RTP_SHORT_BUFFER
- * where the buffer alone is at fault.
+ * RTP_OK; RTP_BAD_FIELD where payload_type is above 127, csrc_count above 15, or of the values that are
+ * there, mapped or not, a text has another character than letters, digits and underscores before its
+ * first zero or has no zero, an orientation is none of the four, or a time has 0 hertz; RTP_SHORT_BUFFER
+ * where only the buffer is too short.
  *
  *     rtp_header header = {0};
  *     header.payload_type = 111;
@@ -374,8 +374,8 @@ typedef struct {
     uint8_t id[256];
 } rtp_new_ids;
 
-/* For each id that means a kind in `from` the lowest id that means it in `to`, and 0 for all others. Make
- * it once for two streams:
+/* For each id of a kind in `from` its lowest id in `to`, and 0 for all others, as for a URI without a kind.
+ * Make it once for two streams:
  *
  *     rtp_new_ids_between(&publisher.map, &subscriber.map, &route.ids);
  *     ...
@@ -391,7 +391,7 @@ int32_t rtp_renumber(uint8_t *datagram, size_t len, const rtp_new_ids *ids);
 /* ---- Padding and retransmissions ---- */
 
 /* Makes a packet of padding alone after its header: sets P, and writes the padding from header_len on,
- * zeros and in the last byte their count. It is pad_len in whole blocks, but at most 240 bytes; with a
+ * zeros and in the last byte their count: pad_len rounded up to whole blocks, at most 240 bytes; with a
  * pad_len of 0 nothing changes, and the count is 0. To pad a packet with a payload, pass the end of the
  * payload as header_len. RTP_OK; RTP_BAD_FIELD where block_size is 0; RTP_SHORT_BUFFER where size is
  * below header_len + 240. The packet then has header_len + *count bytes. */
@@ -420,15 +420,15 @@ typedef struct {
 
 /* Nothing is taken yet, and the first packet has this rollover count. RTP_OK, or RTP_BAD_FIELD where
  * the count is 2^48 or more. With a count of 1 or more a packet from before the first one has a
- * number too. */
+ * number too; with 0 it gets one near 2^64, and once that is taken nearly all later ones are refused. */
 int32_t rtp_receiver_start(rtp_receiver *receiver, uint64_t rollover_count);
-/* The extended sequence number: the nearest to the highest taken that ends in these 16 bits. Its low
- * 48 bits are SRTP's packet index. */
+/* The extended sequence number: the nearest to the highest taken that ends in these 16 bits; of the
+ * first packet the one with the rollover count of the start. Its low 48 bits are SRTP's packet index. */
 uint64_t rtp_receiver_number_of(const rtp_receiver *receiver, uint16_t sequence_number);
 /* Whether the number may be taken: nothing is taken yet, or it is above the highest taken, or less
  * than 128 below it and not taken. */
 bool rtp_receiver_accepts(const rtp_receiver *receiver, uint64_t number);
-/* Records that the number is taken. One that isn't accepted changes nothing of what is held. */
+/* Records that the number is taken. One that isn't accepted leaves the same numbers taken. */
 void rtp_receiver_record(rtp_receiver *receiver, uint64_t number);
 /* RTP_OK, and the number is written and recorded; or RTP_REFUSED where it may not be taken. */
 int32_t rtp_receiver_receive(rtp_receiver *receiver, uint16_t sequence_number, uint64_t *number);

@@ -68,8 +68,8 @@ pub extern "C" fn rtp_write_with(
 }
 
 /// How many bytes [`rtp_write`] writes of the header: a multiple of four, 12 without CSRC list and
-/// block. `OK`, and they are written; `BAD_FIELD` where the header is none that can be written, and
-/// then nothing is written.
+/// block. `OK`, and the number is written; `BAD_FIELD` for the causes of [`rtp_write`], and then nothing
+/// is written.
 #[unsafe(no_mangle)]
 pub extern "C" fn rtp_wire_len(map: &KindsOfIds, header: &HeaderView, len: &mut usize) -> i32
     ensures length { result ≡ ok → IsLengthOf map.now.kind header.now len.new }
@@ -93,11 +93,11 @@ pub extern "C" fn rtp_wire_len(map: &KindsOfIds, header: &HeaderView, len: &mut 
 /// the layer allocation is mapped, or a text that is written is empty. Zeros fill its last word. Where
 /// `has_extension` is clear nothing is written of the values.
 ///
-/// `OK`, and how many bytes they take is written too. `BAD_FIELD` where the payload type is above 127,
-/// there are more than 15 contributing sources, or a value that is there is none: a text has another
-/// character than letters, digits and underscores before its first zero or has no zero, an orientation
-/// is none of 0, 90, 180 and 270, or a delay has 0 ticks in a second. `SHORT_BUFFER` where only the
-/// room is short. Where it isn't `OK` nothing is written.
+/// `OK`, and how many bytes the header takes is written too. `BAD_FIELD` where the payload type is above
+/// 127, there are more than 15 contributing sources, a text has another character than letters, digits
+/// and underscores before its first zero or has no zero, an orientation is none of 0, 90, 180 and 270,
+/// or a delay has 0 ticks in a second; of these values only where they are there. `SHORT_BUFFER` where
+/// only the room is short. Where it isn't `OK` nothing is written.
 #[unsafe(no_mangle)]
 pub extern "C" fn rtp_write(
     map: &KindsOfIds,
