@@ -51,8 +51,14 @@ work=$here/out/build-$target
 mkdir -p -- "$work"
 
 say "proving and building the library for $target, which takes minutes the first time"
+top=$(cd -- "$here/.." && pwd)
 log=$work/rt.log
-if ! (cd -- "$crate" && rt lib --target "$target") </dev/null >"$log" 2>&1; then
+times=$work/times
+# shellcheck source=proving.sh
+. "$top/proving.sh"
+read -ra crates <<<"$(crates_of rtp_c)"
+: >"$log"
+if ! prove_all lib --target "$target"; then
     tail -n 20 -- "$log" >&2
     give_up "the library was not built: $log"
 fi
