@@ -89,10 +89,16 @@ pub HasKindsTo-zero : (numbers : List ℕ) (at : ℕ) (slots : Slots) (kind : Kn
 HasKindsTo-zero numbers zero slots kind is has within numbered = HasKindsTo-first numbers slots kind has within numbered
 HasKindsTo-zero numbers (suc at) slots kind is has within numbered = absurd (omega (arith, is))
 
--- a word of zeros more
 zero_is_none : IsKindNumbered 0 None
 zero_is_none = number≢0
 
+-- a zero more
+pub HasKindsTo-zero_number : (numbers : List ℕ) (at : ℕ) (slots : Slots) → HasKindsTo numbers at slots → get_or numbers at 0 ≡ 0
+    → HasKindsTo numbers (at + 1) slots
+HasKindsTo-zero_number numbers at slots has is =
+    HasKindsTo-none numbers at slots has (subst (λ (number : ℕ). IsKindNumbered number None) (sym is) zero_is_none)
+
+-- a word of zeros more
 pub HasKindsTo-word : (numbers : List ℕ) (at : ℕ) (slots : Slots) → HasKindsTo numbers at slots
     → ((i : ℕ) → at ≤ i → i < at + 16 → get_or numbers i 0 ≡ 0) → HasKindsTo numbers (at + 16) slots
 HasKindsTo-word numbers at slots has zeros = record {

@@ -89,6 +89,7 @@ fn padded<const N: usize>(text: &[u8]) -> [u8; N]
 }
 
 // The tag whose text this is.
+#[inline(always)]
 fn mid_of(bytes: &[u8; 17]) -> Option<Mid>
     ensures found { IfSome result (IsIdIn 16 bytes.now) }
     ensures none { IfNone result ((id : List ℕ) → IsIdIn 16 bytes.now id → ⊥) }
@@ -128,6 +129,7 @@ fn given_time(has: u8, time: &Time) -> Option<Option<MediaTime>>
     Some(Some(time_of(time)?))
 }
 
+#[inline(always)]
 fn given_mid(has: u8, bytes: &[u8; 17]) -> Option<Option<Mid>>
     ensures { FindsGiven has (IsIdIn 16 bytes.now) result }
 {

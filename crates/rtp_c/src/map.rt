@@ -98,7 +98,9 @@ fn put_word(word: &[u8; WORD], first: usize, kinds: &mut KindsById)
         return;
     }
     for (index, number) in word.iter().enumerate() {
-        put_kind(*number, (first + index) as u8, kinds);
+        if *number != 0 {
+            put_kind(*number, (first + index) as u8, kinds);
+        }
     }
 }
 

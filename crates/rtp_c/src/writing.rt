@@ -112,11 +112,11 @@ pub extern "C" fn rtp_write(
     ensures statuses { (result ≡ ok) ⊎ ((result ≡ short_buffer) ⊎ (result ≡ bad_field)) }
     ensures unchanged { result ≢ ok → (buf.new ≡ buf.old) × (len.new ≡ len.old) }
 {
+    let mut kinds = KindsById::empty();
+    put_kinds(map, &mut kinds);
     let Some(header) = given_header(header) else {
         return BAD_FIELD;
     };
-    let mut kinds = KindsById::empty();
-    put_kinds(map, &mut kinds);
     let Some(written) = header.try_write_by_kinds(buf, &kinds) else {
         return SHORT_BUFFER;
     };

@@ -1,7 +1,8 @@
 use Rattle.std.proofs.Common.{◌≡◌, ◌+◌, ◌<◌, ℕ, arith, ◌∙◌, sym, subst}
 use Rattle.rtp_ext.specs.KindsById.{slots_of}
 use Rattle.rtp_c.specs.KindsOfIds.{HasKindsTo}
-use Rattle.rtp_c.proofs.KindsOfIdsLemmas.{HasKindsTo-word, zeros_in_word, number_in_word}
+use Rattle.rtp_c.proofs.KindsOfIdsLemmas.{HasKindsTo-word, HasKindsTo-zero_number, zeros_in_word, number_in_word}
+use Rattle.rtp_c.proofs.map.put_word.Goals.{then-number-ne0, else-number-ne0}
 use Rattle.rtp_c.proofs.map.put_word.Goals as goal
 
 pub returns-then-from_ne_bytes-eq0 : goal.returns-then-from_ne_bytes-eq0
@@ -13,6 +14,15 @@ pub loop-index-preserved : goal.loop-index-preserved
 loop-index-preserved c numbers long is has =
     let here : c.loop-index.index < 16 = omega (arith, c.loop-index-test.true, c.told-word) in
     let next : (c.args.first + c.loop-index.index) + 1 ≡ c.args.first + (c.loop-index.index + 1) = omega arith in
-    subst (λ (at : ℕ). HasKindsTo numbers at (slots_of c.put_kind.new.kinds)) next
-    (c.put_kind.ensures numbers (omega (arith, here, long, c.requires)) (sym (number_in_word numbers c.args.word.now c.args.first c.loop-index.index is here))
-    (c.loop-index.invariant numbers long is has))
+    let before = c.loop-index.invariant numbers long is has in
+    let number_is = number_in_word numbers c.args.word.now c.args.first c.loop-index.index is here in
+    elim c.if-number-ne0.branch [
+      | then-number-ne0 w ↦
+          subst (λ (at : ℕ). HasKindsTo numbers at (slots_of c.if-number-ne0.kinds)) next
+          (subst (λ kinds. HasKindsTo numbers ((c.args.first + c.loop-index.index) + 1) (slots_of kinds)) (sym w.kinds-is)
+          (w.put_kind.ensures numbers (omega (arith, here, long, c.requires)) (sym number_is) before))
+      | else-number-ne0 w ↦
+          subst (λ (at : ℕ). HasKindsTo numbers at (slots_of c.if-number-ne0.kinds)) next
+          (subst (λ kinds. HasKindsTo numbers ((c.args.first + c.loop-index.index) + 1) (slots_of kinds)) (sym w.kinds-is)
+          (HasKindsTo-zero_number numbers (c.args.first + c.loop-index.index) (slots_of c.loop-index.kinds) before (sym number_is ∙ w.if-number-ne0.false)))
+    ]
