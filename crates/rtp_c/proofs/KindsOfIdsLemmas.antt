@@ -5,7 +5,7 @@ use Rattle.std.proofs.lemmas.List.{length-map, get_or-take, get_or-drop, drop-dr
 use Rattle.std.proofs.Math.ListN.{get_or-map}
 use Rattle.rtp_values.specs.declared.known_kind.KnownKind.{KnownKind}
 use Rattle.rtp_values.specs.declared.known_kind.KnownKind.TheVariants.{AbsoluteSendTime, AudioLevel, VideoOrientation, TransportSequenceNumber, RtpStreamId, RepairedRtpStreamId, RtpMid}
-use Rattle.std.specs.Int.{w128, byte_worth, from_le_bytes}
+use Rattle.std.specs.Int.{w64, byte_worth, from_le_bytes}
 use Rattle.rtp_ext.specs.ExtensionMap.{Slots, IsId, IsListing, items_from, standard_items}
 use Rattle.rtp_ext.specs.KindsById.{slots_of, entry_of_kind}
 use Rattle.rtp_ext.proofs.ElementLemmas.{sum_through-zero, byte_worth-zero}
@@ -98,10 +98,10 @@ pub HasKindsTo-zero_number : (numbers : List ℕ) (at : ℕ) (slots : Slots) →
 HasKindsTo-zero_number numbers at slots has is =
     HasKindsTo-none numbers at slots has (subst (λ (number : ℕ). IsKindNumbered number None) (sym is) zero_is_none)
 
--- a word of zeros more
-pub HasKindsTo-word : (numbers : List ℕ) (at : ℕ) (slots : Slots) → HasKindsTo numbers at slots
-    → ((i : ℕ) → at ≤ i → i < at + 16 → get_or numbers i 0 ≡ 0) → HasKindsTo numbers (at + 16) slots
-HasKindsTo-word numbers at slots has zeros = record {
+-- some zeros more
+pub HasKindsTo-zeros : (numbers : List ℕ) (at n : ℕ) (slots : Slots) → HasKindsTo numbers at slots
+    → ((i : ℕ) → at ≤ i → i < at + n → get_or numbers i 0 ≡ 0) → HasKindsTo numbers (at + n) slots
+HasKindsTo-zeros numbers at n slots has zeros = record {
   kinds = has.kinds;
   as_many = has.as_many;
   numbered = λ i below. elim (cases_lt i at) [
@@ -114,21 +114,36 @@ HasKindsTo-word numbers at slots has zeros = record {
   slots_are = has.slots_are;
 }
 
-pub number_in_word : (numbers word : List ℕ) (first k : ℕ) → word ≡ take 16 (drop first numbers) → k < 16 → get_or word k 0 ≡ get_or numbers (first + k) 0
-number_in_word numbers word first k is here =
-    ap (λ (w : List ℕ). get_or w k 0) is ∙ get_or-take 16 (drop first numbers) k 0 here ∙ get_or-drop first numbers k 0
+-- a number of a word of the lowest numbers
+pub entry_of_word : (numbers lowest rest word : List ℕ) (first k : ℕ) → lowest ≡ take (length lowest) numbers → rest ≡ drop first lowest
+    → word ≡ take 8 rest → k < 8 → first + k < length lowest → get_or word k 0 ≡ get_or numbers (first + k) 0
+entry_of_word numbers lowest rest word first k lowest_are rest_is word_is here within =
+    ap (λ (w : List ℕ). get_or w k 0) word_is
+    ∙ get_or-take 8 rest k 0 here
+    ∙ ap (λ (r : List ℕ). get_or r k 0) rest_is
+    ∙ get_or-drop first lowest k 0
+    ∙ ap (λ (l : List ℕ). get_or l (first + k) 0) lowest_are
+    ∙ get_or-take (length lowest) numbers (first + k) 0 within
 
-pub zeros_in_word : (numbers word : List ℕ) (first : ℕ) → word ≡ take 16 (drop first numbers) → from_le_bytes w128 word ≡ 0
-    → (i : ℕ) → first ≤ i → i < first + 16 → get_or numbers i 0 ≡ 0
-zeros_in_word numbers word first is zero_word i above below =
+pub zeros_of_word : (numbers word : List ℕ) (first : ℕ) → ((k : ℕ) → k < 8 → get_or word k 0 ≡ get_or numbers (first + k) 0)
+    → from_le_bytes w64 word ≡ 0 → (i : ℕ) → first ≤ i → i < first + 8 → get_or numbers i 0 ≡ 0
+zeros_of_word numbers word first same zero_word i above below =
     let k : ℕ = i - first in
-    let same : first + k ≡ i = omega arith in
-    let here : k < 16 = omega arith in
-    ap (λ (j : ℕ). get_or numbers j 0) (sym same) ∙ sym (number_in_word numbers word first k is here)
-    ∙ byte_worth-zero k (get_or word k 0) (sum_through-zero (λ j. byte_worth j (get_or word j 0)) 15 k zero_word (omega arith))
+    let at : first + k ≡ i = omega arith in
+    let here : k < 8 = omega arith in
+    ap (λ (j : ℕ). get_or numbers j 0) (sym at) ∙ sym (same k here)
+    ∙ byte_worth-zero k (get_or word k 0) (sum_through-zero (λ j. byte_worth j (get_or word j 0)) 7 k zero_word (omega arith))
 
-pub later_word : (numbers rest after : List ℕ) (first : ℕ) → rest ≡ drop first numbers → after ≡ drop 16 rest → after ≡ drop (first + 16) numbers
-later_word numbers rest after first rest_is after_is = after_is ∙ ap (λ (left : List ℕ). drop 16 left) rest_is ∙ drop-drop 16 first numbers
+pub later_words : (lowest rest after : List ℕ) (first : ℕ) → rest ≡ drop first lowest → after ≡ drop 8 rest → after ≡ drop (first + 8) lowest
+later_words lowest rest after first rest_is after_is = after_is ∙ ap (λ (left : List ℕ). drop 8 left) rest_is ∙ drop-drop 8 first lowest
+
+-- zeros from an index on
+pub zeros_from : (numbers rest : List ℕ) (first : ℕ) → rest ≡ drop first numbers → ((k : ℕ) → k < length rest → get_or rest k 0 ≡ 0)
+    → (i : ℕ) → first ≤ i → i < first + length rest → get_or numbers i 0 ≡ 0
+zeros_from numbers rest first is zeros i above below =
+    let k : ℕ = i - first in
+    let at : first + k ≡ i = omega arith in
+    ap (λ (j : ℕ). get_or numbers j 0) (sym at) ∙ sym (get_or-drop first numbers k 0) ∙ ap (λ (r : List ℕ). get_or r k 0) (sym is) ∙ zeros k (omega (arith, at, below))
 
 -- all numbers
 pub HasKinds-whole : (numbers : List ℕ) (at : ℕ) (slots : Slots) → length numbers ≤ at → HasKindsTo numbers at slots → HasKinds numbers slots

@@ -11,3 +11,4 @@ mod HeaderViewLemmas
 mod GivenLemmas
 mod WritingLemmas
 mod WrittenHeaderLemmas
+mod JudgingLemmas

@@ -12,8 +12,13 @@ pub record IsTaken (count : ℕ) (taken : Numbers) (number written : ℕ) (after
   pub written_is : written ≡ number
   pub recorded : HoldsNumbers after count (including taken number)
 
+-- this number is taken where it may be, and else refused
+abbrev pub IsJudgedAs : ℕ → Numbers → ℕ → ℤ → ℕ → StoredReceiver → Type 0
+IsJudgedAs count taken number status written after =
+    ((status ≡ ok) × IsTaken count taken number written after) ⊎ ((status ≡ refused) × (IsFresh taken number → ⊥))
+
 -- the packet of this sequence number has a number, which is taken where it may be, and else refused
 pub record IsJudgedBy (count : ℕ) (taken : Numbers) (sequence_number : ℕ) (status : ℤ) (written : ℕ) (after : StoredReceiver) : Type 0 where
   pub number : ℕ
   pub is_number : IsNumberOf count taken sequence_number number
-  pub judged : ((status ≡ ok) × IsTaken count taken number written after) ⊎ ((status ≡ refused) × (IsFresh taken number → ⊥))
+  pub judged : IsJudgedAs count taken number status written after

@@ -1,11 +1,12 @@
 //! The header and the values that C gives to be written.
 
-ghost use Rattle.std.specs.Prelude.{◌≡◌, ◌≢◌, ◌≤◌, ◌<◌, ◌-◌, ◌↔◌, List, ℕ, length, slice_index, IsTrue, IfSome, IfNone};
+ghost use Rattle.std.specs.Prelude.{◌≡◌, ◌≢◌, ◌≤◌, ◌<◌, ◌-◌, ◌↔◌, List, ℕ, length, slice_index, IsTrue, Option, None, IfSome, IfNone};
 ghost use Rattle.std.specs.List.{All};
 ghost use Rattle.rtp_base.specs.Id.{IsIdByte, padded};
 ghost use Rattle.rtp_base.specs.MediaTime.{Fraction};
 ghost use Rattle.rtp_values.specs.declared.value.video_orientation.VideoOrientation.{VideoOrientation as Orientation};
 ghost use Rattle.rtp_values.specs.declared.value.values.ExtensionValues.{ExtensionValues as Values};
+ghost use Rattle.rtp_values.specs.Values.{no_values};
 ghost use Rattle.rtp_wire.specs.declared.header.rtp_header.RtpHeader.{RtpHeader as Header};
 ghost use Rattle.rtp_c.specs.Held.{degrees_of};
 ghost use Rattle.rtp_c.specs.Given.{given, IsGiven, IsTextIn, IsIdIn, IsTimeOf, AreGivenValues, AreGivenFields, IsGivenHeader, FindsGiven};
@@ -51,7 +52,7 @@ fn are_id_bytes(bytes: &[u8]) -> bool
 {
     bytes
         .iter()
-        .all(|byte| byte.is_ascii_alphanumeric() || *byte == b'_')
+        .all(|byte| byte.is_ascii_alphanumeric() | (*byte == b'_'))
 }
 
 // The index of the first zero.
@@ -148,80 +149,126 @@ fn given_rid(has: u8, bytes: &[u8; 9]) -> Option<Option<Rid>>
     Some(Some(rid_of(bytes)?))
 }
 
-// The values that are given; `None` where a text, an orientation or a time is none.
+// The capture time, where it is given.
 #[inline(always)]
-fn given_values(view: &ValuesView) -> Option<ExtensionValues>
-    ensures found { IfSome result (AreGivenValues view.now) }
-    ensures none { IfNone result ((values : Values) → AreGivenValues view.now values → ⊥) }
+fn given_capture_time(view: &ValuesView) -> Option<AbsCaptureTime>
+    ensures { result ≡ given view.now.has_capture_time (record {
+      capture_time = view.now.capture_time;
+      clock_offset = given view.now.has_capture_offset view.now.capture_offset;
+    }) }
 {
-    let video_orientation = given_orientation(view.has_video_orientation, view.video_orientation)?;
-    let play_delay_min = given_time(view.has_playout_delay_min, &view.playout_delay_min)?;
-    let play_delay_max = given_time(view.has_playout_delay_max, &view.playout_delay_max)?;
-    let mid = given_mid(view.has_mid, &view.mid)?;
-    let rid = given_rid(view.has_rid, &view.rid)?;
-    let rid_repair = given_rid(view.has_repaired_rid, &view.repaired_rid)?;
-    let abs_capture_time = AbsCaptureTime {
+    if view.has_capture_time == 0 {
+        return None;
+    }
+    Some(AbsCaptureTime {
         capture_time: view.capture_time,
         clock_offset: given(view.has_capture_offset, view.capture_offset),
-    };
-    let video_timing = VideoTiming {
+    })
+}
+
+// The timing, where it is given.
+#[inline(always)]
+fn given_timing(view: &ValuesView) -> Option<VideoTiming>
+    ensures { result ≡ given view.now.has_video_timing (record {
+      flags = view.now.timing_flags;
+      encode_start = view.now.encode_start;
+      encode_finish = view.now.encode_finish;
+      packetize_complete = view.now.packetize_complete;
+      last_left_pacer = view.now.last_left_pacer;
+    }) }
+{
+    if view.has_video_timing == 0 {
+        return None;
+    }
+    Some(VideoTiming {
         flags: view.timing_flags,
         encode_start: view.encode_start,
         encode_finish: view.encode_finish,
         packetize_complete: view.packetize_complete,
         last_left_pacer: view.last_left_pacer,
-    };
-    Some(ExtensionValues {
-        audio_level: given(view.has_audio_level, view.audio_level),
-        voice_activity: given(view.has_voice_activity, view.voice_activity != 0),
-        video_orientation,
-        video_content_type: given(view.has_video_content_type, view.video_content_type),
-        tx_time_offs: given(view.has_transmission_offset, view.transmission_offset),
-        abs_send_time: given(view.has_send_time, view.send_time),
-        abs_capture_time: given(view.has_capture_time, abs_capture_time),
-        transport_cc: given(view.has_transport_number, view.transport_number),
-        play_delay_min,
-        play_delay_max,
-        video_timing: given(view.has_video_timing, video_timing),
-        rid,
-        rid_repair,
-        mid,
-        frame_mark: given(view.has_frame_marking, view.frame_marking),
-        video_layers_allocation: None,
     })
 }
 
-// The header of these fields and values; `None` where no header can have the fields.
+// Puts a value, where it is there, to a place that holds none: most values are absent, and then nothing
+// is stored.
 #[inline(always)]
-pub fn header_with(view: &HeaderView, values: ExtensionValues) -> Option<RtpHeader>
-    ensures found { IfSome result (λ header.
-        AreGivenFields view.now header × (header.ext_vals ≡ values)) }
+fn put_some<T: Drop>(place: &mut Option<T>, value: Option<T>)
+    requires { place.old ≡ None }
+    ensures { place.new ≡ value }
+{
+    if value.is_some() {
+        *place = value;
+    }
+}
+
+// Puts the values that are given to values that are all absent; `None` where a text, an orientation or a
+// time is none.
+#[inline(always)]
+fn put_given_values(view: &ValuesView, values: &mut ExtensionValues) -> Option<()>
+    requires { values.old ≡ no_values }
+    ensures found { IfSome result (λ _. AreGivenValues view.now values.new) }
+    ensures none { IfNone result ((values : Values) → AreGivenValues view.now values → ⊥) }
+{
+    put_some(&mut values.mid, given_mid(view.has_mid, &view.mid)?);
+    put_some(&mut values.rid, given_rid(view.has_rid, &view.rid)?);
+    let repaired = given_rid(view.has_repaired_rid, &view.repaired_rid)?;
+    put_some(&mut values.rid_repair, repaired);
+    let level = given(view.has_audio_level, view.audio_level);
+    put_some(&mut values.audio_level, level);
+    let active = given(view.has_voice_activity, view.voice_activity != 0);
+    put_some(&mut values.voice_activity, active);
+    let orientation = given_orientation(view.has_video_orientation, view.video_orientation)?;
+    put_some(&mut values.video_orientation, orientation);
+    let content = given(view.has_video_content_type, view.video_content_type);
+    put_some(&mut values.video_content_type, content);
+    let offset = given(view.has_transmission_offset, view.transmission_offset);
+    put_some(&mut values.tx_time_offs, offset);
+    let send_time = given(view.has_send_time, view.send_time);
+    put_some(&mut values.abs_send_time, send_time);
+    put_some(&mut values.abs_capture_time, given_capture_time(view));
+    let number = given(view.has_transport_number, view.transport_number);
+    put_some(&mut values.transport_cc, number);
+    let min = given_time(view.has_playout_delay_min, &view.playout_delay_min)?;
+    put_some(&mut values.play_delay_min, min);
+    let max = given_time(view.has_playout_delay_max, &view.playout_delay_max)?;
+    put_some(&mut values.play_delay_max, max);
+    put_some(&mut values.video_timing, given_timing(view));
+    let marking = given(view.has_frame_marking, view.frame_marking);
+    put_some(&mut values.frame_mark, marking);
+    Some(())
+}
+
+// Puts the fields that are given to the header, and leaves its values; `None` where no header can have
+// them.
+#[inline(always)]
+pub fn put_given_fields(view: &HeaderView, header: &mut RtpHeader) -> Option<()>
+    ensures found { IfSome result (λ _. AreGivenFields view.now header.new) }
     ensures none { IfNone result ((header : Header) → AreGivenFields view.now header → ⊥) }
+    ensures values { header.new.ext_vals ≡ header.old.ext_vals }
 {
     if view.payload_type > 127 || view.csrc_count > 15 {
         return None;
     }
-    Some(RtpHeader {
-        version: 2,
-        has_padding: view.has_padding != 0,
-        has_extension: view.has_extension != 0,
-        csrc_count: usize::from(view.csrc_count),
-        marker: view.marker != 0,
-        payload_type: Pt::from(view.payload_type),
-        sequence_number: view.sequence_number,
-        timestamp: view.timestamp,
-        ssrc: Ssrc::from(view.ssrc),
-        csrc: view.csrc,
-        ext_vals: values,
-        header_len: 0,
-    })
+    header.has_padding = view.has_padding != 0;
+    header.has_extension = view.has_extension != 0;
+    header.csrc_count = usize::from(view.csrc_count);
+    header.marker = view.marker != 0;
+    header.payload_type = Pt::from(view.payload_type);
+    header.sequence_number = view.sequence_number;
+    header.timestamp = view.timestamp;
+    header.ssrc = Ssrc::from(view.ssrc);
+    header.csrc = view.csrc;
+    Some(())
 }
 
-// The header that is given; `None` where no header can have its fields or its values.
+// Puts the fields and the values that are given to a header without values; `None` where no header can
+// have them.
 #[inline(always)]
-pub fn given_header(view: &HeaderView) -> Option<RtpHeader>
-    ensures found { IfSome result (IsGivenHeader view.now) }
+pub fn put_given_header(view: &HeaderView, header: &mut RtpHeader) -> Option<()>
+    requires { header.old.ext_vals ≡ no_values }
+    ensures found { IfSome result (λ _. IsGivenHeader view.now header.new) }
     ensures none { IfNone result ((header : Header) → IsGivenHeader view.now header → ⊥) }
 {
-    header_with(view, given_values(&view.values)?)
+    put_given_values(&view.values, &mut header.ext_vals)?;
+    put_given_fields(view, header)
 }

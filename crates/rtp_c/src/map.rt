@@ -1,6 +1,6 @@
 //! Which id means which extension.
 
-ghost use Rattle.std.specs.Prelude.{◌≡◌, ◌≢◌, ◌↔◌, ◌⊎◌, ℕ, ◌+◌, ◌<◌, ◌≤◌, List, length, take, drop, replicate, None, slice_index, slice_set};
+ghost use Rattle.std.specs.Prelude.{◌≡◌, ◌≢◌, ◌↔◌, ◌⊎◌, ℕ, ◌+◌, ◌*◌, ◌<◌, ◌≤◌, List, length, take, drop, replicate, None, slice_index, slice_set, IsTrue};
 ghost use Rattle.rtp_values.specs.declared.known_kind.KnownKind.{KnownKind};
 ghost use Rattle.rtp_ext.specs.KindsById.{slots_of};
 ghost use Rattle.rtp_c.specs.KindNumbers.{IsKindNumbered, kind_number, last_number, uri_of};
@@ -26,7 +26,10 @@ pub struct KindsOfIds {
 const LAST_NUMBER: u8 = 15;
 
 // How many ids are looked at at once.
-const WORD: usize = 16;
+const WORD: usize = 8;
+
+// Few maps have an id from this one on, since the one-byte form has none of them.
+const LOW_IDS: usize = 16;
 
 // The kind of this number.
 pub fn kind_numbered(number: u8) -> Option<KnownKind>
@@ -89,12 +92,13 @@ fn put_kind(number: u8, id: u8, kinds: &mut KindsById)
 // Maps the ids from this one on to the kinds of the numbers in a word. Few ids are mapped, so most
 // words are zeros.
 fn put_word(word: &[u8; WORD], first: usize, kinds: &mut KindsById)
-    requires { first + 16 ≤ 256 }
-    ensures { (numbers : List ℕ) → length numbers ≡ 256 → word.now ≡ take 16 (drop first numbers) →
+    requires { first + 8 ≤ 256 }
+    ensures { (numbers : List ℕ) → length numbers ≡ 256 →
+        ((k : ℕ) → k < 8 → slice_index word.now k ≡ slice_index numbers (first + k)) →
         HasKindsTo numbers first (slots_of kinds.old) →
-        HasKindsTo numbers (first + 16) (slots_of kinds.new) }
+        HasKindsTo numbers (first + 8) (slots_of kinds.new) }
 {
-    if u128::from_ne_bytes(*word) == 0 {
+    if u64::from_ne_bytes(*word) == 0 {
         return;
     }
     for (index, number) in word.iter().enumerate() {
@@ -104,17 +108,44 @@ fn put_word(word: &[u8; WORD], first: usize, kinds: &mut KindsById)
     }
 }
 
-// Puts these kinds into a table that is empty.
-pub fn put_kinds(map: &KindsOfIds, kinds: &mut KindsById)
-    requires { slots_of kinds.old ≡ replicate 255 None }
-    ensures { HasKinds map.now.kind (slots_of kinds.new) }
+// Maps the lowest ids to the kinds of these numbers, in whole words.
+fn put_words(lowest: &[u8], kinds: &mut KindsById)
+    requires { length lowest.now ≤ 256 }
+    ensures { (numbers : List ℕ) → length numbers ≡ 256 → lowest.now ≡ take (length lowest.now) numbers →
+        (words : ℕ) → length lowest.now ≡ 8 * words → HasKindsTo numbers 0 (slots_of kinds.old) →
+        HasKindsTo numbers (length lowest.now) (slots_of kinds.new) }
 {
-    let mut rest = map.kind.as_slice();
+    let mut rest = lowest;
     let mut first = 0;
     while let Some((word, after)) = rest.split_first_chunk::<WORD>() {
         put_word(word, first, kinds);
         rest = after;
         first += WORD;
+    }
+}
+
+// Whether each number is 0.
+#[inline(always)]
+fn are_zeros(numbers: &[u8]) -> bool
+    ensures { IsTrue result → (i : ℕ) → i < length numbers.now → slice_index numbers.now i ≡ 0 }
+{
+    let mut any = 0;
+    for number in numbers {
+        any |= *number;
+    }
+    any == 0
+}
+
+// Puts these kinds into a table that is empty.
+pub fn put_kinds(map: &KindsOfIds, kinds: &mut KindsById)
+    requires { slots_of kinds.old ≡ replicate 255 None }
+    ensures { HasKinds map.now.kind (slots_of kinds.new) }
+{
+    let (low, high) = map.kind.split_at(LOW_IDS);
+    if are_zeros(high) {
+        put_words(low, kinds);
+    } else {
+        put_words(&map.kind, kinds);
     }
 }
 

@@ -6,11 +6,11 @@ ghost use Rattle.rtp_wire.specs.Receiver.{Holds, IsNothing, IsNumberOf, IsFresh}
 ghost use Rattle.rtp_wire.specs.Widening.{Extends};
 ghost use Rattle.rtp_c.specs.Status.{ok, bad_field, refused};
 ghost use Rattle.rtp_c.specs.StoredReceiver.{HoldsNumbers};
-ghost use Rattle.rtp_c.specs.Judging.{IsJudgedBy};
+ghost use Rattle.rtp_c.specs.Judging.{IsJudgedAs, IsJudgedBy};
 
 use super::status::{BAD_FIELD, OK, REFUSED};
 use rtp_base::{SeqNo, SeqNoWindow};
-use rtp_wire::{Receiver, Verdict, extend_u16};
+use rtp_wire::{Receiver, extend_u16};
 
 // How many numbers a half of the window's bits stands for, as the worth of the bit above it.
 const HALF: u128 = 1 << 64;
@@ -46,26 +46,55 @@ fn receiver_of(stored: &StoredReceiver) -> Receiver
     Receiver::from(SeqNoWindow::from_parts(SeqNo::from(stored.highest), recorded))
 }
 
-// What is stored of the receiver.
-fn stored_of(receiver: &Receiver) -> StoredReceiver
+// Stores the receiver.
+fn store(receiver: &Receiver, stored: &mut StoredReceiver)
     ensures { (count : ℕ) (taken : Numbers) → Holds receiver.now count taken →
-        HoldsNumbers result count taken }
+        HoldsNumbers stored.new count taken }
 {
     let Some(window) = receiver.window() else {
-        return StoredReceiver {
+        *stored = StoredReceiver {
             highest: receiver.rollover_count() * 65_536,
             recorded_low: 0,
             recorded_high: 0,
             started: 0,
         };
+        return;
     };
     let (highest, recorded) = window.parts();
-    StoredReceiver {
+    *stored = StoredReceiver {
         highest: highest.get(),
         recorded_low: (recorded % HALF) as u64,
         recorded_high: (recorded / HALF) as u64,
         started: 1,
+    };
+}
+
+// Takes the number where it may be taken, and then writes it.
+#[inline(always)]
+fn take(receiver: &mut StoredReceiver, number: u64, written: &mut u64) -> i32
+    ensures judged { (count : ℕ) (taken : Numbers) → HoldsNumbers receiver.old count taken →
+        IsJudgedAs count taken number result written.new receiver.new }
+    ensures unchanged { result ≢ ok → (receiver.new ≡ receiver.old) × (written.new ≡ written.old) }
+{
+    let seq_no = SeqNo::from(number);
+    let mut changed = receiver_of(receiver);
+    if !changed.accepts(seq_no) {
+        return REFUSED;
     }
+    changed.record(seq_no);
+    store(&changed, receiver);
+    *written = number;
+    OK
+}
+
+// The same, out of line: what calls it stays short for packets above the highest number, as most are.
+#[inline(never)]
+fn take_apart(receiver: &mut StoredReceiver, number: u64, written: &mut u64) -> i32
+    ensures judged { (count : ℕ) (taken : Numbers) → HoldsNumbers receiver.old count taken →
+        IsJudgedAs count taken number result written.new receiver.new }
+    ensures unchanged { result ≢ ok → (receiver.new ≡ receiver.old) × (written.new ≡ written.old) }
+{
+    take(receiver, number, written)
 }
 
 /// Makes the receiver one that has taken nothing yet, whose first packet has this rollover count:
@@ -83,7 +112,7 @@ pub extern "C" fn rtp_receiver_start(receiver: &mut StoredReceiver, rollover_cou
     if rollover_count >= 1 << 48 {
         return BAD_FIELD;
     }
-    *receiver = stored_of(&Receiver::starting_at(rollover_count));
+    store(&Receiver::starting_at(rollover_count), receiver);
     OK
 }
 
@@ -122,7 +151,7 @@ pub extern "C" fn rtp_receiver_record(receiver: &mut StoredReceiver, number: u64
 {
     let mut changed = receiver_of(receiver);
     changed.record(SeqNo::from(number));
-    *receiver = stored_of(&changed);
+    store(&changed, receiver);
 }
 
 /// Takes a packet of this sequence number, where its extended number may be taken: `OK`, and the
@@ -139,15 +168,11 @@ pub extern "C" fn rtp_receiver_receive(
         IsJudgedBy count taken sequence_number result number.new receiver.new }
     ensures unchanged { result ≢ ok → (receiver.new ≡ receiver.old) × (number.new ≡ number.old) }
 {
-    let mut changed = receiver_of(receiver);
-    match changed.receive(sequence_number) {
-        Verdict::Taken(taken) => {
-            *receiver = stored_of(&changed);
-            *number = taken.get();
-            OK
-        }
-        Verdict::Refused => REFUSED,
-        Verdict::Unreadable => REFUSED,
+    let extended = rtp_receiver_number_of(receiver, sequence_number);
+    if extended > receiver.highest {
+        take(receiver, extended, number)
+    } else {
+        take_apart(receiver, extended, number)
     }
 }
 

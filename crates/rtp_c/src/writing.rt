@@ -7,13 +7,13 @@ ghost use Rattle.rtp_c.specs.Given.{IsGivenHeader};
 ghost use Rattle.rtp_c.specs.WrittenHeader.{IsLengthOf, IsWrittenHeader, IsTooLong, CanBeWrittenWith, IsWrittenWith, IsTooLongWith};
 
 use super::elements::ElementView;
-use super::given::{given_header, header_with};
+use super::given::{put_given_fields, put_given_header};
 use super::header_view::HeaderView;
 use super::map::{KindsOfIds, put_kinds};
 use super::status::{BAD_FIELD, OK, SHORT_BUFFER};
 use super::writing_elements::pairs_in;
 use rtp_ext::{ExtensionsForm, KindsById};
-use rtp_values::ExtensionValues;
+use rtp_wire::RtpHeader;
 use std::alloc::Global;
 
 // The most bytes that the body of a block has: 65,535 words (RFC 3550, 5.3.1).
@@ -50,14 +50,15 @@ pub extern "C" fn rtp_write_with(
         ⊎ (result ≡ no_memory))) }
     ensures unchanged { result ≢ ok → (buf.new ≡ buf.old) × (len.new ≡ len.old) }
 {
-    let Some(header) = header_with(header, ExtensionValues::default()) else {
+    let mut rtp_header = RtpHeader::default();
+    let Some(()) = put_given_fields(header, &mut rtp_header) else {
         return BAD_FIELD;
     };
     let pairs = match pairs_in(alloc, bytes, elements) {
         Ok(pairs) => pairs,
         Err(status) => return status,
     };
-    if let Some(written) = header.write_with(buf, &pairs) {
+    if let Some(written) = rtp_header.write_with(buf, &pairs) {
         *len = written;
         return OK;
     }
@@ -77,12 +78,13 @@ pub extern "C" fn rtp_wire_len(map: &KindsOfIds, header: &HeaderView, len: &mut 
     ensures statuses { (result ≡ ok) ⊎ (result ≡ bad_field) }
     ensures unchanged { result ≢ ok → len.new ≡ len.old }
 {
-    let Some(header) = given_header(header) else {
+    let mut kinds = KindsById::empty();
+    let mut rtp_header = RtpHeader::default();
+    let Some(()) = put_given_header(header, &mut rtp_header) else {
         return BAD_FIELD;
     };
-    let mut kinds = KindsById::empty();
     put_kinds(map, &mut kinds);
-    *len = header.wire_len_by_kinds(&kinds);
+    *len = rtp_header.wire_len_by_kinds(&kinds);
     OK
 }
 
@@ -113,11 +115,12 @@ pub extern "C" fn rtp_write(
     ensures unchanged { result ≢ ok → (buf.new ≡ buf.old) × (len.new ≡ len.old) }
 {
     let mut kinds = KindsById::empty();
-    put_kinds(map, &mut kinds);
-    let Some(header) = given_header(header) else {
+    let mut rtp_header = RtpHeader::default();
+    let Some(()) = put_given_header(header, &mut rtp_header) else {
         return BAD_FIELD;
     };
-    let Some(written) = header.try_write_by_kinds(buf, &kinds) else {
+    put_kinds(map, &mut kinds);
+    let Some(written) = rtp_header.try_write_by_kinds(buf, &kinds) else {
         return SHORT_BUFFER;
     };
     *len = written;

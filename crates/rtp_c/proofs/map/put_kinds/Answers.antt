@@ -1,26 +1,27 @@
-use Rattle.std.proofs.Common.{◌≡◌, ◌+◌, rules, arith, refl, ap, ◌∙◌, take, length}
+use Rattle.std.proofs.Common.{◌≡◌, ◌+◌, ℕ, rules, arith, sym, ap, ◌∙◌, subst, take, length}
+use Rattle.std.proofs.lemmas.List.{take_all}
 use Rattle.rtp_ext.specs.KindsById.{slots_of}
-use Rattle.rtp_c.proofs.KindsOfIdsLemmas.{HasKindsTo-start, HasKinds-whole, later_word}
+use Rattle.rtp_c.specs.KindsOfIds.{HasKindsTo}
+use Rattle.rtp_c.proofs.KindsOfIdsLemmas.{HasKindsTo-start, HasKindsTo-zeros, HasKinds-whole, zeros_from}
 use Rattle.rtp_c.proofs.map.put_kinds.Goals as goal
 
-pub loop-word-init : goal.loop-word-init
-loop-word-init c =
-    let long : length c.args.map.now.kind ≡ 256 = search rules in
-    (c.as_slice-rest.ensures, omega (arith, long, ap length c.as_slice-rest.ensures), (0, refl), HasKindsTo-start c.args.map.now.kind (slots_of c.args.kinds.now) long c.requires)
+pub returns-then-are_zeros : goal.returns-then-are_zeros
+returns-then-are_zeros c =
+    let numbers = c.args.map.now.kind in
+    let slots = slots_of c.put_words.new.kinds in
+    let long : length numbers ≡ 256 = search rules in
+    let split = c.split_at.ensures in
+    let low = split.front ∙ ap (λ (n : ℕ). take n numbers) (sym split.front_len) in
+    let start = HasKindsTo-start numbers (slots_of c.args.kinds.now) long c.requires in
+    let has = subst (λ (at : ℕ). HasKindsTo numbers at slots) split.front_len (c.put_words.ensures numbers long low 2 split.front_len start) in
+    HasKinds-whole numbers (16 + 240) slots (omega (arith, long))
+    (HasKindsTo-zeros numbers 16 240 slots has
+    (λ i above below. zeros_from numbers _ 16 split.back (c.are_zeros.ensures c.if-are_zeros.true) i above (omega (arith, below, long, split.back_len))))
 
-pub loop-word-preserved : goal.loop-word-preserved
-loop-word-preserved c =
-    let long : length c.args.map.now.kind ≡ 256 = search rules in
-    let passed = c.loop-word.invariant in
-    let split = c.in-Some.ensures.cases in (
-      later_word c.args.map.now.kind c.loop-word.rest.now c.in-Some.after.now c.loop-word.first passed.0 split.1,
-      omega (arith, passed.1, split.2),
-      (passed.2.0 + 1, omega (arith, passed.2.1)),
-      c.put_word.ensures c.args.map.now.kind long (split.0 ∙ ap (take 16) passed.0) passed.3,
-    )
-
-pub returns : goal.returns
-returns c =
-    let passed = c.loop-word.invariant in
-    let long : length c.args.map.now.kind ≡ 256 = search rules in
-    HasKinds-whole c.args.map.now.kind c.loop-word.first (slots_of c.loop-word.kinds) (omega (arith, long, passed.1, passed.2.1, c.in_default.ensures.cases)) passed.3
+pub returns-else-are_zeros : goal.returns-else-are_zeros
+returns-else-are_zeros c =
+    let numbers = c.args.map.now.kind in
+    let long : length numbers ≡ 256 = search rules in
+    let start = HasKindsTo-start numbers (slots_of c.args.kinds.now) long c.requires in
+    HasKinds-whole numbers (length numbers) (slots_of c.put_words-else-are_zeros.new.kinds) (omega arith)
+    (c.put_words-else-are_zeros.ensures numbers long (sym (take_all (length numbers) numbers (omega arith))) 32 long start)
