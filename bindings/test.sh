@@ -94,12 +94,12 @@ compare() {
 for program in "$scratch"/lines_*; do compare "$program"; done
 said "the examples in $languages (in C static, shared and all static) against examples/*.expected"
 
-# SSRC 44 -> 77; 47,000 -> 1,000; at 5 s the send time is 5 * 2^18 = 0x140000, and 40 ms later
+# SSRC 44 -> 77; 47,000 - 46,000 = 1,000; at 5 s the send time is 5 * 2^18 = 0x140000, and 40 ms later
 # 1,321,205 = 0x1428F5; its id 4 becomes 2, and the mid (id 3) becomes padding. The second packet says no send
 # time, and the third line is no packet.
 cc -std=c99 "${strict[@]}" "${include[@]}" bindings/examples/forward.c "$library" -o "$scratch/forward"
 printf '%s\n' 9021B798000027100000002CBEDE000242AABBCC303100000102 9021B799000027110000002CBEDE0001303100000304 80 \
-    9021B79A000027110000002CBEDE000142AABBCC05 | "$scratch/forward" 77 1000 5 >"$scratch/forwarded"
+    9021B79A000027110000002CBEDE000142AABBCC05 | "$scratch/forward" 77 -46000 5 >"$scratch/forwarded"
 printf '%s\n' 902103E8000027100000004DBEDE000222140000000000000102 902103E9000027110000004DBEDE0001000000000304 \
     902103EA000027110000004DBEDE0001221428F505 >"$scratch/expected"
 diff "$scratch/expected" "$scratch/forwarded" >&2 || fail 'the forwarder'
@@ -113,44 +113,44 @@ if has cargo; then
     said 'the crate for Rust: cargo test, cargo doc and cargo fmt, without a warning'
 fi
 
-# The programs of README.md print what stands there. The first block of each language is the program, and
-# the next block of output follows it.
-block() { # language, which of its blocks
-    awk -v language="$1" -v which="$2" '
-        /^```/ { open = !open; if (open && substr($0, 4) == language) count++; here = open && substr($0, 4) == language; next }
-        here && count == which' \
-        bindings/README.md
+# The programs of docs/CALLING.md print what stands there: in the section of each language the first block of that
+# language is the program, and the first one of none its output.
+block() { # section, language
+    awk -v section="## $1" -v language="$2" '
+        /^## / { inside = $0 == section }
+        /^```/ { open = !open; here = open && inside && !found && substr($0, 4) == language; found = found || here; next }
+        here' docs/CALLING.md
 }
-block c 1 >"$scratch/call.c"
-block cpp 1 >"$scratch/call.cpp"
-block rust 1 >"$scratch/call.rs"
-cc -std=c99 "${strict[@]}" "${include[@]}" "$scratch/call.c" "$library" -o "$scratch/call_1"
-c++ -std=c++11 "${strict[@]}" "${include[@]}" "$scratch/call.cpp" "$library" -o "$scratch/call_2"
+block C c >"$scratch/call.c"
+block C++ cpp >"$scratch/call.cpp"
+block Rust rust >"$scratch/call.rs"
+cc -std=c99 "${strict[@]}" "${include[@]}" "$scratch/call.c" "$library" -o "$scratch/call_C"
+c++ -std=c++11 "${strict[@]}" "${include[@]}" "$scratch/call.cpp" "$library" -o "$scratch/call_C++"
 if has cargo; then
-    rustc --edition 2021 -D warnings -L "$prefix/lib" "$scratch/call.rs" -o "$scratch/call_3" \
+    rustc --edition 2021 -D warnings -L "$prefix/lib" "$scratch/call.rs" -o "$scratch/call_Rust" \
         --extern "rtp_wire=$CARGO_TARGET_DIR/debug/librtp_wire.rlib"
 fi
 if has go && has pkg-config; then
     mkdir "$scratch/go"
-    block go 1 >"$scratch/go/main.go"
+    block Go go >"$scratch/go/main.go"
     (
         export PKG_CONFIG_PATH=$prefix/lib/pkgconfig CGO_LDFLAGS="-Wl,-rpath,$prefix/lib" CGO_LDFLAGS_ALLOW=.*
-        cd "$scratch/go" && GO111MODULE=off GOCACHE=$scratch/gocache go build -o "$scratch/call_4" main.go
+        cd "$scratch/go" && GO111MODULE=off GOCACHE=$scratch/gocache go build -o "$scratch/call_Go" main.go
     )
     languages="${languages/ and /, } and Go"
 fi
-for program in "$scratch"/call_?; do
+for program in "$scratch"/call_*; do
     it=${program##*_}
     "$program" >"$scratch/said_$it"
-    block '' $((it + 1)) | grep -v '^\$' | diff - "$scratch/said_$it" >&2 || fail "program $it of bindings/README.md"
+    block "$it" '' | grep -v '^\$' | diff - "$scratch/said_$it" >&2 || fail "the program in $it of docs/CALLING.md"
 done
 if has pkg-config; then
     flags=$(PKG_CONFIG_PATH=$prefix/lib/pkgconfig pkg-config --cflags --libs rtp_wire)
     # shellcheck disable=SC2086
-    cc -std=c99 "$scratch/call.c" $flags -Wl,-rpath,"$prefix/lib" -o "$scratch/call_1"
-    "$scratch/call_1" | cmp - "$scratch/said_1" >&2 || fail pkg-config
+    cc -std=c99 "$scratch/call.c" $flags -Wl,-rpath,"$prefix/lib" -o "$scratch/call_C"
+    "$scratch/call_C" | cmp - "$scratch/said_C" >&2 || fail pkg-config
 fi
-said "the programs of bindings/README.md in $languages"
+said "the programs of docs/CALLING.md in $languages"
 
 hostile() { # compiler, library, program
     "$1" -std=c99 -g "${strict[@]}" -D_GNU_SOURCE bindings/test/hostile*.c "$2" -o "$3"

@@ -3,8 +3,9 @@
  * them under the SSRC and the numbers of the new stream, with its ids of extensions, and with the time at
  * which they go. Of what the subscriber's map has not, here the mid, nothing goes on.
  *
- * usage: forward SSRC FIRST_NUMBER SECONDS < lines
- *        SECONDS: when the first packet goes; each goes 20 milliseconds after the one before it
+ * usage: forward SSRC OFFSET SECONDS < lines
+ *        OFFSET is added to each sequence number; the first packet goes at SECONDS, each other one 20
+ *        milliseconds after the one before it
  */
 #include <rtp_wire.h>
 
@@ -15,55 +16,39 @@
 static const rtp_map PUBLISHER = {.kind = {[3] = RTP_KIND_MID, [4] = RTP_KIND_ABS_SEND_TIME}};
 static const rtp_map SUBSCRIBER = {.kind = {[1] = RTP_KIND_AUDIO_LEVEL, [2] = RTP_KIND_ABS_SEND_TIME}};
 
-/* Changes the packet where it lies; the status is RTP_OK where it goes on. */
-static int32_t forward(uint8_t *datagram, size_t len, const rtp_new_ids *ids, uint32_t ssrc, uint64_t microseconds) {
-    /* 24 bits, in units of 2^-18 seconds */
-    uint32_t time = (uint32_t)(microseconds * 262144 / 1000000);
+/* Gives the packet its new ids and its send time where it lies; false where it can't go on. */
+static bool forward(uint8_t *datagram, size_t len, const rtp_new_ids *ids, uint64_t microseconds) {
+    uint32_t time = (uint32_t)(microseconds % 64000000 * 262144 / 1000000); /* 24 bits, in units of 2^-18 seconds */
     uint8_t bytes[3] = {(uint8_t)(time >> 16), (uint8_t)(time >> 8), (uint8_t)time};
-    int32_t status = rtp_renumber(datagram, len, ids);
-    if (status == RTP_OK) {
-        rtp_set_ssrc(datagram, len, ssrc);
-        rtp_set_element(datagram, len, 2, bytes, sizeof bytes); /* RTP_NONE: it has none */
+    if (rtp_renumber(datagram, len, ids) != RTP_OK) {
+        return false;
     }
-    return status;
+    rtp_set_element(datagram, len, 2, bytes, sizeof bytes); /* RTP_NONE: it has none */
+    return true;
 }
 
 /* How many bytes the line spells, which then stand at its beginning; 0 where it isn't hexadecimal. */
 static size_t bytes_of(char *line) {
-    size_t len = strcspn(line, "\r\n");
-    if (len % 2 != 0 || strspn(line, "0123456789abcdefABCDEF") != len) {
-        return 0;
-    }
+    size_t len = strspn(line, "0123456789abcdefABCDEF");
     for (size_t i = 0; i < len / 2; i++) {
         char pair[3] = {line[2 * i], line[2 * i + 1], '\0'};
         line[i] = (char)strtoul(pair, NULL, 16);
     }
-    return len / 2;
+    return len % 2 == 0 && strchr("\r\n", line[len]) != NULL ? len / 2 : 0;
 }
 
 int main(int argc, char **argv) {
     static char line[2 * 65536 + 2];
     uint8_t *datagram = (uint8_t *)line;
-    if (argc != 4) {
-        return 2;
-    }
-    uint64_t microseconds = strtoull(argv[3], NULL, 10) * 1000000;
-    uint16_t offset = 0; /* of the numbers, modulo 2^16 */
-    int is_first = 1;
     rtp_new_ids ids;
+    rtp_packet packet;
     rtp_new_ids_between(&PUBLISHER, &SUBSCRIBER, &ids);
-    while (fgets(line, sizeof line, stdin) != NULL) {
-        rtp_packet packet;
+    uint64_t microseconds = argc == 4 ? strtoull(argv[3], NULL, 10) * 1000000 : 0;
+    while (argc == 4 && fgets(line, sizeof line, stdin) != NULL) {
         size_t len = bytes_of(line);
-        if (rtp_packet_parse(datagram, len, &packet) != RTP_OK) {
-            continue;
-        }
-        if (is_first) {
-            offset = (uint16_t)(strtoul(argv[2], NULL, 10) - packet.sequence_number);
-            is_first = 0;
-        }
-        rtp_set_sequence_number(datagram, len, (uint16_t)(packet.sequence_number + offset));
-        if (forward(datagram, len, &ids, (uint32_t)strtoul(argv[1], NULL, 10), microseconds) == RTP_OK) {
+        if (rtp_packet_parse(datagram, len, &packet) == RTP_OK && forward(datagram, len, &ids, microseconds)) {
+            rtp_set_ssrc(datagram, len, (uint32_t)strtoul(argv[1], NULL, 10));
+            rtp_set_sequence_number(datagram, len, (uint16_t)(packet.sequence_number + strtol(argv[2], NULL, 10)));
             for (size_t i = 0; i < len; i++) {
                 printf("%02X", datagram[i]);
             }
@@ -71,5 +56,5 @@ int main(int argc, char **argv) {
             microseconds += 20000;
         }
     }
-    return ferror(stdin) || fflush(stdout) != 0;
+    return argc != 4 ? 2 : ferror(stdin) || fflush(stdout) != 0;
 }
