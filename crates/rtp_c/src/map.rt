@@ -127,7 +127,7 @@ fn put_words(lowest: &[u8], kinds: &mut KindsById)
 // Whether each number is 0.
 #[inline(always)]
 fn are_zeros(numbers: &[u8]) -> bool
-    ensures { IsTrue result → (i : ℕ) → i < length numbers.now → slice_index numbers.now i ≡ 0 }
+    ensures { IsTrue result ↔ ((i : ℕ) → i < length numbers.now → slice_index numbers.now i ≡ 0) }
 {
     let mut any = 0;
     for number in numbers {

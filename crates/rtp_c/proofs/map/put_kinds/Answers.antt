@@ -16,7 +16,7 @@ returns-then-are_zeros c =
     let has = subst (λ (at : ℕ). HasKindsTo numbers at slots) split.front_len (c.put_words.ensures numbers long low 2 split.front_len start) in
     HasKinds-whole numbers (16 + 240) slots (omega (arith, long))
     (HasKindsTo-zeros numbers 16 240 slots has
-    (λ i above below. zeros_from numbers _ 16 split.back (c.are_zeros.ensures c.if-are_zeros.true) i above (omega (arith, below, long, split.back_len))))
+    (λ i above below. zeros_from numbers _ 16 split.back (c.are_zeros.ensures.0 c.if-are_zeros.true) i above (omega (arith, below, long, split.back_len))))
 
 pub returns-else-are_zeros : goal.returns-else-are_zeros
 returns-else-are_zeros c =
