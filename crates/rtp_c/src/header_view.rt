@@ -1,12 +1,13 @@
 //! A whole header.
 
-ghost use Rattle.std.specs.Prelude.{◌≡◌, ◌≤◌, ◌-◌, ◌++◌, length, replicate};
+ghost use Rattle.std.specs.Prelude.{◌≡◌, ◌≤◌, ◌-◌, ◌++◌, length, replicate, IfNone};
+ghost use Rattle.rtp_values.specs.Values.{no_values};
 ghost use Rattle.rtp_wire.specs.Header.{header_of};
 ghost use Rattle.rtp_wire.specs.PartsOf.{parts_of};
 ghost use Rattle.rtp_c.specs.HeaderView.{IsViewOfHeader};
 
 use super::packet::flag_number;
-use super::values::{ValuesView, put_values};
+use super::values::{ValuesView, put_no_values, put_values};
 use rtp_values::ExtensionValues;
 use rtp_wire::{Csrcs, RtpPacket};
 
@@ -57,8 +58,10 @@ fn put_sources(sources: Csrcs<'_>, slots: &mut [u32; 15]) -> u8
 }
 
 // Puts what C is told of the packet's header, whose block gives these values.
+#[inline(always)]
 pub fn put_header(packet: &RtpPacket<'_>, values: &ExtensionValues, view: &mut HeaderView)
-    requires { length (parts_of packet.now).sources ≤ 15 }
+    requires sources { length (parts_of packet.now).sources ≤ 15 }
+    requires values { IfNone (parts_of packet.now).block (values.now ≡ no_values) }
     ensures { IsViewOfHeader (header_of (parts_of packet.now) values.now) view.new }
 {
     view.header_len = packet.header_len();
@@ -70,5 +73,8 @@ pub fn put_header(packet: &RtpPacket<'_>, values: &ExtensionValues, view: &mut H
     view.marker = flag_number(packet.marker());
     view.has_padding = flag_number(packet.has_padding());
     view.has_extension = flag_number(packet.has_extension());
-    put_values(values, &mut view.values);
+    match packet.form() {
+        Some(_) => put_values(values, &mut view.values),
+        None => put_no_values(&mut view.values),
+    }
 }

@@ -1,6 +1,6 @@
 //! Whole headers, read from bytes.
 
-ghost use Rattle.std.specs.Prelude.{◌≡◌, ◌≢◌, ◌⊎◌, ◌↔◌, IfOk, IfErr, OnOk, OnErr};
+ghost use Rattle.std.specs.Prelude.{◌≡◌, ◌≢◌, ◌⊎◌, ◌↔◌, IfNone, IfOk, IfErr, OnOk, OnErr};
 ghost use Rattle.rtp_values.specs.Values.{no_values};
 ghost use Rattle.rtp_ext.specs.ExtensionMap.{Slots};
 ghost use Rattle.rtp_wire.specs.Header.{header_of};
@@ -38,6 +38,7 @@ fn read_block(
         HasValues slots (parts_of packet.now).block values.new) }
     ensures memory { OnErr result ((slots : Slots) → HasKinds map.now.kind slots →
         BlockHasAllocation slots (parts_of packet.now).block) }
+    ensures without_block { IfNone (parts_of packet.now).block (values.new ≡ no_values) }
 {
     let Some(form) = packet.form() else {
         return Ok(());
@@ -59,6 +60,8 @@ fn read_packet<'a>(
     requires { values.old ≡ no_values }
     ensures found { IfOk result (λ packet.
         BeginsWith map.now.kind buf.now (header_of (parts_of packet) values.new)) }
+    ensures without_block { IfOk result (λ packet.
+        IfNone (parts_of packet).block (values.new ≡ no_values)) }
     ensures memory { IfErr result (λ status.
         status ≡ no_memory → TakesMemoryFrom map.now.kind buf.now) }
     ensures statuses { IfErr result (λ status.

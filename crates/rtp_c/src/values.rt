@@ -2,6 +2,7 @@
 
 ghost use Rattle.std.specs.Prelude.{◌≡◌, ◌≢◌, ◌⊎◌, Some};
 ghost use Rattle.rtp_ext.specs.declared.ext.form.ExtensionsForm.{ExtensionsForm};
+ghost use Rattle.rtp_values.specs.Values.{no_values};
 ghost use Rattle.rtp_c.specs.Status.{ok, bad_field, no_memory};
 ghost use Rattle.rtp_c.specs.PacketView.{form_number};
 ghost use Rattle.rtp_c.specs.ValuesView.{IsViewOfValues, IsReadAs, TakesMemoryIn};
@@ -20,7 +21,7 @@ use std::alloc::Global;
 
 /// A time as a number of ticks of a clock: `rtp_time` in C, 16 bytes. It is `ticks / hertz` seconds.
 #[repr(C)]
-#[derive(Clone, Copy)]
+#[derive(Clone, Copy, Default)]
 pub struct Time {
     /// How many ticks of the clock it is.
     pub ticks: u64,
@@ -31,7 +32,7 @@ pub struct Time {
 /// The values of a block's elements: `rtp_values` in C, 136 bytes. A value that is absent is 0. A
 /// text is ASCII letters, digits and underscores, and zeros end it.
 #[repr(C)]
-#[derive(Clone, Copy)]
+#[derive(Clone, Copy, Default)]
 pub struct ValuesView {
     /// When the packet left its sender, in microseconds modulo 64 seconds.
     pub send_time: u64,
@@ -124,6 +125,13 @@ pub fn put_values(values: &ExtensionValues, view: &mut ValuesView)
     view.encode_finish = timing.encode_finish;
     view.packetize_complete = timing.packetize_complete;
     view.last_left_pacer = timing.last_left_pacer;
+}
+
+// Puts that no value is there.
+pub fn put_no_values(view: &mut ValuesView)
+    ensures { IsViewOfValues no_values view.new }
+{
+    *view = ValuesView::default();
 }
 
 /// Reads the values that the elements of a block's body give under the map (RFC 8285, 4.2 and 4.3).

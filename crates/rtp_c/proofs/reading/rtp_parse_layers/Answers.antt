@@ -5,7 +5,7 @@ use Rattle.rtp_c.proofs.StatusLemmas.{NotAHeader-cause}
 use Rattle.rtp_c.proofs.reading.rtp_parse_layers.Goals as goal
 
 pub put_header-requires : goal.put_header-requires
-put_header-requires c = few_sources c.args.map.now.kind c.args.buf.now _ c.in-Ok.ensures.found
+put_header-requires c = record { sources = few_sources c.args.map.now.kind c.args.buf.now _ c.in-Ok.ensures.found; values = c.in-Ok.ensures.without_block }
 
 pub put_layers-requires : goal.put_layers-requires
 put_layers-requires c = few_layers c.args.map.now.kind c.args.buf.now _ c.in-Ok.ensures.found
