@@ -54,8 +54,8 @@ say "proving and building the library for $target, which takes minutes the first
 top=$(cd -- "$here/.." && pwd)
 log=$work/rt.log
 times=$work/times
-# shellcheck source=proving.sh
-. "$top/proving.sh"
+# shellcheck source=.ci/proving
+. "$top/.ci/proving"
 read -ra crates <<<"$(crates_of rtp_c)"
 : >"$log"
 if ! prove_all lib --target "$target"; then
