@@ -1,10 +1,13 @@
 //! A forwarder of packets.
 
-ghost use Rattle.std.specs.Prelude.{◌≡◌};
+ghost use Rattle.std.specs.Prelude.{◌≡◌, ◌↔◌, List, IsTrue, IfSome, All};
 ghost use Rattle.std.specs.Bool.{OnTrue, OnFalse};
 ghost use Rattle.rtp_ext.specs.ExtensionMap.{Slots};
-ghost use Rattle.rtp_ext.specs.NewIds.{AreNewIds};
+ghost use Rattle.rtp_ext.specs.Elements.{Element};
+ghost use Rattle.rtp_ext.specs.ElementsInPlace.{CanRenumber};
+ghost use Rattle.rtp_ext.specs.NewIds.{new_id, AreNewIds};
 ghost use Rattle.rtp_uses.specs.Forwarding.{IsForwarded};
+ghost use Rattle.rtp_wire.specs.PacketElements.{AreElementsOf};
 ghost use Rattle.rtp_wire.specs.PartsOf.{parts_in, buffer_of};
 
 use rtp_base::{SeqNo, Ssrc};
@@ -18,6 +21,9 @@ pub fn forward(packet: &mut RtpPacketMut<'_>, ssrc: Ssrc, number: SeqNo, ids: &N
     ensures forwarded { (from to : Slots) → AreNewIds from to ids.now → OnTrue result
         (IsForwarded from to ssrc number (parts_in packet.old) (parts_in packet.new)) }
     ensures unchanged { OnFalse result ((buffer_of packet.new).now ≡ (buffer_of packet.old).now) }
+    ensures answer { (elements : List Element) → AreElementsOf (parts_in packet.old).block elements →
+        IsTrue result ↔ IfSome (parts_in packet.old).block (λ block.
+        All (CanRenumber block.0 (new_id ids.now)) elements) }
 {
     if !packet.renumber(ids) {
         return false;

@@ -1,6 +1,6 @@
 //! Video layers allocations.
 
-ghost use Rattle.std.specs.Prelude.{◌≡◌, ◌<◌, ◌⊎◌, ◌++◌, length, drop, IfSome, IfNone, IfOk};
+ghost use Rattle.std.specs.Prelude.{◌≡◌, ◌<◌, ◌≤◌, ◌⊎◌, ◌++◌, length, drop, IfSome, IfNone, IfOk};
 ghost use Rattle.rtp_wire.specs.AllocationWritten.{Writable, trimmed, written_of};
 
 use rtp_wire::vla::{self, VideoLayersAllocation};
@@ -13,6 +13,9 @@ pub fn written_in(buf: &mut [u8], allocation: &VideoLayersAllocation) -> Option<
     ensures unchanged { IfNone result (buf.new ≡ buf.old) }
     ensures refused { IfNone result ((Writable allocation.now → ⊥)
         ⊎ (length buf.old < length (written_of allocation.now))) }
+    ensures writable { IfSome result (λ _. Writable allocation.now) }
+    ensures room { IfSome result (λ len. len ≤ length buf.old) }
+    ensures length { IfSome result (λ len. len ≡ length (written_of allocation.now)) }
 {
     let len = vla::checked_wire_len(allocation)?;
     if len > buf.len() {

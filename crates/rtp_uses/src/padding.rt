@@ -30,6 +30,8 @@ pub fn write_padding(
     ensures unchanged { IfNone result (out.new ≡ out.old) }
     ensures refused { IfNone result (
         length out.old < length (wire_bytes exts.now header.new) + 240) }
+    ensures room { IfSome result (λ _.
+        length (wire_bytes exts.now header.new) + 240 ≤ length out.old) }
 {
     header.has_padding = true;
     if out.len() < header.wire_len(exts) + MAX_BLANK_PADDING_PAYLOAD_SIZE {
@@ -70,6 +72,9 @@ pub fn payload_of_padding<'a>(
     ensures nothing { IfSome result (λ payload. payload.now ≡ []) }
     ensures found { length (wire_bytes exts.now (record header.old { has_padding = true })) + 240
         ≤ length out.old → IsSome result }
+    ensures room { IfSome result (λ _.
+        length (wire_bytes exts.now (record header.old { has_padding = true })) + 240
+        ≤ length out.old) }
 {
     let end = write_padding(header, exts, pad_len, block_size, out)?;
     unpad_payload(&out[header.wire_len(exts)..end])

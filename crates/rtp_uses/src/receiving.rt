@@ -45,6 +45,7 @@ pub fn receive_authentic<F: FnOnce(SeqNo) -> bool>(
         Holds receiver.old count numbers →
         IsTrueNumber count numbers sequence_number number →
         IfSome result (λ n. n ≡ number) }
+    ensures unchanged { IfNone result (receiver.new ≡ receiver.old) }
 {
     let number = receiver.number_of(sequence_number);
     if !receiver.accepts(number) || !is_authentic(number) {
@@ -79,6 +80,8 @@ pub fn receive_datagram(receivers: &mut Receivers, datagram: &[u8]) -> Result<Ve
         IfOk result (λ verdict. (number : ℕ)
         × IsNumberOf count taken parts.sequence_number number × IsJudged taken number verdict) }
     ensures unreadable { NotAHeader datagram.now → result ≡ Ok Unreadable }
+    ensures same { NotAHeader datagram.now → receivers.new ≡ receivers.old }
+    ensures refused { OnErr result (receivers.new ≡ receivers.old) }
     ensures succeeds { (parts : PacketParts) → IsPacket datagram.now parts →
         IsSome (receiver_of receivers.old parts.ssrc) → IsOk result }
 {

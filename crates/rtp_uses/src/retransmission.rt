@@ -1,6 +1,6 @@
 //! Retransmissions (RFC 4588).
 
-ghost use Rattle.std.specs.Prelude.{◌≡◌, ◌↔◌, ◌+◌, ◌%◌, ◌<◌, ◌≤◌, ◌++◌, ℕ, List, length, drop, IfSome, IfNone, IsSomeAnd};
+ghost use Rattle.std.specs.Prelude.{◌≡◌, ◌↔◌, ◌+◌, ◌%◌, ◌<◌, ◌≤◌, ◌++◌, ℕ, List, length, drop, IfSome, IfNone, IsNone, IsSomeAnd};
 ghost use Rattle.rtp_wire.specs.OriginalNumber.{HasOriginalNumber};
 ghost use Rattle.rtp_wire.specs.Written.{wire_bytes};
 ghost use Rattle.rtp_uses.specs.Retransmission.{retransmission_bytes};
@@ -28,8 +28,8 @@ pub fn retransmit(
     ensures length { IfSome result (λ len.
         len ≡ length (wire_bytes exts.now header.now) + 2 + length payload.now) }
     ensures unchanged { IfNone result (out.new ≡ out.old) }
-    ensures refused { IfNone result (
-        length out.old < length (wire_bytes exts.now header.now) + 2 + length payload.now) }
+    ensures refused { IsNone result
+        ↔ (length out.old < length (wire_bytes exts.now header.now) + 2 + length payload.now) }
 {
     if out.len() < header.wire_len(exts) + 2 + payload.len() {
         return None;
