@@ -197,7 +197,9 @@ pub extern "C" fn rtp_map_get(map: &KindsOfIds, id: u8) -> u8
 /// video orientation.
 #[unsafe(no_mangle)]
 pub extern "C" fn rtp_map_standard(map: &mut KindsOfIds)
-    ensures { IsStandard map.new.kind }
+    ensures standard { IsStandard map.new.kind }
+    ensures kinds { (id : ℕ) → slice_index map.new.kind id ≤ last_number }
+    ensures first { slice_index map.new.kind 0 ≡ 0 }
 {
     let mut numbers = [0; 256];
     numbers[1] = number_of(KnownKind::AudioLevel);

@@ -1,11 +1,13 @@
 //! The numbers of one stream: widened, and judged by a replay window.
 
 ghost use Rattle.std.specs.Prelude.{◌≡◌, ◌≢◌, ◌↔◌, ◌^◌, ◌<◌, ◌≤◌, ℕ, IsTrue, Some};
-ghost use Rattle.rtp_base.specs.Window.{Numbers, including};
+ghost use Rattle.rtp_base.specs.Bitmap.{bits_of};
+ghost use Rattle.rtp_base.specs.Window.{Numbers, WindowState, including};
 ghost use Rattle.rtp_wire.specs.Receiver.{Holds, IsNothing, IsNumberOf, IsFresh};
+ghost use Rattle.rtp_wire.specs.declared.receive.state.ReceiverState.TheVariants.{Start, Window};
 ghost use Rattle.rtp_wire.specs.Widening.{Extends};
 ghost use Rattle.rtp_c.specs.Status.{ok, bad_field, refused};
-ghost use Rattle.rtp_c.specs.StoredReceiver.{HoldsNumbers};
+ghost use Rattle.rtp_c.specs.StoredReceiver.{HoldsNumbers, IsWindowOf, IsStarted, IsStored, HasHalves, unstarted, stored_again};
 ghost use Rattle.rtp_c.specs.Judging.{IsJudgedAs, IsJudgedBy};
 
 use super::status::{BAD_FIELD, OK, REFUSED};
@@ -38,6 +40,9 @@ fn receiver_of(stored: &StoredReceiver) -> Receiver
     ensures only { (count : ℕ) (taken : Numbers) → Holds result count taken →
         HoldsNumbers stored.now count taken }
     ensures some { (count : ℕ) × (taken : Numbers) × Holds result count taken }
+    ensures window { 0 < stored.now.started →
+        (window : WindowState) × (result ≡ Window window) × IsWindowOf stored.now window }
+    ensures fits { 0 < stored.now.started → HasHalves stored.now }
 {
     if stored.started == 0 {
         return Receiver::starting_at(stored.highest / 65_536);
@@ -48,8 +53,11 @@ fn receiver_of(stored: &StoredReceiver) -> Receiver
 
 // Stores the receiver.
 fn store(receiver: &Receiver, stored: &mut StoredReceiver)
-    ensures { (count : ℕ) (taken : Numbers) → Holds receiver.now count taken →
+    ensures held { (count : ℕ) (taken : Numbers) → Holds receiver.now count taken →
         HoldsNumbers stored.new count taken }
+    ensures start { (count : ℕ) → receiver.now ≡ Start count → stored.new ≡ unstarted count }
+    ensures window { (window : WindowState) → receiver.now ≡ Window window →
+        IsStored window stored.new }
 {
     let Some(window) = receiver.window() else {
         *stored = StoredReceiver {
@@ -105,6 +113,7 @@ fn take_apart(receiver: &mut StoredReceiver, number: u64, written: &mut u64) -> 
 pub extern "C" fn rtp_receiver_start(receiver: &mut StoredReceiver, rollover_count: u64) -> i32
     ensures started { rollover_count < 2 ^ 48 → (taken : Numbers) → IsNothing taken →
         HoldsNumbers receiver.new rollover_count taken }
+    ensures stored { rollover_count < 2 ^ 48 → receiver.new ≡ unstarted rollover_count }
     ensures done { rollover_count < 2 ^ 48 → result ≡ ok }
     ensures too_high { 2 ^ 48 ≤ rollover_count → result ≡ bad_field }
     ensures unchanged { result ≢ ok → receiver.new ≡ receiver.old }
@@ -148,6 +157,9 @@ pub extern "C" fn rtp_receiver_record(receiver: &mut StoredReceiver, number: u64
         HoldsNumbers receiver.new count (including taken number) }
     ensures same { (count : ℕ) (taken : Numbers) → HoldsNumbers receiver.old count taken →
         (IsFresh taken number → ⊥) → HoldsNumbers receiver.new count taken }
+    ensures started { IsStarted receiver.new }
+    ensures refused { (count : ℕ) (taken : Numbers) → HoldsNumbers receiver.old count taken →
+        (IsFresh taken number → ⊥) → receiver.new ≡ stored_again receiver.old }
 {
     let mut changed = receiver_of(receiver);
     changed.record(SeqNo::from(number));
