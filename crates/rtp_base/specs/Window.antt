@@ -35,6 +35,15 @@ pub record Keeps (window : WindowState) (taken : Numbers) : Type 0 where
   pub recorded : (n : ℕ) → n ≤ window.greatest → window.greatest < n + window_size
       → slice_index_or window.recorded (window.greatest - n) false ≡ taken n
 
+-- each index past the greatest number, where there is no number left, shows this
+abbrev pub ShowsBelowZero : WindowState → Bool → Type 0
+ShowsBelowZero window shown = (index : ℕ) → window.greatest < index → index < window_size → slice_index_or window.recorded index false ≡ shown
+
+-- each index past the greatest number shows what was shown as far past the greatest number before
+abbrev pub StaysBelowZero : WindowState → WindowState → Type 0
+StaysBelowZero old new = (index : ℕ) → new.greatest < index → index < window_size
+    → slice_index_or new.recorded index false ≡ slice_index_or old.recorded (index - (new.greatest - old.greatest)) false
+
 -- a number that may still be taken: it is above the greatest, or less than 128 below it and not in the set
 pub record Accepts (taken : Numbers) (number : ℕ) : Type 0 where
   pub greatest : ℕ

@@ -1,7 +1,7 @@
 //! The replay window: which packets of a stream were recorded, near the greatest number.
 
 ghost use Rattle.std.specs.Prelude.{◌≡◌, ℕ, ◌-◌, ◌<◌, ◌≤◌, ◌↔◌, Bool, true, false, ◌||◌, ◌==◌, slice_index_or, IsTrue};
-ghost use Rattle.rtp_base.specs.Window.{Numbers, WindowState, only, up_to, including, IsGreatest, Keeps, Accepts};
+ghost use Rattle.rtp_base.specs.Window.{Numbers, WindowState, only, up_to, including, IsGreatest, Keeps, ShowsBelowZero, StaysBelowZero, Accepts};
 ghost use Rattle.rtp_base.specs.Bitmap.{bits_of};
 
 use crate::id::SeqNo;
@@ -94,7 +94,8 @@ impl SeqNoWindow {
     /// Returns a window in which this number alone is recorded. The numbers before it may still
     /// come.
     pub fn new(seq: SeqNo) -> Self
-        ensures { Keeps result (only seq) }
+        ensures kept { Keeps result (only seq) }
+        ensures below_zero { ShowsBelowZero result false }
     {
         SeqNoWindow {
             greatest: seq.get(),
@@ -105,7 +106,8 @@ impl SeqNoWindow {
     /// Returns a window in which this number and every number below it are recorded: only greater
     /// ones are accepted. It is for a receiver that goes on from a remembered number.
     pub fn new_after(seq: SeqNo) -> Self
-        ensures { Keeps result (up_to seq) }
+        ensures kept { Keeps result (up_to seq) }
+        ensures below_zero { ShowsBelowZero result true }
     {
         SeqNoWindow {
             greatest: seq.get(),
@@ -144,6 +146,8 @@ impl SeqNoWindow {
     /// Returns the window taken apart, so that it can be stored and put together again by
     /// [`from_parts`](Self::from_parts): the greatest recorded number, and for each i from 0 to 127
     /// in bit i of the other number, from the lowest up, whether the greatest minus i is recorded.
+    /// Where the greatest is less than i, bit i stands for no number: it is clear in a window of
+    /// [`new`](Self::new), set in one of [`new_after`](Self::new_after), and moves with the others.
     pub fn parts(&self) -> (SeqNo, u128)
         ensures greatest { result.0 ≡ self.now.greatest }
         ensures recorded { bits_of result.1 ≡ self.now.recorded }
@@ -181,6 +185,7 @@ impl SeqNoWindow {
             Keeps self.new (including taken seq) }
         ensures unchanged { (taken : Numbers) → Keeps self.old taken →
             (Accepts taken seq → ⊥) → self.new ≡ self.old }
+        ensures below_zero { StaysBelowZero self.old self.new }
     {
         self.take(seq);
     }
@@ -193,6 +198,7 @@ impl SeqNoWindow {
         ensures recorded { (taken : Numbers) → Keeps self.old taken →
             IsTrue result → Keeps self.new (including taken seq) }
         ensures refused { result ≡ false → self.new ≡ self.old }
+        ensures below_zero { StaysBelowZero self.old self.new }
     {
         let number = seq.get();
         if number > self.greatest {

@@ -1,5 +1,5 @@
 -- The last element of an id, and its place.
-use Rattle.std.proofs.Common.{◌≡◌, ◌≢◌, ℕ, ◌-◌, List, [], ◌∷◌, ◌++◌, length, drop, replicate, Option, Some, None, IfSome, IfNone, append_assoc, length-append, arith, refl, sym, ap, ◌∙◌, subst}
+use Rattle.std.proofs.Common.{◌≡◌, ◌≢◌, ℕ, ◌-◌, ◌≤◌, List, [], ◌∷◌, ◌++◌, length, drop, replicate, Option, Some, None, IfSome, IfNone, append_assoc, length-append, arith, refl, sym, ap, ◌∙◌, subst}
 use Rattle.std.proofs.lemmas.List.{append-nil, drop_at, length-replicate}
 use Rattle.std.proofs.lemmas.List.Elements.{All-nil, All-cons, All-append, All-contains, Contains-append_right}
 use Rattle.rtp_ext.specs.declared.ext.form.ExtensionsForm.{ExtensionsForm}
@@ -10,10 +10,10 @@ use Rattle.rtp_ext.specs.Elements.{Element, IsElement, element_bytes, AreElement
 use Rattle.rtp_ext.specs.ElementReading.{BeginsWithNone}
 use Rattle.rtp_ext.specs.ElementWriting.{header_bytes}
 use Rattle.rtp_ext.specs.ElementsInPlace.{HasNone, HasLast, HasLastOf, SetsLast}
-use Rattle.rtp_ext.specs.Places.{IsNextPlace, AreWhole, IsLastPlace, IsLastOrNone, IsPassed}
+use Rattle.rtp_ext.specs.Places.{LiesAt, IsNextPlace, AreWhole, IsLastPlace, LiesLast, IsLastOrNone, IsPassed}
 use Rattle.rtp_ext.proofs.ElementLemmasOfBodies.{AreElements-only}
-use Rattle.rtp_ext.proofs.PlaceLemmas.{element_bytes-split, overwritten-at, passed_next, end_next}
-use Rattle.rtp_ext.proofs.PieceLemmas.{AreWhole-nil, AreWhole-append, AreElements-after, AreWhole-next, AreElements-none}
+use Rattle.rtp_ext.proofs.PlaceLemmas.{element_bytes-split, length-lies, overwritten-at, passed_next, end_next}
+use Rattle.rtp_ext.proofs.PieceLemmas.{AreWhole-nil, AreWhole-zeros, AreWhole-append, AreElements-after, AreWhole-next, AreElements-none}
 
 -- a body has one list of elements
 pub AreElements-same : (form : ExtensionsForm) (body : List ℕ) (xs ys : List Element) → AreElements form body xs → AreElements form body ys → xs ≡ ys
@@ -84,6 +84,55 @@ IsLastPlace-this form body passed at place elements at_is whole next =
           (AreWhole-next form next.padding (place.id, others) (IsElement-others form place.id next.bytes others as_many next.is_element)));
     }
 
+-- the same of the element that lies there
+LiesLast-other : (form : ExtensionsForm) (id : ℕ) (bytes more : List ℕ) (place : Place) (element : Element) → LiesLast form (AreWhole form) id bytes place
+    → AreWhole form more (element ∷ []) → element.0 ≢ id → LiesLast form (AreWhole form) id (bytes ++ more) place
+LiesLast-other form id bytes more place element is next other =
+    let here : List ℕ = element_bytes form (place.id, is.lies.bytes) in
+    record {
+      lies = record {
+        front = is.lies.front;
+        bytes = is.lies.bytes;
+        after = is.lies.after ++ more;
+        is_element = is.lies.is_element;
+        body_is = ap (λ b. b ++ more) is.lies.body_is
+            ∙ (append_assoc is.lies.front (here ++ is.lies.after) more ∙ ap (λ b. is.lies.front ++ b) (append_assoc here is.lies.after more));
+        start_is = is.lies.start_is;
+        data_is = is.lies.data_is;
+        end_is = is.lies.end_is;
+      };
+      before = is.before;
+      after = is.after ++ element ∷ [];
+      whole = is.whole;
+      left = AreWhole-append form is.lies.after more is.after (element ∷ []) is.left next;
+      last = All-append (λ (e : Element). e.0 ≢ id) is.after (element ∷ []) is.last
+          (All-cons (λ (e : Element). e.0 ≢ id) element [] other (All-nil (λ (e : Element). e.0 ≢ id)));
+    }
+
+LiesLast-this : (form : ExtensionsForm) (body passed : List ℕ) (at : ℕ) (place : Place) (elements : List Element) → at ≡ length passed → AreWhole form passed elements
+    → (next : IsNextPlace form body at place) → LiesLast form (AreWhole form) place.id (passed ++ (replicate next.padding 0 ++ element_bytes form (place.id, next.bytes))) place
+LiesLast-this form body passed at place elements at_is whole next =
+    let zeros : List ℕ = replicate next.padding 0 in
+    let here : List ℕ = element_bytes form (place.id, next.bytes) in
+    record {
+      lies = record {
+        front = passed ++ zeros;
+        bytes = next.bytes;
+        after = [];
+        is_element = next.is_element;
+        body_is = sym (append_assoc passed zeros here) ∙ ap (λ b. (passed ++ zeros) ++ b) (sym (append-nil here));
+        start_is = omega (arith, next.start_is, length-append passed zeros, length-replicate {A = ℕ} next.padding 0);
+        data_is = next.data_is;
+        end_is = next.end_is;
+      };
+      before = elements;
+      after = [];
+      whole = subst (AreWhole form (passed ++ zeros)) (append-nil elements)
+          (AreWhole-append form passed zeros elements [] whole (AreWhole-zeros form next.padding));
+      left = AreWhole-nil form;
+      last = All-nil (λ (e : Element). e.0 ≢ place.id);
+    }
+
 -- from the front of a body on
 pub IsPassed-start : (form : ExtensionsForm) (body : List ℕ) (id : ℕ) → IsPassed form body 0 id None
 IsPassed-start form body id = record {
@@ -100,7 +149,8 @@ IsLastOrNone-other : (form : ExtensionsForm) (id : ℕ) (bytes more : List ℕ) 
     → IsLastOrNone form id bytes elements last → AreWhole form more (element ∷ []) → element.0 ≢ id → IsLastOrNone form id (bytes ++ more) (elements ++ element ∷ []) last
 IsLastOrNone-other form id bytes more elements None element is next other =
     All-append (λ (e : Element). e.0 ≢ id) elements (element ∷ []) is (All-cons (λ (e : Element). e.0 ≢ id) element [] other (All-nil (λ (e : Element). e.0 ≢ id)))
-IsLastOrNone-other form id bytes more elements (Some place) element is next other = IsLastPlace-other form id bytes more place element is next other
+IsLastOrNone-other form id bytes more elements (Some place) element is next other =
+    (IsLastPlace-other form id bytes more place element is.0 next other, is.1, LiesLast-other form id bytes more place element is.2 next other)
 
 passed_by : (form : ExtensionsForm) (body : List ℕ) (at id : ℕ) (last now : Option Place) (place : Place) (was : IsPassed form body at id last) (next : IsNextPlace form body at place)
     → IsLastOrNone form id (was.passed ++ (replicate next.padding 0 ++ element_bytes form (place.id, next.bytes))) (was.elements ++ (place.id, next.bytes) ∷ []) now
@@ -126,9 +176,12 @@ IsPassed-other form body at id last place was next other =
 pub IsPassed-this : (form : ExtensionsForm) (body : List ℕ) (at id : ℕ) (last : Option Place) (place : Place) → IsPassed form body at id last → IsNextPlace form body at place
     → place.id ≡ id → IsPassed form body place.end id (Some place)
 IsPassed-this form body at id last place was next this =
-    passed_by form body at id last (Some place) place was next
-    (subst (λ k. IsLastPlace (AreWhole form) k (was.passed ++ (replicate next.padding 0 ++ element_bytes form (place.id, next.bytes))) place) this
-    (IsLastPlace-this form body was.passed at place was.elements was.at_is was.are_whole next))
+    let bytes : List ℕ = was.passed ++ (replicate next.padding 0 ++ element_bytes form (place.id, next.bytes)) in
+    passed_by form body at id last (Some place) place was next (
+      subst (λ k. IsLastPlace (AreWhole form) k bytes place) this (IsLastPlace-this form body was.passed at place was.elements was.at_is was.are_whole next),
+      this,
+      subst (λ k. LiesLast form (AreWhole form) k bytes place) this (LiesLast-this form body was.passed at place was.elements was.at_is was.are_whole next),
+    )
 
 -- where reading ends
 ended_left : (form : ExtensionsForm) (body : List ℕ) (at id : ℕ) (last : Option Place) (was : IsPassed form body at id last) → BeginsWithNone form (drop at body) → AreElements form was.left []
@@ -139,7 +192,7 @@ pub IsPassed-found : (form : ExtensionsForm) (body : List ℕ) (at id : ℕ) (la
     → IfSome last (IsLastPlace (AreElements form) id body)
 IsPassed-found form body at id None was none = tt
 IsPassed-found form body at id (Some place) was none =
-    let is : IsLastPlace (AreWhole form) id was.passed place = was.last_is in
+    let is : IsLastPlace (AreWhole form) id was.passed place = was.last_is.0 in
     record {
       front = is.front;
       was = is.was;
@@ -158,6 +211,52 @@ IsPassed-found form body at id (Some place) was none =
           (AreElements-after form (is.front ++ (others ++ is.rest)) was.left (is.before ++ (id, others) ∷ is.after) [] (is.set others as_many)
           (ended_left form body at id (Some place) was none)));
     }
+
+pub IsPassed-id : (form : ExtensionsForm) (body : List ℕ) (at id : ℕ) (last : Option Place) → IsPassed form body at id last → IfSome last (λ place. place.id ≡ id)
+IsPassed-id form body at id None was = tt
+IsPassed-id form body at id (Some place) was = was.last_is.1
+
+pub IsPassed-lies : (form : ExtensionsForm) (body : List ℕ) (at id : ℕ) (last : Option Place) → IsPassed form body at id last → BeginsWithNone form (drop at body)
+    → IfSome last (LiesLast form (AreElements form) id body)
+IsPassed-lies form body at id None was none = tt
+IsPassed-lies form body at id (Some place) was none =
+    let is : LiesLast form (AreWhole form) id was.passed place = was.last_is.2 in
+    let here : List ℕ = element_bytes form (place.id, is.lies.bytes) in
+    record {
+      lies = record {
+        front = is.lies.front;
+        bytes = is.lies.bytes;
+        after = is.lies.after ++ was.left;
+        is_element = is.lies.is_element;
+        body_is = was.body_is ∙ (ap (λ b. b ++ was.left) is.lies.body_is
+            ∙ (append_assoc is.lies.front (here ++ is.lies.after) was.left ∙ ap (λ b. is.lies.front ++ b) (append_assoc here is.lies.after was.left)));
+        start_is = is.lies.start_is;
+        data_is = is.lies.data_is;
+        end_is = is.lies.end_is;
+      };
+      before = is.before;
+      after = is.after;
+      whole = is.whole;
+      left = subst (AreElements form (is.lies.after ++ was.left)) (append-nil is.after)
+          (AreElements-after form is.lies.after was.left is.after [] is.left (ended_left form body at id (Some place) was none));
+      last = is.last;
+    }
+
+LiesAt-within : (form : ExtensionsForm) (body : List ℕ) (place : Place) → LiesAt form body place → place.end ≤ length body
+LiesAt-within form body place lies =
+    omega (
+      arith,
+      length-lies form body place lies,
+      lies.start_is,
+      ap length lies.body_is,
+      length-append lies.front (element_bytes form (place.id, lies.bytes) ++ lies.after),
+      length-append (element_bytes form (place.id, lies.bytes)) lies.after,
+    )
+
+pub lies-within : (form : ExtensionsForm) (id : ℕ) (body : List ℕ) (last : Option Place) → IfSome last (LiesLast form (AreElements form) id body)
+    → IfSome last (λ place. place.end ≤ length body)
+lies-within form id body None is = tt
+lies-within form id body (Some place) is = LiesAt-within form body place is.lies
 
 pub IsPassed-none : (form : ExtensionsForm) (body : List ℕ) (at id : ℕ) (last : Option Place) → IsPassed form body at id last → BeginsWithNone form (drop at body)
     → (elements : List Element) → AreElements form body elements → IfNone last (HasNone elements id)

@@ -3,7 +3,8 @@ use Rattle.std.specs.Prelude.{◌≡◌, ℕ, ◌+◌, List, ◌∷◌, ◌++◌
 use Rattle.std.specs.List.{AllByRecursion, flat_map, filter_map}
 use Rattle.rtp_ext.specs.declared.ext.form.ExtensionsForm.{ExtensionsForm}
 use Rattle.rtp_ext.specs.declared.ext.place.Place.{Place}
-use Rattle.rtp_ext.specs.Elements.{Element, IsElement, element_bytes, IsPiece, piece_bytes}
+use Rattle.rtp_base.specs.Overwriting.{overwritten}
+use Rattle.rtp_ext.specs.Elements.{Element, IsElement, element_bytes, IsPiece, piece_bytes, AreElements}
 use Rattle.rtp_ext.specs.ElementWriting.{header_bytes}
 use Rattle.rtp_ext.specs.ElementsInPlace.{HasNone}
 
@@ -50,10 +51,28 @@ pub record IsLastPlace (AreOf : List ℕ → List Element → Type 0) (id : ℕ)
   pub last : HasNone after id
   pub set : (others : List ℕ) → length others ≡ length was → AreOf (front ++ (others ++ rest)) (before ++ (id, others) ∷ after)
 
+-- an element lies at the place: the bytes before it are whole pieces, and in those after it is no element of the id
+pub record LiesLast (form : ExtensionsForm) (AreOf : List ℕ → List Element → Type 0) (id : ℕ) (bytes : List ℕ) (place : Place) : Type 0 where
+  pub lies : LiesAt form bytes place
+  pub before : List Element
+  pub after : List Element
+  pub whole : AreWhole form lies.front before
+  pub left : AreOf lies.after after
+  pub last : HasNone after id
+
+-- these data stand in place of those of the last element of the id, and all other bytes stay
+pub record WritesLast (form : ExtensionsForm) (id : ℕ) (bytes old new : List ℕ) : Type 0 where
+  pub place : Place
+  pub id_is : place.id ≡ id
+  pub lies : LiesLast form (AreElements form) id old place
+  pub end_is : place.end ≡ place.data_start + length bytes
+  pub new_is : new ≡ overwritten old place.data_start bytes
+
 -- the place of the last element of the id in whole pieces with these elements, or that there is none
 abbrev pub IsLastOrNone : ExtensionsForm → ℕ → List ℕ → List Element → Option Place → Type 0
 IsLastOrNone form id bytes elements None = HasNone elements id
-IsLastOrNone form id bytes elements (Some place) = IsLastPlace (AreWhole form) id bytes place
+IsLastOrNone form id bytes elements (Some place) =
+    IsLastPlace (AreWhole form) id bytes place × (place.id ≡ id) × LiesLast form (AreWhole form) id bytes place
 
 -- a body up to an offset, and the place of the last element of the id there
 pub record IsPassed (form : ExtensionsForm) (body : List ℕ) (at id : ℕ) (last : Option Place) : Type 0 where

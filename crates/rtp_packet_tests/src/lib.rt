@@ -4,6 +4,8 @@
 #[cfg(test)]
 mod checks;
 #[cfg(test)]
+mod debug_texts;
+#[cfg(test)]
 mod packet_ends;
 #[cfg(test)]
 mod packets;

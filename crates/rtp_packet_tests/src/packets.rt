@@ -60,9 +60,12 @@ fn sources(rt: HostRuntime) {
     same(&rt, "how many", csrc.len(), 3);
     for (index, wanted) in [100, 0x1234_5678, 0xFFFF_FFFF].iter().enumerate() {
         same(&rt, index, csrc.next(), Some(*wanted));
-        same(&rt, index, csrc.len(), 2_usize.wrapping_sub(index));
+        let left = 2_usize.wrapping_sub(index);
+        same(&rt, index, csrc.len(), left);
+        same(&rt, index, csrc.size_hint(), (left, Some(left)));
     }
     same(&rt, "the end", csrc.next(), None);
+    same(&rt, "none left", csrc.size_hint(), (0, Some(0)));
 }
 
 // The fixed part with a count of 15, and the sources 0x10 to 0x1E.

@@ -69,18 +69,40 @@ bede000310aa3101024278596aa0780001020304";
     are(&rt, rt.alloc(), "all", packet.into_datagram(), wanted);
 }
 
+// Bytes that are no packet, and the cause: each of the six, in the order in which they are looked for.
+const REFUSED: [(&str, NotAPacket); 6] = [
+    ("8021b79800002710aabbcc", NotAPacket::CutFixedPart),
+    ("4021b798000027100000002c7e", NotAPacket::OtherVersion),
+    (
+        "8221b798000027100000002c11223344556677",
+        NotAPacket::CutSources,
+    ),
+    (
+        "9021b798000027100000002cbede00",
+        NotAPacket::CutBlockHeader,
+    ),
+    (
+        "9021b798000027100000002cabcd0000",
+        NotAPacket::UnknownForm,
+    ),
+    (
+        "9121b798000027100000002c01020304bede000110aa31",
+        NotAPacket::CutBlock,
+    ),
+];
+
+// A buffer is refused for this cause, and has the bytes that it had.
+fn is_refused(rt: &impl Abort, alloc: Global, old: &str, cause: NotAPacket) {
+    let mut bytes = bytes_of(rt, alloc, old);
+    same(rt, old, RtpPacketMut::parse(&mut bytes).err(), Some(cause));
+    are(rt, alloc, old, &bytes, old);
+}
+
 #[test]
 fn refused(rt: HostRuntime) {
-    let mut bytes = bytes_of(&rt, rt.alloc(), "9021b798000027100000002cabcd0000");
-    let cause = RtpPacketMut::parse(&mut bytes).err();
-    same(&rt, "cause", cause, Some(NotAPacket::UnknownForm));
-    are(
-        &rt,
-        rt.alloc(),
-        "all",
-        &bytes,
-        "9021b798000027100000002cabcd0000",
-    );
+    for &(old, cause) in &REFUSED {
+        is_refused(&rt, rt.alloc(), old, cause);
+    }
 }
 
 // A body, an id and data, and the body with these data in the last element of the id: none where no

@@ -61,6 +61,19 @@ fn recorded(rt: HostRuntime) {
     stays(&rt, &receivers, SOURCES);
 }
 
+// What is given back for a source that is forgotten, and then for all: nothing is held at the end.
+#[test]
+fn forgotten(rt: HostRuntime) {
+    let mut receivers = Receivers::new(rt.alloc());
+    for source in 0..SOURCES {
+        receives(&rt, &mut receivers, source);
+    }
+    for source in 0..SOURCES {
+        holds(&rt, source, receivers.forget(Ssrc::from(source)).is_some());
+    }
+    holds(&rt, "none is left", receivers.is_empty());
+}
+
 // A plain header of the number 7 for each source.
 fn datagrams(alloc: Global) -> Result<Vec<Vec<u8>>, AllocError> {
     let mut datagrams = Vec::new(alloc);

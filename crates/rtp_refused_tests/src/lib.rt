@@ -8,6 +8,8 @@ mod refused_blocks;
 #[cfg(test)]
 mod refused_copies;
 #[cfg(test)]
+mod refused_held;
+#[cfg(test)]
 mod refused_never;
 #[cfg(test)]
 mod refused_never_numbers;

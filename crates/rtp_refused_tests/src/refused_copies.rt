@@ -9,7 +9,7 @@ use std::alloc::Global;
 use std::process::Abort;
 
 // The allocation, and the header that has it.
-fn allocation(rt: &impl Abort, alloc: Global) -> VideoLayersAllocation {
+pub(crate) fn allocation(rt: &impl Abort, alloc: Global) -> VideoLayersAllocation {
     let read = match vla::parse(alloc, &ALLOCATION) {
         Ok(read) => read,
         Err(_) => vla::parse(alloc, &ALLOCATION).expect(rt, "memory"),
@@ -17,7 +17,7 @@ fn allocation(rt: &impl Abort, alloc: Global) -> VideoLayersAllocation {
     read.expect(rt, "an allocation")
 }
 
-fn header(rt: &impl Abort, alloc: Global) -> RtpHeader {
+pub(crate) fn header(rt: &impl Abort, alloc: Global) -> RtpHeader {
     let read = match RtpHeader::parse(alloc, &PACKET, &map()) {
         Ok(read) => read,
         Err(_) => RtpHeader::parse(alloc, &PACKET, &map()).expect(rt, "memory"),

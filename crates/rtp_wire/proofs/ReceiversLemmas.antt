@@ -9,7 +9,7 @@ use Rattle.std.proofs.lemmas.Option.{none-some}
 use Rattle.rtp_base.specs.Window.{Numbers}
 use Rattle.rtp_wire.specs.declared.receive.state.ReceiverState.{ReceiverState}
 use Rattle.rtp_wire.specs.declared.receive.state.ReceiverState.TheVariants.{Start}
-use Rattle.rtp_wire.specs.Receiver.{Holds}
+use Rattle.rtp_wire.specs.Receiver.{Holds, StaysBelowZeroIn}
 use Rattle.rtp_wire.specs.Receivers.{ReceiverStates, receiver_of, state_of}
 use Rattle.rtp_wire.specs.Places.{past_the_end, held_at, held, ArePlaces}
 use Rattle.rtp_wire.proofs.PlacesLemmas.{held_of-place, held_of-found, held_of-none, ArePlaces-set, held-set_same, held-set_other}
@@ -51,6 +51,14 @@ module _ (rollover_count : ℕ) (places : BTreeMap ℕ ℕ) (list : List (ℕ ×
   Holds-new added none is count taken holds =
       subst (λ (state : ReceiverState). Holds state count taken) (ap (λ (o : Option ReceiverState). unwrap_or o (Start receivers.rollover_count)) (no_receiver none) ∙ sym is) holds
 
+  -- and it stays with the numbers below 0 that the source had
+  pub StaysBelowZeroIn-new : (made added : ReceiverState) (after : ReceiverStates) → get nat_cmp places source ≡ None → made ≡ Start receivers.rollover_count
+      → receiver_of after source ≡ Some added → StaysBelowZeroIn made added → StaysBelowZeroIn (state_of receivers source) (state_of after source)
+  StaysBelowZeroIn-new made added after none is now stays =
+      subst (λ (s : ReceiverState). StaysBelowZeroIn s (state_of after source))
+      (is ∙ sym (ap (λ (o : Option ReceiverState). unwrap_or o (Start receivers.rollover_count)) (no_receiver none)))
+      (subst (λ (s : ReceiverState). StaysBelowZeroIn made s) (sym (state_is after source added now)) stays)
+
   module _ (place : ℕ) (value : ℕ × ReceiverState) (are : ArePlaces places list) (is : get nat_cmp places source ≡ Some place) (read : value ≡ get_or list place value) where
     read_there : value ≡ get_or list place past_the_end
     read_there = read ∙ get_or_default list place value past_the_end (are.found source place is).0
@@ -76,6 +84,14 @@ module _ (rollover_count : ℕ) (places : BTreeMap ℕ ℕ) (list : List (ℕ ×
       pub Holds-written : (count : ℕ) (taken : Numbers) → Holds state count taken → Holds (state_of (seen rollover_count places (set list place (value.0, state))) source) count taken
       Holds-written count taken holds =
           subst (λ (s : ReceiverState). Holds s count taken) (sym (state_is (seen rollover_count places (set list place (value.0, state))) source state receiver_written)) holds
+
+      pub StaysBelowZeroIn-written : StaysBelowZeroIn value.1 state
+          → StaysBelowZeroIn (state_of receivers source) (state_of (seen rollover_count places (set list place (value.0, state))) source)
+      StaysBelowZeroIn-written stays =
+          subst (λ (s : ReceiverState). StaysBelowZeroIn s (state_of (seen rollover_count places (set list place (value.0, state))) source))
+          (sym (state_is receivers source value.1 receiver_read))
+          (subst (λ (s : ReceiverState). StaysBelowZeroIn value.1 s)
+          (sym (state_is (seen rollover_count places (set list place (value.0, state))) source state receiver_written)) stays)
 
       -- and the others have theirs
       pub others_written : (other : ℕ) → other ≢ source → receiver_of (seen rollover_count places (set list place (value.0, state))) other ≡ receiver_of receivers other

@@ -1,6 +1,6 @@
 -- What one stream's receiver holds, and its rule for a number (RFC 3711, 3.3.1 and 3.3.2).
 use Rattle.std.specs.Prelude.{◌≡◌, ℕ, ◌+◌, ◌*◌, ◌%◌, ◌⊎◌, false, Option, Some, None}
-use Rattle.rtp_base.specs.Window.{Numbers, IsGreatest, Keeps, Accepts, including}
+use Rattle.rtp_base.specs.Window.{Numbers, IsGreatest, Keeps, ShowsBelowZero, StaysBelowZero, Accepts, including}
 use Rattle.rtp_wire.specs.Widening.{IsNearest}
 use Rattle.rtp_wire.specs.declared.receive.state.ReceiverState.{ReceiverState}
 use Rattle.rtp_wire.specs.declared.receive.state.ReceiverState.TheVariants.{Start, Window}
@@ -20,6 +20,13 @@ IsHighest taken (Some highest) = IsGreatest taken highest
 abbrev pub Holds : ReceiverState → ℕ → Numbers → Type 0
 Holds (Start start) count taken = (start ≡ count) × IsNothing taken
 Holds (Window window) count taken = Keeps window taken
+
+-- of the numbers below 0 the window records none where it is new, and those that it recorded where it isn't
+abbrev pub StaysBelowZeroIn : ReceiverState → ReceiverState → Type 0
+StaysBelowZeroIn (Start start) (Start count) = start ≡ count
+StaysBelowZeroIn (Start start) (Window new) = ShowsBelowZero new false
+StaysBelowZeroIn (Window old) (Start count) = ⊥
+StaysBelowZeroIn (Window old) (Window new) = StaysBelowZero old new
 
 -- the extended sequence number that ends in these 16 bits: the nearest to the highest number, and where there is none the one of this rollover count
 abbrev pub ExtendsFrom : ℕ → Option ℕ → ℕ → ℕ → Type 0

@@ -4,6 +4,7 @@ ghost use Rattle.std.specs.Prelude.{◌≡◌, ◌↔◌, List, length, IsTrue, 
 ghost use Rattle.std.specs.Bool.{OnTrue, OnFalse};
 ghost use Rattle.rtp_ext.specs.Elements.{Element, AreElements};
 ghost use Rattle.rtp_ext.specs.ElementsInPlace.{HasNone, HasLast, HasLastOf, SetsLast};
+ghost use Rattle.rtp_ext.specs.Places.{WritesLast};
 ghost use Rattle.rtp_ext.specs.ExtensionMap.{Slots, extension_at, IsOnlyId};
 ghost use Rattle.rtp_ext.specs.BlockValues.{SaysValues};
 ghost use Rattle.rtp_values.specs.declared.kind.Extension.{Extension};
@@ -45,6 +46,7 @@ pub fn element_of(form: ExtensionsForm, body: &[u8], id: u8) -> Option<&[u8]>
 /// give `10 AA 21 BB CC 10 EE 00`.
 pub fn set_element(form: ExtensionsForm, body: &mut [u8], id: u8, data: &[u8]) -> bool
     ensures set { OnTrue result (SetsLast form id «data».now body.old body.new) }
+    ensures written { OnTrue result (WritesLast form id «data».now body.old body.new) }
     ensures unchanged { OnFalse result (body.new ≡ body.old) }
     ensures answer { (elements : List Element) → AreElements form body.old elements →
         IsTrue result ↔ HasLastOf elements id (length «data».now) }

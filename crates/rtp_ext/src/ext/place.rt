@@ -5,7 +5,7 @@ ghost use Rattle.rtp_ext.specs.declared.ext.form.ExtensionsForm.TheVariants.{One
 ghost use Rattle.rtp_ext.specs.Elements.{Element, AreElements};
 ghost use Rattle.rtp_ext.specs.ElementReading.{BeginsWithNone};
 ghost use Rattle.rtp_ext.specs.ElementsInPlace.{HasNone, bytes_under};
-ghost use Rattle.rtp_ext.specs.Places.{LiesAt, IsNextPlace, IsLastPlace};
+ghost use Rattle.rtp_ext.specs.Places.{LiesAt, IsNextPlace, IsLastPlace, LiesLast};
 
 use super::ExtensionsForm;
 use super::block_elements::{header_len, write_header};
@@ -51,6 +51,9 @@ pub fn next_place(form: ExtensionsForm, body: &[u8], at: usize) -> Option<Place>
 /// The place of the last element of the id in a block's body, and `None` where no element has it.
 pub fn last_place(form: ExtensionsForm, body: &[u8], id: u8) -> Option<Place>
     ensures found { IfSome result (IsLastPlace (AreElements form) id body.now) }
+    ensures id { IfSome result (λ place. place.id ≡ id) }
+    ensures lies { IfSome result (LiesLast form (AreElements form) id body.now) }
+    ensures within { IfSome result (λ place. place.end ≤ length body.now) }
     ensures none { (elements : List Element) → AreElements form body.now elements →
         IfNone result (HasNone elements id) }
 {

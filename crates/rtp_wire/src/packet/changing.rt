@@ -10,6 +10,7 @@ ghost use Rattle.rtp_ext.specs.Elements.{Element};
 ghost use Rattle.rtp_ext.specs.ElementsInPlace.{HasNone, HasLastOf, SetsLast, HasOtherIds, CanRenumber, renumbered, all_but};
 ghost use Rattle.rtp_ext.specs.ExtensionMap.{Slots, extension_at, IsOnlyId};
 ghost use Rattle.rtp_ext.specs.NewIds.{new_id, AreNewIds};
+ghost use Rattle.rtp_ext.specs.Places.{WritesLast};
 ghost use Rattle.rtp_ext.specs.WrittenBlock.{mapped_fields};
 ghost use Rattle.rtp_wire.specs.ChangedPacket.{ChangesBlock, ChangesOnlyBody};
 ghost use Rattle.rtp_wire.specs.PacketElements.{AreElementsOf, HasValues};
@@ -33,6 +34,8 @@ impl<'a> RtpPacketMut<'a> {
     pub fn set_element(&mut self, id: u8, data: &[u8]) -> bool
         ensures set { OnTrue result
             (ChangesBlock (λ form. SetsLast form id «data».now) (parts_in self.old) (parts_in self.new)) }
+        ensures written { OnTrue result
+            (ChangesBlock (λ form. WritesLast form id «data».now) (parts_in self.old) (parts_in self.new)) }
         ensures unchanged { OnFalse result ((buffer_of self.new).now ≡ (buffer_of self.old).now) }
         ensures bytes { ChangesOnlyBody (buffer_of self.old).now (buffer_of self.new).now }
         ensures answer { (elements : List Element) → AreElementsOf (parts_in self.old).block elements →

@@ -2,7 +2,7 @@
 
 ghost use Rattle.std.specs.Prelude.{◌≡◌, ◌↔◌, ◌^◌, ◌<◌, ◌/◌, ℕ, Option, Some, None, option_copied, IsTrue, false, if◌then◌else◌};
 ghost use Rattle.rtp_base.specs.Window.{Numbers, WindowState, including};
-ghost use Rattle.rtp_wire.specs.Receiver.{Holds, IsHighest, IsNumberOf, IsFresh, IsJudged, taken_after};
+ghost use Rattle.rtp_wire.specs.Receiver.{Holds, IsHighest, IsNumberOf, IsFresh, IsJudged, taken_after, StaysBelowZeroIn};
 ghost use Rattle.rtp_wire.specs.declared.receive.state.ReceiverState.TheVariants.{Start, Window};
 ghost use Rattle.rtp_wire.specs.Verdicts.{PacketId, IsPacketId, IsVerdict};
 ghost use Rattle.rtp_wire.specs.declared.receive.verdict.Verdict.TheVariants.{Refused};
@@ -160,6 +160,7 @@ impl Receiver {
             Holds self.new count (including taken number) }
         ensures unchanged { (count : ℕ) → (taken : Numbers) → Holds self.old count taken →
             (IsFresh taken number → ⊥) → self.new ≡ self.old }
+        ensures below_zero { StaysBelowZeroIn self.old self.new }
     {
         self.take(number);
     }
@@ -186,6 +187,7 @@ impl Receiver {
             Holds self.old count numbers →
             IsTrueNumber count numbers sequence_number number →
             Holds self.new count (including numbers number) }
+        ensures below_zero { StaysBelowZeroIn self.old self.new }
     {
         let number = self.number_of(sequence_number);
         if self.take(number) {
@@ -202,6 +204,7 @@ impl Receiver {
         ensures taken { (count : ℕ) → (taken : Numbers) → Holds self.old count taken →
             Holds self.new count (if result then including taken number else taken) }
         ensures refused { result ≡ false → self.new ≡ self.old }
+        ensures below_zero { StaysBelowZeroIn self.old self.new }
     {
         match &mut self.state {
             ReceiverState::Start(_) => {

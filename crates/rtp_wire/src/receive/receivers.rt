@@ -3,7 +3,7 @@
 ghost use Rattle.std.specs.Prelude.{◌≡◌, ◌≢◌, ◌↔◌, ◌+◌, ◌^◌, ◌<◌, ℕ, [], length, Option, Some, None, IsTrue, IsSome, IfSome, IfNone, IsOk, IfOk, OnOk, OnErr};
 ghost use Rattle.std.specs.Option.{option_copied};
 ghost use Rattle.rtp_base.specs.Window.{Numbers, including};
-ghost use Rattle.rtp_wire.specs.Receiver.{Holds, IsNumberOf, IsFresh, IsJudged, taken_after};
+ghost use Rattle.rtp_wire.specs.Receiver.{Holds, IsNumberOf, IsFresh, IsJudged, taken_after, StaysBelowZeroIn};
 ghost use Rattle.rtp_wire.specs.Receivers.{receiver_of, state_of};
 ghost use Rattle.rtp_wire.specs.Verdicts.{PacketId, IsPacketId, IsVerdict};
 ghost use Rattle.rtp_wire.specs.declared.receive.verdict.Verdict.TheVariants.{Refused};
@@ -167,6 +167,8 @@ impl Receivers {
         ensures others { (source : ℕ) → source ≢ ssrc →
             receiver_of self.new source ≡ receiver_of self.old source }
         ensures count { self.new.rollover_count ≡ self.old.rollover_count }
+        ensures below_zero { OnOk result
+            (StaysBelowZeroIn (state_of self.old ssrc) (state_of self.new ssrc)) }
         ensures refused { OnErr result (self.new ≡ self.old) }
         ensures memory { OnErr result (receiver_of self.old ssrc ≡ None) }
 
@@ -223,6 +225,8 @@ impl Receivers {
         ensures others { (source : ℕ) → source ≢ ssrc →
             receiver_of self.new source ≡ receiver_of self.old source }
         ensures count { self.new.rollover_count ≡ self.old.rollover_count }
+        ensures below_zero { OnOk result
+            (StaysBelowZeroIn (state_of self.old ssrc) (state_of self.new ssrc)) }
         ensures refused { OnErr result (self.new ≡ self.old) }
         ensures memory { OnErr result (receiver_of self.old ssrc ≡ None) }
 

@@ -23,6 +23,15 @@ set_last c =
 pub returns-clause-set : goal.returns-clause-set
 returns-clause-set c = set_last c
 
+pub returns-clause-written : goal.returns-clause-written
+returns-clause-written c = record {
+  place = c.in-Some.place;
+  id_is = c.in-Some.ensures.id;
+  lies = c.in-Some.ensures.lies;
+  end_is = omega (arith, c.in-Some.ensures.found.end_is, c.if-place-data.false);
+  new_is = c.put.ensures.written;
+}
+
 pub returns-clause-answer : goal.returns-clause-answer
 returns-clause-answer c = λ elements are. (
   λ is.

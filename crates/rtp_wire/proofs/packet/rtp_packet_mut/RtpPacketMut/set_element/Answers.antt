@@ -1,6 +1,7 @@
 use Rattle.std.proofs.Common.{rules, ◌≡◌, ◌+◌, ◌≤◌, length, ◌∷◌, ◌∙◌, arith, ap, sym, length-append}
 use Rattle.std.proofs.lemmas.Bool.{false≢true, OnTrue_at, OnTrue_from}
 use Rattle.rtp_ext.specs.ElementsInPlace.{SetsLast}
+use Rattle.rtp_ext.specs.Places.{WritesLast}
 use Rattle.rtp_wire.specs.NotAHeader.{sources_end}
 use Rattle.rtp_wire.proofs.BytesBetween.{ChangesOnly-nothing}
 use Rattle.rtp_wire.proofs.ChangedPackets.{no_elements, body_in, AreElements-in, HasValues-in, HasValues-new, HasHeader-body, ChangesBlock-body, between}
@@ -33,6 +34,11 @@ pub returns-clause-set : goal.returns-clause-set
 returns-clause-set c = OnTrue_from _ _ (λ set.
     ChangesBlock-body c.args.self.now c.in-Some.form (c.sources_end-start.result + 4) c.in-Some.is (omega (arith, c.sources_end-start.ensures))
     c.set_element.new.body c.set_element.auto.body (λ form. SetsLast form c.args.id c.args.data.now) (OnTrue_at set c.set_element.ensures.set))
+
+pub returns-clause-written : goal.returns-clause-written
+returns-clause-written c = OnTrue_from _ _ (λ set.
+    ChangesBlock-body c.args.self.now c.in-Some.form (c.sources_end-start.result + 4) c.in-Some.is (omega (arith, c.sources_end-start.ensures))
+    c.set_element.new.body c.set_element.auto.body (λ form. WritesLast form c.args.id c.args.data.now) (OnTrue_at set c.set_element.ensures.written))
 
 pub returns-clause-answer : goal.returns-clause-answer
 returns-clause-answer c elements are =

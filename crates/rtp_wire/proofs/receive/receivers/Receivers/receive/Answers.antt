@@ -6,7 +6,7 @@ use Rattle.rtp_wire.specs.declared.receive.verdict.Verdict.{Verdict}
 use Rattle.rtp_wire.specs.declared.receive.state.ReceiverState.{ReceiverState}
 use Rattle.rtp_wire.specs.Receiver.{Holds, IsJudged, taken_after}
 use Rattle.rtp_wire.proofs.PlacesLemmas.{is_none}
-use Rattle.rtp_wire.proofs.ReceiversLemmas.{no_receiver, Holds-new, receiver_read, Holds-read, ArePlaces-written, receiver_written, Holds-written, others_written, state_is, on_err}
+use Rattle.rtp_wire.proofs.ReceiversLemmas.{no_receiver, Holds-new, receiver_read, Holds-read, ArePlaces-written, receiver_written, Holds-written, StaysBelowZeroIn-new, StaysBelowZeroIn-written, others_written, state_is, on_err}
 use Rattle.rtp_wire.proofs.receive.receivers.Receivers.receive.Goals as goal
 
 pub index_mut-requires : goal.index_mut-requires
@@ -80,3 +80,13 @@ returns-clause-unchanged c refused =
 
 pub returns-clause-as_many : goal.returns-clause-as_many
 returns-clause-as_many c known = absurd (is_none _ (no_receiver c.self.inside.rollover_count c.self.inside.sources.places c.self.inside.sources.list.items c.args.self.now c.args.ssrc c.self.view_is (sym c.in_default.ensures)) known)
+
+pub returns-in-Some-clause-below_zero : goal.returns-in-Some-clause-below_zero
+returns-in-Some-clause-below_zero c =
+    StaysBelowZeroIn-written c.self.inside.rollover_count c.self.inside.sources.places c.self.inside.sources.list.items c.args.self.now c.args.ssrc c.self.view_is c.in-Some.place c.index_mut.result.now c.self.invariant (sym c.in-Some.ensures) c.index_mut.ensures.value c.receive.new.self
+    c.receive.ensures.below_zero
+
+pub returns-clause-below_zero : goal.returns-clause-below_zero
+returns-clause-below_zero c =
+    StaysBelowZeroIn-new c.self.inside.rollover_count c.self.inside.sources.places c.self.inside.sources.list.items c.args.self.now c.args.ssrc c.self.view_is c.new_receiver-added.result c.receive-verdict.new.self c.add.new.self
+    (sym c.in_default.ensures) c.new_receiver-added.ensures c.in_ok-add.ensures.added c.receive-verdict.ensures.below_zero
