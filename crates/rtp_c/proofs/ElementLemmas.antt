@@ -1,5 +1,5 @@
 -- Where an element lies in the body of a block.
-use Rattle.std.proofs.Common.{◌≡◌, ℕ, ◌+◌, ◌-◌, ◌≤◌, List, ◌∷◌, ◌++◌, length, take, drop, replicate, refl, sym, ap, ◌∙◌, subst, append_assoc, length-append, length-take-le, drop_at, arith}
+use Rattle.std.proofs.Common.{◌≡◌, ℕ, ◌-◌, ◌≤◌, List, ◌∷◌, ◌++◌, length, take, drop, replicate, refl, sym, ap, ◌∙◌, subst, append_assoc, length-append, length-take-le, drop_at, arith}
 use Rattle.std.proofs.lemmas.List.{take-append-drop, length-replicate}
 use Rattle.rtp_ext.specs.declared.ext.form.ExtensionsForm.{ExtensionsForm}
 use Rattle.rtp_ext.specs.declared.ext.form.ExtensionsForm.TheVariants.{OneByte, TwoByte}
@@ -9,7 +9,7 @@ use Rattle.rtp_ext.specs.ElementWriting.{header_bytes}
 use Rattle.rtp_ext.specs.Places.{IsNextPlace, IsLastPlace}
 use Rattle.rtp_c.specs.declared.elements.ElementView.{ElementView}
 use Rattle.rtp_c.specs.PacketView.{bytes_at}
-use Rattle.rtp_c.specs.ElementView.{IsNextElement, IsLastElement, LiesAsLast}
+use Rattle.rtp_c.specs.ElementView.{IsNextElement, IsLastElement}
 use Rattle.rtp_c.proofs.PacketLemmas.{middle}
 
 -- the place as C is told of it
@@ -70,11 +70,3 @@ IsLastElement-place form body id place is =
       last = is.last;
       end_is = omega (arith, is.end_is);
     }
-
-pub IsLastPlace-within : (form : ExtensionsForm) (body : List ℕ) (id : ℕ) (place : Place) → IsLastPlace (AreElements form) id body place → place.end ≤ length body
-IsLastPlace-within form body id place is =
-    omega (arith, is.data_is, is.end_is, ap length is.bytes_are, length-append is.front (is.was ++ is.rest), length-append is.was is.rest)
-
-pub LiesAsLast-place : (form : ExtensionsForm) (body : List ℕ) (id : ℕ) (place : Place) → IsLastPlace (AreElements form) id body place
-    → LiesAsLast form body id (record (view_of place) { id = id })
-LiesAsLast-place form body id place is = record { place = place; is_last = is; data_at_is = refl; ends = refl }

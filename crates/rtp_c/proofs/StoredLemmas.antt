@@ -1,6 +1,6 @@
 -- A receiver that is stored: its parts by the window, bit by bit.
 use Rattle.std.proofs.Common.{◌≡◌, ◌≢◌, ℕ, zero, suc, ◌+◌, ◌-◌, ◌*◌, ◌/◌, ◌%◌, ◌^◌, ◌<◌, ◌≤◌, nat_eq, Bool, true, false, ◌||◌, List, get_or, inl, inr, refl, sym, ap, ◌∙◌, subst, arith}
-use Rattle.std.proofs.lemmas.Bool.{eq-eqb, ne_eqb, eqb-true, or_right, false≢true, cases_lt}
+use Rattle.std.proofs.lemmas.Bool.{eq-eqb, ne_eqb, eqb-true, or_left, or_right, false≢true, cases_lt}
 use Rattle.std.proofs.lemmas.List.FromFn.{get_or-map-range_with_len}
 use Rattle.std.proofs.lemmas.Nat.Bits.{bit_at_lowest, bit_at-suc, bit_at-lt, same_from_bits_below}
 use Rattle.std.specs.Int.{bit_at}
@@ -8,9 +8,9 @@ use Rattle.rtp_base.specs.Bitmap.{bits_of}
 use Rattle.rtp_base.specs.Window.{Numbers, WindowState, including, Keeps}
 use Rattle.rtp_wire.specs.declared.receive.state.ReceiverState.{ReceiverState}
 use Rattle.rtp_wire.specs.declared.receive.state.ReceiverState.TheVariants.{Start, Window}
-use Rattle.rtp_wire.specs.Receiver.{Holds, IsFresh}
+use Rattle.rtp_wire.specs.Receiver.{Holds, IsFresh, StaysBelowZeroIn}
 use Rattle.rtp_c.specs.declared.receiver.StoredReceiver.{StoredReceiver}
-use Rattle.rtp_c.specs.StoredReceiver.{recorded_bits, IsWindowOf, HoldsNumbers, IsStarted, stored_again, HasHalves, IsStored}
+use Rattle.rtp_c.specs.StoredReceiver.{recorded_bits, IsWindowOf, HoldsNumbers, IsStarted, stored_again, HasHalves, IsStored, bit_of, MovesBelowZero}
 
 -- the truth value at an index is the bit there
 bits_of-at : (bits k : ℕ) → k < 128 → get_or (bits_of bits) k false ≡ nat_eq (bit_at bits k) 1
@@ -93,3 +93,47 @@ stored_again-is old new window was fits is =
     same_bits (recorded_bits old) (recorded_bits new) window.recorded (omega (arith, low, fits.high_fits)) (omega (arith, new_low, is.fits.high_fits)) is.recorded_are was.recorded_are in
     let parts = halves new.recorded_high new.recorded_low old.recorded_high (old.recorded_low / 2 * 2 + 1) new_low (omega (arith, low)) (omega (arith, all)) in
     same_parts new (stored_again old) (is.highest_is ∙ was.greatest_is) parts.1 parts.0 is.started_is
+
+-- ---- the bits of numbers below 0
+
+stored-bit : (stored : StoredReceiver) (window : WindowState) (index : ℕ) → IsStored window stored → bit_of stored index ≡ get_or window.recorded index false
+stored-bit stored window index is = ap (λ (bits : List Bool). get_or bits index false) is.recorded_are
+
+-- the highest number of a window doesn't fall
+grown : (old new : WindowState) (taken : Numbers) (number : ℕ) → Keeps old taken → Keeps new (including taken number) → old.greatest ≤ new.greatest
+grown old new taken number was is =
+    is.top.top old.greatest (or_left (taken old.greatest) (nat_eq old.greatest number) was.top.member)
+
+Moves-first : (old new : StoredReceiver) (was is : ReceiverState) (window : WindowState) → StaysBelowZeroIn was is → is ≡ Window window → IsStored window new
+    → was ≡ Start (old.highest / 65536) → (index : ℕ) → new.highest < index → index < 128 → bit_of new index ≡ false
+Moves-first old new was is window stays now stored then index past below =
+    let clear = subst (λ (s : ReceiverState). StaysBelowZeroIn s (Window window)) then (subst (λ (s : ReceiverState). StaysBelowZeroIn was s) now stays) in
+    stored-bit new window index stored ∙ clear index (omega (arith, past, stored.highest_is)) below
+
+Moves-later : (old new : StoredReceiver) (was is : ReceiverState) (before window : WindowState) → StaysBelowZeroIn was is → is ≡ Window window → IsStored window new
+    → was ≡ Window before → IsWindowOf old before → before.greatest ≤ window.greatest → (index : ℕ) → new.highest < index → index < 128
+    → bit_of new index ≡ bit_of old (index - (new.highest - old.highest))
+Moves-later old new was is before window stays now stored then held le index past below =
+    let moved = subst (λ (s : ReceiverState). StaysBelowZeroIn s (Window window)) then (subst (λ (s : ReceiverState). StaysBelowZeroIn was s) now stays) in
+    let from : ℕ = index - (window.greatest - before.greatest) in
+    let same : from ≡ index - (new.highest - old.highest) = omega (arith, stored.highest_is, held.greatest_is) in
+    let some : 0 < from = omega (arith, le, past, stored.highest_is) in
+    stored-bit new window index stored
+    ∙ moved index (omega (arith, past, stored.highest_is)) below
+    ∙ held.recorded_are from (omega (arith, below))
+    ∙ or-none (bit_of old from) (nat_eq from 0) (ne_eqb from 0 (λ none. omega (arith, none, some)))
+    ∙ ap (λ (k : ℕ). bit_of old k) same
+
+pub MovesBelowZero-stored : (old new : StoredReceiver) (was is : ReceiverState) (count : ℕ) (taken : Numbers) (number : ℕ) → Holds was count taken
+    → Holds is count (including taken number) → StaysBelowZeroIn was is → ((window : WindowState) → is ≡ Window window → IsStored window new)
+    → (old.started ≡ 0 → was ≡ Start (old.highest / 65536)) → (0 < old.started → (window : WindowState) × (was ≡ Window window) × IsWindowOf old window)
+    → MovesBelowZero old new
+MovesBelowZero-stored old new was (Start start) count taken number before after stays stored none some =
+    absurd (false≢true (sym (after.1 number) ∙ or_right (taken number) (nat_eq number number) (eq-eqb number number refl)))
+MovesBelowZero-stored old new was (Window window) count taken number before after stays stored none some = record {
+  first = λ empty. Moves-first old new was (Window window) window stays refl (stored window refl) (none empty);
+  later = λ started.
+      let held = some started in
+      let le = grown held.0 window taken number (subst (λ (s : ReceiverState). Holds s count taken) held.1 before) after in
+      Moves-later old new was (Window window) held.0 window stays refl (stored window refl) held.1 held.2 le;
+}

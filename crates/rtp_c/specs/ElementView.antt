@@ -4,7 +4,7 @@ use Rattle.rtp_ext.specs.declared.ext.form.ExtensionsForm.{ExtensionsForm}
 use Rattle.rtp_ext.specs.Elements.{Element, IsElement, element_bytes, AreElements}
 use Rattle.rtp_ext.specs.declared.ext.place.Place.{Place}
 use Rattle.rtp_ext.specs.ElementsInPlace.{HasNone}
-use Rattle.rtp_ext.specs.Places.{IsLastPlace}
+use Rattle.rtp_ext.specs.Places.{LiesLast}
 use Rattle.rtp_c.specs.declared.elements.ElementView.{ElementView}
 use Rattle.rtp_c.specs.PacketView.{bytes_at}
 
@@ -28,9 +28,10 @@ pub record IsLastElement (form : ExtensionsForm) (body : List ℕ) (id : ℕ) (v
   pub last : HasNone after id
   pub end_is : view.end ≡ view.data_at + view.data_len
 
--- its data are told where those of the last element of the id lie
+-- it is told where the last element of the id lies
 pub record LiesAsLast (form : ExtensionsForm) (body : List ℕ) (id : ℕ) (view : ElementView) : Type 0 where
   pub place : Place
-  pub is_last : IsLastPlace (AreElements form) id body place
+  pub id_is : place.id ≡ id
+  pub lies : LiesLast form (AreElements form) id body place
   pub data_at_is : view.data_at ≡ place.data_start
   pub ends : view.end ≡ place.end

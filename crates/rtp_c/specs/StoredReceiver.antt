@@ -1,5 +1,5 @@
 -- A receiver in the memory of C: what it holds of the numbers of one stream (RFC 3711, 3.3.1 and 3.3.2).
-use Rattle.std.specs.Prelude.{◌≡◌, ℕ, ◌+◌, ◌*◌, ◌/◌, ◌%◌, ◌^◌, ◌<◌, ◌⊎◌, false, ◌||◌, ◌==◌, slice_index_or}
+use Rattle.std.specs.Prelude.{◌≡◌, ℕ, ◌+◌, ◌-◌, ◌*◌, ◌/◌, ◌%◌, ◌^◌, ◌<◌, ◌⊎◌, Bool, false, ◌||◌, ◌==◌, slice_index_or}
 use Rattle.rtp_base.specs.Bitmap.{bits_of}
 use Rattle.rtp_base.specs.Window.{Numbers, WindowState, Keeps}
 use Rattle.rtp_wire.specs.Receiver.{IsNothing}
@@ -38,6 +38,16 @@ pub record IsStarted (stored : StoredReceiver) : Type 0 where
 -- the same receiver with `started` 1 and the bit of the highest number set
 abbrev pub stored_again : StoredReceiver → StoredReceiver
 stored_again stored = record stored { recorded_low = stored.recorded_low / 2 * 2 + 1; started = 1 }
+
+-- whether this bit of the receiver is set
+abbrev pub bit_of : StoredReceiver → ℕ → Bool
+bit_of stored index = slice_index_or (bits_of (recorded_bits stored)) index false
+
+-- the bits past the highest number, where there is no number left: clear once the first number is taken, and then they move with the others
+pub record MovesBelowZero (old new : StoredReceiver) : Type 0 where
+  pub first : old.started ≡ 0 → (index : ℕ) → new.highest < index → index < 128 → bit_of new index ≡ false
+  pub later : 0 < old.started → (index : ℕ) → new.highest < index → index < 128
+      → bit_of new index ≡ bit_of old (index - (new.highest - old.highest))
 
 -- What the inside promises itself: each half of the bits has 64 of them.
 pub record HasHalves (stored : StoredReceiver) : Type 0 where

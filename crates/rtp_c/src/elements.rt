@@ -103,14 +103,14 @@ pub extern "C" fn rtp_last_element(body: &[u8], form: u8, id: u8, element: &mut 
     let Some(form) = form_of(form) else {
         return BAD_FIELD;
     };
-    let Some(place) = last_place(form, body, id) else {
+    let Some(last) = last_place(form, body, id) else {
         return NONE;
     };
     let Place {
         data_start,
         end,
         ..
-    } = place;
+    } = last;
     *element = ElementView {
         data_at: data_start,
         data_len: end - data_start,

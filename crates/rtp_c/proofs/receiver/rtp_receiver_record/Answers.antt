@@ -3,7 +3,7 @@ use Rattle.rtp_base.specs.Window.{including}
 use Rattle.rtp_wire.specs.declared.receive.state.ReceiverState.{ReceiverState}
 use Rattle.rtp_wire.specs.Receiver.{Holds, IsFresh}
 use Rattle.rtp_c.specs.StoredReceiver.{HoldsNumbers}
-use Rattle.rtp_c.proofs.StoredLemmas.{IsStarted-held, started-refused, stored_again-is}
+use Rattle.rtp_c.proofs.StoredLemmas.{IsStarted-held, MovesBelowZero-stored, started-refused, stored_again-is}
 use Rattle.rtp_c.proofs.receiver.rtp_receiver_record.Goals as goal
 
 pub returns-clause-recorded : goal.returns-clause-recorded
@@ -29,3 +29,10 @@ returns-clause-refused c count taken holds refused =
     let started = started-refused c.args.receiver.now count taken c.args.number holds refused in
     let window = c.receiver_of-changed.ensures.window started in
     stored_again-is c.args.receiver.now c.store.new.stored window.0 window.2 (c.receiver_of-changed.ensures.fits started) (c.store.ensures.window window.0 (same ∙ window.1))
+
+pub returns-clause-below_zero : goal.returns-clause-below_zero
+returns-clause-below_zero c =
+    let was = c.receiver_of-changed.ensures in
+    let some = was.some in
+    MovesBelowZero-stored c.args.receiver.now c.store.new.stored c.receiver_of-changed.result c.record.new.self some.0 some.1 c.from.result some.2
+    (c.record.ensures.recorded some.0 some.1 some.2) c.record.ensures.below_zero c.store.ensures.window was.start was.window
