@@ -411,7 +411,7 @@ int32_t rtp_write_original(uint8_t *payload, size_t size, uint64_t number);
  *
  * The fields are told as the functions write them. As these read them, each `started` but 0 counts as 1,
  * and bit 0 of recorded_low as set where started; where not, of the numbers only those bits of `highest`
- * count that are above the low 16.
+ * count that are above the low 16. A bit for a number below 0 is 0 unless the caller set it.
  *
  * SRTP: number_of, accepts, authenticate the packet, record; a forged packet then changes nothing.
  * Where nothing is authenticated: receive. */
