@@ -203,7 +203,7 @@ int32_t rtp_map_set(rtp_map *map, uint8_t id, uint8_t kind);
 /* The kind that the id means; RTP_KIND_NONE where it means none. */
 uint8_t rtp_map_get(const rtp_map *map, uint8_t id);
 /* The map of the usual ids, whatever it was: 1 audio level, 2 send time, 3 transport number, 4 mid, 10
- * rid, 11 repaired rid, 13 video orientation. */
+ * rid, 11 repaired rid, 13 video orientation; RTP_KIND_NONE at each other index. */
 void rtp_map_standard(rtp_map *map);
 
 /* A time: ticks / hertz seconds. 16 bytes. */
@@ -409,13 +409,17 @@ int32_t rtp_write_original(uint8_t *payload, size_t size, uint64_t number);
  * bytes of plain memory, of which each value is a state: it may be copied and stored. {0} has taken
  * nothing yet, and its first packet has the rollover count 0.
  *
+ * The fields are told as the functions write them. As these read them, each `started` but 0 counts as 1,
+ * and bit 0 of recorded_low as set where started; where not, of the numbers only those bits of `highest`
+ * count that are above the low 16. A bit for a number below 0 is 0 unless the caller set it.
+ *
  * SRTP: number_of, accepts, authenticate the packet, record; a forged packet then changes nothing.
  * Where nothing is authenticated: receive. */
 typedef struct {
     uint64_t highest;       /* the highest number taken; before that, 65,536 times the first packet's rollover count */
-    uint64_t recorded_low;  /* bit i: whether highest - i is taken */
-    uint64_t recorded_high; /* bit i: whether highest - 64 - i is taken */
-    uint8_t started;        /* 0 where nothing is taken yet */
+    uint64_t recorded_low;  /* bit i: whether highest - i is taken, and so bit 0 is set; 0 before that */
+    uint64_t recorded_high; /* bit i: whether highest - 64 - i is taken; 0 before that */
+    uint8_t started;        /* 0 where nothing is taken yet, and then 1 */
 } rtp_receiver;
 
 /* Nothing is taken yet, and the first packet has this rollover count. RTP_OK, or RTP_BAD_FIELD where
@@ -428,7 +432,8 @@ uint64_t rtp_receiver_number_of(const rtp_receiver *receiver, uint16_t sequence_
 /* Whether the number may be taken: nothing is taken yet, or it is above the highest taken, or less
  * than 128 below it and not taken. */
 bool rtp_receiver_accepts(const rtp_receiver *receiver, uint64_t number);
-/* Records that the number is taken. One that isn't accepted leaves the same numbers taken. */
+/* Records that the number is taken. One that isn't accepted changes nothing, except that `started` and
+ * bit 0 of recorded_low become 1 where they weren't. */
 void rtp_receiver_record(rtp_receiver *receiver, uint64_t number);
 /* RTP_OK, and the number is written and recorded; or RTP_REFUSED where it may not be taken. */
 int32_t rtp_receiver_receive(rtp_receiver *receiver, uint16_t sequence_number, uint64_t *number);

@@ -202,3 +202,31 @@ IsStandard-numbers numbers is = record {
   has_kinds = subst (λ (n : List ℕ). HasKinds n (slots_of standard_kinds)) (numbers_are ∙ sym is) (HasKinds-numbers standard_kinds);
   listing = subst (IsListing (slots_of standard_kinds) (λ _. true)) items_are (IsListing-from_slots (slots_of standard_kinds));
 }
+
+low-zeros : (n k : ℕ) → get_or (replicate n 0) k 0 ≤ 15
+low-zeros zero k = omega arith
+low-zeros (suc n) zero = omega arith
+low-zeros (suc n) (suc k) = low-zeros n k
+
+low-set : (xs : List ℕ) (i v : ℕ) → v ≤ 15 → ((k : ℕ) → get_or xs k 0 ≤ 15) → (k : ℕ) → get_or (set xs i v) k 0 ≤ 15
+low-set [] i v low are k = are k
+low-set (x ∷ xs) zero v low are zero = low
+low-set (x ∷ xs) zero v low are (suc k) = are (suc k)
+low-set (x ∷ xs) (suc i) v low are zero = are zero
+low-set (x ∷ xs) (suc i) v low are (suc k) = low-set xs i v low (λ (j : ℕ). are (suc j)) k
+
+-- each of the usual numbers is that of a kind, or 0
+standard-low : (id : ℕ) → get_or standard_numbers id 0 ≤ 15
+standard-low id =
+    let a : List ℕ = replicate 256 0 in
+    let b : List ℕ = set a 1 3 in
+    let c : List ℕ = set b 2 1 in
+    let d : List ℕ = set c 3 6 in
+    let e : List ℕ = set d 4 12 in
+    let f : List ℕ = set e 10 10 in
+    let g : List ℕ = set f 11 11 in
+    low-set g 13 5 (omega arith) (low-set f 11 11 (omega arith) (low-set e 10 10 (omega arith) (low-set d 4 12 (omega arith)
+    (low-set c 3 6 (omega arith) (low-set b 2 1 (omega arith) (low-set a 1 3 (omega arith) (low-zeros 256))))))) id
+
+pub low-numbers : (numbers : List ℕ) → numbers ≡ standard_numbers → (id : ℕ) → get_or numbers id 0 ≤ 15
+low-numbers numbers is id = subst (λ (ns : List ℕ). get_or ns id 0 ≤ 15) (sym is) (standard-low id)

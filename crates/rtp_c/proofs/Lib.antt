@@ -12,3 +12,4 @@ mod GivenLemmas
 mod WritingLemmas
 mod WrittenHeaderLemmas
 mod JudgingLemmas
+mod StoredLemmas

@@ -2,7 +2,9 @@
 use Rattle.std.specs.Prelude.{◌≡◌, ℕ, ◌+◌, List, ◌∷◌, ◌++◌, drop, replicate}
 use Rattle.rtp_ext.specs.declared.ext.form.ExtensionsForm.{ExtensionsForm}
 use Rattle.rtp_ext.specs.Elements.{Element, IsElement, element_bytes, AreElements}
+use Rattle.rtp_ext.specs.declared.ext.place.Place.{Place}
 use Rattle.rtp_ext.specs.ElementsInPlace.{HasNone}
+use Rattle.rtp_ext.specs.Places.{LiesLast}
 use Rattle.rtp_c.specs.declared.elements.ElementView.{ElementView}
 use Rattle.rtp_c.specs.PacketView.{bytes_at}
 
@@ -25,3 +27,11 @@ pub record IsLastElement (form : ExtensionsForm) (body : List ℕ) (id : ℕ) (v
   pub are_elements : AreElements form body (before ++ element_in body view ∷ after)
   pub last : HasNone after id
   pub end_is : view.end ≡ view.data_at + view.data_len
+
+-- it is told where the last element of the id lies
+pub record LiesAsLast (form : ExtensionsForm) (body : List ℕ) (id : ℕ) (view : ElementView) : Type 0 where
+  pub place : Place
+  pub id_is : place.id ≡ id
+  pub lies : LiesLast form (AreElements form) id body place
+  pub data_at_is : view.data_at ≡ place.data_start
+  pub ends : view.end ≡ place.end

@@ -4,13 +4,14 @@ use Rattle.rtp_base.specs.Window.{Numbers, including}
 use Rattle.rtp_wire.specs.Receiver.{IsNumberOf, IsFresh}
 use Rattle.rtp_c.specs.declared.receiver.StoredReceiver.{StoredReceiver}
 use Rattle.rtp_c.specs.Status.{ok, refused}
-use Rattle.rtp_c.specs.StoredReceiver.{HoldsNumbers}
+use Rattle.rtp_c.specs.StoredReceiver.{HoldsNumbers, IsStarted}
 
--- the number is taken: it may be, it is the one that is written, and the receiver holds it too
+-- the number is taken: it may be, it is the one that is written, and the receiver holds it too and is stored as one that has started
 pub record IsTaken (count : ℕ) (taken : Numbers) (number written : ℕ) (after : StoredReceiver) : Type 0 where
   pub fresh : IsFresh taken number
   pub written_is : written ≡ number
   pub recorded : HoldsNumbers after count (including taken number)
+  pub started : IsStarted after
 
 -- this number is taken where it may be, and else refused
 abbrev pub IsJudgedAs : ℕ → Numbers → ℕ → ℤ → ℕ → StoredReceiver → Type 0

@@ -3,6 +3,7 @@
 ghost use Rattle.std.specs.Prelude.{◌≡◌, ◌≢◌, ◌↔◌, List, length};
 ghost use Rattle.rtp_ext.specs.Elements.{Element};
 ghost use Rattle.rtp_ext.specs.ElementsInPlace.{HasNone, HasLastOf, SetsLast, HasOtherIds, all_but};
+ghost use Rattle.rtp_ext.specs.Places.{WritesLast};
 ghost use Rattle.rtp_wire.specs.Packet.{PacketParts, IsPacket};
 ghost use Rattle.rtp_wire.specs.ChangedPacket.{ChangesOnlyBody};
 ghost use Rattle.rtp_wire.specs.NotAHeader.{NotAHeader};
@@ -21,6 +22,8 @@ use rtp_wire::RtpPacketMut;
 pub extern "C" fn rtp_set_element(datagram: &mut [u8], id: u8, data: &[u8]) -> i32
     ensures set { (parts : PacketParts) → IsPacket datagram.old parts → result ≡ ok →
         BecomesPacket (λ form. SetsLast form id «data».now) parts datagram.new }
+    ensures written { (parts : PacketParts) → IsPacket datagram.old parts → result ≡ ok →
+        BecomesPacket (λ form. WritesLast form id «data».now) parts datagram.new }
     ensures answer { (parts : PacketParts) (elements : List Element) → IsPacket datagram.old parts →
         AreElementsOf parts.block elements →
         (result ≡ ok) ↔ HasLastOf elements id (length «data».now) }

@@ -1,13 +1,13 @@
 //! The elements of a block's body, found where they lie.
 
-ghost use Rattle.std.specs.Prelude.{◌≡◌, ◌≢◌, ◌<◌, ◌⊎◌, List, length, drop, Some, IfSome, IfNone};
+ghost use Rattle.std.specs.Prelude.{◌≡◌, ◌≢◌, ◌↔◌, ◌<◌, ◌≤◌, ◌⊎◌, List, length, drop, Some, IfSome, IfNone};
 ghost use Rattle.rtp_ext.specs.declared.ext.form.ExtensionsForm.{ExtensionsForm};
 ghost use Rattle.rtp_ext.specs.Elements.{Element, AreElements};
 ghost use Rattle.rtp_ext.specs.ElementReading.{BeginsWithNone};
 ghost use Rattle.rtp_ext.specs.ElementsInPlace.{HasNone};
 ghost use Rattle.rtp_c.specs.Status.{ok, none, bad_field};
 ghost use Rattle.rtp_c.specs.PacketView.{form_number};
-ghost use Rattle.rtp_c.specs.ElementView.{IsNextElement, IsLastElement};
+ghost use Rattle.rtp_c.specs.ElementView.{IsNextElement, IsLastElement, LiesAsLast};
 
 use super::status::{BAD_FIELD, NONE, OK};
 use rtp_ext::{ExtensionsForm, Place, last_place, next_place};
@@ -52,10 +52,11 @@ pub extern "C" fn rtp_next_element(
 ) -> i32
     ensures found { result ≡ ok → (f : ExtensionsForm) × (form_number (Some f) ≡ form)
         × IsNextElement f body.now at element.new }
+    ensures within { result ≡ ok → element.new.end ≤ length body.now }
     ensures none { result ≡ none → (f : ExtensionsForm) × (form_number (Some f) ≡ form)
         × BeginsWithNone f (drop at body.now) }
-    ensures bad_field { result ≡ bad_field →
-        (length body.now < at) ⊎ ((f : ExtensionsForm) → form_number (Some f) ≢ form) }
+    ensures bad_field { (result ≡ bad_field) ↔
+        ((length body.now < at) ⊎ ((f : ExtensionsForm) → form_number (Some f) ≢ form)) }
     ensures statuses { (result ≡ ok) ⊎ ((result ≡ none) ⊎ (result ≡ bad_field)) }
     ensures unchanged { result ≢ ok → element.new ≡ element.old }
 {
@@ -90,23 +91,26 @@ pub extern "C" fn rtp_next_element(
 pub extern "C" fn rtp_last_element(body: &[u8], form: u8, id: u8, element: &mut ElementView) -> i32
     ensures found { result ≡ ok → (f : ExtensionsForm) × (form_number (Some f) ≡ form)
         × IsLastElement f body.now id element.new }
+    ensures place { result ≡ ok → (f : ExtensionsForm) × (form_number (Some f) ≡ form)
+        × LiesAsLast f body.now id element.new }
+    ensures within { result ≡ ok → element.new.end ≤ length body.now }
     ensures none { result ≡ none → (f : ExtensionsForm) × (form_number (Some f) ≡ form)
         × ((elements : List Element) → AreElements f body.now elements → HasNone elements id) }
-    ensures bad_field { result ≡ bad_field → (f : ExtensionsForm) → form_number (Some f) ≢ form }
+    ensures bad_field { (result ≡ bad_field) ↔ ((f : ExtensionsForm) → form_number (Some f) ≢ form) }
     ensures statuses { (result ≡ ok) ⊎ ((result ≡ none) ⊎ (result ≡ bad_field)) }
     ensures unchanged { result ≢ ok → element.new ≡ element.old }
 {
     let Some(form) = form_of(form) else {
         return BAD_FIELD;
     };
-    let Some(place) = last_place(form, body, id) else {
+    let Some(last) = last_place(form, body, id) else {
         return NONE;
     };
     let Place {
         data_start,
         end,
         ..
-    } = place;
+    } = last;
     *element = ElementView {
         data_at: data_start,
         data_len: end - data_start,

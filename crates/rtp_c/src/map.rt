@@ -194,10 +194,12 @@ pub extern "C" fn rtp_map_get(map: &KindsOfIds, id: u8) -> u8
 
 /// The usual ids of the usual extensions, for audio and video, and no others: 1 audio level, 2
 /// absolute send time, 3 transport sequence number, 4 mid, 10 stream id, 11 repaired stream id, 13
-/// video orientation.
+/// video orientation. Each other number is 0.
 #[unsafe(no_mangle)]
 pub extern "C" fn rtp_map_standard(map: &mut KindsOfIds)
-    ensures { IsStandard map.new.kind }
+    ensures standard { IsStandard map.new.kind }
+    ensures kinds { (id : ℕ) → slice_index map.new.kind id ≤ last_number }
+    ensures first { slice_index map.new.kind 0 ≡ 0 }
 {
     let mut numbers = [0; 256];
     numbers[1] = number_of(KnownKind::AudioLevel);

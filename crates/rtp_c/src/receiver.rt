@@ -1,11 +1,12 @@
 //! The numbers of one stream: widened, and judged by a replay window.
 
-ghost use Rattle.std.specs.Prelude.{◌≡◌, ◌≢◌, ◌↔◌, ◌^◌, ◌<◌, ◌≤◌, ℕ, IsTrue, Some};
-ghost use Rattle.rtp_base.specs.Window.{Numbers, including};
+ghost use Rattle.std.specs.Prelude.{◌≡◌, ◌≢◌, ◌↔◌, ◌/◌, ◌^◌, ◌<◌, ◌≤◌, ℕ, IsTrue, Some};
+ghost use Rattle.rtp_base.specs.Window.{Numbers, WindowState, including};
 ghost use Rattle.rtp_wire.specs.Receiver.{Holds, IsNothing, IsNumberOf, IsFresh};
+ghost use Rattle.rtp_wire.specs.declared.receive.state.ReceiverState.TheVariants.{Start, Window};
 ghost use Rattle.rtp_wire.specs.Widening.{Extends};
 ghost use Rattle.rtp_c.specs.Status.{ok, bad_field, refused};
-ghost use Rattle.rtp_c.specs.StoredReceiver.{HoldsNumbers};
+ghost use Rattle.rtp_c.specs.StoredReceiver.{HoldsNumbers, IsWindowOf, IsStarted, IsStored, HasHalves, MovesBelowZero, unstarted, stored_again};
 ghost use Rattle.rtp_c.specs.Judging.{IsJudgedAs, IsJudgedBy};
 
 use super::status::{BAD_FIELD, OK, REFUSED};
@@ -17,17 +18,20 @@ const HALF: u128 = 1 << 64;
 
 /// The receive state of one stream: `rtp_receiver` in C, 32 bytes. Each value is one; all zeros have
 /// taken nothing yet, and the first packet has the rollover count 0.
+///
+/// Each `started` but 0 counts as 1, and the highest number as taken whatever bit 0 says. Where nothing
+/// is taken yet, the low 16 bits of `highest` and the recorded bits are not looked at.
 #[repr(C)]
 #[derive(Clone, Copy)]
 pub struct StoredReceiver {
     /// The highest number taken. Where nothing is taken yet, the first packet's rollover count stands
     /// in the bits above the low sixteen.
     pub highest: u64,
-    /// Bit i says whether the highest number minus i is taken.
+    /// Bit i says whether the highest number minus i is taken: bit 0 is set once one is taken.
     pub recorded_low: u64,
     /// Bit i says whether the highest number minus 64 + i is taken.
     pub recorded_high: u64,
-    /// 0 where nothing is taken yet.
+    /// 0 where nothing is taken yet, and 1 afterwards.
     pub started: u8,
 }
 
@@ -38,6 +42,10 @@ fn receiver_of(stored: &StoredReceiver) -> Receiver
     ensures only { (count : ℕ) (taken : Numbers) → Holds result count taken →
         HoldsNumbers stored.now count taken }
     ensures some { (count : ℕ) × (taken : Numbers) × Holds result count taken }
+    ensures window { 0 < stored.now.started →
+        (window : WindowState) × (result ≡ Window window) × IsWindowOf stored.now window }
+    ensures fits { 0 < stored.now.started → HasHalves stored.now }
+    ensures start { stored.now.started ≡ 0 → result ≡ Start (stored.now.highest / 65536) }
 {
     if stored.started == 0 {
         return Receiver::starting_at(stored.highest / 65_536);
@@ -48,8 +56,11 @@ fn receiver_of(stored: &StoredReceiver) -> Receiver
 
 // Stores the receiver.
 fn store(receiver: &Receiver, stored: &mut StoredReceiver)
-    ensures { (count : ℕ) (taken : Numbers) → Holds receiver.now count taken →
+    ensures held { (count : ℕ) (taken : Numbers) → Holds receiver.now count taken →
         HoldsNumbers stored.new count taken }
+    ensures start { (count : ℕ) → receiver.now ≡ Start count → stored.new ≡ unstarted count }
+    ensures window { (window : WindowState) → receiver.now ≡ Window window →
+        IsStored window stored.new }
 {
     let Some(window) = receiver.window() else {
         *stored = StoredReceiver {
@@ -74,6 +85,7 @@ fn store(receiver: &Receiver, stored: &mut StoredReceiver)
 fn take(receiver: &mut StoredReceiver, number: u64, written: &mut u64) -> i32
     ensures judged { (count : ℕ) (taken : Numbers) → HoldsNumbers receiver.old count taken →
         IsJudgedAs count taken number result written.new receiver.new }
+    ensures below_zero { MovesBelowZero receiver.old receiver.new }
     ensures unchanged { result ≢ ok → (receiver.new ≡ receiver.old) × (written.new ≡ written.old) }
 {
     let seq_no = SeqNo::from(number);
@@ -92,6 +104,7 @@ fn take(receiver: &mut StoredReceiver, number: u64, written: &mut u64) -> i32
 fn take_apart(receiver: &mut StoredReceiver, number: u64, written: &mut u64) -> i32
     ensures judged { (count : ℕ) (taken : Numbers) → HoldsNumbers receiver.old count taken →
         IsJudgedAs count taken number result written.new receiver.new }
+    ensures below_zero { MovesBelowZero receiver.old receiver.new }
     ensures unchanged { result ≢ ok → (receiver.new ≡ receiver.old) × (written.new ≡ written.old) }
 {
     take(receiver, number, written)
@@ -105,6 +118,7 @@ fn take_apart(receiver: &mut StoredReceiver, number: u64, written: &mut u64) -> 
 pub extern "C" fn rtp_receiver_start(receiver: &mut StoredReceiver, rollover_count: u64) -> i32
     ensures started { rollover_count < 2 ^ 48 → (taken : Numbers) → IsNothing taken →
         HoldsNumbers receiver.new rollover_count taken }
+    ensures stored { rollover_count < 2 ^ 48 → receiver.new ≡ unstarted rollover_count }
     ensures done { rollover_count < 2 ^ 48 → result ≡ ok }
     ensures too_high { 2 ^ 48 ≤ rollover_count → result ≡ bad_field }
     ensures unchanged { result ≢ ok → receiver.new ≡ receiver.old }
@@ -140,14 +154,19 @@ pub extern "C" fn rtp_receiver_accepts(receiver: &StoredReceiver, number: u64) -
     receiver_of(receiver).accepts(SeqNo::from(number))
 }
 
-/// Records that the number is taken, once its packet is known to be authentic. After one that
-/// `rtp_receiver_accepts` refuses the same numbers are held as before.
+/// Records that the number is taken, once its packet is known to be authentic. One that
+/// `rtp_receiver_accepts` refuses changes nothing, except that `started` and bit 0 of `recorded_low`
+/// become 1 where they were not.
 #[unsafe(no_mangle)]
 pub extern "C" fn rtp_receiver_record(receiver: &mut StoredReceiver, number: u64)
     ensures recorded { (count : ℕ) (taken : Numbers) → HoldsNumbers receiver.old count taken →
         HoldsNumbers receiver.new count (including taken number) }
     ensures same { (count : ℕ) (taken : Numbers) → HoldsNumbers receiver.old count taken →
         (IsFresh taken number → ⊥) → HoldsNumbers receiver.new count taken }
+    ensures started { IsStarted receiver.new }
+    ensures refused { (count : ℕ) (taken : Numbers) → HoldsNumbers receiver.old count taken →
+        (IsFresh taken number → ⊥) → receiver.new ≡ stored_again receiver.old }
+    ensures below_zero { MovesBelowZero receiver.old receiver.new }
 {
     let mut changed = receiver_of(receiver);
     changed.record(SeqNo::from(number));
@@ -166,6 +185,7 @@ pub extern "C" fn rtp_receiver_receive(
 ) -> i32
     ensures judged { (count : ℕ) (taken : Numbers) → HoldsNumbers receiver.old count taken →
         IsJudgedBy count taken sequence_number result number.new receiver.new }
+    ensures below_zero { MovesBelowZero receiver.old receiver.new }
     ensures unchanged { result ≢ ok → (receiver.new ≡ receiver.old) × (number.new ≡ number.old) }
 {
     let extended = rtp_receiver_number_of(receiver, sequence_number);

@@ -1,6 +1,6 @@
 //! The values of a block's elements.
 
-ghost use Rattle.std.specs.Prelude.{◌≡◌, ◌≢◌, ◌⊎◌, Some};
+ghost use Rattle.std.specs.Prelude.{◌≡◌, ◌≢◌, ◌↔◌, ◌⊎◌, Some};
 ghost use Rattle.rtp_ext.specs.declared.ext.form.ExtensionsForm.{ExtensionsForm};
 ghost use Rattle.rtp_values.specs.Values.{no_values};
 ghost use Rattle.rtp_c.specs.Status.{ok, bad_field, no_memory};
@@ -150,7 +150,7 @@ pub extern "C" fn rtp_values_read(
         × IsReadAs f map.now.kind body.now values.new }
     ensures memory { result ≡ no_memory → (f : ExtensionsForm) × (form_number (Some f) ≡ form)
         × TakesMemoryIn f map.now.kind body.now }
-    ensures bad_field { result ≡ bad_field → (f : ExtensionsForm) → form_number (Some f) ≢ form }
+    ensures bad_field { (result ≡ bad_field) ↔ ((f : ExtensionsForm) → form_number (Some f) ≢ form) }
     ensures statuses { (result ≡ ok) ⊎ ((result ≡ no_memory) ⊎ (result ≡ bad_field)) }
     ensures unchanged { result ≢ ok → values.new ≡ values.old }
 {

@@ -1,9 +1,9 @@
 //! Headers as C gives them, from their fields and values to bytes.
 
-ghost use Rattle.std.specs.Prelude.{◌≡◌, ◌≢◌, ◌≤◌, ◌⊎◌, length};
+ghost use Rattle.std.specs.Prelude.{◌≡◌, ◌≢◌, ◌↔◌, ◌≤◌, ◌⊎◌, length};
 ghost use Rattle.rtp_wire.specs.declared.header.rtp_header.RtpHeader.{RtpHeader as Header};
 ghost use Rattle.rtp_c.specs.Status.{ok, no_memory, short_buffer, bad_field};
-ghost use Rattle.rtp_c.specs.Given.{IsGivenHeader};
+ghost use Rattle.rtp_c.specs.Given.{AreGivenFields, IsGivenHeader};
 ghost use Rattle.rtp_c.specs.WrittenHeader.{IsLengthOf, IsWrittenHeader, IsTooLong, CanBeWrittenWith, IsWrittenWith, IsTooLongWith};
 
 use super::elements::ElementView;
@@ -29,7 +29,8 @@ const MAX_BODY_LEN: usize = 4 * 65_535;
 /// there are more than 15 contributing sources, the data of an element reach past `bytes`, an element
 /// has the id 0 or more than 255 bytes of data, or the elements take more than the 65,535 words that a
 /// block can have; `SHORT_BUFFER` where only the room is short; `NO_MEMORY` where memory is refused,
-/// which is taken for the call where there are elements. Where it isn't `OK` nothing is written.
+/// which is taken for the call where there are elements, once the header's fields are found good. Where it
+/// isn't `OK` nothing is written.
 #[unsafe(no_mangle)]
 pub extern "C" fn rtp_write_with(
     alloc: Global,
@@ -41,10 +42,12 @@ pub extern "C" fn rtp_write_with(
 ) -> i32
     ensures written { result ≡ ok →
         IsWrittenWith header.now bytes.now elements.now buf.old buf.new len.new }
+    ensures within { result ≡ ok → len.new ≤ length buf.new }
     ensures short { result ≡ short_buffer →
         IsTooLongWith header.now bytes.now elements.now (length buf.old) }
     ensures bad_field { result ≡ bad_field → (h : Header) →
         CanBeWrittenWith header.now bytes.now elements.now h → ⊥ }
+    ensures fields { ((h : Header) → AreGivenFields header.now h → ⊥) → result ≡ bad_field }
     ensures memory { result ≡ no_memory → 1 ≤ length elements.now }
     ensures statuses { (result ≡ ok) ⊎ ((result ≡ short_buffer) ⊎ ((result ≡ bad_field)
         ⊎ (result ≡ no_memory))) }
@@ -74,7 +77,7 @@ pub extern "C" fn rtp_write_with(
 #[unsafe(no_mangle)]
 pub extern "C" fn rtp_wire_len(map: &KindsOfIds, header: &HeaderView, len: &mut usize) -> i32
     ensures length { result ≡ ok → IsLengthOf map.now.kind header.now len.new }
-    ensures bad_field { result ≡ bad_field → (h : Header) → IsGivenHeader header.now h → ⊥ }
+    ensures bad_field { (result ≡ bad_field) ↔ ((h : Header) → IsGivenHeader header.now h → ⊥) }
     ensures statuses { (result ≡ ok) ⊎ (result ≡ bad_field) }
     ensures unchanged { result ≢ ok → len.new ≡ len.old }
 {
@@ -109,8 +112,9 @@ pub extern "C" fn rtp_write(
 ) -> i32
     ensures written { result ≡ ok →
         IsWrittenHeader map.now.kind header.now buf.old buf.new len.new }
+    ensures within { result ≡ ok → len.new ≤ length buf.new }
     ensures short { result ≡ short_buffer → IsTooLong map.now.kind header.now (length buf.old) }
-    ensures bad_field { result ≡ bad_field → (h : Header) → IsGivenHeader header.now h → ⊥ }
+    ensures bad_field { (result ≡ bad_field) ↔ ((h : Header) → IsGivenHeader header.now h → ⊥) }
     ensures statuses { (result ≡ ok) ⊎ ((result ≡ short_buffer) ⊎ (result ≡ bad_field)) }
     ensures unchanged { result ≢ ok → (buf.new ≡ buf.old) × (len.new ≡ len.old) }
 {

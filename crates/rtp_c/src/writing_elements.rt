@@ -87,10 +87,12 @@ pub extern "C" fn rtp_write_elements(
 ) -> i32
     ensures written { result ≡ ok → (f : ExtensionsForm) × (form_number (Some f) ≡ form)
         × AreWrittenElements f bytes.now elements.now buf.old buf.new len.new }
+    ensures within { result ≡ ok → len.new ≤ length buf.new }
     ensures short { result ≡ short_buffer → (f : ExtensionsForm) × (form_number (Some f) ≡ form)
         × AreTooLong f bytes.now elements.now (length buf.old) }
     ensures bad_field { result ≡ bad_field → (f : ExtensionsForm) → form_number (Some f) ≡ form →
         AreWritable f bytes.now elements.now → ⊥ }
+    ensures no_form { ((f : ExtensionsForm) → form_number (Some f) ≢ form) → result ≡ bad_field }
     ensures memory { result ≡ no_memory → 1 ≤ length elements.now }
     ensures statuses { (result ≡ ok) ⊎ ((result ≡ short_buffer) ⊎ ((result ≡ bad_field)
         ⊎ (result ≡ no_memory))) }

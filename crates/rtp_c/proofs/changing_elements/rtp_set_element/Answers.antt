@@ -1,6 +1,7 @@
 use Rattle.std.proofs.Common.{refl, sym, subst, arith, rules}
 use Rattle.std.proofs.lemmas.Bool.{false≢true}
 use Rattle.rtp_ext.specs.ElementsInPlace.{SetsLast}
+use Rattle.rtp_ext.specs.Places.{WritesLast}
 use Rattle.rtp_wire.specs.Packet.{PacketParts}
 use Rattle.rtp_wire.specs.PacketElements.{AreElementsOf}
 use Rattle.rtp_c.proofs.StatusLemmas.{none≢ok}
@@ -17,6 +18,11 @@ pub returns-then-set_element-clause-set : goal.returns-then-set_element-clause-s
 returns-then-set_element-clause-set c parts is ok =
     BecomesPacket-changed (λ form. SetsLast form c.args.id c.args.data.now) c.args.datagram.now parts c.new-packet.result c.set_element.new.self _ is
     c.new-packet.ensures.same_bytes c.if-set_element.ensures.set (omega (arith, c.type_inv.datagram 1)) (search rules)
+
+pub returns-then-set_element-clause-written : goal.returns-then-set_element-clause-written
+returns-then-set_element-clause-written c parts is ok =
+    BecomesPacket-changed (λ form. WritesLast form c.args.id c.args.data.now) c.args.datagram.now parts c.new-packet.result c.set_element.new.self _ is
+    c.new-packet.ensures.same_bytes c.if-set_element.ensures.written (omega (arith, c.type_inv.datagram 1)) (search rules)
 
 pub returns-then-set_element-clause-answer : goal.returns-then-set_element-clause-answer
 returns-then-set_element-clause-answer c parts elements is are =

@@ -5,4 +5,4 @@ use Rattle.rtp_c.proofs.receiver.rtp_receiver_start.Goals as goal
 
 pub returns-clause-started : goal.returns-clause-started
 returns-clause-started c low taken none =
-    c.store.ensures c.args.rollover_count taken (subst (λ (state : ReceiverState). Holds state c.args.rollover_count taken) (sym c.starting_at.ensures) (refl, none))
+    c.store.ensures.held c.args.rollover_count taken (subst (λ (state : ReceiverState). Holds state c.args.rollover_count taken) (sym c.starting_at.ensures) (refl, none))

@@ -32,3 +32,9 @@ returns-clause-short c is_short =
     (subst (λ (pairs : List (ℕ × Bor (List ℕ))). CannotBeInARow (elements_of pairs) 262140) (c.deref.ensures.value ∙ sym c.deref-2.ensures.value) none)) in
     IsTooLongWith-paired c.args.header.now c.args.bytes.now c.args.elements.now elements c.put_given_fields.new.header paired
     (length c.args.buf.now) in_a_row (c.in_default-write_with.ensures.refused.0 refl)
+
+pub returns-in-Err-clause-fields : goal.returns-in-Err-clause-fields
+returns-in-Err-clause-fields c none = absurd (none c.put_given_fields.new.header c.in-Some.ensures.found)
+
+pub returns-clause-fields : goal.returns-clause-fields
+returns-clause-fields c none = absurd (none c.put_given_fields.new.header c.in-Some.ensures.found)
