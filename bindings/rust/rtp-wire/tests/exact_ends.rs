@@ -120,6 +120,7 @@ fn a_packet_is_changed_within_its_datagram() {
         assert!(packet.set_element(3, at_end(&[0x1A, 0x1B])));
         assert!(!packet.set_element(3, at_end(&[0x1A])));
         assert!(!packet.set_element(2, at_end(&[7, 7, 7])));
+        assert!(!packet.set_element(2, at_end(&[7; 258])));
         assert!(packet.remove_element(1));
         assert!(packet.renumber(&NewIds::new().with(2, 4).with(3, 5)));
         assert_eq!(
