@@ -89,10 +89,14 @@ compare() {
     for lines in examples/*.lines bindings/test/by_hand.lines; do
         "$@" <"$lines" | cmp - "${lines%.lines}.expected" >&2 || fail "$*, $lines"
     done
+    # 65,536 bytes
+    echo 'packet 1: pt 0 seq 1 ts 1 ssrc 44 marker no padding no extension no csrc 0 header 12' >"$scratch/long"
+    echo 'verdict 1: taken 1' >>"$scratch/long"
+    printf '80000001000000010000002C%0131048d\n' 0 | "$@" | cmp - "$scratch/long" >&2 || fail "$*, a long line"
     printf 'packet 1: unreadable\nverdict 1: unreadable\nline 2: neither a map line nor hex\n' >"$scratch/second"
     echo 'line 1: neither a map line nor hex' >"$scratch/first"
-    for bad in 802 8G0 'map 0 urn:x' 'map 256 urn:x' 'map 3' 'map 3 ' 'mop 3 urn:x'; do is_bad first "$bad" "$@"; done
-    for bad in 802 8G0 'map 3 urn:x'; do is_bad second "80\n$bad" "$@"; done
+    for bad in 802 8G 'map 0 urn:x' 'map 256 urn:x' 'map 300 urn:x' 'map 3' 'map 3 ' 'mop 3 urn:x'; do is_bad first "$bad" "$@"; done
+    for bad in 802 8G 'map 3 urn:x'; do is_bad second "80\n$bad" "$@"; done
 }
 is_bad() { # what is printed, the lines, the program
     local status=0
@@ -114,12 +118,16 @@ diff "$scratch/expected" "$scratch/forwarded" >&2 || fail 'the forwarder'
 # 65,530 + 70,000 = 2 * 65,536 + 4,458 (0x116A), and 1 and 255 become 4,465 and 4,719; 6,400,000,063 s are 63 s
 # modulo 64, and 63.02 s are 16,520,314.9 units of 2^-18 s: 0xFC147A. P, M, X, the source, the application bits and
 # the payload stay; the ids 2 and 1 mean nothing to the publisher. The second to the fourth line are no packets.
-printf '%b\n' 80000001000000010000002C 80000001000000010000002 8000000100000001000000GG '' \
-    B1E0FFFAABCDEF0112345678000000091002000304030102030202AABB0101FF55000003\\r 800000ff000000000000002c |
+printf '%b\n' 80000001000000010000002C 80000001000000010000002C0 80000001000000010000002CGG '' \
+    B1E0FFFAABCDEF0112345678000000091002000304030102030202AABB0101FF4142434445464748494A000003\\r \
+    800000ff000000000000002c |
     "$scratch/forward" 4294967290 70000 6400000063 >"$scratch/forwarded"
 printf '%s\n' 8000117100000001FFFFFFFA \
-    B1E0116AABCDEF01FFFFFFFA00000009100200030203FC147A0000000000000055000003 8000126F00000000FFFFFFFA >"$scratch/expected"
+    B1E0116AABCDEF01FFFFFFFA00000009100200030203FC147A000000000000004142434445464748494A000003 \
+    8000126F00000000FFFFFFFA >"$scratch/expected"
 diff "$scratch/expected" "$scratch/forwarded" >&2 || fail 'the forwarder, near the ends'
+printf '80000001000000010000002C%0131048d\n' 0 | "$scratch/forward" 4294967290 70000 5 >"$scratch/forwarded"
+printf '8000117100000001FFFFFFFA%0131048d\n' 0 | cmp - "$scratch/forwarded" >&2 || fail 'the forwarder, a long line'
 status=0
 "$scratch/forward" 77 -46000 </dev/null >"$scratch/forwarded" || status=$?
 [ $status -eq 2 ] && [ ! -s "$scratch/forwarded" ] || fail 'the forwarder without all its arguments'

@@ -103,7 +103,15 @@ fn each_kind_has_its_number_and_its_uri() {
         assert_eq!(Kind::from_uri(uri), Some(kind));
         assert_eq!(Kind::from_uri(&uri[1..]), None);
         assert_eq!(Kind::from_uri(&uri[..uri.len() - 1]), None);
-        assert_eq!(Kind::from_uri(&format!("{uri}/")), None);
+        for other in [
+            format!("{uri}/"),
+            format!("{uri} "),
+            format!(" {uri}"),
+            format!("{uri}\0"),
+            format!("{uri}\r"),
+        ] {
+            assert_eq!(Kind::from_uri(&other), None, "{other:?}");
+        }
         assert_eq!(Kind::from_uri(&uri.to_uppercase()), None);
     }
 }

@@ -160,3 +160,32 @@ fn a_receiver_starts_at_each_rollover_count() {
         (Some(0), false, true)
     );
 }
+
+#[test]
+fn any_number_may_be_recorded() {
+    for number in [
+        0,
+        101,
+        227,
+        32_869,
+        65_536,
+        70_000,
+        (1 << 32) + 5,
+        1 << 48,
+        1 << 63,
+        u64::MAX,
+    ] {
+        for mut receiver in [Receiver::new(), Receiver::starting_at(3).unwrap()] {
+            receiver.record(number);
+            assert_eq!(
+                (receiver.highest(), receiver.accepts(number)),
+                (Some(number), false)
+            );
+        }
+        let mut receiver = at(100);
+        receiver.record(number);
+        assert_eq!(receiver.highest(), Some(number.max(100)));
+        assert!(!receiver.accepts(number) && !receiver.accepts(100));
+        assert_eq!(receiver.accepts(99), number < 227, "{number}"); // 227 is 128 above it
+    }
+}

@@ -4,7 +4,7 @@
 use std::error::Error;
 
 use rtp_wire::{
-    write_elements, BadId, Form, Header, Map, Mid, NoMemory, NotAHeader, NotAPacket, NotAText,
+    write_elements, BadId, Form, Header, Map, NoMemory, NotAHeader, NotAPacket, NotAText,
     NotWritten, Packet, PacketMut, Place,
 };
 
@@ -243,20 +243,4 @@ fn what_is_not_written_has_its_cause() {
         );
     }
     assert_eq!(header.wire_len(&Map::new()), Err(NotWritten::BadField));
-}
-
-#[test]
-fn texts_have_their_own_equality() {
-    let [ab, same, other] = ["ab", "ab", "cd"].map(|text| Mid::try_from(text).unwrap());
-    assert!(ab == same && ab != other);
-    assert!(ab == *"ab" && ab != *"cd" && ab != *"a" && ab != *"abc");
-    assert!(ab == "ab" && ab != "cd" && ab != "a" && ab != "abc");
-    assert_eq!(
-        (ab.as_str(), ab.as_ref(), &*ab, ab.len()),
-        ("ab", "ab", "ab", 2)
-    );
-    assert_eq!(
-        (ab.to_string(), format!("{ab:?}"), format!("{ab:*^6}")),
-        ("ab".into(), "\"ab\"".into(), "**ab**".into())
-    );
 }

@@ -1,0 +1,127 @@
+//! The longest block that a packet can have: 65,535 words, which are 1,020 elements of 255 bytes in the two-byte
+//! form.
+
+use rtp_wire::{
+    write_elements, Element, Form, Header, Kind, Map, NewIds, NotWritten, Packet, PacketMut, Place,
+};
+
+const LEN: usize = 12 + 60 + 4 + 262_140;
+
+/// The id and the first byte of the element at this place; the other bytes are 7.
+fn element(index: usize) -> (u8, u8) {
+    ((index % 255) as u8 + 1, (index / 255) as u8 + 0xA0)
+}
+
+/// V=2, X, CC=15; the elements; the payload 1, 2, 3.
+fn datagram() -> Vec<u8> {
+    let mut bytes = vec![0x9F, 0, 0, 1, 0, 0, 0, 2, 0, 0, 0, 3];
+    bytes.resize(12 + 60, 9);
+    bytes.extend([0x10, 0x0F, 0xFF, 0xFF]);
+    for (id, first) in (0..1020).map(element) {
+        bytes.extend([id, 255, first]);
+        bytes.resize(bytes.len() + 254, 7);
+    }
+    assert_eq!(bytes.len(), LEN);
+    bytes.extend([1, 2, 3]);
+    bytes
+}
+
+#[test]
+fn all_elements_are_read() {
+    let datagram = datagram();
+    let packet = Packet::parse(&datagram).unwrap();
+    assert_eq!(
+        (packet.header_len(), packet.payload()),
+        (LEN, &[1, 2, 3][..])
+    );
+    assert_eq!(packet.block(), Some((Form::TwoByte, &datagram[76..LEN])));
+    assert_eq!(packet.elements().size_hint(), (0, Some(131_070)));
+    assert_eq!(packet.elements().count(), 1020);
+    let (_, body) = packet.block().unwrap();
+    for (index, (Element { id, data }, place)) in packet
+        .elements()
+        .zip(packet.elements().places())
+        .enumerate()
+    {
+        assert_eq!((id, data[0]), element(index));
+        assert_eq!((data.len(), &data[1..]), (255, &[7; 254][..]));
+        assert_eq!(place, Place::new(id, 257 * index + 2..257 * index + 257));
+        assert_eq!(&body[place.data()], data);
+    }
+    for id in 1..=255 {
+        assert_eq!(packet.element(id).unwrap()[..2], [0xA3, 7]); // the last of four
+    }
+    let map = Map::new()
+        .with(255, Kind::VideoContentType)
+        .with(1, Kind::TransportNumber);
+    let header = Header::parse(&datagram, &map).unwrap();
+    assert_eq!(
+        (header.header_len(), header.csrcs()),
+        (LEN, &[0x0909_0909; 15][..])
+    );
+    assert_eq!(
+        (
+            header.values.video_content_type,
+            header.values.transport_number
+        ),
+        (Some(0xA3), Some(0xA307))
+    );
+    assert_eq!(packet.values(&map), Ok(header.values));
+    assert_eq!(
+        Header::parse_with_layers(&datagram, &map),
+        Ok((header, None))
+    );
+    assert!(Packet::parse(&datagram[..LEN - 1]).is_err());
+}
+
+#[test]
+fn all_elements_are_written() {
+    let datagram = datagram();
+    let packet = Packet::parse(&datagram).unwrap();
+    let (_, body) = packet.block().unwrap();
+    let mut places: Vec<Place> = packet.elements().places().collect();
+    let header = Header::parse(&datagram, &Map::new()).unwrap();
+    let mut buf = vec![0xEE; LEN];
+    assert_eq!(
+        header.write_with(&mut buf[1..], body, &places),
+        Err(NotWritten::ShortBuffer)
+    );
+    assert!(buf.iter().all(|byte| *byte == 0xEE));
+    assert_eq!(header.write_with(&mut buf, body, &places), Ok(LEN));
+    buf[75 - 2] = 0x0F; // the application bits, which are written as 0
+    assert_eq!(buf, datagram[..LEN]);
+    let mut block = vec![0xEE; 262_140];
+    assert_eq!(
+        write_elements(&mut block, Form::TwoByte, body, &places),
+        Ok(262_140)
+    );
+    assert_eq!(block, body);
+    places.push(Place::new(1, 0..0));
+    assert_eq!(
+        header.write_with(&mut buf, body, &places),
+        Err(NotWritten::BadField)
+    );
+}
+
+#[test]
+fn the_last_elements_are_changed() {
+    let mut expected = datagram();
+    let mut bytes = datagram();
+    let mut packet = PacketMut::parse(&mut bytes).unwrap();
+    let last = LEN - 257; // the last element has the id 255, as each of the four at the same place of their 255
+    assert_eq!(packet.as_packet().elements().last().unwrap().id, 255);
+    assert!(packet.set_element(255, &[5; 255]) && !packet.set_element(255, &[5; 254]));
+    expected[last + 2..LEN].fill(5);
+    // 1 to 255 become 255 to 1
+    let ids = (1..=255).fold(NewIds::new(), |ids, id: u8| ids.with(id, id.wrapping_neg()));
+    assert!(packet.renumber(&ids));
+    for (index, at) in (76..LEN).step_by(257).enumerate() {
+        expected[at] = element(index).0.wrapping_neg();
+    }
+    assert_eq!(packet.as_packet().datagram(), expected);
+    assert!(packet.remove_element(1)); // it was 255
+    for index in [254, 509, 764, 1019] {
+        expected[76 + 257 * index..][..257].fill(0);
+    }
+    assert_eq!(packet.into_datagram(), expected);
+}
