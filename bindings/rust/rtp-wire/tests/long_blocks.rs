@@ -88,7 +88,7 @@ fn all_elements_are_written() {
     );
     assert!(buf.iter().all(|byte| *byte == 0xEE));
     assert_eq!(header.write_with(&mut buf, body, &places), Ok(LEN));
-    buf[75 - 2] = 0x0F; // the application bits, which are written as 0
+    buf[73] = 0x0F; // the application bits, which are written as 0
     assert_eq!(buf, datagram[..LEN]);
     let mut block = vec![0xEE; 262_140];
     assert_eq!(

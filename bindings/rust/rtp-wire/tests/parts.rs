@@ -26,7 +26,7 @@ fn announced<I: FusedIterator + Clone>(mut it: I) -> Vec<Option<usize>> {
     while it.next().is_some() {
         left -= 1;
         let (low, high) = it.size_hint();
-        assert!(low <= left && high.map_or(false, |high| left <= high));
+        assert!(low <= left && high.is_some_and(|high| left <= high));
         most.push(high);
     }
     assert!(left == 0 && it.next().is_none() && it.next().is_none());
@@ -112,6 +112,10 @@ fn places_are_where_the_data_are() {
         let place = Place::new(9, from..to);
         assert_eq!((place.id(), place.data()), (9, from..to));
         assert_eq!(place.with_id(200), Place::new(200, from..to));
+        assert_eq!(
+            (place.with_id(200).id(), place.with_id(200).data()),
+            (200, from..to)
+        );
         assert_ne!(place.with_id(200), place);
         assert_ne!(place, Place::new(9, from..to + 1));
     }
@@ -165,7 +169,8 @@ fn a_packet_is_told() {
 #[test]
 fn packets_are_equal_by_their_bytes() {
     let packet = Packet::parse(&SAMPLE).unwrap();
-    assert_eq!(packet, Packet::parse(&SAMPLE.to_vec()).unwrap());
+    let copy = SAMPLE; // at another place
+    assert_eq!(packet, Packet::parse(&copy).unwrap());
     for at in 2..SAMPLE.len() {
         let mut bytes = SAMPLE;
         bytes[at] ^= 1;

@@ -72,6 +72,11 @@ fn texts_are_shown() {
         format!("{rid:>6}|{rid:*^6}|{rid:.2}|{rid:5}"),
         "  hi_2|*hi_2*|hi|hi_2 "
     );
+    let mid: Mid = "abcdefgh_1234567".parse().unwrap();
+    assert_eq!(
+        (mid.to_string(), format!("{mid:?}")),
+        ("abcdefgh_1234567".into(), "\"abcdefgh_1234567\"".into())
+    );
     let none: Rid = "".parse().unwrap();
     assert_eq!(format!("{none}{none:?}"), "\"\"");
 }

@@ -74,6 +74,13 @@ fn orientations_are_four() {
             it.video_orientation = Some(degrees)
         });
         assert_eq!(data, Err(NotWritten::BadField));
+        let mut header = Header::default(); // also where it isn't written
+        header.values.video_orientation = Some(degrees);
+        assert_eq!(
+            header.write_to(&mut [0; 100], &Map::new()),
+            Err(NotWritten::BadField)
+        );
+        assert_eq!(header.wire_len(&Map::new()), Err(NotWritten::BadField));
     }
 }
 

@@ -1,6 +1,9 @@
 //! The header of a packet, read by the bit fields of RFC 3550, 5.1 and RFC 8285, 4.2 and 4.3, and without the
 //! library.
 
+/// The first 16 bits of a block, and the id and the data of each element.
+pub type Block = (u16, Vec<(u8, Vec<u8>)>);
+
 #[derive(Debug, PartialEq)]
 pub struct Fields {
     pub version: u8,
@@ -12,8 +15,7 @@ pub struct Fields {
     pub timestamp: u32,
     pub ssrc: u32,
     pub sources: Vec<u32>,
-    /// The first 16 bits of the block, and the id and the data of each element.
-    pub block: Option<(u16, Vec<(u8, Vec<u8>)>)>,
+    pub block: Option<Block>,
     pub header_len: usize,
 }
 
