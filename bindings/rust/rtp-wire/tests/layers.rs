@@ -182,3 +182,38 @@ fn nothing_may_be_sent() {
     assert_eq!(read(&[0x01]), None); // cut short
     assert_ne!(read(&[0x01, 0, 5]), read(&[0x01, 0, 6]));
 }
+
+#[test]
+fn allocations_differ_in_each_number() {
+    let same = read(&bytes_of(1, &full())).unwrap();
+    assert_eq!(Some(same), read(&bytes_of(1, &full())));
+    assert_ne!(Some(same), read(&bytes_of(2, &full())));
+    let changes: [fn(&mut Vec<Vec<Given>>); 7] = [
+        |streams| streams[3][3].0[3] += 1,
+        |streams| streams[0][1].0.push(7),
+        |streams| streams[1][2].1 = Some((1, 2, 3)),
+        |streams| streams[2][0].1.as_mut().unwrap().0 += 1,
+        |streams| streams[2][1].1.as_mut().unwrap().1 += 1,
+        |streams| streams[2][2].1.as_mut().unwrap().2 += 1,
+        |streams| streams[3][3].1 = None,
+    ];
+    for (index, change) in changes.into_iter().enumerate() {
+        let mut streams = full();
+        change(&mut streams);
+        let other = read(&bytes_of(1, &streams)).unwrap();
+        assert_ne!(same, other, "{index}");
+        let pairs = same.streams().iter().zip(other.streams());
+        assert_eq!(pairs.filter(|(one, other)| one != other).count(), 1);
+        let layers = |it: &Layers| -> Vec<Layer> {
+            it.streams()
+                .iter()
+                .flat_map(|stream| stream.layers().to_vec())
+                .collect()
+        };
+        let (one, other) = (layers(&same), layers(&other));
+        let pairs = || one.iter().zip(&other);
+        assert_eq!(pairs().filter(|(one, other)| one != other).count(), 1);
+        let differs = pairs().any(|(one, other)| one.resolution() != other.resolution());
+        assert_eq!(differs, index > 1);
+    }
+}

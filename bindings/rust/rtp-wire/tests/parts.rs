@@ -122,6 +122,16 @@ fn places_are_where_the_data_are() {
 }
 
 #[test]
+fn elements_are_equal_by_id_and_data() {
+    let element = |id, data| Element { id, data };
+    let data = [2, 3, 4];
+    assert_eq!(element(1, &[2, 3]), element(1, &data[..2]));
+    for (id, data) in [(2, &[2, 3][..]), (1, &[2]), (1, &[2, 4]), (1, &[])] {
+        assert_ne!(element(1, &[2, 3]), element(id, data));
+    }
+}
+
+#[test]
 fn padding_is_at_the_end_where_p_is_set() {
     // the last byte of the payload 1, 2, 3, LAST, and what is left without the padding
     let rows: [(u8, Option<&[u8]>); 5] = [

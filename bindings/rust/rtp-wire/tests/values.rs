@@ -193,6 +193,24 @@ fn capture_times_have_64_bits() {
 }
 
 #[test]
+fn timings_have_five_numbers() {
+    let data = [2, 0, 10, 0, 20, 0, 30, 0, 40, 0, 0, 0, 0];
+    let values = read(Kind::VideoTiming, &data);
+    let timing = values.video_timing.unwrap();
+    assert_eq!(
+        written(Kind::VideoTiming, |it| it.video_timing = Some(timing)),
+        Ok(data.to_vec())
+    );
+    for at in 0..data.len() {
+        let mut other = data;
+        other[at] ^= 0x81;
+        let other = read(Kind::VideoTiming, &other);
+        assert_eq!(other.video_timing == Some(timing), at > 8, "{at}"); // the last four are passed over
+        assert_eq!(other == values, at > 8);
+    }
+}
+
+#[test]
 fn texts_have_each_length() {
     let letters = "0123456789abcdefghij";
     for len in 0..=20 {
