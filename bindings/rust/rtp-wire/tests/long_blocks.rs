@@ -1,8 +1,9 @@
 //! The longest block that a packet can have: 65,535 words, which are 1,020 elements of 255 bytes in the two-byte
-//! form.
+//! form; and long buffers.
 
 use rtp_wire::{
-    write_elements, Element, Form, Header, Kind, Map, NewIds, NotWritten, Packet, PacketMut, Place,
+    pad, read_original, write_elements, write_original, Element, Form, Header, Kind, Map, NewIds,
+    NotWritten, Packet, PacketMut, Place,
 };
 
 const LEN: usize = 12 + 60 + 4 + 262_140;
@@ -132,4 +133,53 @@ fn the_last_elements_are_changed() {
         expected[76 + 257 * index..][..257].fill(0);
     }
     assert_eq!(packet.into_datagram(), expected);
+}
+
+#[test]
+fn the_fixed_part_is_changed() {
+    let mut bytes = datagram();
+    let mut packet = PacketMut::parse(&mut bytes).unwrap();
+    packet.set_marker(true);
+    assert!(packet.set_payload_type(0x21));
+    packet.set_sequence_number(0x2223);
+    packet.set_timestamp(0x2425_2627);
+    packet.set_ssrc(0x2829_2A2B);
+    assert!(packet.set_csrc(14, 0x2C2D_2E2F) && !packet.set_csrc(15, 7));
+    let mut expected = datagram();
+    expected[1..12].copy_from_slice(&[
+        0xA1, 0x22, 0x23, 0x24, 0x25, 0x26, 0x27, 0x28, 0x29, 0x2A, 0x2B,
+    ]);
+    expected[68..72].copy_from_slice(&[0x2C, 0x2D, 0x2E, 0x2F]);
+    assert_eq!(packet.into_datagram(), expected);
+}
+
+#[test]
+fn long_buffers_are_used_whole() {
+    for len in [256, 512, 65_536, 131_072] {
+        let mut buf = vec![0x90; len];
+        assert_eq!(pad(&mut buf, len - 240, 239, 2), Some(240));
+        assert_eq!(
+            (buf[len - 241], &buf[len - 240..len - 1], buf[len - 1]),
+            (0x90, &[0; 239][..], 240)
+        );
+        assert!(write_original(&mut buf, 0x0102) && buf[..3] == [1, 2, 0x90]);
+        assert_eq!(read_original(&buf), Some((0x0102, &buf[2..])));
+        assert_eq!(Header::default().write_to(&mut buf, &Map::new()), Ok(12));
+        assert_eq!(buf[..13], [0x80, 0, 0, 0, 0, 0, 0, 0, 0, 0, 0, 0, buf[12]]);
+        assert_eq!(Packet::parse(&buf).unwrap().payload(), &buf[12..]);
+        assert_eq!(
+            Header::default().write_with(&mut buf, &[7; 300], &[Place::new(1, 0..1)]),
+            Ok(20)
+        );
+        assert_eq!(
+            write_elements(
+                &mut buf,
+                Form::OneByte,
+                &vec![7; len],
+                &[Place::new(1, len - 1..len)]
+            ),
+            Ok(2)
+        );
+        assert_eq!(buf[..3], [0x10, 7, 0]);
+    }
 }
