@@ -220,3 +220,25 @@ fn a_header_that_is_new_is_empty() {
         assert_eq!(Packet::parse(&buf), Err(NotAPacket::OtherVersion));
     }
 }
+
+#[test]
+fn headers_are_equal_by_all_fields() {
+    let header = header_of(ROWS[8]);
+    assert_eq!(header, header_of(ROWS[8]));
+    let changes: [fn(&mut Header); 9] = [
+        |it| it.marker ^= true,
+        |it| it.has_padding ^= true,
+        |it| it.has_extension ^= true,
+        |it| it.payload_type ^= 1,
+        |it| it.sequence_number ^= 1,
+        |it| it.timestamp ^= 1,
+        |it| it.ssrc ^= 1,
+        |it| it.values.transport_number = Some(0),
+        |it| assert!(it.set_csrcs(&SOURCES[..13])),
+    ];
+    for (index, change) in changes.into_iter().enumerate() {
+        let mut other = header;
+        change(&mut other);
+        assert_ne!(header, other, "{index}");
+    }
+}
