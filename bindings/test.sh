@@ -58,7 +58,7 @@ cc -std=c11 "${strict[@]}" -fsyntax-only bindings/test/layout.c
 c++ -std=c++11 "${strict[@]}" -fsyntax-only -x c++ bindings/test/layout.c
 said 'the header file, as C99 to C17 and C++11 to C++17, and where each field lies'
 
-for it in packets headers; do
+for it in packets headers statuses; do
     cc -std=c99 "${strict[@]}" bindings/c/test/$it.c "$library" -o "$scratch/by_hand"
     "$scratch/by_hand"
     c++ -std=c++11 "${strict[@]}" -Wno-missing-field-initializers -x c++ bindings/c/test/$it.c -x none "$library" -o "$scratch/by_hand"
@@ -84,12 +84,24 @@ else
     said 'Rust was left out: there is no cargo'
 fi
 compare() {
-    for lines in examples/*.lines; do
+    # by_hand.lines has what no capture has: padding, sources, no extension, a replay, a rollover, no packet, zeros
+    # as values, an empty text, a URI without a kind, CR LF.
+    for lines in examples/*.lines bindings/test/by_hand.lines; do
         "$@" <"$lines" | cmp - "${lines%.lines}.expected" >&2 || fail "$*, $lines"
     done
-    printf '80\n\n80210001000000020000000\n' >"$scratch/bad"
-    printf 'packet 1: unreadable\nverdict 1: unreadable\npacket 2: unreadable\nverdict 2: unreadable\nline 3: neither a map line nor hex\n' >"$scratch/expected"
-    { "$@" <"$scratch/bad" || [ $? -eq 2 ]; } | cmp - "$scratch/expected" >&2 || fail "$*, a bad line"
+    # 65,536 bytes
+    echo 'packet 1: pt 0 seq 1 ts 1 ssrc 44 marker no padding no extension no csrc 0 header 12' >"$scratch/long"
+    echo 'verdict 1: taken 1' >>"$scratch/long"
+    printf '80000001000000010000002C%0131048d\n' 0 | "$@" | cmp - "$scratch/long" >&2 || fail "$*, a long line"
+    printf 'packet 1: unreadable\nverdict 1: unreadable\nline 2: neither a map line nor hex\n' >"$scratch/second"
+    echo 'line 1: neither a map line nor hex' >"$scratch/first"
+    for bad in 802 8G 'map 0 urn:x' 'map 256 urn:x' 'map 300 urn:x' 'map 3' 'map 3 ' 'mop 3 urn:x'; do is_bad first "$bad" "$@"; done
+    for bad in 802 8G 'map 3 urn:x'; do is_bad second "80\n$bad" "$@"; done
+}
+is_bad() { # what is printed, the lines, the program
+    local status=0
+    printf '%b\n' "$2" | "${@:3}" >"$scratch/said" || status=$?
+    [ $status -eq 2 ] && cmp "$scratch/said" "$scratch/$1" >&2 || fail "${*:3}, the bad line $2"
 }
 for program in "$scratch"/lines_*; do compare "$program"; done
 said "the examples in $languages (in C static, shared and all static) against examples/*.expected"
@@ -103,11 +115,31 @@ printf '%s\n' 9021B798000027100000002CBEDE000242AABBCC303100000102 9021B79900002
 printf '%s\n' 902103E8000027100000004DBEDE000222140000000000000102 902103E9000027110000004DBEDE0001000000000304 \
     902103EA000027110000004DBEDE0001221428F505 >"$scratch/expected"
 diff "$scratch/expected" "$scratch/forwarded" >&2 || fail 'the forwarder'
+# 65,530 + 70,000 = 2 * 65,536 + 4,458 (0x116A), and 1 and 255 become 4,465 and 4,719; 6,400,000,063 s are 63 s
+# modulo 64, and 63.02 s are 16,520,314.9 units of 2^-18 s: 0xFC147A. P, M, X, the source, the application bits and
+# the payload stay; the ids 2 and 1 mean nothing to the publisher. The second to the fourth line are no packets.
+printf '%b\n' 80000001000000010000002C 80000001000000010000002C0 80000001000000010000002CGG '' \
+    B1E0FFFAABCDEF0112345678000000091002000304030102030202AABB0101FF4142434445464748494A000003\\r \
+    800000ff000000000000002c |
+    "$scratch/forward" 4294967290 70000 6400000063 >"$scratch/forwarded"
+printf '%s\n' 8000117100000001FFFFFFFA \
+    B1E0116AABCDEF01FFFFFFFA00000009100200030203FC147A000000000000004142434445464748494A000003 \
+    8000126F00000000FFFFFFFA >"$scratch/expected"
+diff "$scratch/expected" "$scratch/forwarded" >&2 || fail 'the forwarder, near the ends'
+printf '80000001000000010000002C%0131048d\n' 0 | "$scratch/forward" 4294967290 70000 5 >"$scratch/forwarded"
+printf '8000117100000001FFFFFFFA%0131048d\n' 0 | cmp - "$scratch/forwarded" >&2 || fail 'the forwarder, a long line'
+status=0
+"$scratch/forward" 77 -46000 </dev/null >"$scratch/forwarded" || status=$?
+[ $status -eq 2 ] && [ ! -s "$scratch/forwarded" ] || fail 'the forwarder without all its arguments'
 said 'the forwarder in C'
 
 if has cargo; then
     "${cargo[@]}" test "${crate[@]}" >"$scratch/cargo.log" 2>&1 || { cat "$scratch/cargo.log" >&2; fail 'cargo test'; }
     "${cargo[@]}" test "${crate[@]}" --release >"$scratch/cargo.log" 2>&1 || { cat "$scratch/cargo.log" >&2; fail 'cargo test'; }
+    if RTP_WIRE_PREFIX=$scratch/none CARGO_TARGET_DIR=$scratch/none "${cargo[@]}" build "${crate[@]}" >"$scratch/cargo.log" 2>&1; then
+        fail 'cargo links no library of RTP_WIRE_PREFIX'
+    fi
+    grep -qF "there is no $scratch/none/lib/librtp_wire.a" "$scratch/cargo.log" || fail 'what cargo says without the library'
     "${cargo[@]}" doc "${crate[@]}" --no-deps
     "${cargo[@]}" fmt "${crate[@]}" --check
     said 'the crate for Rust: cargo test, cargo doc and cargo fmt, without a warning'
@@ -185,7 +217,7 @@ if has aarch64-linux-gnu-gcc && has qemu-aarch64; then
     aarch64-linux-gnu-gcc -std=c11 "${strict[@]}" -fsyntax-only bindings/test/layout.c
     aarch64-linux-gnu-gcc -std=c99 "${strict[@]}" "${include[@]}" -static bindings/examples/lines.c "$arm" -o "$scratch/arm"
     compare qemu-aarch64 "$scratch/arm"
-    for it in packets headers; do
+    for it in packets headers statuses; do
         aarch64-linux-gnu-gcc -std=c99 "${strict[@]}" -static bindings/c/test/$it.c "$arm" -o "$scratch/arm"
         qemu-aarch64 "$scratch/arm"
     done

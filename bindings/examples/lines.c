@@ -27,7 +27,8 @@ static int is_map_line(const char *line) {
         return 0;
     }
     const char *uri = line + uri_at;
-    return rtp_map_set(&map, (uint8_t)id, rtp_kind_of_uri((const uint8_t *)uri, strcspn(uri, "\r\n"))) == RTP_OK;
+    size_t len = strcspn(uri, "\r\n");
+    return len != 0 && rtp_map_set(&map, (uint8_t)id, rtp_kind_of_uri((const uint8_t *)uri, len)) == RTP_OK;
 }
 
 /* How many bytes the line spells, which then stand at its beginning; -1 where it isn't hexadecimal. */

@@ -17,7 +17,7 @@ bool map_line(const std::string &line, rtp_map &map) {
     std::istringstream words(line);
     std::string word, uri;
     unsigned id;
-    if (!(words >> word >> id >> uri) || word != "map" || id > 255) {
+    if (!(words >> word >> id) || word != "map" || id > 255 || !std::getline(words >> std::ws, uri)) {
         return false;
     }
     const auto *bytes = reinterpret_cast<const std::uint8_t *>(uri.data());
@@ -93,6 +93,9 @@ int main() {
     unsigned long packets = 0, lines = 0;
     while (std::getline(std::cin, line)) {
         lines++;
+        if (!line.empty() && line.back() == '\r') {
+            line.pop_back();
+        }
         if (packets == 0 && map_line(line, map)) {
             continue;
         }

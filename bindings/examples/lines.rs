@@ -15,7 +15,7 @@ fn is_mapped(map: &mut Map, line: &str) -> bool {
         return false;
     };
     id.parse()
-        .is_ok_and(|id| map.set(id, Kind::from_uri(uri)).is_ok())
+        .is_ok_and(|id| !uri.is_empty() && map.set(id, Kind::from_uri(uri)).is_ok())
 }
 
 /// The bytes that the text spells.

@@ -255,16 +255,6 @@ static void originals_are_passed_on(void) {
     CHECK(rtp_write_original(bytes, 1, 65538) == RTP_SHORT_BUFFER && bytes[0] == 0x01);
     CHECK(rtp_write_original(bytes, 3, 65538) == RTP_OK);
     CHECK(bytes[0] == 0x00 && bytes[1] == 0x02 && bytes[2] == 0x03);
-    CHECK(rtp_version() == 256);
-}
-
-static void statuses_are_told(void) {
-    int32_t status;
-    for (status = RTP_OK; status <= RTP_CUT_BLOCK; status++) {
-        CHECK(strlen(rtp_status_text(status)) > 3);
-    }
-    CHECK(strcmp(rtp_status_text(RTP_NONE), "no such element") == 0);
-    CHECK(strcmp(rtp_status_text(-1), "no status of this library") == 0);
 }
 
 int main(void) {
@@ -279,6 +269,5 @@ int main(void) {
     receivers_start();
     padding_is_made();
     originals_are_passed_on();
-    statuses_are_told();
     return failed;
 }

@@ -1,12 +1,11 @@
 //! Maps, and headers that are read and written. Expected values are worked out by hand from RFC 3550, 5.1,
 //! RFC 8285 and the documents of the extensions.
 
-use std::error::Error;
 use std::time::Duration;
 
 use rtp_wire::{
-    write_elements, BadId, Form, Header, Kind, Map, Mid, NewIds, NotAHeader, NotAPacket, NotAText,
-    NotWritten, Packet, PacketMut, Place, Resolution, Rid, Values, VideoTiming,
+    write_elements, BadId, Form, Header, Kind, Map, NewIds, NotAHeader, NotAPacket, NotWritten,
+    Packet, PacketMut, Place, Resolution, Values, VideoTiming,
 };
 
 const MAP: Map = Map::new()
@@ -227,21 +226,4 @@ fn elements_are_written() {
     assert_eq!(write(Form::TwoByte, &[], place), Ok(2));
     assert_eq!(buf, [1, 0, 0x1F, 0xFF, 0xEE, 0xEE]);
     assert_eq!(NotWritten::ShortBuffer.to_string(), "a buffer is too short");
-}
-
-#[test]
-fn texts_are_plain() -> Result<(), Box<dyn Error>> {
-    let mid: Mid = "abcdefgh_1234567".parse()?;
-    assert_eq!(
-        (mid.as_str().len(), mid.to_string()),
-        (16, "abcdefgh_1234567".to_string())
-    );
-    assert_eq!("abcdefgh_12345678".parse::<Mid>(), Err(NotAText));
-    assert_eq!(Rid::try_from("abcdefghi"), Err(NotAText));
-    assert_eq!("a\0".parse::<Rid>(), Err(NotAText));
-    assert_eq!("ä".parse::<Rid>(), Err(NotAText));
-    let rid: Rid = "hi".parse()?;
-    assert_eq!(rid, "hi");
-    assert_eq!(format!("{rid:?} {rid:>4}"), "\"hi\"   hi");
-    Ok(())
 }

@@ -209,6 +209,51 @@ fn padding_and_originals_have_limits() {
     assert_eq!(buf, [0x80; 251]);
     assert_eq!(rtp_wire::pad(&mut buf, 11, 255, 16), Some(240));
     assert_eq!(rtp_wire::read_original(&[1]), None);
+    assert_eq!(rtp_wire::read_original(&[0, 0]), Some((0, &[][..])));
+    assert_eq!(
+        rtp_wire::read_original(&[0xFF, 0, 9, 8]),
+        Some((0xFF00, &[9, 8][..]))
+    );
     assert!(!rtp_wire::write_original(&mut [1], 2));
     assert_eq!(rtp_wire::version(), 256); // 0.1.0
+}
+
+#[test]
+fn padding_is_in_whole_blocks() {
+    // the length that is wanted, the size of a block, and how many bytes are written
+    let rows = [
+        (1, 1, 1),
+        (3, 4, 4),
+        (4, 4, 4),
+        (1, 16, 16),
+        (17, 16, 32),
+        (239, 1, 239),
+        (240, 16, 240),
+        (255, 1, 240),
+        (7, 239, 239),
+        (7, 300, 240),
+        (1, 1 << 32, 240),
+        (1, usize::MAX, 240),
+    ];
+    for (pad_len, block_size, count) in rows {
+        let mut buf = [0x95; 20 + 240];
+        let written = rtp_wire::pad(&mut buf, 20, pad_len, block_size);
+        assert_eq!(written, Some(usize::from(count)), "{pad_len} {block_size}");
+        let end = 20 + usize::from(count);
+        assert_eq!((buf[0], &buf[1..20]), (0xB5, &[0x95; 19][..]));
+        assert!(buf[20..end - 1].iter().all(|byte| *byte == 0));
+        assert_eq!(buf[end - 1], count);
+        assert!(buf[end..].iter().all(|byte| *byte == 0x95));
+    }
+    let mut buf = [0x95; 20 + 240];
+    assert_eq!(rtp_wire::pad(&mut buf, 20, 0, 4), Some(0));
+    for (header_len, pad_len, block_size) in
+        [(20, 0, 0), (21, 0, 4), (1 << 32, 1, 4), (usize::MAX, 1, 4)]
+    {
+        assert_eq!(
+            rtp_wire::pad(&mut buf, header_len, pad_len, block_size),
+            None
+        );
+    }
+    assert_eq!(buf, [0x95; 20 + 240]);
 }

@@ -1,0 +1,62 @@
+/* The texts of the statuses, and the version: those of the header file itself. The expected ones are written by
+ * hand. */
+#include "../rtp_wire.h"
+
+#include <stdio.h>
+#include <string.h>
+
+static int failed = 0;
+
+#define CHECK(holds) \
+    do { \
+        if (!(holds)) { \
+            printf("line %d: %s\n", __LINE__, #holds); \
+            failed = 1; \
+        } \
+    } while (0)
+
+static void statuses_are_told(void) {
+    static const struct {
+        int32_t status;
+        const char *text;
+    } rows[] = {
+        {0, "done"},
+        {1, "fewer than twelve bytes"},
+        {2, "another version than 2"},
+        {3, "the CSRC list is cut short"},
+        {4, "the header of the extension block is cut short"},
+        {5, "a header extension of an unknown form"},
+        {6, "the extension block is cut short"},
+        {7, "memory was refused"},
+        {8, "a buffer is too short"},
+        {9, "an argument is out of its range"},
+        {10, "a replay, or too old to tell"},
+        {11, "no such element"},
+        {12, "no status of this library"},
+        {-1, "no status of this library"},
+        {INT32_MAX, "no status of this library"},
+        {INT32_MIN, "no status of this library"},
+    };
+    size_t i;
+    for (i = 0; i < sizeof rows / sizeof *rows; i++) {
+        if (strcmp(rtp_status_text(rows[i].status), rows[i].text) != 0) {
+            printf("status %ld: %s\n", (long)rows[i].status, rtp_status_text(rows[i].status));
+            failed = 1;
+        }
+    }
+}
+
+static void versions_agree(void) {
+    unsigned major, minor, patch;
+    char rest;
+    CHECK(strcmp(RTP_WIRE_VERSION, "0.1.0") == 0);
+    CHECK(sscanf(RTP_WIRE_VERSION, "%u.%u.%u%c", &major, &minor, &patch, &rest) == 3);
+    CHECK(rtp_version() == 65536 * major + 256 * minor + patch);
+    CHECK(rtp_version() == 256);
+}
+
+int main(void) {
+    statuses_are_told();
+    versions_agree();
+    return failed;
+}

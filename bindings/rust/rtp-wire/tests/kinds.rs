@@ -1,0 +1,199 @@
+//! The fifteen kinds: their URIs, and their numbers in the header file for C.
+
+use rtp_wire::{BadId, Kind, Map, NewIds};
+
+/// The kind, its number, its name in the header file, and its URI.
+const KINDS: [(Kind, u8, &str, &str); 15] = [
+    (
+        Kind::AbsSendTime,
+        1,
+        "ABS_SEND_TIME",
+        "http://www.webrtc.org/experiments/rtp-hdrext/abs-send-time",
+    ),
+    (
+        Kind::AbsCaptureTime,
+        2,
+        "ABS_CAPTURE_TIME",
+        "http://www.webrtc.org/experiments/rtp-hdrext/abs-capture-time",
+    ),
+    (
+        Kind::AudioLevel,
+        3,
+        "AUDIO_LEVEL",
+        "urn:ietf:params:rtp-hdrext:ssrc-audio-level",
+    ),
+    (
+        Kind::TransmissionOffset,
+        4,
+        "TRANSMISSION_OFFSET",
+        "urn:ietf:params:rtp-hdrext:toffset",
+    ),
+    (
+        Kind::VideoOrientation,
+        5,
+        "VIDEO_ORIENTATION",
+        "urn:3gpp:video-orientation",
+    ),
+    (
+        Kind::TransportNumber,
+        6,
+        "TRANSPORT_NUMBER",
+        "http://www.ietf.org/id/draft-holmer-rmcat-transport-wide-cc-extensions-01",
+    ),
+    (
+        Kind::PlayoutDelay,
+        7,
+        "PLAYOUT_DELAY",
+        "http://www.webrtc.org/experiments/rtp-hdrext/playout-delay",
+    ),
+    (
+        Kind::VideoContentType,
+        8,
+        "VIDEO_CONTENT_TYPE",
+        "http://www.webrtc.org/experiments/rtp-hdrext/video-content-type",
+    ),
+    (
+        Kind::VideoTiming,
+        9,
+        "VIDEO_TIMING",
+        "http://www.webrtc.org/experiments/rtp-hdrext/video-timing",
+    ),
+    (
+        Kind::Rid,
+        10,
+        "RID",
+        "urn:ietf:params:rtp-hdrext:sdes:rtp-stream-id",
+    ),
+    (
+        Kind::RepairedRid,
+        11,
+        "REPAIRED_RID",
+        "urn:ietf:params:rtp-hdrext:sdes:repaired-rtp-stream-id",
+    ),
+    (Kind::Mid, 12, "MID", "urn:ietf:params:rtp-hdrext:sdes:mid"),
+    (
+        Kind::FrameMarking,
+        13,
+        "FRAME_MARKING",
+        "http://tools.ietf.org/html/draft-ietf-avtext-framemarking-07",
+    ),
+    (
+        Kind::ColorSpace,
+        14,
+        "COLOR_SPACE",
+        "http://www.webrtc.org/experiments/rtp-hdrext/color-space",
+    ),
+    (
+        Kind::Layers,
+        15,
+        "LAYERS",
+        "http://www.webrtc.org/experiments/rtp-hdrext/video-layers-allocation00",
+    ),
+];
+
+#[test]
+fn each_kind_has_its_number_and_its_uri() {
+    let header_file = include_str!("../../../c/rtp_wire.h");
+    for (kind, number, name, uri) in KINDS {
+        assert_eq!(kind as u8, number);
+        assert!(
+            header_file.contains(&format!("RTP_KIND_{name} = {number}")),
+            "{name}"
+        );
+        assert_eq!(Kind::from_uri(uri), Some(kind));
+        assert_eq!(Kind::from_uri(&uri[1..]), None);
+        assert_eq!(Kind::from_uri(&uri[..uri.len() - 1]), None);
+        for other in [
+            format!("{uri}/"),
+            format!("{uri} "),
+            format!(" {uri}"),
+            format!("{uri}\0"),
+            format!("{uri}\r"),
+        ] {
+            assert_eq!(Kind::from_uri(&other), None, "{other:?}");
+        }
+        assert_eq!(Kind::from_uri(&uri.to_uppercase()), None);
+    }
+}
+
+#[test]
+fn each_id_takes_each_kind() {
+    for (index, (kind, _, _, uri)) in KINDS.into_iter().enumerate() {
+        for id in 1..=255 {
+            let mut map = Map::new();
+            assert_eq!(map.set(id, Some(kind)), Ok(()));
+            assert_eq!(map, Map::new().with(id, kind));
+            assert_eq!(Map::from_uris([(id, "urn:x"), (id, uri)]), Ok(map));
+            let known: Vec<_> = (0..=255)
+                .filter_map(|it| Some((it, map.get(it)?)))
+                .collect();
+            assert_eq!(known, [(id, kind)]);
+            let (other, ..) = KINDS[(index + 1) % 15];
+            assert_ne!(map, map.with(id, other));
+            assert_eq!(map.with(id, other).get(id), Some(other));
+            assert_eq!(map.set(0, Some(kind)), Err(BadId));
+            assert_eq!(map.set(0, None), Err(BadId));
+            assert_eq!(map.get(id), Some(kind));
+            assert_eq!(map.set(id, None), Ok(()));
+            assert_eq!(map, Map::default());
+        }
+        assert_eq!(Map::new().with(0, kind), Map::new());
+        assert_eq!(Map::from_uris([(0, uri)]), Err(BadId));
+    }
+}
+
+#[test]
+fn each_map_is_told() {
+    let all = KINDS
+        .into_iter()
+        .fold(Map::new(), |map, (kind, number, ..)| {
+            map.with(16 - number, kind)
+        });
+    let text = format!("{:?}", all.with(255, Kind::Mid).with(0, Kind::Rid));
+    assert_eq!(
+        text,
+        "{1: Layers, 2: ColorSpace, 3: FrameMarking, 4: Mid, 5: RepairedRid, 6: Rid, 7: VideoTiming, \
+         8: VideoContentType, 9: PlayoutDelay, 10: TransportNumber, 11: VideoOrientation, \
+         12: TransmissionOffset, 13: AudioLevel, 14: AbsCaptureTime, 15: AbsSendTime, 255: Mid}"
+    );
+    assert_eq!(format!("{:?}", Map::new()), "{}");
+}
+
+#[test]
+fn new_ids_lead_from_one_map_to_the_other() {
+    let from = KINDS
+        .into_iter()
+        .fold(Map::new(), |map, (kind, number, ..)| map.with(number, kind));
+    let to = KINDS
+        .into_iter()
+        .fold(Map::new(), |map, (kind, number, ..)| {
+            map.with(240 + number, kind)
+        });
+    let ids = NewIds::between(&from, &to.with(200, Kind::AudioLevel).with(252, Kind::Rid));
+    for id in 0..=255 {
+        let new = match id {
+            3 => Some(200), // the lowest
+            12 => None,     // the mid has none
+            1..=15 => Some(240 + id),
+            _ => None,
+        };
+        assert_eq!(ids.get(id), new, "{id}");
+    }
+    assert_ne!(NewIds::between(&to, &from), ids);
+    assert_eq!(NewIds::between(&to, &from).get(241), Some(1));
+    assert_eq!(NewIds::between(&Map::new(), &to), NewIds::default());
+
+    let by_hand = NewIds::new()
+        .with(1, 255)
+        .with(255, 1)
+        .with(9, 3)
+        .with(9, 0)
+        .with(0, 7);
+    let known: Vec<_> = (0..=255)
+        .filter_map(|id| Some((id, by_hand.get(id)?)))
+        .collect();
+    assert_eq!(known, [(1, 255), (255, 1)]);
+    assert_eq!(format!("{by_hand:?}"), "{1: 255, 255: 1}");
+    assert_eq!(by_hand, NewIds::new().with(255, 1).with(1, 255));
+    assert_ne!(by_hand, by_hand.with(255, 2));
+}
