@@ -1,5 +1,5 @@
 -- The data of an element are well-formed for a kind, or they are not.
-use Rattle.std.proofs.Common.{◌≡◌, ℕ, ◌≤◌, ◌⊎◌, inl, inr, List, length, take, drop, Option, Some, None, IsSomeAnd, true, false, eqb, refl, sym, ◌∙◌, arith}
+use Rattle.std.proofs.Common.{◌≡◌, ℕ, ◌<◌, ◌≤◌, ◌⊎◌, inl, inr, List, length, take, drop, get_or, Option, Some, None, IsSomeAnd, true, false, eqb, refl, sym, ◌∙◌, arith}
 use Rattle.std.specs.Prelude.{◌*◌, ◌/◌, ◌%◌, IsUtf8, slice_index, slice_range, neg_ℤ, pos}
 use Rattle.std.specs.Str.{is_utf8}
 use Rattle.std.proofs.lemmas.Bool.{cases_lt, cases_Bool, false≢true}
@@ -7,7 +7,7 @@ use Rattle.std.proofs.lemmas.Str.{IsUtf8-from_is_utf8, is_utf8-from_IsUtf8}
 use Rattle.rtp_base.specs.Id.{id_text, padded}
 use Rattle.rtp_base.proofs.IdLemmas.{IsIdOf-padded}
 use Rattle.rtp_vla.specs.Allocation.{Allocation, Means}
-use Rattle.rtp_vla.proofs.AllocationParts.{AreBytes}
+use Rattle.rtp_vla.proofs.AllocationParts.{AreBytes-from}
 use Rattle.rtp_vla.proofs.MeaningOrNone.{means_or_none}
 use Rattle.rtp_values.specs.declared.kind.Extension.{Extension}
 use Rattle.rtp_values.specs.declared.kind.Extension.TheVariants.{AbsoluteSendTime, AbsoluteCaptureTime, AudioLevel, TransmissionTimeOffset, VideoOrientation, TransportSequenceNumber, PlayoutDelay, VideoContentType, VideoTiming, RtpStreamId, RepairedRtpStreamId, RtpMid, FrameMarking, ColorSpace, VideoLayersAllocation, UnknownUri}
@@ -39,7 +39,7 @@ not_meant : (bytes : List ℕ) (allocation : Option Allocation) → ((a : Alloca
 not_meant bytes None none is = absurd is
 not_meant bytes (Some a) none is = none a is
 
-pub well_formed_or_not : (kind : Extension) (bytes : List ℕ) → AreBytes bytes → WellFormedOrNot kind bytes
+pub well_formed_or_not : (kind : Extension) (bytes : List ℕ) → ((i : ℕ) → get_or bytes i 0 < 256) → WellFormedOrNot kind bytes
 well_formed_or_not AbsoluteSendTime bytes all =
     enough_or_not AbsoluteSendTime bytes 3 (record no_values { abs_send_time = Some (big_endian (take 3 bytes) * 1000000 / 262144) }) (λ long. (long, refl)) (λ is. is.1.0)
 well_formed_or_not AbsoluteCaptureTime bytes all =
@@ -78,7 +78,7 @@ well_formed_or_not RtpMid bytes all =
 well_formed_or_not FrameMarking bytes all =
     enough_or_not FrameMarking bytes 4 (record no_values { frame_mark = Some (big_endian (take 4 bytes)) }) (λ long. (long, refl)) (λ is. is.1.0)
 well_formed_or_not ColorSpace bytes all = inr (λ is. absurd is.1)
-well_formed_or_not VideoLayersAllocation bytes all = elim (means_or_none bytes all) [
+well_formed_or_not VideoLayersAllocation bytes all = elim (means_or_none bytes (AreBytes-from bytes all)) [
   | inl means ↦ inl (record no_values { video_layers_allocation = Some means.0 }, means.1)
   | inr none ↦ inr (λ is. not_meant bytes is.0.video_layers_allocation none is.1)
 ]
