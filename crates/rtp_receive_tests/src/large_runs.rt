@@ -2,7 +2,7 @@
 
 use crate::checks::same;
 use rtp_base::{SeqNo, Ssrc};
-use rtp_wire::{Receivers, Verdict, receive_run, receive_run_one};
+use rtp_wire::{ExtensionMap, Receivers, Verdict, receive_run, receive_run_one};
 use rtp_wire_fixtures::verdict;
 use std::alloc::{AllocError, Global};
 use std::process::Abort;
@@ -66,9 +66,10 @@ fn are(rt: &impl Abort, verdicts: &[Verdict], first: Verdict, later: Verdict) {
 #[test]
 fn a_run_of_5_000_sources(rt: HostRuntime) {
     let run = of_each_source(rt.alloc()).expect(&rt, "memory");
-    let verdicts = receive_run(rt.alloc(), &run).expect(&rt, "memory");
+    let exts = ExtensionMap::standard();
+    let verdicts = receive_run(rt.alloc(), &run, &exts).expect(&rt, "memory");
     are(&rt, &verdicts, verdict(Some(7)), verdict(Some(7)));
-    let verdicts = receive_run_one(rt.alloc(), &run).expect(&rt, "memory");
+    let verdicts = receive_run_one(rt.alloc(), &run, &exts).expect(&rt, "memory");
     are(&rt, &verdicts, verdict(Some(7)), Verdict::Refused);
 }
 
@@ -95,8 +96,9 @@ fn are_taken(rt: &impl Abort, verdicts: &[Verdict]) {
 #[test]
 fn a_run_of_3_000_long_datagrams(rt: HostRuntime) {
     let run = long_datagrams(rt.alloc()).expect(&rt, "memory");
-    let verdicts = receive_run(rt.alloc(), &run).expect(&rt, "memory");
+    let exts = ExtensionMap::standard();
+    let verdicts = receive_run(rt.alloc(), &run, &exts).expect(&rt, "memory");
     are_taken(&rt, &verdicts);
-    let verdicts = receive_run_one(rt.alloc(), &run).expect(&rt, "memory");
+    let verdicts = receive_run_one(rt.alloc(), &run, &exts).expect(&rt, "memory");
     are_taken(&rt, &verdicts);
 }
