@@ -6,7 +6,7 @@ use Rattle.std.specs.Char.{is_ascii_alphanumeric}
 use Rattle.std.specs.Str.{chars, IsAscii}
 use Rattle.std.proofs.lemmas.Bool.{ne_eqb, cases_lt, cases_Bool, false≢true}
 use Rattle.std.proofs.lemmas.Bool.Decides.{nat_tests}
-use Rattle.std.proofs.lemmas.List.{get_or_append_left, get_or-append_right, get_or_past, get_or-replicate, length-replicate, take-append-drop, drop-replicate, take_all}
+use Rattle.std.proofs.lemmas.List.{get_or_append_left, get_or-append_right, get_or_past, get_or-replicate, length-replicate, length-take, take-append-drop, drop-replicate, take_all}
 use Rattle.std.proofs.lemmas.List.Elements.{All-nil, All-cons, All-take, All-head, All-tail, All-replicate}
 use Rattle.std.proofs.lemmas.List.Sums.{position_or_len_is}
 use Rattle.std.proofs.lemmas.Str.{IsUtf8-from_ascii, chars-IsAscii}
@@ -101,6 +101,16 @@ IsIdOf-put size text room len within size-is front back =
       record { kept = whole; text_is = ap before_padding whole ∙ before_padding-padded it (size - length it) each },
       record { text = it; spaces = size - length it; bytes_are = whole; text_is = each },
     )
+
+-- each text has an id
+pub IsIdOf-padded : (size : ℕ) (text : List ℕ) → IsIdOf size text (padded size (id_text size text))
+IsIdOf-padded size text =
+    let it = id_text size text in
+    let spaces : List ℕ = replicate (size - length it) 32 in
+    let few : length it ≤ size = omega (arith, length-take size (map id_char (chars text))) in
+    let long : length (it ++ spaces) ≡ size = omega (arith, length-append it spaces, length-replicate {A = ℕ} (size - length it) 32, few) in
+    (IsIdOf-put size text (it ++ spaces) (length it) (omega (arith, long, few)) long (take_at it spaces (length it) refl)
+    (drop_at it spaces (length it) refl ∙ sym (drop-replicate (length it) size 32))).0
 
 -- ---- the text of an id, and its id
 

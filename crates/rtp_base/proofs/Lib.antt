@@ -1,7 +1,7 @@
 mod BitmapLemmas
 mod DirectionLemmas
 mod FrequencyLemmas
-mod IdLemmas
+pub mod IdLemmas
 mod IdTextLemmas
 mod MediaTimeLemmas
 pub mod OverwritingLemmas

@@ -68,7 +68,7 @@ AreElements-only form body elements are =
     are.elements_are ∙ (elements_left-pieces form are.pieces are.tail are.are_pieces are.is_tail ∙ ap (elements_left form) (sym are.body_is))
 
 -- bytes, of which each is below 256
-abbrev AreBytes : List ℕ → Type 0
+abbrev pub AreBytes : List ℕ → Type 0
 AreBytes bytes = (i : ℕ) → get_or bytes i 0 < 256
 
 -- the elements of a body with one more piece in front, or of one that is a tail

@@ -2,6 +2,7 @@ pub mod ElementLemmas
 pub mod ValuesLaws
 mod ValueFacts
 pub mod ElementLemmasOfBodies
+pub mod ValuesFound
 pub mod FirstElementLemmas
 mod PlaceLemmas
 mod PieceLemmas

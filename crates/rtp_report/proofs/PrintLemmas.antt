@@ -13,12 +13,10 @@ use Rattle.rtp_wire.specs.declared.header.rtp_header.RtpHeader.{RtpHeader}
 use Rattle.rtp_wire.specs.declared.receive.verdict.Verdict.{Verdict}
 use Rattle.rtp_wire.specs.Header.{IsWire}
 use Rattle.rtp_wire.specs.Receivers.{ReceiverStates}
-use Rattle.rtp_wire.specs.NotAHeader.{NotAHeader}
-use Rattle.rtp_wire.specs.Verdicts.{IsPacketId, IsVerdict}
-use Rattle.rtp_wire.specs.Sending.{packet_id_of}
+use Rattle.rtp_wire.specs.Verdicts.{PacketId, packet_id_of, IsPacketId, ArePacketIds, IsVerdict}
 use Rattle.rtp_wire.specs.Sources.{AreVerdictsBySource, taken_of, numbers_beside}
 use Rattle.rtp_wire.specs.EachSource.{HoldsEach, taken_after_each}
-use Rattle.rtp_wire.proofs.VerdictLemmas.{AllZip-more, IsPacketId-wire, IsPacketId-refused}
+use Rattle.rtp_wire.proofs.VerdictLemmas.{AllZip-more}
 use Rattle.rtp_wire.proofs.SourceLemmas.{SoFarEach, SoFarEach-none, SoFarEach-more}
 use Rattle.rtp_report.specs.declared.program.RunEnd.{RunEnd}
 use Rattle.rtp_report.specs.declared.program.RunEnd.TheVariants.{NoMemory, Io}
@@ -36,10 +34,9 @@ IsHeader-parsed exts datagram None found only = λ header wire. none-some header
 IsHeader-parsed exts datagram (Some header) found only = found
 
 -- and its packet id is that of the datagram
-pub IsPacketId-parsed : (exts : ExtensionMap) (datagram : List ℕ) (answer : Option RtpHeader) → IfSome answer (IsWire exts datagram) → (answer ≡ None → NotAHeader datagram)
-    → IsPacketId datagram (option_map packet_id_of answer)
-IsPacketId-parsed exts datagram None found refused = IsPacketId-refused datagram (refused refl)
-IsPacketId-parsed exts datagram (Some header) found refused = IsPacketId-wire exts datagram header found
+IsPacketId-header : (exts : ExtensionMap) (datagram : List ℕ) (header : Option RtpHeader) → IsHeader exts datagram header → IsPacketId exts datagram (option_map packet_id_of header)
+IsPacketId-header exts datagram None none = none
+IsPacketId-header exts datagram (Some header) wire = record { header = header; wire = wire; packet_id_is = refl }
 
 -- the lines of one datagram more
 lines_from-push : (packet : ℕ) (reports : List Report) (report : Report) → lines_from packet (reports ++ report ∷ []) ≡ lines_from packet reports ++ packet_lines (packet + length reports) report.0 report.1
@@ -55,41 +52,43 @@ pub record Printed (exts : ExtensionMap) (datagrams : List (List ℕ)) (done : �
   pub reports : List Report
   pub as_many : length reports ≡ done
   pub headers_are : AllZip (λ (datagram : List ℕ) (report : Report). IsHeader exts datagram report.0) (take done datagrams) reports
-  pub so_far : SoFarEach (take done datagrams) (map (λ (report : Report). report.1) reports) receivers
+  pub packet_ids : List (Option PacketId)
+  pub are_packet_ids : ArePacketIds exts (take done datagrams) packet_ids
+  pub so_far : SoFarEach packet_ids (map (λ (report : Report). report.1) reports) receivers
   pub written : List ℕ
   pub appended : Appends old new written
   pub lines_are : written ++ text ≡ lines_from 1 reports
   pub count : ℕ
   pub whole : IsReport exts (take count datagrams) written
 
-verdicts_of : (datagrams : List (List ℕ)) (verdicts : List Verdict) (receivers : ReceiverStates) → SoFarEach datagrams verdicts receivers → AreVerdictsBySource datagrams verdicts
-verdicts_of datagrams verdicts receivers so_far = record { packet_ids = so_far.packet_ids; are_packet_ids = so_far.are_packet_ids; runs = so_far.runs }
-
 pub Printed-none : (exts : ExtensionMap) (datagrams : List (List ℕ)) (old : Option (List ℕ)) (text : List ℕ) (receivers : ReceiverStates) → Appends old old [] → text ≡ [] → receivers ≡ record { rollover_count = 0; by_source = [] }
     → Printed exts datagrams 0 old old text receivers
 Printed-none exts datagrams old text receivers same empty none =
-    let so_far : SoFarEach [] [] receivers = SoFarEach-none [] receivers refl none in
+    let so_far : SoFarEach [] [] receivers = SoFarEach-none receivers none in
     record {
       reports = [];
       as_many = refl;
       headers_are = tt;
+      packet_ids = [];
+      are_packet_ids = tt;
       so_far = so_far;
       written = [];
       appended = same;
       lines_are = empty;
       count = 0;
-      whole = record { reports = []; headers_are = tt; verdicts_are = verdicts_of [] [] receivers so_far; printed_is = refl };
+      whole = record { reports = []; headers_are = tt; verdicts_are = record { packet_ids = []; are_packet_ids = tt; runs = so_far.runs }; printed_is = refl };
     }
 
 -- the lines of one datagram more are put after the text
 pub Printed-more : (exts : ExtensionMap) (datagrams : List (List ℕ)) (done : ℕ) (old new : Option (List ℕ)) (text text' : List ℕ) (before after : ReceiverStates) (header : Option RtpHeader) (verdict : Verdict)
-    → Printed exts datagrams done old new text before → done < length datagrams → IsHeader exts (get_or datagrams done []) header → IsPacketId (get_or datagrams done []) (option_map packet_id_of header)
+    → Printed exts datagrams done old new text before → done < length datagrams → IsHeader exts (get_or datagrams done []) header
     → ((taken : ℕ → Numbers) → HoldsEach before 0 taken → IsVerdict 0 (numbers_beside taken (option_map packet_id_of header)) (option_map packet_id_of header) verdict)
     → ((taken : ℕ → Numbers) → HoldsEach before 0 taken → HoldsEach after 0 (taken_after_each taken (option_map packet_id_of header) verdict))
     → text' ≡ text ++ packet_lines (done + 1) header verdict → Printed exts datagrams (done + 1) old new text' after
-Printed-more exts datagrams done old new text text' before after header verdict p below is read judged holds grown =
+Printed-more exts datagrams done old new text text' before after header verdict p below is judged holds grown =
     let report : Report = (header, verdict) in
     let datagram = get_or datagrams done [] in
+    let packet_id = option_map packet_id_of header in
     let verdicts = map (λ (r : Report). r.1) p.reports in
     let one : take (done + 1) datagrams ≡ take done datagrams ++ datagram ∷ [] = take_more datagrams done [] below in
     record {
@@ -98,11 +97,13 @@ Printed-more exts datagrams done old new text text' before after header verdict 
       headers_are =
           subst (λ (ds : List (List ℕ)). AllZip (λ (d : List ℕ) (r : Report). IsHeader exts d r.0) ds (p.reports ++ report ∷ [])) (sym one)
           (AllZip-more (λ (d : List ℕ) (r : Report). IsHeader exts d r.0) (take done datagrams) p.reports datagram report p.headers_are is);
+      packet_ids = p.packet_ids ++ packet_id ∷ [];
+      are_packet_ids =
+          subst (λ (ds : List (List ℕ)). ArePacketIds exts ds (p.packet_ids ++ packet_id ∷ [])) (sym one)
+          (AllZip-more (IsPacketId exts) (take done datagrams) p.packet_ids datagram packet_id p.are_packet_ids (IsPacketId-header exts datagram header is));
       so_far =
-          subst (λ (ds : List (List ℕ)). SoFarEach ds (map (λ (r : Report). r.1) (p.reports ++ report ∷ [])) after) (sym one)
-          (subst (λ (vs : List Verdict). SoFarEach (take done datagrams ++ datagram ∷ []) vs after) (sym (map_push (λ (r : Report). r.1) p.reports report))
-          (SoFarEach-more (take done datagrams) datagram (option_map packet_id_of header) verdicts verdict before after p.so_far read
-          (judged (taken_of p.so_far.packet_ids verdicts) p.so_far.holds) (holds (taken_of p.so_far.packet_ids verdicts) p.so_far.holds)));
+          subst (λ (vs : List Verdict). SoFarEach (p.packet_ids ++ packet_id ∷ []) vs after) (sym (map_push (λ (r : Report). r.1) p.reports report))
+          (SoFarEach-more p.packet_ids packet_id verdicts verdict before after p.so_far (judged (taken_of p.packet_ids verdicts) p.so_far.holds) (holds (taken_of p.packet_ids verdicts) p.so_far.holds));
       written = p.written;
       appended = p.appended;
       lines_are =
@@ -117,7 +118,7 @@ Printed-more exts datagrams done old new text text' before after header verdict 
 -- the lines of the first datagrams, whether they are written or in the text
 pub IsReport-printed : (exts : ExtensionMap) (datagrams : List (List ℕ)) (done : ℕ) (old new : Option (List ℕ)) (text : List ℕ) (receivers : ReceiverStates)
     → (p : Printed exts datagrams done old new text receivers) → IsReport exts (take done datagrams) (p.written ++ text)
-IsReport-printed exts datagrams done old new text receivers p = record { reports = p.reports; headers_are = p.headers_are; verdicts_are = verdicts_of (take done datagrams) (map (λ (report : Report). report.1) p.reports) receivers p.so_far; printed_is = p.lines_are }
+IsReport-printed exts datagrams done old new text receivers p = record { reports = p.reports; headers_are = p.headers_are; verdicts_are = record { packet_ids = p.packet_ids; are_packet_ids = p.are_packet_ids; runs = p.so_far.runs }; printed_is = p.lines_are }
 
 -- the text is written
 pub Printed-written : (exts : ExtensionMap) (datagrams : List (List ℕ)) (done : ℕ) (old new after : Option (List ℕ)) (text text' : List ℕ) (receivers : ReceiverStates)
@@ -126,6 +127,8 @@ Printed-written exts datagrams done old new after text text' receivers p appends
   reports = p.reports;
   as_many = p.as_many;
   headers_are = p.headers_are;
+  packet_ids = p.packet_ids;
+  are_packet_ids = p.are_packet_ids;
   so_far = p.so_far;
   written = p.written ++ text;
   appended = Appends-trans old new after p.written text p.appended appends;

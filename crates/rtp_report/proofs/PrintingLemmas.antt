@@ -11,8 +11,7 @@ use Rattle.rtp_ext.specs.declared.ext.map.ExtensionMap.{ExtensionMap}
 use Rattle.rtp_wire.specs.declared.header.rtp_header.RtpHeader.{RtpHeader}
 use Rattle.rtp_wire.specs.declared.receive.verdict.Verdict.{Verdict}
 use Rattle.rtp_wire.specs.Receivers.{ReceiverStates}
-use Rattle.rtp_wire.specs.Verdicts.{IsPacketId, IsVerdict}
-use Rattle.rtp_wire.specs.Sending.{packet_id_of}
+use Rattle.rtp_wire.specs.Verdicts.{packet_id_of, IsVerdict}
 use Rattle.rtp_wire.specs.Sources.{numbers_beside}
 use Rattle.rtp_wire.specs.EachSource.{HoldsEach, taken_after_each}
 use Rattle.rtp_report.specs.Input.{AreHex}
@@ -75,18 +74,18 @@ IsOk-next exts input rest line after done old new text receivers p hex first =
 -- the lines of one datagram more are put after the text
 pub Printing-more : (exts : ExtensionMap) (input rest line after : List ℕ) (done : ℕ) (old new : Option (List ℕ)) (text text' : List ℕ) (before later : ReceiverStates) (header : Option RtpHeader) (verdict : Verdict)
     → Printing exts input rest done old new text before → lines rest ≡ line ∷ lines after → length after < length rest
-    → ((bytes : List ℕ) → decode_of line ≡ Ok bytes → IsHeader exts bytes header) → ((bytes : List ℕ) → decode_of line ≡ Ok bytes → IsPacketId bytes (option_map packet_id_of header))
+    → ((bytes : List ℕ) → decode_of line ≡ Ok bytes → IsHeader exts bytes header)
     → ((taken : ℕ → Numbers) → HoldsEach before 0 taken → IsVerdict 0 (numbers_beside taken (option_map packet_id_of header)) (option_map packet_id_of header) verdict)
     → ((taken : ℕ → Numbers) → HoldsEach before 0 taken → HoldsEach later 0 (taken_after_each taken (option_map packet_id_of header) verdict))
     → text' ≡ text ++ packet_lines (done + 1) header verdict → Printing exts input after (done + 1) old new text' later
-Printing-more exts input rest line after done old new text text' before later header verdict p first shorter is read judged holds grown =
+Printing-more exts input rest line after done old new text text' before later header verdict p first shorter is judged holds grown =
     let next = λ (datagrams : List (List ℕ)) (hex : AreHex (lines input) datagrams). NextLine-left rest line after datagrams done (p.left datagrams hex) first in
     record {
       fits = let fits = p.fits in omega arith;
       printed = λ datagrams hex.
           let here = next datagrams hex in
           Printed-more exts datagrams done old new text text' before later header verdict (p.printed datagrams hex) here.below (is (get_or datagrams done []) here.decoded)
-          (read (get_or datagrams done []) here.decoded) judged holds grown;
+          judged holds grown;
       left = λ datagrams hex. (next datagrams hex).others;
     }
 

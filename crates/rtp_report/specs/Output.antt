@@ -31,7 +31,7 @@ lines_from packet (report ∷ reports) = packet_lines packet report.0 report.1 +
 pub record IsReport (exts : ExtensionMap) (datagrams : List (List ℕ)) (printed : List ℕ) : Type 0 where
   pub reports : List (Option RtpHeader × Verdict)
   pub headers_are : AllZip (λ datagram report. IsHeader exts datagram report.0) datagrams reports
-  pub verdicts_are : AreVerdictsBySource datagrams (map (λ report. report.1) reports)
+  pub verdicts_are : AreVerdictsBySource exts datagrams (map (λ report. report.1) reports)
   pub printed_is : printed ≡ lines_from 1 reports
 
 -- the output of an input whose lines are all well-formed: the lines of its datagrams

@@ -5,8 +5,7 @@ ghost use Rattle.std.specs.Str.Lines.{lines};
 ghost use Rattle.hex.specs.Hex.{decode_of};
 ghost use Rattle.std.specs.Option.{option_map, option_copied};
 ghost use Rattle.rtp_base.specs.Window.{Numbers};
-ghost use Rattle.rtp_wire.specs.Verdicts.{IsPacketId, IsVerdict};
-ghost use Rattle.rtp_wire.specs.Sending.{packet_id_of};
+ghost use Rattle.rtp_wire.specs.Verdicts.{packet_id_of, IsVerdict};
 ghost use Rattle.rtp_wire.specs.Sources.{numbers_beside};
 ghost use Rattle.rtp_wire.specs.EachSource.{HoldsEach, taken_after_each};
 ghost use Rattle.rtp_report.specs.Input.{AreHex};
@@ -40,8 +39,6 @@ fn judged(
     requires { IsOk (decode_of line.now) }
     ensures header { (bytes : List ℕ) → decode_of line.now ≡ Ok bytes →
         IfOk result (λ report. IsHeader exts.now bytes report.0) }
-    ensures packet_id { (bytes : List ℕ) → decode_of line.now ≡ Ok bytes →
-        IfOk result (λ report. IsPacketId bytes (option_map packet_id_of report.0)) }
     ensures verdict { (taken : ℕ → Numbers) → HoldsEach receivers.old 0 taken →
         IfOk result (λ report. IsVerdict 0
         (numbers_beside taken (option_map packet_id_of report.0)) (option_map packet_id_of report.0) report.1) }

@@ -1,4 +1,4 @@
--- The verdicts on some headers, and on one header more; and on the first packet of a source.
+-- The verdicts on the first packet of a source, and on the one that was sent before it.
 use Rattle.std.proofs.Common.{◌≡◌, ℕ, ◌+◌, ◌*◌, ◌%◌, ◌^◌, ◌<◌, false, List, [], ◌∷◌, ◌++◌, sym, refl, ap, ◌∙◌, subst, inl, inr, arith}
 use Rattle.std.specs.Prelude.{Option, Some, None}
 use Rattle.std.proofs.lemmas.Bool.{false≢true, ne_eqb}
@@ -14,25 +14,6 @@ use Rattle.rtp_wire.specs.Written.{image_of}
 use Rattle.rtp_wire.proofs.TrueNumberLemmas.{one_highest, greatest_of_none}
 use Rattle.rtp_wire.proofs.WideningLemmas.{only_near, Extends-within_half}
 use Rattle.rtp_wire.proofs.VerdictLemmas.{Holds-same, taken_by-push, IsRun-more}
-
--- ---- one header more
-
--- the verdicts so far are those of a run, and the receiver holds what they take
-pub record AreSoFar (packet_ids : List (Option PacketId)) (verdicts : List Verdict) (receiver : ReceiverState) : Type 0 where
-  pub run : IsRun 0 packet_ids verdicts
-  pub holds : Holds receiver 0 (taken_by verdicts)
-
-pub AreSoFar-none : (receiver : ReceiverState) → Holds receiver 0 (taken_by []) → AreSoFar [] [] receiver
-AreSoFar-none receiver holds = record { run = record { as_many = refl; each = λ i below. absurd (omega arith) }; holds = holds }
-
-pub AreSoFar-more : (packet_ids : List (Option PacketId)) (verdicts : List Verdict) (old new : ReceiverState) (packet_id : Option PacketId) (verdict : Verdict) → AreSoFar packet_ids verdicts old
-    → IsVerdict 0 (taken_by verdicts) packet_id verdict → Holds new 0 (taken_after (taken_by verdicts) verdict) → AreSoFar (packet_ids ++ packet_id ∷ []) (verdicts ++ verdict ∷ []) new
-AreSoFar-more packet_ids verdicts old new packet_id verdict so_far is holds = record {
-  run = IsRun-more 0 packet_ids verdicts packet_id verdict so_far.run is;
-  holds = Holds-same new 0 (taken_after (taken_by verdicts) verdict) (taken_by (verdicts ++ verdict ∷ [])) (taken_by-push verdicts verdict) holds;
-}
-
--- ---- the first packet of a source
 
 number_of_none : (count : ℕ) (taken : Numbers) (highest : Option ℕ) (low number : ℕ) → IsNothing taken → IsHighest taken highest → ExtendsFrom count highest low number → number ≡ 65536 * count + low % 65536
 number_of_none count taken None low number none is near = near

@@ -1,5 +1,6 @@
 pub mod KindLemmas
 pub mod FieldLemmas
+pub mod WellFormedOrNot
 pub mod ValueLemmas
 pub mod EmptyDataLemmas
 pub mod DataLengthLemmas

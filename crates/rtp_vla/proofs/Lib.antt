@@ -7,6 +7,7 @@ pub mod AllocationDealing
 pub mod AllocationParts
 pub mod AllocationLayout
 pub mod AllocationMeaning
+pub mod MeaningOrNone
 pub mod AllocationWritingLemmas
 pub mod AllocationTrimming
 pub mod AllocationSpelling

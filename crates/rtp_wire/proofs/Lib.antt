@@ -13,6 +13,7 @@ mod ChangedPackets
 pub mod NotAPacketLemmas
 mod ValuesLemmas
 mod HeaderLemmas
+mod HeaderUnderEachMap
 mod KnownKindsLemmas
 mod BlockWriting
 mod RoundTrip

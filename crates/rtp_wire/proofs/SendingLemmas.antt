@@ -6,23 +6,24 @@ use Rattle.rtp_ext.specs.declared.ext.map.ExtensionMap.{ExtensionMap}
 use Rattle.rtp_wire.specs.declared.header.rtp_header.RtpHeader.{RtpHeader}
 use Rattle.rtp_wire.specs.declared.receive.verdict.Verdict.{Verdict}
 use Rattle.rtp_wire.specs.Written.{image_of}
-use Rattle.rtp_wire.specs.Verdicts.{PacketId, IsPacketId, ArePacketIds, IsRun, AreVerdicts}
+use Rattle.rtp_wire.specs.Verdicts.{PacketId, packet_id_of, IsPacketId, ArePacketIds, IsRun, AreVerdicts}
 use Rattle.rtp_wire.specs.TrueNumbers.{AreTrueVerdicts}
-use Rattle.rtp_wire.specs.Sending.{packet_id_of, Arrives, packet_ids_of, AreSent}
-use Rattle.rtp_wire.proofs.VerdictLemmas.{IsPacketId-wire, one_packet_id}
+use Rattle.rtp_wire.specs.Sending.{Arrives, packet_ids_of, AreSent}
+use Rattle.rtp_wire.proofs.VerdictLemmas.{one_packet_id}
 use Rattle.rtp_wire.proofs.TrueNumberLemmas.{AreTrueVerdicts-run}
 
 packet_id-image : (exts : ExtensionMap) (h : RtpHeader) → packet_id_of (image_of exts h) ≡ packet_id_of h
 unfolding image_of
 packet_id-image exts h = refl
 
-packet_id_sent : (exts : ExtensionMap) (h : RtpHeader) (datagram : List ℕ) (packet_id : Option PacketId) → Arrives exts h datagram → IsPacketId datagram packet_id
+packet_id_sent : (exts : ExtensionMap) (h : RtpHeader) (datagram : List ℕ) (packet_id : Option PacketId) → Arrives exts h datagram → IsPacketId exts datagram packet_id
     → packet_id ≡ Some (packet_id_of h)
 packet_id_sent exts h datagram packet_id arrives read =
-    one_packet_id datagram packet_id (Some (packet_id_of (image_of exts h))) read (IsPacketId-wire exts datagram (image_of exts h) arrives) ∙ ap Some (packet_id-image exts h)
+    let shown : IsPacketId exts datagram (Some (packet_id_of (image_of exts h))) = record { header = image_of exts h; wire = arrives; packet_id_is = refl } in
+    one_packet_id exts datagram packet_id (Some (packet_id_of (image_of exts h))) read shown ∙ ap Some (packet_id-image exts h)
 
 pub packet_ids_sent : (exts : ExtensionMap) (headers : List RtpHeader) (datagrams : List (List ℕ)) (packet_ids : List (Option PacketId)) → AllZip (Arrives exts) headers datagrams
-    → ArePacketIds datagrams packet_ids → packet_ids ≡ packet_ids_of headers
+    → ArePacketIds exts datagrams packet_ids → packet_ids ≡ packet_ids_of headers
 packet_ids_sent exts [] [] [] arrive read = refl
 packet_ids_sent exts [] [] (r ∷ packet_ids) arrive read = absurd read
 packet_ids_sent exts [] (d ∷ datagrams) packet_ids arrive read = absurd arrive
@@ -34,7 +35,7 @@ packet_ids_sent exts (h ∷ headers) (d ∷ datagrams) (r ∷ packet_ids) arrive
 
 -- the verdicts on what arrives are those of the sender's numbers
 pub AreTrueVerdicts-sent : (exts : ExtensionMap) (headers : List RtpHeader) (numbers : List ℕ) (datagrams : List (List ℕ)) (verdicts : List Verdict)
-    → AreVerdicts datagrams verdicts → AreSent exts headers numbers datagrams → AreTrueVerdicts (packet_ids_of headers) numbers verdicts
+    → AreVerdicts exts datagrams verdicts → AreSent exts headers numbers datagrams → AreTrueVerdicts (packet_ids_of headers) numbers verdicts
 AreTrueVerdicts-sent exts headers numbers datagrams verdicts are sent =
     AreTrueVerdicts-run 0 (packet_ids_of headers) verdicts numbers
     (subst (λ rs. IsRun 0 rs verdicts) (packet_ids_sent exts headers datagrams are.packet_ids sent.arrive are.are_packet_ids) are.run) sent.are_true

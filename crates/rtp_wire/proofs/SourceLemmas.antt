@@ -12,12 +12,12 @@ use Rattle.rtp_wire.specs.declared.receive.state.ReceiverState.{ReceiverState}
 use Rattle.rtp_wire.specs.declared.receive.verdict.Verdict.{Verdict}
 use Rattle.rtp_wire.specs.Receiver.{Holds, taken_after}
 use Rattle.rtp_wire.specs.Receivers.{ReceiverStates, receiver_of, state_of}
-use Rattle.rtp_wire.specs.Verdicts.{PacketId, IsPacketId, ArePacketIds, taken_by, IsVerdict, IsRun, AreVerdicts}
+use Rattle.rtp_wire.specs.Verdicts.{PacketId, packet_id_of, IsPacketId, ArePacketIds, taken_by, IsVerdict, IsRun, AreVerdicts}
 use Rattle.rtp_wire.specs.TrueNumbers.{AreTrueVerdicts}
-use Rattle.rtp_wire.specs.Sending.{IsOfSource, packet_id_of, packet_ids_of, AreSent}
-use Rattle.rtp_wire.specs.Sources.{is_from, at_source, taken_of, numbers_beside, AreRuns}
+use Rattle.rtp_wire.specs.Sending.{IsOfSource, packet_ids_of, AreSent}
+use Rattle.rtp_wire.specs.Sources.{is_from, at_source, taken_of, numbers_beside, AreRuns, AreVerdictsBySource}
 use Rattle.rtp_wire.specs.EachSource.{HoldsEach, taken_after_each}
-use Rattle.rtp_wire.proofs.VerdictLemmas.{Holds-same, IsRunBy-more, IsRun-more, taken_by-push, AllZip-more, one_packet_ids}
+use Rattle.rtp_wire.proofs.VerdictLemmas.{Holds-same, IsRunBy-more, IsRun-more, taken_by-push, one_packet_ids, ReadSoFar}
 use Rattle.rtp_wire.proofs.ReceiversLemmas.{same_state}
 use Rattle.rtp_wire.proofs.TrueNumberLemmas.{AreTrueVerdicts-run}
 use Rattle.rtp_wire.proofs.SendingLemmas.{packet_ids_sent}
@@ -75,23 +75,19 @@ HoldsEach-received count before after taken packet_id (Err error) holds stays he
 
 -- ---- the run so far
 
--- the verdicts on the datagrams so far, all together and for each source alone, and what the receivers then hold
-pub record SoFarEach (datagrams : List (List ℕ)) (verdicts : List Verdict) (receivers : ReceiverStates) : Type 0 where
-  pub packet_ids : List (Option PacketId)
-  pub are_packet_ids : ArePacketIds datagrams packet_ids
+-- the verdicts on the packet ids so far, all together and for each source alone, and what the receivers then hold
+pub record SoFarEach (packet_ids : List (Option PacketId)) (verdicts : List Verdict) (receivers : ReceiverStates) : Type 0 where
   pub runs : AreRuns packet_ids verdicts
   pub alone : (source : ℕ) → IsRun 0 (at_source source packet_ids packet_ids) (at_source source packet_ids verdicts)
   pub holds : HoldsEach receivers 0 (taken_of packet_ids verdicts)
 
-pub SoFarEach-none : (verdicts : List Verdict) (receivers : ReceiverStates) → verdicts ≡ [] → receivers ≡ record { rollover_count = 0; by_source = [] } → SoFarEach [] verdicts receivers
-SoFarEach-none verdicts receivers none empty =
-    subst (λ (vs : List Verdict). SoFarEach [] vs receivers) (sym none) (subst (λ (rs : ReceiverStates). SoFarEach [] [] rs) (sym empty) (record {
-      packet_ids = [];
-      are_packet_ids = tt;
+pub SoFarEach-none : (receivers : ReceiverStates) → receivers ≡ record { rollover_count = 0; by_source = [] } → SoFarEach [] [] receivers
+SoFarEach-none receivers empty =
+    subst (λ (rs : ReceiverStates). SoFarEach [] [] rs) (sym empty) (record {
       runs = record { as_many = refl; each = λ i below. absurd (omega arith) };
       alone = λ source. record { as_many = refl; each = λ i below. absurd (omega arith) };
       holds = λ source. (refl, λ n. refl);
-    }))
+    })
 
 -- the verdict on a packet id, by the numbers of its source
 beside : (source : ℕ) (taken : ℕ → Numbers) (packet_id : Option PacketId) (verdict : Verdict) → is_from source packet_id ≡ true → IsVerdict 0 (numbers_beside taken packet_id) packet_id verdict
@@ -109,17 +105,13 @@ taken_more : (here : Bool) (verdicts : List Verdict) (verdict : Verdict) (n : �
 taken_more true verdicts verdict n = taken_by-push verdicts verdict n
 taken_more false verdicts verdict n = refl
 
-pub SoFarEach-more : (datagrams : List (List ℕ)) (datagram : List ℕ) (packet_id : Option PacketId) (verdicts : List Verdict) (verdict : Verdict) (before after : ReceiverStates)
-    → (so_far : SoFarEach datagrams verdicts before) → IsPacketId datagram packet_id
-    → IsVerdict 0 (numbers_beside (taken_of so_far.packet_ids verdicts) packet_id) packet_id verdict → HoldsEach after 0 (taken_after_each (taken_of so_far.packet_ids verdicts) packet_id verdict)
-    → SoFarEach (datagrams ++ datagram ∷ []) (verdicts ++ verdict ∷ []) after
-SoFarEach-more datagrams datagram packet_id verdicts verdict before after so_far read is holds =
-    let packet_ids = so_far.packet_ids in
+pub SoFarEach-more : (packet_ids : List (Option PacketId)) (packet_id : Option PacketId) (verdicts : List Verdict) (verdict : Verdict) (before after : ReceiverStates) → SoFarEach packet_ids verdicts before
+    → IsVerdict 0 (numbers_beside (taken_of packet_ids verdicts) packet_id) packet_id verdict → HoldsEach after 0 (taken_after_each (taken_of packet_ids verdicts) packet_id verdict)
+    → SoFarEach (packet_ids ++ packet_id ∷ []) (verdicts ++ verdict ∷ []) after
+SoFarEach-more packet_ids packet_id verdicts verdict before after so_far is holds =
     let pushed : (source : ℕ) → at_source source (packet_ids ++ packet_id ∷ []) (verdicts ++ verdict ∷ []) ≡ at_more (is_from source packet_id) (at_source source packet_ids verdicts) verdict =
     λ source. at_source-push source packet_ids verdicts packet_id verdict so_far.runs.as_many in
     record {
-      packet_ids = packet_ids ++ packet_id ∷ [];
-      are_packet_ids = AllZip-more IsPacketId datagrams packet_ids datagram packet_id so_far.are_packet_ids read;
       runs = IsRunBy-more 0 (λ r rs vs. numbers_beside (taken_of rs vs) r) packet_ids verdicts packet_id verdict so_far.runs is;
       alone = λ source.
           subst (λ (rs : List (Option PacketId)). IsRun 0 rs (at_source source (packet_ids ++ packet_id ∷ []) (verdicts ++ verdict ∷ []))) (sym (at_source-push source packet_ids packet_ids packet_id packet_id refl))
@@ -147,15 +139,20 @@ AllZip-at_source R source (r ∷ packet_ids) (x ∷ xs) [] all = absurd all
 AllZip-at_source R source (r ∷ packet_ids) (x ∷ xs) (y ∷ ys) all =
     zip_kept R (is_from source r) x y (at_source source packet_ids xs) (at_source source packet_ids ys) all.0 (AllZip-at_source R source packet_ids xs ys all.1)
 
--- the verdicts on the datagrams of a source are those of a run of them alone
-pub AreVerdicts-each : (datagrams : List (List ℕ)) (verdicts : List Verdict) (receivers : ReceiverStates) (packet_ids : List (Option PacketId)) (source : ℕ)
-    → SoFarEach datagrams verdicts receivers → ArePacketIds datagrams packet_ids → AreVerdicts (at_source source packet_ids datagrams) (at_source source packet_ids verdicts)
-AreVerdicts-each datagrams verdicts receivers packet_ids source so_far read =
-    subst (λ rs. AreVerdicts (at_source source rs datagrams) (at_source source rs verdicts)) (one_packet_ids datagrams so_far.packet_ids packet_ids so_far.are_packet_ids read)
+-- the verdicts on the datagrams are those under each map
+pub AreVerdictsBySource-read : (exts : ExtensionMap) (datagrams : List (List ℕ)) (verdicts : List Verdict) (receivers : ReceiverStates) → ReadSoFar datagrams (λ packet_ids. SoFarEach packet_ids verdicts receivers)
+    → AreVerdictsBySource exts datagrams verdicts
+AreVerdictsBySource-read exts datagrams verdicts receivers read = record { packet_ids = read.packet_ids; are_packet_ids = read.are_packet_ids exts; runs = read.so_far.runs }
+
+-- and those on the datagrams of a source are those of a run of them alone
+pub AreVerdicts-each : (exts other : ExtensionMap) (datagrams : List (List ℕ)) (verdicts : List Verdict) (receivers : ReceiverStates) (packet_ids : List (Option PacketId)) (source : ℕ)
+    → ReadSoFar datagrams (λ ids. SoFarEach ids verdicts receivers) → ArePacketIds exts datagrams packet_ids → AreVerdicts other (at_source source packet_ids datagrams) (at_source source packet_ids verdicts)
+AreVerdicts-each exts other datagrams verdicts receivers packet_ids source found read =
+    subst (λ rs. AreVerdicts other (at_source source rs datagrams) (at_source source rs verdicts)) (one_packet_ids exts datagrams found.packet_ids packet_ids (found.are_packet_ids exts) read)
     (record {
-      packet_ids = at_source source so_far.packet_ids so_far.packet_ids;
-      are_packet_ids = AllZip-at_source IsPacketId source so_far.packet_ids datagrams so_far.packet_ids so_far.are_packet_ids;
-      run = so_far.alone source;
+      packet_ids = at_source source found.packet_ids found.packet_ids;
+      are_packet_ids = AllZip-at_source (IsPacketId other) source found.packet_ids datagrams found.packet_ids (found.are_packet_ids other);
+      run = found.so_far.alone source;
     })
 
 all_kept : {A : Type 0} (here : Bool) (x : A) (xs all : List A) → here ≡ true → xs ≡ all → (if here then x ∷ xs else xs) ≡ x ∷ all
@@ -173,12 +170,12 @@ at_source-all source (h ∷ headers) (x ∷ xs) of many =
 
 -- the verdicts on what arrives of one sender are those of the sender's numbers
 pub AreTrueVerdicts-sent_each : (exts : ExtensionMap) (headers : List RtpHeader) (numbers : List ℕ) (datagrams : List (List ℕ)) (verdicts : List Verdict) (receivers : ReceiverStates)
-    → SoFarEach datagrams verdicts receivers → AreSent exts headers numbers datagrams → AreTrueVerdicts (packet_ids_of headers) numbers verdicts
-AreTrueVerdicts-sent_each exts headers numbers datagrams verdicts receivers so_far sent =
-    let same = packet_ids_sent exts headers datagrams so_far.packet_ids sent.arrive so_far.are_packet_ids in
-    let alone = subst (λ rs. IsRun 0 (at_source sent.source rs rs) (at_source sent.source rs verdicts)) same (so_far.alone sent.source) in
+    → ReadSoFar datagrams (λ packet_ids. SoFarEach packet_ids verdicts receivers) → AreSent exts headers numbers datagrams → AreTrueVerdicts (packet_ids_of headers) numbers verdicts
+AreTrueVerdicts-sent_each exts headers numbers datagrams verdicts receivers read sent =
+    let same = packet_ids_sent exts headers datagrams read.packet_ids sent.arrive (read.are_packet_ids exts) in
+    let alone = subst (λ rs. IsRun 0 (at_source sent.source rs rs) (at_source sent.source rs verdicts)) same (read.so_far.alone sent.source) in
     let many = length-map headers (λ h. Some (packet_id_of h)) in
-    let as_many : length verdicts ≡ length headers = so_far.runs.as_many ∙ ap length same ∙ many in
+    let as_many : length verdicts ≡ length headers = read.so_far.runs.as_many ∙ ap length same ∙ many in
     AreTrueVerdicts-run 0 (packet_ids_of headers) verdicts numbers
     (subst (λ rs. IsRun 0 rs verdicts) (at_source-all sent.source headers (packet_ids_of headers) sent.of_source many)
     (subst (λ vs. IsRun 0 (at_source sent.source (packet_ids_of headers) (packet_ids_of headers)) vs) (at_source-all sent.source headers verdicts sent.of_source as_many) alone)) sent.are_true

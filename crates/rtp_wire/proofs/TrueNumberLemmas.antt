@@ -5,6 +5,7 @@ use Rattle.std.proofs.lemmas.Bool.{eq-eqb, eqb-true, cases_lt, cases_eq, ne_eqb,
 use Rattle.std.proofs.lemmas.List.{take_more}
 use Rattle.rtp_base.specs.Window.{Numbers, IsGreatest, Accepts, including}
 use Rattle.rtp_base.proofs.WindowLemmas.{greatest_stays}
+use Rattle.rtp_ext.specs.declared.ext.map.ExtensionMap.{ExtensionMap}
 use Rattle.rtp_wire.specs.declared.receive.verdict.Verdict.{Verdict}
 use Rattle.rtp_wire.specs.declared.receive.verdict.Verdict.TheVariants.{Unreadable, Taken, Refused}
 use Rattle.rtp_wire.specs.Widening.{IsNearest}
@@ -279,8 +280,8 @@ AreTrueVerdicts-run count packet_ids verdicts numbers run are = record {
 }
 
 -- the verdicts on datagrams, by the true numbers of their packets
-pub AreTrueVerdicts-of : (datagrams : List (List ℕ)) (verdicts : List Verdict) (packet_ids : List (Option PacketId)) (numbers : List ℕ)
-    → AreVerdicts datagrams verdicts → ArePacketIds datagrams packet_ids → AreTrue 0 packet_ids numbers → AreTrueVerdicts packet_ids numbers verdicts
-AreTrueVerdicts-of datagrams verdicts packet_ids numbers are read true_are =
+pub AreTrueVerdicts-of : (exts : ExtensionMap) (datagrams : List (List ℕ)) (verdicts : List Verdict) (packet_ids : List (Option PacketId)) (numbers : List ℕ)
+    → AreVerdicts exts datagrams verdicts → ArePacketIds exts datagrams packet_ids → AreTrue 0 packet_ids numbers → AreTrueVerdicts packet_ids numbers verdicts
+AreTrueVerdicts-of exts datagrams verdicts packet_ids numbers are read true_are =
     AreTrueVerdicts-run 0 packet_ids verdicts numbers
-    (subst (λ rs. IsRun 0 rs verdicts) (one_packet_ids datagrams are.packet_ids packet_ids are.are_packet_ids read) are.run) true_are
+    (subst (λ rs. IsRun 0 rs verdicts) (one_packet_ids exts datagrams are.packet_ids packet_ids are.are_packet_ids read) are.run) true_are

@@ -1,24 +1,23 @@
 -- Runs of datagrams: one verdict more, and that a number is taken once.
-use Rattle.std.proofs.Common.{◌≡◌, ℕ, zero, suc, ◌+◌, ◌<◌, Bool, true, false, ◌||◌, eqb, List, [], ◌∷◌, ◌++◌, length, take, get_or, refl, sym, ap, ◌∙◌, subst, inl, inr, arith, length-take-le}
+use Rattle.std.proofs.Common.{◌≡◌, ℕ, zero, suc, ◌+◌, ◌<◌, ◌≤◌, Bool, true, false, ◌||◌, eqb, List, [], ◌∷◌, ◌++◌, length, take, get_or, refl, sym, ap, ◌∙◌, subst, inl, inr, arith, length-take-le}
 use Rattle.std.specs.Prelude.{Option, Some, None}
 use Rattle.std.specs.List.{AllZip}
 use Rattle.std.proofs.lemmas.Bool.{eq-eqb, cases_lt, false≢true, or_left, or_right}
-use Rattle.std.proofs.lemmas.List.{take-append-le, take_at, get_or_append_left, get_or_at, length_push, get_or-take}
+use Rattle.std.proofs.lemmas.List.{take-append-le, take_at, get_or_append_left, get_or_at, length_push, get_or-take, take_all}
 use Rattle.rtp_base.specs.Window.{Numbers}
 use Rattle.rtp_ext.specs.declared.ext.map.ExtensionMap.{ExtensionMap}
+use Rattle.rtp_ext.proofs.ElementLemmasOfBodies.{AreBytes}
 use Rattle.rtp_wire.specs.declared.header.rtp_header.RtpHeader.{RtpHeader}
 use Rattle.rtp_wire.specs.declared.receive.state.ReceiverState.{ReceiverState}
 use Rattle.rtp_wire.specs.declared.receive.state.ReceiverState.TheVariants.{Start, Window}
 use Rattle.rtp_wire.specs.declared.receive.verdict.Verdict.{Verdict}
 use Rattle.rtp_wire.specs.declared.receive.verdict.Verdict.TheVariants.{Unreadable, Taken, Refused}
 use Rattle.rtp_wire.specs.Packet.{PacketParts, IsPacket}
-use Rattle.rtp_wire.specs.Header.{IsWire}
-use Rattle.rtp_wire.specs.NotAHeader.{NotAHeader}
+use Rattle.rtp_wire.specs.Header.{header_of, IsWire}
 use Rattle.rtp_wire.specs.Receiver.{Holds, IsFresh, taken_after}
-use Rattle.rtp_wire.specs.Verdicts.{PacketId, IsPacketId, ArePacketIds, taken_by, IsVerdict, IsRunBy, IsRun, AreVerdicts, TakesOnce}
-use Rattle.rtp_wire.specs.Sending.{packet_id_of}
+use Rattle.rtp_wire.specs.Verdicts.{PacketId, packet_id_of, IsPacketId, ArePacketIds, taken_by, IsVerdict, IsRunBy, IsRun, AreVerdicts, TakesOnce}
 use Rattle.rtp_wire.proofs.PacketLemmas.{one_packet}
-use Rattle.rtp_wire.proofs.NotAPacketLemmas.{no_packet-refused}
+use Rattle.rtp_wire.proofs.HeaderUnderEachMap.{header_found}
 
 -- ---- one verdict more
 
@@ -90,26 +89,18 @@ AllZip-more R [] (b ∷ ys) x y all one = absurd all
 AllZip-more R (a ∷ xs) [] x y all one = absurd all
 AllZip-more R (a ∷ xs) (b ∷ ys) x y all one = (all.0, AllZip-more R xs ys x y all.1 one)
 
--- the verdicts on the datagrams so far, and what the receiver then holds
-pub record SoFar (datagrams : List (List ℕ)) (verdicts : List Verdict) (receiver : ReceiverState) : Type 0 where
-  pub are : AreVerdicts datagrams verdicts
+-- the verdicts on the packet ids so far, and what the receiver then holds
+pub record SoFar (packet_ids : List (Option PacketId)) (verdicts : List Verdict) (receiver : ReceiverState) : Type 0 where
+  pub run : IsRun 0 packet_ids verdicts
   pub holds : Holds receiver 0 (taken_by verdicts)
 
-pub SoFar-none : (verdicts : List Verdict) (receiver : ReceiverState) → verdicts ≡ [] → Holds receiver 0 (taken_by []) → SoFar [] verdicts receiver
-SoFar-none verdicts receiver empty holds = subst (λ (vs : List Verdict). SoFar [] vs receiver) (sym empty) (record {
-  are = record { packet_ids = []; are_packet_ids = tt; run = record { as_many = refl; each = λ i below. absurd (omega arith) } };
-  holds = holds;
-})
+pub SoFar-none : (receiver : ReceiverState) → Holds receiver 0 (taken_by []) → SoFar [] [] receiver
+SoFar-none receiver holds = record { run = record { as_many = refl; each = λ i below. absurd (omega arith) }; holds = holds }
 
-pub SoFar-more : (datagrams : List (List ℕ)) (datagram : List ℕ) (packet_id : Option PacketId) (verdicts : List Verdict) (verdict : Verdict) (before after : ReceiverState)
-    → SoFar datagrams verdicts before → IsPacketId datagram packet_id → IsVerdict 0 (taken_by verdicts) packet_id verdict
-    → Holds after 0 (taken_after (taken_by verdicts) verdict) → SoFar (datagrams ++ datagram ∷ []) (verdicts ++ verdict ∷ []) after
-SoFar-more datagrams datagram packet_id verdicts verdict before after so_far read is holds = record {
-  are = record {
-    packet_ids = so_far.are.packet_ids ++ packet_id ∷ [];
-    are_packet_ids = AllZip-more IsPacketId datagrams so_far.are.packet_ids datagram packet_id so_far.are.are_packet_ids read;
-    run = IsRun-more 0 so_far.are.packet_ids verdicts packet_id verdict so_far.are.run is;
-  };
+pub SoFar-more : (packet_ids : List (Option PacketId)) (verdicts : List Verdict) (before after : ReceiverState) (packet_id : Option PacketId) (verdict : Verdict) → SoFar packet_ids verdicts before
+    → IsVerdict 0 (taken_by verdicts) packet_id verdict → Holds after 0 (taken_after (taken_by verdicts) verdict) → SoFar (packet_ids ++ packet_id ∷ []) (verdicts ++ verdict ∷ []) after
+SoFar-more packet_ids verdicts before after packet_id verdict so_far is holds = record {
+  run = IsRun-more 0 packet_ids verdicts packet_id verdict so_far.run is;
   holds = Holds-same after 0 (taken_after (taken_by verdicts) verdict) (taken_by (verdicts ++ verdict ∷ [])) (taken_by-push verdicts verdict) holds;
 }
 
@@ -145,38 +136,63 @@ TakesOnce-run count packet_ids verdicts run i j number before within first secon
 
 -- ---- the packet ids of datagrams
 
--- a packet's source and number are its packet id
-pub IsPacketId-fields : (datagram : List ℕ) (parts : PacketParts) (source low : ℕ) → IsPacket datagram parts → source ≡ parts.ssrc → low ≡ parts.sequence_number
-    → IsPacketId datagram (Some (record { source = source; low = low }))
-IsPacketId-fields datagram parts source low is source_is low_is = record { parts = parts; is_packet = is; packet_id_is = cc }
+-- a packet's source and number are its packet id under each map
+pub IsPacketId-packet : (datagram : List ℕ) (parts : PacketParts) (source low : ℕ) → AreBytes datagram → IsPacket datagram parts → source ≡ parts.ssrc → low ≡ parts.sequence_number
+    → (exts : ExtensionMap) → IsPacketId exts datagram (Some (record { source = source; low = low }))
+IsPacketId-packet datagram parts source low all is source_is low_is exts =
+    let found = header_found exts datagram parts all is in
+    record { header = header_of parts found.0; wire = found.1; packet_id_is = cc }
 
--- bytes that begin with a header are a packet of its packet id
-pub IsPacketId-wire : (exts : ExtensionMap) (bytes : List ℕ) (h : RtpHeader) → IsWire exts bytes h → IsPacketId bytes (Some (packet_id_of h))
-IsPacketId-wire exts bytes h wire = record {
-  parts = wire.parts;
-  is_packet = wire.is_packet;
-  packet_id_is = ap packet_id_of wire.is_header.fields_are;
-}
+-- and what is no packet has none
+pub IsPacketId-none : (datagram : List ℕ) → ((parts : PacketParts) → IsPacket datagram parts → ⊥) → (exts : ExtensionMap) → IsPacketId exts datagram None
+IsPacketId-none datagram none exts header wire = none wire.parts wire.is_packet
 
--- and bytes that begin with none have none
-pub IsPacketId-refused : (bytes : List ℕ) → NotAHeader bytes → IsPacketId bytes None
-IsPacketId-refused bytes none parts is = no_packet-refused bytes parts none is
-
--- a datagram has one packet id, or none
-pub one_packet_id : (datagram : List ℕ) (a b : Option PacketId) → IsPacketId datagram a → IsPacketId datagram b → a ≡ b
-one_packet_id datagram None None first second = refl
-one_packet_id datagram None (Some b) first second = absurd (first second.parts second.is_packet)
-one_packet_id datagram (Some a) None first second = absurd (second first.parts first.is_packet)
-one_packet_id datagram (Some a) (Some b) first second =
+-- the headers of a datagram have one packet id
+one_id : (exts : ExtensionMap) (datagram : List ℕ) (a b : RtpHeader) → IsWire exts datagram a → IsWire exts datagram b → packet_id_of a ≡ packet_id_of b
+one_id exts datagram a b first second =
     let id : PacketParts → PacketId = λ parts. record { source = parts.ssrc; low = parts.sequence_number } in
     let same : first.parts ≡ second.parts = sym (one_packet datagram first.parts first.is_packet) ∙ one_packet datagram second.parts second.is_packet in
-    ap Some (first.packet_id_is ∙ ap id same ∙ sym second.packet_id_is)
+    ap packet_id_of first.is_header.fields_are ∙ ap id same ∙ sym (ap packet_id_of second.is_header.fields_are)
 
-pub one_packet_ids : (datagrams : List (List ℕ)) (a b : List (Option PacketId)) → ArePacketIds datagrams a → ArePacketIds datagrams b → a ≡ b
-one_packet_ids [] [] [] first second = refl
-one_packet_ids [] [] (y ∷ b) first second = absurd second
-one_packet_ids [] (x ∷ a) b first second = absurd first
-one_packet_ids (d ∷ ds) [] b first second = absurd first
-one_packet_ids (d ∷ ds) (x ∷ a) [] first second = absurd second
-one_packet_ids (d ∷ ds) (x ∷ a) (y ∷ b) first second =
-    ap (λ (z : Option PacketId). z ∷ a) (one_packet_id d x y first.0 second.0) ∙ ap (λ (zs : List (Option PacketId)). y ∷ zs) (one_packet_ids ds a b first.1 second.1)
+-- a datagram has one packet id, or none
+pub one_packet_id : (exts : ExtensionMap) (datagram : List ℕ) (a b : Option PacketId) → IsPacketId exts datagram a → IsPacketId exts datagram b → a ≡ b
+one_packet_id exts datagram None None first second = refl
+one_packet_id exts datagram None (Some b) first second = absurd (first second.header second.wire)
+one_packet_id exts datagram (Some a) None first second = absurd (second first.header first.wire)
+one_packet_id exts datagram (Some a) (Some b) first second =
+    ap Some (first.packet_id_is ∙ one_id exts datagram first.header second.header first.wire second.wire ∙ sym second.packet_id_is)
+
+pub one_packet_ids : (exts : ExtensionMap) (datagrams : List (List ℕ)) (a b : List (Option PacketId)) → ArePacketIds exts datagrams a → ArePacketIds exts datagrams b → a ≡ b
+one_packet_ids exts [] [] [] first second = refl
+one_packet_ids exts [] [] (y ∷ b) first second = absurd second
+one_packet_ids exts [] (x ∷ a) b first second = absurd first
+one_packet_ids exts (d ∷ ds) [] b first second = absurd first
+one_packet_ids exts (d ∷ ds) (x ∷ a) [] first second = absurd second
+one_packet_ids exts (d ∷ ds) (x ∷ a) (y ∷ b) first second =
+    ap (λ (z : Option PacketId). z ∷ a) (one_packet_id exts d x y first.0 second.0) ∙ ap (λ (zs : List (Option PacketId)). y ∷ zs) (one_packet_ids exts ds a b first.1 second.1)
+
+-- the packet ids of the datagrams so far, which are the same under each map, and the run by them
+pub record ReadSoFar (datagrams : List (List ℕ)) (RunSoFar : List (Option PacketId) → Type 0) : Type 0 where
+  pub packet_ids : List (Option PacketId)
+  pub are_packet_ids : (exts : ExtensionMap) → ArePacketIds exts datagrams packet_ids
+  pub so_far : RunSoFar packet_ids
+
+pub ReadSoFar-none : (RunSoFar : List (Option PacketId) → Type 0) → RunSoFar [] → ReadSoFar [] RunSoFar
+ReadSoFar-none RunSoFar so_far = record { packet_ids = []; are_packet_ids = λ exts. tt; so_far = so_far }
+
+pub ReadSoFar-more : (datagrams : List (List ℕ)) (datagram : List ℕ) (packet_id : Option PacketId) (Before After : List (Option PacketId) → Type 0) (read : ReadSoFar datagrams Before)
+    → ((exts : ExtensionMap) → IsPacketId exts datagram packet_id) → After (read.packet_ids ++ packet_id ∷ []) → ReadSoFar (datagrams ++ datagram ∷ []) After
+ReadSoFar-more datagrams datagram packet_id Before After read is so_far = record {
+  packet_ids = read.packet_ids ++ packet_id ∷ [];
+  are_packet_ids = λ exts. AllZip-more (IsPacketId exts) datagrams read.packet_ids datagram packet_id (read.are_packet_ids exts) (is exts);
+  so_far = so_far;
+}
+
+-- all of them
+pub ReadSoFar-all : (datagrams : List (List ℕ)) (done : ℕ) (RunSoFar : List (Option PacketId) → Type 0) → length datagrams ≤ done → ReadSoFar (take done datagrams) RunSoFar → ReadSoFar datagrams RunSoFar
+ReadSoFar-all datagrams done RunSoFar past read = subst (λ ds. ReadSoFar ds RunSoFar) (take_all done datagrams past) read
+
+-- so they are the verdicts on the datagrams under each map
+pub AreVerdicts-read : (exts : ExtensionMap) (datagrams : List (List ℕ)) (verdicts : List Verdict) (receiver : ReceiverState) → ReadSoFar datagrams (λ packet_ids. SoFar packet_ids verdicts receiver)
+    → AreVerdicts exts datagrams verdicts
+AreVerdicts-read exts datagrams verdicts receiver read = record { packet_ids = read.packet_ids; are_packet_ids = read.are_packet_ids exts; run = read.so_far.run }

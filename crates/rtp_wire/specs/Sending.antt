@@ -5,7 +5,7 @@ use Rattle.rtp_ext.specs.declared.ext.map.ExtensionMap.{ExtensionMap}
 use Rattle.rtp_wire.specs.declared.header.rtp_header.RtpHeader.{RtpHeader}
 use Rattle.rtp_wire.specs.Header.{IsWire}
 use Rattle.rtp_wire.specs.TrueNumbers.{AreTrue}
-use Rattle.rtp_wire.specs.Verdicts.{PacketId}
+use Rattle.rtp_wire.specs.Verdicts.{PacketId, packet_id_of}
 use Rattle.rtp_wire.specs.Written.{image_of}
 
 -- a header of this source
@@ -15,10 +15,6 @@ IsOfSource source header = header.ssrc ≡ source
 -- what arrives of a header: a datagram that begins as the header is written under the map
 abbrev pub Arrives : ExtensionMap → RtpHeader → List ℕ → Type 0
 Arrives exts header datagram = IsWire exts datagram (image_of exts header)
-
--- what a header says of its packet's source and number
-abbrev pub packet_id_of : RtpHeader → PacketId
-packet_id_of header = record { source = header.ssrc; low = header.sequence_number }
 
 -- the packet ids of some headers
 abbrev pub packet_ids_of : List RtpHeader → List (Option PacketId)

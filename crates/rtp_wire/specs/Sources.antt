@@ -33,9 +33,9 @@ abbrev pub AreRuns : List (Option PacketId) → List Verdict → Type 0
 AreRuns packet_ids verdicts = IsRunBy 0 (λ packet_id earlier verdicts_before. numbers_beside (taken_of earlier verdicts_before) packet_id) packet_ids verdicts
 
 -- a verdict for each datagram, by its packet id and the verdicts on the datagrams of its source before it
-pub record AreVerdictsBySource (datagrams : List (List ℕ)) (verdicts : List Verdict) : Type 0 where
+pub record AreVerdictsBySource (exts : ExtensionMap) (datagrams : List (List ℕ)) (verdicts : List Verdict) : Type 0 where
   pub packet_ids : List (Option PacketId)
-  pub are_packet_ids : ArePacketIds datagrams packet_ids
+  pub are_packet_ids : ArePacketIds exts datagrams packet_ids
   pub runs : AreRuns packet_ids verdicts
 
 -- a fact of one source: of the packet ids, the datagrams and the verdicts at its places
@@ -43,13 +43,13 @@ abbrev pub FactOfSource : Type 1
 FactOfSource = List (Option PacketId) → List (List ℕ) → List Verdict → Type 0
 
 -- a fact of each source by itself
-abbrev pub OfEachSource : List (List ℕ) → List Verdict → FactOfSource → Type 0
-OfEachSource datagrams verdicts Fact = (packet_ids : List (Option PacketId)) → ArePacketIds datagrams packet_ids → (source : ℕ)
+abbrev pub OfEachSource : ExtensionMap → List (List ℕ) → List Verdict → FactOfSource → Type 0
+OfEachSource exts datagrams verdicts Fact = (packet_ids : List (Option PacketId)) → ArePacketIds exts datagrams packet_ids → (source : ℕ)
     → Fact (at_source source packet_ids packet_ids) (at_source source packet_ids datagrams) (at_source source packet_ids verdicts)
 
 -- the verdicts are those of a run of the source's datagrams alone
-abbrev pub IsRunAlone : FactOfSource
-IsRunAlone packet_ids datagrams verdicts = AreVerdicts datagrams verdicts
+abbrev pub IsRunAlone : ExtensionMap → FactOfSource
+IsRunAlone exts packet_ids datagrams verdicts = AreVerdicts exts datagrams verdicts
 
 -- no number is taken twice of the source
 abbrev pub TakesEachOnce : FactOfSource

@@ -2,9 +2,11 @@
 use Rattle.std.specs.Prelude.{◌≡◌, ℕ, ◌<◌, List, [], ◌∷◌, length, take, false, ◌||◌, ◌==◌, Option, Some, None, slice_index_or}
 use Rattle.std.specs.List.{AllZip}
 use Rattle.rtp_base.specs.Window.{Numbers}
+use Rattle.rtp_ext.specs.declared.ext.map.ExtensionMap.{ExtensionMap}
+use Rattle.rtp_wire.specs.declared.header.rtp_header.RtpHeader.{RtpHeader}
 use Rattle.rtp_wire.specs.declared.receive.verdict.Verdict.{Verdict}
 use Rattle.rtp_wire.specs.declared.receive.verdict.Verdict.TheVariants.{Unreadable, Taken, Refused}
-use Rattle.rtp_wire.specs.Packet.{PacketParts, IsPacket}
+use Rattle.rtp_wire.specs.Header.{IsWire}
 use Rattle.rtp_wire.specs.Receiver.{IsNumberOf, IsJudged}
 
 -- what a receiver knows a packet by: its source, and the 16 bits of its number
@@ -12,20 +14,24 @@ pub record PacketId : Type 0 where
   pub source : ℕ
   pub low : ℕ
 
--- the datagram is a packet of this source and number
-pub record Shows (datagram : List ℕ) (packet_id : PacketId) : Type 0 where
-  pub parts : PacketParts
-  pub is_packet : IsPacket datagram parts
-  pub packet_id_is : packet_id ≡ record { source = parts.ssrc; low = parts.sequence_number }
+-- what a header says of its packet's source and number
+abbrev pub packet_id_of : RtpHeader → PacketId
+packet_id_of header = record { source = header.ssrc; low = header.sequence_number }
 
--- the packet id of a datagram, and none where the datagram is no packet
-abbrev pub IsPacketId : List ℕ → Option PacketId → Type 0
-IsPacketId datagram None = (parts : PacketParts) → IsPacket datagram parts → ⊥
-IsPacketId datagram (Some packet_id) = Shows datagram packet_id
+-- the datagram begins with a header of this packet id under the map
+pub record Shows (exts : ExtensionMap) (datagram : List ℕ) (packet_id : PacketId) : Type 0 where
+  pub header : RtpHeader
+  pub wire : IsWire exts datagram header
+  pub packet_id_is : packet_id ≡ packet_id_of header
+
+-- the packet id of a datagram, and none where the datagram begins with no header
+abbrev pub IsPacketId : ExtensionMap → List ℕ → Option PacketId → Type 0
+IsPacketId exts datagram None = (header : RtpHeader) → IsWire exts datagram header → ⊥
+IsPacketId exts datagram (Some packet_id) = Shows exts datagram packet_id
 
 -- a packet id for each datagram
-abbrev pub ArePacketIds : List (List ℕ) → List (Option PacketId) → Type 0
-ArePacketIds datagrams packet_ids = AllZip IsPacketId datagrams packet_ids
+abbrev pub ArePacketIds : ExtensionMap → List (List ℕ) → List (Option PacketId) → Type 0
+ArePacketIds exts datagrams packet_ids = AllZip (IsPacketId exts) datagrams packet_ids
 
 -- the numbers that some verdicts take
 abbrev pub taken_by : List Verdict → Numbers
@@ -50,9 +56,9 @@ abbrev pub IsRun : ℕ → List (Option PacketId) → List Verdict → Type 0
 IsRun count packet_ids verdicts = IsRunBy count (λ packet_id earlier taken. taken_by taken) packet_ids verdicts
 
 -- a verdict for each datagram, by its packet id, of a receiver that starts at the rollover count 0
-pub record AreVerdicts (datagrams : List (List ℕ)) (verdicts : List Verdict) : Type 0 where
+pub record AreVerdicts (exts : ExtensionMap) (datagrams : List (List ℕ)) (verdicts : List Verdict) : Type 0 where
   pub packet_ids : List (Option PacketId)
-  pub are_packet_ids : ArePacketIds datagrams packet_ids
+  pub are_packet_ids : ArePacketIds exts datagrams packet_ids
   pub run : IsRun 0 packet_ids verdicts
 
 -- no number is taken twice

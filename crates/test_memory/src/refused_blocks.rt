@@ -162,9 +162,9 @@ fn are_due(rt: &impl Abort, verdicts: &[Verdict]) {
 #[test]
 fn a_run(rt: HostRuntime) {
     let datagrams = made(&rt, rt.alloc());
-    let verdicts = match receive_run(rt.alloc(), &datagrams) {
+    let verdicts = match receive_run(rt.alloc(), &datagrams, &map()) {
         Ok(verdicts) => verdicts,
-        Err(_) => receive_run(rt.alloc(), &datagrams).expect(&rt, "memory"),
+        Err(_) => receive_run(rt.alloc(), &datagrams, &map()).expect(&rt, "memory"),
     };
     are_due(&rt, &verdicts);
 }
@@ -172,9 +172,9 @@ fn a_run(rt: HostRuntime) {
 #[test]
 fn a_run_by_one_receiver(rt: HostRuntime) {
     let datagrams = made(&rt, rt.alloc());
-    let verdicts = match receive_run_one(rt.alloc(), &datagrams) {
+    let verdicts = match receive_run_one(rt.alloc(), &datagrams, &map()) {
         Ok(verdicts) => verdicts,
-        Err(_) => receive_run_one(rt.alloc(), &datagrams).expect(&rt, "memory"),
+        Err(_) => receive_run_one(rt.alloc(), &datagrams, &map()).expect(&rt, "memory"),
     };
     are_due(&rt, &verdicts);
 }
@@ -195,9 +195,9 @@ fn a_run_of_two_packets(rt: HostRuntime) {
         Ok(packets) => packets,
         Err(_) => packets(rt.alloc()).expect(&rt, "memory"),
     };
-    let verdicts = match receive_run(rt.alloc(), &packets) {
+    let verdicts = match receive_run(rt.alloc(), &packets, &map()) {
         Ok(verdicts) => verdicts,
-        Err(_) => receive_run(rt.alloc(), &packets).expect(&rt, "memory"),
+        Err(_) => receive_run(rt.alloc(), &packets, &map()).expect(&rt, "memory"),
     };
     let wanted = [verdict(Some(47_000)), Verdict::Refused];
     same(&rt, "the run", verdicts.as_slice(), wanted.as_slice());
@@ -210,9 +210,9 @@ fn a_run_of_two_packets_by_one(rt: HostRuntime) {
         Ok(packets) => packets,
         Err(_) => packets(rt.alloc()).expect(&rt, "memory"),
     };
-    let verdicts = match receive_run_one(rt.alloc(), &packets) {
+    let verdicts = match receive_run_one(rt.alloc(), &packets, &map()) {
         Ok(verdicts) => verdicts,
-        Err(_) => receive_run_one(rt.alloc(), &packets).expect(&rt, "memory"),
+        Err(_) => receive_run_one(rt.alloc(), &packets, &map()).expect(&rt, "memory"),
     };
     let wanted = [verdict(Some(47_000)), Verdict::Refused];
     same(&rt, "the run", verdicts.as_slice(), wanted.as_slice());

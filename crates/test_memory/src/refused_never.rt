@@ -110,9 +110,9 @@ fn no_header(rt: HostRuntime) {
 
 // The datagrams have no verdicts, as those of several sources and as those of one.
 fn have_no_verdicts(rt: &impl Abort, alloc: Global, none: &[Vec<u8>]) {
-    let verdicts = receive_run(alloc, none);
+    let verdicts = receive_run(alloc, none, &map());
     assert!(rt; verdicts.expect(rt, "no memory is needed").is_empty());
-    let verdicts = receive_run_one(alloc, none);
+    let verdicts = receive_run_one(alloc, none, &map());
     assert!(rt; verdicts.expect(rt, "no memory is needed").is_empty());
 }
 

@@ -193,18 +193,18 @@ fn made(rt: &impl Abort, alloc: Global) -> Vec<Vec<u8>> {
 
 // These are the verdicts, with a receiver for each source.
 fn have_verdicts(rt: &impl Abort, alloc: Global, datagrams: &[Vec<u8>], wanted: &[Verdict]) {
-    let verdicts = match receive_run(alloc, datagrams) {
+    let verdicts = match receive_run(alloc, datagrams, &map()) {
         Ok(verdicts) => verdicts,
-        Err(_) => receive_run(alloc, datagrams).expect(rt, "memory"),
+        Err(_) => receive_run(alloc, datagrams, &map()).expect(rt, "memory"),
     };
     same(rt, "by source", verdicts.as_slice(), wanted);
 }
 
 // The same with one receiver for all.
 fn have_verdicts_of_one(rt: &impl Abort, alloc: Global, datagrams: &[Vec<u8>], wanted: &[Verdict]) {
-    let verdicts = match receive_run_one(alloc, datagrams) {
+    let verdicts = match receive_run_one(alloc, datagrams, &map()) {
         Ok(verdicts) => verdicts,
-        Err(_) => receive_run_one(alloc, datagrams).expect(rt, "memory"),
+        Err(_) => receive_run_one(alloc, datagrams, &map()).expect(rt, "memory"),
     };
     same(rt, "by one", verdicts.as_slice(), wanted);
 }

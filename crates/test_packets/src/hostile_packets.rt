@@ -96,7 +96,7 @@ fn repeated(rt: &impl Abort, alloc: Global, times: u16) -> Vec<Vec<u8>> {
 #[test]
 fn one_number_300_times(rt: HostRuntime) {
     let datagrams = repeated(&rt, rt.alloc(), 300);
-    let verdicts = receive_run(rt.alloc(), &datagrams);
+    let verdicts = receive_run(rt.alloc(), &datagrams, &ExtensionMap::standard());
     let mut wanted = [Verdict::Refused; 300];
     wanted[0] = verdict(Some(7));
     let verdicts = verdicts.expect(&rt, "memory");

@@ -3,7 +3,7 @@
 
 use crate::checks::{holds, same};
 use rtp_base::{SeqNo, Ssrc};
-use rtp_wire::{Receivers, Verdict, receive_run, receive_run_one};
+use rtp_wire::{ExtensionMap, Receivers, Verdict, receive_run, receive_run_one};
 use std::alloc::{AllocError, Global};
 use std::process::Abort;
 use test_fixtures::verdict;
@@ -102,9 +102,10 @@ fn are(rt: &impl Abort, verdicts: &[Verdict], first: Verdict, later: Verdict) {
 #[test]
 fn a_run(rt: HostRuntime) {
     let run = run_of_sources(&rt, rt.alloc());
-    let verdicts = match receive_run(rt.alloc(), &run) {
+    let exts = ExtensionMap::standard();
+    let verdicts = match receive_run(rt.alloc(), &run, &exts) {
         Ok(verdicts) => verdicts,
-        Err(_) => receive_run(rt.alloc(), &run).expect(&rt, "memory"),
+        Err(_) => receive_run(rt.alloc(), &run, &exts).expect(&rt, "memory"),
     };
     are(&rt, &verdicts, verdict(Some(7)), verdict(Some(7)));
 }
@@ -112,9 +113,10 @@ fn a_run(rt: HostRuntime) {
 #[test]
 fn a_run_of_one(rt: HostRuntime) {
     let run = run_of_sources(&rt, rt.alloc());
-    let verdicts = match receive_run_one(rt.alloc(), &run) {
+    let exts = ExtensionMap::standard();
+    let verdicts = match receive_run_one(rt.alloc(), &run, &exts) {
         Ok(verdicts) => verdicts,
-        Err(_) => receive_run_one(rt.alloc(), &run).expect(&rt, "memory"),
+        Err(_) => receive_run_one(rt.alloc(), &run, &exts).expect(&rt, "memory"),
     };
     are(&rt, &verdicts, verdict(Some(7)), Verdict::Refused);
 }

@@ -1,7 +1,7 @@
 //! Runs of datagrams, and what a receiver takes of them.
 
 use crate::checks::same;
-use rtp_wire::{Verdict, receive_run, receive_run_one};
+use rtp_wire::{Extension, ExtensionMap, Verdict, receive_run, receive_run_one};
 use std::alloc::{AllocError, Global};
 use std::process::Abort;
 use test_fixtures::verdict;
@@ -69,9 +69,10 @@ fn datagrams(alloc: Global, numbers: &[Option<u16>]) -> Result<Vec<Vec<u8>>, All
 // receiver for each source, and with one for all.
 pub(crate) fn check(rt: &impl Abort, alloc: Global, numbers: &[Option<u16>], wanted: &[Verdict]) {
     let datagrams = datagrams(alloc, numbers).expect(rt, "memory");
-    let verdicts = receive_run(alloc, &datagrams).expect(rt, "memory");
+    let exts = ExtensionMap::standard();
+    let verdicts = receive_run(alloc, &datagrams, &exts).expect(rt, "memory");
     same(rt, numbers.len(), verdicts.as_slice(), wanted);
-    let verdicts = receive_run_one(alloc, &datagrams).expect(rt, "memory");
+    let verdicts = receive_run_one(alloc, &datagrams, &exts).expect(rt, "memory");
     same(rt, numbers.len(), verdicts.as_slice(), wanted);
 }
 
@@ -104,4 +105,52 @@ fn unreadable_datagrams(rt: HostRuntime) {
         verdict(Some(65537)),
     ];
     check(&rt, rt.alloc(), &numbers, &wanted);
+}
+
+// The numbers 7, 8 and 9 of one source, a packet of it whose block is cut short, and 7 again. 8 has
+// an element of id 1, and 9 one of id 2.
+const WITH_BLOCKS: [&[u8]; 5] = [
+    &[0x80, 1, 0, 7, 0, 0, 0, 0, 0, 0, 0, 3],
+    &[
+        0x90, 1, 0, 8, 0, 0, 0, 0, 0, 0, 0, 3, 0xBE, 0xDE, 0, 1, 0x10, 0xAA, 0, 0,
+    ],
+    &[
+        0x90, 1, 0, 9, 0, 0, 0, 0, 0, 0, 0, 3, 0xBE, 0xDE, 0, 1, 0x21, 0xFF, 0xFE, 0,
+    ],
+    &[
+        0x90, 1, 0, 10, 0, 0, 0, 0, 0, 0, 0, 3, 0xBE, 0xDE, 0, 2, 0x10, 0xAA, 0, 0,
+    ],
+    &[0x80, 1, 0, 7, 0, 0, 0, 0, 0, 0, 0, 3],
+];
+
+// The verdicts under the map, with a receiver for each source and with one for all.
+fn check_under(rt: &impl Abort, alloc: Global, exts: &ExtensionMap) {
+    let mut datagrams = Vec::new(alloc);
+    for bytes in WITH_BLOCKS {
+        let datagram = Vec::from_slice(alloc, bytes).expect(rt, "memory");
+        datagrams.push(datagram).expect(rt, "memory");
+    }
+    let wanted = [
+        verdict(Some(7)),
+        verdict(Some(8)),
+        verdict(Some(9)),
+        Verdict::Unreadable,
+        Verdict::Refused,
+    ];
+    let verdicts = receive_run(alloc, &datagrams, exts).expect(rt, "memory");
+    same(rt, "by source", verdicts.as_slice(), wanted.as_slice());
+    let verdicts = receive_run_one(alloc, &datagrams, exts).expect(rt, "memory");
+    same(rt, "one for all", verdicts.as_slice(), wanted.as_slice());
+}
+
+// Under the first map nothing is mapped, under the second the level of 8 is read, and under the last
+// neither element is well-formed: AA is no allocation, and FF FE is no text.
+#[test]
+fn the_same_under_each_map(rt: HostRuntime) {
+    let mut exts = ExtensionMap::empty();
+    check_under(&rt, rt.alloc(), &exts);
+    check_under(&rt, rt.alloc(), &ExtensionMap::standard());
+    exts.set(1, Extension::VideoLayersAllocation);
+    exts.set(2, Extension::RtpMid);
+    check_under(&rt, rt.alloc(), &exts);
 }

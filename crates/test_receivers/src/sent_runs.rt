@@ -41,7 +41,7 @@ fn datagrams(rt: &impl Abort, alloc: Global, exts: &ExtensionMap) -> Vec<Vec<u8>
 fn reordered_and_repeated(rt: HostRuntime) {
     let exts = ExtensionMap::standard();
     let datagrams = datagrams(&rt, rt.alloc(), &exts);
-    let verdicts = receive_run(rt.alloc(), &datagrams);
+    let verdicts = receive_run(rt.alloc(), &datagrams, &exts);
     let verdicts = verdicts.expect(&rt, "memory");
     let wanted = ARRIVALS.map(|(_, taken)| verdict(taken));
     same(&rt, "the verdicts", verdicts.as_slice(), wanted.as_slice());

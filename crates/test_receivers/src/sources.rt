@@ -1,7 +1,7 @@
 //! Packets of several sources, under a receiver for each of them and under one for all.
 
 use crate::checks::same;
-use rtp_wire::{Verdict, receive_run, receive_run_one};
+use rtp_wire::{ExtensionMap, Verdict, receive_run, receive_run_one};
 use std::alloc::{AllocError, Global};
 use std::process::Abort;
 use test_fixtures::verdict;
@@ -17,9 +17,10 @@ fn datagram(alloc: Global, source: u32, number: u16) -> Result<Vec<u8>, AllocErr
 
 // Runs the datagrams with a receiver for each source, and with one for all.
 fn check(rt: &impl Abort, alloc: Global, run: &[Vec<u8>], by_source: &[Verdict], one: &[Verdict]) {
-    let found = receive_run(alloc, run).expect(rt, "memory");
+    let exts = ExtensionMap::standard();
+    let found = receive_run(alloc, run, &exts).expect(rt, "memory");
     same(rt, "by source", found.as_slice(), by_source);
-    let found = receive_run_one(alloc, run).expect(rt, "memory");
+    let found = receive_run_one(alloc, run, &exts).expect(rt, "memory");
     same(rt, "one for all", found.as_slice(), one);
 }
 
@@ -84,6 +85,7 @@ fn three_hundred_sources(rt: HostRuntime) {
         let taken = if index < 300 { Some(7) } else { None };
         wanted.push(verdict(taken)).expect(&rt, "memory");
     }
-    let found = receive_run(rt.alloc(), &run).expect(&rt, "memory");
+    let exts = ExtensionMap::standard();
+    let found = receive_run(rt.alloc(), &run, &exts).expect(&rt, "memory");
     same(&rt, "300 sources", found.as_slice(), wanted.as_slice());
 }

@@ -2,6 +2,7 @@
 
 ghost use Rattle.std.specs.Prelude.{◌≡◌, ◌↔◌, ◌^◌, ◌<◌, ◌/◌, ℕ, Option, Some, None, option_copied, IsTrue, false, if◌then◌else◌};
 ghost use Rattle.rtp_base.specs.Window.{Numbers, WindowState, including};
+ghost use Rattle.rtp_ext.specs.declared.ext.map.ExtensionMap.{ExtensionMap};
 ghost use Rattle.rtp_wire.specs.Receiver.{Holds, IsHighest, IsNumberOf, IsFresh, IsJudged, taken_after, StaysBelowZeroIn};
 ghost use Rattle.rtp_wire.specs.declared.receive.state.ReceiverState.TheVariants.{Start, Window};
 ghost use Rattle.rtp_wire.specs.Verdicts.{PacketId, IsPacketId, IsVerdict};
@@ -217,10 +218,11 @@ impl Receiver {
 
     // The verdict on a datagram, by the packet that it is.
     pub(super) fn verdict_on(&mut self, datagram: &[u8]) -> Verdict
-        // It is a packet of some packet id, or none.
-        ensures read { (packet_id : Option PacketId) × IsPacketId datagram.now packet_id }
-        ensures verdict { (packet_id : Option PacketId) → IsPacketId datagram.now packet_id →
-            (count : ℕ) → (taken : Numbers) → Holds self.old count taken →
+        // It has the same packet id under each map, or none under any.
+        ensures read { (packet_id : Option PacketId)
+            × ((exts : ExtensionMap) → IsPacketId exts datagram.now packet_id) }
+        ensures verdict { (exts : ExtensionMap) → (packet_id : Option PacketId) →
+            IsPacketId exts datagram.now packet_id → (count : ℕ) → (taken : Numbers) → Holds self.old count taken →
             IsVerdict count taken packet_id result }
         ensures after { (count : ℕ) → (taken : Numbers) → Holds self.old count taken →
             Holds self.new count (taken_after taken result) }

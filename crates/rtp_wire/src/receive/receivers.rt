@@ -3,6 +3,7 @@
 ghost use Rattle.std.specs.Prelude.{◌≡◌, ◌≢◌, ◌↔◌, ◌+◌, ◌^◌, ◌<◌, ℕ, [], length, Option, Some, None, IsTrue, IsSome, IfSome, IfNone, IsOk, IfOk, OnOk, OnErr};
 ghost use Rattle.std.specs.Option.{option_copied};
 ghost use Rattle.rtp_base.specs.Window.{Numbers, including};
+ghost use Rattle.rtp_ext.specs.declared.ext.map.ExtensionMap.{ExtensionMap};
 ghost use Rattle.rtp_wire.specs.Receiver.{Holds, IsNumberOf, IsFresh, IsJudged, taken_after, StaysBelowZeroIn};
 ghost use Rattle.rtp_wire.specs.Receivers.{receiver_of, state_of};
 ghost use Rattle.rtp_wire.specs.Verdicts.{PacketId, IsPacketId, IsVerdict};
@@ -263,17 +264,21 @@ impl Receivers {
 
     // The verdict on a datagram, by the packet that it is.
     pub(super) fn verdict_on(&mut self, datagram: &[u8]) -> Result<Verdict, AllocError>
-        // It is a packet of some packet id, or none.
-        ensures read { (packet_id : Option PacketId) × IsPacketId datagram.now packet_id }
-        ensures verdict { (packet_id : Option PacketId) → IsPacketId datagram.now packet_id →
-            (count : ℕ) → (taken : ℕ → Numbers) → HoldsEach self.old count taken →
+        // It has the same packet id under each map, or none under any.
+        ensures read { (packet_id : Option PacketId)
+            × ((exts : ExtensionMap) → IsPacketId exts datagram.now packet_id) }
+        ensures verdict { (exts : ExtensionMap) → (packet_id : Option PacketId) →
+            IsPacketId exts datagram.now packet_id → (count : ℕ) → (taken : ℕ → Numbers) →
+            HoldsEach self.old count taken →
             IfOk result (IsVerdict count (numbers_beside taken packet_id) packet_id) }
-        ensures after { (packet_id : Option PacketId) → IsPacketId datagram.now packet_id →
-            (count : ℕ) → (taken : ℕ → Numbers) → HoldsEach self.old count taken →
-            IfOk result (λ verdict.
+        ensures after { (exts : ExtensionMap) → (packet_id : Option PacketId) →
+            IsPacketId exts datagram.now packet_id → (count : ℕ) → (taken : ℕ → Numbers) →
+            HoldsEach self.old count taken → IfOk result (λ verdict.
             HoldsEach self.new count (taken_after_each taken packet_id verdict)) }
-        ensures succeeds { IsPacketId datagram.now None → IsOk result }
-        ensures same { IsPacketId datagram.now None → self.new ≡ self.old }
+        ensures succeeds { (exts : ExtensionMap) → IsPacketId exts datagram.now None →
+            IsOk result }
+        ensures same { (exts : ExtensionMap) → IsPacketId exts datagram.now None →
+            self.new ≡ self.old }
     {
         match RtpPacket::parse(datagram) {
             Err(_) => Ok(Verdict::Unreadable),

@@ -9,40 +9,52 @@ ghost use Rattle.rtp_wire.specs.Sending.{AreSent, packet_ids_of};
 ghost use Rattle.rtp_wire.specs.Sources.{AreVerdictsBySource, OfEachSource, IsRunAlone, TakesEachOnce, IsDecidedBy, IsDecidedBySender};
 
 use super::{Receiver, Receivers, Verdict};
+use rtp_ext::ExtensionMap;
 use std::alloc::{AllocError, Global};
 
 /// The verdict on each datagram, in the order in which they came, by a [`Receiver`] for each SSRC
-/// ([`Receivers`]): a datagram that is no packet is unreadable and changes nothing. Nothing is
-/// authenticated here.
+/// ([`Receivers`]): a datagram that begins with no header under the map is unreadable and changes
+/// nothing. Nothing is authenticated here.
+///
+/// The map isn't looked at, since under each map the same datagrams begin with a header, and with
+/// one of the same SSRC and sequence number.
 ///
 /// Memory is taken for the list of the verdicts, made at once, and for the receiver of each SSRC, at
-/// its first packet; where it is refused nothing is returned. What is in a packet's header
-/// extensions takes none, and isn't looked at.
-pub fn receive_run(alloc: Global, datagrams: &[Vec<u8>]) -> Result<Vec<Verdict>, AllocError>
+/// its first packet; where it is refused nothing is returned. The values of header extensions take
+/// none, and aren't looked at.
+pub fn receive_run(
+    alloc: Global,
+    datagrams: &[Vec<u8>],
+    exts: &ExtensionMap,
+) -> Result<Vec<Verdict>, AllocError>
     ensures verdicts { IfOk result (λ found.
-        AreVerdictsBySource (map (λ d. d.items) datagrams.now) found.items) }
+        AreVerdictsBySource exts.now (map (λ d. d.items) datagrams.now) found.items) }
+
+    // No other map gives other verdicts.
+    ensures any_map { (other : ExtensionMap) → IfOk result (λ found.
+        AreVerdictsBySource other (map (λ d. d.items) datagrams.now) found.items) }
 
     // The verdicts on the datagrams of a source are those of a run of them alone, whatever comes
     // between.
-    ensures isolated { IfOk result (λ found. OfEachSource
-        (map (λ d. d.items) datagrams.now) found.items IsRunAlone) }
-    ensures once { IfOk result (λ found. OfEachSource
+    ensures isolated { IfOk result (λ found. OfEachSource exts.now
+        (map (λ d. d.items) datagrams.now) found.items (IsRunAlone exts.now)) }
+    ensures once { IfOk result (λ found. OfEachSource exts.now
         (map (λ d. d.items) datagrams.now) found.items TakesEachOnce) }
 
     // The numbers that a sender gave the packets of a source decide alone, where the source's first
     // one is below 65,536, and each later one is less than 32,768 away from the highest before it
     // of the source.
-    ensures true_numbers { (numbers : List ℕ) → IfOk result (λ found. OfEachSource
+    ensures true_numbers { (numbers : List ℕ) → IfOk result (λ found. OfEachSource exts.now
         (map (λ d. d.items) datagrams.now) found.items (IsDecidedBy numbers)) }
 
-    // What a sender's headers were written as is read, whatever its map is and whatever is lost,
-    // repeated or reordered on the way, and the sender's numbers decide: among the datagrams of
-    // other sources, and alone.
-    ensures sent_among { (exts : ExtensionMap) → (headers : List RtpHeader) → (numbers : List ℕ) →
-        IfOk result (λ found. OfEachSource (map (λ d. d.items) datagrams.now) found.items
-        (IsDecidedBySender exts headers numbers)) }
-    ensures sent { (exts : ExtensionMap) → (headers : List RtpHeader) → (numbers : List ℕ) →
-        AreSent exts headers numbers (map (λ d. d.items) datagrams.now) →
+    // What a sender's headers were written as is read, whatever the sender's map is and whatever is
+    // lost, repeated or reordered on the way, and the sender's numbers decide: among the datagrams
+    // of other sources, and alone.
+    ensures sent_among { (senders : ExtensionMap) → (headers : List RtpHeader) →
+        (numbers : List ℕ) → IfOk result (λ found. OfEachSource exts.now
+        (map (λ d. d.items) datagrams.now) found.items (IsDecidedBySender senders headers numbers)) }
+    ensures sent { (senders : ExtensionMap) → (headers : List RtpHeader) → (numbers : List ℕ) →
+        AreSent senders headers numbers (map (λ d. d.items) datagrams.now) →
         IfOk result (λ found. AreTrueVerdicts (packet_ids_of headers) numbers found.items) }
     ensures nothing { datagrams.now ≡ [] → IsOk result }
 {
@@ -56,27 +68,36 @@ pub fn receive_run(alloc: Global, datagrams: &[Vec<u8>]) -> Result<Vec<Verdict>,
 }
 
 /// The verdict on each datagram, in the order in which they came, by one [`Receiver`] for all of
-/// them, whatever their SSRC: a datagram that is no packet is unreadable and changes nothing. It is
-/// meant for the datagrams of one stream, and nothing is authenticated here.
+/// them, whatever their SSRC: a datagram that begins with no header under the map is unreadable and
+/// changes nothing. It is meant for the datagrams of one stream, and nothing is authenticated here.
+/// The map isn't looked at, as by [`receive_run`].
 ///
 /// Memory is taken for the list of the verdicts alone, made at once; where it is refused nothing is
-/// returned. What is in a packet's header extensions takes none, and isn't looked at.
-pub fn receive_run_one(alloc: Global, datagrams: &[Vec<u8>]) -> Result<Vec<Verdict>, AllocError>
+/// returned.
+pub fn receive_run_one(
+    alloc: Global,
+    datagrams: &[Vec<u8>],
+    exts: &ExtensionMap,
+) -> Result<Vec<Verdict>, AllocError>
     ensures verdicts { IfOk result (λ found.
-        AreVerdicts (map (λ d. d.items) datagrams.now) found.items) }
+        AreVerdicts exts.now (map (λ d. d.items) datagrams.now) found.items) }
+
+    // No other map gives other verdicts.
+    ensures any_map { (other : ExtensionMap) → IfOk result (λ found.
+        AreVerdicts other (map (λ d. d.items) datagrams.now) found.items) }
     ensures once { IfOk result (λ found. TakesOnce found.items) }
 
     // The numbers that the sender gave its packets decide alone, where the first one is below
     // 65,536, and each later one is less than 32,768 away from the highest before it.
     ensures true_numbers { (packet_ids : List (Option PacketId)) → (numbers : List ℕ) →
-        ArePacketIds (map (λ d. d.items) datagrams.now) packet_ids →
+        ArePacketIds exts.now (map (λ d. d.items) datagrams.now) packet_ids →
         AreTrue 0 packet_ids numbers →
         IfOk result (λ found. AreTrueVerdicts packet_ids numbers found.items) }
 
-    // What a sender's headers were written as is read, whatever its map is and whatever is lost,
-    // repeated or reordered on the way, and the sender's numbers decide.
-    ensures sent { (exts : ExtensionMap) → (headers : List RtpHeader) → (numbers : List ℕ) →
-        AreSent exts headers numbers (map (λ d. d.items) datagrams.now) →
+    // What a sender's headers were written as is read, whatever the sender's map is and whatever is
+    // lost, repeated or reordered on the way, and the sender's numbers decide.
+    ensures sent { (senders : ExtensionMap) → (headers : List RtpHeader) → (numbers : List ℕ) →
+        AreSent senders headers numbers (map (λ d. d.items) datagrams.now) →
         IfOk result (λ found. AreTrueVerdicts (packet_ids_of headers) numbers found.items) }
     ensures nothing { datagrams.now ≡ [] → IsOk result }
 {

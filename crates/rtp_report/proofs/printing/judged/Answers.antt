@@ -1,11 +1,8 @@
-use Rattle.std.proofs.Common.{◌≡◌, ℕ, List, ap, subst, ◌∙◌}
-use Rattle.std.specs.Prelude.{Ok}
-use Rattle.std.specs.Option.{option_map}
+use Rattle.std.proofs.Common.{◌≡◌, ℕ, List, subst, ◌∙◌}
 use Rattle.hex.proofs.HexLemmas.{decode_of-same}
-use Rattle.rtp_wire.specs.Verdicts.{IsPacketId}
+use Rattle.rtp_wire.specs.Verdicts.{packet_id_of}
 use Rattle.rtp_report.specs.Output.{IsHeader}
-use Rattle.rtp_wire.specs.Sending.{packet_id_of}
-use Rattle.rtp_report.proofs.PrintLemmas.{IsHeader-parsed, IsPacketId-parsed}
+use Rattle.rtp_report.proofs.PrintLemmas.{IsHeader-parsed}
 use Rattle.rtp_report.proofs.printing.judged.Goals as goal
 use Rattle.rtp_report.proofs.printing.judged.Goals.{in-Some+in_ok-verdict-in-Some, in-None}
 use Rattle.rtp_wire.proofs.SourceLemmas.{HoldsEach-after}
@@ -16,13 +13,6 @@ returns-clause-header c bytes decoded =
     let same : read ≡ bytes = c.deref.ensures.value ∙ decode_of-same c.args.line.now _ bytes c.in_ok-decode_into.ensures decoded in
     subst (λ (datagram : List ℕ). IsHeader c.args.exts.now datagram c.in_ok-header.header) same
     (IsHeader-parsed c.args.exts.now read c.in_ok-header.header c.in_ok-header.ensures.found c.in_ok-header.ensures.only)
-
-pub returns-clause-packet_id : goal.returns-clause-packet_id
-returns-clause-packet_id c bytes decoded =
-    let read = c.deref.result.now in
-    let same : read ≡ bytes = c.deref.ensures.value ∙ decode_of-same c.args.line.now _ bytes c.in_ok-decode_into.ensures decoded in
-    subst (λ (datagram : List ℕ). IsPacketId datagram (option_map packet_id_of c.in_ok-header.header)) same
-    (IsPacketId-parsed c.args.exts.now read c.in_ok-header.header c.in_ok-header.ensures.found (λ none. c.in_ok-header.ensures.refused.0 (ap Ok none)))
 
 pub returns-clause-after : goal.returns-clause-after
 returns-clause-after c taken holds =

@@ -44,7 +44,7 @@ returns-in_err-write_text-2-clause-err g c datagrams hex =
     let shown = ap (λ (h : Option RtpHeader). string_bytes c.loop-rest.text ++ packet_lines (c.loop-rest.packet + 1) h c.in-Ok.verdict) c.as_ref.ensures.value in
     let more =
     Printing-more _ _ _ _ c.first_line.result.1.now _ _ _ _ _ _ _ c.in-Ok.header c.in-Ok.verdict c.loop-rest.invariant c.first_line.ensures.first c.first_line.ensures.shorter
-    c.in-Ok.ensures.header c.in-Ok.ensures.packet_id c.in-Ok.ensures.verdict c.in-Ok.ensures.after (c.in_ok-push_lines.ensures.ok ∙ shown) in
+    c.in-Ok.ensures.header c.in-Ok.ensures.verdict c.in-Ok.ensures.after (c.in_ok-push_lines.ensures.ok ∙ shown) in
     handed_on c.from_residual-in_err-write_text-2.result c.in_err-write_text-2.field-0.0 Io _ c.from_residual-in_err-write_text-2.ensures.1 c.in_err-write_text-2.ensures.err
     (Prints-cut _ _ _ _ _ _ _ _ _ (more.printed datagrams hex) c.as_bytes-then-len-ge-WRITTEN_AT_ONCE.ensures.value c.in_err-write_text-2.ensures.beginning)
 
@@ -69,7 +69,7 @@ loop-rest-preserved g c =
     let shown = ap (λ (h : Option RtpHeader). string_bytes c.loop-rest.text ++ packet_lines (c.loop-rest.packet + 1) h c.in-Ok.verdict) c.as_ref.ensures.value in
     let more =
     Printing-more _ _ _ _ c.first_line.result.1.now _ _ _ _ _ _ _ c.in-Ok.header c.in-Ok.verdict c.loop-rest.invariant c.first_line.ensures.first c.first_line.ensures.shorter
-    c.in-Ok.ensures.header c.in-Ok.ensures.packet_id c.in-Ok.ensures.verdict c.in-Ok.ensures.after (c.in_ok-push_lines.ensures.ok ∙ shown) in
+    c.in-Ok.ensures.header c.in-Ok.ensures.verdict c.in-Ok.ensures.after (c.in_ok-push_lines.ensures.ok ∙ shown) in
     elim c.if-len-ge-WRITTEN_AT_ONCE.branch [
       | then-len-ge-WRITTEN_AT_ONCE+in_ok-write_text-2 w ↦ rw (w.output-is, w.text-is) (Printing-written _ _ _ _ _ _ _ _ _ _ more
           (subst (Appends (g.W.Write.contents c.loop-rest.output) (g.W.Write.contents w.write_text-then-len-ge-WRITTEN_AT_ONCE.new.output)) w.as_bytes-then-len-ge-WRITTEN_AT_ONCE.ensures.value w.in_ok-write_text-2.ensures.ok)
@@ -82,7 +82,7 @@ loop-rest-preserved-after-len-ge-WRITTEN_AT_ONCE g c =
     let shown = ap (λ (h : Option RtpHeader). string_bytes c.loop-rest.text ++ packet_lines (c.loop-rest.packet + 1) h c.in-Ok.verdict) c.as_ref.ensures.value in
     let more =
     Printing-more _ _ _ _ c.first_line.result.1.now _ _ _ _ _ _ _ c.in-Ok.header c.in-Ok.verdict c.loop-rest.invariant c.first_line.ensures.first c.first_line.ensures.shorter
-    c.in-Ok.ensures.header c.in-Ok.ensures.packet_id c.in-Ok.ensures.verdict c.in-Ok.ensures.after (c.in_ok-push_lines.ensures.ok ∙ shown) in
+    c.in-Ok.ensures.header c.in-Ok.ensures.verdict c.in-Ok.ensures.after (c.in_ok-push_lines.ensures.ok ∙ shown) in
     elim c.if-len-ge-WRITTEN_AT_ONCE.branch [
       | then-len-ge-WRITTEN_AT_ONCE+in_ok-write_text-2 w ↦ rw (w.output-is, w.text-is) (Printing-written _ _ _ _ _ _ _ _ _ _ more
           (subst (Appends (g.W.Write.contents c.loop-rest.output) (g.W.Write.contents w.write_text-then-len-ge-WRITTEN_AT_ONCE.new.output)) w.as_bytes-then-len-ge-WRITTEN_AT_ONCE.ensures.value w.in_ok-write_text-2.ensures.ok)
@@ -95,7 +95,7 @@ loop-rest-preserved-after-len-ge-WRITTEN_AT_ONCE-2 g c =
     let shown = ap (λ (h : Option RtpHeader). string_bytes c.loop-rest.text ++ packet_lines (c.loop-rest.packet + 1) h c.in-Ok.verdict) c.as_ref.ensures.value in
     let more =
     Printing-more _ _ _ _ c.first_line.result.1.now _ _ _ _ _ _ _ c.in-Ok.header c.in-Ok.verdict c.loop-rest.invariant c.first_line.ensures.first c.first_line.ensures.shorter
-    c.in-Ok.ensures.header c.in-Ok.ensures.packet_id c.in-Ok.ensures.verdict c.in-Ok.ensures.after (c.in_ok-push_lines.ensures.ok ∙ shown) in
+    c.in-Ok.ensures.header c.in-Ok.ensures.verdict c.in-Ok.ensures.after (c.in_ok-push_lines.ensures.ok ∙ shown) in
     elim c.if-len-ge-WRITTEN_AT_ONCE.branch [
       | then-len-ge-WRITTEN_AT_ONCE+in_ok-write_text-2 w ↦ rw (w.output-is, w.text-is) (Printing-written _ _ _ _ _ _ _ _ _ _ more
           (subst (Appends (g.W.Write.contents c.loop-rest.output) (g.W.Write.contents w.write_text-then-len-ge-WRITTEN_AT_ONCE.new.output)) w.as_bytes-then-len-ge-WRITTEN_AT_ONCE.ensures.value w.in_ok-write_text-2.ensures.ok)

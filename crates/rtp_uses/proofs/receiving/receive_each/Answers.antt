@@ -3,10 +3,10 @@ use Rattle.std.specs.Prelude.{Option, Some, None}
 use Rattle.std.proofs.lemmas.List.{get_or-map, length-map, length_push, take_more, take_all}
 use Rattle.rtp_wire.specs.declared.header.rtp_header.RtpHeader.{RtpHeader}
 use Rattle.rtp_wire.specs.declared.receive.verdict.Verdict.{Verdict}
-use Rattle.rtp_wire.specs.Sending.{packet_id_of, packet_ids_of}
-use Rattle.rtp_wire.specs.Verdicts.{PacketId, taken_by, IsRun}
+use Rattle.rtp_wire.specs.Sending.{packet_ids_of}
+use Rattle.rtp_wire.specs.Verdicts.{PacketId, packet_id_of, taken_by, IsRun}
 use Rattle.rtp_wire.proofs.TrueNumberLemmas.{AreTrueVerdicts-run}
-use Rattle.rtp_uses.proofs.ReceivingLemmas.{AreSoFar, AreSoFar-more}
+use Rattle.rtp_wire.proofs.VerdictLemmas.{SoFar, SoFar-more}
 use Rattle.rtp_uses.proofs.receiving.receive_each.Goals as goal
 
 pub loop-header-preserved : goal.loop-header-preserved
@@ -22,9 +22,9 @@ loop-header-preserved c =
     take_more packet_ids i None (omega (arith, length-map headers packet_id, c.loop-header-test.true))
     ∙ ap (λ (r : Option PacketId). take i packet_ids ++ r ∷ []) (get_or-map packet_id headers i header None c.loop-header-test.true ∙ ap packet_id (sym c.header-item.is)) in
     record {
-      so_far = subst (λ rs. AreSoFar rs c.push_reserved.new.self.items c.receive.new.self) (sym one)
-          (subst (λ (vs : List Verdict). AreSoFar (take i packet_ids ++ packet_id header ∷ []) vs c.receive.new.self) (sym c.push_reserved.ensures.items)
-          (AreSoFar-more (take i packet_ids) verdicts c.loop-header.receiver c.receive.new.self (packet_id header) c.receive.result so_far
+      so_far = subst (λ rs. SoFar rs c.push_reserved.new.self.items c.receive.new.self) (sym one)
+          (subst (λ (vs : List Verdict). SoFar (take i packet_ids ++ packet_id header ∷ []) vs c.receive.new.self) (sym c.push_reserved.ensures.items)
+          (SoFar-more (take i packet_ids) verdicts c.loop-header.receiver c.receive.new.self (packet_id header) c.receive.result so_far
           (c.receive.ensures.verdict 0 (taken_by verdicts) so_far.holds) (c.receive.ensures.after 0 (taken_by verdicts) so_far.holds)));
       room = c.push_reserved.ensures.capacity ∙ c.loop-header.invariant.room;
       as_many = ap length c.push_reserved.ensures.items ∙ length_push verdicts c.receive.result
