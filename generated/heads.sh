@@ -2,7 +2,8 @@
 # generated/make read this file, after proving.sh; they set `top`. It takes a shell and coreutils alone.
 
 # The texts, each with the crate that it is made of.
-declare -A crate_of=([rtp_lines]=rtp_lines [rtp_wire]=rtp_c)
+names='rtp_wire rtp_lines'
+declare -A crate_of=([rtp_wire]=rtp_c [rtp_lines]=rtp_lines)
 processors='x86_64 aarch64'
 
 # The file of a text.
@@ -33,6 +34,11 @@ said_of() { # file, word
 # The digest of a text, but for the line that says it.
 text_digest() { # file
     grep -v '^ \* text: ' "$1" | sha256sum | cut -d ' ' -f 1
+}
+
+# What stands below the head of a text.
+code_of() { # file
+    sed '1,/^ \*\/$/d' "$1"
 }
 
 # Why a text isn't to be used: nothing where it is whole, and made of the sources as they are.
