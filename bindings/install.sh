@@ -58,8 +58,8 @@ done
 prefix=$(realpath -m -- "${prefix:-$here/out/$target}")
 work=$here/out/build-$target
 mkdir -p -- "$work"
-# shellcheck source=proving.sh
-. "$top/proving.sh"
+# shellcheck source=.ci/proving
+. "$top/.ci/proving"
 # shellcheck source=generated/heads.sh
 . "$top/generated/heads.sh"
 text=$(text_of rtp_wire "$processor")

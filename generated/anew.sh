@@ -1,5 +1,5 @@
 # Makes the text of what `rt` builds. The scripts prove, bindings/install.sh and generated/make read this file,
-# after proving.sh and generated/heads.sh.
+# after .ci/proving and generated/heads.sh.
 #
 # `rt` compiles a proved crate by the clang of its kit. lend_kit puts an `rt` on the path which is that of the
 # kit, and whose clang also keeps what it was given, so that make_text can have the same compiled to text.

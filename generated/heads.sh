@@ -1,5 +1,5 @@
 # What the heads of the texts in this folder say. The scripts rtp_lines, prove, bindings/install.sh and
-# generated/make read this file, after proving.sh; they set `top`. It takes a shell and coreutils alone.
+# generated/make read this file, after .ci/proving; they set `top`. It takes a shell and coreutils alone.
 
 # The texts, each with the crate that it is made of.
 names='rtp_wire rtp_lines'

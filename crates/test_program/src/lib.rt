@@ -1,0 +1,15 @@
+//! Tests of `rtp_report`: what the program reads and prints.
+#![tactic(auto)]
+
+#[cfg(test)]
+mod checks;
+#[cfg(test)]
+mod failing_streams;
+#[cfg(test)]
+mod map_lines;
+#[cfg(test)]
+mod printed_values;
+#[cfg(test)]
+mod refused_lines;
+#[cfg(test)]
+mod reports;
