@@ -1,12 +1,14 @@
 #!/usr/bin/env bash
-# Proves and builds the library for C, and installs it: PREFIX/lib/librtp_wire.a, librtp_wire.so and
-# pkgconfig/rtp_wire.pc, and PREFIX/include/rtp_wire.h.
+# Installs the library for C: PREFIX/lib/librtp_wire.a, librtp_wire.so and pkgconfig/rtp_wire.pc, and
+# PREFIX/include/rtp_wire.h.
 #
-# usage: bindings/install.sh [--target x86_64-unknown-linux-gnu | aarch64-unknown-linux-gnu] [PREFIX]
+# usage: bindings/install.sh [--prove] [--target x86_64-unknown-linux-gnu | aarch64-unknown-linux-gnu] [PREFIX]
 #
-# Without PREFIX it installs into bindings/out/TARGET, where the crate for Rust looks. It needs `rt` on
-# the path, and binutils and a C compiler of the target: cc, or aarch64-linux-gnu-gcc. Only the names
-# rtp_* are visible in both libraries, which want nothing but the C library.
+# Without PREFIX it installs into bindings/out/TARGET. It takes the assembly text of the folder generated, and a
+# C compiler and binutils of the target: for this machine `cc` (or $CC), for the other aarch64-linux-gnu-gcc and
+# the like. With --prove it takes `rt` too, proves and builds the library from the sources, which takes minutes
+# the first time, installs that, and says whether it is the text. Only the names rtp_* are visible in both
+# libraries, which want nothing but the C library.
 set -euo pipefail
 
 say() { echo "install.sh: $*" >&2; }
@@ -16,18 +18,21 @@ give_up() {
 }
 
 here=$(cd -- "$(dirname -- "$(readlink -f -- "${BASH_SOURCE[0]}")")" && pwd)
-crate=$here/../crates/rtp_c
-target=x86_64-unknown-linux-gnu
+top=$(cd -- "$here/.." && pwd)
+machine=$(uname -m)
+target=$machine-unknown-linux-gnu
 prefix=
+proves=
 while [ $# -gt 0 ]; do
     case $1 in
+    --prove) proves=yes ;;
     --target)
         [ $# -ge 2 ] || give_up '--target wants a name'
         target=$2
         shift
         ;;
     -h | --help)
-        sed -n '2,9s/^# \{0,1\}//p' "$here/install.sh"
+        sed -n '2,12s/^# \{0,1\}//p' "$here/install.sh"
         exit
         ;;
     -*) give_up "no such option: $1" ;;
@@ -39,50 +44,88 @@ while [ $# -gt 0 ]; do
     shift
 done
 case $target in
-x86_64-unknown-linux-gnu) tools= cc=${CC:-cc} ;;
-aarch64-unknown-linux-gnu) tools=aarch64-linux-gnu- cc=aarch64-linux-gnu-gcc ;;
+x86_64-unknown-linux-gnu | aarch64-unknown-linux-gnu) processor=${target%%-*} ;;
 *) give_up "no such target: $target" ;;
 esac
-for tool in rt "$cc" "${tools}ar" "${tools}ld" "${tools}objcopy" "${tools}nm"; do
-    command -v "$tool" >/dev/null || give_up "$tool is not on the path"
+tools=$processor-linux-gnu-
+cc=${tools}gcc
+if [ "$processor" = "$machine" ]; then
+    tools='' cc=${CC:-cc}
+fi
+for tool in "$cc" "${tools}ar" "${tools}ld" "${tools}objcopy" ${proves:+rt}; do
+    command -v "${tool%% *}" >/dev/null || give_up "$tool is not on the path"
 done
 prefix=$(realpath -m -- "${prefix:-$here/out/$target}")
 work=$here/out/build-$target
 mkdir -p -- "$work"
-
-say "proving and building the library for $target, which takes minutes the first time"
-top=$(cd -- "$here/.." && pwd)
-log=$work/rt.log
-times=$work/times
 # shellcheck source=.ci/proving
 . "$top/.ci/proving"
-read -ra crates <<<"$(crates_of rtp_c)"
-: >"$log"
-if ! prove_all lib --target "$target"; then
-    tail -n 20 -- "$log" >&2
-    give_up "the library was not built: $log"
-fi
-grep -q "^logic=proved .*target=$target" "$log" || give_up "the last lines don't say that it is proved: $log"
-cp -- "$crate/out/librtp_c.a" "$work"
-say "proved and built after $SECONDS seconds"
+# shellcheck source=generated/heads.sh
+. "$top/generated/heads.sh"
+text=$(text_of rtp_wire "$processor")
+fault=$(fault_of rtp_wire "$processor")
 
-# The kit has the functions that take memory for x86-64 alone. They are linked where they are called.
-kit=$(dirname -- "$(dirname -- "$(readlink -f -- "$(command -v rt)")")")
-heap=$kit/c/liblibc_c.a
-if [ -n "$tools" ]; then
-    heap=$work/libheap.a
-    "$cc" -std=c99 -O2 -fPIC -Wall -Wextra -c "$here/c/heap.c" -o "$work/heap.o"
-    rm -f -- "$heap" && "${tools}ar" rcsD "$heap" "$work/heap.o"
+compile() { # files
+    local file
+    for file; do
+        # shellcheck disable=SC2086
+        $cc -std=c99 -O2 -fPIC -Wall -Wextra -c "$file" -o "$work/$(basename -- "${file%.*}").o"
+    done
+}
+
+# Proves and builds the library, and tells whether it is the text.
+take_what_is_proved() {
+    log=$work/rt.log times=$work/times
+    # shellcheck source=generated/anew.sh
+    . "$top/generated/anew.sh"
+    lend_kit "$work/kit"
+    say "proving and building the library for $target, which takes minutes the first time"
+    : >"$log"
+    if ! build_for rtp_wire "$processor" || ! make_text rtp_wire "$processor" "$work/rtp_wire.s"; then
+        tail -n 20 -- "$log" >&2
+        give_up "the library was not built: $log"
+    fi
+    grep -q "^logic=proved .*target=$target" "$log" || give_up "the last lines don't say that it is proved: $log"
+    say "proved and built after $SECONDS seconds"
+    if cmp -s -- "$text" "$work/rtp_wire.s"; then
+        what="what was proved, which is the text $text"
+    elif [ -n "$fault" ]; then
+        what="what was proved, and not the text $text, which $fault: generated/make writes it anew"
+    elif [ "$(said_of "$text" kit)" != "$(rt version)" ]; then
+        what="what was proved, and not the text $text, which is of $(said_of "$text" kit): here is $(rt version)"
+    else
+        give_up "the text $text isn't what was proved: generated/make writes it anew"
+    fi
+    cp -- "$top/crates/rtp_c/out/librtp_c.a" "$work"
+    # The kit has the functions that take memory for x86-64 alone. They are linked where they are called.
+    parts=(--whole-archive "$work/librtp_c.a" --no-whole-archive)
+    if [ "$processor" = x86_64 ]; then
+        parts+=("$lent/c/liblibc_c.a")
+    else
+        compile "$top/generated/heap.c"
+        parts+=("$work/heap.o")
+    fi
+}
+
+if [ -n "$proves" ]; then
+    take_what_is_proved
+elif [ -n "$fault" ]; then
+    give_up "$text $fault: bindings/install.sh --prove, or else generated/make, proves and builds the sources as they are, and takes rt"
+else
+    compile "$text" "$top/generated/heap.c"
+    parts=("$work/rtp_wire-$processor.o" "$work/heap.o")
+    what="the text $text"
 fi
 
 # One object, of which only rtp_* can be seen. Sections stay apart, so that a linker can leave out
 # what isn't called (--gc-sections).
 object=$work/rtp_wire.o
-"${tools}ld" -r -o "$object" --whole-archive "$work/librtp_c.a" --no-whole-archive "$heap"
+"${tools}ld" -r -o "$object" "${parts[@]}"
 "${tools}objcopy" --strip-debug --wildcard --keep-global-symbol='rtp_*' "$object"
 rm -f -- "$work/librtp_wire.a"
 "${tools}ar" rcsD "$work/librtp_wire.a" "$object"
-"$cc" -shared -o "$work/librtp_wire.so" "$object" \
+# shellcheck disable=SC2086
+$cc -shared -o "$work/librtp_wire.so" "$object" \
     -Wl,-soname,librtp_wire.so -Wl,--no-undefined -Wl,-z,noexecstack -Wl,-z,relro -Wl,-z,now
 
 version=$(sed -n 's/^#define RTP_WIRE_VERSION "\(.*\)"$/\1/p' "$here/c/rtp_wire.h")
@@ -103,4 +146,4 @@ install -m 644 -- "$work/librtp_wire.a" "$prefix/lib"
 install -m 755 -- "$work/librtp_wire.so" "$prefix/lib"
 install -m 644 -- "$work/rtp_wire.pc" "$prefix/lib/pkgconfig"
 install -m 644 -- "$here/c/rtp_wire.h" "$prefix/include"
-say "installed into $prefix after $SECONDS seconds: $(stat -c %s "$work/librtp_wire.a") bytes of librtp_wire.a"
+say "installed $what, into $prefix: $(stat -c %s "$work/librtp_wire.a") bytes of librtp_wire.a"

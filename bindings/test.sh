@@ -1,10 +1,12 @@
 #!/usr/bin/env bash
-# Tests the library for C, C++ and Rust: it is proved, built and installed, and the programs of
-# bindings/test, bindings/c/test and bindings/examples are run with it. Prints a line for each thing
-# that was checked, and ends at the first one that fails.
+# Tests the library for C, C++ and Rust: it is installed from its texts, and the programs of bindings/test,
+# bindings/c/test and bindings/examples are run with it. Prints a line for each thing that was checked, and ends
+# at the first one that fails.
 #
-# It needs the kit, cc and c++. What needs cargo, valgrind, or aarch64-linux-gnu-gcc and qemu-aarch64 is
-# left out where they are missing, and a line says so.
+# usage: bindings/test.sh [--prove]
+#
+# It needs cc and c++. What needs cargo, valgrind, or aarch64-linux-gnu-gcc and qemu-aarch64 is left out where
+# they are missing, and a line says so. With --prove it tests what `rt` proves and builds instead of the texts.
 set -euo pipefail
 here=$(cd -- "$(dirname -- "$(readlink -f -- "${BASH_SOURCE[0]}")")" && pwd)
 cd -- "$here/.."
@@ -18,7 +20,12 @@ fail() {
 has() { command -v "$1" >/dev/null; }
 languages='C, C++ and Rust'
 
-bindings/install.sh
+case ${1-} in
+'' | --prove) proves=${1-} ;;
+*) fail "no such option: $1" ;;
+esac
+# shellcheck disable=SC2086
+bindings/install.sh $proves
 prefix=$here/out/x86_64-unknown-linux-gnu
 library=$prefix/lib/librtp_wire.a
 strict=(-O2 -Wall -Wextra -Wpedantic -Werror)
@@ -69,7 +76,16 @@ said 'values worked out by hand, as C99 and C++11'
 # The examples print what rtp_lines does.
 cargo=(cargo --quiet)
 export CARGO_TARGET_DIR=$here/out/cargo CARGO_NET_OFFLINE=true RUSTFLAGS='-D warnings' RUSTDOCFLAGS='-D warnings'
-crate=(--manifest-path bindings/rust/rtp-wire/Cargo.toml)
+rust=bindings/rust/rtp-wire
+if [ -n "$proves" ]; then
+    # The crate with the text of what was proved now.
+    mkdir -p "$scratch/bindings/rust"
+    cp -rL "$rust" "$scratch/bindings/rust"
+    cp -r bindings/examples "$scratch/bindings"
+    cp "$here/out/build-x86_64-unknown-linux-gnu/rtp_wire.s" "$scratch/$rust/assembly/rtp_wire-x86_64.s"
+    rust=$scratch/$rust CARGO_TARGET_DIR+=-proved
+fi
+crate=(--manifest-path "$rust/Cargo.toml")
 shared=(-L"$prefix/lib" -lrtp_wire -Wl,-rpath,"$prefix/lib")
 cc -std=c99 "${strict[@]}" "${include[@]}" bindings/examples/lines.c "$library" -o "$scratch/lines_c"
 cc -std=c99 "${strict[@]}" "${include[@]}" -static bindings/examples/lines.c "$library" -o "$scratch/lines_static"
@@ -159,7 +175,7 @@ block Rust rust >"$scratch/call.rs"
 cc -std=c99 "${strict[@]}" "${include[@]}" "$scratch/call.c" "$library" -o "$scratch/call_C"
 c++ -std=c++11 "${strict[@]}" "${include[@]}" "$scratch/call.cpp" "$library" -o "$scratch/call_C++"
 if has cargo; then
-    rustc --edition 2021 -D warnings -L "$prefix/lib" "$scratch/call.rs" -o "$scratch/call_Rust" \
+    rustc --edition 2021 -D warnings "$scratch/call.rs" -o "$scratch/call_Rust" \
         --extern "rtp_wire=$CARGO_TARGET_DIR/debug/librtp_wire.rlib"
 fi
 if has go && has pkg-config; then
@@ -212,7 +228,8 @@ cc -std=c99 "${strict[@]}" bindings/test/refused.c "$library" "$wrap" -o "$scrat
 said 'each growth of memory refused: what stands then, and no memory lost'
 
 if has aarch64-linux-gnu-gcc && has qemu-aarch64; then
-    bindings/install.sh --target aarch64-unknown-linux-gnu
+    # shellcheck disable=SC2086
+    bindings/install.sh $proves --target aarch64-unknown-linux-gnu
     arm=$here/out/aarch64-unknown-linux-gnu/lib/librtp_wire.a
     aarch64-linux-gnu-gcc -std=c11 "${strict[@]}" -fsyntax-only bindings/test/layout.c
     aarch64-linux-gnu-gcc -std=c99 "${strict[@]}" "${include[@]}" -static bindings/examples/lines.c "$arm" -o "$scratch/arm"

@@ -24,6 +24,7 @@
 #![deny(unsafe_code)]
 #![warn(missing_docs)]
 
+mod assembly;
 mod elements;
 mod error;
 mod header;

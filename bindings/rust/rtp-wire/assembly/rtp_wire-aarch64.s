@@ -1,0 +1,1 @@
+../../../../generated/rtp_wire-aarch64.s

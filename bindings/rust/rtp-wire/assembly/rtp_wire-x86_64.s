@@ -1,0 +1,1 @@
+../../../../generated/rtp_wire-x86_64.s

@@ -1,0 +1,55 @@
+# What the heads of the texts in this folder say. The scripts rtp_lines, prove, bindings/install.sh and
+# generated/make read this file, after .ci/proving; they set `top`. It takes a shell and coreutils alone.
+
+# The texts, each with the crate that it is made of.
+names='rtp_wire rtp_lines'
+declare -A crate_of=([rtp_wire]=rtp_c [rtp_lines]=rtp_lines)
+processors='x86_64 aarch64'
+
+# The file of a text.
+text_of() { # text, processor
+    echo "$top/generated/$1-$2.s"
+}
+
+# The digest of what a crate is made of: the lines of crates.txt for it and for those below it, and
+# their src, specs and proofs.
+sources_digest() { # crate
+    local names folders name
+    read -ra names <<<"$(crates_of "$1")"
+    folders=("${names[@]/#/crates/}")
+    (
+        cd -- "$top" || exit
+        for name in "${names[@]}"; do grep -E "^$name( staticlib)?:" crates.txt; done
+        find "${folders[@]/%//src}" "${folders[@]/%//specs}" "${folders[@]/%//proofs}" \
+            -type f \( -name '*.rt' -o -name '*.antt' \) -print0 2>/dev/null |
+            LC_ALL=C sort -z | xargs -0 sha256sum
+    ) | sha256sum | cut -d ' ' -f 1
+}
+
+# What the head of a text says of a word, as `sources`.
+said_of() { # file, word
+    sed -n "s/^ \* $2: //p; /^ \*\/\$/q" "$1"
+}
+
+# The digest of a text, but for the line that says it.
+text_digest() { # file
+    grep -v '^ \* text: ' "$1" | sha256sum | cut -d ' ' -f 1
+}
+
+# What stands below the head of a text.
+code_of() { # file
+    sed '1,/^ \*\/$/d' "$1"
+}
+
+# Why a text isn't to be used: nothing where it is whole, and made of the sources as they are.
+fault_of() { # text, processor
+    local file
+    file=$(text_of "$1" "$2")
+    if [ ! -f "$file" ]; then
+        echo 'is not there'
+    elif [ "$(said_of "$file" text)" != "$(text_digest "$file")" ]; then
+        echo 'was changed by hand'
+    elif [ "$(said_of "$file" sources)" != "$(sources_digest "${crate_of[$1]}")" ]; then
+        echo 'is older than a source'
+    fi
+}
