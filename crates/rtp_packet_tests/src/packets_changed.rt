@@ -69,7 +69,7 @@ bede000310aa3101024278596aa0780001020304";
     are(&rt, rt.alloc(), "all", packet.into_datagram(), wanted);
 }
 
-// Bytes that are no packet, and the cause: each of the six, in the order in which they are looked for.
+// Bytes that are no packet, and the cause: each of the six, in the order in which they are found.
 const REFUSED: [(&str, NotAPacket); 6] = [
     ("8021b79800002710aabbcc", NotAPacket::CutFixedPart),
     ("4021b798000027100000002c7e", NotAPacket::OtherVersion),
@@ -107,7 +107,7 @@ fn refused(rt: HostRuntime) {
 
 // A body, an id and data, and the body with these data in the last element of the id: none where no
 // element has the id, or has as many bytes.
-const SET: [(ExtensionsForm, &str, u8, &[u8], Option<&str>); 9] = [
+const SET: [(ExtensionsForm, &str, u8, &[u8], Option<&str>); 10] = [
     (
         OneByte,
         "10aa21bbcc10dd00",
@@ -121,6 +121,14 @@ const SET: [(ExtensionsForm, &str, u8, &[u8], Option<&str>); 9] = [
     (OneByte, "10aaf0bb10cc", 15, &[0xEE], None),
     (OneByte, "10aa32bbcc", 3, &[1, 2, 3], None),
     (OneByte, "01778810aa00", 0, &[1, 2], Some("01010210aa00")),
+    // The old data also stand where the element is not, in the padding before it.
+    (
+        OneByte,
+        "0012001200",
+        1,
+        &[0x12, 0x12, 0x12],
+        Some("0012121212"),
+    ),
     (
         TwoByte,
         "0101aa0202bbcc0101dd0000",

@@ -1,5 +1,5 @@
-//! Calls that put something else in place of what owns memory, or end it. `.ci/run` counts what is held
-//! at the end of each test here, which is nothing, whatever growth was refused.
+//! Calls that put something else in place of what owns memory, or drop it. `.ci/run` counts what is
+//! held at the end of each test here: nothing, whatever growth was refused.
 
 use crate::checks::{holds, same};
 use crate::refused_copies::{allocation, header};
