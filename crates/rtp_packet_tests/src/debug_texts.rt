@@ -13,8 +13,8 @@ fn is_shown<T: Debug>(rt: &impl Abort, alloc: Global, value: &T, text: &str) {
 
 // A packet of two sources and an empty block, with one byte after it.
 const WITH_BLOCK: [u8; 25] = [
-    0x92, 33, 0xB7, 0x98, 0, 0, 0x27, 0x10, 0, 0, 0, 44, 0, 0, 0, 100, 1, 2, 3, 4, 0xBE, 0xDE, 0, 0,
-    7,
+    0x92, 33, 0xB7, 0x98, 0, 0, 0x27, 0x10, 0, 0, 0, 44, 0, 0, 0, 100, 1, 2, 3, 4, 0xBE, 0xDE, 0,
+    0, 7,
 ];
 
 // A packet of the fixed part alone.

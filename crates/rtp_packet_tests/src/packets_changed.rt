@@ -77,14 +77,8 @@ const REFUSED: [(&str, NotAPacket); 6] = [
         "8221b798000027100000002c11223344556677",
         NotAPacket::CutSources,
     ),
-    (
-        "9021b798000027100000002cbede00",
-        NotAPacket::CutBlockHeader,
-    ),
-    (
-        "9021b798000027100000002cabcd0000",
-        NotAPacket::UnknownForm,
-    ),
+    ("9021b798000027100000002cbede00", NotAPacket::CutBlockHeader),
+    ("9021b798000027100000002cabcd0000", NotAPacket::UnknownForm),
     (
         "9121b798000027100000002c01020304bede000110aa31",
         NotAPacket::CutBlock,
