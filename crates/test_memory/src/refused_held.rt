@@ -1,5 +1,5 @@
-//! Calls that put something else in place of what owns memory, or end it. `.ci/run` counts what is held
-//! at the end of each test here, which is nothing, whatever growth was refused.
+//! Calls that put something else in place of what owns memory, or drop it. `.ci/run` counts what is
+//! held at the end of each test here: nothing, whatever growth was refused.
 
 use crate::checks::{holds, same};
 use crate::refused_copies::{allocation, header};
@@ -23,7 +23,9 @@ fn has_whole(values: &ExtensionValues) -> bool {
 fn reads(rt: &impl Abort, alloc: Global, header: &mut RtpHeader, packet: &[u8]) {
     let read = match header.parse_into(alloc, packet, &map()) {
         Ok(read) => read,
-        Err(_) => header.parse_into(alloc, packet, &map()).expect(rt, "memory"),
+        Err(_) => header
+            .parse_into(alloc, packet, &map())
+            .expect(rt, "memory"),
     };
     holds(rt, "a header", read);
 }
@@ -55,7 +57,10 @@ fn with_allocation(rt: &impl Abort, alloc: Global) -> ExtensionValues {
 fn a_value(rt: HostRuntime) {
     let kind = Extension::VideoLayersAllocation;
     let mut values = with_allocation(&rt, rt.alloc());
-    if kind.parse_value(rt.alloc(), &ALLOCATION, &mut values).is_err() {
+    if kind
+        .parse_value(rt.alloc(), &ALLOCATION, &mut values)
+        .is_err()
+    {
         let again = kind.parse_value(rt.alloc(), &ALLOCATION, &mut values);
         same(&rt, "again", again.expect(&rt, "memory"), Some(()));
     }
