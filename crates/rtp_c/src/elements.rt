@@ -96,7 +96,8 @@ pub extern "C" fn rtp_last_element(body: &[u8], form: u8, id: u8, element: &mut 
     ensures within { result ≡ ok → element.new.end ≤ length body.now }
     ensures none { result ≡ none → (f : ExtensionsForm) × (form_number (Some f) ≡ form)
         × ((elements : List Element) → AreElements f body.now elements → HasNone elements id) }
-    ensures bad_field { (result ≡ bad_field) ↔ ((f : ExtensionsForm) → form_number (Some f) ≢ form) }
+    ensures bad_field { (result ≡ bad_field) ↔
+        ((f : ExtensionsForm) → form_number (Some f) ≢ form) }
     ensures statuses { (result ≡ ok) ⊎ ((result ≡ none) ⊎ (result ≡ bad_field)) }
     ensures unchanged { result ≢ ok → element.new ≡ element.old }
 {

@@ -150,7 +150,8 @@ pub extern "C" fn rtp_values_read(
         × IsReadAs f map.now.kind body.now values.new }
     ensures memory { result ≡ no_memory → (f : ExtensionsForm) × (form_number (Some f) ≡ form)
         × TakesMemoryIn f map.now.kind body.now }
-    ensures bad_field { (result ≡ bad_field) ↔ ((f : ExtensionsForm) → form_number (Some f) ≢ form) }
+    ensures bad_field { (result ≡ bad_field) ↔
+        ((f : ExtensionsForm) → form_number (Some f) ≢ form) }
     ensures statuses { (result ≡ ok) ⊎ ((result ≡ no_memory) ⊎ (result ≡ bad_field)) }
     ensures unchanged { result ≢ ok → values.new ≡ values.old }
 {

@@ -29,8 +29,8 @@ const MAX_BODY_LEN: usize = 4 * 65_535;
 /// there are more than 15 contributing sources, the data of an element reach past `bytes`, an element
 /// has the id 0 or more than 255 bytes of data, or the elements take more than the 65,535 words that a
 /// block can have; `SHORT_BUFFER` where only the room is short; `NO_MEMORY` where memory is refused,
-/// which is taken for the call where there are elements, once the header's fields are found good. Where it
-/// isn't `OK` nothing is written.
+/// which is taken for the call where there are elements, once the header's fields are found good.
+/// Where it isn't `OK` nothing is written.
 #[unsafe(no_mangle)]
 pub extern "C" fn rtp_write_with(
     alloc: Global,
