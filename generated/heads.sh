@@ -41,7 +41,9 @@ code_of() { # file
     sed '1,/^ \*\/$/d' "$1"
 }
 
-# Why a text isn't to be used: nothing where it is whole, and made of the sources as they are.
+# Why a text isn't to be used: nothing where it is whole, and made of the sources as they are. Their digest is
+# in `now` where it was found before.
+declare -A now
 fault_of() { # text, processor
     local file
     file=$(text_of "$1" "$2")
@@ -49,7 +51,7 @@ fault_of() { # text, processor
         echo 'is not there'
     elif [ "$(said_of "$file" text)" != "$(text_digest "$file")" ]; then
         echo 'was changed by hand'
-    elif [ "$(said_of "$file" sources)" != "$(sources_digest "${crate_of[$1]}")" ]; then
+    elif [ "$(said_of "$file" sources)" != "${now[$1]-$(sources_digest "${crate_of[$1]}")}" ]; then
         echo 'is older than a source'
     fi
 }
