@@ -4,6 +4,7 @@ use crate::checks::{holds, is_map, is_text, named, same};
 use rtp_ext::{Extension, ExtensionMap, IterByMediaType};
 use std::alloc::Global;
 use std::process::Abort;
+use test_fixtures::two;
 
 // The map with one more entry.
 pub(crate) fn with(mut map: ExtensionMap, id: u8, ext: Extension) -> ExtensionMap {
@@ -41,6 +42,18 @@ fn entries(rt: HostRuntime) {
     map.set(255, Extension::RtpMid);
     let text = "Extensions(1=ssrc-audio-level, 4=mid, 255=mid)";
     is_shown(&rt, rt.alloc(), &map, text);
+}
+
+#[test]
+fn look_ups(rt: HostRuntime) {
+    let map = two(4, Extension::RtpMid, 17, Extension::ColorSpace);
+    let map = with(map, 255, Extension::RtpMid);
+    has(&rt, &map, 4, Extension::RtpMid);
+    has(&rt, &map, 17, Extension::ColorSpace);
+    has(&rt, &map, 255, Extension::RtpMid);
+    for id in [0, 1, 3, 5, 16, 18, 254] {
+        holds(&rt, id, map.lookup(id).is_none());
+    }
 }
 
 #[test]
