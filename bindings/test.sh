@@ -26,7 +26,7 @@ case ${1-} in
 esac
 # shellcheck disable=SC2086
 bindings/install.sh $proves
-prefix=$here/out/x86_64-unknown-linux-gnu
+prefix=$here/out/$(uname -m)-unknown-linux-gnu
 library=$prefix/lib/librtp_wire.a
 strict=(-O2 -Wall -Wextra -Wpedantic -Werror)
 include=(-I"$prefix/include")
@@ -64,6 +64,23 @@ done
 cc -std=c11 "${strict[@]}" -fsyntax-only bindings/test/layout.c
 c++ -std=c++11 "${strict[@]}" -fsyntax-only -x c++ bindings/test/layout.c
 said 'the header file, as C99 to C17 and C++11 to C++17, and where each field lies'
+
+# Beside the header files of other libraries for RTP, where they are, before them and after them, in C and C++.
+beside=
+for it in janus/rtp.h ortp/rtp.h re.h srtp2/srtp.h; do
+    folders=(-I/usr/include/janus -I/usr/include/janus/plugins -I/usr/include/re)
+    if has pkg-config; then read -ra glib <<<"$(pkg-config --cflags glib-2.0 2>/dev/null || true)"; folders+=("${glib[@]}"); fi
+    printf '#include <%s>\n' stdbool.h stddef.h stdint.h "$it" >"$scratch/theirs.c"
+    for language in c c++; do
+        cc -w -fsyntax-only -x $language "${folders[@]}" "$scratch/theirs.c" 2>/dev/null || continue
+        cat "$scratch/theirs.c" "$scratch/header.c" | cc -w -fsyntax-only -x $language "${include[@]}" "${folders[@]}" - || fail "$it, then rtp_wire.h"
+        cat "$scratch/header.c" "$scratch/theirs.c" | cc -w -fsyntax-only -x $language "${include[@]}" "${folders[@]}" - || fail "rtp_wire.h, then $it"
+        beside+="${beside:+, }$it in ${language^^}"
+    done
+done
+# Each name begins with rtpw_ or RTPW_, but for the file's own.
+if grep -oE '\b(rtp|RTP)_\w+' bindings/c/rtp_wire.h | grep -vx rtp_wire >&2; then fail 'names of the header file'; fi
+said "the header file beside ${beside:-no other library}"
 
 for it in packets headers statuses; do
     cc -std=c99 "${strict[@]}" bindings/c/test/$it.c "$library" -o "$scratch/by_hand"

@@ -2,24 +2,31 @@
 # after .ci/proving and generated/heads.sh.
 #
 # `rt` compiles a proved crate by the clang of its kit. lend_kit puts an `rt` on the path which is that of the
-# kit, and whose clang also keeps what it was given, so that make_text can have the same compiled to text.
+# kit, and whose clang does the same but for two things. It keeps what it was given, so that make_text can have that
+# written as text. And it adds call frame information, for which it puts some instructions in another order: so
+# what is built by this `rt` has the code of the text.
 
-# Takes a folder for the kit that is lent: it is of links, but for clang.
+# Takes a folder for the kit that is lent: it is of links, but for clang, and for `rt`, which looks beside itself.
 lend_kit() {
     local it kit
     kit=$(dirname -- "$(dirname -- "$(readlink -f -- "$(command -v rt)")")") || return
     lent=$1
     rm -rf -- "$lent"
-    mkdir -p -- "$lent/toolchain/bin" && cp -r -- "$kit/bin" "$lent" || return
-    for it in "$kit"/* "$kit"/toolchain/* "$kit"/toolchain/bin/*; do
-        [ -e "$lent/${it#"$kit/"}" ] || ln -s -- "$it" "$lent/${it#"$kit/"}" || return
+    mkdir -p -- "$lent/toolchain/bin" "$lent/bin" || return
+    for it in "$kit"/* "$kit"/bin/* "$kit"/toolchain/* "$kit"/toolchain/bin/*; do
+        case ${it#"$kit/"} in
+        bin/rt | bin/*.py) cp -- "$it" "$lent/bin" || return ;;
+        bin | toolchain | toolchain/bin | toolchain/bin/clang) ;;
+        *) ln -s -- "$it" "$lent/${it#"$kit/"}" || return ;;
+        esac
     done
-    rm -- "$lent/toolchain/bin/clang" && cat >"$lent/toolchain/bin/clang" <<CLANG
+    cat >"$lent/toolchain/bin/clang" <<CLANG
 #!/usr/bin/env bash
 case " \$* " in
 *' -c -x ir '*' -o module.o '*)
-    words=" \$* "
-    given=\${words#* -x ir }
+    given=" \$* "
+    given=\${given#* -x ir }
+    set -- "\$@" -fforce-dwarf-frame
     cp -- "\${given%% *}" "$lent/module" && printf '%s\n' "\$@" >"$lent/words" || exit
     ;;
 esac
@@ -73,7 +80,7 @@ make_text() { # text, processor, file
         -o) words[at + 1]=$lent/module.s ;;
         esac
     done
-    "$lent/toolchain/bin/clang" "${words[@]}" -fno-addrsig -fno-verbose-asm -fforce-dwarf-frame || return
+    "$lent/toolchain/bin/clang" "${words[@]}" -fno-addrsig -fno-verbose-asm || return
     case $1 in
     rtp_wire) what='the library for C' exports='rtp_[a-z0-9_]*' ;;
     rtp_lines) what='the program' exports=main ;;

@@ -14,14 +14,17 @@ text_of() { # text, processor
 # The digest of what a crate is made of: the lines of crates.txt for it and for those below it, and
 # their src, specs and proofs.
 sources_digest() { # crate
-    local names folders name
+    local names name part folders=()
     read -ra names <<<"$(crates_of "$1")"
-    folders=("${names[@]/#/crates/}")
     (
         cd -- "$top" || exit
-        for name in "${names[@]}"; do grep -E "^$name( staticlib)?:" crates.txt; done
-        find "${folders[@]/%//src}" "${folders[@]/%//specs}" "${folders[@]/%//proofs}" \
-            -type f \( -name '*.rt' -o -name '*.antt' \) -print0 2>/dev/null |
+        for name in "${names[@]}"; do
+            grep -E "^$name( staticlib)?:" crates.txt
+            for part in src specs proofs; do
+                [ ! -d "crates/$name/$part" ] || folders+=("crates/$name/$part")
+            done
+        done
+        find "${folders[@]}" -type f \( -name '*.rt' -o -name '*.antt' \) -print0 |
             LC_ALL=C sort -z | xargs -0 sha256sum
     ) | sha256sum | cut -d ' ' -f 1
 }
@@ -41,7 +44,9 @@ code_of() { # file
     sed '1,/^ \*\/$/d' "$1"
 }
 
-# Why a text isn't to be used: nothing where it is whole, and made of the sources as they are.
+# Why a text isn't to be used: nothing where it is whole, and made of the sources as they are. Their digest is
+# in `now` where it was found before.
+declare -A now
 fault_of() { # text, processor
     local file
     file=$(text_of "$1" "$2")
@@ -49,7 +54,7 @@ fault_of() { # text, processor
         echo 'is not there'
     elif [ "$(said_of "$file" text)" != "$(text_digest "$file")" ]; then
         echo 'was changed by hand'
-    elif [ "$(said_of "$file" sources)" != "$(sources_digest "${crate_of[$1]}")" ]; then
+    elif [ "$(said_of "$file" sources)" != "${now[$1]-$(sources_digest "${crate_of[$1]}")}" ]; then
         echo 'is older than a source'
     fi
 }
