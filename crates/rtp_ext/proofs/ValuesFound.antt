@@ -1,9 +1,9 @@
 -- Each body of a block says some values under each map.
-use Rattle.std.proofs.Common.{◌≡◌, ◌≢◌, ℕ, zero, suc, ◌<◌, ◌⊎◌, inl, inr, List, [], ◌∷◌, ◌++◌, get_or, Option, Some, None, append_assoc, append-nil, refl, sym, ap, ◌∙◌, subst, arith}
+use Rattle.std.proofs.Common.{◌≡◌, ℕ, zero, suc, inl, inr, List, [], ◌∷◌, ◌++◌, Option, Some, None, append_assoc, append-nil, refl, sym, ◌∙◌, subst, arith}
 use Rattle.std.specs.List.{AllByRecursion, flat_map, filter_map}
 use Rattle.rtp_values.specs.declared.kind.Extension.{Extension}
 use Rattle.rtp_values.specs.declared.value.values.ExtensionValues.{ExtensionValues}
-use Rattle.rtp_values.specs.Values.{no_values, Reads, with_fields, IsWellFormed}
+use Rattle.rtp_values.specs.Values.{no_values, with_fields, IsWellFormed}
 use Rattle.rtp_values.proofs.FieldLemmas.{Reads-same, SameFields-taken, SameFields-others}
 use Rattle.rtp_values.proofs.KindLemmas.{one_kind}
 use Rattle.rtp_values.proofs.WellFormedOrNot.{well_formed_or_not}

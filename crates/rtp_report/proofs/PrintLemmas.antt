@@ -14,7 +14,7 @@ use Rattle.rtp_wire.specs.declared.receive.verdict.Verdict.{Verdict}
 use Rattle.rtp_wire.specs.Header.{IsWire}
 use Rattle.rtp_wire.specs.Receivers.{ReceiverStates}
 use Rattle.rtp_wire.specs.Verdicts.{PacketId, packet_id_of, IsPacketId, ArePacketIds, IsVerdict}
-use Rattle.rtp_wire.specs.Sources.{AreVerdictsBySource, taken_of, numbers_beside}
+use Rattle.rtp_wire.specs.Sources.{taken_of, numbers_beside}
 use Rattle.rtp_wire.specs.EachSource.{HoldsEach, taken_after_each}
 use Rattle.rtp_wire.proofs.VerdictLemmas.{AllZip-more}
 use Rattle.rtp_wire.proofs.SourceLemmas.{SoFarEach, SoFarEach-none, SoFarEach-more}

@@ -1,5 +1,5 @@
 -- The data of an element are well-formed for a kind, or they are not.
-use Rattle.std.proofs.Common.{◌≡◌, ℕ, ◌<◌, ◌≤◌, ◌⊎◌, inl, inr, List, length, take, drop, get_or, Option, Some, None, IsSomeAnd, true, false, eqb, refl, sym, ◌∙◌, arith}
+use Rattle.std.proofs.Common.{ℕ, ◌<◌, ◌≤◌, ◌⊎◌, inl, inr, List, length, take, drop, get_or, Option, Some, None, IsSomeAnd, true, false, eqb, refl, sym, ◌∙◌, arith}
 use Rattle.std.specs.Prelude.{◌*◌, ◌/◌, ◌%◌, IsUtf8, slice_index, slice_range, neg_ℤ, pos}
 use Rattle.std.specs.Str.{is_utf8}
 use Rattle.std.proofs.lemmas.Bool.{cases_lt, cases_Bool, false≢true}
@@ -62,13 +62,15 @@ well_formed_or_not PlayoutDelay bytes all =
 well_formed_or_not VideoContentType bytes all =
     enough_or_not VideoContentType bytes 1 (record no_values { video_content_type = Some (slice_index bytes 0) }) (λ long. (long, refl)) (λ is. is.1.0)
 well_formed_or_not VideoTiming bytes all =
-    enough_or_not VideoTiming bytes 9 (record no_values { video_timing = Some (record {
-      flags = slice_index bytes 0;
-      encode_start = big_endian (slice_range bytes 1 3);
-      encode_finish = big_endian (slice_range bytes 3 5);
-      packetize_complete = big_endian (slice_range bytes 5 7);
-      last_left_pacer = big_endian (slice_range bytes 7 9);
-    }) }) (λ long. (long, refl)) (λ is. is.1.0)
+    enough_or_not VideoTiming bytes 9 (record no_values {
+      video_timing = Some (record {
+        flags = slice_index bytes 0;
+        encode_start = big_endian (slice_range bytes 1 3);
+        encode_finish = big_endian (slice_range bytes 3 5);
+        packetize_complete = big_endian (slice_range bytes 5 7);
+        last_left_pacer = big_endian (slice_range bytes 7 9);
+      });
+    }) (λ long. (long, refl)) (λ is. is.1.0)
 well_formed_or_not RtpStreamId bytes all =
     text_or_not RtpStreamId bytes (record no_values { rid = Some (padded 8 (id_text 8 bytes)) }) (λ utf8. (utf8, IsIdOf-padded 8 bytes)) (λ is. is.1.0)
 well_formed_or_not RepairedRtpStreamId bytes all =

@@ -5,7 +5,7 @@ use rtp_base::SeqNo;
 /// What a receiver says of a datagram.
 #[derive(Clone, Copy, Debug, PartialEq, Eq)]
 pub enum Verdict {
-    /// It is no RTP packet.
+    /// It begins with no RTP header.
     Unreadable,
     /// Its packet has this extended sequence number, and is taken.
     Taken(SeqNo),

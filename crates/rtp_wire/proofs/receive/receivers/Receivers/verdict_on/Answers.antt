@@ -1,6 +1,5 @@
 use Rattle.std.proofs.Common.{Option, refl, subst, arith}
 use Rattle.std.specs.Prelude.{Some, None, IfOk}
-use Rattle.std.proofs.lemmas.Option.{none-some}
 use Rattle.rtp_wire.specs.declared.receive.verdict.Verdict.{Verdict}
 use Rattle.rtp_wire.specs.declared.receive.verdict.Verdict.TheVariants.{Unreadable}
 use Rattle.rtp_wire.specs.PartsOf.{parts_of}
@@ -18,11 +17,6 @@ pub returns-in-Err-clause-verdict : goal.returns-in-Err-clause-verdict
 returns-in-Err-clause-verdict c exts packet_id read count taken holds =
     subst (λ (id : Option PacketId). IsVerdict count (numbers_beside taken id) id Unreadable)
     (one_packet_id exts c.args.datagram.now None packet_id (IsPacketId-none c.args.datagram.now c.in-Err.ensures.only exts) read) refl
-
-pub returns-in-Err-clause-after : goal.returns-in-Err-clause-after
-returns-in-Err-clause-after c exts packet_id read count taken holds =
-    subst (λ (id : Option PacketId). HoldsEach c.args.self.now count (taken_after_each taken id Unreadable))
-    (one_packet_id exts c.args.datagram.now None packet_id (IsPacketId-none c.args.datagram.now c.in-Err.ensures.only exts) read) holds
 
 pub returns-in-Ok-clause-read : goal.returns-in-Ok-clause-read
 returns-in-Ok-clause-read c = (
