@@ -39,8 +39,8 @@ static void statuses_are_told(void) {
     };
     size_t i;
     for (i = 0; i < sizeof rows / sizeof *rows; i++) {
-        if (strcmp(rtp_status_text(rows[i].status), rows[i].text) != 0) {
-            printf("status %ld: %s\n", (long)rows[i].status, rtp_status_text(rows[i].status));
+        if (strcmp(rtpw_status_text(rows[i].status), rows[i].text) != 0) {
+            printf("status %ld: %s\n", (long)rows[i].status, rtpw_status_text(rows[i].status));
             failed = 1;
         }
     }
@@ -49,10 +49,10 @@ static void statuses_are_told(void) {
 static void versions_agree(void) {
     unsigned major, minor, patch;
     char rest;
-    CHECK(strcmp(RTP_WIRE_VERSION, "0.1.0") == 0);
-    CHECK(sscanf(RTP_WIRE_VERSION, "%u.%u.%u%c", &major, &minor, &patch, &rest) == 3);
-    CHECK(rtp_version() == 65536 * major + 256 * minor + patch);
-    CHECK(rtp_version() == 256);
+    CHECK(strcmp(RTPW_VERSION, "0.1.0") == 0);
+    CHECK(sscanf(RTPW_VERSION, "%u.%u.%u%c", &major, &minor, &patch, &rest) == 3);
+    CHECK(rtpw_version() == 65536 * major + 256 * minor + patch);
+    CHECK(rtpw_version() == 256);
 }
 
 int main(void) {

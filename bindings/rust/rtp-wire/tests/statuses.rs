@@ -151,7 +151,7 @@ fn texts_are_those_of_the_header_file() {
     assert_eq!(told(&NotAText), text);
 
     let version = env!("CARGO_PKG_VERSION");
-    assert!(header_file.contains(&format!("\n#define RTP_WIRE_VERSION \"{version}\"\n")));
+    assert!(header_file.contains(&format!("\n#define RTPW_VERSION \"{version}\"\n")));
     let parts: Vec<u32> = version
         .split('.')
         .map(|part| part.parse().unwrap())
