@@ -60,7 +60,8 @@ mod c {
             element: *mut Place,
         ) -> i32;
         pub fn rtpw_receiver_start(receiver: *mut ReceiverState, rollover_count: u64) -> i32;
-        pub fn rtpw_receiver_number_of(receiver: *const ReceiverState, sequence_number: u16) -> u64;
+        pub fn rtpw_receiver_number_of(receiver: *const ReceiverState, sequence_number: u16)
+            -> u64;
         pub fn rtpw_receiver_accepts(receiver: *const ReceiverState, number: u64) -> bool;
         pub fn rtpw_receiver_record(receiver: *mut ReceiverState, number: u64);
         pub fn rtpw_receiver_receive(
