@@ -2,8 +2,8 @@
  * rtp_lines for Linux on aarch64: the assembly text that Rattle's compiler makes of the program, each function of which is proved.
  * Made anew by: generated/make
  * kit: rattle-kit-13b logic dac8208d650f15bf
- * sources: 2ccd2965be5b259cc3f44a443f5f801c939b782be6d9bf3c9bc18e791afe0448
- * text: 7d129230720b889012061adc46570448f855eac15609346dae8bc8ae275baf2e
+ * sources: 130da139776e0971cefb4f6a24b9aba9ab2b94d2df1f4dd65560e7de83d289dc
+ * text: 7585b3c84e74d1188283a5b2667b509cba93d917da38226be4b22477eab47967
  * SPDX-License-Identifier: MIT OR Apache-2.0
  * Copyright (c) 2026 The rtp-wire developers (NOTICE)
  */

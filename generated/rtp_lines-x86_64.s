@@ -2,8 +2,8 @@
  * rtp_lines for Linux on x86_64: the assembly text that Rattle's compiler makes of the program, each function of which is proved.
  * Made anew by: generated/make
  * kit: rattle-kit-13b logic dac8208d650f15bf
- * sources: 2ccd2965be5b259cc3f44a443f5f801c939b782be6d9bf3c9bc18e791afe0448
- * text: 8ec7667680548eba5ffb89a9ca967e6a688523a239dda93e714c7ec4d0bd762f
+ * sources: 130da139776e0971cefb4f6a24b9aba9ab2b94d2df1f4dd65560e7de83d289dc
+ * text: 62d62ae1e14f95a99d737fdade6de6bd49afc9a2005edbdafcccb71b806bf4b5
  * SPDX-License-Identifier: MIT OR Apache-2.0
  * Copyright (c) 2026 The rtp-wire developers (NOTICE)
  */

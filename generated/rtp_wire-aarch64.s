@@ -2,8 +2,8 @@
  * rtp_wire for Linux on aarch64: the assembly text that Rattle's compiler makes of the library for C, each function of which is proved.
  * Made anew by: generated/make
  * kit: rattle-kit-13b logic dac8208d650f15bf
- * sources: 5331d9d33ef7d670580ba6c0260bb8560a4dd2a23c5729bf432322fe1325d339
- * text: 48ab81febdac65cc55acd08c5a1f3952275d18f693b9cd397fbafe091d1c1c5e
+ * sources: 2d0bb79c49bba52f18293e7fe77b46dacf37600be761576811c94c0b13fa1515
+ * text: c3fb354331b4331faa579bad2f270883891649cbec9c4d4c4aa3dff1a71a64cf
  * SPDX-License-Identifier: MIT OR Apache-2.0
  * Copyright (c) 2026 The rtp-wire developers (NOTICE)
  */

@@ -2,8 +2,8 @@
  * rtp_wire for Linux on x86_64: the assembly text that Rattle's compiler makes of the library for C, each function of which is proved.
  * Made anew by: generated/make
  * kit: rattle-kit-13b logic dac8208d650f15bf
- * sources: 5331d9d33ef7d670580ba6c0260bb8560a4dd2a23c5729bf432322fe1325d339
- * text: 6e02025a56f06756d0e3f972fd1523de77bbe5079bc6731477ad8addef34fcef
+ * sources: 2d0bb79c49bba52f18293e7fe77b46dacf37600be761576811c94c0b13fa1515
+ * text: 8509093b3f1c6c9c02626f828b47f7a1403ec68cf54b67cbf1dbd3c7cc3e4ca8
  * SPDX-License-Identifier: MIT OR Apache-2.0
  * Copyright (c) 2026 The rtp-wire developers (NOTICE)
  */

@@ -126,7 +126,7 @@ static size_t taken_by(void (*call)(void), uint8_t *stack) {
     return ROOM - untouched;
 }
 
-#define CALL(name) {"rtp_" #name, name}
+#define CALL(name) {"rtpw_" #name, name}
 
 int main(void) {
     static const struct {
