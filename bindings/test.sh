@@ -169,10 +169,6 @@ said 'the forwarder in C'
 if has cargo; then
     "${cargo[@]}" test "${crate[@]}" >"$scratch/cargo.log" 2>&1 || { cat "$scratch/cargo.log" >&2; fail 'cargo test'; }
     "${cargo[@]}" test "${crate[@]}" --release >"$scratch/cargo.log" 2>&1 || { cat "$scratch/cargo.log" >&2; fail 'cargo test'; }
-    if RTP_WIRE_PREFIX=$scratch/none CARGO_TARGET_DIR=$scratch/none "${cargo[@]}" build "${crate[@]}" >"$scratch/cargo.log" 2>&1; then
-        fail 'cargo links no library of RTP_WIRE_PREFIX'
-    fi
-    grep -qF "there is no $scratch/none/lib/librtp_wire.a" "$scratch/cargo.log" || fail 'what cargo says without the library'
     "${cargo[@]}" doc "${crate[@]}" --no-deps
     "${cargo[@]}" fmt "${crate[@]}" --check
     said 'the crate for Rust: cargo test, cargo doc and cargo fmt, without a warning'

@@ -97,7 +97,7 @@ fn each_kind_has_its_number_and_its_uri() {
     for (kind, number, name, uri) in KINDS {
         assert_eq!(kind as u8, number);
         assert!(
-            header_file.contains(&format!("RTP_KIND_{name} = {number}")),
+            header_file.contains(&format!("RTPW_KIND_{name} = {number}")),
             "{name}"
         );
         assert_eq!(Kind::from_uri(uri), Some(kind));

@@ -117,11 +117,11 @@ fn texts_are_those_of_the_header_file() {
     let header_file = include_str!("../../../c/rtp_wire.h");
     let has = |name: &str, number: i32, text: &str| {
         assert!(
-            header_file.contains(&format!("    RTP_{name} = {number}")),
+            header_file.contains(&format!("    RTPW_{name} = {number}")),
             "{name}"
         );
         assert!(
-            header_file.contains(&format!("case RTP_{name}: return \"{text}\";")),
+            header_file.contains(&format!("case RTPW_{name}: return \"{text}\";")),
             "{name}"
         );
     };
