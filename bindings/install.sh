@@ -7,7 +7,7 @@
 # Without PREFIX it installs into bindings/out/TARGET. It takes the assembly text of the folder generated, and a
 # C compiler and binutils of the target: for this machine `cc` (or $CC), for the other aarch64-linux-gnu-gcc and
 # the like. With --prove it takes `rt` too, proves and builds the library from the sources, which takes minutes
-# the first time, installs that, and says whether it is the text. Only the names rtp_* are visible in both
+# the first time, installs that, and says whether it is the text. Only the names rtpw_* are visible in both
 # libraries, which want nothing but the C library.
 set -euo pipefail
 
@@ -117,18 +117,18 @@ else
     what="the text $text"
 fi
 
-# One object, of which only rtp_* can be seen. Sections stay apart, so that a linker can leave out
+# One object, of which only rtpw_* can be seen. Sections stay apart, so that a linker can leave out
 # what isn't called (--gc-sections).
 object=$work/rtp_wire.o
 "${tools}ld" -r -o "$object" "${parts[@]}"
-"${tools}objcopy" --strip-debug --wildcard --keep-global-symbol='rtp_*' "$object"
+"${tools}objcopy" --strip-debug --wildcard --keep-global-symbol='rtpw_*' "$object"
 rm -f -- "$work/librtp_wire.a"
 "${tools}ar" rcsD "$work/librtp_wire.a" "$object"
 # shellcheck disable=SC2086
 $cc -shared -o "$work/librtp_wire.so" "$object" \
     -Wl,-soname,librtp_wire.so -Wl,--no-undefined -Wl,-z,noexecstack -Wl,-z,relro -Wl,-z,now
 
-version=$(sed -n 's/^#define RTP_WIRE_VERSION "\(.*\)"$/\1/p' "$here/c/rtp_wire.h")
+version=$(sed -n 's/^#define RTPW_VERSION "\(.*\)"$/\1/p' "$here/c/rtp_wire.h")
 cat >"$work/rtp_wire.pc" <<PC
 prefix=$prefix
 libdir=\${prefix}/lib

@@ -32,8 +32,8 @@ strict=(-O2 -Wall -Wextra -Wpedantic -Werror)
 include=(-I"$prefix/include")
 
 # The names that can be seen, and those that are wanted.
-cc -E -P bindings/c/rtp_wire.h | tr '\n' ' ' | grep -oE '\brtp_[a-z0-9_]+ ?\([^(){}]*\);' |
-    grep -oE '^rtp_[a-z0-9_]+' | sort >"$scratch/declared"
+cc -E -P bindings/c/rtp_wire.h | tr '\n' ' ' | grep -oE '\brtpw_[a-z0-9_]+ ?\([^(){}]*\);' |
+    grep -oE '^rtpw_[a-z0-9_]+' | sort >"$scratch/declared"
 nm -g --defined-only "$library" | awk 'NF == 3 { print $3 }' | sort >"$scratch/exported"
 nm -D --defined-only "$prefix/lib/librtp_wire.so" | awk '{ print $3 }' | sort >"$scratch/shared"
 diff "$scratch/declared" "$scratch/exported" >&2 || fail 'the header file and the library differ'
@@ -47,12 +47,12 @@ for name in $wanted; do
 done
 for name in $(cat "$scratch/exported"); do
     for callers in 'bindings/test/hostile*.c' bindings/test/stack.c bindings/rust/rtp-wire/src/sys.rs; do
-        case $callers in *stack.c) word=${name#rtp_} ;; *) word=$name ;; esac
+        case $callers in *stack.c) word=${name#rtpw_} ;; *) word=$name ;; esac
         # shellcheck disable=SC2086
         grep -qw -- "$word" $callers || fail "$name is not called in $callers"
     done
 done
-said "symbols: $(wc -l <"$scratch/exported") functions, all named rtp_*, as declared and each tested; wanted: $wanted"
+said "symbols: $(wc -l <"$scratch/exported") functions, all named rtpw_*, as declared and each tested; wanted: $wanted"
 
 echo '#include <rtp_wire.h>' >"$scratch/header.c"
 for standard in c99 c11 c17; do

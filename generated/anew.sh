@@ -82,7 +82,7 @@ make_text() { # text, processor, file
     done
     "$lent/toolchain/bin/clang" "${words[@]}" -fno-addrsig -fno-verbose-asm || return
     case $1 in
-    rtp_wire) what='the library for C' exports='rtp_[a-z0-9_]*' ;;
+    rtp_wire) what='the library for C' exports='rtpw_[a-z0-9_]*' ;;
     rtp_lines) what='the program' exports=main ;;
     esac
     {

@@ -2,11 +2,11 @@
  * rtp_wire.h: RTP packets where they lie in memory (RFC 3550, 5.1; RFC 8285).
  *
  * The functions are those of the library rtp-wire, each proved: what is said here of results and
- * outputs holds for every input. Only rtp_status_text is written in C, and tested.
+ * outputs holds for every input. Only rtpw_status_text is written in C, and tested.
  *
- *     rtp_packet packet;
- *     int32_t status = rtp_packet_parse(datagram, len, &packet);
- *     if (status != RTP_OK) {
+ *     rtpw_packet packet;
+ *     int32_t status = rtpw_packet_parse(datagram, len, &packet);
+ *     if (status != RTPW_OK) {
  *         return drop(status);
  *     }
  *     deliver(packet.ssrc, packet.timestamp, datagram + packet.payload_at, packet.unpadded_len);
@@ -22,10 +22,10 @@
  *
  * A buffer is a pointer and then its size in bytes. Numbers are in the byte order of the machine:
  * what stands in a packet in network byte order is turned. Outputs are written whole where the
- * status is RTP_OK, and else not at all.
+ * status is RTPW_OK, and else not at all.
  */
-#ifndef RTP_WIRE_H
-#define RTP_WIRE_H
+#ifndef RTPW_H
+#define RTPW_H
 
 #include <stdbool.h>
 #include <stddef.h>
@@ -35,46 +35,46 @@
 extern "C" {
 #endif
 
-#define RTP_WIRE_VERSION "0.1.0"
+#define RTPW_VERSION "0.1.0"
 
 /* The version of the library that is linked: 65,536 times its major number, 256 times the minor one,
  * and the patch. That of this header file is 256. */
-uint32_t rtp_version(void);
+uint32_t rtpw_version(void);
 
 /* ---- Statuses ---- */
 
 /* What a function returns as an int32_t. Those from 1 to 6 are the causes for which bytes are no RTP
  * packet, in the order in which they are looked for: the first that applies is returned. */
 enum {
-    RTP_OK = 0,               /* the call did what it is for */
-    RTP_CUT_FIXED_PART = 1,   /* fewer than the twelve bytes that every header has */
-    RTP_OTHER_VERSION = 2,    /* another version than 2 */
-    RTP_CUT_SOURCES = 3,      /* the CSRC list is cut short */
-    RTP_CUT_BLOCK_HEADER = 4, /* X is set, and the first four bytes of the block are cut short */
-    RTP_UNKNOWN_FORM = 5,     /* the block's form is neither 0xBEDE nor 0x1000 to 0x100F */
-    RTP_CUT_BLOCK = 6,        /* the block is longer than what is left */
-    RTP_NO_MEMORY = 7,        /* memory was refused */
-    RTP_SHORT_BUFFER = 8,     /* a buffer is too short */
-    RTP_BAD_FIELD = 9,        /* an argument is out of its range */
-    RTP_REFUSED = 10,         /* a replay, or too old to tell */
-    RTP_NONE = 11             /* there is no such element */
+    RTPW_OK = 0,               /* the call did what it is for */
+    RTPW_CUT_FIXED_PART = 1,   /* fewer than the twelve bytes that every header has */
+    RTPW_OTHER_VERSION = 2,    /* another version than 2 */
+    RTPW_CUT_SOURCES = 3,      /* the CSRC list is cut short */
+    RTPW_CUT_BLOCK_HEADER = 4, /* X is set, and the first four bytes of the block are cut short */
+    RTPW_UNKNOWN_FORM = 5,     /* the block's form is neither 0xBEDE nor 0x1000 to 0x100F */
+    RTPW_CUT_BLOCK = 6,        /* the block is longer than what is left */
+    RTPW_NO_MEMORY = 7,        /* memory was refused */
+    RTPW_SHORT_BUFFER = 8,     /* a buffer is too short */
+    RTPW_BAD_FIELD = 9,        /* an argument is out of its range */
+    RTPW_REFUSED = 10,         /* a replay, or too old to tell */
+    RTPW_NONE = 11             /* there is no such element */
 };
 
 /* What a status says, in words. */
-static inline const char *rtp_status_text(int32_t status) {
+static inline const char *rtpw_status_text(int32_t status) {
     switch (status) {
-    case RTP_OK: return "done";
-    case RTP_CUT_FIXED_PART: return "fewer than twelve bytes";
-    case RTP_OTHER_VERSION: return "another version than 2";
-    case RTP_CUT_SOURCES: return "the CSRC list is cut short";
-    case RTP_CUT_BLOCK_HEADER: return "the header of the extension block is cut short";
-    case RTP_UNKNOWN_FORM: return "a header extension of an unknown form";
-    case RTP_CUT_BLOCK: return "the extension block is cut short";
-    case RTP_NO_MEMORY: return "memory was refused";
-    case RTP_SHORT_BUFFER: return "a buffer is too short";
-    case RTP_BAD_FIELD: return "an argument is out of its range";
-    case RTP_REFUSED: return "a replay, or too old to tell";
-    case RTP_NONE: return "no such element";
+    case RTPW_OK: return "done";
+    case RTPW_CUT_FIXED_PART: return "fewer than twelve bytes";
+    case RTPW_OTHER_VERSION: return "another version than 2";
+    case RTPW_CUT_SOURCES: return "the CSRC list is cut short";
+    case RTPW_CUT_BLOCK_HEADER: return "the header of the extension block is cut short";
+    case RTPW_UNKNOWN_FORM: return "a header extension of an unknown form";
+    case RTPW_CUT_BLOCK: return "the extension block is cut short";
+    case RTPW_NO_MEMORY: return "memory was refused";
+    case RTPW_SHORT_BUFFER: return "a buffer is too short";
+    case RTPW_BAD_FIELD: return "an argument is out of its range";
+    case RTPW_REFUSED: return "a replay, or too old to tell";
+    case RTPW_NONE: return "no such element";
     default: return "no status of this library";
     }
 }
@@ -82,13 +82,13 @@ static inline const char *rtp_status_text(int32_t status) {
 /* ---- A packet where it lies ---- */
 
 enum {
-    RTP_NO_BLOCK = 0,      /* X is clear */
-    RTP_ONE_BYTE_FORM = 1, /* 0xBEDE */
-    RTP_TWO_BYTE_FORM = 2  /* 0x1000 to 0x100F */
+    RTPW_NO_BLOCK = 0,      /* X is clear */
+    RTPW_ONE_BYTE_FORM = 1, /* 0xBEDE */
+    RTPW_TWO_BYTE_FORM = 2  /* 0x1000 to 0x100F */
 };
 
 /* Where the CSRC list begins in each packet: four bytes for each source, the high one first. */
-#define RTP_CSRC_AT 12
+#define RTPW_CSRC_AT 12
 
 /* What the header says, and where the parts of the packet lie, in bytes from the packet's first one.
  * 56 bytes. */
@@ -106,30 +106,30 @@ typedef struct {
     uint8_t marker;           /* M: 0 or 1 */
     uint8_t has_padding;      /* P: 0 or 1 */
     uint8_t padding_fits;     /* 1; 0 where the padding's last byte counts more bytes than the payload has */
-    uint8_t block_form;       /* RTP_ONE_BYTE_FORM or RTP_TWO_BYTE_FORM; RTP_NO_BLOCK where X is clear */
-} rtp_packet;
+    uint8_t block_form;       /* RTPW_ONE_BYTE_FORM or RTPW_TWO_BYTE_FORM; RTPW_NO_BLOCK where X is clear */
+} rtpw_packet;
 
-/* Reads the header of the packet in the buffer. RTP_OK, or the first cause for which it holds none. */
-int32_t rtp_packet_parse(const uint8_t *datagram, size_t len, rtp_packet *packet);
+/* Reads the header of the packet in the buffer. RTPW_OK, or the first cause for which it holds none. */
+int32_t rtpw_packet_parse(const uint8_t *datagram, size_t len, rtpw_packet *packet);
 
 /* ---- A packet, changed where it lies ---- */
 
-/* Each changes the part of the packet in the buffer that it names, and no other byte. RTP_OK, or the
- * first cause for which the buffer holds no packet; rtp_set_payload_type also RTP_BAD_FIELD, where
- * the payload type is above 127. Where it isn't RTP_OK nothing changes. */
-int32_t rtp_set_marker(uint8_t *datagram, size_t len, bool marker);
-int32_t rtp_set_payload_type(uint8_t *datagram, size_t len, uint8_t payload_type);
-int32_t rtp_set_sequence_number(uint8_t *datagram, size_t len, uint16_t number);
-int32_t rtp_set_timestamp(uint8_t *datagram, size_t len, uint32_t timestamp);
-int32_t rtp_set_ssrc(uint8_t *datagram, size_t len, uint32_t ssrc);
-/* The contributing source at this place, counted from 0. RTP_NONE where the list has no such place. */
-int32_t rtp_set_csrc(uint8_t *datagram, size_t len, size_t index, uint32_t source);
+/* Each changes the part of the packet in the buffer that it names, and no other byte. RTPW_OK, or the
+ * first cause for which the buffer holds no packet; rtpw_set_payload_type also RTPW_BAD_FIELD, where
+ * the payload type is above 127. Where it isn't RTPW_OK nothing changes. */
+int32_t rtpw_set_marker(uint8_t *datagram, size_t len, bool marker);
+int32_t rtpw_set_payload_type(uint8_t *datagram, size_t len, uint8_t payload_type);
+int32_t rtpw_set_sequence_number(uint8_t *datagram, size_t len, uint16_t number);
+int32_t rtpw_set_timestamp(uint8_t *datagram, size_t len, uint32_t timestamp);
+int32_t rtpw_set_ssrc(uint8_t *datagram, size_t len, uint32_t ssrc);
+/* The contributing source at this place, counted from 0. RTPW_NONE where the list has no such place. */
+int32_t rtpw_set_csrc(uint8_t *datagram, size_t len, size_t index, uint32_t source);
 
-/* Gives the last element of this id these data. RTP_NONE where the packet has no element of the id,
+/* Gives the last element of this id these data. RTPW_NONE where the packet has no element of the id,
  * or its last one has another number of bytes. */
-int32_t rtp_set_element(uint8_t *datagram, size_t len, uint8_t id, const uint8_t *data, size_t data_len);
-/* Makes each element of this id padding. RTP_NONE where the packet has none. */
-int32_t rtp_remove_element(uint8_t *datagram, size_t len, uint8_t id);
+int32_t rtpw_set_element(uint8_t *datagram, size_t len, uint8_t id, const uint8_t *data, size_t data_len);
+/* Makes each element of this id padding. RTPW_NONE where the packet has none. */
+int32_t rtpw_remove_element(uint8_t *datagram, size_t len, uint8_t id);
 
 /* ---- The elements of a block ---- */
 
@@ -139,78 +139,78 @@ typedef struct {
     size_t data_len; /* 0 to 255 */
     size_t end;      /* where its data end */
     uint8_t id;      /* 0 to 14 in the one-byte form, 1 to 255 in the two-byte form */
-} rtp_element;
+} rtpw_element;
 
-/* The first element from an offset on. RTP_OK; RTP_NONE where reading ends before an element;
- * RTP_BAD_FIELD where the form is none of the two, or the offset is past the body's end.
+/* The first element from an offset on. RTPW_OK; RTPW_NONE where reading ends before an element;
+ * RTPW_BAD_FIELD where the form is none of the two, or the offset is past the body's end.
  *
  *     const uint8_t *body = datagram + packet.body_at;
- *     rtp_element element = {0};
- *     while (rtp_next_element(body, packet.body_len, packet.block_form, element.end, &element) == RTP_OK) {
+ *     rtpw_element element = {0};
+ *     while (rtpw_next_element(body, packet.body_len, packet.block_form, element.end, &element) == RTPW_OK) {
  *         look(element.id, body + element.data_at, element.data_len);
  *     }
  */
-int32_t rtp_next_element(const uint8_t *body, size_t body_len, uint8_t form, size_t at, rtp_element *element);
-/* The last element of an id, which is the one that counts. RTP_OK; RTP_NONE where no element has the
- * id; RTP_BAD_FIELD where the form is none of the two. */
-int32_t rtp_last_element(const uint8_t *body, size_t body_len, uint8_t form, uint8_t id, rtp_element *element);
+int32_t rtpw_next_element(const uint8_t *body, size_t body_len, uint8_t form, size_t at, rtpw_element *element);
+/* The last element of an id, which is the one that counts. RTPW_OK; RTPW_NONE where no element has the
+ * id; RTPW_BAD_FIELD where the form is none of the two. */
+int32_t rtpw_last_element(const uint8_t *body, size_t body_len, uint8_t form, uint8_t id, rtpw_element *element);
 
 /* ---- The values of a block ---- */
 
 /* The kinds of extension, by numbers of this library. */
 enum {
-    RTP_KIND_NONE = 0,
-    RTP_KIND_ABS_SEND_TIME = 1,
-    RTP_KIND_ABS_CAPTURE_TIME = 2,
-    RTP_KIND_AUDIO_LEVEL = 3,
-    RTP_KIND_TRANSMISSION_OFFSET = 4,
-    RTP_KIND_VIDEO_ORIENTATION = 5,
-    RTP_KIND_TRANSPORT_NUMBER = 6,
-    RTP_KIND_PLAYOUT_DELAY = 7,
-    RTP_KIND_VIDEO_CONTENT_TYPE = 8,
-    RTP_KIND_VIDEO_TIMING = 9,
-    RTP_KIND_RID = 10,
-    RTP_KIND_REPAIRED_RID = 11,
-    RTP_KIND_MID = 12,
-    RTP_KIND_FRAME_MARKING = 13,
-    RTP_KIND_COLOR_SPACE = 14,
-    RTP_KIND_LAYERS = 15
+    RTPW_KIND_NONE = 0,
+    RTPW_KIND_ABS_SEND_TIME = 1,
+    RTPW_KIND_ABS_CAPTURE_TIME = 2,
+    RTPW_KIND_AUDIO_LEVEL = 3,
+    RTPW_KIND_TRANSMISSION_OFFSET = 4,
+    RTPW_KIND_VIDEO_ORIENTATION = 5,
+    RTPW_KIND_TRANSPORT_NUMBER = 6,
+    RTPW_KIND_PLAYOUT_DELAY = 7,
+    RTPW_KIND_VIDEO_CONTENT_TYPE = 8,
+    RTPW_KIND_VIDEO_TIMING = 9,
+    RTPW_KIND_RID = 10,
+    RTPW_KIND_REPAIRED_RID = 11,
+    RTPW_KIND_MID = 12,
+    RTPW_KIND_FRAME_MARKING = 13,
+    RTPW_KIND_COLOR_SPACE = 14,
+    RTPW_KIND_LAYERS = 15
 };
 
 /* kind[id] is the kind that the id means; another number than one of those above means none, and
  * kind[0] isn't looked at. It may be filled by hand, copied, stored, and shared as static const:
  *
- *     rtp_map map = {{0}};
- *     map.kind[3] = RTP_KIND_AUDIO_LEVEL;
+ *     rtpw_map map = {{0}};
+ *     map.kind[3] = RTPW_KIND_AUDIO_LEVEL;
  *
  * Or from the lines of an SDP, `a=extmap:ID URI` (RFC 8285, 5 and 6):
  *
- *     uint8_t kind = rtp_kind_of_uri((const uint8_t *)uri, strlen(uri));
- *     if (kind != RTP_KIND_NONE && rtp_map_set(&map, id, kind) != RTP_OK) {
+ *     uint8_t kind = rtpw_kind_of_uri((const uint8_t *)uri, strlen(uri));
+ *     if (kind != RTPW_KIND_NONE && rtpw_map_set(&map, id, kind) != RTPW_OK) {
  *         return refuse(id);
  *     }
  */
 typedef struct {
     uint8_t kind[256];
-} rtp_map;
+} rtpw_map;
 
-/* The kind whose URI these bytes are, letter for letter; RTP_KIND_NONE where it is that of none. The
+/* The kind whose URI these bytes are, letter for letter; RTPW_KIND_NONE where it is that of none. The
  * URI is the bytes alone, without a zero behind them. */
-uint8_t rtp_kind_of_uri(const uint8_t *uri, size_t len);
-/* The id means the kind from now on, or nothing with RTP_KIND_NONE. RTP_OK, or RTP_BAD_FIELD where the
+uint8_t rtpw_kind_of_uri(const uint8_t *uri, size_t len);
+/* The id means the kind from now on, or nothing with RTPW_KIND_NONE. RTPW_OK, or RTPW_BAD_FIELD where the
  * id is 0 or the kind is none of those above; then nothing changes. */
-int32_t rtp_map_set(rtp_map *map, uint8_t id, uint8_t kind);
-/* The kind that the id means; RTP_KIND_NONE where it means none. */
-uint8_t rtp_map_get(const rtp_map *map, uint8_t id);
+int32_t rtpw_map_set(rtpw_map *map, uint8_t id, uint8_t kind);
+/* The kind that the id means; RTPW_KIND_NONE where it means none. */
+uint8_t rtpw_map_get(const rtpw_map *map, uint8_t id);
 /* The map of the usual ids, whatever it was: 1 audio level, 2 send time, 3 transport number, 4 mid, 10
  * rid, 11 repaired rid, 13 video orientation. */
-void rtp_map_standard(rtp_map *map);
+void rtpw_map_standard(rtpw_map *map);
 
 /* A time: ticks / hertz seconds. 16 bytes. */
 typedef struct {
     uint64_t ticks;
     uint32_t hertz; /* ticks of a second: 100 where the time was read */
-} rtp_time;
+} rtpw_time;
 
 /* The values of a block's elements. Each has_ is 1 where the value is there; as read, one that is absent
  * is 0. The texts are letters, digits and underscores, and a zero ends them. 136 bytes. */
@@ -218,8 +218,8 @@ typedef struct {
     uint64_t send_time;           /* microseconds, modulo 64 seconds */
     uint64_t capture_time;        /* an NTP timestamp, 32.32 */
     int64_t capture_offset;       /* the capturer's clock is ahead by these seconds, 32.32 */
-    rtp_time playout_delay_min;   /* the receiver may hold the frame for so long at least */
-    rtp_time playout_delay_max;   /* and for so long at most */
+    rtpw_time playout_delay_min;   /* the receiver may hold the frame for so long at least */
+    rtpw_time playout_delay_max;   /* and for so long at most */
     uint32_t transmission_offset; /* ticks of the stream's clock; an element of four bytes */
     uint32_t frame_marking;       /* the first four bytes */
     uint16_t transport_number;    /* over all streams of the transport */
@@ -251,14 +251,14 @@ typedef struct {
     uint8_t has_mid;
     uint8_t has_rid;
     uint8_t has_repaired_rid;
-    uint8_t has_layers; /* a layer allocation: rtp_parse_layers tells it */
-} rtp_values;
+    uint8_t has_layers; /* a layer allocation: rtpw_parse_layers tells it */
+} rtpw_values;
 
 /* The values that the elements of a body give under the map: for each kind those of the last element
- * whose id means it and whose data are well-formed for it. RTP_OK; RTP_BAD_FIELD where the form is none
- * of the two; RTP_NO_MEMORY. Memory is taken for a layer allocation alone (RTP_KIND_LAYERS mapped to the
+ * whose id means it and whose data are well-formed for it. RTPW_OK; RTPW_BAD_FIELD where the form is none
+ * of the two; RTPW_NO_MEMORY. Memory is taken for a layer allocation alone (RTPW_KIND_LAYERS mapped to the
  * id of an element of two bytes or more), and given back before the call returns. */
-int32_t rtp_values_read(const uint8_t *body, size_t body_len, uint8_t form, const rtp_map *map, rtp_values *values);
+int32_t rtpw_values_read(const uint8_t *body, size_t body_len, uint8_t form, const rtpw_map *map, rtpw_values *values);
 
 /* ---- A header, read and written ---- */
 
@@ -274,19 +274,19 @@ typedef struct {
     uint8_t marker;           /* M: 0 or 1 */
     uint8_t has_padding;      /* P: 0 or 1 */
     uint8_t has_extension;    /* X: 0 or 1, whether there is a block */
-    rtp_values values;        /* of the block: none where there is none */
-} rtp_header;
+    rtpw_values values;        /* of the block: none where there is none */
+} rtpw_header;
 
 /* Reads the header that the bytes begin with, and the values of its block under the map: in one call
- * what rtp_packet_parse and rtp_values_read tell. RTP_OK; the first cause for which there is none; or
- * RTP_NO_MEMORY, as rtp_values_read.
+ * what rtpw_packet_parse and rtpw_values_read tell. RTPW_OK; the first cause for which there is none; or
+ * RTPW_NO_MEMORY, as rtpw_values_read.
  *
- *     rtp_header header;
- *     if (rtp_parse(datagram, len, &map, &header) == RTP_OK && header.values.has_mid) {
+ *     rtpw_header header;
+ *     if (rtpw_parse(datagram, len, &map, &header) == RTPW_OK && header.values.has_mid) {
  *         deliver(header.values.mid, datagram + header.header_len, len - header.header_len);
  *     }
  */
-int32_t rtp_parse(const uint8_t *datagram, size_t len, const rtp_map *map, rtp_header *header);
+int32_t rtpw_parse(const uint8_t *datagram, size_t len, const rtpw_map *map, rtpw_header *header);
 
 /* A spatial layer. 40 bytes. */
 typedef struct {
@@ -296,43 +296,43 @@ typedef struct {
     uint8_t framerate;      /* at most so many frames per second; 0 where has_resolution is 0 */
     uint8_t has_resolution; /* 0 or 1 */
     uint8_t rates;          /* how many temporal layers there are, 0 to 4: 0 where the layer isn't active */
-} rtp_layer;
+} rtpw_layer;
 
 /* A simulcast stream: its spatial layers by rising resolution, all zeros after the last. 168 bytes. */
 typedef struct {
-    rtp_layer layers[4];
+    rtpw_layer layers[4];
     uint8_t count; /* 0 to 4 */
-} rtp_stream;
+} rtpw_stream;
 
 /* Which simulcast streams and layers a sender of video keeps active (video-layers-allocation00); all
  * zeros after the last stream. 680 bytes. */
 typedef struct {
-    rtp_stream streams[4];
+    rtpw_stream streams[4];
     uint8_t count;   /* 0 to 4; 0 where nothing is sent */
     uint8_t current; /* which of the streams the packet is of, from 0 */
-} rtp_layers;
+} rtpw_layers;
 
-/* As rtp_parse, and the layer allocation where values.has_layers is 1; else *layers becomes all zeros. */
-int32_t rtp_parse_layers(const uint8_t *datagram, size_t len, const rtp_map *map, rtp_header *header,
-                         rtp_layers *layers);
+/* As rtpw_parse, and the layer allocation where values.has_layers is 1; else *layers becomes all zeros. */
+int32_t rtpw_parse_layers(const uint8_t *datagram, size_t len, const rtpw_map *map, rtpw_header *header,
+                         rtpw_layers *layers);
 
-/* How many bytes rtp_write writes: a multiple of 4, 12 to 4,668. RTP_OK; RTP_BAD_FIELD as rtp_write. */
-int32_t rtp_wire_len(const rtp_map *map, const rtp_header *header, size_t *len);
+/* How many bytes rtpw_write writes: a multiple of 4, 12 to 4,668. RTPW_OK; RTPW_BAD_FIELD as rtpw_write. */
+int32_t rtpw_wire_len(const rtpw_map *map, const rtpw_header *header, size_t *len);
 
 /* Writes the header to the front of the buffer; bytes after it stay. Where has_extension isn't 0 there is
  * a block: by rising id an element for each mapped id whose value is there (its has_ isn't 0), in the
- * one-byte form unless an id above 14 or RTP_KIND_LAYERS is mapped or a text that it writes is empty.
+ * one-byte form unless an id above 14 or RTPW_KIND_LAYERS is mapped or a text that it writes is empty.
  * An audio level takes has_voice_activity too, a playout delay both its times, and a capture offset
  * a capture time; a layer allocation is not written. Of a time the whole ticks are written of 2^-18
  * seconds (send time, modulo 64 seconds) or of 1/100 second (playout delay, modulo 4,096); of a level
  * its magnitude modulo 128. Flags count as set where they aren't 0.
  *
- * RTP_OK; RTP_BAD_FIELD where payload_type is above 127, csrc_count above 15, or of the values that are
+ * RTPW_OK; RTPW_BAD_FIELD where payload_type is above 127, csrc_count above 15, or of the values that are
  * there, mapped or not, a text has another character than letters, digits and underscores before its
- * first zero or has no zero, an orientation is none of the four, or a time has 0 hertz; RTP_SHORT_BUFFER
+ * first zero or has no zero, an orientation is none of the four, or a time has 0 hertz; RTPW_SHORT_BUFFER
  * where only the buffer is too short.
  *
- *     rtp_header header = {0};
+ *     rtpw_header header = {0};
  *     header.payload_type = 111;
  *     header.sequence_number = (uint16_t)number;
  *     header.ssrc = ssrc;
@@ -341,29 +341,29 @@ int32_t rtp_wire_len(const rtp_map *map, const rtp_header *header, size_t *len);
  *     strcpy(header.values.mid, "audio");
  *     uint8_t packet[1500];
  *     size_t header_len;
- *     if (rtp_write(&map, &header, packet, sizeof packet, &header_len) == RTP_OK) {
+ *     if (rtpw_write(&map, &header, packet, sizeof packet, &header_len) == RTPW_OK) {
  *         put_payload(packet + header_len, sizeof packet - header_len);
  *     }
  */
-int32_t rtp_write(const rtp_map *map, const rtp_header *header, uint8_t *buf, size_t size, size_t *len);
+int32_t rtpw_write(const rtpw_map *map, const rtpw_header *header, uint8_t *buf, size_t size, size_t *len);
 
 /* The same with a block of these elements, whatever has_extension and the values hold. The data of each
- * are the data_len bytes at data_at of `data`: those that rtp_next_element told of a body, say. What `end`
+ * are the data_len bytes at data_at of `data`: those that rtpw_next_element told of a body, say. What `end`
  * holds isn't looked at. The block is in the one-byte form where that can carry each element (ids 1 to 14,
  * 1 to 16 bytes), and else in the two-byte form (ids 1 to 255, 0 to 255 bytes).
  *
- * RTP_OK; RTP_BAD_FIELD where payload_type is above 127, csrc_count above 15, or an element has the id 0,
+ * RTPW_OK; RTPW_BAD_FIELD where payload_type is above 127, csrc_count above 15, or an element has the id 0,
  * more than 255 bytes, or bytes past the end of the data, or all of them take more than the 262,140 bytes
- * of a block; RTP_SHORT_BUFFER where the buffer alone is at fault; RTP_NO_MEMORY. Memory is taken for a
+ * of a block; RTPW_SHORT_BUFFER where the buffer alone is at fault; RTPW_NO_MEMORY. Memory is taken for a
  * list of the elements, where there are any, and given back before the call returns. */
-int32_t rtp_write_with(const rtp_header *header, const uint8_t *data, size_t data_len, const rtp_element *elements,
+int32_t rtpw_write_with(const rtpw_header *header, const uint8_t *data, size_t data_len, const rtpw_element *elements,
                        size_t count, uint8_t *buf, size_t size, size_t *len);
 
 /* Writes elements, one after the other, as a block's body has them, to the front of the buffer; bytes
- * after them stay. RTP_OK; RTP_BAD_FIELD where the form is none of the two or can't carry one of them, or
- * one has bytes past the end of the data; RTP_SHORT_BUFFER where the buffer alone is at fault;
- * RTP_NO_MEMORY, as rtp_write_with. */
-int32_t rtp_write_elements(const uint8_t *data, size_t data_len, const rtp_element *elements, size_t count,
+ * after them stay. RTPW_OK; RTPW_BAD_FIELD where the form is none of the two or can't carry one of them, or
+ * one has bytes past the end of the data; RTPW_SHORT_BUFFER where the buffer alone is at fault;
+ * RTPW_NO_MEMORY, as rtpw_write_with. */
+int32_t rtpw_write_elements(const uint8_t *data, size_t data_len, const rtpw_element *elements, size_t count,
                            uint8_t form, uint8_t *buf, size_t size, size_t *len);
 
 /* ---- From one map to another ---- */
@@ -372,36 +372,36 @@ int32_t rtp_write_elements(const uint8_t *data, size_t data_len, const rtp_eleme
  * map it may be filled by hand, copied, stored and shared. */
 typedef struct {
     uint8_t id[256];
-} rtp_new_ids;
+} rtpw_new_ids;
 
 /* For each id of a kind in `from` its lowest id in `to`, and 0 for all others, as for a URI without a kind.
  * Make it once for two streams:
  *
- *     rtp_new_ids_between(&publisher.map, &subscriber.map, &route.ids);
+ *     rtpw_new_ids_between(&publisher.map, &subscriber.map, &route.ids);
  *     ...
- *     int32_t status = rtp_renumber(datagram, len, &route.ids); // for each packet
+ *     int32_t status = rtpw_renumber(datagram, len, &route.ids); // for each packet
  */
-void rtp_new_ids_between(const rtp_map *from, const rtp_map *to, rtp_new_ids *ids);
+void rtpw_new_ids_between(const rtpw_map *from, const rtpw_map *to, rtpw_new_ids *ids);
 /* Gives each element of the packet in the buffer its new id, and makes one that gets none padding; no
- * other byte changes. A packet without a block stays as it is. RTP_OK; RTP_BAD_FIELD where the packet's
+ * other byte changes. A packet without a block stays as it is. RTPW_OK; RTPW_BAD_FIELD where the packet's
  * form can't carry a new id that an element gets (one above 14 in the one-byte form); or the first cause
- * for which the buffer holds no packet. Where it isn't RTP_OK nothing changes. */
-int32_t rtp_renumber(uint8_t *datagram, size_t len, const rtp_new_ids *ids);
+ * for which the buffer holds no packet. Where it isn't RTPW_OK nothing changes. */
+int32_t rtpw_renumber(uint8_t *datagram, size_t len, const rtpw_new_ids *ids);
 
 /* ---- Padding and retransmissions ---- */
 
 /* Makes a packet of padding alone after its header: sets P, and writes the padding from header_len on,
  * zeros and in the last byte their count: pad_len rounded up to whole blocks, at most 240 bytes; with a
  * pad_len of 0 nothing changes, and the count is 0. To pad a packet with a payload, pass the end of the
- * payload as header_len. RTP_OK; RTP_BAD_FIELD where block_size is 0; RTP_SHORT_BUFFER where size is
+ * payload as header_len. RTPW_OK; RTPW_BAD_FIELD where block_size is 0; RTPW_SHORT_BUFFER where size is
  * below header_len + 240. The packet then has header_len + *count bytes. */
-int32_t rtp_pad(uint8_t *datagram, size_t size, size_t header_len, uint8_t pad_len, size_t block_size, size_t *count);
+int32_t rtpw_pad(uint8_t *datagram, size_t size, size_t header_len, uint8_t pad_len, size_t block_size, size_t *count);
 
 /* The original sequence number that the payload of a retransmission packet begins with (RFC 4588, 4),
- * before the original payload: read, or the low 16 bits of it written. RTP_OK, or RTP_SHORT_BUFFER where
+ * before the original payload: read, or the low 16 bits of it written. RTPW_OK, or RTPW_SHORT_BUFFER where
  * there are fewer than two bytes. */
-int32_t rtp_read_original(const uint8_t *payload, size_t len, uint16_t *number);
-int32_t rtp_write_original(uint8_t *payload, size_t size, uint64_t number);
+int32_t rtpw_read_original(const uint8_t *payload, size_t len, uint16_t *number);
+int32_t rtpw_write_original(uint8_t *payload, size_t size, uint64_t number);
 
 /* ---- The numbers of a stream ---- */
 
@@ -416,26 +416,26 @@ typedef struct {
     uint64_t recorded_low;  /* bit i: whether highest - i is taken */
     uint64_t recorded_high; /* bit i: whether highest - 64 - i is taken */
     uint8_t started;        /* 0 where nothing is taken yet */
-} rtp_receiver;
+} rtpw_receiver;
 
-/* Nothing is taken yet, and the first packet has this rollover count. RTP_OK, or RTP_BAD_FIELD where
+/* Nothing is taken yet, and the first packet has this rollover count. RTPW_OK, or RTPW_BAD_FIELD where
  * the count is 2^48 or more. With a count of 1 or more a packet from before the first one has a
  * number too; with 0 it gets one near 2^64, and once that is taken nearly all later ones are refused. */
-int32_t rtp_receiver_start(rtp_receiver *receiver, uint64_t rollover_count);
+int32_t rtpw_receiver_start(rtpw_receiver *receiver, uint64_t rollover_count);
 /* The extended sequence number: the nearest to the highest taken that ends in these 16 bits; of the
  * first packet the one with the rollover count of the start. Its low 48 bits are SRTP's packet index. */
-uint64_t rtp_receiver_number_of(const rtp_receiver *receiver, uint16_t sequence_number);
+uint64_t rtpw_receiver_number_of(const rtpw_receiver *receiver, uint16_t sequence_number);
 /* Whether the number may be taken: nothing is taken yet, or it is above the highest taken, or less
  * than 128 below it and not taken. */
-bool rtp_receiver_accepts(const rtp_receiver *receiver, uint64_t number);
+bool rtpw_receiver_accepts(const rtpw_receiver *receiver, uint64_t number);
 /* Records that the number is taken. One that isn't accepted leaves the same numbers taken. */
-void rtp_receiver_record(rtp_receiver *receiver, uint64_t number);
-/* RTP_OK, and the number is written and recorded; or RTP_REFUSED where it may not be taken. */
-int32_t rtp_receiver_receive(rtp_receiver *receiver, uint16_t sequence_number, uint64_t *number);
+void rtpw_receiver_record(rtpw_receiver *receiver, uint64_t number);
+/* RTPW_OK, and the number is written and recorded; or RTPW_REFUSED where it may not be taken. */
+int32_t rtpw_receiver_receive(rtpw_receiver *receiver, uint16_t sequence_number, uint64_t *number);
 
 /* The number nearest to the previous one, modulo 2^64, that ends in these 16 bits. Where two are
  * equally near it is the one with the rollover count of the previous one. */
-uint64_t rtp_extend_u16(uint64_t previous, uint16_t number);
+uint64_t rtpw_extend_u16(uint64_t previous, uint16_t number);
 
 #ifdef __cplusplus
 }

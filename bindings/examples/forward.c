@@ -13,17 +13,17 @@
 #include <stdlib.h>
 #include <string.h>
 
-static const rtp_map PUBLISHER = {.kind = {[3] = RTP_KIND_MID, [4] = RTP_KIND_ABS_SEND_TIME}};
-static const rtp_map SUBSCRIBER = {.kind = {[1] = RTP_KIND_AUDIO_LEVEL, [2] = RTP_KIND_ABS_SEND_TIME}};
+static const rtpw_map PUBLISHER = {.kind = {[3] = RTPW_KIND_MID, [4] = RTPW_KIND_ABS_SEND_TIME}};
+static const rtpw_map SUBSCRIBER = {.kind = {[1] = RTPW_KIND_AUDIO_LEVEL, [2] = RTPW_KIND_ABS_SEND_TIME}};
 
 /* Gives the packet its new ids and its send time where it lies; false where it can't go on. */
-static bool forward(uint8_t *datagram, size_t len, const rtp_new_ids *ids, uint64_t microseconds) {
+static bool forward(uint8_t *datagram, size_t len, const rtpw_new_ids *ids, uint64_t microseconds) {
     uint32_t time = (uint32_t)(microseconds % 64000000 * 262144 / 1000000); /* 24 bits, in units of 2^-18 seconds */
     uint8_t bytes[3] = {(uint8_t)(time >> 16), (uint8_t)(time >> 8), (uint8_t)time};
-    if (rtp_renumber(datagram, len, ids) != RTP_OK) {
+    if (rtpw_renumber(datagram, len, ids) != RTPW_OK) {
         return false;
     }
-    rtp_set_element(datagram, len, 2, bytes, sizeof bytes); /* RTP_NONE: it has none */
+    rtpw_set_element(datagram, len, 2, bytes, sizeof bytes); /* RTPW_NONE: it has none */
     return true;
 }
 
@@ -40,15 +40,15 @@ static size_t bytes_of(char *line) {
 int main(int argc, char **argv) {
     static char line[2 * 65536 + 2];
     uint8_t *datagram = (uint8_t *)line;
-    rtp_new_ids ids;
-    rtp_packet packet;
-    rtp_new_ids_between(&PUBLISHER, &SUBSCRIBER, &ids);
+    rtpw_new_ids ids;
+    rtpw_packet packet;
+    rtpw_new_ids_between(&PUBLISHER, &SUBSCRIBER, &ids);
     uint64_t microseconds = argc == 4 ? strtoull(argv[3], NULL, 10) * 1000000 : 0;
     while (argc == 4 && fgets(line, sizeof line, stdin) != NULL) {
         size_t len = bytes_of(line);
-        if (rtp_packet_parse(datagram, len, &packet) == RTP_OK && forward(datagram, len, &ids, microseconds)) {
-            rtp_set_ssrc(datagram, len, (uint32_t)strtoul(argv[1], NULL, 10));
-            rtp_set_sequence_number(datagram, len, (uint16_t)(packet.sequence_number + strtol(argv[2], NULL, 10)));
+        if (rtpw_packet_parse(datagram, len, &packet) == RTPW_OK && forward(datagram, len, &ids, microseconds)) {
+            rtpw_set_ssrc(datagram, len, (uint32_t)strtoul(argv[1], NULL, 10));
+            rtpw_set_sequence_number(datagram, len, (uint16_t)(packet.sequence_number + strtol(argv[2], NULL, 10)));
             for (size_t i = 0; i < len; i++) {
                 printf("%02X", datagram[i]);
             }

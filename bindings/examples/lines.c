@@ -12,11 +12,11 @@
 
 #define LONGEST_LINE (2 * 65536 + 2)
 
-static rtp_map map;
+static rtpw_map map;
 
 typedef struct {
     uint32_t ssrc;
-    rtp_receiver receiver;
+    rtpw_receiver receiver;
 } stream;
 
 /* Whether the line maps an id, which is done. */
@@ -27,7 +27,7 @@ static int is_map_line(const char *line) {
         return 0;
     }
     const char *uri = line + uri_at;
-    return rtp_map_set(&map, (uint8_t)id, rtp_kind_of_uri((const uint8_t *)uri, strcspn(uri, "\r\n"))) == RTP_OK;
+    return rtpw_map_set(&map, (uint8_t)id, rtpw_kind_of_uri((const uint8_t *)uri, strcspn(uri, "\r\n"))) == RTPW_OK;
 }
 
 /* How many bytes the line spells, which then stand at its beginning; -1 where it isn't hexadecimal. */
@@ -44,7 +44,7 @@ static long bytes_of(char *line) {
 }
 
 /* The receiver of the source; {0} has taken nothing yet. NULL where there is no memory for one more. */
-static rtp_receiver *receiver_of(uint32_t ssrc) {
+static rtpw_receiver *receiver_of(uint32_t ssrc) {
     static stream *streams;
     static size_t count;
     for (size_t i = 0; i < count; i++) {
@@ -66,14 +66,14 @@ static const char *yes_or_no(int flag) {
     return flag ? "yes" : "no";
 }
 
-static void print_header(unsigned long packet_count, const rtp_header *header) {
+static void print_header(unsigned long packet_count, const rtpw_header *header) {
     printf("packet %lu: pt %u seq %u ts %" PRIu32 " ssrc %" PRIu32, packet_count, header->payload_type,
            header->sequence_number, header->timestamp, header->ssrc);
     printf(" marker %s padding %s extension %s csrc %u header %zu", yes_or_no(header->marker),
            yes_or_no(header->has_padding), yes_or_no(header->has_extension), header->csrc_count, header->header_len);
 }
 
-static void print_values(const rtp_values *values) {
+static void print_values(const rtpw_values *values) {
     if (values->has_mid) {
         printf(" mid %s", values->mid);
     }
@@ -100,23 +100,23 @@ static void print_values(const rtp_values *values) {
 
 /* Prints the two lines of a datagram: 0, or 3 where there is no memory. */
 static int print_packet(unsigned long count, const uint8_t *datagram, size_t len) {
-    rtp_header header;
+    rtpw_header header;
     uint64_t number;
-    int32_t status = rtp_parse(datagram, len, &map, &header);
-    if (status == RTP_NO_MEMORY) {
+    int32_t status = rtpw_parse(datagram, len, &map, &header);
+    if (status == RTPW_NO_MEMORY) {
         return 3;
     }
-    if (status != RTP_OK) {
+    if (status != RTPW_OK) {
         printf("packet %lu: unreadable\nverdict %lu: unreadable\n", count, count);
         return 0;
     }
     print_header(count, &header);
     print_values(&header.values);
-    rtp_receiver *receiver = receiver_of(header.ssrc);
+    rtpw_receiver *receiver = receiver_of(header.ssrc);
     if (receiver == NULL) {
         return 3;
     }
-    if (rtp_receiver_receive(receiver, header.sequence_number, &number) == RTP_OK) {
+    if (rtpw_receiver_receive(receiver, header.sequence_number, &number) == RTPW_OK) {
         printf("verdict %lu: taken %" PRIu64 "\n", count, number);
     } else {
         printf("verdict %lu: refused\n", count);

@@ -13,7 +13,7 @@
 namespace {
 
 // Whether the line maps an id, which is done.
-bool map_line(const std::string &line, rtp_map &map) {
+bool map_line(const std::string &line, rtpw_map &map) {
     std::istringstream words(line);
     std::string word, uri;
     unsigned id;
@@ -21,7 +21,7 @@ bool map_line(const std::string &line, rtp_map &map) {
         return false;
     }
     const auto *bytes = reinterpret_cast<const std::uint8_t *>(uri.data());
-    return rtp_map_set(&map, static_cast<std::uint8_t>(id), rtp_kind_of_uri(bytes, uri.size())) == RTP_OK;
+    return rtpw_map_set(&map, static_cast<std::uint8_t>(id), rtpw_kind_of_uri(bytes, uri.size())) == RTPW_OK;
 }
 
 // The bytes that the text spells, and whether it is hexadecimal.
@@ -41,7 +41,7 @@ const char *yes_or_no(bool flag) {
     return flag ? "yes" : "no";
 }
 
-void print_header(unsigned long count, const rtp_header &header) {
+void print_header(unsigned long count, const rtpw_header &header) {
     std::cout << "packet " << count << ": pt " << unsigned(header.payload_type) << " seq " << header.sequence_number
               << " ts " << header.timestamp << " ssrc " << header.ssrc << " marker " << yes_or_no(header.marker != 0)
               << " padding " << yes_or_no(header.has_padding != 0) << " extension "
@@ -49,7 +49,7 @@ void print_header(unsigned long count, const rtp_header &header) {
               << header.header_len;
 }
 
-void print_values(const rtp_values &values) {
+void print_values(const rtpw_values &values) {
     if (values.has_mid) {
         std::cout << " mid " << values.mid;
     }
@@ -74,9 +74,9 @@ void print_values(const rtp_values &values) {
     std::cout << '\n';
 }
 
-void print_verdict(unsigned long count, rtp_receiver &receiver, std::uint16_t sequence_number) {
+void print_verdict(unsigned long count, rtpw_receiver &receiver, std::uint16_t sequence_number) {
     std::uint64_t number;
-    if (rtp_receiver_receive(&receiver, sequence_number, &number) == RTP_OK) {
+    if (rtpw_receiver_receive(&receiver, sequence_number, &number) == RTPW_OK) {
         std::cout << "verdict " << count << ": taken " << number << '\n';
     } else {
         std::cout << "verdict " << count << ": refused\n";
@@ -86,8 +86,8 @@ void print_verdict(unsigned long count, rtp_receiver &receiver, std::uint16_t se
 } // namespace
 
 int main() {
-    rtp_map map = {};
-    std::map<std::uint32_t, rtp_receiver> receivers; // one of zeros has taken nothing yet
+    rtpw_map map = {};
+    std::map<std::uint32_t, rtpw_receiver> receivers; // one of zeros has taken nothing yet
     std::vector<std::uint8_t> datagram;
     std::string line;
     unsigned long packets = 0, lines = 0;
@@ -101,12 +101,12 @@ int main() {
             return 2;
         }
         packets++;
-        rtp_header header;
-        const std::int32_t status = rtp_parse(datagram.data(), datagram.size(), &map, &header);
-        if (status == RTP_NO_MEMORY) {
+        rtpw_header header;
+        const std::int32_t status = rtpw_parse(datagram.data(), datagram.size(), &map, &header);
+        if (status == RTPW_NO_MEMORY) {
             return 3;
         }
-        if (status != RTP_OK) {
+        if (status != RTPW_OK) {
             std::cout << "packet " << packets << ": unreadable\nverdict " << packets << ": unreadable\n";
             continue;
         }

@@ -18,11 +18,11 @@ void random_body(uint8_t *body, size_t len, int form);
 /* An id, mostly one of those that the bodies have. */
 uint8_t random_id(void);
 /* A map in which most numbers are those of kinds. */
-void random_map(rtp_map *map);
+void random_map(rtpw_map *map);
 /* A header, most of which can be written. */
-void random_header(rtp_header *header);
+void random_header(rtpw_header *header);
 /* Writes the fixed part and the CSRC list of a header that has at most 15 sources: how many bytes they take. */
-size_t write_fixed(const rtp_header *header, bool has_extension, uint8_t *bytes);
+size_t write_fixed(const rtpw_header *header, bool has_extension, uint8_t *bytes);
 
 void packets_round(void);
 void changes_round(void);

@@ -1,5 +1,5 @@
-/* rtp_set_marker, rtp_set_payload_type, rtp_set_sequence_number, rtp_set_timestamp, rtp_set_ssrc,
- * rtp_set_csrc, rtp_set_element, rtp_remove_element */
+/* rtpw_set_marker, rtpw_set_payload_type, rtpw_set_sequence_number, rtpw_set_timestamp, rtpw_set_ssrc,
+ * rtpw_set_csrc, rtpw_set_element, rtpw_remove_element */
 #include "hostile.h"
 
 #include "../c/rtp_wire.h"
@@ -20,7 +20,7 @@ static void put_number(size_t at, size_t width, uint32_t number) {
 /* The packet must be as is expected, and is then what it was before. */
 static void expect(int32_t status, int32_t expected_status) {
     CHECK(status == expected_status);
-    if (expected_status != RTP_OK) {
+    if (expected_status != RTPW_OK) {
         memcpy(expected, before, len);
     }
     CHECK(memcmp(bytes, expected, len) == 0);
@@ -33,30 +33,30 @@ static void fixed_part(void) {
     if (it.cause == 0) {
         expected[1] = (uint8_t)(before[1] % 128 + (x % 2 != 0 ? 128 : 0));
     }
-    expect(rtp_set_marker(bytes, len, x % 2 != 0), it.cause);
+    expect(rtpw_set_marker(bytes, len, x % 2 != 0), it.cause);
     uint8_t payload_type = (uint8_t)(x >> 8);
     if (it.cause == 0) {
         expected[1] = (uint8_t)(before[1] / 128 * 128 + payload_type % 128);
     }
-    expect(rtp_set_payload_type(bytes, len, payload_type), payload_type > 127 ? RTP_BAD_FIELD : it.cause);
+    expect(rtpw_set_payload_type(bytes, len, payload_type), payload_type > 127 ? RTPW_BAD_FIELD : it.cause);
     if (it.cause == 0) {
         put_number(2, 2, (uint16_t)x);
     }
-    expect(rtp_set_sequence_number(bytes, len, (uint16_t)x), it.cause);
+    expect(rtpw_set_sequence_number(bytes, len, (uint16_t)x), it.cause);
     if (it.cause == 0) {
         put_number(4, 4, (uint32_t)(x >> 16));
     }
-    expect(rtp_set_timestamp(bytes, len, (uint32_t)(x >> 16)), it.cause);
+    expect(rtpw_set_timestamp(bytes, len, (uint32_t)(x >> 16)), it.cause);
     if (it.cause == 0) {
         put_number(8, 4, (uint32_t)(x >> 32));
     }
-    expect(rtp_set_ssrc(bytes, len, (uint32_t)(x >> 32)), it.cause);
+    expect(rtpw_set_ssrc(bytes, len, (uint32_t)(x >> 32)), it.cause);
     size_t index = random_u64() % 4 == 0 ? (size_t)random_u64() >> random_below(64) : random_below(4);
     bool is_there = it.cause == 0 && index < it.csrc_count;
     if (is_there) {
         put_number(12 + 4 * index, 4, (uint32_t)x);
     }
-    expect(rtp_set_csrc(bytes, len, index, (uint32_t)x), it.cause != 0 ? it.cause : is_there ? RTP_OK : RTP_NONE);
+    expect(rtpw_set_csrc(bytes, len, index, (uint32_t)x), it.cause != 0 ? it.cause : is_there ? RTPW_OK : RTPW_NONE);
 }
 
 static void set_element(void) {
@@ -76,7 +76,7 @@ static void set_element(void) {
     if (is_set) {
         memcpy(expected + it.body_at + last.data_at, data, data_len);
     }
-    expect(rtp_set_element(bytes, len, id, data, data_len), it.cause != 0 ? it.cause : is_set ? RTP_OK : RTP_NONE);
+    expect(rtpw_set_element(bytes, len, id, data, data_len), it.cause != 0 ? it.cause : is_set ? RTPW_OK : RTPW_NONE);
     CHECK(memcmp(data, data_before, data_len) == 0);
 }
 
@@ -92,7 +92,7 @@ static void remove_element(void) {
             is_removed = 1;
         }
     }
-    expect(rtp_remove_element(bytes, len, id), it.cause != 0 ? it.cause : is_removed ? RTP_OK : RTP_NONE);
+    expect(rtpw_remove_element(bytes, len, id), it.cause != 0 ? it.cause : is_removed ? RTPW_OK : RTPW_NONE);
 }
 
 void changes_round(void) {

@@ -1,4 +1,4 @@
-/* rtp_next_element, rtp_last_element */
+/* rtpw_next_element, rtpw_last_element */
 #include "hostile.h"
 
 #include "../c/rtp_wire.h"
@@ -8,10 +8,10 @@ static uint8_t copy[LONGEST];
 static uint8_t *body;
 static size_t len;
 
-static void expect(int32_t status, int32_t expected_status, const rtp_element *element, const rtp_element *before,
+static void expect(int32_t status, int32_t expected_status, const rtpw_element *element, const rtpw_element *before,
                    const found *it) {
     CHECK(status == expected_status);
-    if (expected_status == RTP_OK) {
+    if (expected_status == RTPW_OK) {
         CHECK(element->data_at == it->data_at);
         CHECK(element->data_len == it->data_len);
         CHECK(element->end == it->data_at + it->data_len);
@@ -26,7 +26,7 @@ void elements_round(void) {
     static memory bodies, elements;
     if (bodies.size == 0) {
         bodies = memory_of(LONGEST);
-        elements = memory_of(sizeof(rtp_element));
+        elements = memory_of(sizeof(rtpw_element));
     }
     len = random_len();
     body = block_in(&bodies, len);
@@ -34,7 +34,7 @@ void elements_round(void) {
     int is_form = form == 1 || form == 2;
     random_body(body, len, form == 1 ? 1 : 2);
     memcpy(copy, body, len);
-    rtp_element *element = block_in(&elements, sizeof *element), before;
+    rtpw_element *element = block_in(&elements, sizeof *element), before;
     fill(element, sizeof *element);
     found it = {0, 0, 0, 0};
 
@@ -45,18 +45,18 @@ void elements_round(void) {
     do {
         memcpy(&before, element, sizeof before);
         int is_there = is_form && at <= len && walk_on(copy, len, form, at, &it);
-        status = rtp_next_element(body, len, form, at, element);
-        expect(status, !is_form || at > len ? RTP_BAD_FIELD : is_there ? RTP_OK : RTP_NONE, element, &before, &it);
+        status = rtpw_next_element(body, len, form, at, element);
+        expect(status, !is_form || at > len ? RTPW_BAD_FIELD : is_there ? RTPW_OK : RTPW_NONE, element, &before, &it);
         at = it.data_at + it.data_len;
-    } while (status == RTP_OK && ++steps < 200);
+    } while (status == RTPW_OK && ++steps < 200);
 
     /* any offset at all */
     memcpy(&before, element, sizeof before);
     size_t far = len + 1 + (size_t)(random_u64() >> random_below(64)) % (SIZE_MAX - len);
-    expect(rtp_next_element(body, len, form, far, element), RTP_BAD_FIELD, element, &before, &it);
+    expect(rtpw_next_element(body, len, form, far, element), RTPW_BAD_FIELD, element, &before, &it);
 
     uint8_t id = random_id();
     int is_there = is_form && walk_last(copy, len, form, id, &it);
-    status = rtp_last_element(body, len, form, id, element);
-    expect(status, !is_form ? RTP_BAD_FIELD : is_there ? RTP_OK : RTP_NONE, element, &before, &it);
+    status = rtpw_last_element(body, len, form, id, element);
+    expect(status, !is_form ? RTPW_BAD_FIELD : is_there ? RTPW_OK : RTPW_NONE, element, &before, &it);
 }

@@ -1,4 +1,4 @@
-/* rtp_kind_of_uri, rtp_map_set, rtp_map_get, rtp_map_standard, rtp_new_ids_between, rtp_renumber */
+/* rtpw_kind_of_uri, rtpw_map_set, rtpw_map_get, rtpw_map_standard, rtpw_new_ids_between, rtpw_renumber */
 #include "hostile.h"
 
 #include "walk_values.h"
@@ -50,39 +50,39 @@ static void uri(void) {
     }
     uint8_t *bytes = block_in(&uris, len);
     memcpy(bytes, copy, len);
-    CHECK(rtp_kind_of_uri(bytes, len) == kind);
+    CHECK(rtpw_kind_of_uri(bytes, len) == kind);
     CHECK(memcmp(bytes, copy, len) == 0);
 }
 
-static void map_calls(rtp_map *map) {
-    rtp_map expected;
+static void map_calls(rtpw_map *map) {
+    rtpw_map expected;
     memcpy(&expected, map, sizeof expected);
     uint64_t x = random_u64();
     uint8_t id = (uint8_t)(x % 8 == 0 ? 0 : x / 8), kind = (uint8_t)(x / 65536 % 4 == 0 ? x >> 32 : x >> 32 & 15);
     uint8_t held = id != 0 && map->kind[id] <= 15 ? map->kind[id] : 0;
-    CHECK(rtp_map_get(map, id) == held);
+    CHECK(rtpw_map_get(map, id) == held);
     bool is_set = id != 0 && kind <= 15;
-    CHECK(rtp_map_set(map, id, kind) == (is_set ? RTP_OK : RTP_BAD_FIELD));
+    CHECK(rtpw_map_set(map, id, kind) == (is_set ? RTPW_OK : RTPW_BAD_FIELD));
     if (is_set) {
         expected.kind[id] = kind;
-        CHECK(rtp_map_get(map, id) == kind);
+        CHECK(rtpw_map_get(map, id) == kind);
     }
     CHECK(memcmp(map, &expected, sizeof expected) == 0);
     if (x / 4096 % 64 == 0) {
         static const uint8_t usual[16] = {0, 3, 1, 6, 12, 0, 0, 0, 0, 0, 10, 11, 0, 5, 0, 0};
-        rtp_map_standard(map);
+        rtpw_map_standard(map);
         for (size_t i = 1; i < 256; i++) {
             CHECK(map->kind[i] == (i < 16 ? usual[i] : 0));
         }
     }
 }
 
-static void new_ids(const rtp_map *from, const rtp_map *to, rtp_new_ids *ids) {
-    rtp_map same_from, same_to;
+static void new_ids(const rtpw_map *from, const rtpw_map *to, rtpw_new_ids *ids) {
+    rtpw_map same_from, same_to;
     memcpy(&same_from, from, sizeof same_from);
     memcpy(&same_to, to, sizeof same_to);
     fill(ids, sizeof *ids);
-    rtp_new_ids_between(from, to, ids);
+    rtpw_new_ids_between(from, to, ids);
     CHECK(memcmp(from, &same_from, sizeof same_from) == 0 && memcmp(to, &same_to, sizeof same_to) == 0);
     uint8_t lowest[16] = {0};
     for (size_t id = 255; id > 0; id--) {
@@ -98,11 +98,11 @@ static void new_ids(const rtp_map *from, const rtp_map *to, rtp_new_ids *ids) {
 }
 
 /* The new id that the table has for an element's. */
-static unsigned new_id(const rtp_new_ids *ids, const found *element) {
+static unsigned new_id(const rtpw_new_ids *ids, const found *element) {
     return element->id == 0 ? 0 : ids->id[element->id];
 }
 
-static bool is_carried(const uint8_t *body, const walked *it, const rtp_new_ids *ids) {
+static bool is_carried(const uint8_t *body, const walked *it, const rtpw_new_ids *ids) {
     found element;
     for (size_t at = 0; it->form == 1 && walk_on(body, it->body_len, 1, at, &element);) {
         at = element.data_at + element.data_len;
@@ -113,7 +113,7 @@ static bool is_carried(const uint8_t *body, const walked *it, const rtp_new_ids 
     return true;
 }
 
-static void renumber_in(uint8_t *body, const walked *it, const rtp_new_ids *ids) {
+static void renumber_in(uint8_t *body, const walked *it, const rtpw_new_ids *ids) {
     found element;
     for (size_t at = 0; walk_on(body, it->body_len, it->form, at, &element);) {
         unsigned id = new_id(ids, &element);
@@ -126,9 +126,9 @@ static void renumber_in(uint8_t *body, const walked *it, const rtp_new_ids *ids)
     }
 }
 
-static void renumber(const rtp_new_ids *ids) {
+static void renumber(const rtpw_new_ids *ids) {
     static uint8_t expected[LONGEST];
-    rtp_new_ids same;
+    rtpw_new_ids same;
     memcpy(&same, ids, sizeof same);
     size_t len = random_len();
     uint8_t *bytes = block_in(&datagrams, len);
@@ -138,12 +138,12 @@ static void renumber(const rtp_new_ids *ids) {
     int32_t status = it.cause;
     if (it.cause == 0 && it.form != 0) {
         bool is_renumbered = is_carried(expected + it.body_at, &it, &same);
-        status = is_renumbered ? RTP_OK : RTP_BAD_FIELD;
+        status = is_renumbered ? RTPW_OK : RTPW_BAD_FIELD;
         if (is_renumbered) {
             renumber_in(expected + it.body_at, &it, &same);
         }
     }
-    CHECK(rtp_renumber(bytes, len, ids) == status);
+    CHECK(rtpw_renumber(bytes, len, ids) == status);
     CHECK(memcmp(bytes, expected, len) == 0);
     CHECK(memcmp(ids, &same, sizeof same) == 0);
 }
@@ -152,16 +152,16 @@ void maps_round(void) {
     if (maps.size == 0) {
         datagrams = memory_of(LONGEST);
         uris = memory_of(200);
-        maps = memory_of(sizeof(rtp_map));
-        other_maps = memory_of(sizeof(rtp_map));
-        tables = memory_of(sizeof(rtp_new_ids));
+        maps = memory_of(sizeof(rtpw_map));
+        other_maps = memory_of(sizeof(rtpw_map));
+        tables = memory_of(sizeof(rtpw_new_ids));
     }
     uri();
-    rtp_map *from = block_in(&maps, sizeof *from), *to = block_in(&other_maps, sizeof *to);
+    rtpw_map *from = block_in(&maps, sizeof *from), *to = block_in(&other_maps, sizeof *to);
     random_map(from);
     random_map(to);
     map_calls(from);
-    rtp_new_ids *ids = block_in(&tables, sizeof *ids);
+    rtpw_new_ids *ids = block_in(&tables, sizeof *ids);
     new_ids(from, to, ids);
     uint64_t x = random_u64();
     if (x % 4 == 0) {

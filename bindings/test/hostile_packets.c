@@ -1,11 +1,11 @@
-/* rtp_packet_parse */
+/* rtpw_packet_parse */
 #include "hostile.h"
 
 #include "../c/rtp_wire.h"
 #include "walk.h"
 
 /* What has to be told of the packet. */
-static void expected_of(const uint8_t *bytes, size_t len, const walked *it, rtp_packet *packet) {
+static void expected_of(const uint8_t *bytes, size_t len, const walked *it, rtpw_packet *packet) {
     size_t payload_len = len - it->header_len;
     size_t padding = 0;
     packet->has_padding = bytes[0] / 32 % 2;
@@ -33,13 +33,13 @@ void packets_round(void) {
     static uint8_t copy[LONGEST];
     if (packets.size == 0) {
         datagrams = memory_of(LONGEST);
-        packets = memory_of(sizeof(rtp_packet));
+        packets = memory_of(sizeof(rtpw_packet));
     }
     size_t len = random_len();
     uint8_t *bytes = block_in(&datagrams, len);
     random_packet(bytes, len);
     memcpy(copy, bytes, len);
-    rtp_packet *packet = block_in(&packets, sizeof *packet), expected;
+    rtpw_packet *packet = block_in(&packets, sizeof *packet), expected;
     fill(packet, sizeof *packet);
     memcpy(&expected, packet, sizeof expected);
 
@@ -47,7 +47,7 @@ void packets_round(void) {
     if (it.cause == 0) {
         expected_of(copy, len, &it, &expected);
     }
-    CHECK(rtp_packet_parse(bytes, len, packet) == it.cause);
+    CHECK(rtpw_packet_parse(bytes, len, packet) == it.cause);
     CHECK(memcmp(packet, &expected, sizeof expected) == 0);
     CHECK(memcmp(bytes, copy, len) == 0);
 }

@@ -1,4 +1,4 @@
-/* rtp_pad, rtp_read_original, rtp_write_original, rtp_version */
+/* rtpw_pad, rtpw_read_original, rtpw_write_original, rtpw_version */
 #include "hostile.h"
 
 #include "../c/rtp_wire.h"
@@ -16,10 +16,10 @@ static void pad(size_t len, uint8_t *datagram) {
     size_t block = x / 8 % 4 == 0 ? (size_t)random_u64() >> random_below(64) : blocks[random_below(11)];
     size_t header_len = x / 32 % 4 == 0 ? (size_t)random_u64() >> random_below(64) : random_below(len + 2);
     bool has_room = len >= 240 && header_len <= len - 240;
-    int32_t expected = block == 0 ? RTP_BAD_FIELD : has_room ? RTP_OK : RTP_SHORT_BUFFER;
-    int32_t status = rtp_pad(datagram, len, header_len, pad_len, block, count);
+    int32_t expected = block == 0 ? RTPW_BAD_FIELD : has_room ? RTPW_OK : RTPW_SHORT_BUFFER;
+    int32_t status = rtpw_pad(datagram, len, header_len, pad_len, block, count);
     CHECK(status == expected);
-    if (status != RTP_OK) {
+    if (status != RTPW_OK) {
         CHECK(*count == same_count);
     } else if (pad_len == 0) {
         CHECK(*count == 0);
@@ -51,17 +51,17 @@ void payload_round(void) {
     uint16_t *number = block_in(&numbers, sizeof *number), same_number;
     fill(number, sizeof *number);
     same_number = *number;
-    CHECK(rtp_read_original(payload, len, number) == (len < 2 ? RTP_SHORT_BUFFER : RTP_OK));
+    CHECK(rtpw_read_original(payload, len, number) == (len < 2 ? RTPW_SHORT_BUFFER : RTPW_OK));
     CHECK(*number == (len < 2 ? same_number : before[0] * 256 + before[1]));
     CHECK(memcmp(payload, before, len) == 0);
 
     uint64_t original = random_u64();
-    CHECK(rtp_write_original(payload, len, original) == (len < 2 ? RTP_SHORT_BUFFER : RTP_OK));
+    CHECK(rtpw_write_original(payload, len, original) == (len < 2 ? RTPW_SHORT_BUFFER : RTPW_OK));
     if (len >= 2) {
         before[0] = (uint8_t)(original >> 8);
         before[1] = (uint8_t)original;
     }
     CHECK(memcmp(payload, before, len) == 0);
     pad(len, payload);
-    CHECK(rtp_version() == 256); /* 0.1.0 */
+    CHECK(rtpw_version() == 256); /* 0.1.0 */
 }

@@ -1,5 +1,5 @@
-/* rtp_receiver_start, rtp_receiver_number_of, rtp_receiver_accepts, rtp_receiver_record,
- * rtp_receiver_receive, rtp_extend_u16 */
+/* rtpw_receiver_start, rtpw_receiver_number_of, rtpw_receiver_accepts, rtpw_receiver_record,
+ * rtpw_receiver_receive, rtpw_extend_u16 */
 #include "hostile.h"
 
 #include "../c/rtp_wire.h"
@@ -11,7 +11,7 @@ typedef struct {
     bool taken[128];
 } model;
 
-static model model_of(const rtp_receiver *receiver) {
+static model model_of(const rtpw_receiver *receiver) {
     model it;
     it.is_started = receiver->started != 0;
     it.highest = receiver->highest;
@@ -77,7 +77,7 @@ static uint64_t random_number(uint64_t near) {
     }
 }
 
-static void random_receiver(rtp_receiver *receiver) {
+static void random_receiver(rtpw_receiver *receiver) {
     fill(receiver, sizeof *receiver);
     uint64_t x = random_u64();
     if (x % 4 == 0) {
@@ -91,21 +91,21 @@ static void random_receiver(rtp_receiver *receiver) {
     }
 }
 
-static void judged(rtp_receiver *receiver, uint16_t low, uint64_t *number) {
-    rtp_receiver before;
+static void judged(rtpw_receiver *receiver, uint16_t low, uint64_t *number) {
+    rtpw_receiver before;
     memcpy(&before, receiver, sizeof before);
     model it = model_of(receiver), after;
     uint64_t wanted = number_of(&it, low), old_number = *number;
-    int32_t status = rtp_receiver_receive(receiver, low, number);
+    int32_t status = rtpw_receiver_receive(receiver, low, number);
     if (!accepts(&it, wanted)) {
-        CHECK(status == RTP_REFUSED);
+        CHECK(status == RTPW_REFUSED);
         CHECK(*number == old_number);
         CHECK(memcmp(receiver, &before, sizeof before) == 0);
         return;
     }
     record(&it, wanted);
     after = model_of(receiver);
-    CHECK(status == RTP_OK);
+    CHECK(status == RTPW_OK);
     CHECK(*number == wanted);
     CHECK(are_same(&after, &it));
 }
@@ -113,10 +113,10 @@ static void judged(rtp_receiver *receiver, uint16_t low, uint64_t *number) {
 void receivers_round(void) {
     static memory receivers, numbers;
     if (receivers.size == 0) {
-        receivers = memory_of(sizeof(rtp_receiver));
+        receivers = memory_of(sizeof(rtpw_receiver));
         numbers = memory_of(sizeof(uint64_t));
     }
-    rtp_receiver *receiver = block_in(&receivers, sizeof *receiver), before;
+    rtpw_receiver *receiver = block_in(&receivers, sizeof *receiver), before;
     uint64_t *number = block_in(&numbers, sizeof *number);
     fill(number, sizeof *number);
     random_receiver(receiver);
@@ -125,12 +125,12 @@ void receivers_round(void) {
 
     uint16_t low = (uint16_t)random_number(it.highest);
     uint64_t tried = random_number(it.highest);
-    CHECK(rtp_receiver_number_of(receiver, low) == number_of(&it, low));
-    CHECK(rtp_receiver_accepts(receiver, tried) == accepts(&it, tried));
-    CHECK(rtp_extend_u16(it.highest, low) == nearest(it.highest, low));
+    CHECK(rtpw_receiver_number_of(receiver, low) == number_of(&it, low));
+    CHECK(rtpw_receiver_accepts(receiver, tried) == accepts(&it, tried));
+    CHECK(rtpw_extend_u16(it.highest, low) == nearest(it.highest, low));
     CHECK(memcmp(receiver, &before, sizeof before) == 0);
 
-    rtp_receiver_record(receiver, tried);
+    rtpw_receiver_record(receiver, tried);
     record(&it, tried);
     after = model_of(receiver);
     CHECK(are_same(&after, &it));
@@ -142,7 +142,7 @@ void receivers_round(void) {
     memcpy(&before, receiver, sizeof before);
     uint64_t count = random_u64() >> random_below(64);
     bool is_count = count < (uint64_t)1 << 48;
-    CHECK(rtp_receiver_start(receiver, count) == (is_count ? RTP_OK : RTP_BAD_FIELD));
+    CHECK(rtpw_receiver_start(receiver, count) == (is_count ? RTPW_OK : RTPW_BAD_FIELD));
     if (is_count) {
         CHECK(receiver->started == 0);
         CHECK(receiver->highest == count * 65536);

@@ -1,4 +1,4 @@
-/* rtp_wire_len, rtp_write: against a writer that owes nothing to the library (RFC 3550, 5.1; RFC 8285, 4.2
+/* rtpw_wire_len, rtpw_write: against a writer that owes nothing to the library (RFC 3550, 5.1; RFC 8285, 4.2
  * and 4.3; the documents of the extensions). What was written is read again. */
 #include "hostile.h"
 
@@ -34,7 +34,7 @@ static void random_text(char *text, size_t room) {
     }
 }
 
-static void random_time(rtp_time *time) {
+static void random_time(rtpw_time *time) {
     static const uint32_t clocks[6] = {1, 100, 1000, 48000, 90000, 1000000000};
     uint64_t x = random_u64();
     time->hertz = x % 8 == 0 ? (uint32_t)(x >> 32) : clocks[x / 8 % 6];
@@ -42,7 +42,7 @@ static void random_time(rtp_time *time) {
     time->ticks = random_u64() >> random_below(64);
 }
 
-static void random_values(rtp_values *values) {
+static void random_values(rtpw_values *values) {
     static const uint16_t degrees[4] = {0, 90, 180, 270};
     fill(values, sizeof *values);
     uint8_t *flags = &values->has_send_time;
@@ -62,7 +62,7 @@ static void random_values(rtp_values *values) {
     }
 }
 
-void random_header(rtp_header *header) {
+void random_header(rtpw_header *header) {
     fill(header, sizeof *header);
     uint64_t x = random_u64();
     header->payload_type = x % 32 == 0 ? (uint8_t)(x >> 8) : header->payload_type % 128;
@@ -74,7 +74,7 @@ void random_header(rtp_header *header) {
 }
 
 /* A map of few ids, mostly; at times of ids up to 14 alone, and without a layer allocation. */
-static void sparse_map(rtp_map *map) {
+static void sparse_map(rtpw_map *map) {
     uint64_t x = random_u64();
     if (x % 8 == 0) {
         random_map(map);
@@ -98,8 +98,8 @@ static bool is_text(const char *text, size_t room) {
     return len < room && text[len] == '\0';
 }
 
-static bool is_given(const rtp_header *header) {
-    const rtp_values *it = &header->values;
+static bool is_given(const rtpw_header *header) {
+    const rtpw_values *it = &header->values;
     uint16_t turn = it->video_orientation;
     return header->payload_type < 128 && header->csrc_count < 16 &&
            (it->has_video_orientation == 0 || turn == 0 || turn == 90 || turn == 180 || turn == 270) &&
@@ -113,31 +113,31 @@ static bool is_given(const rtp_header *header) {
 /* ---- The bytes ---- */
 
 /* Whole hundredths of a second, modulo 4,096. */
-static uint64_t hundredths(const rtp_time *time) {
+static uint64_t hundredths(const rtpw_time *time) {
     uint64_t hertz = time->hertz, seconds = time->ticks / hertz, rest = time->ticks % hertz;
     return (seconds % 4096 * 100 + rest * 100 / hertz) % 4096;
 }
 
 /* The data of an element that says times; how many they are, or -1 where there is no value. */
-static int times_of(uint8_t kind, const rtp_values *it, uint8_t data[17]) {
-    if (kind == RTP_KIND_ABS_SEND_TIME && it->has_send_time) {
+static int times_of(uint8_t kind, const rtpw_values *it, uint8_t data[17]) {
+    if (kind == RTPW_KIND_ABS_SEND_TIME && it->has_send_time) {
         put_number(data, 3, it->send_time % 64000000 * 262144 / 1000000);
         return 3;
     }
-    if (kind == RTP_KIND_ABS_CAPTURE_TIME && it->has_capture_time) {
+    if (kind == RTPW_KIND_ABS_CAPTURE_TIME && it->has_capture_time) {
         put_number(data, 8, it->capture_time);
         put_number(data + 8, 8, (uint64_t)it->capture_offset);
         return it->has_capture_offset ? 16 : 8;
     }
-    if (kind == RTP_KIND_TRANSMISSION_OFFSET && it->has_transmission_offset) {
+    if (kind == RTPW_KIND_TRANSMISSION_OFFSET && it->has_transmission_offset) {
         put_number(data, 4, it->transmission_offset);
         return 4;
     }
-    if (kind == RTP_KIND_PLAYOUT_DELAY && it->has_playout_delay_min && it->has_playout_delay_max) {
+    if (kind == RTPW_KIND_PLAYOUT_DELAY && it->has_playout_delay_min && it->has_playout_delay_max) {
         put_number(data, 3, hundredths(&it->playout_delay_min) * 4096 + hundredths(&it->playout_delay_max));
         return 3;
     }
-    if (kind == RTP_KIND_VIDEO_TIMING && it->has_video_timing) {
+    if (kind == RTPW_KIND_VIDEO_TIMING && it->has_video_timing) {
         data[0] = it->timing_flags;
         put_number(data + 1, 2, it->encode_start);
         put_number(data + 3, 2, it->encode_finish);
@@ -148,9 +148,9 @@ static int times_of(uint8_t kind, const rtp_values *it, uint8_t data[17]) {
     return -1;
 }
 
-static int text_of(uint8_t kind, const rtp_values *it, uint8_t data[17]) {
-    bool has = kind == RTP_KIND_RID ? it->has_rid : kind == RTP_KIND_MID ? it->has_mid : it->has_repaired_rid;
-    const char *text = kind == RTP_KIND_RID ? it->rid : kind == RTP_KIND_MID ? it->mid : it->repaired_rid;
+static int text_of(uint8_t kind, const rtpw_values *it, uint8_t data[17]) {
+    bool has = kind == RTPW_KIND_RID ? it->has_rid : kind == RTPW_KIND_MID ? it->has_mid : it->has_repaired_rid;
+    const char *text = kind == RTPW_KIND_RID ? it->rid : kind == RTPW_KIND_MID ? it->mid : it->repaired_rid;
     if (!has) {
         return -1;
     }
@@ -160,29 +160,29 @@ static int text_of(uint8_t kind, const rtp_values *it, uint8_t data[17]) {
 }
 
 /* The same of an element of any kind. */
-static int data_of(uint8_t kind, const rtp_values *it, uint8_t data[17]) {
+static int data_of(uint8_t kind, const rtpw_values *it, uint8_t data[17]) {
     memset(data, 0, 17);
-    if (kind == RTP_KIND_RID || kind == RTP_KIND_REPAIRED_RID || kind == RTP_KIND_MID) {
+    if (kind == RTPW_KIND_RID || kind == RTPW_KIND_REPAIRED_RID || kind == RTPW_KIND_MID) {
         return text_of(kind, it, data);
     }
-    if (kind == RTP_KIND_AUDIO_LEVEL && it->has_audio_level && it->has_voice_activity) {
+    if (kind == RTPW_KIND_AUDIO_LEVEL && it->has_audio_level && it->has_voice_activity) {
         int magnitude = it->audio_level < 0 ? -it->audio_level : it->audio_level;
         data[0] = (uint8_t)((it->voice_activity != 0 ? 128 : 0) + magnitude % 128);
         return 1;
     }
-    if (kind == RTP_KIND_VIDEO_ORIENTATION && it->has_video_orientation) {
+    if (kind == RTPW_KIND_VIDEO_ORIENTATION && it->has_video_orientation) {
         data[0] = (uint8_t)((360 - it->video_orientation) / 90 % 4);
         return 1;
     }
-    if (kind == RTP_KIND_TRANSPORT_NUMBER && it->has_transport_number) {
+    if (kind == RTPW_KIND_TRANSPORT_NUMBER && it->has_transport_number) {
         put_number(data, 2, it->transport_number);
         return 2;
     }
-    if (kind == RTP_KIND_VIDEO_CONTENT_TYPE && it->has_video_content_type) {
+    if (kind == RTPW_KIND_VIDEO_CONTENT_TYPE && it->has_video_content_type) {
         data[0] = it->video_content_type;
         return 1;
     }
-    if (kind == RTP_KIND_FRAME_MARKING && it->has_frame_marking) {
+    if (kind == RTPW_KIND_FRAME_MARKING && it->has_frame_marking) {
         put_number(data, 4, it->frame_marking);
         return 4;
     }
@@ -190,18 +190,18 @@ static int data_of(uint8_t kind, const rtp_values *it, uint8_t data[17]) {
 }
 
 /* The form that serves for each mapped id. */
-static int form_for(const rtp_map *map, const rtp_values *values) {
+static int form_for(const rtpw_map *map, const rtpw_values *values) {
     uint8_t data[17];
     for (size_t id = 1; id < 256; id++) {
         uint8_t kind = map->kind[id];
-        if (kind != 0 && kind <= 15 && (id > 14 || kind == RTP_KIND_LAYERS || data_of(kind, values, data) == 0)) {
+        if (kind != 0 && kind <= 15 && (id > 14 || kind == RTPW_KIND_LAYERS || data_of(kind, values, data) == 0)) {
             return 2;
         }
     }
     return 1;
 }
 
-static size_t write_block(const rtp_map *map, const rtp_values *values, uint8_t *bytes) {
+static size_t write_block(const rtpw_map *map, const rtpw_values *values, uint8_t *bytes) {
     int form = form_for(map, values);
     size_t at = 4;
     for (size_t id = 1; id < 256; id++) {
@@ -227,7 +227,7 @@ static size_t write_block(const rtp_map *map, const rtp_values *values, uint8_t 
     return at;
 }
 
-size_t write_fixed(const rtp_header *header, bool has_extension, uint8_t *bytes) {
+size_t write_fixed(const rtpw_header *header, bool has_extension, uint8_t *bytes) {
     bytes[0] = (uint8_t)(0x80 + (header->has_padding ? 0x20 : 0) + (has_extension ? 0x10 : 0) + header->csrc_count);
     bytes[1] = (uint8_t)((header->marker ? 0x80 : 0) + header->payload_type);
     put_number(bytes + 2, 2, header->sequence_number);
@@ -241,7 +241,7 @@ size_t write_fixed(const rtp_header *header, bool has_extension, uint8_t *bytes)
 
 /* ---- What they are read as ---- */
 
-static bool is_mapped(const rtp_map *map, uint8_t kind) {
+static bool is_mapped(const rtpw_map *map, uint8_t kind) {
     return memchr(map->kind + 1, kind, 255) != NULL;
 }
 
@@ -253,16 +253,16 @@ static bool is_mapped(const rtp_map *map, uint8_t kind) {
         CHECK(read->name == (is_there ? (as) : 0)); \
     } while (0)
 
-static void times_are_read(const rtp_values *given, const rtp_map *map, const rtp_values *read) {
+static void times_are_read(const rtpw_values *given, const rtpw_map *map, const rtpw_values *read) {
     bool has_delays = given->has_playout_delay_min && given->has_playout_delay_max;
-    bool are_delayed = has_delays && is_mapped(map, RTP_KIND_PLAYOUT_DELAY);
-    bool is_timed = given->has_video_timing && is_mapped(map, RTP_KIND_VIDEO_TIMING);
+    bool are_delayed = has_delays && is_mapped(map, RTPW_KIND_PLAYOUT_DELAY);
+    bool is_timed = given->has_video_timing && is_mapped(map, RTPW_KIND_VIDEO_TIMING);
     uint64_t ticks = given->send_time % 64000000 * 262144 / 1000000;
-    IS_READ(send_time, RTP_KIND_ABS_SEND_TIME, given->has_send_time, ticks * 1000000 / 262144);
-    IS_READ(capture_time, RTP_KIND_ABS_CAPTURE_TIME, given->has_capture_time, given->capture_time);
-    IS_READ(capture_offset, RTP_KIND_ABS_CAPTURE_TIME, given->has_capture_time && given->has_capture_offset,
+    IS_READ(send_time, RTPW_KIND_ABS_SEND_TIME, given->has_send_time, ticks * 1000000 / 262144);
+    IS_READ(capture_time, RTPW_KIND_ABS_CAPTURE_TIME, given->has_capture_time, given->capture_time);
+    IS_READ(capture_offset, RTPW_KIND_ABS_CAPTURE_TIME, given->has_capture_time && given->has_capture_offset,
             given->capture_offset);
-    IS_READ(transmission_offset, RTP_KIND_TRANSMISSION_OFFSET, given->has_transmission_offset,
+    IS_READ(transmission_offset, RTPW_KIND_TRANSMISSION_OFFSET, given->has_transmission_offset,
             given->transmission_offset);
     CHECK(read->has_playout_delay_min == are_delayed && read->has_playout_delay_max == are_delayed);
     CHECK(read->playout_delay_min.ticks == (are_delayed ? hundredths(&given->playout_delay_min) : 0));
@@ -275,29 +275,29 @@ static void times_are_read(const rtp_values *given, const rtp_map *map, const rt
     CHECK(read->last_left_pacer == (is_timed ? given->last_left_pacer : 0));
 }
 
-static void values_are_read(const rtp_values *given, const rtp_map *map, const rtp_values *read) {
+static void values_are_read(const rtpw_values *given, const rtpw_map *map, const rtpw_values *read) {
     bool has_level = given->has_audio_level && given->has_voice_activity;
     int magnitude = given->audio_level < 0 ? -given->audio_level : given->audio_level;
-    IS_READ(audio_level, RTP_KIND_AUDIO_LEVEL, has_level, -(magnitude % 128));
-    IS_READ(voice_activity, RTP_KIND_AUDIO_LEVEL, has_level, given->voice_activity != 0);
-    IS_READ(frame_marking, RTP_KIND_FRAME_MARKING, given->has_frame_marking, given->frame_marking);
-    IS_READ(transport_number, RTP_KIND_TRANSPORT_NUMBER, given->has_transport_number, given->transport_number);
-    IS_READ(video_orientation, RTP_KIND_VIDEO_ORIENTATION, given->has_video_orientation, given->video_orientation);
-    IS_READ(video_content_type, RTP_KIND_VIDEO_CONTENT_TYPE, given->has_video_content_type,
+    IS_READ(audio_level, RTPW_KIND_AUDIO_LEVEL, has_level, -(magnitude % 128));
+    IS_READ(voice_activity, RTPW_KIND_AUDIO_LEVEL, has_level, given->voice_activity != 0);
+    IS_READ(frame_marking, RTPW_KIND_FRAME_MARKING, given->has_frame_marking, given->frame_marking);
+    IS_READ(transport_number, RTPW_KIND_TRANSPORT_NUMBER, given->has_transport_number, given->transport_number);
+    IS_READ(video_orientation, RTPW_KIND_VIDEO_ORIENTATION, given->has_video_orientation, given->video_orientation);
+    IS_READ(video_content_type, RTPW_KIND_VIDEO_CONTENT_TYPE, given->has_video_content_type,
             given->video_content_type);
-    CHECK(read->has_mid == (given->has_mid && is_mapped(map, RTP_KIND_MID)));
+    CHECK(read->has_mid == (given->has_mid && is_mapped(map, RTPW_KIND_MID)));
     CHECK(strcmp(read->mid, read->has_mid ? given->mid : "") == 0);
-    CHECK(read->has_rid == (given->has_rid && is_mapped(map, RTP_KIND_RID)));
+    CHECK(read->has_rid == (given->has_rid && is_mapped(map, RTPW_KIND_RID)));
     CHECK(strcmp(read->rid, read->has_rid ? given->rid : "") == 0);
-    CHECK(read->has_repaired_rid == (given->has_repaired_rid && is_mapped(map, RTP_KIND_REPAIRED_RID)));
+    CHECK(read->has_repaired_rid == (given->has_repaired_rid && is_mapped(map, RTPW_KIND_REPAIRED_RID)));
     CHECK(strcmp(read->repaired_rid, read->has_repaired_rid ? given->repaired_rid : "") == 0);
     CHECK(read->has_layers == 0);
     times_are_read(given, map, read);
 }
 
-static void header_is_read(const rtp_header *given, const rtp_map *map, const uint8_t *bytes, size_t len) {
-    rtp_header read;
-    CHECK(rtp_parse(bytes, len, map, &read) == RTP_OK);
+static void header_is_read(const rtpw_header *given, const rtpw_map *map, const uint8_t *bytes, size_t len) {
+    rtpw_header read;
+    CHECK(rtpw_parse(bytes, len, map, &read) == RTPW_OK);
     CHECK(read.header_len == len);
     CHECK(read.timestamp == given->timestamp && read.ssrc == given->ssrc);
     CHECK(read.sequence_number == given->sequence_number && read.payload_type == given->payload_type);
@@ -310,7 +310,7 @@ static void header_is_read(const rtp_header *given, const rtp_map *map, const ui
     if (given->has_extension) {
         values_are_read(&given->values, map, &read.values);
     } else {
-        rtp_values none;
+        rtpw_values none;
         memset(&none, 0, sizeof none);
         CHECK(same_values(&read.values, &none));
     }
@@ -329,14 +329,14 @@ void writing_round(void) {
     static uint8_t written[LONGEST_WRITTEN], expected[LONGEST_WRITTEN + 8];
     if (maps.size == 0) {
         buffers = memory_of(LONGEST_WRITTEN + 8);
-        maps = memory_of(sizeof(rtp_map));
-        headers = memory_of(sizeof(rtp_header));
+        maps = memory_of(sizeof(rtpw_map));
+        headers = memory_of(sizeof(rtpw_header));
         lengths = memory_of(sizeof(size_t));
     }
-    rtp_map *map = block_in(&maps, sizeof *map), same_map;
+    rtpw_map *map = block_in(&maps, sizeof *map), same_map;
     sparse_map(map);
     memcpy(&same_map, map, sizeof same_map);
-    rtp_header *header = block_in(&headers, sizeof *header), same;
+    rtpw_header *header = block_in(&headers, sizeof *header), same;
     random_header(header);
     memcpy(&same, header, sizeof same);
     bool is_writable = is_given(&same);
@@ -347,7 +347,7 @@ void writing_round(void) {
     }
 
     size_t before, *len = length(&before);
-    CHECK(rtp_wire_len(map, header, len) == (is_writable ? RTP_OK : RTP_BAD_FIELD));
+    CHECK(rtpw_wire_len(map, header, len) == (is_writable ? RTPW_OK : RTPW_BAD_FIELD));
     CHECK(*len == (is_writable ? wanted : before));
 
     uint64_t x = random_u64();
@@ -360,8 +360,8 @@ void writing_round(void) {
         memcpy(expected, written, wanted);
     }
     len = length(&before);
-    int32_t status = rtp_write(map, header, buf, size, len);
-    CHECK(status == (is_written ? RTP_OK : is_writable ? RTP_SHORT_BUFFER : RTP_BAD_FIELD));
+    int32_t status = rtpw_write(map, header, buf, size, len);
+    CHECK(status == (is_written ? RTPW_OK : is_writable ? RTPW_SHORT_BUFFER : RTPW_BAD_FIELD));
     CHECK(*len == (is_written ? wanted : before));
     CHECK(memcmp(buf, expected, size) == 0);
     if (is_written) {

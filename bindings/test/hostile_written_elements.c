@@ -1,4 +1,4 @@
-/* rtp_write_elements, rtp_write_with: against a writer that owes nothing to the library (RFC 8285, 4.2 and
+/* rtpw_write_elements, rtpw_write_with: against a writer that owes nothing to the library (RFC 8285, 4.2 and
  * 4.3). What was written is read again. */
 #include "hostile.h"
 
@@ -12,12 +12,12 @@ static memory buffers, datas, lists, headers, lengths;
 static uint8_t written[76 + MOST * 257 + 16], expected[sizeof written + 8];
 
 /* Elements of a body, or of any data: most lie in the data. */
-static size_t random_elements(rtp_element elements[MOST], size_t data_len) {
+static size_t random_elements(rtpw_element elements[MOST], size_t data_len) {
     uint64_t x = random_u64();
     size_t count = x % 8 == 0 ? random_below(MOST + 1) : random_below(4);
     size_t longest = x / 8 % 2 == 0 ? 16 : x / 8 % 16 == 1 ? 300 : 40;
     for (size_t i = 0; i < count; i++) {
-        rtp_element *it = &elements[i];
+        rtpw_element *it = &elements[i];
         fill(it, sizeof *it);
         uint64_t y = random_u64();
         it->id = y % 32 == 0 ? (uint8_t)(y >> 8) : (uint8_t)(1 + y / 32 % 14);
@@ -34,25 +34,25 @@ static size_t random_elements(rtp_element elements[MOST], size_t data_len) {
     return count;
 }
 
-static bool lies_in(const rtp_element *it, size_t data_len) {
+static bool lies_in(const rtpw_element *it, size_t data_len) {
     return it->data_at <= data_len && it->data_len <= data_len - it->data_at;
 }
 
 /* Whether the form can carry each of the elements, and they lie in the data. */
-static bool are_carried(const rtp_element *elements, size_t count, size_t data_len, int form) {
+static bool are_carried(const rtpw_element *elements, size_t count, size_t data_len, int form) {
     bool are = true;
     for (size_t i = 0; i < count; i++) {
-        const rtp_element *it = &elements[i];
+        const rtpw_element *it = &elements[i];
         bool is_small = it->id <= 14 && it->data_len >= 1 && it->data_len <= 16;
         are = are && lies_in(it, data_len) && it->id != 0 && (form == 1 ? is_small : it->data_len <= 255);
     }
     return are;
 }
 
-static size_t put_elements(const rtp_element *elements, size_t count, const uint8_t *data, int form, uint8_t *bytes) {
+static size_t put_elements(const rtpw_element *elements, size_t count, const uint8_t *data, int form, uint8_t *bytes) {
     size_t at = 0;
     for (size_t i = 0; i < count; i++) {
-        const rtp_element *it = &elements[i];
+        const rtpw_element *it = &elements[i];
         if (form == 1) {
             bytes[at++] = (uint8_t)(it->id * 16u + it->data_len - 1);
         } else {
@@ -66,15 +66,15 @@ static size_t put_elements(const rtp_element *elements, size_t count, const uint
 }
 
 /* The elements of the body are these. */
-static void elements_are_read(const rtp_element *elements, size_t count, const uint8_t *data, int form,
+static void elements_are_read(const rtpw_element *elements, size_t count, const uint8_t *data, int form,
                               const uint8_t *body, size_t len) {
-    rtp_element read = {0, 0, 0, 0};
+    rtpw_element read = {0, 0, 0, 0};
     for (size_t i = 0; i < count; i++) {
-        CHECK(rtp_next_element(body, len, (uint8_t)form, read.end, &read) == RTP_OK);
+        CHECK(rtpw_next_element(body, len, (uint8_t)form, read.end, &read) == RTPW_OK);
         CHECK(read.id == elements[i].id && read.data_len == elements[i].data_len);
         CHECK(memcmp(body + read.data_at, data + elements[i].data_at, read.data_len) == 0);
     }
-    CHECK(rtp_next_element(body, len, (uint8_t)form, read.end, &read) == RTP_NONE);
+    CHECK(rtpw_next_element(body, len, (uint8_t)form, read.end, &read) == RTPW_NONE);
 }
 
 static size_t *length(size_t *before) {
@@ -97,7 +97,7 @@ static uint8_t *buffer(size_t wanted, size_t *size) {
 static void expect(int32_t status, bool is_given, size_t wanted, const uint8_t *buf, size_t size, size_t len,
                    size_t before) {
     bool is_written = is_given && size >= wanted;
-    CHECK(status == (is_written ? RTP_OK : is_given ? RTP_SHORT_BUFFER : RTP_BAD_FIELD));
+    CHECK(status == (is_written ? RTPW_OK : is_given ? RTPW_SHORT_BUFFER : RTPW_BAD_FIELD));
     CHECK(len == (is_written ? wanted : before));
     if (is_written) {
         memcpy(expected, written, wanted);
@@ -105,22 +105,22 @@ static void expect(int32_t status, bool is_given, size_t wanted, const uint8_t *
     CHECK(memcmp(buf, expected, size) == 0);
 }
 
-static void write_elements(const rtp_element *elements, size_t count, const uint8_t *data, size_t data_len) {
+static void write_elements(const rtpw_element *elements, size_t count, const uint8_t *data, size_t data_len) {
     uint64_t x = random_u64();
     uint8_t form = x % 16 == 0 ? (uint8_t)(x >> 8) : (uint8_t)(1 + x / 16 % 2);
     bool is_given = (form == 1 || form == 2) && are_carried(elements, count, data_len, form);
     size_t wanted = is_given ? put_elements(elements, count, data, form, written) : 0;
     size_t size, before, *len = length(&before);
     uint8_t *buf = buffer(wanted, &size);
-    int32_t status = rtp_write_elements(data, data_len, elements, count, form, buf, size, len);
+    int32_t status = rtpw_write_elements(data, data_len, elements, count, form, buf, size, len);
     expect(status, is_given, wanted, buf, size, *len, before);
-    if (status == RTP_OK) {
+    if (status == RTPW_OK) {
         elements_are_read(elements, count, data, form, buf, wanted);
     }
 }
 
-static void write_with(const rtp_element *elements, size_t count, const uint8_t *data, size_t data_len) {
-    rtp_header *header = block_in(&headers, sizeof *header), same;
+static void write_with(const rtpw_element *elements, size_t count, const uint8_t *data, size_t data_len) {
+    rtpw_header *header = block_in(&headers, sizeof *header), same;
     random_header(header);
     memcpy(&same, header, sizeof same);
     int form = are_carried(elements, count, data_len, 1) ? 1 : 2;
@@ -139,22 +139,22 @@ static void write_with(const rtp_element *elements, size_t count, const uint8_t 
     }
     size_t size, before, *len = length(&before);
     uint8_t *buf = buffer(wanted, &size);
-    int32_t status = rtp_write_with(header, data, data_len, elements, count, buf, size, len);
+    int32_t status = rtpw_write_with(header, data, data_len, elements, count, buf, size, len);
     expect(status, is_given, wanted, buf, size, *len, before);
     CHECK(memcmp(header, &same, sizeof same) == 0);
-    if (status == RTP_OK) {
+    if (status == RTPW_OK) {
         elements_are_read(elements, count, data, form, buf + body_at, wanted - body_at);
     }
 }
 
 void written_elements_round(void) {
     static uint8_t same_data[LONGEST_DATA];
-    rtp_element chosen[MOST];
+    rtpw_element chosen[MOST];
     if (datas.size == 0) {
         buffers = memory_of(sizeof expected);
         datas = memory_of(LONGEST_DATA);
         lists = memory_of(sizeof chosen);
-        headers = memory_of(sizeof(rtp_header));
+        headers = memory_of(sizeof(rtpw_header));
         lengths = memory_of(sizeof(size_t));
     }
     size_t data_len = random_u64() % 8 == 0 ? random_below(LONGEST_DATA) : random_below(60);
@@ -162,7 +162,7 @@ void written_elements_round(void) {
     fill(data, data_len);
     memcpy(same_data, data, data_len);
     size_t count = random_elements(chosen, data_len);
-    rtp_element *elements = block_in(&lists, count * sizeof *elements);
+    rtpw_element *elements = block_in(&lists, count * sizeof *elements);
     memcpy(elements, chosen, count * sizeof *elements);
 
     write_elements(elements, count, data, data_len);

@@ -1,6 +1,6 @@
 /*
  * Each growth of memory is refused in turn to each function that takes memory. What stands then:
- * RTP_NO_MEMORY, nothing is written, and no memory is lost. Linked with --wrap for malloc, realloc and free.
+ * RTPW_NO_MEMORY, nothing is written, and no memory is lost. Linked with --wrap for malloc, realloc and free.
  */
 #include "../c/rtp_wire.h"
 
@@ -39,32 +39,32 @@ void __wrap_free(void *block) {
 static const uint8_t DATAGRAM[24] = {0x90, 0, 0, 1, 0, 0, 0, 2, 0,    0,    0,    3,
                                      0xBE, 0xDE, 0, 2, 0x53, 0x11, 0x00, 0x05, 0x06, 0x10, 0x8A, 0x00};
 static const uint8_t *const BODY = DATAGRAM + 16;
-static const rtp_map MAP = {{0, RTP_KIND_AUDIO_LEVEL, 0, 0, 0, RTP_KIND_LAYERS}};
-static const rtp_element ELEMENTS[2] = {{1, 4, 5, 5}, {6, 1, 7, 1}};
+static const rtpw_map MAP = {{0, RTPW_KIND_AUDIO_LEVEL, 0, 0, 0, RTPW_KIND_LAYERS}};
+static const rtpw_element ELEMENTS[2] = {{1, 4, 5, 5}, {6, 1, 7, 1}};
 
 /* What the calls write: all of it stays where memory is refused. */
 static struct {
-    rtp_header header;
-    rtp_layers layers;
+    rtpw_header header;
+    rtpw_layers layers;
     uint8_t buf[64];
     size_t len;
 } out;
 
-static int32_t values_read(void) { return rtp_values_read(BODY, 8, RTP_ONE_BYTE_FORM, &MAP, &out.header.values); }
-static int32_t parse(void) { return rtp_parse(DATAGRAM, sizeof DATAGRAM, &MAP, &out.header); }
+static int32_t values_read(void) { return rtpw_values_read(BODY, 8, RTPW_ONE_BYTE_FORM, &MAP, &out.header.values); }
+static int32_t parse(void) { return rtpw_parse(DATAGRAM, sizeof DATAGRAM, &MAP, &out.header); }
 static int32_t parse_layers(void) {
-    return rtp_parse_layers(DATAGRAM, sizeof DATAGRAM, &MAP, &out.header, &out.layers);
+    return rtpw_parse_layers(DATAGRAM, sizeof DATAGRAM, &MAP, &out.header, &out.layers);
 }
 static int32_t write_elements(void) {
-    return rtp_write_elements(BODY, 8, ELEMENTS, 2, RTP_ONE_BYTE_FORM, out.buf, sizeof out.buf, &out.len);
+    return rtpw_write_elements(BODY, 8, ELEMENTS, 2, RTPW_ONE_BYTE_FORM, out.buf, sizeof out.buf, &out.len);
 }
 static int32_t write_with(void) {
-    static rtp_header header;
-    return rtp_write_with(&header, BODY, 8, ELEMENTS, 2, out.buf, sizeof out.buf, &out.len);
+    static rtpw_header header;
+    return rtpw_write_with(&header, BODY, 8, ELEMENTS, 2, out.buf, sizeof out.buf, &out.len);
 }
 
 static int are_read(void) {
-    const rtp_values *values = &out.header.values;
+    const rtpw_values *values = &out.header.values;
     return values->audio_level == -10 && values->voice_activity == 1 && values->has_layers == 1;
 }
 static int layers_are_read(void) { return are_read() && out.layers.streams[1].layers[0].kbps[0] == 6; }
@@ -82,9 +82,9 @@ static long refuse_each(int32_t (*call)(void), int (*is_done)(void)) {
             return 0;
         }
         if (growths < refused_growth) {
-            return status == RTP_OK && is_done() ? growths : 0;
+            return status == RTPW_OK && is_done() ? growths : 0;
         }
-        if (status != RTP_NO_MEMORY || memcmp(&out, same, sizeof out) != 0) {
+        if (status != RTPW_NO_MEMORY || memcmp(&out, same, sizeof out) != 0) {
             return 0;
         }
     }
@@ -96,11 +96,11 @@ int main(void) {
         int32_t (*call)(void);
         int (*is_done)(void);
     } calls[] = {
-        {"rtp_values_read", values_read, are_read},
-        {"rtp_parse", parse, are_read},
-        {"rtp_parse_layers", parse_layers, layers_are_read},
-        {"rtp_write_elements", write_elements, elements_are_written},
-        {"rtp_write_with", write_with, are_written_with},
+        {"rtpw_values_read", values_read, are_read},
+        {"rtpw_parse", parse, are_read},
+        {"rtpw_parse_layers", parse_layers, layers_are_read},
+        {"rtpw_write_elements", write_elements, elements_are_written},
+        {"rtpw_write_with", write_with, are_written_with},
     };
     printf("refused: each growth of memory once,");
     for (size_t i = 0; i < sizeof calls / sizeof *calls; i++) {

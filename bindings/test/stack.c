@@ -18,16 +18,16 @@ bool uses_malloc;
 
 /* The longest packet: 15 sources, and a block of 65,535 words whose elements have one byte each. */
 static uint8_t datagram[12 + 60 + 4 + 262140 + 8];
-static rtp_packet packet;
-static rtp_element element;
-static rtp_receiver receiver;
-static rtp_map map;
-static rtp_values values;
-static rtp_header header, given;
-static rtp_layers layers;
-static rtp_map usual;
-static rtp_new_ids ids;
-static rtp_element many[255];
+static rtpw_packet packet;
+static rtpw_element element;
+static rtpw_receiver receiver;
+static rtpw_map map;
+static rtpw_values values;
+static rtpw_header header, given;
+static rtpw_layers layers;
+static rtpw_map usual;
+static rtpw_new_ids ids;
+static rtpw_element many[255];
 static uint64_t number;
 static uint16_t original;
 static size_t count;
@@ -52,7 +52,7 @@ static void packet_of_elements(void) {
 
 /* Each value is there, and 255 elements are to be written. */
 static void give_all(void) {
-    rtp_values *it = &given.values;
+    rtpw_values *it = &given.values;
     given.csrc_count = 15;
     given.has_extension = 1;
     memset(&it->has_send_time, 1, 17); /* the flags */
@@ -68,44 +68,44 @@ static void give_all(void) {
 }
 
 static void empty(void) {}
-static void packet_parse(void) { rtp_packet_parse(datagram, sizeof datagram, &packet); }
-static void set_marker(void) { rtp_set_marker(datagram, sizeof datagram, true); }
-static void set_payload_type(void) { rtp_set_payload_type(datagram, sizeof datagram, 96); }
-static void set_sequence_number(void) { rtp_set_sequence_number(datagram, sizeof datagram, 1); }
-static void set_timestamp(void) { rtp_set_timestamp(datagram, sizeof datagram, 2); }
-static void set_ssrc(void) { rtp_set_ssrc(datagram, sizeof datagram, 3); }
-static void set_csrc(void) { rtp_set_csrc(datagram, sizeof datagram, 14, 4); }
-static void set_element(void) { rtp_set_element(datagram, sizeof datagram, 3, data, sizeof data); }
-static void remove_element(void) { rtp_remove_element(datagram, sizeof datagram, 3); }
-static void next_element(void) { rtp_next_element(datagram + 76, 262140, RTP_ONE_BYTE_FORM, 0, &element); }
-static void last_element(void) { rtp_last_element(datagram + 76, 262140, RTP_ONE_BYTE_FORM, 5, &element); }
-static void receiver_start(void) { rtp_receiver_start(&receiver, 1); }
-static void receiver_number_of(void) { number = rtp_receiver_number_of(&receiver, 9); }
-static void receiver_accepts(void) { number = rtp_receiver_accepts(&receiver, 9); }
-static void receiver_record(void) { rtp_receiver_record(&receiver, 65545); }
-static void receiver_receive(void) { rtp_receiver_receive(&receiver, 99, &number); }
-static void values_read(void) { rtp_values_read(datagram + 76, 262140, RTP_ONE_BYTE_FORM, &map, &values); }
-static void kind_of_uri(void) { number = rtp_kind_of_uri((const uint8_t *)LAST_URI, sizeof LAST_URI - 1); }
-static void map_set(void) { rtp_map_set(&usual, 255, RTP_KIND_MID); }
-static void map_get(void) { number = rtp_map_get(&map, 3); }
-static void map_standard(void) { rtp_map_standard(&usual); }
-static void parse(void) { rtp_parse(datagram, sizeof datagram, &map, &header); }
-static void parse_layers(void) { rtp_parse_layers(datagram, sizeof datagram, &map, &header, &layers); }
-static void wire_len(void) { rtp_wire_len(&map, &given, &count); }
-static void write(void) { rtp_write(&map, &given, datagram, sizeof datagram, &count); }
+static void packet_parse(void) { rtpw_packet_parse(datagram, sizeof datagram, &packet); }
+static void set_marker(void) { rtpw_set_marker(datagram, sizeof datagram, true); }
+static void set_payload_type(void) { rtpw_set_payload_type(datagram, sizeof datagram, 96); }
+static void set_sequence_number(void) { rtpw_set_sequence_number(datagram, sizeof datagram, 1); }
+static void set_timestamp(void) { rtpw_set_timestamp(datagram, sizeof datagram, 2); }
+static void set_ssrc(void) { rtpw_set_ssrc(datagram, sizeof datagram, 3); }
+static void set_csrc(void) { rtpw_set_csrc(datagram, sizeof datagram, 14, 4); }
+static void set_element(void) { rtpw_set_element(datagram, sizeof datagram, 3, data, sizeof data); }
+static void remove_element(void) { rtpw_remove_element(datagram, sizeof datagram, 3); }
+static void next_element(void) { rtpw_next_element(datagram + 76, 262140, RTPW_ONE_BYTE_FORM, 0, &element); }
+static void last_element(void) { rtpw_last_element(datagram + 76, 262140, RTPW_ONE_BYTE_FORM, 5, &element); }
+static void receiver_start(void) { rtpw_receiver_start(&receiver, 1); }
+static void receiver_number_of(void) { number = rtpw_receiver_number_of(&receiver, 9); }
+static void receiver_accepts(void) { number = rtpw_receiver_accepts(&receiver, 9); }
+static void receiver_record(void) { rtpw_receiver_record(&receiver, 65545); }
+static void receiver_receive(void) { rtpw_receiver_receive(&receiver, 99, &number); }
+static void values_read(void) { rtpw_values_read(datagram + 76, 262140, RTPW_ONE_BYTE_FORM, &map, &values); }
+static void kind_of_uri(void) { number = rtpw_kind_of_uri((const uint8_t *)LAST_URI, sizeof LAST_URI - 1); }
+static void map_set(void) { rtpw_map_set(&usual, 255, RTPW_KIND_MID); }
+static void map_get(void) { number = rtpw_map_get(&map, 3); }
+static void map_standard(void) { rtpw_map_standard(&usual); }
+static void parse(void) { rtpw_parse(datagram, sizeof datagram, &map, &header); }
+static void parse_layers(void) { rtpw_parse_layers(datagram, sizeof datagram, &map, &header, &layers); }
+static void wire_len(void) { rtpw_wire_len(&map, &given, &count); }
+static void write(void) { rtpw_write(&map, &given, datagram, sizeof datagram, &count); }
 static void write_with(void) {
-    rtp_write_with(&given, data, sizeof data, many, 255, datagram, sizeof datagram, &count);
+    rtpw_write_with(&given, data, sizeof data, many, 255, datagram, sizeof datagram, &count);
 }
 static void write_elements(void) {
-    rtp_write_elements(data, sizeof data, many, 255, RTP_TWO_BYTE_FORM, datagram, sizeof datagram, &count);
+    rtpw_write_elements(data, sizeof data, many, 255, RTPW_TWO_BYTE_FORM, datagram, sizeof datagram, &count);
 }
-static void new_ids_between(void) { rtp_new_ids_between(&map, &usual, &ids); }
-static void renumber(void) { rtp_renumber(datagram, sizeof datagram, &ids); }
-static void pad(void) { rtp_pad(datagram, sizeof datagram, 32, 200, 16, &count); }
-static void read_original(void) { rtp_read_original(datagram, sizeof datagram, &original); }
-static void write_original(void) { rtp_write_original(datagram, sizeof datagram, 7); }
-static void version(void) { number = rtp_version(); }
-static void extend_u16(void) { number = rtp_extend_u16(70000, 99); }
+static void new_ids_between(void) { rtpw_new_ids_between(&map, &usual, &ids); }
+static void renumber(void) { rtpw_renumber(datagram, sizeof datagram, &ids); }
+static void pad(void) { rtpw_pad(datagram, sizeof datagram, 32, 200, 16, &count); }
+static void read_original(void) { rtpw_read_original(datagram, sizeof datagram, &original); }
+static void write_original(void) { rtpw_write_original(datagram, sizeof datagram, 7); }
+static void version(void) { number = rtpw_version(); }
+static void extend_u16(void) { number = rtpw_extend_u16(70000, 99); }
 
 static ucontext_t here, there;
 
@@ -126,7 +126,7 @@ static size_t taken_by(void (*call)(void), uint8_t *stack) {
     return ROOM - untouched;
 }
 
-#define CALL(name) {"rtp_" #name, name}
+#define CALL(name) {"rtpw_" #name, name}
 
 int main(void) {
     static const struct {
@@ -145,7 +145,7 @@ int main(void) {
     for (int i = 0; i < 256; i++) {
         map.kind[i] = (uint8_t)i; /* each kind, and a layer allocation */
     }
-    map.kind[14] = RTP_KIND_LAYERS;
+    map.kind[14] = RTPW_KIND_LAYERS;
     give_all();
     uint8_t *stack = stacks.room;
     size_t nothing = taken_by(empty, stack), most = 0;

@@ -13,34 +13,34 @@
 static const uint8_t DATAGRAM[26] = {0x90, 0xE0, 0, 5, 0, 0, 0, 160, 0, 0, 0, 7, 0xBE,
                                      0xDE, 0, 2, 0x10, 0xAA, 0x21, 0xBB, 0xCC, 0, 0, 0, 1, 2};
 
-static const rtp_map MAP = {{0, RTP_KIND_AUDIO_LEVEL, RTP_KIND_TRANSPORT_NUMBER}};
+static const rtpw_map MAP = {{0, RTPW_KIND_AUDIO_LEVEL, RTPW_KIND_TRANSPORT_NUMBER}};
 
-static const rtp_new_ids IDS = {{0, 2, 1}};
+static const rtpw_new_ids IDS = {{0, 2, 1}};
 
 /* The header of DATAGRAM is written again as it was, and then has its two ids the other way round. */
 static int is_written(void) {
-    rtp_header header;
+    rtpw_header header;
     uint8_t buf[sizeof DATAGRAM];
     size_t len;
-    return rtp_parse(DATAGRAM, sizeof DATAGRAM, &MAP, &header) == RTP_OK && header.header_len == 24 &&
-           rtp_write(&MAP, &header, buf, sizeof buf, &len) == RTP_OK && len == 24 && memcmp(buf, DATAGRAM, 24) == 0 &&
-           rtp_renumber(buf, len, &IDS) == RTP_OK && buf[16] == 0x20 && buf[18] == 0x11;
+    return rtpw_parse(DATAGRAM, sizeof DATAGRAM, &MAP, &header) == RTPW_OK && header.header_len == 24 &&
+           rtpw_write(&MAP, &header, buf, sizeof buf, &len) == RTPW_OK && len == 24 && memcmp(buf, DATAGRAM, 24) == 0 &&
+           rtpw_renumber(buf, len, &IDS) == RTPW_OK && buf[16] == 0x20 && buf[18] == 0x11;
 }
 
 static void *reads(void *failed) {
-    rtp_receiver receiver = {0, 0, 0, 0};
+    rtpw_receiver receiver = {0, 0, 0, 0};
     for (int i = 0; i < ROUNDS; i++) {
-        rtp_packet packet;
-        rtp_element element;
-        rtp_values values;
+        rtpw_packet packet;
+        rtpw_element element;
+        rtpw_values values;
         uint64_t number;
-        if (rtp_packet_parse(DATAGRAM, sizeof DATAGRAM, &packet) != RTP_OK || packet.ssrc != 7 ||
+        if (rtpw_packet_parse(DATAGRAM, sizeof DATAGRAM, &packet) != RTPW_OK || packet.ssrc != 7 ||
             packet.payload_len != 2 ||
-            rtp_last_element(DATAGRAM + packet.body_at, packet.body_len, packet.block_form, 2, &element) != RTP_OK ||
+            rtpw_last_element(DATAGRAM + packet.body_at, packet.body_len, packet.block_form, 2, &element) != RTPW_OK ||
             element.data_at != 3 || element.data_len != 2 ||
-            rtp_values_read(DATAGRAM + packet.body_at, packet.body_len, packet.block_form, &MAP, &values) != RTP_OK ||
+            rtpw_values_read(DATAGRAM + packet.body_at, packet.body_len, packet.block_form, &MAP, &values) != RTPW_OK ||
             values.audio_level != -42 || values.voice_activity != 1 || values.transport_number != 0xBBCC ||
-            rtp_receiver_receive(&receiver, (uint16_t)i, &number) != RTP_OK || number != (uint64_t)i ||
+            rtpw_receiver_receive(&receiver, (uint16_t)i, &number) != RTPW_OK || number != (uint64_t)i ||
             !is_written()) {
             *(int *)failed = 1;
         }

@@ -81,7 +81,7 @@ static inline uint64_t rate_at(const uint8_t *data, size_t len, size_t *at) {
 }
 
 /* The layers of each stream by its mask, and those that are active, by rising stream and layer. */
-static inline size_t lay_out(const unsigned masks[4], rtp_layers *layers, rtp_layer *active[16]) {
+static inline size_t lay_out(const unsigned masks[4], rtpw_layers *layers, rtpw_layer *active[16]) {
     size_t count = 0;
     for (size_t s = 0; s < layers->count; s++) {
         for (unsigned bit = 0; bit < 4; bit++) {
@@ -97,9 +97,9 @@ static inline size_t lay_out(const unsigned masks[4], rtp_layers *layers, rtp_la
 }
 
 /* The allocation; false where the bytes are none. */
-static inline bool layers_in(const uint8_t *data, size_t len, rtp_layers *layers) {
+static inline bool layers_in(const uint8_t *data, size_t len, rtpw_layers *layers) {
     unsigned masks[4] = {0};
-    rtp_layer *active[16];
+    rtpw_layer *active[16];
     memset(layers, 0, sizeof *layers);
     if (len == 0) {
         return false;
@@ -144,7 +144,7 @@ static inline bool layers_in(const uint8_t *data, size_t len, rtp_layers *layers
     return true;
 }
 
-static inline void put_capture_time(const uint8_t *data, size_t len, rtp_values *values) {
+static inline void put_capture_time(const uint8_t *data, size_t len, rtpw_values *values) {
     if (len >= 8) {
         uint64_t offset = len >= 16 ? number_in(data + 8, 8) : 0;
         values->has_capture_time = 1;
@@ -154,7 +154,7 @@ static inline void put_capture_time(const uint8_t *data, size_t len, rtp_values 
     }
 }
 
-static inline void put_timing(const uint8_t *data, size_t len, rtp_values *values) {
+static inline void put_timing(const uint8_t *data, size_t len, rtpw_values *values) {
     if (len >= 9) {
         values->has_video_timing = 1;
         values->timing_flags = data[0];
@@ -165,7 +165,7 @@ static inline void put_timing(const uint8_t *data, size_t len, rtp_values *value
     }
 }
 
-static inline void put_delays(const uint8_t *data, size_t len, rtp_values *values) {
+static inline void put_delays(const uint8_t *data, size_t len, rtpw_values *values) {
     if (len >= 3) {
         uint64_t delays = number_in(data, 3);
         values->has_playout_delay_min = values->has_playout_delay_max = 1;
@@ -176,52 +176,52 @@ static inline void put_delays(const uint8_t *data, size_t len, rtp_values *value
 }
 
 /* What the data of an element of the kind say, where they are long enough for it. */
-static inline void put_value(uint8_t kind, const uint8_t *data, size_t len, rtp_values *values, rtp_layers *layers) {
+static inline void put_value(uint8_t kind, const uint8_t *data, size_t len, rtpw_values *values, rtpw_layers *layers) {
     static const uint16_t degrees[4] = {0, 270, 180, 90};
-    rtp_layers read;
-    if (kind == RTP_KIND_ABS_SEND_TIME && len >= 3) {
+    rtpw_layers read;
+    if (kind == RTPW_KIND_ABS_SEND_TIME && len >= 3) {
         values->has_send_time = 1;
         values->send_time = number_in(data, 3) * 1000000 / 262144;
-    } else if (kind == RTP_KIND_ABS_CAPTURE_TIME) {
+    } else if (kind == RTPW_KIND_ABS_CAPTURE_TIME) {
         put_capture_time(data, len, values);
-    } else if (kind == RTP_KIND_AUDIO_LEVEL && len >= 1) {
+    } else if (kind == RTPW_KIND_AUDIO_LEVEL && len >= 1) {
         values->has_audio_level = values->has_voice_activity = 1;
         values->audio_level = (int8_t)(-(data[0] % 128));
         values->voice_activity = data[0] / 128;
-    } else if (kind == RTP_KIND_TRANSMISSION_OFFSET && len >= 4) {
+    } else if (kind == RTPW_KIND_TRANSMISSION_OFFSET && len >= 4) {
         values->has_transmission_offset = 1;
         values->transmission_offset = (uint32_t)number_in(data, 4);
-    } else if (kind == RTP_KIND_VIDEO_ORIENTATION && len >= 1) {
+    } else if (kind == RTPW_KIND_VIDEO_ORIENTATION && len >= 1) {
         values->has_video_orientation = 1;
         values->video_orientation = degrees[data[0] % 4];
-    } else if (kind == RTP_KIND_TRANSPORT_NUMBER && len >= 2) {
+    } else if (kind == RTPW_KIND_TRANSPORT_NUMBER && len >= 2) {
         values->has_transport_number = 1;
         values->transport_number = (uint16_t)number_in(data, 2);
-    } else if (kind == RTP_KIND_PLAYOUT_DELAY) {
+    } else if (kind == RTPW_KIND_PLAYOUT_DELAY) {
         put_delays(data, len, values);
-    } else if (kind == RTP_KIND_VIDEO_CONTENT_TYPE && len >= 1) {
+    } else if (kind == RTPW_KIND_VIDEO_CONTENT_TYPE && len >= 1) {
         values->has_video_content_type = 1;
         values->video_content_type = data[0];
-    } else if (kind == RTP_KIND_VIDEO_TIMING) {
+    } else if (kind == RTPW_KIND_VIDEO_TIMING) {
         put_timing(data, len, values);
-    } else if (kind == RTP_KIND_RID) {
+    } else if (kind == RTPW_KIND_RID) {
         put_text(data, len, values->rid, sizeof values->rid, &values->has_rid);
-    } else if (kind == RTP_KIND_REPAIRED_RID) {
+    } else if (kind == RTPW_KIND_REPAIRED_RID) {
         put_text(data, len, values->repaired_rid, sizeof values->repaired_rid, &values->has_repaired_rid);
-    } else if (kind == RTP_KIND_MID) {
+    } else if (kind == RTPW_KIND_MID) {
         put_text(data, len, values->mid, sizeof values->mid, &values->has_mid);
-    } else if (kind == RTP_KIND_FRAME_MARKING && len >= 4) {
+    } else if (kind == RTPW_KIND_FRAME_MARKING && len >= 4) {
         values->has_frame_marking = 1;
         values->frame_marking = (uint32_t)number_in(data, 4);
-    } else if (kind == RTP_KIND_LAYERS && layers_in(data, len, &read)) {
+    } else if (kind == RTPW_KIND_LAYERS && layers_in(data, len, &read)) {
         values->has_layers = 1;
         *layers = read;
     }
 }
 
 /* What the elements of a body say. */
-static inline void walk_values(const uint8_t *body, size_t len, int form, const rtp_map *map, rtp_values *values,
-                               rtp_layers *layers) {
+static inline void walk_values(const uint8_t *body, size_t len, int form, const rtpw_map *map, rtpw_values *values,
+                               rtpw_layers *layers) {
     found it;
     memset(values, 0, sizeof *values);
     memset(layers, 0, sizeof *layers);
@@ -233,8 +233,8 @@ static inline void walk_values(const uint8_t *body, size_t len, int form, const 
 }
 
 /* The header that the bytes begin with, where walk() has found one. */
-static inline void walk_header(const uint8_t *bytes, const walked *it, const rtp_map *map, rtp_header *header,
-                               rtp_layers *layers) {
+static inline void walk_header(const uint8_t *bytes, const walked *it, const rtpw_map *map, rtpw_header *header,
+                               rtpw_layers *layers) {
     memset(header, 0, sizeof *header);
     walk_values(bytes + it->body_at, it->form == 0 ? 0 : it->body_len, it->form, map, &header->values, layers);
     header->header_len = it->header_len;
@@ -255,32 +255,32 @@ static inline void walk_header(const uint8_t *bytes, const walked *it, const rtp
 
 #define ZERO_FROM(it, last, size) memset((uint8_t *)(it) + (last), 0, (size) - (last))
 
-static inline rtp_values bare_values(const rtp_values *values) {
-    rtp_values it;
+static inline rtpw_values bare_values(const rtpw_values *values) {
+    rtpw_values it;
     memcpy(&it, values, sizeof it);
-    const size_t end = offsetof(rtp_time, hertz) + sizeof(uint32_t);
-    ZERO_FROM(&it.playout_delay_min, end, sizeof(rtp_time));
-    ZERO_FROM(&it.playout_delay_max, end, sizeof(rtp_time));
-    ZERO_FROM(&it, offsetof(rtp_values, has_layers) + 1, sizeof it);
+    const size_t end = offsetof(rtpw_time, hertz) + sizeof(uint32_t);
+    ZERO_FROM(&it.playout_delay_min, end, sizeof(rtpw_time));
+    ZERO_FROM(&it.playout_delay_max, end, sizeof(rtpw_time));
+    ZERO_FROM(&it, offsetof(rtpw_values, has_layers) + 1, sizeof it);
     return it;
 }
 
-static inline bool same_values(const rtp_values *a, const rtp_values *b) {
-    rtp_values x = bare_values(a), y = bare_values(b);
+static inline bool same_values(const rtpw_values *a, const rtpw_values *b) {
+    rtpw_values x = bare_values(a), y = bare_values(b);
     return memcmp(&x, &y, sizeof x) == 0;
 }
 
-static inline bool same_headers(const rtp_header *a, const rtp_header *b) {
-    const size_t end = offsetof(rtp_header, has_extension) + 1;
+static inline bool same_headers(const rtpw_header *a, const rtpw_header *b) {
+    const size_t end = offsetof(rtpw_header, has_extension) + 1;
     return memcmp(a, b, end) == 0 && same_values(&a->values, &b->values);
 }
 
-static inline bool same_layers(const rtp_layers *a, const rtp_layers *b) {
+static inline bool same_layers(const rtpw_layers *a, const rtpw_layers *b) {
     bool are = a->count == b->count && a->current == b->current;
     for (size_t s = 0; s < 4; s++) {
         are = are && a->streams[s].count == b->streams[s].count;
         for (size_t l = 0; l < 4; l++) {
-            const size_t end = offsetof(rtp_layer, rates) + 1;
+            const size_t end = offsetof(rtpw_layer, rates) + 1;
             are = are && memcmp(&a->streams[s].layers[l], &b->streams[s].layers[l], end) == 0;
         }
     }

@@ -24,25 +24,25 @@ static const uint8_t SAMPLE[62] = {
     0x30, 0x8A, 0x42, 0x00, 0x50, 0x64, 0x50, 0x01, 0x6F, 1,    2,    3,    4,    5,    6,    7,
     8,    0xFF, 0xFF, 0xFF, 0xFF, 0xFF, 0xFF, 0xFF, 0xFE, 0x00, 0x00, 0x00, 0x07, 0x01};
 
-static rtp_map sample_map(void) {
-    static const uint8_t kinds[7] = {RTP_KIND_NONE,
-                                     RTP_KIND_MID,
-                                     RTP_KIND_ABS_SEND_TIME,
-                                     RTP_KIND_AUDIO_LEVEL,
-                                     RTP_KIND_PLAYOUT_DELAY,
-                                     RTP_KIND_VIDEO_ORIENTATION,
-                                     RTP_KIND_ABS_CAPTURE_TIME};
-    rtp_map map;
+static rtpw_map sample_map(void) {
+    static const uint8_t kinds[7] = {RTPW_KIND_NONE,
+                                     RTPW_KIND_MID,
+                                     RTPW_KIND_ABS_SEND_TIME,
+                                     RTPW_KIND_AUDIO_LEVEL,
+                                     RTPW_KIND_PLAYOUT_DELAY,
+                                     RTPW_KIND_VIDEO_ORIENTATION,
+                                     RTPW_KIND_ABS_CAPTURE_TIME};
+    rtpw_map map;
     memset(&map, 0, sizeof map);
     memcpy(map.kind, kinds, sizeof kinds);
     return map;
 }
 
 static void is_parsed(void) {
-    rtp_map map = sample_map();
-    rtp_header header;
+    rtpw_map map = sample_map();
+    rtpw_header header;
     memset(&header, 0xA5, sizeof header);
-    CHECK(rtp_parse(SAMPLE, sizeof SAMPLE, &map, &header) == RTP_OK);
+    CHECK(rtpw_parse(SAMPLE, sizeof SAMPLE, &map, &header) == RTPW_OK);
     CHECK(header.header_len == 60);
     CHECK(header.timestamp == 10000);
     CHECK(header.ssrc == 44);
@@ -71,65 +71,65 @@ static void is_parsed(void) {
 }
 
 static void is_not_parsed(void) {
-    rtp_map map = sample_map();
-    rtp_header header, same;
+    rtpw_map map = sample_map();
+    rtpw_header header, same;
     memset(&header, 0x5A, sizeof header);
     memcpy(&same, &header, sizeof header);
-    CHECK(rtp_parse(SAMPLE, 11, &map, &header) == RTP_CUT_FIXED_PART);
-    CHECK(rtp_parse(SAMPLE, 15, &map, &header) == RTP_CUT_SOURCES);
-    CHECK(rtp_parse(SAMPLE, 59, &map, &header) == RTP_CUT_BLOCK);
+    CHECK(rtpw_parse(SAMPLE, 11, &map, &header) == RTPW_CUT_FIXED_PART);
+    CHECK(rtpw_parse(SAMPLE, 15, &map, &header) == RTPW_CUT_SOURCES);
+    CHECK(rtpw_parse(SAMPLE, 59, &map, &header) == RTPW_CUT_BLOCK);
     CHECK(memcmp(&header, &same, sizeof header) == 0);
 }
 
 /* The bytes that were read are written again, but for the hyphen of the mid. */
 static void is_written(void) {
-    rtp_map map = sample_map();
-    rtp_header header;
+    rtpw_map map = sample_map();
+    rtpw_header header;
     uint8_t buf[64];
     size_t len = 0;
     memset(buf, 0xEE, sizeof buf);
-    CHECK(rtp_parse(SAMPLE, sizeof SAMPLE, &map, &header) == RTP_OK);
-    CHECK(rtp_wire_len(&map, &header, &len) == RTP_OK && len == 60);
+    CHECK(rtpw_parse(SAMPLE, sizeof SAMPLE, &map, &header) == RTPW_OK);
+    CHECK(rtpw_wire_len(&map, &header, &len) == RTPW_OK && len == 60);
     len = 7;
-    CHECK(rtp_write(&map, &header, buf, 59, &len) == RTP_SHORT_BUFFER);
+    CHECK(rtpw_write(&map, &header, buf, 59, &len) == RTPW_SHORT_BUFFER);
     CHECK(len == 7 && buf[0] == 0xEE);
-    CHECK(rtp_write(&map, &header, buf, sizeof buf, &len) == RTP_OK);
+    CHECK(rtpw_write(&map, &header, buf, sizeof buf, &len) == RTPW_OK);
     CHECK(len == 60 && buf[60] == 0xEE);
     CHECK(buf[26] == '_');
     buf[26] = '-';
     CHECK(memcmp(buf, SAMPLE, 60) == 0);
 
     header.values.mid[1] = '-';
-    CHECK(rtp_write(&map, &header, buf, sizeof buf, &len) == RTP_BAD_FIELD);
+    CHECK(rtpw_write(&map, &header, buf, sizeof buf, &len) == RTPW_BAD_FIELD);
     memset(header.values.mid, 'm', sizeof header.values.mid);
-    CHECK(rtp_wire_len(&map, &header, &len) == RTP_BAD_FIELD);
+    CHECK(rtpw_wire_len(&map, &header, &len) == RTPW_BAD_FIELD);
     header.values.has_mid = 0;
-    CHECK(rtp_wire_len(&map, &header, &len) == RTP_OK && len == 52);
+    CHECK(rtpw_wire_len(&map, &header, &len) == RTPW_OK && len == 52);
     header.values.playout_delay_max.hertz = 0;
-    CHECK(rtp_write(&map, &header, buf, sizeof buf, &len) == RTP_BAD_FIELD);
+    CHECK(rtpw_write(&map, &header, buf, sizeof buf, &len) == RTPW_BAD_FIELD);
     header.values.playout_delay_max.hertz = 1;
     header.values.video_orientation = 45;
-    CHECK(rtp_write(&map, &header, buf, sizeof buf, &len) == RTP_BAD_FIELD);
+    CHECK(rtpw_write(&map, &header, buf, sizeof buf, &len) == RTPW_BAD_FIELD);
     header.values.video_orientation = 180;
     header.csrc_count = 16;
-    CHECK(rtp_write(&map, &header, buf, sizeof buf, &len) == RTP_BAD_FIELD);
+    CHECK(rtpw_write(&map, &header, buf, sizeof buf, &len) == RTPW_BAD_FIELD);
     header.csrc_count = 0;
     header.payload_type = 128;
-    CHECK(rtp_write(&map, &header, buf, sizeof buf, &len) == RTP_BAD_FIELD);
+    CHECK(rtpw_write(&map, &header, buf, sizeof buf, &len) == RTPW_BAD_FIELD);
     header.payload_type = 127;
-    CHECK(rtp_write(&map, &header, buf, sizeof buf, &len) == RTP_OK && len == 48);
+    CHECK(rtpw_write(&map, &header, buf, sizeof buf, &len) == RTPW_OK && len == 48);
 }
 
 /* One-byte form: the streams 0 and 1, the second is the packet's own; 640 * 360 at 30; 5 and 300 kbit/s. */
 static void layers_are_read(void) {
     static const uint8_t datagram[28] = {0x90, 0, 0, 1,    0, 0, 0, 2,    0, 0, 0,   3, 0xBE, 0xDE,
                                          0,    3, 0x59, 0x51, 0, 5, 0xAC, 2, 2, 127, 1, 103,  30};
-    rtp_map map = sample_map();
-    rtp_header header;
-    rtp_layers layers;
-    map.kind[5] = RTP_KIND_LAYERS;
+    rtpw_map map = sample_map();
+    rtpw_header header;
+    rtpw_layers layers;
+    map.kind[5] = RTPW_KIND_LAYERS;
     memset(&layers, 0xA5, sizeof layers);
-    CHECK(rtp_parse_layers(datagram, sizeof datagram, &map, &header, &layers) == RTP_OK);
+    CHECK(rtpw_parse_layers(datagram, sizeof datagram, &map, &header, &layers) == RTPW_OK);
     CHECK(header.values.has_layers == 1);
     CHECK(layers.count == 2 && layers.current == 1);
     CHECK(layers.streams[0].count == 1 && layers.streams[1].count == 1 && layers.streams[2].count == 0);
@@ -138,81 +138,81 @@ static void layers_are_read(void) {
     CHECK(layers.streams[0].layers[0].has_resolution == 1 && layers.streams[1].layers[0].has_resolution == 0);
     CHECK(layers.streams[0].layers[0].width == 640 && layers.streams[0].layers[0].height == 360);
     CHECK(layers.streams[0].layers[0].framerate == 30);
-    CHECK(rtp_parse_layers(SAMPLE, sizeof SAMPLE, &map, &header, &layers) == RTP_OK);
+    CHECK(rtpw_parse_layers(SAMPLE, sizeof SAMPLE, &map, &header, &layers) == RTPW_OK);
     CHECK(header.values.has_layers == 0 && layers.count == 0 && layers.streams[0].layers[0].kbps[0] == 0);
 }
 
 static void elements_are_written(void) {
     static const uint8_t data[4] = {0xAA, 0xBB, 0xCC, 0xDD};
-    rtp_element elements[2] = {{0, 1, 0, 1}, {1, 2, 0, 2}};
-    rtp_header header;
+    rtpw_element elements[2] = {{0, 1, 0, 1}, {1, 2, 0, 2}};
+    rtpw_header header;
     uint8_t buf[32];
     size_t len = 7;
     memset(&header, 0, sizeof header);
     memset(buf, 0xEE, sizeof buf);
-    CHECK(rtp_write_elements(data, 4, elements, 2, RTP_ONE_BYTE_FORM, buf, 4, &len) == RTP_SHORT_BUFFER);
-    CHECK(rtp_write_elements(data, 4, elements, 2, RTP_NO_BLOCK, buf, 32, &len) == RTP_BAD_FIELD);
-    CHECK(rtp_write_elements(data, 2, elements, 2, RTP_ONE_BYTE_FORM, buf, 32, &len) == RTP_BAD_FIELD);
+    CHECK(rtpw_write_elements(data, 4, elements, 2, RTPW_ONE_BYTE_FORM, buf, 4, &len) == RTPW_SHORT_BUFFER);
+    CHECK(rtpw_write_elements(data, 4, elements, 2, RTPW_NO_BLOCK, buf, 32, &len) == RTPW_BAD_FIELD);
+    CHECK(rtpw_write_elements(data, 2, elements, 2, RTPW_ONE_BYTE_FORM, buf, 32, &len) == RTPW_BAD_FIELD);
     CHECK(len == 7 && buf[0] == 0xEE);
-    CHECK(rtp_write_elements(data, 4, elements, 2, RTP_ONE_BYTE_FORM, buf, 32, &len) == RTP_OK);
+    CHECK(rtpw_write_elements(data, 4, elements, 2, RTPW_ONE_BYTE_FORM, buf, 32, &len) == RTPW_OK);
     CHECK(len == 5 && memcmp(buf, "\x10\xAA\x21\xBB\xCC\xEE", 6) == 0);
-    CHECK(rtp_write_elements(data, 4, elements, 2, RTP_TWO_BYTE_FORM, buf, 32, &len) == RTP_OK);
+    CHECK(rtpw_write_elements(data, 4, elements, 2, RTPW_TWO_BYTE_FORM, buf, 32, &len) == RTPW_OK);
     CHECK(len == 7 && memcmp(buf, "\x01\x01\xAA\x02\x02\xBB\xCC\xEE", 8) == 0);
-    CHECK(rtp_write_elements(data, 0, elements, 0, RTP_TWO_BYTE_FORM, buf, 32, &len) == RTP_OK && len == 0);
-    CHECK(rtp_write_with(&header, data, 4, elements, 2, buf, 32, &len) == RTP_OK && len == 24);
+    CHECK(rtpw_write_elements(data, 0, elements, 0, RTPW_TWO_BYTE_FORM, buf, 32, &len) == RTPW_OK && len == 0);
+    CHECK(rtpw_write_with(&header, data, 4, elements, 2, buf, 32, &len) == RTPW_OK && len == 24);
     CHECK(memcmp(buf, "\x90\0\0\0\0\0\0\0\0\0\0\0\xBE\xDE\0\x02\x10\xAA\x21\xBB\xCC\0\0\0\xEE", 25) == 0);
     elements[0].id = 15;
-    CHECK(rtp_write_with(&header, data, 4, elements, 2, buf, 32, &len) == RTP_OK && len == 24);
+    CHECK(rtpw_write_with(&header, data, 4, elements, 2, buf, 32, &len) == RTPW_OK && len == 24);
     CHECK(memcmp(buf + 12, "\x10\0\0\x02\x0F\x01\xAA\x02\x02\xBB\xCC\0", 12) == 0);
     elements[0].id = 0;
-    CHECK(rtp_write_with(&header, data, 4, elements, 2, buf, 32, &len) == RTP_BAD_FIELD);
+    CHECK(rtpw_write_with(&header, data, 4, elements, 2, buf, 32, &len) == RTPW_BAD_FIELD);
 }
 
 static uint8_t kind_of(const char *uri) {
-    return rtp_kind_of_uri((const uint8_t *)uri, strlen(uri));
+    return rtpw_kind_of_uri((const uint8_t *)uri, strlen(uri));
 }
 
 static void maps_are_filled(void) {
-    rtp_map map;
+    rtpw_map map;
     memset(&map, 0, sizeof map);
-    CHECK(kind_of("urn:ietf:params:rtp-hdrext:sdes:mid") == RTP_KIND_MID);
-    CHECK(kind_of("urn:ietf:params:rtp-hdrext:sdes:MID") == RTP_KIND_NONE);
-    CHECK(kind_of("") == RTP_KIND_NONE);
-    CHECK(rtp_map_set(&map, 0, RTP_KIND_MID) == RTP_BAD_FIELD);
-    CHECK(rtp_map_set(&map, 255, 16) == RTP_BAD_FIELD);
-    CHECK(rtp_map_set(&map, 255, RTP_KIND_LAYERS) == RTP_OK);
-    CHECK(rtp_map_get(&map, 255) == RTP_KIND_LAYERS);
-    CHECK(rtp_map_set(&map, 255, RTP_KIND_NONE) == RTP_OK);
-    CHECK(rtp_map_get(&map, 255) == RTP_KIND_NONE);
-    map.kind[0] = RTP_KIND_MID;
+    CHECK(kind_of("urn:ietf:params:rtp-hdrext:sdes:mid") == RTPW_KIND_MID);
+    CHECK(kind_of("urn:ietf:params:rtp-hdrext:sdes:MID") == RTPW_KIND_NONE);
+    CHECK(kind_of("") == RTPW_KIND_NONE);
+    CHECK(rtpw_map_set(&map, 0, RTPW_KIND_MID) == RTPW_BAD_FIELD);
+    CHECK(rtpw_map_set(&map, 255, 16) == RTPW_BAD_FIELD);
+    CHECK(rtpw_map_set(&map, 255, RTPW_KIND_LAYERS) == RTPW_OK);
+    CHECK(rtpw_map_get(&map, 255) == RTPW_KIND_LAYERS);
+    CHECK(rtpw_map_set(&map, 255, RTPW_KIND_NONE) == RTPW_OK);
+    CHECK(rtpw_map_get(&map, 255) == RTPW_KIND_NONE);
+    map.kind[0] = RTPW_KIND_MID;
     map.kind[9] = 16;
-    CHECK(rtp_map_get(&map, 0) == RTP_KIND_NONE && rtp_map_get(&map, 9) == RTP_KIND_NONE);
-    rtp_map_standard(&map);
-    CHECK(rtp_map_get(&map, 1) == RTP_KIND_AUDIO_LEVEL && rtp_map_get(&map, 9) == RTP_KIND_NONE);
-    CHECK(rtp_map_get(&map, 13) == RTP_KIND_VIDEO_ORIENTATION);
+    CHECK(rtpw_map_get(&map, 0) == RTPW_KIND_NONE && rtpw_map_get(&map, 9) == RTPW_KIND_NONE);
+    rtpw_map_standard(&map);
+    CHECK(rtpw_map_get(&map, 1) == RTPW_KIND_AUDIO_LEVEL && rtpw_map_get(&map, 9) == RTPW_KIND_NONE);
+    CHECK(rtpw_map_get(&map, 13) == RTPW_KIND_VIDEO_ORIENTATION);
 }
 
 static void is_renumbered(void) {
     static const uint8_t datagram[20] = {0x90, 0, 0,    1,    0, 0, 0,    2,    0,    0,
                                          0,    3, 0xBE, 0xDE, 0, 1, 0x10, 0xAA, 0x20, 0xBB};
     uint8_t bytes[20];
-    rtp_map from, to;
-    rtp_new_ids ids;
+    rtpw_map from, to;
+    rtpw_new_ids ids;
     memset(&from, 0, sizeof from);
     memset(&to, 0, sizeof to);
-    from.kind[1] = RTP_KIND_MID;
-    from.kind[2] = RTP_KIND_AUDIO_LEVEL;
-    to.kind[14] = to.kind[200] = RTP_KIND_AUDIO_LEVEL;
+    from.kind[1] = RTPW_KIND_MID;
+    from.kind[2] = RTPW_KIND_AUDIO_LEVEL;
+    to.kind[14] = to.kind[200] = RTPW_KIND_AUDIO_LEVEL;
     memset(&ids, 0xA5, sizeof ids);
-    rtp_new_ids_between(&from, &to, &ids);
+    rtpw_new_ids_between(&from, &to, &ids);
     CHECK(ids.id[0] == 0 && ids.id[1] == 0 && ids.id[2] == 14 && ids.id[3] == 0);
     memcpy(bytes, datagram, sizeof bytes);
-    CHECK(rtp_renumber(bytes, 19, &ids) == RTP_CUT_BLOCK);
+    CHECK(rtpw_renumber(bytes, 19, &ids) == RTPW_CUT_BLOCK);
     ids.id[1] = 15;
-    CHECK(rtp_renumber(bytes, sizeof bytes, &ids) == RTP_BAD_FIELD);
+    CHECK(rtpw_renumber(bytes, sizeof bytes, &ids) == RTPW_BAD_FIELD);
     CHECK(memcmp(bytes, datagram, sizeof bytes) == 0);
     ids.id[1] = 0;
-    CHECK(rtp_renumber(bytes, sizeof bytes, &ids) == RTP_OK);
+    CHECK(rtpw_renumber(bytes, sizeof bytes, &ids) == RTPW_OK);
     CHECK(memcmp(bytes, datagram, 16) == 0 && memcmp(bytes + 16, "\0\0\xE0\xBB", 4) == 0);
 }
 

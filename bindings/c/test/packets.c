@@ -24,10 +24,10 @@ static const uint8_t SAMPLE[41] = {
 static const size_t LEN = 37;
 
 static void is_read(void) {
-    rtp_packet packet;
+    rtpw_packet packet;
     memset(&packet, 0xA5, sizeof packet);
     CHECK(sizeof packet == 56);
-    CHECK(rtp_packet_parse(SAMPLE, LEN, &packet) == RTP_OK);
+    CHECK(rtpw_packet_parse(SAMPLE, LEN, &packet) == RTPW_OK);
     CHECK(packet.payload_at == 32);
     CHECK(packet.payload_len == 5);
     CHECK(packet.unpadded_len == 3);
@@ -41,15 +41,15 @@ static void is_read(void) {
     CHECK(packet.marker == 1);
     CHECK(packet.has_padding == 1);
     CHECK(packet.padding_fits == 1);
-    CHECK(packet.block_form == RTP_ONE_BYTE_FORM);
+    CHECK(packet.block_form == RTPW_ONE_BYTE_FORM);
 }
 
 static void padding_is_too_long(void) {
     uint8_t bytes[37];
-    rtp_packet packet;
+    rtpw_packet packet;
     memcpy(bytes, SAMPLE, LEN);
     bytes[36] = 6;
-    CHECK(rtp_packet_parse(bytes, LEN, &packet) == RTP_OK);
+    CHECK(rtpw_packet_parse(bytes, LEN, &packet) == RTPW_OK);
     CHECK(packet.payload_len == 5);
     CHECK(packet.padding_fits == 0);
     CHECK(packet.unpadded_len == 0);
@@ -57,45 +57,45 @@ static void padding_is_too_long(void) {
 
 static void is_refused(void) {
     uint8_t bytes[37];
-    rtp_packet packet, same;
+    rtpw_packet packet, same;
     memset(&packet, 0x5A, sizeof packet);
     memcpy(&same, &packet, sizeof packet);
     memcpy(bytes, SAMPLE, LEN);
-    CHECK(rtp_packet_parse(bytes, 0, &packet) == RTP_CUT_FIXED_PART);
-    CHECK(rtp_packet_parse(bytes, 11, &packet) == RTP_CUT_FIXED_PART);
-    CHECK(rtp_packet_parse(bytes, 19, &packet) == RTP_CUT_SOURCES);
-    CHECK(rtp_packet_parse(bytes, 23, &packet) == RTP_CUT_BLOCK_HEADER);
-    CHECK(rtp_packet_parse(bytes, 31, &packet) == RTP_CUT_BLOCK);
+    CHECK(rtpw_packet_parse(bytes, 0, &packet) == RTPW_CUT_FIXED_PART);
+    CHECK(rtpw_packet_parse(bytes, 11, &packet) == RTPW_CUT_FIXED_PART);
+    CHECK(rtpw_packet_parse(bytes, 19, &packet) == RTPW_CUT_SOURCES);
+    CHECK(rtpw_packet_parse(bytes, 23, &packet) == RTPW_CUT_BLOCK_HEADER);
+    CHECK(rtpw_packet_parse(bytes, 31, &packet) == RTPW_CUT_BLOCK);
     bytes[21] = 0xDF;
-    CHECK(rtp_packet_parse(bytes, LEN, &packet) == RTP_UNKNOWN_FORM);
+    CHECK(rtpw_packet_parse(bytes, LEN, &packet) == RTPW_UNKNOWN_FORM);
     bytes[0] = 0x72;
-    CHECK(rtp_packet_parse(bytes, LEN, &packet) == RTP_OTHER_VERSION);
+    CHECK(rtpw_packet_parse(bytes, LEN, &packet) == RTPW_OTHER_VERSION);
     CHECK(memcmp(&packet, &same, sizeof packet) == 0);
 }
 
 static void fields_are_set(void) {
     uint8_t bytes[41];
-    rtp_packet packet;
+    rtpw_packet packet;
     memcpy(bytes, SAMPLE, sizeof bytes);
-    CHECK(rtp_set_marker(bytes, LEN, false) == RTP_OK);
+    CHECK(rtpw_set_marker(bytes, LEN, false) == RTPW_OK);
     CHECK(bytes[1] == 0x21);
-    CHECK(rtp_set_payload_type(bytes, LEN, 96) == RTP_OK);
-    CHECK(rtp_set_payload_type(bytes, LEN, 128) == RTP_BAD_FIELD);
-    CHECK(rtp_set_sequence_number(bytes, LEN, 0x1234) == RTP_OK);
-    CHECK(rtp_set_timestamp(bytes, LEN, 0x56789ABC) == RTP_OK);
-    CHECK(rtp_set_ssrc(bytes, LEN, 0xDEF01234) == RTP_OK);
-    CHECK(rtp_packet_parse(bytes, LEN, &packet) == RTP_OK);
+    CHECK(rtpw_set_payload_type(bytes, LEN, 96) == RTPW_OK);
+    CHECK(rtpw_set_payload_type(bytes, LEN, 128) == RTPW_BAD_FIELD);
+    CHECK(rtpw_set_sequence_number(bytes, LEN, 0x1234) == RTPW_OK);
+    CHECK(rtpw_set_timestamp(bytes, LEN, 0x56789ABC) == RTPW_OK);
+    CHECK(rtpw_set_ssrc(bytes, LEN, 0xDEF01234) == RTPW_OK);
+    CHECK(rtpw_packet_parse(bytes, LEN, &packet) == RTPW_OK);
     CHECK(packet.marker == 0);
     CHECK(packet.payload_type == 96);
     CHECK(packet.sequence_number == 0x1234);
     CHECK(packet.timestamp == 0x56789ABC);
     CHECK(packet.ssrc == 0xDEF01234);
     CHECK(memcmp(bytes + 12, SAMPLE + 12, sizeof bytes - 12) == 0);
-    CHECK(rtp_set_csrc(bytes, LEN, 1, 0xA1B2C3D4) == RTP_OK);
+    CHECK(rtpw_set_csrc(bytes, LEN, 1, 0xA1B2C3D4) == RTPW_OK);
     CHECK(bytes[15] == 1 && bytes[16] == 0xA1 && bytes[17] == 0xB2 && bytes[18] == 0xC3 && bytes[19] == 0xD4);
-    CHECK(rtp_set_csrc(bytes, LEN, 2, 5) == RTP_NONE && rtp_set_csrc(bytes, LEN, SIZE_MAX, 5) == RTP_NONE);
+    CHECK(rtpw_set_csrc(bytes, LEN, 2, 5) == RTPW_NONE && rtpw_set_csrc(bytes, LEN, SIZE_MAX, 5) == RTPW_NONE);
     CHECK(memcmp(bytes + 20, SAMPLE + 20, sizeof bytes - 20) == 0);
-    CHECK(rtp_set_ssrc(bytes, 31, 1) == RTP_CUT_BLOCK);
+    CHECK(rtpw_set_ssrc(bytes, 31, 1) == RTPW_CUT_BLOCK);
     CHECK(bytes[11] == 0x34);
 }
 
@@ -104,45 +104,45 @@ static void elements_are_set(void) {
     const uint8_t data[2] = {0xEE, 0xFF};
     memcpy(bytes, SAMPLE, sizeof bytes);
     /* the last element of id 1 has one byte, DD at 30 */
-    CHECK(rtp_set_element(bytes, LEN, 1, data, 1) == RTP_OK);
+    CHECK(rtpw_set_element(bytes, LEN, 1, data, 1) == RTPW_OK);
     CHECK(bytes[30] == 0xEE && bytes[25] == 0xAA);
-    CHECK(rtp_set_element(bytes, LEN, 1, data, 2) == RTP_NONE);
-    CHECK(rtp_set_element(bytes, LEN, 3, data, 1) == RTP_NONE);
-    CHECK(rtp_set_element(bytes, 11, 1, data, 1) == RTP_CUT_FIXED_PART);
-    CHECK(rtp_remove_element(bytes, LEN, 1) == RTP_OK);
+    CHECK(rtpw_set_element(bytes, LEN, 1, data, 2) == RTPW_NONE);
+    CHECK(rtpw_set_element(bytes, LEN, 3, data, 1) == RTPW_NONE);
+    CHECK(rtpw_set_element(bytes, 11, 1, data, 1) == RTPW_CUT_FIXED_PART);
+    CHECK(rtpw_remove_element(bytes, LEN, 1) == RTPW_OK);
     CHECK(bytes[24] == 0 && bytes[25] == 0 && bytes[26] == 0x21 && bytes[27] == 0xBB);
     CHECK(bytes[28] == 0xCC && bytes[29] == 0 && bytes[30] == 0 && bytes[31] == 0);
-    CHECK(rtp_remove_element(bytes, LEN, 1) == RTP_NONE);
+    CHECK(rtpw_remove_element(bytes, LEN, 1) == RTPW_NONE);
     CHECK(memcmp(bytes + 32, SAMPLE + 32, sizeof bytes - 32) == 0);
     CHECK(memcmp(bytes, SAMPLE, 24) == 0);
 }
 
 static void elements_are_found(void) {
     const uint8_t *body = SAMPLE + 24;
-    rtp_element element = {0};
+    rtpw_element element = {0};
     CHECK(sizeof element == 32);
-    CHECK(rtp_next_element(body, 8, RTP_ONE_BYTE_FORM, element.end, &element) == RTP_OK);
+    CHECK(rtpw_next_element(body, 8, RTPW_ONE_BYTE_FORM, element.end, &element) == RTPW_OK);
     CHECK(element.id == 1 && element.data_at == 1 && element.data_len == 1 && element.end == 2);
-    CHECK(rtp_next_element(body, 8, RTP_ONE_BYTE_FORM, element.end, &element) == RTP_OK);
+    CHECK(rtpw_next_element(body, 8, RTPW_ONE_BYTE_FORM, element.end, &element) == RTPW_OK);
     CHECK(element.id == 2 && element.data_at == 3 && element.data_len == 2 && element.end == 5);
-    CHECK(rtp_next_element(body, 8, RTP_ONE_BYTE_FORM, element.end, &element) == RTP_OK);
+    CHECK(rtpw_next_element(body, 8, RTPW_ONE_BYTE_FORM, element.end, &element) == RTPW_OK);
     CHECK(element.id == 1 && element.data_at == 6 && element.data_len == 1 && element.end == 7);
-    CHECK(rtp_next_element(body, 8, RTP_ONE_BYTE_FORM, element.end, &element) == RTP_NONE);
-    CHECK(rtp_next_element(body, 8, RTP_ONE_BYTE_FORM, 8, &element) == RTP_NONE);
-    CHECK(rtp_next_element(body, 8, RTP_ONE_BYTE_FORM, 9, &element) == RTP_BAD_FIELD);
-    CHECK(rtp_next_element(body, 8, RTP_NO_BLOCK, 0, &element) == RTP_BAD_FIELD);
-    CHECK(rtp_next_element(body, 8, 3, 0, &element) == RTP_BAD_FIELD);
+    CHECK(rtpw_next_element(body, 8, RTPW_ONE_BYTE_FORM, element.end, &element) == RTPW_NONE);
+    CHECK(rtpw_next_element(body, 8, RTPW_ONE_BYTE_FORM, 8, &element) == RTPW_NONE);
+    CHECK(rtpw_next_element(body, 8, RTPW_ONE_BYTE_FORM, 9, &element) == RTPW_BAD_FIELD);
+    CHECK(rtpw_next_element(body, 8, RTPW_NO_BLOCK, 0, &element) == RTPW_BAD_FIELD);
+    CHECK(rtpw_next_element(body, 8, 3, 0, &element) == RTPW_BAD_FIELD);
     CHECK(element.id == 1 && element.data_at == 6 && element.data_len == 1 && element.end == 7);
-    CHECK(rtp_last_element(body, 8, RTP_ONE_BYTE_FORM, 2, &element) == RTP_OK);
+    CHECK(rtpw_last_element(body, 8, RTPW_ONE_BYTE_FORM, 2, &element) == RTPW_OK);
     CHECK(element.id == 2 && element.data_at == 3 && element.data_len == 2 && element.end == 5);
-    CHECK(rtp_last_element(body, 8, RTP_ONE_BYTE_FORM, 1, &element) == RTP_OK);
+    CHECK(rtpw_last_element(body, 8, RTPW_ONE_BYTE_FORM, 1, &element) == RTPW_OK);
     CHECK(element.id == 1 && element.data_at == 6 && element.data_len == 1 && element.end == 7);
-    CHECK(rtp_last_element(body, 8, RTP_ONE_BYTE_FORM, 3, &element) == RTP_NONE);
-    CHECK(rtp_last_element(body, 8, 0xFF, 1, &element) == RTP_BAD_FIELD);
+    CHECK(rtpw_last_element(body, 8, RTPW_ONE_BYTE_FORM, 3, &element) == RTPW_NONE);
+    CHECK(rtpw_last_element(body, 8, 0xFF, 1, &element) == RTPW_BAD_FIELD);
     /* the same bytes in the two-byte form: the header 10 AA announces 170 bytes, which are not there */
-    CHECK(rtp_next_element(body, 8, RTP_TWO_BYTE_FORM, 0, &element) == RTP_NONE);
+    CHECK(rtpw_next_element(body, 8, RTPW_TWO_BYTE_FORM, 0, &element) == RTPW_NONE);
     /* from 5 on: the element 16 would have 221 bytes; from 7 on there is padding alone */
-    CHECK(rtp_next_element(body, 8, RTP_TWO_BYTE_FORM, 7, &element) == RTP_NONE);
+    CHECK(rtpw_next_element(body, 8, RTPW_TWO_BYTE_FORM, 7, &element) == RTPW_NONE);
 }
 
 static void values_are_read(void) {
@@ -152,30 +152,30 @@ static void values_are_read(void) {
                                      0x80, 0x00, 0x00, 0x00, 0xFF, 0xFF, 0xFF, 0xFF, 0x80, 0x00, 0x00,
                                      0x00, 0x05, 0x01, 0x0B, 0x06, 0x01, 0x01, 0x07, 0x04, 0x00, 0x00,
                                      0x01, 0x02, 0x08, 0x04, 0x80, 0x01, 0x02, 0x03, 0xC8, 0x01, 0x55};
-    rtp_map map = {{0}};
-    rtp_values values, same;
+    rtpw_map map = {{0}};
+    rtpw_values values, same;
     memset(&values, 0xA5, sizeof values);
     memcpy(&same, &values, sizeof values);
     CHECK(sizeof map == 256 && sizeof values == 136);
-    map.kind[1] = RTP_KIND_AUDIO_LEVEL;
-    map.kind[2] = RTP_KIND_TRANSPORT_NUMBER;
-    map.kind[3] = RTP_KIND_ABS_SEND_TIME;
-    map.kind[4] = RTP_KIND_ABS_CAPTURE_TIME;
-    map.kind[5] = RTP_KIND_VIDEO_ORIENTATION;
-    map.kind[6] = RTP_KIND_VIDEO_CONTENT_TYPE;
-    map.kind[7] = RTP_KIND_TRANSMISSION_OFFSET;
-    map.kind[8] = RTP_KIND_FRAME_MARKING;
+    map.kind[1] = RTPW_KIND_AUDIO_LEVEL;
+    map.kind[2] = RTPW_KIND_TRANSPORT_NUMBER;
+    map.kind[3] = RTPW_KIND_ABS_SEND_TIME;
+    map.kind[4] = RTPW_KIND_ABS_CAPTURE_TIME;
+    map.kind[5] = RTPW_KIND_VIDEO_ORIENTATION;
+    map.kind[6] = RTPW_KIND_VIDEO_CONTENT_TYPE;
+    map.kind[7] = RTPW_KIND_TRANSMISSION_OFFSET;
+    map.kind[8] = RTPW_KIND_FRAME_MARKING;
     map.kind[200] = 77;
-    CHECK(rtp_values_read(SAMPLE + 24, 8, RTP_NO_BLOCK, &map, &values) == RTP_BAD_FIELD);
+    CHECK(rtpw_values_read(SAMPLE + 24, 8, RTPW_NO_BLOCK, &map, &values) == RTPW_BAD_FIELD);
     CHECK(memcmp(&values, &same, sizeof values) == 0);
-    CHECK(rtp_values_read(SAMPLE + 24, 8, RTP_ONE_BYTE_FORM, &map, &values) == RTP_OK);
+    CHECK(rtpw_values_read(SAMPLE + 24, 8, RTPW_ONE_BYTE_FORM, &map, &values) == RTPW_OK);
     /* the last element of id 1 is DD: voice, and 93 below the overload point */
     CHECK(values.has_audio_level == 1 && values.audio_level == -93);
     CHECK(values.has_voice_activity == 1 && values.voice_activity == 1);
     CHECK(values.has_transport_number == 1 && values.transport_number == 0xBBCC);
     CHECK(values.has_send_time == 0 && values.send_time == 0);
     CHECK(values.has_video_orientation == 0 && values.has_frame_marking == 0);
-    CHECK(rtp_values_read(BODY, sizeof BODY, RTP_TWO_BYTE_FORM, &map, &values) == RTP_OK);
+    CHECK(rtpw_values_read(BODY, sizeof BODY, RTPW_TWO_BYTE_FORM, &map, &values) == RTPW_OK);
     CHECK(values.has_send_time == 1 && values.send_time == 1000000);
     CHECK(values.has_capture_time == 1 && values.capture_time == UINT64_C(0xE000000180000000));
     CHECK(values.has_capture_offset == 1 && values.capture_offset == INT64_C(-2147483648));
@@ -185,47 +185,47 @@ static void values_are_read(void) {
     CHECK(values.has_frame_marking == 1 && values.frame_marking == 0x80010203);
     CHECK(values.has_audio_level == 0 && values.audio_level == 0);
     CHECK(values.has_voice_activity == 0 && values.has_transport_number == 0);
-    map.kind[3] = RTP_KIND_LAYERS;
-    map.kind[4] = RTP_KIND_NONE;
-    CHECK(rtp_values_read(BODY, sizeof BODY, RTP_TWO_BYTE_FORM, &map, &values) == RTP_OK);
+    map.kind[3] = RTPW_KIND_LAYERS;
+    map.kind[4] = RTPW_KIND_NONE;
+    CHECK(rtpw_values_read(BODY, sizeof BODY, RTPW_TWO_BYTE_FORM, &map, &values) == RTPW_OK);
     CHECK(values.has_send_time == 0 && values.has_capture_time == 0);
 }
 
 static void numbers_are_taken(void) {
-    static const rtp_receiver NEW = {0};
-    rtp_receiver receiver = NEW;
+    static const rtpw_receiver NEW = {0};
+    rtpw_receiver receiver = NEW;
     uint64_t number = 7;
     CHECK(sizeof receiver == 32);
-    CHECK(rtp_receiver_number_of(&receiver, 65534) == 65534);
-    CHECK(rtp_receiver_receive(&receiver, 65534, &number) == RTP_OK && number == 65534);
-    CHECK(rtp_receiver_receive(&receiver, 65535, &number) == RTP_OK && number == 65535);
-    CHECK(rtp_receiver_receive(&receiver, 0, &number) == RTP_OK && number == 65536);
+    CHECK(rtpw_receiver_number_of(&receiver, 65534) == 65534);
+    CHECK(rtpw_receiver_receive(&receiver, 65534, &number) == RTPW_OK && number == 65534);
+    CHECK(rtpw_receiver_receive(&receiver, 65535, &number) == RTPW_OK && number == 65535);
+    CHECK(rtpw_receiver_receive(&receiver, 0, &number) == RTPW_OK && number == 65536);
     CHECK(receiver.highest == 65536 && receiver.recorded_low == 7 && receiver.recorded_high == 0);
-    CHECK(rtp_receiver_receive(&receiver, 65534, &number) == RTP_REFUSED && number == 65536);
-    CHECK(rtp_receiver_number_of(&receiver, 65535) == 65535);
-    CHECK(!rtp_receiver_accepts(&receiver, 65535));
-    CHECK(rtp_receiver_accepts(&receiver, 65409) && !rtp_receiver_accepts(&receiver, 65408));
-    rtp_receiver_record(&receiver, 65472);
+    CHECK(rtpw_receiver_receive(&receiver, 65534, &number) == RTPW_REFUSED && number == 65536);
+    CHECK(rtpw_receiver_number_of(&receiver, 65535) == 65535);
+    CHECK(!rtpw_receiver_accepts(&receiver, 65535));
+    CHECK(rtpw_receiver_accepts(&receiver, 65409) && !rtpw_receiver_accepts(&receiver, 65408));
+    rtpw_receiver_record(&receiver, 65472);
     CHECK(receiver.recorded_low == 7 && receiver.recorded_high == 1);
-    rtp_receiver_record(&receiver, 65600);
+    rtpw_receiver_record(&receiver, 65600);
     CHECK(receiver.highest == 65600 && receiver.recorded_low == 1 && receiver.recorded_high == 7);
 }
 
 static void receivers_start(void) {
-    rtp_receiver receiver;
+    rtpw_receiver receiver;
     uint64_t number;
     memset(&receiver, 0xFF, sizeof receiver);
-    CHECK(rtp_receiver_start(&receiver, UINT64_C(1) << 48) == RTP_BAD_FIELD);
+    CHECK(rtpw_receiver_start(&receiver, UINT64_C(1) << 48) == RTPW_BAD_FIELD);
     CHECK(receiver.started == 0xFF);
-    CHECK(rtp_receiver_start(&receiver, 1) == RTP_OK);
-    CHECK(rtp_receiver_receive(&receiver, 5, &number) == RTP_OK && number == 65541);
-    CHECK(rtp_receiver_receive(&receiver, 65533, &number) == RTP_OK && number == 65533);
-    CHECK(rtp_receiver_receive(&receiver, 6, &number) == RTP_OK && number == 65542);
-    CHECK(rtp_receiver_start(&receiver, (UINT64_C(1) << 48) - 1) == RTP_OK);
-    CHECK(rtp_receiver_number_of(&receiver, 9) == UINT64_MAX - 65526);
-    CHECK(rtp_extend_u16(65535, 0) == 65536);
-    CHECK(rtp_extend_u16(65538, 1) == 65537);
-    CHECK(rtp_extend_u16(0, 65533) == UINT64_MAX - 2);
+    CHECK(rtpw_receiver_start(&receiver, 1) == RTPW_OK);
+    CHECK(rtpw_receiver_receive(&receiver, 5, &number) == RTPW_OK && number == 65541);
+    CHECK(rtpw_receiver_receive(&receiver, 65533, &number) == RTPW_OK && number == 65533);
+    CHECK(rtpw_receiver_receive(&receiver, 6, &number) == RTPW_OK && number == 65542);
+    CHECK(rtpw_receiver_start(&receiver, (UINT64_C(1) << 48) - 1) == RTPW_OK);
+    CHECK(rtpw_receiver_number_of(&receiver, 9) == UINT64_MAX - 65526);
+    CHECK(rtpw_extend_u16(65535, 0) == 65536);
+    CHECK(rtpw_extend_u16(65538, 1) == 65537);
+    CHECK(rtpw_extend_u16(0, 65533) == UINT64_MAX - 2);
 }
 
 static void padding_is_made(void) {
@@ -233,13 +233,13 @@ static void padding_is_made(void) {
     size_t count = 77, i;
     memset(bytes, 0x11, sizeof bytes);
     bytes[0] = 0x80;
-    CHECK(rtp_pad(bytes, sizeof bytes, 12, 3, 0, &count) == RTP_BAD_FIELD);
-    CHECK(rtp_pad(bytes, 251, 12, 3, 4, &count) == RTP_SHORT_BUFFER);
-    CHECK(rtp_pad(bytes, 239, 0, 3, 4, &count) == RTP_SHORT_BUFFER);
-    CHECK(rtp_pad(bytes, sizeof bytes, SIZE_MAX, 3, 4, &count) == RTP_SHORT_BUFFER);
+    CHECK(rtpw_pad(bytes, sizeof bytes, 12, 3, 0, &count) == RTPW_BAD_FIELD);
+    CHECK(rtpw_pad(bytes, 251, 12, 3, 4, &count) == RTPW_SHORT_BUFFER);
+    CHECK(rtpw_pad(bytes, 239, 0, 3, 4, &count) == RTPW_SHORT_BUFFER);
+    CHECK(rtpw_pad(bytes, sizeof bytes, SIZE_MAX, 3, 4, &count) == RTPW_SHORT_BUFFER);
     CHECK(count == 77 && bytes[0] == 0x80 && bytes[12] == 0x11);
-    CHECK(rtp_pad(bytes, sizeof bytes, 12, 0, 4, &count) == RTP_OK && count == 0 && bytes[0] == 0x80);
-    CHECK(rtp_pad(bytes, 252, 12, 3, 4, &count) == RTP_OK && count == 4);
+    CHECK(rtpw_pad(bytes, sizeof bytes, 12, 0, 4, &count) == RTPW_OK && count == 0 && bytes[0] == 0x80);
+    CHECK(rtpw_pad(bytes, 252, 12, 3, 4, &count) == RTPW_OK && count == 4);
     CHECK(bytes[0] == 0xA0 && bytes[11] == 0x11 && bytes[12] == 0 && bytes[13] == 0);
     CHECK(bytes[14] == 0 && bytes[15] == 4);
     for (i = 16; i < sizeof bytes; i++) {
@@ -250,21 +250,21 @@ static void padding_is_made(void) {
 static void originals_are_passed_on(void) {
     uint8_t bytes[3] = {0x01, 0x02, 0x03};
     uint16_t number = 9;
-    CHECK(rtp_read_original(bytes, 1, &number) == RTP_SHORT_BUFFER && number == 9);
-    CHECK(rtp_read_original(bytes, 3, &number) == RTP_OK && number == 258);
-    CHECK(rtp_write_original(bytes, 1, 65538) == RTP_SHORT_BUFFER && bytes[0] == 0x01);
-    CHECK(rtp_write_original(bytes, 3, 65538) == RTP_OK);
+    CHECK(rtpw_read_original(bytes, 1, &number) == RTPW_SHORT_BUFFER && number == 9);
+    CHECK(rtpw_read_original(bytes, 3, &number) == RTPW_OK && number == 258);
+    CHECK(rtpw_write_original(bytes, 1, 65538) == RTPW_SHORT_BUFFER && bytes[0] == 0x01);
+    CHECK(rtpw_write_original(bytes, 3, 65538) == RTPW_OK);
     CHECK(bytes[0] == 0x00 && bytes[1] == 0x02 && bytes[2] == 0x03);
-    CHECK(rtp_version() == 256);
+    CHECK(rtpw_version() == 256);
 }
 
 static void statuses_are_told(void) {
     int32_t status;
-    for (status = RTP_OK; status <= RTP_CUT_BLOCK; status++) {
-        CHECK(strlen(rtp_status_text(status)) > 3);
+    for (status = RTPW_OK; status <= RTPW_CUT_BLOCK; status++) {
+        CHECK(strlen(rtpw_status_text(status)) > 3);
     }
-    CHECK(strcmp(rtp_status_text(RTP_NONE), "no such element") == 0);
-    CHECK(strcmp(rtp_status_text(-1), "no status of this library") == 0);
+    CHECK(strcmp(rtpw_status_text(RTPW_NONE), "no such element") == 0);
+    CHECK(strcmp(rtpw_status_text(-1), "no status of this library") == 0);
 }
 
 int main(void) {

@@ -14,7 +14,7 @@ use rtp_wire::RtpPacketMut;
 /// Sets M of the packet in the buffer. `OK`, or the status of the first cause for which the buffer
 /// holds no packet, and then nothing changes.
 #[unsafe(no_mangle)]
-pub extern "C" fn rtp_set_marker(datagram: &mut [u8], marker: bool) -> i32
+pub extern "C" fn rtpw_set_marker(datagram: &mut [u8], marker: bool) -> i32
     ensures set { (parts : PacketParts) → IsPacket datagram.old parts →
         (result ≡ ok) × IsPacket datagram.new (record parts { marker = marker }) }
     ensures cause { result ≢ ok → IsCauseStatus datagram.old result }
@@ -36,7 +36,7 @@ pub extern "C" fn rtp_set_marker(datagram: &mut [u8], marker: bool) -> i32
 /// above 127; or the status of the first cause for which the buffer holds no packet. Where it isn't
 /// `OK` nothing changes.
 #[unsafe(no_mangle)]
-pub extern "C" fn rtp_set_payload_type(datagram: &mut [u8], payload_type: u8) -> i32
+pub extern "C" fn rtpw_set_payload_type(datagram: &mut [u8], payload_type: u8) -> i32
     ensures set { (parts : PacketParts) → IsPacket datagram.old parts → payload_type ≤ 127 →
         (result ≡ ok) × IsPacket datagram.new (record parts { payload_type = payload_type }) }
     ensures too_high { 127 < payload_type → result ≡ bad_field }
@@ -61,7 +61,7 @@ pub extern "C" fn rtp_set_payload_type(datagram: &mut [u8], payload_type: u8) ->
 /// Sets the sequence number of the packet in the buffer. `OK`, or the status of the first cause for
 /// which the buffer holds no packet, and then nothing changes.
 #[unsafe(no_mangle)]
-pub extern "C" fn rtp_set_sequence_number(datagram: &mut [u8], number: u16) -> i32
+pub extern "C" fn rtpw_set_sequence_number(datagram: &mut [u8], number: u16) -> i32
     ensures set { (parts : PacketParts) → IsPacket datagram.old parts →
         (result ≡ ok) × IsPacket datagram.new (record parts { sequence_number = number }) }
     ensures cause { result ≢ ok → IsCauseStatus datagram.old result }
@@ -82,7 +82,7 @@ pub extern "C" fn rtp_set_sequence_number(datagram: &mut [u8], number: u16) -> i
 /// Sets the timestamp of the packet in the buffer. `OK`, or the status of the first cause for which
 /// the buffer holds no packet, and then nothing changes.
 #[unsafe(no_mangle)]
-pub extern "C" fn rtp_set_timestamp(datagram: &mut [u8], timestamp: u32) -> i32
+pub extern "C" fn rtpw_set_timestamp(datagram: &mut [u8], timestamp: u32) -> i32
     ensures set { (parts : PacketParts) → IsPacket datagram.old parts →
         (result ≡ ok) × IsPacket datagram.new (record parts { timestamp = timestamp }) }
     ensures cause { result ≢ ok → IsCauseStatus datagram.old result }
@@ -103,7 +103,7 @@ pub extern "C" fn rtp_set_timestamp(datagram: &mut [u8], timestamp: u32) -> i32
 /// Sets the SSRC of the packet in the buffer. `OK`, or the status of the first cause for which the
 /// buffer holds no packet, and then nothing changes.
 #[unsafe(no_mangle)]
-pub extern "C" fn rtp_set_ssrc(datagram: &mut [u8], ssrc: u32) -> i32
+pub extern "C" fn rtpw_set_ssrc(datagram: &mut [u8], ssrc: u32) -> i32
     ensures set { (parts : PacketParts) → IsPacket datagram.old parts →
         (result ≡ ok) × IsPacket datagram.new (record parts { ssrc = ssrc }) }
     ensures cause { result ≢ ok → IsCauseStatus datagram.old result }

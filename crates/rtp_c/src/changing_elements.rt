@@ -18,7 +18,7 @@ use rtp_wire::RtpPacketMut;
 /// has no element of this id, or its last one has another number of bytes; or the status of the
 /// first cause for which the buffer holds no packet. Where it isn't `OK` nothing changes.
 #[unsafe(no_mangle)]
-pub extern "C" fn rtp_set_element(datagram: &mut [u8], id: u8, data: &[u8]) -> i32
+pub extern "C" fn rtpw_set_element(datagram: &mut [u8], id: u8, data: &[u8]) -> i32
     ensures set { (parts : PacketParts) → IsPacket datagram.old parts → result ≡ ok →
         BecomesPacket (λ form. SetsLast form id «data».now) parts datagram.new }
     ensures answer { (parts : PacketParts) (elements : List Element) → IsPacket datagram.old parts →
@@ -47,7 +47,7 @@ pub extern "C" fn rtp_set_element(datagram: &mut [u8], id: u8, data: &[u8]) -> i
 /// where it has no element of this id; or the status of the first cause for which the buffer holds
 /// no packet. Where it isn't `OK` nothing changes.
 #[unsafe(no_mangle)]
-pub extern "C" fn rtp_remove_element(datagram: &mut [u8], id: u8) -> i32
+pub extern "C" fn rtpw_remove_element(datagram: &mut [u8], id: u8) -> i32
     ensures removed { (parts : PacketParts) → IsPacket datagram.old parts → result ≡ ok →
         BecomesPacket (λ form. HasOtherIds form (all_but id)) parts datagram.new }
     ensures answer { (parts : PacketParts) (elements : List Element) → IsPacket datagram.old parts →

@@ -14,7 +14,7 @@ use rtp_wire::RtpPacketMut;
 /// from 0. `OK`; `NONE` where the list has no such place; or the status of the first cause for which
 /// the buffer holds no packet. Where it isn't `OK` nothing changes.
 #[unsafe(no_mangle)]
-pub extern "C" fn rtp_set_csrc(datagram: &mut [u8], index: usize, source: u32) -> i32
+pub extern "C" fn rtpw_set_csrc(datagram: &mut [u8], index: usize, source: u32) -> i32
     ensures done { (parts : PacketParts) → IsPacket datagram.old parts →
         index < length parts.sources → result ≡ ok }
     ensures set { (parts : PacketParts) → IsPacket datagram.old parts → result ≡ ok →

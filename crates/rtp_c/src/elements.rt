@@ -13,7 +13,7 @@ use super::status::{BAD_FIELD, NONE, OK};
 use rtp_ext::{ExtensionsForm, Place, last_place, next_place};
 
 /// Where an element lies in the body of a block, as offsets from the body's first byte:
-/// `rtp_element` in C, 32 bytes.
+/// `rtpw_element` in C, 32 bytes.
 #[repr(C)]
 #[derive(Clone, Copy)]
 pub struct ElementView {
@@ -44,7 +44,7 @@ pub fn form_of(number: u8) -> Option<ExtensionsForm>
 /// element; `BAD_FIELD` where the form is neither of the two, or the offset is past the body's end.
 /// Where it isn't `OK` nothing is written.
 #[unsafe(no_mangle)]
-pub extern "C" fn rtp_next_element(
+pub extern "C" fn rtpw_next_element(
     body: &[u8],
     form: u8,
     at: usize,
@@ -87,7 +87,7 @@ pub extern "C" fn rtp_next_element(
 /// value counts. `OK`; `NONE` where no element has the id; `BAD_FIELD` where the form is neither of
 /// the two. Where it isn't `OK` nothing is written.
 #[unsafe(no_mangle)]
-pub extern "C" fn rtp_last_element(body: &[u8], form: u8, id: u8, element: &mut ElementView) -> i32
+pub extern "C" fn rtpw_last_element(body: &[u8], form: u8, id: u8, element: &mut ElementView) -> i32
     ensures found { result ≡ ok → (f : ExtensionsForm) × (form_number (Some f) ≡ form)
         × IsLastElement f body.now id element.new }
     ensures none { result ≡ none → (f : ExtensionsForm) × (form_number (Some f) ≡ form)

@@ -11,7 +11,7 @@ use super::values::{ValuesView, put_no_values, put_values};
 use rtp_values::ExtensionValues;
 use rtp_wire::{Csrcs, RtpPacket};
 
-/// The header of a packet (RFC 3550, 5.1), with the values of its block: `rtp_header` in C, 224
+/// The header of a packet (RFC 3550, 5.1), with the values of its block: `rtpw_header` in C, 224
 /// bytes.
 #[repr(C)]
 #[derive(Clone, Copy)]

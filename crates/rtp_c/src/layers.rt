@@ -10,7 +10,7 @@ use rtp_vla::vla::{
     VideoLayersAllocation,
 };
 
-/// What is active of one spatial layer: `rtp_layer` in C, 40 bytes.
+/// What is active of one spatial layer: `rtpw_layer` in C, 40 bytes.
 #[repr(C)]
 #[derive(Clone, Copy)]
 pub struct Layer {
@@ -41,7 +41,7 @@ impl Layer {
     };
 }
 
-/// What is active of one simulcast stream: `rtp_stream` in C, 168 bytes.
+/// What is active of one simulcast stream: `rtpw_stream` in C, 168 bytes.
 #[repr(C)]
 #[derive(Clone, Copy)]
 pub struct Stream {
@@ -59,7 +59,7 @@ impl Stream {
     };
 }
 
-/// What a sender of video keeps active (`video-layers-allocation00`): `rtp_layers` in C, 680 bytes.
+/// What a sender of video keeps active (`video-layers-allocation00`): `rtpw_layers` in C, 680 bytes.
 #[repr(C)]
 #[derive(Clone, Copy)]
 pub struct Layers {

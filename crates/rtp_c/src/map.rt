@@ -12,7 +12,7 @@ use rtp_ext::KindsById;
 use rtp_values::KnownKind;
 use std::str;
 
-/// The extensions by their ids (RFC 8285, 5): `rtp_map` in C, 256 bytes, which C may fill itself. Each
+/// The extensions by their ids (RFC 8285, 5): `rtpw_map` in C, 256 bytes, which C may fill itself. Each
 /// value is one: a number that is no kind's maps its id to nothing, and what stands at index 0 is
 /// passed over.
 #[repr(C)]
@@ -162,7 +162,7 @@ pub fn kinds_of(map: &KindsOfIds) -> KindsById
 /// to (RFC 8285, 5). `OK`; `BAD_FIELD` where the id is 0, which is that of padding, or the number is
 /// above 15 and so no kind's: then nothing changes.
 #[unsafe(no_mangle)]
-pub extern "C" fn rtp_map_set(map: &mut KindsOfIds, id: u8, kind: u8) -> i32
+pub extern "C" fn rtpw_map_set(map: &mut KindsOfIds, id: u8, kind: u8) -> i32
     ensures set { 1 ≤ id → kind ≤ last_number →
         (result ≡ ok) × (map.new.kind ≡ slice_set map.old.kind id kind) }
     ensures refused { (id ≡ 0) ⊎ (last_number < kind) → result ≡ bad_field }
@@ -178,7 +178,7 @@ pub extern "C" fn rtp_map_set(map: &mut KindsOfIds, id: u8, kind: u8) -> i32
 /// The number of the kind that the id is mapped to, and 0 where it is mapped to nothing: where its
 /// number is no kind's, and always for the id 0.
 #[unsafe(no_mangle)]
-pub extern "C" fn rtp_map_get(map: &KindsOfIds, id: u8) -> u8
+pub extern "C" fn rtpw_map_get(map: &KindsOfIds, id: u8) -> u8
     ensures number { 1 ≤ id → slice_index map.now.kind id ≤ last_number →
         result ≡ slice_index map.now.kind id }
     ensures other_number { last_number < slice_index map.now.kind id → result ≡ 0 }
@@ -196,7 +196,7 @@ pub extern "C" fn rtp_map_get(map: &KindsOfIds, id: u8) -> u8
 /// absolute send time, 3 transport sequence number, 4 mid, 10 stream id, 11 repaired stream id, 13
 /// video orientation.
 #[unsafe(no_mangle)]
-pub extern "C" fn rtp_map_standard(map: &mut KindsOfIds)
+pub extern "C" fn rtpw_map_standard(map: &mut KindsOfIds)
     ensures { IsStandard map.new.kind }
 {
     let mut numbers = [0; 256];
@@ -213,7 +213,7 @@ pub extern "C" fn rtp_map_standard(map: &mut KindsOfIds)
 /// The number of the kind that this URI names in SDP (`a=extmap`; RFC 8285, 5), and 0 where it names
 /// none that this library knows. Takes no memory.
 #[unsafe(no_mangle)]
-pub extern "C" fn rtp_kind_of_uri(uri: &[u8]) -> u8
+pub extern "C" fn rtpw_kind_of_uri(uri: &[u8]) -> u8
     ensures kind { (kind : KnownKind) → (result ≡ kind_number kind) ↔ (uri_of kind ≡ uri.now) }
     ensures none { (result ≡ 0) ↔ ((kind : KnownKind) → uri_of kind ≢ uri.now) }
 {

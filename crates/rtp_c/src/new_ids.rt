@@ -21,7 +21,7 @@ use super::status::{BAD_FIELD, OK};
 use rtp_ext::NewIds;
 use rtp_wire::RtpPacketMut;
 
-/// The ids that elements get where packets go from one map to another (RFC 8285, 5): `rtp_new_ids` in
+/// The ids that elements get where packets go from one map to another (RFC 8285, 5): `rtpw_new_ids` in
 /// C, 256 bytes, which C may fill itself. Each value is one: 0 says that an id has no new one, and
 /// what stands at index 0 is passed over.
 #[repr(C)]
@@ -34,7 +34,7 @@ pub struct IdsOfIds {
 /// For each id that `from` maps to a kind that `to` maps as well, the lowest id that `to` has for it.
 /// Every other id has no new one. Made once for two maps.
 #[unsafe(no_mangle)]
-pub extern "C" fn rtp_new_ids_between(from: &KindsOfIds, to: &KindsOfIds, ids: &mut IdsOfIds)
+pub extern "C" fn rtpw_new_ids_between(from: &KindsOfIds, to: &KindsOfIds, ids: &mut IdsOfIds)
     ensures ids { AreNewIdsOf from.now.kind to.now.kind ids.new.id }
     ensures first { slice_index ids.new.id 0 ≡ 0 }
 {
@@ -50,7 +50,7 @@ pub extern "C" fn rtp_new_ids_between(from: &KindsOfIds, to: &KindsOfIds, ids: &
 /// The packet then says under the second map what it said under the first, of the kinds that the
 /// second maps and no other.
 #[unsafe(no_mangle)]
-pub extern "C" fn rtp_renumber(datagram: &mut [u8], ids: &IdsOfIds) -> i32
+pub extern "C" fn rtpw_renumber(datagram: &mut [u8], ids: &IdsOfIds) -> i32
     ensures renumbered { (parts : PacketParts) → IsPacket datagram.old parts → result ≡ ok →
         IfSome parts.block (λ _. BecomesPacket
         (λ form. HasOtherIds form (new_id (ids_in_bytes ids.now.id))) parts datagram.new) }

@@ -12,7 +12,7 @@ use super::status::{OK, status_of};
 use rtp_wire::{ExtensionsForm, RtpPacket};
 
 /// What the header of a packet says, and where the parts of the packet lie, as offsets in the bytes
-/// of its datagram: `rtp_packet` in C, 56 bytes. The CSRC list begins at 12.
+/// of its datagram: `rtpw_packet` in C, 56 bytes. The CSRC list begins at 12.
 #[repr(C)]
 #[derive(Clone, Copy)]
 pub struct PacketView {
@@ -122,7 +122,7 @@ fn view_of(packet: &RtpPacket<'_>) -> PacketView
 /// Reads the header of the packet that the datagram is. `OK`, or the status of the first cause for
 /// which it is none, and then nothing is written.
 #[unsafe(no_mangle)]
-pub extern "C" fn rtp_packet_parse(datagram: &[u8], packet: &mut PacketView) -> i32
+pub extern "C" fn rtpw_packet_parse(datagram: &[u8], packet: &mut PacketView) -> i32
     // Of a packet of these parts all of them are told, and bytes are a packet of such parts where
     // the status is OK.
     ensures parts { (parts : PacketParts) → IsPacket datagram.now parts →

@@ -18,7 +18,7 @@ use rtp_wire::{
 /// 4588, 4); the original payload follows its two bytes. `OK`, or `SHORT_BUFFER` where there are
 /// fewer, and then nothing is written.
 #[unsafe(no_mangle)]
-pub extern "C" fn rtp_read_original(payload: &[u8], number: &mut u16) -> i32
+pub extern "C" fn rtpw_read_original(payload: &[u8], number: &mut u16) -> i32
     ensures done { 2 ≤ length payload.now → result ≡ ok }
     ensures read { 2 ≤ length payload.now → HasOriginalNumber payload.now number.new }
     ensures short { length payload.now < 2 → result ≡ short_buffer }
@@ -34,7 +34,7 @@ pub extern "C" fn rtp_read_original(payload: &[u8], number: &mut u16) -> i32
 /// retransmission packet (RFC 4588, 4). `OK`, or `SHORT_BUFFER` where there are fewer than two bytes,
 /// and then nothing is written.
 #[unsafe(no_mangle)]
-pub extern "C" fn rtp_write_original(payload: &mut [u8], number: u64) -> i32
+pub extern "C" fn rtpw_write_original(payload: &mut [u8], number: u64) -> i32
     ensures done { 2 ≤ length payload.old → result ≡ ok }
     ensures written { 2 ≤ length payload.old →
         payload.new ≡ to_be_bytes w16 (number % 65536) ++ drop 2 payload.old }
@@ -54,7 +54,7 @@ pub extern "C" fn rtp_write_original(payload: &mut [u8], number: u64) -> i32
 /// `BAD_FIELD` where `block_size` is 0; `SHORT_BUFFER` where there isn't room for the header and 240
 /// bytes. Where it isn't `OK` nothing is written.
 #[unsafe(no_mangle)]
-pub extern "C" fn rtp_pad(
+pub extern "C" fn rtpw_pad(
     datagram: &mut [u8],
     header_len: usize,
     pad_len: u8,

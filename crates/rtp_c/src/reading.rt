@@ -84,7 +84,7 @@ fn read_packet<'a>(
 /// refused to a layer allocation, which takes it only while it is read: an element of two bytes or
 /// more whose id is mapped to it. Where it isn't `OK` nothing is written.
 #[unsafe(no_mangle)]
-pub extern "C" fn rtp_parse(
+pub extern "C" fn rtpw_parse(
     alloc: Global,
     buf: &[u8],
     map: &KindsOfIds,
@@ -108,11 +108,11 @@ pub extern "C" fn rtp_parse(
     }
 }
 
-/// Reads the header as [`rtp_parse`] does, and with it the layer allocation of its block. Where the
+/// Reads the header as [`rtpw_parse`] does, and with it the layer allocation of its block. Where the
 /// block gives none, as `has_layers` of the header's values tells, the layers are those of a sender
 /// that sends nothing: each number is 0. Where it isn't `OK` nothing is written.
 #[unsafe(no_mangle)]
-pub extern "C" fn rtp_parse_layers(
+pub extern "C" fn rtpw_parse_layers(
     alloc: Global,
     buf: &[u8],
     map: &KindsOfIds,

@@ -15,7 +15,7 @@ use rtp_wire::{Receiver, extend_u16};
 // How many numbers a half of the window's bits stands for, as the worth of the bit above it.
 const HALF: u128 = 1 << 64;
 
-/// The receive state of one stream: `rtp_receiver` in C, 32 bytes. Each value is one; all zeros have
+/// The receive state of one stream: `rtpw_receiver` in C, 32 bytes. Each value is one; all zeros have
 /// taken nothing yet, and the first packet has the rollover count 0.
 #[repr(C)]
 #[derive(Clone, Copy)]
@@ -102,7 +102,7 @@ fn take_apart(receiver: &mut StoredReceiver, number: u64, written: &mut u64) -> 
 /// packet from before the first one has a number too. `OK`, or `BAD_FIELD` where the count is 2^48 or
 /// more, and then nothing is written.
 #[unsafe(no_mangle)]
-pub extern "C" fn rtp_receiver_start(receiver: &mut StoredReceiver, rollover_count: u64) -> i32
+pub extern "C" fn rtpw_receiver_start(receiver: &mut StoredReceiver, rollover_count: u64) -> i32
     ensures started { rollover_count < 2 ^ 48 → (taken : Numbers) → IsNothing taken →
         HoldsNumbers receiver.new rollover_count taken }
     ensures done { rollover_count < 2 ^ 48 → result ≡ ok }
@@ -120,7 +120,7 @@ pub extern "C" fn rtp_receiver_start(receiver: &mut StoredReceiver, rollover_cou
 /// number taken (RFC 3711, 3.3.1). Where nothing is taken yet, it is the one with the rollover count
 /// at which the receiver starts.
 #[unsafe(no_mangle)]
-pub extern "C" fn rtp_receiver_number_of(receiver: &StoredReceiver, sequence_number: u16) -> u64
+pub extern "C" fn rtpw_receiver_number_of(receiver: &StoredReceiver, sequence_number: u16) -> u64
     ensures nearest { (count : ℕ) (taken : Numbers) → HoldsNumbers receiver.now count taken →
         IsNumberOf count taken sequence_number result }
 
@@ -133,7 +133,7 @@ pub extern "C" fn rtp_receiver_number_of(receiver: &StoredReceiver, sequence_num
 /// Whether the number may be taken: nothing is taken yet, or it is above the highest number taken,
 /// or less than 128 below it and not taken.
 #[unsafe(no_mangle)]
-pub extern "C" fn rtp_receiver_accepts(receiver: &StoredReceiver, number: u64) -> bool
+pub extern "C" fn rtpw_receiver_accepts(receiver: &StoredReceiver, number: u64) -> bool
     ensures { (count : ℕ) (taken : Numbers) → HoldsNumbers receiver.now count taken →
         (IsTrue result ↔ IsFresh taken number) }
 {
@@ -141,9 +141,9 @@ pub extern "C" fn rtp_receiver_accepts(receiver: &StoredReceiver, number: u64) -
 }
 
 /// Records that the number is taken, once its packet is known to be authentic. After one that
-/// `rtp_receiver_accepts` refuses the same numbers are held as before.
+/// `rtpw_receiver_accepts` refuses the same numbers are held as before.
 #[unsafe(no_mangle)]
-pub extern "C" fn rtp_receiver_record(receiver: &mut StoredReceiver, number: u64)
+pub extern "C" fn rtpw_receiver_record(receiver: &mut StoredReceiver, number: u64)
     ensures recorded { (count : ℕ) (taken : Numbers) → HoldsNumbers receiver.old count taken →
         HoldsNumbers receiver.new count (including taken number) }
     ensures same { (count : ℕ) (taken : Numbers) → HoldsNumbers receiver.old count taken →
@@ -156,10 +156,10 @@ pub extern "C" fn rtp_receiver_record(receiver: &mut StoredReceiver, number: u64
 
 /// Takes a packet of this sequence number, where its extended number may be taken: `OK`, and the
 /// number is written and recorded. `REFUSED` where it may not, and then nothing is written. It is
-/// `rtp_receiver_number_of`, `rtp_receiver_accepts` and `rtp_receiver_record` in one, where nothing is
+/// `rtpw_receiver_number_of`, `rtpw_receiver_accepts` and `rtpw_receiver_record` in one, where nothing is
 /// authenticated.
 #[unsafe(no_mangle)]
-pub extern "C" fn rtp_receiver_receive(
+pub extern "C" fn rtpw_receiver_receive(
     receiver: &mut StoredReceiver,
     sequence_number: u16,
     number: &mut u64,
@@ -168,7 +168,7 @@ pub extern "C" fn rtp_receiver_receive(
         IsJudgedBy count taken sequence_number result number.new receiver.new }
     ensures unchanged { result ≢ ok → (receiver.new ≡ receiver.old) × (number.new ≡ number.old) }
 {
-    let extended = rtp_receiver_number_of(receiver, sequence_number);
+    let extended = rtpw_receiver_number_of(receiver, sequence_number);
     if extended > receiver.highest {
         take(receiver, extended, number)
     } else {
@@ -180,7 +180,7 @@ pub extern "C" fn rtp_receiver_receive(
 /// in these 16 bits. Where two are equally near, 32,768 away on either side, it is the one with the
 /// rollover count of `previous` (RFC 3711, 3.3.1).
 #[unsafe(no_mangle)]
-pub extern "C" fn rtp_extend_u16(previous: u64, number: u16) -> u64
+pub extern "C" fn rtpw_extend_u16(previous: u64, number: u16) -> u64
     ensures near { Extends 16 (Some previous) number result }
     ensures only { (n : ℕ) → Extends 16 (Some previous) number n → result ≡ n }
 {

@@ -19,7 +19,7 @@ use super::status::{BAD_FIELD, NO_MEMORY, OK};
 use rtp_values::ExtensionValues;
 use std::alloc::Global;
 
-/// A time as a number of ticks of a clock: `rtp_time` in C, 16 bytes. It is `ticks / hertz` seconds.
+/// A time as a number of ticks of a clock: `rtpw_time` in C, 16 bytes. It is `ticks / hertz` seconds.
 #[repr(C)]
 #[derive(Clone, Copy, Default)]
 pub struct Time {
@@ -29,7 +29,7 @@ pub struct Time {
     pub hertz: u32,
 }
 
-/// The values of a block's elements: `rtp_values` in C, 136 bytes. A value that is absent is 0. A
+/// The values of a block's elements: `rtpw_values` in C, 136 bytes. A value that is absent is 0. A
 /// text is ASCII letters, digits and underscores, and zeros end it.
 #[repr(C)]
 #[derive(Clone, Copy, Default)]
@@ -92,7 +92,7 @@ pub struct ValuesView {
     pub has_mid: u8,
     pub has_rid: u8,
     pub has_repaired_rid: u8,
-    /// Whether there is a layer allocation, which `rtp_layers` holds.
+    /// Whether there is a layer allocation, which `rtpw_layers` holds.
     pub has_layers: u8,
 }
 
@@ -139,7 +139,7 @@ pub fn put_no_values(view: &mut ValuesView)
 /// layer allocation, which takes it only while it is read: an element of two bytes or more whose id
 /// is mapped to it. Where it isn't `OK` nothing is written.
 #[unsafe(no_mangle)]
-pub extern "C" fn rtp_values_read(
+pub extern "C" fn rtpw_values_read(
     alloc: Global,
     body: &[u8],
     form: u8,

@@ -31,7 +31,7 @@ const MAX_BODY_LEN: usize = 4 * 65_535;
 /// block can have; `SHORT_BUFFER` where only the room is short; `NO_MEMORY` where memory is refused,
 /// which is taken for the call where there are elements. Where it isn't `OK` nothing is written.
 #[unsafe(no_mangle)]
-pub extern "C" fn rtp_write_with(
+pub extern "C" fn rtpw_write_with(
     alloc: Global,
     header: &HeaderView,
     bytes: &[u8],
@@ -68,11 +68,11 @@ pub extern "C" fn rtp_write_with(
     }
 }
 
-/// How many bytes [`rtp_write`] writes of the header: a multiple of four, 12 without CSRC list and
-/// block. `OK`, and the number is written; `BAD_FIELD` for the causes of [`rtp_write`], and then nothing
+/// How many bytes [`rtpw_write`] writes of the header: a multiple of four, 12 without CSRC list and
+/// block. `OK`, and the number is written; `BAD_FIELD` for the causes of [`rtpw_write`], and then nothing
 /// is written.
 #[unsafe(no_mangle)]
-pub extern "C" fn rtp_wire_len(map: &KindsOfIds, header: &HeaderView, len: &mut usize) -> i32
+pub extern "C" fn rtpw_wire_len(map: &KindsOfIds, header: &HeaderView, len: &mut usize) -> i32
     ensures length { result ≡ ok → IsLengthOf map.now.kind header.now len.new }
     ensures bad_field { result ≡ bad_field → (h : Header) → IsGivenHeader header.now h → ⊥ }
     ensures statuses { (result ≡ ok) ⊎ (result ≡ bad_field) }
@@ -101,7 +101,7 @@ pub extern "C" fn rtp_wire_len(map: &KindsOfIds, header: &HeaderView, len: &mut 
 /// or a delay has 0 ticks in a second; of these values only where they are there. `SHORT_BUFFER` where
 /// only the room is short. Where it isn't `OK` nothing is written.
 #[unsafe(no_mangle)]
-pub extern "C" fn rtp_write(
+pub extern "C" fn rtpw_write(
     map: &KindsOfIds,
     header: &HeaderView,
     buf: &mut [u8],

@@ -77,7 +77,7 @@ fn can_carry_all(form: ExtensionsForm, pairs: &[(u8, &[u8])]) -> bool
 /// the room is short; `NO_MEMORY` where memory is refused, which is taken for the call where there are
 /// elements. Where it isn't `OK` nothing is written.
 #[unsafe(no_mangle)]
-pub extern "C" fn rtp_write_elements(
+pub extern "C" fn rtpw_write_elements(
     alloc: Global,
     bytes: &[u8],
     elements: &[ElementView],

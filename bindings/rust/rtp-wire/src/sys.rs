@@ -31,81 +31,82 @@ mod c {
     };
 
     extern "C" {
-        pub fn rtp_packet_parse(datagram: *const u8, len: usize, packet: *mut PacketParts) -> i32;
-        pub fn rtp_set_marker(datagram: *mut u8, len: usize, marker: bool) -> i32;
-        pub fn rtp_set_payload_type(datagram: *mut u8, len: usize, payload_type: u8) -> i32;
-        pub fn rtp_set_sequence_number(datagram: *mut u8, len: usize, number: u16) -> i32;
-        pub fn rtp_set_timestamp(datagram: *mut u8, len: usize, timestamp: u32) -> i32;
-        pub fn rtp_set_ssrc(datagram: *mut u8, len: usize, ssrc: u32) -> i32;
-        pub fn rtp_set_csrc(datagram: *mut u8, len: usize, index: usize, source: u32) -> i32;
-        pub fn rtp_set_element(
+        pub fn rtpw_packet_parse(datagram: *const u8, len: usize, packet: *mut PacketParts) -> i32;
+        pub fn rtpw_set_marker(datagram: *mut u8, len: usize, marker: bool) -> i32;
+        pub fn rtpw_set_payload_type(datagram: *mut u8, len: usize, payload_type: u8) -> i32;
+        pub fn rtpw_set_sequence_number(datagram: *mut u8, len: usize, number: u16) -> i32;
+        pub fn rtpw_set_timestamp(datagram: *mut u8, len: usize, timestamp: u32) -> i32;
+        pub fn rtpw_set_ssrc(datagram: *mut u8, len: usize, ssrc: u32) -> i32;
+        pub fn rtpw_set_csrc(datagram: *mut u8, len: usize, index: usize, source: u32) -> i32;
+        pub fn rtpw_set_element(
             datagram: *mut u8,
             len: usize,
             id: u8,
             data: *const u8,
             data_len: usize,
         ) -> i32;
-        pub fn rtp_remove_element(datagram: *mut u8, len: usize, id: u8) -> i32;
-        pub fn rtp_next_element(
+        pub fn rtpw_remove_element(datagram: *mut u8, len: usize, id: u8) -> i32;
+        pub fn rtpw_next_element(
             body: *const u8,
             body_len: usize,
             form: u8,
             at: usize,
             element: *mut Place,
         ) -> i32;
-        pub fn rtp_last_element(
+        pub fn rtpw_last_element(
             body: *const u8,
             body_len: usize,
             form: u8,
             id: u8,
             element: *mut Place,
         ) -> i32;
-        pub fn rtp_receiver_start(receiver: *mut ReceiverState, rollover_count: u64) -> i32;
-        pub fn rtp_receiver_number_of(receiver: *const ReceiverState, sequence_number: u16) -> u64;
-        pub fn rtp_receiver_accepts(receiver: *const ReceiverState, number: u64) -> bool;
-        pub fn rtp_receiver_record(receiver: *mut ReceiverState, number: u64);
-        pub fn rtp_receiver_receive(
+        pub fn rtpw_receiver_start(receiver: *mut ReceiverState, rollover_count: u64) -> i32;
+        pub fn rtpw_receiver_number_of(receiver: *const ReceiverState, sequence_number: u16)
+            -> u64;
+        pub fn rtpw_receiver_accepts(receiver: *const ReceiverState, number: u64) -> bool;
+        pub fn rtpw_receiver_record(receiver: *mut ReceiverState, number: u64);
+        pub fn rtpw_receiver_receive(
             receiver: *mut ReceiverState,
             sequence_number: u16,
             number: *mut u64,
         ) -> i32;
-        pub fn rtp_values_read(
+        pub fn rtpw_values_read(
             body: *const u8,
             body_len: usize,
             form: u8,
             map: *const KindsOfIds,
             values: *mut ValuesView,
         ) -> i32;
-        pub fn rtp_kind_of_uri(uri: *const u8, len: usize) -> u8;
-        pub fn rtp_map_set(map: *mut KindsOfIds, id: u8, kind: u8) -> i32;
-        pub fn rtp_map_get(map: *const KindsOfIds, id: u8) -> u8;
-        pub fn rtp_map_standard(map: *mut KindsOfIds);
-        pub fn rtp_parse(
+        pub fn rtpw_kind_of_uri(uri: *const u8, len: usize) -> u8;
+        pub fn rtpw_map_set(map: *mut KindsOfIds, id: u8, kind: u8) -> i32;
+        pub fn rtpw_map_get(map: *const KindsOfIds, id: u8) -> u8;
+        pub fn rtpw_map_standard(map: *mut KindsOfIds);
+        pub fn rtpw_parse(
             datagram: *const u8,
             len: usize,
             map: *const KindsOfIds,
             header: *mut HeaderView,
         ) -> i32;
-        pub fn rtp_parse_layers(
+        pub fn rtpw_parse_layers(
             datagram: *const u8,
             len: usize,
             map: *const KindsOfIds,
             header: *mut HeaderView,
             layers: *mut Layers,
         ) -> i32;
-        pub fn rtp_wire_len(
+        pub fn rtpw_wire_len(
             map: *const KindsOfIds,
             header: *const HeaderView,
             len: *mut usize,
         ) -> i32;
-        pub fn rtp_write(
+        pub fn rtpw_write(
             map: *const KindsOfIds,
             header: *const HeaderView,
             buf: *mut u8,
             size: usize,
             len: *mut usize,
         ) -> i32;
-        pub fn rtp_write_with(
+        pub fn rtpw_write_with(
             header: *const HeaderView,
             data: *const u8,
             data_len: usize,
@@ -115,7 +116,7 @@ mod c {
             size: usize,
             len: *mut usize,
         ) -> i32;
-        pub fn rtp_write_elements(
+        pub fn rtpw_write_elements(
             data: *const u8,
             data_len: usize,
             elements: *const Place,
@@ -125,13 +126,13 @@ mod c {
             size: usize,
             len: *mut usize,
         ) -> i32;
-        pub fn rtp_new_ids_between(
+        pub fn rtpw_new_ids_between(
             from: *const KindsOfIds,
             to: *const KindsOfIds,
             ids: *mut IdsOfIds,
         );
-        pub fn rtp_renumber(datagram: *mut u8, len: usize, ids: *const IdsOfIds) -> i32;
-        pub fn rtp_pad(
+        pub fn rtpw_renumber(datagram: *mut u8, len: usize, ids: *const IdsOfIds) -> i32;
+        pub fn rtpw_pad(
             datagram: *mut u8,
             size: usize,
             header_len: usize,
@@ -139,52 +140,52 @@ mod c {
             block_size: usize,
             count: *mut usize,
         ) -> i32;
-        pub fn rtp_read_original(payload: *const u8, len: usize, number: *mut u16) -> i32;
-        pub fn rtp_write_original(payload: *mut u8, size: usize, number: u64) -> i32;
-        pub fn rtp_version() -> u32;
-        pub fn rtp_extend_u16(previous: u64, number: u16) -> u64;
+        pub fn rtpw_read_original(payload: *const u8, len: usize, number: *mut u16) -> i32;
+        pub fn rtpw_write_original(payload: *mut u8, size: usize, number: u64) -> i32;
+        pub fn rtpw_version() -> u32;
+        pub fn rtpw_extend_u16(previous: u64, number: u16) -> u64;
     }
 }
 
 pub fn packet_parse(datagram: &[u8], parts: &mut PacketParts) -> i32 {
     // SAFETY: a slice that is read, and an exclusive reference.
-    unsafe { c::rtp_packet_parse(datagram.as_ptr(), datagram.len(), parts) }
+    unsafe { c::rtpw_packet_parse(datagram.as_ptr(), datagram.len(), parts) }
 }
 
 pub fn set_marker(datagram: &mut [u8], marker: bool) -> i32 {
     // SAFETY: an exclusive slice.
-    unsafe { c::rtp_set_marker(datagram.as_mut_ptr(), datagram.len(), marker) }
+    unsafe { c::rtpw_set_marker(datagram.as_mut_ptr(), datagram.len(), marker) }
 }
 
 pub fn set_payload_type(datagram: &mut [u8], payload_type: u8) -> i32 {
     // SAFETY: an exclusive slice.
-    unsafe { c::rtp_set_payload_type(datagram.as_mut_ptr(), datagram.len(), payload_type) }
+    unsafe { c::rtpw_set_payload_type(datagram.as_mut_ptr(), datagram.len(), payload_type) }
 }
 
 pub fn set_sequence_number(datagram: &mut [u8], number: u16) -> i32 {
     // SAFETY: an exclusive slice.
-    unsafe { c::rtp_set_sequence_number(datagram.as_mut_ptr(), datagram.len(), number) }
+    unsafe { c::rtpw_set_sequence_number(datagram.as_mut_ptr(), datagram.len(), number) }
 }
 
 pub fn set_timestamp(datagram: &mut [u8], timestamp: u32) -> i32 {
     // SAFETY: an exclusive slice.
-    unsafe { c::rtp_set_timestamp(datagram.as_mut_ptr(), datagram.len(), timestamp) }
+    unsafe { c::rtpw_set_timestamp(datagram.as_mut_ptr(), datagram.len(), timestamp) }
 }
 
 pub fn set_ssrc(datagram: &mut [u8], ssrc: u32) -> i32 {
     // SAFETY: an exclusive slice.
-    unsafe { c::rtp_set_ssrc(datagram.as_mut_ptr(), datagram.len(), ssrc) }
+    unsafe { c::rtpw_set_ssrc(datagram.as_mut_ptr(), datagram.len(), ssrc) }
 }
 
 pub fn set_csrc(datagram: &mut [u8], index: usize, source: u32) -> i32 {
     // SAFETY: an exclusive slice.
-    unsafe { c::rtp_set_csrc(datagram.as_mut_ptr(), datagram.len(), index, source) }
+    unsafe { c::rtpw_set_csrc(datagram.as_mut_ptr(), datagram.len(), index, source) }
 }
 
 pub fn set_element(datagram: &mut [u8], id: u8, data: &[u8]) -> i32 {
     // SAFETY: an exclusive slice, and one that is read and so overlaps nothing of it.
     unsafe {
-        c::rtp_set_element(
+        c::rtpw_set_element(
             datagram.as_mut_ptr(),
             datagram.len(),
             id,
@@ -196,51 +197,51 @@ pub fn set_element(datagram: &mut [u8], id: u8, data: &[u8]) -> i32 {
 
 pub fn remove_element(datagram: &mut [u8], id: u8) -> i32 {
     // SAFETY: an exclusive slice.
-    unsafe { c::rtp_remove_element(datagram.as_mut_ptr(), datagram.len(), id) }
+    unsafe { c::rtpw_remove_element(datagram.as_mut_ptr(), datagram.len(), id) }
 }
 
 pub fn next_element(body: &[u8], form: u8, at: usize) -> Option<Place> {
     let mut place = Place::default();
     // SAFETY: a slice that is read, and an exclusive reference.
-    let status = unsafe { c::rtp_next_element(body.as_ptr(), body.len(), form, at, &mut place) };
+    let status = unsafe { c::rtpw_next_element(body.as_ptr(), body.len(), form, at, &mut place) };
     (status == OK).then_some(place)
 }
 
 pub fn last_element(body: &[u8], form: u8, id: u8) -> Option<Place> {
     let mut place = Place::default();
     // SAFETY: a slice that is read, and an exclusive reference.
-    let status = unsafe { c::rtp_last_element(body.as_ptr(), body.len(), form, id, &mut place) };
+    let status = unsafe { c::rtpw_last_element(body.as_ptr(), body.len(), form, id, &mut place) };
     (status == OK).then_some(place)
 }
 
 pub fn values_read(body: &[u8], form: u8, map: &KindsOfIds, values: &mut ValuesView) -> i32 {
     // SAFETY: a slice and a reference that are read, and an exclusive reference.
-    unsafe { c::rtp_values_read(body.as_ptr(), body.len(), form, map, values) }
+    unsafe { c::rtpw_values_read(body.as_ptr(), body.len(), form, map, values) }
 }
 
 pub fn kind_of_uri(uri: &[u8]) -> u8 {
     // SAFETY: a slice that is read.
-    unsafe { c::rtp_kind_of_uri(uri.as_ptr(), uri.len()) }
+    unsafe { c::rtpw_kind_of_uri(uri.as_ptr(), uri.len()) }
 }
 
 pub fn map_set(map: &mut KindsOfIds, id: u8, kind: u8) -> i32 {
     // SAFETY: an exclusive reference.
-    unsafe { c::rtp_map_set(map, id, kind) }
+    unsafe { c::rtpw_map_set(map, id, kind) }
 }
 
 pub fn map_get(map: &KindsOfIds, id: u8) -> u8 {
     // SAFETY: a reference that is read.
-    unsafe { c::rtp_map_get(map, id) }
+    unsafe { c::rtpw_map_get(map, id) }
 }
 
 pub fn map_standard(map: &mut KindsOfIds) {
     // SAFETY: an exclusive reference.
-    unsafe { c::rtp_map_standard(map) }
+    unsafe { c::rtpw_map_standard(map) }
 }
 
 pub fn parse(datagram: &[u8], map: &KindsOfIds, header: &mut HeaderView) -> i32 {
     // SAFETY: a slice and a reference that are read, and an exclusive reference.
-    unsafe { c::rtp_parse(datagram.as_ptr(), datagram.len(), map, header) }
+    unsafe { c::rtpw_parse(datagram.as_ptr(), datagram.len(), map, header) }
 }
 
 pub fn parse_layers(
@@ -250,17 +251,17 @@ pub fn parse_layers(
     layers: &mut Layers,
 ) -> i32 {
     // SAFETY: a slice and a reference that are read, and two exclusive references.
-    unsafe { c::rtp_parse_layers(datagram.as_ptr(), datagram.len(), map, header, layers) }
+    unsafe { c::rtpw_parse_layers(datagram.as_ptr(), datagram.len(), map, header, layers) }
 }
 
 pub fn wire_len(map: &KindsOfIds, header: &HeaderView, len: &mut usize) -> i32 {
     // SAFETY: two references that are read, and an exclusive reference.
-    unsafe { c::rtp_wire_len(map, header, len) }
+    unsafe { c::rtpw_wire_len(map, header, len) }
 }
 
 pub fn write(map: &KindsOfIds, header: &HeaderView, buf: &mut [u8], len: &mut usize) -> i32 {
     // SAFETY: two references that are read, an exclusive slice, and an exclusive reference.
-    unsafe { c::rtp_write(map, header, buf.as_mut_ptr(), buf.len(), len) }
+    unsafe { c::rtpw_write(map, header, buf.as_mut_ptr(), buf.len(), len) }
 }
 
 pub fn write_with(
@@ -272,7 +273,7 @@ pub fn write_with(
 ) -> i32 {
     // SAFETY: a reference and two slices that are read, an exclusive slice, and an exclusive reference.
     unsafe {
-        c::rtp_write_with(
+        c::rtpw_write_with(
             header,
             data.as_ptr(),
             data.len(),
@@ -294,7 +295,7 @@ pub fn write_elements(
 ) -> i32 {
     // SAFETY: two slices that are read, an exclusive slice, and an exclusive reference.
     unsafe {
-        c::rtp_write_elements(
+        c::rtpw_write_elements(
             data.as_ptr(),
             data.len(),
             elements.as_ptr(),
@@ -309,12 +310,12 @@ pub fn write_elements(
 
 pub fn new_ids_between(from: &KindsOfIds, to: &KindsOfIds, ids: &mut IdsOfIds) {
     // SAFETY: two references that are read, and an exclusive reference.
-    unsafe { c::rtp_new_ids_between(from, to, ids) }
+    unsafe { c::rtpw_new_ids_between(from, to, ids) }
 }
 
 pub fn renumber(datagram: &mut [u8], ids: &IdsOfIds) -> i32 {
     // SAFETY: an exclusive slice, and a reference that is read.
-    unsafe { c::rtp_renumber(datagram.as_mut_ptr(), datagram.len(), ids) }
+    unsafe { c::rtpw_renumber(datagram.as_mut_ptr(), datagram.len(), ids) }
 }
 
 pub fn pad(
@@ -326,7 +327,7 @@ pub fn pad(
     let mut count = 0;
     // SAFETY: an exclusive slice, and an exclusive reference.
     let status = unsafe {
-        c::rtp_pad(
+        c::rtpw_pad(
             datagram.as_mut_ptr(),
             datagram.len(),
             header_len,
@@ -341,48 +342,48 @@ pub fn pad(
 pub fn read_original(payload: &[u8]) -> Option<u16> {
     let mut number = 0;
     // SAFETY: a slice that is read, and an exclusive reference.
-    let status = unsafe { c::rtp_read_original(payload.as_ptr(), payload.len(), &mut number) };
+    let status = unsafe { c::rtpw_read_original(payload.as_ptr(), payload.len(), &mut number) };
     (status == OK).then_some(number)
 }
 
 pub fn write_original(payload: &mut [u8], number: u64) -> i32 {
     // SAFETY: an exclusive slice.
-    unsafe { c::rtp_write_original(payload.as_mut_ptr(), payload.len(), number) }
+    unsafe { c::rtpw_write_original(payload.as_mut_ptr(), payload.len(), number) }
 }
 
 pub fn version() -> u32 {
     // SAFETY: no memory is passed.
-    unsafe { c::rtp_version() }
+    unsafe { c::rtpw_version() }
 }
 
 pub fn receiver_start(receiver: &mut ReceiverState, rollover_count: u64) -> i32 {
     // SAFETY: an exclusive reference.
-    unsafe { c::rtp_receiver_start(receiver, rollover_count) }
+    unsafe { c::rtpw_receiver_start(receiver, rollover_count) }
 }
 
 pub fn receiver_number_of(receiver: &ReceiverState, sequence_number: u16) -> u64 {
     // SAFETY: a reference that is read.
-    unsafe { c::rtp_receiver_number_of(receiver, sequence_number) }
+    unsafe { c::rtpw_receiver_number_of(receiver, sequence_number) }
 }
 
 pub fn receiver_accepts(receiver: &ReceiverState, number: u64) -> bool {
     // SAFETY: a reference that is read.
-    unsafe { c::rtp_receiver_accepts(receiver, number) }
+    unsafe { c::rtpw_receiver_accepts(receiver, number) }
 }
 
 pub fn receiver_record(receiver: &mut ReceiverState, number: u64) {
     // SAFETY: an exclusive reference.
-    unsafe { c::rtp_receiver_record(receiver, number) }
+    unsafe { c::rtpw_receiver_record(receiver, number) }
 }
 
 pub fn receiver_receive(receiver: &mut ReceiverState, sequence_number: u16) -> Option<u64> {
     let mut number = 0;
     // SAFETY: two exclusive references.
-    let status = unsafe { c::rtp_receiver_receive(receiver, sequence_number, &mut number) };
+    let status = unsafe { c::rtpw_receiver_receive(receiver, sequence_number, &mut number) };
     (status == OK).then_some(number)
 }
 
 pub fn extend_u16(previous: u64, number: u16) -> u64 {
     // SAFETY: no memory is passed.
-    unsafe { c::rtp_extend_u16(previous, number) }
+    unsafe { c::rtpw_extend_u16(previous, number) }
 }

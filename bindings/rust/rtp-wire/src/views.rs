@@ -1,6 +1,6 @@
 //! The structs of `rtp_wire.h`.
 
-/// `rtp_packet`
+/// `rtpw_packet`
 #[repr(C)]
 #[derive(Clone, Copy, Debug, Default, PartialEq, Eq)]
 pub struct PacketParts {
@@ -20,7 +20,7 @@ pub struct PacketParts {
     pub block_form: u8,
 }
 
-/// Where the data of an element lie: `rtp_element` in C. [`Elements::places`](crate::Elements::places)
+/// Where the data of an element lie: `rtpw_element` in C. [`Elements::places`](crate::Elements::places)
 /// tells it of a block, and [`write_elements`](crate::write_elements) and
 /// [`Header::write_with`](crate::Header::write_with) take it.
 #[repr(C)]
@@ -32,7 +32,7 @@ pub struct Place {
     pub(crate) id: u8,
 }
 
-/// `rtp_receiver`
+/// `rtpw_receiver`
 #[repr(C)]
 #[derive(Clone, Copy, Debug, Default)]
 pub struct ReceiverState {
@@ -42,21 +42,21 @@ pub struct ReceiverState {
     pub started: u8,
 }
 
-/// `rtp_map`
+/// `rtpw_map`
 #[repr(C)]
 #[derive(Clone, Copy, PartialEq, Eq)]
 pub struct KindsOfIds {
     pub kind: [u8; 256],
 }
 
-/// `rtp_new_ids`
+/// `rtpw_new_ids`
 #[repr(C)]
 #[derive(Clone, Copy, PartialEq, Eq)]
 pub struct IdsOfIds {
     pub id: [u8; 256],
 }
 
-/// `rtp_time`
+/// `rtpw_time`
 #[repr(C)]
 #[derive(Clone, Copy, Debug, Default)]
 pub struct Time {
@@ -64,7 +64,7 @@ pub struct Time {
     pub hertz: u32,
 }
 
-/// `rtp_values`
+/// `rtpw_values`
 #[repr(C)]
 #[derive(Clone, Copy, Debug, Default)]
 pub struct ValuesView {
@@ -107,7 +107,7 @@ pub struct ValuesView {
     pub has_layers: u8,
 }
 
-/// `rtp_header`
+/// `rtpw_header`
 #[repr(C)]
 #[derive(Clone, Copy, Debug, Default)]
 pub struct HeaderView {

@@ -1,8 +1,0 @@
-use Rattle.std.proofs.Common.{refl, sym, subst}
-use Rattle.rtp_wire.specs.declared.receive.state.ReceiverState.{ReceiverState}
-use Rattle.rtp_wire.specs.Receiver.{Holds}
-use Rattle.rtp_c.proofs.receiver.rtp_receiver_start.Goals as goal
-
-pub returns-clause-started : goal.returns-clause-started
-returns-clause-started c low taken none =
-    c.store.ensures c.args.rollover_count taken (subst (λ (state : ReceiverState). Holds state c.args.rollover_count taken) (sym c.starting_at.ensures) (refl, none))
