@@ -1,4 +1,5 @@
-//! The functions of `rtp_wire.h`, called with the types of Rust. This is the one module with `unsafe`.
+//! The functions of `rtp_wire.h`, called with the types of Rust. Beside `assembly` this is the one
+//! module with `unsafe`.
 //!
 //! Each of them may be called with any values: it asks only that a pointer isn't NULL, is aligned, and
 //! is to as many bytes as is said, and that what it writes overlaps nothing else that it is given. A
