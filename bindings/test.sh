@@ -119,7 +119,7 @@ fi
 compare() {
     # by_hand.lines has what no capture has: padding, sources, no extension, a replay, a rollover, no packet, zeros
     # as values, an empty text, a URI without a kind, CR LF.
-    for lines in examples/*.lines bindings/test/by_hand.lines; do
+    for lines in captures/*.lines bindings/test/by_hand.lines; do
         "$@" <"$lines" | cmp - "${lines%.lines}.expected" >&2 || fail "$*, $lines"
     done
     # 65,536 bytes
@@ -137,7 +137,7 @@ is_bad() { # what is printed, the lines, the program
     [ $status -eq 2 ] && cmp "$scratch/said" "$scratch/$1" >&2 || fail "${*:3}, the bad line $2"
 }
 for program in "$scratch"/lines_*; do compare "$program"; done
-said "the examples in $languages (in C static, shared and all static) against examples/*.expected"
+said "the examples in $languages (in C static, shared and all static) against captures/*.expected"
 
 # SSRC 44 -> 77; 47,000 - 46,000 = 1,000; at 5 s the send time is 5 * 2^18 = 0x140000, and 40 ms later
 # 1,321,205 = 0x1428F5; its id 4 becomes 2, and the mid (id 3) becomes padding. The second packet says no send
