@@ -1,7 +1,7 @@
--- A flag as the number of its bit.
+-- A flag of a header as the number of its bit (RFC 3550, 5.1).
 use Rattle.std.specs.Prelude.{ℕ, Bool, true, false}
 
--- a bit that is clear or set
+-- 0 for a bit that is clear, and 1 for one that is set
 abbrev pub bit : Bool → ℕ
 bit false = 0
 bit true = 1

@@ -1,4 +1,4 @@
--- The texts of frequencies.
+-- The text of a frequency in hertz, such as a clock rate in SDP (RFC 8866, 6.6).
 use Rattle.std.specs.Prelude.{◌≡◌, ℕ, ◌<◌, ◌^◌, ◌⊎◌, List, [], ◌++◌, length, codes}
 use Rattle.std.specs.Char.{IsAsciiDigit}
 use Rattle.std.specs.List.{All}

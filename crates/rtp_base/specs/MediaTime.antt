@@ -1,4 +1,4 @@
--- Media times as fractions: a number of ticks over the ticks in a second.
+-- Media times as fractions: a number of ticks over the ticks in a second, as an RTP timestamp counts them (RFC 3550, 5.1).
 use Rattle.std.specs.Prelude.{◌≡◌, ℕ, ◌+◌, ◌*◌, ◌/◌, ◌<◌, ◌≤◌, ◌^◌, Bool, ◌==◌, max}
 use Rattle.std.specs.declared.cmp.Ordering.{Ordering}
 use Rattle.std.specs.Ordering.{nat_cmp}
@@ -32,7 +32,7 @@ fraction_cmp a b = nat_cmp (a.numer * per_second b) (b.numer * per_second a)
 abbrev pub whole_ticks : Fraction → ℕ → ℕ
 whole_ticks a frequency = a.numer * frequency / a.denom
 
--- the time of those ticks
+-- the time of these whole ticks
 abbrev pub in_ticks : Fraction → ℕ → Fraction
 in_ticks a frequency = record { numer = whole_ticks a frequency; denom = frequency }
 
@@ -44,12 +44,12 @@ next_tick a = record { numer = a.numer + 1; denom = a.denom }
 abbrev pub common_frequency : Fraction → Fraction → ℕ
 common_frequency a b = max a.denom b.denom
 
--- the ticks of each time at that frequency fit 64 bits
+-- the ticks of each time at the greater of the two frequencies fit 64 bits
 pub record BothFit (a b : Fraction) : Type 0 where
   pub left : whole_ticks a (common_frequency a b) < 2 ^ 64
   pub right : whole_ticks b (common_frequency a b) < 2 ^ 64
 
--- the sum: the ticks of both times at that frequency, added
+-- the sum: the ticks of both times at the greater frequency, added
 abbrev pub sum_of : Fraction → Fraction → Fraction
 sum_of a b =
     let frequency = common_frequency a b in
@@ -59,7 +59,7 @@ sum_of a b =
 abbrev pub SumFits : Fraction → Fraction → Type 0
 SumFits a b = (sum_of a b).numer < 2 ^ 64
 
--- the difference: the ticks of the first time at that frequency without those of the second
+-- the difference: the ticks of the first time at the greater frequency without those of the second
 pub record IsDifference (a b difference : Fraction) : Type 0 where
   pub denom : difference.denom ≡ common_frequency a b
   pub numer : whole_ticks b difference.denom + difference.numer ≡ whole_ticks a difference.denom

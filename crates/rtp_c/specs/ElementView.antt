@@ -28,7 +28,7 @@ pub record IsLastElement (form : ExtensionsForm) (body : List ℕ) (id : ℕ) (v
   pub last : HasNone after id
   pub end_is : view.end ≡ view.data_at + view.data_len
 
--- it is told where the last element of the id lies
+-- C is told where the last element of the id lies
 pub record LiesAsLast (form : ExtensionsForm) (body : List ℕ) (id : ℕ) (view : ElementView) : Type 0 where
   pub place : Place
   pub id_is : place.id ≡ id

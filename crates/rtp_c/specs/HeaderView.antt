@@ -12,7 +12,7 @@ use Rattle.rtp_c.specs.KindsOfIds.{HasKinds}
 use Rattle.rtp_c.specs.ValuesView.{IsViewOfValues}
 use Rattle.rtp_c.specs.LayersView.{IsViewOfLayers}
 
--- the fields, each in its place
+-- what C is told of a header: its fields, each in its place
 pub record IsViewOfHeader (header : RtpHeader) (view : HeaderView) : Type 0 where
   pub padding_is : view.has_padding ≡ bit header.has_padding
   pub extension_is : view.has_extension ≡ bit header.has_extension
@@ -32,13 +32,13 @@ pub record BeginsWith (numbers bytes : List ℕ) (header : RtpHeader) : Type 0 w
   pub has_kinds : HasKinds numbers slots
   pub is_wire : IsWire slots bytes header
 
--- it is told
+-- C is told the header that the bytes begin with under the map of these numbers
 pub record IsParsedAs (numbers bytes : List ℕ) (view : HeaderView) : Type 0 where
   pub header : RtpHeader
   pub begins : BeginsWith numbers bytes header
   pub is_view : IsViewOfHeader header view
 
--- it is told with its layer allocation: of a header without one, as where nothing is sent
+-- C is told that header with its layer allocation: of a header without one, as where nothing is sent
 pub record IsParsedWithLayersAs (numbers bytes : List ℕ) (view : HeaderView) (layers : Layers) : Type 0 where
   pub header : RtpHeader
   pub begins : BeginsWith numbers bytes header

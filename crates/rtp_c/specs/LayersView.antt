@@ -39,6 +39,7 @@ pub record IsViewOfLayers (allocation : vla.Allocation) (view : Layers) : Type 0
 
 -- ---- What has a place for each of its parts
 
+-- what C's struct has a place for: at most four rates of each layer, four layers of each stream, and four streams
 abbrev pub HasFewRates : vla.Layer → Type 0
 HasFewRates layer = length layer.temporal_layers ≤ 4
 

@@ -23,7 +23,7 @@ timing_in view = record {
   last_left_pacer = view.last_left_pacer;
 }
 
--- the values, each in its place
+-- what C is told of values: each in its place
 pub record IsViewOfValues (values : ExtensionValues) (view : ValuesView) : Type 0 where
   pub send_time_is : IsHeld view.has_send_time view.send_time values.abs_send_time
   pub capture_time_is : IsHeld view.has_capture_time view.capture_time (option_map (λ time. time.capture_time) values.abs_capture_time)
@@ -43,7 +43,7 @@ pub record IsViewOfValues (values : ExtensionValues) (view : ValuesView) : Type 
   pub repaired_rid_is : IsHeldText 8 view.has_repaired_rid view.repaired_rid values.rid_repair
   pub has_layers_is : view.has_layers ≡ bit (is_some values.video_layers_allocation)
 
--- they are those that the body says under the map of these numbers
+-- C is told the values that the body says under the map of these numbers
 pub record IsReadAs (form : ExtensionsForm) (numbers body : List ℕ) (view : ValuesView) : Type 0 where
   pub slots : Slots
   pub has_kinds : HasKinds numbers slots

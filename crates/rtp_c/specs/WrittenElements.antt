@@ -11,7 +11,7 @@ use Rattle.rtp_c.specs.ElementView.{element_in}
 abbrev pub LiesIn : List ℕ → ElementView → Type 0
 LiesIn bytes view = view.data_at + view.data_len ≤ length bytes
 
--- so do those of each element
+-- the data of each element lie within these bytes
 abbrev pub LieIn : List ℕ → List ElementView → Type 0
 LieIn bytes views = All (LiesIn bytes) views
 

@@ -56,7 +56,7 @@ pub record IsWrittenWith (view : HeaderView) (bytes : List ℕ) (views : List El
   pub read_back : (rest : List ℕ) →
       IsPacket (wire_bytes_with header (elements_in bytes views) ++ rest) (parts_with header (elements_in bytes views) rest)
 
--- they take more than the room
+-- the header and the block take more than the room
 pub record IsTooLongWith (view : HeaderView) (bytes : List ℕ) (views : List ElementView) (room : ℕ) : Type 0 where
   pub header : RtpHeader
   pub is_given : CanBeWrittenWith view bytes views header

@@ -1,4 +1,4 @@
--- Which element of a block counts for each kind, and the values of a block.
+-- Which element of a block counts for each kind, and the values of a block (RFC 8285, 4.2 and 4.3).
 use Rattle.std.specs.Prelude.{◌≡◌, ℕ, List, ◌∷◌, ◌++◌, Some, All}
 use Rattle.rtp_values.specs.declared.kind.Extension.{Extension}
 use Rattle.rtp_values.specs.declared.value.values.ExtensionValues.{ExtensionValues}

@@ -23,7 +23,7 @@ abbrev pub element_bytes : ExtensionsForm → Element → List ℕ
 element_bytes OneByte element = (element.0 * 16 + (length element.1 - 1)) ∷ element.1
 element_bytes TwoByte element = element.0 ∷ length element.1 ∷ element.1
 
--- elements in a row
+-- the bytes of elements in a row, each with its header and its data
 abbrev pub elements_bytes : ExtensionsForm → List Element → List ℕ
 elements_bytes form elements = flat_map (element_bytes form) elements
 
@@ -43,7 +43,7 @@ pub data IsTail (form : ExtensionsForm) (tail : List ℕ) : Type 0 where
       → element_bytes form element ≡ tail ++ missing → IsTail form tail
   stopped : (first : ℕ) (others : List ℕ) → form ≡ OneByte → 15 * 16 ≤ first → tail ≡ first ∷ others → IsTail form tail
 
--- the body of a block is pieces in a row and such a tail, and its elements are those of the pieces, in order
+-- the body of a block is pieces in a row, each an element or a byte of padding, and a tail where reading ends; its elements are those of the pieces, in order
 pub record AreElements (form : ExtensionsForm) (body : List ℕ) (elements : List Element) : Type 0 where
   pub pieces : List (Option Element)
   pub tail : List ℕ

@@ -91,7 +91,7 @@ pub data Remaps (old : Slots) (id : ℕ) (extension : Extension) (new : Slots) :
   moved : (from : ℕ) → IsId id → IsLowest old extension from → from ≢ id → (IsLockedAt old from → ⊥)
       → Exchanges old new from id extension → Remaps old id extension new
 
--- the steps, one after another
+-- the steps of a renegotiation, one after another
 abbrev pub AreRemapped : Slots → List (ℕ × Extension) → Slots → Type 0
 AreRemapped old [] new = new ≡ old
 AreRemapped old (step ∷ steps) new = (between : Slots) × Remaps old step.0 step.1 between × AreRemapped between steps new

@@ -12,7 +12,7 @@ abbrev pub IsAllocation : Slots → Element → Type 0
 IsAllocation exts element =
     (extension_at exts element.0 ≡ Some VideoLayersAllocation) × TakesMemory VideoLayersAllocation element.1
 
--- one of the elements is such a one
+-- one of the elements has an id that is mapped to the layer allocation, and reading its data takes memory
 pub record HasAllocation (exts : Slots) (elements : List Element) : Type 0 where
   pub before : List Element
   pub element : Element
@@ -20,7 +20,7 @@ pub record HasAllocation (exts : Slots) (elements : List Element) : Type 0 where
   pub elements_are : elements ≡ before ++ element ∷ after
   pub is_allocation : IsAllocation exts element
 
--- reading ended at such an element: the values are those of the elements before it
+-- reading ended at an element whose data take memory: the values are those of the elements before it
 pub record IsStopped (exts : Slots) (elements : List Element) (old new : ExtensionValues) : Type 0 where
   pub at : HasAllocation exts elements
   pub values_are : AreValues exts at.before old new

@@ -1,4 +1,4 @@
--- The kinds of header extension, and what is fixed for each.
+-- The kinds of header extension, and what is fixed for each: the URI that SDP names it by (RFC 8285, 5), and its media.
 use Rattle.std.specs.Prelude.{◌≡◌, ◌≢◌, ℕ, List, [], ◌∷◌, codes, Bool, true, false}
 use Rattle.rtp_values.specs.declared.kind.Extension.{Extension}
 use Rattle.rtp_values.specs.declared.kind.Extension.TheVariants.{AbsoluteSendTime, AbsoluteCaptureTime, AudioLevel, TransmissionTimeOffset, VideoOrientation, TransportSequenceNumber, PlayoutDelay, VideoContentType, VideoTiming, RtpStreamId, RepairedRtpStreamId, RtpMid, FrameMarking, ColorSpace, VideoLayersAllocation, UnknownUri}
@@ -20,7 +20,7 @@ audio_only uri name = record { uri = uri; name = name; audio = true; video = fal
 abbrev pub video_only : List ℕ → List ℕ → Kind
 video_only uri name = record { uri = uri; name = name; audio = false; video = true }
 
--- the table of the kinds; an unknown one is shown as its URI, and is one of neither
+-- the table of the kinds; an unknown one is shown as its URI, and is one of neither audio nor video
 abbrev pub kind_of : Extension → Kind
 kind_of AbsoluteSendTime = audio_and_video (codes "http://www.webrtc.org/experiments/rtp-hdrext/abs-send-time") (codes "abs-send-time")
 kind_of AbsoluteCaptureTime = audio_and_video (codes "http://www.webrtc.org/experiments/rtp-hdrext/abs-capture-time") (codes "abs-capture-time")

@@ -11,7 +11,7 @@ pub record IsLatest (now value moment : ℕ) : Type 0 where
   pub possible : IsPossible now value moment
   pub latest : (other : ℕ) → IsPossible now value other → other ≤ moment
 
--- the latest such moment, and the value itself where there is none
+-- the latest moment not after now that is equal to the value modulo 64 seconds, and the value itself where there is none
 abbrev pub IsRecovered : ℕ → ℕ → ℕ → Type 0
 IsRecovered now value moment =
     IsLatest now value moment ⊎ (((other : ℕ) → IsPossible now value other → ⊥) × (moment ≡ value))

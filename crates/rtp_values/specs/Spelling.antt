@@ -1,4 +1,4 @@
--- The data that each kind's values are written as, and what they are read as again.
+-- The data that each kind's values are written as, by its description (docs/EXTENSIONS.md names it), and what they are read as again.
 use Rattle.std.specs.Prelude.{◌&&◌, ◌||◌, nat_le, if◌then◌else◌, Bool, false, ◌==◌, ℕ, zero, suc, ℤ, ◌+◌, ◌*◌, ◌/◌, ◌%◌, ◌^◌, ◌<◌, ◌≤◌, List, [], ◌∷◌, ◌++◌, length, replicate, unsigned_abs, neg_ℤ, pos, Option, Some, None}
 use Rattle.std.specs.Option.{option_map, ForSome}
 use Rattle.std.specs.Int.{w64, cast_unsigned}

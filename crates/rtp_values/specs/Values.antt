@@ -1,4 +1,4 @@
--- What the data of an element say, by its kind, and where memory is taken.
+-- What the data of an element say, by the description of its kind (docs/EXTENSIONS.md names it), and where memory is taken.
 use Rattle.std.specs.Prelude.{◌≡◌, ℕ, ℤ, ◌+◌, ◌*◌, ◌/◌, ◌%◌, ◌^◌, ◌≤◌, List, [], ◌∷◌, length, take, drop, slice_index, slice_range, ◌==◌, nat_le, if◌then◌else◌, neg_ℤ, pos, Option, Some, None, IfSome, IsSomeAnd}
 use Rattle.std.specs.Int.{w64, cast_signed}
 use Rattle.std.specs.Str.{IsUtf8}

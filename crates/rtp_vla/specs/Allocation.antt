@@ -15,7 +15,7 @@ pub record Layer : Type 0 where
 abbrev pub Stream : Type 0
 Stream = List Layer
 
--- all of it
+-- an allocation: the index of the packet's simulcast stream, and all streams
 pub record Allocation : Type 0 where
   pub current_simulcast_stream_index : ℕ
   pub simulcast_streams : List Stream

@@ -19,14 +19,14 @@ abbrev pub without_bare_tail : Stream → Stream
 without_bare_tail [] = []
 without_bare_tail (layer ∷ layers) = in_front_of layer (without_bare_tail layers)
 
--- the allocation without its trailing bare layers
+-- the allocation without the layers at the end of each stream that have neither temporal layers nor a resolution
 abbrev pub trimmed : Allocation → Allocation
 trimmed a = record {
   current_simulcast_stream_index = a.current_simulcast_stream_index;
   simulcast_streams = map without_bare_tail a.simulcast_streams;
 }
 
--- it can be written where some bytes mean that
+-- an allocation can be written where some bytes mean it without those layers
 abbrev pub Writable : Allocation → Type 0
 Writable a = (bytes : List ℕ) × AllByRecursion (λ byte. byte < 256) bytes × Means bytes (trimmed a)
 
@@ -58,7 +58,7 @@ resolutions_in_front ended (layer ∷ layers) =
 abbrev pub layers_fit : List Layer → Bool
 layers_fit layers = list_all (λ layer. rates_fit layer.temporal_layers) layers && resolutions_in_front false layers
 
--- nothing is sent, or an index of at most 3, one to four streams, and what the masks, counts, rates and resolutions can say
+-- whether an allocation can be written: nothing is sent, or it has an index of at most 3, one to four streams, and what the masks, counts, rates and resolutions can say
 abbrev pub streams_fit : ℕ → List Stream → Bool
 streams_fit index [] = index == 0
 streams_fit index (stream ∷ streams) =
@@ -111,7 +111,7 @@ packed_bytes index streams =
     ++ (quarters_of (map count_of (active_layers streams))
     ++ (flat_map rate_bytes (active_layers streams) ++ flat_map resolution_bytes (active_layers streams))))
 
--- the byte 0 where nothing is sent
+-- the bytes of an allocation: the byte 0 where nothing is sent, and else the first byte, the masks, the counts, the rates and the resolutions
 abbrev pub streams_bytes : ℕ → List Stream → List ℕ
 streams_bytes index [] = 0 ∷ []
 streams_bytes index (stream ∷ streams) = packed_bytes index (stream ∷ streams)

@@ -37,6 +37,6 @@ unfoldable pub leb_of : ℕ → ℕ → List ℕ
 leb_of zero value = []
 leb_of (suc room) value = if nat_lt value 128 then value ∷ [] else (value % 128 + 128) ∷ leb_of room (value / 128)
 
--- the bytes of that spelling, for a number below 2^63
+-- the bytes of the shortest spelling, for a number below 2^63
 unfoldable pub shortest_of : ℕ → List ℕ
 shortest_of value = leb_of 9 value

@@ -6,11 +6,11 @@ use Rattle.rtp_wire.specs.declared.packet.rtp_packet_mut.RtpPacketMut.{RtpPacket
 use Rattle.rtp_wire.specs.Packet.{PacketParts}
 use Rattle.rtp_wire.specs.PartsAt.{parts_at}
 
--- what stands in the datagram that it was read from
+-- the parts of an `RtpPacket`: what stands in the datagram that it was read from
 abbrev pub parts_of : RtpPacket → PacketParts
 parts_of packet = parts_at packet.datagram.now
 
--- the bytes of the datagram
+-- the bytes of the datagram that an `RtpPacket` was read from
 abbrev pub bytes_of : RtpPacket → List ℕ
 bytes_of packet = packet.datagram.now
 
@@ -18,6 +18,6 @@ bytes_of packet = packet.datagram.now
 abbrev pub buffer_of : RtpPacketMut → MutBor (List ℕ)
 buffer_of packet = packet.datagram
 
--- what stands in the buffer
+-- the parts of an `RtpPacketMut`: what stands in its buffer
 abbrev pub parts_in : RtpPacketMut → PacketParts
 parts_in packet = parts_at packet.datagram.now
