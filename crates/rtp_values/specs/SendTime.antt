@@ -1,4 +1,4 @@
--- The moment of a send time that is known modulo 64 seconds only, as its 24 bits carry it: all in microseconds.
+-- The moment of a send time (abs-send-time) that is known modulo 64 seconds only, as its 24 bits carry it: all in microseconds.
 use Rattle.std.specs.Prelude.{◌≡◌, ℕ, ◌%◌, ◌≤◌, ◌⊎◌}
 
 -- a moment not after now that is equal to the value modulo 64 seconds
