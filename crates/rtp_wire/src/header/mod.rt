@@ -1,6 +1,7 @@
 //! The header of an RTP packet.
 
 mod block;
+mod of_packet;
 mod parsing;
 mod pieces;
 mod rtp_header;
