@@ -8,5 +8,4 @@ mod rtp_header;
 mod writing;
 mod writing_with;
 
-pub(crate) use pieces::flag;
 pub use rtp_header::RtpHeader;

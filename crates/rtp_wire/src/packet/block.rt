@@ -10,15 +10,20 @@ ghost use Rattle.rtp_wire.specs.PacketElements.{AreElementsOf, IsLast, HasValues
 ghost use Rattle.rtp_wire.specs.RefusedMemory.{BlockHasAllocation, AreValuesStopped};
 
 use super::RtpPacket;
-use super::rtp_packet::sources_end;
+use super::rtp_packet::body_start;
 use rtp_ext::{Elements, ExtensionMap, ExtensionValues, ExtensionsForm, KindsById, element_of};
 use std::alloc::{AllocError, Global};
 
 impl<'a> RtpPacket<'a> {
     ghost use Rattle.rtp_wire.specs.PartsOf.{parts_of};
 
-    // The form and the body of the block.
-    pub(super) fn block(&self) -> Option<(ExtensionsForm, &'a [u8])>
+    /// The form of the block and its body, and `None` exactly where X is clear (RFC 3550, 5.3.1; RFC
+    /// 8285, 4). It is for callers that pass the elements on, or read them in a way of their own:
+    /// [`elements`](Self::elements), [`element`](Self::element) and [`values`](Self::values) read them.
+    ///
+    /// The body is as long as the four bytes before it say, with all padding. It begins with the first
+    /// element, and ends where the payload begins.
+    pub fn block(&self) -> Option<(ExtensionsForm, &'a [u8])>
         ensures parts { option_map (λ block. (block.0, block.1.now)) result
             ≡ (parts_of self.now).block }
         ensures bytes { IfSome result (λ block. (i : ℕ) → slice_index block.1.now i < 256) }
@@ -26,7 +31,7 @@ impl<'a> RtpPacket<'a> {
         let Some(form) = self.form else {
             return None;
         };
-        let start = sources_end(self.datagram[0]) + 4;
+        let start = body_start(self.datagram[0]);
         Some((form, &self.datagram[start..self.header_len]))
     }
 

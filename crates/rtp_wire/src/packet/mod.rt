@@ -10,3 +10,4 @@ pub use csrcs::Csrcs;
 pub use not_a_packet::NotAPacket;
 pub use rtp_packet::RtpPacket;
 pub use rtp_packet_mut::RtpPacketMut;
+pub(crate) use rtp_packet_mut::flag;

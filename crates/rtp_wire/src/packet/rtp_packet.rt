@@ -66,22 +66,14 @@ impl<'a> RtpPacket<'a> {
             return Err(NotAPacket::CutSources);
         };
         if first & 0x10 == 0 {
-            return Ok(RtpPacket {
-                datagram,
-                header_len: start,
-                form: None,
-            });
+            return Ok(Self::new(datagram, start, None));
         }
         let (form, block_len) = first_block(after)?;
-        Ok(RtpPacket {
-            datagram,
-            header_len: start + block_len,
-            form: Some(form),
-        })
+        Ok(Self::new(datagram, start + block_len, Some(form)))
     }
 
     // The packet in the datagram, whose header ends here and whose block has this form.
-    pub(super) fn found(datagram: &'a [u8], header_len: usize, form: Option<ExtensionsForm>) -> Self
+    pub(super) fn new(datagram: &'a [u8], header_len: usize, form: Option<ExtensionsForm>) -> Self
         requires fixed { 12 ≤ length datagram.now }
         requires version { slice_index datagram.now 0 / 64 ≡ 2 }
         requires announced { form ≡ form_in datagram.now }
@@ -214,10 +206,17 @@ impl<'a> RtpPacket<'a> {
 }
 
 // The length of the fixed bytes and the sources, by the first byte.
-pub(super) fn sources_end(first: u8) -> usize
+fn sources_end(first: u8) -> usize
     ensures { result ≡ 12 + 4 * (first % 16) }
 {
     12 + 4 * usize::from(first & 0x0F)
+}
+
+// Where the body of the block begins, after its header of four bytes.
+pub(super) fn body_start(first: u8) -> usize
+    ensures { result ≡ 16 + 4 * (first % 16) }
+{
+    sources_end(first) + 4
 }
 
 // The form of the block at the front of the bytes, and its length.

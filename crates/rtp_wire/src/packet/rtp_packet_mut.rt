@@ -3,6 +3,7 @@
 ghost use Rattle.std.specs.Prelude.{◌≡◌, ◌↔◌, ◌+◌, ◌*◌, ◌/◌, ◌<◌, ◌≤◌, List, length, slice_index, slice_set, is_some, false, All, IsTrue, IsErr, IfOk, IfErr, IfSome, IfNone, IsOkAnd, Some};
 ghost use Rattle.std.specs.Bool.{OnTrue, OnFalse};
 ghost use Rattle.std.specs.List.{filter_map};
+ghost use Rattle.rtp_base.specs.Flag.{bit};
 ghost use Rattle.rtp_base.specs.Overwriting.{overwritten};
 ghost use Rattle.rtp_values.specs.declared.kind.Extension.{Extension};
 ghost use Rattle.rtp_values.specs.declared.value.values.ExtensionValues.{ExtensionValues};
@@ -20,9 +21,8 @@ ghost use Rattle.rtp_wire.specs.Packet.{PacketParts, IsPacket};
 ghost use Rattle.rtp_wire.specs.PacketElements.{AreElementsOf, HasValues};
 ghost use Rattle.rtp_wire.specs.PartsAt.{form_in, has_block, header_end, IsLaidOut};
 
-use super::rtp_packet::sources_end;
+use super::rtp_packet::body_start;
 use super::{NotAPacket, RtpPacket};
-use crate::header::flag;
 use rtp_base::{Pt, Ssrc, put};
 use rtp_ext::{ExtensionsForm, NewIds, remove_element, renumber, set_element};
 
@@ -48,6 +48,10 @@ impl<'a> RtpPacketMut<'a> {
 
     /// The packet in the buffer, whose header was found by [`RtpPacket::parse`]: it has this length
     /// and a block of this form.
+    ///
+    /// It is for callers that have to prove that a buffer without a packet stays as it was:
+    /// [`parse`](Self::parse) takes the buffer, and what is left of it where it is refused can't be
+    /// stated. `RtpPacket::parse` only reads it.
     pub fn new(datagram: &'a mut [u8], header_len: usize, form: Option<ExtensionsForm>) -> Self
         requires { IsLaidOut datagram.old header_len form }
         ensures same_buffer { (buffer_of result).ghost_name ≡ datagram.entry.ghost_name }
@@ -83,7 +87,7 @@ impl<'a> RtpPacketMut<'a> {
         ensures bytes { bytes_of result ≡ (buffer_of self.now).now }
         ensures is_packet { IsPacket (buffer_of self.now).now (parts_in self.now) }
     {
-        RtpPacket::found(self.datagram, self.header_len, self.form)
+        RtpPacket::new(self.datagram, self.header_len, self.form)
     }
 
     /// The buffer, to encrypt the payload in place, say.
@@ -205,7 +209,7 @@ impl<'a> RtpPacketMut<'a> {
         let Some(form) = self.form else {
             return false;
         };
-        let start = sources_end(self.datagram[0]) + 4;
+        let start = body_start(self.datagram[0]);
         set_element(form, &mut self.datagram[start..self.header_len], id, data)
     }
 
@@ -228,7 +232,7 @@ impl<'a> RtpPacketMut<'a> {
         let Some(form) = self.form else {
             return false;
         };
-        let start = sources_end(self.datagram[0]) + 4;
+        let start = body_start(self.datagram[0]);
         remove_element(form, &mut self.datagram[start..self.header_len], id)
     }
 
@@ -260,7 +264,14 @@ impl<'a> RtpPacketMut<'a> {
         let Some(form) = self.form else {
             return true;
         };
-        let start = sources_end(self.datagram[0]) + 4;
+        let start = body_start(self.datagram[0]);
         renumber(form, &mut self.datagram[start..self.header_len], ids)
     }
+}
+
+// Whether a flag is set, as the number that it adds to its byte.
+pub(crate) fn flag(is_set: bool, worth: u8) -> u8
+    ensures { result ≡ bit is_set * worth }
+{
+    if is_set { worth } else { 0 }
 }
