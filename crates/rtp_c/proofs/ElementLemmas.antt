@@ -7,7 +7,7 @@ use Rattle.rtp_ext.specs.declared.ext.place.Place.{Place}
 use Rattle.rtp_ext.specs.Elements.{IsElement, element_bytes, AreElements}
 use Rattle.rtp_ext.specs.ElementWriting.{header_bytes}
 use Rattle.rtp_ext.specs.Places.{IsNextPlace, IsLastPlace}
-use Rattle.rtp_c.specs.declared.elements.ElementView.{ElementView}
+use Rattle.rtp_c.specs.declared.packet.ElementView.{ElementView}
 use Rattle.rtp_c.specs.PacketView.{bytes_at}
 use Rattle.rtp_c.specs.ElementView.{IsNextElement, IsLastElement}
 use Rattle.rtp_c.proofs.PacketLemmas.{middle}

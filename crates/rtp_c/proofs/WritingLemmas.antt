@@ -6,7 +6,7 @@ use Rattle.rtp_ext.specs.declared.ext.form.ExtensionsForm.{ExtensionsForm}
 use Rattle.rtp_ext.specs.declared.ext.form.ExtensionsForm.TheVariants.{OneByte, TwoByte}
 use Rattle.rtp_ext.specs.Elements.{Element, elements_bytes}
 use Rattle.rtp_ext.specs.ElementsInARow.{elements_of, IsWritable, FitInARow}
-use Rattle.rtp_c.specs.declared.elements.ElementView.{ElementView}
+use Rattle.rtp_c.specs.declared.packet.ElementView.{ElementView}
 use Rattle.rtp_c.specs.PacketView.{form_number}
 use Rattle.rtp_c.specs.WrittenElements.{LiesIn, LieIn, elements_in, AreTooLong}
 

@@ -5,7 +5,7 @@ use Rattle.rtp_ext.specs.Elements.{Element, IsElement, element_bytes, AreElement
 use Rattle.rtp_ext.specs.declared.ext.place.Place.{Place}
 use Rattle.rtp_ext.specs.ElementsInPlace.{HasNone}
 use Rattle.rtp_ext.specs.Places.{LiesLast}
-use Rattle.rtp_c.specs.declared.elements.ElementView.{ElementView}
+use Rattle.rtp_c.specs.declared.packet.ElementView.{ElementView}
 use Rattle.rtp_c.specs.PacketView.{bytes_at}
 
 -- the id and the data of the element

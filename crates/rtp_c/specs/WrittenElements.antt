@@ -4,7 +4,7 @@ use Rattle.std.specs.List.{All}
 use Rattle.rtp_ext.specs.declared.ext.form.ExtensionsForm.{ExtensionsForm}
 use Rattle.rtp_ext.specs.Elements.{Element, elements_bytes}
 use Rattle.rtp_ext.specs.ElementsInARow.{IsWritable}
-use Rattle.rtp_c.specs.declared.elements.ElementView.{ElementView}
+use Rattle.rtp_c.specs.declared.packet.ElementView.{ElementView}
 use Rattle.rtp_c.specs.ElementView.{element_in}
 
 -- the data of the element lie within these bytes

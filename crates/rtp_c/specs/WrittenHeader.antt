@@ -8,7 +8,7 @@ use Rattle.rtp_wire.specs.Packet.{IsPacket}
 use Rattle.rtp_wire.specs.Written.{wire_bytes, image_of}
 use Rattle.rtp_wire.specs.WrittenWith.{wire_bytes_with, parts_with}
 use Rattle.rtp_c.specs.declared.header_view.HeaderView.{HeaderView}
-use Rattle.rtp_c.specs.declared.elements.ElementView.{ElementView}
+use Rattle.rtp_c.specs.declared.packet.ElementView.{ElementView}
 use Rattle.rtp_c.specs.KindsOfIds.{HasKinds}
 use Rattle.rtp_c.specs.Given.{IsGivenHeader, AreGivenFields}
 use Rattle.rtp_c.specs.WrittenElements.{LieIn, elements_in}

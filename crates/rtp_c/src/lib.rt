@@ -4,16 +4,14 @@
 //! its outputs whole or not at all.
 #![tactic(auto)]
 
+ghost use Rattle.std.specs.Prelude.{◌≡◌};
+
 mod block_values;
 mod changing;
-mod changing_elements;
-mod changing_sources;
-mod elements;
 mod given;
 mod header_view;
 mod held;
 mod layers;
-mod layout;
 mod map;
 mod new_ids;
 mod packet;
@@ -22,6 +20,14 @@ mod reading;
 mod receiver;
 mod status;
 mod values;
-mod version;
 mod writing;
 mod writing_elements;
+
+/// The version of the library: 65,536 times its major number, 256 times the minor one, and the patch.
+/// That of the header file is `RTPW_VERSION`.
+#[unsafe(no_mangle)]
+pub extern "C" fn rtpw_version() -> u32
+    ensures { result ≡ 256 }
+{
+    256
+}

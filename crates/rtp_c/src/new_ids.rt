@@ -15,7 +15,7 @@ ghost use Rattle.rtp_c.specs.Status.{ok, bad_field, IsCauseStatus};
 ghost use Rattle.rtp_c.specs.ChangedElements.{BecomesPacket, HoldsValues};
 ghost use Rattle.rtp_c.specs.KindsOfIds.{AreNewIdsOf};
 
-use super::layout::layout_of;
+use super::changing::layout_of;
 use super::map::{KindsOfIds, kinds_of};
 use super::status::{BAD_FIELD, OK};
 use rtp_ext::NewIds;

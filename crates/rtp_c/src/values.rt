@@ -8,13 +8,12 @@ ghost use Rattle.rtp_c.specs.PacketView.{form_number};
 ghost use Rattle.rtp_c.specs.ValuesView.{IsViewOfValues, IsReadAs, TakesMemoryIn};
 
 use super::block_values::read_values;
-use super::elements::form_of;
 use super::held::{
     capture_offset, capture_time, held, held_flag, held_mid, held_orientation, held_rid, held_time,
     held_timing,
 };
 use super::map::KindsOfIds;
-use super::packet::flag_number;
+use super::packet::{flag_number, form_of};
 use super::status::{BAD_FIELD, NO_MEMORY, OK};
 use rtp_values::ExtensionValues;
 use std::alloc::Global;

@@ -6,10 +6,10 @@ ghost use Rattle.rtp_c.specs.Status.{ok, no_memory, short_buffer, bad_field};
 ghost use Rattle.rtp_c.specs.Given.{AreGivenFields, IsGivenHeader};
 ghost use Rattle.rtp_c.specs.WrittenHeader.{IsLengthOf, IsWrittenHeader, IsTooLong, CanBeWrittenWith, IsWrittenWith, IsTooLongWith};
 
-use super::elements::ElementView;
 use super::given::{put_given_fields, put_given_header};
 use super::header_view::HeaderView;
 use super::map::{KindsOfIds, put_kinds};
+use super::packet::ElementView;
 use super::status::{BAD_FIELD, OK, SHORT_BUFFER};
 use super::writing_elements::pairs_in;
 use rtp_ext::{ExtensionsForm, KindsById};

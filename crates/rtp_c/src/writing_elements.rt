@@ -9,7 +9,7 @@ ghost use Rattle.rtp_c.specs.PacketView.{form_number};
 ghost use Rattle.rtp_c.specs.ElementView.{element_in};
 ghost use Rattle.rtp_c.specs.WrittenElements.{LiesIn, LieIn, elements_in, AreWritable, AreWrittenElements, AreTooLong};
 
-use super::elements::{ElementView, form_of};
+use super::packet::{ElementView, form_of};
 use super::status::{BAD_FIELD, NO_MEMORY, OK, SHORT_BUFFER};
 use rtp_ext::{ExtensionsForm, write_elements};
 use std::alloc::Global;

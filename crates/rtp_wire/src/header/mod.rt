@@ -1,11 +1,11 @@
 //! The header of an RTP packet.
 
 mod block;
+mod of_packet;
 mod parsing;
 mod pieces;
 mod rtp_header;
 mod writing;
 mod writing_with;
 
-pub(crate) use pieces::flag;
 pub use rtp_header::RtpHeader;

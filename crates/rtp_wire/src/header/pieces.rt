@@ -3,7 +3,6 @@
 ghost use Rattle.std.specs.Prelude.{◌≡◌, ℕ, ◌+◌, ◌-◌, ◌*◌, ◌%◌, ◌^◌, ◌<◌, ◌≤◌, ◌↔◌, ◌++◌, List, length, drop, slice_index, Some, IsTrue, IsNone, IfSome, IfNone};
 ghost use Rattle.std.specs.List.{flat_map};
 ghost use Rattle.std.specs.Int.{w32, to_be_bytes};
-ghost use Rattle.rtp_base.specs.Flag.{bit};
 ghost use Rattle.rtp_base.specs.Overwriting.{overwritten};
 ghost use Rattle.rtp_ext.specs.declared.ext.form.ExtensionsForm.TheVariants.{OneByte};
 ghost use Rattle.rtp_ext.specs.ExtensionMap.{mapped_count};
@@ -15,6 +14,7 @@ ghost use Rattle.rtp_wire.specs.WrittenInForm.{announced_form, Serves, part_in, 
 
 use super::RtpHeader;
 use super::block::{block_fits, block_len, write_block};
+use crate::packet::flag;
 use rtp_base::put;
 use rtp_ext::{ExtensionMap, ExtensionsForm, KindsById};
 
@@ -30,13 +30,6 @@ pub(super) fn put_sources(buf: &mut [u8], at: usize, sources: &[u32]) -> usize
         end = put(buf, end, &source.to_be_bytes());
     }
     end
-}
-
-// Whether a flag is set, as the number that it adds to its byte.
-pub(crate) fn flag(is_set: bool, worth: u8) -> u8
-    ensures { result ≡ bit is_set * worth }
-{
-    if is_set { worth } else { 0 }
 }
 
 impl RtpHeader {

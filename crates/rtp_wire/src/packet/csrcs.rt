@@ -1,12 +1,9 @@
 //! The contributing sources of a packet.
 
-ghost use Rattle.std.specs.Prelude.{◌≡◌, ◌≤◌, length, map, Some, IfSome};
-ghost use Rattle.std.specs.Int.{w32, from_be_bytes};
+ghost use Rattle.std.specs.Prelude.{◌≡◌, length, Some, IfSome};
 ghost use Rattle.std.specs.Iterator.{YieldsFirst, item_count, at_most, UpTo};
 ghost use Rattle.std.specs.Iterator.SizeHint.{IsWithinCount};
 
-use super::RtpPacket;
-use super::parsing::sources_end;
 use std::marker::Model;
 
 /// The contributing sources of a packet in order, at most fifteen (RFC 3550, 5.1). They are read
@@ -14,7 +11,7 @@ use std::marker::Model;
 #[derive(Debug, Drop)]
 pub struct Csrcs<'a> {
     // The groups of bytes that are left, one for each source.
-    left: &'a [[u8; 4]],
+    pub(super) left: &'a [[u8; 4]],
 }
 
 impl<'a> Model for Csrcs<'a> {
@@ -53,27 +50,5 @@ impl<'a> Iterator for Csrcs<'a> {
 impl<'a> ExactSizeIterator for Csrcs<'a> {
     fn len(&self) -> usize {
         self.left.len()
-    }
-}
-
-impl<'a> RtpPacket<'a> {
-    ghost use Rattle.rtp_wire.specs.PartsOf.{parts_of};
-
-    // The groups of bytes of the contributing sources.
-    pub(super) fn groups(&self) -> &'a [[u8; 4]]
-        ensures sources { map (from_be_bytes w32) result.now ≡ (parts_of self.now).sources }
-        ensures few { length result.now ≤ 15 }
-    {
-        let (groups, _) = self.datagram[12..sources_end(self.datagram[0])].as_chunks::<4>();
-        groups
-    }
-
-    /// The contributing sources.
-    pub fn csrc(&self) -> Csrcs<'a>
-        ensures { result ≡ (parts_of self.now).sources }
-    {
-        Csrcs {
-            left: self.groups(),
-        }
     }
 }

@@ -1,8 +1,18 @@
 //! The packet as a value.
 
-ghost use Rattle.std.specs.Prelude.{◌≡◌, ◌/◌, ◌<◌, ◌≤◌, ℕ, length, slice_index, is_some};
-ghost use Rattle.rtp_wire.specs.PartsAt.{form_in, has_block, header_end};
+ghost use Rattle.std.specs.Prelude.{◌≡◌, ◌↔◌, ◌+◌, ◌*◌, ◌/◌, ◌%◌, ◌<◌, ◌≤◌, ℕ, List, Some, length, map, slice_index, is_some, true, IsNone, IsErr, IfOk, IfErr, IfSome, IsOkAnd, IsSomeAnd};
+ghost use Rattle.std.specs.Int.{w32, from_be_bytes};
+ghost use Rattle.std.specs.Option.{option_map};
+ghost use Rattle.rtp_wire.specs.Block.{word_at};
+ghost use Rattle.rtp_wire.specs.NotAHeader.{NotAHeader};
+ghost use Rattle.rtp_wire.specs.NotAPacket.{AppliesToBlock, IsFirst, IsFirstCause};
+ghost use Rattle.rtp_wire.specs.Packet.{PacketParts, IsPacket, IsWithoutPadding, header_len_of};
+ghost use Rattle.rtp_wire.specs.Padding.{padding_count};
+ghost use Rattle.rtp_wire.specs.PartsAt.{form_in, form_of_word, has_block, header_end};
 
+use super::{Csrcs, NotAPacket};
+use crate::payload::unpad_payload;
+use rtp_base::{Pt, Ssrc};
 use rtp_ext::ExtensionsForm;
 
 /// An RTP packet in the bytes of a datagram, with a header that was found well-formed (RFC 3550,
@@ -24,10 +34,46 @@ pub struct RtpPacket<'a> {
 }
 
 impl<'a> RtpPacket<'a> {
-    ghost use Rattle.rtp_wire.specs.PartsOf.{bytes_of};
+    ghost use Rattle.rtp_wire.specs.PartsOf.{parts_of, bytes_of};
+
+    /// Returns the packet that the datagram is (RFC 3550, 5.1 and 5.3.1; RFC 8285, 4), or the first
+    /// cause for which it is none. Only the header is looked at, and nothing is allocated.
+    ///
+    /// The twenty bytes `90 21 B7 98 00 00 27 10 00 00 00 2C BE DE 00 01 30 2A 00 00` are a packet of
+    /// payload type 33, sequence number 47,000, timestamp 10,000 and SSRC 44, with a block in the
+    /// one-byte form and no payload.
+    pub fn parse(datagram: &'a [u8]) -> Result<Self, NotAPacket>
+        // The packet has the parts of these bytes, and bytes that have such parts are a packet.
+        ensures found { IfOk result (λ packet. IsPacket datagram.now (parts_of packet)) }
+        ensures only { (parts : PacketParts) → IsPacket datagram.now parts →
+            IsOkAnd result (λ packet. parts_of packet ≡ parts) }
+
+        ensures bytes { IfOk result (λ packet. bytes_of packet ≡ datagram.now) }
+
+        // The cause is the first that applies, and there are no others.
+        ensures cause { IfErr result (IsFirstCause datagram.now) }
+        ensures refused { IsErr result ↔ NotAHeader datagram.now }
+    {
+        if datagram.len() < 12 {
+            return Err(NotAPacket::CutFixedPart);
+        }
+        let first = datagram[0];
+        if first >> 6 != 2 {
+            return Err(NotAPacket::OtherVersion);
+        }
+        let start = sources_end(first);
+        let Some((_, after)) = datagram.split_at_checked(start) else {
+            return Err(NotAPacket::CutSources);
+        };
+        if first & 0x10 == 0 {
+            return Ok(Self::new(datagram, start, None));
+        }
+        let (form, block_len) = first_block(after)?;
+        Ok(Self::new(datagram, start + block_len, Some(form)))
+    }
 
     // The packet in the datagram, whose header ends here and whose block has this form.
-    pub(super) fn found(datagram: &'a [u8], header_len: usize, form: Option<ExtensionsForm>) -> Self
+    pub(super) fn new(datagram: &'a [u8], header_len: usize, form: Option<ExtensionsForm>) -> Self
         requires fixed { 12 ≤ length datagram.now }
         requires version { slice_index datagram.now 0 / 64 ≡ 2 }
         requires announced { form ≡ form_in datagram.now }
@@ -42,4 +88,153 @@ impl<'a> RtpPacket<'a> {
             form,
         }
     }
+
+    // The groups of bytes of the contributing sources.
+    pub(crate) fn groups(&self) -> &'a [[u8; 4]]
+        ensures sources { map (from_be_bytes w32) result.now ≡ (parts_of self.now).sources }
+        ensures few { length result.now ≤ 15 }
+    {
+        let (groups, _) = self.datagram[12..sources_end(self.datagram[0])].as_chunks::<4>();
+        groups
+    }
+
+    /// The contributing sources.
+    pub fn csrc(&self) -> Csrcs<'a>
+        ensures { result ≡ (parts_of self.now).sources }
+    {
+        Csrcs {
+            left: self.groups(),
+        }
+    }
+
+    /// The payload: where P is set, the bytes before the padding, whose last byte counts it, itself
+    /// included (RFC 3550, 5.1). Returns `None` where that count is greater than the number of bytes.
+    /// A last byte of 0 takes nothing away, and without any byte the payload is empty.
+    pub fn unpadded_payload(&self) -> Option<&'a [u8]>
+        ensures found { IfSome result (λ payload.
+            IsWithoutPadding (parts_of self.now).has_padding (parts_of self.now).payload payload.now) }
+        ensures only { (payload : List ℕ) →
+            IsWithoutPadding (parts_of self.now).has_padding (parts_of self.now).payload payload →
+            IsSomeAnd result (λ found. found.now ≡ payload) }
+        ensures refused { IsNone result ↔ ((parts_of self.now).has_padding ≡ true)
+            × (length (parts_of self.now).payload < padding_count (parts_of self.now).payload) }
+    {
+        if self.has_padding() {
+            unpad_payload(self.payload())
+        } else {
+            Some(self.payload())
+        }
+    }
+}
+
+// The fields of the header, read from their places, and the bytes after it.
+#[tactic(auto, unfolding(crate::specs::PartsAt::parts_at))]
+impl<'a> RtpPacket<'a> {
+    ghost use Rattle.rtp_wire.specs.PartsOf.{parts_of};
+
+    /// Whether padding bytes end the payload, the last of which counts them.
+    pub fn has_padding(&self) -> bool
+        ensures { result ≡ (parts_of self.now).has_padding }
+    {
+        self.datagram[0] & 0x20 != 0
+    }
+
+    /// Whether a block of header extensions follows the CSRC list.
+    pub fn has_extension(&self) -> bool
+        ensures { result ≡ (parts_of self.now).has_extension }
+    {
+        self.form.is_some()
+    }
+
+    /// A mark whose meaning the payload's profile gives.
+    pub fn marker(&self) -> bool
+        ensures { result ≡ (parts_of self.now).marker }
+    {
+        self.datagram[1] & 0x80 != 0
+    }
+
+    /// What the payload is, 0 to 127.
+    pub fn payload_type(&self) -> Pt
+        ensures { result ≡ (parts_of self.now).payload_type }
+    {
+        Pt::from(self.datagram[1] & 0x7F)
+    }
+
+    /// The low 16 bits of the packet's number, which rises by one from packet to packet.
+    pub fn sequence_number(&self) -> u16
+        ensures { result ≡ (parts_of self.now).sequence_number }
+    {
+        u16::from_be_bytes([self.datagram[2], self.datagram[3]])
+    }
+
+    /// The moment of the payload's first byte, in ticks of the payload's own clock.
+    pub fn timestamp(&self) -> u32
+        ensures { result ≡ (parts_of self.now).timestamp }
+    {
+        let bytes = self.datagram;
+        u32::from_be_bytes([bytes[4], bytes[5], bytes[6], bytes[7]])
+    }
+
+    /// The source whose stream this is.
+    pub fn ssrc(&self) -> Ssrc
+        ensures { result ≡ (parts_of self.now).ssrc }
+    {
+        let bytes = self.datagram;
+        Ssrc::from(u32::from_be_bytes([bytes[8], bytes[9], bytes[10], bytes[11]]))
+    }
+
+    /// How many bytes the header takes: the payload begins there.
+    pub fn header_len(&self) -> usize
+        ensures { result ≡ header_len_of (parts_of self.now) }
+    {
+        self.header_len
+    }
+
+    /// The form of the block, and `None` where X is clear.
+    pub fn form(&self) -> Option<ExtensionsForm>
+        ensures { result ≡ option_map (λ block. block.0) (parts_of self.now).block }
+    {
+        self.form
+    }
+
+    /// All bytes after the header, with any padding.
+    pub fn payload(&self) -> &'a [u8]
+        ensures { result.now ≡ (parts_of self.now).payload }
+    {
+        &self.datagram[self.header_len..]
+    }
+}
+
+// The length of the fixed bytes and the sources, by the first byte.
+fn sources_end(first: u8) -> usize
+    ensures { result ≡ 12 + 4 * (first % 16) }
+{
+    12 + 4 * usize::from(first & 0x0F)
+}
+
+// Where the body of the block begins, after its header of four bytes.
+pub(super) fn body_start(first: u8) -> usize
+    ensures { result ≡ 16 + 4 * (first % 16) }
+{
+    sources_end(first) + 4
+}
+
+// The form of the block at the front of the bytes, and its length.
+fn first_block(bytes: &[u8]) -> Result<(ExtensionsForm, usize), NotAPacket>
+    ensures form { IfOk result (λ block. form_of_word (word_at bytes.now 0) ≡ Some block.0) }
+    ensures length { IfOk result (λ block. block.1 ≡ 4 + 4 * word_at bytes.now 2) }
+    ensures within { IfOk result (λ block. block.1 ≤ length bytes.now) }
+    ensures cause { IfErr result (IsFirst (AppliesToBlock bytes.now)) }
+{
+    let Some((header, after)) = bytes.split_first_chunk::<4>() else {
+        return Err(NotAPacket::CutBlockHeader);
+    };
+    let Some(form) = ExtensionsForm::parse([header[0], header[1]]) else {
+        return Err(NotAPacket::UnknownForm);
+    };
+    let body_len = 4 * usize::from(u16::from_be_bytes([header[2], header[3]]));
+    if after.len() < body_len {
+        return Err(NotAPacket::CutBlock);
+    }
+    Ok((form, 4 + body_len))
 }

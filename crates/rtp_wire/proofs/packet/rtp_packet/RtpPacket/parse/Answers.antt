@@ -1,4 +1,5 @@
-use Rattle.std.proofs.Common.{arith, ap, subst, ◌∙◌, ℕ, List, drop}
+use Rattle.std.proofs.Common.{arith, ap, sym, subst, ◌∙◌, ◌<◌, ℕ, List, drop}
+use Rattle.std.specs.Prelude.{slice_index}
 use Rattle.std.proofs.lemmas.Bool.{false≢true}
 use Rattle.std.proofs.lemmas.Result.{err_from_is_err_and}
 use Rattle.rtp_wire.specs.NotAPacket.{IsFirst, AppliesToBlock, IsFirstCause}
@@ -14,19 +15,27 @@ pub returns-in_default-clause-only : goal.returns-in_default-clause-only
 returns-in_default-clause-only c parts is =
     no_packet c.args.datagram.now CutSources parts (omega (arith, c.sources_end-start.ensures, c.in_default.ensures.cases)) is
 
-pub invariant_of-result : goal.invariant_of-result
-invariant_of-result c =
-    let header = HasHeader-plain c.args.datagram.now c.sources_end-start.result c.if-datagram-lt12.false c.if-first-ne2.false c.sources_end-start.ensures c.in-Some.ensures.cases.0 c.if-first-eq0.true in
-    record { bytes = λ i. omega (arith, c.type_inv.datagram i); fixed = header.fixed; version = header.version; announced = header.announced; known = header.known; ends = header.ends; within = header.within }
+pub new-requires : goal.new-requires
+new-requires c =
+    HasHeader-plain c.args.datagram.now c.sources_end-start.result c.if-datagram-lt12.false c.if-first-ne2.false c.sources_end-start.ensures c.in-Some.ensures.cases.0 c.if-first-eq0.true
 
-pub returns-then-first-eq0-clause-found : goal.returns-then-first-eq0-clause-found
-returns-then-first-eq0-clause-found c =
-    IsPacket-whole c.args.datagram.now (omega (arith, c.type_inv.datagram 1))
+-- the packet without a block
+plain : (c : goal.After-new) → slice_index c.args.datagram.now 1 < 256 → IsPacket c.args.datagram.now (parts_at c.args.datagram.now)
+plain c fits =
+    IsPacket-whole c.args.datagram.now fits
     (IsWhole-header _ _ _
     (HasHeader-plain c.args.datagram.now c.sources_end-start.result c.if-datagram-lt12.false c.if-first-ne2.false c.sources_end-start.ensures c.in-Some.ensures.cases.0 c.if-first-eq0.true))
 
+pub returns-then-first-eq0-clause-found : goal.returns-then-first-eq0-clause-found
+returns-then-first-eq0-clause-found c =
+    subst (λ (b : List ℕ). IsPacket c.args.datagram.now (parts_at b)) (sym c.new.ensures) (plain c (omega (arith, c.type_inv.datagram 1)))
+
 pub returns-then-first-eq0-clause-only : goal.returns-then-first-eq0-clause-only
-returns-then-first-eq0-clause-only c parts is = one_packet c.args.datagram.now parts is
+returns-then-first-eq0-clause-only c parts is = ap parts_at c.new.ensures ∙ one_packet c.args.datagram.now parts is
+
+pub returns-then-first-eq0-clause-refused : goal.returns-then-first-eq0-clause-refused
+returns-then-first-eq0-clause-refused c =
+    (λ wrong. absurd (false≢true wrong), λ none. absurd (no_packet-refused c.args.datagram.now _ none (plain c (omega (arith, c.type_inv.datagram 1)))))
 
 -- the cause that was found in the block
 block_cause : (c : goal.After-from_residual) → IsFirstCause c.args.datagram.now c.in_err-form.field-0.0
@@ -47,28 +56,28 @@ pub returns-in_err-form-clause-refused : goal.returns-in_err-form-clause-refused
 returns-in_err-form-clause-refused c =
     (λ _. NotAHeader-applies c.args.datagram.now c.in_err-form.field-0.0 (block_cause c).applies, λ _. c.from_residual.ensures.0)
 
-pub invariant_of-result-2 : goal.invariant_of-result-2
-invariant_of-result-2 c =
-    let header = HasHeader-extended c.args.datagram.now c.in-Some.after.now c.sources_end-start.result c.in_ok-form.block_len c.in_ok-form.form
+pub new-requires-2 : goal.new-requires-2
+new-requires-2 c =
+    HasHeader-extended c.args.datagram.now c.in-Some.after.now c.sources_end-start.result c.in_ok-form.block_len c.in_ok-form.form
     c.if-datagram-lt12.false c.if-first-ne2.false c.sources_end-start.ensures c.in-Some.ensures.cases.0 c.in-Some.ensures.cases.2
-    c.if-first-eq0.false c.in_ok-form.ensures.form c.in_ok-form.ensures.length c.in_ok-form.ensures.within in
-    record { bytes = λ i. omega (arith, c.type_inv.datagram i); fixed = header.fixed; version = header.version; announced = header.announced; known = header.known; ends = header.ends; within = header.within }
+    c.if-first-eq0.false c.in_ok-form.ensures.form c.in_ok-form.ensures.length c.in_ok-form.ensures.within
 
 -- the packet with a block
-extended : (c : goal.After-result-2-1) → IsPacket c.args.datagram.now (parts_at c.args.datagram.now)
-extended c =
-    IsPacket-whole c.args.datagram.now (omega (arith, c.type_inv.datagram 1))
+extended : (c : goal.After-new-2) → slice_index c.args.datagram.now 1 < 256 → IsPacket c.args.datagram.now (parts_at c.args.datagram.now)
+extended c fits =
+    IsPacket-whole c.args.datagram.now fits
     (IsWhole-header _ _ _
     (HasHeader-extended c.args.datagram.now c.in-Some.after.now c.sources_end-start.result c.in_ok-form.block_len c.in_ok-form.form
     c.if-datagram-lt12.false c.if-first-ne2.false c.sources_end-start.ensures c.in-Some.ensures.cases.0 c.in-Some.ensures.cases.2
     c.if-first-eq0.false c.in_ok-form.ensures.form c.in_ok-form.ensures.length c.in_ok-form.ensures.within))
 
 pub returns-clause-found : goal.returns-clause-found
-returns-clause-found c = extended c
+returns-clause-found c =
+    subst (λ (b : List ℕ). IsPacket c.args.datagram.now (parts_at b)) (sym c.new-2.ensures) (extended c (omega (arith, c.type_inv.datagram 1)))
 
 pub returns-clause-only : goal.returns-clause-only
-returns-clause-only c parts is = one_packet c.args.datagram.now parts is
+returns-clause-only c parts is = ap parts_at c.new-2.ensures ∙ one_packet c.args.datagram.now parts is
 
 pub returns-clause-refused : goal.returns-clause-refused
 returns-clause-refused c =
-    (λ wrong. absurd (false≢true wrong), λ none. absurd (no_packet-refused c.args.datagram.now _ none (extended c)))
+    (λ wrong. absurd (false≢true wrong), λ none. absurd (no_packet-refused c.args.datagram.now _ none (extended c (omega (arith, c.type_inv.datagram 1)))))

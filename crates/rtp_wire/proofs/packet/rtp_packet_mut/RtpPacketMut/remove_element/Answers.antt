@@ -24,31 +24,31 @@ returns-in_default-clause-elements c elements are =
     subst (AreElementsOf (parts_in c.args.self.now).block) (none ∙ sym (ap (filter_map (renumbered (all_but c.args.id))) none)) are
 
 pub slice_bounds-remove_element-count : goal.slice_bounds-remove_element-count
-slice_bounds-remove_element-count c = body_in c.args.self.now c.in-Some.form _ c.in-Some.is (omega (arith, c.sources_end-start.ensures))
+slice_bounds-remove_element-count c = body_in c.args.self.now c.in-Some.form _ c.in-Some.is (omega (arith, c.body_start-start.ensures))
 
 pub slice_bounds-remove_element-start : goal.slice_bounds-remove_element-start
 slice_bounds-remove_element-start c =
-    let fits : c.sources_end-start.result + 4 ≤ c.args.self.now.header_len = body_in c.args.self.now c.in-Some.form _ c.in-Some.is (omega (arith, c.sources_end-start.ensures)) in
+    let fits : c.body_start-start.result ≤ c.args.self.now.header_len = body_in c.args.self.now c.in-Some.form _ c.in-Some.is (omega (arith, c.body_start-start.ensures)) in
     search rules
 
 pub invariant_of-self : goal.invariant_of-self
 invariant_of-self c =
-    HasHeader-body c.args.self.now c.in-Some.form (c.sources_end-start.result + 4) c.in-Some.is (omega (arith, c.sources_end-start.ensures))
+    HasHeader-body c.args.self.now c.in-Some.form c.body_start-start.result c.in-Some.is (omega (arith, c.body_start-start.ensures))
     c.remove_element.new.body c.remove_element.auto.body
 
 pub returns-clause-removed : goal.returns-clause-removed
 returns-clause-removed c = OnTrue_from _ _ (λ _.
-    ChangesBlock-body c.args.self.now c.in-Some.form (c.sources_end-start.result + 4) c.in-Some.is (omega (arith, c.sources_end-start.ensures))
+    ChangesBlock-body c.args.self.now c.in-Some.form c.body_start-start.result c.in-Some.is (omega (arith, c.body_start-start.ensures))
     c.remove_element.new.body c.remove_element.auto.body (λ form. HasOtherIds form (all_but c.args.id)) c.remove_element.ensures.removed)
 
 pub returns-clause-answer : goal.returns-clause-answer
 returns-clause-answer c elements are =
-    c.remove_element.ensures.answer elements (AreElements-in c.args.self.now c.in-Some.form _ c.in-Some.is (omega (arith, c.sources_end-start.ensures)) elements are)
+    c.remove_element.ensures.answer elements (AreElements-in c.args.self.now c.in-Some.form _ c.in-Some.is (omega (arith, c.body_start-start.ensures)) elements are)
 
 pub returns-clause-elements : goal.returns-clause-elements
 returns-clause-elements c elements are =
-    let start : c.sources_end-start.result + 4 ≡ sources_end c.args.self.now.datagram.now + 4 = omega (arith, c.sources_end-start.ensures) in
-    AreElements-out c.args.self.now c.in-Some.form (c.sources_end-start.result + 4) c.in-Some.is start c.remove_element.new.body c.remove_element.auto.body
+    let start : c.body_start-start.result ≡ sources_end c.args.self.now.datagram.now + 4 = omega (arith, c.body_start-start.ensures) in
+    AreElements-out c.args.self.now c.in-Some.form c.body_start-start.result c.in-Some.is start c.remove_element.new.body c.remove_element.auto.body
     (filter_map (renumbered (all_but c.args.id)) elements)
     (c.remove_element.ensures.elements elements (AreElements-in c.args.self.now c.in-Some.form _ c.in-Some.is start elements are))
 
@@ -57,5 +57,5 @@ returns-in_default-clause-bytes c = ChangesOnly-nothing _ _ c.args.self.now.data
 
 pub returns-clause-bytes : goal.returns-clause-bytes
 returns-clause-bytes c =
-    between c.args.self.now c.in-Some.form (c.sources_end-start.result + 4) c.in-Some.is (omega (arith, c.sources_end-start.ensures))
+    between c.args.self.now c.in-Some.form c.body_start-start.result c.in-Some.is (omega (arith, c.body_start-start.ensures))
     c.remove_element.new.body c.remove_element.auto.body

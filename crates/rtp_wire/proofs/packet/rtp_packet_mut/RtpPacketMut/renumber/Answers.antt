@@ -41,49 +41,49 @@ returns-in_default-clause-values c from to values new has =
     }
 
 pub slice_bounds-renumber-count : goal.slice_bounds-renumber-count
-slice_bounds-renumber-count c = body_in c.args.self.now c.in-Some.form _ c.in-Some.is (omega (arith, c.sources_end-start.ensures))
+slice_bounds-renumber-count c = body_in c.args.self.now c.in-Some.form _ c.in-Some.is (omega (arith, c.body_start-start.ensures))
 
 pub slice_bounds-renumber-start : goal.slice_bounds-renumber-start
 slice_bounds-renumber-start c =
-    let fits : c.sources_end-start.result + 4 ≤ c.args.self.now.header_len = body_in c.args.self.now c.in-Some.form _ c.in-Some.is (omega (arith, c.sources_end-start.ensures)) in
+    let fits : c.body_start-start.result ≤ c.args.self.now.header_len = body_in c.args.self.now c.in-Some.form _ c.in-Some.is (omega (arith, c.body_start-start.ensures)) in
     search rules
 
 pub invariant_of-self : goal.invariant_of-self
 invariant_of-self c =
-    HasHeader-body c.args.self.now c.in-Some.form (c.sources_end-start.result + 4) c.in-Some.is (omega (arith, c.sources_end-start.ensures))
+    HasHeader-body c.args.self.now c.in-Some.form c.body_start-start.result c.in-Some.is (omega (arith, c.body_start-start.ensures))
     c.renumber.new.body c.renumber.auto.body
 
 pub returns-clause-renumbered : goal.returns-clause-renumbered
 returns-clause-renumbered c =
-    let start : c.sources_end-start.result + 4 ≡ sources_end c.args.self.now.datagram.now + 4 = omega (arith, c.sources_end-start.ensures) in
+    let start : c.body_start-start.result ≡ sources_end c.args.self.now.datagram.now + 4 = omega (arith, c.body_start-start.ensures) in
     OnTrue_from _ _ (λ set.
     if_some _ _
-    (ChangesBlock-body c.args.self.now c.in-Some.form (c.sources_end-start.result + 4) c.in-Some.is start
+    (ChangesBlock-body c.args.self.now c.in-Some.form c.body_start-start.result c.in-Some.is start
     c.renumber.new.body c.renumber.auto.body (λ form. HasOtherIds form (new_id c.args.ids.now)) (OnTrue_at set c.renumber.ensures.renumbered)))
 
 pub returns-clause-without_block : goal.returns-clause-without_block
 returns-clause-without_block c =
-    if_not_none _ _ _ (block_in c.args.self.now c.in-Some.form (c.sources_end-start.result + 4) c.in-Some.is (omega (arith, c.sources_end-start.ensures)))
+    if_not_none _ _ _ (block_in c.args.self.now c.in-Some.form c.body_start-start.result c.in-Some.is (omega (arith, c.body_start-start.ensures)))
 
 pub returns-clause-answer : goal.returns-clause-answer
 returns-clause-answer c elements are =
-    let start : c.sources_end-start.result + 4 ≡ sources_end c.args.self.now.datagram.now + 4 = omega (arith, c.sources_end-start.ensures) in
+    let start : c.body_start-start.result ≡ sources_end c.args.self.now.datagram.now + 4 = omega (arith, c.body_start-start.ensures) in
     subst (λ (b : Option (ExtensionsForm × List ℕ)). IsTrue c.renumber.result ↔ IfSome b (λ block. All (CanRenumber block.0 (new_id c.args.ids.now)) elements))
-    (sym (block_in c.args.self.now c.in-Some.form (c.sources_end-start.result + 4) c.in-Some.is start))
+    (sym (block_in c.args.self.now c.in-Some.form c.body_start-start.result c.in-Some.is start))
     (c.renumber.ensures.answer elements (AreElements-in c.args.self.now c.in-Some.form _ c.in-Some.is start elements are))
 
 pub returns-clause-elements : goal.returns-clause-elements
 returns-clause-elements c elements are =
-    let start : c.sources_end-start.result + 4 ≡ sources_end c.args.self.now.datagram.now + 4 = omega (arith, c.sources_end-start.ensures) in
-    OnTrue_from _ _ (λ set. AreElements-out c.args.self.now c.in-Some.form (c.sources_end-start.result + 4) c.in-Some.is start c.renumber.new.body c.renumber.auto.body
+    let start : c.body_start-start.result ≡ sources_end c.args.self.now.datagram.now + 4 = omega (arith, c.body_start-start.ensures) in
+    OnTrue_from _ _ (λ set. AreElements-out c.args.self.now c.in-Some.form c.body_start-start.result c.in-Some.is start c.renumber.new.body c.renumber.auto.body
     (filter_map (renumbered (new_id c.args.ids.now)) elements)
     (OnTrue_at set (c.renumber.ensures.elements elements (AreElements-in c.args.self.now c.in-Some.form _ c.in-Some.is start elements are))))
 
 pub returns-clause-values : goal.returns-clause-values
 returns-clause-values c from to values new has =
-    let start : c.sources_end-start.result + 4 ≡ sources_end c.args.self.now.datagram.now + 4 = omega (arith, c.sources_end-start.ensures) in
-    let says = HasValues-in c.args.self.now c.in-Some.form (c.sources_end-start.result + 4) c.in-Some.is start from values has in
-    OnTrue_from _ _ (λ set. HasValues-out c.args.self.now c.in-Some.form (c.sources_end-start.result + 4) c.in-Some.is start
+    let start : c.body_start-start.result ≡ sources_end c.args.self.now.datagram.now + 4 = omega (arith, c.body_start-start.ensures) in
+    let says = HasValues-in c.args.self.now c.in-Some.form c.body_start-start.result c.in-Some.is start from values has in
+    OnTrue_from _ _ (λ set. HasValues-out c.args.self.now c.in-Some.form c.body_start-start.result c.in-Some.is start
     c.renumber.new.body c.renumber.auto.body to (mapped_fields to values) (OnTrue_at set (c.renumber.ensures.values from to values new says)))
 
 pub returns-in_default-clause-bytes : goal.returns-in_default-clause-bytes
@@ -91,5 +91,5 @@ returns-in_default-clause-bytes c = ChangesOnly-nothing _ _ c.args.self.now.data
 
 pub returns-clause-bytes : goal.returns-clause-bytes
 returns-clause-bytes c =
-    between c.args.self.now c.in-Some.form (c.sources_end-start.result + 4) c.in-Some.is (omega (arith, c.sources_end-start.ensures))
+    between c.args.self.now c.in-Some.form c.body_start-start.result c.in-Some.is (omega (arith, c.body_start-start.ensures))
     c.renumber.new.body c.renumber.auto.body

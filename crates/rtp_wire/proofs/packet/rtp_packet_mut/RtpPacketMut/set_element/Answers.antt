@@ -18,49 +18,49 @@ returns-in_default-clause-answer c elements are = (
 )
 
 pub slice_bounds-set_element-count : goal.slice_bounds-set_element-count
-slice_bounds-set_element-count c = body_in c.args.self.now c.in-Some.form _ c.in-Some.is (omega (arith, c.sources_end-start.ensures))
+slice_bounds-set_element-count c = body_in c.args.self.now c.in-Some.form _ c.in-Some.is (omega (arith, c.body_start-start.ensures))
 
 pub slice_bounds-set_element-start : goal.slice_bounds-set_element-start
 slice_bounds-set_element-start c =
-    let fits : c.sources_end-start.result + 4 ≤ c.args.self.now.header_len = body_in c.args.self.now c.in-Some.form _ c.in-Some.is (omega (arith, c.sources_end-start.ensures)) in
+    let fits : c.body_start-start.result ≤ c.args.self.now.header_len = body_in c.args.self.now c.in-Some.form _ c.in-Some.is (omega (arith, c.body_start-start.ensures)) in
     search rules
 
 pub invariant_of-self : goal.invariant_of-self
 invariant_of-self c =
-    HasHeader-body c.args.self.now c.in-Some.form (c.sources_end-start.result + 4) c.in-Some.is (omega (arith, c.sources_end-start.ensures))
+    HasHeader-body c.args.self.now c.in-Some.form c.body_start-start.result c.in-Some.is (omega (arith, c.body_start-start.ensures))
     c.set_element.new.body c.set_element.auto.body
 
 pub returns-clause-set : goal.returns-clause-set
 returns-clause-set c = OnTrue_from _ _ (λ set.
-    ChangesBlock-body c.args.self.now c.in-Some.form (c.sources_end-start.result + 4) c.in-Some.is (omega (arith, c.sources_end-start.ensures))
+    ChangesBlock-body c.args.self.now c.in-Some.form c.body_start-start.result c.in-Some.is (omega (arith, c.body_start-start.ensures))
     c.set_element.new.body c.set_element.auto.body (λ form. SetsLast form c.args.id c.args.data.now) (OnTrue_at set c.set_element.ensures.set))
 
 pub returns-clause-written : goal.returns-clause-written
 returns-clause-written c = OnTrue_from _ _ (λ set.
-    ChangesBlock-body c.args.self.now c.in-Some.form (c.sources_end-start.result + 4) c.in-Some.is (omega (arith, c.sources_end-start.ensures))
+    ChangesBlock-body c.args.self.now c.in-Some.form c.body_start-start.result c.in-Some.is (omega (arith, c.body_start-start.ensures))
     c.set_element.new.body c.set_element.auto.body (λ form. WritesLast form c.args.id c.args.data.now) (OnTrue_at set c.set_element.ensures.written))
 
 pub returns-clause-answer : goal.returns-clause-answer
 returns-clause-answer c elements are =
-    c.set_element.ensures.answer elements (AreElements-in c.args.self.now c.in-Some.form _ c.in-Some.is (omega (arith, c.sources_end-start.ensures)) elements are)
+    c.set_element.ensures.answer elements (AreElements-in c.args.self.now c.in-Some.form _ c.in-Some.is (omega (arith, c.body_start-start.ensures)) elements are)
 
 pub returns-clause-other_values : goal.returns-clause-other_values
 returns-clause-other_values c exts kind old new mapped was says =
-    let start : c.sources_end-start.result + 4 ≡ sources_end c.args.self.now.datagram.now + 4 = omega (arith, c.sources_end-start.ensures) in
+    let start : c.body_start-start.result ≡ sources_end c.args.self.now.datagram.now + 4 = omega (arith, c.body_start-start.ensures) in
     c.set_element.ensures.other_values exts kind old new mapped
-    (HasValues-in c.args.self.now c.in-Some.form (c.sources_end-start.result + 4) c.in-Some.is start exts old was)
-    (HasValues-new c.args.self.now c.in-Some.form (c.sources_end-start.result + 4) c.in-Some.is start c.set_element.new.body c.set_element.auto.body exts new says)
+    (HasValues-in c.args.self.now c.in-Some.form c.body_start-start.result c.in-Some.is start exts old was)
+    (HasValues-new c.args.self.now c.in-Some.form c.body_start-start.result c.in-Some.is start c.set_element.new.body c.set_element.auto.body exts new says)
 
 pub returns-clause-values : goal.returns-clause-values
 returns-clause-values c exts kind new only well_formed says =
-    let start : c.sources_end-start.result + 4 ≡ sources_end c.args.self.now.datagram.now + 4 = omega (arith, c.sources_end-start.ensures) in
+    let start : c.body_start-start.result ≡ sources_end c.args.self.now.datagram.now + 4 = omega (arith, c.body_start-start.ensures) in
     c.set_element.ensures.values exts kind new only well_formed
-    (HasValues-new c.args.self.now c.in-Some.form (c.sources_end-start.result + 4) c.in-Some.is start c.set_element.new.body c.set_element.auto.body exts new says)
+    (HasValues-new c.args.self.now c.in-Some.form c.body_start-start.result c.in-Some.is start c.set_element.new.body c.set_element.auto.body exts new says)
 
 pub returns-in_default-clause-bytes : goal.returns-in_default-clause-bytes
 returns-in_default-clause-bytes c = ChangesOnly-nothing _ _ c.args.self.now.datagram.now
 
 pub returns-clause-bytes : goal.returns-clause-bytes
 returns-clause-bytes c =
-    between c.args.self.now c.in-Some.form (c.sources_end-start.result + 4) c.in-Some.is (omega (arith, c.sources_end-start.ensures))
+    between c.args.self.now c.in-Some.form c.body_start-start.result c.in-Some.is (omega (arith, c.body_start-start.ensures))
     c.set_element.new.body c.set_element.auto.body

@@ -1,5 +1,5 @@
 use Rattle.std.proofs.Common.{arith}
-use Rattle.rtp_wire.proofs.packet.rtp_packet.RtpPacket.found.Goals as goal
+use Rattle.rtp_wire.proofs.packet.rtp_packet.RtpPacket.new.Goals as goal
 
 pub invariant_of-result : goal.invariant_of-result
 invariant_of-result c = record {

@@ -1,6 +1,6 @@
 use Rattle.std.proofs.Common.{arith}
 use Rattle.rtp_c.proofs.ElementLemmas.{IsNextElement-place}
-use Rattle.rtp_c.proofs.elements.rtpw_next_element.Goals as goal
+use Rattle.rtp_c.proofs.packet.rtpw_next_element.Goals as goal
 
 pub returns-clause-found : goal.returns-clause-found
 returns-clause-found c is_ok =

@@ -2,7 +2,7 @@ use Rattle.std.proofs.Common.{◌<◌, refl, sym, ap, subst, arith, rules, lengt
 use Rattle.std.proofs.lemmas.Bool.{false≢true}
 use Rattle.rtp_wire.specs.Packet.{PacketParts}
 use Rattle.rtp_c.proofs.ChangeLemmas.{parts-in, IsPacket-set}
-use Rattle.rtp_c.proofs.changing_sources.rtpw_set_csrc.Goals as goal
+use Rattle.rtp_c.proofs.changing.rtpw_set_csrc.Goals as goal
 
 pub returns-in-Err-clause-done : goal.returns-in-Err-clause-done
 returns-in-Err-clause-done c parts is within = absurd (c.in-Err.ensures.only parts is)

@@ -5,7 +5,7 @@ use Rattle.rtp_wire.specs.Packet.{PacketParts}
 use Rattle.rtp_wire.specs.PacketElements.{AreElementsOf}
 use Rattle.rtp_c.proofs.StatusLemmas.{none≢ok}
 use Rattle.rtp_c.proofs.ChangeLemmas.{parts-in, BecomesPacket-changed}
-use Rattle.rtp_c.proofs.changing_elements.rtpw_remove_element.Goals as goal
+use Rattle.rtp_c.proofs.changing.rtpw_remove_element.Goals as goal
 
 pub returns-in-Err-clause-answer : goal.returns-in-Err-clause-answer
 returns-in-Err-clause-answer c parts elements is are = absurd (c.in-Err.ensures.only parts is)

@@ -6,8 +6,8 @@ ghost use Rattle.rtp_wire.specs.Header.{header_of, IsHeaderOf};
 ghost use Rattle.rtp_wire.specs.RefusedMemory.{BlockHasAllocation};
 ghost use Rattle.rtp_ext.specs.KindsById.{slots_of};
 
-use super::RtpPacket;
-use crate::header::RtpHeader;
+use super::RtpHeader;
+use crate::packet::RtpPacket;
 use rtp_ext::{ExtensionMap, KindsById};
 use std::alloc::{AllocError, Global};
 

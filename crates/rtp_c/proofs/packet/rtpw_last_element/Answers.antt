@@ -1,6 +1,6 @@
 use Rattle.std.proofs.Common.{refl}
 use Rattle.rtp_c.proofs.ElementLemmas.{IsLastElement-place}
-use Rattle.rtp_c.proofs.elements.rtpw_last_element.Goals as goal
+use Rattle.rtp_c.proofs.packet.rtpw_last_element.Goals as goal
 
 pub returns-clause-found : goal.returns-clause-found
 returns-clause-found c is_ok =

@@ -4,7 +4,7 @@ use Rattle.rtp_ext.specs.Form.{IsFormWord}
 use Rattle.rtp_wire.proofs.BlockLemmas.{header_word}
 use Rattle.rtp_wire.proofs.NotAPacketLemmas.{IsFirst-unknown_form, IsFirst-cut_block}
 use Rattle.rtp_wire.proofs.PacketLemmas.{form_of_word-is}
-use Rattle.rtp_wire.proofs.packet.parsing.first_block.Goals as goal
+use Rattle.rtp_wire.proofs.packet.rtp_packet.first_block.Goals as goal
 
 pub returns-in_default-parse-clause-cause : goal.returns-in_default-parse-clause-cause
 returns-in_default-parse-clause-cause c =
