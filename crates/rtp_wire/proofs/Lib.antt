@@ -11,7 +11,7 @@ mod PacketChanges
 mod PacketParts
 mod ChangedPackets
 pub mod NotAPacketLemmas
-mod ValuesLemmas
+pub mod ValuesLemmas
 mod HeaderLemmas
 mod HeaderUnderEachMap
 mod KnownKindsLemmas

@@ -1,4 +1,4 @@
-use Rattle.std.proofs.Common.{arith, rules, Some, ap, ◌∙◌, ◌≤◌, ◌+◌, ℕ}
+use Rattle.std.proofs.Common.{arith, rules, Some, ap, ◌∙◌, ◌≤◌, ℕ}
 use Rattle.std.specs.Prelude.{is_some, slice_range}
 use Rattle.rtp_wire.proofs.PartsLemmas.{block-header, body_within}
 use Rattle.rtp_wire.proofs.HeaderFound.{HasHeader-packet}
