@@ -4,7 +4,6 @@
 //! its outputs whole or not at all.
 #![tactic(auto)]
 
-mod block_values;
 mod changing;
 mod changing_elements;
 mod changing_sources;
@@ -12,6 +11,7 @@ mod elements;
 mod given;
 mod header_view;
 mod held;
+mod kinds;
 mod layers;
 mod layout;
 mod map;

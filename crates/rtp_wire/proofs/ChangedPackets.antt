@@ -19,7 +19,7 @@ use Rattle.rtp_wire.specs.ChangedPacket.{ChangesBlock, ChangesOnly, ChangesOnlyB
 use Rattle.rtp_wire.proofs.PacketLemmas.{whole_and_parts}
 use Rattle.rtp_wire.proofs.HeaderFound.{HasHeader, HasHeader-packet_mut}
 use Rattle.rtp_wire.proofs.PartsLemmas.{body_within, block-header}
-use Rattle.rtp_wire.proofs.BytesBetween.{ChangesOnly-part, ChangesOnly-put, ChangesOnly-nothing}
+use Rattle.rtp_wire.proofs.BytesBetween.{ChangesOnly-part}
 use Rattle.rtp_wire.proofs.PacketChanges.{HasHeader-stays, stays-in_body}
 use Rattle.rtp_wire.proofs.PacketParts.{parts-in_body}
 

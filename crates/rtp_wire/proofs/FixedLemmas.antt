@@ -1,5 +1,5 @@
 -- The fixed bytes of a header, put together.
-use Rattle.std.proofs.Common.{◌≡◌, ℕ, ◌+◌, ◌*◌, List, [], ◌∷◌, ◌++◌, length, drop, replicate, ap, sym, ◌∙◌, arith, length-append, append_assoc}
+use Rattle.std.proofs.Common.{◌≡◌, ℕ, ◌+◌, ◌*◌, List, ◌∷◌, ◌++◌, length, drop, replicate, ap, ◌∙◌, arith, length-append, append_assoc}
 use Rattle.std.specs.Int.{w16, w32, to_be_bytes}
 use Rattle.std.proofs.lemmas.List.{append-nil}
 use Rattle.rtp_base.specs.Flag.{bit}

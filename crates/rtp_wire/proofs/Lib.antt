@@ -14,7 +14,6 @@ pub mod NotAPacketLemmas
 mod ValuesLemmas
 mod HeaderLemmas
 mod HeaderUnderEachMap
-mod KnownKindsLemmas
 mod BlockWriting
 mod RoundTrip
 mod WrittenInFormLemmas
