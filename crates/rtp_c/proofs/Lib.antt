@@ -4,7 +4,7 @@ mod ChangeLemmas
 mod ElementLemmas
 mod KindNumberLemmas
 mod KindsOfIdsLemmas
-mod MapReadingLemmas
+mod NumberedLemmas
 mod BodyLemmas
 mod LayersLemmas
 mod HeaderViewLemmas

@@ -1,5 +1,5 @@
 -- The numbers by which C names the known kinds of extension (RFC 8285, 5).
-use Rattle.std.specs.Prelude.{◌≡◌, ◌≢◌, ℕ, List, Option, Some, None}
+use Rattle.std.specs.Prelude.{◌≡◌, ◌≢◌, ℕ, List, [], ◌∷◌, Option, Some, None, slice_index_or}
 use Rattle.rtp_values.specs.Kind.{kind_of}
 use Rattle.rtp_values.specs.KnownKind.{extension_of_kind}
 use Rattle.rtp_values.specs.declared.known_kind.KnownKind.{KnownKind}
@@ -27,6 +27,16 @@ kind_number VideoLayersAllocation = 15
 abbrev pub IsKindNumbered : ℕ → Option KnownKind → Type 0
 IsKindNumbered number None = (kind : KnownKind) → kind_number kind ≢ number
 IsKindNumbered number (Some kind) = kind_number kind ≡ number
+
+-- the same as a function: the kinds by their numbers from 0 on
+abbrev pub numbered_kinds : List (Option KnownKind)
+numbered_kinds =
+    None ∷ Some AbsoluteSendTime ∷ Some AbsoluteCaptureTime ∷ Some AudioLevel ∷ Some TransmissionTimeOffset ∷ Some VideoOrientation
+    ∷ Some TransportSequenceNumber ∷ Some PlayoutDelay ∷ Some VideoContentType ∷ Some VideoTiming ∷ Some RtpStreamId
+    ∷ Some RepairedRtpStreamId ∷ Some RtpMid ∷ Some FrameMarking ∷ Some ColorSpace ∷ Some VideoLayersAllocation ∷ []
+
+unfoldable pub kind_numbered : ℕ → Option KnownKind
+kind_numbered number = slice_index_or numbered_kinds number None
 
 -- the greatest number
 abbrev pub last_number : ℕ

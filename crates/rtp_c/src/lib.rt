@@ -6,11 +6,11 @@
 
 ghost use Rattle.std.specs.Prelude.{◌≡◌};
 
-mod block_values;
 mod changing;
 mod given;
 mod header_view;
 mod held;
+mod kinds;
 mod layers;
 mod map;
 mod new_ids;

@@ -1,14 +1,12 @@
 //! Which id means which extension.
 
-ghost use Rattle.std.specs.Prelude.{◌≡◌, ◌≢◌, ◌↔◌, ◌⊎◌, ℕ, ◌+◌, ◌*◌, ◌<◌, ◌≤◌, List, length, take, drop, replicate, None, slice_index, slice_set, IsTrue};
+ghost use Rattle.std.specs.Prelude.{◌≡◌, ◌≢◌, ◌↔◌, ◌⊎◌, ℕ, ◌<◌, ◌≤◌, slice_index, slice_set};
 ghost use Rattle.rtp_values.specs.declared.known_kind.KnownKind.{KnownKind};
-ghost use Rattle.rtp_ext.specs.KindsById.{slots_of};
-ghost use Rattle.rtp_c.specs.KindNumbers.{IsKindNumbered, kind_number, last_number, uri_of};
-ghost use Rattle.rtp_c.specs.KindsOfIds.{HasKinds, HasKindsTo, IsStandard};
+ghost use Rattle.rtp_c.specs.KindNumbers.{kind_number, last_number, uri_of};
+ghost use Rattle.rtp_c.specs.KindsOfIds.{IsStandard};
 ghost use Rattle.rtp_c.specs.Status.{ok, bad_field};
 
 use super::status::{BAD_FIELD, OK};
-use rtp_ext::KindsById;
 use rtp_values::KnownKind;
 use std::str;
 
@@ -25,38 +23,8 @@ pub struct KindsOfIds {
 // The greatest number of a kind.
 const LAST_NUMBER: u8 = 15;
 
-// How many ids are looked at at once.
-const WORD: usize = 8;
-
-// Few maps have an id from this one on, since the one-byte form has none of them.
-const LOW_IDS: usize = 16;
-
-// The kind of this number.
-pub fn kind_numbered(number: u8) -> Option<KnownKind>
-    ensures { IsKindNumbered number result }
-{
-    match number {
-        1 => Some(KnownKind::AbsoluteSendTime),
-        2 => Some(KnownKind::AbsoluteCaptureTime),
-        3 => Some(KnownKind::AudioLevel),
-        4 => Some(KnownKind::TransmissionTimeOffset),
-        5 => Some(KnownKind::VideoOrientation),
-        6 => Some(KnownKind::TransportSequenceNumber),
-        7 => Some(KnownKind::PlayoutDelay),
-        8 => Some(KnownKind::VideoContentType),
-        9 => Some(KnownKind::VideoTiming),
-        10 => Some(KnownKind::RtpStreamId),
-        11 => Some(KnownKind::RepairedRtpStreamId),
-        12 => Some(KnownKind::RtpMid),
-        13 => Some(KnownKind::FrameMarking),
-        14 => Some(KnownKind::ColorSpace),
-        15 => Some(KnownKind::VideoLayersAllocation),
-        _ => None,
-    }
-}
-
 // The number of the kind.
-fn number_of(kind: KnownKind) -> u8
+pub fn number_of(kind: KnownKind) -> u8
     ensures { result ≡ kind_number kind }
 {
     match kind {
@@ -76,86 +44,6 @@ fn number_of(kind: KnownKind) -> u8
         KnownKind::ColorSpace => 14,
         KnownKind::VideoLayersAllocation => 15,
     }
-}
-
-// Maps the id to the kind of this number. The id 0 is passed over.
-fn put_kind(number: u8, id: u8, kinds: &mut KindsById)
-    ensures { (numbers : List ℕ) → id < length numbers → slice_index numbers id ≡ number →
-        HasKindsTo numbers id (slots_of kinds.old) → HasKindsTo numbers (id + 1) (slots_of kinds.new) }
-{
-    match kind_numbered(number) {
-        Some(kind) if id != 0 => kinds.set(id, Some(kind)),
-        _ => {}
-    }
-}
-
-// Maps the ids from this one on to the kinds of the numbers in a word. Few ids are mapped, so most
-// words are zeros.
-fn put_word(word: &[u8; WORD], first: usize, kinds: &mut KindsById)
-    requires { first + 8 ≤ 256 }
-    ensures { (numbers : List ℕ) → length numbers ≡ 256 →
-        ((k : ℕ) → k < 8 → slice_index word.now k ≡ slice_index numbers (first + k)) →
-        HasKindsTo numbers first (slots_of kinds.old) →
-        HasKindsTo numbers (first + 8) (slots_of kinds.new) }
-{
-    if u64::from_ne_bytes(*word) == 0 {
-        return;
-    }
-    for (index, number) in word.iter().enumerate() {
-        if *number != 0 {
-            put_kind(*number, (first + index) as u8, kinds);
-        }
-    }
-}
-
-// Maps the lowest ids to the kinds of these numbers, in whole words.
-fn put_words(lowest: &[u8], kinds: &mut KindsById)
-    requires { length lowest.now ≤ 256 }
-    ensures { (numbers : List ℕ) → length numbers ≡ 256 → lowest.now ≡ take (length lowest.now) numbers →
-        (words : ℕ) → length lowest.now ≡ 8 * words → HasKindsTo numbers 0 (slots_of kinds.old) →
-        HasKindsTo numbers (length lowest.now) (slots_of kinds.new) }
-{
-    let mut rest = lowest;
-    let mut first = 0;
-    while let Some((word, after)) = rest.split_first_chunk::<WORD>() {
-        put_word(word, first, kinds);
-        rest = after;
-        first += WORD;
-    }
-}
-
-// Whether each number is 0.
-#[inline(always)]
-fn are_zeros(numbers: &[u8]) -> bool
-    ensures { IsTrue result ↔ ((i : ℕ) → i < length numbers.now → slice_index numbers.now i ≡ 0) }
-{
-    let mut any = 0;
-    for number in numbers {
-        any |= *number;
-    }
-    any == 0
-}
-
-// Puts these kinds into a table that is empty.
-pub fn put_kinds(map: &KindsOfIds, kinds: &mut KindsById)
-    requires { slots_of kinds.old ≡ replicate 255 None }
-    ensures { HasKinds map.now.kind (slots_of kinds.new) }
-{
-    let (low, high) = map.kind.split_at(LOW_IDS);
-    if are_zeros(high) {
-        put_words(low, kinds);
-    } else {
-        put_words(&map.kind, kinds);
-    }
-}
-
-// The table of these kinds.
-pub fn kinds_of(map: &KindsOfIds) -> KindsById
-    ensures { HasKinds map.now.kind (slots_of result) }
-{
-    let mut kinds = KindsById::empty();
-    put_kinds(map, &mut kinds);
-    kinds
 }
 
 /// Maps the id to the kind of this number, or to nothing where it is 0, instead of what it was mapped

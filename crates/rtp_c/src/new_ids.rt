@@ -16,7 +16,7 @@ ghost use Rattle.rtp_c.specs.ChangedElements.{BecomesPacket, HoldsValues};
 ghost use Rattle.rtp_c.specs.KindsOfIds.{AreNewIdsOf};
 
 use super::changing::layout_of;
-use super::map::{KindsOfIds, kinds_of};
+use super::map::KindsOfIds;
 use super::status::{BAD_FIELD, OK};
 use rtp_ext::NewIds;
 use rtp_wire::RtpPacketMut;
@@ -38,7 +38,7 @@ pub extern "C" fn rtpw_new_ids_between(from: &KindsOfIds, to: &KindsOfIds, ids: 
     ensures ids { AreNewIdsOf from.now.kind to.now.kind ids.new.id }
     ensures first { slice_index ids.new.id 0 ≡ 0 }
 {
-    ids.id = NewIds::between_kinds(&kinds_of(from), &kinds_of(to)).ids();
+    ids.id = NewIds::between(from, to).ids();
 }
 
 /// Gives each element of the packet in the buffer its new id where it lies, and makes an element

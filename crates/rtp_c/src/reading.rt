@@ -2,7 +2,6 @@
 
 ghost use Rattle.std.specs.Prelude.{◌≡◌, ◌≢◌, ◌⊎◌, ◌↔◌, IfNone, IfOk, IfErr, OnOk, OnErr};
 ghost use Rattle.rtp_values.specs.Values.{no_values};
-ghost use Rattle.rtp_ext.specs.ExtensionMap.{Slots};
 ghost use Rattle.rtp_wire.specs.Header.{header_of};
 ghost use Rattle.rtp_wire.specs.NotAHeader.{NotAHeader};
 ghost use Rattle.rtp_wire.specs.Packet.{IsPacket};
@@ -10,15 +9,15 @@ ghost use Rattle.rtp_wire.specs.PacketElements.{HasValues};
 ghost use Rattle.rtp_wire.specs.PartsOf.{parts_of};
 ghost use Rattle.rtp_wire.specs.RefusedMemory.{BlockHasAllocation};
 ghost use Rattle.rtp_c.specs.HeaderView.{BeginsWith, IsParsedAs, IsParsedWithLayersAs, TakesMemoryFrom};
-ghost use Rattle.rtp_c.specs.KindsOfIds.{HasKinds};
+ghost use Rattle.rtp_c.specs.KindsOfIds.{numbered_slots};
 ghost use Rattle.rtp_c.specs.Status.{ok, no_memory, IsCauseStatus};
 
-use super::block_values::read_values;
 use super::header_view::{HeaderView, put_header};
 use super::layers::{Layers, put_layers};
 use super::map::KindsOfIds;
 use super::packet::body_len_of;
 use super::status::{NO_MEMORY, OK, status_of};
+use rtp_ext::read_values;
 use rtp_values::ExtensionValues;
 use rtp_wire::RtpPacket;
 use std::alloc::{AllocError, Global};
@@ -34,10 +33,10 @@ fn read_block(
 ) -> Result<(), AllocError>
     requires packet { IsPacket buf.now (parts_of packet.now) }
     requires empty { values.old ≡ no_values }
-    ensures found { OnOk result ((slots : Slots) → HasKinds map.now.kind slots →
-        HasValues slots (parts_of packet.now).block values.new) }
-    ensures memory { OnErr result ((slots : Slots) → HasKinds map.now.kind slots →
-        BlockHasAllocation slots (parts_of packet.now).block) }
+    ensures found { OnOk result
+        (HasValues (numbered_slots map.now.kind) (parts_of packet.now).block values.new) }
+    ensures memory { OnErr result
+        (BlockHasAllocation (numbered_slots map.now.kind) (parts_of packet.now).block) }
     ensures without_block { IfNone (parts_of packet.now).block (values.new ≡ no_values) }
 {
     let Some(form) = packet.form() else {
@@ -45,7 +44,7 @@ fn read_block(
     };
     let end = packet.header_len();
     let start = end - body_len_of(packet);
-    read_values(alloc, map, &buf[start..end], form, values)
+    read_values(map, alloc, &buf[start..end], form, values)
 }
 
 // The packet whose header the bytes begin with, the values of which are read under the map, or the

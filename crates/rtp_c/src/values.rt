@@ -7,7 +7,6 @@ ghost use Rattle.rtp_c.specs.Status.{ok, bad_field, no_memory};
 ghost use Rattle.rtp_c.specs.PacketView.{form_number};
 ghost use Rattle.rtp_c.specs.ValuesView.{IsViewOfValues, IsReadAs, TakesMemoryIn};
 
-use super::block_values::read_values;
 use super::held::{
     capture_offset, capture_time, held, held_flag, held_mid, held_orientation, held_rid, held_time,
     held_timing,
@@ -15,6 +14,7 @@ use super::held::{
 use super::map::KindsOfIds;
 use super::packet::{flag_number, form_of};
 use super::status::{BAD_FIELD, NO_MEMORY, OK};
+use rtp_ext::read_values;
 use rtp_values::ExtensionValues;
 use std::alloc::Global;
 
@@ -158,7 +158,7 @@ pub extern "C" fn rtpw_values_read(
         return BAD_FIELD;
     };
     let mut read = ExtensionValues::default();
-    match read_values(alloc, map, body, form, &mut read) {
+    match read_values(map, alloc, body, form, &mut read) {
         Ok(_) => {
             put_values(&read, values);
             OK

@@ -8,11 +8,11 @@ ghost use Rattle.rtp_c.specs.WrittenHeader.{IsLengthOf, IsWrittenHeader, IsTooLo
 
 use super::given::{put_given_fields, put_given_header};
 use super::header_view::HeaderView;
-use super::map::{KindsOfIds, put_kinds};
+use super::map::KindsOfIds;
 use super::packet::ElementView;
 use super::status::{BAD_FIELD, OK, SHORT_BUFFER};
 use super::writing_elements::pairs_in;
-use rtp_ext::{ExtensionsForm, KindsById};
+use rtp_ext::ExtensionsForm;
 use rtp_wire::RtpHeader;
 use std::alloc::Global;
 
@@ -81,13 +81,11 @@ pub extern "C" fn rtpw_wire_len(map: &KindsOfIds, header: &HeaderView, len: &mut
     ensures statuses { (result ≡ ok) ⊎ (result ≡ bad_field) }
     ensures unchanged { result ≢ ok → len.new ≡ len.old }
 {
-    let mut kinds = KindsById::empty();
     let mut rtp_header = RtpHeader::default();
     let Some(()) = put_given_header(header, &mut rtp_header) else {
         return BAD_FIELD;
     };
-    put_kinds(map, &mut kinds);
-    *len = rtp_header.wire_len_by_kinds(&kinds);
+    *len = rtp_header.wire_len(map);
     OK
 }
 
@@ -118,13 +116,11 @@ pub extern "C" fn rtpw_write(
     ensures statuses { (result ≡ ok) ⊎ ((result ≡ short_buffer) ⊎ (result ≡ bad_field)) }
     ensures unchanged { result ≢ ok → (buf.new ≡ buf.old) × (len.new ≡ len.old) }
 {
-    let mut kinds = KindsById::empty();
     let mut rtp_header = RtpHeader::default();
     let Some(()) = put_given_header(header, &mut rtp_header) else {
         return BAD_FIELD;
     };
-    put_kinds(map, &mut kinds);
-    let Some(written) = rtp_header.try_write_by_kinds(buf, &kinds) else {
+    let Some(written) = rtp_header.try_write_to(buf, map) else {
         return SHORT_BUFFER;
     };
     *len = written;

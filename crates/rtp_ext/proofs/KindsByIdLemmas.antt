@@ -1,5 +1,5 @@
 -- The known extensions by their ids: what a table of kinds shows, and what the known extensions of a map read.
-use Rattle.std.proofs.Common.{◌≡◌, ◌≢◌, ℕ, ◌+◌, ◌-◌, ◌<◌, suc, zero, List, [], ◌∷◌, ◌++◌, length, map, take, drop, replicate, set, get_or, true, false, Option, Some, None, Result, Ok, Err, OnOk, OnErr, All, arith, ap, refl, sym, ◌∙◌, subst, append_assoc, get_or-set_same, get_or-set_other, length-drop}
+use Rattle.std.proofs.Common.{◌≡◌, ℕ, ◌+◌, ◌-◌, ◌<◌, suc, zero, List, [], ◌∷◌, ◌++◌, length, map, take, drop, replicate, set, get_or, true, false, Option, Some, None, Result, Ok, Err, OnOk, OnErr, All, arith, ap, refl, sym, ◌∙◌, subst, append_assoc, length-drop}
 use Rattle.std.specs.Option.{is_some}
 use Rattle.std.proofs.Math.ListN.{get_or-map}
 use Rattle.std.proofs.lemmas.List.{get_or_default, map-set, take_all}
@@ -27,22 +27,6 @@ use Rattle.rtp_ext.proofs.MappedIdLemmas.{ids_from}
 pub entry_at-kinds : (kinds : List (Option KnownKind)) (k : ℕ) → entry_at (slots_of kinds) (suc k) ≡ entry_of_kind (get_or kinds (suc k) None)
 entry_at-kinds [] k = refl
 entry_at-kinds (kind ∷ kinds) k = get_or-map entry_of_kind kinds k None
-
--- one kind is set
-pub slots_of-set : (kinds : List (Option KnownKind)) (at id : ℕ) (kind : Option KnownKind) → at ≡ id → id < length kinds → IsId id
-    → entry_at (slots_of (set kinds at kind)) id ≡ entry_of_kind kind
-slots_of-set kinds at zero kind is within is_id = absurd (omega (arith, is_id.0))
-slots_of-set kinds at (suc k) kind is within is_id =
-    ap (λ (n : ℕ). entry_at (slots_of (set kinds n kind)) (suc k)) is ∙ entry_at-kinds (set kinds (suc k) kind) k
-    ∙ ap entry_of_kind (get_or-set_same kinds (suc k) kind None within)
-
-pub slots_of-set_others : (kinds old : List (Option KnownKind)) (at id : ℕ) (kind : Option KnownKind) → at ≡ id → kinds ≡ old
-    → (k : ℕ) → k ≢ id → entry_at (slots_of (set kinds at kind)) k ≡ entry_at (slots_of old) k
-slots_of-set_others kinds old at id kind is shows zero other = refl
-slots_of-set_others kinds old at id kind is shows (suc k) other =
-    ap (λ (n : ℕ). entry_at (slots_of (set kinds n kind)) (suc k)) is ∙ entry_at-kinds (set kinds id kind) k
-    ∙ ap entry_of_kind (get_or-set_other kinds id (suc k) kind None other) ∙ sym (entry_at-kinds kinds k)
-    ∙ ap (λ (ks : List (Option KnownKind)). entry_at (slots_of ks) (suc k)) shows
 
 -- the slots are the old ones, except for that of the id
 pub slots_of-put : (kinds : List (Option KnownKind)) (id : ℕ) (kind : Option KnownKind) → IsId id

@@ -148,3 +148,61 @@ count-known passed (Some entry ∷ left) = count-cons passed entry.extension lef
 
 pub count_known : (exts known : Slots) → known ≡ known_slots exts → mapped_count known ≤ mapped_count exts
 count_known exts known is = omega (arith, ap mapped_count is, count-known 0 exts)
+
+-- ---- for what says the kinds of ids
+
+long-cons : (passed : ℕ) (extension : Extension) (left : Slots)
+    → list_any is_long_item (items_from (passed + 1) left) ≡ (above (passed + 1) left || list_any is_long_item (items_from (passed + 1) (known_slots left)))
+    → (is_long_item (passed + 1, extension) || list_any is_long_item (items_from (passed + 1) left))
+    ≡ ((nat_lt 14 (passed + 1) || above (passed + 1) left) || list_any is_long_item (items_from passed (known_alone extension ∷ known_slots left)))
+long-cons passed (UnknownUri uri) left is =
+    or_unknown (nat_lt 14 (passed + 1)) (above (passed + 1) left) (list_any is_long_item (items_from (passed + 1) left))
+    (list_any is_long_item (items_from (passed + 1) (known_slots left))) is
+long-cons passed extension left is =
+    or_above (nat_lt 14 (passed + 1)) (nat_lt 16 (longest extension)) (above (passed + 1) left) (list_any is_long_item (items_from (passed + 1) left))
+    (list_any is_long_item (items_from (passed + 1) (known_slots left))) is
+
+long-known : (passed : ℕ) (left : Slots)
+    → list_any is_long_item (items_from passed left) ≡ (above passed left || list_any is_long_item (items_from passed (known_slots left)))
+long-known passed [] = refl
+long-known passed (None ∷ left) = long-known (passed + 1) left
+long-known passed (Some entry ∷ left) = long-cons passed entry.extension left (long-known (passed + 1) left)
+
+-- a mapped id is long for being above 14, or as a known one
+pub long_split : (exts known : Slots) (ids : List ℕ) → ids ≡ mapped_ids exts → known ≡ known_slots exts
+    → list_any is_long_item (items_from 0 exts) ≡ (list_any (nat_lt 14) ids || list_any is_long_item (items_from 0 known))
+long_split exts known ids are is =
+    long-known 0 exts
+    ∙ ap (λ (slots : Slots). above 0 exts || list_any is_long_item (items_from 0 slots)) (sym is)
+    ∙ ap (λ (list : List ℕ). list_any (nat_lt 14) list || list_any is_long_item (items_from 0 known)) (sym are)
+
+second : (a b : Bool) → (a || b) ≡ false → b ≡ false
+second true b is = cc
+second false b is = is
+
+pub not_long_known : (exts known : Slots) → known ≡ known_slots exts → list_any is_long_item (items_from 0 exts) ≡ false
+    → list_any is_long_item (items_from 0 known) ≡ false
+not_long_known exts known is short =
+    second (list_any (nat_lt 14) (mapped_ids exts)) (list_any is_long_item (items_from 0 known)) (sym (long_split exts known (mapped_ids exts) refl is) ∙ short)
+
+empty-cons : (values : ExtensionValues) (passed : ℕ) (extension : Extension) (left : Slots)
+    → has_empty (items_from (passed + 1) (known_slots left)) values ≡ has_empty (items_from (passed + 1) left) values
+    → has_empty (items_from passed (known_alone extension ∷ known_slots left)) values
+    ≡ (has_no_data (spelled_data extension values) || has_empty (items_from (passed + 1) left) values)
+empty-cons values passed (UnknownUri uri) left same = same
+empty-cons values passed extension left same = ap (λ (rest : Bool). has_no_data (spelled_data extension values) || rest) same
+
+empty-known : (values : ExtensionValues) (passed : ℕ) (left : Slots)
+    → has_empty (items_from passed (known_slots left)) values ≡ has_empty (items_from passed left) values
+empty-known values passed [] = refl
+empty-known values passed (None ∷ left) = empty-known values (passed + 1) left
+empty-known values passed (Some entry ∷ left) = empty-cons values passed entry.extension left (empty-known values (passed + 1) left)
+
+-- whether the two-byte form is needed
+pub needs_two_by : (exts known : Slots) (values : ExtensionValues) (long : Bool) → known ≡ known_slots exts
+    → long ≡ list_any is_long_item (items_from 0 exts)
+    → list_any (needs_two values) (items_from 0 exts) ≡ (long || has_empty (items_from 0 known) values)
+needs_two_by exts known values long is are =
+    needs_two_split values (items_from 0 exts)
+    ∙ ap (λ (b : Bool). b || has_empty (items_from 0 exts) values) (sym are)
+    ∙ ap (λ (b : Bool). long || b) (sym (ap (λ (slots : Slots). has_empty (items_from 0 slots) values) is ∙ empty-known values 0 exts))

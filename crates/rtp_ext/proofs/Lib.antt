@@ -8,7 +8,7 @@ mod PlaceLemmas
 mod PieceLemmas
 mod LastPlaceLemmas
 mod RenumberingLemmas
-mod NewIdLemmas
+pub mod NewIdLemmas
 pub mod MemoryLemmas
 mod MemoryFacts
 mod MapLemmas
@@ -18,11 +18,11 @@ mod RisingIdLemmas
 mod PaddedIdLemmas
 mod ShortBlockLemmas
 pub mod KindsByIdLemmas
-mod LowestKindLemmas
 mod TableLemmas
 mod FormLemmas
 pub mod KnownItemsLemmas
 pub mod WrittenBlockLemmas
+pub mod CursorLemmas
 pub mod WrittenElementsLemmas
 mod WrittenValuesLemmas
 pub mod RenumberedValuesLemmas

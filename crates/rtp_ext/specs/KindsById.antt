@@ -1,11 +1,13 @@
 -- The known extensions by their ids (RFC 8285, 5).
-use Rattle.std.specs.Prelude.{ℕ, List, drop, map, Bool, ◌||◌, nat_lt, Option, Some, None}
+use Rattle.std.specs.Prelude.{◌≡◌, ℕ, List, [], ◌∷◌, refl, drop, map, Bool, ◌||◌, nat_lt, Option, Some, None}
 use Rattle.std.specs.Option.{option_map}
 use Rattle.std.specs.List.{list_any}
+use Rattle.std.proofs.Common.{sym, ap, ◌∙◌}
 use Rattle.rtp_values.specs.declared.value.values.ExtensionValues.{ExtensionValues}
 use Rattle.rtp_values.specs.declared.kind.Extension.{Extension}
 use Rattle.rtp_values.specs.declared.kind.Extension.TheVariants.{UnknownUri}
 use Rattle.rtp_values.specs.declared.known_kind.KnownKind.{KnownKind}
+use Rattle.rtp_values.specs.declared.known_kind.KnownKind.TheVariants as kind
 use Rattle.rtp_values.specs.KnownKind.{extension_of_kind}
 use Rattle.rtp_values.specs.Spelling.{longest, has_no_data, spelled_data}
 use Rattle.rtp_ext.specs.ExtensionMap.{Entry, Slots, unlocked}
@@ -39,3 +41,31 @@ is_long_item item = nat_lt 14 item.0 || nat_lt 16 (longest item.1)
 -- whether there are data for one of these mapped ids, and they are empty
 abbrev pub has_empty : List (ℕ × Extension) → ExtensionValues → Bool
 has_empty items values = list_any (λ item. has_no_data (spelled_data item.1 values)) items
+
+-- For the prover: the known extensions of a table are all that it has.
+known_kind : (it : KnownKind) → known_alone (extension_of_kind it) ≡ Some (unlocked (extension_of_kind it))
+known_kind kind.AbsoluteSendTime = refl
+known_kind kind.AbsoluteCaptureTime = refl
+known_kind kind.AudioLevel = refl
+known_kind kind.TransmissionTimeOffset = refl
+known_kind kind.VideoOrientation = refl
+known_kind kind.TransportSequenceNumber = refl
+known_kind kind.PlayoutDelay = refl
+known_kind kind.VideoContentType = refl
+known_kind kind.VideoTiming = refl
+known_kind kind.RtpStreamId = refl
+known_kind kind.RepairedRtpStreamId = refl
+known_kind kind.RtpMid = refl
+known_kind kind.FrameMarking = refl
+known_kind kind.ColorSpace = refl
+known_kind kind.VideoLayersAllocation = refl
+
+known_each : (kinds : List (Option KnownKind)) → map entry_of_kind kinds ≡ map known_entry (map entry_of_kind kinds)
+known_each [] = refl
+known_each (None ∷ kinds) = ap (λ (rest : Slots). None ∷ rest) (known_each kinds)
+known_each (Some kind ∷ kinds) =
+    ap (λ (rest : Slots). Some (unlocked (extension_of_kind kind)) ∷ rest) (known_each kinds)
+    ∙ ap (λ entry. entry ∷ map known_entry (map entry_of_kind kinds)) (sym (known_kind kind))
+
+pub known_of_kinds : (kinds : List (Option KnownKind)) → slots_of kinds ≡ known_slots (slots_of kinds)
+known_of_kinds kinds = known_each (drop 1 kinds)

@@ -1,9 +1,8 @@
 -- The ids that elements have under another map (RFC 8285, 5).
-use Rattle.std.specs.Prelude.{◌≡◌, ◌≢◌, ℕ, zero, suc, ◌<◌, List, [], ◌∷◌, length, map, Option, Some, None, slice_index_or}
+use Rattle.std.specs.Prelude.{◌≡◌, ℕ, zero, suc, List, [], ◌∷◌, map, Option, Some, None, slice_index_or}
 use Rattle.std.specs.Option.{unwrap_or}
 use Rattle.std.proofs.Common.{refl, ap}
 use Rattle.rtp_values.specs.declared.kind.Extension.{Extension}
-use Rattle.rtp_values.specs.declared.known_kind.KnownKind.{KnownKind}
 use Rattle.rtp_ext.specs.ExtensionMap.{Slots, extension_at, IsUnmapped, IsLowest}
 
 -- the new id that a table has for an id
@@ -38,9 +37,3 @@ pub bytes_back : (bytes : List ℕ) → map byte_of_id (map id_in_byte bytes) �
 bytes_back [] = refl
 bytes_back (zero ∷ bytes) = ap (λ (left : List ℕ). zero ∷ left) (bytes_back bytes)
 bytes_back (suc k ∷ bytes) = ap (λ (left : List ℕ). suc k ∷ left) (bytes_back bytes)
-
--- the first index of a table where the kind stands
-pub record IsFirstKind (kinds : List (Option KnownKind)) (kind : KnownKind) (index : ℕ) : Type 0 where
-  pub within : index < length kinds
-  pub here : slice_index_or kinds index None ≡ Some kind
-  pub before : (k : ℕ) → k < index → slice_index_or kinds k None ≢ Some kind

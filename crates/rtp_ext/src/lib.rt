@@ -5,9 +5,10 @@
 mod ext;
 
 pub use ext::{
-    Elements, ExtensionMap, ExtensionsForm, Iter, IterByMediaType, KindsById, MAX_ID,
-    MAX_ID_ONE_BYTE_FORM, NewIds, Place, element_of, last_place, next_place, put_elements,
-    remove_element, renumber, set_element, write_elements,
+    Cursor, Elements, ExtensionMap, ExtensionsForm, Iter, IterByMediaType, Kinds, MAX_ID,
+    MAX_ID_ONE_BYTE_FORM, NewIds, Place, element_of, is_long, last_place, next_place, put_elements,
+    read_values, remove_element, renumber, set_element, values_form, values_len, write_elements,
+    write_values,
 };
 pub use rtp_values::{
     AbsCaptureTime, Extension, ExtensionValues, KnownKind, Uri, VideoOrientation, VideoTiming,

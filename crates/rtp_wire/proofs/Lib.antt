@@ -14,7 +14,6 @@ pub mod NotAPacketLemmas
 pub mod ValuesLemmas
 mod HeaderLemmas
 mod HeaderUnderEachMap
-mod KnownKindsLemmas
 mod BlockWriting
 mod RoundTrip
 mod WrittenInFormLemmas

@@ -1,20 +1,16 @@
--- What is written in the form that X announces under a map, by the known extensions of the map, is what is written under the map.
+-- What is written in the form that X announces under a map is what is written under the map.
 use Rattle.std.proofs.Common.{◌≡◌, ℕ, ◌-◌, List, [], ◌++◌, length, take, replicate, Bool, true, false, Option, Some, None, refl, sym, ap, ◌∙◌, subst, arith, inl, inr}
 use Rattle.std.specs.Prelude.{◌↔◌}
 use Rattle.rtp_ext.specs.declared.ext.form.ExtensionsForm.{ExtensionsForm}
 use Rattle.rtp_values.specs.declared.value.values.ExtensionValues.{ExtensionValues}
 use Rattle.rtp_wire.specs.declared.header.rtp_header.RtpHeader.{RtpHeader}
-use Rattle.rtp_ext.specs.Elements.{Element, elements_bytes}
 use Rattle.rtp_ext.specs.ExtensionMap.{Slots}
-use Rattle.rtp_ext.specs.KindsById.{known_slots}
-use Rattle.rtp_ext.specs.WrittenBlock.{block_bytes, block_of, filled, image_values}
+use Rattle.rtp_ext.specs.WrittenBlock.{block_bytes, image_values}
 use Rattle.rtp_values.specs.Values.{no_values}
 use Rattle.rtp_wire.specs.Header.{IsExtensionPart, IsWire}
 use Rattle.rtp_wire.specs.Written.{header_bytes, extension_bytes, wire_bytes, carried_image, image_of, CannotBeWritten, large_payload_type, many_sources, short_room}
 use Rattle.rtp_wire.specs.WrittenInForm.{announced_form, Serves, block_bytes_in, part_in, wire_bytes_in, image_in, CannotBeWrittenIn}
-use Rattle.rtp_ext.proofs.KnownItemsLemmas.{chosen_known, written_known, image_known}
 use Rattle.rtp_wire.proofs.ValuesLemmas.{HasValues-none}
-use Rattle.rtp_wire.proofs.KnownKindsLemmas.{IsWire-known}
 
 -- X is clear, or it is set
 pub announced-clear : (exts : Slots) (extension : Bool) (values : ExtensionValues) → extension ≡ false → None ≡ announced_form exts extension values
@@ -66,8 +62,6 @@ IsExtensionPart-some exts extension values form chosen is serves part =
     subst (λ (f : Option ExtensionsForm). IsExtensionPart exts extension (part_in f exts values) (carried_image exts extension values)) (sym is)
     (subst (λ (x : Bool). IsExtensionPart exts x (block_bytes_in chosen exts values) (carried_image exts x values)) (sym set.0) part)
 
--- ---- under a table
-
 -- the form that X announces serves
 pub Serves-announced : (exts : Slots) (extension : Bool) (values : ExtensionValues) (form : Option ExtensionsForm) → form ≡ announced_form exts extension values
     → Serves exts extension values form
@@ -86,62 +80,21 @@ IsWire-own exts h form rest is wire =
     image-by form exts h ∙ ap (λ (bytes : List ℕ). image_by h (carried_image exts h.has_extension h.ext_vals) (length bytes)) same ∙ sym (image_of-by exts h) in
     subst (IsWire exts (wire_bytes exts h ++ rest)) image (subst (λ (bytes : List ℕ). IsWire exts (bytes ++ rest) (image_in form exts h)) same wire)
 
--- ---- under the table of a map
-
-pub Serves-known : (exts known : Slots) (extension : Bool) (values : ExtensionValues) (form : Option ExtensionsForm) → known ≡ known_slots exts
-    → form ≡ announced_form exts extension values → Serves known extension values form
-Serves-known exts known extension values form is form-is = subst (Serves known extension values) (sym form-is) (by_bit extension)
-  where
-    by_bit : (x : Bool) → Serves known x values (announced_form exts x values)
-    by_bit false = refl
-    by_bit true = (refl, chosen_known exts known values _ is (inl refl))
-
-part-known : (exts known : Slots) (values : ExtensionValues) (form : Option ExtensionsForm) → known ≡ known_slots exts → part_in form known values ≡ part_in form exts values
-unfolding block_bytes_in
-part-known exts known values None is = refl
-part-known exts known values (Some form) is =
-    ap (λ (elements : List Element). block_of form (filled (elements_bytes form elements))) (written_known exts known values is)
-
-wire-known : (exts known : Slots) (h : RtpHeader) (form : Option ExtensionsForm) → known ≡ known_slots exts → wire_bytes_in form known h ≡ wire_bytes_in form exts h
-unfolding wire_bytes_in
-wire-known exts known h form is = ap (header_bytes h) (part-known exts known h.ext_vals form is)
-
-carried-known : (exts known : Slots) (extension : Bool) (values : ExtensionValues) → known ≡ known_slots exts
-    → carried_image known extension values ≡ carried_image exts extension values
-carried-known exts known false values is = refl
-carried-known exts known true values is = image_known exts known values is
-
-pub AreBytes-known : (exts known : Slots) (h : RtpHeader) (form : Option ExtensionsForm) → known ≡ known_slots exts → form ≡ announced_form exts h.has_extension h.ext_vals
-    → wire_bytes_in form known h ≡ wire_bytes exts h
-AreBytes-known exts known h form is form-is = wire-known exts known h form is ∙ AreBytes-own exts h form form-is
-
-pub IsWire-of_map : (exts known : Slots) (h : RtpHeader) (form : Option ExtensionsForm) (rest : List ℕ) → known ≡ known_slots exts
-    → form ≡ announced_form exts h.has_extension h.ext_vals
-    → IsWire known (wire_bytes_in form known h ++ rest) (image_in form known h) → IsWire exts (wire_bytes exts h ++ rest) (image_of exts h)
-IsWire-of_map exts known h form rest is form-is wire =
-    let same = AreBytes-known exts known h form is form-is in
-    let image : image_in form known h ≡ image_of exts h =
-    image-by form known h
-    ∙ ap (λ (values : ExtensionValues). image_by h values (length (wire_bytes_in form known h))) (carried-known exts known h.has_extension h.ext_vals is)
-    ∙ ap (λ (bytes : List ℕ). image_by h (carried_image exts h.has_extension h.ext_vals) (length bytes)) same ∙ sym (image_of-by exts h) in
-    subst (IsWire exts (wire_bytes exts h ++ rest)) image
-    (subst (λ (bytes : List ℕ). IsWire exts (bytes ++ rest) (image_in form known h)) same (IsWire-known exts known (wire_bytes_in form known h ++ rest) (image_in form known h) is wire))
-
 -- ---- what can't be written
 
-cannot : (exts known : Slots) (h : RtpHeader) (form : Option ExtensionsForm) (room : ℕ) → wire_bytes_in form known h ≡ wire_bytes exts h
-    → CannotBeWrittenIn form known h room → CannotBeWritten exts h room
-cannot exts known h form room same (inl large) = large_payload_type large
-cannot exts known h form room same (inr (inl many)) = many_sources many
-cannot exts known h form room same (inr (inr short)) = short_room (omega (arith, short, ap length same))
+cannot : (exts : Slots) (h : RtpHeader) (form : Option ExtensionsForm) (room : ℕ) → wire_bytes_in form exts h ≡ wire_bytes exts h
+    → CannotBeWrittenIn form exts h room → CannotBeWritten exts h room
+cannot exts h form room same (inl large) = large_payload_type large
+cannot exts h form room same (inr (inl many)) = many_sources many
+cannot exts h form room same (inr (inr short)) = short_room (omega (arith, short, ap length same))
 
-cannot-back : (exts known : Slots) (h : RtpHeader) (form : Option ExtensionsForm) (room : ℕ) → wire_bytes_in form known h ≡ wire_bytes exts h
-    → CannotBeWritten exts h room → CannotBeWrittenIn form known h room
-cannot-back exts known h form room same (large_payload_type large) = inl large
-cannot-back exts known h form room same (many_sources many) = inr (inl many)
-cannot-back exts known h form room same (short_room short) = inr (inr (omega (arith, short, ap length same)))
+cannot-back : (exts : Slots) (h : RtpHeader) (form : Option ExtensionsForm) (room : ℕ) → wire_bytes_in form exts h ≡ wire_bytes exts h
+    → CannotBeWritten exts h room → CannotBeWrittenIn form exts h room
+cannot-back exts h form room same (large_payload_type large) = inl large
+cannot-back exts h form room same (many_sources many) = inr (inl many)
+cannot-back exts h form room same (short_room short) = inr (inr (omega (arith, short, ap length same)))
 
-pub refused-in : (exts known : Slots) (h : RtpHeader) (form : Option ExtensionsForm) (room : ℕ) (P : Type 0) → wire_bytes_in form known h ≡ wire_bytes exts h
-    → P ↔ CannotBeWrittenIn form known h room → P ↔ CannotBeWritten exts h room
-refused-in exts known h form room P same refused =
-    (λ p. cannot exts known h form room same (refused.0 p), λ no. refused.1 (cannot-back exts known h form room same no))
+pub refused-in : (exts : Slots) (h : RtpHeader) (form : Option ExtensionsForm) (room : ℕ) (P : Type 0) → wire_bytes_in form exts h ≡ wire_bytes exts h
+    → P ↔ CannotBeWrittenIn form exts h room → P ↔ CannotBeWritten exts h room
+refused-in exts h form room P same refused =
+    (λ p. cannot exts h form room same (refused.0 p), λ no. refused.1 (cannot-back exts h form room same no))

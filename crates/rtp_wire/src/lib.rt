@@ -18,8 +18,8 @@ pub use receive::{
     receive_run, receive_run_one,
 };
 pub use rtp_ext::{
-    AbsCaptureTime, Elements, Extension, ExtensionMap, ExtensionValues, ExtensionsForm, Iter,
-    IterByMediaType, KindsById, KnownKind, MAX_ID, MAX_ID_ONE_BYTE_FORM, NewIds, Uri,
+    AbsCaptureTime, Cursor, Elements, Extension, ExtensionMap, ExtensionValues, ExtensionsForm,
+    Iter, IterByMediaType, Kinds, KnownKind, MAX_ID, MAX_ID_ONE_BYTE_FORM, NewIds, Uri,
     VideoOrientation, VideoTiming, write_elements,
 };
 pub use rtp_vla::vla;

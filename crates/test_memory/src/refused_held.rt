@@ -4,7 +4,7 @@
 use crate::checks::{holds, same};
 use crate::refused_copies::{allocation, header};
 use crate::refused_samples::{ALLOCATION, PACKET, is_whole, map, named};
-use rtp_wire::{Extension, ExtensionMap, ExtensionValues, ExtensionsForm, KindsById, RtpHeader};
+use rtp_wire::{Extension, ExtensionMap, ExtensionValues, ExtensionsForm, RtpHeader};
 use std::alloc::Global;
 use std::process::Abort;
 
@@ -67,11 +67,11 @@ fn a_value(rt: HostRuntime) {
     holds(&rt, "the allocation", has_whole(&values));
 }
 
-// The table reads the packet's block into the values, at once or at the second time.
-fn reads_block(rt: &impl Abort, alloc: Global, kinds: &KindsById, values: &mut ExtensionValues) {
+// The map reads the packet's block into the values, at once or at the second time.
+fn reads_block(rt: &impl Abort, alloc: Global, exts: &ExtensionMap, values: &mut ExtensionValues) {
     let (body, form) = (&PACKET[16..], ExtensionsForm::TwoByte);
-    if kinds.parse(alloc, body, form, values).is_err() {
-        let again = kinds.parse(alloc, body, form, values);
+    if exts.parse(alloc, body, form, values).is_err() {
+        let again = exts.parse(alloc, body, form, values);
         again.expect(rt, "memory");
     }
 }
@@ -79,7 +79,7 @@ fn reads_block(rt: &impl Abort, alloc: Global, kinds: &KindsById, values: &mut E
 #[test]
 fn a_block(rt: HostRuntime) {
     let mut values = with_allocation(&rt, rt.alloc());
-    reads_block(&rt, rt.alloc(), map().kinds(), &mut values);
+    reads_block(&rt, rt.alloc(), &map(), &mut values);
     holds(&rt, "the allocation", has_whole(&values));
 }
 

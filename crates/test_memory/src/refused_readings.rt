@@ -6,8 +6,8 @@ use crate::refused_samples::{ALLOCATION, PACKET, is_whole, map};
 use rtp_base::{Mid, SeqNo};
 use rtp_wire::vla::VideoLayersAllocation;
 use rtp_wire::{
-    Extension, ExtensionValues, ExtensionsForm, KindsById, KnownKind, RtpHeader, Verdict,
-    receive_run, receive_run_one, vla,
+    Extension, ExtensionValues, ExtensionsForm, RtpHeader, RtpPacket, Verdict, receive_run,
+    receive_run_one, vla,
 };
 use std::alloc::{AllocError, Global};
 use std::process::Abort;
@@ -118,22 +118,13 @@ fn a_header(rt: HostRuntime) {
     holds(&rt, "the allocation", has_whole(&header.ext_vals));
 }
 
-// The table of the same kinds.
-fn table() -> KindsById {
-    let mut kinds = KindsById::empty();
-    kinds.set(1, Some(KnownKind::VideoLayersAllocation));
-    kinds.set(2, Some(KnownKind::AudioLevel));
-    kinds.set(3, Some(KnownKind::VideoContentType));
-    kinds
-}
-
 #[test]
-fn a_header_by_kinds(rt: HostRuntime) {
-    let read = match RtpHeader::parse_by_kinds(rt.alloc(), &PACKET, &table()) {
-        Ok(read) => read,
-        Err(_) => RtpHeader::parse_by_kinds(rt.alloc(), &PACKET, &table()).expect(&rt, "memory"),
+fn a_header_of_a_packet(rt: HostRuntime) {
+    let packet = RtpPacket::parse(&PACKET).expect(&rt, "a packet");
+    let header = match packet.header(rt.alloc(), &map()) {
+        Ok(header) => header,
+        Err(_) => packet.header(rt.alloc(), &map()).expect(&rt, "memory"),
     };
-    let header = read.expect(&rt, "a header");
     same(&rt, "the length", header.header_len, 36);
     same(&rt, "the level", header.ext_vals.audio_level, Some(-43));
     holds(&rt, "the allocation", has_whole(&header.ext_vals));

@@ -4,11 +4,77 @@ ghost use Rattle.std.specs.Prelude.{List, IsOk, OnOk, OnErr};
 ghost use Rattle.rtp_ext.specs.Elements.{Element, AreElements};
 ghost use Rattle.rtp_ext.specs.Memory.{HasAllocation, IsStopped};
 ghost use Rattle.rtp_ext.specs.BlockValues.{AreValues};
-ghost use Rattle.rtp_ext.specs.KindsById.{slots_of};
 
-use super::{Elements, ExtensionMap, ExtensionsForm, KindsById};
+use super::kinds::Kinds;
+use super::{Elements, ExtensionMap, ExtensionsForm};
 use rtp_values::ExtensionValues;
 use std::alloc::{AllocError, Global};
+
+/// Reads the elements of a block's body into the values, under any map, as [`ExtensionMap::parse`]
+/// does.
+#[inline(always)]
+pub fn read_values<K: Kinds>(
+    kinds: &K,
+    alloc: Global,
+    buf: &[u8],
+    form: ExtensionsForm,
+    ev: &mut ExtensionValues,
+) -> Result<(), AllocError>
+    ensures values { OnOk result ((elements : List Element) →
+        AreElements form buf.now elements → AreValues (K.slots kinds.now) elements ev.old ev.new) }
+    ensures refused { OnErr result ((elements : List Element) →
+        AreElements form buf.now elements → IsStopped (K.slots kinds.now) elements ev.old ev.new) }
+    ensures succeeds { (elements : List Element) → AreElements form buf.now elements →
+        (HasAllocation (K.slots kinds.now) elements → ⊥) → IsOk result }
+{
+    read_known(kinds, alloc, buf, form, ev)
+}
+
+// The same of the known extensions.
+#[inline(never)]
+fn read_known<K: Kinds>(
+    kinds: &K,
+    alloc: Global,
+    buf: &[u8],
+    form: ExtensionsForm,
+    ev: &mut ExtensionValues,
+) -> Result<(), AllocError>
+    ensures values { OnOk result ((elements : List Element) →
+        AreElements form buf.now elements → AreValues (K.known kinds.now) elements ev.old ev.new) }
+    ensures refused { OnErr result ((elements : List Element) →
+        AreElements form buf.now elements → IsStopped (K.known kinds.now) elements ev.old ev.new) }
+    ensures succeeds { (elements : List Element) → AreElements form buf.now elements →
+        (HasAllocation (K.known kinds.now) elements → ⊥) → IsOk result }
+{
+    match form {
+        ExtensionsForm::OneByte => read_in(kinds, alloc, buf, ExtensionsForm::OneByte, ev),
+        ExtensionsForm::TwoByte => read_in(kinds, alloc, buf, ExtensionsForm::TwoByte, ev),
+    }
+}
+
+// The same. It is inlined, so that each form has a loop of its own.
+#[inline(always)]
+fn read_in<K: Kinds>(
+    kinds: &K,
+    alloc: Global,
+    buf: &[u8],
+    form: ExtensionsForm,
+    ev: &mut ExtensionValues,
+) -> Result<(), AllocError>
+    ensures values { OnOk result ((elements : List Element) →
+        AreElements form buf.now elements → AreValues (K.known kinds.now) elements ev.old ev.new) }
+    ensures refused { OnErr result ((elements : List Element) →
+        AreElements form buf.now elements → IsStopped (K.known kinds.now) elements ev.old ev.new) }
+    ensures succeeds { (elements : List Element) → AreElements form buf.now elements →
+        (HasAllocation (K.known kinds.now) elements → ⊥) → IsOk result }
+{
+    for (id, bytes) in Elements::new(buf, form) {
+        if let Some(kind) = kinds.get(id) {
+            kind.parse_value(alloc, bytes, ev)?;
+        }
+    }
+    Ok(())
+}
 
 impl ExtensionMap {
     /// Reads the elements of a block's body, the bytes that follow its length word, into the values
@@ -38,55 +104,6 @@ impl ExtensionMap {
         ensures succeeds { (elements : List Element) → AreElements form buf.now elements →
             (HasAllocation self.now elements → ⊥) → IsOk result }
     {
-        self.kinds().parse(alloc, buf, form, ev)
-    }
-}
-
-impl KindsById {
-    /// Reads the elements of a block's body into the values as
-    /// [`ExtensionMap::parse`] does, by the known kinds of the table.
-    #[inline(never)]
-    pub fn parse(
-        &self,
-        alloc: Global,
-        buf: &[u8],
-        form: ExtensionsForm,
-        ev: &mut ExtensionValues,
-    ) -> Result<(), AllocError>
-        ensures values { OnOk result ((elements : List Element) →
-            AreElements form buf.now elements → AreValues (slots_of self.now) elements ev.old ev.new) }
-        ensures refused { OnErr result ((elements : List Element) →
-            AreElements form buf.now elements → IsStopped (slots_of self.now) elements ev.old ev.new) }
-        ensures succeeds { (elements : List Element) → AreElements form buf.now elements →
-            (HasAllocation (slots_of self.now) elements → ⊥) → IsOk result }
-    {
-        match form {
-            ExtensionsForm::OneByte => self.parse_in(alloc, buf, ExtensionsForm::OneByte, ev),
-            ExtensionsForm::TwoByte => self.parse_in(alloc, buf, ExtensionsForm::TwoByte, ev),
-        }
-    }
-
-    // The same. It is inlined, so that each form has a loop of its own.
-    #[inline(always)]
-    fn parse_in(
-        &self,
-        alloc: Global,
-        buf: &[u8],
-        form: ExtensionsForm,
-        ev: &mut ExtensionValues,
-    ) -> Result<(), AllocError>
-        ensures values { OnOk result ((elements : List Element) →
-            AreElements form buf.now elements → AreValues (slots_of self.now) elements ev.old ev.new) }
-        ensures refused { OnErr result ((elements : List Element) →
-            AreElements form buf.now elements → IsStopped (slots_of self.now) elements ev.old ev.new) }
-        ensures succeeds { (elements : List Element) → AreElements form buf.now elements →
-            (HasAllocation (slots_of self.now) elements → ⊥) → IsOk result }
-    {
-        for (id, bytes) in Elements::new(buf, form) {
-            if let Some(kind) = self.get(id) {
-                kind.parse_value(alloc, bytes, ev)?;
-            }
-        }
-        Ok(())
+        read_values(self, alloc, buf, form, ev)
     }
 }

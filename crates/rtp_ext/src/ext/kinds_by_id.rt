@@ -1,30 +1,27 @@
-//! The known extensions by their ids.
+//! The known extensions of a map by their ids.
 
-ghost use Rattle.std.specs.Prelude.{◌≡◌, ◌≢◌, ◌↔◌, ◌≤◌, ◌-◌, ℕ, IsTrue, false, length, map, replicate, Some, None, IfSome, IfNone, slice_index_or, slice_set};
+ghost use Rattle.std.specs.Prelude.{◌≡◌, ◌+◌, ◌-◌, ◌<◌, ◌≤◌, ◌∷◌, [], length, map, drop, replicate, Some, None, IfSome, IfNone, slice_set};
 ghost use Rattle.std.specs.Option.{option_map};
-ghost use Rattle.std.specs.List.{list_any};
-ghost use Rattle.rtp_values.specs.declared.known_kind.KnownKind.{KnownKind};
+ghost use Rattle.std.specs.List.{AllByRecursion, list_any};
 ghost use Rattle.rtp_values.specs.KnownKind.{extension_of_kind};
-ghost use Rattle.rtp_ext.specs.ExtensionMap.{IsId, IsEmpty, IsLowest, IsUnmapped, HasNoIdAbove, entry_at, extension_at, items_from, mapped_count};
-ghost use Rattle.rtp_ext.specs.KindsById.{slots_of, entry_of_kind, known_entry, known_slots, has_empty};
-ghost use Rattle.rtp_ext.specs.NewIds.{IsNewId, IsFirstKind};
-ghost use Rattle.rtp_ext.specs.WrittenBlock.{needs_two, IsShort};
+ghost use Rattle.rtp_ext.specs.ExtensionMap.{IsId, extension_at, items_from, mapped_count};
+ghost use Rattle.rtp_ext.specs.KindsById.{slots_of, entry_of_kind, known_entry, known_slots, is_long_item};
+ghost use Rattle.rtp_ext.specs.MapSlots.{items_at, mapped_ids, IsMapped};
 
-use super::kind_items::{KindItems, has_long, is_long};
+use super::kinds::is_long;
 use super::map::MAX_ID;
 use super::mapped_ids::MappedIds;
 use super::slot::Slot;
-use rtp_values::{ExtensionValues, KnownKind};
+use rtp_values::KnownKind;
 use std::marker::Model;
 
 // How many ids there are, with that of padding.
 pub(super) const IDS: usize = MAX_ID as usize + 1;
 
-/// The known extensions by their ids (RFC 8285, 5): all that reading and writing the elements of a
-/// packet needs of an [`ExtensionMap`](super::ExtensionMap), which lends such a table
-/// ([`kinds`](super::ExtensionMap::kinds)). It takes no memory.
+// The known extensions of a map by their ids (RFC 8285, 5): what reading and writing the elements of a
+// packet needs of it.
 #[derive(Clone, Copy)]
-pub struct KindsById {
+pub(super) struct KindsById {
     // What each id is mapped to, the id 0 to nothing.
     kinds: [Option<KnownKind>; IDS],
     // The mapped ids, so that a walk goes over these alone.
@@ -66,8 +63,8 @@ impl Model for KindsById {
 }
 
 impl KindsById {
-    /// The table of these kinds, each at the index of its id; what stands at index 0 is passed over.
-    pub fn new(kinds: [Option<KnownKind>; IDS]) -> Self
+    // The table of these kinds, each at the index of its id; what stands at index 0 is passed over.
+    fn new(kinds: [Option<KnownKind>; IDS]) -> Self
         ensures { slots_of result ≡ slots_of kinds }
     {
         let mut kinds = kinds;
@@ -81,12 +78,9 @@ impl KindsById {
         }
     }
 
-    /// A table in which no id is mapped.
-    pub fn empty() -> Self
-        ensures empty { IsEmpty (slots_of result) }
-
-        // The same of all slots at once.
-        ensures slots { slots_of result ≡ replicate MAX_ID None }
+    // A table in which no id is mapped.
+    pub(super) fn empty() -> Self
+        ensures { slots_of result ≡ replicate MAX_ID None }
     {
         KindsById {
             kinds: [None; IDS],
@@ -105,30 +99,25 @@ impl KindsById {
         Self::new(kinds)
     }
 
-    /// How many ids are mapped.
-    pub fn len(&self) -> usize
+    // How many ids are mapped.
+    pub(super) fn len(&self) -> usize
         ensures count { result ≡ mapped_count (slots_of self.now) }
         ensures few { result ≤ MAX_ID }
     {
         self.mapped.len()
     }
 
-    /// The kind that the id is mapped to, and `None` where there is none, as always for 0.
-    pub fn get(&self, id: u8) -> Option<KnownKind>
+    // The kind that the id is mapped to, and `None` where there is none, as always for 0.
+    pub(super) fn get(&self, id: u8) -> Option<KnownKind>
         ensures { option_map extension_of_kind result ≡ extension_at (slots_of self.now) id }
     {
         self.kinds[usize::from(id)]
     }
 
-    /// Maps the id to the kind, or to nothing, instead of what it was mapped to. The id 0, which is
-    /// that of padding, changes nothing.
-    pub fn set(&mut self, id: u8, kind: Option<KnownKind>)
-        ensures this { IsId id → entry_at (slots_of self.new) id ≡ entry_of_kind kind }
-        ensures others { (k : ℕ) → k ≢ id →
-            entry_at (slots_of self.new) k ≡ entry_at (slots_of self.old) k }
-
-        // The same of all slots at once: that of id 1 is the first.
-        ensures slots { IsId id → slots_of self.new
+    // Maps the id to the kind, or to nothing, instead of what it was mapped to. The id 0, which is
+    // that of padding, changes nothing.
+    pub(super) fn set(&mut self, id: u8, kind: Option<KnownKind>)
+        ensures { IsId id → slots_of self.new
             ≡ slice_set (slots_of self.old) (id - 1) (entry_of_kind kind) }
     {
         if id == 0 {
@@ -145,77 +134,47 @@ impl KindsById {
         }
     }
 
-    // The lowest id that is mapped to the kind.
-    fn id_of(&self, kind: KnownKind) -> Option<u8>
-        ensures found { IfSome result (IsLowest (slots_of self.now) (extension_of_kind kind)) }
-        ensures none { IfNone result (IsUnmapped (slots_of self.now) (extension_of_kind kind)) }
-        ensures valid { IfSome result IsId }
+    // The id at this place among the mapped ids, which rise, and its kind.
+    pub(super) fn item(&self, place: usize) -> Option<(u8, KnownKind)>
+        ensures some { IfSome result (λ item. items_at (slots_of self.now) (drop place (mapped_ids (slots_of self.now)))
+            ≡ (item.0, extension_of_kind item.1) ∷ items_at (slots_of self.now) (drop (place + 1) (mapped_ids (slots_of self.now)))) }
+        ensures none { IfNone result (items_at (slots_of self.now) (drop place (mapped_ids (slots_of self.now))) ≡ []) }
+        ensures within { IfSome result (λ _. place < MAX_ID) }
     {
-        let id = first_with(&self.kinds, kind)?;
-        Some(id as u8)
+        let id = *self.mapped.as_slice().get(place)?;
+        Some((id, mapped_kind(&self.kinds, id)))
     }
 
-    // The lowest id that the other table has for the kind of this id.
-    pub(super) fn id_under(&self, other: &Self, id: u8) -> Option<u8>
-        ensures new { IsNewId (slots_of self.now) (slots_of other.now) id result }
-        ensures valid { IfSome result IsId }
-        ensures no_others { HasNoIdAbove 255 (slots_of self.now) }
+    // Whether the one-byte form can't carry a mapped id or the longest data of a mapped kind.
+    pub(super) fn has_long(&self) -> bool
+        ensures { result ≡ list_any is_long_item (items_from 0 (slots_of self.now)) }
     {
-        let kind = self.kinds[usize::from(id)]?;
-        other.id_of(kind)
+        self.is_long
     }
+}
 
-    // The mapped ids by rising id, each with its kind.
-    pub(super) fn items(&self) -> KindItems<'_>
-        ensures items { result ≡ items_from 0 (slots_of self.now) }
-        ensures few { length (items_from 0 (slots_of self.now)) ≤ MAX_ID }
-    {
-        KindItems::new(&self.kinds, self.mapped.as_slice())
-    }
+// The kind of a mapped id.
+#[tactic(auto, using(crate::proofs::KindsByIdLemmas::kind_there, crate::proofs::KindsByIdLemmas::extension_there))]
+fn mapped_kind(kinds: &[Option<KnownKind>], id: u8) -> KnownKind
+    requires length { length kinds.now ≡ IDS }
+    requires mapped { IsMapped (slots_of kinds.now) id }
+    ensures { extension_at (slots_of kinds.now) id ≡ Some (extension_of_kind result) }
+{
+    kinds[usize::from(id)].unwrap()
+}
 
-    // Whether a text is written that is empty. It stays out of line, since few values have an empty
-    // text and its loop would make every other call save registers.
-    #[inline(never)]
-    fn has_empty_data(&self, ev: &ExtensionValues) -> bool
-        ensures { result ≡ has_empty (items_from 0 (slots_of self.now)) ev.now }
-    {
-        for (_, kind) in self.items() {
-            if kind.has_empty_data(ev) {
-                return true;
-            }
-        }
-        false
-    }
-
-    // Whether the one-byte form doesn't serve.
-    #[tactic(auto, using(crate::proofs::KnownItemsLemmas::needs_two_split, crate::proofs::KnownItemsLemmas::no_empty, crate::proofs::ShortBlockLemmas::short_block))]
-    pub(super) fn needs_two_bytes(&self, ev: &ExtensionValues) -> bool
-        ensures needed { result ≡ list_any (needs_two ev.now) (items_from 0 (slots_of self.now)) }
-        ensures short { result ≡ false → IsShort (slots_of self.now) ev.now }
-    {
-        if self.is_long {
+// Whether the one-byte form can't carry one of the elements of these ids, all of which are mapped.
+fn has_long(kinds: &[Option<KnownKind>], ids: &[u8]) -> bool
+    requires length { length kinds.now ≡ IDS }
+    requires mapped { AllByRecursion (IsMapped (slots_of kinds.now)) ids.now }
+    ensures { result ≡ list_any is_long_item (items_at (slots_of kinds.now) ids.now) }
+{
+    for id in ids {
+        if is_long(*id, mapped_kind(kinds, *id)) {
             return true;
         }
-        ev.has_empty_text() && self.has_empty_data(ev)
     }
-}
-
-// Whether an id is mapped to the kind.
-fn is_kind(mapped: Option<KnownKind>, kind: KnownKind) -> bool
-    ensures { IsTrue result ↔ (mapped ≡ Some kind) }
-{
-    match mapped {
-        Some(other) => other == kind,
-        None => false,
-    }
-}
-
-// The first index where the kind stands.
-fn first_with(kinds: &[Option<KnownKind>], kind: KnownKind) -> Option<usize>
-    ensures found { IfSome result (IsFirstKind kinds.now kind) }
-    ensures none { IfNone result ((k : ℕ) → slice_index_or kinds.now k None ≢ Some kind) }
-{
-    kinds.iter().position(|mapped| is_kind(*mapped, kind))
+    false
 }
 
 // Copies the known kinds of slots.

@@ -4,17 +4,15 @@ ghost use Rattle.std.specs.Prelude.{◌≡◌, ◌≢◌, ◌↔◌, ℕ, true, 
 ghost use Rattle.std.specs.Option.{option_copied};
 ghost use Rattle.rtp_ext.specs.ExtensionMap as spec;
 ghost use Rattle.rtp_ext.specs.ExtensionMap.{items_from};
-ghost use Rattle.rtp_ext.specs.NewIds.{IsNewId};
-ghost use Rattle.rtp_ext.specs.KindsById.{slots_of, known_slots};
-ghost use Rattle.std.specs.List.{list_any};
-ghost use Rattle.rtp_ext.specs.WrittenBlock.{needs_two, IsShort};
 ghost use Rattle.rtp_ext.specs.EqualMaps.{same_slots, same_slots-equiv};
 
 use super::iter::write_entries;
+use super::kinds::{Cursor, Kinds};
+use super::kinds_by_id::KindsById;
 use super::mapped_ids::MappedIds;
 use super::slot::Slot;
-use super::{Iter, IterByMediaType, KindsById, MAX_ID_ONE_BYTE_FORM, slots};
-use rtp_values::{Extension, ExtensionValues};
+use super::{Iter, IterByMediaType, MAX_ID_ONE_BYTE_FORM, slots};
+use rtp_values::{Extension, KnownKind};
 use std::alloc::{AllocError, Global};
 use std::marker::Model;
 use std::{array, fmt, mem};
@@ -151,38 +149,12 @@ impl ExtensionMap {
         slots::extension(&self.slots, id)
     }
 
-    /// The known extensions by their ids, by which the elements of packets are read and written.
-    pub fn kinds(&self) -> &KindsById
-        ensures { slots_of result.now ≡ known_slots self.now }
-    {
-        &self.kinds
-    }
-
     /// The lowest id that is mapped to the extension.
     pub fn id_of(&self, ext: Extension) -> Option<u8>
         ensures found { IfSome result (spec.IsLowest self.now ext) }
         ensures none { IfNone result (spec.IsUnmapped self.now ext) }
     {
         slots::id_of(&self.slots, &ext)
-    }
-
-    // The lowest id that the other map has for the extension of this id.
-    pub(super) fn id_under(&self, other: &Self, id: u8) -> Option<u8>
-        ensures new { IsNewId self.now other.now id result }
-        ensures valid { IfSome result spec.IsId }
-        ensures no_others { spec.HasNoIdAbove 255 self.now }
-    {
-        slots::id_of(&other.slots, slots::extension(&self.slots, id)?)
-    }
-
-    // Whether the one-byte form doesn't serve: an unknown extension too may have an id above 14.
-    #[tactic(auto, using(crate::proofs::KnownItemsLemmas::needs_two_known, crate::proofs::ShortBlockLemmas::short_known, crate::proofs::RisingIdLemmas::mapped_rise))]
-    pub(super) fn needs_two_bytes(&self, ev: &ExtensionValues) -> bool
-        ensures needed { result ≡ list_any (needs_two ev.now) (items_from 0 self.now) }
-        ensures short { result ≡ false → IsShort self.now ev.now }
-        ensures known { result ≡ false → IsShort (known_slots self.now) ev.now }
-    {
-        self.mapped.has_above(MAX_ID_ONE_BYTE_FORM) || self.kinds.needs_two_bytes(ev)
     }
 
     // The mapped ids by rising id, each with its extension.
@@ -265,6 +237,57 @@ impl ExtensionMap {
         copy.kinds = KindsById::of_slots(&copy.slots);
         Ok(copy)
     }
+}
+
+impl Kinds for ExtensionMap {
+    ghost use Rattle.std.specs.Prelude.{drop, refl};
+    ghost use Rattle.rtp_ext.specs.KindsById.{known_slots};
+    ghost use Rattle.rtp_ext.specs.MapSlots.{items_at, mapped_ids};
+    ghost use Rattle.rtp_ext.specs.declared.ext.kinds.Cursor.{Cursor};
+
+    ghost slots = { λ map. map };
+
+    ghost known = { λ map. known_slots map };
+
+    ghost left = { λ map cursor. items_at (known_slots map) (drop cursor.at (mapped_ids (known_slots map))) };
+
+    #[inline(always)]
+    fn get(&self, id: u8) -> Option<KnownKind> {
+        self.kinds.get(id)
+    }
+
+    #[inline(always)]
+    fn start(&self) -> Cursor {
+        Cursor {
+            at: 0,
+            end: self.kinds.len(),
+        }
+    }
+
+    #[inline(always)]
+    fn next(&self, cursor: &mut Cursor) -> Option<(u8, KnownKind)> {
+        let item = self.kinds.item(cursor.at)?;
+        cursor.at += 1;
+        Some(item)
+    }
+
+    // An unknown extension too may have an id above 14.
+    #[inline(always)]
+    #[tactic(auto, using(crate::proofs::KnownItemsLemmas::long_split, crate::proofs::RisingIdLemmas::mapped_rise))]
+    fn has_long(&self, _start: Cursor) -> bool {
+        self.mapped.has_above(MAX_ID_ONE_BYTE_FORM) || self.kinds.has_long()
+    }
+
+    #[inline(always)]
+    fn at_most(&self, _start: Cursor) -> usize {
+        self.kinds.len()
+    }
+
+    fn id_under(&self, other: &Self, id: u8) -> Option<u8> {
+        slots::id_of(&other.slots, slots::extension(&self.slots, id)?)
+    }
+
+    ghost known_is = { λ map. refl };
 }
 
 /// The entries by rising id, each as its number and the extension's text.

@@ -4,11 +4,11 @@ ghost use Rattle.std.specs.Prelude.{◌≡◌, ◌↔◌, IsTrue, All, slice_ind
 ghost use Rattle.rtp_ext.specs.declared.ext.form.ExtensionsForm.TheVariants.{OneByte};
 ghost use Rattle.rtp_ext.specs.ElementReading.{elements_left};
 ghost use Rattle.rtp_ext.specs.ElementsInPlace.{CanRenumber};
-ghost use Rattle.rtp_ext.specs.KindsById.{slots_of};
 ghost use Rattle.rtp_ext.specs.NewIds.{new_id, AreNewIds, id_in_byte, ids_in_bytes};
 ghost use Rattle.rtp_ext.specs.IdChanges.{carries_id};
 
-use super::{Elements, ExtensionMap, ExtensionsForm, KindsById, MAX_ID, MAX_ID_ONE_BYTE_FORM};
+use super::kinds::Kinds;
+use super::{Elements, ExtensionsForm, MAX_ID, MAX_ID_ONE_BYTE_FORM};
 use std::marker::Model;
 
 // How many ids an element can have, with 0.
@@ -50,24 +50,12 @@ fn fits_one_byte_form(byte: u8) -> bool
 impl NewIds {
     /// For each id that `from` maps to an extension that `to` maps as well, the lowest id that `to`
     /// has for it (RFC 8285, 5). Every other id has no new one. Takes no memory.
-    pub fn between(from: &ExtensionMap, to: &ExtensionMap) -> Self
-        ensures { AreNewIds from.now to.now result }
+    pub fn between<K: Kinds>(from: &K, to: &K) -> Self
+        ensures { AreNewIds (K.slots from.now) (K.slots to.now) result }
     {
         let mut ids = [0; IDS];
         for (id, new) in ids.iter_mut().enumerate() {
             *new = from.id_under(to, id as u8).unwrap_or(0);
-        }
-        NewIds { ids }
-    }
-
-    /// The same of known extensions: for each id that `from` maps to a kind that `to` maps as well,
-    /// the lowest id that `to` has for it. Every other id has no new one.
-    pub fn between_kinds(from: &KindsById, to: &KindsById) -> Self
-        ensures { AreNewIds (slots_of from.now) (slots_of to.now) result }
-    {
-        let mut ids = [0; IDS];
-        for (id, byte) in ids.iter_mut().enumerate() {
-            *byte = from.id_under(to, id as u8).unwrap_or(0);
         }
         NewIds { ids }
     }

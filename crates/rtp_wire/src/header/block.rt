@@ -11,12 +11,13 @@ ghost use Rattle.rtp_wire.specs.Header.{IsExtensionPart};
 ghost use Rattle.rtp_wire.specs.WrittenWith.{body_with};
 ghost use Rattle.rtp_ext.specs.WrittenBlock.{IsShort, form_of, block_of, filled, image_values, whole_words};
 ghost use Rattle.rtp_wire.specs.WrittenInForm.{block_bytes_in};
-ghost use Rattle.rtp_ext.specs.ExtensionMap.{mapped_count};
-ghost use Rattle.rtp_ext.specs.KindsById.{slots_of};
+ghost use Rattle.rtp_ext.specs.ExtensionMap.{items_from, mapped_count};
 ghost use Rattle.rtp_ext.specs.declared.ext.form.ExtensionsForm.TheVariants.{OneByte, TwoByte};
 
 use rtp_base::put;
-use rtp_ext::{ExtensionValues, ExtensionsForm, KindsById, put_elements};
+use rtp_ext::{
+    Cursor, ExtensionValues, ExtensionsForm, Kinds, put_elements, values_len, write_values,
+};
 
 // How many bytes stand before a block's body.
 const HEADER_LEN: usize = 4;
@@ -49,32 +50,43 @@ fn fill_word(buf: &mut [u8], at: usize, count: usize) -> usize
 }
 
 // The length of the block that `write_block` writes.
-pub(super) fn block_len(kinds: &KindsById, form: ExtensionsForm, ev: &ExtensionValues) -> usize
-    ensures length { result ≡ length (block_bytes_in form (slots_of kinds.now) ev.now) }
+pub(super) fn block_len<K: Kinds>(
+    kinds: &K,
+    start: Cursor,
+    form: ExtensionsForm,
+    ev: &ExtensionValues,
+) -> usize
+    requires start { K.left kinds.now start ≡ items_from 0 (K.known kinds.now) }
+    requires few_ids { length (items_from 0 (K.known kinds.now)) ≤ 255 }
+    ensures length { result ≡ length (block_bytes_in form (K.slots kinds.now) ev.now) }
     ensures words { result % 4 ≡ 0 }
-    ensures by_map { result ≤ 4 + whole_words (257 * mapped_count (slots_of kinds.now)) }
+    ensures by_map { result ≤ 4 + whole_words (257 * mapped_count (K.slots kinds.now)) }
     ensures bound { result ≤ 65540 }
 {
-    let elements_len = kinds.wire_len(ev, form);
+    let elements_len = values_len(kinds, start, ev, form);
     HEADER_LEN + elements_len.next_multiple_of(4)
 }
 
 // Whether the block that `write_block` writes has room. In the one-byte form most buffers have it
 // whatever the values are, so that no length is asked for.
-pub(super) fn block_fits(
-    kinds: &KindsById,
+#[inline(always)]
+pub(super) fn block_fits<K: Kinds>(
+    kinds: &K,
+    start: Cursor,
     form: ExtensionsForm,
     ev: &ExtensionValues,
     room: usize,
 ) -> bool
-    requires { form ≡ OneByte → IsShort (slots_of kinds.now) ev.now }
-    ensures { IsTrue result ↔ (length (block_bytes_in form (slots_of kinds.now) ev.now) ≤ room) }
+    requires start { K.left kinds.now start ≡ items_from 0 (K.known kinds.now) }
+    requires few_ids { length (items_from 0 (K.known kinds.now)) ≤ 255 }
+    requires short { form ≡ OneByte → IsShort (K.known kinds.now) ev.now }
+    ensures { IsTrue result ↔ (length (block_bytes_in form (K.slots kinds.now) ev.now) ≤ room) }
 {
-    let most = MAX_LEN_ONE_BYTE_FORM * kinds.len();
+    let most = MAX_LEN_ONE_BYTE_FORM * kinds.at_most(start);
     if form == ExtensionsForm::OneByte && HEADER_LEN + most.next_multiple_of(4) <= room {
         return true;
     }
-    block_len(kinds, form, ev) <= room
+    block_len(kinds, start, form, ev) <= room
 }
 
 // Puts the four bytes before a body in front of elements that stand after these, and after them the
@@ -94,27 +106,31 @@ fn close_block(buf: &mut [u8], form: ExtensionsForm, elements_len: usize) -> usi
 }
 
 // Writes the block of these values in the form to the front of the buffer, and returns its length.
-pub(super) fn write_block(
-    kinds: &KindsById,
+#[inline(always)]
+pub(super) fn write_block<K: Kinds>(
+    kinds: &K,
+    start: Cursor,
     form: ExtensionsForm,
     buf: &mut [u8],
     ev: &ExtensionValues,
 ) -> usize
-    requires form { (form ≡ form_of (slots_of kinds.now) ev.now) ⊎ (form ≡ TwoByte) }
-    requires room { length (block_bytes_in form (slots_of kinds.now) ev.now) ≤ length buf.old }
+    requires start { K.left kinds.now start ≡ items_from 0 (K.known kinds.now) }
+    requires few_ids { length (items_from 0 (K.known kinds.now)) ≤ 255 }
+    requires form { (form ≡ form_of (K.slots kinds.now) ev.now) ⊎ (form ≡ TwoByte) }
+    requires room { length (block_bytes_in form (K.slots kinds.now) ev.now) ≤ length buf.old }
     ensures written { buf.new
-        ≡ block_bytes_in form (slots_of kinds.now) ev.now ++ drop result buf.old }
-    ensures length { result ≡ length (block_bytes_in form (slots_of kinds.now) ev.now) }
+        ≡ block_bytes_in form (K.slots kinds.now) ev.now ++ drop result buf.old }
+    ensures length { result ≡ length (block_bytes_in form (K.slots kinds.now) ev.now) }
     ensures words { result % 4 ≡ 0 }
-    ensures by_map { result ≤ 4 + whole_words (257 * mapped_count (slots_of kinds.now)) }
+    ensures by_map { result ≤ 4 + whole_words (257 * mapped_count (K.slots kinds.now)) }
     ensures bound { result ≤ 65540 }
 
     // What was written is read as the image of the values.
-    ensures read_back { IsExtensionPart (slots_of kinds.now) true
-        (block_bytes_in form (slots_of kinds.now) ev.now)
-        (image_values (slots_of kinds.now) ev.now) }
+    ensures read_back { IsExtensionPart (K.slots kinds.now) true
+        (block_bytes_in form (K.slots kinds.now) ev.now)
+        (image_values (K.slots kinds.now) ev.now) }
 {
-    let elements_len = kinds.write_to(&mut buf[HEADER_LEN..], ev, form);
+    let elements_len = write_values(kinds, start, &mut buf[HEADER_LEN..], ev, form);
     close_block(buf, form, elements_len)
 }
 

@@ -4,11 +4,10 @@ ghost use Rattle.std.specs.Prelude.{◌≡◌, ◌≤◌, ◌++◌, length, drop
 ghost use Rattle.std.specs.Int.{w32, from_be_bytes};
 ghost use Rattle.rtp_wire.specs.Header.{header_of, IsHeaderOf};
 ghost use Rattle.rtp_wire.specs.RefusedMemory.{BlockHasAllocation};
-ghost use Rattle.rtp_ext.specs.KindsById.{slots_of};
 
 use super::RtpHeader;
 use crate::packet::RtpPacket;
-use rtp_ext::{ExtensionMap, KindsById};
+use rtp_ext::Kinds;
 use std::alloc::{AllocError, Global};
 
 // Puts the number of each group into the slots from the first one on; those after them stay.
@@ -49,34 +48,18 @@ impl<'a> RtpPacket<'a> {
     /// Returns the header, with the values that the elements of the block give under the map. Where
     /// memory is refused to a layer allocation nothing is returned.
     #[inline(always)]
-    pub fn header(&self, alloc: Global, exts: &ExtensionMap) -> Result<RtpHeader, AllocError>
-        ensures found { IfOk result (IsHeaderOf exts.now (parts_of self.now)) }
+    pub fn header<K: Kinds>(&self, alloc: Global, exts: &K) -> Result<RtpHeader, AllocError>
+        ensures found { IfOk result (IsHeaderOf (K.slots exts.now) (parts_of self.now)) }
 
         // The packet has no other header.
-        ensures only { (header : RtpHeader) → IsHeaderOf exts.now (parts_of self.now) header →
+        ensures only { (header : RtpHeader) → IsHeaderOf (K.slots exts.now) (parts_of self.now) header →
             IfOk result (λ found. found ≡ header) }
-        ensures memory { OnErr result (BlockHasAllocation exts.now (parts_of self.now).block) }
-        ensures succeeds { (BlockHasAllocation exts.now (parts_of self.now).block → ⊥) → IsOk result }
-    {
-        self.header_by_kinds(alloc, exts.kinds())
-    }
-
-    // The same under a table.
-    #[inline(always)]
-    pub(crate) fn header_by_kinds(
-        &self,
-        alloc: Global,
-        kinds: &KindsById,
-    ) -> Result<RtpHeader, AllocError>
-        ensures found { IfOk result (IsHeaderOf (slots_of kinds.now) (parts_of self.now)) }
-        ensures memory { OnErr result
-            (BlockHasAllocation (slots_of kinds.now) (parts_of self.now).block) }
-        ensures succeeds { (BlockHasAllocation (slots_of kinds.now) (parts_of self.now).block → ⊥) →
-            IsOk result }
+        ensures memory { OnErr result (BlockHasAllocation (K.slots exts.now) (parts_of self.now).block) }
+        ensures succeeds { (BlockHasAllocation (K.slots exts.now) (parts_of self.now).block → ⊥) → IsOk result }
     {
         let mut header = RtpHeader::default();
         self.put_fields(&mut header);
-        self.read_values(alloc, kinds, &mut header.ext_vals)?;
+        self.read_values(alloc, exts, &mut header.ext_vals)?;
         Ok(header)
     }
 }

@@ -6,11 +6,10 @@ ghost use Rattle.rtp_wire.specs.RefusedMemory.{HeaderHasAllocation, IsWireStoppe
 ghost use Rattle.rtp_wire.specs.NotAHeader.{NotAHeader};
 ghost use Rattle.rtp_wire.specs.Header.{IsWire};
 ghost use Rattle.rtp_values.specs.Values.{no_values};
-ghost use Rattle.rtp_ext.specs.KindsById.{slots_of};
 
 use super::RtpHeader;
 use crate::packet::RtpPacket;
-use rtp_ext::{ExtensionMap, ExtensionValues, KindsById};
+use rtp_ext::{ExtensionValues, Kinds};
 use std::alloc::{AllocError, Global};
 
 impl RtpHeader {
@@ -31,50 +30,18 @@ impl RtpHeader {
     /// 3 to the audio level, are a header of payload type 33, sequence number 47,000, timestamp
     /// 10,000 and SSRC 44, with an audio level of -42 without voice, and `header_len` is 20.
     #[inline(always)]
-    pub fn parse(
+    pub fn parse<K: Kinds>(
         alloc: Global,
         buf: &[u8],
-        exts: &ExtensionMap,
+        exts: &K,
     ) -> Result<Option<RtpHeader>, AllocError>
         // Memory is refused only where a layer allocation of two bytes or more is in the block.
-        ensures memory { OnErr result (HeaderHasAllocation exts.now buf.now) }
-        ensures succeeds { (HeaderHasAllocation exts.now buf.now → ⊥) → IsOk result }
+        ensures memory { OnErr result (HeaderHasAllocation (K.slots exts.now) buf.now) }
+        ensures succeeds { (HeaderHasAllocation (K.slots exts.now) buf.now → ⊥) → IsOk result }
 
         // What is returned is a header of these bytes, and each header of these bytes is returned.
-        ensures found { IfOk result (λ answer. IfSome answer (IsWire exts.now buf.now)) }
-        ensures only { (header : RtpHeader) → IsWire exts.now buf.now header →
-            IfOk result (λ answer. answer ≡ Some header) }
-
-        // So the payload is the bytes from `header_len` on.
-        ensures within { IfOk result (λ answer. IfSome answer (λ header.
-            header.header_len ≤ length buf.now)) }
-
-        // The causes for which no header is returned, and there are no others.
-        ensures refused { (result ≡ Ok None) ↔ NotAHeader buf.now }
-    {
-        Self::parse_by_kinds(alloc, buf, exts.kinds())
-    }
-
-    /// Returns the header that the bytes begin with, as [`parse`](Self::parse) reads it, with the
-    /// values of its extensions under a table of kinds (RFC 3550, 5.1 and 5.3.1; RFC 8285, 4.2 and
-    /// 4.3). It is for callers that fill a table and have no [`ExtensionMap`]; a map lends its own by
-    /// [`kinds`](ExtensionMap::kinds), and both read the same.
-    ///
-    /// Memory is taken, and refused, as by `parse`, and `None` is returned for its causes: they don't
-    /// depend on the table.
-    #[inline(always)]
-    pub fn parse_by_kinds(
-        alloc: Global,
-        buf: &[u8],
-        kinds: &KindsById,
-    ) -> Result<Option<RtpHeader>, AllocError>
-        // Memory is refused only where a layer allocation of two bytes or more is in the block.
-        ensures memory { OnErr result (HeaderHasAllocation (slots_of kinds.now) buf.now) }
-        ensures succeeds { (HeaderHasAllocation (slots_of kinds.now) buf.now → ⊥) → IsOk result }
-
-        // What is returned is a header of these bytes, and each header of these bytes is returned.
-        ensures found { IfOk result (λ answer. IfSome answer (IsWire (slots_of kinds.now) buf.now)) }
-        ensures only { (header : RtpHeader) → IsWire (slots_of kinds.now) buf.now header →
+        ensures found { IfOk result (λ answer. IfSome answer (IsWire (K.slots exts.now) buf.now)) }
+        ensures only { (header : RtpHeader) → IsWire (K.slots exts.now) buf.now header →
             IfOk result (λ answer. answer ≡ Some header) }
 
         // So the payload is the bytes from `header_len` on.
@@ -87,7 +54,7 @@ impl RtpHeader {
         let Ok(packet) = RtpPacket::parse(buf) else {
             return Ok(None);
         };
-        let header = packet.header_by_kinds(alloc, kinds)?;
+        let header = packet.header(alloc, exts)?;
         Ok(Some(header))
     }
 
@@ -103,20 +70,20 @@ impl RtpHeader {
     /// values those of the elements before the one to which it was refused. The call may be made
     /// again.
     #[inline(always)]
-    pub fn parse_into(
+    pub fn parse_into<K: Kinds>(
         &mut self,
         alloc: Global,
         buf: &[u8],
-        exts: &ExtensionMap,
+        exts: &K,
     ) -> Result<bool, AllocError>
         // Memory is refused only where a layer allocation of two bytes or more is in the block.
-        ensures memory { OnErr result (HeaderHasAllocation exts.now buf.now) }
-        ensures stopped { OnErr result (IsWireStopped exts.now buf.now self.new) }
-        ensures succeeds { (HeaderHasAllocation exts.now buf.now → ⊥) → IsOk result }
+        ensures memory { OnErr result (HeaderHasAllocation (K.slots exts.now) buf.now) }
+        ensures stopped { OnErr result (IsWireStopped (K.slots exts.now) buf.now self.new) }
+        ensures succeeds { (HeaderHasAllocation (K.slots exts.now) buf.now → ⊥) → IsOk result }
 
         // What is read is a header of these bytes, and each header of these bytes is read.
-        ensures found { IfOk result (λ found. OnTrue found (IsWire exts.now buf.now self.new)) }
-        ensures only { (header : RtpHeader) → IsWire exts.now buf.now header →
+        ensures found { IfOk result (λ found. OnTrue found (IsWire (K.slots exts.now) buf.now self.new)) }
+        ensures only { (header : RtpHeader) → IsWire (K.slots exts.now) buf.now header →
             IfOk result (λ found. (found ≡ true) × (self.new ≡ header)) }
 
         // So the payload is the bytes from `header_len` on.
@@ -131,7 +98,7 @@ impl RtpHeader {
         };
         packet.put_fields(self);
         clear(&mut self.ext_vals);
-        packet.read_values(alloc, exts.kinds(), &mut self.ext_vals)?;
+        packet.read_values(alloc, exts, &mut self.ext_vals)?;
         Ok(true)
     }
 }

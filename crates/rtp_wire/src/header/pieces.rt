@@ -5,8 +5,7 @@ ghost use Rattle.std.specs.List.{flat_map};
 ghost use Rattle.std.specs.Int.{w32, to_be_bytes};
 ghost use Rattle.rtp_base.specs.Overwriting.{overwritten};
 ghost use Rattle.rtp_ext.specs.declared.ext.form.ExtensionsForm.TheVariants.{OneByte};
-ghost use Rattle.rtp_ext.specs.ExtensionMap.{mapped_count};
-ghost use Rattle.rtp_ext.specs.KindsById.{slots_of, known_slots};
+ghost use Rattle.rtp_ext.specs.ExtensionMap.{items_from, mapped_count};
 ghost use Rattle.rtp_ext.specs.WrittenBlock.{IsShort, whole_words};
 ghost use Rattle.rtp_wire.specs.Header.{IsExtensionPart, IsWire};
 ghost use Rattle.rtp_wire.specs.Written.{fixed_bytes, carried_image};
@@ -16,7 +15,7 @@ use super::RtpHeader;
 use super::block::{block_fits, block_len, write_block};
 use crate::packet::flag;
 use rtp_base::put;
-use rtp_ext::{ExtensionMap, ExtensionsForm, KindsById};
+use rtp_ext::{Cursor, ExtensionsForm, Kinds, values_form};
 
 // Puts four bytes for each source, and returns the offset after them.
 pub(super) fn put_sources(buf: &mut [u8], at: usize, sources: &[u32]) -> usize
@@ -58,140 +57,159 @@ impl RtpHeader {
     }
 
     // The form of the block that X announces, and `None` where X is clear.
-    pub(super) fn form(&self, exts: &ExtensionMap) -> Option<ExtensionsForm>
-        ensures form { result ≡ announced_form exts.now self.now.has_extension self.now.ext_vals }
-        ensures short { result ≡ Some OneByte → IsShort (known_slots exts.now) self.now.ext_vals }
-    {
-        if !self.has_extension {
-            return None;
-        }
-        Some(exts.form(&self.ext_vals))
-    }
-
-    // The same under a table.
-    pub(super) fn form_by_kinds(&self, kinds: &KindsById) -> Option<ExtensionsForm>
+    #[inline(always)]
+    pub(super) fn form<K: Kinds>(&self, kinds: &K, start: Cursor) -> Option<ExtensionsForm>
+        requires { K.left kinds.now start ≡ items_from 0 (K.known kinds.now) }
         ensures form { result
-            ≡ announced_form (slots_of kinds.now) self.now.has_extension self.now.ext_vals }
-        ensures short { result ≡ Some OneByte → IsShort (slots_of kinds.now) self.now.ext_vals }
+            ≡ announced_form (K.slots kinds.now) self.now.has_extension self.now.ext_vals }
+        ensures short { result ≡ Some OneByte → IsShort (K.known kinds.now) self.now.ext_vals }
     {
         if !self.has_extension {
             return None;
         }
-        Some(kinds.form(&self.ext_vals))
+        Some(values_form(kinds, start, &self.ext_vals))
     }
 
     // How many bytes the header has with a block in the form.
-    pub(super) fn len_in(&self, kinds: &KindsById, form: Option<ExtensionsForm>) -> usize
-        requires { self.now.csrc_count ≤ 15 }
-        ensures length { result ≡ length (wire_bytes_in form (slots_of kinds.now) self.now) }
+    pub(super) fn len_in<K: Kinds>(
+        &self,
+        kinds: &K,
+        start: Cursor,
+        form: Option<ExtensionsForm>,
+    ) -> usize
+        requires start { K.left kinds.now start ≡ items_from 0 (K.known kinds.now) }
+        requires few_ids { length (items_from 0 (K.known kinds.now)) ≤ 255 }
+        requires sources { self.now.csrc_count ≤ 15 }
+        ensures length { result ≡ length (wire_bytes_in form (K.slots kinds.now) self.now) }
         ensures words { result % 4 ≡ 0 }
-        ensures by_map { result ≤ 76 + whole_words (257 * mapped_count (slots_of kinds.now)) }
+        ensures by_map { result ≤ 76 + whole_words (257 * mapped_count (K.slots kinds.now)) }
         ensures bound { result ≤ 65612 }
     {
-        let start = 12 + 4 * self.csrc_count;
+        let before = 12 + 4 * self.csrc_count;
         match form {
-            Some(form) => start + block_len(kinds, form, &self.ext_vals),
-            None => start,
+            Some(form) => before + block_len(kinds, start, form, &self.ext_vals),
+            None => before,
         }
     }
 
     // Whether the header has room.
-    fn fits(&self, room: usize, kinds: &KindsById, form: Option<ExtensionsForm>) -> bool
+    #[inline(always)]
+    fn fits<K: Kinds>(
+        &self,
+        room: usize,
+        kinds: &K,
+        start: Cursor,
+        form: Option<ExtensionsForm>,
+    ) -> bool
+        requires start { K.left kinds.now start ≡ items_from 0 (K.known kinds.now) }
+        requires few_ids { length (items_from 0 (K.known kinds.now)) ≤ 255 }
         requires sources { self.now.csrc_count ≤ 15 }
-        requires short { form ≡ Some OneByte → IsShort (slots_of kinds.now) self.now.ext_vals }
-        ensures { IsTrue result ↔ (length (wire_bytes_in form (slots_of kinds.now) self.now) ≤ room) }
+        requires short { form ≡ Some OneByte → IsShort (K.known kinds.now) self.now.ext_vals }
+        ensures { IsTrue result ↔ (length (wire_bytes_in form (K.slots kinds.now) self.now) ≤ room) }
     {
         let Some(left) = room.checked_sub(12 + 4 * self.csrc_count) else {
             return false;
         };
         match form {
-            Some(form) => block_fits(kinds, form, &self.ext_vals, left),
+            Some(form) => block_fits(kinds, start, form, &self.ext_vals, left),
             None => true,
         }
     }
 
     // Puts the block in the form, and returns the offset after it.
-    fn put_extension(
+    #[inline(always)]
+    fn put_extension<K: Kinds>(
         &self,
         buf: &mut [u8],
         at: usize,
-        kinds: &KindsById,
+        kinds: &K,
+        start: Cursor,
         form: Option<ExtensionsForm>,
     ) -> usize
-        requires form { Serves (slots_of kinds.now) self.now.has_extension self.now.ext_vals form }
-        requires room { at + length (part_in form (slots_of kinds.now) self.now.ext_vals)
+        requires start { K.left kinds.now start ≡ items_from 0 (K.known kinds.now) }
+        requires few_ids { length (items_from 0 (K.known kinds.now)) ≤ 255 }
+        requires form { Serves (K.slots kinds.now) self.now.has_extension self.now.ext_vals form }
+        requires room { at + length (part_in form (K.slots kinds.now) self.now.ext_vals)
             ≤ length buf.old }
         ensures written { buf.new
-            ≡ overwritten buf.old at (part_in form (slots_of kinds.now) self.now.ext_vals) }
-        ensures end { result ≡ at + length (part_in form (slots_of kinds.now) self.now.ext_vals) }
+            ≡ overwritten buf.old at (part_in form (K.slots kinds.now) self.now.ext_vals) }
+        ensures end { result ≡ at + length (part_in form (K.slots kinds.now) self.now.ext_vals) }
         ensures words { (result - at) % 4 ≡ 0 }
-        ensures by_map { result ≤ at + 4 + whole_words (257 * mapped_count (slots_of kinds.now)) }
+        ensures by_map { result ≤ at + 4 + whole_words (257 * mapped_count (K.slots kinds.now)) }
         ensures bound { result ≤ at + 65540 }
-        ensures read_back { IsExtensionPart (slots_of kinds.now) self.now.has_extension
-            (part_in form (slots_of kinds.now) self.now.ext_vals)
-            (carried_image (slots_of kinds.now) self.now.has_extension self.now.ext_vals) }
+        ensures read_back { IsExtensionPart (K.slots kinds.now) self.now.has_extension
+            (part_in form (K.slots kinds.now) self.now.ext_vals)
+            (carried_image (K.slots kinds.now) self.now.has_extension self.now.ext_vals) }
     {
         let Some(form) = form else {
             return at;
         };
-        at + write_block(kinds, form, &mut buf[at..], &self.ext_vals)
+        at + write_block(kinds, start, form, &mut buf[at..], &self.ext_vals)
     }
 
     // Writes the header with a block in the form to the front of the buffer, and returns its length.
-    pub(super) fn write_in(
+    #[inline(always)]
+    pub(super) fn write_in<K: Kinds>(
         &self,
         buf: &mut [u8],
-        kinds: &KindsById,
+        kinds: &K,
+        start: Cursor,
         form: Option<ExtensionsForm>,
     ) -> usize
+        requires start { K.left kinds.now start ≡ items_from 0 (K.known kinds.now) }
+        requires few_ids { length (items_from 0 (K.known kinds.now)) ≤ 255 }
         requires payload_type { self.now.payload_type ≤ 127 }
         requires sources { self.now.csrc_count ≤ 15 }
-        requires form { Serves (slots_of kinds.now) self.now.has_extension self.now.ext_vals form }
-        requires room { length (wire_bytes_in form (slots_of kinds.now) self.now) ≤ length buf.old }
+        requires form { Serves (K.slots kinds.now) self.now.has_extension self.now.ext_vals form }
+        requires room { length (wire_bytes_in form (K.slots kinds.now) self.now) ≤ length buf.old }
         ensures written { buf.new
-            ≡ wire_bytes_in form (slots_of kinds.now) self.now ++ drop result buf.old }
-        ensures length { result ≡ length (wire_bytes_in form (slots_of kinds.now) self.now) }
+            ≡ wire_bytes_in form (K.slots kinds.now) self.now ++ drop result buf.old }
+        ensures length { result ≡ length (wire_bytes_in form (K.slots kinds.now) self.now) }
         ensures words { result % 4 ≡ 0 }
-        ensures by_map { result ≤ 76 + whole_words (257 * mapped_count (slots_of kinds.now)) }
+        ensures by_map { result ≤ 76 + whole_words (257 * mapped_count (K.slots kinds.now)) }
         ensures bound { result ≤ 65612 }
 
         // What was written, followed by anything, is read as the header's image.
-        ensures read_back { (rest : List ℕ) → IsWire (slots_of kinds.now)
-            (wire_bytes_in form (slots_of kinds.now) self.now ++ rest)
-            (image_in form (slots_of kinds.now) self.now) }
+        ensures read_back { (rest : List ℕ) → IsWire (K.slots kinds.now)
+            (wire_bytes_in form (K.slots kinds.now) self.now ++ rest)
+            (image_in form (K.slots kinds.now) self.now) }
     {
         let sources = &self.csrc[..self.csrc_count];
         let end = put(buf, 0, &self.fixed_bytes(self.has_extension));
         let end = put_sources(buf, end, sources);
-        self.put_extension(buf, end, kinds, form)
+        self.put_extension(buf, end, kinds, start, form)
     }
 
     // The same whatever the header holds and however long the buffer is.
-    pub(super) fn try_write_in(
+    #[inline(always)]
+    pub(super) fn try_write_in<K: Kinds>(
         &self,
         buf: &mut [u8],
-        kinds: &KindsById,
+        kinds: &K,
+        start: Cursor,
         form: Option<ExtensionsForm>,
     ) -> Option<usize>
-        requires form { Serves (slots_of kinds.now) self.now.has_extension self.now.ext_vals form }
-        requires short { form ≡ Some OneByte → IsShort (slots_of kinds.now) self.now.ext_vals }
+        requires start { K.left kinds.now start ≡ items_from 0 (K.known kinds.now) }
+        requires few_ids { length (items_from 0 (K.known kinds.now)) ≤ 255 }
+        requires form { Serves (K.slots kinds.now) self.now.has_extension self.now.ext_vals form }
+        requires short { form ≡ Some OneByte → IsShort (K.known kinds.now) self.now.ext_vals }
         ensures refused { IsNone result
-            ↔ CannotBeWrittenIn form (slots_of kinds.now) self.now (length buf.old) }
+            ↔ CannotBeWrittenIn form (K.slots kinds.now) self.now (length buf.old) }
         ensures unchanged { IfNone result (buf.new ≡ buf.old) }
         ensures written { IfSome result (λ len. buf.new
-            ≡ wire_bytes_in form (slots_of kinds.now) self.now ++ drop len buf.old) }
+            ≡ wire_bytes_in form (K.slots kinds.now) self.now ++ drop len buf.old) }
         ensures length { IfSome result (λ len.
-            len ≡ length (wire_bytes_in form (slots_of kinds.now) self.now)) }
-        ensures read_back { IfSome result (λ _. (rest : List ℕ) → IsWire (slots_of kinds.now)
-            (wire_bytes_in form (slots_of kinds.now) self.now ++ rest)
-            (image_in form (slots_of kinds.now) self.now)) }
+            len ≡ length (wire_bytes_in form (K.slots kinds.now) self.now)) }
+        ensures read_back { IfSome result (λ _. (rest : List ℕ) → IsWire (K.slots kinds.now)
+            (wire_bytes_in form (K.slots kinds.now) self.now ++ rest)
+            (image_in form (K.slots kinds.now) self.now)) }
     {
         if self.payload_type.get() > 127 || self.csrc_count > 15 {
             return None;
         }
-        if !self.fits(buf.len(), kinds, form) {
+        if !self.fits(buf.len(), kinds, start, form) {
             return None;
         }
-        Some(self.write_in(buf, kinds, form))
+        Some(self.write_in(buf, kinds, start, form))
     }
 }

@@ -2,14 +2,13 @@
 
 ghost use Rattle.std.specs.Prelude.{◌≡◌, ℕ, ◌+◌, ◌*◌, ◌%◌, ◌≤◌, ◌↔◌, ◌++◌, List, length, drop, slice_index, IsNone, IfSome, IfNone};
 ghost use Rattle.rtp_ext.specs.ExtensionMap.{mapped_count, HasNoIdAbove};
-ghost use Rattle.rtp_ext.specs.KindsById.{slots_of};
 ghost use Rattle.rtp_ext.specs.WrittenBlock.{whole_words};
 ghost use Rattle.rtp_wire.specs.Header.{IsWire};
 ghost use Rattle.rtp_wire.specs.Packet.{IsFirstByte};
 ghost use Rattle.rtp_wire.specs.Written.{wire_bytes, image_of, CannotBeWritten};
 
 use super::RtpHeader;
-use rtp_ext::{ExtensionMap, KindsById};
+use rtp_ext::Kinds;
 
 impl RtpHeader {
     /// Returns how many bytes [`write_to`](Self::write_to) writes under the map: a multiple of
@@ -17,15 +16,16 @@ impl RtpHeader {
     /// bytes (12, 15 sources of 4, and the 4 of a block before its elements) and 257 for each
     /// mapped id, rounded up to whole words, so at most 4,188 where no id above 16 is mapped.
     /// Requires at most 15 contributing sources.
-    pub fn wire_len(&self, exts: &ExtensionMap) -> usize
+    pub fn wire_len<K: Kinds>(&self, exts: &K) -> usize
         requires sources { self.now.csrc_count ≤ 15 }
-        ensures length { result ≡ length (wire_bytes exts.now self.now) }
+        ensures length { result ≡ length (wire_bytes (K.slots exts.now) self.now) }
         ensures words { result % 4 ≡ 0 }
-        ensures by_map { result ≤ 76 + whole_words (257 * mapped_count exts.now) }
-        ensures small { HasNoIdAbove 16 exts.now → result ≤ 4188 }
+        ensures by_map { result ≤ 76 + whole_words (257 * mapped_count (K.slots exts.now)) }
+        ensures small { HasNoIdAbove 16 (K.slots exts.now) → result ≤ 4188 }
         ensures bound { result ≤ 65612 }
     {
-        self.len_in(exts.kinds(), self.form(exts))
+        let start = exts.start();
+        self.len_in(exts, start, self.form(exts, start))
     }
 
     /// Writes the header to the front of the buffer and returns how many bytes it took; the bytes
@@ -41,15 +41,15 @@ impl RtpHeader {
     /// With an audio level of -42 without voice under a map of 3 to the audio level, the payload
     /// type 33, the sequence number 47,000, the timestamp 10,000 and the SSRC 44, the twenty bytes
     /// are `90 21 B7 98 00 00 27 10 00 00 00 2C BE DE 00 01 30 2A 00 00`.
-    pub fn write_to(&self, buf: &mut [u8], exts: &ExtensionMap) -> usize
+    pub fn write_to<K: Kinds>(&self, buf: &mut [u8], exts: &K) -> usize
         requires payload_type { self.now.payload_type ≤ 127 }
         requires sources { self.now.csrc_count ≤ 15 }
-        requires room { length (wire_bytes exts.now self.now) ≤ length buf.old }
-        ensures written { buf.new ≡ wire_bytes exts.now self.now ++ drop result buf.old }
-        ensures length { result ≡ length (wire_bytes exts.now self.now) }
+        requires room { length (wire_bytes (K.slots exts.now) self.now) ≤ length buf.old }
+        ensures written { buf.new ≡ wire_bytes (K.slots exts.now) self.now ++ drop result buf.old }
+        ensures length { result ≡ length (wire_bytes (K.slots exts.now) self.now) }
         ensures words { result % 4 ≡ 0 }
-        ensures by_map { result ≤ 76 + whole_words (257 * mapped_count exts.now) }
-        ensures small { HasNoIdAbove 16 exts.now → result ≤ 4188 }
+        ensures by_map { result ≤ 76 + whole_words (257 * mapped_count (K.slots exts.now)) }
+        ensures small { HasNoIdAbove 16 (K.slots exts.now) → result ≤ 4188 }
         ensures bound { result ≤ 65612 }
 
         // So whether padding is announced is seen in the first byte.
@@ -58,66 +58,28 @@ impl RtpHeader {
 
         // What was written, followed by anything, is read as the header's image.
         ensures read_back { (rest : List ℕ) →
-            IsWire exts.now (wire_bytes exts.now self.now ++ rest) (image_of exts.now self.now) }
+            IsWire (K.slots exts.now) (wire_bytes (K.slots exts.now) self.now ++ rest) (image_of (K.slots exts.now) self.now) }
     {
-        self.write_in(buf, exts.kinds(), self.form(exts))
+        let start = exts.start();
+        self.write_in(buf, exts, start, self.form(exts, start))
     }
 
     /// Writes the header as [`write_to`](Self::write_to) does, whatever it holds and however long the
     /// buffer is. `None` where the payload type is above 127, there are more than 15 contributing
     /// sources, or the buffer has fewer than [`wire_len`](Self::wire_len) bytes, and then nothing is
     /// written.
-    pub fn try_write_to(&self, buf: &mut [u8], exts: &ExtensionMap) -> Option<usize>
-        ensures refused { IsNone result ↔ CannotBeWritten exts.now self.now (length buf.old) }
+    pub fn try_write_to<K: Kinds>(&self, buf: &mut [u8], exts: &K) -> Option<usize>
+        ensures refused { IsNone result ↔ CannotBeWritten (K.slots exts.now) self.now (length buf.old) }
         ensures unchanged { IfNone result (buf.new ≡ buf.old) }
         ensures written { IfSome result (λ len.
-            buf.new ≡ wire_bytes exts.now self.now ++ drop len buf.old) }
-        ensures length { IfSome result (λ len. len ≡ length (wire_bytes exts.now self.now)) }
+            buf.new ≡ wire_bytes (K.slots exts.now) self.now ++ drop len buf.old) }
+        ensures length { IfSome result (λ len. len ≡ length (wire_bytes (K.slots exts.now) self.now)) }
 
         // What was written, followed by anything, is read as the header's image.
         ensures read_back { IfSome result (λ _. (rest : List ℕ) →
-            IsWire exts.now (wire_bytes exts.now self.now ++ rest) (image_of exts.now self.now)) }
+            IsWire (K.slots exts.now) (wire_bytes (K.slots exts.now) self.now ++ rest) (image_of (K.slots exts.now) self.now)) }
     {
-        self.try_write_in(buf, exts.kinds(), self.form(exts))
-    }
-
-    /// Returns how many bytes [`try_write_by_kinds`](Self::try_write_by_kinds) writes under the
-    /// table, as [`wire_len`](Self::wire_len) does under a map: a multiple of four, 12 without CSRC
-    /// list and block, at most 76 and 257 for each mapped id, rounded up to whole words, and so at
-    /// most 65,612. Requires at most 15 contributing sources.
-    pub fn wire_len_by_kinds(&self, kinds: &KindsById) -> usize
-        requires sources { self.now.csrc_count ≤ 15 }
-        ensures length { result ≡ length (wire_bytes (slots_of kinds.now) self.now) }
-        ensures words { result % 4 ≡ 0 }
-        ensures by_map { result ≤ 76 + whole_words (257 * mapped_count (slots_of kinds.now)) }
-        ensures small { HasNoIdAbove 16 (slots_of kinds.now) → result ≤ 4188 }
-        ensures bound { result ≤ 65612 }
-    {
-        self.len_in(kinds, self.form_by_kinds(kinds))
-    }
-
-    /// Writes the header to the front of the buffer as [`try_write_to`](Self::try_write_to) does,
-    /// under a table of kinds: for callers that fill a table and have no [`ExtensionMap`] (RFC 3550,
-    /// 5.1; RFC 8285, 4.2 and 4.3). The block is in the form that [`KindsById::form`] returns; a map
-    /// with an unknown extension above id 14 has the two-byte form, and the table that it lends by
-    /// [`kinds`](ExtensionMap::kinds) doesn't know of it.
-    ///
-    /// `None` where the payload type is above 127, there are more than 15 contributing sources, or
-    /// the buffer has fewer than [`wire_len_by_kinds`](Self::wire_len_by_kinds) bytes, and then
-    /// nothing is written.
-    pub fn try_write_by_kinds(&self, buf: &mut [u8], kinds: &KindsById) -> Option<usize>
-        ensures refused { IsNone result
-            ↔ CannotBeWritten (slots_of kinds.now) self.now (length buf.old) }
-        ensures unchanged { IfNone result (buf.new ≡ buf.old) }
-        ensures written { IfSome result (λ len.
-            buf.new ≡ wire_bytes (slots_of kinds.now) self.now ++ drop len buf.old) }
-        ensures length { IfSome result (λ len. len ≡ length (wire_bytes (slots_of kinds.now) self.now)) }
-
-        // What was written, followed by anything, is read as the header's image.
-        ensures read_back { IfSome result (λ _. (rest : List ℕ) → IsWire (slots_of kinds.now)
-            (wire_bytes (slots_of kinds.now) self.now ++ rest)
-            (image_of (slots_of kinds.now) self.now)) }
-    {
-        self.try_write_in(buf, kinds, self.form_by_kinds(kinds))
+        let start = exts.start();
+        self.try_write_in(buf, exts, start, self.form(exts, start))
     }
 }

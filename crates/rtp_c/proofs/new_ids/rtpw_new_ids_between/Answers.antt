@@ -1,17 +1,18 @@
 use Rattle.std.proofs.Common.{subst, ℕ, List, sym}
 use Rattle.std.specs.Prelude.{Option}
-use Rattle.rtp_ext.specs.KindsById.{slots_of}
 use Rattle.rtp_ext.specs.NewIds.{AreNewIds}
+use Rattle.rtp_c.specs.KindsOfIds.{numbered_slots}
+use Rattle.rtp_c.proofs.NumberedLemmas.{HasKinds-numbered}
 use Rattle.rtp_c.proofs.new_ids.rtpw_new_ids_between.Goals as goal
 
 pub returns-clause-ids : goal.returns-clause-ids
 returns-clause-ids c =
-    let before = slots_of c.kinds_of.result in
-    let after = slots_of c.kinds_of-2.result in
+    let before = numbered_slots c.args.from.now.kind in
+    let after = numbered_slots c.args.to.now.kind in
     record {
       before = before;
-      has_before = c.kinds_of.ensures;
+      has_before = HasKinds-numbered c.args.from.now.kind;
       after = after;
-      has_after = c.kinds_of-2.ensures;
-      are_new = subst (λ (ids : List (Option ℕ)). AreNewIds before after ids) (sym c.ids-ids.ensures.ids) c.between_kinds.ensures;
+      has_after = HasKinds-numbered c.args.to.now.kind;
+      are_new = subst (λ (ids : List (Option ℕ)). AreNewIds before after ids) (sym c.ids-ids.ensures.ids) c.between.ensures;
     }

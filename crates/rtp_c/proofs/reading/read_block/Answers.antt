@@ -5,12 +5,13 @@ use Rattle.rtp_ext.specs.Elements.{AreElements}
 use Rattle.rtp_ext.proofs.KindsByIdLemmas.{OnOk-weaker, OnErr-weaker}
 use Rattle.rtp_wire.specs.PartsOf.{parts_of}
 use Rattle.rtp_wire.proofs.PartsLemmas.{length-packet}
+use Rattle.rtp_c.specs.KindsOfIds.{numbered_slots}
 use Rattle.rtp_c.proofs.PacketLemmas.{body-within}
 use Rattle.rtp_c.proofs.BodyLemmas.{block-here, elements_in, HasValues-none, HasValues-body, BlockHasAllocation-body}
 use Rattle.rtp_c.proofs.reading.read_block.Goals as goal
 
 pub returns-in_default-clause-found : goal.returns-in_default-clause-found
-returns-in_default-clause-found c slots has = HasValues-none slots (parts_of c.args.packet.now).block c.args.values.now c.in_default.ensures c.requires.empty
+returns-in_default-clause-found c = HasValues-none (numbered_slots c.args.map.now.kind) (parts_of c.args.packet.now).block c.args.values.now c.in_default.ensures c.requires.empty
 
 pub slice_bounds-read_values-end : goal.slice_bounds-read_values-end
 slice_bounds-read_values-end c =
@@ -34,13 +35,13 @@ elements c = elements_in c.in-Some.form c.args.buf.now (c.header_len-end.result 
 pub returns-clause-found : goal.returns-clause-found
 unfolding body
 returns-clause-found c =
-    OnOk-weaker c.read_values.result _ _ (λ read slots has. HasValues-body slots (parts_of c.args.packet.now).block c.in-Some.form (body c) _ c.args.values.now c.read_values.new.values
-    (block c) (elements c) c.requires.empty (read slots has (elements_left c.in-Some.form (body c)) (elements c)))
+    OnOk-weaker c.read_values.result _ _ (λ read. HasValues-body (numbered_slots c.args.map.now.kind) (parts_of c.args.packet.now).block c.in-Some.form (body c) _ c.args.values.now c.read_values.new.ev
+    (block c) (elements c) c.requires.empty (read (elements_left c.in-Some.form (body c)) (elements c)))
     c.read_values.ensures.values
 
 pub returns-clause-memory : goal.returns-clause-memory
 unfolding body
 returns-clause-memory c =
-    OnErr-weaker c.read_values.result _ _ (λ stopped slots has. BlockHasAllocation-body slots (parts_of c.args.packet.now).block c.in-Some.form (body c) _
-    (block c) (elements c) (stopped slots has (elements_left c.in-Some.form (body c)) (elements c)).at)
+    OnErr-weaker c.read_values.result _ _ (λ stopped. BlockHasAllocation-body (numbered_slots c.args.map.now.kind) (parts_of c.args.packet.now).block c.in-Some.form (body c) _
+    (block c) (elements c) (stopped (elements_left c.in-Some.form (body c)) (elements c)).at)
     c.read_values.ensures.refused

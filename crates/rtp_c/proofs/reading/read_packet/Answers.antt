@@ -1,32 +1,31 @@
 use Rattle.std.proofs.Common.{refl}
 use Rattle.rtp_wire.specs.PartsOf.{parts_of}
 use Rattle.rtp_wire.proofs.NotAPacketLemmas.{no_packet-refused}
-use Rattle.rtp_c.proofs.MapReadingLemmas.{slots_for}
+use Rattle.rtp_c.specs.KindsOfIds.{numbered_slots}
+use Rattle.rtp_c.proofs.NumberedLemmas.{HasKinds-numbered}
 use Rattle.rtp_c.proofs.reading.read_packet.Goals as goal
 
 pub returns-in-Ok-read_block-clause-found : goal.returns-in-Ok-read_block-clause-found
 returns-in-Ok-read_block-clause-found c =
-    let slots = slots_for c.args.map.now.kind in
     record {
-      slots = slots.0;
-      has_kinds = slots.1;
+      slots = numbered_slots c.args.map.now.kind;
+      has_kinds = HasKinds-numbered c.args.map.now.kind;
       is_wire = record {
         parts = parts_of c.in-Ok.packet;
         is_packet = c.in-Ok.ensures.found;
-        is_header = record { fields_are = refl; values_are = c.in-Ok-read_block.ensures.found slots.0 slots.1 };
+        is_header = record { fields_are = refl; values_are = c.in-Ok-read_block.ensures.found };
       };
     }
 
 pub returns-in-Err-read_block-clause-memory : goal.returns-in-Err-read_block-clause-memory
 returns-in-Err-read_block-clause-memory c _ =
-    let slots = slots_for c.args.map.now.kind in
     record {
-      slots = slots.0;
-      has_kinds = slots.1;
+      slots = numbered_slots c.args.map.now.kind;
+      has_kinds = HasKinds-numbered c.args.map.now.kind;
       has_allocation = record {
         parts = parts_of c.in-Ok.packet;
         is_packet = c.in-Ok.ensures.found;
-        has_allocation = c.in-Err-read_block.ensures.memory slots.0 slots.1;
+        has_allocation = c.in-Err-read_block.ensures.memory;
       };
     }
 

@@ -1,9 +1,9 @@
-use Rattle.std.proofs.Common.{◌≡◌, true, refl, sym, ap, ◌∙◌, arith, length}
+use Rattle.std.proofs.Common.{◌≡◌, true, refl, sym, ap, ◌∙◌, arith, length, List}
 use Rattle.rtp_ext.specs.declared.ext.form.ExtensionsForm.{ExtensionsForm}
 use Rattle.rtp_ext.specs.declared.ext.form.ExtensionsForm.TheVariants.{OneByte, TwoByte}
 use Rattle.rtp_ext.specs.contracts.ext.form.ExtensionsFormPartialEq.TheImpl as form_eq
-use Rattle.rtp_ext.specs.Elements.{elements_bytes}
-use Rattle.rtp_ext.specs.KindsById.{slots_of}
+use Rattle.rtp_ext.specs.Elements.{Element, elements_bytes}
+use Rattle.rtp_ext.proofs.KnownItemsLemmas.{written_known}
 use Rattle.rtp_ext.specs.WrittenBlock.{written_elements}
 use Rattle.rtp_wire.proofs.BlockWriting.{length-block}
 use Rattle.rtp_wire.proofs.header.block.block_fits.Goals as goal
@@ -13,13 +13,14 @@ one_byte OneByte same = refl
 one_byte TwoByte same = cc
 
 pub returns-then-next_multiple_of-room : goal.returns-then-next_multiple_of-room
-returns-then-next_multiple_of-room c =
-    let exts = slots_of c.args.kinds.now in
+returns-then-next_multiple_of-room g c =
+    let exts = g.K.Kinds.slots c.args.kinds.now in
     let ev = c.args.ev.now in
     let form : c.args.form ≡ OneByte = one_byte c.args.form (sym c.eq.ensures ∙ c.if-eq.true) in
     let len = length (elements_bytes c.args.form (written_elements exts ev)) in
     let same : len ≡ length (elements_bytes OneByte (written_elements exts ev)) =
-    ap (λ (f : ExtensionsForm). length (elements_bytes f (written_elements exts ev))) form in (
-      λ _. omega (arith, length-block c.args.form exts ev len refl, same, c.requires form, c.len-most.ensures.count, c.next_multiple_of.ensures.value, c.if-next_multiple_of-room.true),
+    ap (λ (f : ExtensionsForm). length (elements_bytes f (written_elements exts ev))) form in
+    let alike = ap (λ (elements : List Element). length (elements_bytes OneByte elements)) (written_known exts (g.K.Kinds.known c.args.kinds.now) ev (g.met.K.Kinds.known_is c.args.kinds.now)) in (
+      λ _. omega (arith, length-block c.args.form exts ev len refl, same, c.requires.short form, alike, c.at_most-most.ensures.most, c.next_multiple_of.ensures.value, c.if-next_multiple_of-room.true),
       λ _. refl,
     )

@@ -3,7 +3,6 @@ use Rattle.std.proofs.lemmas.List.{take_rest}
 use Rattle.rtp_ext.specs.declared.ext.form.ExtensionsForm.{ExtensionsForm}
 use Rattle.rtp_values.specs.declared.value.values.ExtensionValues.{ExtensionValues}
 use Rattle.rtp_ext.specs.ExtensionMap.{Slots}
-use Rattle.rtp_ext.specs.KindsById.{slots_of}
 use Rattle.rtp_ext.specs.Elements.{elements_bytes}
 use Rattle.rtp_ext.specs.WrittenBlock.{written_elements}
 use Rattle.rtp_wire.specs.WrittenInForm.{block_bytes_in}
@@ -17,50 +16,50 @@ row form exts ev = elements_bytes form (written_elements exts ev)
 room : (form : ExtensionsForm) (exts : Slots) (ev : ExtensionValues) (buf : List ℕ) → length (block_bytes_in form exts ev) ≤ length buf → 4 + length (row form exts ev) ≤ length buf
 room form exts ev buf fits = omega (arith, fits, length-block form exts ev (length (row form exts ev)) refl)
 
-pub slice_bounds-write_to-count : goal.slice_bounds-write_to-count
-slice_bounds-write_to-count c = omega (arith, room c.args.form (slots_of c.args.kinds.now) c.args.ev.now c.args.buf.now c.requires.room)
+pub slice_bounds-write_values-count : goal.slice_bounds-write_values-count
+slice_bounds-write_values-count g c = omega (arith, room c.args.form (g.K.Kinds.slots c.args.kinds.now) c.args.ev.now c.args.buf.now c.requires.room)
 
-pub slice_bounds-write_to-start : goal.slice_bounds-write_to-start
-slice_bounds-write_to-start c = omega (arith, room c.args.form (slots_of c.args.kinds.now) c.args.ev.now c.args.buf.now c.requires.room)
+pub slice_bounds-write_values-start : goal.slice_bounds-write_values-start
+slice_bounds-write_values-start g c = omega (arith, room c.args.form (g.K.Kinds.slots c.args.kinds.now) c.args.ev.now c.args.buf.now c.requires.room)
 
-pub write_to-elements_len-requires-clause-room : goal.write_to-elements_len-requires-clause-room
-write_to-elements_len-requires-clause-room c =
+pub write_values-elements_len-requires-clause-room : goal.write_values-elements_len-requires-clause-room
+write_values-elements_len-requires-clause-room g c =
     let buf = c.args.buf.now in
     omega (
       arith,
-      room c.args.form (slots_of c.args.kinds.now) c.args.ev.now buf c.requires.room,
+      room c.args.form (g.K.Kinds.slots c.args.kinds.now) c.args.ev.now buf c.requires.room,
       ap length (take_rest buf 4),
       length-drop 4 buf,
     )
 
 pub close_block-requires-clause-room : goal.close_block-requires-clause-room
-close_block-requires-clause-room c =
-    let exts = slots_of c.args.kinds.now in
-    let put = row-put (row c.args.form exts c.args.ev.now) c.args.buf.now c.write_to-elements_len.new.buf c.write_to-elements_len.result
-    c.write_to-elements_len.ensures.length c.write_to-elements_len.ensures.written
+close_block-requires-clause-room g c =
+    let exts = g.K.Kinds.slots c.args.kinds.now in
+    let put = row-put (row c.args.form exts c.args.ev.now) c.args.buf.now c.write_values-elements_len.new.buf c.write_values-elements_len.result
+    c.write_values-elements_len.ensures.length c.write_values-elements_len.ensures.written
     (room c.args.form exts c.args.ev.now c.args.buf.now c.requires.room) in
-    omega (arith, put.long, c.requires.room, length-block c.args.form exts c.args.ev.now c.write_to-elements_len.result c.write_to-elements_len.ensures.length)
+    omega (arith, put.long, c.requires.room, length-block c.args.form exts c.args.ev.now c.write_values-elements_len.result c.write_values-elements_len.ensures.length)
 
 pub returns-clause-written : goal.returns-clause-written
-returns-clause-written c =
-    let exts = slots_of c.args.kinds.now in
+returns-clause-written g c =
+    let exts = g.K.Kinds.slots c.args.kinds.now in
     let buf = c.args.buf.now in
     let bytes = row c.args.form exts c.args.ev.now in
-    let put = row-put bytes buf c.write_to-elements_len.new.buf c.write_to-elements_len.result
-    c.write_to-elements_len.ensures.length c.write_to-elements_len.ensures.written
+    let put = row-put bytes buf c.write_values-elements_len.new.buf c.write_values-elements_len.result
+    c.write_values-elements_len.ensures.length c.write_values-elements_len.ensures.written
     (room c.args.form exts c.args.ev.now buf c.requires.room) in
     block_bytes_in-closed c.args.form exts c.args.ev.now c.close_block.new.buf (drop c.close_block.result buf)
-    (c.close_block.ensures.closed buf bytes put.put put.long c.write_to-elements_len.ensures.length)
+    (c.close_block.ensures.closed buf bytes put.put put.long c.write_values-elements_len.ensures.length)
 
 pub returns-clause-length : goal.returns-clause-length
-returns-clause-length c =
+returns-clause-length g c =
     omega (
       arith,
       c.close_block.ensures.length,
-      length-block c.args.form (slots_of c.args.kinds.now) c.args.ev.now c.write_to-elements_len.result c.write_to-elements_len.ensures.length,
+      length-block c.args.form (g.K.Kinds.slots c.args.kinds.now) c.args.ev.now c.write_values-elements_len.result c.write_values-elements_len.ensures.length,
     )
 
 pub returns-clause-read_back : goal.returns-clause-read_back
-returns-clause-read_back c =
-    IsExtensionPart-written c.args.form (slots_of c.args.kinds.now) c.args.ev.now c.write_to-elements_len.result
-    c.write_to-elements_len.ensures.length c.write_to-elements_len.ensures.bound c.write_to-elements_len.ensures.elements c.write_to-elements_len.ensures.values
+returns-clause-read_back g c =
+    IsExtensionPart-written c.args.form (g.K.Kinds.slots c.args.kinds.now) c.args.ev.now c.write_values-elements_len.result
+    c.write_values-elements_len.ensures.length c.write_values-elements_len.ensures.bound c.write_values-elements_len.ensures.elements c.write_values-elements_len.ensures.values

@@ -14,8 +14,5 @@ invariant_of-result c = (
   sym (ap (list_any is_long_item) (items_from-empty 0 (slots_of (replicate 256 None)) (λ k. slots_of-none 256 (suc k)))),
 )
 
-pub returns-clause-empty : goal.returns-clause-empty
-returns-clause-empty c = slots_of-none 256
-
-pub returns-clause-slots : goal.returns-clause-slots
-returns-clause-slots c = slots_of-replicate 255
+pub returns : goal.returns
+returns c = slots_of-replicate 255

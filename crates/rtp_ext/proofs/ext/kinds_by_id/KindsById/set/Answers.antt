@@ -1,7 +1,7 @@
 use Rattle.std.proofs.Common.{Bool, arith, ap, set, sym, ◌∙◌}
 use Rattle.std.specs.Prelude.{◌||◌}
 use Rattle.rtp_ext.specs.KindsById.{slots_of}
-use Rattle.rtp_ext.proofs.KindsByIdLemmas.{slots_of-set, slots_of-set_others, slots_of-set_slots}
+use Rattle.rtp_ext.proofs.KindsByIdLemmas.{slots_of-set_slots}
 use Rattle.rtp_ext.proofs.RisingIdLemmas.{mapped_rise}
 use Rattle.rtp_ext.proofs.TableLemmas.{anew-mapped, anew-table, no_kind, put-table, set-length, set-padding, set-room}
 use Rattle.rtp_ext.proofs.ext.kinds_by_id.KindsById.set.Goals as goal
@@ -37,30 +37,14 @@ invariant_of-self-in-Some c =
     (no_kind kinds c.from.result c.args.id _ c.from.ensures (omega (arith, c.ranges.id.fits, c.self.invariant.0)) (sym c.is_some.ensures ∙ c.if-is_some.false))
     c.insert.ensures (ap (λ (long : Bool). c.self.inside.is_long || long) c.is_long.ensures)
 
-pub returns-then-is_some-clause-this : goal.returns-then-is_some-clause-this
-returns-then-is_some-clause-this c = λ is_id.
-    slots_of-set c.self.inside.kinds c.from-2.result c.args.id c.args.kind c.from-2.ensures (omega (arith, c.self.invariant.0, is_id.1)) is_id
-
-pub returns-then-is_some-clause-others : goal.returns-then-is_some-clause-others
-returns-then-is_some-clause-others c =
-    slots_of-set_others c.self.inside.kinds c.args.self.now c.from-2.result c.args.id c.args.kind c.from-2.ensures c.self.view_is
-
-pub returns-then-is_some-clause-slots : goal.returns-then-is_some-clause-slots
-returns-then-is_some-clause-slots c =
+pub returns-then-is_some : goal.returns-then-is_some
+returns-then-is_some c =
     slots_of-set_slots c.self.inside.kinds c.args.self.now c.from-2.result c.args.id c.args.kind c.from-2.ensures c.self.view_is
 
-pub returns-in-Some-clause-this : goal.returns-in-Some-clause-this
-returns-in-Some-clause-this c = λ is_id.
-    slots_of-set c.self.inside.kinds c.from-2.result c.args.id c.args.kind c.from-2.ensures (omega (arith, c.self.invariant.0, is_id.1)) is_id
-
-pub returns-in-Some-clause-others : goal.returns-in-Some-clause-others
-returns-in-Some-clause-others c =
-    slots_of-set_others c.self.inside.kinds c.args.self.now c.from-2.result c.args.id c.args.kind c.from-2.ensures c.self.view_is
-
-pub returns-in-Some-clause-slots : goal.returns-in-Some-clause-slots
-returns-in-Some-clause-slots c =
+pub returns-in-Some : goal.returns-in-Some
+returns-in-Some c =
     slots_of-set_slots c.self.inside.kinds c.args.self.now c.from-2.result c.args.id c.args.kind c.from-2.ensures c.self.view_is
 
-pub returns-in_default-clause-slots : goal.returns-in_default-clause-slots
-returns-in_default-clause-slots c =
+pub returns-in_default : goal.returns-in_default
+returns-in_default c =
     slots_of-set_slots c.self.inside.kinds c.args.self.now c.from-2.result c.args.id c.args.kind c.from-2.ensures c.self.view_is

@@ -13,7 +13,7 @@ pub invariant_of-result : goal.invariant_of-result
 invariant_of-result c = (
   c.from_fn.ensures.items.long,
   c.none.ensures ∙ sym (no_ids-IsEmpty c.from_fn.result (empty c)),
-  c.empty.ensures.slots ∙ known_slots-empty 255 c.from_fn.result c.from_fn.ensures.items.long (empty c),
+  c.empty.ensures ∙ known_slots-empty 255 c.from_fn.result c.from_fn.ensures.items.long (empty c),
 )
 
 pub returns : goal.returns

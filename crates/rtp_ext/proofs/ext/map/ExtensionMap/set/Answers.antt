@@ -25,7 +25,7 @@ invariant_of-self c =
     let set = new_id c.self.inside.slots c.self.inside.mapped c.insert.new.self c.in-Some.slot c.args.id c.replace-old.result _ _ (unlocked c.args.ext) c.self.invariant.1
     found.0 (omega (arith, found.1, c.self.invariant.0)) c.replace-old.ensures.value (sym c.is_mapped.ensures ∙ c.if-not-is_mapped.true) (c.replace-old.ensures.after ∙ c.from-new.ensures) c.insert.ensures in
     let is_id : IsId c.args.id = (omega (arith, found.0), omega (arith, found.0, found.1, c.self.invariant.0)) in
-    let in_step = known_slots-put c.self.inside.slots _ _ c.in-Some.slot c.args.id _ _ c.self.invariant.2 found.0 (c.set.ensures.slots is_id)
+    let in_step = known_slots-put c.self.inside.slots _ _ c.in-Some.slot c.args.id _ _ c.self.invariant.2 found.0 (c.set.ensures is_id)
     (c.known_kind.ensures ∙ ap known_entry (sym c.replace-old.ensures.after)) in
     (set.0 ∙ c.self.invariant.0, set.1, in_step)
 
@@ -35,6 +35,6 @@ invariant_of-self-else-not-is_mapped c =
     let set = same_ids c.self.inside.slots c.self.inside.mapped c.in-Some.slot c.replace-old.result _ _ (unlocked c.args.ext) c.self.invariant.1
     (omega (arith, found.1, c.self.invariant.0)) c.replace-old.ensures.value (sym c.is_mapped.ensures ∙ c.if-not-is_mapped.false) (c.replace-old.ensures.after ∙ c.from-new.ensures) in
     let is_id : IsId c.args.id = (omega (arith, found.0), omega (arith, found.0, found.1, c.self.invariant.0)) in
-    let in_step = known_slots-put c.self.inside.slots _ _ c.in-Some.slot c.args.id _ _ c.self.invariant.2 found.0 (c.set.ensures.slots is_id)
+    let in_step = known_slots-put c.self.inside.slots _ _ c.in-Some.slot c.args.id _ _ c.self.invariant.2 found.0 (c.set.ensures is_id)
     (c.known_kind.ensures ∙ ap known_entry (sym c.replace-old.ensures.after)) in
     (set.0 ∙ c.self.invariant.0, set.1, in_step)

@@ -4,16 +4,16 @@ use Rattle.rtp_ext.proofs.NewIdLemmas.{HasNewBytesTo, HasNewBytesTo-start, HasNe
 use Rattle.rtp_ext.proofs.ext.new_ids.NewIds.between.Goals as goal
 
 pub loop-id-init : goal.loop-id-init
-loop-id-init c = HasNewBytesTo-start c.args.from.now c.args.to.now (replicate 256 0) refl
+loop-id-init g c = HasNewBytesTo-start (g.K.Kinds.slots c.args.from.now) (g.K.Kinds.slots c.args.to.now) (replicate 256 0) refl
 
 pub loop-id-preserved : goal.loop-id-preserved
-loop-id-preserved c =
+loop-id-preserved g c =
     let new = c.id_under.ensures in
-    subst (λ (byte : ℕ). HasNewBytesTo c.args.from.now c.args.to.now (set c.loop-id.new-items c.loop-id.id byte) (c.loop-id.id + 1)) (sym c.unwrap_or.ensures)
-    (HasNewBytesTo-next c.args.from.now c.args.to.now c.loop-id.new-items c.loop-id.id c.id_under.result c.loop-id-test.true c.loop-id.invariant new.new new.valid new.no_others)
+    subst (λ (byte : ℕ). HasNewBytesTo (g.K.Kinds.slots c.args.from.now) (g.K.Kinds.slots c.args.to.now) (set c.loop-id.new-items c.loop-id.id byte) (c.loop-id.id + 1)) (sym c.unwrap_or.ensures)
+    (HasNewBytesTo-next (g.K.Kinds.slots c.args.from.now) (g.K.Kinds.slots c.args.to.now) c.loop-id.new-items c.loop-id.id c.id_under.result c.loop-id-test.true c.loop-id.invariant new.new new.valid new.no_others)
 
 pub invariant_of-result : goal.invariant_of-result
-invariant_of-result c = HasNewBytesTo-table c.args.from.now c.args.to.now c.loop-id.new-items c.loop-id.id c.loop-id-test.false c.loop-id.invariant
+invariant_of-result g c = HasNewBytesTo-table (g.K.Kinds.slots c.args.from.now) (g.K.Kinds.slots c.args.to.now) c.loop-id.new-items c.loop-id.id c.loop-id-test.false c.loop-id.invariant
 
 pub returns : goal.returns
-returns c = AreNewIds-table c.args.from.now c.args.to.now (map id_in_byte c.loop-id.new-items) c.loop-id.id c.loop-id-test.false c.loop-id.invariant
+returns g c = AreNewIds-table (g.K.Kinds.slots c.args.from.now) (g.K.Kinds.slots c.args.to.now) (map id_in_byte c.loop-id.new-items) c.loop-id.id c.loop-id-test.false c.loop-id.invariant

@@ -1,28 +1,36 @@
-use Rattle.std.proofs.lemmas.Result.{IfOk-weaker, on_err_weaker}
-use Rattle.std.proofs.lemmas.Option.{IfSome_then}
-use Rattle.std.proofs.Common.{IfOk, IfSome}
+use Rattle.std.proofs.Common.{arith, refl, ap, subst, Some, IsErr}
+use Rattle.std.proofs.lemmas.Bool.{false≢true}
+use Rattle.rtp_wire.specs.declared.header.rtp_header.RtpHeader.{RtpHeader}
 use Rattle.rtp_wire.specs.Header.{IsWire}
-use Rattle.rtp_wire.proofs.KnownKindsLemmas.{IsWire-known, HeaderHasAllocation-known, only_found}
+use Rattle.rtp_wire.specs.PartsOf.{parts_of}
+use Rattle.rtp_wire.proofs.HeaderLemmas.{no_header, one_header}
+use Rattle.rtp_wire.proofs.NotAPacketLemmas.{no_packet-refused}
+use Rattle.rtp_wire.proofs.PartsLemmas.{length-packet}
 use Rattle.rtp_wire.proofs.header.rtp_header.RtpHeader.parse.Goals as goal
 
-pub returns-clause-memory : goal.returns-clause-memory
-returns-clause-memory c =
-    on_err_weaker c.parse_by_kinds.result (λ has. HeaderHasAllocation-known c.args.exts.now _ c.args.buf.now c.kinds.ensures has) c.parse_by_kinds.ensures.memory
+pub returns-in_default-clause-only : goal.returns-in_default-clause-only
+returns-in_default-clause-only g c header wire = absurd (no_header (g.K.Kinds.slots c.args.exts.now) c.args.buf.now header (c.in_default.ensures.refused.0 refl) wire)
 
-pub returns-clause-succeeds : goal.returns-clause-succeeds
-returns-clause-succeeds c none =
-    c.parse_by_kinds.ensures.succeeds (λ has. none (HeaderHasAllocation-known c.args.exts.now _ c.args.buf.now c.kinds.ensures has))
+pub returns-in_err-header-clause-refused : goal.returns-in_err-header-clause-refused
+returns-in_err-header-clause-refused g c = (
+  λ e. absurd (false≢true (subst IsErr e c.from_residual.ensures.0)),
+  λ none. absurd (no_packet-refused c.args.buf.now (parts_of c.in-Ok.packet) none c.in-Ok.ensures.found),
+)
 
--- what is returned is a header under the map
-found : (c : goal.After-parse_by_kinds) → IfOk c.parse_by_kinds.result (λ answer. IfSome answer (IsWire c.args.exts.now c.args.buf.now))
-found c =
-    IfOk-weaker c.parse_by_kinds.result _ _
-    (λ answer is. IfSome_then answer is (λ header wire. IsWire-known c.args.exts.now _ c.args.buf.now header c.kinds.ensures wire))
-    c.parse_by_kinds.ensures.found
+-- the header is that of the bytes
+wire : (g : _) (c : goal.In_ok-header g) → IsWire (g.K.Kinds.slots c.args.exts.now) c.args.buf.now c.in_ok-header.header
+wire g c = record { parts = parts_of c.in-Ok.packet; is_packet = c.in-Ok.ensures.found; is_header = c.in_ok-header.ensures.found }
 
 pub returns-clause-found : goal.returns-clause-found
-returns-clause-found c = found c
+returns-clause-found g c = wire g c
 
 pub returns-clause-only : goal.returns-clause-only
-returns-clause-only c header is =
-    only_found c.args.exts.now c.args.buf.now header c.parse_by_kinds.result (found c) c.parse_by_kinds.ensures.refused is
+returns-clause-only g c header is = ap Some (one_header (g.K.Kinds.slots c.args.exts.now) c.args.buf.now _ header (wire g c) is)
+
+pub returns-clause-within : goal.returns-clause-within
+returns-clause-within g c =
+    omega (arith, ap (λ (h : RtpHeader). h.header_len) c.in_ok-header.ensures.found.fields_are, length-packet c.args.buf.now (parts_of c.in-Ok.packet) c.in-Ok.ensures.found)
+
+pub returns-clause-refused : goal.returns-clause-refused
+returns-clause-refused g c =
+    (λ e. absurd cc, λ none. absurd (no_packet-refused c.args.buf.now (parts_of c.in-Ok.packet) none c.in-Ok.ensures.found))

@@ -5,60 +5,58 @@ use Rattle.rtp_wire.specs.PartsOf.{parts_of}
 use Rattle.rtp_wire.specs.Header.{IsWire}
 use Rattle.rtp_ext.proofs.MemoryLemmas.{OnErr-from}
 use Rattle.rtp_wire.proofs.HeaderLemmas.{no_header, one_header, IsHeaderOf-read}
-use Rattle.rtp_wire.proofs.KnownKindsLemmas.{HasValues-known, BlockHasAllocation-known, AreValuesStopped-known}
 use Rattle.rtp_wire.proofs.NotAPacketLemmas.{no_packet-refused}
 use Rattle.rtp_wire.proofs.PartsLemmas.{length-packet}
 use Rattle.rtp_wire.proofs.header.rtp_header.RtpHeader.parse_into.Goals as goal
 
 pub returns-in_default-clause-only : goal.returns-in_default-clause-only
-returns-in_default-clause-only c header wire = absurd (no_header c.args.exts.now c.args.buf.now header (c.in_default.ensures.refused.0 refl) wire)
+returns-in_default-clause-only g c header wire = absurd (no_header (g.K.Kinds.slots c.args.exts.now) c.args.buf.now header (c.in_default.ensures.refused.0 refl) wire)
 
 pub returns-in_err-read_values-clause-memory : goal.returns-in_err-read_values-clause-memory
-returns-in_err-read_values-clause-memory c = OnErr-from c.from_residual.result _ (record {
+returns-in_err-read_values-clause-memory g c = OnErr-from c.from_residual.result _ (record {
   parts = parts_of c.in-Ok.packet;
   is_packet = c.in-Ok.ensures.found;
-  has_allocation = BlockHasAllocation-known c.args.exts.now _ _ c.kinds.ensures c.in_err-read_values.ensures.memory;
+  has_allocation = c.in_err-read_values.ensures.memory;
 })
 
 pub returns-in_err-read_values-clause-succeeds : goal.returns-in_err-read_values-clause-succeeds
-returns-in_err-read_values-clause-succeeds c none = absurd (none (record {
+returns-in_err-read_values-clause-succeeds g c none = absurd (none (record {
   parts = parts_of c.in-Ok.packet;
   is_packet = c.in-Ok.ensures.found;
-  has_allocation = BlockHasAllocation-known c.args.exts.now _ _ c.kinds.ensures c.in_err-read_values.ensures.memory;
+  has_allocation = c.in_err-read_values.ensures.memory;
 }))
 
 pub returns-in_err-read_values-clause-stopped : goal.returns-in_err-read_values-clause-stopped
-returns-in_err-read_values-clause-stopped c = OnErr-from c.from_residual.result _ (record {
+returns-in_err-read_values-clause-stopped g c = OnErr-from c.from_residual.result _ (record {
   parts = parts_of c.in-Ok.packet;
   is_packet = c.in-Ok.ensures.found;
   fields_are = ap (λ (h : RtpHeader). record h { ext_vals = c.read_values.new.values }) c.put_fields.ensures;
-  values_are = AreValuesStopped-known c.args.exts.now _ _ _ c.kinds.ensures c.in_err-read_values.ensures.stopped;
+  values_are = c.in_err-read_values.ensures.stopped;
 })
 
 pub returns-in_err-read_values-clause-refused : goal.returns-in_err-read_values-clause-refused
-returns-in_err-read_values-clause-refused c = (
+returns-in_err-read_values-clause-refused g c = (
   λ e. absurd (false≢true (subst IsErr e c.from_residual.ensures.0)),
   λ none. absurd (no_packet-refused c.args.buf.now (parts_of c.in-Ok.packet) none c.in-Ok.ensures.found),
 )
 
 -- the header is that of the bytes
-wire : (c : goal.In_ok-read_values) → IsWire c.args.exts.now c.args.buf.now (record c.put_fields.new.header { ext_vals = c.read_values.new.values })
-wire c =
-    let exts = c.args.exts.now in
+wire : (g : _) (c : goal.In_ok-read_values g) → IsWire (g.K.Kinds.slots c.args.exts.now) c.args.buf.now (record c.put_fields.new.header { ext_vals = c.read_values.new.values })
+wire g c =
+    let exts = (g.K.Kinds.slots c.args.exts.now) in
     let parts = parts_of c.in-Ok.packet in
     record {
       parts = parts;
       is_packet = c.in-Ok.ensures.found;
-      is_header = IsHeaderOf-read exts parts _ c.read_values.new.values _ c.put_fields.ensures
-          (HasValues-known exts _ parts.block c.read_values.new.values c.kinds.ensures c.in_ok-read_values.ensures.found);
+      is_header = IsHeaderOf-read exts parts _ c.read_values.new.values _ c.put_fields.ensures c.in_ok-read_values.ensures.found;
     }
 
 pub returns-clause-found : goal.returns-clause-found
-returns-clause-found c = wire c
+returns-clause-found g c = wire g c
 
 pub returns-clause-only : goal.returns-clause-only
-returns-clause-only c header is = (refl, one_header c.args.exts.now c.args.buf.now _ header (wire c) is)
+returns-clause-only g c header is = (refl, one_header (g.K.Kinds.slots c.args.exts.now) c.args.buf.now _ header (wire g c) is)
 
 pub returns-clause-within : goal.returns-clause-within
-returns-clause-within c =
+returns-clause-within g c =
     omega (arith, ap (λ (h : RtpHeader). h.header_len) c.put_fields.ensures, length-packet c.args.buf.now (parts_of c.in-Ok.packet) c.in-Ok.ensures.found)

@@ -1,22 +1,21 @@
 use Rattle.std.proofs.Common.{◌+◌, ◌-◌, ◌≤◌, ℕ, Option, sym, ap, subst, ◌∙◌, ◌++◌, length, drop, take}
 use Rattle.rtp_base.specs.Overwriting.{overwritten}
 use Rattle.rtp_ext.specs.declared.ext.form.ExtensionsForm.{ExtensionsForm}
-use Rattle.rtp_ext.specs.KindsById.{slots_of}
 use Rattle.rtp_wire.specs.WrittenInForm.{block_bytes_in, part_in}
 use Rattle.rtp_base.proofs.OverwritingLemmas.{overwritten-nil, overwritten-rest}
 use Rattle.rtp_wire.proofs.WrittenInFormLemmas.{IsExtensionPart-none, IsExtensionPart-some}
 use Rattle.rtp_wire.proofs.header.rtp_header.RtpHeader.put_extension.Goals as goal
 
 pub returns-in_default-clause-written : goal.returns-in_default-clause-written
-returns-in_default-clause-written c = rw c.in_default.is (sym (overwritten-nil c.args.buf.now c.args.at))
+returns-in_default-clause-written g c = rw c.in_default.is (sym (overwritten-nil c.args.buf.now c.args.at))
 
 pub returns-in_default-clause-read_back : goal.returns-in_default-clause-read_back
-returns-in_default-clause-read_back c =
-    IsExtensionPart-none (slots_of c.args.kinds.now) c.args.self.now.has_extension c.args.self.now.ext_vals c.args.form c.in_default.is c.requires.form
+returns-in_default-clause-read_back g c =
+    IsExtensionPart-none (g.K.Kinds.slots c.args.kinds.now) c.args.self.now.has_extension c.args.self.now.ext_vals c.args.form c.in_default.is c.requires.form
 
 pub returns-clause-written : goal.returns-clause-written
-returns-clause-written c =
-    let exts = slots_of c.args.kinds.now in
+returns-clause-written g c =
+    let exts = g.K.Kinds.slots c.args.kinds.now in
     let values = c.args.self.now.ext_vals in
     let buf = c.args.buf.now in
     let at = c.args.at in
@@ -28,6 +27,6 @@ returns-clause-written c =
     put ∙ ap (λ (f : Option ExtensionsForm). overwritten buf at (part_in f exts values)) (sym c.in-Some.is)
 
 pub returns-clause-read_back : goal.returns-clause-read_back
-returns-clause-read_back c =
-    IsExtensionPart-some (slots_of c.args.kinds.now) c.args.self.now.has_extension c.args.self.now.ext_vals c.args.form c.in-Some.form c.in-Some.is c.requires.form
+returns-clause-read_back g c =
+    IsExtensionPart-some (g.K.Kinds.slots c.args.kinds.now) c.args.self.now.has_extension c.args.self.now.ext_vals c.args.form c.in-Some.form c.in-Some.is c.requires.form
     c.write_block.ensures.read_back

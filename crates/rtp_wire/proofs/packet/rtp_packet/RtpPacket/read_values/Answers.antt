@@ -1,7 +1,6 @@
 use Rattle.std.proofs.Common.{subst, OnErr}
 use Rattle.rtp_ext.specs.ElementReading.{elements_left}
 use Rattle.rtp_ext.specs.Elements.{AreElements}
-use Rattle.rtp_ext.specs.KindsById.{slots_of}
 use Rattle.rtp_ext.proofs.ElementLemmasOfBodies.{AreElements-found}
 use Rattle.rtp_wire.specs.PartsOf.{parts_of}
 use Rattle.rtp_wire.specs.RefusedMemory.{BlockHasAllocation, AreValuesStopped}
@@ -9,27 +8,27 @@ use Rattle.rtp_wire.proofs.ValuesLemmas.{HasValues-none, HasValues-read, AreValu
 use Rattle.rtp_wire.proofs.packet.rtp_packet.RtpPacket.read_values.Goals as goal
 
 pub returns-in_default-clause-found : goal.returns-in_default-clause-found
-returns-in_default-clause-found c = HasValues-none (slots_of c.args.kinds.now) _ c.args.values.now c.in_default.ensures.parts c.requires
+returns-in_default-clause-found g c = HasValues-none (g.K.Kinds.slots c.args.exts.now) _ c.args.values.now c.in_default.ensures.parts c.requires
 
 -- the elements of the body
-elements : (c : goal.After-parse) → AreElements c.in-Some.form c.in-Some.body.now (elements_left c.in-Some.form c.in-Some.body.now)
-elements c = AreElements-found c.in-Some.form c.in-Some.body.now c.in-Some.ensures.bytes
+elements : (g : _) (c : goal.After-read_values g) → AreElements c.in-Some.form c.in-Some.body.now (elements_left c.in-Some.form c.in-Some.body.now)
+elements g c = AreElements-found c.in-Some.form c.in-Some.body.now c.in-Some.ensures.bytes
 
 pub returns-clause-found : goal.returns-clause-found
-returns-clause-found c =
-    HasValues-read (slots_of c.args.kinds.now) _ c.in-Some.form c.in-Some.body.now _ c.args.values.now c.parse.new.ev c.parse.result c.in-Some.ensures.parts (elements c) c.requires c.parse.ensures.values
+returns-clause-found g c =
+    HasValues-read (g.K.Kinds.slots c.args.exts.now) _ c.in-Some.form c.in-Some.body.now _ c.args.values.now c.read_values.new.ev c.read_values.result c.in-Some.ensures.parts (elements g c) c.requires c.read_values.ensures.values
 
 -- what stands where memory was refused
-stopped : (c : goal.After-parse) → OnErr c.parse.result (AreValuesStopped (slots_of c.args.kinds.now) (parts_of c.args.self.now).block c.parse.new.ev)
-stopped c =
-    AreValuesStopped-refused (slots_of c.args.kinds.now) _ c.in-Some.form c.in-Some.body.now _ c.args.values.now c.parse.new.ev c.parse.result c.in-Some.ensures.parts (elements c) c.requires c.parse.ensures.refused
+stopped : (g : _) (c : goal.After-read_values g) → OnErr c.read_values.result (AreValuesStopped (g.K.Kinds.slots c.args.exts.now) (parts_of c.args.self.now).block c.read_values.new.ev)
+stopped g c =
+    AreValuesStopped-refused (g.K.Kinds.slots c.args.exts.now) _ c.in-Some.form c.in-Some.body.now _ c.args.values.now c.read_values.new.ev c.read_values.result c.in-Some.ensures.parts (elements g c) c.requires c.read_values.ensures.refused
 
 pub returns-clause-memory : goal.returns-clause-memory
-returns-clause-memory c = BlockHasAllocation-stopped (slots_of c.args.kinds.now) _ c.parse.new.ev c.parse.result (stopped c)
+returns-clause-memory g c = BlockHasAllocation-stopped (g.K.Kinds.slots c.args.exts.now) _ c.read_values.new.ev c.read_values.result (stopped g c)
 
 pub returns-clause-stopped : goal.returns-clause-stopped
-returns-clause-stopped c = stopped c
+returns-clause-stopped g c = stopped g c
 
 pub returns-clause-succeeds : goal.returns-clause-succeeds
-returns-clause-succeeds c none =
-    c.parse.ensures.succeeds _ (elements c) (λ has. none (subst (BlockHasAllocation (slots_of c.args.kinds.now)) c.in-Some.ensures.parts (record { elements = elements_left c.in-Some.form c.in-Some.body.now; are_elements = elements c; has_allocation = has })))
+returns-clause-succeeds g c none =
+    c.read_values.ensures.succeeds _ (elements g c) (λ has. none (subst (BlockHasAllocation (g.K.Kinds.slots c.args.exts.now)) c.in-Some.ensures.parts (record { elements = elements_left c.in-Some.form c.in-Some.body.now; are_elements = elements g c; has_allocation = has })))

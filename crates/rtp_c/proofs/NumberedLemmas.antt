@@ -1,0 +1,355 @@
+-- The map that C fills, as it stands: what each id is mapped to, and a walk over the mapped ids.
+use Rattle.std.proofs.Common.{◌≡◌, ◌≢◌, ℕ, zero, suc, ◌≤◌, ◌<◌, ◌+◌, ◌-◌, List, [], ◌∷◌, length, map, take, drop, get_or, Bool, false, Option, None, Some, inl, inr, arith, refl, sym, ap, ◌∙◌, subst, le-ltb}
+use Rattle.std.specs.Prelude.{◌||◌, nat_lt}
+use Rattle.std.specs.Option.{option_map}
+use Rattle.std.specs.List.{list_any}
+use Rattle.std.proofs.lemmas.Bool.{cases_lt}
+use Rattle.std.proofs.lemmas.List.{length-map, length-take, length-drop, drop_all, drop_more, take_all, get_or-take, get_or-drop, get_or_past}
+use Rattle.std.proofs.Math.ListN.{get_or-map}
+use Rattle.rtp_values.specs.Spelling.{longest}
+use Rattle.rtp_values.proofs.KindLemmas.{one_kind}
+use Rattle.rtp_values.specs.KnownKind.{extension_of_kind}
+use Rattle.rtp_values.specs.declared.kind.Extension.{Extension}
+use Rattle.rtp_values.specs.declared.kind.Extension.TheVariants as extension
+use Rattle.rtp_values.specs.declared.known_kind.KnownKind.{KnownKind}
+use Rattle.rtp_values.specs.declared.known_kind.KnownKind.TheVariants.{AbsoluteSendTime, AbsoluteCaptureTime, AudioLevel, TransmissionTimeOffset, VideoOrientation, TransportSequenceNumber, PlayoutDelay, VideoContentType, VideoTiming, RtpStreamId, RepairedRtpStreamId, RtpMid, FrameMarking, ColorSpace, VideoLayersAllocation}
+use Rattle.rtp_ext.specs.ExtensionMap.{Entry, Slots, IsLowest, IsUnmapped, extension_at, extension_of, items_from}
+use Rattle.rtp_ext.specs.KindsById.{entry_of_kind, is_long_item}
+use Rattle.rtp_ext.specs.NewIds.{IsNewId}
+use Rattle.rtp_ext.proofs.KindsByIdLemmas.{entry_at-kinds}
+use Rattle.rtp_ext.proofs.ListingLemmas.{items_from-empty, length-items_from}
+use Rattle.rtp_c.specs.KindNumbers.{kind_number, kind_numbered, IsKindNumbered}
+use Rattle.rtp_c.specs.KindsOfIds.{HasKinds, IsFirstNumber, numbered_slots}
+use Rattle.rtp_c.proofs.KindNumberLemmas.{number≢0}
+
+-- ---- the kinds of numbers
+
+number_zero : kind_numbered 0 ≡ None
+unfolding kind_numbered
+number_zero = refl
+
+at_most : (kind : KnownKind) → kind_number kind ≤ 15
+at_most AbsoluteSendTime = omega arith
+at_most AbsoluteCaptureTime = omega arith
+at_most AudioLevel = omega arith
+at_most TransmissionTimeOffset = omega arith
+at_most VideoOrientation = omega arith
+at_most TransportSequenceNumber = omega arith
+at_most PlayoutDelay = omega arith
+at_most VideoContentType = omega arith
+at_most VideoTiming = omega arith
+at_most RtpStreamId = omega arith
+at_most RepairedRtpStreamId = omega arith
+at_most RtpMid = omega arith
+at_most FrameMarking = omega arith
+at_most ColorSpace = omega arith
+at_most VideoLayersAllocation = omega arith
+
+-- each number has its kind
+numbered_is : (number : ℕ) → IsKindNumbered number (kind_numbered number)
+unfolding kind_numbered
+numbered_is zero = λ kind. number≢0 kind
+numbered_is (suc zero) = refl
+numbered_is (suc (suc zero)) = refl
+numbered_is (suc (suc (suc zero))) = refl
+numbered_is (suc (suc (suc (suc zero)))) = refl
+numbered_is (suc (suc (suc (suc (suc zero))))) = refl
+numbered_is (suc (suc (suc (suc (suc (suc zero)))))) = refl
+numbered_is (suc (suc (suc (suc (suc (suc (suc zero))))))) = refl
+numbered_is (suc (suc (suc (suc (suc (suc (suc (suc zero)))))))) = refl
+numbered_is (suc (suc (suc (suc (suc (suc (suc (suc (suc zero))))))))) = refl
+numbered_is (suc (suc (suc (suc (suc (suc (suc (suc (suc (suc zero)))))))))) = refl
+numbered_is (suc (suc (suc (suc (suc (suc (suc (suc (suc (suc (suc zero))))))))))) = refl
+numbered_is (suc (suc (suc (suc (suc (suc (suc (suc (suc (suc (suc (suc zero)))))))))))) = refl
+numbered_is (suc (suc (suc (suc (suc (suc (suc (suc (suc (suc (suc (suc (suc zero))))))))))))) = refl
+numbered_is (suc (suc (suc (suc (suc (suc (suc (suc (suc (suc (suc (suc (suc (suc zero)))))))))))))) = refl
+numbered_is (suc (suc (suc (suc (suc (suc (suc (suc (suc (suc (suc (suc (suc (suc (suc zero))))))))))))))) = refl
+numbered_is (suc (suc (suc (suc (suc (suc (suc (suc (suc (suc (suc (suc (suc (suc (suc (suc n)))))))))))))))) = λ kind is. omega (arith, is, at_most kind)
+
+-- the slots are those of the numbers
+pub HasKinds-numbered : (numbers : List ℕ) → HasKinds numbers (numbered_slots numbers)
+HasKinds-numbered numbers = record {
+  kinds = map kind_numbered numbers;
+  as_many = length-map numbers kind_numbered;
+  numbered = λ i within.
+      subst (IsKindNumbered (get_or numbers i 0))
+      (sym (ap (get_or (map kind_numbered numbers) i) (sym number_zero) ∙ get_or-map kind_numbered numbers i 0))
+      (numbered_is (get_or numbers i 0));
+  slots_are = refl;
+}
+
+number_of_kind : (kind : KnownKind) → kind_numbered (kind_number kind) ≡ Some kind
+unfolding kind_numbered
+number_of_kind AbsoluteSendTime = refl
+number_of_kind AbsoluteCaptureTime = refl
+number_of_kind AudioLevel = refl
+number_of_kind TransmissionTimeOffset = refl
+number_of_kind VideoOrientation = refl
+number_of_kind TransportSequenceNumber = refl
+number_of_kind PlayoutDelay = refl
+number_of_kind VideoContentType = refl
+number_of_kind VideoTiming = refl
+number_of_kind RtpStreamId = refl
+number_of_kind RepairedRtpStreamId = refl
+number_of_kind RtpMid = refl
+number_of_kind FrameMarking = refl
+number_of_kind ColorSpace = refl
+number_of_kind VideoLayersAllocation = refl
+
+-- the known kind of an extension, and that of the mid for an unknown one
+kind_back : Extension → KnownKind
+kind_back extension.AbsoluteSendTime = AbsoluteSendTime
+kind_back extension.AbsoluteCaptureTime = AbsoluteCaptureTime
+kind_back extension.AudioLevel = AudioLevel
+kind_back extension.TransmissionTimeOffset = TransmissionTimeOffset
+kind_back extension.VideoOrientation = VideoOrientation
+kind_back extension.TransportSequenceNumber = TransportSequenceNumber
+kind_back extension.PlayoutDelay = PlayoutDelay
+kind_back extension.VideoContentType = VideoContentType
+kind_back extension.VideoTiming = VideoTiming
+kind_back extension.RtpStreamId = RtpStreamId
+kind_back extension.RepairedRtpStreamId = RepairedRtpStreamId
+kind_back extension.RtpMid = RtpMid
+kind_back extension.FrameMarking = FrameMarking
+kind_back extension.ColorSpace = ColorSpace
+kind_back extension.VideoLayersAllocation = VideoLayersAllocation
+kind_back (extension.UnknownUri uri) = RtpMid
+
+kind_there : (kind : KnownKind) → kind_back (extension_of_kind kind) ≡ kind
+unfolding kind_back
+kind_there AbsoluteSendTime = refl
+kind_there AbsoluteCaptureTime = refl
+kind_there AudioLevel = refl
+kind_there TransmissionTimeOffset = refl
+kind_there VideoOrientation = refl
+kind_there TransportSequenceNumber = refl
+kind_there PlayoutDelay = refl
+kind_there VideoContentType = refl
+kind_there VideoTiming = refl
+kind_there RtpStreamId = refl
+kind_there RepairedRtpStreamId = refl
+kind_there RtpMid = refl
+kind_there FrameMarking = refl
+kind_there ColorSpace = refl
+kind_there VideoLayersAllocation = refl
+
+same_kind : (a b : KnownKind) → extension_of_kind a ≡ extension_of_kind b → a ≡ b
+same_kind a b same = sym (kind_there a) ∙ ap kind_back same ∙ kind_there b
+
+kind_of_extension : (found : Option KnownKind) (kind : KnownKind) → option_map extension_of_kind found ≡ Some (extension_of_kind kind) → found ≡ Some kind
+kind_of_extension None kind is = cc
+kind_of_extension (Some found) kind is = ap Some (same_kind found kind (one_kind is))
+
+-- ---- a walk over the mapped ids
+
+-- the slot of an id
+slot_numbered : (numbers : List ℕ) (k : ℕ) → get_or (numbered_slots numbers) k None ≡ entry_of_kind (kind_numbered (get_or numbers (suc k) 0))
+slot_numbered numbers k =
+    entry_at-kinds (map kind_numbered numbers) k
+    ∙ ap entry_of_kind (ap (get_or (map kind_numbered numbers) (suc k)) (sym number_zero) ∙ get_or-map kind_numbered numbers (suc k) 0)
+
+-- the kind of an id
+pub extension_numbered : (numbers : List ℕ) (id : ℕ) (kind : Option KnownKind) → 1 ≤ id → kind ≡ kind_numbered (get_or numbers id 0)
+    → option_map extension_of_kind kind ≡ extension_at (numbered_slots numbers) id
+extension_numbered numbers zero kind above is = absurd (omega (arith, above))
+extension_numbered numbers (suc k) kind above is =
+    of_entry kind ∙ ap extension_of (ap entry_of_kind is ∙ sym (slot_numbered numbers k))
+  where
+    of_entry : (kind : Option KnownKind) → option_map extension_of_kind kind ≡ extension_of (entry_of_kind kind)
+    of_entry None = refl
+    of_entry (Some k) = refl
+
+length-numbered : (numbers : List ℕ) → length (numbered_slots numbers) ≡ length numbers - 1
+length-numbered numbers =
+    length-map (drop 1 (map kind_numbered numbers)) entry_of_kind ∙ length-drop 1 (map kind_numbered numbers)
+    ∙ ap (λ (n : ℕ). n - 1) (length-map numbers kind_numbered)
+
+-- the slots of a walk from an index on
+front : List ℕ → ℕ → Slots
+front numbers end = take end (numbered_slots numbers)
+
+split : (numbers : List ℕ) (end at : ℕ) (kind : Option KnownKind) → length numbers ≡ 256 → end ≤ 255 → at < end
+    → kind ≡ kind_numbered (get_or numbers (at + 1) 0)
+    → drop at (take end (numbered_slots numbers)) ≡ entry_of_kind kind ∷ drop (at + 1) (take end (numbered_slots numbers))
+split numbers end at kind long within below is =
+    let slots = numbered_slots numbers in
+    let many : at < length (take end slots) = omega (arith, length-take end slots, length-numbered numbers) in
+    let index : at + 1 ≡ suc at = omega arith in
+    drop_more (take end slots) at None many
+    ∙ ap (λ slot. slot ∷ drop (at + 1) (take end slots))
+    (get_or-take end slots at None below ∙ slot_numbered numbers at
+    ∙ sym (ap entry_of_kind (is ∙ ap (λ (i : ℕ). kind_numbered (get_or numbers i 0)) index)))
+
+-- an id that is mapped to nothing is passed
+pub numbered-pass : (numbers : List ℕ) (end at : ℕ) (kind : Option KnownKind) → length numbers ≡ 256 → end ≤ 255 → at < end
+    → kind ≡ kind_numbered (get_or numbers (at + 1) 0) → kind ≡ None
+    → items_from at (drop at (take end (numbered_slots numbers))) ≡ items_from (at + 1) (drop (at + 1) (take end (numbered_slots numbers)))
+numbered-pass numbers end at kind long within below is none =
+    ap (items_from at) (split numbers end at None long within below (sym none ∙ is))
+
+-- the next one
+pub numbered-next : (numbers : List ℕ) (end at : ℕ) (kind : KnownKind) → length numbers ≡ 256 → end ≤ 255 → at < end
+    → Some kind ≡ kind_numbered (get_or numbers (at + 1) 0)
+    → items_from at (drop at (take end (numbered_slots numbers)))
+    ≡ (at + 1, extension_of_kind kind) ∷ items_from (at + 1) (drop (at + 1) (take end (numbered_slots numbers)))
+numbered-next numbers end at kind long within below is =
+    ap (items_from at) (split numbers end at (Some kind) long within below is)
+
+-- none is left
+pub numbered-ended : (numbers : List ℕ) (end at : ℕ) → end ≤ at → items_from at (drop at (take end (numbered_slots numbers))) ≡ []
+numbered-ended numbers end at past =
+    ap (items_from at) (drop_all at (take end (numbered_slots numbers)) (omega (arith, length-take end (numbered_slots numbers))))
+
+-- slots that are empty from an index on
+items_from-front : (n passed : ℕ) (left : Slots) → ((i : ℕ) → n ≤ i → get_or left i None ≡ None)
+    → items_from passed (take n left) ≡ items_from passed left
+items_from-front zero passed left none = sym (items_from-empty passed left (λ k. none k (omega arith)))
+items_from-front (suc n) passed [] none = refl
+items_from-front (suc n) passed (None ∷ left) none = items_from-front n (passed + 1) left (λ i above. none (suc i) (omega arith))
+items_from-front (suc n) passed (Some entry ∷ left) none =
+    ap (λ items. (passed + 1, entry.extension) ∷ items) (items_from-front n (passed + 1) left (λ i above. none (suc i) (omega arith)))
+
+-- a walk that ends before numbers that are 0 has all mapped ids
+pub numbered-low : (numbers : List ℕ) (end : ℕ) → ((i : ℕ) → end + 1 ≤ i → get_or numbers i 0 ≡ 0)
+    → items_from 0 (take end (numbered_slots numbers)) ≡ items_from 0 (numbered_slots numbers)
+numbered-low numbers end zeros =
+    items_from-front end 0 (numbered_slots numbers)
+    (λ i above. slot_numbered numbers i ∙ ap (λ (n : ℕ). entry_of_kind (kind_numbered n)) (zeros (suc i) (omega arith)) ∙ ap entry_of_kind number_zero)
+
+pub numbered-all : (numbers : List ℕ) → length numbers ≡ 256
+    → items_from 0 (take 255 (numbered_slots numbers)) ≡ items_from 0 (numbered_slots numbers)
+numbered-all numbers long =
+    ap (items_from 0) (take_all 255 (numbered_slots numbers) (omega (arith, length-numbered numbers)))
+
+pub numbered-few : (numbers : List ℕ) → length numbers ≡ 256 → length (items_from 0 (numbered_slots numbers)) ≤ 255
+numbered-few numbers long = omega (arith, length-items_from 0 (numbered_slots numbers), length-numbered numbers)
+
+-- at most as many are mapped as a walk over all of them has slots
+pub numbered-most : (numbers : List ℕ) (end at : ℕ)
+    → items_from at (drop at (take end (numbered_slots numbers))) ≡ items_from 0 (numbered_slots numbers)
+    → length (items_from 0 (numbered_slots numbers)) ≤ end
+numbered-most numbers end at all =
+    let slots = take end (numbered_slots numbers) in
+    omega (arith, ap length all, length-items_from at (drop at slots), length-drop at slots, length-take end (numbered_slots numbers))
+
+-- ---- no walk over low ids without the layer allocation needs the two-byte form
+
+HasFewData : Option Entry → Type 0
+HasFewData None = Unit {0}
+HasFewData (Some entry) = nat_lt 16 (longest entry.extension) ≡ false
+
+few_data : (number : ℕ) → number ≢ 15 → HasFewData (entry_of_kind (kind_numbered number))
+unfolding kind_numbered HasFewData
+few_data zero other = tt
+few_data (suc zero) other = refl
+few_data (suc (suc zero)) other = refl
+few_data (suc (suc (suc zero))) other = refl
+few_data (suc (suc (suc (suc zero)))) other = refl
+few_data (suc (suc (suc (suc (suc zero))))) other = refl
+few_data (suc (suc (suc (suc (suc (suc zero)))))) other = refl
+few_data (suc (suc (suc (suc (suc (suc (suc zero))))))) other = refl
+few_data (suc (suc (suc (suc (suc (suc (suc (suc zero)))))))) other = refl
+few_data (suc (suc (suc (suc (suc (suc (suc (suc (suc zero))))))))) other = refl
+few_data (suc (suc (suc (suc (suc (suc (suc (suc (suc (suc zero)))))))))) other = refl
+few_data (suc (suc (suc (suc (suc (suc (suc (suc (suc (suc (suc zero))))))))))) other = refl
+few_data (suc (suc (suc (suc (suc (suc (suc (suc (suc (suc (suc (suc zero)))))))))))) other = refl
+few_data (suc (suc (suc (suc (suc (suc (suc (suc (suc (suc (suc (suc (suc zero))))))))))))) other = refl
+few_data (suc (suc (suc (suc (suc (suc (suc (suc (suc (suc (suc (suc (suc (suc zero)))))))))))))) other = refl
+few_data (suc (suc (suc (suc (suc (suc (suc (suc (suc (suc (suc (suc (suc (suc (suc zero))))))))))))))) other = absurd (other refl)
+few_data (suc (suc (suc (suc (suc (suc (suc (suc (suc (suc (suc (suc (suc (suc (suc (suc n)))))))))))))))) other = tt
+
+at_most_14 : (id : ℕ) → id ≤ 14 → nat_lt 14 id ≡ false
+at_most_14 id low = le-ltb 14 id low
+
+no_long_items : (passed : ℕ) (left : Slots) → passed + length left ≤ 14 → ((k : ℕ) → HasFewData (get_or left k None)) → list_any is_long_item (items_from passed left) ≡ false
+unfolding HasFewData
+no_long_items passed [] low few = refl
+no_long_items passed (None ∷ left) low few = no_long_items (passed + 1) left (omega arith) (λ k. few (suc k))
+no_long_items passed (Some entry ∷ left) low few =
+    ap (λ (b : Bool). (b || nat_lt 16 (longest entry.extension)) || list_any is_long_item (items_from (passed + 1) left)) (at_most_14 (passed + 1) (omega arith))
+    ∙ ap (λ (b : Bool). b || list_any is_long_item (items_from (passed + 1) left)) (few 0)
+    ∙ no_long_items (passed + 1) left (omega arith) (λ k. few (suc k))
+
+pub numbered-short : (numbers : List ℕ) (end at : ℕ) → end ≤ 14 → ((i : ℕ) → i < length (take 16 numbers) → get_or (take 16 numbers) i 0 ≢ 15) → length numbers ≡ 256
+    → list_any is_long_item (items_from at (drop at (take end (numbered_slots numbers)))) ≡ false
+unfolding HasFewData
+numbered-short numbers end at low none long = elim (cases_lt at end) [
+  | inl within ↦ no_long_items at (drop at slots) (omega (arith, within, length-drop at slots, length-take end (numbered_slots numbers))) few
+  | inr past ↦ ap (λ (left : Slots). list_any is_long_item (items_from at left)) (drop_all at slots (omega (arith, past, length-take end (numbered_slots numbers))))
+]
+  where
+    slots : Slots
+    slots = take end (numbered_slots numbers)
+
+    number_here : (i : ℕ) → i < 16 → get_or numbers i 0 ≢ 15
+    number_here i below is = none i (omega (arith, below, long, length-take 16 numbers)) (get_or-take 16 numbers i 0 below ∙ is)
+
+    few_at : (i : ℕ) → HasFewData (get_or slots i None)
+    few_at i = elim (cases_lt i end) [
+      | inl here ↦
+          subst HasFewData (sym (get_or-take end (numbered_slots numbers) i None here ∙ slot_numbered numbers i))
+          (few_data (get_or numbers (suc i) 0) (number_here (suc i) (omega (arith, here))))
+      | inr there ↦ subst HasFewData (sym (get_or_past slots i None (omega (arith, there, length-take end (numbered_slots numbers))))) tt
+    ]
+
+    few : (k : ℕ) → HasFewData (get_or (drop at slots) k None)
+    few k = subst HasFewData (sym (get_or-drop at slots k None)) (few_at (at + k))
+
+-- ---- the new id of an id
+
+after_first : (numbers : List ℕ) (k : ℕ) → get_or (drop 1 numbers) k 0 ≡ get_or numbers (suc k) 0
+after_first [] k = refl
+after_first (first ∷ numbers) k = refl
+
+numbered_kind : (numbers : List ℕ) (id : ℕ) (kind : KnownKind) → extension_at (numbered_slots numbers) id ≡ Some (extension_of_kind kind)
+    → get_or numbers id 0 ≡ kind_number kind
+numbered_kind numbers zero kind is = cc
+numbered_kind numbers (suc k) kind is =
+    let found = kind_of_extension (kind_numbered (get_or numbers (suc k) 0)) kind (extension_numbered numbers (suc k) _ (omega arith) refl ∙ is) in
+    sym (subst (IsKindNumbered (get_or numbers (suc k) 0)) found (numbered_is (get_or numbers (suc k) 0)))
+
+numbered_lowest : (numbers : List ℕ) (kind : KnownKind) (index : ℕ) → IsFirstNumber (drop 1 numbers) (kind_number kind) index
+    → IsLowest (numbered_slots numbers) (extension_of_kind kind) (suc index)
+numbered_lowest numbers kind index first = record {
+  mapped = sym (extension_numbered numbers (suc index) (Some kind) (omega arith) (sym (ap kind_numbered here ∙ number_of_kind kind)));
+  lowest = before;
+}
+  where
+    here : get_or numbers (suc index) 0 ≡ kind_number kind
+    here = sym (after_first numbers index) ∙ first.here
+
+    before : (k : ℕ) → k < suc index → extension_at (numbered_slots numbers) k ≡ Some (extension_of_kind kind) → ⊥
+    before zero below is = cc
+    before (suc k) below is = first.before k (omega arith) (after_first numbers k ∙ numbered_kind numbers (suc k) kind is)
+
+pub numbered-found : (from to rest : List ℕ) (id : ℕ) (kind : KnownKind) (index new : ℕ) → rest ≡ drop 1 to → option_map extension_of_kind (Some kind) ≡ extension_at (numbered_slots from) id
+    → IsFirstNumber rest (kind_number kind) index → new ≡ index + 1 → IsNewId (numbered_slots from) (numbered_slots to) id (Some new)
+numbered-found from to rest id kind index new rest_is is first new_is =
+    let next : suc index ≡ new = omega (arith, new_is) in (
+      extension_of_kind kind,
+      sym is,
+      subst (IsLowest (numbered_slots to) (extension_of_kind kind)) next
+          (numbered_lowest to kind index (subst (λ (ns : List ℕ). IsFirstNumber ns (kind_number kind) index) rest_is first)),
+    )
+
+pub numbered-unmapped : (from to rest : List ℕ) (id : ℕ) (kind : KnownKind) → rest ≡ drop 1 to → option_map extension_of_kind (Some kind) ≡ extension_at (numbered_slots from) id
+    → ((k : ℕ) → k < length rest → get_or rest k 0 ≢ kind_number kind) → IsNewId (numbered_slots from) (numbered_slots to) id None
+numbered-unmapped from to rest id kind rest_is is never = λ extension mapped.
+    let same : extension_of_kind kind ≡ extension = one_kind (is ∙ mapped) in
+    subst (IsUnmapped (numbered_slots to)) same nowhere
+  where
+    nowhere : IsUnmapped (numbered_slots to) (extension_of_kind kind)
+    nowhere zero is_here = cc
+    nowhere (suc k) is_here =
+        let number = after_first to k ∙ numbered_kind to (suc k) kind is_here in
+        elim (cases_lt k (length (drop 1 to))) [
+          | inl within ↦ never k (omega (arith, within, ap length rest_is)) (ap (λ (ns : List ℕ). get_or ns k 0) rest_is ∙ number)
+          | inr past ↦ number≢0 kind (sym number ∙ get_or_past (drop 1 to) k 0 (omega (arith, past)))
+        ]
+
+pub numbered-none : (from to : List ℕ) (id : ℕ) → option_map extension_of_kind None ≡ extension_at (numbered_slots from) id
+    → IsNewId (numbered_slots from) (numbered_slots to) id None
+numbered-none from to id is = λ extension mapped. let found = is ∙ mapped in cc
+
+pub length-numbered_slots : (numbers : List ℕ) → length numbers ≡ 256 → length (numbered_slots numbers) ≡ 255
+length-numbered_slots numbers long = omega (arith, long, length-numbered numbers)

@@ -1,0 +1,165 @@
+//! The map that C fills, as it stands, as a map of kinds.
+
+ghost use Rattle.std.specs.Prelude.{◌≡◌, ◌≢◌, ◌↔◌, ℕ, ◌<◌, length, slice_index, false, IsTrue, IfSome, IfNone};
+ghost use Rattle.rtp_c.specs.KindNumbers.{kind_numbered};
+ghost use Rattle.rtp_c.specs.KindsOfIds.{IsFirstNumber};
+
+use super::map::{KindsOfIds, number_of};
+use rtp_ext::{Cursor, Kinds, is_long};
+use rtp_values::KnownKind;
+
+// A walk ends after so many slots, where the others are empty: those of the first eight ids, those of
+// the one-byte form, or all.
+const FEW_SLOTS: usize = 7;
+
+const LOW_SLOTS: usize = 14;
+
+const ALL_SLOTS: usize = 255;
+
+// The number of the kind that may have long data.
+const LAYERS: u8 = 15;
+
+// The kind of this number.
+#[inline(always)]
+#[tactic(auto, unfolding(crate::specs::KindNumbers::kind_numbered))]
+fn kind_numbered(number: u8) -> Option<KnownKind>
+    ensures { result ≡ kind_numbered number }
+{
+    match number {
+        1 => Some(KnownKind::AbsoluteSendTime),
+        2 => Some(KnownKind::AbsoluteCaptureTime),
+        3 => Some(KnownKind::AudioLevel),
+        4 => Some(KnownKind::TransmissionTimeOffset),
+        5 => Some(KnownKind::VideoOrientation),
+        6 => Some(KnownKind::TransportSequenceNumber),
+        7 => Some(KnownKind::PlayoutDelay),
+        8 => Some(KnownKind::VideoContentType),
+        9 => Some(KnownKind::VideoTiming),
+        10 => Some(KnownKind::RtpStreamId),
+        11 => Some(KnownKind::RepairedRtpStreamId),
+        12 => Some(KnownKind::RtpMid),
+        13 => Some(KnownKind::FrameMarking),
+        14 => Some(KnownKind::ColorSpace),
+        15 => Some(KnownKind::VideoLayersAllocation),
+        _ => None,
+    }
+}
+
+// Whether each number is 0.
+#[inline(always)]
+fn are_zeros(numbers: &[u8]) -> bool
+    ensures { IsTrue result ↔ ((i : ℕ) → i < length numbers.now → slice_index numbers.now i ≡ 0) }
+{
+    let mut any = 0;
+    for number in numbers {
+        any |= *number;
+    }
+    any == 0
+}
+
+// Whether one of the numbers is this one. Each is looked at, so that many are at once.
+#[inline(always)]
+fn has_number(numbers: &[u8], wanted: u8) -> bool
+    ensures { (result ≡ false)
+        ↔ ((i : ℕ) → i < length numbers.now → slice_index numbers.now i ≢ wanted) }
+{
+    let mut any = false;
+    for number in numbers {
+        any |= *number == wanted;
+    }
+    any
+}
+
+// The first index where the number stands.
+fn index_of(numbers: &[u8], wanted: u8) -> Option<usize>
+    ensures found { IfSome result (IsFirstNumber numbers.now wanted) }
+    ensures none { IfNone result
+        ((k : ℕ) → k < length numbers.now → slice_index numbers.now k ≢ wanted) }
+{
+    numbers.iter().position(|number| *number == wanted)
+}
+
+impl Kinds for KindsOfIds {
+    ghost use Rattle.std.specs.Prelude.{take, drop, map};
+    ghost use Rattle.rtp_ext.specs.ExtensionMap.{items_from};
+    ghost use Rattle.rtp_ext.specs.KindsById.{known_of_kinds};
+    ghost use Rattle.rtp_ext.specs.declared.ext.kinds.Cursor.{Cursor};
+    ghost use Rattle.rtp_c.specs.KindNumbers.{kind_numbered};
+    ghost use Rattle.rtp_c.specs.KindsOfIds.{numbered_slots};
+
+    ghost slots = { λ map. numbered_slots map.kind };
+
+    ghost known = { λ map. numbered_slots map.kind };
+
+    // The slots of a walk are those before its end.
+    ghost left = { λ map cursor.
+        items_from cursor.at (drop cursor.at (take cursor.end (numbered_slots map.kind))) };
+
+    #[inline(always)]
+    fn get(&self, id: u8) -> Option<KnownKind> {
+        if id == 0 {
+            return None;
+        }
+        kind_numbered(self.kind[usize::from(id)])
+    }
+
+    #[inline(always)]
+    fn start(&self) -> Cursor {
+        let is_low = are_zeros(&self.kind[16..]);
+        let is_few = are_zeros(&self.kind[8..16]);
+        let end = if is_low {
+            if is_few {
+                FEW_SLOTS
+            } else if self.kind[15] == 0 {
+                LOW_SLOTS
+            } else {
+                ALL_SLOTS
+            }
+        } else {
+            ALL_SLOTS
+        };
+        Cursor { at: 0, end }
+    }
+
+    #[inline(always)]
+    fn next(&self, cursor: &mut Cursor) -> Option<(u8, KnownKind)> {
+        let end = cursor.end;
+        let mut at = cursor.at;
+        while at < end {
+            let found = kind_numbered(self.kind[at + 1]);
+            at += 1;
+            if let Some(kind) = found {
+                cursor.at = at;
+                return Some((at as u8, kind));
+            }
+        }
+        None
+    }
+
+    #[inline(always)]
+    fn has_long(&self, start: Cursor) -> bool {
+        if start.end <= LOW_SLOTS && !has_number(&self.kind[..16], LAYERS) {
+            return false;
+        }
+        let mut cursor = start;
+        while let Some((id, kind)) = self.next(&mut cursor) {
+            if is_long(id, kind) {
+                return true;
+            }
+        }
+        false
+    }
+
+    #[inline(always)]
+    fn at_most(&self, start: Cursor) -> usize {
+        start.end
+    }
+
+    fn id_under(&self, other: &Self, id: u8) -> Option<u8> {
+        let kind = self.get(id)?;
+        let index = index_of(&other.kind[1..], number_of(kind))?;
+        Some(index as u8 + 1)
+    }
+
+    ghost known_is = { λ numbered. known_of_kinds (map kind_numbered numbered.kind) };
+}
