@@ -5,7 +5,6 @@ mod ElementLemmas
 mod KindNumberLemmas
 mod KindsOfIdsLemmas
 mod MapReadingLemmas
-mod BodyLemmas
 mod LayersLemmas
 mod HeaderViewLemmas
 mod GivenLemmas
