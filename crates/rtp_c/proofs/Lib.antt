@@ -5,7 +5,6 @@ mod ElementLemmas
 mod KindNumberLemmas
 mod KindsOfIdsLemmas
 mod NumberedLemmas
-mod BodyLemmas
 mod LayersLemmas
 mod HeaderViewLemmas
 mod GivenLemmas

@@ -1,6 +1,7 @@
 //! A packet where it lies: its fields, and where its parts and its elements begin.
 
 ghost use Rattle.std.specs.Prelude.{◌≡◌, ◌≢◌, ◌↔◌, ◌<◌, ◌≤◌, ◌⊎◌, List, length, drop, Some, IfSome, IfNone};
+ghost use Rattle.std.specs.Option.{option_map};
 ghost use Rattle.rtp_base.specs.Flag.{bit};
 ghost use Rattle.rtp_ext.specs.declared.ext.form.ExtensionsForm.{ExtensionsForm};
 ghost use Rattle.rtp_ext.specs.Elements.{Element, AreElements};
@@ -75,17 +76,6 @@ pub fn flag_number(is_set: bool) -> u8
     if is_set { 1 } else { 0 }
 }
 
-// The number of the block's form.
-fn form_number_of(form: Option<ExtensionsForm>) -> u8
-    ensures { result ≡ form_number form }
-{
-    match form {
-        None => 0,
-        Some(ExtensionsForm::OneByte) => 1,
-        Some(ExtensionsForm::TwoByte) => 2,
-    }
-}
-
 // The form of this number.
 pub fn form_of(number: u8) -> Option<ExtensionsForm>
     ensures found { IfSome result (λ form. form_number (Some form) ≡ number) }
@@ -106,13 +96,15 @@ fn csrc_count_of(packet: &RtpPacket<'_>) -> u8
     packet.csrc().len() as u8
 }
 
-// How many bytes the body of the block has.
-pub fn body_len_of(packet: &RtpPacket<'_>) -> usize
-    ensures { result ≡ length (body_of (parts_of packet.now).block) }
+// The number of the block's form, and how many bytes its body has.
+fn block_numbers(packet: &RtpPacket<'_>) -> (u8, usize)
+    ensures form { result.0 ≡ form_number (option_map (λ block. block.0) (parts_of packet.now).block) }
+    ensures body { result.1 ≡ length (body_of (parts_of packet.now).block) }
 {
-    match packet.form() {
-        None => 0,
-        Some(_) => packet.header_len() - (16 + 4 * packet.csrc().len()),
+    match packet.block() {
+        None => (0, 0),
+        Some((ExtensionsForm::OneByte, body)) => (1, body.len()),
+        Some((ExtensionsForm::TwoByte, body)) => (2, body.len()),
     }
 }
 
@@ -132,7 +124,7 @@ fn view_of(packet: &RtpPacket<'_>) -> PacketView
     ensures { IsViewOf (bytes_of packet.now) (parts_of packet.now) result }
 {
     let payload_at = packet.header_len();
-    let body_len = body_len_of(packet);
+    let (block_form, body_len) = block_numbers(packet);
     let (unpadded_len, padding_fits) = unpadded_len_of(packet);
     PacketView {
         payload_at,
@@ -148,7 +140,7 @@ fn view_of(packet: &RtpPacket<'_>) -> PacketView
         marker: flag_number(packet.marker()),
         has_padding: flag_number(packet.has_padding()),
         padding_fits,
-        block_form: form_number_of(packet.form()),
+        block_form,
     }
 }
 

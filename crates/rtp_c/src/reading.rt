@@ -1,51 +1,21 @@
 //! Whole headers, read from bytes.
 
-ghost use Rattle.std.specs.Prelude.{◌≡◌, ◌≢◌, ◌⊎◌, ◌↔◌, IfNone, IfOk, IfErr, OnOk, OnErr};
+ghost use Rattle.std.specs.Prelude.{◌≡◌, ◌≢◌, ◌⊎◌, ◌↔◌, IfNone, IfOk, IfErr};
 ghost use Rattle.rtp_values.specs.Values.{no_values};
 ghost use Rattle.rtp_wire.specs.Header.{header_of};
 ghost use Rattle.rtp_wire.specs.NotAHeader.{NotAHeader};
-ghost use Rattle.rtp_wire.specs.Packet.{IsPacket};
-ghost use Rattle.rtp_wire.specs.PacketElements.{HasValues};
 ghost use Rattle.rtp_wire.specs.PartsOf.{parts_of};
-ghost use Rattle.rtp_wire.specs.RefusedMemory.{BlockHasAllocation};
 ghost use Rattle.rtp_c.specs.HeaderView.{BeginsWith, IsParsedAs, IsParsedWithLayersAs, TakesMemoryFrom};
-ghost use Rattle.rtp_c.specs.KindsOfIds.{numbered_slots};
 ghost use Rattle.rtp_c.specs.Status.{ok, no_memory, IsCauseStatus};
 
 use super::header_view::{HeaderView, put_header};
 use super::layers::{Layers, put_layers};
 use super::map::KindsOfIds;
-use super::packet::body_len_of;
 use super::status::{NO_MEMORY, OK, status_of};
 use rtp_ext::read_values;
 use rtp_values::ExtensionValues;
 use rtp_wire::RtpPacket;
-use std::alloc::{AllocError, Global};
-
-// Reads the values of the packet's block under the map, where none are held before.
-#[inline(always)]
-fn read_block(
-    alloc: Global,
-    buf: &[u8],
-    packet: &RtpPacket<'_>,
-    map: &KindsOfIds,
-    values: &mut ExtensionValues,
-) -> Result<(), AllocError>
-    requires packet { IsPacket buf.now (parts_of packet.now) }
-    requires empty { values.old ≡ no_values }
-    ensures found { OnOk result
-        (HasValues (numbered_slots map.now.kind) (parts_of packet.now).block values.new) }
-    ensures memory { OnErr result
-        (BlockHasAllocation (numbered_slots map.now.kind) (parts_of packet.now).block) }
-    ensures without_block { IfNone (parts_of packet.now).block (values.new ≡ no_values) }
-{
-    let Some(form) = packet.form() else {
-        return Ok(());
-    };
-    let end = packet.header_len();
-    let start = end - body_len_of(packet);
-    read_values(map, alloc, &buf[start..end], form, values)
-}
+use std::alloc::Global;
 
 // The packet whose header the bytes begin with, the values of which are read under the map, or the
 // status of what stands against it.
@@ -71,7 +41,10 @@ fn read_packet<'a>(
         Ok(packet) => packet,
         Err(cause) => return Err(status_of(cause)),
     };
-    match read_block(alloc, buf, &packet, map, values) {
+    let Some((form, body)) = packet.block() else {
+        return Ok(packet);
+    };
+    match read_values(map, alloc, body, form, values) {
         Ok(()) => Ok(packet),
         Err(_) => Err(NO_MEMORY),
     }

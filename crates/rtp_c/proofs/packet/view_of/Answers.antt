@@ -11,9 +11,9 @@ returns c =
     let parts = parts_of c.args.packet.now in
     let bytes = bytes_of c.args.packet.now in
     let header = c.header_len-payload_at.result in
-    let body = c.body_len_of-body_len.result in
+    let body = c.block_numbers-block_form.result.1 in
     let header_is : header ≡ header_len_of parts = c.header_len-payload_at.ensures in
-    let body_is : body ≡ length (body_of parts.block) = c.body_len_of-body_len.ensures in
+    let body_is : body ≡ length (body_of parts.block) = c.block_numbers-block_form.ensures.body in
     let payload_is = c.payload.ensures in
     let ends : header - body + body ≡ header = omega (arith, header_is, body_is, body-within parts) in
     record {
