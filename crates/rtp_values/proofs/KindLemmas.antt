@@ -6,7 +6,7 @@ use Rattle.std.proofs.lemmas.Bool.Decides.{not_from_Decides}
 use Rattle.rtp_values.specs.contracts.kind.ExtensionPartialEq.TheImpl as extension_eq
 use Rattle.rtp_values.specs.declared.kind.Extension.{Extension}
 use Rattle.rtp_values.specs.declared.kind.Extension.TheVariants.{AbsoluteSendTime, AbsoluteCaptureTime, AudioLevel, TransmissionTimeOffset, VideoOrientation, TransportSequenceNumber, PlayoutDelay, VideoContentType, VideoTiming, RtpStreamId, RepairedRtpStreamId, RtpMid, FrameMarking, ColorSpace, VideoLayersAllocation, UnknownUri}
-use Rattle.rtp_values.specs.Kind.{known_kinds, IsKnown}
+use Rattle.rtp_values.specs.Kind.{kind_of, known_kinds, IsKnown}
 
 -- what holds of each kind in the list holds of each known kind
 pub All-known : (P : Extension → Type 0) → All P known_kinds → (kind : Extension) → IsKnown kind → P kind
@@ -26,6 +26,11 @@ All-known P all FrameMarking known = all 12 FrameMarking (omega arith)
 All-known P all ColorSpace known = all 13 ColorSpace (omega arith)
 All-known P all VideoLayersAllocation known = all 14 VideoLayersAllocation (omega arith)
 All-known P all (UnknownUri uri) known = absurd known
+
+-- an unknown one is its URI
+pub unknown_is : (kind : Extension) → (IsKnown kind → ⊥) → UnknownUri (kind_of kind).uri ≡ kind
+unknown_is (UnknownUri uri) unknown = refl
+unknown_is _ unknown = absurd (unknown (tt {0}))
 
 -- one more at the end
 pub All-snoc : {X : Type 0} (P : X → Type 0) (xs : List X) (x : X) → All P xs → P x → All P (xs ++ x ∷ [])

@@ -1,11 +1,13 @@
 -- The data that a kind's values are written as, and what they are read as.
-use Rattle.std.proofs.Common.{◌≡◌, ℕ, ◌+◌, ◌*◌, ◌/◌, ◌%◌, ◌<◌, ◌≤◌, ℤ, pos, neg_ℤ, Bool, true, false, List, [], ◌∷◌, ◌++◌, length, drop, Option, Some, None, refl, sym, ap, inl, inr, ◌∙◌, subst, arith, eq-eqb, length-take}
+use Rattle.std.proofs.Common.{◌≡◌, ℕ, ◌+◌, ◌*◌, ◌/◌, ◌%◌, ◌<◌, ◌≤◌, ℤ, pos, neg_ℤ, Bool, true, false, List, [], ◌∷◌, ◌++◌, length, Option, Some, None, refl, sym, ap, inl, inr, ◌∙◌, subst, arith, eq-eqb, length-take}
 use Rattle.std.specs.Prelude.{◌&&◌, nat_le, if◌then◌else◌, unsigned_abs, ◌==◌, map, IsUtf8}
 use Rattle.std.specs.Option.{option_map, ForSome}
 use Rattle.std.specs.Str.{chars}
 use Rattle.std.proofs.lemmas.Bool.{ne_eqb, cases_lt, and_parts, leb-true}
 use Rattle.std.proofs.lemmas.Nat.{div-mul-add, mod-mul-add}
 use Rattle.rtp_base.specs.MediaTime.{Fraction}
+use Rattle.rtp_base.specs.Overwriting.{overwritten}
+use Rattle.rtp_base.proofs.OverwritingLemmas.{overwritten-front}
 use Rattle.rtp_base.specs.Id.{before_padding, id_char, IsIdOf}
 use Rattle.rtp_vla.specs.Allocation.{Allocation}
 use Rattle.rtp_vla.specs.AllocationWritten.{Writable, can_be_written, written_of}
@@ -44,10 +46,10 @@ module _ {kind : Extension} {values : ExtensionValues} {bytes : List ℕ} (are :
   pub room_for : (buf : List ℕ) → HasRoom kind values buf → length bytes ≤ length buf
   room_for buf room = room_of are.spelled (omega (arith, are.few, longest-fits kind)) buf room
 
-  pub WritesData-put : {old new : List ℕ} {result : ℕ} → result ≡ length bytes → new ≡ bytes ++ drop (length bytes) old → WritesData kind values old new (Some result)
-  WritesData-put len put = record {
+  pub WritesData-put : {old new : List ℕ} {result : ℕ} → result ≡ length bytes → new ≡ overwritten old 0 bytes → WritesData kind values old new (Some result)
+  WritesData-put {old} len put = record {
     length_is = ap Some len ∙ ap (option_map length) (sym are.spelled);
-    written = rw are.spelled put;
+    written = rw are.spelled (put ∙ overwritten-front old bytes);
     read_back = rw are.spelled are.read_back;
     few = rw are.spelled are.few;
   }

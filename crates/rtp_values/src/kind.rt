@@ -1,6 +1,6 @@
 //! The header extensions.
 
-ghost use Rattle.std.specs.Prelude.{◌≡◌, IfOk, IfErr};
+ghost use Rattle.std.specs.Prelude.{◌≡◌, IfOk};
 ghost use Rattle.rtp_values.specs.Kind.{kind_of, IsKnown, IsNamedBy};
 
 use super::Uri;
@@ -91,41 +91,19 @@ impl Extension {
         kind_of(self).video
     }
 
-    /// The same extension where it is a known one, which takes no memory; else the URI of the
-    /// unknown one.
-    pub fn known_or_uri(&self) -> Result<Extension, &Uri>
-        ensures known { IfOk result (λ kind. (kind ≡ self.now) × IsKnown kind) }
-        ensures unknown { IfErr result (λ uri. self.now ≡ Extension.UnknownUri uri.now) }
-    {
-        Ok(match self {
-            Extension::UnknownUri(uri) => return Err(uri),
-            Extension::AbsoluteSendTime => Extension::AbsoluteSendTime,
-            Extension::AbsoluteCaptureTime => Extension::AbsoluteCaptureTime,
-            Extension::AudioLevel => Extension::AudioLevel,
-            Extension::TransmissionTimeOffset => Extension::TransmissionTimeOffset,
-            Extension::VideoOrientation => Extension::VideoOrientation,
-            Extension::TransportSequenceNumber => Extension::TransportSequenceNumber,
-            Extension::PlayoutDelay => Extension::PlayoutDelay,
-            Extension::VideoContentType => Extension::VideoContentType,
-            Extension::VideoTiming => Extension::VideoTiming,
-            Extension::RtpStreamId => Extension::RtpStreamId,
-            Extension::RepairedRtpStreamId => Extension::RepairedRtpStreamId,
-            Extension::RtpMid => Extension::RtpMid,
-            Extension::FrameMarking => Extension::FrameMarking,
-            Extension::ColorSpace => Extension::ColorSpace,
-            Extension::VideoLayersAllocation => Extension::VideoLayersAllocation,
-        })
-    }
-
     /// The same extension. Only the text of an unknown one takes memory, and where that is refused
     /// nothing is returned.
+    #[tactic(auto, using(crate::proofs::KindLemmas::unknown_is))]
     pub fn clone(&self, alloc: Global) -> Result<Self, AllocError>
         ensures same { IfOk result (λ copy. copy ≡ self.now) }
         ensures known { IsKnown self.now → result ≡ Ok self.now }
     {
-        match self.known_or_uri() {
-            Ok(kind) => Ok(kind),
-            Err(uri) => Ok(Extension::UnknownUri(uri.clone(alloc)?)),
+        match self.known_kind() {
+            Some(kind) => Ok(Extension::from(kind)),
+            None => {
+                let text = String::from_str(alloc, self.as_uri())?;
+                Ok(Extension::UnknownUri(Uri::from(text)))
+            }
         }
     }
 }

@@ -143,9 +143,9 @@ impl Slot {
         ensures { result ≡ spec.of_medium audio self.now }
     {
         match self.extension() {
-            Some(extension) if is_of_medium(extension, audio) => match extension.known_or_uri() {
-                Ok(kind) => Self::from(kind),
-                Err(_) => Self::unmapped(),
+            Some(extension) if is_of_medium(extension, audio) => match extension.known_kind() {
+                Some(kind) => Self::from(Extension::from(kind)),
+                None => Self::unmapped(),
             },
             _ => Self::unmapped(),
         }

@@ -1,6 +1,7 @@
 //! Absolute capture time.
 
-ghost use Rattle.std.specs.Prelude.{◌≡◌, ◌≤◌, ◌++◌, length, drop, Some};
+ghost use Rattle.std.specs.Prelude.{◌≡◌, ◌≤◌, length, Some};
+ghost use Rattle.rtp_base.specs.Overwriting.{overwritten};
 ghost use Rattle.rtp_values.specs.declared.kind.Extension.TheVariants.{AbsoluteCaptureTime};
 ghost use Rattle.rtp_values.specs.KindBytes.{SetsFields, WritesData};
 ghost use Rattle.rtp_values.specs.Values.{offset_of};
@@ -42,7 +43,7 @@ pub(super) fn read(buf: &[u8], ev: &mut ExtensionValues) -> Option<()>
 // Puts the clock offset in eight bytes at the front of the buffer.
 fn put_offset(buf: &mut [u8], offset: i64)
     requires room { 8 ≤ length buf.old }
-    ensures written { buf.new ≡ offset_bytes (Some offset) ++ drop 8 buf.old }
+    ensures written { buf.new ≡ overwritten buf.old 0 (offset_bytes (Some offset)) }
     ensures back { offset_of (offset_bytes (Some offset)) ≡ Some offset }
 {
     put_u64(buf, offset.cast_unsigned());

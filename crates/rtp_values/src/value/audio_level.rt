@@ -7,7 +7,7 @@ ghost use Rattle.rtp_values.specs.Spelling.{HasRoom};
 ghost use Rattle.rtp_values.specs.KindBytes.{SetsFields, WritesData};
 
 use super::ExtensionValues;
-use super::front::put;
+use rtp_base::put;
 
 // The magnitude of the level modulo 128, below a bit that is set for voice.
 fn level_byte(level: i8, voice: bool) -> u8
@@ -32,5 +32,5 @@ pub(super) fn write(buf: &mut [u8], ev: &ExtensionValues) -> Option<usize>
 {
     let level = ev.audio_level?;
     let voice = ev.voice_activity?;
-    Some(put(buf, &[level_byte(level, voice)]))
+    Some(put(buf, 0, &[level_byte(level, voice)]))
 }

@@ -1,9 +1,12 @@
 //! Numbers and bytes at the front of a buffer.
 
-ghost use Rattle.std.specs.Prelude.{◌≡◌, ◌≤◌, ◌<◌, ◌^◌, ◌++◌, length, take, drop};
+ghost use Rattle.std.specs.Prelude.{◌≡◌, ◌≤◌, ◌<◌, ◌^◌, length, take};
 ghost use Rattle.std.specs.Option.{SomeIff};
+ghost use Rattle.rtp_base.specs.Overwriting.{overwritten};
 ghost use Rattle.rtp_values.specs.Values.{big_endian};
 ghost use Rattle.rtp_values.specs.Spelling.{bytes_of};
+
+use rtp_base::put;
 
 // The number in the first two bytes, where they are there.
 pub(super) fn first_u16(bytes: &[u8]) -> Option<u16>
@@ -37,27 +40,18 @@ pub(super) fn first_u64(bytes: &[u8]) -> Option<u64>
     Some(u64::from_be_bytes(*number))
 }
 
-// Puts the bytes at the front of the buffer, and returns their number.
-pub(super) fn put(buf: &mut [u8], bytes: &[u8]) -> usize
-    requires room { length bytes.now ≤ length buf.old }
-    ensures length { result ≡ length bytes.now }
-    ensures written { buf.new ≡ bytes.now ++ drop (length bytes.now) buf.old }
-{
-    buf[..bytes.len()].copy_from_slice(bytes);
-    bytes.len()
-}
-
-// Puts the bytes of a text as `put` does. Most texts have a few, which are put one by one.
+// Puts the bytes of a text at the front of the buffer, and returns their number. Most texts have a
+// few, which are put one by one.
 pub(super) fn put_text(buf: &mut [u8], text: &[u8]) -> usize
     requires room { length text.now ≤ length buf.old }
     ensures length { result ≡ length text.now }
-    ensures written { buf.new ≡ text.now ++ drop (length text.now) buf.old }
+    ensures written { buf.new ≡ overwritten buf.old 0 text.now }
 {
     match text {
-        [a] => put(buf, &[*a]),
-        [a, b] => put(buf, &[*a, *b]),
-        [a, b, c] => put(buf, &[*a, *b, *c]),
-        _ => put(buf, text),
+        [a] => put(buf, 0, &[*a]),
+        [a, b] => put(buf, 0, &[*a, *b]),
+        [a, b, c] => put(buf, 0, &[*a, *b, *c]),
+        _ => put(buf, 0, text),
     }
 }
 
@@ -65,10 +59,10 @@ pub(super) fn put_text(buf: &mut [u8], text: &[u8]) -> usize
 pub(super) fn put_u16(buf: &mut [u8], number: u16) -> usize
     requires room { 2 ≤ length buf.old }
     ensures length { result ≡ 2 }
-    ensures written { buf.new ≡ bytes_of 2 number ++ drop 2 buf.old }
+    ensures written { buf.new ≡ overwritten buf.old 0 (bytes_of 2 number) }
     ensures back { big_endian (bytes_of 2 number) ≡ number }
 {
-    put(buf, &number.to_be_bytes())
+    put(buf, 0, &number.to_be_bytes())
 }
 
 // Puts the number in three bytes at the front of the buffer, and returns 3.
@@ -76,28 +70,28 @@ pub(super) fn put_u24(buf: &mut [u8], number: u32) -> usize
     requires small { number < 2 ^ 24 }
     requires room { 3 ≤ length buf.old }
     ensures length { result ≡ 3 }
-    ensures written { buf.new ≡ bytes_of 3 number ++ drop 3 buf.old }
+    ensures written { buf.new ≡ overwritten buf.old 0 (bytes_of 3 number) }
     ensures back { big_endian (bytes_of 3 number) ≡ number }
 {
-    put(buf, &number.to_be_bytes()[1..])
+    put(buf, 0, &number.to_be_bytes()[1..])
 }
 
 // Puts the number in four bytes at the front of the buffer, and returns 4.
 pub(super) fn put_u32(buf: &mut [u8], number: u32) -> usize
     requires room { 4 ≤ length buf.old }
     ensures length { result ≡ 4 }
-    ensures written { buf.new ≡ bytes_of 4 number ++ drop 4 buf.old }
+    ensures written { buf.new ≡ overwritten buf.old 0 (bytes_of 4 number) }
     ensures back { big_endian (bytes_of 4 number) ≡ number }
 {
-    put(buf, &number.to_be_bytes())
+    put(buf, 0, &number.to_be_bytes())
 }
 
 // Puts the number in eight bytes at the front of the buffer, and returns 8.
 pub(super) fn put_u64(buf: &mut [u8], number: u64) -> usize
     requires room { 8 ≤ length buf.old }
     ensures length { result ≡ 8 }
-    ensures written { buf.new ≡ bytes_of 8 number ++ drop 8 buf.old }
+    ensures written { buf.new ≡ overwritten buf.old 0 (bytes_of 8 number) }
     ensures back { big_endian (bytes_of 8 number) ≡ number }
 {
-    put(buf, &number.to_be_bytes())
+    put(buf, 0, &number.to_be_bytes())
 }

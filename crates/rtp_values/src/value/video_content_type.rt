@@ -5,7 +5,7 @@ ghost use Rattle.rtp_values.specs.Spelling.{HasRoom};
 ghost use Rattle.rtp_values.specs.KindBytes.{SetsFields, WritesData};
 
 use super::ExtensionValues;
-use super::front::put;
+use rtp_base::put;
 
 pub(super) fn read(buf: &[u8], ev: &mut ExtensionValues) -> Option<()>
     ensures { SetsFields VideoContentType buf.now ev.old ev.new result }
@@ -19,5 +19,5 @@ pub(super) fn write(buf: &mut [u8], ev: &ExtensionValues) -> Option<usize>
     ensures { WritesData VideoContentType ev.now buf.old buf.new result }
 {
     let content = ev.video_content_type?;
-    Some(put(buf, &[content]))
+    Some(put(buf, 0, &[content]))
 }

@@ -7,7 +7,7 @@ ghost use Rattle.rtp_values.specs.Values.{orientation_of};
 ghost use Rattle.rtp_values.specs.Spelling.{HasRoom, orientation_bits};
 
 use super::ExtensionValues;
-use super::front::put;
+use rtp_base::put;
 
 /// How the receiver has to turn the picture, in degrees counter-clockwise (3GPP TS 26.114, 7.4.5).
 #[derive(Clone, Copy, Debug, PartialEq, Eq)]
@@ -60,5 +60,5 @@ pub(super) fn write(buf: &mut [u8], ev: &ExtensionValues) -> Option<usize>
     ensures { WritesData OrientationKind ev.now buf.old buf.new result }
 {
     let orientation = ev.video_orientation?;
-    Some(put(buf, &[orientation_bits(orientation)]))
+    Some(put(buf, 0, &[orientation_bits(orientation)]))
 }

@@ -7,7 +7,7 @@ ghost use Rattle.rtp_values.specs.Values.{big_endian};
 ghost use Rattle.rtp_values.specs.Spelling.{HasRoom, bytes_of};
 
 use super::ExtensionValues;
-use super::front::put;
+use rtp_base::put;
 
 /// When a frame passed each step on its way out, in milliseconds after its capture.
 #[derive(Clone, Copy, Debug, PartialEq, Eq)]
@@ -82,5 +82,5 @@ pub(super) fn write(buf: &mut [u8], ev: &ExtensionValues) -> Option<usize>
         0,
         0,
     ];
-    Some(put(buf, &bytes))
+    Some(put(buf, 0, &bytes))
 }

@@ -1,21 +1,12 @@
-use Rattle.std.proofs.Common.{◌≡◌, ℕ, ℤ, Option, Some, subst, rules, w64, to_z, of_z, FitsSigned, ◌-◌, List, ◌++◌, length, take, drop, refl, sym, ap, ◌∙◌, append_assoc, arith, take_at, drop_at, length-append, length-drop}
+use Rattle.std.proofs.Common.{◌≡◌, ℤ, Option, Some, subst, rules, w64, to_z, of_z, FitsSigned, ◌-◌, length, take, drop, refl, ap, ◌∙◌, arith, length-drop}
 use Rattle.std.proofs.lemmas.Int.{to_z-of_z}
-use Rattle.std.proofs.lemmas.List.{take_rest, take_all, drop_all, drop-drop, append-nil}
+use Rattle.std.proofs.lemmas.List.{take_rest}
+use Rattle.rtp_base.specs.Overwriting.{overwritten}
+use Rattle.rtp_base.proofs.OverwritingLemmas.{overwritten-front, overwritten-rest, overwritten-overwritten}
 use Rattle.rtp_values.specs.Values.{offset_of}
 use Rattle.rtp_values.specs.Spelling.{bytes_of, offset_bytes}
 use Rattle.rtp_values.proofs.ValueLemmas.{room_of, spelled-capture, AreData-capture, WritesData-put}
 use Rattle.rtp_values.proofs.value.abs_capture_time.write.Goals as goal
-use borrow.Rule.Slice.PartMut.{put_mid}
-
--- what is put after the first eight bytes
-put_after : (word offset buf first second : List ℕ) → length word ≡ 8 → length offset ≡ 8 → first ≡ word ++ drop 8 buf
-    → second ≡ offset ++ drop 8 (take (length first - 8) (drop 8 first)) → put_mid 8 (length first - 8) first second ≡ (word ++ offset) ++ drop 16 buf
-put_after word offset buf first second word-len offset-len first-is second-is =
-    let rest = drop 8 buf in
-    let front : take 8 first ≡ word = ap (take 8) first-is ∙ take_at word rest 8 word-len in
-    let after : drop 8 first ≡ rest = ap (drop 8) first-is ∙ drop_at word rest 8 word-len in
-    let len : length first - 8 ≡ length rest = omega (arith, ap length first-is, length-append word rest) in
-    rw (len, front, after, second-is, len, after, take_all (length rest) rest (omega arith), drop_all (length rest) rest (omega arith), drop-drop 8 8 buf, append-nil (offset ++ drop 16 buf)) (sym (append_assoc word offset (drop 16 buf)))
 
 pub put_u64-requires : goal.put_u64-requires
 put_u64-requires c = record { room = room_of (spelled-capture c.ev.view_is c.in_ok-time.was c.in_default.is) (omega arith) c.args.buf.now c.requires.room }
@@ -26,6 +17,12 @@ returns-in_default c =
 
 pub put_u64-requires-2 : goal.put_u64-requires-2
 put_u64-requires-2 c = record { room = omega (arith, room_of (spelled-capture c.ev.view_is c.in_ok-time.was c.in-Some.is) (omega arith) c.args.buf.now c.requires.room) }
+
+pub slice_bounds-put_offset-count : goal.slice_bounds-put_offset-count
+slice_bounds-put_offset-count c = omega (arith, c.put_u64-2.auto.buf, room_of (spelled-capture c.ev.view_is c.in_ok-time.was c.in-Some.is) (omega arith) c.args.buf.now c.requires.room)
+
+pub slice_bounds-put_offset-start : goal.slice_bounds-put_offset-start
+slice_bounds-put_offset-start c = omega (arith, c.put_u64-2.auto.buf, room_of (spelled-capture c.ev.view_is c.in_ok-time.was c.in-Some.is) (omega arith) c.args.buf.now c.requires.room)
 
 pub put_offset-requires : goal.put_offset-requires
 put_offset-requires c =
@@ -42,7 +39,11 @@ returns c =
     let offset = c.in-Some.offset in
     let fits : FitsSigned w64 offset = search rules in
     let same = offset_is offset fits in
+    let rest = take (length c.put_u64-2.new.buf - 8) (drop 8 c.put_u64-2.new.buf) in
     let back = subst (λ (o : Option ℤ). offset_of (offset_bytes o) ≡ o) same c.put_offset.ensures.back in
+    let bytes = offset_bytes (Some offset) in
+    let all = room_of (spelled-capture c.ev.view_is c.in_ok-time.was c.in-Some.is) (omega arith) c.args.buf.now c.requires.room in
+    let put = c.put_offset.ensures.written ∙ (ap (λ (o : Option ℤ). overwritten rest 0 (offset_bytes o)) same ∙ overwritten-front rest bytes) in
     WritesData-put (AreData-capture c.ev.view_is c.in_ok-time.was c.in-Some.is c.put_u64-2.ensures.back back) refl
-    (put_after (bytes_of 8 time.capture_time) (offset_bytes (Some offset)) c.args.buf.now c.put_u64-2.new.buf c.put_offset.new.buf refl refl c.put_u64-2.ensures.written
-    (c.put_offset.ensures.written ∙ ap (λ (o : Option ℤ). offset_bytes o ++ drop 8 (take (length c.put_u64-2.new.buf - 8) (drop 8 c.put_u64-2.new.buf))) same))
+    (overwritten-rest c.put_u64-2.new.buf c.put_offset.new.buf bytes 8 (omega (arith, c.put_u64-2.auto.buf, all)) put
+    ∙ (ap (λ buf. overwritten buf 8 bytes) c.put_u64-2.ensures.written ∙ overwritten-overwritten c.args.buf.now (bytes_of 8 time.capture_time) bytes 0 8 refl (omega (arith, all))))

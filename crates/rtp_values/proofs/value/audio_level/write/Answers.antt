@@ -9,9 +9,9 @@ byte_is level voice byte fits is = is ∙ ap (λ (z : ℤ). level_byte z voice) 
 pub put-requires : goal.put-requires
 put-requires c =
     let fits : FitsSigned w8 c.in_ok-level.level = search rules in
-    record { room = room_of (spelled-level c.ev.view_is c.in_ok-level.was c.in_ok-voice.was (byte_is _ _ _ fits c.level_byte.ensures)) (omega arith) c.args.buf.now c.requires.room }
+    room_of (spelled-level c.ev.view_is c.in_ok-level.was c.in_ok-voice.was (byte_is _ _ _ fits c.level_byte.ensures)) (omega arith) c.args.buf.now c.requires.room
 
 pub returns : goal.returns
 returns c =
     let fits : FitsSigned w8 c.in_ok-level.level = search rules in
-    WritesData-put (AreData-level c.ev.view_is c.in_ok-level.was c.in_ok-voice.was (byte_is _ _ _ fits c.level_byte.ensures)) c.put.ensures.length c.put.ensures.written
+    WritesData-put (AreData-level c.ev.view_is c.in_ok-level.was c.in_ok-voice.was (byte_is _ _ _ fits c.level_byte.ensures)) c.put.ensures.end c.put.ensures.written

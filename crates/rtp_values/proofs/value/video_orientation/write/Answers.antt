@@ -3,7 +3,7 @@ use Rattle.rtp_values.proofs.ValueLemmas.{room_of, spelled-orientation, AreData-
 use Rattle.rtp_values.proofs.value.video_orientation.write.Goals as goal
 
 pub put-requires : goal.put-requires
-put-requires c = record { room = room_of (spelled-orientation c.ev.view_is c.in_ok-orientation.was c.orientation_bits.ensures) (omega arith) c.args.buf.now c.requires.room }
+put-requires c = room_of (spelled-orientation c.ev.view_is c.in_ok-orientation.was c.orientation_bits.ensures) (omega arith) c.args.buf.now c.requires.room
 
 pub returns : goal.returns
-returns c = WritesData-put (AreData-orientation c.ev.view_is c.in_ok-orientation.was c.orientation_bits.ensures) c.put.ensures.length c.put.ensures.written
+returns c = WritesData-put (AreData-orientation c.ev.view_is c.in_ok-orientation.was c.orientation_bits.ensures) c.put.ensures.end c.put.ensures.written

@@ -15,7 +15,7 @@ put-requires c =
     let t = c.in_ok-timing.timing in
     let are = cells t c.time_bytes-start.result c.time_bytes-finish.result c.time_bytes-complete.result c.time_bytes-left.result
     c.time_bytes-start.ensures.bytes c.time_bytes-finish.ensures.bytes c.time_bytes-complete.ensures.bytes c.time_bytes-left.ensures.bytes in
-    record { room = room_of (spelled-timing c.ev.view_is c.in_ok-timing.was are) (omega arith) c.args.buf.now c.requires.room }
+    room_of (spelled-timing c.ev.view_is c.in_ok-timing.was are) (omega arith) c.args.buf.now c.requires.room
 
 pub returns : goal.returns
 returns c =
@@ -23,4 +23,4 @@ returns c =
     let are = cells t c.time_bytes-start.result c.time_bytes-finish.result c.time_bytes-complete.result c.time_bytes-left.result
     c.time_bytes-start.ensures.bytes c.time_bytes-finish.ensures.bytes c.time_bytes-complete.ensures.bytes c.time_bytes-left.ensures.bytes in
     WritesData-put (AreData-timing c.ev.view_is c.in_ok-timing.was are c.time_bytes-start.ensures.back c.time_bytes-finish.ensures.back c.time_bytes-complete.ensures.back c.time_bytes-left.ensures.back)
-    c.put.ensures.length c.put.ensures.written
+    c.put.ensures.end c.put.ensures.written
