@@ -34,7 +34,7 @@ fn write_bytes(digits: &[u8], bytes: &mut [u8])
     requires room { length digits.now ≡ 2 * length bytes.old }
     ensures { decode_of digits.now ≡ Ok bytes.new }
 {
-    'bytes: for i in 0..bytes.len() {
+    for i in 0..bytes.len() {
         bytes[i] = value_of(digits[2 * i]) * 16 + value_of(digits[2 * i + 1]);
     }
 }
