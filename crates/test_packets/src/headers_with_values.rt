@@ -1,21 +1,13 @@
 //! The blocks of default headers, written and read back.
 
+use crate::allocations_in_headers::header;
 use crate::checks::bytes_of;
 use crate::headers_written::check;
 use rtp_base::Mid;
-use rtp_wire::{AbsCaptureTime, Extension, ExtensionMap, ExtensionValues, RtpHeader};
+use rtp_wire::{AbsCaptureTime, Extension, ExtensionMap, ExtensionValues};
 use std::alloc::Global;
 use std::process::Abort;
 use test_fixtures::{level, one};
-
-// The default header with these values.
-fn header(ext_vals: ExtensionValues, header_len: usize) -> RtpHeader {
-    RtpHeader {
-        ext_vals,
-        header_len,
-        ..RtpHeader::default()
-    }
-}
 
 // The default header with these values is written with this block, and read back with the values
 // that the block carries.

@@ -71,7 +71,7 @@ pub(crate) fn check_text(
 }
 
 // A header with these values, default except for its type, number, timestamp, and source.
-fn header(ext_vals: ExtensionValues, header_len: usize) -> RtpHeader {
+pub(crate) fn header(ext_vals: ExtensionValues, header_len: usize) -> RtpHeader {
     RtpHeader {
         payload_type: Pt::from(33),
         sequence_number: 47000,

@@ -1,4 +1,5 @@
-//! Tests of `rtp_wire`: headers, packets where they lie, padding, and hostile datagrams.
+//! Tests of `rtp_wire`: headers, packets where they lie, padding, hostile datagrams, extended sequence numbers,
+//! receivers, and runs of datagrams.
 #![tactic(auto)]
 
 #[cfg(test)]
@@ -19,3 +20,13 @@ mod hostile_packets;
 mod many_ids;
 #[cfg(test)]
 mod packet_ends;
+#[cfg(test)]
+mod refused_sources;
+#[cfg(test)]
+mod runs;
+#[cfg(test)]
+mod sent_runs;
+#[cfg(test)]
+mod sources;
+#[cfg(test)]
+mod widenings;

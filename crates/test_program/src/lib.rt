@@ -1,4 +1,4 @@
-//! Tests of `rtp_report`: what the program reads and prints.
+//! Tests of `rtp_report`, what the program reads and prints, and of `rtp_uses`.
 #![tactic(auto)]
 
 #[cfg(test)]
@@ -11,5 +11,7 @@ mod map_lines;
 mod printed_values;
 #[cfg(test)]
 mod refused_lines;
+#[cfg(test)]
+mod refused_sources;
 #[cfg(test)]
 mod reports;

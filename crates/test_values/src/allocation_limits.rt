@@ -88,7 +88,7 @@ fn layers_that_are_not_writable(rt: HostRuntime) {
 }
 
 // Four streams of four layers of four rates, and resolutions on the first eleven layers.
-fn largest(rt: &impl Abort, alloc: Global, first: u64) -> VideoLayersAllocation {
+pub(crate) fn largest(rt: &impl Abort, alloc: Global, first: u64) -> VideoLayersAllocation {
     test_fixtures::largest(alloc, first).expect(rt, "memory")
 }
 

@@ -1,7 +1,0 @@
-//! Tests of `rtp_uses`.
-#![tactic(auto)]
-
-#[cfg(test)]
-mod checks;
-#[cfg(test)]
-mod refused_sources;
