@@ -11,8 +11,7 @@ use rtp_base::SeqNo;
 fn nearest(previous: u64, low: u64, modulus: u64) -> u64
     requires is_modulus { IsModulus modulus }
     requires below { low < modulus }
-    ensures near { IsNearestModulo modulus previous low result }
-    ensures in_range { previous < 2 ^ 64 }
+    ensures { IsNearestModulo modulus previous low result }
 {
     let half = modulus / 2;
     let ahead = low.wrapping_sub(previous) % modulus;
