@@ -2,7 +2,7 @@
 //! whether a receiver takes it or refuses it as a replay.
 #![tactic(auto)]
 
-use rtp_report::run;
+use rtp_listing::run;
 use std::process::ExitCode;
 
 fn main(rt: HostRuntime) -> ExitCode {

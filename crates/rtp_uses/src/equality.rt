@@ -6,7 +6,7 @@ ghost use Rattle.rtp_uses.specs.Equality.{AreSameValues, AreSameHeaders};
 use rtp_base::{
     Direction, Frequency, Mid, MidRid, Pt, Rid, SeqNo, SessionId, Ssrc, TwccClusterId, TwccSeq,
 };
-use rtp_report::{InputError, RunEnd};
+use rtp_listing::{InputError, RunEnd};
 use rtp_wire::vla::VideoLayersAllocation;
 use rtp_wire::{
     AbsCaptureTime, Extension, ExtensionValues, ExtensionsForm, RtpHeader, Verdict,

@@ -1,7 +1,7 @@
 //! Readers and writers that give or take a little at a time, and fail.
 
-use crate::reports::{PLAIN, PLAIN_REPORT, RUNS, STREAM, STREAM_REPORT, reports};
-use rtp_report::{RunEnd, run};
+use crate::listings::{PLAIN, PLAIN_LISTING, RUNS, STREAM, STREAM_LISTING, listings};
+use rtp_listing::{RunEnd, run};
 use std::alloc::Global;
 use std::io;
 use std::io::{Error, ErrorKind, Read, Write};
@@ -110,7 +110,7 @@ fn fails_at_each_read(
             reads_left,
             kind,
         };
-        reports(rt, alloc, reads_left, input, end, printed);
+        lists(rt, alloc, reads_left, input, end, printed);
     }
 }
 
@@ -196,8 +196,8 @@ fn a_failed_write_leaves_a_beginning(rt: HostRuntime) {
         ErrorKind::WouldBlock,
         ErrorKind::WriteZero,
     ] {
-        fails_at_each_write(&rt, rt.alloc(), PLAIN, PLAIN_REPORT.as_bytes(), 1, kind);
-        fails_at_each_write(&rt, rt.alloc(), STREAM, STREAM_REPORT.as_bytes(), 7, kind);
+        fails_at_each_write(&rt, rt.alloc(), PLAIN, PLAIN_LISTING.as_bytes(), 1, kind);
+        fails_at_each_write(&rt, rt.alloc(), STREAM, STREAM_LISTING.as_bytes(), 7, kind);
         fails_at_each_write(&rt, rt.alloc(), b"xyz", bad_line, 1, kind);
     }
 }

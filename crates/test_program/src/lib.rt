@@ -1,10 +1,12 @@
-//! Tests of `rtp_report`, what the program reads and prints, and of `rtp_uses`.
+//! Tests of `rtp_listing`, what the program reads and prints, and of `rtp_uses`.
 #![tactic(auto)]
 
 #[cfg(test)]
 mod checks;
 #[cfg(test)]
 mod failing_streams;
+#[cfg(test)]
+mod listings;
 #[cfg(test)]
 mod map_lines;
 #[cfg(test)]
@@ -13,5 +15,3 @@ mod printed_values;
 mod refused_lines;
 #[cfg(test)]
 mod refused_sources;
-#[cfg(test)]
-mod reports;

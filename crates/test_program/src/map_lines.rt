@@ -1,8 +1,8 @@
 //! Lines that map ids.
 
 use crate::checks::same;
-use crate::reports::{PLAIN_REPORT, names_bad_line, reports};
-use rtp_report::{InputError, RunEnd, read_input};
+use crate::listings::{PLAIN_LISTING, listings, names_bad_line};
+use rtp_listing::{InputError, RunEnd, read_input};
 use rtp_wire::{Extension, ExtensionMap};
 use std::alloc::Global;
 use std::test::Fail;
@@ -51,17 +51,17 @@ const TAKEN: [(&[u8], &str); 5] = [
     (b"map 3 urn:x", ""),
     (b"map 17 urn:x\n", ""),
     (b"map 1 x\r\n", ""),
-    (b"map 3 urn:x\n8021B798000027100000002C\n", PLAIN_REPORT),
+    (b"map 3 urn:x\n8021B798000027100000002C\n", PLAIN_LISTING),
     (
         b"map 016 urn:x\nmap 1  x\nmap 1 y z\n8021B798000027100000002C\n",
-        PLAIN_REPORT,
+        PLAIN_LISTING,
     ),
 ];
 
 #[test]
 fn taken_lines(rt: HostRuntime) {
     for (index, (input, printed)) in TAKEN.iter().enumerate() {
-        reports(
+        lists(
             &rt,
             rt.alloc(),
             index,

@@ -1,7 +1,7 @@
 //! The printed values of header extensions.
 
-use crate::reports::reports;
-use rtp_report::RunEnd;
+use crate::listings::lists;
+use rtp_listing::RunEnd;
 
 // Four elements, and after the header four bytes of payload and twelve of padding.
 #[test]
@@ -11,7 +11,7 @@ fn a_whole_packet(rt: HostRuntime) {
     let printed =
         b"packet 1: pt 111 seq 47000 ts 10000 ssrc 777459193 marker no padding yes extension yes \
 csrc 0 header 32 mid xYj level -42 voice yes send 63531654 transport 0\nverdict 1: taken 47000\n";
-    reports(
+    lists(
         &rt,
         rt.alloc(),
         "a whole packet",

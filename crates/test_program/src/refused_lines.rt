@@ -1,6 +1,6 @@
 //! Lines whose memory may be refused once. `.ci/run` refuses each growth in turn.
 
-use rtp_report::datagram;
+use rtp_listing::datagram;
 use std::test::Fail;
 
 // The line is as it was, and with memory all of it is decoded.

@@ -1,0 +1,56 @@
+-- Lines of hexadecimal that are decoded one after the other.
+use Rattle.std.proofs.Common.{◌≡◌, ℕ, ◌+◌, ◌<◌, ◌≤◌, List, [], ◌∷◌, ◌++◌, length, map, Result, Ok, Err, refl, sym, ap, ◌∙◌, arith, append_assoc}
+use Rattle.std.specs.Prelude.{IsErr}
+use Rattle.std.specs.Str.Lines.{lines}
+use Rattle.std.proofs.lemmas.List.{append-nil, map_push, length_push}
+use Rattle.hex.specs.Hex.{decode_of}
+use Rattle.hex.specs.declared.error.FromHexError.{FromHexError}
+use Rattle.rtp_listing.specs.Input.{AreHex}
+use Rattle.rtp_listing.specs.Front.{IsFirstNotHex}
+
+-- the lines before the rest of the text are hexadecimal, and these are their bytes
+pub record SoFar (text rest : List ℕ) (datagrams : List (List ℕ)) (start number : ℕ) : Type 0 where
+  pub done : List (List ℕ)
+  pub in_order : lines text ≡ done ++ lines rest
+  pub spelled : AreHex done datagrams
+  pub number_is : number ≡ start + length done
+  pub fits : number + length rest ≤ start + length text
+
+pub SoFar-none : (text : List ℕ) (start : ℕ) → SoFar text text [] start start
+SoFar-none text start = record { done = []; in_order = refl; spelled = refl; number_is = omega arith; fits = omega arith }
+
+pub SoFar-more : (text rest after line bytes : List ℕ) (datagrams : List (List ℕ)) (start number : ℕ) → lines rest ≡ line ∷ lines after → length after < length rest
+    → decode_of line ≡ Ok bytes → SoFar text rest datagrams start number → SoFar text after (datagrams ++ bytes ∷ []) start (number + 1)
+SoFar-more text rest after line bytes datagrams start number first shorter decoded so_far = record {
+  done = so_far.done ++ line ∷ [];
+  in_order = so_far.in_order ∙ ap (λ (ls : List (List ℕ)). so_far.done ++ ls) first ∙ sym (append_assoc so_far.done (line ∷ []) (lines after));
+  spelled =
+      map_push decode_of so_far.done line
+      ∙ ap (λ (rs : List (Result (List ℕ) FromHexError)). rs ++ decode_of line ∷ []) so_far.spelled
+      ∙ ap (λ (r : Result (List ℕ) FromHexError). map Ok datagrams ++ r ∷ []) decoded
+      ∙ sym (map_push Ok datagrams bytes);
+  number_is = omega (arith, so_far.number_is, length_push so_far.done line);
+  fits = let fits = so_far.fits in omega arith;
+}
+
+pub AreHex-all : (text rest : List ℕ) (datagrams : List (List ℕ)) (start number : ℕ) → rest ≡ [] → SoFar text rest datagrams start number → AreHex (lines text) datagrams
+AreHex-all text rest datagrams start number end so_far =
+    ap (map decode_of) (so_far.in_order ∙ ap (λ (bytes : List ℕ). so_far.done ++ lines bytes) end ∙ append-nil so_far.done) ∙ so_far.spelled
+
+-- what is no Ok is an Err
+pub IsErr-from : (r : Result (List ℕ) FromHexError) → ((bytes : List ℕ) → r ≡ Ok bytes → ⊥) → IsErr r
+IsErr-from (Ok bytes) none = absurd (none bytes refl)
+IsErr-from (Err e) none = refl
+
+pub IsFirstNotHex-here : (text rest after line : List ℕ) (datagrams : List (List ℕ)) (start number : ℕ) → lines rest ≡ line ∷ lines after
+    → IsErr (decode_of line) → SoFar text rest datagrams start number → IsFirstNotHex (lines text) start (number + 1)
+IsFirstNotHex-here text rest after line datagrams start number first bad so_far = record {
+  before = so_far.done;
+  bad = line;
+  after = lines after;
+  in_order = so_far.in_order ∙ ap (λ (ls : List (List ℕ)). so_far.done ++ ls) first;
+  number_is = omega (arith, so_far.number_is);
+  datagrams = datagrams;
+  good_before = so_far.spelled;
+  not_hex = bad;
+}

@@ -1,0 +1,8 @@
+use Rattle.std.proofs.Common.{◌≡◌, ℕ, List, ◌++◌}
+use Rattle.std.specs.Io.KnownBytes.{Appends}
+use Rattle.rtp_listing.proofs.output.write_text.Given as goal
+
+-- what is gone from the rest is written
+abbrev pub invariant-turns : goal.invariant-turns
+invariant-turns g l =
+    (written : List ℕ) × Appends (g.W.Write.contents l.initial.output) (g.W.Write.contents l.output) written × (l.initial.rest ≡ written ++ l.rest)

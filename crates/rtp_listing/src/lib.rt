@@ -1,0 +1,16 @@
+//! Reads datagrams in hexadecimal, and prints for each its RTP header and whether a receiver takes it
+//! or refuses it as a replay.
+#![tactic(auto)]
+
+mod hex_line;
+mod input;
+mod line;
+mod listing;
+mod map_line;
+mod output;
+mod printing;
+mod program;
+
+pub use hex_line::datagram;
+pub use input::{Input, InputError, read_input};
+pub use program::{RunEnd, run};

@@ -1,8 +1,0 @@
--- What contracts rest on.
-pub mod MapLine
-pub mod Input
-pub mod Report
-pub mod Output
--- What the inside promises itself.
-pub mod Front
-pub mod Stopping
