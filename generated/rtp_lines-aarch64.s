@@ -2,8 +2,8 @@
  * rtp_lines for Linux on aarch64: the assembly text that Rattle's compiler makes of the program, each function of which is proved.
  * Made anew by: generated/make
  * kit: rattle-kit-13b logic dac8208d650f15bf
- * sources: 36db88b1d01a5059ff7f29c42d98b0a628c9c73d18183951618cea30f9089799
- * text: 0841fdda14ef1e62d4df9e3729836c3e6c8d8ecd0e2b106842d83793f39522df
+ * sources: 55531379d32af4ddb5307e7118bf33f4f9ed477d4ecdf14e06f5493096c3f601
+ * text: 91167368dde3b90a37cded04b4e2d6385fd0513ad47ef604a0ac48b78615fd89
  * SPDX-License-Identifier: MIT OR Apache-2.0
  * Copyright (c) 2026 The rtp-wire developers (NOTICE)
  */

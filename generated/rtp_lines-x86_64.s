@@ -2,8 +2,8 @@
  * rtp_lines for Linux on x86_64: the assembly text that Rattle's compiler makes of the program, each function of which is proved.
  * Made anew by: generated/make
  * kit: rattle-kit-13b logic dac8208d650f15bf
- * sources: 36db88b1d01a5059ff7f29c42d98b0a628c9c73d18183951618cea30f9089799
- * text: 8657595bd01a38bc1662c21d4ddca82b409cf8bdfe97fad50b3ee13c84fd4a35
+ * sources: 55531379d32af4ddb5307e7118bf33f4f9ed477d4ecdf14e06f5493096c3f601
+ * text: 8030e36bbd5a47dc2ff0d8fdd2c32d103df1b78726d6f8056075d933a51ffa80
  * SPDX-License-Identifier: MIT OR Apache-2.0
  * Copyright (c) 2026 The rtp-wire developers (NOTICE)
  */

@@ -67,5 +67,6 @@ known_each (Some kind ∷ kinds) =
     ap (λ (rest : Slots). Some (unlocked (extension_of_kind kind)) ∷ rest) (known_each kinds)
     ∙ ap (λ entry. entry ∷ map known_entry (map entry_of_kind kinds)) (sym (known_kind kind))
 
+-- each extension that a table of kinds maps an id to is known
 pub known_of_kinds : (kinds : List (Option KnownKind)) → slots_of kinds ≡ known_slots (slots_of kinds)
 known_of_kinds kinds = known_each (drop 1 kinds)

@@ -1,6 +1,6 @@
 //! Readers and writers that give or take a little at a time, and fail.
 
-use crate::listings::{PLAIN, PLAIN_LISTING, RUNS, STREAM, STREAM_LISTING, listings};
+use crate::listings::{PLAIN, PLAIN_LISTING, RUNS, STREAM, STREAM_LISTING, lists};
 use rtp_listing::{RunEnd, run};
 use std::alloc::Global;
 use std::io;

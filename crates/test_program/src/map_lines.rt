@@ -1,7 +1,7 @@
 //! Lines that map ids.
 
 use crate::checks::same;
-use crate::listings::{PLAIN_LISTING, listings, names_bad_line};
+use crate::listings::{PLAIN_LISTING, lists, names_bad_line};
 use rtp_listing::{InputError, RunEnd, read_input};
 use rtp_wire::{Extension, ExtensionMap};
 use std::alloc::Global;

@@ -2,8 +2,8 @@
  * rtp_wire for Linux on aarch64: the assembly text that Rattle's compiler makes of the library for C, each function of which is proved.
  * Made anew by: generated/make
  * kit: rattle-kit-13b logic dac8208d650f15bf
- * sources: 3b21d80a6548dfe83d15619d9b184fab34ef7d667fef63085b904158d795949e
- * text: 834987ac380f444fac301fd5f592e2756dd235c8447fedfa12a9b152bc246d37
+ * sources: ab3beef945a5fd1522202339f7bccaf8eddc0b0e6a20b5d3722c3dfb2cf153fc
+ * text: 3ca81eb42c94d4622a0feae5e2e82c2acf64074138b55234a0f47f9837f8f7ae
  * SPDX-License-Identifier: MIT OR Apache-2.0
  * Copyright (c) 2026 The rtp-wire developers (NOTICE)
  */

@@ -2,8 +2,8 @@
  * rtp_wire for Linux on x86_64: the assembly text that Rattle's compiler makes of the library for C, each function of which is proved.
  * Made anew by: generated/make
  * kit: rattle-kit-13b logic dac8208d650f15bf
- * sources: 3b21d80a6548dfe83d15619d9b184fab34ef7d667fef63085b904158d795949e
- * text: 34c110c2b8678d2712847b2f4524e62f95a6a16fa24dcde22ea378fb2218a210
+ * sources: ab3beef945a5fd1522202339f7bccaf8eddc0b0e6a20b5d3722c3dfb2cf153fc
+ * text: 9cfdac6f3ff4ba9cf72c9c49ac43f5d294c0b0bb62f76c695f8640ef6123e17e
  * SPDX-License-Identifier: MIT OR Apache-2.0
  * Copyright (c) 2026 The rtp-wire developers (NOTICE)
  */

@@ -56,6 +56,7 @@ fn element_len(form: ExtensionsForm, kind: KnownKind, ev: &ExtensionValues) -> u
 
 // Writes the element of a mapped id at the offset, where the values that its kind needs are there,
 // and returns the offset after it.
+#[inline(always)]
 fn write_element(
     buf: &mut [u8],
     at: usize,
@@ -152,7 +153,6 @@ pub fn values_len<K: Kinds>(
 
 /// Writes an element for each mapped id whose kind has its values, under any map, as
 /// [`ExtensionMap::write_to`] does. The walk is one that [`Kinds::start`] returned.
-#[inline(always)]
 pub fn write_values<K: Kinds>(
     kinds: &K,
     start: Cursor,

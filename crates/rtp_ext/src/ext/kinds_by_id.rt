@@ -135,6 +135,7 @@ impl KindsById {
     }
 
     // The id at this place among the mapped ids, which rise, and its kind.
+    #[inline(always)]
     pub(super) fn item(&self, place: usize) -> Option<(u8, KnownKind)>
         ensures some { IfSome result (λ item. items_at (slots_of self.now) (drop place (mapped_ids (slots_of self.now)))
             ≡ (item.0, extension_of_kind item.1) ∷ items_at (slots_of self.now) (drop (place + 1) (mapped_ids (slots_of self.now)))) }
