@@ -2,8 +2,8 @@
  * rtp_lines for Linux on aarch64: the assembly text that Rattle's compiler makes of the program, each function of which is proved.
  * Made anew by: generated/make
  * kit: rattle-kit-13b logic dac8208d650f15bf
- * sources: 55531379d32af4ddb5307e7118bf33f4f9ed477d4ecdf14e06f5493096c3f601
- * text: 91167368dde3b90a37cded04b4e2d6385fd0513ad47ef604a0ac48b78615fd89
+ * sources: 022819f48b6587b1a2f1b8b270b4cd44c57b545f98768230a5d86f6db86761fb
+ * text: a4c14582a1a8bb01b29bdf7d55196114124122d2252394df5fe0a5e40ad0ed0e
  * SPDX-License-Identifier: MIT OR Apache-2.0
  * Copyright (c) 2026 The rtp-wire developers (NOTICE)
  */

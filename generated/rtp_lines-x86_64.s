@@ -2,8 +2,8 @@
  * rtp_lines for Linux on x86_64: the assembly text that Rattle's compiler makes of the program, each function of which is proved.
  * Made anew by: generated/make
  * kit: rattle-kit-13b logic dac8208d650f15bf
- * sources: 55531379d32af4ddb5307e7118bf33f4f9ed477d4ecdf14e06f5493096c3f601
- * text: 8030e36bbd5a47dc2ff0d8fdd2c32d103df1b78726d6f8056075d933a51ffa80
+ * sources: 022819f48b6587b1a2f1b8b270b4cd44c57b545f98768230a5d86f6db86761fb
+ * text: 38ea560a2546102952626db18c2055802b9b7f828c14993e4e65b9312bb9c28f
  * SPDX-License-Identifier: MIT OR Apache-2.0
  * Copyright (c) 2026 The rtp-wire developers (NOTICE)
  */

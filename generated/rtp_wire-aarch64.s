@@ -2,8 +2,8 @@
  * rtp_wire for Linux on aarch64: the assembly text that Rattle's compiler makes of the library for C, each function of which is proved.
  * Made anew by: generated/make
  * kit: rattle-kit-13b logic dac8208d650f15bf
- * sources: ab3beef945a5fd1522202339f7bccaf8eddc0b0e6a20b5d3722c3dfb2cf153fc
- * text: 3ca81eb42c94d4622a0feae5e2e82c2acf64074138b55234a0f47f9837f8f7ae
+ * sources: c766ed8e46ccbf5500ecd5503106c93e399b712901a36000c9c0f33f7043aae4
+ * text: 91dd5b317b22e88aa5f06f42c8bb1aae950191f0e6ae2586abe3c6ef73098f6b
  * SPDX-License-Identifier: MIT OR Apache-2.0
  * Copyright (c) 2026 The rtp-wire developers (NOTICE)
  */

@@ -2,8 +2,8 @@
  * rtp_wire for Linux on x86_64: the assembly text that Rattle's compiler makes of the library for C, each function of which is proved.
  * Made anew by: generated/make
  * kit: rattle-kit-13b logic dac8208d650f15bf
- * sources: ab3beef945a5fd1522202339f7bccaf8eddc0b0e6a20b5d3722c3dfb2cf153fc
- * text: 9cfdac6f3ff4ba9cf72c9c49ac43f5d294c0b0bb62f76c695f8640ef6123e17e
+ * sources: c766ed8e46ccbf5500ecd5503106c93e399b712901a36000c9c0f33f7043aae4
+ * text: 452181d0dbcb326c6b67fe6096e260df5475acdfe8cca6b2c61dc66844b042c5
  * SPDX-License-Identifier: MIT OR Apache-2.0
  * Copyright (c) 2026 The rtp-wire developers (NOTICE)
  */
