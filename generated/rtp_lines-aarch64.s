@@ -2,8 +2,8 @@
  * rtp_lines for Linux on aarch64: the assembly text that Rattle's compiler makes of the program, each function of which is proved.
  * Made anew by: generated/make
  * kit: rattle-kit-13b logic dac8208d650f15bf
- * sources: 022819f48b6587b1a2f1b8b270b4cd44c57b545f98768230a5d86f6db86761fb
- * text: a4c14582a1a8bb01b29bdf7d55196114124122d2252394df5fe0a5e40ad0ed0e
+ * sources: 12cd052c9335c13e7393a4271d4dcc84e2082a5d2ac1cd7850ec47cf055dd99f
+ * text: c0f818c56ddbe488f4fbc078a8f44eb16d5705e95ee8c4370b66233985493ecc
  * SPDX-License-Identifier: MIT OR Apache-2.0
  * Copyright (c) 2026 The rtp-wire developers (NOTICE)
  */

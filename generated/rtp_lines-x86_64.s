@@ -2,8 +2,8 @@
  * rtp_lines for Linux on x86_64: the assembly text that Rattle's compiler makes of the program, each function of which is proved.
  * Made anew by: generated/make
  * kit: rattle-kit-13b logic dac8208d650f15bf
- * sources: 022819f48b6587b1a2f1b8b270b4cd44c57b545f98768230a5d86f6db86761fb
- * text: 38ea560a2546102952626db18c2055802b9b7f828c14993e4e65b9312bb9c28f
+ * sources: 12cd052c9335c13e7393a4271d4dcc84e2082a5d2ac1cd7850ec47cf055dd99f
+ * text: bb2d1f5fee9227b37be65b921de78a931ec6151e6ce459b08a4a3ffadaba6e6b
  * SPDX-License-Identifier: MIT OR Apache-2.0
  * Copyright (c) 2026 The rtp-wire developers (NOTICE)
  */

@@ -2,8 +2,8 @@
  * rtp_wire for Linux on aarch64: the assembly text that Rattle's compiler makes of the library for C, each function of which is proved.
  * Made anew by: generated/make
  * kit: rattle-kit-13b logic dac8208d650f15bf
- * sources: c766ed8e46ccbf5500ecd5503106c93e399b712901a36000c9c0f33f7043aae4
- * text: 91dd5b317b22e88aa5f06f42c8bb1aae950191f0e6ae2586abe3c6ef73098f6b
+ * sources: 2c0fd83642f68456ea3e774e5e851770114781a94d0c51b99ea021a1a439c2fe
+ * text: 860197902d437191de07b62d52657e5dfb6628f75becbfad8ec518a175ba7189
  * SPDX-License-Identifier: MIT OR Apache-2.0
  * Copyright (c) 2026 The rtp-wire developers (NOTICE)
  */

@@ -2,8 +2,8 @@
  * rtp_wire for Linux on x86_64: the assembly text that Rattle's compiler makes of the library for C, each function of which is proved.
  * Made anew by: generated/make
  * kit: rattle-kit-13b logic dac8208d650f15bf
- * sources: c766ed8e46ccbf5500ecd5503106c93e399b712901a36000c9c0f33f7043aae4
- * text: 452181d0dbcb326c6b67fe6096e260df5475acdfe8cca6b2c61dc66844b042c5
+ * sources: 2c0fd83642f68456ea3e774e5e851770114781a94d0c51b99ea021a1a439c2fe
+ * text: 65f1436a9563d422c79b7cea886d3eb78c68605a068036208ef6f0b58b2f7894
  * SPDX-License-Identifier: MIT OR Apache-2.0
  * Copyright (c) 2026 The rtp-wire developers (NOTICE)
  */

@@ -20,8 +20,8 @@ impl<'a> RtpPacket<'a> {
     /// 8285, 4). It is for callers that pass the elements on, or read them in a way of their own:
     /// [`elements`](Self::elements), [`element`](Self::element) and [`values`](Self::values) read them.
     ///
-    /// The body is as long as the four bytes before it say, with all padding. It begins with the first
-    /// element, and ends where the payload begins.
+    /// The body is as long as the four bytes before it say, with all padding. It begins after these
+    /// four, and ends where the payload begins.
     pub fn block(&self) -> Option<(ExtensionsForm, &'a [u8])>
         ensures parts { option_map (λ block. (block.0, block.1.now)) result
             ≡ (parts_of self.now).block }
