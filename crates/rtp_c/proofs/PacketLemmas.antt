@@ -2,7 +2,7 @@
 use Rattle.std.proofs.Common.{◌≡◌, ℕ, ◌+◌, ◌-◌, ◌*◌, ◌≤◌, List, [], ◌++◌, length, take, drop, Bool, true, false, Option, Some, None, refl, sym, ap, ◌∙◌, append_assoc, append-nil, length-append, take_at, drop_at, arith}
 use Rattle.std.specs.List.{concat}
 use Rattle.std.proofs.lemmas.List.{take-append-drop}
-use Rattle.rtp_ext.specs.declared.ext.form.ExtensionsForm.{ExtensionsForm}
+use Rattle.rtp_ext.specs.declared.form.ExtensionsForm.{ExtensionsForm}
 use Rattle.rtp_wire.specs.Packet.{PacketParts, IsPacket, IsAnnounced, block_len, header_len_of}
 use Rattle.rtp_wire.proofs.PartsLemmas.{length-packet}
 use Rattle.rtp_c.specs.PacketView.{body_of, bytes_at}

@@ -1,6 +1,6 @@
 -- A packet whose elements are changed where they lie (RFC 8285, 4.2 and 4.3).
 use Rattle.std.specs.Prelude.{ℕ, List}
-use Rattle.rtp_ext.specs.declared.ext.form.ExtensionsForm.{ExtensionsForm}
+use Rattle.rtp_ext.specs.declared.form.ExtensionsForm.{ExtensionsForm}
 use Rattle.rtp_wire.specs.Packet.{PacketParts, IsPacket}
 use Rattle.rtp_wire.specs.ChangedPacket.{ChangesBlock}
 use Rattle.rtp_wire.specs.PacketElements.{HasValues}

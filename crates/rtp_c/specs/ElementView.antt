@@ -1,8 +1,8 @@
 -- What C is told of an element where it lies in the body of a block (RFC 8285, 4.2 and 4.3).
 use Rattle.std.specs.Prelude.{◌≡◌, ℕ, ◌+◌, List, ◌∷◌, ◌++◌, drop, replicate}
-use Rattle.rtp_ext.specs.declared.ext.form.ExtensionsForm.{ExtensionsForm}
+use Rattle.rtp_ext.specs.declared.form.ExtensionsForm.{ExtensionsForm}
 use Rattle.rtp_ext.specs.Elements.{Element, IsElement, element_bytes, AreElements}
-use Rattle.rtp_ext.specs.declared.ext.place.Place.{Place}
+use Rattle.rtp_ext.specs.declared.place.Place.{Place}
 use Rattle.rtp_ext.specs.ElementsInPlace.{HasNone}
 use Rattle.rtp_ext.specs.Places.{LiesLast}
 use Rattle.rtp_c.specs.declared.packet.ElementView.{ElementView}

@@ -1,7 +1,7 @@
 -- What C is told of a packet where it lies (RFC 3550, 5.1; RFC 8285, 4).
 use Rattle.std.specs.Prelude.{◌≡◌, ℕ, ◌+◌, ◌<◌, ◌⊎◌, List, [], length, slice_range, Option, Some, None, option_map, true}
-use Rattle.rtp_ext.specs.declared.ext.form.ExtensionsForm.{ExtensionsForm}
-use Rattle.rtp_ext.specs.declared.ext.form.ExtensionsForm.TheVariants.{OneByte, TwoByte}
+use Rattle.rtp_ext.specs.declared.form.ExtensionsForm.{ExtensionsForm}
+use Rattle.rtp_ext.specs.declared.form.ExtensionsForm.TheVariants.{OneByte, TwoByte}
 use Rattle.rtp_base.specs.Flag.{bit}
 use Rattle.rtp_wire.specs.Packet.{PacketParts, IsWithoutPadding}
 use Rattle.rtp_wire.specs.Padding.{padding_count}

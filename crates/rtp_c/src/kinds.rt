@@ -83,7 +83,7 @@ impl Kinds for KindsOfIds {
     ghost use Rattle.std.specs.Prelude.{take, drop, map};
     ghost use Rattle.rtp_ext.specs.ExtensionMap.{items_from};
     ghost use Rattle.rtp_ext.specs.KindsById.{known_of_kinds};
-    ghost use Rattle.rtp_ext.specs.declared.ext.kinds.Cursor.{Cursor};
+    ghost use Rattle.rtp_ext.specs.declared.kinds.Cursor.{Cursor};
     ghost use Rattle.rtp_c.specs.KindNumbers.{kind_numbered};
     ghost use Rattle.rtp_c.specs.KindsOfIds.{numbered_slots};
 

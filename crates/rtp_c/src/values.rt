@@ -1,7 +1,7 @@
 //! The values of a block's elements.
 
 ghost use Rattle.std.specs.Prelude.{◌≡◌, ◌≢◌, ◌↔◌, ◌⊎◌, Some};
-ghost use Rattle.rtp_ext.specs.declared.ext.form.ExtensionsForm.{ExtensionsForm};
+ghost use Rattle.rtp_ext.specs.declared.form.ExtensionsForm.{ExtensionsForm};
 ghost use Rattle.rtp_values.specs.Values.{no_values};
 ghost use Rattle.rtp_c.specs.Status.{ok, bad_field, no_memory};
 ghost use Rattle.rtp_c.specs.PacketView.{form_number};

@@ -2,7 +2,7 @@
 
 ghost use Rattle.std.specs.Prelude.{◌≡◌, ◌≢◌, ◌≤◌, ◌⊎◌, ◌↔◌, ◌<◌, length, IsTrue, IfSome, IfNone, IfOk, IfErr, MatchBool, Some};
 ghost use Rattle.std.specs.List.{All};
-ghost use Rattle.rtp_ext.specs.declared.ext.form.ExtensionsForm.{ExtensionsForm};
+ghost use Rattle.rtp_ext.specs.declared.form.ExtensionsForm.{ExtensionsForm};
 ghost use Rattle.rtp_ext.specs.ElementsInARow.{elements_of, IsWritable};
 ghost use Rattle.rtp_c.specs.Status.{ok, no_memory, short_buffer, bad_field};
 ghost use Rattle.rtp_c.specs.PacketView.{form_number};

@@ -11,7 +11,7 @@ use Rattle.rtp_ext.specs.ElementWriting.{items_bytes}
 use Rattle.rtp_ext.specs.WrittenBlock.{written_elements, image_values}
 use Rattle.rtp_ext.specs.BlockValues.{AreValues}
 use Rattle.rtp_values.specs.Values.{no_values}
-use Rattle.rtp_ext.specs.declared.ext.form.ExtensionsForm.{ExtensionsForm}
+use Rattle.rtp_ext.specs.declared.form.ExtensionsForm.{ExtensionsForm}
 use Rattle.rtp_values.specs.declared.value.values.ExtensionValues.{ExtensionValues}
 use Rattle.rtp_ext.proofs.WrittenBlockLemmas.{items_bytes-written}
 use Rattle.rtp_ext.proofs.KnownItemsLemmas.{written_known, image_known}

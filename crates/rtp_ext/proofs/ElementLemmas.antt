@@ -5,8 +5,8 @@ use Rattle.std.specs.Int.{w128, byte_worth, from_le_bytes, sum_through}
 use Rattle.std.proofs.Math.Nat.{one-le-pow, eq_of_mul-eq-mul_right, zero-mul}
 use Rattle.std.proofs.lemmas.Bool.{cases_lt, lt-leb}
 use Rattle.std.proofs.lemmas.List.{length-take-le}
-use Rattle.rtp_ext.specs.declared.ext.form.ExtensionsForm.{ExtensionsForm}
-use Rattle.rtp_ext.specs.declared.ext.form.ExtensionsForm.TheVariants.{OneByte, TwoByte}
+use Rattle.rtp_ext.specs.declared.form.ExtensionsForm.{ExtensionsForm}
+use Rattle.rtp_ext.specs.declared.form.ExtensionsForm.TheVariants.{OneByte, TwoByte}
 use Rattle.rtp_ext.specs.Elements.{Element}
 use Rattle.rtp_ext.specs.ElementReading.{without_padding, HasNoPadding, element_at, in_front, elements_after, elements_left}
 

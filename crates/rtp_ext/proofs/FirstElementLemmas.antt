@@ -2,8 +2,8 @@
 use Rattle.std.proofs.Common.{◌≡◌, ℕ, zero, suc, ◌+◌, ◌-◌, ◌*◌, ◌/◌, ◌%◌, ◌<◌, ◌≤◌, ◌⊎◌, inl, inr, List, [], ◌∷◌, ◌++◌, length, drop, replicate, Option, Some, None, get_or, append_assoc, take-append-drop, arith, refl, sym, ap, ◌∙◌, subst, Bor}
 use Rattle.std.specs.List.{IsFirstAndRest, IsSplitAt}
 use Rattle.std.proofs.lemmas.List.{nil_from_length, replicate-append-replicate}
-use Rattle.rtp_ext.specs.declared.ext.form.ExtensionsForm.{ExtensionsForm}
-use Rattle.rtp_ext.specs.declared.ext.form.ExtensionsForm.TheVariants.{OneByte, TwoByte}
+use Rattle.rtp_ext.specs.declared.form.ExtensionsForm.{ExtensionsForm}
+use Rattle.rtp_ext.specs.declared.form.ExtensionsForm.TheVariants.{OneByte, TwoByte}
 use Rattle.rtp_ext.specs.Elements.{Element, IsElement, element_bytes, IsTail, ended, stopped}
 use Rattle.rtp_ext.specs.ElementReading.{without_padding, HasNoPadding, elements_left, BeginsWith, BeginsWithNone, IsFirst}
 use Rattle.rtp_ext.proofs.ElementLemmas.{elements_left-padding, HasNoPadding-first}

@@ -8,8 +8,8 @@ use Rattle.rtp_values.specs.declared.value.values.ExtensionValues.{ExtensionValu
 use Rattle.rtp_values.specs.Spelling.{has_no_data, has_empty_text, spelled_data, longest, carried_values}
 use Rattle.rtp_values.specs.Values.{with_fields}
 use Rattle.rtp_values.proofs.EmptyDataLemmas.{no_empty_text}
-use Rattle.rtp_ext.specs.declared.ext.form.ExtensionsForm.{ExtensionsForm}
-use Rattle.rtp_ext.specs.declared.ext.form.ExtensionsForm.TheVariants.{OneByte, TwoByte}
+use Rattle.rtp_ext.specs.declared.form.ExtensionsForm.{ExtensionsForm}
+use Rattle.rtp_ext.specs.declared.form.ExtensionsForm.TheVariants.{OneByte, TwoByte}
 use Rattle.rtp_ext.specs.Elements.{Element}
 use Rattle.rtp_ext.specs.ExtensionMap.{Slots, items_from, mapped_count}
 use Rattle.rtp_ext.specs.KindsById.{known_alone, known_slots, is_long_item, has_empty}

@@ -2,10 +2,10 @@
 use Rattle.std.proofs.Common.{◌≡◌, ◌≢◌, ℕ, ◌-◌, ◌≤◌, List, [], ◌∷◌, ◌++◌, length, drop, replicate, Option, Some, None, IfSome, IfNone, append_assoc, length-append, arith, refl, sym, ap, ◌∙◌, subst}
 use Rattle.std.proofs.lemmas.List.{append-nil, drop_at, length-replicate}
 use Rattle.std.proofs.lemmas.List.Elements.{All-nil, All-cons, All-append, All-contains, Contains-append_right}
-use Rattle.rtp_ext.specs.declared.ext.form.ExtensionsForm.{ExtensionsForm}
-use Rattle.rtp_ext.specs.declared.ext.form.ExtensionsForm.TheVariants.{OneByte, TwoByte}
+use Rattle.rtp_ext.specs.declared.form.ExtensionsForm.{ExtensionsForm}
+use Rattle.rtp_ext.specs.declared.form.ExtensionsForm.TheVariants.{OneByte, TwoByte}
 use Rattle.rtp_base.specs.Overwriting.{overwritten}
-use Rattle.rtp_ext.specs.declared.ext.place.Place.{Place}
+use Rattle.rtp_ext.specs.declared.place.Place.{Place}
 use Rattle.rtp_ext.specs.Elements.{Element, IsElement, element_bytes, AreElements}
 use Rattle.rtp_ext.specs.ElementReading.{BeginsWithNone}
 use Rattle.rtp_ext.specs.ElementWriting.{header_bytes}

@@ -5,8 +5,8 @@ use Rattle.std.proofs.lemmas.Bool.{leb-true, le-leb, false≢true, cases_lt}
 use Rattle.std.proofs.Math.ListN.{get_or-map}
 use Rattle.std.proofs.lemmas.List.{get_or_past, get_or-set_same, get_or-set_other, map-set, length-map}
 use Rattle.std.proofs.lemmas.List.Elements.{All-nil, All-cons, All-head, All-tail}
-use Rattle.rtp_ext.specs.declared.ext.form.ExtensionsForm.{ExtensionsForm}
-use Rattle.rtp_ext.specs.declared.ext.form.ExtensionsForm.TheVariants.{OneByte, TwoByte}
+use Rattle.rtp_ext.specs.declared.form.ExtensionsForm.{ExtensionsForm}
+use Rattle.rtp_ext.specs.declared.form.ExtensionsForm.TheVariants.{OneByte, TwoByte}
 use Rattle.rtp_ext.specs.Elements.{Element, IsElement, IsPiece, AreElements}
 use Rattle.rtp_ext.specs.ElementsInPlace.{CanRenumber}
 use Rattle.rtp_ext.specs.ExtensionMap.{Slots, IsId, entry_at, extension_of, HasNoIdAbove}

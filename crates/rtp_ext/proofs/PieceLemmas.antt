@@ -4,7 +4,7 @@ use Rattle.std.specs.List.{AllByRecursion, flat_map, filter_map}
 use Rattle.std.proofs.lemmas.List.{append-nil}
 use Rattle.std.proofs.lemmas.List.Concat.{flat_map-append}
 use Rattle.std.proofs.lemmas.List.Elements.{filter_map-append}
-use Rattle.rtp_ext.specs.declared.ext.form.ExtensionsForm.{ExtensionsForm}
+use Rattle.rtp_ext.specs.declared.form.ExtensionsForm.{ExtensionsForm}
 use Rattle.rtp_ext.specs.Elements.{Element, IsElement, element_bytes, IsPiece, piece_bytes, AreElements}
 use Rattle.rtp_ext.specs.ElementReading.{BeginsWithNone}
 use Rattle.rtp_ext.specs.Places.{AreWhole}

@@ -9,9 +9,9 @@ use Rattle.std.proofs.lemmas.List.{append-nil, drop_at, take_at, length-replicat
 use Rattle.std.proofs.lemmas.List.Concat.{flat_map-append}
 use Rattle.std.proofs.lemmas.List.Elements.{All-head, All-tail, filter_map-append}
 use Rattle.std.proofs.lemmas.List.Folds.{list_any-append, list_any_none, list_any_at}
-use Rattle.rtp_ext.specs.declared.ext.form.ExtensionsForm.{ExtensionsForm}
-use Rattle.rtp_ext.specs.declared.ext.form.ExtensionsForm.TheVariants.{OneByte, TwoByte}
-use Rattle.rtp_ext.specs.declared.ext.place.Place.{Place}
+use Rattle.rtp_ext.specs.declared.form.ExtensionsForm.{ExtensionsForm}
+use Rattle.rtp_ext.specs.declared.form.ExtensionsForm.TheVariants.{OneByte, TwoByte}
+use Rattle.rtp_ext.specs.declared.place.Place.{Place}
 use Rattle.rtp_ext.specs.Elements.{Element, IsElement, element_bytes, IsPiece, piece_bytes, AreElements}
 use Rattle.rtp_ext.specs.ElementReading.{BeginsWithNone, elements_left}
 use Rattle.rtp_ext.specs.ElementsInPlace.{bytes_under, renumbered, renumbered_bytes, HasOtherIds, CanRenumber, HasNone, all_but}

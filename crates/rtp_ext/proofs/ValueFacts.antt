@@ -1,6 +1,6 @@
 -- Worked rows of blocks, computed from the definitions.
 use Rattle.std.proofs.Common.{◌≡◌, ◌≢◌, ℕ, [], ◌∷◌, replicate, Bool, true, false, neg_ℤ, pos, Some, None, arith, refl, sym, ◌∙◌, subst}
-use Rattle.rtp_ext.specs.declared.ext.form.ExtensionsForm.TheVariants.{OneByte, TwoByte}
+use Rattle.rtp_ext.specs.declared.form.ExtensionsForm.TheVariants.{OneByte, TwoByte}
 use Rattle.rtp_values.specs.declared.kind.Extension.{Extension}
 use Rattle.rtp_values.specs.declared.kind.Extension.TheVariants.{AudioLevel}
 use Rattle.rtp_values.specs.declared.value.values.ExtensionValues.{ExtensionValues}

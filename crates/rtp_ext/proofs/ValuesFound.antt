@@ -7,8 +7,8 @@ use Rattle.rtp_values.specs.Values.{no_values, with_fields, IsWellFormed}
 use Rattle.rtp_values.proofs.FieldLemmas.{Reads-same, SameFields-taken, SameFields-others}
 use Rattle.rtp_values.proofs.KindLemmas.{one_kind}
 use Rattle.rtp_values.proofs.WellFormedOrNot.{well_formed_or_not}
-use Rattle.rtp_ext.specs.declared.ext.form.ExtensionsForm.{ExtensionsForm}
-use Rattle.rtp_ext.specs.declared.ext.form.ExtensionsForm.TheVariants.{OneByte, TwoByte}
+use Rattle.rtp_ext.specs.declared.form.ExtensionsForm.{ExtensionsForm}
+use Rattle.rtp_ext.specs.declared.form.ExtensionsForm.TheVariants.{OneByte, TwoByte}
 use Rattle.rtp_ext.specs.Elements.{Element, element_bytes, piece_bytes, AreElements}
 use Rattle.rtp_ext.specs.ElementReading.{elements_left}
 use Rattle.rtp_ext.specs.ExtensionMap.{Slots, extension_at}

@@ -4,7 +4,7 @@ use Rattle.std.specs.Prelude.{IfSome}
 use Rattle.std.specs.List.{AllByRecursion, flat_map, filter_map, cons_option}
 use Rattle.std.specs.Option.{option_map}
 use Rattle.std.proofs.lemmas.List.{append-nil}
-use Rattle.rtp_ext.specs.declared.ext.form.ExtensionsForm.{ExtensionsForm}
+use Rattle.rtp_ext.specs.declared.form.ExtensionsForm.{ExtensionsForm}
 use Rattle.rtp_values.specs.declared.kind.Extension.{Extension}
 use Rattle.rtp_values.specs.declared.value.values.ExtensionValues.{ExtensionValues}
 use Rattle.rtp_ext.specs.Elements.{Element, IsElement, element_bytes, IsPiece, piece_bytes, AreElements, ended, elements_bytes}

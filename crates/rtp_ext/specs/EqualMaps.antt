@@ -3,10 +3,10 @@ use Rattle.std.specs.Prelude.{Bool, true, false, Option, Some, None}
 use Rattle.std.specs.Cmp.{IsEquivalence}
 use Rattle.std.specs.Cmp.Lexicographic.{pointwise, lists_equiv}
 use Rattle.rtp_values.specs.declared.kind.Extension.{Extension}
-use Rattle.rtp_ext.specs.declared.ext.slot.Mapping.{Mapping}
-use Rattle.rtp_ext.specs.declared.ext.slot.Mapping.TheVariants as mapping
-use Rattle.rtp_ext.specs.contracts.ext.slot.MappingPartialEq.TheImpl as mapping_eq
-use Rattle.rtp_ext.specs.contracts.ext.slot.MappingEq.TheImpl.Laws.{laws-law}
+use Rattle.rtp_ext.specs.declared.slots.Mapping.{Mapping}
+use Rattle.rtp_ext.specs.declared.slots.Mapping.TheVariants as mapping
+use Rattle.rtp_ext.specs.contracts.slots.MappingPartialEq.TheImpl as mapping_eq
+use Rattle.rtp_ext.specs.contracts.slots.MappingEq.TheImpl.Laws.{laws-law}
 use Rattle.rtp_ext.specs.ExtensionMap.{Entry, Slots}
 
 -- the slot of an extension, which is locked there or free

@@ -1,10 +1,10 @@
--- Which id each element gets, and a body whose elements get them one after another (RFC 8285, 4.2 and 4.3): what the functions of `renumbering` promise each other.
+-- Which id each element gets, and a body whose elements get them one after another (RFC 8285, 4.2 and 4.3): what the functions of `place` promise each other.
 use Rattle.std.specs.Prelude.{◌≡◌, ℕ, List, ◌++◌, length, All, Bool, true, nat_le, Option, Some, None, is_none}
 use Rattle.std.specs.List.{AllByRecursion, flat_map, filter_map, list_any}
-use Rattle.rtp_ext.specs.declared.ext.form.ExtensionsForm.{ExtensionsForm}
-use Rattle.rtp_ext.specs.declared.ext.form.ExtensionsForm.TheVariants.{OneByte, TwoByte}
-use Rattle.rtp_ext.specs.declared.ext.renumbering.IdChange.{IdChange}
-use Rattle.rtp_ext.specs.declared.ext.renumbering.IdChange.TheVariants.{AllBut, Table}
+use Rattle.rtp_ext.specs.declared.form.ExtensionsForm.{ExtensionsForm}
+use Rattle.rtp_ext.specs.declared.form.ExtensionsForm.TheVariants.{OneByte, TwoByte}
+use Rattle.rtp_ext.specs.declared.place.IdChange.{IdChange}
+use Rattle.rtp_ext.specs.declared.place.IdChange.TheVariants.{AllBut, Table}
 use Rattle.rtp_ext.specs.Elements.{Element, IsElement, IsPiece, piece_bytes}
 use Rattle.rtp_ext.specs.ElementReading.{elements_left}
 use Rattle.rtp_ext.specs.ElementsInPlace.{all_but, renumbered_bytes, CanRenumber}

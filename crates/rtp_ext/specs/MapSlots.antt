@@ -4,8 +4,8 @@ use Rattle.std.specs.Option.{option_map}
 use Rattle.std.specs.List.{filter_map}
 use Rattle.std.proofs.Common.{sym, ap, ◌∙◌, length-take-le, take-append-drop}
 use Rattle.rtp_values.specs.declared.kind.Extension.{Extension}
-use Rattle.rtp_ext.specs.declared.ext.slot.Mapping.{Mapping}
-use Rattle.rtp_ext.specs.declared.ext.slot.Mapping.TheVariants as mapping
+use Rattle.rtp_ext.specs.declared.slots.Mapping.{Mapping}
+use Rattle.rtp_ext.specs.declared.slots.Mapping.TheVariants as mapping
 use Rattle.rtp_ext.specs.ExtensionMap.{Entry, Slots, entry_at, extension_of, extension_at, unlocked, locked, items_from}
 
 -- the entry in a slot

@@ -2,14 +2,30 @@
 //! a block, from bytes and back.
 #![tactic(auto)]
 
-mod ext;
+mod block_elements;
+mod block_values;
+mod elements;
+mod form;
+mod iter;
+mod kinds;
+mod kinds_by_id;
+mod map;
+mod mapped_ids;
+mod new_ids;
+mod place;
+mod raw_writing;
+mod slots;
 
-pub use ext::{
-    Cursor, Elements, ExtensionMap, ExtensionsForm, Iter, IterByMediaType, Kinds, MAX_ID,
-    MAX_ID_ONE_BYTE_FORM, NewIds, Place, element_of, is_long, last_place, next_place, put_elements,
-    read_values, remove_element, renumber, set_element, values_form, values_len, write_elements,
-    write_values,
-};
+pub use block_elements::{values_form, values_len, write_values};
+pub use block_values::read_values;
+pub use elements::Elements;
+pub use form::{ExtensionsForm, MAX_ID_ONE_BYTE_FORM};
+pub use iter::{Iter, IterByMediaType};
+pub use kinds::{Cursor, Kinds, is_long};
+pub use map::{ExtensionMap, MAX_ID};
+pub use new_ids::NewIds;
+pub use place::{Place, element_of, last_place, next_place, remove_element, renumber, set_element};
+pub use raw_writing::{put_elements, write_elements};
 pub use rtp_values::{
     AbsCaptureTime, Extension, ExtensionValues, KnownKind, Uri, VideoOrientation, VideoTiming,
 };

@@ -3,7 +3,7 @@ use Rattle.std.proofs.Common.{◌≡◌, ℕ, List, [], ◌++◌, Option, Some, 
 use Rattle.std.specs.Prelude.{IfSome, IfErr, OnOk}
 use Rattle.std.specs.Io.KnownBytes.{Appends}
 use Rattle.std.proofs.KnownBytes.{Appends-nil, Appends-trans}
-use Rattle.rtp_ext.specs.declared.ext.map.ExtensionMap.{ExtensionMap}
+use Rattle.rtp_ext.specs.declared.map.ExtensionMap.{ExtensionMap}
 use Rattle.rtp_listing.specs.declared.program.RunEnd.{RunEnd}
 use Rattle.rtp_listing.specs.declared.program.RunEnd.TheVariants.{Done, BadLine, NoMemory, Io}
 use Rattle.rtp_listing.specs.Input.{Spells, IsInput, HasBadLine}

@@ -1,6 +1,6 @@
 -- What is printed where a run stops early: what the functions of `printing` and `program` promise each other.
 use Rattle.std.specs.Prelude.{ℕ, List, ◌++◌, take}
-use Rattle.rtp_ext.specs.declared.ext.map.ExtensionMap.{ExtensionMap}
+use Rattle.rtp_ext.specs.declared.map.ExtensionMap.{ExtensionMap}
 use Rattle.rtp_listing.specs.declared.program.RunEnd.{RunEnd}
 use Rattle.rtp_listing.specs.declared.program.RunEnd.TheVariants.{Done, BadLine, NoMemory, Io}
 use Rattle.rtp_listing.specs.Output.{IsListing, IsBadLineOf, IsFrontOf, IsBeginningOf}

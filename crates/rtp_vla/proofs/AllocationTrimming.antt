@@ -3,7 +3,7 @@ use Rattle.std.proofs.Common.{◌≡◌, ℕ, ◌+◌, ◌*◌, ◌&&◌, ◌||�
 use Rattle.std.specs.Option.{is_none}
 use Rattle.std.specs.List.{AllByRecursion, filter, list_all}
 use Rattle.std.proofs.lemmas.Bool.{and_parts, and_from, le-leb, leb-true, false≢true, cases_Bool, or_right, or_left}
-use Rattle.rtp_vla.specs.declared.vla.allocation.ResolutionAndFramerate.{ResolutionAndFramerate}
+use Rattle.rtp_vla.specs.declared.allocation.ResolutionAndFramerate.{ResolutionAndFramerate}
 use Rattle.rtp_vla.specs.Allocation.{Layer, Stream, is_active, active_layers, mask_of, EndsActive, IsBareUnlessActive, IsReadable}
 use Rattle.rtp_vla.specs.AllocationWritten.{in_front_of, without_bare_tail, bare_or_active, stream_fits}
 

@@ -1,7 +1,7 @@
 -- What the bytes of a layer allocation mean (video-layers-allocation00), part by part.
 use Rattle.std.specs.Prelude.{◌≡◌, ℕ, ◌+◌, ◌-◌, ◌*◌, ◌<◌, ◌≤◌, ◌⊎◌, List, [], ◌∷◌, ◌++◌, length, map, Bool, true, false, Option, Some, None, if◌then◌else◌}
 use Rattle.std.specs.List.{AllByRecursion, filter, flat_map}
-use Rattle.rtp_vla.specs.declared.vla.allocation.ResolutionAndFramerate.{ResolutionAndFramerate}
+use Rattle.rtp_vla.specs.declared.allocation.ResolutionAndFramerate.{ResolutionAndFramerate}
 use Rattle.rtp_vla.specs.Leb.{ReadsLeb}
 
 -- ---- What an allocation is

@@ -1,7 +1,7 @@
 -- An allocation read from left to right: what the functions of `parsing` promise each other.
 use Rattle.std.specs.Prelude.{◌≡◌, ℕ, zero, suc, ◌+◌, ◌-◌, ◌*◌, ◌/◌, ◌%◌, ◌<◌, ◌≤◌, ◌==◌, List, [], ◌∷◌, ◌++◌, length, take, drop, Bool, true, false, Option, Some, None, if◌then◌else◌}
 use Rattle.std.specs.List.{AllByRecursion}
-use Rattle.rtp_vla.specs.declared.vla.allocation.ResolutionAndFramerate.{ResolutionAndFramerate}
+use Rattle.rtp_vla.specs.declared.allocation.ResolutionAndFramerate.{ResolutionAndFramerate}
 use Rattle.rtp_vla.specs.LebReading.{leb_value, leb_rest}
 use Rattle.rtp_vla.specs.Allocation.{Layer, Stream, AreMasks}
 

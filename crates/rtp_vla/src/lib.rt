@@ -1,4 +1,24 @@
 //! The layers that a sender of video keeps active, as a header extension.
 #![tactic(auto)]
 
-pub mod vla;
+mod active;
+mod allocation;
+mod counts;
+mod layers;
+mod leb;
+mod measuring;
+mod parsing;
+mod parts;
+mod writing;
+
+/// The layers that a sender of video keeps active: which simulcast streams it sends, their layers,
+/// and their rates and resolutions (the header extension `video-layers-allocation00`).
+pub mod vla {
+    pub use crate::allocation::{
+        ResolutionAndFramerate, SimulcastStreamAllocation, SpatialLayerAllocation,
+        TemporalLayerAllocation, URI, VideoLayersAllocation,
+    };
+    pub use crate::leb::{encode_leb_u63, parse_leb_u63};
+    pub use crate::parsing::parse;
+    pub use crate::writing::{checked_wire_len, is_writable, wire_len, write_to};
+}

@@ -1,8 +1,8 @@
 -- A packet begins with a header under each map.
 use Rattle.std.proofs.Common.{ℕ, Bool, true, false, List, ◌++◌, take, drop, Option, Some, None, refl, sym, subst, take-append-drop}
 use Rattle.std.specs.List.{concat}
-use Rattle.rtp_ext.specs.declared.ext.form.ExtensionsForm.{ExtensionsForm}
-use Rattle.rtp_ext.specs.declared.ext.map.ExtensionMap.{ExtensionMap}
+use Rattle.rtp_ext.specs.declared.form.ExtensionsForm.{ExtensionsForm}
+use Rattle.rtp_ext.specs.declared.map.ExtensionMap.{ExtensionMap}
 use Rattle.rtp_ext.proofs.ElementLemmasOfBodies.{AreBytes}
 use Rattle.rtp_ext.proofs.ValuesFound.{AreBytes-front, AreBytes-back, values_found}
 use Rattle.rtp_values.specs.declared.value.values.ExtensionValues.{ExtensionValues}

@@ -4,11 +4,11 @@ use Rattle.std.specs.Prelude.{map, replicate, slice_index}
 use Rattle.std.specs.List.{flat_map, concat, AllByRecursion}
 use Rattle.std.specs.Int.{w32, to_be_bytes, from_be_bytes}
 use Rattle.std.proofs.lemmas.Nat.{from_be_bytes-to_be_bytes_2, from_be_bytes-to_be_bytes_4}
-use Rattle.rtp_ext.specs.declared.ext.map.ExtensionMap.{ExtensionMap}
+use Rattle.rtp_ext.specs.declared.map.ExtensionMap.{ExtensionMap}
 use Rattle.rtp_ext.specs.ExtensionMap.{Slots}
 use Rattle.rtp_wire.specs.declared.header.rtp_header.RtpHeader.{RtpHeader}
 use Rattle.rtp_values.specs.declared.value.values.ExtensionValues.{ExtensionValues}
-use Rattle.rtp_ext.specs.declared.ext.form.ExtensionsForm.{ExtensionsForm}
+use Rattle.rtp_ext.specs.declared.form.ExtensionsForm.{ExtensionsForm}
 use Rattle.rtp_wire.specs.Header.{IsExtensionPart, header_of, IsWire}
 use Rattle.rtp_wire.specs.Packet.{IsFirstByte, IsFixedPart, IsAnnounced, IsPacket, header_len_of}
 use Rattle.rtp_wire.proofs.HeaderLemmas.{IsHeaderOf-read}

@@ -5,7 +5,7 @@ use Rattle.std.proofs.lemmas.Bool.{eq-eqb, eqb-true, cases_lt, cases_eq, ne_eqb,
 use Rattle.std.proofs.lemmas.List.{take_more}
 use Rattle.rtp_base.specs.Window.{Numbers, IsGreatest, Accepts, including}
 use Rattle.rtp_base.proofs.WindowLemmas.{greatest_stays}
-use Rattle.rtp_ext.specs.declared.ext.map.ExtensionMap.{ExtensionMap}
+use Rattle.rtp_ext.specs.declared.map.ExtensionMap.{ExtensionMap}
 use Rattle.rtp_wire.specs.declared.receive.verdict.Verdict.{Verdict}
 use Rattle.rtp_wire.specs.declared.receive.verdict.Verdict.TheVariants.{Unreadable, Taken, Refused}
 use Rattle.rtp_wire.specs.Widening.{IsNearest}

@@ -1,8 +1,8 @@
 -- What the reading of a block's elements tells of its values.
 use Rattle.std.proofs.Common.{◌≡◌, List, [], ℕ, Option, Some, None, Result, Ok, Err, OnOk, OnErr, refl, sym, subst}
 use Rattle.std.specs.declared.alloc.AllocError.{AllocError}
-use Rattle.rtp_ext.specs.declared.ext.form.ExtensionsForm.{ExtensionsForm}
-use Rattle.rtp_ext.specs.declared.ext.map.ExtensionMap.{ExtensionMap}
+use Rattle.rtp_ext.specs.declared.form.ExtensionsForm.{ExtensionsForm}
+use Rattle.rtp_ext.specs.declared.map.ExtensionMap.{ExtensionMap}
 use Rattle.rtp_values.specs.declared.value.values.ExtensionValues.{ExtensionValues}
 use Rattle.rtp_ext.specs.Elements.{Element, AreElements}
 use Rattle.rtp_ext.specs.BlockValues.{AreValues}

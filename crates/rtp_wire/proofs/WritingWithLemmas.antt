@@ -1,6 +1,6 @@
 -- A header and a block of any elements, as they are written.
 use Rattle.std.proofs.Common.{◌≡◌, ◌⊎◌, ℕ, ◌+◌, ◌-◌, ◌*◌, ◌≤◌, ◌<◌, List, ◌++◌, length, take, drop, Some, refl, ap, ◌∙◌, arith, inl, inr, length-take-le}
-use Rattle.rtp_ext.specs.declared.ext.form.ExtensionsForm.{ExtensionsForm}
+use Rattle.rtp_ext.specs.declared.form.ExtensionsForm.{ExtensionsForm}
 use Rattle.rtp_ext.specs.Elements.{Element, elements_bytes}
 use Rattle.rtp_ext.specs.ElementsInARow.{form_for, FitInARow, CannotBeInARow}
 use Rattle.rtp_ext.specs.WrittenBlock.{filled, block_of}

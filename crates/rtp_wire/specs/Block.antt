@@ -6,7 +6,7 @@
 -- |                        header extension                       |
 use Rattle.std.specs.Prelude.{◌≡◌, ℕ, ◌+◌, ◌*◌, List, length, drop, slice_range}
 use Rattle.std.specs.Int.{w16, from_be_bytes}
-use Rattle.rtp_ext.specs.declared.ext.form.ExtensionsForm.{ExtensionsForm}
+use Rattle.rtp_ext.specs.declared.form.ExtensionsForm.{ExtensionsForm}
 use Rattle.rtp_ext.specs.Form.{IsFormWord}
 
 -- the word in two bytes, the high one first

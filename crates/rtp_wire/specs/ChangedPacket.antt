@@ -1,6 +1,6 @@
 -- A packet that is changed where it lies (RFC 3550, 5.1; RFC 8285, 4.2 and 4.3).
 use Rattle.std.specs.Prelude.{◌≡◌, ℕ, ◌+◌, List, length, take, drop, Some}
-use Rattle.rtp_ext.specs.declared.ext.form.ExtensionsForm.{ExtensionsForm}
+use Rattle.rtp_ext.specs.declared.form.ExtensionsForm.{ExtensionsForm}
 use Rattle.rtp_wire.specs.NotAHeader.{sources_end}
 use Rattle.rtp_wire.specs.Packet.{PacketParts}
 use Rattle.rtp_wire.specs.PartsAt.{header_end}

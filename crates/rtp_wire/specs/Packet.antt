@@ -12,7 +12,7 @@
 use Rattle.std.specs.Prelude.{◌≡◌, ℕ, ◌+◌, ◌*◌, ◌≤◌, List, [], ◌++◌, length, map, slice_index, slice_range, Bool, true, false, Option, Some, None}
 use Rattle.std.specs.List.{concat, AllByRecursion}
 use Rattle.std.specs.Int.{w16, w32, from_be_bytes}
-use Rattle.rtp_ext.specs.declared.ext.form.ExtensionsForm.{ExtensionsForm}
+use Rattle.rtp_ext.specs.declared.form.ExtensionsForm.{ExtensionsForm}
 use Rattle.rtp_base.specs.Flag.{bit}
 use Rattle.rtp_wire.specs.Block.{IsBlock}
 use Rattle.rtp_wire.specs.Padding.{IsUnpadded}

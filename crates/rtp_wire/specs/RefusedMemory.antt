@@ -1,6 +1,6 @@
 -- Where memory may be refused to the reading of a header: at an element of its block whose data take it.
 use Rattle.std.specs.Prelude.{◌≡◌, ℕ, List, Option}
-use Rattle.rtp_ext.specs.declared.ext.form.ExtensionsForm.{ExtensionsForm}
+use Rattle.rtp_ext.specs.declared.form.ExtensionsForm.{ExtensionsForm}
 use Rattle.rtp_ext.specs.Elements.{Element}
 use Rattle.rtp_ext.specs.ExtensionMap.{Slots}
 use Rattle.rtp_ext.specs.Memory.{HasAllocation, IsStopped}

@@ -1,7 +1,7 @@
 -- Runs of datagrams of many sources, each with a replay window of its own (RFC 3550, 3; RFC 3711, 3.2.3 and 3.3.2).
 use Rattle.std.specs.Prelude.{ℕ, List, [], ◌∷◌, Bool, false, if◌then◌else◌, ◌==◌, Option, Some, None}
 use Rattle.rtp_base.specs.Window.{Numbers}
-use Rattle.rtp_ext.specs.declared.ext.map.ExtensionMap.{ExtensionMap}
+use Rattle.rtp_ext.specs.declared.map.ExtensionMap.{ExtensionMap}
 use Rattle.rtp_wire.specs.declared.receive.verdict.Verdict.{Verdict}
 use Rattle.rtp_wire.specs.declared.header.rtp_header.RtpHeader.{RtpHeader}
 use Rattle.rtp_wire.specs.Verdicts.{PacketId, ArePacketIds, taken_by, IsRunBy, AreVerdicts, TakesOnce}

@@ -1,7 +1,7 @@
 //! The elements that maps write.
 
 ghost use Rattle.std.specs.Prelude.{◌≡◌, ◌⊎◌};
-ghost use Rattle.rtp_ext.specs.declared.ext.form.ExtensionsForm.TheVariants.{TwoByte};
+ghost use Rattle.rtp_ext.specs.declared.form.ExtensionsForm.TheVariants.{TwoByte};
 ghost use Rattle.rtp_ext.specs.WrittenBlock.{form_of};
 
 use crate::checks::{are_values, bytes_of, holds, is_in_front_of_ones, same};

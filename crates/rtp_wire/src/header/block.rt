@@ -12,7 +12,7 @@ ghost use Rattle.rtp_wire.specs.WrittenWith.{body_with};
 ghost use Rattle.rtp_ext.specs.WrittenBlock.{IsShort, form_of, block_of, filled, image_values, whole_words};
 ghost use Rattle.rtp_wire.specs.WrittenInForm.{block_bytes_in};
 ghost use Rattle.rtp_ext.specs.ExtensionMap.{items_from, mapped_count};
-ghost use Rattle.rtp_ext.specs.declared.ext.form.ExtensionsForm.TheVariants.{OneByte, TwoByte};
+ghost use Rattle.rtp_ext.specs.declared.form.ExtensionsForm.TheVariants.{OneByte, TwoByte};
 
 use rtp_base::put;
 use rtp_ext::{

@@ -2,7 +2,7 @@
 
 ghost use Rattle.std.specs.Prelude.{◌≡◌, ◌↔◌, ◌^◌, ◌<◌, ◌/◌, ℕ, Option, Some, None, option_copied, IsTrue, false, if◌then◌else◌};
 ghost use Rattle.rtp_base.specs.Window.{Numbers, WindowState, including};
-ghost use Rattle.rtp_ext.specs.declared.ext.map.ExtensionMap.{ExtensionMap};
+ghost use Rattle.rtp_ext.specs.declared.map.ExtensionMap.{ExtensionMap};
 ghost use Rattle.rtp_wire.specs.Receiver.{Holds, IsHighest, IsNumberOf, IsFresh, IsJudged, taken_after, StaysBelowZeroIn};
 ghost use Rattle.rtp_wire.specs.declared.receive.state.ReceiverState.TheVariants.{Start, Window};
 ghost use Rattle.rtp_wire.specs.Verdicts.{PacketId, IsPacketId, IsVerdict};

@@ -1,7 +1,7 @@
 //! A receiver over a whole run of datagrams.
 
 ghost use Rattle.std.specs.Prelude.{◌≡◌, ℕ, List, [], map, Option, IsOk, IfOk};
-ghost use Rattle.rtp_ext.specs.declared.ext.map.ExtensionMap.{ExtensionMap};
+ghost use Rattle.rtp_ext.specs.declared.map.ExtensionMap.{ExtensionMap};
 ghost use Rattle.rtp_wire.specs.declared.header.rtp_header.RtpHeader.{RtpHeader};
 ghost use Rattle.rtp_wire.specs.Verdicts.{PacketId, ArePacketIds, AreVerdicts, TakesOnce};
 ghost use Rattle.rtp_wire.specs.TrueNumbers.{AreTrue, AreTrueVerdicts};

@@ -1,7 +1,7 @@
 use Rattle.std.proofs.Common.{◌≡◌, true, refl, sym, ap, ◌∙◌, arith, length, List}
-use Rattle.rtp_ext.specs.declared.ext.form.ExtensionsForm.{ExtensionsForm}
-use Rattle.rtp_ext.specs.declared.ext.form.ExtensionsForm.TheVariants.{OneByte, TwoByte}
-use Rattle.rtp_ext.specs.contracts.ext.form.ExtensionsFormPartialEq.TheImpl as form_eq
+use Rattle.rtp_ext.specs.declared.form.ExtensionsForm.{ExtensionsForm}
+use Rattle.rtp_ext.specs.declared.form.ExtensionsForm.TheVariants.{OneByte, TwoByte}
+use Rattle.rtp_ext.specs.contracts.form.ExtensionsFormPartialEq.TheImpl as form_eq
 use Rattle.rtp_ext.specs.Elements.{Element, elements_bytes}
 use Rattle.rtp_ext.proofs.KnownItemsLemmas.{written_known}
 use Rattle.rtp_ext.specs.WrittenBlock.{written_elements}

@@ -1,6 +1,6 @@
 use Rattle.std.proofs.Common.{◌+◌, ◌≤◌, ap, refl, arith, length, length-drop, ℕ, List, drop}
 use Rattle.std.proofs.lemmas.List.{take_rest}
-use Rattle.rtp_ext.specs.declared.ext.form.ExtensionsForm.{ExtensionsForm}
+use Rattle.rtp_ext.specs.declared.form.ExtensionsForm.{ExtensionsForm}
 use Rattle.rtp_values.specs.declared.value.values.ExtensionValues.{ExtensionValues}
 use Rattle.rtp_ext.specs.ExtensionMap.{Slots}
 use Rattle.rtp_ext.specs.Elements.{elements_bytes}

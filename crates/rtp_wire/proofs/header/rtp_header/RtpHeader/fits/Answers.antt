@@ -1,5 +1,5 @@
 use Rattle.std.proofs.Common.{refl, ap, arith, length, Option}
-use Rattle.rtp_ext.specs.declared.ext.form.ExtensionsForm.{ExtensionsForm}
+use Rattle.rtp_ext.specs.declared.form.ExtensionsForm.{ExtensionsForm}
 use Rattle.rtp_wire.specs.WrittenInForm.{part_in}
 use Rattle.std.proofs.lemmas.Bool.{false≢true}
 use Rattle.rtp_wire.proofs.RoundTrip.{length-wire_bytes_in}

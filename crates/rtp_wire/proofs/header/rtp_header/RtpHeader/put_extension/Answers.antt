@@ -1,6 +1,6 @@
 use Rattle.std.proofs.Common.{◌+◌, ◌-◌, ◌≤◌, ℕ, Option, sym, ap, subst, ◌∙◌, ◌++◌, length, drop, take}
 use Rattle.rtp_base.specs.Overwriting.{overwritten}
-use Rattle.rtp_ext.specs.declared.ext.form.ExtensionsForm.{ExtensionsForm}
+use Rattle.rtp_ext.specs.declared.form.ExtensionsForm.{ExtensionsForm}
 use Rattle.rtp_wire.specs.WrittenInForm.{block_bytes_in, part_in}
 use Rattle.rtp_base.proofs.OverwritingLemmas.{overwritten-nil, overwritten-rest}
 use Rattle.rtp_wire.proofs.WrittenInFormLemmas.{IsExtensionPart-none, IsExtensionPart-some}

@@ -1,6 +1,6 @@
 use Rattle.std.proofs.Common.{arith, sym, ◌∙◌, ◌≡◌, subst, None, [], List, ℕ, Option}
-use Rattle.rtp_ext.specs.declared.ext.form.ExtensionsForm.{ExtensionsForm}
-use Rattle.rtp_ext.specs.declared.ext.form.ExtensionsForm.TheVariants.{OneByte}
+use Rattle.rtp_ext.specs.declared.form.ExtensionsForm.{ExtensionsForm}
+use Rattle.rtp_ext.specs.declared.form.ExtensionsForm.TheVariants.{OneByte}
 use Rattle.rtp_ext.specs.Elements.{AreElements}
 use Rattle.rtp_ext.proofs.ElementLemmas.{elements_left-none}
 use Rattle.rtp_ext.proofs.ElementLemmasOfBodies.{AreElements-found}

@@ -1,0 +1,10 @@
+use Rattle.std.proofs.Common.{◌≡◌, length}
+use Rattle.rtp_ext.specs.ElementReading.{without_padding}
+use Rattle.rtp_ext.proofs.elements.skip_zero_words.Given as goal
+
+-- what was passed is padding
+abbrev pub invariant-loop-word : goal.invariant-loop-word
+invariant-loop-word l = without_padding l.rest ≡ without_padding l.bytes
+
+abbrev pub decreases-loop-word : goal.decreases-loop-word
+decreases-loop-word l = length l.rest

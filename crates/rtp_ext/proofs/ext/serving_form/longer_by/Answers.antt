@@ -1,9 +1,0 @@
-use Rattle.std.proofs.Common.{ap, ◌∙◌, ◌+◌, length}
-use Rattle.rtp_ext.specs.declared.ext.form.ExtensionsForm.TheVariants.{OneByte}
-use Rattle.rtp_ext.specs.Elements.{elements_bytes}
-use Rattle.rtp_ext.proofs.ServingFormLemmas.{length-two}
-use Rattle.rtp_ext.proofs.ext.serving_form.longer_by.Goals as goal
-
-pub returns-in-TwoByte : goal.returns-in-TwoByte
-returns-in-TwoByte c elements count =
-    rw c.in-TwoByte.is (length-two elements ∙ ap (λ n. length (elements_bytes OneByte elements) + n) count)

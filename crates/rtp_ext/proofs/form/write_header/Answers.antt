@@ -1,0 +1,13 @@
+use Rattle.std.proofs.Common.{arith}
+use Rattle.rtp_base.proofs.OverwritingLemmas.{overwritten-set, overwritten-set_two}
+use Rattle.rtp_ext.proofs.form.write_header.Goals as goal
+
+pub returns-in-OneByte : goal.returns-in-OneByte
+returns-in-OneByte c =
+    let fits = c.requires.room in
+    rw c.in-OneByte.is (overwritten-set c.args.buf.now c.args.at _ (omega (arith, rw c.in-OneByte.is at fits)))
+
+pub returns-in-TwoByte : goal.returns-in-TwoByte
+returns-in-TwoByte c =
+    let fits = c.requires.room in
+    rw c.in-TwoByte.is (overwritten-set_two c.args.buf.now c.args.at c.args.id c.args.len (omega (arith, rw c.in-TwoByte.is at fits)))

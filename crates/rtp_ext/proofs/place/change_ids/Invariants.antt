@@ -1,0 +1,10 @@
+use Rattle.std.proofs.Common.{◌-◌, length}
+use Rattle.rtp_ext.specs.IdChanges.{ids_of, HasOtherIdsTo}
+use Rattle.rtp_ext.proofs.place.change_ids.Given as goal
+
+-- the elements up to the offset have their new ids
+abbrev pub invariant-loop-place : goal.invariant-loop-place
+invariant-loop-place l = HasOtherIdsTo l.form (ids_of l.change) l.initial.body l.body l.at l.lost
+
+abbrev pub decreases-loop-place : goal.decreases-loop-place
+decreases-loop-place l = length l.body - l.at

@@ -1,0 +1,30 @@
+use Rattle.rtp_ext.proofs.LastPlaceLemmas.{IsPassed-start, IsPassed-this, IsPassed-other, IsPassed-found, IsPassed-id, IsPassed-lies, lies-within, IsPassed-none}
+use Rattle.rtp_ext.proofs.place.last_place.Goals as goal
+
+pub loop-place-init : goal.loop-place-init
+loop-place-init c = IsPassed-start c.args.form c.args.body.now c.args.id
+
+pub loop-place-preserved-then-place-id : goal.loop-place-preserved-then-place-id
+loop-place-preserved-then-place-id c =
+    IsPassed-this c.args.form c.args.body.now c.loop-place.at c.args.id c.loop-place.last c.in-Some.place c.loop-place.invariant c.in-Some.ensures.found c.if-place-id.true
+
+pub loop-place-preserved : goal.loop-place-preserved
+loop-place-preserved c =
+    IsPassed-other c.args.form c.args.body.now c.loop-place.at c.args.id c.loop-place.last c.in-Some.place c.loop-place.invariant c.in-Some.ensures.found c.if-place-id.false
+
+pub returns-clause-found : goal.returns-clause-found
+returns-clause-found c = IsPassed-found c.args.form c.args.body.now c.loop-place.at c.args.id c.loop-place.last c.loop-place.invariant c.in_default.ensures.none
+
+pub returns-clause-id : goal.returns-clause-id
+returns-clause-id c = IsPassed-id c.args.form c.args.body.now c.loop-place.at c.args.id c.loop-place.last c.loop-place.invariant
+
+pub returns-clause-lies : goal.returns-clause-lies
+returns-clause-lies c = IsPassed-lies c.args.form c.args.body.now c.loop-place.at c.args.id c.loop-place.last c.loop-place.invariant c.in_default.ensures.none
+
+pub returns-clause-within : goal.returns-clause-within
+returns-clause-within c =
+    lies-within c.args.form c.args.id c.args.body.now c.loop-place.last
+    (IsPassed-lies c.args.form c.args.body.now c.loop-place.at c.args.id c.loop-place.last c.loop-place.invariant c.in_default.ensures.none)
+
+pub returns-clause-none : goal.returns-clause-none
+returns-clause-none c = IsPassed-none c.args.form c.args.body.now c.loop-place.at c.args.id c.loop-place.last c.loop-place.invariant c.in_default.ensures.none

@@ -1,0 +1,37 @@
+use Rattle.std.proofs.Common.{All, true, false, IsTrue, ◌↔◌, refl, sym, subst}
+use Rattle.std.specs.List.{filter_map}
+use Rattle.rtp_ext.specs.ElementsInPlace.{CanRenumber, renumbered}
+use Rattle.rtp_ext.specs.NewIds.{new_id}
+use Rattle.rtp_ext.proofs.ElementLemmasOfBodies.{AreElements-only}
+use Rattle.rtp_ext.proofs.RenumberingLemmas.{AreElements-renumbered, may-can}
+use Rattle.rtp_ext.proofs.RenumberedValuesLemmas.{AreValues-renumbered}
+use Rattle.rtp_ext.proofs.place.renumber.Goals as goal
+
+pub returns-then-not-can_renumber-clause-answer : goal.returns-then-not-can_renumber-clause-answer
+returns-then-not-can_renumber-clause-answer c = λ elements are.
+    subst (λ es. IsTrue false ↔ All (CanRenumber c.args.form (new_id c.args.ids.now)) es) (sym (AreElements-only c.args.form c.args.body.now elements are))
+    (c.if-not-can_renumber.ensures)
+
+pub change_ids-requires : goal.change_ids-requires
+change_ids-requires c = may-can c.args.form (new_id c.args.ids.now) _ (c.can_renumber.ensures.0 c.if-not-can_renumber.false)
+
+pub returns-clause-answer : goal.returns-clause-answer
+returns-clause-answer c = λ elements are.
+    subst (λ es. IsTrue true ↔ All (CanRenumber c.args.form (new_id c.args.ids.now)) es) (sym (AreElements-only c.args.form c.args.body.now elements are))
+    (c.if-not-can_renumber.ensures)
+
+elements_new : goal.returns-clause-elements
+elements_new c = λ elements are.
+    AreElements-renumbered c.args.form (new_id c.args.ids.now) c.args.body.now c.change_ids.new.body elements c.change_ids.ensures.changed are
+    (may-can c.args.form (new_id c.args.ids.now) elements
+    (subst (All (CanRenumber c.args.form (new_id c.args.ids.now))) (sym (AreElements-only c.args.form c.args.body.now elements are)) (c.if-not-can_renumber.ensures.0 refl)))
+
+pub returns-clause-elements : goal.returns-clause-elements
+returns-clause-elements c = elements_new c
+
+pub returns-clause-values : goal.returns-clause-values
+returns-clause-values c = λ from to values new says. record {
+  elements = filter_map (renumbered (new_id c.args.ids.now)) says.elements;
+  are_elements = elements_new c says.elements says.are_elements;
+  are_values = AreValues-renumbered from to (new_id c.args.ids.now) says.elements values new says.are_values;
+}

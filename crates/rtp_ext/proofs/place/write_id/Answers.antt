@@ -1,0 +1,17 @@
+use Rattle.std.proofs.Common.{◌≡◌, ◌-◌, length, arith, ◌∙◌}
+use Rattle.rtp_ext.specs.Elements.{element_bytes}
+use Rattle.rtp_ext.proofs.PlaceLemmas.{renumbered_at, zeros_at, length-lies}
+use Rattle.rtp_ext.proofs.place.write_id.Goals as goal
+
+pub returns-in-Some : goal.returns-in-Some
+returns-in-Some c = λ lies.
+    let len : c.args.place.now.end - c.args.place.now.data_start ≡ length lies.bytes = omega (arith, lies.end_is) in
+    rw c.in-Some.is
+    (c.write_header.ensures ∙ renumbered_at c.args.form c.args.body.now lies.front lies.bytes lies.after _ _ c.args.place.now.id c.in-Some.id lies.body_is lies.start_is len)
+
+pub returns-in-None : goal.returns-in-None
+returns-in-None c = λ lies.
+    let len : c.args.place.now.end - c.args.place.now.start ≡ length (element_bytes c.args.form (c.args.place.now.id, lies.bytes)) =
+    omega (arith, length-lies c.args.form c.args.body.now c.args.place.now lies) in
+    rw c.in-None.is
+    (c.put_zeros.ensures.written ∙ zeros_at c.args.form c.args.body.now lies.front lies.bytes lies.after _ _ c.args.place.now.id lies.body_is lies.start_is len)

@@ -1,0 +1,223 @@
+//! The elements of a block, from values to bytes.
+
+ghost use Rattle.std.specs.Prelude.{◌≡◌, ◌⊎◌, ℕ, ◌+◌, ◌*◌, ◌≤◌, ◌++◌, length, drop, replicate, false};
+ghost use Rattle.std.specs.List.{list_any};
+ghost use Rattle.rtp_ext.specs.declared.form.ExtensionsForm.TheVariants.{OneByte, TwoByte};
+ghost use Rattle.rtp_ext.specs.Elements.{AreElements, elements_bytes};
+ghost use Rattle.rtp_ext.specs.ExtensionMap.{items_from, mapped_count};
+ghost use Rattle.rtp_ext.specs.ElementWriting.{header_bytes, bytes_at, CanCarry, IsCarried};
+ghost use Rattle.rtp_values.specs.Spelling.{spelled_data};
+ghost use Rattle.rtp_values.specs.KnownKind.{extension_of_kind};
+ghost use Rattle.rtp_ext.specs.KindsById.{known_slots, has_empty};
+ghost use Rattle.rtp_base.specs.Overwriting.{overwritten};
+ghost use Rattle.rtp_ext.specs.BlockValues.{AreValues};
+ghost use Rattle.rtp_values.specs.Values.{no_values};
+ghost use Rattle.rtp_ext.specs.WrittenBlock.{written_elements, form_of, needs_two, image_values, IsShort};
+
+use super::form::{header_len, write_header};
+use super::kinds::{Cursor, Kinds};
+use super::{ExtensionMap, ExtensionsForm};
+use rtp_values::{ExtensionValues, KnownKind};
+
+// How many bytes the element of a kind takes, 0 where a value that it needs is absent.
+fn element_len(form: ExtensionsForm, kind: KnownKind, ev: &ExtensionValues) -> usize
+    ensures length { (id : ℕ) → result ≡ length (bytes_at form id (spelled_data (extension_of_kind kind) ev.now)) }
+    ensures few { result ≤ 257 }
+{
+    match kind.data_len(ev) {
+        Some(len) => header_len(form) + len,
+        None => 0,
+    }
+}
+
+// Writes the element of a mapped id at the offset, where the values that its kind needs are there,
+// and returns the offset after it.
+#[inline(always)]
+fn write_element(
+    buf: &mut [u8],
+    at: usize,
+    form: ExtensionsForm,
+    id: u8,
+    kind: KnownKind,
+    ev: &ExtensionValues,
+) -> usize
+    requires room { at + length (bytes_at form id (spelled_data (extension_of_kind kind) ev.now)) ≤ length buf.old }
+    requires id { 1 ≤ id }
+    requires fits { CanCarry form (id, (extension_of_kind kind)) (spelled_data (extension_of_kind kind) ev.now) }
+    ensures written { buf.new
+        ≡ overwritten buf.old at (bytes_at form id (spelled_data (extension_of_kind kind) ev.now)) }
+    ensures end { result ≡ at + length (bytes_at form id (spelled_data (extension_of_kind kind) ev.now)) }
+    ensures carried { IsCarried form ev.now (id, (extension_of_kind kind)) }
+{
+    let header_len = header_len(form);
+    if buf.len() - at < header_len {
+        return at;
+    }
+    let start = at + header_len;
+    let Some(len) = kind.write_to(&mut buf[start..], ev) else {
+        return at;
+    };
+    write_header(buf, at, form, id, len as u8);
+    start + len
+}
+
+// Whether a text is written that is empty. It stays out of line, since few values have an empty text
+// and its loop would make every other call save registers.
+#[inline(never)]
+fn has_empty_data<K: Kinds>(kinds: &K, start: Cursor, ev: &ExtensionValues) -> bool
+    requires { K.left kinds.now start ≡ items_from 0 (K.known kinds.now) }
+    ensures { result ≡ has_empty (items_from 0 (K.known kinds.now)) ev.now }
+{
+    let mut cursor = start;
+    while let Some((_, kind)) = kinds.next(&mut cursor) {
+        if kind.has_empty_data(ev) {
+            return true;
+        }
+    }
+    false
+}
+
+// Whether the one-byte form doesn't serve.
+#[inline(always)]
+fn needs_two_bytes<K: Kinds>(kinds: &K, start: Cursor, ev: &ExtensionValues) -> bool
+    requires { K.left kinds.now start ≡ items_from 0 (K.known kinds.now) }
+    ensures needed { result ≡ list_any (needs_two ev.now) (items_from 0 (K.slots kinds.now)) }
+    ensures short { result ≡ false → IsShort (K.known kinds.now) ev.now }
+{
+    if kinds.has_long(start) {
+        return true;
+    }
+    ev.has_empty_text() && has_empty_data(kinds, start, ev)
+}
+
+/// The form that a block of these values needs under any map, as [`ExtensionMap::form`] has it. The
+/// walk is one that [`Kinds::start`] returned.
+#[inline(always)]
+pub fn values_form<K: Kinds>(kinds: &K, start: Cursor, ev: &ExtensionValues) -> ExtensionsForm
+    requires { K.left kinds.now start ≡ items_from 0 (K.known kinds.now) }
+    ensures form { result ≡ form_of (K.slots kinds.now) ev.now }
+    ensures short { result ≡ OneByte → IsShort (K.known kinds.now) ev.now }
+{
+    if needs_two_bytes(kinds, start, ev) {
+        ExtensionsForm::TwoByte
+    } else {
+        ExtensionsForm::OneByte
+    }
+}
+
+/// How many bytes [`write_values`] writes in the form, as [`ExtensionMap::wire_len`] has it. The walk
+/// is one that [`Kinds::start`] returned.
+pub fn values_len<K: Kinds>(
+    kinds: &K,
+    start: Cursor,
+    ev: &ExtensionValues,
+    form: ExtensionsForm,
+) -> usize
+    requires start { K.left kinds.now start ≡ items_from 0 (K.known kinds.now) }
+    requires few { length (items_from 0 (K.known kinds.now)) ≤ 255 }
+    ensures length { result ≡ length (elements_bytes form (written_elements (K.slots kinds.now) ev.now)) }
+    ensures by_map { result ≤ 257 * mapped_count (K.slots kinds.now) }
+    ensures bound { result ≤ 65535 }
+{
+    let mut cursor = start;
+    let mut len = 0;
+    while let Some((_, kind)) = kinds.next(&mut cursor) {
+        len += element_len(form, kind, ev);
+    }
+    len
+}
+
+/// Writes an element for each mapped id whose kind has its values, under any map, as
+/// [`ExtensionMap::write_to`] does. The walk is one that [`Kinds::start`] returned.
+pub fn write_values<K: Kinds>(
+    kinds: &K,
+    start: Cursor,
+    buf: &mut [u8],
+    ev: &ExtensionValues,
+    form: ExtensionsForm,
+) -> usize
+    requires start { K.left kinds.now start ≡ items_from 0 (K.known kinds.now) }
+    requires few { length (items_from 0 (K.known kinds.now)) ≤ 255 }
+    requires form { (form ≡ form_of (K.slots kinds.now) ev.now) ⊎ (form ≡ TwoByte) }
+    requires room { length (elements_bytes form (written_elements (K.slots kinds.now) ev.now))
+        ≤ length buf.old }
+    ensures length { result ≡ length (elements_bytes form (written_elements (K.slots kinds.now) ev.now)) }
+    ensures written { buf.new
+        ≡ elements_bytes form (written_elements (K.slots kinds.now) ev.now) ++ drop result buf.old }
+    ensures by_map { result ≤ 257 * mapped_count (K.slots kinds.now) }
+    ensures bound { result ≤ 65535 }
+
+    // What was written, and any zeros that follow it, are a block's body with these elements.
+    ensures elements { (zeros : ℕ) → AreElements form
+        (elements_bytes form (written_elements (K.slots kinds.now) ev.now) ++ replicate zeros 0)
+        (written_elements (K.slots kinds.now) ev.now) }
+
+    // These elements are read as the image of the values.
+    ensures values { AreValues (K.slots kinds.now) (written_elements (K.slots kinds.now) ev.now) no_values
+        (image_values (K.slots kinds.now) ev.now) }
+{
+    let mut cursor = start;
+    let mut at = 0;
+    while let Some((id, kind)) = kinds.next(&mut cursor) {
+        at = write_element(buf, at, form, id, kind, ev);
+    }
+    at
+}
+
+impl ExtensionMap {
+    /// The form that a block of these values needs: the two-byte form exactly when an id above
+    /// [`MAX_ID_ONE_BYTE_FORM`] is mapped, the layer allocation is mapped, or a text that is
+    /// written is empty (RFC 8285, 4.2 and 4.3). In the one-byte form the elements take at most 17
+    /// bytes for each mapped id.
+    pub fn form(&self, ev: &ExtensionValues) -> ExtensionsForm
+        ensures form { result ≡ form_of self.now ev.now }
+
+        // An element of the one-byte form has at most 17 bytes.
+        ensures short { result ≡ OneByte → IsShort self.now ev.now }
+        ensures known { result ≡ OneByte → IsShort (known_slots self.now) ev.now }
+    {
+        values_form(self, self.start(), ev)
+    }
+
+    /// How many bytes [`write_to`](Self::write_to) writes in the form, which is
+    /// [`form`](Self::form) or the two-byte form: at most 257 for each mapped id, so at most
+    /// 65,535, which is 255 elements of 257 bytes.
+    pub fn wire_len(&self, ev: &ExtensionValues, form: ExtensionsForm) -> usize
+        requires { (form ≡ form_of self.now ev.now) ⊎ (form ≡ TwoByte) }
+        ensures length { result ≡ length (elements_bytes form (written_elements self.now ev.now)) }
+        ensures by_map { result ≤ 257 * mapped_count self.now }
+        ensures bound { result ≤ 65535 }
+    {
+        values_len(self, self.start(), ev, form)
+    }
+
+    /// Writes an element for each mapped id whose kind has its values, by rising id, to the front
+    /// of the buffer and returns how many bytes they take; the bytes after them stay as they were
+    /// (RFC 8285, 4.2 and 4.3). Two ids of one kind are both written. It requires the form that
+    /// [`form`](Self::form) returns or the two-byte form, and a buffer of at least
+    /// [`wire_len`](Self::wire_len) bytes.
+    ///
+    /// Under a map of 1 to the audio level a level of -43 with voice is written as `10 AB` (hex) in
+    /// the one-byte form, and as `01 01 AB` in the two-byte form.
+    pub fn write_to(&self, buf: &mut [u8], ev: &ExtensionValues, form: ExtensionsForm) -> usize
+        requires form { (form ≡ form_of self.now ev.now) ⊎ (form ≡ TwoByte) }
+        requires room { length (elements_bytes form (written_elements self.now ev.now))
+            ≤ length buf.old }
+        ensures length { result ≡ length (elements_bytes form (written_elements self.now ev.now)) }
+        ensures written { buf.new
+            ≡ elements_bytes form (written_elements self.now ev.now) ++ drop result buf.old }
+        ensures by_map { result ≤ 257 * mapped_count self.now }
+        ensures bound { result ≤ 65535 }
+
+        // What was written, and any zeros that follow it, are a block's body with these elements.
+        ensures elements { (zeros : ℕ) → AreElements form
+            (elements_bytes form (written_elements self.now ev.now) ++ replicate zeros 0)
+            (written_elements self.now ev.now) }
+
+        // These elements are read as the image of the values.
+        ensures values { AreValues self.now (written_elements self.now ev.now) no_values
+            (image_values self.now ev.now) }
+    {
+        write_values(self, self.start(), buf, ev, form)
+    }
+}

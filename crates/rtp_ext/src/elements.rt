@@ -1,0 +1,158 @@
+//! The elements of a block, one after another.
+
+ghost use Rattle.std.specs.Prelude.{◌≡◌, List};
+ghost use Rattle.std.specs.Iterator.{YieldsFirstBy, item_count};
+ghost use Rattle.rtp_ext.specs.declared.form.ExtensionsForm.TheVariants.{OneByte, TwoByte};
+ghost use Rattle.rtp_ext.specs.Elements.{Element, AreElements};
+ghost use Rattle.rtp_ext.specs.ElementReading.{without_padding, HasNoPadding, IsFirst};
+
+use super::ExtensionsForm;
+use std::marker::Model;
+
+/// The elements of a block in order, as pairs of an id and its data, which are lent from the block
+/// (RFC 8285, 4.2 and 4.3).
+///
+/// Ids are 0 to 14 with 1 to 16 bytes of data in the one-byte form, and 1 to 255 with 0 to 255
+/// bytes in the two-byte form. Padding, each byte 0 where an element could begin, is passed over.
+/// An element that is cut short ends the elements, and so does a byte of id 15 in the one-byte
+/// form, whatever follows it; from then on `next` returns `None`. It takes no memory.
+///
+/// The body `10 AA 01 10 05 F0 00` (hexadecimal) in the one-byte form has the elements 1 with `AA`
+/// and 0 with `10 05`; in the two-byte form `01 00 0F 01 2A` has 1 without data and 15 with `2A`.
+#[derive(Debug, Drop)]
+pub struct Elements<'a> {
+    // The bytes that are left.
+    left: &'a [u8],
+    form: ExtensionsForm,
+}
+
+impl<'a> Model for Elements<'a> {
+    ghost use Rattle.std.specs.Prelude.{List};
+    ghost use Rattle.rtp_ext.specs.Elements.{Element};
+    ghost use Rattle.rtp_ext.specs.ElementReading.{elements_left};
+
+    ghost Value = { List Element };
+
+    ghost view = { λ it. elements_left it.form it.left.now };
+}
+
+impl<'a> Elements<'a> {
+    /// The elements of a block's body, in order.
+    pub fn new(block: &'a [u8], form: ExtensionsForm) -> Self
+        ensures found { AreElements form block.now result }
+
+        // The body has no other elements.
+        ensures only { (elements : List Element) → AreElements form block.now elements →
+            elements ≡ result }
+    {
+        Elements { left: block, form }
+    }
+}
+
+impl<'a> Iterator for Elements<'a> {
+    type Item = (u8, &'a [u8]);
+
+    ghost next_gives = { YieldsFirstBy (λ item. (item.0, item.1.now)) (λ left. left) };
+
+    ghost remaining = { item_count (λ left. left) };
+
+    #[tactic(auto, unfolding(crate::specs::ElementReading::elements_after))]
+    fn next(&mut self) -> Option<(u8, &'a [u8])> {
+        let Some((id, data, left)) = first_element(self.left, self.form) else {
+            self.left = &[];
+            return None;
+        };
+        self.left = left;
+        Some((id, data))
+    }
+}
+
+// The first element of bytes, and what follows it; None where reading ends before one.
+pub(super) fn first_element(bytes: &[u8], form: ExtensionsForm) -> Option<(u8, &[u8], &[u8])>
+    ensures { IsFirst form bytes.now result }
+{
+    let bytes = skip_padding(bytes);
+    match form {
+        ExtensionsForm::OneByte => first_of_one_byte(bytes),
+        ExtensionsForm::TwoByte => first_of_two_byte(bytes),
+    }
+}
+
+// The bytes after the padding at their front.
+fn skip_padding(bytes: &[u8]) -> &[u8]
+    ensures { result.now ≡ without_padding bytes.now }
+{
+    let Some((byte, after)) = bytes.split_first() else {
+        return bytes;
+    };
+    if *byte != 0 {
+        return bytes;
+    }
+    skip_far(after)
+}
+
+// The same after a zero. It stays out of line, since few elements have padding before them.
+#[inline(never)]
+fn skip_far(bytes: &[u8]) -> &[u8]
+    ensures { result.now ≡ without_padding bytes.now }
+{
+    skip_zeros(skip_zero_words(bytes))
+}
+
+// The bytes after the zeros at their front.
+fn skip_zeros(bytes: &[u8]) -> &[u8]
+    ensures { result.now ≡ without_padding bytes.now }
+{
+    let mut rest = bytes;
+    while let Some((byte, after)) = rest.split_first() {
+        if *byte != 0 {
+            return rest;
+        }
+        rest = after;
+    }
+    rest
+}
+
+// The bytes after the zeros at their front, as far as they fill words of 16 bytes.
+fn skip_zero_words(bytes: &[u8]) -> &[u8]
+    ensures { without_padding result.now ≡ without_padding bytes.now }
+{
+    let mut rest = bytes;
+    while let Some((word, after)) = rest.split_first_chunk::<16>() {
+        if u128::from_ne_bytes(*word) != 0 {
+            return rest;
+        }
+        rest = after;
+    }
+    rest
+}
+
+// The first element of bytes in the one-byte form, and what follows it; None where reading
+// ends.
+fn first_of_one_byte(bytes: &[u8]) -> Option<(u8, &[u8], &[u8])>
+    requires { HasNoPadding bytes.now }
+    ensures { IsFirst OneByte bytes.now result }
+{
+    let (header, after) = bytes.split_first()?;
+    if *header >= 240 {
+        return None;
+    }
+    let last = usize::from(*header % 16);
+    if after.len() <= last {
+        return None;
+    }
+    let (data, left) = after.split_at(last + 1);
+    Some((*header / 16, data, left))
+}
+
+// The first element of bytes in the two-byte form, and what follows it; None where reading
+// ends.
+fn first_of_two_byte(bytes: &[u8]) -> Option<(u8, &[u8], &[u8])>
+    requires { HasNoPadding bytes.now }
+    ensures { IsFirst TwoByte bytes.now result }
+{
+    let (id, after) = bytes.split_first()?;
+    let (len, after) = after.split_first()?;
+    let (data, left) = after.split_at_checked(usize::from(*len))?;
+    Some((*id, data, left))
+}

@@ -1,0 +1,148 @@
+//! The form of a header extension block, what an element takes in it, and the form that serves for
+//! elements as they are given.
+
+ghost use Rattle.std.specs.Prelude.{◌≡◌, ◌↔◌, ℕ, ◌+◌, ◌≤◌, List, length, IsTrue, IsNone, IfSome, if◌then◌else◌};
+ghost use Rattle.std.specs.Int.{w16, from_be_bytes, to_be_bytes};
+ghost use Rattle.rtp_ext.specs.Form.{form_word, IsFormWord};
+ghost use Rattle.rtp_ext.specs.declared.form.ExtensionsForm.TheVariants.{OneByte, TwoByte};
+ghost use Rattle.rtp_base.specs.Overwriting.{overwritten};
+ghost use Rattle.rtp_ext.specs.ElementWriting.{header_bytes};
+ghost use Rattle.rtp_ext.specs.Elements.{Element, elements_bytes};
+ghost use Rattle.rtp_ext.specs.ElementsInARow.{elements_of, serves_one_byte, form_for, IsWritable, FitInARow, CannotBeInARow};
+
+/// The greatest id that an element of the one-byte form can have (RFC 8285, 4.2).
+pub const MAX_ID_ONE_BYTE_FORM: u8 = 14;
+
+/// How the elements of a header extension block are laid out (RFC 8285, 4.2 and 4.3).
+#[derive(Clone, Copy, Debug, PartialEq, Eq, Hash)]
+pub enum ExtensionsForm {
+    /// A header of one byte: 1 to 16 bytes of data, and an id of 1 to 14. An element of id 0 that
+    /// has two bytes of data or more is read too, and no map has an extension for it.
+    OneByte,
+    /// A header of two bytes: ids 1 to 255, and 0 to 255 bytes of data.
+    TwoByte,
+}
+
+impl ExtensionsForm {
+    /// The word that a writer puts at the front of the block: 0xBEDE, or 0x1000, whose low four
+    /// bits are left to the application.
+    pub fn as_u16(self) -> u16
+        ensures { result ≡ form_word self }
+    {
+        match self {
+            ExtensionsForm::OneByte => 0xBEDE,
+            ExtensionsForm::TwoByte => 0x1000,
+        }
+    }
+
+    /// The two bytes of [`as_u16`](Self::as_u16), the high one first.
+    pub fn serialize(self) -> [u8; 2]
+        ensures { result ≡ to_be_bytes w16 (form_word self) }
+    {
+        self.as_u16().to_be_bytes()
+    }
+
+    /// The form that a block with these first two bytes has, whatever the application bits of the
+    /// two-byte form are; None where they begin a block of another kind (RFC 3550, 5.3.1).
+    pub fn parse(bytes: [u8; 2]) -> Option<Self>
+        ensures found { IfSome result (IsFormWord (from_be_bytes w16 bytes)) }
+        ensures only { (form : ExtensionsForm) → IsFormWord (from_be_bytes w16 bytes) form →
+            result ≡ Some form }
+    {
+        match u16::from_be_bytes(bytes) {
+            0xBEDE => Some(ExtensionsForm::OneByte),
+            0x1000..=0x100F => Some(ExtensionsForm::TwoByte),
+            _ => None,
+        }
+    }
+
+    /// Whether an element of this id and these data can be written in the form: the one-byte form
+    /// carries ids 1 to 14 with 1 to 16 bytes of data, the two-byte form ids 1 to 255 with 0 to 255
+    /// bytes (RFC 8285, 4.2 and 4.3).
+    pub fn can_carry(self, id: u8, data: &[u8]) -> bool
+        ensures { IsTrue result ↔ IsWritable self (id, «data».now) }
+    {
+        match self {
+            ExtensionsForm::OneByte => {
+                (1..=MAX_ID_ONE_BYTE_FORM).contains(&id) && (1..=16).contains(&data.len())
+            }
+            ExtensionsForm::TwoByte => id != 0 && data.len() <= 255,
+        }
+    }
+}
+
+// How many bytes stand before an element's data.
+pub(super) fn header_len(form: ExtensionsForm) -> usize
+    ensures { (id len : ℕ) → result ≡ length (header_bytes form id len) }
+{
+    match form {
+        ExtensionsForm::OneByte => 1,
+        ExtensionsForm::TwoByte => 2,
+    }
+}
+
+// Writes the header of an element at the offset, by its id and the length of its data.
+pub(super) fn write_header(buf: &mut [u8], at: usize, form: ExtensionsForm, id: u8, len: u8)
+    requires room { at + length (header_bytes form id len) ≤ length buf.old }
+    requires fits { form ≡ OneByte → (id ≤ 14) × (1 ≤ len) × (len ≤ 16) }
+    ensures { buf.new ≡ overwritten buf.old at (header_bytes form id len) }
+{
+    match form {
+        ExtensionsForm::OneByte => buf[at] = id * 16 + (len - 1),
+        ExtensionsForm::TwoByte => {
+            buf[at] = id;
+            buf[at + 1] = len;
+        }
+    }
+}
+
+// The form that serves where there is one more element than the form served for.
+fn form_with(form: ExtensionsForm, id: u8, bytes: &[u8]) -> ExtensionsForm
+    ensures { result ≡ (if serves_one_byte (id, bytes.now) then form else TwoByte) }
+{
+    if ExtensionsForm::OneByte.can_carry(id, bytes) {
+        form
+    } else {
+        ExtensionsForm::TwoByte
+    }
+}
+
+// How many bytes more so many elements take than in the one-byte form, whose headers are shorter.
+fn longer_by(form: ExtensionsForm, count: usize) -> usize
+    ensures { (elements : List Element) → length elements ≡ count →
+        length (elements_bytes form elements)
+        ≡ length (elements_bytes OneByte elements) + result }
+{
+    match form {
+        ExtensionsForm::OneByte => 0,
+        ExtensionsForm::TwoByte => count,
+    }
+}
+
+impl ExtensionsForm {
+    /// The form that serves for these elements, pairs of an id and its data (RFC 8285, 4.2 and 4.3):
+    /// the one-byte form exactly where that can carry every element, ids 1 to 14 with 1 to 16 bytes
+    /// of data.
+    ///
+    /// `None` where an element has the id 0 or more than 255 bytes of data, or where they take more
+    /// than `room` bytes.
+    pub fn for_elements(elements: &[(u8, &[u8])], room: usize) -> Option<Self>
+        ensures refused { IsNone result ↔ CannotBeInARow (elements_of elements.now) room }
+        ensures form { IfSome result (λ form. form ≡ form_for (elements_of elements.now)) }
+        ensures fit { IfSome result (λ form. FitInARow form (elements_of elements.now) room) }
+    {
+        let mut form = ExtensionsForm::OneByte;
+        let mut left = room;
+        for (id, bytes) in elements {
+            if !ExtensionsForm::TwoByte.can_carry(*id, bytes) {
+                return None;
+            }
+            form = form_with(form, *id, bytes);
+            left = left.checked_sub(1 + bytes.len())?;
+        }
+        if left < longer_by(form, elements.len()) {
+            return None;
+        }
+        Some(form)
+    }
+}

@@ -1,0 +1,133 @@
+//! The entries of a map, one after another.
+
+ghost use Rattle.std.specs.Prelude.{◌≡◌, []};
+ghost use Rattle.std.specs.Fmt.{WritesOnOk};
+ghost use Rattle.std.specs.List.{filter, AllByRecursion};
+ghost use Rattle.std.specs.Iterator.{YieldsFirstBy, item_count};
+ghost use Rattle.rtp_ext.specs.ExtensionMap.{is_of_medium, items_text};
+ghost use Rattle.rtp_ext.specs.MapSlots.{items_at, IsMapped};
+
+use super::slots;
+use super::slots::{Slot, is_of_medium};
+use rtp_values::Extension;
+use std::fmt;
+use std::marker::Model;
+
+/// The ids of a map by rising id, each with its extension.
+#[derive(Drop)]
+pub struct Iter<'a> {
+    // What the ids from 1 on are mapped to.
+    slots: &'a [Slot],
+    // The mapped ids that are left.
+    left: &'a [u8],
+}
+
+impl<'a> Model for Iter<'a> {
+    ghost use Rattle.std.specs.Prelude.{ℕ, List};
+    ghost use Rattle.std.specs.List.{AllByRecursion};
+    ghost use Rattle.rtp_values.specs.declared.kind.Extension.{Extension};
+    ghost use Rattle.rtp_ext.specs.MapSlots.{items_at, IsMapped};
+
+    ghost Value = { List (ℕ × Extension) };
+
+    ghost view = { λ iter. items_at iter.slots.now iter.left.now };
+
+    ghost invariant = { λ iter. AllByRecursion (IsMapped iter.slots.now) iter.left.now };
+}
+
+impl<'a> Iter<'a> {
+    // The entries of these ids, all of which are mapped.
+    pub(super) fn new(slots: &'a [Slot], ids: &'a [u8]) -> Self
+        requires { AllByRecursion (IsMapped slots.now) ids.now }
+        ensures { result ≡ items_at slots.now ids.now }
+    {
+        Iter { slots, left: ids }
+    }
+}
+
+impl<'a> Iterator for Iter<'a> {
+    type Item = (u8, &'a Extension);
+
+    ghost next_gives = { YieldsFirstBy (λ item. (item.0, item.1.now)) (λ left. left) };
+
+    ghost remaining = { item_count (λ left. left) };
+
+    fn next(&mut self) -> Option<(u8, &'a Extension)> {
+        let (id, left) = self.left.split_first()?;
+        self.left = left;
+        Some((*id, slots::mapped_extension(self.slots, *id)))
+    }
+}
+
+/// The entries that are left, each as its number and the extension's text.
+impl<'a> fmt::Debug for Iter<'a> {
+    ghost use Rattle.std.specs.Prelude.{Some, [], ◌++◌, codes};
+    ghost use Rattle.rtp_ext.specs.ExtensionMap.{items_text};
+
+    ghost debug_output = { λ left. Some (codes "Iter(" ++ items_text [] left ++ codes ")") };
+
+    fn fmt<W: fmt::Write>(&self, f: &mut fmt::Formatter<W>) -> fmt::Result {
+        f.write_str("Iter(")?;
+        write_entries(f, Iter::new(self.slots, self.left))?;
+        f.write_str(")")
+    }
+}
+
+// Writes the entries with commas between, each as its number and the extension's text.
+pub(super) fn write_entries<W: fmt::Write>(
+    f: &mut fmt::Formatter<W>,
+    entries: Iter<'_>,
+) -> fmt::Result
+    ensures { WritesOnOk W.write_str_gives f.old result (items_text [] entries.entry) f.new }
+{
+    let mut lead = "";
+    for (id, ext) in entries {
+        write!(f, "{lead}{id}={ext}")?;
+        lead = ", ";
+    }
+    Ok(())
+}
+
+/// The ids of a map whose extensions are for one medium, by rising id, each with its extension.
+#[derive(Debug, Drop)]
+pub struct IterByMediaType<'a> {
+    all: Iter<'a>,
+    audio: bool,
+}
+
+impl<'a> Model for IterByMediaType<'a> {
+    ghost use Rattle.std.specs.Prelude.{ℕ, List};
+    ghost use Rattle.std.specs.List.{filter};
+    ghost use Rattle.rtp_values.specs.declared.kind.Extension.{Extension};
+    ghost use Rattle.rtp_ext.specs.ExtensionMap.{is_of_medium};
+
+    ghost Value = { List (ℕ × Extension) };
+
+    ghost view = { λ iter. filter (λ item. is_of_medium iter.audio item.1) iter.all };
+}
+
+impl<'a> IterByMediaType<'a> {
+    // Those of the entries that are for audio, or else for video.
+    pub(super) fn new(all: Iter<'a>, audio: bool) -> Self
+        ensures { result ≡ filter (λ item. is_of_medium audio item.1) all.entry }
+    {
+        IterByMediaType { all, audio }
+    }
+}
+
+impl<'a> Iterator for IterByMediaType<'a> {
+    type Item = (u8, &'a Extension);
+
+    ghost next_gives = { YieldsFirstBy (λ item. (item.0, item.1.now)) (λ left. left) };
+
+    ghost remaining = { item_count (λ left. left) };
+
+    fn next(&mut self) -> Option<(u8, &'a Extension)> {
+        loop {
+            let (id, ext) = self.all.next()?;
+            if is_of_medium(ext, self.audio) {
+                return Some((id, ext));
+            }
+        }
+    }
+}

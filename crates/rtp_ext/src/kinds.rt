@@ -1,0 +1,83 @@
+//! What says which known extension each id means.
+
+ghost use Rattle.std.specs.Prelude.{◌≡◌, ◌≤◌, ◌∷◌, [], ℕ, List, length, IfSome, IfNone};
+ghost use Rattle.std.specs.Option.{option_map};
+ghost use Rattle.std.specs.List.{list_any};
+ghost use Rattle.rtp_values.specs.declared.kind.Extension.{Extension};
+ghost use Rattle.rtp_values.specs.KnownKind.{extension_of_kind};
+ghost use Rattle.rtp_ext.specs.ExtensionMap.{IsId, Slots, HasNoIdAbove, extension_at, items_from};
+ghost use Rattle.rtp_ext.specs.KindsById.{is_long_item, known_slots};
+ghost use Rattle.rtp_ext.specs.NewIds.{IsNewId};
+
+use super::MAX_ID_ONE_BYTE_FORM;
+use rtp_values::KnownKind;
+
+/// How far a walk over the mapped ids of a map has come.
+#[derive(Clone, Copy)]
+pub struct Cursor {
+    /// Where the walk looks next.
+    pub at: usize,
+    /// Where it ends at the latest.
+    pub end: usize,
+    ghost within: { end ≤ 255 },
+}
+
+/// A map from ids to known extensions (RFC 8285, 5): all that reading and writing the elements of a
+/// packet needs of it. [`ExtensionMap`](super::ExtensionMap) is one.
+pub trait Kinds {
+    ghost use Rattle.rtp_ext.specs.declared.kinds.Cursor.{Cursor};
+
+    // What each id is mapped to.
+    ghost slots: { Self → Slots };
+
+    // The known extensions of it.
+    ghost known: { Self → Slots };
+
+    // The mapped ids that a walk has not passed yet.
+    ghost left: { Self → Cursor → List (ℕ × Extension) };
+
+    /// The kind that the id is mapped to, and `None` where there is none, as always for 0.
+    fn get(&self, id: u8) -> Option<KnownKind>
+        ensures { option_map extension_of_kind result ≡ extension_at (known self.now) id };
+
+    /// A walk over all ids that are mapped to a known extension.
+    fn start(&self) -> Cursor
+        ensures all { left self.now result ≡ items_from 0 (known self.now) }
+        ensures few { length (items_from 0 (known self.now)) ≤ 255 };
+
+    /// The next such id, each higher than the one before it, and its kind.
+    fn next(&self, cursor: &mut Cursor) -> Option<(u8, KnownKind)>
+        ensures some { IfSome result (λ item. left self.now cursor.old
+            ≡ (item.0, extension_of_kind item.1) ∷ left self.now cursor.new) }
+        ensures none { IfNone result (left self.now cursor.old ≡ []) };
+
+    /// Whether the one-byte form can't carry a mapped id or the longest data of a mapped kind. The
+    /// walk is one that [`start`](Self::start) returned.
+    fn has_long(&self, start: Cursor) -> bool
+        requires { left self.now start ≡ items_from 0 (known self.now) }
+        ensures { result ≡ list_any is_long_item (items_from 0 (slots self.now)) };
+
+    /// At most so many ids are mapped to a known extension. The walk is one that
+    /// [`start`](Self::start) returned.
+    fn at_most(&self, start: Cursor) -> usize
+        requires { left self.now start ≡ items_from 0 (known self.now) }
+        ensures most { length (items_from 0 (known self.now)) ≤ result }
+        ensures few { result ≤ 255 };
+
+    /// The lowest id that the other map has for the extension of this id.
+    fn id_under(&self, other: &Self, id: u8) -> Option<u8>
+        ensures new { IsNewId (slots self.now) (slots other.now) id result }
+        ensures valid { IfSome result IsId }
+        ensures no_others { HasNoIdAbove 255 (slots self.now) };
+
+    ghost known_is: { (map : Self) → known map ≡ known_slots (slots map) };
+}
+
+/// Whether the one-byte form can't carry the element of a mapped id, whatever its data are: the id is
+/// above [`MAX_ID_ONE_BYTE_FORM`], or the kind may have more than 16 bytes of data (RFC 8285, 4.2).
+#[tactic(auto, using(crate::proofs::FormLemmas::long_kind))]
+pub fn is_long(id: u8, kind: KnownKind) -> bool
+    ensures { result ≡ is_long_item (id, extension_of_kind kind) }
+{
+    id > MAX_ID_ONE_BYTE_FORM || kind == KnownKind::VideoLayersAllocation
+}

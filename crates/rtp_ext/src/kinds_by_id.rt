@@ -1,0 +1,189 @@
+//! The known extensions of a map by their ids.
+
+ghost use Rattle.std.specs.Prelude.{◌≡◌, ◌+◌, ◌-◌, ◌<◌, ◌≤◌, ◌∷◌, [], length, map, drop, replicate, Some, None, IfSome, IfNone, slice_set};
+ghost use Rattle.std.specs.Option.{option_map};
+ghost use Rattle.std.specs.List.{AllByRecursion, list_any};
+ghost use Rattle.rtp_values.specs.KnownKind.{extension_of_kind};
+ghost use Rattle.rtp_ext.specs.ExtensionMap.{IsId, extension_at, items_from, mapped_count};
+ghost use Rattle.rtp_ext.specs.KindsById.{slots_of, entry_of_kind, known_entry, known_slots, is_long_item};
+ghost use Rattle.rtp_ext.specs.MapSlots.{items_at, mapped_ids, IsMapped};
+
+use super::kinds::is_long;
+use super::map::MAX_ID;
+use super::mapped_ids::MappedIds;
+use super::slots::Slot;
+use rtp_values::KnownKind;
+use std::marker::Model;
+
+// How many ids there are, with that of padding.
+pub(super) const IDS: usize = MAX_ID as usize + 1;
+
+// The known extensions of a map by their ids (RFC 8285, 5): what reading and writing the elements of a
+// packet needs of it.
+#[derive(Clone, Copy)]
+pub(super) struct KindsById {
+    // What each id is mapped to, the id 0 to nothing.
+    kinds: [Option<KnownKind>; IDS],
+    // The mapped ids, so that a walk goes over these alone.
+    mapped: MappedIds,
+    // Whether the one-byte form can't carry a mapped id or the longest data of a mapped kind.
+    is_long: bool,
+}
+
+impl Model for KindsById {
+    ghost use Rattle.std.specs.Prelude.{◌≡◌, List, Option, None, length, slice_index_or};
+    ghost use Rattle.rtp_values.specs.declared.known_kind.KnownKind.{KnownKind};
+    ghost use Rattle.std.specs.List.{list_any};
+    ghost use Rattle.rtp_ext.specs.ExtensionMap.{items_from};
+    ghost use Rattle.rtp_ext.specs.KindsById.{slots_of, is_long_item};
+    ghost use Rattle.rtp_ext.specs.MapSlots.{mapped_ids};
+    ghost use Rattle.rtp_ext.specs.declared.kinds_by_id.TheConstants.{IDS};
+    ghost use Rattle.std.proofs.Common.{sym};
+
+    ghost Value = { List (Option KnownKind) };
+
+    ghost view = { λ table. table.kinds };
+
+    ghost invariant = { λ table. (length table.kinds ≡ IDS)
+        × (slice_index_or table.kinds 0 None ≡ None)
+        × (table.mapped ≡ mapped_ids (slots_of table.kinds))
+        × (table.is_long ≡ list_any is_long_item (items_from 0 (slots_of table.kinds))) };
+
+    ghost inverse = { λ kinds. record {
+      kinds = kinds;
+      mapped = mapped_ids (slots_of kinds);
+      is_long = list_any is_long_item (items_from 0 (slots_of kinds));
+    } };
+
+    ghost inverse_ok = { λ table known i. record {
+      kinds = table.kinds;
+      mapped = sym known.2 i;
+      is_long = sym known.3 i;
+    } };
+}
+
+impl KindsById {
+    // The table of these kinds, each at the index of its id; what stands at index 0 is passed over.
+    fn new(kinds: [Option<KnownKind>; IDS]) -> Self
+        ensures { slots_of result ≡ slots_of kinds }
+    {
+        let mut kinds = kinds;
+        kinds[0] = None;
+        let mapped = MappedIds::of_kinds(&kinds[1..]);
+        let is_long = has_long(&kinds, mapped.as_slice());
+        KindsById {
+            kinds,
+            mapped,
+            is_long,
+        }
+    }
+
+    // A table in which no id is mapped.
+    pub(super) fn empty() -> Self
+        ensures { slots_of result ≡ replicate MAX_ID None }
+    {
+        KindsById {
+            kinds: [None; IDS],
+            mapped: MappedIds::none(),
+            is_long: false,
+        }
+    }
+
+    // The known extensions of the slots.
+    pub(super) fn of_slots(slots: &[Slot]) -> Self
+        requires { length slots.now ≡ MAX_ID }
+        ensures { slots_of result ≡ known_slots slots.now }
+    {
+        let mut kinds = [None; IDS];
+        copy_known(slots, &mut kinds[1..]);
+        Self::new(kinds)
+    }
+
+    // How many ids are mapped.
+    pub(super) fn len(&self) -> usize
+        ensures count { result ≡ mapped_count (slots_of self.now) }
+        ensures few { result ≤ MAX_ID }
+    {
+        self.mapped.len()
+    }
+
+    // The kind that the id is mapped to, and `None` where there is none, as always for 0.
+    pub(super) fn get(&self, id: u8) -> Option<KnownKind>
+        ensures { option_map extension_of_kind result ≡ extension_at (slots_of self.now) id }
+    {
+        self.kinds[usize::from(id)]
+    }
+
+    // Maps the id to the kind, or to nothing, instead of what it was mapped to. The id 0, which is
+    // that of padding, changes nothing.
+    pub(super) fn set(&mut self, id: u8, kind: Option<KnownKind>)
+        ensures { IsId id → slots_of self.new
+            ≡ slice_set (slots_of self.old) (id - 1) (entry_of_kind kind) }
+    {
+        if id == 0 {
+            return;
+        }
+        let old = self.kinds[usize::from(id)];
+        self.kinds[usize::from(id)] = kind;
+        if old.is_some() {
+            self.mapped = MappedIds::of_kinds(&self.kinds[1..]);
+            self.is_long = has_long(&self.kinds, self.mapped.as_slice());
+        } else if let Some(kind) = kind {
+            self.mapped.insert(id);
+            self.is_long |= is_long(id, kind);
+        }
+    }
+
+    // The id at this place among the mapped ids, which rise, and its kind.
+    #[inline(always)]
+    pub(super) fn item(&self, place: usize) -> Option<(u8, KnownKind)>
+        ensures some { IfSome result (λ item. items_at (slots_of self.now) (drop place (mapped_ids (slots_of self.now)))
+            ≡ (item.0, extension_of_kind item.1) ∷ items_at (slots_of self.now) (drop (place + 1) (mapped_ids (slots_of self.now)))) }
+        ensures none { IfNone result (items_at (slots_of self.now) (drop place (mapped_ids (slots_of self.now))) ≡ []) }
+        ensures within { IfSome result (λ _. place < MAX_ID) }
+    {
+        let id = *self.mapped.as_slice().get(place)?;
+        Some((id, mapped_kind(&self.kinds, id)))
+    }
+
+    // Whether the one-byte form can't carry a mapped id or the longest data of a mapped kind.
+    pub(super) fn has_long(&self) -> bool
+        ensures { result ≡ list_any is_long_item (items_from 0 (slots_of self.now)) }
+    {
+        self.is_long
+    }
+}
+
+// The kind of a mapped id.
+#[tactic(auto, using(crate::proofs::KindsByIdLemmas::kind_there, crate::proofs::KindsByIdLemmas::extension_there))]
+fn mapped_kind(kinds: &[Option<KnownKind>], id: u8) -> KnownKind
+    requires length { length kinds.now ≡ IDS }
+    requires mapped { IsMapped (slots_of kinds.now) id }
+    ensures { extension_at (slots_of kinds.now) id ≡ Some (extension_of_kind result) }
+{
+    kinds[usize::from(id)].unwrap()
+}
+
+// Whether the one-byte form can't carry one of the elements of these ids, all of which are mapped.
+fn has_long(kinds: &[Option<KnownKind>], ids: &[u8]) -> bool
+    requires length { length kinds.now ≡ IDS }
+    requires mapped { AllByRecursion (IsMapped (slots_of kinds.now)) ids.now }
+    ensures { result ≡ list_any is_long_item (items_at (slots_of kinds.now) ids.now) }
+{
+    for id in ids {
+        if is_long(*id, mapped_kind(kinds, *id)) {
+            return true;
+        }
+    }
+    false
+}
+
+// Copies the known kinds of slots.
+fn copy_known(from: &[Slot], to: &mut [Option<KnownKind>])
+    requires { length from.now ≡ length to.old }
+    ensures { map entry_of_kind to.new ≡ map known_entry from.now }
+{
+    for (index, slot) in from.iter().enumerate() {
+        to[index] = slot.known_kind();
+    }
+}

@@ -1,0 +1,306 @@
+//! Which id is mapped to which extension.
+
+ghost use Rattle.std.specs.Prelude.{◌≡◌, ◌≢◌, ◌↔◌, ℕ, true, false, IsTrue, IfOk, IfSome, IfNone, map, length, ◌≤◌};
+ghost use Rattle.std.specs.Option.{option_copied};
+ghost use Rattle.rtp_ext.specs.ExtensionMap as spec;
+ghost use Rattle.rtp_ext.specs.ExtensionMap.{items_from};
+ghost use Rattle.rtp_ext.specs.EqualMaps.{same_slots, same_slots-equiv};
+
+use super::iter::write_entries;
+use super::kinds::{Cursor, Kinds};
+use super::kinds_by_id::KindsById;
+use super::mapped_ids::MappedIds;
+use super::slots::Slot;
+use super::{Iter, IterByMediaType, MAX_ID_ONE_BYTE_FORM, slots};
+use rtp_values::{Extension, KnownKind};
+use std::alloc::{AllocError, Global};
+use std::marker::Model;
+use std::{array, fmt, mem};
+
+/// The greatest id that a map has room for, and that an element can have: that of the two-byte form
+/// (RFC 8285, 4.3).
+pub const MAX_ID: u8 = 255;
+
+/// The extensions that two peers have agreed on, by their id (RFC 8285, 5): a map from the ids 1 to
+/// [`MAX_ID`] to extensions. Several ids may be mapped to one extension. An entry is locked once a
+/// renegotiation has overwritten it: a later step for its extension doesn't move it, though it is
+/// moved where a step for another extension has its id.
+///
+/// Two maps are equal exactly when the same ids are mapped to the same extensions, locked alike. A
+/// map has its entries in place, some 10 KB, so lend it and don't move it for each packet.
+#[derive(Drop)]
+pub struct ExtensionMap {
+    // What the ids from 1 on are mapped to.
+    slots: [Slot; MAX_ID as usize],
+    // The mapped ids, so that a walk goes over these alone.
+    mapped: MappedIds,
+    // The known extensions, by which elements are read and written.
+    kinds: KindsById,
+}
+
+impl Model for ExtensionMap {
+    ghost use Rattle.std.specs.Prelude.{◌≡◌, length};
+    ghost use Rattle.rtp_ext.specs.ExtensionMap.{Slots};
+    ghost use Rattle.rtp_ext.specs.MapSlots.{mapped_ids};
+    ghost use Rattle.rtp_ext.specs.KindsById.{slots_of, known_slots};
+    ghost use Rattle.rtp_ext.specs.declared.map.TheConstants.{MAX_ID};
+
+    ghost Value = { Slots };
+
+    ghost view = { λ map. map.slots };
+
+    ghost invariant = { λ map. (length map.slots ≡ MAX_ID)
+        × (map.mapped ≡ mapped_ids map.slots)
+        × (slots_of map.kinds ≡ known_slots map.slots) };
+}
+
+impl PartialEq for ExtensionMap {
+    ghost use Rattle.std.specs.Cmp.{partial_equiv_from_equiv};
+
+    ghost eq = { same_slots };
+
+    ghost laws = { partial_equiv_from_equiv same_slots-equiv };
+
+    /// Whether the same ids are mapped to the same extensions, locked alike.
+    fn eq(&self, other: &ExtensionMap) -> bool
+        ensures answer { result ≡ same_slots self.now other.now }
+        ensures same { IsTrue result ↔ (self.now ≡ other.now) }
+    {
+        self.slots == other.slots
+    }
+}
+
+impl Eq for ExtensionMap {
+    ghost laws = { same_slots-equiv };
+}
+
+impl ExtensionMap {
+    /// A map in which no id is mapped. Takes no memory.
+    pub fn empty() -> Self
+        ensures { spec.IsEmpty result }
+    {
+        ExtensionMap {
+            slots: array::from_fn(|_| Slot::unmapped()),
+            mapped: MappedIds::none(),
+            kinds: KindsById::empty(),
+        }
+    }
+
+    /// The usual ids of the usual extensions, for audio and video: 1 audio level, 2 absolute send
+    /// time, 3 transport sequence number, 4 mid, 10 stream id, 11 repaired stream id, 13 video
+    /// orientation. Nothing is locked. Takes no memory.
+    pub fn standard() -> Self
+        ensures items { spec.IsListing result (λ _. true) spec.standard_items }
+        ensures unlocked { spec.IsUnlocked result }
+    {
+        let mut exts = Self::empty();
+        exts.set(1, Extension::AudioLevel);
+        exts.set(2, Extension::AbsoluteSendTime);
+        exts.set(3, Extension::TransportSequenceNumber);
+        exts.set(4, Extension::RtpMid);
+        exts.set(10, Extension::RtpStreamId);
+        exts.set(11, Extension::RepairedRtpStreamId);
+        exts.set(13, Extension::VideoOrientation);
+        exts
+    }
+
+    /// Takes every extension out of the map.
+    pub fn clear(&mut self)
+        ensures { spec.IsEmpty self.new }
+    {
+        *self = Self::empty();
+    }
+
+    /// Whether no id is mapped.
+    pub fn is_empty(&self) -> bool
+        ensures { IsTrue result ↔ spec.IsEmpty self.now }
+    {
+        self.mapped.as_slice().is_empty()
+    }
+
+    /// How many ids are mapped.
+    pub fn len(&self) -> usize
+        ensures count { result ≡ spec.mapped_count self.now }
+        ensures few { result ≤ MAX_ID }
+    {
+        self.mapped.len()
+    }
+
+    /// Maps the id to the extension, unlocked, instead of what it was mapped to. The id 0, which a
+    /// map has no room for, changes nothing.
+    pub fn set(&mut self, id: u8, ext: Extension)
+        ensures within { spec.IsId id → spec.Sets self.old self.new id (spec.unlocked ext) }
+        ensures outside { (spec.IsId id → ⊥) → self.new ≡ self.old }
+    {
+        if let Some(slot) = slots::slot_of(id) {
+            let new = Slot::from(ext);
+            self.kinds.set(id, new.known_kind());
+            let old = mem::replace(&mut self.slots[slot], new);
+            if !old.is_mapped() {
+                self.mapped.insert(id);
+            }
+        }
+    }
+
+    /// The extension that the id is mapped to, and `None` where there is none, as always for 0.
+    pub fn lookup(&self, id: u8) -> Option<&Extension>
+        ensures { option_copied result ≡ spec.extension_at self.now id }
+    {
+        slots::extension(&self.slots, id)
+    }
+
+    /// The lowest id that is mapped to the extension.
+    pub fn id_of(&self, ext: Extension) -> Option<u8>
+        ensures found { IfSome result (spec.IsLowest self.now ext) }
+        ensures none { IfNone result (spec.IsUnmapped self.now ext) }
+    {
+        slots::id_of(&self.slots, &ext)
+    }
+
+    // The mapped ids by rising id, each with its extension.
+    pub(super) fn items(&self) -> Iter<'_>
+        ensures items { result ≡ items_from 0 self.now }
+        ensures few { length (items_from 0 self.now) ≤ MAX_ID }
+    {
+        Iter::new(&self.slots, self.mapped.as_slice())
+    }
+
+    /// The mapped ids by rising id, each with its extension.
+    pub fn iter(&self) -> Iter<'_>
+        ensures { spec.IsListing self.now (λ _. true) result }
+    {
+        self.items()
+    }
+
+    /// The ids whose extensions are for audio, or else for video, by rising id, each with its
+    /// extension. Most extensions are for both, and an unknown one is for neither.
+    pub fn iter_by_media_type(&self, audio: bool) -> IterByMediaType<'_>
+        ensures { spec.IsListing self.now (spec.is_of_medium audio) result }
+    {
+        IterByMediaType::new(self.iter(), audio)
+    }
+
+    /// The ids whose extensions are for audio, by rising id, each with its extension.
+    pub fn iter_audio(&self) -> IterByMediaType<'_>
+        ensures { spec.IsListing self.now (spec.is_of_medium true) result }
+    {
+        self.iter_by_media_type(true)
+    }
+
+    /// The ids whose extensions are for video, by rising id, each with its extension.
+    pub fn iter_video(&self) -> IterByMediaType<'_>
+        ensures { spec.IsListing self.now (spec.is_of_medium false) result }
+    {
+        self.iter_by_media_type(false)
+    }
+
+    /// The entries of the extensions for audio, or else for video, all unlocked. Takes no memory,
+    /// since an unknown extension is for neither.
+    pub fn cloned_with_type(&self, audio: bool) -> Self
+        ensures { (id : ℕ) →
+            spec.entry_at result id ≡ spec.of_medium audio (spec.entry_at self.now id) }
+    {
+        let mut exts = Self::empty();
+        slots::copy_of_medium(&self.slots, &mut exts.slots, audio);
+        exts.mapped = MappedIds::of(&exts.slots);
+        exts.kinds = KindsById::of_slots(&exts.slots);
+        exts
+    }
+
+    /// Takes up the pairs of a renegotiation, one step after another: for each pair the peer maps
+    /// the id to the extension. A pair whose id is 0, or whose extension isn't mapped, changes
+    /// nothing. The lowest id of the extension counts. Where that is the id, its entry is locked.
+    /// Where it is another and locked, nothing changes. Else the entry moves to the id and is locked
+    /// there, and the entry of that id, locked or not, moves to the other.
+    ///
+    /// A map of 3 to the transport number, 4 to the video orientation and 5 to the content type, after
+    /// the pairs of 12 and the video orientation, and of 14 and the transport number, maps 5 to the
+    /// content type, 12 to the video orientation and 14 to the transport number, the last two locked.
+    pub fn remap(&mut self, steps: &[(u8, &Extension)])
+        ensures steps { spec.AreRemapped self.old (map (λ step. (step.0, step.1.now)) steps.now) self.new }
+        ensures renumbered { spec.IsRenumbered self.old self.new }
+    {
+        slots::remap(&mut self.slots, steps);
+        self.mapped = MappedIds::of(&self.slots);
+        self.kinds = KindsById::of_slots(&self.slots);
+    }
+
+    /// The same map. Only the texts of unknown extensions take memory, and where that is refused
+    /// nothing is returned.
+    pub fn clone(&self, alloc: Global) -> Result<Self, AllocError>
+        ensures same { IfOk result (λ copy. copy ≡ self.now) }
+        ensures known { spec.HasNoText self.now → result ≡ Ok self.now }
+    {
+        let mut copy = Self::empty();
+        slots::copy(alloc, &self.slots, &mut copy.slots)?;
+        copy.mapped = MappedIds::of(&copy.slots);
+        copy.kinds = KindsById::of_slots(&copy.slots);
+        Ok(copy)
+    }
+}
+
+impl Kinds for ExtensionMap {
+    ghost use Rattle.std.specs.Prelude.{drop, refl};
+    ghost use Rattle.rtp_ext.specs.KindsById.{known_slots};
+    ghost use Rattle.rtp_ext.specs.MapSlots.{items_at, mapped_ids};
+    ghost use Rattle.rtp_ext.specs.declared.kinds.Cursor.{Cursor};
+
+    ghost slots = { λ map. map };
+
+    ghost known = { λ map. known_slots map };
+
+    ghost left = { λ map cursor. items_at (known_slots map) (drop cursor.at (mapped_ids (known_slots map))) };
+
+    #[inline(always)]
+    fn get(&self, id: u8) -> Option<KnownKind> {
+        self.kinds.get(id)
+    }
+
+    #[inline(always)]
+    fn start(&self) -> Cursor {
+        Cursor {
+            at: 0,
+            end: self.kinds.len(),
+        }
+    }
+
+    #[inline(always)]
+    fn next(&self, cursor: &mut Cursor) -> Option<(u8, KnownKind)> {
+        let item = self.kinds.item(cursor.at)?;
+        cursor.at += 1;
+        Some(item)
+    }
+
+    // An unknown extension too may have an id above 14.
+    #[inline(always)]
+    #[tactic(auto, using(crate::proofs::KnownItemsLemmas::long_split, crate::proofs::RisingIdLemmas::mapped_rise))]
+    fn has_long(&self, _start: Cursor) -> bool {
+        self.mapped.has_above(MAX_ID_ONE_BYTE_FORM) || self.kinds.has_long()
+    }
+
+    #[inline(always)]
+    fn at_most(&self, _start: Cursor) -> usize {
+        self.kinds.len()
+    }
+
+    fn id_under(&self, other: &Self, id: u8) -> Option<u8> {
+        slots::id_of(&other.slots, slots::extension(&self.slots, id)?)
+    }
+
+    ghost known_is = { λ map. refl };
+}
+
+/// The entries by rising id, each as its number and the extension's text.
+impl fmt::Debug for ExtensionMap {
+    ghost use Rattle.std.specs.Prelude.{Some, [], ◌++◌, codes};
+    ghost use Rattle.rtp_ext.specs.ExtensionMap.{items_from, items_text};
+
+    ghost debug_output = { λ map. Some (codes "Extensions(" ++ items_text [] (items_from 0 map)
+        ++ codes ")") };
+
+    fn fmt<W: fmt::Write>(&self, f: &mut fmt::Formatter<W>) -> fmt::Result {
+        f.write_str("Extensions(")?;
+        write_entries(f, self.items())?;
+        f.write_str(")")
+    }
+}

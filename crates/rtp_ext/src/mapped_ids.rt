@@ -1,0 +1,157 @@
+//! The ids of a map that are mapped.
+
+ghost use Rattle.std.specs.Prelude.{◌≡◌, ◌<◌, ◌≤◌, ◌∷◌, ◌++◌, [], length, take, drop, map, nat_lt};
+ghost use Rattle.std.specs.List.{list_any};
+ghost use Rattle.rtp_ext.specs.KindsById.{entry_of_kind};
+ghost use Rattle.rtp_ext.specs.MapSlots.{mapped_ids, inserted, RiseAbove};
+
+use super::map::MAX_ID;
+use super::slots::Slot;
+use rtp_values::KnownKind;
+use std::marker::Model;
+
+// The mapped ids, rising.
+#[derive(Clone, Copy)]
+pub(super) struct MappedIds {
+    // The ids, followed by zeros.
+    ids: [u8; MAX_ID as usize],
+    // How many there are.
+    count: u8,
+}
+
+impl Model for MappedIds {
+    ghost use Rattle.std.specs.Prelude.{◌≡◌, ℕ, ◌-◌, ◌≤◌, List, length, take, drop, replicate};
+    ghost use Rattle.rtp_ext.specs.MapSlots.{padded, padded-front, length-front};
+    ghost use Rattle.rtp_ext.specs.declared.map.TheConstants.{MAX_ID};
+
+    ghost Value = { List ℕ };
+
+    ghost view = { λ mapped. take mapped.count mapped.ids };
+
+    ghost invariant = { λ mapped. (length mapped.ids ≡ MAX_ID)
+        × (mapped.count ≤ length mapped.ids)
+        × (drop mapped.count mapped.ids ≡ replicate (MAX_ID - mapped.count) 0) };
+
+    ghost inverse = { λ ids. record { ids = padded ids; count = length ids } };
+
+    ghost inverse_ok = { λ mapped known i. record {
+      ids = padded-front mapped.ids mapped.count known.1 known.2 i;
+      count = length-front mapped.ids mapped.count known.1 i;
+    } };
+}
+
+impl MappedIds {
+    // Of a map in which no id is mapped.
+    pub(super) fn none() -> Self
+        ensures { result ≡ [] }
+    {
+        MappedIds {
+            ids: [0; MAX_ID as usize],
+            count: 0,
+        }
+    }
+
+    // Puts an id after the others.
+    fn push(&mut self, id: u8)
+        requires { length self.old < MAX_ID }
+        ensures { self.new ≡ self.old ++ id ∷ [] }
+    {
+        self.ids[usize::from(self.count)] = id;
+        self.count += 1;
+    }
+
+    // The ids that have an entry.
+    pub(super) fn of(slots: &[Slot]) -> Self
+        requires { length slots.now ≡ MAX_ID }
+        ensures { result ≡ mapped_ids slots.now }
+    {
+        let mut mapped = Self::none();
+        for (index, slot) in slots.iter().enumerate() {
+            if slot.is_mapped() {
+                mapped.push(index as u8 + 1);
+            }
+        }
+        mapped
+    }
+
+    // The ids that have a kind.
+    pub(super) fn of_kinds(kinds: &[Option<KnownKind>]) -> Self
+        requires { length kinds.now ≡ MAX_ID }
+        ensures { result ≡ mapped_ids (map entry_of_kind kinds.now) }
+    {
+        let mut mapped = Self::none();
+        for (index, kind) in kinds.iter().enumerate() {
+            if kind.is_some() {
+                mapped.push(index as u8 + 1);
+            }
+        }
+        mapped
+    }
+
+    // How many ids are lower than this one.
+    fn place_of(&self, id: u8) -> usize
+        ensures within { result ≤ length self.now }
+        ensures splits { inserted id self.now
+            ≡ take result self.now ++ id ∷ drop result self.now }
+    {
+        let ids = self.as_slice();
+        for (place, listed) in ids.iter().enumerate() {
+            if *listed >= id {
+                return place;
+            }
+        }
+        ids.len()
+    }
+
+    // Puts in an id before the higher ones.
+    fn insert_between(&mut self, id: u8)
+        requires { length self.old < MAX_ID }
+        ensures { self.new ≡ inserted id self.old }
+    {
+        let place = self.place_of(id);
+        self.ids
+            .copy_within(place..usize::from(self.count), place + 1);
+        self.ids[place] = id;
+        self.count += 1;
+    }
+
+    // Puts in an id that isn't mapped yet. One above the others moves none of them.
+    #[tactic(auto, using(crate::proofs::RisingIdLemmas::inserted_last))]
+    pub(super) fn insert(&mut self, id: u8)
+        requires room { length self.old < MAX_ID }
+        requires rising { RiseAbove 0 self.old }
+        ensures { self.new ≡ inserted id self.old }
+    {
+        if self.has_above(id) {
+            self.insert_between(id);
+        } else {
+            self.push(id);
+        }
+    }
+
+    // How many there are.
+    pub(super) fn len(&self) -> usize
+        ensures length { result ≡ length self.now }
+        ensures few { result ≤ MAX_ID }
+    {
+        usize::from(self.count)
+    }
+
+    // Whether an id is above this one, as the last one is then.
+    #[tactic(auto, using(crate::proofs::RisingIdLemmas::last_above, crate::proofs::RisingIdLemmas::none_above))]
+    pub(super) fn has_above(&self, greatest: u8) -> bool
+        requires rising { RiseAbove 0 self.now }
+        ensures { result ≡ list_any (nat_lt greatest) self.now }
+    {
+        match self.as_slice().last() {
+            Some(last) => *last > greatest,
+            None => false,
+        }
+    }
+
+    pub(super) fn as_slice(&self) -> &[u8]
+        ensures { result.now ≡ self.now }
+    {
+        &self.ids[..usize::from(self.count)]
+    }
+}

@@ -1,0 +1,107 @@
+//! Which ids elements have under another map.
+
+ghost use Rattle.std.specs.Prelude.{◌≡◌, ◌↔◌, IsTrue, All, slice_index_or};
+ghost use Rattle.rtp_ext.specs.declared.form.ExtensionsForm.TheVariants.{OneByte};
+ghost use Rattle.rtp_ext.specs.ElementReading.{elements_left};
+ghost use Rattle.rtp_ext.specs.ElementsInPlace.{CanRenumber};
+ghost use Rattle.rtp_ext.specs.NewIds.{new_id, AreNewIds, id_in_byte, ids_in_bytes};
+ghost use Rattle.rtp_ext.specs.IdChanges.{carries_id};
+
+use super::kinds::Kinds;
+use super::{Elements, ExtensionsForm, MAX_ID, MAX_ID_ONE_BYTE_FORM};
+use std::marker::Model;
+
+// How many ids an element can have, with 0.
+const IDS: usize = MAX_ID as usize + 1;
+
+/// The ids that elements get where a block goes from one map of extensions to another, as in a
+/// server that forwards packets: a table of 256 bytes, made once for the two maps.
+#[derive(Clone, Copy)]
+pub struct NewIds {
+    // The new id of each id from 0 on, and 0 where it has none: no extension has the id 0.
+    ids: [u8; IDS],
+}
+
+impl Model for NewIds {
+    ghost use Rattle.std.specs.Prelude.{◌≡◌, ◌<◌, ℕ, List, Option, length, map, slice_index_or};
+    ghost use Rattle.rtp_ext.specs.NewIds.{id_in_byte, byte_of_id, bytes_back};
+
+    ghost Value = { List (Option ℕ) };
+
+    ghost view = { λ new. map id_in_byte new.ids };
+
+    ghost invariant = { λ new. (length new.ids ≡ 256)
+        × (slice_index_or new.ids 0 0 ≡ 0)
+        × ((id : ℕ) → slice_index_or new.ids id 0 < 256) };
+
+    ghost inverse = { λ ids. record { ids = map byte_of_id ids } };
+
+    ghost inverse_ok = { λ new known i. record { ids = bytes_back new.ids i } };
+}
+
+// Whether the one-byte form can carry the new id in a byte of a table, if there is one.
+#[tactic(auto, using(crate::proofs::NewIdLemmas::carried_byte))]
+fn fits_one_byte_form(byte: u8) -> bool
+    ensures { result ≡ carries_id OneByte (id_in_byte byte) }
+{
+    byte <= MAX_ID_ONE_BYTE_FORM
+}
+
+impl NewIds {
+    /// For each id that `from` maps to an extension that `to` maps as well, the lowest id that `to`
+    /// has for it (RFC 8285, 5). Every other id has no new one. Takes no memory.
+    pub fn between<K: Kinds>(from: &K, to: &K) -> Self
+        ensures { AreNewIds (K.slots from.now) (K.slots to.now) result }
+    {
+        let mut ids = [0; IDS];
+        for (id, new) in ids.iter_mut().enumerate() {
+            *new = from.id_under(to, id as u8).unwrap_or(0);
+        }
+        NewIds { ids }
+    }
+
+    /// The table of these new ids, each at the index of the old one, with 0 where an id has none.
+    /// What stands at index 0 is passed over: an element whose id is 0 has no new one, since 0 is
+    /// the id of no extension.
+    pub fn from_ids(ids: &[u8; 256]) -> Self
+        ensures { result ≡ ids_in_bytes ids.now }
+    {
+        let after_first = &ids[1..];
+        let mut ids = [0; IDS];
+        ids[1..].copy_from_slice(after_first);
+        NewIds { ids }
+    }
+
+    /// The new ids, each at the index of the old one, with 0 where an id has none, as at index 0:
+    /// [`from_ids`](Self::from_ids) makes the same table of them.
+    pub fn ids(&self) -> [u8; 256]
+        ensures ids { ids_in_bytes result ≡ self.now }
+        ensures first { slice_index_or result 0 0 ≡ 0 }
+    {
+        self.ids
+    }
+
+    /// The new id of an id, and `None` where it has none, as always for 0.
+    pub fn new_id(&self, id: u8) -> Option<u8>
+        ensures { result ≡ new_id self.now id }
+    {
+        match self.ids[usize::from(id)] {
+            0 => None,
+            new => Some(new),
+        }
+    }
+
+    // Whether the form can carry the new ids of a body's elements.
+    pub(super) fn can_renumber(&self, form: ExtensionsForm, body: &[u8]) -> bool
+        ensures { IsTrue result
+            ↔ All (CanRenumber form (new_id self.now)) (elements_left form body.now) }
+    {
+        let ids = &self.ids;
+        match form {
+            ExtensionsForm::TwoByte => true,
+            ExtensionsForm::OneByte => Elements::new(body, form).all(|(id, _)| fits_one_byte_form(
+                ids[usize::from(id)],
+            )),
+        }
+    }
+}

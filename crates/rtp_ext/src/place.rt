@@ -1,0 +1,231 @@
+//! Where the elements of a body lie, and elements that are changed there, without memory.
+
+ghost use Rattle.std.specs.Prelude.{◌≡◌, ◌↔◌, ◌<◌, ◌≤◌, ◌++◌, List, length, drop, IsTrue, Some, IfSome, IfNone, All, is_none};
+ghost use Rattle.rtp_ext.specs.declared.form.ExtensionsForm.TheVariants.{OneByte};
+ghost use Rattle.rtp_ext.specs.Elements.{Element, AreElements, IsElement};
+ghost use Rattle.rtp_ext.specs.ElementReading.{BeginsWithNone, elements_left};
+ghost use Rattle.rtp_ext.specs.ElementsInPlace.{HasNone, bytes_under, HasLast, HasLastOf, SetsLast, HasOtherIds, CanRenumber, renumbered, all_but};
+ghost use Rattle.rtp_ext.specs.Places.{LiesAt, IsNextPlace, IsLastPlace, LiesLast, WritesLast};
+ghost use Rattle.std.specs.Bool.{OnTrue, OnFalse};
+ghost use Rattle.rtp_ext.specs.ExtensionMap.{Slots, extension_at, IsOnlyId};
+ghost use Rattle.rtp_ext.specs.BlockValues.{SaysValues};
+ghost use Rattle.rtp_values.specs.declared.kind.Extension.{Extension};
+ghost use Rattle.rtp_values.specs.declared.value.values.ExtensionValues.{ExtensionValues};
+ghost use Rattle.rtp_values.specs.Values.{Reads, with_fields, IsWellFormed};
+ghost use Rattle.std.specs.List.{filter_map, list_any};
+ghost use Rattle.rtp_ext.specs.NewIds.{new_id, AreNewIds};
+ghost use Rattle.rtp_ext.specs.IdChanges.{ids_of};
+ghost use Rattle.rtp_ext.specs.WrittenBlock.{mapped_fields};
+
+use super::elements::first_element;
+use super::form::{header_len, write_header};
+use super::{ExtensionsForm, NewIds};
+use rtp_base::{put, put_zeros};
+
+/// Where an element lies in the body of a block, as offsets from the body's first byte.
+#[derive(Clone, Copy, Drop)]
+pub struct Place {
+    /// The element's id.
+    pub id: u8,
+    /// Where its header begins.
+    pub start: usize,
+    /// Where its data begin.
+    pub data_start: usize,
+    /// Where its data end, and with them the element.
+    pub end: usize,
+}
+
+/// The place of the first element of a block's body from the offset on, and `None` where reading ends
+/// before one (RFC 8285, 4.2 and 4.3). The elements of the body are found one after another from the
+/// offset 0 on, each from the end of the one before it.
+///
+/// Requires an offset within the body.
+pub fn next_place(form: ExtensionsForm, body: &[u8], at: usize) -> Option<Place>
+    requires { at ≤ length body.now }
+    ensures found { IfSome result (IsNextPlace form body.now at) }
+    ensures further { IfSome result (λ place. (at < place.end) × (place.end ≤ length body.now)) }
+    ensures none { IfNone result (BeginsWithNone form (drop at body.now)) }
+{
+    let (id, data, after) = first_element(&body[at..], form)?;
+    let end = body.len() - after.len();
+    let data_start = end - data.len();
+    let start = data_start - header_len(form);
+    Some(Place {
+        id,
+        start,
+        data_start,
+        end,
+    })
+}
+
+/// The place of the last element of the id in a block's body, and `None` where no element has it.
+pub fn last_place(form: ExtensionsForm, body: &[u8], id: u8) -> Option<Place>
+    ensures found { IfSome result (IsLastPlace (AreElements form) id body.now) }
+    ensures id { IfSome result (λ place. place.id ≡ id) }
+    ensures lies { IfSome result (LiesLast form (AreElements form) id body.now) }
+    ensures within { IfSome result (λ place. place.end ≤ length body.now) }
+    ensures none { (elements : List Element) → AreElements form body.now elements →
+        IfNone result (HasNone elements id) }
+{
+    let mut last = None;
+    let mut at = 0;
+    while let Some(place) = next_place(form, body, at) {
+        at = place.end;
+        if place.id == id {
+            last = Some(place);
+        }
+    }
+    last
+}
+
+// Gives the element at the place another id, or makes it padding.
+fn write_id(form: ExtensionsForm, body: &mut [u8], place: &Place, id: Option<u8>)
+    requires lies { LiesAt form body.old place.now }
+    requires fits { IfSome id (λ id. form ≡ OneByte → id ≤ 14) }
+    ensures { (lies : LiesAt form body.old place.now) →
+        body.new ≡ lies.front ++ (bytes_under form (place.now.id, lies.bytes) id ++ lies.after) }
+{
+    let Place {
+        start,
+        data_start,
+        end,
+        ..
+    } = *place;
+    match id {
+        Some(id) => write_header(body, start, form, id, (end - data_start) as u8),
+        None => {
+            put_zeros(body, start, end - start);
+        }
+    }
+}
+
+/// The data of the last element of the id in a block's body, and `None` exactly where no element
+/// has it (RFC 8285, 4.2 and 4.3). An element of the two-byte form may be without data, and then
+/// they are `Some` of no bytes.
+///
+/// The last element of id 1 in the body `10 AA 21 BB CC 10 DD 00` (hexadecimal) of the one-byte
+/// form has the data `DD`.
+pub fn element_of(form: ExtensionsForm, body: &[u8], id: u8) -> Option<&[u8]>
+    ensures found { (elements : List Element) → AreElements form body.now elements →
+        IfSome result (λ bytes. HasLast elements id bytes.now) }
+    ensures none { (elements : List Element) → AreElements form body.now elements →
+        IfNone result (HasNone elements id) }
+{
+    let place = last_place(form, body, id)?;
+    Some(&body[place.data_start..place.end])
+}
+
+/// Gives the last element of the id in a block's body these data, where it has as many bytes of
+/// them, and returns whether it has; all other bytes stay. Else nothing changes.
+///
+/// Under a map in which a kind has this id and no other, the body then says what it said, except for
+/// the fields of that kind; these are what the data say, where they are well-formed for it.
+///
+/// In the body `10 AA 21 BB CC 10 DD 00` (hexadecimal) of the one-byte form the data `EE` of id 1
+/// give `10 AA 21 BB CC 10 EE 00`.
+pub fn set_element(form: ExtensionsForm, body: &mut [u8], id: u8, data: &[u8]) -> bool
+    ensures set { OnTrue result (SetsLast form id «data».now body.old body.new) }
+    ensures written { OnTrue result (WritesLast form id «data».now body.old body.new) }
+    ensures unchanged { OnFalse result (body.new ≡ body.old) }
+    ensures answer { (elements : List Element) → AreElements form body.old elements →
+        IsTrue result ↔ HasLastOf elements id (length «data».now) }
+    ensures other_values { (exts : Slots) (kind : Extension) (old new : ExtensionValues) →
+        extension_at exts id ≡ Some kind → SaysValues form exts body.old old →
+        SaysValues form exts body.new new → OnTrue result (new ≡ with_fields kind old new) }
+    ensures values { (exts : Slots) (kind : Extension) (new : ExtensionValues) → IsOnlyId exts kind id →
+        IsWellFormed kind «data».now → SaysValues form exts body.new new →
+        OnTrue result (Reads kind «data».now new) }
+{
+    let Some(place) = last_place(form, body, id) else {
+        return false;
+    };
+    if place.end - place.data_start != data.len() {
+        return false;
+    }
+    put(body, place.data_start, data);
+    true
+}
+
+// Which id each element gets.
+#[derive(Clone, Copy, Drop)]
+enum IdChange<'a> {
+    // Its own, and none where that is this one.
+    AllBut(u8),
+    // The one that the table has for it.
+    Table(&'a NewIds),
+}
+
+impl IdChange<'_> {
+    // The id that elements of an id get.
+    fn new_id(&self, id: u8) -> Option<u8>
+        ensures { result ≡ ids_of self.now id }
+    {
+        match self {
+            IdChange::AllBut(removed) if id == *removed => None,
+            IdChange::AllBut(_) => Some(id),
+            IdChange::Table(ids) => ids.new_id(id),
+        }
+    }
+}
+
+// Gives each element its new id, or makes it padding, and returns whether one has become padding.
+fn change_ids(form: ExtensionsForm, body: &mut [u8], change: IdChange<'_>) -> bool
+    requires { All (λ element. IsElement form element → CanRenumber form (ids_of change) element)
+        (elements_left form body.old) }
+    ensures changed { HasOtherIds form (ids_of change.entry) body.old body.new }
+    ensures lost { (elements : List Element) → AreElements form body.old elements →
+        result ≡ list_any (λ element. is_none (ids_of change.entry element.0)) elements }
+{
+    let mut lost = false;
+    let mut at = 0;
+    while let Some(place) = next_place(form, body, at) {
+        let id = change.new_id(place.id);
+        write_id(form, body, &place, id);
+        lost |= id.is_none();
+        at = place.end;
+    }
+    lost
+}
+
+/// Makes each element of the id in a block's body padding, and returns whether there is one; all
+/// other bytes stay (RFC 8285, 4.2 and 4.3). Only elements that [`Elements`](super::Elements)
+/// yields are removed, so what follows the end of reading stays as well.
+///
+/// In the body `10 AA 21 BB CC 10 DD 00` (hexadecimal) of the one-byte form the removal of id 1
+/// leaves `00 00 21 BB CC 00 00 00`.
+pub fn remove_element(form: ExtensionsForm, body: &mut [u8], id: u8) -> bool
+    ensures removed { HasOtherIds form (all_but id) body.old body.new }
+    ensures unchanged { OnFalse result (body.new ≡ body.old) }
+    ensures answer { (elements : List Element) → AreElements form body.old elements →
+        IsTrue result ↔ (HasNone elements id → ⊥) }
+    ensures elements { (elements : List Element) → AreElements form body.old elements →
+        AreElements form body.new (filter_map (renumbered (all_but id)) elements) }
+{
+    change_ids(form, body, IdChange::AllBut(id))
+}
+
+/// Gives each element of a block's body its new id where it lies, and makes an element whose id has
+/// no new one padding; the data of elements and all other bytes stay (RFC 8285, 4.2 and 4.3).
+/// Returns `false`, and nothing changes, where the form can't carry the new id of an element: one
+/// above [`MAX_ID_ONE_BYTE_FORM`](super::MAX_ID_ONE_BYTE_FORM) in the one-byte form.
+///
+/// The body has the same length afterwards, and says under the second map what it said under the
+/// first, of the kinds that the second maps and no other. Where id 1 becomes 3, and 2 has no new
+/// id, the body `10 AA 21 BB CC 00` (hexadecimal) of the one-byte form becomes `30 AA 00 00 00 00`.
+pub fn renumber(form: ExtensionsForm, body: &mut [u8], ids: &NewIds) -> bool
+    ensures renumbered { OnTrue result (HasOtherIds form (new_id ids.now) body.old body.new) }
+    ensures unchanged { OnFalse result (body.new ≡ body.old) }
+    ensures answer { (elements : List Element) → AreElements form body.old elements →
+        IsTrue result ↔ All (CanRenumber form (new_id ids.now)) elements }
+    ensures elements { (elements : List Element) → AreElements form body.old elements → OnTrue result
+        (AreElements form body.new (filter_map (renumbered (new_id ids.now)) elements)) }
+    ensures values { (from to : Slots) (values : ExtensionValues) → AreNewIds from to ids.now →
+        SaysValues form from body.old values →
+        OnTrue result (SaysValues form to body.new (mapped_fields to values)) }
+{
+    if !ids.can_renumber(form, body) {
+        return false;
+    }
+    change_ids(form, body, IdChange::Table(ids));
+    true
+}

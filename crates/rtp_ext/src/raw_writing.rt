@@ -1,0 +1,106 @@
+//! Elements as they are given, from their ids and data to bytes.
+
+ghost use Rattle.std.specs.Prelude.{◌≡◌, ◌↔◌, ◌≤◌, ◌+◌, ℕ, ◌++◌, length, take, drop, replicate, IsTrue, IsSome, IfSome, IfNone};
+ghost use Rattle.rtp_base.specs.Overwriting.{overwritten};
+ghost use Rattle.rtp_ext.specs.Elements.{AreElements, element_bytes, elements_bytes};
+ghost use Rattle.rtp_ext.specs.ElementsInARow.{elements_of, IsWritable, FitInARow};
+
+use super::ExtensionsForm;
+use super::form::{header_len, write_header};
+use rtp_base::put;
+
+// How many bytes of the room are left after an element; `None` where it can't be written there.
+fn room_after(room: usize, form: ExtensionsForm, id: u8, bytes: &[u8]) -> Option<usize>
+    ensures some { IfSome result (λ left. IsWritable form (id, bytes.now)
+        × (left + length (element_bytes form (id, bytes.now)) ≡ room)) }
+    ensures none { IfNone result (IsWritable form (id, bytes.now) →
+        length (element_bytes form (id, bytes.now)) ≤ room → ⊥) }
+{
+    if !form.can_carry(id, bytes) {
+        return None;
+    }
+    room.checked_sub(header_len(form) + bytes.len())
+}
+
+// Whether the elements can be written in the form, and in the room.
+fn fit(room: usize, form: ExtensionsForm, elements: &[(u8, &[u8])]) -> bool
+    ensures { IsTrue result ↔ FitInARow form (elements_of elements.now) room }
+{
+    let mut left = room;
+    for (id, bytes) in elements {
+        let Some(rest) = room_after(left, form, *id, bytes) else {
+            return false;
+        };
+        left = rest;
+    }
+    true
+}
+
+// Puts an element at the offset, and returns the offset after it.
+fn put_element(buf: &mut [u8], at: usize, form: ExtensionsForm, id: u8, bytes: &[u8]) -> usize
+    requires room { at + length (element_bytes form (id, bytes.now)) ≤ length buf.old }
+    requires writable { IsWritable form (id, bytes.now) }
+    ensures written { buf.new ≡ overwritten buf.old at (element_bytes form (id, bytes.now)) }
+    ensures end { result ≡ at + length (element_bytes form (id, bytes.now)) }
+{
+    write_header(buf, at, form, id, bytes.len() as u8);
+    put(buf, at + header_len(form), bytes)
+}
+
+/// Writes the elements, pairs of an id and its data, to the front of the buffer and returns the
+/// length that they take; the bytes after them stay as they were (RFC 8285, 4.2 and 4.3).
+/// [`Elements`](super::Elements) reads what was written, and any zeros after it, as these elements.
+///
+/// Requires a form that can carry every one of them, and a buffer of at least the length that they
+/// take in it: [`ExtensionsForm::for_elements`] returns such a form.
+pub fn put_elements(buf: &mut [u8], form: ExtensionsForm, elements: &[(u8, &[u8])]) -> usize
+    requires { FitInARow form (elements_of elements.now) (length buf.old) }
+    ensures written { buf.new
+        ≡ elements_bytes form (elements_of elements.now) ++ drop result buf.old }
+    ensures length { result ≡ length (elements_bytes form (elements_of elements.now)) }
+
+    // What was written, and any zeros that follow it, are a block's body with these elements.
+    ensures elements { (zeros : ℕ) → AreElements form
+        (elements_bytes form (elements_of elements.now) ++ replicate zeros 0)
+        (elements_of elements.now) }
+{
+    let mut at = 0;
+    for (id, bytes) in elements {
+        at = put_element(buf, at, form, *id, bytes);
+    }
+    at
+}
+
+/// Writes the elements, pairs of an id and its data, to the front of the buffer and returns the
+/// length that they take; the bytes after them stay as they were (RFC 8285, 4.2 and 4.3).
+/// [`Elements`](super::Elements) reads what was written, and any zeros after it, as these elements.
+///
+/// `None` where the buffer is too short or the form can't carry one of them, and then nothing is
+/// written. The one-byte form carries ids 1 to 14 with 1 to 16 bytes of data, the two-byte form ids
+/// 1 to 255 with 0 to 255 bytes. It takes no memory.
+///
+/// The elements 1 with `AA` and 2 with `BB CC` are `10 AA 21 BB CC` (hexadecimal) in the one-byte
+/// form, and `01 01 AA 02 02 BB CC` in the two-byte form.
+pub fn write_elements(
+    buf: &mut [u8],
+    form: ExtensionsForm,
+    elements: &[(u8, &[u8])],
+) -> Option<usize>
+    ensures fits { IsSome result
+        ↔ FitInARow form (elements_of elements.now) (length buf.old) }
+    ensures unchanged { IfNone result (buf.new ≡ buf.old) }
+    ensures written { IfSome result (λ len. buf.new
+        ≡ elements_bytes form (elements_of elements.now) ++ drop len buf.old) }
+    ensures length { IfSome result (λ len.
+        len ≡ length (elements_bytes form (elements_of elements.now))) }
+
+    // What was written, and any zeros that follow it, are a block's body with these elements.
+    ensures elements { IfSome result (λ len. (zeros : ℕ) →
+        AreElements form (take len buf.new ++ replicate zeros 0)
+        (elements_of elements.now)) }
+{
+    if !fit(buf.len(), form, elements) {
+        return None;
+    }
+    Some(put_elements(buf, form, elements))
+}

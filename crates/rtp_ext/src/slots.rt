@@ -1,0 +1,264 @@
+//! The slots of a map, one for each id from 1 on: what the id is mapped to.
+
+ghost use Rattle.std.specs.Prelude.{◌≡◌, ◌≢◌, ◌↔◌, ℕ, ◌+◌, ◌<◌, ◌≤◌, length, slice_index_or, map, IsTrue, IsOk, IfOk, Some, None, IfSome, IfNone, All};
+ghost use Rattle.std.specs.Cmp.{partial_equiv_from_equiv};
+ghost use Rattle.std.specs.Option.{is_some, option_copied, option_map};
+ghost use Rattle.rtp_values.specs.Kind.{IsKnown};
+ghost use Rattle.rtp_ext.specs.EqualMaps.{same_slot, same_slot-equiv};
+ghost use Rattle.rtp_ext.specs.KindsById.{entry_of_kind, known_entry};
+ghost use Rattle.rtp_ext.specs.MapSlots.{IsFirstSlot, IsMapped};
+ghost use Rattle.rtp_ext.specs.ExtensionMap as spec;
+
+use super::map::MAX_ID;
+use rtp_values::{Extension, KnownKind};
+use std::alloc::{AllocError, Global};
+use std::marker::Model;
+use std::mem;
+
+// Whether the extension is one of audio, or else of video.
+pub(super) fn is_of_medium(ext: &Extension, audio: bool) -> bool
+    ensures { result ≡ spec.is_of_medium audio ext.now }
+{
+    if audio {
+        ext.is_audio()
+    } else {
+        ext.is_video()
+    }
+}
+
+// How an id is mapped: not at all, or to an extension, which may be locked there.
+#[derive(Debug, PartialEq, Eq, Drop)]
+enum Mapping {
+    Unmapped,
+    Free(Extension),
+    Locked(Extension),
+}
+
+/// The slot of an id: nothing, or an extension. The extension is locked once a renegotiation has
+/// overwritten it: a later step for it doesn't move it.
+#[derive(Debug, Drop)]
+pub(super) struct Slot {
+    mapping: Mapping,
+}
+
+impl Model for Slot {
+    ghost use Rattle.std.specs.Prelude.{Option};
+    ghost use Rattle.rtp_ext.specs.ExtensionMap.{Entry};
+    ghost use Rattle.rtp_ext.specs.MapSlots.{entry_of};
+
+    ghost Value = { Option Entry };
+
+    ghost view = { λ slot. entry_of slot.mapping };
+}
+
+impl PartialEq for Slot {
+    ghost eq = { same_slot };
+
+    ghost laws = { partial_equiv_from_equiv same_slot-equiv };
+
+    fn eq(&self, other: &Slot) -> bool
+        ensures answer { result ≡ same_slot self.now other.now }
+        ensures same { IsTrue result ↔ (self.now ≡ other.now) }
+    {
+        self.mapping == other.mapping
+    }
+}
+
+impl Eq for Slot {
+    ghost laws = { same_slot-equiv };
+}
+
+impl From<Extension> for Slot {
+    ghost from_gives = { λ extension slot. slot ≡ Some (spec.unlocked extension) };
+
+    fn from(extension: Extension) -> Self {
+        Slot {
+            mapping: Mapping::Free(extension),
+        }
+    }
+}
+
+impl Slot {
+    // Of an id that isn't mapped.
+    pub(super) fn unmapped() -> Self
+        ensures { result ≡ None }
+    {
+        Slot {
+            mapping: Mapping::Unmapped,
+        }
+    }
+
+    // The extension that the id is mapped to.
+    pub(super) fn extension(&self) -> Option<&Extension>
+        ensures { option_copied result ≡ spec.extension_of self.now }
+    {
+        match &self.mapping {
+            Mapping::Unmapped => None,
+            Mapping::Free(extension) | Mapping::Locked(extension) => Some(extension),
+        }
+    }
+
+    // The known kind that the id is mapped to.
+    pub(super) fn known_kind(&self) -> Option<KnownKind>
+        ensures { entry_of_kind result ≡ known_entry self.now }
+    {
+        self.extension()?.known_kind()
+    }
+
+    // Whether the id is mapped.
+    pub(super) fn is_mapped(&self) -> bool
+        ensures { result ≡ is_some self.now }
+    {
+        self.extension().is_some()
+    }
+
+    // Whether the id is mapped to this extension.
+    pub(super) fn holds(&self, ext: &Extension) -> bool
+        ensures { IsTrue result ↔ (spec.extension_of self.now ≡ Some ext.now) }
+    {
+        match self.extension() {
+            Some(held) => held == ext,
+            None => false,
+        }
+    }
+
+    // Whether the id is mapped to an extension that is locked.
+    pub(super) fn is_locked(&self) -> bool
+        ensures { IsTrue result ↔ spec.IsLocked self.now }
+    {
+        matches!(self.mapping, Mapping::Locked(_))
+    }
+
+    // Locks the extension.
+    pub(super) fn lock(&mut self)
+        ensures { self.new ≡ option_map (λ entry. spec.locked entry.extension) self.old }
+    {
+        let old = mem::replace(&mut self.mapping, Mapping::Unmapped);
+        self.mapping = match old {
+            Mapping::Free(extension) => Mapping::Locked(extension),
+            other => other,
+        };
+    }
+
+    // The same extension where it is for this medium, unlocked.
+    pub(super) fn of_medium(&self, audio: bool) -> Self
+        ensures { result ≡ spec.of_medium audio self.now }
+    {
+        match self.extension() {
+            Some(extension) if is_of_medium(extension, audio) => match extension.known_kind() {
+                Some(kind) => Self::from(Extension::from(kind)),
+                None => Self::unmapped(),
+            },
+            _ => Self::unmapped(),
+        }
+    }
+
+    // The same slot.
+    pub(super) fn clone(&self, alloc: Global) -> Result<Self, AllocError>
+        ensures same { IfOk result (λ copy. copy ≡ self.now) }
+        ensures known { ((ext : Extension) → spec.extension_of self.now ≡ Some ext → IsKnown ext) → IsOk result }
+    {
+        let mapping = match &self.mapping {
+            Mapping::Unmapped => Mapping::Unmapped,
+            Mapping::Free(extension) => Mapping::Free(extension.clone(alloc)?),
+            Mapping::Locked(extension) => Mapping::Locked(extension.clone(alloc)?),
+        };
+        Ok(Slot { mapping })
+    }
+}
+
+// The index of an id that the map has room for.
+pub(super) fn slot_of(id: u8) -> Option<usize>
+    ensures found { IfSome result (λ slot. (slot + 1 ≡ id) × (slot < MAX_ID)) }
+    ensures none { IfNone result (spec.IsId id → ⊥) }
+{
+    if (1..=MAX_ID).contains(&id) {
+        Some(usize::from(id) - 1)
+    } else {
+        None
+    }
+}
+
+// The extension of an id.
+pub(super) fn extension(slots: &[Slot], id: u8) -> Option<&Extension>
+    requires { length slots.now ≡ MAX_ID }
+    ensures { option_copied result ≡ spec.extension_at slots.now id }
+{
+    slots.get(usize::from(id).checked_sub(1)?)?.extension()
+}
+
+// The extension of a mapped id.
+pub(super) fn mapped_extension(slots: &[Slot], id: u8) -> &Extension
+    requires { IsMapped slots.now id }
+    ensures { spec.extension_at slots.now id ≡ Some result.now }
+{
+    slots[usize::from(id) - 1].extension().unwrap()
+}
+
+// The first index whose slot holds the extension.
+fn slot_with(slots: &[Slot], ext: &Extension) -> Option<usize>
+    ensures found { IfSome result (IsFirstSlot slots.now ext.now) }
+    ensures none { IfNone result (spec.IsUnmapped slots.now ext.now) }
+{
+    slots.iter().position(|slot| slot.holds(ext))
+}
+
+// The lowest id that is mapped to the extension.
+pub(super) fn id_of(slots: &[Slot], ext: &Extension) -> Option<u8>
+    requires { length slots.now ≡ MAX_ID }
+    ensures found { IfSome result (spec.IsLowest slots.now ext.now) }
+    ensures none { IfNone result (spec.IsUnmapped slots.now ext.now) }
+{
+    let index = slot_with(slots, ext)?;
+    Some(index as u8 + 1)
+}
+
+// Copies the entries for this medium, unlocked, into the slots of another map.
+pub(super) fn copy_of_medium(from: &[Slot], to: &mut [Slot], audio: bool)
+    requires { length from.now ≡ length to.old }
+    ensures { to.new ≡ map (spec.of_medium audio) from.now }
+{
+    for (index, slot) in from.iter().enumerate() {
+        to[index] = slot.of_medium(audio);
+    }
+}
+
+// One step of a renegotiation.
+fn remap_one(slots: &mut [Slot], id: u8, ext: &Extension)
+    requires { length slots.old ≡ MAX_ID }
+    ensures step { spec.Remaps slots.old id ext.now slots.new }
+    ensures renumbered { spec.IsRenumbered slots.old slots.new }
+{
+    let Some(to) = slot_of(id) else { return };
+    let Some(from) = slot_with(slots, ext) else {
+        return
+    };
+    if from != to && slots[from].is_locked() {
+        return;
+    }
+    slots[from].lock();
+    slots.swap(from, to);
+}
+
+// The steps of a renegotiation, one after another.
+pub(super) fn remap(slots: &mut [Slot], steps: &[(u8, &Extension)])
+    requires { length slots.old ≡ MAX_ID }
+    ensures steps { spec.AreRemapped slots.old (map (λ step. (step.0, step.1.now)) steps.now) slots.new }
+    ensures renumbered { spec.IsRenumbered slots.old slots.new }
+{
+    for (id, ext) in steps {
+        remap_one(slots, *id, ext);
+    }
+}
+
+// Copies the entries into the slots of another map.
+pub(super) fn copy(alloc: Global, from: &[Slot], to: &mut [Slot]) -> Result<(), AllocError>
+    requires { length from.now ≡ length to.old }
+    ensures same { IfOk result (λ _. to.new ≡ from.now) }
+    ensures known { spec.HasNoText from.now → IsOk result }
+{
+    for (index, slot) in from.iter().enumerate() {
+        to[index] = slot.clone(alloc)?;
+    }
+    Ok(())
+}

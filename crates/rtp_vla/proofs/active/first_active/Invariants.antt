@@ -1,0 +1,11 @@
+use Rattle.std.proofs.Common.{◌≡◌, length}
+use Rattle.std.specs.List.{filter}
+use Rattle.rtp_vla.specs.Allocation.{is_active}
+use Rattle.rtp_vla.proofs.active.first_active.Given as goal
+
+-- the layers that were passed aren't active
+abbrev pub invariant-loop-layer : goal.invariant-loop-layer
+invariant-loop-layer l = filter is_active l.left ≡ filter is_active l.layers
+
+abbrev pub decreases-loop-layer : goal.decreases-loop-layer
+decreases-loop-layer l = length l.left

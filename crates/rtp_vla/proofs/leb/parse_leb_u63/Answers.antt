@@ -1,0 +1,25 @@
+use Rattle.std.proofs.Common.{sym, ◌∙◌, None}
+use Rattle.std.proofs.lemmas.List.{take_rest}
+use Rattle.rtp_vla.proofs.LebLemmas.{ReadsLeb-value, ReadsLeb-first, reads_only, only_first, read_below}
+use Rattle.rtp_vla.proofs.leb.parse_leb_u63.Goals as goal
+
+pub returns-then-first-lt128-clause-reads : goal.returns-then-first-lt128-clause-reads
+returns-then-first-lt128-clause-reads c = rw c.from.ensures (ReadsLeb-first c.args.buf.now c.in-Some.first.now c.in-Some.after.now c.in-Some.ensures.cases.0 c.if-first-lt128.true)
+
+pub returns-then-first-lt128-clause-only : goal.returns-then-first-lt128-clause-only
+returns-then-first-lt128-clause-only c value rest reads = rw c.from.ensures (only_first c.args.buf.now c.in-Some.first.now c.in-Some.after.now value rest c.in-Some.ensures.cases.0 c.if-first-lt128.true reads)
+
+pub returns-in-Some-number_at-clause-reads : goal.returns-in-Some-number_at-clause-reads
+returns-in-Some-number_at-clause-reads c = rw (take_rest c.args.buf.now c.in-Some-number_at.len) (ReadsLeb-value c.args.buf.now _ (sym c.in-Some-number_at.is ∙ c.number_at.ensures.read))
+
+pub returns-in-Some-number_at-clause-only : goal.returns-in-Some-number_at-clause-only
+returns-in-Some-number_at-clause-only c value rest reads = rw (take_rest c.args.buf.now c.in-Some-number_at.len) (reads_only c.args.buf.now _ value rest (sym c.in-Some-number_at.is ∙ c.number_at.ensures.read) reads)
+
+pub returns-in-Some-number_at-clause-in_range : goal.returns-in-Some-number_at-clause-in_range
+returns-in-Some-number_at-clause-in_range c = read_below c.args.buf.now _ _ (ReadsLeb-value c.args.buf.now _ (sym c.in-Some-number_at.is ∙ c.number_at.ensures.read))
+
+pub returns-in-None-clause-reads : goal.returns-in-None-clause-reads
+returns-in-None-clause-reads c = ReadsLeb-value c.args.buf.now None (sym c.in-None.is ∙ c.number_at.ensures.read)
+
+pub returns-in-None-clause-only : goal.returns-in-None-clause-only
+returns-in-None-clause-only c value rest reads = reads_only c.args.buf.now None value rest (sym c.in-None.is ∙ c.number_at.ensures.read) reads

@@ -1,0 +1,7 @@
+use Rattle.std.proofs.Common.{◌-◌, ◌↔◌}
+use Rattle.rtp_vla.specs.AllocationReading.{FitResolutions}
+use Rattle.rtp_vla.proofs.parts.resolutions_fit.Given as goal
+
+-- those so far fit
+abbrev pub invariant-loop-i : goal.invariant-loop-i
+invariant-loop-i l = FitResolutions (l.count - l._i) l.after ↔ FitResolutions l.count l.bytes

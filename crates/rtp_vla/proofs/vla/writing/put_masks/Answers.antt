@@ -1,8 +1,0 @@
-use Rattle.std.proofs.Common.{sym, ◌∙◌}
-use Rattle.rtp_base.proofs.OverwritingLemmas.{overwritten-nil}
-use Rattle.rtp_vla.proofs.AllocationWritingLemmas.{mask_bytes-none}
-use Rattle.rtp_vla.proofs.vla.writing.put_masks.Goals as goal
-
-pub returns-else-shared_of-eq0-clause-written : goal.returns-else-shared_of-eq0-clause-written
-returns-else-shared_of-eq0-clause-written c =
-    rw (mask_bytes-none c.args.masks.now (λ none. c.if-shared_of-eq0.false (c.shared_of.ensures ∙ none))) (sym (overwritten-nil c.args.buf.now c.args.at))

@@ -1,0 +1,22 @@
+use Rattle.std.proofs.Common.{◌≡◌, ◌++◌, [], ◌∙◌, ap, List, ℕ, ◌+◌, length}
+use Rattle.std.specs.List.{flat_map}
+use Rattle.rtp_vla.specs.AllocationWritten.{rate_bytes}
+use Rattle.rtp_vla.specs.Leb.{shortest_of}
+use Rattle.rtp_base.specs.Overwriting.{overwritten}
+use Rattle.rtp_vla.proofs.LeavingLemmas.{Leaves-part, Leaves-end}
+use Rattle.rtp_vla.proofs.AllocationWritingLemmas.{AllByRecursion-tail}
+use Rattle.rtp_vla.proofs.writing.put_rates.Goals as goal
+
+pub loop-layer-preserved : goal.loop-layer-preserved
+loop-layer-preserved c =
+    let split : flat_map rate_bytes c.loop-layer.left ≡ rate_bytes c.in-Some.layer.now ++ flat_map rate_bytes c.next.new.self = ap (flat_map rate_bytes) c.in-Some.ensures.steps in
+    let bytes : flat_map shortest_of c.deref.result.now ≡ rate_bytes c.in-Some.layer.now = ap (flat_map shortest_of) c.deref.ensures.value ∙ ap rate_bytes c.layer.view_is in
+    record {
+      leaves = Leaves-part c.loop-layer.buf c.put_layer_rates-end.new.buf _ _ _ _ c.loop-layer.end c.put_layer_rates-end.result c.args.at (rw split at c.loop-layer.invariant.leaves) (c.put_layer_rates-end.ensures.written ∙ ap (overwritten c.loop-layer.buf c.loop-layer.end) bytes) (c.put_layer_rates-end.ensures.end ∙ ap (λ (bs : List ℕ). c.loop-layer.end + length bs) bytes);
+      small = AllByRecursion-tail _ _ _ c.in-Some.ensures.steps c.loop-layer.invariant.small;
+    }
+
+pub returns-clause-written : goal.returns-clause-written
+returns-clause-written c =
+    let none : flat_map rate_bytes c.loop-layer.left ≡ [] = ap (flat_map rate_bytes) c.in_default.ensures.steps.0 in
+    (Leaves-end _ _ _ _ _ (rw none at c.loop-layer.invariant.leaves)).0

@@ -1,0 +1,21 @@
+use Rattle.std.proofs.Common.{◌≡◌, ◌++◌, [], ◌∙◌, ap, List, ℕ, ◌+◌, length}
+use Rattle.std.specs.List.{flat_map}
+use Rattle.rtp_vla.specs.AllocationWritten.{resolution_bytes, resolution_field}
+use Rattle.rtp_base.specs.Overwriting.{overwritten}
+use Rattle.rtp_vla.proofs.LeavingLemmas.{Leaves-part, Leaves-end}
+use Rattle.rtp_vla.proofs.AllocationWritingLemmas.{AllByRecursion-tail}
+use Rattle.rtp_vla.proofs.writing.put_resolutions.Goals as goal
+
+pub loop-layer-preserved : goal.loop-layer-preserved
+loop-layer-preserved c =
+    let split : flat_map resolution_bytes c.loop-layer.left ≡ resolution_bytes c.in-Some.layer.now ++ flat_map resolution_bytes c.next.new.self = ap (flat_map resolution_bytes) c.in-Some.ensures.steps in
+    let bytes : resolution_field c.layer.inside.resolution_and_framerate ≡ resolution_bytes c.in-Some.layer.now = ap resolution_bytes c.layer.view_is in
+    record {
+      leaves = Leaves-part c.loop-layer.buf c.put_resolution-end.new.buf _ _ _ _ c.loop-layer.end c.put_resolution-end.result c.args.at (rw split at c.loop-layer.invariant.leaves) (c.put_resolution-end.ensures.written ∙ ap (overwritten c.loop-layer.buf c.loop-layer.end) bytes) (c.put_resolution-end.ensures.end ∙ ap (λ (bs : List ℕ). c.loop-layer.end + length bs) bytes);
+      some = AllByRecursion-tail _ _ _ c.in-Some.ensures.steps c.loop-layer.invariant.some;
+    }
+
+pub returns-clause-written : goal.returns-clause-written
+returns-clause-written c =
+    let none : flat_map resolution_bytes c.loop-layer.left ≡ [] = ap (flat_map resolution_bytes) c.in_default.ensures.steps.0 in
+    (Leaves-end _ _ _ _ _ (rw none at c.loop-layer.invariant.leaves)).0

@@ -1,0 +1,16 @@
+use Rattle.std.proofs.Common.{length}
+use Rattle.std.specs.List.{AllByRecursion, flat_map}
+use Rattle.rtp_vla.specs.AllocationWritten.{resolution_bytes}
+use Rattle.rtp_vla.specs.AllocationPutting.{HasSizedResolution}
+use Rattle.rtp_vla.specs.Leaving.{Leaves}
+use Rattle.rtp_vla.proofs.writing.put_resolutions.Given as goal
+
+-- what is left is put after the bytes so far
+abbrev pub invariant-loop-layer : goal.invariant-loop-layer
+invariant-loop-layer l = record {
+  leaves : Leaves l.buf l.end (flat_map resolution_bytes l.left) l.initial.buf l.at (flat_map resolution_bytes l.initial.left);
+  some : AllByRecursion HasSizedResolution l.left;
+}
+
+abbrev pub decreases-loop-layer : goal.decreases-loop-layer
+decreases-loop-layer l = length l.left
