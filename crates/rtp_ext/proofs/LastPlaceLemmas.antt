@@ -1,6 +1,6 @@
 -- The last element of an id, and its place.
-use Rattle.std.proofs.Common.{◌≡◌, ◌≢◌, ℕ, ◌-◌, ◌≤◌, List, [], ◌∷◌, ◌++◌, length, drop, replicate, Option, Some, None, IfSome, IfNone, append_assoc, length-append, arith, refl, sym, ap, ◌∙◌, subst}
-use Rattle.std.proofs.lemmas.List.{append-nil, drop_at, length-replicate}
+use Rattle.std.proofs.Common.{◌≡◌, ◌≢◌, ℕ, ◌-◌, ◌≤◌, List, [], ◌∷◌, ◌++◌, length, take, drop, replicate, Option, Some, None, IfSome, IfNone, append_assoc, length-append, arith, refl, sym, ap, ◌∙◌, subst}
+use Rattle.std.proofs.lemmas.List.{append-nil, drop_at, take_at, length-replicate}
 use Rattle.std.proofs.lemmas.List.Elements.{All-nil, All-cons, All-append, All-contains, Contains-append_right}
 use Rattle.rtp_ext.specs.declared.form.ExtensionsForm.{ExtensionsForm}
 use Rattle.rtp_ext.specs.declared.form.ExtensionsForm.TheVariants.{OneByte, TwoByte}
@@ -298,6 +298,15 @@ HasLast-place form id body place elements is are = record {
       (subst (λ b. AreElements form b (is.before ++ (id, is.was) ∷ is.after)) (sym is.bytes_are) (is.set is.was refl));
   last = is.last;
 }
+
+-- and its data are the bytes there
+pub HasLast-data : (form : ExtensionsForm) (id : ℕ) (body : List ℕ) (place : Place) (elements : List Element) → IsLastPlace (AreElements form) id body place → AreElements form body elements
+    → HasLast elements id (take (place.end - place.data_start) (drop place.data_start body))
+HasLast-data form id body place elements is are =
+    let left : drop place.data_start body ≡ is.was ++ is.rest = ap (drop place.data_start) is.bytes_are ∙ drop_at is.front (is.was ++ is.rest) place.data_start (sym is.data_is) in
+    let bytes : take (place.end - place.data_start) (drop place.data_start body) ≡ is.was =
+    ap (take (place.end - place.data_start)) left ∙ take_at is.was is.rest (place.end - place.data_start) (omega (arith, is.end_is)) in
+    subst (HasLast elements id) (sym bytes) (HasLast-place form id body place elements is are)
 
 pub SetsLast-at : (form : ExtensionsForm) (id : ℕ) (bytes body new : List ℕ) (place : Place) → IsLastPlace (AreElements form) id body place → place.end - place.data_start ≡ length bytes
     → new ≡ overwritten body place.data_start bytes → SetsLast form id bytes body new

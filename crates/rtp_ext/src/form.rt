@@ -2,13 +2,14 @@
 //! elements as they are given.
 
 ghost use Rattle.std.specs.Prelude.{◌≡◌, ◌↔◌, ℕ, ◌+◌, ◌≤◌, List, length, IsTrue, IsNone, IfSome, if◌then◌else◌};
+ghost use Rattle.std.specs.Bool.{OnFalse};
 ghost use Rattle.std.specs.Int.{w16, from_be_bytes, to_be_bytes};
 ghost use Rattle.rtp_ext.specs.Form.{form_word, IsFormWord};
 ghost use Rattle.rtp_ext.specs.declared.form.ExtensionsForm.TheVariants.{OneByte, TwoByte};
 ghost use Rattle.rtp_base.specs.Overwriting.{overwritten};
 ghost use Rattle.rtp_ext.specs.ElementWriting.{header_bytes};
 ghost use Rattle.rtp_ext.specs.Elements.{Element, elements_bytes};
-ghost use Rattle.rtp_ext.specs.ElementsInARow.{elements_of, serves_one_byte, form_for, IsWritable, FitInARow, CannotBeInARow};
+ghost use Rattle.rtp_ext.specs.ElementsInARow.{elements_of, serves_one_byte, form_for, IsWritable, IsUnwritable, FitInARow, CannotBeInARow};
 
 /// The greatest id that an element of the one-byte form can have (RFC 8285, 4.2).
 pub const MAX_ID_ONE_BYTE_FORM: u8 = 14;
@@ -58,9 +59,10 @@ impl ExtensionsForm {
 
     /// Whether an element of this id and these data can be written in the form: the one-byte form
     /// carries ids 1 to 14 with 1 to 16 bytes of data, the two-byte form ids 1 to 255 with 0 to 255
-    /// bytes (RFC 8285, 4.2 and 4.3).
+    /// bytes (RFC 8285, 4.2 and 4.3). What the two-byte form can't carry, neither form can.
     pub fn can_carry(self, id: u8, data: &[u8]) -> bool
-        ensures { IsTrue result ↔ IsWritable self (id, «data».now) }
+        ensures carried { IsTrue result ↔ IsWritable self (id, «data».now) }
+        ensures neither { self ≡ TwoByte → OnFalse result (IsUnwritable (id, «data».now)) }
     {
         match self {
             ExtensionsForm::OneByte => {

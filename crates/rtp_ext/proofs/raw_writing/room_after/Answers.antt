@@ -9,13 +9,13 @@ overflow_add-header_len c =
       arith,
       c.header_len.ensures 0 0,
       length-header_bytes c.args.form 0 0,
-      IsWritable-short c.args.form (c.args.id, c.args.bytes.now) (c.is_writable.ensures.0 c.if-not-is_writable.false),
+      IsWritable-short c.args.form (c.args.id, c.args.bytes.now) (c.can_carry.ensures.carried.0 c.if-not-can_carry.false),
     )
 
 taken : (c : goal.After-checked_sub) → IsRoomAfter c.args.form (c.args.id, c.args.bytes.now) c.args.room c.checked_sub.result
 taken c =
     IsRoomAfter-taken c.args.form c.args.id c.args.bytes.now c.args.room c.header_len.result c.checked_sub.result
-    (c.is_writable.ensures.0 c.if-not-is_writable.false) (c.header_len.ensures c.args.id (length c.args.bytes.now)) c.checked_sub.ensures
+    (c.can_carry.ensures.carried.0 c.if-not-can_carry.false) (c.header_len.ensures c.args.id (length c.args.bytes.now)) c.checked_sub.ensures
 
 pub returns-clause-some : goal.returns-clause-some
 returns-clause-some c = (taken c).0

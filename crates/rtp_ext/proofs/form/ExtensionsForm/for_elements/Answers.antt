@@ -16,9 +16,9 @@ no_element = (0, record { ref_ptr = (0, 0); now = [] })
 abbrev shown : Given → Element
 shown e = (e.0, e.1.now)
 
-pub returns-then-not-can_be_carried-clause-refused : goal.returns-then-not-can_be_carried-clause-refused
-returns-then-not-can_be_carried-clause-refused c = (
-  λ _. unwritable (Any-given shown c.args.elements.now c.loop-id.id-index no_element c.loop-id-test.true c.if-not-can_be_carried.ensures),
+pub returns-then-not-can_carry-clause-refused : goal.returns-then-not-can_carry-clause-refused
+returns-then-not-can_carry-clause-refused c = (
+  λ _. unwritable (Any-given shown c.args.elements.now c.loop-id.id-index no_element c.loop-id-test.true (c.if-not-can_carry.ensures.neither refl)),
   λ _. refl,
 )
 
@@ -36,7 +36,7 @@ loop-id-preserved c =
     let given = c.args.elements.now in
     let i = c.loop-id.id-index in
     AreCounted-step (elements_of given) _ (drop (i + 1) (elements_of given)) (shown (get_or given i no_element)) c.loop-id.form c.form_with-form.result c.args.room c.loop-id.left c.in_ok-left.left
-    (left-more shown given i no_element c.loop-id-test.true) c.if-not-can_be_carried.ensures c.form_with-form.ensures c.in_ok-left.ensures.0 c.in_ok-left.ensures.1 c.loop-id.invariant
+    (left-more shown given i no_element c.loop-id-test.true) (c.if-not-can_carry.ensures.carried.0 refl) c.form_with-form.ensures c.in_ok-left.ensures.0 c.in_ok-left.ensures.1 c.loop-id.invariant
 
 pub returns-then-left-longer_by-clause-refused : goal.returns-then-left-longer_by-clause-refused
 returns-then-left-longer_by-clause-refused c =
