@@ -5,5 +5,6 @@ pub mod IdLemmas
 mod IdTextLemmas
 mod MediaTimeLemmas
 pub mod OverwritingLemmas
+pub mod RingLemmas
 mod StandardFacts
 pub mod WindowLemmas
