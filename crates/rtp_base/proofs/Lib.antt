@@ -3,6 +3,7 @@ mod DirectionLemmas
 mod FrequencyLemmas
 pub mod IdLemmas
 mod IdTextLemmas
+mod MaskLemmas
 mod MediaTimeLemmas
 pub mod OverwritingLemmas
 pub mod RingLemmas

@@ -2,7 +2,7 @@
 use Rattle.std.proofs.Common.{◌≡◌, ◌≢◌, ◌+◌, ◌-◌, ◌*◌, ◌/◌, ◌%◌, ◌^◌, ◌<◌, ◌≤◌, ◌⊎◌, ◌↔◌, IsTrue, nat_eq, ℕ, Bool, true, false, ◌||◌, List, length, get_or, set, replicate, bit_and, bit_or, inl, inr, refl, sym, ap, ◌∙◌, arith}
 use Rattle.std.proofs.lemmas.Nat.{div-add-mod', mod_below, row_fits}
 use Rattle.std.proofs.Math.Nat.{add-mod_right}
-use Rattle.std.proofs.lemmas.Nat.Bits.{shr_and_one, bit_at-zero, bit_at-lt, bit_at_and, bit_at_ones, bit_at_ones_above, bit_at_mask_inside, bit_at_mask_below, bit_at_not, ones_shl, ones_shr, bit_at_set_same, bit_at_set_other}
+use Rattle.std.proofs.lemmas.Nat.Bits.{shr_and_one, bit_at-zero, bit_at-lt, bit_at_and, bit_at_ones, bit_at_not, bit_at_set_same, bit_at_set_other}
 use Rattle.std.proofs.lemmas.List.{get_or-set_same, get_or-set_other, get_or-replicate, length-set}
 use Rattle.std.proofs.lemmas.List.FromFn.{get_or-map-range_with_len, length-map-range_with_len, fill_by_all}
 use Rattle.std.proofs.lemmas.Bool.{cases_lt, cases_eq, eq-eqb, ne_eqb, or_right}
@@ -284,21 +284,3 @@ accepts-low words greatest taken number outcome low is keeps =
       λ yes. let parts = is.0 yes in accepted.1 (parts.0, sym (ring_bit-taken words greatest taken number keeps low parts.0) ∙ parts.1),
       λ yes. let parts = accepted.0 yes in is.1 (parts.0, ring_bit-taken words greatest taken number keeps low parts.0 ∙ parts.1),
     )
-
--- ---- the bits of a mask
-
-pub mask-inside : (from to k : ℕ) → to ≤ 64 → from ≤ k → k < to → bit_at (bit_and ((2 ^ 64 - 1) * 2 ^ from % 2 ^ 64) ((2 ^ 64 - 1) / 2 ^ (64 - to))) k ≡ 1
-mask-inside from to k within low high =
-    bit_at_and _ _ k
-    ∙ rw (ones_shl 64 from (omega arith), ones_shr 64 (64 - to) (omega arith))
-    (let back : 64 - (64 - to) ≡ to = omega arith in rw back (rw (bit_at_mask_inside from 64 k low (omega arith), bit_at_ones to k high) refl))
-
-pub mask-before : (from to k : ℕ) → from < to → to ≤ 64 → k < from → bit_at (bit_and ((2 ^ 64 - 1) * 2 ^ from % 2 ^ 64) ((2 ^ 64 - 1) / 2 ^ (64 - to))) k ≡ 0
-mask-before from to k some within low =
-    bit_at_and _ _ k ∙ rw (ones_shl 64 from (omega arith), bit_at_mask_below from 64 k low) (omega arith)
-
-pub mask-after : (from to k : ℕ) → to ≤ 64 → to ≤ k → bit_at (bit_and ((2 ^ 64 - 1) * 2 ^ from % 2 ^ 64) ((2 ^ 64 - 1) / 2 ^ (64 - to))) k ≡ 0
-mask-after from to k within high =
-    bit_at_and _ _ k
-    ∙ rw (ones_shr 64 (64 - to) (omega arith))
-    (let back : 64 - (64 - to) ≡ to = omega arith in rw (back, bit_at_ones_above to k high) (omega arith))

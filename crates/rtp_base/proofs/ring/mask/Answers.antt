@@ -1,4 +1,4 @@
-use Rattle.rtp_base.proofs.RingLemmas.{mask-inside, mask-before, mask-after}
+use Rattle.rtp_base.proofs.MaskLemmas.{mask-inside, mask-before, mask-after}
 use Rattle.rtp_base.proofs.ring.mask.Goals as goal
 
 pub returns-clause-inside : goal.returns-clause-inside
