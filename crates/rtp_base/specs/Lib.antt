@@ -2,6 +2,7 @@
 pub mod Id
 pub mod Direction
 pub mod Window
+pub mod Ring
 pub mod Frequency
 pub mod MediaTime
 -- What the crates that read and write bytes cite.

@@ -15,7 +15,7 @@ up_to number = λ n. nat_le n number
 abbrev pub including : Numbers → ℕ → Numbers
 including taken number = λ n. taken n || n == number
 
--- how many numbers the window tells apart: the greatest, and the 127 below it
+-- how many numbers `SeqNoWindow` tells apart: the greatest, and the 127 below it
 abbrev pub window_size : ℕ
 window_size = 128
 
@@ -24,28 +24,41 @@ pub record IsGreatest (taken : Numbers) (number : ℕ) : Type 0 where
   pub member : IsTrue (taken number)
   pub top : (n : ℕ) → IsTrue (taken n) → n ≤ number
 
--- the state of a window: the greatest number, and at each index from 0 to 127 whether the greatest minus the index is recorded
+-- the state of a window: the greatest number, and at each index below its size whether the greatest minus the index is recorded
 pub record WindowState : Type 0 where
   pub greatest : ℕ
   pub recorded : List Bool
 
--- the window keeps the set: both have the same greatest number, and of it and the 127 below it those are recorded that are in the set
-pub record Keeps (window : WindowState) (taken : Numbers) : Type 0 where
+-- a window of this size keeps the set: both have the same greatest number, and of the numbers less than the size below it those are recorded that are in the set
+pub record KeepsOf (size : ℕ) (window : WindowState) (taken : Numbers) : Type 0 where
   pub top : IsGreatest taken window.greatest
-  pub recorded : (n : ℕ) → n ≤ window.greatest → window.greatest < n + window_size
+  pub recorded : (n : ℕ) → n ≤ window.greatest → window.greatest < n + size
       → slice_index_or window.recorded (window.greatest - n) false ≡ taken n
 
 -- each index past the greatest number, where there is no number left, shows this
-abbrev pub ShowsBelowZero : WindowState → Bool → Type 0
-ShowsBelowZero window shown = (index : ℕ) → window.greatest < index → index < window_size → slice_index_or window.recorded index false ≡ shown
+abbrev pub ShowsBelowZeroOf : ℕ → WindowState → Bool → Type 0
+ShowsBelowZeroOf size window shown = (index : ℕ) → window.greatest < index → index < size → slice_index_or window.recorded index false ≡ shown
 
 -- each index past the greatest number shows what was shown as far past the greatest number before
-abbrev pub StaysBelowZero : WindowState → WindowState → Type 0
-StaysBelowZero old new = (index : ℕ) → new.greatest < index → index < window_size
+abbrev pub StaysBelowZeroOf : ℕ → WindowState → WindowState → Type 0
+StaysBelowZeroOf size old new = (index : ℕ) → new.greatest < index → index < size
     → slice_index_or new.recorded index false ≡ slice_index_or old.recorded (index - (new.greatest - old.greatest)) false
 
--- a number that may still be taken: it is above the greatest, or less than 128 below it and not in the set
-pub record Accepts (taken : Numbers) (number : ℕ) : Type 0 where
+-- a number that a window of this size may still take: it is above the greatest, or less than the size below it and not in the set
+pub record AcceptsOf (size : ℕ) (taken : Numbers) (number : ℕ) : Type 0 where
   pub greatest : ℕ
   pub is_greatest : IsGreatest taken greatest
-  pub above_or_new : (greatest < number) ⊎ ((greatest < number + window_size) × (taken number ≡ false))
+  pub above_or_new : (greatest < number) ⊎ ((greatest < number + size) × (taken number ≡ false))
+
+-- the same of `SeqNoWindow`
+abbrev pub Keeps : WindowState → Numbers → Type 0
+Keeps = KeepsOf window_size
+
+abbrev pub ShowsBelowZero : WindowState → Bool → Type 0
+ShowsBelowZero = ShowsBelowZeroOf window_size
+
+abbrev pub StaysBelowZero : WindowState → WindowState → Type 0
+StaysBelowZero = StaysBelowZeroOf window_size
+
+abbrev pub Accepts : Numbers → ℕ → Type 0
+Accepts = AcceptsOf window_size
