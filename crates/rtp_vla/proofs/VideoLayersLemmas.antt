@@ -1,11 +1,10 @@
 -- The masks and active layers of a value of fixed size, and the allocation that they make.
-use Rattle.std.proofs.Common.{◌≡◌, ℕ, ◌≤◌, ◌++◌, List, [], ◌∷◌, length, take, map, Bool, true, inl, inr, sym, ap, ◌∙◌, subst, arith, refl, None}
+use Rattle.std.proofs.Common.{◌≡◌, ℕ, ◌≤◌, List, [], ◌∷◌, map, inr, sym, ap, ◌∙◌, subst, arith, refl}
 use Rattle.std.specs.List.{AllByRecursion}
 use Rattle.std.proofs.lemmas.List.{take_all}
-use Rattle.std.proofs.lemmas.Bool.{false≢true}
-use Rattle.rtp_vla.specs.Allocation.{Layer, Stream, Allocation, is_active, active_layers, mask_of, EndsActive, IsReadable, IsPacked, Means}
+use Rattle.rtp_vla.specs.Allocation.{Layer, Stream, Allocation, EndsActive, IsReadable, Means}
 use Rattle.rtp_vla.specs.AllocationReading.{active_count, dealt_streams, IsLaidOut}
-use Rattle.rtp_vla.specs.AllocationWritten.{without_bare_tail, trimmed, streams_fit, can_be_written}
+use Rattle.rtp_vla.specs.AllocationWritten.{without_bare_tail, trimmed}
 use Rattle.rtp_vla.specs.VideoLayers.{IsHeld}
 use Rattle.rtp_vla.proofs.AllocationDealing.{AllActive, masks-dealt_streams, active-dealt_streams}
 use Rattle.rtp_vla.proofs.AllocationLayout.{AllActive-read, laid_out_layers}

@@ -70,8 +70,8 @@ impl ActiveLayer {
         resolution_and_framerate: Option<ResolutionAndFramerate>,
     ) -> Self
         ensures { result ≡ record {
-            temporal_layers = temporal_layers;
-            resolution_and_framerate = resolution_and_framerate;
+          temporal_layers = temporal_layers;
+          resolution_and_framerate = resolution_and_framerate;
         } }
     {
         ActiveLayer {

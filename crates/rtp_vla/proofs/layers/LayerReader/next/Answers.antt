@@ -1,6 +1,6 @@
 use Rattle.std.proofs.Common.{sym, ◌∙◌, ap, subst, ℕ, List, length, arith, ◌+◌, ◌∷◌, add-one}
 use Rattle.rtp_vla.specs.AllocationReading.{layers_read, rates_of, after_rates, resolution_in, after_resolution, FitResolutions}
-use Rattle.rtp_vla.proofs.AllocationReadingLemmas.{length-layers_read, FitResolutions-next, FitResolutions-fewer}
+use Rattle.rtp_vla.proofs.AllocationReadingLemmas.{length-layers_read, FitResolutions-next}
 use Rattle.rtp_vla.proofs.layers.LayerReader.next.Goals as goal
 
 pub next-requires : goal.next-requires

@@ -10,7 +10,7 @@ use Rattle.rtp_vla.proofs.video_layers.VideoLayers.parse.Goals as goal
 use Rattle.rtp_vla.proofs.video_layers.VideoLayers.parse.Goals.{After-new}
 
 pub returns-in_err-layout-clause-only : goal.returns-in_err-layout-clause-only
-returns-in_err-layout-clause-only c a = 
+returns-in_err-layout-clause-only c a =
     ⊎_elim
     (λ nothing. absurd (false≢true (c.if-says_nothing.ensures.1 nothing.0)))
     (λ p. absurd (c.in_err-layout.ensures.refused _ _ _ (laid_out_from c.args.buf.now a p)))
@@ -21,8 +21,10 @@ returns-in_err-layout-clause-one c = one_meaning c.args.buf.now
 pub new-requires : goal.new-requires
 new-requires c =
     let all : AreBytes c.args.buf.now = AreBytes-from c.args.buf.now (λ i. omega (arith, c.type_inv.buf i)) in
-    record { held = subst (λ (layers : List Layer). IsHeld c.in_ok-layout.layout.index c.in_ok-layout.layout.masks layers) (sym c.read_all-layers.ensures)
-        (read_is_held _ _ _ _ all c.in_ok-layout.ensures.found) }
+    record {
+      held = subst (λ (layers : List Layer). IsHeld c.in_ok-layout.layout.index c.in_ok-layout.layout.masks layers) (sym c.read_all-layers.ensures)
+          (read_is_held _ _ _ _ all c.in_ok-layout.ensures.found);
+    }
 
 -- the allocation of the parts that were found
 result_is : (c : After-new) → c.new.result ≡ record {
