@@ -12,3 +12,5 @@ pub mod AllocationWritingLemmas
 pub mod AllocationTrimming
 pub mod AllocationSpelling
 pub mod AllocationWriting
+mod UpToLemmas
+mod VideoLayersLemmas
