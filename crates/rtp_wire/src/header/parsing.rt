@@ -1,11 +1,13 @@
 //! From bytes to a header.
 
-ghost use Rattle.std.specs.Prelude.{◌↔◌, ◌≡◌, ◌≤◌, ◌++◌, length, drop, map, true, false, IsOk, IfOk, OnErr, IfSome};
+ghost use Rattle.std.specs.Prelude.{◌↔◌, ◌≡◌, ◌≤◌, ◌++◌, length, drop, map, true, false, IsOk, IfOk, OnOk, OnErr, IfSome};
 ghost use Rattle.std.specs.Bool.{OnTrue};
 ghost use Rattle.std.specs.Int.{w32, from_be_bytes};
-ghost use Rattle.rtp_wire.specs.RefusedMemory.{BlockHasAllocation, HeaderHasAllocation, IsWireStopped};
+ghost use Rattle.rtp_wire.specs.PacketElements.{HasValues};
+ghost use Rattle.rtp_wire.specs.RefusedMemory.{AreValuesStopped, BlockHasAllocation, HeaderHasAllocation, IsWireStopped};
 ghost use Rattle.rtp_wire.specs.NotAHeader.{NotAHeader};
 ghost use Rattle.rtp_wire.specs.Header.{header_of, IsHeaderOf, IsWire};
+ghost use Rattle.rtp_values.specs.declared.value.values.ExtensionValues.{ExtensionValues};
 ghost use Rattle.rtp_values.specs.Values.{no_values};
 
 use super::RtpHeader;
@@ -144,6 +146,43 @@ impl<'a> RtpPacket<'a> {
         self.put_fields(&mut header);
         self.read_values(alloc, exts, &mut header.ext_vals)?;
         Ok(header)
+    }
+
+    // Reads the values of the block, where none are held before.
+    #[inline(always)]
+    pub(crate) fn read_values<K: Kinds>(
+        &self,
+        alloc: Global,
+        exts: &K,
+        values: &mut ExtensionValues,
+    ) -> Result<(), AllocError>
+        requires { values.old ≡ no_values }
+        ensures found { OnOk result (HasValues (K.slots exts.now) (parts_of self.now).block values.new) }
+        ensures memory { OnErr result (BlockHasAllocation (K.slots exts.now) (parts_of self.now).block) }
+        ensures stopped { OnErr result (AreValuesStopped (K.slots exts.now) (parts_of self.now).block values.new) }
+        ensures succeeds { (BlockHasAllocation (K.slots exts.now) (parts_of self.now).block → ⊥) → IsOk result }
+    {
+        let Some((form, body)) = self.block() else {
+            return Ok(());
+        };
+        rtp_ext::read_values(exts, alloc, body, form, values)
+    }
+
+    /// Returns the values that the elements of the block give under the map, and none where X is
+    /// clear. Nothing is allocated except the lists of a layer allocation: an element of two bytes or
+    /// more whose id is mapped to it. Where that memory is refused nothing is returned.
+    pub fn values<K: Kinds>(&self, alloc: Global, exts: &K) -> Result<ExtensionValues, AllocError>
+        ensures found { IfOk result (HasValues (K.slots exts.now) (parts_of self.now).block) }
+
+        // The block gives no other values.
+        ensures only { (values : ExtensionValues) → HasValues (K.slots exts.now) (parts_of self.now).block values →
+            IfOk result (λ found. found ≡ values) }
+        ensures memory { OnErr result (BlockHasAllocation (K.slots exts.now) (parts_of self.now).block) }
+        ensures succeeds { (BlockHasAllocation (K.slots exts.now) (parts_of self.now).block → ⊥) → IsOk result }
+    {
+        let mut values = ExtensionValues::default();
+        self.read_values(alloc, exts, &mut values)?;
+        Ok(values)
     }
 }
 
