@@ -250,7 +250,8 @@ impl RtpHeader {
         at + write_block(kinds, start, form, &mut buf[at..], &self.ext_vals)
     }
 
-    // The twelve bytes that every header begins with, with this X.
+    // The twelve bytes that every header begins with, with this X. The ranges are those of the types,
+    // of which a caller is told that doesn't read the fields itself.
     fn fixed_bytes(&self, has_extension: bool) -> [u8; 12]
         requires payload_type { self.now.payload_type ≤ 127 }
         requires sources { self.now.csrc_count ≤ 15 }
