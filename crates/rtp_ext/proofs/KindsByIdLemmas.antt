@@ -1,5 +1,5 @@
 -- The known extensions by their ids: what a table of kinds shows, and what the known extensions of a map read.
-use Rattle.std.proofs.Common.{◌≡◌, ℕ, ◌+◌, ◌-◌, ◌<◌, suc, zero, List, [], ◌∷◌, ◌++◌, length, map, take, drop, replicate, set, get_or, true, false, Option, Some, None, Result, Ok, Err, OnOk, OnErr, All, arith, ap, refl, sym, ◌∙◌, subst, append_assoc, length-drop}
+use Rattle.std.proofs.Common.{◌≡◌, ℕ, ◌+◌, ◌-◌, ◌<◌, suc, zero, List, [], ◌∷◌, ◌++◌, length, map, take, drop, replicate, set, get_or, true, false, Option, Some, None, All, arith, ap, refl, sym, ◌∙◌, subst, append_assoc, length-drop}
 use Rattle.std.specs.Option.{is_some}
 use Rattle.std.proofs.Math.ListN.{get_or-map}
 use Rattle.std.proofs.lemmas.List.{get_or_default, map-set, take_all}
@@ -218,11 +218,3 @@ IsStopped-known exts known elements old new is stopped = record {
   at = HasAllocation-known exts known elements is stopped.at;
   values_are = AreValues-known exts known stopped.at.before old new is stopped.values_are;
 }
-
-pub OnOk-weaker : {T E : Type 0} (r : Result T E) (P Q : Type 0) → (P → Q) → OnOk r P → OnOk r Q
-OnOk-weaker (Ok x) P Q weaker p = weaker p
-OnOk-weaker (Err e) P Q weaker p = tt
-
-pub OnErr-weaker : {T E : Type 0} (r : Result T E) (P Q : Type 0) → (P → Q) → OnErr r P → OnErr r Q
-OnErr-weaker (Ok x) P Q weaker p = tt
-OnErr-weaker (Err e) P Q weaker p = weaker p

@@ -12,7 +12,7 @@ use std::alloc::{AllocError, Global};
 
 /// Reads the elements of a block's body into the values, under any map, as [`ExtensionMap::parse`]
 /// does.
-#[inline(always)]
+#[inline(never)]
 pub fn read_values<K: Kinds>(
     kinds: &K,
     alloc: Global,
@@ -26,25 +26,6 @@ pub fn read_values<K: Kinds>(
         AreElements form buf.now elements → IsStopped (K.slots kinds.now) elements ev.old ev.new) }
     ensures succeeds { (elements : List Element) → AreElements form buf.now elements →
         (HasAllocation (K.slots kinds.now) elements → ⊥) → IsOk result }
-{
-    read_known(kinds, alloc, buf, form, ev)
-}
-
-// The same of the known extensions.
-#[inline(never)]
-fn read_known<K: Kinds>(
-    kinds: &K,
-    alloc: Global,
-    buf: &[u8],
-    form: ExtensionsForm,
-    ev: &mut ExtensionValues,
-) -> Result<(), AllocError>
-    ensures values { OnOk result ((elements : List Element) →
-        AreElements form buf.now elements → AreValues (K.known kinds.now) elements ev.old ev.new) }
-    ensures refused { OnErr result ((elements : List Element) →
-        AreElements form buf.now elements → IsStopped (K.known kinds.now) elements ev.old ev.new) }
-    ensures succeeds { (elements : List Element) → AreElements form buf.now elements →
-        (HasAllocation (K.known kinds.now) elements → ⊥) → IsOk result }
 {
     match form {
         ExtensionsForm::OneByte => read_in(kinds, alloc, buf, ExtensionsForm::OneByte, ev),
@@ -62,11 +43,11 @@ fn read_in<K: Kinds>(
     ev: &mut ExtensionValues,
 ) -> Result<(), AllocError>
     ensures values { OnOk result ((elements : List Element) →
-        AreElements form buf.now elements → AreValues (K.known kinds.now) elements ev.old ev.new) }
+        AreElements form buf.now elements → AreValues (K.slots kinds.now) elements ev.old ev.new) }
     ensures refused { OnErr result ((elements : List Element) →
-        AreElements form buf.now elements → IsStopped (K.known kinds.now) elements ev.old ev.new) }
+        AreElements form buf.now elements → IsStopped (K.slots kinds.now) elements ev.old ev.new) }
     ensures succeeds { (elements : List Element) → AreElements form buf.now elements →
-        (HasAllocation (K.known kinds.now) elements → ⊥) → IsOk result }
+        (HasAllocation (K.slots kinds.now) elements → ⊥) → IsOk result }
 {
     for (id, bytes) in Elements::new(buf, form) {
         if let Some(kind) = kinds.get(id) {

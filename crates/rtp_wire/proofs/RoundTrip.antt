@@ -14,8 +14,7 @@ use Rattle.rtp_wire.specs.Packet.{IsFirstByte, IsFixedPart, IsAnnounced, IsPacke
 use Rattle.rtp_wire.proofs.HeaderLemmas.{IsHeaderOf-read}
 use Rattle.rtp_wire.proofs.PartsLemmas.{length-announced}
 use Rattle.rtp_base.specs.Overwriting.{overwritten}
-use Rattle.rtp_wire.specs.Written.{fixed_bytes, source_bytes, header_bytes, parts_written, wire_bytes, carried_image, image_of}
-use Rattle.rtp_wire.specs.WrittenInForm.{part_in, wire_bytes_in, image_in}
+use Rattle.rtp_wire.specs.Written.{fixed_bytes, source_bytes, header_bytes, parts_written, extension_bytes, wire_bytes, carried_image, image_of}
 use Rattle.rtp_wire.proofs.GroupLemmas.{AreFours}
 use Rattle.rtp_base.proofs.OverwritingLemmas.{overwritten-three}
 use Rattle.rtp_wire.proofs.GroupLemmas.{length-numbers}
@@ -36,10 +35,10 @@ length-header_bytes h part within =
     length-numbers (take h.csrc_count h.csrc) ∙ ap (λ (k : ℕ). 4 * k) (length-take-le h.csrc_count h.csrc within) in
     omega (arith, length-append (fixed_bytes h) (source_bytes h ++ part), length-append (source_bytes h) part, sources)
 
-pub length-wire_bytes_in : (form : Option ExtensionsForm) (exts : Slots) (h : RtpHeader) → h.csrc_count ≤ length h.csrc
-    → length (wire_bytes_in form exts h) ≡ 12 + 4 * h.csrc_count + length (part_in form exts h.ext_vals)
-unfolding wire_bytes_in
-length-wire_bytes_in form exts h within = length-header_bytes h (part_in form exts h.ext_vals) within
+pub length-wire_bytes : (exts : Slots) (h : RtpHeader) → h.csrc_count ≤ length h.csrc
+    → length (wire_bytes exts h) ≡ 12 + 4 * h.csrc_count + length (extension_bytes exts h.has_extension h.ext_vals)
+unfolding wire_bytes
+length-wire_bytes exts h within = length-header_bytes h (extension_bytes exts h.has_extension h.ext_vals) within
 
 -- ---- the sources
 
@@ -98,25 +97,27 @@ packet-written h part block rest fits announced =
 unfoldable image_with : RtpHeader → ExtensionValues → ℕ → ℕ → RtpHeader
 image_with h values count len = record h { version = 2; csrc_count = count; csrc = take h.csrc_count h.csrc ++ replicate (15 - count) 0; ext_vals = values; header_len = len }
 
-image-parts : (h : RtpHeader) (form : Option ExtensionsForm) (exts : Slots) (block : Option (ExtensionsForm × List ℕ)) (rest : List ℕ) → IsInRange h
-    → IsAnnounced h.has_extension block (part_in form exts h.ext_vals)
-    → image_in form exts h ≡ header_of (parts_written h block rest) (carried_image exts h.has_extension h.ext_vals)
+image-parts : (h : RtpHeader) (exts : Slots) (block : Option (ExtensionsForm × List ℕ)) (rest : List ℕ) → IsInRange h
+    → IsAnnounced h.has_extension block (extension_bytes exts h.has_extension h.ext_vals)
+    → image_of exts h ≡ header_of (parts_written h block rest) (carried_image exts h.has_extension h.ext_vals)
 unfolding image_of image_with
-image-parts h form exts block rest fits part =
+image-parts h exts block rest fits part =
     let values = carried_image exts h.has_extension h.ext_vals in
-    let len : length (wire_bytes_in form exts h) ≡ header_len_of (parts_written h block rest) =
-    omega (arith, length-wire_bytes_in form exts h (omega (arith, fits.count, fits.slots)), length-announced h.has_extension block (part_in form exts h.ext_vals) part, number h fits) in
-    ap (λ (k : ℕ). image_with h values k (length (wire_bytes_in form exts h))) (sym (number h fits)) ∙ ap (image_with h values (length (take h.csrc_count h.csrc))) len
+    let len : length (wire_bytes exts h) ≡ header_len_of (parts_written h block rest) =
+    omega (arith, length-wire_bytes exts h (omega (arith, fits.count, fits.slots)), length-announced h.has_extension block (extension_bytes exts h.has_extension h.ext_vals) part, number h fits) in
+    ap (λ (k : ℕ). image_with h values k (length (wire_bytes exts h))) (sym (number h fits)) ∙ ap (image_with h values (length (take h.csrc_count h.csrc))) len
 
-pub IsWire-written : (h : RtpHeader) (form : Option ExtensionsForm) (exts : Slots) (rest : List ℕ) → IsInRange h
-    → IsExtensionPart exts h.has_extension (part_in form exts h.ext_vals) (carried_image exts h.has_extension h.ext_vals)
-    → IsWire exts (wire_bytes_in form exts h ++ rest) (image_in form exts h)
-unfolding wire_bytes_in image_of
-IsWire-written h form exts rest fits part = record {
-  parts = parts_written h part.block rest;
-  is_packet = packet-written h (part_in form exts h.ext_vals) part.block rest fits part.is_part;
-  is_header = IsHeaderOf-read exts (parts_written h part.block rest) (carried_image exts h.has_extension h.ext_vals) (carried_image exts h.has_extension h.ext_vals) (image_in form exts h) (image-parts h form exts part.block rest fits part.is_part) part.has_values;
-}
+pub IsWire-written : (h : RtpHeader) (exts : Slots) (rest : List ℕ) → IsInRange h
+    → IsExtensionPart exts h.has_extension (extension_bytes exts h.has_extension h.ext_vals) (carried_image exts h.has_extension h.ext_vals)
+    → IsWire exts (wire_bytes exts h ++ rest) (image_of exts h)
+unfolding wire_bytes image_of
+IsWire-written h exts rest fits part =
+    let values = carried_image exts h.has_extension h.ext_vals in
+    record {
+      parts = parts_written h part.block rest;
+      is_packet = packet-written h (extension_bytes exts h.has_extension h.ext_vals) part.block rest fits part.is_part;
+      is_header = IsHeaderOf-read exts (parts_written h part.block rest) values values (image_of exts h) (image-parts h exts part.block rest fits part.is_part) part.has_values;
+    }
 
 -- V, P, X and CC in the first byte
 pub IsFirstByte-written : (h : RtpHeader) (exts : ExtensionMap) (bytes rest : List ℕ) → bytes ≡ wire_bytes exts h ++ rest → h.csrc_count ≤ 15
@@ -143,12 +144,12 @@ header_bytes-from_pieces h part buf one two three fixed first second third withi
     (overwritten-three buf (fixed_bytes h) (source_bytes h) part first second (omega arith) (omega arith) (omega arith)) in
     (end, put ∙ ap (λ (k : ℕ). header_bytes h part ++ drop k buf) (sym end))
 
--- the same where the part is a block in the form
-pub wire_bytes_in-from_pieces : (h : RtpHeader) (form : Option ExtensionsForm) (exts : Slots) (buf one two three fixed : List ℕ) (first second third : ℕ)
-    → h.csrc_count ≤ length h.csrc → length (wire_bytes_in form exts h) ≤ length buf → fixed ≡ fixed_bytes h
+-- the same for a header under a map
+pub wire_bytes-from_pieces : (h : RtpHeader) (exts : Slots) (buf one two three fixed : List ℕ) (first second third : ℕ)
+    → h.csrc_count ≤ length h.csrc → length (wire_bytes exts h) ≤ length buf → fixed ≡ fixed_bytes h
     → one ≡ overwritten buf 0 fixed → first ≡ 0 + length fixed
     → two ≡ overwritten one first (source_bytes h) → second ≡ first + 4 * length (take h.csrc_count h.csrc)
-    → three ≡ overwritten two second (part_in form exts h.ext_vals) → third ≡ second + length (part_in form exts h.ext_vals)
-    → (third ≡ length (wire_bytes_in form exts h)) × (three ≡ wire_bytes_in form exts h ++ drop third buf)
-unfolding wire_bytes_in
-wire_bytes_in-from_pieces h form exts = header_bytes-from_pieces h (part_in form exts h.ext_vals)
+    → three ≡ overwritten two second (extension_bytes exts h.has_extension h.ext_vals) → third ≡ second + length (extension_bytes exts h.has_extension h.ext_vals)
+    → (third ≡ length (wire_bytes exts h)) × (three ≡ wire_bytes exts h ++ drop third buf)
+unfolding wire_bytes
+wire_bytes-from_pieces h exts = header_bytes-from_pieces h (extension_bytes exts h.has_extension h.ext_vals)

@@ -1,7 +1,7 @@
 //! A block of header extensions as it is written: the word of its form, the number of its words, and
 //! its body.
 
-ghost use Rattle.std.specs.Prelude.{◌≡◌, ◌⊎◌, ℕ, ◌+◌, ◌*◌, ◌%◌, ◌≤◌, ◌<◌, List, ◌++◌, length, drop, replicate, true, IsTrue, ◌↔◌, IfSome, IfNone};
+ghost use Rattle.std.specs.Prelude.{◌≡◌, ◌⊎◌, ℕ, ◌+◌, ◌*◌, ◌≤◌, ◌<◌, List, ◌++◌, length, drop, replicate, true, IsTrue, ◌↔◌, IfSome, IfNone};
 ghost use Rattle.std.specs.Int.{w16, to_be_bytes};
 ghost use Rattle.rtp_base.specs.Overwriting.{overwritten};
 ghost use Rattle.rtp_ext.specs.Form.{form_word};
@@ -10,9 +10,9 @@ ghost use Rattle.rtp_ext.specs.ElementsInARow.{elements_of, form_for, FitInARow,
 ghost use Rattle.rtp_wire.specs.Header.{IsExtensionPart};
 ghost use Rattle.rtp_wire.specs.WrittenWith.{body_with};
 ghost use Rattle.rtp_ext.specs.WrittenBlock.{IsShort, form_of, block_of, filled, image_values, whole_words};
-ghost use Rattle.rtp_wire.specs.WrittenInForm.{block_bytes_in};
-ghost use Rattle.rtp_ext.specs.ExtensionMap.{items_from, mapped_count};
-ghost use Rattle.rtp_ext.specs.declared.form.ExtensionsForm.TheVariants.{OneByte, TwoByte};
+ghost use Rattle.rtp_wire.specs.WrittenInForm.{block_bytes_in, IsWithinMap};
+ghost use Rattle.rtp_ext.specs.ExtensionMap.{items_from};
+ghost use Rattle.rtp_ext.specs.declared.form.ExtensionsForm.TheVariants.{OneByte};
 
 use rtp_base::put;
 use rtp_ext::{
@@ -59,9 +59,7 @@ pub(super) fn block_len<K: Kinds>(
     requires start { K.left kinds.now start ≡ items_from 0 (K.known kinds.now) }
     requires few_ids { length (items_from 0 (K.known kinds.now)) ≤ 255 }
     ensures length { result ≡ length (block_bytes_in form (K.slots kinds.now) ev.now) }
-    ensures words { result % 4 ≡ 0 }
-    ensures by_map { result ≤ 4 + whole_words (257 * mapped_count (K.slots kinds.now)) }
-    ensures bound { result ≤ 65540 }
+    ensures few { IsWithinMap (K.slots kinds.now) result }
 {
     let elements_len = values_len(kinds, start, ev, form);
     HEADER_LEN + elements_len.next_multiple_of(4)
@@ -116,14 +114,12 @@ pub(super) fn write_block<K: Kinds>(
 ) -> usize
     requires start { K.left kinds.now start ≡ items_from 0 (K.known kinds.now) }
     requires few_ids { length (items_from 0 (K.known kinds.now)) ≤ 255 }
-    requires form { (form ≡ form_of (K.slots kinds.now) ev.now) ⊎ (form ≡ TwoByte) }
+    requires form { form ≡ form_of (K.slots kinds.now) ev.now }
     requires room { length (block_bytes_in form (K.slots kinds.now) ev.now) ≤ length buf.old }
     ensures written { buf.new
         ≡ block_bytes_in form (K.slots kinds.now) ev.now ++ drop result buf.old }
     ensures length { result ≡ length (block_bytes_in form (K.slots kinds.now) ev.now) }
-    ensures words { result % 4 ≡ 0 }
-    ensures by_map { result ≤ 4 + whole_words (257 * mapped_count (K.slots kinds.now)) }
-    ensures bound { result ≤ 65540 }
+    ensures few { IsWithinMap (K.slots kinds.now) result }
 
     // What was written is read as the image of the values.
     ensures read_back { IsExtensionPart (K.slots kinds.now) true

@@ -1,14 +1,25 @@
 //! From a header to bytes.
 
-ghost use Rattle.std.specs.Prelude.{◌≡◌, ℕ, ◌+◌, ◌*◌, ◌%◌, ◌≤◌, ◌↔◌, ◌++◌, List, length, drop, slice_index, IsNone, IfSome, IfNone};
-ghost use Rattle.rtp_ext.specs.ExtensionMap.{mapped_count, HasNoIdAbove};
-ghost use Rattle.rtp_ext.specs.WrittenBlock.{whole_words};
-ghost use Rattle.rtp_wire.specs.Header.{IsWire};
-ghost use Rattle.rtp_wire.specs.Packet.{IsFirstByte};
-ghost use Rattle.rtp_wire.specs.Written.{wire_bytes, image_of, CannotBeWritten};
+ghost use Rattle.std.specs.Prelude.{◌≡◌, ℕ, ◌+◌, ◌*◌, ◌%◌, ◌^◌, ◌<◌, ◌≤◌, ◌↔◌, ◌++◌, List, length, drop, slice_index, Some, IsTrue, IsNone, IfSome, IfNone};
+ghost use Rattle.std.specs.List.{flat_map};
+ghost use Rattle.std.specs.Int.{w32, to_be_bytes};
+ghost use Rattle.rtp_base.specs.Overwriting.{overwritten};
+ghost use Rattle.rtp_ext.specs.declared.form.ExtensionsForm.TheVariants.{OneByte};
+ghost use Rattle.rtp_ext.specs.Elements.{AreElements};
+ghost use Rattle.rtp_ext.specs.ElementsInARow.{elements_of, form_for};
+ghost use Rattle.rtp_ext.specs.ExtensionMap.{items_from, mapped_count, HasNoIdAbove};
+ghost use Rattle.rtp_ext.specs.WrittenBlock.{IsShort, whole_words};
+ghost use Rattle.rtp_wire.specs.Header.{IsExtensionPart, IsWire};
+ghost use Rattle.rtp_wire.specs.Packet.{IsFirstByte, IsPacket};
+ghost use Rattle.rtp_wire.specs.Written.{fixed_bytes, extension_bytes, wire_bytes, carried_image, image_of, CannotBeWritten};
+ghost use Rattle.rtp_wire.specs.WrittenInForm.{announced_form, IsWithinMap};
+ghost use Rattle.rtp_wire.specs.WrittenWith.{body_with, wire_bytes_with, parts_with, CannotBeWrittenWith};
 
 use super::RtpHeader;
-use rtp_ext::Kinds;
+use super::block::{block_fits, block_form, block_len, write_block, write_block_of};
+use crate::packet::flag;
+use rtp_base::put;
+use rtp_ext::{Cursor, ExtensionsForm, Kinds, values_form};
 
 impl RtpHeader {
     /// Returns how many bytes [`write_to`](Self::write_to) writes under the map: a multiple of
@@ -24,8 +35,12 @@ impl RtpHeader {
         ensures small { HasNoIdAbove 16 (K.slots exts.now) → result ≤ 4188 }
         ensures bound { result ≤ 65612 }
     {
+        let before = 12 + 4 * self.csrc_count;
         let start = exts.start();
-        self.len_in(exts, start, self.form(exts, start))
+        match self.form(exts, start) {
+            Some(form) => before + block_len(exts, start, form, &self.ext_vals),
+            None => before,
+        }
     }
 
     /// Writes the header to the front of the buffer and returns how many bytes it took; the bytes
@@ -79,7 +94,198 @@ impl RtpHeader {
         ensures read_back { IfSome result (λ _. (rest : List ℕ) →
             IsWire (K.slots exts.now) (wire_bytes (K.slots exts.now) self.now ++ rest) (image_of (K.slots exts.now) self.now)) }
     {
+        if self.csrc_count > 15 || self.payload_type.get() > 127 {
+            return None;
+        }
         let start = exts.start();
-        self.try_write_in(buf, exts, start, self.form(exts, start))
+        let form = self.form(exts, start);
+        if !self.fits(buf.len(), exts, start, form) {
+            return None;
+        }
+        Some(self.write_in(buf, exts, start, form))
     }
+
+    /// Writes the fixed part and the CSRC list of this header, and a block with these elements, pairs
+    /// of an id and its data, to the front of the buffer and returns how many bytes they take; the
+    /// bytes after them stay as they were (RFC 3550, 5.1; RFC 8285, 4.2 and 4.3). X is set whatever
+    /// `has_extension` holds, and nothing is written of `ext_vals`. The block is in the one-byte form
+    /// exactly where that can carry every element, ids 1 to 14 with 1 to 16 bytes of data; zeros fill
+    /// its last word. Nothing is allocated.
+    ///
+    /// `None`, and then nothing is written, where the payload type is above 127, there are more than
+    /// 15 contributing sources, an element has the id 0 or more than 255 bytes of data, the elements
+    /// take more than the 65,535 words that a block can have, or the buffer is too short.
+    ///
+    /// With the elements 1 of `AA` and 2 of `BB CC`, the payload type 33, the sequence number 47,000,
+    /// the timestamp 10,000 and the SSRC 44, the 24 bytes are
+    /// `90 21 B7 98 00 00 27 10 00 00 00 2C BE DE 00 02 10 AA 21 BB CC 00 00 00`.
+    pub fn write_with(&self, buf: &mut [u8], elements: &[(u8, &[u8])]) -> Option<usize>
+        ensures refused { IsNone result
+            ↔ CannotBeWrittenWith self.now (elements_of elements.now) (length buf.old) }
+        ensures unchanged { IfNone result (buf.new ≡ buf.old) }
+        ensures written { IfSome result (λ len.
+            buf.new ≡ wire_bytes_with self.now (elements_of elements.now) ++ drop len buf.old) }
+        ensures length { IfSome result (λ len.
+            len ≡ length (wire_bytes_with self.now (elements_of elements.now))) }
+
+        // What was written, followed by anything, is a packet of the header's fields and this block.
+        ensures read_back { IfSome result (λ _. (rest : List ℕ) →
+            IsPacket (wire_bytes_with self.now (elements_of elements.now) ++ rest)
+            (parts_with self.now (elements_of elements.now) rest)) }
+
+        // The block has these elements.
+        ensures elements { IfSome result (λ _. AreElements (form_for (elements_of elements.now))
+            (body_with (elements_of elements.now)) (elements_of elements.now)) }
+    {
+        if self.payload_type.get() > 127 || self.csrc_count > 15 {
+            return None;
+        }
+        let start = 12 + 4 * self.csrc_count;
+        let form = block_form(buf.len().saturating_sub(start), elements)?;
+        let end = put(buf, 0, &self.fixed_bytes(true));
+        let end = put_sources(buf, end, &self.csrc[..self.csrc_count]);
+        Some(end + write_block_of(&mut buf[end..], form, elements))
+    }
+
+    // The form of the block that X announces, and `None` where X is clear.
+    #[inline(always)]
+    fn form<K: Kinds>(&self, kinds: &K, start: Cursor) -> Option<ExtensionsForm>
+        requires { K.left kinds.now start ≡ items_from 0 (K.known kinds.now) }
+        ensures form { result
+            ≡ announced_form (K.slots kinds.now) self.now.has_extension self.now.ext_vals }
+        ensures short { result ≡ Some OneByte → IsShort (K.known kinds.now) self.now.ext_vals }
+    {
+        if !self.has_extension {
+            return None;
+        }
+        Some(values_form(kinds, start, &self.ext_vals))
+    }
+
+    // Whether the header has room, with its block in this form.
+    #[inline(always)]
+    fn fits<K: Kinds>(
+        &self,
+        room: usize,
+        kinds: &K,
+        start: Cursor,
+        form: Option<ExtensionsForm>,
+    ) -> bool
+        requires start { K.left kinds.now start ≡ items_from 0 (K.known kinds.now) }
+        requires few_ids { length (items_from 0 (K.known kinds.now)) ≤ 255 }
+        requires sources { self.now.csrc_count ≤ 15 }
+        requires form { form
+            ≡ announced_form (K.slots kinds.now) self.now.has_extension self.now.ext_vals }
+        requires short { form ≡ Some OneByte → IsShort (K.known kinds.now) self.now.ext_vals }
+        ensures { IsTrue result ↔ (length (wire_bytes (K.slots kinds.now) self.now) ≤ room) }
+    {
+        let Some(left) = room.checked_sub(12 + 4 * self.csrc_count) else {
+            return false;
+        };
+        match form {
+            Some(form) => block_fits(kinds, start, form, &self.ext_vals, left),
+            None => true,
+        }
+    }
+
+    // Writes the header, with its block in this form, to the front of the buffer, and returns its
+    // length.
+    #[inline(always)]
+    fn write_in<K: Kinds>(
+        &self,
+        buf: &mut [u8],
+        kinds: &K,
+        start: Cursor,
+        form: Option<ExtensionsForm>,
+    ) -> usize
+        requires start { K.left kinds.now start ≡ items_from 0 (K.known kinds.now) }
+        requires few_ids { length (items_from 0 (K.known kinds.now)) ≤ 255 }
+        requires payload_type { self.now.payload_type ≤ 127 }
+        requires sources { self.now.csrc_count ≤ 15 }
+        requires form { form
+            ≡ announced_form (K.slots kinds.now) self.now.has_extension self.now.ext_vals }
+        requires room { length (wire_bytes (K.slots kinds.now) self.now) ≤ length buf.old }
+        ensures written { buf.new ≡ wire_bytes (K.slots kinds.now) self.now ++ drop result buf.old }
+        ensures length { result ≡ length (wire_bytes (K.slots kinds.now) self.now) }
+        ensures few { IsWithinMap (K.slots kinds.now)
+            (length (extension_bytes (K.slots kinds.now) self.now.has_extension self.now.ext_vals)) }
+        ensures read_back { (rest : List ℕ) → IsWire (K.slots kinds.now)
+            (wire_bytes (K.slots kinds.now) self.now ++ rest) (image_of (K.slots kinds.now) self.now) }
+    {
+        let sources = &self.csrc[..self.csrc_count];
+        let end = put(buf, 0, &self.fixed_bytes(self.has_extension));
+        let end = put_sources(buf, end, sources);
+        self.put_extension(buf, end, kinds, start, form)
+    }
+
+    // Puts the block in this form, and returns the offset after it.
+    #[inline(always)]
+    fn put_extension<K: Kinds>(
+        &self,
+        buf: &mut [u8],
+        at: usize,
+        kinds: &K,
+        start: Cursor,
+        form: Option<ExtensionsForm>,
+    ) -> usize
+        requires start { K.left kinds.now start ≡ items_from 0 (K.known kinds.now) }
+        requires few_ids { length (items_from 0 (K.known kinds.now)) ≤ 255 }
+        requires form { form
+            ≡ announced_form (K.slots kinds.now) self.now.has_extension self.now.ext_vals }
+        requires room { at
+            + length (extension_bytes (K.slots kinds.now) self.now.has_extension self.now.ext_vals)
+            ≤ length buf.old }
+        ensures written { buf.new ≡ overwritten buf.old at
+            (extension_bytes (K.slots kinds.now) self.now.has_extension self.now.ext_vals) }
+        ensures end { result ≡ at
+            + length (extension_bytes (K.slots kinds.now) self.now.has_extension self.now.ext_vals) }
+        ensures few { IsWithinMap (K.slots kinds.now)
+            (length (extension_bytes (K.slots kinds.now) self.now.has_extension self.now.ext_vals)) }
+        ensures read_back { IsExtensionPart (K.slots kinds.now) self.now.has_extension
+            (extension_bytes (K.slots kinds.now) self.now.has_extension self.now.ext_vals)
+            (carried_image (K.slots kinds.now) self.now.has_extension self.now.ext_vals) }
+    {
+        let Some(form) = form else {
+            return at;
+        };
+        at + write_block(kinds, start, form, &mut buf[at..], &self.ext_vals)
+    }
+
+    // The twelve bytes that every header begins with, with this X. The ranges are those of the types,
+    // of which a caller is told that doesn't read the fields itself.
+    fn fixed_bytes(&self, has_extension: bool) -> [u8; 12]
+        requires payload_type { self.now.payload_type ≤ 127 }
+        requires sources { self.now.csrc_count ≤ 15 }
+        ensures bytes { result ≡ fixed_bytes (record self.now { has_extension = has_extension }) }
+        ensures number { self.now.sequence_number < 2 ^ 16 }
+        ensures timestamp { self.now.timestamp < 2 ^ 32 }
+        ensures ssrc { self.now.ssrc < 2 ^ 32 }
+    {
+        let sequence_number = self.sequence_number;
+        let timestamp = self.timestamp;
+        // The bits lie apart, so the sums are their `|`.
+        let first = 0x80
+            + flag(self.has_padding, 0x20)
+            + flag(has_extension, 0x10)
+            + self.csrc_count as u8;
+        let second = flag(self.marker, 0x80) + self.payload_type.get();
+        let mut bytes = [first, second, 0, 0, 0, 0, 0, 0, 0, 0, 0, 0];
+        put(&mut bytes, 2, &sequence_number.to_be_bytes());
+        put(&mut bytes, 4, &timestamp.to_be_bytes());
+        put(&mut bytes, 8, &self.ssrc.get().to_be_bytes());
+        bytes
+    }
+}
+
+// Puts four bytes for each source, and returns the offset after them.
+fn put_sources(buf: &mut [u8], at: usize, sources: &[u32]) -> usize
+    requires { at + 4 * length sources.now ≤ length buf.old }
+    ensures written { buf.new ≡ overwritten buf.old at (flat_map (to_be_bytes w32) sources.now) }
+    ensures end { result ≡ at + 4 * length sources.now }
+    ensures in_range { (i : ℕ) → slice_index sources.now i < 2 ^ 32 }
+{
+    let mut end = at;
+    for source in sources {
+        end = put(buf, end, &source.to_be_bytes());
+    }
+    end
 }

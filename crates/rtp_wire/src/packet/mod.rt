@@ -1,6 +1,5 @@
 //! An RTP packet where it lies in the bytes of a datagram.
 
-mod block;
 mod csrcs;
 mod not_a_packet;
 mod rtp_packet;

@@ -3,17 +3,19 @@
 ghost use Rattle.std.specs.Prelude.{◌≡◌, ◌↔◌, ◌+◌, ◌*◌, ◌/◌, ◌%◌, ◌<◌, ◌≤◌, ℕ, List, Some, length, map, slice_index, is_some, true, IsNone, IsErr, IfOk, IfErr, IfSome, IsOkAnd, IsSomeAnd};
 ghost use Rattle.std.specs.Int.{w32, from_be_bytes};
 ghost use Rattle.std.specs.Option.{option_map};
+ghost use Rattle.rtp_ext.specs.Elements.{Element};
 ghost use Rattle.rtp_wire.specs.Block.{word_at};
 ghost use Rattle.rtp_wire.specs.NotAHeader.{NotAHeader};
 ghost use Rattle.rtp_wire.specs.NotAPacket.{AppliesToBlock, IsFirst, IsFirstCause};
 ghost use Rattle.rtp_wire.specs.Packet.{PacketParts, IsPacket, IsWithoutPadding, header_len_of};
+ghost use Rattle.rtp_wire.specs.PacketElements.{AreElementsOf, IsLast};
 ghost use Rattle.rtp_wire.specs.Padding.{padding_count};
 ghost use Rattle.rtp_wire.specs.PartsAt.{form_in, form_of_word, has_block, header_end};
 
 use super::{Csrcs, NotAPacket};
 use crate::payload::unpad_payload;
 use rtp_base::{Pt, Ssrc};
-use rtp_ext::ExtensionsForm;
+use rtp_ext::{Elements, ExtensionsForm, element_of};
 
 /// An RTP packet in the bytes of a datagram, with a header that was found well-formed (RFC 3550,
 /// 5.1; RFC 8285, 4). What is asked of it is read from these bytes, and nothing is copied.
@@ -124,6 +126,48 @@ impl<'a> RtpPacket<'a> {
         } else {
             Some(self.payload())
         }
+    }
+
+    /// The form of the block and its body, and `None` exactly where X is clear (RFC 3550, 5.3.1; RFC
+    /// 8285, 4). It is for callers that pass the elements on, or read them in a way of their own:
+    /// [`elements`](Self::elements), [`element`](Self::element) and [`values`](Self::values) read them.
+    ///
+    /// The body is as long as the four bytes before it say, with all padding. It begins after these
+    /// four, and ends where the payload begins.
+    pub fn block(&self) -> Option<(ExtensionsForm, &'a [u8])>
+        ensures parts { option_map (λ block. (block.0, block.1.now)) result
+            ≡ (parts_of self.now).block }
+        ensures bytes { IfSome result (λ block. (i : ℕ) → slice_index block.1.now i < 256) }
+    {
+        let Some(form) = self.form else {
+            return None;
+        };
+        let start = sources_end(self.datagram[0]) + 4;
+        Some((form, &self.datagram[start..self.header_len]))
+    }
+
+    /// The elements of the block in order, and none where X is clear.
+    pub fn elements(&self) -> Elements<'a>
+        ensures found { AreElementsOf (parts_of self.now).block result }
+
+        // The block has no other elements.
+        ensures only { (elements : List Element) → AreElementsOf (parts_of self.now).block elements →
+            elements ≡ result }
+    {
+        match self.block() {
+            Some((form, body)) => Elements::new(body, form),
+            None => Elements::new(&[], ExtensionsForm::OneByte),
+        }
+    }
+
+    /// The data of the last element of this id, and `None` exactly where no element has it. An
+    /// element of the two-byte form may be without data, and then they are `Some` of no bytes.
+    pub fn element(&self, id: u8) -> Option<&'a [u8]>
+        ensures { (elements : List Element) → AreElementsOf (parts_of self.now).block elements →
+            IsLast elements id result }
+    {
+        let (form, body) = self.block()?;
+        element_of(form, body, id)
     }
 }
 

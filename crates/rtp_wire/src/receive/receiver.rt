@@ -11,7 +11,7 @@ ghost use Rattle.rtp_wire.specs.TrueNumbers.{IsTrueNumber};
 
 use super::Verdict;
 use super::state::{ReceiverState, RolloverCount};
-use super::widening::extended;
+use super::widening::extend_u16;
 use crate::packet::RtpPacket;
 use rtp_base::{SeqNo, SeqNoWindow};
 use std::marker::Model;
@@ -138,7 +138,10 @@ impl Receiver {
     {
         match &self.state {
             ReceiverState::Start(count) => count.number(sequence_number),
-            ReceiverState::Window(window) => extended(Some(window.max_seq()), sequence_number),
+            ReceiverState::Window(window) => {
+                let highest = window.max_seq().get();
+                SeqNo::from(extend_u16(Some(highest), sequence_number))
+            }
         }
     }
 

@@ -117,15 +117,6 @@ pub fn extend_u32(previous: Option<u64>, number: u32) -> u64
     widened(previous, u64::from(number), 32)
 }
 
-// The extended sequence number of a packet of this sequence number, after the previous one.
-pub(super) fn extended(previous: Option<SeqNo>, sequence_number: u16) -> SeqNo
-    ensures near { Extends 16 previous sequence_number result }
-    ensures only { (n : ℕ) → Extends 16 previous sequence_number n → result ≡ n }
-{
-    let previous = previous.map(|number| number.get());
-    SeqNo::from(extend_u16(previous, sequence_number))
-}
-
 impl RtpHeader {
     /// The extended sequence number of the packet: the 16 bits of the header, extended by
     /// [`extend_u16`] after the previous number.
@@ -133,6 +124,7 @@ impl RtpHeader {
         ensures near { Extends 16 previous self.now.sequence_number result }
         ensures only { (n : ℕ) → Extends 16 previous self.now.sequence_number n → result ≡ n }
     {
-        extended(previous, self.sequence_number)
+        let previous = previous.map(|number| number.get());
+        SeqNo::from(extend_u16(previous, self.sequence_number))
     }
 }

@@ -7,6 +7,7 @@ use Rattle.rtp_ext.specs.Memory.{IsStopped}
 use Rattle.rtp_values.specs.KnownKind.{extension_of_kind}
 use Rattle.rtp_ext.specs.BlockValues.{AreValues}
 use Rattle.rtp_ext.proofs.MemoryLemmas.{IsStopped-at, OnErr-from}
+use Rattle.rtp_ext.proofs.KindsByIdLemmas.{AreValues-known, IsStopped-known}
 use Rattle.rtp_ext.proofs.ValuesLaws.{AreValues-none, AreValues-passed, AreValues-parsed}
 use Rattle.rtp_ext.proofs.block_values.read_in.Goals as goal
 
@@ -31,22 +32,24 @@ returns-clause-values g c = λ elements are.
     let end = YieldsList-end (YieldsList-from_first (λ (item : ℕ × Bor (List ℕ)). (item.0, item.1.now)) (λ left. left)
     c.new-id-items.result c.into_iter-id-iterator.ensures.into_iter_gives)
     c.loop-id.yielded _ c.loop-id.yielded_by _ _ c.in-None.is c.next.ensures.steps in
-    subst (λ es. AreValues (g.K.Kinds.known c.args.kinds.now) es c.args.ev.now c.loop-id.ev) (end.0 ∙ sym (c.new-id-items.ensures.only elements are))
-    c.loop-id.invariant
+    AreValues-known (g.K.Kinds.slots c.args.kinds.now) _ elements _ _ (g.met.K.Kinds.known_is c.args.kinds.now)
+    (subst (λ es. AreValues (g.K.Kinds.known c.args.kinds.now) es c.args.ev.now c.loop-id.ev) (end.0 ∙ sym (c.new-id-items.ensures.only elements are))
+    c.loop-id.invariant)
 
 -- memory was refused to an element
 stopped : (g : _) (c : goal.After-from_residual g) (elements : List Element) → AreElements c.args.form c.args.buf.now elements
-    → IsStopped (g.K.Kinds.known c.args.kinds.now) elements c.args.ev.now c.parse_value.new.ev
+    → IsStopped (g.K.Kinds.slots c.args.kinds.now) elements c.args.ev.now c.parse_value.new.ev
 stopped g c elements are =
     let told = c.parse_value.ensures in
     let all = YieldsList-from_first (λ (item : ℕ × Bor (List ℕ)). (item.0, item.1.now)) (λ left. left)
     c.new-id-items.result c.into_iter-id-iterator.ensures.into_iter_gives in
     let done = YieldsList-so_far all c.loop-id.yielded _ c.loop-id.yielded_by in
     let turn = YieldsList-turn all c.loop-id.yielded _ c.loop-id.yielded_by _ _ (c.in-Some.id, c.in-Some.bytes) c.in-Some.is c.next.ensures.steps in
-    subst (λ es. IsStopped (g.K.Kinds.known c.args.kinds.now) es c.args.ev.now c.parse_value.new.ev) (sym (c.new-id-items.ensures.only elements are))
+    IsStopped-known (g.K.Kinds.slots c.args.kinds.now) _ elements _ _ (g.met.K.Kinds.known_is c.args.kinds.now)
+    (subst (λ es. IsStopped (g.K.Kinds.known c.args.kinds.now) es c.args.ev.now c.parse_value.new.ev) (sym (c.new-id-items.ensures.only elements are))
     (IsStopped-at (g.K.Kinds.known c.args.kinds.now) c.new-id-items.result _ (length c.loop-id.yielded) (c.in-Some.id, c.in-Some.bytes.now) (extension_of_kind c.in-Some-get.kind)
     c.args.ev.now c.loop-id.ev c.parse_value.new.ev done turn.0 turn.1 (sym c.get.ensures ∙ ap (option_map extension_of_kind) c.in-Some-get.is)
-    (told.refused (rw c.in_err-parse_value.was refl)) c.loop-id.invariant (told.unchanged (λ same. let is = c.in_err-parse_value.was in cc)))
+    (told.refused (rw c.in_err-parse_value.was refl)) c.loop-id.invariant (told.unchanged (λ same. let is = c.in_err-parse_value.was in cc))))
 
 pub returns-in_err-parse_value-clause-refused : goal.returns-in_err-parse_value-clause-refused
 returns-in_err-parse_value-clause-refused g c = OnErr-from c.from_residual.result _ (stopped g c)

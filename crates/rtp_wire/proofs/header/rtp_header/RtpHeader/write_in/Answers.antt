@@ -1,19 +1,19 @@
 use Rattle.std.proofs.Common.{arith, ap, ◌≡◌, ◌++◌, length, take, drop}
 use Rattle.std.proofs.lemmas.List.{length-take-le}
-use Rattle.rtp_wire.specs.WrittenInForm.{wire_bytes_in}
-use Rattle.rtp_wire.proofs.RoundTrip.{length-wire_bytes_in, wire_bytes_in-from_pieces, IsWire-written, AllByRecursion-from_each}
+use Rattle.rtp_wire.specs.Written.{wire_bytes}
+use Rattle.rtp_wire.proofs.RoundTrip.{length-wire_bytes, wire_bytes-from_pieces, IsWire-written, AllByRecursion-from_each}
 use Rattle.rtp_wire.proofs.header.rtp_header.RtpHeader.write_in.Goals as goal
 
 pub put-end-requires : goal.put-end-requires
 put-end-requires g c =
-    omega (arith, c.requires.room, length-wire_bytes_in c.args.form (g.K.Kinds.slots c.args.kinds.now) c.args.self.now (omega arith), ap length c.fixed_bytes.ensures.bytes)
+    omega (arith, c.requires.room, length-wire_bytes (g.K.Kinds.slots c.args.kinds.now) c.args.self.now (omega arith), ap length c.fixed_bytes.ensures.bytes)
 
 pub put_sources-end-requires : goal.put_sources-end-requires
 put_sources-end-requires g c =
     omega (
       arith,
       c.requires.room,
-      length-wire_bytes_in c.args.form (g.K.Kinds.slots c.args.kinds.now) c.args.self.now (omega arith),
+      length-wire_bytes (g.K.Kinds.slots c.args.kinds.now) c.args.self.now (omega arith),
       ap length c.fixed_bytes.ensures.bytes,
       c.put-end.ensures.end,
       length-take-le c.args.self.now.csrc_count c.args.self.now.csrc (omega arith),
@@ -24,7 +24,7 @@ put_extension-requires-clause-room g c =
     omega (
       arith,
       c.requires.room,
-      length-wire_bytes_in c.args.form (g.K.Kinds.slots c.args.kinds.now) c.args.self.now (omega arith),
+      length-wire_bytes (g.K.Kinds.slots c.args.kinds.now) c.args.self.now (omega arith),
       ap length c.fixed_bytes.ensures.bytes,
       c.put-end.ensures.end,
       c.put_sources-end.ensures.end,
@@ -32,10 +32,10 @@ put_extension-requires-clause-room g c =
     )
 
 -- what was put, and where it ends
-all_put : (g : _) (c : goal.After-slice_known-4-1 g) → (c.put_extension.result ≡ length (wire_bytes_in c.args.form (g.K.Kinds.slots c.args.kinds.now) c.args.self.now))
-    × (c.put_extension.new.buf ≡ wire_bytes_in c.args.form (g.K.Kinds.slots c.args.kinds.now) c.args.self.now ++ drop c.put_extension.result c.args.buf.now)
+all_put : (g : _) (c : goal.After-slice_known-4-1 g) → (c.put_extension.result ≡ length (wire_bytes (g.K.Kinds.slots c.args.kinds.now) c.args.self.now))
+    × (c.put_extension.new.buf ≡ wire_bytes (g.K.Kinds.slots c.args.kinds.now) c.args.self.now ++ drop c.put_extension.result c.args.buf.now)
 all_put g c =
-    wire_bytes_in-from_pieces c.args.self.now c.args.form (g.K.Kinds.slots c.args.kinds.now) c.args.buf.now c.put-end.new.buf c.put_sources-end.new.buf c.put_extension.new.buf
+    wire_bytes-from_pieces c.args.self.now (g.K.Kinds.slots c.args.kinds.now) c.args.buf.now c.put-end.new.buf c.put_sources-end.new.buf c.put_extension.new.buf
     c.fixed_bytes.result c.put-end.result c.put_sources-end.result c.put_extension.result (omega arith) c.requires.room c.fixed_bytes.ensures.bytes
     c.put-end.ensures.written c.put-end.ensures.end c.put_sources-end.ensures.written c.put_sources-end.ensures.end
     c.put_extension.ensures.written c.put_extension.ensures.end
@@ -47,7 +47,7 @@ pub returns-clause-written : goal.returns-clause-written
 returns-clause-written g c = (all_put g c).1
 
 pub returns-clause-read_back : goal.returns-clause-read_back
-returns-clause-read_back g c rest = IsWire-written c.args.self.now c.args.form (g.K.Kinds.slots c.args.kinds.now) rest (record {
+returns-clause-read_back g c rest = IsWire-written c.args.self.now (g.K.Kinds.slots c.args.kinds.now) rest (record {
   payload_type = c.requires.payload_type;
   count = c.requires.sources;
   slots = omega arith;

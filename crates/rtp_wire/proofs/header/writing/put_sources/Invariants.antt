@@ -2,7 +2,7 @@ use Rattle.std.proofs.Common.{◌≡◌, ℕ, List, ◌+◌, ◌*◌, take}
 use Rattle.std.specs.List.{flat_map}
 use Rattle.std.specs.Int.{w32, to_be_bytes}
 use Rattle.rtp_base.specs.Overwriting.{overwritten}
-use Rattle.rtp_wire.proofs.header.pieces.put_sources.Given as goal
+use Rattle.rtp_wire.proofs.header.writing.put_sources.Given as goal
 
 -- the sources so far are in place
 pub record SoFar (old new : List ℕ) (at end : ℕ) (sources : List ℕ) (done : ℕ) : Type 0 where

@@ -5,7 +5,7 @@ use Rattle.std.proofs.lemmas.List.{length-take-le}
 use Rattle.rtp_base.specs.Overwriting.{overwritten}
 use Rattle.rtp_base.proofs.OverwritingLemmas.{overwritten-nil, overwritten-overwritten}
 use Rattle.rtp_wire.proofs.GroupLemmas.{flat_map-take_more, length-numbers}
-use Rattle.rtp_wire.proofs.header.pieces.put_sources.Goals as goal
+use Rattle.rtp_wire.proofs.header.writing.put_sources.Goals as goal
 
 pub loop-source-init : goal.loop-source-init
 loop-source-init c = record { written = sym (overwritten-nil c.args.buf.now c.args.at); ends = omega arith }
