@@ -10,15 +10,6 @@ use Rattle.rtp_c.specs.declared.packet.ElementView.{ElementView}
 use Rattle.rtp_c.specs.PacketView.{form_number}
 use Rattle.rtp_c.specs.WrittenElements.{LiesIn, LieIn, elements_in, AreTooLong}
 
--- an element that the form can carry has at most two bytes before its data, and 255 of these
-pub FitInARow-one : (form : ExtensionsForm) (element : Element) → IsWritable form element → FitInARow form (element ∷ []) 257
-FitInARow-one OneByte element is =
-    let few = is.1.2 in
-    record { writable = (is, tt); bytes_fit = omega (arith, length-append element.1 []) }
-FitInARow-one TwoByte element is =
-    let few = is.1.2 in
-    record { writable = (is, tt); bytes_fit = omega (arith, length-append element.1 []) }
-
 to_map : {X Y : Type 0} (P : Y → Type 0) (f : X → Y) (xs : List X) → AllByRecursion (λ x. P (f x)) xs → AllByRecursion P (map f xs)
 to_map P f [] all = tt
 to_map P f (x ∷ xs) all = (all.0, to_map P f xs all.1)
