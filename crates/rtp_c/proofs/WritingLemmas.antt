@@ -1,5 +1,5 @@
 -- The elements that C names, as they are written.
-use Rattle.std.proofs.Common.{◌≡◌, ◌↔◌, ℕ, ◌<◌, List, [], ◌∷◌, length, map, refl, subst, All, Bor, arith, length-append, lt_of_not-le, take, get_or, Some}
+use Rattle.std.proofs.Common.{◌≡◌, ◌↔◌, ℕ, ◌<◌, List, [], ◌∷◌, length, map, refl, subst, All, Bor, arith, lt_of_not-le, take, get_or, Some}
 use Rattle.std.specs.List.{AllByRecursion}
 use Rattle.std.proofs.lemmas.List.Elements.{All-from_recursion, recursion_from_All}
 use Rattle.rtp_ext.specs.declared.form.ExtensionsForm.{ExtensionsForm}
