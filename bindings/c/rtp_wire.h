@@ -115,13 +115,40 @@ int32_t rtpw_packet_parse(const uint8_t *datagram, size_t len, rtpw_packet *pack
 /* ---- A packet, changed where it lies ---- */
 
 /* Each changes the part of the packet in the buffer that it names, and no other byte. RTPW_OK, or the
- * first cause for which the buffer holds no packet; rtpw_set_payload_type also RTPW_BAD_FIELD, where
- * the payload type is above 127. Where it isn't RTPW_OK nothing changes. */
+ * first cause for which the buffer holds no packet; rtpw_set_payload_type also RTPW_BAD_FIELD, before
+ * any of them, where the payload type is above 127. Where it isn't RTPW_OK nothing changes. */
 int32_t rtpw_set_marker(uint8_t *datagram, size_t len, bool marker);
 int32_t rtpw_set_payload_type(uint8_t *datagram, size_t len, uint8_t payload_type);
 int32_t rtpw_set_sequence_number(uint8_t *datagram, size_t len, uint16_t number);
 int32_t rtpw_set_timestamp(uint8_t *datagram, size_t len, uint32_t timestamp);
 int32_t rtpw_set_ssrc(uint8_t *datagram, size_t len, uint32_t ssrc);
+
+/* Fields to be set together: each where its has_ isn't 0, and what stands beside one that is 0 isn't
+ * looked at. 20 bytes. */
+typedef struct {
+    uint32_t timestamp;
+    uint32_t ssrc;
+    uint16_t sequence_number;
+    uint8_t payload_type; /* 0 to 127 */
+    uint8_t marker;       /* M counts as set where it isn't 0 */
+    uint8_t has_timestamp;
+    uint8_t has_ssrc;
+    uint8_t has_sequence_number;
+    uint8_t has_payload_type;
+    uint8_t has_marker;
+} rtpw_fields;
+
+/* Sets all of them after one look at the packet. RTPW_BAD_FIELD, before all else, where there is a payload
+ * type above 127.
+ *
+ *     rtpw_fields fields = {0};
+ *     fields.has_sequence_number = fields.has_ssrc = 1;
+ *     fields.sequence_number = route->next++;
+ *     fields.ssrc = route->ssrc;
+ *     int32_t status = rtpw_set_fields(datagram, len, &fields);
+ */
+int32_t rtpw_set_fields(uint8_t *datagram, size_t len, const rtpw_fields *fields);
+
 /* The contributing source at this place, counted from 0. RTPW_NONE where the list has no such place. */
 int32_t rtpw_set_csrc(uint8_t *datagram, size_t len, size_t index, uint32_t source);
 

@@ -1,5 +1,5 @@
 /* rtpw_set_marker, rtpw_set_payload_type, rtpw_set_sequence_number, rtpw_set_timestamp, rtpw_set_ssrc,
- * rtpw_set_csrc, rtpw_set_element, rtpw_remove_element */
+ * rtpw_set_fields, rtpw_set_csrc, rtpw_set_element, rtpw_remove_element */
 #include "hostile.h"
 
 #include "../c/rtp_wire.h"
@@ -59,6 +59,40 @@ static void fixed_part(void) {
     expect(rtpw_set_csrc(bytes, len, index, (uint32_t)x), it.cause != 0 ? it.cause : is_there ? RTPW_OK : RTPW_NONE);
 }
 
+/* Any bytes as fields; half of the flags are 0, and half of the payload types are in their range. */
+static void several_fields(void) {
+    static memory fields_memory;
+    if (fields_memory.size == 0) {
+        fields_memory = memory_of(sizeof(rtpw_fields));
+    }
+    rtpw_fields *fields = (rtpw_fields *)block_in(&fields_memory, sizeof *fields), given;
+    fill((uint8_t *)fields, sizeof *fields);
+    uint64_t x = random_u64();
+    fields->has_marker = (uint8_t)(x % 2 != 0 ? fields->has_marker : 0);
+    fields->has_payload_type = (uint8_t)(x / 2 % 2 != 0 ? fields->has_payload_type : 0);
+    fields->has_sequence_number = (uint8_t)(x / 4 % 2 != 0 ? fields->has_sequence_number : 0);
+    fields->has_timestamp = (uint8_t)(x / 8 % 2 != 0 ? fields->has_timestamp : 0);
+    fields->has_ssrc = (uint8_t)(x / 16 % 2 != 0 ? fields->has_ssrc : 0);
+    memcpy(&given, fields, sizeof given);
+    bool is_bad = fields->has_payload_type != 0 && fields->payload_type > 127;
+    if (it.cause == 0 && !is_bad) {
+        uint8_t marker = fields->has_marker == 0 ? before[1] / 128 : fields->marker != 0;
+        uint8_t payload_type = fields->has_payload_type == 0 ? before[1] % 128 : fields->payload_type;
+        expected[1] = (uint8_t)(128 * marker + payload_type);
+        if (fields->has_sequence_number != 0) {
+            put_number(2, 2, fields->sequence_number);
+        }
+        if (fields->has_timestamp != 0) {
+            put_number(4, 4, fields->timestamp);
+        }
+        if (fields->has_ssrc != 0) {
+            put_number(8, 4, fields->ssrc);
+        }
+    }
+    expect(rtpw_set_fields(bytes, len, fields), is_bad ? RTPW_BAD_FIELD : it.cause);
+    CHECK(memcmp(fields, &given, sizeof given) == 0);
+}
+
 static void set_element(void) {
     static memory data_memory;
     static uint8_t data_before[300];
@@ -107,6 +141,7 @@ void changes_round(void) {
     memcpy(expected, bytes, len);
     it = walk(before, len);
     fixed_part();
+    several_fields();
     set_element();
     remove_element();
 }

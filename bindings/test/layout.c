@@ -23,6 +23,18 @@ HOLDS(offsetof(rtpw_packet, has_padding) == 53);
 HOLDS(offsetof(rtpw_packet, padding_fits) == 54);
 HOLDS(offsetof(rtpw_packet, block_form) == 55);
 
+HOLDS(sizeof(rtpw_fields) == 20);
+HOLDS(offsetof(rtpw_fields, timestamp) == 0);
+HOLDS(offsetof(rtpw_fields, ssrc) == 4);
+HOLDS(offsetof(rtpw_fields, sequence_number) == 8);
+HOLDS(offsetof(rtpw_fields, payload_type) == 10);
+HOLDS(offsetof(rtpw_fields, marker) == 11);
+HOLDS(offsetof(rtpw_fields, has_timestamp) == 12);
+HOLDS(offsetof(rtpw_fields, has_ssrc) == 13);
+HOLDS(offsetof(rtpw_fields, has_sequence_number) == 14);
+HOLDS(offsetof(rtpw_fields, has_payload_type) == 15);
+HOLDS(offsetof(rtpw_fields, has_marker) == 16);
+
 HOLDS(sizeof(rtpw_element) == 32);
 HOLDS(offsetof(rtpw_element, data_at) == 0);
 HOLDS(offsetof(rtpw_element, data_len) == 8);

@@ -20,6 +20,7 @@ bool uses_malloc;
 static uint8_t datagram[12 + 60 + 4 + 262140 + 8];
 static rtpw_packet packet;
 static rtpw_element element;
+static rtpw_fields fields = {2, 3, 1, 96, 1, 1, 1, 1, 1, 1};
 static rtpw_receiver receiver;
 static rtpw_map map;
 static rtpw_values values;
@@ -74,6 +75,7 @@ static void set_payload_type(void) { rtpw_set_payload_type(datagram, sizeof data
 static void set_sequence_number(void) { rtpw_set_sequence_number(datagram, sizeof datagram, 1); }
 static void set_timestamp(void) { rtpw_set_timestamp(datagram, sizeof datagram, 2); }
 static void set_ssrc(void) { rtpw_set_ssrc(datagram, sizeof datagram, 3); }
+static void set_fields(void) { rtpw_set_fields(datagram, sizeof datagram, &fields); }
 static void set_csrc(void) { rtpw_set_csrc(datagram, sizeof datagram, 14, 4); }
 static void set_element(void) { rtpw_set_element(datagram, sizeof datagram, 3, data, sizeof data); }
 static void remove_element(void) { rtpw_remove_element(datagram, sizeof datagram, 3); }
@@ -134,7 +136,8 @@ int main(void) {
         void (*call)(void);
     } calls[] = {
         CALL(packet_parse), CALL(set_marker), CALL(set_payload_type), CALL(set_sequence_number),
-        CALL(set_timestamp), CALL(set_ssrc), CALL(set_csrc), CALL(set_element), CALL(remove_element),
+        CALL(set_timestamp), CALL(set_ssrc), CALL(set_fields), CALL(set_csrc), CALL(set_element),
+        CALL(remove_element),
         CALL(next_element), CALL(last_element), CALL(receiver_start), CALL(receiver_number_of),
         CALL(receiver_accepts), CALL(receiver_record), CALL(receiver_receive), CALL(extend_u16),
         CALL(values_read), CALL(kind_of_uri), CALL(map_set), CALL(map_get), CALL(map_standard), CALL(parse),

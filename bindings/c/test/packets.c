@@ -99,6 +99,37 @@ static void fields_are_set(void) {
     CHECK(bytes[11] == 0x34);
 }
 
+static void several_fields_are_set(void) {
+    uint8_t bytes[41];
+    rtpw_fields fields;
+    memcpy(bytes, SAMPLE, sizeof bytes);
+    memset(&fields, 0, sizeof fields);
+    CHECK(rtpw_set_fields(bytes, LEN, &fields) == RTPW_OK);
+    CHECK(memcmp(bytes, SAMPLE, sizeof bytes) == 0);
+    /* M stays, and the SSRC: what stands beside a flag that is 0 isn't looked at */
+    fields.has_payload_type = fields.has_sequence_number = 1;
+    fields.payload_type = 8;
+    fields.sequence_number = 0x1234;
+    fields.ssrc = 77;
+    CHECK(rtpw_set_fields(bytes, LEN, &fields) == RTPW_OK);
+    CHECK(bytes[0] == SAMPLE[0] && bytes[1] == 0x88 && bytes[2] == 0x12 && bytes[3] == 0x34);
+    CHECK(memcmp(bytes + 4, SAMPLE + 4, sizeof bytes - 4) == 0);
+    fields.has_marker = fields.has_timestamp = fields.has_ssrc = 0xFF;
+    fields.timestamp = 0x56789ABC;
+    fields.ssrc = 0xDEF01234;
+    CHECK(rtpw_set_fields(bytes, LEN, &fields) == RTPW_OK);
+    CHECK(bytes[1] == 0x08 && bytes[4] == 0x56 && bytes[7] == 0xBC && bytes[8] == 0xDE && bytes[11] == 0x34);
+    CHECK(memcmp(bytes + 12, SAMPLE + 12, sizeof bytes - 12) == 0);
+    fields.payload_type = 128;
+    fields.marker = 1;
+    CHECK(rtpw_set_fields(bytes, LEN, &fields) == RTPW_BAD_FIELD && rtpw_set_fields(bytes, 3, &fields) == RTPW_BAD_FIELD);
+    fields.has_payload_type = 0;
+    CHECK(rtpw_set_fields(bytes, 31, &fields) == RTPW_CUT_BLOCK);
+    CHECK(bytes[1] == 0x08);
+    CHECK(rtpw_set_fields(bytes, LEN, &fields) == RTPW_OK);
+    CHECK(bytes[1] == 0x88);
+}
+
 static void elements_are_set(void) {
     uint8_t bytes[41];
     const uint8_t data[2] = {0xEE, 0xFF};
@@ -262,6 +293,7 @@ int main(void) {
     padding_is_too_long();
     is_refused();
     fields_are_set();
+    several_fields_are_set();
     elements_are_set();
     elements_are_found();
     values_are_read();

@@ -1,13 +1,16 @@
 -- A packet that is changed where it lies.
-use Rattle.std.proofs.Common.{◌≡◌, ℕ, ◌<◌, List, sym, ap, ◌∙◌, subst}
+use Rattle.std.proofs.Common.{◌≡◌, ℕ, ◌<◌, List, Bool, Option, None, ℤ, w32, to_z, of_z, sym, ap, ◌∙◌, subst}
 use Rattle.std.specs.Prelude.{slice_index}
 use Rattle.rtp_wire.specs.declared.packet.rtp_packet_mut.RtpPacketMut.{RtpPacketMut}
+use Rattle.rtp_wire.specs.declared.packet.fields.Fields.{Fields}
 use Rattle.rtp_wire.specs.Packet.{PacketParts, IsPacket}
+use Rattle.rtp_wire.specs.GivenFields.{with_header_fields}
 use Rattle.rtp_ext.specs.declared.form.ExtensionsForm.{ExtensionsForm}
 use Rattle.rtp_wire.specs.ChangedPacket.{ChangesBlock}
 use Rattle.rtp_wire.specs.PartsAt.{parts_at}
 use Rattle.rtp_wire.specs.PartsOf.{parts_in}
 use Rattle.rtp_c.specs.ChangedElements.{BecomesPacket}
+use Rattle.rtp_c.specs.Status.{ok}
 use Rattle.rtp_wire.proofs.HeaderFound.{HasHeader-packet_mut, IsWhole-header}
 use Rattle.rtp_wire.proofs.PacketLemmas.{IsPacket-whole, one_packet}
 
@@ -37,3 +40,23 @@ BecomesPacket-changed Change was parts old new bytes is same change fits ends =
       is_packet = IsPacket-in new bytes fits ends;
       changes = subst (λ (q : PacketParts). ChangesBlock Change q (parts_in new)) (parts-in was parts old is same) change;
     }
+
+unfoldable all_fields : Option Bool → Option ℕ → Option ℕ → Option ℕ → Option ℕ → Fields
+all_fields marker payload_type number timestamp ssrc = record { marker = marker; payload_type = payload_type; sequence_number = number; timestamp = timestamp; ssrc = ssrc }
+
+-- no field is given
+abbrev pub no_fields : Fields
+no_fields = record { marker = None; payload_type = None; sequence_number = None; timestamp = None; ssrc = None }
+
+pub no_fields-each : (fields : Fields)
+    → (fields.marker ≡ None) × ((fields.payload_type ≡ None) × ((fields.sequence_number ≡ None) × ((fields.timestamp ≡ None) × (fields.ssrc ≡ None)))) → fields ≡ no_fields
+unfolding all_fields
+no_fields-each fields each =
+    let same : all_fields fields.marker fields.payload_type fields.sequence_number fields.timestamp fields.ssrc ≡ all_fields None None None None None = cc in
+    same
+
+-- the status of a call that sets these fields is passed on
+pub set-passed_on : (status : ℤ) (given fields : Fields) (bytes : List ℕ) (parts : PacketParts) → given ≡ fields → (status ≡ ok) × IsPacket bytes (with_header_fields given parts)
+    → (to_z w32 (of_z w32 status) ≡ ok) × IsPacket bytes (with_header_fields fields parts)
+set-passed_on status given fields bytes parts same done =
+    (ap (λ (z : ℤ). to_z w32 (of_z w32 z)) done.0, subst (λ (f : Fields). IsPacket bytes (with_header_fields f parts)) same done.1)

@@ -1,9 +1,9 @@
 -- The map that C fills, as it stands: what each id is mapped to, and a walk over the mapped ids.
-use Rattle.std.proofs.Common.{◌≡◌, ◌≢◌, ℕ, zero, suc, ◌≤◌, ◌<◌, ◌+◌, ◌-◌, List, [], ◌∷◌, length, map, take, drop, get_or, Bool, false, Option, None, Some, inl, inr, arith, refl, sym, ap, ◌∙◌, subst, le-ltb}
-use Rattle.std.specs.Prelude.{◌||◌, nat_lt}
+use Rattle.std.proofs.Common.{◌≡◌, ◌≢◌, ℕ, zero, suc, ◌≤◌, ◌<◌, ◌+◌, ◌-◌, List, [], ◌∷◌, length, map, take, drop, get_or, Bool, false, true, Option, None, Some, inl, inr, arith, refl, sym, ap, ◌∙◌, subst, le-ltb}
+use Rattle.std.specs.Prelude.{◌||◌, nat_lt, nat_le, nat_eq}
 use Rattle.std.specs.Option.{option_map}
 use Rattle.std.specs.List.{list_any}
-use Rattle.std.proofs.lemmas.Bool.{cases_lt}
+use Rattle.std.proofs.lemmas.Bool.{cases_lt, eqb-true, ne_eqb, leb-true}
 use Rattle.std.proofs.lemmas.List.{length-map, length-take, length-drop, drop_all, drop_more, take_all, get_or-take, get_or-drop, get_or_past}
 use Rattle.std.proofs.Math.ListN.{get_or-map}
 use Rattle.rtp_values.specs.Spelling.{longest}
@@ -18,53 +18,11 @@ use Rattle.rtp_ext.specs.KindsById.{entry_of_kind, is_long_item}
 use Rattle.rtp_ext.specs.NewIds.{IsNewId}
 use Rattle.rtp_ext.proofs.KindsByIdLemmas.{entry_at-kinds}
 use Rattle.rtp_ext.proofs.ListingLemmas.{items_from-empty, length-items_from}
-use Rattle.rtp_c.specs.KindNumbers.{kind_number, kind_numbered, IsKindNumbered}
+use Rattle.rtp_c.specs.KindNumbers.{kind_number, kind_numbered, numbered_kinds, IsKindNumbered}
 use Rattle.rtp_c.specs.KindsOfIds.{HasKinds, IsFirstNumber, numbered_slots}
-use Rattle.rtp_c.proofs.KindNumberLemmas.{number≢0}
+use Rattle.rtp_c.proofs.KindNumberLemmas.{number≢0, number_zero, number_of_kind, numbered_is, all_pass, numbered_passes, one_kind as one_number}
 
 -- ---- the kinds of numbers
-
-number_zero : kind_numbered 0 ≡ None
-unfolding kind_numbered
-number_zero = refl
-
-at_most : (kind : KnownKind) → kind_number kind ≤ 15
-at_most AbsoluteSendTime = omega arith
-at_most AbsoluteCaptureTime = omega arith
-at_most AudioLevel = omega arith
-at_most TransmissionTimeOffset = omega arith
-at_most VideoOrientation = omega arith
-at_most TransportSequenceNumber = omega arith
-at_most PlayoutDelay = omega arith
-at_most VideoContentType = omega arith
-at_most VideoTiming = omega arith
-at_most RtpStreamId = omega arith
-at_most RepairedRtpStreamId = omega arith
-at_most RtpMid = omega arith
-at_most FrameMarking = omega arith
-at_most ColorSpace = omega arith
-at_most VideoLayersAllocation = omega arith
-
--- each number has its kind
-numbered_is : (number : ℕ) → IsKindNumbered number (kind_numbered number)
-unfolding kind_numbered
-numbered_is zero = λ kind. number≢0 kind
-numbered_is (suc zero) = refl
-numbered_is (suc (suc zero)) = refl
-numbered_is (suc (suc (suc zero))) = refl
-numbered_is (suc (suc (suc (suc zero)))) = refl
-numbered_is (suc (suc (suc (suc (suc zero))))) = refl
-numbered_is (suc (suc (suc (suc (suc (suc zero)))))) = refl
-numbered_is (suc (suc (suc (suc (suc (suc (suc zero))))))) = refl
-numbered_is (suc (suc (suc (suc (suc (suc (suc (suc zero)))))))) = refl
-numbered_is (suc (suc (suc (suc (suc (suc (suc (suc (suc zero))))))))) = refl
-numbered_is (suc (suc (suc (suc (suc (suc (suc (suc (suc (suc zero)))))))))) = refl
-numbered_is (suc (suc (suc (suc (suc (suc (suc (suc (suc (suc (suc zero))))))))))) = refl
-numbered_is (suc (suc (suc (suc (suc (suc (suc (suc (suc (suc (suc (suc zero)))))))))))) = refl
-numbered_is (suc (suc (suc (suc (suc (suc (suc (suc (suc (suc (suc (suc (suc zero))))))))))))) = refl
-numbered_is (suc (suc (suc (suc (suc (suc (suc (suc (suc (suc (suc (suc (suc (suc zero)))))))))))))) = refl
-numbered_is (suc (suc (suc (suc (suc (suc (suc (suc (suc (suc (suc (suc (suc (suc (suc zero))))))))))))))) = refl
-numbered_is (suc (suc (suc (suc (suc (suc (suc (suc (suc (suc (suc (suc (suc (suc (suc (suc n)))))))))))))))) = λ kind is. omega (arith, is, at_most kind)
 
 -- the slots are those of the numbers
 pub HasKinds-numbered : (numbers : List ℕ) → HasKinds numbers (numbered_slots numbers)
@@ -77,24 +35,6 @@ HasKinds-numbered numbers = record {
       (numbered_is (get_or numbers i 0));
   slots_are = refl;
 }
-
-number_of_kind : (kind : KnownKind) → kind_numbered (kind_number kind) ≡ Some kind
-unfolding kind_numbered
-number_of_kind AbsoluteSendTime = refl
-number_of_kind AbsoluteCaptureTime = refl
-number_of_kind AudioLevel = refl
-number_of_kind TransmissionTimeOffset = refl
-number_of_kind VideoOrientation = refl
-number_of_kind TransportSequenceNumber = refl
-number_of_kind PlayoutDelay = refl
-number_of_kind VideoContentType = refl
-number_of_kind VideoTiming = refl
-number_of_kind RtpStreamId = refl
-number_of_kind RepairedRtpStreamId = refl
-number_of_kind RtpMid = refl
-number_of_kind FrameMarking = refl
-number_of_kind ColorSpace = refl
-number_of_kind VideoLayersAllocation = refl
 
 -- the known kind of an extension, and that of the mid for an unknown one
 kind_back : Extension → KnownKind
@@ -115,23 +55,12 @@ kind_back extension.ColorSpace = ColorSpace
 kind_back extension.VideoLayersAllocation = VideoLayersAllocation
 kind_back (extension.UnknownUri uri) = RtpMid
 
+all_back : all_pass (λ number kind. nat_eq (kind_number (kind_back (extension_of_kind kind))) number) 0 numbered_kinds ≡ true
+unfolding all_pass kind_back
+all_back = refl
+
 kind_there : (kind : KnownKind) → kind_back (extension_of_kind kind) ≡ kind
-unfolding kind_back
-kind_there AbsoluteSendTime = refl
-kind_there AbsoluteCaptureTime = refl
-kind_there AudioLevel = refl
-kind_there TransmissionTimeOffset = refl
-kind_there VideoOrientation = refl
-kind_there TransportSequenceNumber = refl
-kind_there PlayoutDelay = refl
-kind_there VideoContentType = refl
-kind_there VideoTiming = refl
-kind_there RtpStreamId = refl
-kind_there RepairedRtpStreamId = refl
-kind_there RtpMid = refl
-kind_there FrameMarking = refl
-kind_there ColorSpace = refl
-kind_there VideoLayersAllocation = refl
+kind_there kind = one_number (kind_back (extension_of_kind kind)) kind (eqb-true _ (kind_number kind) (numbered_passes _ all_back (kind_number kind) kind (number_of_kind kind)))
 
 same_kind : (a b : KnownKind) → extension_of_kind a ≡ extension_of_kind b → a ≡ b
 same_kind a b same = sym (kind_there a) ∙ ap kind_back same ∙ kind_there b
@@ -238,25 +167,19 @@ HasFewData : Option Entry → Type 0
 HasFewData None = Unit {0}
 HasFewData (Some entry) = nat_lt 16 (longest entry.extension) ≡ false
 
+all_few : all_pass (λ number kind. nat_eq number 15 || nat_le (longest (extension_of_kind kind)) 16) 0 numbered_kinds ≡ true
+unfolding all_pass
+all_few = refl
+
 few_data : (number : ℕ) → number ≢ 15 → HasFewData (entry_of_kind (kind_numbered number))
-unfolding kind_numbered HasFewData
-few_data zero other = tt
-few_data (suc zero) other = refl
-few_data (suc (suc zero)) other = refl
-few_data (suc (suc (suc zero))) other = refl
-few_data (suc (suc (suc (suc zero)))) other = refl
-few_data (suc (suc (suc (suc (suc zero))))) other = refl
-few_data (suc (suc (suc (suc (suc (suc zero)))))) other = refl
-few_data (suc (suc (suc (suc (suc (suc (suc zero))))))) other = refl
-few_data (suc (suc (suc (suc (suc (suc (suc (suc zero)))))))) other = refl
-few_data (suc (suc (suc (suc (suc (suc (suc (suc (suc zero))))))))) other = refl
-few_data (suc (suc (suc (suc (suc (suc (suc (suc (suc (suc zero)))))))))) other = refl
-few_data (suc (suc (suc (suc (suc (suc (suc (suc (suc (suc (suc zero))))))))))) other = refl
-few_data (suc (suc (suc (suc (suc (suc (suc (suc (suc (suc (suc (suc zero)))))))))))) other = refl
-few_data (suc (suc (suc (suc (suc (suc (suc (suc (suc (suc (suc (suc (suc zero))))))))))))) other = refl
-few_data (suc (suc (suc (suc (suc (suc (suc (suc (suc (suc (suc (suc (suc (suc zero)))))))))))))) other = refl
-few_data (suc (suc (suc (suc (suc (suc (suc (suc (suc (suc (suc (suc (suc (suc (suc zero))))))))))))))) other = absurd (other refl)
-few_data (suc (suc (suc (suc (suc (suc (suc (suc (suc (suc (suc (suc (suc (suc (suc (suc n)))))))))))))))) other = tt
+unfolding HasFewData
+few_data number other = of_found (kind_numbered number) refl
+  where
+    of_found : (found : Option KnownKind) → kind_numbered number ≡ found → HasFewData (entry_of_kind found)
+    of_found None none = tt
+    of_found (Some kind) some =
+        let passes = subst (λ (b : Bool). (b || nat_le (longest (extension_of_kind kind)) 16) ≡ true) (ne_eqb number 15 other) (numbered_passes _ all_few number kind some) in
+        le-ltb 16 (longest (extension_of_kind kind)) (leb-true (longest (extension_of_kind kind)) 16 passes)
 
 at_most_14 : (id : ℕ) → id ≤ 14 → nat_lt 14 id ≡ false
 at_most_14 id low = le-ltb 14 id low

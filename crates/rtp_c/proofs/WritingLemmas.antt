@@ -1,5 +1,5 @@
 -- The elements that C names, as they are written.
-use Rattle.std.proofs.Common.{◌≡◌, ◌↔◌, ℕ, ◌<◌, List, [], ◌∷◌, length, map, refl, subst, All, Bor, arith, length-append, lt_of_not-le, take, get_or, Some}
+use Rattle.std.proofs.Common.{◌≡◌, ◌↔◌, ℕ, ◌<◌, List, [], ◌∷◌, length, map, refl, subst, All, Bor, arith, lt_of_not-le, take, get_or, Some}
 use Rattle.std.specs.List.{AllByRecursion}
 use Rattle.std.proofs.lemmas.List.Elements.{All-from_recursion, recursion_from_All}
 use Rattle.rtp_ext.specs.declared.form.ExtensionsForm.{ExtensionsForm}
@@ -9,15 +9,6 @@ use Rattle.rtp_ext.specs.ElementsInARow.{elements_of, IsWritable, FitInARow}
 use Rattle.rtp_c.specs.declared.packet.ElementView.{ElementView}
 use Rattle.rtp_c.specs.PacketView.{form_number}
 use Rattle.rtp_c.specs.WrittenElements.{LiesIn, LieIn, elements_in, AreTooLong}
-
--- an element that the form can carry has at most two bytes before its data, and 255 of these
-pub FitInARow-one : (form : ExtensionsForm) (element : Element) → IsWritable form element → FitInARow form (element ∷ []) 257
-FitInARow-one OneByte element is =
-    let few = is.1.2 in
-    record { writable = (is, tt); bytes_fit = omega (arith, length-append element.1 []) }
-FitInARow-one TwoByte element is =
-    let few = is.1.2 in
-    record { writable = (is, tt); bytes_fit = omega (arith, length-append element.1 []) }
 
 to_map : {X Y : Type 0} (P : Y → Type 0) (f : X → Y) (xs : List X) → AllByRecursion (λ x. P (f x)) xs → AllByRecursion P (map f xs)
 to_map P f [] all = tt

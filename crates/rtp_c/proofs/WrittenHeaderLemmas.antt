@@ -7,7 +7,7 @@ use Rattle.rtp_wire.specs.declared.header.rtp_header.RtpHeader.{RtpHeader}
 use Rattle.rtp_wire.specs.Packet.{IsPacket}
 use Rattle.rtp_wire.specs.Written.{wire_bytes, CannotBeWritten, large_payload_type as large_type, many_sources as many, short_room as short}
 use Rattle.rtp_wire.specs.WrittenWith.{wire_bytes_with, parts_with, CannotBeWrittenWith, large_payload_type, many_sources, no_block, short_room}
-use Rattle.rtp_c.specs.declared.header_view.HeaderView.{HeaderView}
+use Rattle.rtp_c.specs.declared.header.HeaderView.{HeaderView}
 use Rattle.rtp_c.specs.declared.packet.ElementView.{ElementView}
 use Rattle.rtp_c.specs.Given.{AreGivenFields}
 use Rattle.rtp_c.specs.WrittenElements.{LieIn, elements_in}

@@ -14,7 +14,7 @@ pub record BecomesPacket (Change : ExtensionsForm → List ℕ → List ℕ → 
   pub changes : ChangesBlock Change was parts
 
 -- the bytes are a packet whose block gives these values under the map
-pub record HoldsValues (exts : Slots) (values : ExtensionValues) (bytes : List ℕ) : Type 0 where
+pub record GivesValues (exts : Slots) (values : ExtensionValues) (bytes : List ℕ) : Type 0 where
   pub parts : PacketParts
   pub is_packet : IsPacket bytes parts
   pub has_values : HasValues exts parts.block values

@@ -7,8 +7,8 @@ use Rattle.rtp_values.specs.declared.value.values.ExtensionValues.{ExtensionValu
 use Rattle.rtp_wire.specs.declared.header.rtp_header.RtpHeader.{RtpHeader}
 use Rattle.rtp_c.specs.declared.values.Time.{Time}
 use Rattle.rtp_c.specs.declared.values.ValuesView.{ValuesView}
-use Rattle.rtp_c.specs.declared.header_view.HeaderView.{HeaderView}
-use Rattle.rtp_c.specs.Held.{degrees_of}
+use Rattle.rtp_c.specs.declared.header.HeaderView.{HeaderView}
+use Rattle.rtp_c.specs.Told.{degrees_of}
 
 -- whether a flag is set: it is where it isn't 0
 abbrev pub is_set : ℕ → Bool

@@ -6,7 +6,7 @@ use Rattle.rtp_ext.specs.ExtensionMap.{Slots}
 use Rattle.rtp_wire.specs.declared.header.rtp_header.RtpHeader.{RtpHeader}
 use Rattle.rtp_wire.specs.Header.{IsWire}
 use Rattle.rtp_wire.specs.RefusedMemory.{HeaderHasAllocation}
-use Rattle.rtp_c.specs.declared.header_view.HeaderView.{HeaderView}
+use Rattle.rtp_c.specs.declared.header.HeaderView.{HeaderView}
 use Rattle.rtp_c.specs.declared.layers.Layers.{Layers}
 use Rattle.rtp_c.specs.KindsOfIds.{HasKinds}
 use Rattle.rtp_c.specs.ValuesView.{IsViewOfValues}

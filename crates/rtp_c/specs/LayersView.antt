@@ -5,7 +5,7 @@ use Rattle.rtp_vla.specs.Allocation as vla
 use Rattle.rtp_c.specs.declared.layers.Layer.{Layer}
 use Rattle.rtp_c.specs.declared.layers.Stream.{Stream}
 use Rattle.rtp_c.specs.declared.layers.Layers.{Layers}
-use Rattle.rtp_c.specs.Held.{IsHeld}
+use Rattle.rtp_c.specs.Told.{IsTold}
 
 -- in each place the view of the item that stands there, and in those after the last item the view of nothing; there is a place for each item
 abbrev pub AreInPlaces : {A B : Type 0} → (A → B → Type 0) → A → List A → List B → Type 0
@@ -18,9 +18,9 @@ AreInPlaces IsViewOf nothing (item ∷ items) (view ∷ views) = IsViewOf item v
 pub record IsViewOfLayer (layer : vla.Layer) (view : Layer) : Type 0 where
   pub rates_are : AreInPlaces (λ rate kbps. kbps ≡ rate) 0 layer.temporal_layers view.kbps
   pub count_is : view.rates ≡ length layer.temporal_layers
-  pub width_is : IsHeld view.has_resolution view.width (option_map (λ known. known.width) layer.resolution_and_framerate)
-  pub height_is : IsHeld view.has_resolution view.height (option_map (λ known. known.height) layer.resolution_and_framerate)
-  pub framerate_is : IsHeld view.has_resolution view.framerate (option_map (λ known. known.framerate) layer.resolution_and_framerate)
+  pub width_is : IsTold view.has_resolution view.width (option_map (λ known. known.width) layer.resolution_and_framerate)
+  pub height_is : IsTold view.has_resolution view.height (option_map (λ known. known.height) layer.resolution_and_framerate)
+  pub framerate_is : IsTold view.has_resolution view.framerate (option_map (λ known. known.framerate) layer.resolution_and_framerate)
 
 -- a layer without rates and resolution
 abbrev pub bare_layer : vla.Layer

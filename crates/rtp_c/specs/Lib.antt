@@ -7,10 +7,11 @@ pub mod Judging
 pub mod ElementView
 pub mod KindNumbers
 pub mod KindsOfIds
-pub mod Held
+pub mod Told
 pub mod ValuesView
 pub mod LayersView
 pub mod HeaderView
 pub mod Given
+pub mod SetFields
 pub mod WrittenElements
 pub mod WrittenHeader

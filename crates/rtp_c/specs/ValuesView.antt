@@ -10,7 +10,7 @@ use Rattle.rtp_ext.specs.Memory.{HasAllocation}
 use Rattle.rtp_values.specs.declared.value.values.ExtensionValues.{ExtensionValues}
 use Rattle.rtp_values.specs.declared.value.video_timing.VideoTiming.{VideoTiming}
 use Rattle.rtp_c.specs.declared.values.ValuesView.{ValuesView}
-use Rattle.rtp_c.specs.Held.{IsHeldOr, IsHeld, IsHeldSigned, IsHeldTime, IsHeldText, no_timing, degrees_of}
+use Rattle.rtp_c.specs.Told.{IsToldOr, IsTold, IsToldSigned, IsToldTime, IsToldText, no_timing, degrees_of}
 use Rattle.rtp_c.specs.KindsOfIds.{HasKinds}
 
 -- the video timing in its five places
@@ -25,22 +25,22 @@ timing_in view = record {
 
 -- what C is told of values: each in its place
 pub record IsViewOfValues (values : ExtensionValues) (view : ValuesView) : Type 0 where
-  pub send_time_is : IsHeld view.has_send_time view.send_time values.abs_send_time
-  pub capture_time_is : IsHeld view.has_capture_time view.capture_time (option_map (λ time. time.capture_time) values.abs_capture_time)
-  pub capture_offset_is : IsHeldSigned view.has_capture_offset view.capture_offset (option_and_then (λ time. time.clock_offset) values.abs_capture_time)
-  pub playout_delay_min_is : IsHeldTime view.has_playout_delay_min view.playout_delay_min values.play_delay_min
-  pub playout_delay_max_is : IsHeldTime view.has_playout_delay_max view.playout_delay_max values.play_delay_max
-  pub transmission_offset_is : IsHeld view.has_transmission_offset view.transmission_offset values.tx_time_offs
-  pub frame_marking_is : IsHeld view.has_frame_marking view.frame_marking values.frame_mark
-  pub transport_number_is : IsHeld view.has_transport_number view.transport_number values.transport_cc
-  pub video_orientation_is : IsHeld view.has_video_orientation view.video_orientation (option_map degrees_of values.video_orientation)
-  pub video_timing_is : IsHeldOr (λ timing. timing ≡ no_timing) view.has_video_timing (timing_in view) values.video_timing
-  pub video_content_type_is : IsHeld view.has_video_content_type view.video_content_type values.video_content_type
-  pub audio_level_is : IsHeldSigned view.has_audio_level view.audio_level values.audio_level
-  pub voice_activity_is : IsHeld view.has_voice_activity view.voice_activity (option_map bit values.voice_activity)
-  pub mid_is : IsHeldText 16 view.has_mid view.mid values.mid
-  pub rid_is : IsHeldText 8 view.has_rid view.rid values.rid
-  pub repaired_rid_is : IsHeldText 8 view.has_repaired_rid view.repaired_rid values.rid_repair
+  pub send_time_is : IsTold view.has_send_time view.send_time values.abs_send_time
+  pub capture_time_is : IsTold view.has_capture_time view.capture_time (option_map (λ time. time.capture_time) values.abs_capture_time)
+  pub capture_offset_is : IsToldSigned view.has_capture_offset view.capture_offset (option_and_then (λ time. time.clock_offset) values.abs_capture_time)
+  pub playout_delay_min_is : IsToldTime view.has_playout_delay_min view.playout_delay_min values.play_delay_min
+  pub playout_delay_max_is : IsToldTime view.has_playout_delay_max view.playout_delay_max values.play_delay_max
+  pub transmission_offset_is : IsTold view.has_transmission_offset view.transmission_offset values.tx_time_offs
+  pub frame_marking_is : IsTold view.has_frame_marking view.frame_marking values.frame_mark
+  pub transport_number_is : IsTold view.has_transport_number view.transport_number values.transport_cc
+  pub video_orientation_is : IsTold view.has_video_orientation view.video_orientation (option_map degrees_of values.video_orientation)
+  pub video_timing_is : IsToldOr (λ timing. timing ≡ no_timing) view.has_video_timing (timing_in view) values.video_timing
+  pub video_content_type_is : IsTold view.has_video_content_type view.video_content_type values.video_content_type
+  pub audio_level_is : IsToldSigned view.has_audio_level view.audio_level values.audio_level
+  pub voice_activity_is : IsTold view.has_voice_activity view.voice_activity (option_map bit values.voice_activity)
+  pub mid_is : IsToldText 16 view.has_mid view.mid values.mid
+  pub rid_is : IsToldText 8 view.has_rid view.rid values.rid
+  pub repaired_rid_is : IsToldText 8 view.has_repaired_rid view.repaired_rid values.rid_repair
   pub has_layers_is : view.has_layers ≡ bit (is_some values.video_layers_allocation)
 
 -- C is told the values that the body says under the map of these numbers

@@ -7,7 +7,7 @@ use Rattle.rtp_wire.specs.Header.{IsWire}
 use Rattle.rtp_wire.specs.Packet.{IsPacket}
 use Rattle.rtp_wire.specs.Written.{wire_bytes, image_of}
 use Rattle.rtp_wire.specs.WrittenWith.{wire_bytes_with, parts_with}
-use Rattle.rtp_c.specs.declared.header_view.HeaderView.{HeaderView}
+use Rattle.rtp_c.specs.declared.header.HeaderView.{HeaderView}
 use Rattle.rtp_c.specs.declared.packet.ElementView.{ElementView}
 use Rattle.rtp_c.specs.KindsOfIds.{HasKinds}
 use Rattle.rtp_c.specs.Given.{IsGivenHeader, AreGivenFields}

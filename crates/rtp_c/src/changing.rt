@@ -1,20 +1,59 @@
 //! A packet, changed in its buffer.
 
-ghost use Rattle.std.specs.Prelude.{◌≡◌, ◌≢◌, ◌↔◌, ◌+◌, ◌*◌, ◌≤◌, ◌<◌, List, length, slice_set, IfOk, IfErr, IsErr, IsOkAnd};
+ghost use Rattle.std.specs.Prelude.{◌≡◌, ◌≢◌, ◌↔◌, ◌+◌, ◌*◌, ◌≤◌, ◌<◌, ℕ, List, length, slice_set, IfOk, IfErr, IfSome, IsErr, IsOkAnd};
 ghost use Rattle.rtp_ext.specs.Elements.{Element};
 ghost use Rattle.rtp_ext.specs.ElementsInPlace.{HasNone, HasLastOf, SetsLast, HasOtherIds, all_but};
 ghost use Rattle.rtp_ext.specs.Places.{WritesLast};
 ghost use Rattle.rtp_wire.specs.Packet.{PacketParts, IsPacket, header_len_of};
 ghost use Rattle.rtp_wire.specs.ChangedPacket.{ChangesOnly, ChangesOnlyBody};
+ghost use Rattle.rtp_wire.specs.GivenFields.{with_header_fields, LieBetween};
 ghost use Rattle.rtp_wire.specs.NotAHeader.{NotAHeader};
 ghost use Rattle.rtp_wire.specs.PacketElements.{AreElementsOf};
 ghost use Rattle.rtp_wire.specs.PartsAt.{IsLaidOut};
 ghost use Rattle.rtp_c.specs.Status.{ok, none, bad_field, IsCauseStatus};
 ghost use Rattle.rtp_c.specs.ChangedElements.{BecomesPacket};
+ghost use Rattle.rtp_c.specs.SetFields.{fields_given, CanBeSet};
 
+use super::given::given;
 use super::status::{BAD_FIELD, NONE, OK, status_of};
 use rtp_base::{Pt, Ssrc};
-use rtp_wire::{ExtensionsForm, RtpPacket, RtpPacketMut};
+use rtp_wire::{ExtensionsForm, Fields, RtpPacket, RtpPacketMut};
+
+/// Fields that are set together: `rtpw_fields` in C, 20 bytes. Each is set where its `has_` isn't 0, and
+/// else not looked at.
+#[repr(C)]
+#[derive(Clone, Copy)]
+pub struct FieldsView {
+    /// The moment of the payload's first byte, in ticks of the payload's own clock.
+    pub timestamp: u32,
+    /// The source whose stream this is.
+    pub ssrc: u32,
+    /// The low 16 bits of the packet's number.
+    pub sequence_number: u16,
+    /// What the payload is, 0 to 127.
+    pub payload_type: u8,
+    /// M, which counts as set where it isn't 0.
+    pub marker: u8,
+    /// Whether the timestamp is given, and so for each other field.
+    pub has_timestamp: u8,
+    pub has_ssrc: u8,
+    pub has_sequence_number: u8,
+    pub has_payload_type: u8,
+    pub has_marker: u8,
+}
+
+// The fields that are given.
+fn given_fields(view: &FieldsView) -> Fields
+    ensures { result ≡ fields_given view.now }
+{
+    Fields {
+        marker: given(view.has_marker, view.marker != 0),
+        payload_type: given(view.has_payload_type, Pt::from(view.payload_type)),
+        sequence_number: given(view.has_sequence_number, view.sequence_number),
+        timestamp: given(view.has_timestamp, view.timestamp),
+        ssrc: given(view.has_ssrc, Ssrc::from(view.ssrc)),
+    }
+}
 
 // How many bytes the header of the packet in the buffer takes, and the form of its block; the status
 // of the first cause for which the buffer holds no packet.
@@ -31,6 +70,28 @@ pub fn layout_of(datagram: &[u8]) -> Result<(usize, Option<ExtensionsForm>), i32
     }
 }
 
+// Sets the fields that are given, after one look at the packet in the buffer; the status of the first
+// cause for which it holds none, and then nothing changes.
+#[inline(always)]
+fn set(datagram: &mut [u8], fields: &Fields) -> i32
+    requires { IfSome fields.now.payload_type (λ pt. pt ≤ 127) }
+    ensures set { (parts : PacketParts) → IsPacket datagram.old parts →
+        (result ≡ ok) × IsPacket datagram.new (with_header_fields fields.now parts) }
+    ensures cause { result ≢ ok → IsCauseStatus datagram.old result }
+    ensures refused { result ≢ ok ↔ NotAHeader datagram.old }
+    ensures bytes { (start end : ℕ) → LieBetween fields.now start end →
+        ChangesOnly start end datagram.old datagram.new }
+    ensures unchanged { result ≢ ok → datagram.new ≡ datagram.old }
+{
+    match layout_of(datagram) {
+        Err(status) => status,
+        Ok((header_len, form)) => {
+            RtpPacketMut::new(datagram, header_len, form).set_fields(fields);
+            OK
+        }
+    }
+}
+
 /// Sets M of the packet in the buffer. `OK`, or the status of the first cause for which the buffer
 /// holds no packet, and then nothing changes.
 #[unsafe(no_mangle)]
@@ -42,14 +103,11 @@ pub extern "C" fn rtpw_set_marker(datagram: &mut [u8], marker: bool) -> i32
     ensures bytes { ChangesOnly 1 2 datagram.old datagram.new }
     ensures unchanged { result ≢ ok → datagram.new ≡ datagram.old }
 {
-    match layout_of(datagram) {
-        Err(status) => status,
-        Ok((header_len, form)) => {
-            let mut packet = RtpPacketMut::new(datagram, header_len, form);
-            packet.set_marker(marker);
-            OK
-        }
-    }
+    let fields = Fields {
+        marker: Some(marker),
+        ..Fields::default()
+    };
+    set(datagram, &fields)
 }
 
 /// Sets the payload type, 0 to 127, of the packet in the buffer. `OK`; `BAD_FIELD` where it is
@@ -68,14 +126,11 @@ pub extern "C" fn rtpw_set_payload_type(datagram: &mut [u8], payload_type: u8) -
     if payload_type > 127 {
         return BAD_FIELD;
     }
-    match layout_of(datagram) {
-        Err(status) => status,
-        Ok((header_len, form)) => {
-            let mut packet = RtpPacketMut::new(datagram, header_len, form);
-            packet.set_payload_type(Pt::from(payload_type));
-            OK
-        }
-    }
+    let fields = Fields {
+        payload_type: Some(Pt::from(payload_type)),
+        ..Fields::default()
+    };
+    set(datagram, &fields)
 }
 
 /// Sets the sequence number of the packet in the buffer. `OK`, or the status of the first cause for
@@ -89,14 +144,11 @@ pub extern "C" fn rtpw_set_sequence_number(datagram: &mut [u8], number: u16) -> 
     ensures bytes { ChangesOnly 2 4 datagram.old datagram.new }
     ensures unchanged { result ≢ ok → datagram.new ≡ datagram.old }
 {
-    match layout_of(datagram) {
-        Err(status) => status,
-        Ok((header_len, form)) => {
-            let mut packet = RtpPacketMut::new(datagram, header_len, form);
-            packet.set_sequence_number(number);
-            OK
-        }
-    }
+    let fields = Fields {
+        sequence_number: Some(number),
+        ..Fields::default()
+    };
+    set(datagram, &fields)
 }
 
 /// Sets the timestamp of the packet in the buffer. `OK`, or the status of the first cause for which
@@ -110,14 +162,11 @@ pub extern "C" fn rtpw_set_timestamp(datagram: &mut [u8], timestamp: u32) -> i32
     ensures bytes { ChangesOnly 4 8 datagram.old datagram.new }
     ensures unchanged { result ≢ ok → datagram.new ≡ datagram.old }
 {
-    match layout_of(datagram) {
-        Err(status) => status,
-        Ok((header_len, form)) => {
-            let mut packet = RtpPacketMut::new(datagram, header_len, form);
-            packet.set_timestamp(timestamp);
-            OK
-        }
-    }
+    let fields = Fields {
+        timestamp: Some(timestamp),
+        ..Fields::default()
+    };
+    set(datagram, &fields)
 }
 
 /// Sets the SSRC of the packet in the buffer. `OK`, or the status of the first cause for which the
@@ -131,14 +180,32 @@ pub extern "C" fn rtpw_set_ssrc(datagram: &mut [u8], ssrc: u32) -> i32
     ensures bytes { ChangesOnly 8 12 datagram.old datagram.new }
     ensures unchanged { result ≢ ok → datagram.new ≡ datagram.old }
 {
-    match layout_of(datagram) {
-        Err(status) => status,
-        Ok((header_len, form)) => {
-            let mut packet = RtpPacketMut::new(datagram, header_len, form);
-            packet.set_ssrc(Ssrc::from(ssrc));
-            OK
-        }
+    let fields = Fields {
+        ssrc: Some(Ssrc::from(ssrc)),
+        ..Fields::default()
+    };
+    set(datagram, &fields)
+}
+
+/// Sets the fields that are given, and no others, after one look at the packet in the buffer. `OK`;
+/// `BAD_FIELD` where a payload type is given that is above 127; or the status of the first cause for
+/// which the buffer holds no packet. Where it isn't `OK` nothing changes.
+#[unsafe(no_mangle)]
+pub extern "C" fn rtpw_set_fields(datagram: &mut [u8], fields: &FieldsView) -> i32
+    ensures set { (parts : PacketParts) → IsPacket datagram.old parts → CanBeSet fields.now →
+        (result ≡ ok) × IsPacket datagram.new (with_header_fields (fields_given fields.now) parts) }
+    ensures too_high { 0 < fields.now.has_payload_type → 127 < fields.now.payload_type →
+        result ≡ bad_field }
+    ensures cause { CanBeSet fields.now → result ≢ ok → IsCauseStatus datagram.old result }
+    ensures refused { CanBeSet fields.now → result ≢ ok ↔ NotAHeader datagram.old }
+    ensures bytes { (start end : ℕ) → LieBetween (fields_given fields.now) start end →
+        ChangesOnly start end datagram.old datagram.new }
+    ensures unchanged { result ≢ ok → datagram.new ≡ datagram.old }
+{
+    if fields.has_payload_type != 0 && fields.payload_type > 127 {
+        return BAD_FIELD;
     }
+    set(datagram, &given_fields(fields))
 }
 
 /// Sets the contributing source at this place of the CSRC list of the packet in the buffer, counted

@@ -8,17 +8,17 @@ ghost use Rattle.rtp_values.specs.declared.value.video_orientation.VideoOrientat
 ghost use Rattle.rtp_values.specs.declared.value.values.ExtensionValues.{ExtensionValues as Values};
 ghost use Rattle.rtp_values.specs.Values.{no_values};
 ghost use Rattle.rtp_wire.specs.declared.header.rtp_header.RtpHeader.{RtpHeader as Header};
-ghost use Rattle.rtp_c.specs.Held.{degrees_of};
+ghost use Rattle.rtp_c.specs.Told.{degrees_of};
 ghost use Rattle.rtp_c.specs.Given.{given, IsGiven, IsTextIn, IsIdIn, IsTimeOf, AreGivenValues, AreGivenFields, IsGivenHeader, FindsGiven};
 
-use super::header_view::HeaderView;
+use super::header::HeaderView;
 use super::values::{Time, ValuesView};
 use rtp_base::{Frequency, MediaTime, Mid, Pt, Rid, Ssrc, put};
 use rtp_values::{AbsCaptureTime, ExtensionValues, VideoOrientation, VideoTiming};
 use rtp_wire::RtpHeader;
 
 // A value, where its flag is set.
-fn given<T: Drop>(has: u8, value: T) -> Option<T>
+pub fn given<T: Drop>(has: u8, value: T) -> Option<T>
     ensures { result ≡ given has value }
 {
     if has == 0 { None } else { Some(value) }
@@ -112,6 +112,7 @@ fn rid_of(bytes: &[u8; 9]) -> Option<Rid>
     }
 }
 
+// The orientation of these degrees, where it is given; `None` where it is given and there is no such one.
 fn given_orientation(has: u8, degrees: u16) -> Option<Option<VideoOrientation>>
     ensures { FindsGiven has (λ turn. degrees_of turn ≡ degrees) result }
 {
@@ -121,6 +122,7 @@ fn given_orientation(has: u8, degrees: u16) -> Option<Option<VideoOrientation>>
     Some(Some(orientation_of(degrees)?))
 }
 
+// The same of a time.
 fn given_time(has: u8, time: &Time) -> Option<Option<MediaTime>>
     ensures { FindsGiven has (IsTimeOf time.now) result }
 {
@@ -130,6 +132,7 @@ fn given_time(has: u8, time: &Time) -> Option<Option<MediaTime>>
     Some(Some(time_of(time)?))
 }
 
+// The same of a tag.
 #[inline(always)]
 fn given_mid(has: u8, bytes: &[u8; 17]) -> Option<Option<Mid>>
     ensures { FindsGiven has (IsIdIn 16 bytes.now) result }
@@ -140,6 +143,7 @@ fn given_mid(has: u8, bytes: &[u8; 17]) -> Option<Option<Mid>>
     Some(Some(mid_of(bytes)?))
 }
 
+// The same of a stream id.
 fn given_rid(has: u8, bytes: &[u8; 9]) -> Option<Option<Rid>>
     ensures { FindsGiven has (IsIdIn 8 bytes.now) result }
 {

@@ -8,20 +8,16 @@ ghost use Rattle.std.specs.Prelude.{◌≡◌};
 
 mod changing;
 mod given;
-mod header_view;
-mod held;
+mod header;
 mod kinds;
 mod layers;
 mod map;
-mod new_ids;
 mod packet;
 mod payload;
-mod reading;
 mod receiver;
 mod status;
 mod values;
 mod writing;
-mod writing_elements;
 
 /// The version of the library: 65,536 times its major number, 256 times the minor one, and the patch.
 /// That of the header file is `RTPW_VERSION`.

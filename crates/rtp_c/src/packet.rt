@@ -2,7 +2,6 @@
 
 ghost use Rattle.std.specs.Prelude.{◌≡◌, ◌≢◌, ◌↔◌, ◌<◌, ◌≤◌, ◌⊎◌, List, length, drop, Some, IfSome, IfNone};
 ghost use Rattle.std.specs.Option.{option_map};
-ghost use Rattle.rtp_base.specs.Flag.{bit};
 ghost use Rattle.rtp_ext.specs.declared.form.ExtensionsForm.{ExtensionsForm};
 ghost use Rattle.rtp_ext.specs.Elements.{Element, AreElements};
 ghost use Rattle.rtp_ext.specs.ElementReading.{BeginsWithNone};
@@ -15,6 +14,7 @@ ghost use Rattle.rtp_c.specs.PacketView.{IsViewOf, IsUnpaddedLen, body_of, form_
 ghost use Rattle.rtp_c.specs.Status.{ok, none, bad_field, IsCauseStatus};
 
 use super::status::{BAD_FIELD, NONE, OK, status_of};
+use super::values::flag_number;
 use rtp_ext::{ExtensionsForm, Place, last_place, next_place};
 use rtp_wire::RtpPacket;
 
@@ -67,13 +67,6 @@ pub struct ElementView {
     pub end: usize,
     /// Its id, 0 to 14 in the one-byte form, and 1 to 255 in the two-byte form.
     pub id: u8,
-}
-
-// A flag as a number.
-pub fn flag_number(is_set: bool) -> u8
-    ensures { result ≡ bit is_set }
-{
-    if is_set { 1 } else { 0 }
 }
 
 // The form of this number.

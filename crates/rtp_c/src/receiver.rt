@@ -101,7 +101,7 @@ fn take(receiver: &mut StoredReceiver, number: u64, written: &mut u64) -> i32
 
 // The same, out of line: what calls it stays short for packets above the highest number, as most are.
 #[inline(never)]
-fn take_apart(receiver: &mut StoredReceiver, number: u64, written: &mut u64) -> i32
+fn take_below_highest(receiver: &mut StoredReceiver, number: u64, written: &mut u64) -> i32
     ensures judged { (count : ℕ) (taken : Numbers) → HoldsNumbers receiver.old count taken →
         IsJudgedAs count taken number result written.new receiver.new }
     ensures below_zero { MovesBelowZero receiver.old receiver.new }
@@ -192,7 +192,7 @@ pub extern "C" fn rtpw_receiver_receive(
     if extended > receiver.highest {
         take(receiver, extended, number)
     } else {
-        take_apart(receiver, extended, number)
+        take_below_highest(receiver, extended, number)
     }
 }
 

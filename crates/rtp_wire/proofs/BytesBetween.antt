@@ -1,6 +1,7 @@
 -- Bytes that are changed between two offsets, while all before and after them stay.
-use Rattle.std.proofs.Common.{◌≡◌, ℕ, ◌+◌, ◌-◌, ◌<◌, ◌≤◌, List, [], ◌∷◌, ◌++◌, length, take, drop, refl, sym, ap, ◌∙◌, arith, append_assoc, length-append, length-drop, length-take-le, take_at, drop_at, add-zero}
+use Rattle.std.proofs.Common.{◌≡◌, ℕ, ◌+◌, ◌-◌, ◌<◌, ◌≤◌, List, [], ◌∷◌, ◌++◌, length, take, drop, refl, sym, ap, ◌∙◌, arith, subst, Option, Some, append_assoc, length-append, length-drop, length-take-le, take_at, drop_at, add-zero}
 use Rattle.std.specs.Prelude.{slice_index, slice_range}
+use Rattle.std.specs.Option.{IfSome}
 use Rattle.std.proofs.lemmas.List.{drop-drop, take-take, take-append-le, get_or-take, get_or-drop}
 use Rattle.std.proofs.lemmas.Slice.{take-put_mid_below, drop-put_mid}
 use borrow.Rule.Slice.PartMut.{put_mid}
@@ -79,3 +80,17 @@ module _ (start end : ℕ) (old new : List ℕ) (is : ChangesOnly start end old 
 
   pub range_after : (a b : ℕ) → end ≤ a → slice_range new a b ≡ slice_range old a b
   range_after a b past = ap (take (b - a)) (drop_after a past)
+
+-- a change between two offsets, and one that lies within them
+pub ChangesOnly-then : (start end s e : ℕ) (first middle last : List ℕ) → ChangesOnly start end first middle → (start ≤ s) × (e ≤ end) → ChangesOnly s e middle last → ChangesOnly start end first last
+ChangesOnly-then start end s e first middle last before within after = record {
+  length_is = after.length_is ∙ before.length_is;
+  before_is = take_before s e middle last after start within.0 ∙ before.before_is;
+  after_is = drop_after s e middle last after end within.1 ∙ before.after_is;
+}
+
+-- one that was asked for, by what is said of where it lies
+pub ChangesOnly-given : {T : Type 0} (asked : Option T) (value : T) (start end s e : ℕ) (first middle last : List ℕ) → asked ≡ Some value → ChangesOnly start end first middle
+    → IfSome asked (λ _. (start ≤ s) × (e ≤ end)) → ChangesOnly s e middle last → ChangesOnly start end first last
+ChangesOnly-given asked value start end s e first middle last is before within after =
+    ChangesOnly-then start end s e first middle last before (subst (λ (given : Option _). IfSome given (λ _. (start ≤ s) × (e ≤ end))) is within) after

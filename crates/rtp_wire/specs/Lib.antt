@@ -25,6 +25,7 @@ pub mod PacketElements
 pub mod PartsOf
 pub mod Places
 pub mod ChangedPacket
+pub mod GivenFields
 pub mod Header
 pub mod NotAHeader
 pub mod RefusedMemory

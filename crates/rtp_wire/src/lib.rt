@@ -8,7 +8,7 @@ mod payload;
 mod receive;
 
 pub use header::RtpHeader;
-pub use packet::{Csrcs, NotAPacket, RtpPacket, RtpPacketMut};
+pub use packet::{Csrcs, Fields, NotAPacket, RtpPacket, RtpPacketMut};
 pub use payload::{
     MAX_BLANK_PADDING_PAYLOAD_SIZE, create_padding_packet, read_original_sequence_number,
     unpad_payload, write_original_sequence_number,

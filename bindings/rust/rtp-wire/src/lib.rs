@@ -47,7 +47,7 @@ pub use layers::{Layer, Layers, Resolution, Stream};
 pub use map::{Kind, Map};
 pub use new_ids::NewIds;
 pub use packet::{Csrcs, Form, Packet};
-pub use packet_mut::PacketMut;
+pub use packet_mut::{Fields, PacketMut};
 pub use payload::{pad, read_original, version, write_original};
 pub use receiver::{extend_u16, Receiver};
 pub use text::{Mid, NotAText, Rid, Text};

@@ -4,6 +4,39 @@ use crate::error::NotAPacket;
 use crate::new_ids::NewIds;
 use crate::packet::Packet;
 use crate::sys;
+use crate::views::FieldsView;
+
+/// Fields that [`PacketMut::set_fields`] sets at once; one that is `None` stays as it is.
+#[derive(Clone, Copy, Debug, Default, PartialEq, Eq)]
+pub struct Fields {
+    /// M.
+    pub marker: Option<bool>,
+    /// What the payload is, 0 to 127.
+    pub payload_type: Option<u8>,
+    /// The low 16 bits of the packet's number.
+    pub sequence_number: Option<u16>,
+    /// The moment of the payload's first byte, in ticks of the payload's own clock.
+    pub timestamp: Option<u32>,
+    /// The source whose stream this is.
+    pub ssrc: Option<u32>,
+}
+
+impl Fields {
+    fn view(&self) -> FieldsView {
+        FieldsView {
+            timestamp: self.timestamp.unwrap_or_default(),
+            ssrc: self.ssrc.unwrap_or_default(),
+            sequence_number: self.sequence_number.unwrap_or_default(),
+            payload_type: self.payload_type.unwrap_or_default(),
+            marker: self.marker.unwrap_or_default().into(),
+            has_timestamp: self.timestamp.is_some().into(),
+            has_ssrc: self.ssrc.is_some().into(),
+            has_sequence_number: self.sequence_number.is_some().into(),
+            has_payload_type: self.payload_type.is_some().into(),
+            has_marker: self.marker.is_some().into(),
+        }
+    }
+}
 
 /// A packet that is changed in the bytes of its datagram: each call changes the part that it names, and
 /// no other byte. The datagram stays a packet, of the same length and with the same block form.
@@ -56,6 +89,27 @@ impl<'a> PacketMut<'a> {
     /// Sets the SSRC.
     pub fn set_ssrc(&mut self, ssrc: u32) {
         done(sys::set_ssrc(self.datagram, ssrc));
+    }
+
+    /// Sets the fields that are given after one look at the packet, and leaves the others. Returns
+    /// `false`, and changes nothing, where a payload type is given that is above 127.
+    ///
+    /// ```
+    /// use rtp_wire::{Fields, PacketMut};
+    ///
+    /// let mut datagram = [0x80, 0xE0, 0, 5, 0, 0, 0x27, 0x10, 0, 0, 0, 0x2C];
+    /// let mut packet = PacketMut::parse(&mut datagram)?;
+    /// assert!(packet.set_fields(&Fields {
+    ///     payload_type: Some(8),
+    ///     sequence_number: Some(6),
+    ///     ..Fields::default()
+    /// }));
+    /// assert_eq!(datagram[..4], [0x80, 0x88, 0, 6]); // M stays
+    /// # Ok::<(), rtp_wire::NotAPacket>(())
+    /// ```
+    #[must_use]
+    pub fn set_fields(&mut self, fields: &Fields) -> bool {
+        sys::set_fields(self.datagram, &fields.view()) == sys::OK
     }
 
     /// Sets the contributing source at this place, counted from 0. Returns `false`, and changes nothing,

@@ -8,7 +8,8 @@
 #![allow(unsafe_code)]
 
 use crate::views::{
-    HeaderView, IdsOfIds, KindsOfIds, Layers, PacketParts, Place, ReceiverState, ValuesView,
+    FieldsView, HeaderView, IdsOfIds, KindsOfIds, Layers, PacketParts, Place, ReceiverState,
+    ValuesView,
 };
 
 pub const OK: i32 = 0;
@@ -27,7 +28,8 @@ pub const CSRC_AT: usize = 12;
 
 mod c {
     use super::{
-        HeaderView, IdsOfIds, KindsOfIds, Layers, PacketParts, Place, ReceiverState, ValuesView,
+        FieldsView, HeaderView, IdsOfIds, KindsOfIds, Layers, PacketParts, Place, ReceiverState,
+        ValuesView,
     };
 
     extern "C" {
@@ -37,6 +39,7 @@ mod c {
         pub fn rtpw_set_sequence_number(datagram: *mut u8, len: usize, number: u16) -> i32;
         pub fn rtpw_set_timestamp(datagram: *mut u8, len: usize, timestamp: u32) -> i32;
         pub fn rtpw_set_ssrc(datagram: *mut u8, len: usize, ssrc: u32) -> i32;
+        pub fn rtpw_set_fields(datagram: *mut u8, len: usize, fields: *const FieldsView) -> i32;
         pub fn rtpw_set_csrc(datagram: *mut u8, len: usize, index: usize, source: u32) -> i32;
         pub fn rtpw_set_element(
             datagram: *mut u8,
@@ -175,6 +178,11 @@ pub fn set_timestamp(datagram: &mut [u8], timestamp: u32) -> i32 {
 pub fn set_ssrc(datagram: &mut [u8], ssrc: u32) -> i32 {
     // SAFETY: an exclusive slice.
     unsafe { c::rtpw_set_ssrc(datagram.as_mut_ptr(), datagram.len(), ssrc) }
+}
+
+pub fn set_fields(datagram: &mut [u8], fields: &FieldsView) -> i32 {
+    // SAFETY: an exclusive slice, and a reference that is read.
+    unsafe { c::rtpw_set_fields(datagram.as_mut_ptr(), datagram.len(), fields) }
 }
 
 pub fn set_csrc(datagram: &mut [u8], index: usize, source: u32) -> i32 {

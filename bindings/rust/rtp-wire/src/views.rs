@@ -20,6 +20,22 @@ pub struct PacketParts {
     pub block_form: u8,
 }
 
+/// `rtpw_fields`
+#[repr(C)]
+#[derive(Clone, Copy)]
+pub struct FieldsView {
+    pub timestamp: u32,
+    pub ssrc: u32,
+    pub sequence_number: u16,
+    pub payload_type: u8,
+    pub marker: u8,
+    pub has_timestamp: u8,
+    pub has_ssrc: u8,
+    pub has_sequence_number: u8,
+    pub has_payload_type: u8,
+    pub has_marker: u8,
+}
+
 /// Where the data of an element lie: `rtpw_element` in C. [`Elements::places`](crate::Elements::places)
 /// tells it of a block, and [`write_elements`](crate::write_elements) and
 /// [`Header::write_with`](crate::Header::write_with) take it.

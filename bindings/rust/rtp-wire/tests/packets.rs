@@ -1,7 +1,8 @@
 //! The types of the crate. Expected values are worked out by hand from RFC 3550, 5.1 and RFC 8285.
 
 use rtp_wire::{
-    extend_u16, Element, Form, Kind, Map, NoMemory, NotAPacket, Packet, PacketMut, Receiver, Values,
+    extend_u16, Element, Fields, Form, Kind, Map, NoMemory, NotAPacket, Packet, PacketMut,
+    Receiver, Values,
 };
 
 /// V=2, P, X, CC=2; M, PT=33; 47,000; 10,000; 44; the sources 1 and 2; a block of two words with the
@@ -122,6 +123,40 @@ fn other_bytes_are_refused() {
         assert_eq!(PacketMut::parse(&mut bytes.to_vec()).unwrap_err(), cause);
         assert_eq!(cause.to_string(), text);
     }
+}
+
+#[test]
+fn several_fields_are_set() {
+    let mut bytes = SAMPLE;
+    let mut packet = PacketMut::parse(&mut bytes).unwrap();
+    assert!(packet.set_fields(&Fields::default()));
+    assert!(packet.set_fields(&Fields {
+        payload_type: Some(8),
+        sequence_number: Some(0x1234),
+        ..Fields::default()
+    }));
+    // M stays.
+    assert_eq!(packet.into_datagram()[..4], [0xB2, 0x88, 0x12, 0x34]);
+    assert_eq!(bytes[4..], SAMPLE[4..]);
+    let mut packet = PacketMut::parse(&mut bytes).unwrap();
+    let all = Fields {
+        marker: Some(false),
+        payload_type: Some(127),
+        sequence_number: Some(0xFFFF),
+        timestamp: Some(0x5678_9ABC),
+        ssrc: Some(0),
+    };
+    assert!(packet.set_fields(&all));
+    assert!(!packet.set_fields(&Fields {
+        payload_type: Some(128),
+        ssrc: Some(1),
+        ..Fields::default()
+    }));
+    assert_eq!(
+        packet.into_datagram()[..12],
+        [0xB2, 0x7F, 0xFF, 0xFF, 0x56, 0x78, 0x9A, 0xBC, 0, 0, 0, 0]
+    );
+    assert_eq!(bytes[12..], SAMPLE[12..]);
 }
 
 #[test]

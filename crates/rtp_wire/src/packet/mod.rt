@@ -1,12 +1,14 @@
 //! An RTP packet where it lies in the bytes of a datagram.
 
 mod csrcs;
+mod fields;
 mod not_a_packet;
 mod rtp_packet;
 mod rtp_packet_mut;
 
 pub use csrcs::Csrcs;
+pub use fields::Fields;
+pub(crate) use fields::flag;
 pub use not_a_packet::NotAPacket;
 pub use rtp_packet::RtpPacket;
 pub use rtp_packet_mut::RtpPacketMut;
-pub(crate) use rtp_packet_mut::flag;

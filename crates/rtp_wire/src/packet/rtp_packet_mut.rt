@@ -1,9 +1,8 @@
 //! The packet as a buffer that can be changed.
 
-ghost use Rattle.std.specs.Prelude.{◌≡◌, ◌↔◌, ◌+◌, ◌*◌, ◌/◌, ◌<◌, ◌≤◌, List, length, slice_index, slice_set, is_some, false, All, IsTrue, IsErr, IfOk, IfErr, IfSome, IfNone, IsOkAnd, Some};
+ghost use Rattle.std.specs.Prelude.{◌≡◌, ◌↔◌, ℕ, ◌+◌, ◌*◌, ◌/◌, ◌<◌, ◌≤◌, List, length, slice_index, slice_set, is_some, false, All, IsTrue, IsErr, IfOk, IfErr, IfSome, IfNone, IsOkAnd, Some};
 ghost use Rattle.std.specs.Bool.{OnTrue, OnFalse};
 ghost use Rattle.std.specs.List.{filter_map};
-ghost use Rattle.rtp_base.specs.Flag.{bit};
 ghost use Rattle.rtp_base.specs.Overwriting.{overwritten};
 ghost use Rattle.rtp_values.specs.declared.kind.Extension.{Extension};
 ghost use Rattle.rtp_values.specs.declared.value.values.ExtensionValues.{ExtensionValues};
@@ -15,6 +14,7 @@ ghost use Rattle.rtp_ext.specs.NewIds.{new_id, AreNewIds};
 ghost use Rattle.rtp_ext.specs.Places.{WritesLast};
 ghost use Rattle.rtp_ext.specs.WrittenBlock.{mapped_fields};
 ghost use Rattle.rtp_wire.specs.ChangedPacket.{ChangesBlock, ChangesOnly, ChangesOnlyBody};
+ghost use Rattle.rtp_wire.specs.GivenFields.{with_header_fields, LieBetween};
 ghost use Rattle.rtp_wire.specs.NotAHeader.{NotAHeader};
 ghost use Rattle.rtp_wire.specs.NotAPacket.{IsFirstCause};
 ghost use Rattle.rtp_wire.specs.Packet.{PacketParts, IsPacket};
@@ -22,7 +22,7 @@ ghost use Rattle.rtp_wire.specs.PacketElements.{AreElementsOf, HasValues};
 ghost use Rattle.rtp_wire.specs.PartsAt.{form_in, has_block, header_end, IsLaidOut};
 
 use super::rtp_packet::body_start;
-use super::{NotAPacket, RtpPacket};
+use super::{Fields, NotAPacket, RtpPacket, flag};
 use rtp_base::{Pt, Ssrc, put};
 use rtp_ext::{ExtensionsForm, NewIds, remove_element, renumber, set_element};
 
@@ -162,6 +162,36 @@ impl<'a> RtpPacketMut<'a> {
         self.put_fixed(8, &ssrc.get().to_be_bytes());
     }
 
+    /// Sets the fields that are given, and leaves the others, after one look at the packet (RFC 3550,
+    /// 5.1). Requires that a payload type is at most 127.
+    ///
+    /// In a packet that begins with `80 E0 00 05` (hexadecimal) the payload type 8 and the number 6
+    /// make these bytes `80 88 00 06`: M stays.
+    #[inline(always)]
+    pub fn set_fields(&mut self, fields: &Fields)
+        requires { IfSome fields.now.payload_type (λ pt. pt ≤ 127) }
+        ensures parts { parts_in self.new ≡ with_header_fields fields.now (parts_in self.old) }
+        ensures bytes { (start end : ℕ) → LieBetween fields.now start end →
+            ChangesOnly start end (buffer_of self.old).now (buffer_of self.new).now }
+        ensures same_buffer { (buffer_of self.new).ghost_name ≡ (buffer_of self.old).ghost_name }
+    {
+        if let Some(marker) = fields.marker {
+            self.set_marker(marker);
+        }
+        if let Some(pt) = fields.payload_type {
+            self.set_payload_type(pt);
+        }
+        if let Some(number) = fields.sequence_number {
+            self.set_sequence_number(number);
+        }
+        if let Some(timestamp) = fields.timestamp {
+            self.set_timestamp(timestamp);
+        }
+        if let Some(ssrc) = fields.ssrc {
+            self.set_ssrc(ssrc);
+        }
+    }
+
     /// Sets the contributing source at this place of the CSRC list, counted from 0. Returns `false`,
     /// and changes nothing, where the list has no such place.
     pub fn set_csrc(&mut self, index: usize, source: u32) -> bool
@@ -267,11 +297,4 @@ impl<'a> RtpPacketMut<'a> {
         let start = body_start(self.datagram[0]);
         renumber(form, &mut self.datagram[start..self.header_len], ids)
     }
-}
-
-// Whether a flag is set, as the number that it adds to its byte.
-pub(crate) fn flag(is_set: bool, worth: u8) -> u8
-    ensures { result ≡ bit is_set * worth }
-{
-    if is_set { worth } else { 0 }
 }

@@ -1,14 +1,10 @@
-use Rattle.std.proofs.Common.{refl, arith, rules}
-use Rattle.rtp_wire.specs.Packet.{PacketParts}
-use Rattle.rtp_c.proofs.ChangeLemmas.{IsPacket-set}
+use Rattle.std.proofs.Common.{Some, ap}
+use Rattle.rtp_wire.specs.declared.packet.fields.Fields.{Fields}
+use Rattle.rtp_c.proofs.ChangeLemmas.{no_fields, no_fields-each, set-passed_on}
 use Rattle.rtp_c.proofs.changing.rtpw_set_sequence_number.Goals as goal
 
-pub returns-in-Ok-clause-set : goal.returns-in-Ok-clause-set
-returns-in-Ok-clause-set c parts is = (
-  refl,
-  IsPacket-set (λ (q : PacketParts). record q { sequence_number = c.args.number }) c.args.datagram.now parts c.new-packet.result c.set_sequence_number.new.self _ is
-      c.new-packet.ensures.same_bytes c.set_sequence_number.ensures.parts (omega (arith, c.type_inv.datagram 1)) (search rules),
-)
-
-pub returns-in-Err-clause-set : goal.returns-in-Err-clause-set
-returns-in-Err-clause-set c parts is = absurd (c.in-Err.ensures.only parts is)
+pub returns-clause-set : goal.returns-clause-set
+returns-clause-set c parts is =
+    set-passed_on c.set.result _ (record no_fields { sequence_number = Some c.args.number }) c.set.new.datagram parts
+    (ap (λ (none : Fields). record none { sequence_number = Some c.args.number }) (no_fields-each c.default.result c.default.ensures))
+    (c.set.ensures.set parts is)

@@ -1,15 +1,11 @@
-use Rattle.std.proofs.Common.{refl, ap, ◌∙◌, arith, rules, ℕ}
-use Rattle.rtp_wire.specs.Packet.{PacketParts}
-use Rattle.rtp_wire.specs.PartsOf.{parts_in}
-use Rattle.rtp_c.proofs.ChangeLemmas.{IsPacket-set}
+use Rattle.std.proofs.Common.{Some, ap, ◌∙◌, ℕ}
+use Rattle.rtp_wire.specs.declared.packet.fields.Fields.{Fields}
+use Rattle.rtp_c.proofs.ChangeLemmas.{no_fields, no_fields-each, set-passed_on}
 use Rattle.rtp_c.proofs.changing.rtpw_set_ssrc.Goals as goal
 
-pub returns-in-Ok-clause-set : goal.returns-in-Ok-clause-set
-returns-in-Ok-clause-set c parts is = (
-  refl,
-  IsPacket-set (λ (q : PacketParts). record q { ssrc = c.args.ssrc }) c.args.datagram.now parts c.new-packet.result c.set_ssrc.new.self _ is
-      c.new-packet.ensures.same_bytes (c.set_ssrc.ensures.parts ∙ ap (λ (n : ℕ). record (parts_in c.new-packet.result) { ssrc = n }) c.from.ensures) (omega (arith, c.type_inv.datagram 1)) (search rules),
-)
-
-pub returns-in-Err-clause-set : goal.returns-in-Err-clause-set
-returns-in-Err-clause-set c parts is = absurd (c.in-Err.ensures.only parts is)
+pub returns-clause-set : goal.returns-clause-set
+returns-clause-set c parts is =
+    set-passed_on c.set.result _ (record no_fields { ssrc = Some c.args.ssrc }) c.set.new.datagram parts
+    (ap (λ (none : Fields). record none { ssrc = Some c.from.result }) (no_fields-each c.default.result c.default.ensures)
+    ∙ ap (λ (n : ℕ). record no_fields { ssrc = Some n }) c.from.ensures)
+    (c.set.ensures.set parts is)

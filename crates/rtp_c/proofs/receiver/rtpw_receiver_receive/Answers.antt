@@ -17,6 +17,6 @@ returns-else-extended-receiver-clause-judged c count taken holds =
       number = number;
       is_number = c.rtpw_receiver_number_of-extended.ensures.nearest count taken holds;
       judged =
-          IsJudgedAs-passed_on count taken number c.take_apart.result c.take_apart.new.written c.take_apart.new.receiver
-          (c.take_apart.ensures.judged count taken holds);
+          IsJudgedAs-passed_on count taken number c.take_below_highest.result c.take_below_highest.new.written c.take_below_highest.new.receiver
+          (c.take_below_highest.ensures.judged count taken holds);
     }
