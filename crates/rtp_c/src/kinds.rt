@@ -1,6 +1,6 @@
 //! The map that C fills, as it stands, as a map of kinds.
 
-ghost use Rattle.std.specs.Prelude.{◌≡◌, ◌≢◌, ◌↔◌, ℕ, ◌<◌, length, slice_index, false, IsTrue, IfSome, IfNone};
+ghost use Rattle.std.specs.Prelude.{◌≡◌, ◌≢◌, ◌↔◌, ℕ, ◌<◌, ◌≤◌, length, slice_index, false, IsTrue, IfSome, IfNone};
 ghost use Rattle.rtp_c.specs.KindNumbers.{kind_numbered};
 ghost use Rattle.rtp_c.specs.KindsOfIds.{IsFirstNumber};
 
@@ -8,12 +8,10 @@ use super::map::{KindsOfIds, number_of};
 use rtp_ext::{Cursor, Kinds, is_long};
 use rtp_values::KnownKind;
 
-// A walk ends after so many slots, where the others are empty: those of the first eight ids, those of
-// the one-byte form, or all.
-const FEW_SLOTS: usize = 7;
-
+// How many slots the ids of the one-byte form have.
 const LOW_SLOTS: usize = 14;
 
+// How many slots all ids have.
 const ALL_SLOTS: usize = 255;
 
 // The number of the kind that may have long data.
@@ -55,6 +53,17 @@ fn are_zeros(numbers: &[u8]) -> bool
         any |= *number;
     }
     any == 0
+}
+
+// An index after which each of the first 16 numbers is 0: that of the last other one, where this is
+// below 128 as the number of a kind is.
+#[inline(always)]
+fn low_end(numbers: &[u8; 16]) -> usize
+    ensures zeros { (i : ℕ) → result < i → i < 16 → slice_index numbers.now i ≡ 0 }
+    ensures few { result ≤ 16 }
+{
+    let len = u128::BITS - u128::from_le_bytes(*numbers).leading_zeros();
+    len as usize / 8
 }
 
 // Whether one of the numbers is this one. Each is looked at, so that many are at once.
@@ -105,16 +114,9 @@ impl Kinds for KindsOfIds {
 
     #[inline(always)]
     fn start(&self) -> Cursor {
-        let is_low = are_zeros(&self.kind[16..]);
-        let is_few = are_zeros(&self.kind[8..16]);
-        let end = if is_low {
-            if is_few {
-                FEW_SLOTS
-            } else if self.kind[15] == 0 {
-                LOW_SLOTS
-            } else {
-                ALL_SLOTS
-            }
+        let (low, high) = self.kind.split_first_chunk::<16>().unwrap();
+        let end = if are_zeros(high) {
+            low_end(low)
         } else {
             ALL_SLOTS
         };
