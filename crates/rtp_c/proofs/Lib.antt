@@ -5,7 +5,7 @@ mod ElementLemmas
 mod KindNumberLemmas
 mod KindsOfIdsLemmas
 mod NumberedLemmas
-mod LowEndLemmas
+mod FewSlotsLemmas
 mod LayersLemmas
 mod HeaderViewLemmas
 mod GivenLemmas

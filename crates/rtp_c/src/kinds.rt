@@ -8,10 +8,10 @@ use super::map::{KindsOfIds, number_of};
 use rtp_ext::{Cursor, Kinds, is_long};
 use rtp_values::KnownKind;
 
-// How many slots the ids of the one-byte form have.
+// A walk ends after so many slots, where the others are empty: those of the one-byte form, or all.
+// Where only ids below 8 are mapped it ends after the last one.
 const LOW_SLOTS: usize = 14;
 
-// How many slots all ids have.
 const ALL_SLOTS: usize = 255;
 
 // The number of the kind that may have long data.
@@ -55,14 +55,14 @@ fn are_zeros(numbers: &[u8]) -> bool
     any == 0
 }
 
-// An index after which each of the first 16 numbers is 0: that of the last other one, where this is
+// An index after which each of the first eight numbers is 0: that of the last other one, where this is
 // below 128 as the number of a kind is.
 #[inline(always)]
-fn low_end(numbers: &[u8; 16]) -> usize
-    ensures zeros { (i : ℕ) → result < i → i < 16 → slice_index numbers.now i ≡ 0 }
-    ensures few { result ≤ 16 }
+fn last_of_few(numbers: &[u8; 8]) -> usize
+    ensures zeros { (i : ℕ) → result < i → i < 8 → slice_index numbers.now i ≡ 0 }
+    ensures few { result ≤ 8 }
 {
-    let len = u128::BITS - u128::from_le_bytes(*numbers).leading_zeros();
+    let len = u64::BITS - u64::from_le_bytes(*numbers).leading_zeros();
     len as usize / 8
 }
 
@@ -114,9 +114,16 @@ impl Kinds for KindsOfIds {
 
     #[inline(always)]
     fn start(&self) -> Cursor {
-        let (low, high) = self.kind.split_first_chunk::<16>().unwrap();
-        let end = if are_zeros(high) {
-            low_end(low)
+        let is_low = are_zeros(&self.kind[16..]);
+        let is_few = are_zeros(&self.kind[8..16]);
+        let end = if is_low {
+            if is_few {
+                last_of_few(self.kind.first_chunk::<8>().unwrap())
+            } else if self.kind[15] == 0 {
+                LOW_SLOTS
+            } else {
+                ALL_SLOTS
+            }
         } else {
             ALL_SLOTS
         };

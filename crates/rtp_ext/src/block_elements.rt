@@ -49,11 +49,10 @@ fn write_element(
     ensures end { result ≡ at + length (bytes_at form id (spelled_data (extension_of_kind kind) ev.now)) }
     ensures carried { IsCarried form ev.now (id, (extension_of_kind kind)) }
 {
-    let header_len = header_len(form);
-    if buf.len() - at < header_len {
+    let start = at + header_len(form);
+    if start > buf.len() {
         return at;
     }
-    let start = at + header_len;
     let Some(len) = kind.write_to(&mut buf[start..], ev) else {
         return at;
     };
@@ -153,37 +152,6 @@ pub fn write_values<K: Kinds>(
         (written_elements (K.slots kinds.now) ev.now) }
 
     // These elements are read as the image of the values.
-    ensures values { AreValues (K.slots kinds.now) (written_elements (K.slots kinds.now) ev.now) no_values
-        (image_values (K.slots kinds.now) ev.now) }
-{
-    match form {
-        ExtensionsForm::OneByte => write_in(kinds, start, buf, ev, ExtensionsForm::OneByte),
-        ExtensionsForm::TwoByte => write_in(kinds, start, buf, ev, ExtensionsForm::TwoByte),
-    }
-}
-
-// The same. It is inlined, so that each form has a loop of its own.
-#[inline(always)]
-fn write_in<K: Kinds>(
-    kinds: &K,
-    start: Cursor,
-    buf: &mut [u8],
-    ev: &ExtensionValues,
-    form: ExtensionsForm,
-) -> usize
-    requires start { K.left kinds.now start ≡ items_from 0 (K.known kinds.now) }
-    requires few { length (items_from 0 (K.known kinds.now)) ≤ 255 }
-    requires form { (form ≡ form_of (K.slots kinds.now) ev.now) ⊎ (form ≡ TwoByte) }
-    requires room { length (elements_bytes form (written_elements (K.slots kinds.now) ev.now))
-        ≤ length buf.old }
-    ensures length { result ≡ length (elements_bytes form (written_elements (K.slots kinds.now) ev.now)) }
-    ensures written { buf.new
-        ≡ elements_bytes form (written_elements (K.slots kinds.now) ev.now) ++ drop result buf.old }
-    ensures by_map { result ≤ 257 * mapped_count (K.slots kinds.now) }
-    ensures bound { result ≤ 65535 }
-    ensures elements { (zeros : ℕ) → AreElements form
-        (elements_bytes form (written_elements (K.slots kinds.now) ev.now) ++ replicate zeros 0)
-        (written_elements (K.slots kinds.now) ev.now) }
     ensures values { AreValues (K.slots kinds.now) (written_elements (K.slots kinds.now) ev.now) no_values
         (image_values (K.slots kinds.now) ev.now) }
 {

@@ -1,49 +1,75 @@
-use Rattle.std.proofs.Common.{◌≡◌, ℕ, List, Bor, Option, subst, ◌+◌, ◌-◌, ◌<◌, arith, sym, ap, ◌∙◌, length, take, drop, get_or, rules, inl, inr}
+use Rattle.std.specs.Array.{IsFirstChunk}
 use Rattle.std.specs.Option.{MatchOption}
+use Rattle.std.proofs.Common.{◌≡◌, ℕ, List, Bor, Option, subst, ◌+◌, ◌-◌, ◌<◌, ◌≤◌, arith, sym, ap, ◌∙◌, length, take, get_or, rules, drop, inl, inr}
 use Rattle.std.proofs.lemmas.Bool.{cases_lt}
-use Rattle.std.proofs.lemmas.List.{get_or-drop, get_or_past, get_or-take, length-drop}
+use Rattle.std.proofs.lemmas.List.{get_or-drop, get_or_past, get_or-take, length-drop, length-take}
 use Rattle.rtp_ext.specs.ExtensionMap.{items_from}
 use Rattle.rtp_c.specs.KindsOfIds.{numbered_slots}
 use Rattle.rtp_c.proofs.NumberedLemmas.{numbered-low, numbered-all, numbered-few}
 use Rattle.rtp_c.proofs.kinds.KindsOfIdsKinds.start.Goals as goal
-use Rattle.rtp_c.proofs.kinds.KindsOfIdsKinds.start.Goals.{then-are_zeros, else-are_zeros}
+use Rattle.rtp_c.proofs.kinds.KindsOfIdsKinds.start.Goals.{else-is_low, then-is_low+then-is_few, then-is_low+else-is_few+then-self-eq0, then-is_low+else-is_few+else-self-eq0}
 
--- the numbers past an index are 0, both among the first and after them
-zeros_past : (numbers low high : List ℕ) (n end i : ℕ) → low ≡ take n numbers → high ≡ drop n numbers
-    → ((k : ℕ) → end < k → k < n → get_or low k 0 ≡ 0) → ((k : ℕ) → k < length high → get_or high k 0 ≡ 0) → end < i → get_or numbers i 0 ≡ 0
-zeros_past numbers low high n end i low_is high_is low_zeros high_zeros past = elim (cases_lt i n) [
-  | inl here ↦ sym (get_or-take n numbers i 0 here) ∙ ap (λ (ns : List ℕ). get_or ns i 0) (sym low_is) ∙ low_zeros i past here
-  | inr there ↦
-      let index : n + (i - n) ≡ i = omega (arith, there) in
-      let at : get_or high (i - n) 0 ≡ get_or numbers i 0 =
-      ap (λ (ns : List ℕ). get_or ns (i - n) 0) high_is ∙ get_or-drop n numbers (i - n) 0 ∙ ap (λ (k : ℕ). get_or numbers k 0) index in
-      elim (cases_lt (i - n) (length high)) [
-        | inl within ↦ sym at ∙ high_zeros (i - n) within
-        | inr after ↦ sym at ∙ get_or_past high (i - n) 0 after
-      ]
+-- numbers that are 0 between two indices, as they are looked at
+zeros_in : (numbers : List ℕ) (n m i : ℕ) → n + m ≤ length numbers
+    → ((k : ℕ) → k < length (take m (drop n numbers)) → get_or (take m (drop n numbers)) k 0 ≡ 0) → n ≤ i → i < n + m → get_or numbers i 0 ≡ 0
+zeros_in numbers n m i all zeros above below =
+    let index : i ≡ n + (i - n) = omega arith in
+    let here : i - n < m = omega arith in
+    ap (λ (k : ℕ). get_or numbers k 0) index ∙ sym (get_or-drop n numbers (i - n) 0) ∙ sym (get_or-take m (drop n numbers) (i - n) 0 here)
+    ∙ zeros (i - n) (omega (arith, here, length-take m (drop n numbers), length-drop n numbers))
+
+-- the numbers past a middle are 0, and so are those of the middle
+zeros_past : (numbers : List ℕ) (n m i : ℕ) → n + m ≡ length numbers
+    → ((k : ℕ) → k < length (take m (drop n numbers)) → get_or (take m (drop n numbers)) k 0 ≡ 0) → n ≤ i → get_or numbers i 0 ≡ 0
+zeros_past numbers n m i all zeros above = elim (cases_lt i (n + m)) [
+  | inl here ↦ zeros_in numbers n m i (omega arith) zeros above here
+  | inr past ↦ get_or_past numbers i 0 (omega (arith, past))
 ]
 
--- the first numbers and the others
-parts : (c : goal.After-result-1) →
-    (c.unwrap.result.0.now ≡ take 16 c.args.self.now.kind) × (c.unwrap.result.1.now ≡ drop 16 c.args.self.now.kind)
-    × (length c.unwrap.result.1.now + 16 ≡ length c.args.self.now.kind)
-parts c =
-    let numbers = c.args.self.now.kind in
-    subst (λ (found : Option (Bor (List ℕ) × Bor (List ℕ))). MatchOption found (length numbers < 16)
-    (λ (p : Bor (List ℕ) × Bor (List ℕ)). (p.0.now ≡ take 16 numbers) × (p.1.now ≡ drop 16 numbers) × (length p.1.now + 16 ≡ length numbers)))
-    c.unwrap.ensures c.split_first_chunk.ensures.cases
+zeros_from : (numbers : List ℕ) (n m l i : ℕ) → m + l ≡ length numbers → n ≤ m
+    → ((k : ℕ) → k < length (take (m - n) (drop n numbers)) → get_or (take (m - n) (drop n numbers)) k 0 ≡ 0)
+    → ((k : ℕ) → k < length (take l (drop m numbers)) → get_or (take l (drop m numbers)) k 0 ≡ 0) → n ≤ i → get_or numbers i 0 ≡ 0
+zeros_from numbers n m l i all order middle high above = elim (cases_lt i m) [
+  | inl here ↦ zeros_in numbers n (m - n) i (omega arith) middle above (omega (arith, here))
+  | inr past ↦ zeros_past numbers m l i all high past
+]
+
+-- one number, and those past it
+zero_and : (numbers : List ℕ) (n l i : ℕ) → n + 1 + l ≡ length numbers → get_or numbers n 0 ≡ 0
+    → ((k : ℕ) → k < length (take l (drop (n + 1) numbers)) → get_or (take l (drop (n + 1) numbers)) k 0 ≡ 0) → n ≤ i → get_or numbers i 0 ≡ 0
+zero_and numbers n l i all one high above = elim (cases_lt n i) [
+  | inl past ↦ zeros_past numbers (n + 1) l i all high (omega (arith, past))
+  | inr here ↦ let same : i ≡ n = omega (arith, here) in ap (λ (k : ℕ). get_or numbers k 0) same ∙ one
+]
+
+-- the first eight numbers past an index, and those past the eighth
+zeros_after : (numbers first : List ℕ) (end i : ℕ) → 256 ≡ length numbers → first ≡ take 8 numbers → ((k : ℕ) → end < k → k < 8 → get_or first k 0 ≡ 0)
+    → ((k : ℕ) → k < length (take 8 (drop 8 numbers)) → get_or (take 8 (drop 8 numbers)) k 0 ≡ 0)
+    → ((k : ℕ) → k < length (take 240 (drop 16 numbers)) → get_or (take 240 (drop 16 numbers)) k 0 ≡ 0) → end < i → get_or numbers i 0 ≡ 0
+zeros_after numbers first end i all first_is few middle high past = elim (cases_lt i 8) [
+  | inl here ↦ sym (get_or-take 8 numbers i 0 here) ∙ ap (λ (ns : List ℕ). get_or ns i 0) (sym first_is) ∙ few i past here
+  | inr there ↦ zeros_from numbers 8 16 240 i all (omega arith) middle high (omega (arith, there))
+]
 
 pub returns-clause-all : goal.returns-clause-all
 returns-clause-all c =
     let numbers = c.args.self.now.kind in
     let many : length numbers ≡ 256 = search rules in
-    elim c.if-are_zeros.branch [
-      | then-are_zeros w ↦
+    elim c.if-is_low.branch [
+      | then-is_low+then-is_few w ↦
+          let first : IsFirstChunk numbers w.unwrap.result.now 8 =
+          subst (λ (found : Option (Bor (List ℕ))). MatchOption found (length numbers < 8) (λ chunk. IsFirstChunk numbers chunk.now 8)) w.unwrap.ensures w.first_chunk.ensures.cases in
           ap (λ (end : ℕ). items_from 0 (take end (numbered_slots numbers))) w.end-is
-          ∙ numbered-low numbers w.low_end-end.result (λ i above.
-          zeros_past numbers c.unwrap.result.0.now c.unwrap.result.1.now 16 w.low_end-end.result i (parts c).0 (parts c).1
-          w.low_end-end.ensures.zeros (c.are_zeros.ensures.0 w.if-are_zeros.true) (omega (arith, above)))
-      | else-are_zeros w ↦
+          ∙ numbered-low numbers w.last_of_few.result (λ i above.
+          zeros_after numbers w.unwrap.result.now w.last_of_few.result i (sym many) first.same
+          w.last_of_few.ensures.zeros (c.are_zeros-is_few.ensures.0 w.if-is_few.true) (c.are_zeros-is_low.ensures.0 w.if-is_low.true) (omega (arith, above)))
+      | then-is_low+else-is_few+then-self-eq0 w ↦
+          ap (λ (end : ℕ). items_from 0 (take end (numbered_slots numbers))) w.end-is
+          ∙ numbered-low numbers 14 (λ i above.
+          zero_and numbers 15 240 i (sym many) (omega (arith, w.if-self-eq0.true)) (c.are_zeros-is_low.ensures.0 w.if-is_low.true) above)
+      | then-is_low+else-is_few+else-self-eq0 w ↦
+          ap (λ (end : ℕ). items_from 0 (take end (numbered_slots numbers))) w.end-is ∙ numbered-all numbers many
+      | else-is_low w ↦
           ap (λ (end : ℕ). items_from 0 (take end (numbered_slots numbers))) w.end-is ∙ numbered-all numbers many
     ]
 

@@ -12,7 +12,7 @@ use Rattle.rtp_ext.proofs.KnownItemsLemmas.{chosen_known, written_known, count_k
 use Rattle.rtp_ext.specs.Elements.{Element, AreElements}
 use Rattle.rtp_ext.proofs.WrittenElementsLemmas.{AreElements-written}
 use Rattle.rtp_ext.proofs.WrittenValuesLemmas.{AreValues-written}
-use Rattle.rtp_ext.proofs.block_elements.write_in.Goals as goal
+use Rattle.rtp_ext.proofs.block_elements.write_values.Goals as goal
 
 pub loop-id-init : goal.loop-id-init
 loop-id-init g c =

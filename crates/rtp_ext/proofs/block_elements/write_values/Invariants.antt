@@ -1,7 +1,7 @@
 use Rattle.std.proofs.Common.{length}
 use Rattle.rtp_ext.specs.ExtensionMap.{items_from}
 use Rattle.rtp_ext.proofs.WrittenBlockLemmas.{IsUnderWay}
-use Rattle.rtp_ext.proofs.block_elements.write_in.Given as goal
+use Rattle.rtp_ext.proofs.block_elements.write_values.Given as goal
 
 -- the elements so far are written
 abbrev pub invariant-loop-id : goal.invariant-loop-id
