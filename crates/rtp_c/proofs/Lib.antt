@@ -5,6 +5,7 @@ mod ElementLemmas
 mod KindNumberLemmas
 mod KindsOfIdsLemmas
 mod NumberedLemmas
+mod FewSlotsLemmas
 mod LayersLemmas
 mod HeaderViewLemmas
 mod GivenLemmas

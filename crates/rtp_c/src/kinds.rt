@@ -1,6 +1,6 @@
 //! The map that C fills, as it stands, as a map of kinds.
 
-ghost use Rattle.std.specs.Prelude.{◌≡◌, ◌≢◌, ◌↔◌, ℕ, ◌<◌, length, slice_index, false, IsTrue, IfSome, IfNone};
+ghost use Rattle.std.specs.Prelude.{◌≡◌, ◌≢◌, ◌↔◌, ℕ, ◌<◌, ◌≤◌, length, slice_index, false, IsTrue, IfSome, IfNone};
 ghost use Rattle.rtp_c.specs.KindNumbers.{kind_numbered};
 ghost use Rattle.rtp_c.specs.KindsOfIds.{IsFirstNumber};
 
@@ -8,10 +8,8 @@ use super::map::{KindsOfIds, number_of};
 use rtp_ext::{Cursor, Kinds, is_long};
 use rtp_values::KnownKind;
 
-// A walk ends after so many slots, where the others are empty: those of the first eight ids, those of
-// the one-byte form, or all.
-const FEW_SLOTS: usize = 7;
-
+// A walk ends after so many slots, where the others are empty: those of the one-byte form, or all.
+// Where only ids below 8 are mapped it ends after the last one.
 const LOW_SLOTS: usize = 14;
 
 const ALL_SLOTS: usize = 255;
@@ -55,6 +53,17 @@ fn are_zeros(numbers: &[u8]) -> bool
         any |= *number;
     }
     any == 0
+}
+
+// An index after which each of the first eight numbers is 0: that of the last other one, where this is
+// below 128 as the number of a kind is.
+#[inline(always)]
+fn last_of_few(numbers: &[u8; 8]) -> usize
+    ensures zeros { (i : ℕ) → result < i → i < 8 → slice_index numbers.now i ≡ 0 }
+    ensures few { result ≤ 8 }
+{
+    let len = u64::BITS - u64::from_le_bytes(*numbers).leading_zeros();
+    len as usize / 8
 }
 
 // Whether one of the numbers is this one. Each is looked at, so that many are at once.
@@ -109,7 +118,7 @@ impl Kinds for KindsOfIds {
         let is_few = are_zeros(&self.kind[8..16]);
         let end = if is_low {
             if is_few {
-                FEW_SLOTS
+                last_of_few(self.kind.first_chunk::<8>().unwrap())
             } else if self.kind[15] == 0 {
                 LOW_SLOTS
             } else {

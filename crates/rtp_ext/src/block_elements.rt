@@ -49,11 +49,10 @@ fn write_element(
     ensures end { result ≡ at + length (bytes_at form id (spelled_data (extension_of_kind kind) ev.now)) }
     ensures carried { IsCarried form ev.now (id, (extension_of_kind kind)) }
 {
-    let header_len = header_len(form);
-    if buf.len() - at < header_len {
+    let start = at + header_len(form);
+    if start > buf.len() {
         return at;
     }
-    let start = at + header_len;
     let Some(len) = kind.write_to(&mut buf[start..], ev) else {
         return at;
     };

@@ -81,7 +81,7 @@ pub(super) fn block_fits<K: Kinds>(
     ensures { IsTrue result ↔ (length (block_bytes_in form (K.slots kinds.now) ev.now) ≤ room) }
 {
     let most = MAX_LEN_ONE_BYTE_FORM * kinds.at_most(start);
-    if form == ExtensionsForm::OneByte && HEADER_LEN + most.next_multiple_of(4) <= room {
+    if form == ExtensionsForm::OneByte && HEADER_LEN + most + 3 <= room {
         return true;
     }
     block_len(kinds, start, form, ev) <= room

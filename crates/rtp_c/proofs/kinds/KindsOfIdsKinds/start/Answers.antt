@@ -1,4 +1,6 @@
-use Rattle.std.proofs.Common.{◌≡◌, ℕ, List, ◌+◌, ◌-◌, ◌<◌, ◌≤◌, arith, sym, ap, ◌∙◌, length, take, get_or, rules, drop, inl, inr}
+use Rattle.std.specs.Array.{IsFirstChunk}
+use Rattle.std.specs.Option.{MatchOption}
+use Rattle.std.proofs.Common.{◌≡◌, ℕ, List, Bor, Option, subst, ◌+◌, ◌-◌, ◌<◌, ◌≤◌, arith, sym, ap, ◌∙◌, length, take, get_or, rules, drop, inl, inr}
 use Rattle.std.proofs.lemmas.Bool.{cases_lt}
 use Rattle.std.proofs.lemmas.List.{get_or-drop, get_or_past, get_or-take, length-drop, length-take}
 use Rattle.rtp_ext.specs.ExtensionMap.{items_from}
@@ -40,15 +42,27 @@ zero_and numbers n l i all one high above = elim (cases_lt n i) [
   | inr here ↦ let same : i ≡ n = omega (arith, here) in ap (λ (k : ℕ). get_or numbers k 0) same ∙ one
 ]
 
+-- the first eight numbers past an index, and those past the eighth
+zeros_after : (numbers first : List ℕ) (end i : ℕ) → 256 ≡ length numbers → first ≡ take 8 numbers → ((k : ℕ) → end < k → k < 8 → get_or first k 0 ≡ 0)
+    → ((k : ℕ) → k < length (take 8 (drop 8 numbers)) → get_or (take 8 (drop 8 numbers)) k 0 ≡ 0)
+    → ((k : ℕ) → k < length (take 240 (drop 16 numbers)) → get_or (take 240 (drop 16 numbers)) k 0 ≡ 0) → end < i → get_or numbers i 0 ≡ 0
+zeros_after numbers first end i all first_is few middle high past = elim (cases_lt i 8) [
+  | inl here ↦ sym (get_or-take 8 numbers i 0 here) ∙ ap (λ (ns : List ℕ). get_or ns i 0) (sym first_is) ∙ few i past here
+  | inr there ↦ zeros_from numbers 8 16 240 i all (omega arith) middle high (omega (arith, there))
+]
+
 pub returns-clause-all : goal.returns-clause-all
 returns-clause-all c =
     let numbers = c.args.self.now.kind in
     let many : length numbers ≡ 256 = search rules in
     elim c.if-is_low.branch [
       | then-is_low+then-is_few w ↦
+          let first : IsFirstChunk numbers w.unwrap.result.now 8 =
+          subst (λ (found : Option (Bor (List ℕ))). MatchOption found (length numbers < 8) (λ chunk. IsFirstChunk numbers chunk.now 8)) w.unwrap.ensures w.first_chunk.ensures.cases in
           ap (λ (end : ℕ). items_from 0 (take end (numbered_slots numbers))) w.end-is
-          ∙ numbered-low numbers 7 (λ i above.
-          zeros_from numbers 8 16 240 i (sym many) (omega arith) (c.are_zeros-is_few.ensures.0 w.if-is_few.true) (c.are_zeros-is_low.ensures.0 w.if-is_low.true) above)
+          ∙ numbered-low numbers w.last_of_few.result (λ i above.
+          zeros_after numbers w.unwrap.result.now w.last_of_few.result i (sym many) first.same
+          w.last_of_few.ensures.zeros (c.are_zeros-is_few.ensures.0 w.if-is_few.true) (c.are_zeros-is_low.ensures.0 w.if-is_low.true) (omega (arith, above)))
       | then-is_low+else-is_few+then-self-eq0 w ↦
           ap (λ (end : ℕ). items_from 0 (take end (numbered_slots numbers))) w.end-is
           ∙ numbered-low numbers 14 (λ i above.

@@ -12,8 +12,8 @@ one_byte : (form : ExtensionsForm) → (form_eq.ghosts).eq form OneByte ≡ true
 one_byte OneByte same = refl
 one_byte TwoByte same = cc
 
-pub returns-then-next_multiple_of-room : goal.returns-then-next_multiple_of-room
-returns-then-next_multiple_of-room g c =
+pub returns-then-most-room : goal.returns-then-most-room
+returns-then-most-room g c =
     let exts = g.K.Kinds.slots c.args.kinds.now in
     let ev = c.args.ev.now in
     let form : c.args.form ≡ OneByte = one_byte c.args.form (sym c.eq.ensures ∙ c.if-eq.true) in
@@ -21,6 +21,6 @@ returns-then-next_multiple_of-room g c =
     let same : len ≡ length (elements_bytes OneByte (written_elements exts ev)) =
     ap (λ (f : ExtensionsForm). length (elements_bytes f (written_elements exts ev))) form in
     let alike = ap (λ (elements : List Element). length (elements_bytes OneByte elements)) (written_known exts (g.K.Kinds.known c.args.kinds.now) ev (g.met.K.Kinds.known_is c.args.kinds.now)) in (
-      λ _. omega (arith, length-block c.args.form exts ev len refl, same, c.requires.short form, alike, c.at_most-most.ensures.most, c.next_multiple_of.ensures.value, c.if-next_multiple_of-room.true),
+      λ _. omega (arith, length-block c.args.form exts ev len refl, same, c.requires.short form, alike, c.at_most-most.ensures.most, c.if-most-room.true),
       λ _. refl,
     )

@@ -1,0 +1,45 @@
+-- Where the first numbers end, in the map that C fills.
+use Rattle.std.proofs.Common.{◌≡◌, ◌≤◌, ◌<◌, ◌+◌, ◌-◌, ◌*◌, ◌^◌, ◌/◌, ℕ, zero, suc, List, get_or, inl, inr, arith, ap, sym, refl, ◌∙◌}
+use Rattle.std.specs.Int.{w64, byte_worth, from_le_bytes, sum_through, leading_zeros}
+use Rattle.std.proofs.lemmas.Bool.{cases_lt}
+use Rattle.std.proofs.lemmas.Nat.{leading_length, pow-add}
+use Rattle.std.proofs.Math.Nat.{pow-le-pow_right, le-mul_of_pos_right, mul_comm}
+
+-- a part is at most the sum
+le-sum_through : (f : ℕ → ℕ) (last i : ℕ) → i ≤ last → f i ≤ sum_through f last
+le-sum_through f zero zero within = omega arith
+le-sum_through f zero (suc i) within = absurd (omega arith)
+le-sum_through f (suc last) i within = elim (cases_lt i (suc last)) [
+  | inl before ↦ omega (arith, le-sum_through f last i (omega arith))
+  | inr here ↦ let same : i ≡ suc last = omega arith in omega (arith, ap f same)
+]
+
+-- a byte is worth eight bits more than the one before it
+pow_of_byte : (i : ℕ) → 256 ^ i ≡ 2 ^ (8 * i)
+pow_of_byte zero = refl
+pow_of_byte (suc i) =
+    let next : suc i ≡ i + 1 = omega arith in
+    let bits : 8 * i + 8 ≡ 8 * suc i = omega arith in
+    ap (λ (k : ℕ). 256 ^ k) next ∙ pow-add 256 i 1 ∙ ap (λ (n : ℕ). n * 256) (pow_of_byte i) ∙ sym (pow-add 2 (8 * i) 8)
+    ∙ ap (λ (k : ℕ). 2 ^ k) bits
+
+-- a byte that isn't 0 is worth at least the power of its place
+worth-least : (i byte : ℕ) → 0 < byte → 256 ^ i ≤ byte_worth i byte
+worth-least zero byte some = omega arith
+worth-least (suc i) byte some = omega (arith, le-mul_of_pos_right (256 ^ suc i) some, mul_comm (256 ^ suc i) byte)
+
+below_power : (numbers : List ℕ) (len i : ℕ) → from_le_bytes w64 numbers < 2 ^ len → len ≤ 8 * i → i < 8 → get_or numbers i 0 ≡ 0
+below_power numbers len i small past low = elim (cases_lt 0 (get_or numbers i 0)) [
+  | inl some ↦
+      let power : 2 ^ len ≤ 2 ^ (8 * i) = pow-le-pow_right (omega arith) past in
+      let part : byte_worth i (get_or numbers i 0) ≤ from_le_bytes w64 numbers = le-sum_through (λ k. byte_worth k (get_or numbers k 0)) 7 i (omega (arith, low)) in
+      absurd (omega (arith, small, part, worth-least i (get_or numbers i 0) some, pow_of_byte i, power))
+  | inr none ↦ omega (arith, none)
+]
+
+-- so by the leading zeros of the word that the numbers are, the last of which is the highest
+pub zeros_above : (numbers : List ℕ) (word leading i : ℕ) → word ≡ from_le_bytes w64 numbers → word < 2 ^ 64 → leading ≡ leading_zeros w64 word
+    → (64 - leading) / 8 < i → i < 8 → get_or numbers i 0 ≡ 0
+zeros_above numbers word leading i is within counted past low =
+    let len = leading_length 64 word within in
+    below_power numbers len.0 i (omega (arith, is, len.2)) (omega (arith, past, counted, len.1)) low
