@@ -1,5 +1,5 @@
 -- Numbers of header extensions as their standards have them.
-use Rattle.std.specs.Prelude.{nat_lt, if◌then◌else◌, ℕ, ℤ, pos, negsuc, ◌+ℤ◌, ◌-ℤ◌, ◌-◌, List}
+use Rattle.std.specs.Prelude.{nat_lt, if◌then◌else◌, ℕ, ℤ, pos, negsuc, ◌-ℤ◌, ◌-◌, List}
 use Rattle.rtp_values.specs.Spelling.{bytes_of}
 
 -- a number of 24 bits in two's complement, and back

@@ -1,5 +1,5 @@
 -- A token of SDP (RFC 8866, 9), which a mid and a stream id are (RFC 5888, 4; RFC 8852, 3).
-use Rattle.std.specs.Prelude.{◌≡◌, ◌==◌, ◌&&◌, ◌||◌, nat_le, ℕ, ◌≤◌, Bool, List, length, All, IsTrue}
+use Rattle.std.specs.Prelude.{◌==◌, ◌&&◌, ◌||◌, nat_le, ℕ, ◌≤◌, Bool, List, length, All, IsTrue}
 
 -- whether the byte lies between two others, both included
 abbrev pub is_between : ℕ → ℕ → ℕ → Bool

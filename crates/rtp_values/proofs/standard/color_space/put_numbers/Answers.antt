@@ -1,4 +1,4 @@
-use Rattle.std.proofs.Common.{arith, rules, ◌≡◌, ◌<◌, ◌≤◌, ℕ, ◌+◌, ◌*◌, ◌/◌, ◌%◌, suc, add-one, List, [], ◌∷◌, ◌++◌, length, take, sym, ap, refl, ◌∙◌, append_assoc, length-append, length-take-le, slice_index_or}
+use Rattle.std.proofs.Common.{arith, ◌≡◌, ◌<◌, ◌≤◌, ℕ, ◌+◌, ◌*◌, ◌/◌, ◌%◌, add-one, List, [], ◌∷◌, ◌++◌, length, take, sym, ap, refl, ◌∙◌, length-take-le, slice_index_or}
 use Rattle.std.proofs.Math.Seq.{take-suc}
 use Rattle.rtp_base.specs.Overwriting.{overwritten}
 use Rattle.rtp_base.proofs.OverwritingLemmas.{overwritten-nil, overwritten-overwritten}

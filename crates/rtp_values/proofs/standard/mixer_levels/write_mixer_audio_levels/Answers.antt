@@ -1,4 +1,4 @@
-use Rattle.std.proofs.Common.{arith, rules, sym, ◌≡◌, ◌≤◌, ◌<◌, ℕ, ℤ, ◌+◌, ◌++◌, [], ◌∷◌, List, length, take, map, unsigned_abs, pos, slice_index_or, add-one, ap, refl, ◌∙◌, length-take-le, FitsSigned, w8, to_z, of_z}
+use Rattle.std.proofs.Common.{arith, rules, sym, ◌≡◌, ◌≤◌, ◌<◌, ℕ, ℤ, ◌+◌, ◌++◌, [], ◌∷◌, List, length, take, map, unsigned_abs, pos, slice_index_or, add-one, ap, refl, ◌∙◌, length-take-le, FitsSigned, w8}
 use Rattle.std.proofs.Math.Seq.{take-suc}
 use Rattle.std.proofs.lemmas.List.{map-append, length-map}
 use Rattle.std.proofs.lemmas.Int.{to_z-of_z}

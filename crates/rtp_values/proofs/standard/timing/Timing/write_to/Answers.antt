@@ -1,4 +1,4 @@
-use Rattle.std.proofs.Common.{arith, ◌≡◌, ◌≤◌, ℕ, List, [], ◌∷◌, length, Some, None, refl, ap, ◌∙◌}
+use Rattle.std.proofs.Common.{arith, ◌≡◌, ◌≤◌, ℕ, List, [], ◌∷◌, length, Some, None, ap, ◌∙◌}
 use Rattle.rtp_base.specs.Overwriting.{overwritten}
 use Rattle.rtp_base.proofs.OverwritingLemmas.{overwritten-overwritten}
 use Rattle.rtp_values.specs.declared.standard.timing.Timing as timing
