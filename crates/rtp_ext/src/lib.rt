@@ -28,4 +28,5 @@ pub use place::{Place, element_of, last_place, next_place, remove_element, renum
 pub use raw_writing::{put_elements, write_elements};
 pub use rtp_values::{
     AbsCaptureTime, Extension, ExtensionValues, KnownKind, Uri, VideoOrientation, VideoTiming,
+    standard,
 };

@@ -1,5 +1,5 @@
 -- The data of an element are well-formed for a kind, or they are not.
-use Rattle.std.proofs.Common.{ℕ, ◌<◌, ◌≤◌, ◌⊎◌, inl, inr, List, length, take, drop, get_or, Option, Some, None, IsSomeAnd, true, false, eqb, refl, sym, ◌∙◌, arith}
+use Rattle.std.proofs.Common.{ℕ, ◌<◌, ◌≤◌, ◌⊎◌, inl, inr, List, length, take, drop, get_or, Option, Some, None, IsSomeAnd, eqb, refl, sym, ◌∙◌, arith}
 use Rattle.std.specs.Prelude.{◌*◌, ◌/◌, ◌%◌, IsUtf8, slice_index, slice_range, neg_ℤ, pos}
 use Rattle.std.specs.Str.{is_utf8}
 use Rattle.std.proofs.lemmas.Bool.{cases_lt, cases_Bool, false≢true}

@@ -1,9 +1,10 @@
 //! The kinds of header extension (RFC 8285, 5), and the value of one element of each kind, from its
-//! data and back.
+//! data and back; [`standard`] has some kinds as their standards do.
 #![tactic(auto)]
 
 mod kind;
 mod known_kind;
+pub mod standard;
 mod table;
 mod uri;
 mod value;

@@ -20,6 +20,6 @@ pub use receive::{
 pub use rtp_ext::{
     AbsCaptureTime, Cursor, Elements, Extension, ExtensionMap, ExtensionValues, ExtensionsForm,
     Iter, IterByMediaType, Kinds, KnownKind, MAX_ID, MAX_ID_ONE_BYTE_FORM, NewIds, Uri,
-    VideoOrientation, VideoTiming, write_elements,
+    VideoOrientation, VideoTiming, standard, write_elements,
 };
 pub use rtp_vla::vla;

@@ -1,6 +1,6 @@
 //! Numbers and bytes at the front of a buffer.
 
-ghost use Rattle.std.specs.Prelude.{◌≡◌, ◌≤◌, ◌<◌, ◌^◌, length, take};
+ghost use Rattle.std.specs.Prelude.{◌≡◌, ◌+◌, ◌≤◌, ◌<◌, ◌^◌, length, take, slice_range};
 ghost use Rattle.std.specs.Option.{SomeIff};
 ghost use Rattle.rtp_base.specs.Overwriting.{overwritten};
 ghost use Rattle.rtp_values.specs.Values.{big_endian};
@@ -14,6 +14,22 @@ pub(super) fn first_u16(bytes: &[u8]) -> Option<u16>
 {
     let number = bytes.first_chunk::<2>()?;
     Some(u16::from_be_bytes(*number))
+}
+
+// The number in the two bytes from this offset on.
+pub(crate) fn u16_at(bytes: &[u8], offset: usize) -> u16
+    requires within { offset + 2 ≤ length bytes.now }
+    ensures { result ≡ big_endian (slice_range bytes.now offset (offset + 2)) }
+{
+    u16::from_be_bytes([bytes[offset], bytes[offset + 1]])
+}
+
+// The two bytes of a number.
+pub(crate) fn u16_bytes(number: u16) -> [u8; 2]
+    ensures bytes { result ≡ bytes_of 2 number }
+    ensures back { big_endian (bytes_of 2 number) ≡ number }
+{
+    number.to_be_bytes()
 }
 
 // The number in the first three bytes, where they are there.
@@ -33,7 +49,7 @@ pub(super) fn first_u32(bytes: &[u8]) -> Option<u32>
 }
 
 // The number in the first eight bytes, where they are there.
-pub(super) fn first_u64(bytes: &[u8]) -> Option<u64>
+pub(crate) fn first_u64(bytes: &[u8]) -> Option<u64>
     ensures { SomeIff result (8 ≤ length bytes.now) (big_endian (take 8 bytes.now)) }
 {
     let number = bytes.first_chunk::<8>()?;

@@ -20,6 +20,7 @@ mod video_orientation;
 mod video_timing;
 
 pub use abs_capture_time::AbsCaptureTime;
+pub(crate) use front::{first_u64, u16_at, u16_bytes};
 pub use values::ExtensionValues;
 pub use video_orientation::VideoOrientation;
 pub use video_timing::VideoTiming;

@@ -1,12 +1,11 @@
 //! Video timing.
 
-ghost use Rattle.std.specs.Prelude.{◌≡◌, ◌+◌, ◌≤◌, ◌<◌, length, slice_range};
 ghost use Rattle.rtp_values.specs.declared.kind.Extension.TheVariants.{VideoTiming as TimingKind};
 ghost use Rattle.rtp_values.specs.KindBytes.{SetsFields, WritesData};
-ghost use Rattle.rtp_values.specs.Values.{big_endian};
-ghost use Rattle.rtp_values.specs.Spelling.{HasRoom, bytes_of};
+ghost use Rattle.rtp_values.specs.Spelling.{HasRoom};
 
 use super::ExtensionValues;
+use super::front::{u16_at, u16_bytes};
 use rtp_base::put;
 
 /// When a frame passed each step on its way out, in milliseconds after its capture.
@@ -24,14 +23,6 @@ pub struct VideoTiming {
     pub last_left_pacer: u16,
 }
 
-// The number in the two bytes from this offset on.
-fn time_at(bytes: &[u8], offset: usize) -> u16
-    requires within { offset + 2 ≤ length bytes.now }
-    ensures { result ≡ big_endian (slice_range bytes.now offset (offset + 2)) }
-{
-    u16::from_be_bytes([bytes[offset], bytes[offset + 1]])
-}
-
 pub(super) fn read(buf: &[u8], ev: &mut ExtensionValues) -> Option<()>
     ensures { SetsFields TimingKind buf.now ev.old ev.new result }
 {
@@ -40,20 +31,12 @@ pub(super) fn read(buf: &[u8], ev: &mut ExtensionValues) -> Option<()>
     }
     ev.video_timing = Some(VideoTiming {
         flags: buf[0],
-        encode_start: time_at(buf, 1),
-        encode_finish: time_at(buf, 3),
-        packetize_complete: time_at(buf, 5),
-        last_left_pacer: time_at(buf, 7),
+        encode_start: u16_at(buf, 1),
+        encode_finish: u16_at(buf, 3),
+        packetize_complete: u16_at(buf, 5),
+        last_left_pacer: u16_at(buf, 7),
     });
     Some(())
-}
-
-// The two bytes of a time.
-fn time_bytes(time: u16) -> [u8; 2]
-    ensures bytes { result ≡ bytes_of 2 time }
-    ensures back { big_endian (bytes_of 2 time) ≡ time }
-{
-    time.to_be_bytes()
 }
 
 // It stays out of line, since few packets have it and the other kinds need the registers.
@@ -63,10 +46,10 @@ pub(super) fn write(buf: &mut [u8], ev: &ExtensionValues) -> Option<usize>
     ensures { WritesData TimingKind ev.now buf.old buf.new result }
 {
     let timing = ev.video_timing?;
-    let start = time_bytes(timing.encode_start);
-    let finish = time_bytes(timing.encode_finish);
-    let complete = time_bytes(timing.packetize_complete);
-    let left = time_bytes(timing.last_left_pacer);
+    let start = u16_bytes(timing.encode_start);
+    let finish = u16_bytes(timing.encode_finish);
+    let complete = u16_bytes(timing.packetize_complete);
+    let left = u16_bytes(timing.last_left_pacer);
     let bytes = [
         timing.flags,
         start[0],

@@ -13,14 +13,14 @@ cells t start finish complete left start-is finish-is complete-is left-is = rw (
 pub put-requires : goal.put-requires
 put-requires c =
     let t = c.in_ok-timing.timing in
-    let are = cells t c.time_bytes-start.result c.time_bytes-finish.result c.time_bytes-complete.result c.time_bytes-left.result
-    c.time_bytes-start.ensures.bytes c.time_bytes-finish.ensures.bytes c.time_bytes-complete.ensures.bytes c.time_bytes-left.ensures.bytes in
+    let are = cells t c.u16_bytes-start.result c.u16_bytes-finish.result c.u16_bytes-complete.result c.u16_bytes-left.result
+    c.u16_bytes-start.ensures.bytes c.u16_bytes-finish.ensures.bytes c.u16_bytes-complete.ensures.bytes c.u16_bytes-left.ensures.bytes in
     room_of (spelled-timing c.ev.view_is c.in_ok-timing.was are) (omega arith) c.args.buf.now c.requires.room
 
 pub returns : goal.returns
 returns c =
     let t = c.in_ok-timing.timing in
-    let are = cells t c.time_bytes-start.result c.time_bytes-finish.result c.time_bytes-complete.result c.time_bytes-left.result
-    c.time_bytes-start.ensures.bytes c.time_bytes-finish.ensures.bytes c.time_bytes-complete.ensures.bytes c.time_bytes-left.ensures.bytes in
-    WritesData-put (AreData-timing c.ev.view_is c.in_ok-timing.was are c.time_bytes-start.ensures.back c.time_bytes-finish.ensures.back c.time_bytes-complete.ensures.back c.time_bytes-left.ensures.back)
+    let are = cells t c.u16_bytes-start.result c.u16_bytes-finish.result c.u16_bytes-complete.result c.u16_bytes-left.result
+    c.u16_bytes-start.ensures.bytes c.u16_bytes-finish.ensures.bytes c.u16_bytes-complete.ensures.bytes c.u16_bytes-left.ensures.bytes in
+    WritesData-put (AreData-timing c.ev.view_is c.in_ok-timing.was are c.u16_bytes-start.ensures.back c.u16_bytes-finish.ensures.back c.u16_bytes-complete.ensures.back c.u16_bytes-left.ensures.back)
     c.put.ensures.end c.put.ensures.written
