@@ -3,11 +3,14 @@
 mod block;
 mod csrcs;
 mod not_a_packet;
+mod padding;
+mod rtcp;
 mod rtp_packet;
 mod rtp_packet_mut;
 
 pub use csrcs::Csrcs;
 pub use not_a_packet::NotAPacket;
+pub use rtcp::is_rtcp;
 pub use rtp_packet::RtpPacket;
 pub use rtp_packet_mut::RtpPacketMut;
 pub(crate) use rtp_packet_mut::flag;
