@@ -11,7 +11,7 @@ ghost use Rattle.rtp_c.specs.Judging.{IsJudgedAs, IsJudgedBy};
 
 use super::status::{BAD_FIELD, OK, REFUSED};
 use rtp_base::{SeqNo, SeqNoWindow};
-use rtp_wire::{Receiver, extend_u16};
+use rtp_wire::{Receiver, extend_u8, extend_u15, extend_u16, extend_u32};
 
 // How many numbers a half of the window's bits stands for, as the worth of the bit above it.
 const HALF: u128 = 1 << 64;
@@ -205,4 +205,38 @@ pub extern "C" fn rtpw_extend_u16(previous: u64, number: u16) -> u64
     ensures only { (n : ℕ) → Extends 16 (Some previous) number n → result ≡ n }
 {
     extend_u16(Some(previous), number)
+}
+
+/// Extends a number of 8 bits to 64 bits: the number nearest to `previous`, modulo 2^64, that ends
+/// in these 8 bits. Where two are equally near, 128 away on either side, it is the one with the
+/// rollover count of `previous` (RFC 3711, 3.3.1).
+#[unsafe(no_mangle)]
+pub extern "C" fn rtpw_extend_u8(previous: u64, number: u8) -> u64
+    ensures near { Extends 8 (Some previous) number result }
+    ensures only { (n : ℕ) → Extends 8 (Some previous) number n → result ≡ n }
+{
+    extend_u8(Some(previous), number)
+}
+
+/// Extends a number of 15 bits to 64 bits: the number nearest to `previous`, modulo 2^64, that ends
+/// in these 15 bits. Where two are equally near, 16,384 away on either side, it is the one with the
+/// rollover count of `previous` (RFC 3711, 3.3.1). The sixteenth bit of `number` is
+/// ignored.
+#[unsafe(no_mangle)]
+pub extern "C" fn rtpw_extend_u15(previous: u64, number: u16) -> u64
+    ensures near { Extends 15 (Some previous) number result }
+    ensures only { (n : ℕ) → Extends 15 (Some previous) number n → result ≡ n }
+{
+    extend_u15(Some(previous), number)
+}
+
+/// Extends a number of 32 bits to 64 bits: the number nearest to `previous`, modulo 2^64, that ends
+/// in these 32 bits. Where two are equally near, 2^31 away on either side, it is the one with the
+/// rollover count of `previous` (RFC 3711, 3.3.1).
+#[unsafe(no_mangle)]
+pub extern "C" fn rtpw_extend_u32(previous: u64, number: u32) -> u64
+    ensures near { Extends 32 (Some previous) number result }
+    ensures only { (n : ℕ) → Extends 32 (Some previous) number n → result ≡ n }
+{
+    extend_u32(Some(previous), number)
 }

@@ -115,6 +115,8 @@ pub fn try_create_padding_packet(
     ensures length { IfSome result (λ count. 0 < pad_len → IsPaddingLength pad_len block_size count) }
     ensures written { IfSome result (λ count. 0 < pad_len →
         buf.new ≡ overwritten (with_padding_bit buf.old) header_len (padding_bytes count)) }
+    ensures only { IfSome result (λ count. 0 < pad_len → (n : ℕ) →
+        IsPaddingLength pad_len block_size n → count ≡ n) }
     ensures room { IfSome result (λ count. 0 < pad_len → header_len + count ≤ length buf.old) }
 
     // With a block size of 0 there is no such length.
