@@ -82,7 +82,7 @@ pub extern "C" fn rtpw_map_get(map: &KindsOfIds, id: u8) -> u8
 
 /// The usual ids of the usual extensions, for audio and video, and no others: 1 audio level, 2
 /// absolute send time, 3 transport sequence number, 4 mid, 10 stream id, 11 repaired stream id, 13
-/// video orientation. Each other number is 0.
+/// video orientation. Each other number is 0, that at index 0 too.
 #[unsafe(no_mangle)]
 pub extern "C" fn rtpw_map_standard(map: &mut KindsOfIds)
     ensures standard { IsStandard map.new.kind }

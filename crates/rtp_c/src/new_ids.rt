@@ -32,7 +32,7 @@ pub struct IdsOfIds {
 }
 
 /// For each id that `from` maps to a kind that `to` maps as well, the lowest id that `to` has for it.
-/// Every other id has no new one. Made once for two maps.
+/// Every other id has no new one, and neither has 0. Made once for two maps.
 #[unsafe(no_mangle)]
 pub extern "C" fn rtpw_new_ids_between(from: &KindsOfIds, to: &KindsOfIds, ids: &mut IdsOfIds)
     ensures ids { AreNewIdsOf from.now.kind to.now.kind ids.new.id }

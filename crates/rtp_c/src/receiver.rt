@@ -111,7 +111,8 @@ fn take_apart(receiver: &mut StoredReceiver, number: u64, written: &mut u64) -> 
 }
 
 /// Makes the receiver one that has taken nothing yet, whose first packet has this rollover count:
-/// below 2^48, and 0 for a stream that is received from its beginning. With a count of 1 or more a
+/// below 2^48, and 0 for a stream that is received from its beginning. `highest` becomes 65,536 times
+/// the count, and all else 0. With a count of 1 or more a
 /// packet from before the first one has a number too. `OK`, or `BAD_FIELD` where the count is 2^48 or
 /// more, and then nothing is written.
 #[unsafe(no_mangle)]

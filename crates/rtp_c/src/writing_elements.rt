@@ -73,7 +73,7 @@ fn can_carry_all(form: ExtensionsForm, pairs: &[(u8, &[u8])]) -> bool
 /// ids 1 to 255 with 0 to 255 bytes.
 ///
 /// `OK`, and how many bytes they take is written too. `BAD_FIELD` where the form is neither of the two
-/// or can't carry one of them, or where the data of one reach past `bytes`; `SHORT_BUFFER` where only
+/// or can't carry one of them, or where `data_at + data_len` of one is past `bytes`; `SHORT_BUFFER` where only
 /// the room is short; `NO_MEMORY` where memory is refused, which is taken for the call where there are
 /// elements. Where it isn't `OK` nothing is written.
 #[unsafe(no_mangle)]
