@@ -1,6 +1,6 @@
 -- A packet whose padding bit is set or cleared, and the packet without its padding.
-use Rattle.std.proofs.Common.{◌≡◌, ℕ, ◌+◌, ◌-◌, ◌*◌, ◌/◌, ◌%◌, ◌<◌, ◌≤◌, Bool, true, false, List, [], ◌∷◌, ◌++◌, length, map, take, drop, Option, None, refl, sym, ap, subst, ◌∙◌, arith, bit_and, append_assoc, length-append, length-drop, take_at, nat_eq}
-use Rattle.std.specs.Prelude.{slice_index, slice_range, option_map, is_some, if◌then◌else◌}
+use Rattle.std.proofs.Common.{◌≡◌, ℕ, ◌+◌, ◌*◌, ◌/◌, ◌%◌, ◌<◌, ◌≤◌, Bool, true, false, List, [], ◌∷◌, ◌++◌, length, map, take, drop, Option, None, refl, sym, ap, subst, ◌∙◌, arith, bit_and, append_assoc, length-append, length-drop, take_at}
+use Rattle.std.specs.Prelude.{slice_index, slice_range, option_map, if◌then◌else◌}
 use Rattle.std.specs.List.{concat}
 use Rattle.std.specs.Int.{w16, w32, from_be_bytes}
 use Rattle.std.specs.Simd.{first_chunks}
@@ -154,7 +154,7 @@ unpadded_front false payload front is = ([], sym is ∙ sym (append-nil front))
 unpadded_front true payload front is = (is.padding, is.in_order)
 
 -- a packet with a shorter payload is the front of its bytes
-IsPacket-front : (bytes : List ℕ) (parts : PacketParts) (payload padding : List ℕ) (len : ℕ) → IsPacket bytes parts → parts.payload ≡ payload ++ padding
+pub IsPacket-front : (bytes : List ℕ) (parts : PacketParts) (payload padding : List ℕ) (len : ℕ) → IsPacket bytes parts → parts.payload ≡ payload ++ padding
     → len + length padding ≡ length bytes → IsPacket (take len bytes) (record parts { payload = payload })
 IsPacket-front bytes parts payload padding len is payload-is len-is =
     let front = is.fixed ++ (concat is.groups ++ (is.part ++ payload)) in
@@ -180,6 +180,29 @@ IsPacket-front bytes parts payload padding len is payload-is len-is =
       sources_are = is.sources_are;
       part_is = is.part_is;
     }
+
+-- and so is one with a payload in place of none
+pub IsPacket-behind : (header payload : List ℕ) (parts : PacketParts) → IsPacket header (record parts { payload = [] }) → IsPacket (header ++ payload) (record parts { payload = payload })
+IsPacket-behind header payload parts is = record {
+  fixed = is.fixed;
+  groups = is.groups;
+  part = is.part;
+  in_order =
+      ap (λ (xs : List ℕ). xs ++ payload) is.in_order
+      ∙ append_assoc is.fixed (concat is.groups ++ (is.part ++ [])) payload
+      ∙ ap (λ (xs : List ℕ). is.fixed ++ xs) (append_assoc (concat is.groups) (is.part ++ []) payload)
+      ∙ ap (λ (xs : List ℕ). is.fixed ++ (concat is.groups ++ (xs ++ payload))) (append-nil is.part);
+  fixed_is = record {
+    twelve = is.fixed_is.twelve;
+    first_is = is.fixed_is.first_is;
+    second_is = is.fixed_is.second_is;
+    number_is = is.fixed_is.number_is;
+    timestamp_is = is.fixed_is.timestamp_is;
+    ssrc_is = is.fixed_is.ssrc_is;
+  };
+  sources_are = is.sources_are;
+  part_is = is.part_is;
+}
 
 second_fits : (bytes : List ℕ) (parts : PacketParts) → IsPacket bytes parts → slice_index bytes 1 < 256
 second_fits bytes parts is =

@@ -2,6 +2,7 @@
 
 mod block;
 mod csrcs;
+mod header_bytes;
 mod not_a_packet;
 mod padding;
 mod rtcp;
