@@ -23,8 +23,8 @@ static bool forward(uint8_t *datagram, size_t len, const rtpw_new_ids *ids, uint
     if (rtpw_renumber(datagram, len, ids) != RTPW_OK) {
         return false;
     }
-    rtpw_set_element(datagram, len, 2, bytes, sizeof bytes); /* RTPW_NONE: it has none */
-    return true;
+    int32_t status = rtpw_set_element(datagram, len, 2, bytes, sizeof bytes);
+    return status == RTPW_OK || status == RTPW_NONE; /* it has none */
 }
 
 /* How many bytes the line spells, which then stand at its beginning; 0 where it isn't hexadecimal. */
@@ -46,9 +46,9 @@ int main(int argc, char **argv) {
     uint64_t microseconds = argc == 4 ? strtoull(argv[3], NULL, 10) * 1000000 : 0;
     while (argc == 4 && fgets(line, sizeof line, stdin) != NULL) {
         size_t len = bytes_of(line);
-        if (rtpw_packet_parse(datagram, len, &packet) == RTPW_OK && forward(datagram, len, &ids, microseconds)) {
-            rtpw_set_ssrc(datagram, len, (uint32_t)strtoul(argv[1], NULL, 10));
-            rtpw_set_sequence_number(datagram, len, (uint16_t)(packet.sequence_number + strtol(argv[2], NULL, 10)));
+        if (rtpw_packet_parse(datagram, len, &packet) == RTPW_OK && forward(datagram, len, &ids, microseconds) &&
+            rtpw_set_ssrc(datagram, len, (uint32_t)strtoul(argv[1], NULL, 10)) == RTPW_OK &&
+            rtpw_set_sequence_number(datagram, len, (uint16_t)(packet.sequence_number + strtol(argv[2], NULL, 10))) == RTPW_OK) {
             for (size_t i = 0; i < len; i++) {
                 printf("%02X", datagram[i]);
             }

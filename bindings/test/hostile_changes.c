@@ -1,5 +1,6 @@
 /* rtpw_set_marker, rtpw_set_payload_type, rtpw_set_sequence_number, rtpw_set_timestamp, rtpw_set_ssrc,
- * rtpw_set_fields, rtpw_set_csrc, rtpw_set_element, rtpw_remove_element */
+ * rtpw_set_fields, rtpw_set_csrc, rtpw_set_element, rtpw_remove_element, rtpw_set_padding,
+ * rtpw_remove_padding */
 #include "hostile.h"
 
 #include "../c/rtp_wire.h"
@@ -129,6 +130,29 @@ static void remove_element(void) {
     expect(rtpw_remove_element(bytes, len, id), it.cause != 0 ? it.cause : is_removed ? RTPW_OK : RTPW_NONE);
 }
 
+static void padding(void) {
+    static memory lengths;
+    if (lengths.size == 0) {
+        lengths = memory_of(sizeof(size_t));
+    }
+    bool has_padding = random_u64() % 2 != 0;
+    if (it.cause == 0) {
+        expected[0] = (uint8_t)(0x80 + (has_padding ? 0x20 : 0) + before[0] % 32);
+    }
+    expect(rtpw_set_padding(bytes, len, has_padding), it.cause);
+    size_t *left = block_in(&lengths, sizeof *left), same;
+    fill(left, sizeof *left);
+    same = *left;
+    size_t payload_len = it.cause == 0 ? len - it.header_len : 0;
+    size_t count = payload_len > 0 && (before[0] & 0x20) != 0 ? before[len - 1] : 0;
+    int32_t status = it.cause != 0 ? it.cause : count > payload_len ? RTPW_BAD_FIELD : RTPW_OK;
+    if (status == RTPW_OK) {
+        expected[0] = before[0] & 0xDF;
+    }
+    expect(rtpw_remove_padding(bytes, len, left), status);
+    CHECK(*left == (status == RTPW_OK ? len - count : same));
+}
+
 void changes_round(void) {
     static memory datagrams;
     if (datagrams.size == 0) {
@@ -144,4 +168,5 @@ void changes_round(void) {
     several_fields();
     set_element();
     remove_element();
+    padding();
 }

@@ -1,4 +1,4 @@
-/* rtpw_packet_parse */
+/* rtpw_is_rtcp, rtpw_packet_parse */
 #include "hostile.h"
 
 #include "../c/rtp_wire.h"
@@ -47,6 +47,7 @@ void packets_round(void) {
     if (it.cause == 0) {
         expected_of(copy, len, &it, &expected);
     }
+    CHECK(rtpw_is_rtcp(bytes, len) == (len >= 2 && copy[0] / 64 == 2 && copy[1] >= 192 && copy[1] < 224));
     CHECK(rtpw_packet_parse(bytes, len, packet) == it.cause);
     CHECK(memcmp(packet, &expected, sizeof expected) == 0);
     CHECK(memcmp(bytes, copy, len) == 0);

@@ -15,22 +15,17 @@ static void pad(size_t len, uint8_t *datagram) {
     uint8_t pad_len = x % 8 == 0 ? 0 : (uint8_t)(x >> 8);
     size_t block = x / 8 % 4 == 0 ? (size_t)random_u64() >> random_below(64) : blocks[random_below(11)];
     size_t header_len = x / 32 % 4 == 0 ? (size_t)random_u64() >> random_below(64) : random_below(len + 2);
-    bool has_room = len >= 240 && header_len <= len - 240;
+    /* the first multiple of the block that is not below pad_len, at most 240 */
+    size_t wanted = pad_len == 0 ? 0 : block;
+    while (block != 0 && wanted < pad_len) {
+        wanted += block;
+    }
+    wanted = wanted > 240 ? 240 : wanted;
+    bool has_room = wanted == 0 || (len >= wanted && header_len <= len - wanted);
     int32_t expected = block == 0 ? RTPW_BAD_FIELD : has_room ? RTPW_OK : RTPW_SHORT_BUFFER;
-    int32_t status = rtpw_pad(datagram, len, header_len, pad_len, block, count);
-    CHECK(status == expected);
-    if (status != RTPW_OK) {
-        CHECK(*count == same_count);
-    } else if (pad_len == 0) {
-        CHECK(*count == 0);
-    } else {
-        /* the first multiple of the block that is not below pad_len */
-        size_t wanted = block;
-        while (wanted < pad_len) {
-            wanted += block;
-        }
-        wanted = wanted > 240 ? 240 : wanted;
-        CHECK(*count == wanted);
+    CHECK(rtpw_pad(datagram, len, header_len, pad_len, block, count) == expected);
+    CHECK(*count == (expected == RTPW_OK ? wanted : same_count));
+    if (expected == RTPW_OK && wanted > 0) {
         before[0] |= 0x20;
         memset(before + header_len, 0, wanted);
         before[header_len + wanted - 1] = (uint8_t)wanted;

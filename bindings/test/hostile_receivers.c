@@ -1,5 +1,5 @@
 /* rtpw_receiver_start, rtpw_receiver_number_of, rtpw_receiver_accepts, rtpw_receiver_record,
- * rtpw_receiver_receive, rtpw_extend_u16 */
+ * rtpw_receiver_receive, rtpw_extend_u8, rtpw_extend_u15, rtpw_extend_u16, rtpw_extend_u32 */
 #include "hostile.h"
 
 #include "../c/rtp_wire.h"
@@ -31,18 +31,19 @@ static bool are_same(const model *a, const model *b) {
 }
 
 /* RFC 3711, 3.3.1: of the three numbers with these low bits about the previous one, the nearest. */
-static uint64_t nearest(uint64_t previous, uint16_t low) {
-    uint64_t same = previous / 65536 * 65536 + low;
-    uint64_t lower = same - 65536, higher = same + 65536;
+static uint64_t nearest(uint64_t previous, unsigned bits, uint64_t low) {
+    uint64_t modulus = (uint64_t)1 << bits;
+    uint64_t same = previous / modulus * modulus + low;
+    uint64_t lower = same - modulus, higher = same + modulus;
     uint64_t away = same > previous ? same - previous : previous - same;
-    if (away <= 32768) {
+    if (away <= modulus / 2) {
         return same;
     }
     return same > previous ? lower : higher;
 }
 
 static uint64_t number_of(const model *it, uint16_t low) {
-    return it->is_started ? nearest(it->highest, low) : it->rollover_count * 65536 + low;
+    return it->is_started ? nearest(it->highest, 16, low) : it->rollover_count * 65536 + low;
 }
 
 static bool accepts(const model *it, uint64_t number) {
@@ -127,7 +128,10 @@ void receivers_round(void) {
     uint64_t tried = random_number(it.highest);
     CHECK(rtpw_receiver_number_of(receiver, low) == number_of(&it, low));
     CHECK(rtpw_receiver_accepts(receiver, tried) == accepts(&it, tried));
-    CHECK(rtpw_extend_u16(it.highest, low) == nearest(it.highest, low));
+    CHECK(rtpw_extend_u8(it.highest, (uint8_t)low) == nearest(it.highest, 8, low % 256));
+    CHECK(rtpw_extend_u15(it.highest, low) == nearest(it.highest, 15, low % 32768));
+    CHECK(rtpw_extend_u16(it.highest, low) == nearest(it.highest, 16, low));
+    CHECK(rtpw_extend_u32(it.highest, (uint32_t)tried) == nearest(it.highest, 32, tried % ((uint64_t)1 << 32)));
     CHECK(memcmp(receiver, &before, sizeof before) == 0);
 
     rtpw_receiver_record(receiver, tried);

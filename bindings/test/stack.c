@@ -32,6 +32,7 @@ static rtpw_element many[255];
 static uint64_t number;
 static uint16_t original;
 static size_t count;
+static int32_t status; /* looked at by nobody */
 static const uint8_t data[1] = {7};
 static const char LAST_URI[] = "http://www.webrtc.org/experiments/rtp-hdrext/video-layers-allocation00";
 
@@ -69,45 +70,51 @@ static void give_all(void) {
 }
 
 static void empty(void) {}
-static void packet_parse(void) { rtpw_packet_parse(datagram, sizeof datagram, &packet); }
-static void set_marker(void) { rtpw_set_marker(datagram, sizeof datagram, true); }
-static void set_payload_type(void) { rtpw_set_payload_type(datagram, sizeof datagram, 96); }
-static void set_sequence_number(void) { rtpw_set_sequence_number(datagram, sizeof datagram, 1); }
-static void set_timestamp(void) { rtpw_set_timestamp(datagram, sizeof datagram, 2); }
-static void set_ssrc(void) { rtpw_set_ssrc(datagram, sizeof datagram, 3); }
-static void set_fields(void) { rtpw_set_fields(datagram, sizeof datagram, &fields); }
-static void set_csrc(void) { rtpw_set_csrc(datagram, sizeof datagram, 14, 4); }
-static void set_element(void) { rtpw_set_element(datagram, sizeof datagram, 3, data, sizeof data); }
-static void remove_element(void) { rtpw_remove_element(datagram, sizeof datagram, 3); }
-static void next_element(void) { rtpw_next_element(datagram + 76, 262140, RTPW_ONE_BYTE_FORM, 0, &element); }
-static void last_element(void) { rtpw_last_element(datagram + 76, 262140, RTPW_ONE_BYTE_FORM, 5, &element); }
-static void receiver_start(void) { rtpw_receiver_start(&receiver, 1); }
+static void packet_parse(void) { status = rtpw_packet_parse(datagram, sizeof datagram, &packet); }
+static void set_marker(void) { status = rtpw_set_marker(datagram, sizeof datagram, true); }
+static void set_payload_type(void) { status = rtpw_set_payload_type(datagram, sizeof datagram, 96); }
+static void set_sequence_number(void) { status = rtpw_set_sequence_number(datagram, sizeof datagram, 1); }
+static void set_timestamp(void) { status = rtpw_set_timestamp(datagram, sizeof datagram, 2); }
+static void set_ssrc(void) { status = rtpw_set_ssrc(datagram, sizeof datagram, 3); }
+static void set_fields(void) { status = rtpw_set_fields(datagram, sizeof datagram, &fields); }
+static void set_csrc(void) { status = rtpw_set_csrc(datagram, sizeof datagram, 14, 4); }
+static void set_element(void) { status = rtpw_set_element(datagram, sizeof datagram, 3, data, sizeof data); }
+static void remove_element(void) { status = rtpw_remove_element(datagram, sizeof datagram, 3); }
+static void is_rtcp(void) { number = rtpw_is_rtcp(datagram, sizeof datagram); }
+static void set_padding(void) { status = rtpw_set_padding(datagram, sizeof datagram, true); }
+static void remove_padding(void) { status = rtpw_remove_padding(datagram, sizeof datagram, &count); }
+static void next_element(void) { status = rtpw_next_element(datagram + 76, 262140, RTPW_ONE_BYTE_FORM, 0, &element); }
+static void last_element(void) { status = rtpw_last_element(datagram + 76, 262140, RTPW_ONE_BYTE_FORM, 5, &element); }
+static void receiver_start(void) { status = rtpw_receiver_start(&receiver, 1); }
 static void receiver_number_of(void) { number = rtpw_receiver_number_of(&receiver, 9); }
 static void receiver_accepts(void) { number = rtpw_receiver_accepts(&receiver, 9); }
 static void receiver_record(void) { rtpw_receiver_record(&receiver, 65545); }
-static void receiver_receive(void) { rtpw_receiver_receive(&receiver, 99, &number); }
-static void values_read(void) { rtpw_values_read(datagram + 76, 262140, RTPW_ONE_BYTE_FORM, &map, &values); }
+static void receiver_receive(void) { status = rtpw_receiver_receive(&receiver, 99, &number); }
+static void values_read(void) { status = rtpw_values_read(datagram + 76, 262140, RTPW_ONE_BYTE_FORM, &map, &values); }
 static void kind_of_uri(void) { number = rtpw_kind_of_uri((const uint8_t *)LAST_URI, sizeof LAST_URI - 1); }
-static void map_set(void) { rtpw_map_set(&usual, 255, RTPW_KIND_MID); }
+static void map_set(void) { status = rtpw_map_set(&usual, 255, RTPW_KIND_MID); }
 static void map_get(void) { number = rtpw_map_get(&map, 3); }
 static void map_standard(void) { rtpw_map_standard(&usual); }
-static void parse(void) { rtpw_parse(datagram, sizeof datagram, &map, &header); }
-static void parse_layers(void) { rtpw_parse_layers(datagram, sizeof datagram, &map, &header, &layers); }
-static void wire_len(void) { rtpw_wire_len(&map, &given, &count); }
-static void write(void) { rtpw_write(&map, &given, datagram, sizeof datagram, &count); }
+static void parse(void) { status = rtpw_parse(datagram, sizeof datagram, &map, &header); }
+static void parse_layers(void) { status = rtpw_parse_layers(datagram, sizeof datagram, &map, &header, &layers); }
+static void wire_len(void) { status = rtpw_wire_len(&map, &given, &count); }
+static void write(void) { status = rtpw_write(&map, &given, datagram, sizeof datagram, &count); }
 static void write_with(void) {
-    rtpw_write_with(&given, data, sizeof data, many, 255, datagram, sizeof datagram, &count);
+    status = rtpw_write_with(&given, data, sizeof data, many, 255, datagram, sizeof datagram, &count);
 }
 static void write_elements(void) {
-    rtpw_write_elements(data, sizeof data, many, 255, RTPW_TWO_BYTE_FORM, datagram, sizeof datagram, &count);
+    status = rtpw_write_elements(data, sizeof data, many, 255, RTPW_TWO_BYTE_FORM, datagram, sizeof datagram, &count);
 }
 static void new_ids_between(void) { rtpw_new_ids_between(&map, &usual, &ids); }
-static void renumber(void) { rtpw_renumber(datagram, sizeof datagram, &ids); }
-static void pad(void) { rtpw_pad(datagram, sizeof datagram, 32, 200, 16, &count); }
-static void read_original(void) { rtpw_read_original(datagram, sizeof datagram, &original); }
-static void write_original(void) { rtpw_write_original(datagram, sizeof datagram, 7); }
+static void renumber(void) { status = rtpw_renumber(datagram, sizeof datagram, &ids); }
+static void pad(void) { status = rtpw_pad(datagram, sizeof datagram, 32, 200, 16, &count); }
+static void read_original(void) { status = rtpw_read_original(datagram, sizeof datagram, &original); }
+static void write_original(void) { status = rtpw_write_original(datagram, sizeof datagram, 7); }
 static void version(void) { number = rtpw_version(); }
+static void extend_u8(void) { number = rtpw_extend_u8(70000, 99); }
+static void extend_u15(void) { number = rtpw_extend_u15(70000, 99); }
 static void extend_u16(void) { number = rtpw_extend_u16(70000, 99); }
+static void extend_u32(void) { number = rtpw_extend_u32(70000, 99); }
 
 static ucontext_t here, there;
 
@@ -140,6 +147,7 @@ int main(void) {
         CALL(remove_element),
         CALL(next_element), CALL(last_element), CALL(receiver_start), CALL(receiver_number_of),
         CALL(receiver_accepts), CALL(receiver_record), CALL(receiver_receive), CALL(extend_u16),
+        CALL(extend_u8), CALL(extend_u15), CALL(extend_u32), CALL(is_rtcp), CALL(set_padding), CALL(remove_padding),
         CALL(values_read), CALL(kind_of_uri), CALL(map_set), CALL(map_get), CALL(map_standard), CALL(parse),
         CALL(parse_layers), CALL(wire_len), CALL(write), CALL(write_with), CALL(write_elements),
         CALL(new_ids_between), CALL(renumber), CALL(pad), CALL(read_original), CALL(write_original), CALL(version),

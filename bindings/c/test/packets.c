@@ -249,6 +249,8 @@ static void receivers_start(void) {
     CHECK(rtpw_receiver_start(&receiver, UINT64_C(1) << 48) == RTPW_BAD_FIELD);
     CHECK(receiver.started == 0xFF);
     CHECK(rtpw_receiver_start(&receiver, 1) == RTPW_OK);
+    CHECK(receiver.highest == 65536 && receiver.started == 0);
+    CHECK(receiver.recorded_low == 0 && receiver.recorded_high == 0);
     CHECK(rtpw_receiver_receive(&receiver, 5, &number) == RTPW_OK && number == 65541);
     CHECK(rtpw_receiver_receive(&receiver, 65533, &number) == RTPW_OK && number == 65533);
     CHECK(rtpw_receiver_receive(&receiver, 6, &number) == RTPW_OK && number == 65542);
@@ -259,23 +261,78 @@ static void receivers_start(void) {
     CHECK(rtpw_extend_u16(0, 65533) == UINT64_MAX - 2);
 }
 
-static void padding_is_made(void) {
-    uint8_t bytes[254];
-    size_t count = 77, i;
-    memset(bytes, 0x11, sizeof bytes);
-    bytes[0] = 0x80;
-    CHECK(rtpw_pad(bytes, sizeof bytes, 12, 3, 0, &count) == RTPW_BAD_FIELD);
-    CHECK(rtpw_pad(bytes, 251, 12, 3, 4, &count) == RTPW_SHORT_BUFFER);
-    CHECK(rtpw_pad(bytes, 239, 0, 3, 4, &count) == RTPW_SHORT_BUFFER);
-    CHECK(rtpw_pad(bytes, sizeof bytes, SIZE_MAX, 3, 4, &count) == RTPW_SHORT_BUFFER);
-    CHECK(count == 77 && bytes[0] == 0x80 && bytes[12] == 0x11);
-    CHECK(rtpw_pad(bytes, sizeof bytes, 12, 0, 4, &count) == RTPW_OK && count == 0 && bytes[0] == 0x80);
-    CHECK(rtpw_pad(bytes, 252, 12, 3, 4, &count) == RTPW_OK && count == 4);
-    CHECK(bytes[0] == 0xA0 && bytes[11] == 0x11 && bytes[12] == 0 && bytes[13] == 0);
-    CHECK(bytes[14] == 0 && bytes[15] == 4);
-    for (i = 16; i < sizeof bytes; i++) {
-        CHECK(bytes[i] == 0x11);
+/* Half the modulus away, on either side, the rollover count stays. */
+static void numbers_are_extended(void) {
+    CHECK(rtpw_extend_u8(255, 0) == 256 && rtpw_extend_u8(258, 255) == 255);
+    CHECK(rtpw_extend_u8(256, 128) == 384 && rtpw_extend_u8(256, 129) == 129);
+    CHECK(rtpw_extend_u15(32767, 0) == 32768 && rtpw_extend_u15(32768, 16385) == 16385);
+    CHECK(rtpw_extend_u15(5, 0x8006) == 6); /* the sixteenth bit */
+    CHECK(rtpw_extend_u32(UINT32_MAX, 1) == UINT64_C(0x100000001));
+    CHECK(rtpw_extend_u32(UINT64_C(0x100000000), UINT32_MAX) == UINT32_MAX);
+    CHECK(rtpw_extend_u32(0, UINT32_MAX) == UINT64_MAX);
+}
+
+/* The highest number counts as taken, whatever its bit says. */
+static void highest_is_taken(void) {
+    rtpw_receiver receiver = {70000, 0, 0, 7};
+    uint64_t number = 3;
+    CHECK(!rtpw_receiver_accepts(&receiver, 70000) && rtpw_receiver_accepts(&receiver, 69999));
+    CHECK(rtpw_receiver_receive(&receiver, 70000 - 65536, &number) == RTPW_REFUSED && number == 3);
+    CHECK(receiver.recorded_low == 0 && receiver.started == 7);
+    rtpw_receiver_record(&receiver, 70000);
+    CHECK(receiver.highest == 70000 && receiver.recorded_low == 1 && receiver.started == 1);
+}
+
+/* RFC 5761, 4: packet types 192 to 223 of version 2. */
+static void rtcp_is_told_apart(void) {
+    static const uint8_t RECEIVER_REPORT[8] = {0x80, 0xC9, 0x00, 0x01, 0x00, 0x00, 0x00, 0x2C};
+    static const struct {
+        uint8_t first, second;
+        bool is_rtcp;
+    } rows[] = {
+        {0x80, 200, true}, {0x81, 201, true}, {0xA1, 202, true}, {0x80, 205, true}, {0xBF, 206, true},
+        {0x80, 192, true}, {0x80, 223, true}, {0x80, 191, false}, {0x80, 224, false},
+        /* payload types 63, 64, 95 and 96 without M; with M they are 191, 192, 223 and 224 */
+        {0x80, 63, false}, {0x80, 64, false}, {0x80, 95, false}, {0x80, 96, false},
+        {0x00, 200, false}, {0x40, 200, false}, {0x7F, 200, false}, {0xC0, 200, false}, {0xFF, 200, false},
+        {0x80, 0, false}, {0x80, 255, false},
+    };
+    uint8_t bytes[28] = {0};
+    rtpw_packet packet;
+    size_t i;
+    for (i = 0; i < sizeof rows / sizeof *rows; i++) {
+        bytes[0] = rows[i].first;
+        bytes[1] = rows[i].second;
+        CHECK(rtpw_is_rtcp(bytes, sizeof bytes) == rows[i].is_rtcp);
+        CHECK(rtpw_is_rtcp(bytes, 2) == rows[i].is_rtcp);
+        CHECK(!rtpw_is_rtcp(bytes, 1) && !rtpw_is_rtcp(bytes, 0));
     }
+    CHECK(rtpw_is_rtcp(RECEIVER_REPORT, sizeof RECEIVER_REPORT));
+    /* of RTP it would be M and payload type 72 */
+    bytes[0] = 0x80;
+    bytes[1] = 200;
+    CHECK(rtpw_packet_parse(bytes, sizeof bytes, &packet) == RTPW_OK);
+    CHECK(packet.marker == 1 && packet.payload_type == 72);
+}
+
+/* The header's own bytes are a packet, and what they become, with the payload behind it, is the packet. */
+static void header_is_changed_alone(void) {
+    uint8_t whole[37], header[32];
+    const uint8_t data[1] = {0x77};
+    static const rtpw_new_ids IDS = {{0, 5, 0}};
+    rtpw_packet packet;
+    memcpy(whole, SAMPLE, LEN);
+    memcpy(header, SAMPLE, sizeof header);
+    CHECK(rtpw_packet_parse(header, sizeof header, &packet) == RTPW_OK);
+    CHECK(packet.payload_at == 32 && packet.payload_len == 0 && packet.body_at == 24 && packet.ssrc == 44);
+    CHECK(rtpw_set_ssrc(header, sizeof header, 99) == RTPW_OK && rtpw_set_ssrc(whole, LEN, 99) == RTPW_OK);
+    CHECK(rtpw_set_csrc(header, sizeof header, 1, 8) == RTPW_OK && rtpw_set_csrc(whole, LEN, 1, 8) == RTPW_OK);
+    CHECK(rtpw_set_element(header, sizeof header, 1, data, 1) == RTPW_OK);
+    CHECK(rtpw_set_element(whole, LEN, 1, data, 1) == RTPW_OK);
+    CHECK(rtpw_renumber(header, sizeof header, &IDS) == RTPW_OK && rtpw_renumber(whole, LEN, &IDS) == RTPW_OK);
+    CHECK(rtpw_set_padding(header, sizeof header, false) == RTPW_OK && rtpw_set_padding(whole, LEN, false) == RTPW_OK);
+    CHECK(memcmp(header, whole, sizeof header) == 0 && header[11] == 99 && header[24] == 0x50);
+    CHECK(memcmp(whole + 32, SAMPLE + 32, 5) == 0);
 }
 
 static void originals_are_passed_on(void) {
@@ -299,7 +356,10 @@ int main(void) {
     values_are_read();
     numbers_are_taken();
     receivers_start();
-    padding_is_made();
+    numbers_are_extended();
+    highest_is_taken();
+    rtcp_is_told_apart();
+    header_is_changed_alone();
     originals_are_passed_on();
     return failed;
 }

@@ -96,7 +96,7 @@ pub extern "C" fn rtpw_map_get(map: &KindsOfIds, id: u8) -> u8
 
 /// The usual ids of the usual extensions, for audio and video, and no others: 1 audio level, 2
 /// absolute send time, 3 transport sequence number, 4 mid, 10 stream id, 11 repaired stream id, 13
-/// video orientation. Each other number is 0.
+/// video orientation. Each other number is 0, that at index 0 too.
 #[unsafe(no_mangle)]
 pub extern "C" fn rtpw_map_standard(map: &mut KindsOfIds)
     ensures standard { IsStandard map.new.kind }
@@ -141,7 +141,7 @@ pub struct IdsOfIds {
 }
 
 /// For each id that `from` maps to a kind that `to` maps as well, the lowest id that `to` has for it.
-/// Every other id has no new one. Made once for two maps.
+/// Every other id has no new one, and neither has 0. Made once for two maps.
 #[unsafe(no_mangle)]
 pub extern "C" fn rtpw_new_ids_between(from: &KindsOfIds, to: &KindsOfIds, ids: &mut IdsOfIds)
     ensures ids { AreNewIdsOf from.now.kind to.now.kind ids.new.id }

@@ -30,7 +30,7 @@ pub struct PacketView {
     /// How many bytes the payload has without its padding, and 0 where `padding_fits` is 0.
     pub unpadded_len: usize,
     /// Where the body of the block begins, whose header is the four bytes before it: `body_len`
-    /// before the payload.
+    /// before the payload, and so where that begins if X is clear.
     pub body_at: usize,
     /// How many bytes the body of the block has, and 0 where X is clear.
     pub body_len: usize,
@@ -48,7 +48,8 @@ pub struct PacketView {
     pub marker: u8,
     /// P, 0 or 1.
     pub has_padding: u8,
-    /// 1, and 0 where the padding's count is greater than the number of the payload's bytes.
+    /// 1, and 0 where P is set and the payload's last byte counts more bytes than the payload has. A last
+    /// byte of 0 takes nothing away, and neither does P of an empty payload.
     pub padding_fits: u8,
     /// The form of the block: 1 the one-byte form, 2 the two-byte form, and 0 where X is clear.
     pub block_form: u8,
@@ -137,7 +138,8 @@ fn view_of(packet: &RtpPacket<'_>) -> PacketView
     }
 }
 
-/// Reads the header of the packet that the datagram is. `OK`, or the status of the first cause for
+/// Reads the header of the packet that the datagram is; where RTCP comes to the same port, after
+/// `rtpw_is_rtcp`. `OK`, or the status of the first cause for
 /// which it is none, and then nothing is written.
 #[unsafe(no_mangle)]
 pub extern "C" fn rtpw_packet_parse(datagram: &[u8], packet: &mut PacketView) -> i32

@@ -10,8 +10,7 @@ ghost use Rattle.rtp_c.specs.Status.{ok, bad_field, short_buffer};
 use super::status::{BAD_FIELD, OK, SHORT_BUFFER};
 use rtp_base::SeqNo;
 use rtp_wire::{
-    MAX_BLANK_PADDING_PAYLOAD_SIZE, create_padding_packet, read_original_sequence_number,
-    write_original_sequence_number,
+    read_original_sequence_number, try_create_padding_packet, write_original_sequence_number,
 };
 
 /// Reads the original sequence number that the payload of a retransmission packet begins with (RFC
@@ -50,9 +49,10 @@ pub extern "C" fn rtpw_write_original(payload: &mut [u8], number: u64) -> i32
 
 /// Makes a packet of padding alone after its header (RFC 3550, 5.1): sets P, and writes the padding
 /// from `header_len` on, zeros and in the last byte their count. It is `pad_len` rounded up to a
-/// multiple of `block_size`, but at most 240; with a `pad_len` of 0 nothing changes. `OK`;
-/// `BAD_FIELD` where `block_size` is 0; `SHORT_BUFFER` where there isn't room for the header and 240
-/// bytes. Where it isn't `OK` nothing is written.
+/// multiple of `block_size`, but at most 240; with a `pad_len` of 0 nothing changes, and no room is
+/// wanted. `OK`, and how many bytes of padding there are is written too; `BAD_FIELD` where `block_size`
+/// is 0; `SHORT_BUFFER` where there isn't room for the header and the padding. Where it isn't `OK`
+/// nothing is written.
 #[unsafe(no_mangle)]
 pub extern "C" fn rtpw_pad(
     datagram: &mut [u8],
@@ -67,20 +67,20 @@ pub extern "C" fn rtpw_pad(
     ensures nothing { result ≡ ok → pad_len ≡ 0 → count.new ≡ 0 }
     ensures same { pad_len ≡ 0 → datagram.new ≡ datagram.old }
     ensures no_block { block_size ≡ 0 → result ≡ bad_field }
-    ensures short { 1 ≤ block_size → length datagram.old < header_len + 240 → result ≡ short_buffer }
-    ensures done { 1 ≤ block_size → header_len + 240 ≤ length datagram.old → result ≡ ok }
+    ensures short { 1 ≤ block_size → 0 < pad_len → (n : ℕ) → IsPaddingLength pad_len block_size n →
+        length datagram.old < header_len + n → result ≡ short_buffer }
+    ensures done { 1 ≤ block_size → 0 < pad_len → (n : ℕ) → IsPaddingLength pad_len block_size n →
+        header_len + n ≤ length datagram.old → result ≡ ok }
+    ensures none_wanted { 1 ≤ block_size → pad_len ≡ 0 → result ≡ ok }
     ensures unchanged { result ≢ ok → datagram.new ≡ datagram.old }
     ensures unwritten { result ≢ ok → count.new ≡ count.old }
 {
     if block_size == 0 {
         return BAD_FIELD;
     }
-    if datagram.len() < MAX_BLANK_PADDING_PAYLOAD_SIZE {
+    let Some(padding) = try_create_padding_packet(datagram, header_len, pad_len, block_size) else {
         return SHORT_BUFFER;
-    }
-    if datagram.len() - MAX_BLANK_PADDING_PAYLOAD_SIZE < header_len {
-        return SHORT_BUFFER;
-    }
-    *count = create_padding_packet(datagram, header_len, pad_len, block_size);
+    };
+    *count = padding;
     OK
 }

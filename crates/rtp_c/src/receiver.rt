@@ -11,7 +11,7 @@ ghost use Rattle.rtp_c.specs.Judging.{IsJudgedAs, IsJudgedBy};
 
 use super::status::{BAD_FIELD, OK, REFUSED};
 use rtp_base::{SeqNo, SeqNoWindow};
-use rtp_wire::{Receiver, extend_u16};
+use rtp_wire::{Receiver, extend_u8, extend_u15, extend_u16, extend_u32};
 
 // How many numbers a half of the window's bits stands for, as the worth of the bit above it.
 const HALF: u128 = 1 << 64;
@@ -111,7 +111,8 @@ fn take_below_highest(receiver: &mut StoredReceiver, number: u64, written: &mut 
 }
 
 /// Makes the receiver one that has taken nothing yet, whose first packet has this rollover count:
-/// below 2^48, and 0 for a stream that is received from its beginning. With a count of 1 or more a
+/// below 2^48, and 0 for a stream that is received from its beginning. `highest` becomes 65,536 times
+/// the count, and all else 0. With a count of 1 or more a
 /// packet from before the first one has a number too. `OK`, or `BAD_FIELD` where the count is 2^48 or
 /// more, and then nothing is written.
 #[unsafe(no_mangle)]
@@ -205,4 +206,38 @@ pub extern "C" fn rtpw_extend_u16(previous: u64, number: u16) -> u64
     ensures only { (n : ℕ) → Extends 16 (Some previous) number n → result ≡ n }
 {
     extend_u16(Some(previous), number)
+}
+
+/// Extends a number of 8 bits to 64 bits: the number nearest to `previous`, modulo 2^64, that ends
+/// in these 8 bits. Where two are equally near, 128 away on either side, it is the one with the
+/// rollover count of `previous` (RFC 3711, 3.3.1).
+#[unsafe(no_mangle)]
+pub extern "C" fn rtpw_extend_u8(previous: u64, number: u8) -> u64
+    ensures near { Extends 8 (Some previous) number result }
+    ensures only { (n : ℕ) → Extends 8 (Some previous) number n → result ≡ n }
+{
+    extend_u8(Some(previous), number)
+}
+
+/// Extends a number of 15 bits to 64 bits: the number nearest to `previous`, modulo 2^64, that ends
+/// in these 15 bits. Where two are equally near, 16,384 away on either side, it is the one with the
+/// rollover count of `previous` (RFC 3711, 3.3.1). The sixteenth bit of `number` is
+/// ignored.
+#[unsafe(no_mangle)]
+pub extern "C" fn rtpw_extend_u15(previous: u64, number: u16) -> u64
+    ensures near { Extends 15 (Some previous) number result }
+    ensures only { (n : ℕ) → Extends 15 (Some previous) number n → result ≡ n }
+{
+    extend_u15(Some(previous), number)
+}
+
+/// Extends a number of 32 bits to 64 bits: the number nearest to `previous`, modulo 2^64, that ends
+/// in these 32 bits. Where two are equally near, 2^31 away on either side, it is the one with the
+/// rollover count of `previous` (RFC 3711, 3.3.1).
+#[unsafe(no_mangle)]
+pub extern "C" fn rtpw_extend_u32(previous: u64, number: u32) -> u64
+    ensures near { Extends 32 (Some previous) number result }
+    ensures only { (n : ℕ) → Extends 32 (Some previous) number n → result ≡ n }
+{
+    extend_u32(Some(previous), number)
 }

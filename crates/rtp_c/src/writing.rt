@@ -62,11 +62,12 @@ fn pairs_in<'a>(
 /// Writes the fixed part and the CSRC list of the header, and a block with these elements, to the front
 /// of the buffer (RFC 3550, 5.1; RFC 8285, 4.2 and 4.3). X is set whatever `has_extension` holds, and
 /// the values of the header are not looked at. An element has its id and the `data_len` bytes of
-/// `bytes` from its `data_at` on; its `end` is not looked at. The block is in the one-byte form exactly
+/// `bytes` from its `data_at` on; its `end` is not looked at, and `data_at` is also where `data_len` is
+/// 0. The block is in the one-byte form exactly
 /// where that can carry every element, ids 1 to 14 with 1 to 16 bytes of data; zeros fill its last word.
 ///
 /// `OK`, and how many bytes they take is written too. `BAD_FIELD` where the payload type is above 127,
-/// there are more than 15 contributing sources, the data of an element reach past `bytes`, an element
+/// there are more than 15 contributing sources, `data_at + data_len` of an element is past `bytes`, it
 /// has the id 0 or more than 255 bytes of data, or the elements take more than the 65,535 words that a
 /// block can have; `SHORT_BUFFER` where only the room is short; `NO_MEMORY` where memory is refused,
 /// which is taken for the call where there are elements, once the header's fields are found good.
@@ -134,7 +135,7 @@ pub extern "C" fn rtpw_wire_len(map: &KindsOfIds, header: &HeaderView, len: &mut
 /// are not looked at. Where `has_extension` is set a block is written, with an element for each mapped
 /// id, by rising id, whose value is there: in the two-byte form exactly where an id above 14 is mapped,
 /// the layer allocation is mapped, or a text that is written is empty. Zeros fill its last word. Where
-/// `has_extension` is clear nothing is written of the values.
+/// `has_extension` is clear nothing is written of the values, which are looked at all the same.
 ///
 /// `OK`, and how many bytes the header takes is written too. `BAD_FIELD` where the payload type is above
 /// 127, there are more than 15 contributing sources, a text has another character than letters, digits
@@ -181,7 +182,7 @@ fn can_carry_all(form: ExtensionsForm, pairs: &[(u8, &[u8])]) -> bool
 /// ids 1 to 255 with 0 to 255 bytes.
 ///
 /// `OK`, and how many bytes they take is written too. `BAD_FIELD` where the form is neither of the two
-/// or can't carry one of them, or where the data of one reach past `bytes`; `SHORT_BUFFER` where only
+/// or can't carry one of them, or where `data_at + data_len` of one is past `bytes`; `SHORT_BUFFER` where only
 /// the room is short; `NO_MEMORY` where memory is refused, which is taken for the call where there are
 /// elements. Where it isn't `OK` nothing is written.
 #[unsafe(no_mangle)]

@@ -9,6 +9,7 @@ pub mod PlacesLemmas
 mod BytesBetween
 mod PacketChanges
 mod PacketParts
+mod PaddingChanges
 mod ChangedPackets
 pub mod NotAPacketLemmas
 pub mod ValuesLemmas

@@ -21,6 +21,7 @@ pub use Rattle.rtp_vla.specs.AllocationEqual
 pub mod Block
 pub mod Packet
 pub mod NotAPacket
+pub mod Rtcp
 pub mod PacketElements
 pub mod PartsOf
 pub mod Places

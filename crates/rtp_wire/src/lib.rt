@@ -8,10 +8,10 @@ mod payload;
 mod receive;
 
 pub use header::RtpHeader;
-pub use packet::{Csrcs, Fields, NotAPacket, RtpPacket, RtpPacketMut};
+pub use packet::{Csrcs, Fields, NotAPacket, RtpPacket, RtpPacketMut, is_rtcp};
 pub use payload::{
     MAX_BLANK_PADDING_PAYLOAD_SIZE, create_padding_packet, read_original_sequence_number,
-    unpad_payload, write_original_sequence_number,
+    try_create_padding_packet, unpad_payload, write_original_sequence_number,
 };
 pub use receive::{
     Receiver, Receivers, Verdict, extend_u7, extend_u8, extend_u15, extend_u16, extend_u32,

@@ -9,7 +9,7 @@
 //! use rtp_wire::{NotAPacket, Packet, Receiver};
 //!
 //! let datagram = [0x80, 0x21, 0xB7, 0x98, 0, 0, 0x27, 0x10, 0, 0, 0, 0x2C, 1, 2, 3];
-//! let packet = Packet::parse(&datagram)?;
+//! let packet = Packet::parse(&datagram)?; // where RTCP comes too, after `is_rtcp`
 //! assert_eq!(packet.payload_type(), 33);
 //! assert_eq!(packet.payload(), [1, 2, 3]);
 //!
@@ -46,9 +46,9 @@ pub use header::Header;
 pub use layers::{Layer, Layers, Resolution, Stream};
 pub use map::{Kind, Map};
 pub use new_ids::NewIds;
-pub use packet::{Csrcs, Form, Packet};
+pub use packet::{is_rtcp, Csrcs, Form, Packet};
 pub use packet_mut::{Fields, PacketMut};
 pub use payload::{pad, read_original, version, write_original};
-pub use receiver::{extend_u16, Receiver};
+pub use receiver::{extend_u15, extend_u16, extend_u32, extend_u8, Receiver};
 pub use text::{Mid, NotAText, Rid, Text};
 pub use values::{Values, VideoTiming};

@@ -32,7 +32,8 @@ pub struct Packet<'a> {
 }
 
 impl<'a> Packet<'a> {
-    /// Reads the header of the packet that the datagram is.
+    /// Reads the header of the packet that the datagram is. On a port that RTP and RTCP share
+    /// [`is_rtcp`] comes first.
     ///
     /// # Errors
     ///
@@ -154,6 +155,19 @@ impl<'a> TryFrom<&'a [u8]> for Packet<'a> {
     fn try_from(datagram: &'a [u8]) -> Result<Packet<'a>, NotAPacket> {
         Packet::parse(datagram)
     }
+}
+
+/// Whether a datagram on a port that RTP and RTCP share is RTCP (RFC 5761, 4): it has version 2, and its
+/// second byte, the RTCP packet type, is 192 to 223. It comes before [`Packet::parse`], which would take
+/// a receiver report for RTP: as RTP that byte is M and a payload type of 64 to 95, which a stream on
+/// such a port must not have. `false` of fewer than two bytes.
+///
+/// ```
+/// assert!(rtp_wire::is_rtcp(&[0x80, 201, 0, 1, 0, 0, 0, 0x2C])); // a receiver report
+/// assert!(!rtp_wire::is_rtcp(&[0x80, 96, 0, 1]) && !rtp_wire::is_rtcp(&[0x80, 128 + 96, 0, 1]));
+/// ```
+pub fn is_rtcp(datagram: &[u8]) -> bool {
+    sys::is_rtcp(datagram)
 }
 
 /// The contributing sources of a packet: what [`Packet::csrcs`] returns.

@@ -131,6 +131,29 @@ impl<'a> PacketMut<'a> {
         sys::remove_element(self.datagram, id) == sys::OK
     }
 
+    /// Sets or clears P, and no other bit: the padding itself is the caller's to write ([`pad`](crate::pad)),
+    /// or to keep.
+    pub fn set_padding(&mut self, has_padding: bool) {
+        done(sys::set_padding(self.datagram, has_padding));
+    }
+
+    /// Takes the padding off: clears P, and returns how many bytes the packet then has, which are the
+    /// first ones of the datagram; where P is clear, all of them. `None`, and nothing changes, where the
+    /// padding's last byte counts more bytes than the payload has. Of SRTP the padding is encrypted:
+    /// decrypt first.
+    ///
+    /// ```
+    /// let mut datagram = [0xA0, 0, 0, 1, 0, 0, 0, 0, 0, 0, 0, 0x2C, 0xAA, 0xBB, 0, 2];
+    /// let mut packet = rtp_wire::PacketMut::parse(&mut datagram)?;
+    /// assert_eq!(packet.remove_padding(), Some(14));
+    /// assert_eq!(datagram[0], 0x80);
+    /// # Ok::<(), rtp_wire::NotAPacket>(())
+    /// ```
+    #[must_use]
+    pub fn remove_padding(&mut self) -> Option<usize> {
+        sys::remove_padding(self.datagram)
+    }
+
     /// Gives each element its new id, and makes one that has none padding. Returns `false`, and changes
     /// nothing, where the packet's form can't carry a new id that an element gets: one above 14 in the
     /// one-byte form.

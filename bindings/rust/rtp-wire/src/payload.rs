@@ -2,12 +2,12 @@ use crate::sys;
 
 /// Makes a packet of padding alone after its header: sets P, and writes the padding from `header_len`
 /// on, zeros and in the last byte their count, which is returned. It is `pad_len` in whole blocks, but
-/// at most 240 bytes; with a `pad_len` of 0 nothing changes. To pad a packet with a payload, pass the
-/// end of the payload as `header_len`. `None`, and nothing changes, where `block_size` is 0, or there
-/// is no room for 240 bytes after the header.
+/// at most 240 bytes; with a `pad_len` of 0 nothing changes, and no room is wanted. To pad a packet with
+/// a payload, pass the end of the payload as `header_len`. `None`, and nothing changes, where
+/// `block_size` is 0, or there is no room for the padding after the header.
 ///
 /// ```
-/// let mut buf = [0x80; 12 + 240];
+/// let mut buf = [0x80; 12 + 4];
 /// assert_eq!(rtp_wire::pad(&mut buf, 12, 3, 4), Some(4));
 /// assert_eq!(buf[..1], [0xA0]);
 /// assert_eq!(buf[12..16], [0, 0, 0, 4]);

@@ -62,6 +62,34 @@ impl Receiver {
     }
 }
 
+/// The number nearest to the previous one, modulo 2^64, that ends in these 8 bits. Where two are equally
+/// near it is the one with the rollover count of the previous one.
+///
+/// ```
+/// assert_eq!(rtp_wire::extend_u8(255, 0), 256);
+/// ```
+pub fn extend_u8(previous: u64, number: u8) -> u64 {
+    sys::extend_u8(previous, number)
+}
+
+/// [`extend_u8`] of 15 bits, as a picture id has: the sixteenth bit of `number` isn't looked at.
+///
+/// ```
+/// assert_eq!(rtp_wire::extend_u15(32_767, 0), 32_768);
+/// ```
+pub fn extend_u15(previous: u64, number: u16) -> u64 {
+    sys::extend_u15(previous, number)
+}
+
+/// [`extend_u8`] of 32 bits, as a timestamp has.
+///
+/// ```
+/// assert_eq!(rtp_wire::extend_u32(u64::from(u32::MAX), 0), 1 << 32);
+/// ```
+pub fn extend_u32(previous: u64, number: u32) -> u64 {
+    sys::extend_u32(previous, number)
+}
+
 /// The number nearest to the previous one, modulo 2^64, that ends in these 16 bits. Where two are
 /// equally near it is the one with the rollover count of the previous one.
 ///

@@ -1,10 +1,9 @@
 //! The functions of `rtp_wire.h`, called with the types of Rust. Beside `assembly` this is the one
 //! module with `unsafe`.
 //!
-//! Each of them may be called with any values: it asks only that a pointer isn't NULL, is aligned, and
-//! is to as many bytes as is said, and that what it writes overlaps nothing else that it is given. A
-//! reference of Rust is never NULL, an exclusive one overlaps no other, and a slice of no bytes has an
-//! address too. No function keeps a pointer. That is the reason of each call below.
+//! Each of them may be called with any values: it asks only that a pointer is aligned and is to as many
+//! bytes as is said, and that what it writes overlaps nothing else that it is given. A reference of Rust
+//! is never NULL, and an exclusive one overlaps no other. No function keeps a pointer. That is the reason of each call below.
 #![allow(unsafe_code)]
 
 use crate::views::{
@@ -33,6 +32,7 @@ mod c {
     };
 
     extern "C" {
+        pub fn rtpw_is_rtcp(datagram: *const u8, len: usize) -> bool;
         pub fn rtpw_packet_parse(datagram: *const u8, len: usize, packet: *mut PacketParts) -> i32;
         pub fn rtpw_set_marker(datagram: *mut u8, len: usize, marker: bool) -> i32;
         pub fn rtpw_set_payload_type(datagram: *mut u8, len: usize, payload_type: u8) -> i32;
@@ -49,6 +49,8 @@ mod c {
             data_len: usize,
         ) -> i32;
         pub fn rtpw_remove_element(datagram: *mut u8, len: usize, id: u8) -> i32;
+        pub fn rtpw_set_padding(datagram: *mut u8, len: usize, has_padding: bool) -> i32;
+        pub fn rtpw_remove_padding(datagram: *mut u8, len: usize, new_len: *mut usize) -> i32;
         pub fn rtpw_next_element(
             body: *const u8,
             body_len: usize,
@@ -146,8 +148,16 @@ mod c {
         pub fn rtpw_read_original(payload: *const u8, len: usize, number: *mut u16) -> i32;
         pub fn rtpw_write_original(payload: *mut u8, size: usize, number: u64) -> i32;
         pub fn rtpw_version() -> u32;
+        pub fn rtpw_extend_u8(previous: u64, number: u8) -> u64;
+        pub fn rtpw_extend_u15(previous: u64, number: u16) -> u64;
         pub fn rtpw_extend_u16(previous: u64, number: u16) -> u64;
+        pub fn rtpw_extend_u32(previous: u64, number: u32) -> u64;
     }
+}
+
+pub fn is_rtcp(datagram: &[u8]) -> bool {
+    // SAFETY: a slice that is read.
+    unsafe { c::rtpw_is_rtcp(datagram.as_ptr(), datagram.len()) }
 }
 
 pub fn packet_parse(datagram: &[u8], parts: &mut PacketParts) -> i32 {
@@ -206,6 +216,18 @@ pub fn set_element(datagram: &mut [u8], id: u8, data: &[u8]) -> i32 {
 pub fn remove_element(datagram: &mut [u8], id: u8) -> i32 {
     // SAFETY: an exclusive slice.
     unsafe { c::rtpw_remove_element(datagram.as_mut_ptr(), datagram.len(), id) }
+}
+
+pub fn set_padding(datagram: &mut [u8], has_padding: bool) -> i32 {
+    // SAFETY: an exclusive slice.
+    unsafe { c::rtpw_set_padding(datagram.as_mut_ptr(), datagram.len(), has_padding) }
+}
+
+pub fn remove_padding(datagram: &mut [u8]) -> Option<usize> {
+    let mut len = 0;
+    // SAFETY: an exclusive slice, and an exclusive reference.
+    let status = unsafe { c::rtpw_remove_padding(datagram.as_mut_ptr(), datagram.len(), &mut len) };
+    (status == OK).then_some(len)
 }
 
 pub fn next_element(body: &[u8], form: u8, at: usize) -> Option<Place> {
@@ -389,6 +411,21 @@ pub fn receiver_receive(receiver: &mut ReceiverState, sequence_number: u16) -> O
     // SAFETY: two exclusive references.
     let status = unsafe { c::rtpw_receiver_receive(receiver, sequence_number, &mut number) };
     (status == OK).then_some(number)
+}
+
+pub fn extend_u8(previous: u64, number: u8) -> u64 {
+    // SAFETY: no memory is passed.
+    unsafe { c::rtpw_extend_u8(previous, number) }
+}
+
+pub fn extend_u15(previous: u64, number: u16) -> u64 {
+    // SAFETY: no memory is passed.
+    unsafe { c::rtpw_extend_u15(previous, number) }
+}
+
+pub fn extend_u32(previous: u64, number: u32) -> u64 {
+    // SAFETY: no memory is passed.
+    unsafe { c::rtpw_extend_u32(previous, number) }
 }
 
 pub fn extend_u16(previous: u64, number: u16) -> u64 {

@@ -1,7 +1,7 @@
 //! The numbers of a stream, near 2^16, 2^32, 2^48 and 2^64. Expected values are worked out by hand from RFC
 //! 3711, 3.3.1 and 3.3.2.
 
-use rtp_wire::{extend_u16, Receiver};
+use rtp_wire::{extend_u15, extend_u16, extend_u32, extend_u8, Receiver};
 
 #[test]
 fn the_nearest_number_is_found() {
@@ -32,6 +32,29 @@ fn the_nearest_number_is_found() {
             "{previous} {number}"
         );
     }
+}
+
+#[test]
+fn numbers_have_other_widths() {
+    // half the modulus away, on either side, the rollover count stays
+    assert_eq!((extend_u8(255, 0), extend_u8(258, 255)), (256, 255));
+    assert_eq!((extend_u8(256, 128), extend_u8(256, 129)), (384, 129));
+    assert_eq!((extend_u8(384, 0), extend_u8(385, 0)), (256, 512));
+    assert_eq!(
+        (extend_u15(32_767, 0), extend_u15(32_768, 32_767)),
+        (32_768, 32_767)
+    );
+    assert_eq!(
+        (extend_u15(0, 16_384), extend_u15(0, 16_385)),
+        (16_384, u64::MAX - 16_382)
+    );
+    assert_eq!(extend_u15(5, 0x8006), 6); // the sixteenth bit
+    assert_eq!(extend_u32(0xFFFF_FFFF, 1), (1 << 32) + 1);
+    assert_eq!(extend_u32(1 << 32, 0xFFFF_FFFF), 0xFFFF_FFFF);
+    assert_eq!(
+        (extend_u32(0, 1 << 31), extend_u32(0, (1 << 31) + 1)),
+        (1 << 31, u64::MAX - (1 << 31) + 2)
+    );
 }
 
 /// A receiver that has taken this number alone.

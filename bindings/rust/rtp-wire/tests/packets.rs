@@ -1,7 +1,7 @@
 //! The types of the crate. Expected values are worked out by hand from RFC 3550, 5.1 and RFC 8285.
 
 use rtp_wire::{
-    extend_u16, Element, Fields, Form, Kind, Map, NoMemory, NotAPacket, Packet, PacketMut,
+    extend_u16, is_rtcp, Element, Fields, Form, Kind, Map, NoMemory, NotAPacket, Packet, PacketMut,
     Receiver, Values,
 };
 
@@ -237,11 +237,59 @@ fn values_are_read() {
 }
 
 #[test]
+fn padding_is_taken_off() {
+    let mut bytes = SAMPLE;
+    let mut packet = PacketMut::parse(&mut bytes).unwrap();
+    assert_eq!(packet.remove_padding(), Some(35));
+    assert!(!packet.as_packet().has_padding());
+    assert_eq!(packet.remove_padding(), Some(37));
+    packet.set_padding(true);
+    packet.set_padding(true);
+    assert_eq!(packet.into_datagram(), SAMPLE);
+    bytes[36] = 6;
+    let mut packet = PacketMut::parse(&mut bytes).unwrap();
+    assert_eq!(packet.remove_padding(), None);
+    assert!(packet.as_packet().has_padding());
+    packet.set_padding(false);
+    assert_eq!(packet.into_datagram()[0], 0x92);
+    bytes = SAMPLE;
+    let len = PacketMut::parse(&mut bytes)
+        .unwrap()
+        .remove_padding()
+        .unwrap();
+    let packet = Packet::parse(&bytes[..len]).unwrap();
+    assert_eq!(packet.payload(), [1, 2, 3]);
+    assert_eq!(packet.unpadded_payload(), Some(&[1, 2, 3][..]));
+}
+
+#[test]
+fn rtcp_is_told_apart() {
+    // RFC 5761, 4: packet types 192 to 223; as RTP they have M and a payload type of 64 to 95
+    for second in 0..=255 {
+        let expected = (192..=223).contains(&second);
+        assert_eq!(is_rtcp(&[0x80, second]), expected, "{second}");
+        assert_eq!(is_rtcp(&[0xBF, second, 0, 1]), expected, "{second}");
+        for first in [0, 0x16, 0x40, 0x7F, 0xC0, 0xFF] {
+            assert!(!is_rtcp(&[first, second, 0, 1]));
+        }
+    }
+    assert!(!is_rtcp(&[]) && !is_rtcp(&[0x80]));
+    let mut report = [0; 28];
+    report[..2].copy_from_slice(&[0x80, 200]);
+    assert!(is_rtcp(&report));
+    let packet = Packet::parse(&report).unwrap();
+    assert_eq!((packet.marker(), packet.payload_type()), (true, 72));
+}
+
+#[test]
 fn padding_and_originals_have_limits() {
     let mut buf = [0x80; 251];
-    assert_eq!(rtp_wire::pad(&mut buf, 12, 3, 4), None);
+    assert_eq!(rtp_wire::pad(&mut buf, 12, 255, 16), None);
+    assert_eq!(rtp_wire::pad(&mut buf[..15], 12, 3, 4), None);
     assert_eq!(rtp_wire::pad(&mut buf, 11, 3, 0), None);
     assert_eq!(buf, [0x80; 251]);
+    assert_eq!(rtp_wire::pad(&mut buf[..16], 12, 3, 4), Some(4));
+    assert_eq!(buf[12..17], [0, 0, 0, 4, 0x80]);
     assert_eq!(rtp_wire::pad(&mut buf, 11, 255, 16), Some(240));
     assert_eq!(rtp_wire::read_original(&[1]), None);
     assert_eq!(rtp_wire::read_original(&[0, 0]), Some((0, &[][..])));
@@ -282,9 +330,15 @@ fn padding_is_in_whole_blocks() {
     }
     let mut buf = [0x95; 20 + 240];
     assert_eq!(rtp_wire::pad(&mut buf, 20, 0, 4), Some(0));
-    for (header_len, pad_len, block_size) in
-        [(20, 0, 0), (21, 0, 4), (1 << 32, 1, 4), (usize::MAX, 1, 4)]
-    {
+    assert_eq!(rtp_wire::pad(&mut buf, 261, 0, 4), Some(0));
+    for (header_len, pad_len, block_size) in [
+        (20, 0, 0),
+        (20, 1, 0),
+        (257, 1, 4),
+        (1 << 32, 1, 4),
+        (usize::MAX, 1, 4),
+        (usize::MAX - 3, 1, 4),
+    ] {
         assert_eq!(
             rtp_wire::pad(&mut buf, header_len, pad_len, block_size),
             None

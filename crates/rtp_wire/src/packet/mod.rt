@@ -2,7 +2,10 @@
 
 mod csrcs;
 mod fields;
+mod header_bytes;
 mod not_a_packet;
+mod padding;
+mod rtcp;
 mod rtp_packet;
 mod rtp_packet_mut;
 
@@ -10,5 +13,6 @@ pub use csrcs::Csrcs;
 pub use fields::Fields;
 pub(crate) use fields::flag;
 pub use not_a_packet::NotAPacket;
+pub use rtcp::is_rtcp;
 pub use rtp_packet::RtpPacket;
 pub use rtp_packet_mut::RtpPacketMut;

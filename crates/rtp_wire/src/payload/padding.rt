@@ -1,6 +1,6 @@
 //! The padding at the end of a packet (RFC 3550, 5.1).
 
-ghost use Rattle.std.specs.Prelude.{◌≡◌, ℕ, ◌+◌, ◌<◌, ◌≤◌, ◌↔◌, ◌++◌, List, length, slice_index, Bool, true, IfSome, IsSomeAnd};
+ghost use Rattle.std.specs.Prelude.{◌≡◌, ℕ, ◌+◌, ◌<◌, ◌≤◌, ◌↔◌, ◌++◌, List, length, slice_index, Bool, true, Some, IfSome, IfNone, IsSomeAnd};
 ghost use Rattle.rtp_base.specs.Overwriting.{overwritten};
 ghost use Rattle.rtp_wire.specs.Packet.{IsFirstByte};
 ghost use Rattle.rtp_wire.specs.Padding.{padding_bytes, with_padding_bit, IsPaddingLength, padding_count, IsUnpadded};
@@ -97,6 +97,46 @@ pub fn create_padding_packet(
     set_padding_bit(buf);
     put_padding(buf, header_len, count);
     count
+}
+
+/// [`create_padding_packet`] where it isn't known whether there is room: returns `None`, and changes
+/// nothing, where the buffer ends before the padding would, or `block_size` is 0. It wants room for
+/// what it writes, and with a `pad_len` of 0 for nothing.
+///
+/// With a `pad_len` of 3 and a `block_size` of 4 a header of 12 bytes wants a buffer of 16.
+pub fn try_create_padding_packet(
+    buf: &mut [u8],
+    header_len: usize,
+    pad_len: u8,
+    block_size: usize,
+) -> Option<usize>
+    ensures nothing { pad_len ≡ 0 → result ≡ Some 0 }
+    ensures same { pad_len ≡ 0 → buf.new ≡ buf.old }
+    ensures length { IfSome result (λ count. 0 < pad_len → IsPaddingLength pad_len block_size count) }
+    ensures written { IfSome result (λ count. 0 < pad_len →
+        buf.new ≡ overwritten (with_padding_bit buf.old) header_len (padding_bytes count)) }
+    ensures only { IfSome result (λ count. 0 < pad_len → (n : ℕ) →
+        IsPaddingLength pad_len block_size n → count ≡ n) }
+    ensures room { IfSome result (λ count. 0 < pad_len → header_len + count ≤ length buf.old) }
+
+    // With a block size of 0 there is no such length.
+    ensures refused { IfNone result ((n : ℕ) → IsPaddingLength pad_len block_size n →
+        length buf.old < header_len + n) }
+    ensures unchanged { IfNone result (buf.new ≡ buf.old) }
+{
+    if pad_len == 0 {
+        return Some(0);
+    }
+    if block_size == 0 {
+        return None;
+    }
+    let len = padding_len(pad_len, block_size);
+    if buf.len() < header_len.checked_add(len)? {
+        return None;
+    }
+    set_padding_bit(buf);
+    put_padding(buf, header_len, len);
+    Some(len)
 }
 
 /// Returns the payload of a packet whose padding bit is set, from all bytes after its header:
