@@ -1,10 +1,9 @@
 -- A walk over the mapped ids, by a cursor.
-use Rattle.std.proofs.Common.{◌≡◌, ℕ, ◌+◌, suc, zero, List, [], ◌∷◌, drop, Some, None, arith, ap, refl, sym, ◌∙◌, subst}
-use Rattle.std.specs.Prelude.{slice_get}
+use Rattle.std.proofs.Common.{◌≡◌, ℕ, ◌+◌, suc, zero, List, [], ◌∷◌, drop, get_or, Some, None, arith, ap, refl, sym, ◌∙◌, subst}
 use Rattle.std.specs.Option.{option_map}
 use Rattle.std.specs.List.{AllByRecursion, cons_option}
 use Rattle.rtp_values.specs.declared.kind.Extension.{Extension}
-use Rattle.rtp_ext.specs.ExtensionMap.{Slots, extension_at, items_from}
+use Rattle.rtp_ext.specs.ExtensionMap.{Slots, extension_at, extension_of, items_from}
 use Rattle.rtp_ext.specs.KindsById.{known_slots}
 use Rattle.rtp_ext.specs.Elements.{Element, elements_bytes}
 use Rattle.rtp_ext.specs.ElementWriting.{items_bytes}
@@ -15,37 +14,29 @@ use Rattle.rtp_ext.specs.declared.form.ExtensionsForm.{ExtensionsForm}
 use Rattle.rtp_values.specs.declared.value.values.ExtensionValues.{ExtensionValues}
 use Rattle.rtp_ext.proofs.WrittenBlockLemmas.{items_bytes-written}
 use Rattle.rtp_ext.proofs.KnownItemsLemmas.{written_known, image_known}
-use Rattle.rtp_ext.specs.MapSlots.{items_at}
+use Rattle.rtp_ext.specs.MapSlots.{items_at, IsMapped}
 use Rattle.rtp_ext.proofs.KindsByIdLemmas.{AreValues-known}
 
 -- ---- by a list of the mapped ids
 
--- what holds of all ids holds of the one at an index
-pub holds_at : (P : ℕ → Type 0) (ids : List ℕ) (at id : ℕ) → AllByRecursion P ids → slice_get ids at ≡ Some id → P id
-holds_at P [] at id all is = cc
-holds_at P (first ∷ ids) zero id all is = let same : first ≡ id = cc in subst P same all.0
-holds_at P (first ∷ ids) (suc at) id all is = holds_at P ids at id all.1 is
-
--- the next one
-pub items_at-next : (slots : Slots) (ids : List ℕ) (at id : ℕ) (extension : Extension) → slice_get ids at ≡ Some id
-    → extension_at slots id ≡ Some extension
-    → items_at slots (drop at ids) ≡ (id, extension) ∷ items_at slots (drop (at + 1) ids)
-items_at-next slots [] at id extension is mapped = cc
-items_at-next slots (first ∷ ids) zero id extension is mapped =
-    let same : first ≡ id = cc in
-    ap (λ (i : ℕ). cons_option (option_map (λ (e : Extension). (i, e)) (extension_at slots i)) (items_at slots ids)) same
-    ∙ ap (λ found. cons_option (option_map (λ (e : Extension). (id, e)) found) (items_at slots ids)) mapped
-items_at-next slots (first ∷ ids) (suc at) id extension is mapped =
+-- the next one: the id at a place, or 0 after the last one, which is mapped to nothing
+pub items_at-next : (slots : Slots) (ids : List ℕ) (at : ℕ) (extension : Extension) → extension_at slots (get_or ids at 0) ≡ Some extension
+    → items_at slots (drop at ids) ≡ (get_or ids at 0, extension) ∷ items_at slots (drop (at + 1) ids)
+items_at-next slots [] at extension mapped = cc
+items_at-next slots (first ∷ ids) zero extension mapped =
+    ap (λ found. cons_option (option_map (λ (e : Extension). (first, e)) found) (items_at slots ids)) mapped
+items_at-next slots (first ∷ ids) (suc at) extension mapped =
     let index : suc at + 1 ≡ suc (at + 1) = omega arith in
-    items_at-next slots ids at id extension is mapped
-    ∙ ap (λ (n : ℕ). (id, extension) ∷ items_at slots (drop n (first ∷ ids))) (sym index)
+    items_at-next slots ids at extension mapped
+    ∙ ap (λ (n : ℕ). (get_or ids at 0, extension) ∷ items_at slots (drop n (first ∷ ids))) (sym index)
 
 -- none is left
-pub items_at-ended : (slots : Slots) (ids : List ℕ) (at : ℕ) → slice_get ids at ≡ None → items_at slots (drop at ids) ≡ []
-items_at-ended slots [] zero is = refl
-items_at-ended slots [] (suc at) is = refl
-items_at-ended slots (first ∷ ids) zero is = cc
-items_at-ended slots (first ∷ ids) (suc at) is = items_at-ended slots ids at is
+pub items_at-ended : (slots : Slots) (ids : List ℕ) (at : ℕ) → AllByRecursion (IsMapped slots) ids → extension_at slots (get_or ids at 0) ≡ None
+    → items_at slots (drop at ids) ≡ []
+items_at-ended slots [] zero all none = refl
+items_at-ended slots [] (suc at) all none = refl
+items_at-ended slots (first ∷ ids) zero all none = let found = ap extension_of all.0.1 in cc
+items_at-ended slots (first ∷ ids) (suc at) all none = items_at-ended slots ids at all.1 none
 
 -- ---- what the known extensions write
 

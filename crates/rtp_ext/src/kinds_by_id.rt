@@ -142,8 +142,8 @@ impl KindsById {
         ensures none { IfNone result (items_at (slots_of self.now) (drop place (mapped_ids (slots_of self.now))) ≡ []) }
         ensures within { IfSome result (λ _. place < MAX_ID) }
     {
-        let id = *self.mapped.as_slice().get(place)?;
-        Some((id, mapped_kind(&self.kinds, id)))
+        let id = self.mapped.at(place)?;
+        Some((id, self.get(id)?))
     }
 
     // Whether the one-byte form can't carry a mapped id or the longest data of a mapped kind.

@@ -1,6 +1,6 @@
 //! The ids of a map that are mapped.
 
-ghost use Rattle.std.specs.Prelude.{◌≡◌, ◌<◌, ◌≤◌, ◌∷◌, ◌++◌, [], length, take, drop, map, nat_lt};
+ghost use Rattle.std.specs.Prelude.{◌≡◌, ◌<◌, ◌≤◌, ◌∷◌, ◌++◌, [], length, take, drop, map, nat_lt, slice_index, IfSome, IfNone};
 ghost use Rattle.std.specs.List.{list_any};
 ghost use Rattle.rtp_ext.specs.KindsById.{entry_of_kind};
 ghost use Rattle.rtp_ext.specs.MapSlots.{mapped_ids, inserted, RiseAbove};
@@ -147,6 +147,18 @@ impl MappedIds {
             Some(last) => *last > greatest,
             None => false,
         }
+    }
+
+    // The id at this place, and 0 after the last one. No map has so many ids that it is `None`.
+    pub(super) fn at(&self, place: usize) -> Option<u8>
+        ensures some { IfSome result (λ id. id ≡ slice_index self.now place) }
+        ensures within { IfSome result (λ _. place < MAX_ID) }
+        ensures none { IfNone result (MAX_ID ≤ place) }
+    {
+        if place >= self.ids.len() {
+            return None;
+        }
+        Some(self.ids[place])
     }
 
     pub(super) fn as_slice(&self) -> &[u8]

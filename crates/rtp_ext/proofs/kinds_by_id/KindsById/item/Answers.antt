@@ -1,35 +1,43 @@
-use Rattle.std.proofs.Common.{sym, refl, ◌∙◌, subst, ap, List, ℕ, arith, length, drop, length-drop}
-use Rattle.std.proofs.lemmas.List.{length-map}
-use Rattle.rtp_ext.specs.ExtensionMap.{items_from}
-use Rattle.rtp_ext.proofs.ListingLemmas.{length-items_from}
-use Rattle.std.specs.Prelude.{slice_get}
-use Rattle.std.specs.List.{AllByRecursion}
-use Rattle.std.proofs.lemmas.Option.{slice_get_read}
+use Rattle.std.proofs.Common.{sym, ap, ◌∙◌, subst, ◌≡◌, ◌≤◌, [], List, ℕ, get_or, arith, length, drop, length-drop, Option, IfNone}
+use Rattle.std.specs.Option.{option_map}
+use Rattle.std.proofs.lemmas.List.{length-map, drop_all}
+use Rattle.rtp_values.specs.declared.known_kind.KnownKind.{KnownKind}
+use Rattle.rtp_values.specs.KnownKind.{extension_of_kind}
+use Rattle.rtp_ext.specs.ExtensionMap.{extension_at, items_from}
 use Rattle.rtp_ext.specs.KindsById.{slots_of, entry_of_kind}
-use Rattle.rtp_ext.specs.MapSlots.{IsMapped}
+use Rattle.rtp_ext.specs.MapSlots.{items_at, mapped_ids}
+use Rattle.rtp_ext.proofs.ListingLemmas.{length-items_from}
 use Rattle.rtp_ext.proofs.MappedIdLemmas.{all_mapped}
-use Rattle.rtp_ext.proofs.CursorLemmas.{holds_at}
+use Rattle.rtp_ext.proofs.CursorLemmas.{items_at-ended}
 use Rattle.rtp_ext.proofs.kinds_by_id.KindsById.item.Goals as goal
 
-pub mapped_kind-requires-clause-mapped : goal.mapped_kind-requires-clause-mapped
-mapped_kind-requires-clause-mapped c =
-    let slots = slots_of c.self.inside.kinds in
-    let told = c.in_ok-id.ensures.lookup in
-    let here = ap (λ (ids : List ℕ). slice_get ids c.args.place) (sym c.as_slice.ensures)
-    ∙ slice_get_read c.as_slice.result.now _ c.args.place c.in_ok-id.field-0.now refl told.3.0 told.1 in
-    holds_at (IsMapped slots) c.self.inside.mapped c.args.place c.in_ok-id.field-0.now
-    (subst (AllByRecursion (IsMapped slots)) (sym c.self.invariant.2) (all_mapped slots)) here
+-- no id is left from a place on
+HasNoneFrom : List (Option KnownKind) → ℕ → Type 0
+HasNoneFrom kinds place = items_at (slots_of kinds) (drop place (mapped_ids (slots_of kinds))) ≡ []
 
-pub returns-clause-within : goal.returns-clause-within
-returns-clause-within c =
+pub returns-in_err-id-clause-none : goal.returns-in_err-id-clause-none
+unfolding HasNoneFrom
+returns-in_err-id-clause-none c =
     let kinds = c.self.inside.kinds in
-    omega (
+    let few : length (mapped_ids (slots_of kinds)) ≤ c.args.place = omega (
       arith,
-      c.in_ok-id.ensures.lookup.3.0,
-      ap length (c.as_slice.ensures ∙ c.self.invariant.2),
+      c.in_err-id.ensures.none,
       length-map (items_from 0 (slots_of kinds)) (λ item. item.0),
       length-items_from 0 (slots_of kinds),
       length-map (drop 1 kinds) entry_of_kind,
       length-drop 1 kinds,
       c.self.invariant.0,
-    )
+    ) in
+    subst (λ (found : Option (ℕ × KnownKind)). IfNone found (HasNoneFrom c.args.self.now c.args.place)) (sym c.from_residual.ensures)
+    (subst (λ ks. HasNoneFrom ks c.args.place) c.self.view_is (ap (items_at (slots_of kinds)) (drop_all c.args.place (mapped_ids (slots_of kinds)) few)))
+
+pub returns-in_err-get-clause-none : goal.returns-in_err-get-clause-none
+unfolding HasNoneFrom
+returns-in_err-get-clause-none c =
+    let kinds = c.self.inside.kinds in
+    let id_is : c.in_ok-id.id ≡ get_or (mapped_ids (slots_of kinds)) c.args.place 0 =
+    c.in_ok-id.ensures.some ∙ ap (λ (ids : List ℕ). get_or ids c.args.place 0) c.self.invariant.2 in
+    subst (λ (found : Option (ℕ × KnownKind)). IfNone found (HasNoneFrom c.args.self.now c.args.place)) (sym c.from_residual-in_err-get.ensures)
+    (subst (λ ks. HasNoneFrom ks c.args.place) c.self.view_is (items_at-ended (slots_of kinds) (mapped_ids (slots_of kinds)) c.args.place (all_mapped (slots_of kinds))
+    (ap (extension_at (slots_of kinds)) (sym id_is) ∙ ap (λ ks. extension_at (slots_of ks) c.in_ok-id.id) c.self.view_is
+    ∙ sym c.get.ensures ∙ ap (option_map extension_of_kind) c.in_err-get.was)))
