@@ -1,9 +1,8 @@
 -- The numbers of the known kinds, and their URIs.
-use Rattle.std.proofs.Common.{◌≡◌, ◌≢◌, ℕ, zero, suc, ◌≤◌, ◌+◌, List, [], ◌∷◌, Bool, true, false, ◌&&◌, nat_le, get_or, Option, None, Some, inl, inr, arith, refl, sym, ap, ◌∙◌, subst}
+use Rattle.std.proofs.Common.{◌≡◌, ◌≢◌, ℕ, zero, suc, ◌+◌, List, [], ◌∷◌, Bool, true, false, ◌&&◌, nat_le, get_or, Option, None, Some, arith, refl, sym, ap, ◌∙◌, subst}
 use Rattle.std.specs.Prelude.{nat_eq}
 use Rattle.std.specs.Str.{IsUtf8, IsAscii}
-use Rattle.std.proofs.lemmas.Bool.{leb-true, false≢true, cases_lt, eqb-true}
-use Rattle.std.proofs.lemmas.List.{get_or_past}
+use Rattle.std.proofs.lemmas.Bool.{leb-true, false≢true, eqb-true}
 use Rattle.std.proofs.lemmas.Str.{IsUtf8-from_ascii}
 use Rattle.rtp_values.specs.declared.known_kind.KnownKind.{KnownKind}
 use Rattle.rtp_values.specs.declared.known_kind.KnownKind.TheVariants.{AbsoluteSendTime, AbsoluteCaptureTime, AudioLevel, TransmissionTimeOffset, VideoOrientation, TransportSequenceNumber, PlayoutDelay, VideoContentType, VideoTiming, RtpStreamId, RepairedRtpStreamId, RtpMid, FrameMarking, ColorSpace, VideoLayersAllocation}
@@ -32,19 +31,12 @@ pub number_zero : kind_numbered 0 ≡ None
 unfolding kind_numbered
 number_zero = refl
 
--- so two kinds have two numbers, none of which is 0 or above 15
+-- so two kinds have two numbers, none of which is 0
 pub one_kind : (a b : KnownKind) → kind_number a ≡ kind_number b → a ≡ b
 one_kind a b same = let found : Some a ≡ Some b = sym (number_of_kind a) ∙ ap kind_numbered same ∙ number_of_kind b in cc
 
 pub number≢0 : (kind : KnownKind) → kind_number kind ≢ 0
 number≢0 kind is = let wrong : None ≡ Some kind = sym number_zero ∙ ap kind_numbered (sym is) ∙ number_of_kind kind in cc
-
-pub at_most : (kind : KnownKind) → kind_number kind ≤ 15
-unfolding kind_numbered
-at_most kind = elim (cases_lt (kind_number kind) 16) [
-  | inl below ↦ omega (arith, below)
-  | inr past ↦ let wrong : None ≡ Some kind = sym (get_or_past numbered_kinds (kind_number kind) None past) ∙ number_of_kind kind in cc
-]
 
 both : (a b : Bool) → (a && b) ≡ true → (a ≡ true) × (b ≡ true)
 both true b is = (refl, is)

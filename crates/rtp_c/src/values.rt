@@ -102,6 +102,16 @@ pub fn flag_number(is_set: bool) -> u8
     if is_set { 1 } else { 0 }
 }
 
+// The bytes of a text, and then zeros.
+fn ended_text<const N: usize>(text: &str) -> [u8; N]
+    requires room { length text.now < N }
+    ensures { result ≡ text.now ++ replicate (N - length text.now) 0 }
+{
+    let mut bytes = [0; N];
+    put(&mut bytes, 0, text.as_bytes());
+    bytes
+}
+
 // Whether the value is there, as 1 or 0, and the value: of one that is absent the default.
 fn told<T: Copy + Default>(value: Option<T>) -> (u8, T)
     ensures { IsToldOr T.is_default result.0 result.1 value }
@@ -149,16 +159,6 @@ fn told_time(value: Option<MediaTime>) -> (u8, Time)
         ),
         None => (0, Time { ticks: 0, hertz: 0 }),
     }
-}
-
-// The bytes of a text, and then zeros.
-fn ended_text<const N: usize>(text: &str) -> [u8; N]
-    requires room { length text.now < N }
-    ensures { result ≡ text.now ++ replicate (N - length text.now) 0 }
-{
-    let mut bytes = [0; N];
-    put(&mut bytes, 0, text.as_bytes());
-    bytes
 }
 
 // The same of a tag, as a text that zeros end.
