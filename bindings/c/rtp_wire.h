@@ -146,10 +146,10 @@ RTPW_CHECKED int32_t rtpw_packet_parse(const uint8_t *datagram, size_t len, rtpw
  * first cause for which the buffer holds no packet; rtpw_set_payload_type and rtpw_set_fields also
  * RTPW_BAD_FIELD, before all else, where the payload type is above 127. Where it isn't RTPW_OK nothing changes.
  *
- * All but rtpw_remove_padding, and rtpw_renumber below, need the header alone: its payload_at bytes are a
- * packet without a payload, and what they become is, with the payload behind it, what the whole packet would
- * become. So a server copies and changes only the header for each receiver, and sends it before the one
- * payload (writev). */
+ * The header alone is enough for each of them (rtpw_remove_padding aside) and for rtpw_renumber: its
+ * payload_at bytes are a packet without a payload, and what they become is, with the payload behind it, what
+ * the whole packet would become. So a server copies and changes only the header for each receiver, and sends
+ * it before the one payload (writev). */
 RTPW_CHECKED int32_t rtpw_set_marker(uint8_t *datagram, size_t len, bool marker);
 RTPW_CHECKED int32_t rtpw_set_payload_type(uint8_t *datagram, size_t len, uint8_t payload_type);
 RTPW_CHECKED int32_t rtpw_set_sequence_number(uint8_t *datagram, size_t len, uint16_t number);

@@ -40,6 +40,20 @@ impl Fields {
 
 /// A packet that is changed in the bytes of its datagram: each call changes the part that it names, and
 /// no other byte. The datagram stays a packet, of the same length and with the same block form.
+///
+/// All but [`remove_padding`](PacketMut::remove_padding) needs the header alone: its bytes are a packet
+/// without a payload, and what they become is, with the payload behind it, what the whole would become. So
+/// a server copies and changes only the header for each receiver.
+///
+/// ```
+/// let datagram = [0x80, 0x21, 0xB7, 0x98, 0, 0, 0x27, 0x10, 0, 0, 0, 0x2C, 1, 2, 3];
+/// let (header, payload) = datagram.split_at(rtp_wire::Packet::parse(&datagram)?.header_len());
+/// let mut header = header.to_vec();
+/// rtp_wire::PacketMut::parse(&mut header)?.set_ssrc(77);
+/// let sent = [&header[..], payload].concat(); // by sendmsg, without this copy
+/// assert_eq!(rtp_wire::Packet::parse(&sent)?.ssrc(), 77);
+/// # Ok::<(), rtp_wire::NotAPacket>(())
+/// ```
 pub struct PacketMut<'a> {
     datagram: &'a mut [u8],
 }
