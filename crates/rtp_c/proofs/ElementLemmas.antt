@@ -5,10 +5,10 @@ use Rattle.rtp_ext.specs.declared.form.ExtensionsForm.{ExtensionsForm}
 use Rattle.rtp_ext.specs.declared.form.ExtensionsForm.TheVariants.{OneByte, TwoByte}
 use Rattle.rtp_ext.specs.declared.place.Place.{Place}
 use Rattle.rtp_ext.specs.Elements.{IsElement, element_bytes, AreElements}
-use Rattle.rtp_ext.specs.ElementWriting.{header_bytes}
-use Rattle.rtp_ext.specs.Places.{IsNextPlace, IsLastPlace}
+use Rattle.rtp_ext.specs.ElementWriting.{element_header}
+use Rattle.rtp_ext.specs.ElementPlaces.{IsNextPlace, IsLastPlace}
 use Rattle.rtp_c.specs.declared.packet.ElementView.{ElementView}
-use Rattle.rtp_c.specs.PacketView.{bytes_at}
+use Rattle.rtp_c.specs.PacketView.{slice_at}
 use Rattle.rtp_c.specs.ElementView.{IsNextElement, IsLastElement}
 use Rattle.rtp_c.proofs.PacketLemmas.{middle}
 
@@ -17,13 +17,13 @@ abbrev pub view_of : Place → ElementView
 view_of place = record { data_at = place.data_start; data_len = place.end - place.data_start; end = place.end; id = place.id }
 
 -- the bytes of an element are its header and its data
-element_split : (form : ExtensionsForm) (id : ℕ) (bytes : List ℕ) → element_bytes form (id, bytes) ≡ header_bytes form id (length bytes) ++ bytes
+element_split : (form : ExtensionsForm) (id : ℕ) (bytes : List ℕ) → element_bytes form (id, bytes) ≡ element_header form id (length bytes) ++ bytes
 element_split OneByte id bytes = refl
 element_split TwoByte id bytes = refl
 
 pub IsNextElement-place : (form : ExtensionsForm) (body : List ℕ) (at : ℕ) (place : Place) → at ≤ length body → IsNextPlace form body at place → IsNextElement form body at (view_of place)
 IsNextElement-place form body at place within is =
-    let head = header_bytes form place.id (length is.bytes) in
+    let head = element_header form place.id (length is.bytes) in
     let zeros = replicate is.padding 0 in
     let front = take at body ++ (zeros ++ head) in
     let in_order : body ≡ front ++ (is.bytes ++ is.after) =
@@ -41,7 +41,7 @@ IsNextElement-place form body at place within is =
       is.start_is,
       is.data_is,
     ) in
-    let found : bytes_at body place.data_start (place.end - place.data_start) ≡ is.bytes =
+    let found : slice_at body place.data_start (place.end - place.data_start) ≡ is.bytes =
     middle body front is.bytes is.after place.data_start (place.end - place.data_start) in_order front_len (omega (arith, is.end_is)) in
     let after : drop place.end body ≡ is.after =
     ap (drop place.end) (in_order ∙ sym (append_assoc front is.bytes is.after))
@@ -52,14 +52,14 @@ IsNextElement-place form body at place within is =
       left_is =
           is.left_is
           ∙ ap (λ (xs : List ℕ). zeros ++ (element_bytes form (place.id, xs) ++ is.after)) (sym found)
-          ∙ ap (λ (xs : List ℕ). zeros ++ (element_bytes form (place.id, bytes_at body place.data_start (place.end - place.data_start)) ++ xs)) (sym after);
+          ∙ ap (λ (xs : List ℕ). zeros ++ (element_bytes form (place.id, slice_at body place.data_start (place.end - place.data_start)) ++ xs)) (sym after);
       end_is = omega (arith, is.end_is);
     }
 
 pub IsLastElement-place : (form : ExtensionsForm) (body : List ℕ) (id : ℕ) (place : Place) → IsLastPlace (AreElements form) id body place
     → IsLastElement form body id (record (view_of place) { id = id })
 IsLastElement-place form body id place is =
-    let found : bytes_at body place.data_start (place.end - place.data_start) ≡ is.was =
+    let found : slice_at body place.data_start (place.end - place.data_start) ≡ is.was =
     middle body is.front is.was is.rest place.data_start (place.end - place.data_start) is.bytes_are (sym is.data_is) (omega (arith, is.end_is)) in
     record {
       before = is.before;

@@ -10,7 +10,7 @@ use Rattle.rtp_ext.specs.ExtensionMap.{Slots}
 use Rattle.rtp_ext.specs.BlockValues.{AreFields, last, none}
 use Rattle.rtp_wire.specs.declared.header.rtp_header.RtpHeader.{RtpHeader}
 use Rattle.rtp_c.specs.LayersView.{HasFewStreams}
-use Rattle.rtp_c.specs.HeaderView.{BeginsWith}
+use Rattle.rtp_c.specs.HeaderView.{BeginsWithHeader}
 use Rattle.rtp_c.proofs.LayersLemmas.{HasFewStreams-means}
 
 few_streams : (bytes : List ℕ) (allocation : Option Allocation) → IsSomeAnd allocation (Means bytes) → IfSome allocation HasFewStreams
@@ -23,11 +23,11 @@ few_in_values exts elements values (last before after element elements_are mappe
 few_in_values exts elements values (none nobody same) =
     subst (λ (allocation : Option Allocation). IfSome allocation HasFewStreams) (sym (ap (λ (v : ExtensionValues). v.video_layers_allocation) same)) tt
 
-pub few_layers : (numbers bytes : List ℕ) (header : RtpHeader) → BeginsWith numbers bytes header → IfSome header.ext_vals.video_layers_allocation HasFewStreams
+pub few_layers : (numbers bytes : List ℕ) (header : RtpHeader) → BeginsWithHeader numbers bytes header → IfSome header.ext_vals.video_layers_allocation HasFewStreams
 few_layers numbers bytes header is =
     let values = is.is_wire.is_header.values_are in
     few_in_values is.slots values.elements header.ext_vals (values.are_values VideoLayersAllocation)
 
-pub few_sources : (numbers bytes : List ℕ) (header : RtpHeader) → BeginsWith numbers bytes header → header.csrc_count ≤ 15
+pub few_sources : (numbers bytes : List ℕ) (header : RtpHeader) → BeginsWithHeader numbers bytes header → header.csrc_count ≤ 15
 few_sources numbers bytes header is =
     omega (arith, ap (λ (h : RtpHeader). h.csrc_count) is.is_wire.is_header.fields_are, is.is_wire.is_packet.fixed_is.first_is.few)

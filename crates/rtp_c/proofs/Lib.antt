@@ -3,7 +3,7 @@ mod PacketLemmas
 mod ChangeLemmas
 mod ElementLemmas
 mod KindNumberLemmas
-mod KindsOfIdsLemmas
+mod StoredMapLemmas
 mod NumberedLemmas
 mod FewSlotsLemmas
 mod LayersLemmas

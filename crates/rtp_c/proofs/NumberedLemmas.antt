@@ -19,7 +19,7 @@ use Rattle.rtp_ext.specs.NewIds.{IsNewId}
 use Rattle.rtp_ext.proofs.KindsByIdLemmas.{entry_at-kinds}
 use Rattle.rtp_ext.proofs.ListingLemmas.{items_from-empty, length-items_from}
 use Rattle.rtp_c.specs.KindNumbers.{kind_number, kind_numbered, numbered_kinds, IsKindNumbered}
-use Rattle.rtp_c.specs.KindsOfIds.{HasKinds, IsFirstNumber, numbered_slots}
+use Rattle.rtp_c.specs.StoredMap.{HasKinds, IsFirstNumber, numbered_slots}
 use Rattle.rtp_c.proofs.KindNumberLemmas.{number≢0, number_zero, number_of_kind, numbered_is, all_pass, numbered_passes, one_kind as one_number}
 
 -- ---- the kinds of numbers

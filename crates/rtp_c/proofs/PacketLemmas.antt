@@ -5,10 +5,10 @@ use Rattle.std.proofs.lemmas.List.{take-append-drop}
 use Rattle.rtp_ext.specs.declared.form.ExtensionsForm.{ExtensionsForm}
 use Rattle.rtp_wire.specs.Packet.{PacketParts, IsPacket, IsAnnounced, block_len, header_len_of}
 use Rattle.rtp_wire.proofs.PartsLemmas.{length-packet}
-use Rattle.rtp_c.specs.PacketView.{body_of, bytes_at}
+use Rattle.rtp_c.specs.PacketView.{body_of, slice_at}
 
 -- bytes between others
-pub middle : (bytes before it after : List ℕ) (offset len : ℕ) → bytes ≡ before ++ (it ++ after) → length before ≡ offset → length it ≡ len → bytes_at bytes offset len ≡ it
+pub middle : (bytes before it after : List ℕ) (offset len : ℕ) → bytes ≡ before ++ (it ++ after) → length before ≡ offset → length it ≡ len → slice_at bytes offset len ≡ it
 middle bytes before it after offset len in_order offset-is len-is =
     let n : offset + len - offset ≡ len = omega arith in
     ap (λ (k : ℕ). take k (drop offset bytes)) n
@@ -56,13 +56,13 @@ front_len bytes parts packet is = omega (arith, lengths bytes parts is, length-p
 
 -- the body of the block ends where the header does
 pub body-at : (bytes : List ℕ) (parts : PacketParts) → IsPacket bytes parts → (offset : ℕ) → offset + length (body_of parts.block) ≡ header_len_of parts
-    → bytes_at bytes offset (length (body_of parts.block)) ≡ body_of parts.block
+    → slice_at bytes offset (length (body_of parts.block)) ≡ body_of parts.block
 body-at bytes parts packet offset ends =
     let is = LiesInOrder-packet bytes parts packet in
     middle bytes is.front (body_of parts.block) parts.payload offset _ is.in_order (omega (arith, front_len bytes parts packet is, ends)) refl
 
 -- the payload begins there
-pub payload-at : (bytes : List ℕ) (parts : PacketParts) → IsPacket bytes parts → bytes_at bytes (header_len_of parts) (length parts.payload) ≡ parts.payload
+pub payload-at : (bytes : List ℕ) (parts : PacketParts) → IsPacket bytes parts → slice_at bytes (header_len_of parts) (length parts.payload) ≡ parts.payload
 payload-at bytes parts packet =
     let is = LiesInOrder-packet bytes parts packet in
     let body = body_of parts.block in

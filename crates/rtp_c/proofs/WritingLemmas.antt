@@ -5,7 +5,7 @@ use Rattle.std.proofs.lemmas.List.Elements.{All-from_recursion, recursion_from_A
 use Rattle.rtp_ext.specs.declared.form.ExtensionsForm.{ExtensionsForm}
 use Rattle.rtp_ext.specs.declared.form.ExtensionsForm.TheVariants.{OneByte, TwoByte}
 use Rattle.rtp_ext.specs.Elements.{Element, elements_bytes}
-use Rattle.rtp_ext.specs.ElementsInARow.{elements_of, IsWritable, FitInARow}
+use Rattle.rtp_ext.specs.ElementsInARow.{elements_of, IsWritable, AreWritableIn}
 use Rattle.rtp_c.specs.declared.packet.ElementView.{ElementView}
 use Rattle.rtp_c.specs.PacketView.{form_number}
 use Rattle.rtp_c.specs.WrittenElements.{LiesIn, LieIn, elements_in, AreTooLong}
@@ -36,7 +36,7 @@ pub record AreFirst (bytes : List ℕ) (views : List ElementView) (pairs : List 
 
 -- elements for which only the room is short
 pub AreTooLong-named : (form : ExtensionsForm) (bytes : List ℕ) (views : List ElementView) (elements : List Element) (room : ℕ)
-    → LieIn bytes views → elements ≡ elements_in bytes views → (FitInARow form elements room → ⊥) → All (IsWritable form) elements
+    → LieIn bytes views → elements ≡ elements_in bytes views → (AreWritableIn form elements room → ⊥) → All (IsWritable form) elements
     → AreTooLong form bytes views room
 AreTooLong-named form bytes views elements room within named short all = record {
   writable = record { within = within; carried = subst (All (IsWritable form)) named all };

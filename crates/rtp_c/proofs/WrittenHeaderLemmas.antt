@@ -2,7 +2,7 @@
 use Rattle.std.proofs.Common.{◌≡◌, ℕ, ◌<◌, List, ◌++◌, length, drop, ap, ◌∙◌, subst, arith}
 use Rattle.rtp_ext.specs.Elements.{Element}
 use Rattle.rtp_ext.specs.ExtensionMap.{Slots}
-use Rattle.rtp_ext.specs.ElementsInARow.{CannotBeInARow}
+use Rattle.rtp_ext.specs.ElementsInARow.{AreNotWritableIn}
 use Rattle.rtp_wire.specs.declared.header.rtp_header.RtpHeader.{RtpHeader}
 use Rattle.rtp_wire.specs.Packet.{IsPacket}
 use Rattle.rtp_wire.specs.Written.{wire_bytes, CannotBeWritten, large_payload_type as large_type, many_sources as many, short_room as short}
@@ -20,14 +20,14 @@ pub record IsPaired (view : HeaderView) (bytes : List ℕ) (views : List Element
   pub named : elements ≡ elements_in bytes views
 
 module _ (view : HeaderView) (bytes : List ℕ) (views : List ElementView) (elements : List Element) (header : RtpHeader) (is : IsPaired view bytes views elements header) where
-  pub CanBeWrittenWith-paired : (CannotBeInARow elements 262140 → ⊥) → CanBeWrittenWith view bytes views header
+  pub CanBeWrittenWith-paired : (AreNotWritableIn elements 262140 → ⊥) → CanBeWrittenWith view bytes views header
   CanBeWrittenWith-paired in_a_row = record {
     fields = is.fields;
     within = is.within;
-    in_a_row = subst (λ (es : List Element). CannotBeInARow es 262140 → ⊥) is.named in_a_row;
+    in_a_row = subst (λ (es : List Element). AreNotWritableIn es 262140 → ⊥) is.named in_a_row;
   }
 
-  pub IsWrittenWith-paired : (old new : List ℕ) (len : ℕ) → (CannotBeInARow elements 262140 → ⊥)
+  pub IsWrittenWith-paired : (old new : List ℕ) (len : ℕ) → (AreNotWritableIn elements 262140 → ⊥)
       → len ≡ length (wire_bytes_with header elements) → new ≡ wire_bytes_with header elements ++ drop len old
       → ((rest : List ℕ) → IsPacket (wire_bytes_with header elements ++ rest) (parts_with header elements rest))
       → IsWrittenWith view bytes views old new len
@@ -40,14 +40,14 @@ module _ (view : HeaderView) (bytes : List ℕ) (views : List ElementView) (elem
         subst (λ (es : List Element). IsPacket (wire_bytes_with header es ++ rest) (parts_with header es rest)) is.named (read_back rest);
   }
 
-  only_room : (room : ℕ) → (CannotBeInARow elements 262140 → ⊥) → CannotBeWrittenWith header elements room
+  only_room : (room : ℕ) → (AreNotWritableIn elements 262140 → ⊥) → CannotBeWrittenWith header elements room
       → room < length (wire_bytes_with header elements)
   only_room room in_a_row (large_payload_type above) = absurd (omega (arith, above, is.fields.payload_type_is, is.fields.payload_type_fits))
   only_room room in_a_row (many_sources above) = absurd (omega (arith, above, is.fields.count_is, is.fields.few_sources))
   only_room room in_a_row (no_block none) = absurd (in_a_row none)
   only_room room in_a_row (short_room lt) = lt
 
-  pub IsTooLongWith-paired : (room : ℕ) → (CannotBeInARow elements 262140 → ⊥) → CannotBeWrittenWith header elements room
+  pub IsTooLongWith-paired : (room : ℕ) → (AreNotWritableIn elements 262140 → ⊥) → CannotBeWrittenWith header elements room
       → IsTooLongWith view bytes views room
   IsTooLongWith-paired room in_a_row refused = record {
     header = header;

@@ -4,13 +4,13 @@ use Rattle.rtp_ext.specs.declared.form.ExtensionsForm.{ExtensionsForm}
 use Rattle.rtp_ext.specs.Elements.{Element, IsElement, element_bytes, AreElements}
 use Rattle.rtp_ext.specs.declared.place.Place.{Place}
 use Rattle.rtp_ext.specs.ElementsInPlace.{HasNone}
-use Rattle.rtp_ext.specs.Places.{LiesLast}
+use Rattle.rtp_ext.specs.ElementPlaces.{LiesLast}
 use Rattle.rtp_c.specs.declared.packet.ElementView.{ElementView}
-use Rattle.rtp_c.specs.PacketView.{bytes_at}
+use Rattle.rtp_c.specs.PacketView.{slice_at}
 
 -- the id and the data of the element
 abbrev pub element_in : List ℕ → ElementView → Element
-element_in body view = (view.id, bytes_at body view.data_at view.data_len)
+element_in body view = (view.id, slice_at body view.data_at view.data_len)
 
 -- from the offset on there is only padding, then the element, and after it what follows its end
 pub record IsNextElement (form : ExtensionsForm) (body : List ℕ) (at : ℕ) (view : ElementView) : Type 0 where

@@ -11,12 +11,12 @@ use Rattle.rtp_c.specs.declared.header.HeaderView.{HeaderView}
 use Rattle.rtp_c.specs.Told.{degrees_of}
 
 -- whether a flag is set: it is where it isn't 0
-abbrev pub is_set : ℕ → Bool
-is_set flag = nat_lt 0 flag
+abbrev pub is_nonzero : ℕ → Bool
+is_nonzero flag = nat_lt 0 flag
 
 -- a value, where its flag is set
 abbrev pub given : {A : Type 0} → ℕ → A → Option A
-given has value = if is_set has then Some value else None
+given has value = if is_nonzero has then Some value else None
 
 -- a value of this kind where its flag is set, and else none
 abbrev pub IsGiven : {A : Type 0} → ℕ → (A → Type 0) → Option A → Type 0
@@ -52,7 +52,7 @@ pub record AreGivenValues (view : ValuesView) (values : ExtensionValues) : Type 
   pub video_orientation_is : IsGiven view.has_video_orientation (λ turn. degrees_of turn ≡ view.video_orientation) values.video_orientation
   pub video_content_type_is : values.video_content_type ≡ given view.has_video_content_type view.video_content_type
   pub audio_level_is : values.audio_level ≡ given view.has_audio_level view.audio_level
-  pub voice_activity_is : values.voice_activity ≡ given view.has_voice_activity (is_set view.voice_activity)
+  pub voice_activity_is : values.voice_activity ≡ given view.has_voice_activity (is_nonzero view.voice_activity)
   pub playout_delay_min_is : IsGiven view.has_playout_delay_min (IsTimeOf view.playout_delay_min) values.play_delay_min
   pub playout_delay_max_is : IsGiven view.has_playout_delay_max (IsTimeOf view.playout_delay_max) values.play_delay_max
   pub video_timing_is : values.video_timing ≡ given view.has_video_timing (record {
@@ -69,9 +69,9 @@ pub record AreGivenValues (view : ValuesView) (values : ExtensionValues) : Type 
 
 -- the fields that are given, beside the values, where a header can have them: its payload type has seven bits, and it counts at most fifteen sources
 pub record AreGivenFields (view : HeaderView) (header : RtpHeader) : Type 0 where
-  pub padding_is : header.has_padding ≡ is_set view.has_padding
-  pub extension_is : header.has_extension ≡ is_set view.has_extension
-  pub marker_is : header.marker ≡ is_set view.marker
+  pub padding_is : header.has_padding ≡ is_nonzero view.has_padding
+  pub extension_is : header.has_extension ≡ is_nonzero view.has_extension
+  pub marker_is : header.marker ≡ is_nonzero view.marker
   pub payload_type_is : header.payload_type ≡ view.payload_type
   pub payload_type_fits : view.payload_type ≤ 127
   pub number_is : header.sequence_number ≡ view.sequence_number

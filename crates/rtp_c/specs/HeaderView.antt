@@ -8,7 +8,7 @@ use Rattle.rtp_wire.specs.Header.{IsWire}
 use Rattle.rtp_wire.specs.RefusedMemory.{HeaderHasAllocation}
 use Rattle.rtp_c.specs.declared.header.HeaderView.{HeaderView}
 use Rattle.rtp_c.specs.declared.layers.Layers.{Layers}
-use Rattle.rtp_c.specs.KindsOfIds.{HasKinds}
+use Rattle.rtp_c.specs.StoredMap.{HasKinds}
 use Rattle.rtp_c.specs.ValuesView.{IsViewOfValues}
 use Rattle.rtp_c.specs.LayersView.{IsViewOfLayers}
 
@@ -27,7 +27,7 @@ pub record IsViewOfHeader (header : RtpHeader) (view : HeaderView) : Type 0 wher
   pub header_len_is : view.header_len ≡ header.header_len
 
 -- the bytes begin with this header under the map of these numbers
-pub record BeginsWith (numbers bytes : List ℕ) (header : RtpHeader) : Type 0 where
+pub record BeginsWithHeader (numbers bytes : List ℕ) (header : RtpHeader) : Type 0 where
   pub slots : Slots
   pub has_kinds : HasKinds numbers slots
   pub is_wire : IsWire slots bytes header
@@ -35,13 +35,13 @@ pub record BeginsWith (numbers bytes : List ℕ) (header : RtpHeader) : Type 0 w
 -- C is told the header that the bytes begin with under the map of these numbers
 pub record IsParsedAs (numbers bytes : List ℕ) (view : HeaderView) : Type 0 where
   pub header : RtpHeader
-  pub begins : BeginsWith numbers bytes header
+  pub begins : BeginsWithHeader numbers bytes header
   pub is_view : IsViewOfHeader header view
 
 -- C is told that header with its layer allocation: of a header without one, as where nothing is sent
 pub record IsParsedWithLayersAs (numbers bytes : List ℕ) (view : HeaderView) (layers : Layers) : Type 0 where
   pub header : RtpHeader
-  pub begins : BeginsWith numbers bytes header
+  pub begins : BeginsWithHeader numbers bytes header
   pub is_view : IsViewOfHeader header view
   pub layers_are : IsViewOfLayers (unwrap_or header.ext_vals.video_layers_allocation nothing_sent) layers
 

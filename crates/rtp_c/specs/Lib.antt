@@ -6,7 +6,7 @@ pub mod StoredReceiver
 pub mod Judging
 pub mod ElementView
 pub mod KindNumbers
-pub mod KindsOfIds
+pub mod StoredMap
 pub mod Told
 pub mod ValuesView
 pub mod LayersView

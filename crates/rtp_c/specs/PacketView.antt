@@ -19,8 +19,8 @@ body_of None = []
 body_of (Some block) = block.1
 
 -- the bytes of this length at this offset
-abbrev pub bytes_at : List ℕ → ℕ → ℕ → List ℕ
-bytes_at bytes offset len = slice_range bytes offset (offset + len)
+abbrev pub slice_at : List ℕ → ℕ → ℕ → List ℕ
+slice_at bytes offset len = slice_range bytes offset (offset + len)
 
 -- how many bytes a payload has without its padding, where there are as many as the padding counts; where there are fewer, the length is 0
 abbrev pub IsUnpaddedLen : PacketParts → ℕ → ℕ → Type 0
@@ -38,8 +38,8 @@ pub record IsViewOf (bytes : List ℕ) (parts : PacketParts) (view : PacketView)
   pub ssrc_is : view.ssrc ≡ parts.ssrc
   pub sources_are : view.csrc_count ≡ length parts.sources
   pub form_is : view.block_form ≡ form_number (option_map (λ block. block.0) parts.block)
-  pub body_is : bytes_at bytes view.body_at view.body_len ≡ body_of parts.block
+  pub body_is : slice_at bytes view.body_at view.body_len ≡ body_of parts.block
   pub body_ends : view.body_at + view.body_len ≡ view.payload_at
-  pub payload_is : bytes_at bytes view.payload_at view.payload_len ≡ parts.payload
+  pub payload_is : slice_at bytes view.payload_at view.payload_len ≡ parts.payload
   pub payload_ends : view.payload_at + view.payload_len ≡ length bytes
   pub unpadded_is : IsUnpaddedLen parts view.padding_fits view.unpadded_len

@@ -2,12 +2,12 @@
 use Rattle.std.specs.Prelude.{◌<◌, ◌≤◌}
 use Rattle.rtp_wire.specs.declared.packet.fields.Fields.{Fields}
 use Rattle.rtp_c.specs.declared.changing.FieldsView.{FieldsView}
-use Rattle.rtp_c.specs.Given.{is_set, given}
+use Rattle.rtp_c.specs.Given.{is_nonzero, given}
 
 -- each field, where its flag is set
 abbrev pub fields_given : FieldsView → Fields
 fields_given view = record {
-  marker = given view.has_marker (is_set view.marker);
+  marker = given view.has_marker (is_nonzero view.marker);
   payload_type = given view.has_payload_type view.payload_type;
   sequence_number = given view.has_sequence_number view.sequence_number;
   timestamp = given view.has_timestamp view.timestamp;

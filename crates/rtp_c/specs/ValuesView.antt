@@ -11,7 +11,7 @@ use Rattle.rtp_values.specs.declared.value.values.ExtensionValues.{ExtensionValu
 use Rattle.rtp_values.specs.declared.value.video_timing.VideoTiming.{VideoTiming}
 use Rattle.rtp_c.specs.declared.values.ValuesView.{ValuesView}
 use Rattle.rtp_c.specs.Told.{IsToldOr, IsTold, IsToldSigned, IsToldTime, IsToldText, no_timing, degrees_of}
-use Rattle.rtp_c.specs.KindsOfIds.{HasKinds}
+use Rattle.rtp_c.specs.StoredMap.{HasKinds}
 
 -- the video timing in its five places
 abbrev pub timing_in : ValuesView → VideoTiming

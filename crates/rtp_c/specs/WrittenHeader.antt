@@ -1,7 +1,7 @@
 -- The header that C gives, as it is written (RFC 3550, 5.1; RFC 8285, 4.2 and 4.3).
 use Rattle.std.specs.Prelude.{◌≡◌, ℕ, ◌<◌, List, ◌++◌, length, drop}
 use Rattle.rtp_ext.specs.ExtensionMap.{Slots}
-use Rattle.rtp_ext.specs.ElementsInARow.{CannotBeInARow}
+use Rattle.rtp_ext.specs.ElementsInARow.{AreNotWritableIn}
 use Rattle.rtp_wire.specs.declared.header.rtp_header.RtpHeader.{RtpHeader}
 use Rattle.rtp_wire.specs.Header.{IsWire}
 use Rattle.rtp_wire.specs.Packet.{IsPacket}
@@ -9,7 +9,7 @@ use Rattle.rtp_wire.specs.Written.{wire_bytes, image_of}
 use Rattle.rtp_wire.specs.WrittenWith.{wire_bytes_with, parts_with}
 use Rattle.rtp_c.specs.declared.header.HeaderView.{HeaderView}
 use Rattle.rtp_c.specs.declared.packet.ElementView.{ElementView}
-use Rattle.rtp_c.specs.KindsOfIds.{HasKinds}
+use Rattle.rtp_c.specs.StoredMap.{HasKinds}
 use Rattle.rtp_c.specs.Given.{IsGivenHeader, AreGivenFields}
 use Rattle.rtp_c.specs.WrittenElements.{LieIn, elements_in}
 
@@ -45,7 +45,7 @@ pub record IsTooLong (numbers : List ℕ) (view : HeaderView) (room : ℕ) : Typ
 pub record CanBeWrittenWith (view : HeaderView) (bytes : List ℕ) (views : List ElementView) (header : RtpHeader) : Type 0 where
   pub fields : AreGivenFields view header
   pub within : LieIn bytes views
-  pub in_a_row : CannotBeInARow (elements_in bytes views) 262140 → ⊥
+  pub in_a_row : AreNotWritableIn (elements_in bytes views) 262140 → ⊥
 
 -- the header and a block with the elements stand at the front of the buffer, and its other bytes are as they were; followed by anything they are a packet
 pub record IsWrittenWith (view : HeaderView) (bytes : List ℕ) (views : List ElementView) (old new : List ℕ) (len : ℕ) : Type 0 where

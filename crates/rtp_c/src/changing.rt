@@ -2,14 +2,14 @@
 
 ghost use Rattle.std.specs.Prelude.{◌≡◌, ◌≢◌, ◌↔◌, ◌+◌, ◌*◌, ◌≤◌, ◌<◌, ℕ, List, length, slice_set, IfOk, IfErr, IfSome, IsErr, IsOkAnd};
 ghost use Rattle.rtp_ext.specs.Elements.{Element};
-ghost use Rattle.rtp_ext.specs.ElementsInPlace.{HasNone, HasLastOf, SetsLast, HasOtherIds, all_but};
-ghost use Rattle.rtp_ext.specs.Places.{WritesLast};
+ghost use Rattle.rtp_ext.specs.ElementsInPlace.{HasNone, HasLastOf, SetsLast, ChangesIds, all_but};
+ghost use Rattle.rtp_ext.specs.ElementPlaces.{WritesLast};
 ghost use Rattle.rtp_wire.specs.Packet.{PacketParts, IsPacket, header_len_of};
 ghost use Rattle.rtp_wire.specs.ChangedPacket.{ChangesOnly, ChangesOnlyBody};
 ghost use Rattle.rtp_wire.specs.GivenFields.{with_header_fields, LieBetween};
 ghost use Rattle.rtp_wire.specs.NotAHeader.{NotAHeader};
 ghost use Rattle.rtp_wire.specs.PacketElements.{AreElementsOf};
-ghost use Rattle.rtp_wire.specs.PartsAt.{IsLaidOut};
+ghost use Rattle.rtp_wire.specs.PartsAt.{HasLayout};
 ghost use Rattle.rtp_c.specs.Status.{ok, none, bad_field, IsCauseStatus};
 ghost use Rattle.rtp_c.specs.ChangedElements.{BecomesPacket};
 ghost use Rattle.rtp_c.specs.SetFields.{fields_given, CanBeSet};
@@ -58,7 +58,7 @@ fn given_fields(view: &FieldsView) -> Fields
 // How many bytes the header of the packet in the buffer takes, and the form of its block; the status
 // of the first cause for which the buffer holds no packet.
 pub fn layout_of(datagram: &[u8]) -> Result<(usize, Option<ExtensionsForm>), i32>
-    ensures found { IfOk result (λ layout. IsLaidOut datagram.now layout.0 layout.1) }
+    ensures found { IfOk result (λ layout. HasLayout datagram.now layout.0 layout.1) }
     ensures only { (parts : PacketParts) → IsPacket datagram.now parts →
         IsOkAnd result (λ layout. layout.0 ≡ header_len_of parts) }
     ensures cause { IfErr result (IsCauseStatus datagram.now) }
@@ -273,7 +273,7 @@ pub extern "C" fn rtpw_set_element(datagram: &mut [u8], id: u8, data: &[u8]) -> 
 #[unsafe(no_mangle)]
 pub extern "C" fn rtpw_remove_element(datagram: &mut [u8], id: u8) -> i32
     ensures removed { (parts : PacketParts) → IsPacket datagram.old parts → result ≡ ok →
-        BecomesPacket (λ form. HasOtherIds form (all_but id)) parts datagram.new }
+        BecomesPacket (λ form. ChangesIds form (all_but id)) parts datagram.new }
     ensures answer { (parts : PacketParts) (elements : List Element) → IsPacket datagram.old parts →
         AreElementsOf parts.block elements →
         (result ≡ ok) ↔ (HasNone elements id → ⊥) }

@@ -5,11 +5,11 @@ ghost use Rattle.rtp_values.specs.Values.{no_values};
 ghost use Rattle.rtp_wire.specs.Header.{header_of};
 ghost use Rattle.rtp_wire.specs.NotAHeader.{NotAHeader};
 ghost use Rattle.rtp_wire.specs.PartsOf.{parts_of};
-ghost use Rattle.rtp_c.specs.HeaderView.{IsViewOfHeader, BeginsWith, IsParsedAs, IsParsedWithLayersAs, TakesMemoryFrom};
+ghost use Rattle.rtp_c.specs.HeaderView.{IsViewOfHeader, BeginsWithHeader, IsParsedAs, IsParsedWithLayersAs, TakesMemoryFrom};
 ghost use Rattle.rtp_c.specs.Status.{ok, no_memory, IsCauseStatus};
 
 use super::layers::{Layers, put_layers};
-use super::map::KindsOfIds;
+use super::map::StoredMap;
 use super::status::{NO_MEMORY, OK, status_of};
 use super::values::{ValuesView, flag_number, put_no_values, put_values};
 use rtp_ext::read_values;
@@ -91,12 +91,12 @@ fn put_header(packet: &RtpPacket<'_>, values: &ExtensionValues, view: &mut Heade
 fn read_packet<'a>(
     alloc: Global,
     buf: &'a [u8],
-    map: &KindsOfIds,
+    map: &StoredMap,
     values: &mut ExtensionValues,
 ) -> Result<RtpPacket<'a>, i32>
     requires { values.old ≡ no_values }
     ensures found { IfOk result (λ packet.
-        BeginsWith map.now.kind buf.now (header_of (parts_of packet) values.new)) }
+        BeginsWithHeader map.now.kind buf.now (header_of (parts_of packet) values.new)) }
     ensures without_block { IfOk result (λ packet.
         IfNone (parts_of packet).block (values.new ≡ no_values)) }
     ensures memory { IfErr result (λ status.
@@ -127,7 +127,7 @@ fn read_packet<'a>(
 pub extern "C" fn rtpw_parse(
     alloc: Global,
     buf: &[u8],
-    map: &KindsOfIds,
+    map: &StoredMap,
     header: &mut HeaderView,
 ) -> i32
     ensures found { result ≡ ok → IsParsedAs map.now.kind buf.now header.new }
@@ -155,7 +155,7 @@ pub extern "C" fn rtpw_parse(
 pub extern "C" fn rtpw_parse_layers(
     alloc: Global,
     buf: &[u8],
-    map: &KindsOfIds,
+    map: &StoredMap,
     header: &mut HeaderView,
     layers: &mut Layers,
 ) -> i32

@@ -2,9 +2,9 @@
 
 ghost use Rattle.std.specs.Prelude.{◌≡◌, ◌≢◌, ◌↔◌, ℕ, ◌<◌, ◌≤◌, length, slice_index, false, IsTrue, IfSome, IfNone};
 ghost use Rattle.rtp_c.specs.KindNumbers.{kind_numbered};
-ghost use Rattle.rtp_c.specs.KindsOfIds.{IsFirstNumber};
+ghost use Rattle.rtp_c.specs.StoredMap.{IsFirstNumber};
 
-use super::map::{KindsOfIds, number_of};
+use super::map::{StoredMap, number_of};
 use rtp_ext::{Cursor, Kinds, is_long};
 use rtp_values::KnownKind;
 
@@ -88,13 +88,13 @@ fn index_of(numbers: &[u8], wanted: u8) -> Option<usize>
     numbers.iter().position(|number| *number == wanted)
 }
 
-impl Kinds for KindsOfIds {
+impl Kinds for StoredMap {
     ghost use Rattle.std.specs.Prelude.{take, drop, map};
     ghost use Rattle.rtp_ext.specs.ExtensionMap.{items_from};
     ghost use Rattle.rtp_ext.specs.KindsById.{known_of_kinds};
     ghost use Rattle.rtp_ext.specs.declared.kinds.Cursor.{Cursor};
     ghost use Rattle.rtp_c.specs.KindNumbers.{kind_numbered};
-    ghost use Rattle.rtp_c.specs.KindsOfIds.{numbered_slots};
+    ghost use Rattle.rtp_c.specs.StoredMap.{numbered_slots};
 
     ghost slots = { λ map. numbered_slots map.kind };
 

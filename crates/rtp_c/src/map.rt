@@ -4,7 +4,7 @@ ghost use Rattle.std.specs.Prelude.{◌≡◌, ◌≢◌, ◌↔◌, ◌⊎◌, 
 ghost use Rattle.rtp_values.specs.declared.known_kind.KnownKind.{KnownKind};
 ghost use Rattle.rtp_values.specs.declared.value.values.ExtensionValues.{ExtensionValues};
 ghost use Rattle.rtp_ext.specs.Elements.{Element};
-ghost use Rattle.rtp_ext.specs.ElementsInPlace.{HasOtherIds, CanRenumber};
+ghost use Rattle.rtp_ext.specs.ElementsInPlace.{ChangesIds, CanRenumber};
 ghost use Rattle.rtp_ext.specs.ExtensionMap.{Slots};
 ghost use Rattle.rtp_ext.specs.NewIds.{new_id, AreNewIds, ids_in_bytes};
 ghost use Rattle.rtp_ext.specs.WrittenBlock.{mapped_fields};
@@ -14,7 +14,7 @@ ghost use Rattle.rtp_wire.specs.NotAHeader.{NotAHeader};
 ghost use Rattle.rtp_wire.specs.PacketElements.{AreElementsOf, HasValues};
 ghost use Rattle.rtp_c.specs.ChangedElements.{BecomesPacket, GivesValues};
 ghost use Rattle.rtp_c.specs.KindNumbers.{kind_number, last_number, uri_of};
-ghost use Rattle.rtp_c.specs.KindsOfIds.{IsStandard, AreNewIdsOf};
+ghost use Rattle.rtp_c.specs.StoredMap.{AreStandardNumbers, AreNewIdsOf};
 ghost use Rattle.rtp_c.specs.Status.{ok, bad_field, IsCauseStatus};
 
 use super::changing::layout_of;
@@ -29,7 +29,7 @@ use std::str;
 /// passed over.
 #[repr(C)]
 #[derive(Clone, Copy)]
-pub struct KindsOfIds {
+pub struct StoredMap {
     /// The number of the kind of each id.
     pub kind: [u8; 256],
 }
@@ -64,7 +64,7 @@ pub fn number_of(kind: KnownKind) -> u8
 /// to (RFC 8285, 5). `OK`; `BAD_FIELD` where the id is 0, which is that of padding, or the number is
 /// above 15 and so no kind's: then nothing changes.
 #[unsafe(no_mangle)]
-pub extern "C" fn rtpw_map_set(map: &mut KindsOfIds, id: u8, kind: u8) -> i32
+pub extern "C" fn rtpw_map_set(map: &mut StoredMap, id: u8, kind: u8) -> i32
     ensures set { 1 ≤ id → kind ≤ last_number →
         (result ≡ ok) × (map.new.kind ≡ slice_set map.old.kind id kind) }
     ensures refused { (id ≡ 0) ⊎ (last_number < kind) → result ≡ bad_field }
@@ -80,7 +80,7 @@ pub extern "C" fn rtpw_map_set(map: &mut KindsOfIds, id: u8, kind: u8) -> i32
 /// The number of the kind that the id is mapped to, and 0 where it is mapped to nothing: where its
 /// number is no kind's, and always for the id 0.
 #[unsafe(no_mangle)]
-pub extern "C" fn rtpw_map_get(map: &KindsOfIds, id: u8) -> u8
+pub extern "C" fn rtpw_map_get(map: &StoredMap, id: u8) -> u8
     ensures number { 1 ≤ id → slice_index map.now.kind id ≤ last_number →
         result ≡ slice_index map.now.kind id }
     ensures other_number { last_number < slice_index map.now.kind id → result ≡ 0 }
@@ -98,8 +98,8 @@ pub extern "C" fn rtpw_map_get(map: &KindsOfIds, id: u8) -> u8
 /// absolute send time, 3 transport sequence number, 4 mid, 10 stream id, 11 repaired stream id, 13
 /// video orientation. Each other number is 0, that at index 0 too.
 #[unsafe(no_mangle)]
-pub extern "C" fn rtpw_map_standard(map: &mut KindsOfIds)
-    ensures standard { IsStandard map.new.kind }
+pub extern "C" fn rtpw_map_standard(map: &mut StoredMap)
+    ensures standard { AreStandardNumbers map.new.kind }
     ensures kinds { (id : ℕ) → slice_index map.new.kind id ≤ last_number }
     ensures first { slice_index map.new.kind 0 ≡ 0 }
 {
@@ -135,7 +135,7 @@ pub extern "C" fn rtpw_kind_of_uri(uri: &[u8]) -> u8
 /// what stands at index 0 is passed over.
 #[repr(C)]
 #[derive(Clone, Copy)]
-pub struct IdsOfIds {
+pub struct StoredNewIds {
     /// The new id of each id.
     pub id: [u8; 256],
 }
@@ -143,7 +143,7 @@ pub struct IdsOfIds {
 /// For each id that `from` maps to a kind that `to` maps as well, the lowest id that `to` has for it.
 /// Every other id has no new one, and neither has 0. Made once for two maps.
 #[unsafe(no_mangle)]
-pub extern "C" fn rtpw_new_ids_between(from: &KindsOfIds, to: &KindsOfIds, ids: &mut IdsOfIds)
+pub extern "C" fn rtpw_new_ids_between(from: &StoredMap, to: &StoredMap, ids: &mut StoredNewIds)
     ensures ids { AreNewIdsOf from.now.kind to.now.kind ids.new.id }
     ensures first { slice_index ids.new.id 0 ≡ 0 }
 {
@@ -159,10 +159,10 @@ pub extern "C" fn rtpw_new_ids_between(from: &KindsOfIds, to: &KindsOfIds, ids: 
 /// The packet then says under the second map what it said under the first, of the kinds that the
 /// second maps and no other.
 #[unsafe(no_mangle)]
-pub extern "C" fn rtpw_renumber(datagram: &mut [u8], ids: &IdsOfIds) -> i32
+pub extern "C" fn rtpw_renumber(datagram: &mut [u8], ids: &StoredNewIds) -> i32
     ensures renumbered { (parts : PacketParts) → IsPacket datagram.old parts → result ≡ ok →
         IfSome parts.block (λ _. BecomesPacket
-        (λ form. HasOtherIds form (new_id (ids_in_bytes ids.now.id))) parts datagram.new) }
+        (λ form. ChangesIds form (new_id (ids_in_bytes ids.now.id))) parts datagram.new) }
     ensures without_block { (parts : PacketParts) → IsPacket datagram.old parts →
         IfNone parts.block ((result ≡ ok) × (datagram.new ≡ datagram.old)) }
     ensures answer { (parts : PacketParts) (elements : List Element) → IsPacket datagram.old parts →

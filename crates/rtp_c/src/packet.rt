@@ -4,11 +4,11 @@ ghost use Rattle.std.specs.Prelude.{◌≡◌, ◌≢◌, ◌↔◌, ◌<◌, �
 ghost use Rattle.std.specs.Option.{option_map};
 ghost use Rattle.rtp_ext.specs.declared.form.ExtensionsForm.{ExtensionsForm};
 ghost use Rattle.rtp_ext.specs.Elements.{Element, AreElements};
-ghost use Rattle.rtp_ext.specs.ElementReading.{BeginsWithNone};
+ghost use Rattle.rtp_ext.specs.ElementReading.{BeginsWithNoElement};
 ghost use Rattle.rtp_ext.specs.ElementsInPlace.{HasNone};
 ghost use Rattle.rtp_wire.specs.Packet.{PacketParts, IsPacket, header_len_of};
 ghost use Rattle.rtp_wire.specs.NotAHeader.{NotAHeader};
-ghost use Rattle.rtp_wire.specs.PartsOf.{parts_of, bytes_of};
+ghost use Rattle.rtp_wire.specs.PartsOf.{parts_of, datagram_of};
 ghost use Rattle.rtp_c.specs.ElementView.{IsNextElement, IsLastElement, LiesAsLast};
 ghost use Rattle.rtp_c.specs.PacketView.{IsViewOf, IsUnpaddedLen, body_of, form_number};
 ghost use Rattle.rtp_c.specs.Status.{ok, none, bad_field, IsCauseStatus};
@@ -114,8 +114,8 @@ fn unpadded_len_of(packet: &RtpPacket<'_>) -> (usize, u8)
 
 // What C is told of the packet.
 fn view_of(packet: &RtpPacket<'_>) -> PacketView
-    requires { IsPacket (bytes_of packet.now) (parts_of packet.now) }
-    ensures { IsViewOf (bytes_of packet.now) (parts_of packet.now) result }
+    requires { IsPacket (datagram_of packet.now) (parts_of packet.now) }
+    ensures { IsViewOf (datagram_of packet.now) (parts_of packet.now) result }
 {
     let payload_at = packet.header_len();
     let (block_form, body_len) = block_numbers(packet);
@@ -176,7 +176,7 @@ pub extern "C" fn rtpw_next_element(
         × IsNextElement f body.now at element.new }
     ensures within { result ≡ ok → element.new.end ≤ length body.now }
     ensures none { result ≡ none → (f : ExtensionsForm) × (form_number (Some f) ≡ form)
-        × BeginsWithNone f (drop at body.now) }
+        × BeginsWithNoElement f (drop at body.now) }
     ensures bad_field { (result ≡ bad_field) ↔
         ((length body.now < at) ⊎ ((f : ExtensionsForm) → form_number (Some f) ≢ form)) }
     ensures statuses { (result ≡ ok) ⊎ ((result ≡ none) ⊎ (result ≡ bad_field)) }

@@ -10,7 +10,7 @@ ghost use Rattle.rtp_c.specs.Told.{IsToldOr, IsTold, IsToldTime, IsToldText, no_
 ghost use Rattle.rtp_c.specs.PacketView.{form_number};
 ghost use Rattle.rtp_c.specs.ValuesView.{IsViewOfValues, IsReadAs, TakesMemoryIn};
 
-use super::map::KindsOfIds;
+use super::map::StoredMap;
 use super::packet::form_of;
 use super::status::{BAD_FIELD, NO_MEMORY, OK};
 use rtp_base::{MediaTime, Mid, Rid, put};
@@ -267,7 +267,7 @@ pub extern "C" fn rtpw_values_read(
     alloc: Global,
     body: &[u8],
     form: u8,
-    map: &KindsOfIds,
+    map: &StoredMap,
     values: &mut ValuesView,
 ) -> i32
     ensures read { result ≡ ok → (f : ExtensionsForm) × (form_number (Some f) ≡ form)

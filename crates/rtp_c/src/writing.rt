@@ -14,7 +14,7 @@ ghost use Rattle.rtp_c.specs.WrittenHeader.{IsLengthOf, IsWrittenHeader, IsTooLo
 
 use super::given::{put_given_fields, put_given_header};
 use super::header::HeaderView;
-use super::map::KindsOfIds;
+use super::map::StoredMap;
 use super::packet::{ElementView, form_of};
 use super::status::{BAD_FIELD, NO_MEMORY, OK, SHORT_BUFFER};
 use rtp_ext::{ExtensionsForm, write_elements};
@@ -116,7 +116,7 @@ pub extern "C" fn rtpw_write_with(
 /// block. `OK`, and the number is written; `BAD_FIELD` for the causes of [`rtpw_write`], and then nothing
 /// is written.
 #[unsafe(no_mangle)]
-pub extern "C" fn rtpw_wire_len(map: &KindsOfIds, header: &HeaderView, len: &mut usize) -> i32
+pub extern "C" fn rtpw_wire_len(map: &StoredMap, header: &HeaderView, len: &mut usize) -> i32
     ensures length { result ≡ ok → IsLengthOf map.now.kind header.now len.new }
     ensures bad_field { (result ≡ bad_field) ↔ ((h : Header) → IsGivenHeader header.now h → ⊥) }
     ensures statuses { (result ≡ ok) ⊎ (result ≡ bad_field) }
@@ -144,7 +144,7 @@ pub extern "C" fn rtpw_wire_len(map: &KindsOfIds, header: &HeaderView, len: &mut
 /// only the room is short. Where it isn't `OK` nothing is written.
 #[unsafe(no_mangle)]
 pub extern "C" fn rtpw_write(
-    map: &KindsOfIds,
+    map: &StoredMap,
     header: &HeaderView,
     buf: &mut [u8],
     len: &mut usize,

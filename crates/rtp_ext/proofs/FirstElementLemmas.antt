@@ -5,63 +5,63 @@ use Rattle.std.proofs.lemmas.List.{nil_from_length, replicate-append-replicate}
 use Rattle.rtp_ext.specs.declared.form.ExtensionsForm.{ExtensionsForm}
 use Rattle.rtp_ext.specs.declared.form.ExtensionsForm.TheVariants.{OneByte, TwoByte}
 use Rattle.rtp_ext.specs.Elements.{Element, IsElement, element_bytes, IsTail, ended, stopped}
-use Rattle.rtp_ext.specs.ElementReading.{without_padding, HasNoPadding, elements_left, BeginsWith, BeginsWithNone, IsFirst}
+use Rattle.rtp_ext.specs.ElementReading.{without_padding, HasNoPadding, elements_left, BeginsWithElement, BeginsWithNoElement, IsFirstElement}
 use Rattle.rtp_ext.proofs.ElementLemmas.{elements_left-padding, HasNoPadding-first}
 use Rattle.rtp_ext.proofs.ElementLemmasOfBodies.{elements_left-element, elements_left-tail, IsTail-one_byte, IsTail-two_byte, IsTail-two_byte_end}
 
 -- bytes without padding at their front
-BeginsWith-here : (form : ExtensionsForm) (bytes : List ℕ) (element : Element) (after : List ℕ) → IsElement form element
-    → bytes ≡ element_bytes form element ++ after → BeginsWith form bytes element after
-BeginsWith-here form bytes element after is bytes_are = record { padding = 0; is_element = is; bytes_are = bytes_are }
+BeginsWithElement-here : (form : ExtensionsForm) (bytes : List ℕ) (element : Element) (after : List ℕ) → IsElement form element
+    → bytes ≡ element_bytes form element ++ after → BeginsWithElement form bytes element after
+BeginsWithElement-here form bytes element after is bytes_are = record { padding = 0; is_element = is; bytes_are = bytes_are }
 
-BeginsWithNone-here : (form : ExtensionsForm) (bytes tail : List ℕ) → bytes ≡ tail → IsTail form tail → BeginsWithNone form bytes
-BeginsWithNone-here form bytes tail bytes_are is = record { padding = 0; tail = tail; is_tail = is; bytes_are = bytes_are }
+BeginsWithNoElement-here : (form : ExtensionsForm) (bytes tail : List ℕ) → bytes ≡ tail → IsTail form tail → BeginsWithNoElement form bytes
+BeginsWithNoElement-here form bytes tail bytes_are is = record { padding = 0; tail = tail; is_tail = is; bytes_are = bytes_are }
 
-pub BeginsWithNone-nothing : (form : ExtensionsForm) (bytes : List ℕ) → length bytes ≡ 0 → BeginsWithNone form bytes
-BeginsWithNone-nothing form bytes none = BeginsWithNone-here form bytes [] (nil_from_length bytes none) (ended refl)
+pub BeginsWithNoElement-nothing : (form : ExtensionsForm) (bytes : List ℕ) → length bytes ≡ 0 → BeginsWithNoElement form bytes
+BeginsWithNoElement-nothing form bytes none = BeginsWithNoElement-here form bytes [] (nil_from_length bytes none) (ended refl)
 
-pub BeginsWith-one_byte : (first : ℕ) (bytes after front back : List ℕ) → HasNoPadding bytes → IsFirstAndRest bytes first after → first < 240 → IsSplitAt after (first % 16 + 1) front back
-    → BeginsWith OneByte bytes (first / 16, front) back
-BeginsWith-one_byte first bytes after front back unpadded begins low split =
+pub BeginsWithElement-one_byte : (first : ℕ) (bytes after front back : List ℕ) → HasNoPadding bytes → IsFirstAndRest bytes first after → first < 240 → IsSplitAt after (first % 16 + 1) front back
+    → BeginsWithElement OneByte bytes (first / 16, front) back
+BeginsWithElement-one_byte first bytes after front back unpadded begins low split =
     let above : 1 ≤ first = HasNoPadding-first first after (subst HasNoPadding begins.0 unpadded) in
     let count : length front ≡ first % 16 + 1 = split.3 in
     let header : first ≡ first / 16 * 16 + (length front - 1) = omega arith in
-    BeginsWith-here OneByte bytes (first / 16, front) back (omega arith, omega arith, omega arith, omega arith)
+    BeginsWithElement-here OneByte bytes (first / 16, front) back (omega arith, omega arith, omega arith, omega arith)
     (begins.0 ∙ (ap (λ b. first ∷ b) (sym (take-append-drop (first % 16 + 1) after) ∙ (ap (λ b. b ++ drop (first % 16 + 1) after) (sym split.1) ∙ ap (λ b. front ++ b) (sym split.2)))
     ∙ ap (λ b. b ∷ (front ++ back)) header))
 
-pub BeginsWithNone-one_byte : (first : ℕ) (bytes after : List ℕ) → HasNoPadding bytes → IsFirstAndRest bytes first after → (240 ≤ first) ⊎ ((first < 240) × (length after ≤ first % 16))
-    → BeginsWithNone OneByte bytes
-BeginsWithNone-one_byte first bytes after unpadded begins (inl high) = BeginsWithNone-here OneByte bytes (first ∷ after) begins.0 (stopped first after refl high refl)
-BeginsWithNone-one_byte first bytes after unpadded begins (inr cut) =
-    BeginsWithNone-here OneByte bytes (first ∷ after) begins.0 (IsTail-one_byte first after (HasNoPadding-first first after (subst HasNoPadding begins.0 unpadded)) cut.0 cut.1)
+pub BeginsWithNoElement-one_byte : (first : ℕ) (bytes after : List ℕ) → HasNoPadding bytes → IsFirstAndRest bytes first after → (240 ≤ first) ⊎ ((first < 240) × (length after ≤ first % 16))
+    → BeginsWithNoElement OneByte bytes
+BeginsWithNoElement-one_byte first bytes after unpadded begins (inl high) = BeginsWithNoElement-here OneByte bytes (first ∷ after) begins.0 (stopped first after refl high refl)
+BeginsWithNoElement-one_byte first bytes after unpadded begins (inr cut) =
+    BeginsWithNoElement-here OneByte bytes (first ∷ after) begins.0 (IsTail-one_byte first after (HasNoPadding-first first after (subst HasNoPadding begins.0 unpadded)) cut.0 cut.1)
 
-pub BeginsWith-two_byte : (id count : ℕ) (bytes second after front back : List ℕ) → ((i : ℕ) → get_or bytes i 0 < 256) → HasNoPadding bytes → IsFirstAndRest bytes id second
-    → IsFirstAndRest second count after → IsSplitAt after count front back → BeginsWith TwoByte bytes (id, front) back
-BeginsWith-two_byte id count bytes second after front back are unpadded begins next split =
+pub BeginsWithElement-two_byte : (id count : ℕ) (bytes second after front back : List ℕ) → ((i : ℕ) → get_or bytes i 0 < 256) → HasNoPadding bytes → IsFirstAndRest bytes id second
+    → IsFirstAndRest second count after → IsSplitAt after count front back → BeginsWithElement TwoByte bytes (id, front) back
+BeginsWithElement-two_byte id count bytes second after front back are unpadded begins next split =
     let above : 1 ≤ id = HasNoPadding-first id second (subst HasNoPadding begins.0 unpadded) in
     let whole : bytes ≡ id ∷ count ∷ after = begins.0 ∙ ap (λ b. id ∷ b) next.0 in
     let fits : id < 256 = subst (λ b. get_or b 0 0 < 256) whole (are 0) in
     let small : count < 256 = subst (λ b. get_or b 1 0 < 256) whole (are 1) in
-    BeginsWith-here TwoByte bytes (id, front) back (omega arith, omega arith, omega (arith, split.3))
+    BeginsWithElement-here TwoByte bytes (id, front) back (omega arith, omega arith, omega (arith, split.3))
     (whole ∙ (ap (λ b. id ∷ count ∷ b) (sym (take-append-drop count after) ∙ (ap (λ b. b ++ drop count after) (sym split.1) ∙ ap (λ b. front ++ b) (sym split.2)))
     ∙ ap (λ n. id ∷ n ∷ (front ++ back)) (sym split.3)))
 
-pub BeginsWithNone-two_byte_cut : (id count : ℕ) (bytes second after : List ℕ) → ((i : ℕ) → get_or bytes i 0 < 256) → HasNoPadding bytes → IsFirstAndRest bytes id second
-    → IsFirstAndRest second count after → length after < count → BeginsWithNone TwoByte bytes
-BeginsWithNone-two_byte_cut id count bytes second after are unpadded begins next cut =
+pub BeginsWithNoElement-two_byte_cut : (id count : ℕ) (bytes second after : List ℕ) → ((i : ℕ) → get_or bytes i 0 < 256) → HasNoPadding bytes → IsFirstAndRest bytes id second
+    → IsFirstAndRest second count after → length after < count → BeginsWithNoElement TwoByte bytes
+BeginsWithNoElement-two_byte_cut id count bytes second after are unpadded begins next cut =
     let above : 1 ≤ id = HasNoPadding-first id second (subst HasNoPadding begins.0 unpadded) in
     let whole : bytes ≡ id ∷ count ∷ after = begins.0 ∙ ap (λ b. id ∷ b) next.0 in
     let fits : id < 256 = subst (λ b. get_or b 0 0 < 256) whole (are 0) in
     let small : count < 256 = subst (λ b. get_or b 1 0 < 256) whole (are 1) in
-    BeginsWithNone-here TwoByte bytes (id ∷ count ∷ after) whole (IsTail-two_byte id count after above fits small cut)
+    BeginsWithNoElement-here TwoByte bytes (id ∷ count ∷ after) whole (IsTail-two_byte id count after above fits small cut)
 
-pub BeginsWithNone-two_byte_end : (id : ℕ) (bytes second : List ℕ) → ((i : ℕ) → get_or bytes i 0 < 256) → HasNoPadding bytes → IsFirstAndRest bytes id second
-    → length second ≡ 0 → BeginsWithNone TwoByte bytes
-BeginsWithNone-two_byte_end id bytes second are unpadded begins none =
+pub BeginsWithNoElement-two_byte_end : (id : ℕ) (bytes second : List ℕ) → ((i : ℕ) → get_or bytes i 0 < 256) → HasNoPadding bytes → IsFirstAndRest bytes id second
+    → length second ≡ 0 → BeginsWithNoElement TwoByte bytes
+BeginsWithNoElement-two_byte_end id bytes second are unpadded begins none =
     let above : 1 ≤ id = HasNoPadding-first id second (subst HasNoPadding begins.0 unpadded) in
     let fits : id < 256 = subst (λ b. get_or b 0 0 < 256) begins.0 (are 0) in
-    BeginsWithNone-here TwoByte bytes (id ∷ []) (begins.0 ∙ ap (λ b. id ∷ b) (nil_from_length second none)) (IsTail-two_byte_end id above fits)
+    BeginsWithNoElement-here TwoByte bytes (id ∷ []) (begins.0 ∙ ap (λ b. id ∷ b) (nil_from_length second none)) (IsTail-two_byte_end id above fits)
 
 -- padding at the front
 padded : (bytes : List ℕ) → (padding : ℕ) × (bytes ≡ replicate padding 0 ++ without_padding bytes)
@@ -77,15 +77,15 @@ more_padded bytes rest end padding is more =
     ∙ (sym (append_assoc (replicate (padded bytes).0 0) (replicate padding 0) end)
     ∙ ap (λ b. b ++ end) (replicate-append-replicate (padded bytes).0 padding 0)))
 
-pub IsFirst-padded : (form : ExtensionsForm) (bytes rest : List ℕ) (first : Option (ℕ × Bor (List ℕ) × Bor (List ℕ))) → rest ≡ without_padding bytes
-    → IsFirst form rest first → IsFirst form bytes first
-IsFirst-padded form bytes rest None is none = record {
+pub IsFirstElement-padded : (form : ExtensionsForm) (bytes rest : List ℕ) (first : Option (ℕ × Bor (List ℕ) × Bor (List ℕ))) → rest ≡ without_padding bytes
+    → IsFirstElement form rest first → IsFirstElement form bytes first
+IsFirstElement-padded form bytes rest None is none = record {
   padding = (padded bytes).0 + none.padding;
   tail = none.tail;
   is_tail = none.is_tail;
   bytes_are = more_padded bytes rest none.tail none.padding is none.bytes_are;
 }
-IsFirst-padded form bytes rest (Some first) is begins = record {
+IsFirstElement-padded form bytes rest (Some first) is begins = record {
   padding = (padded bytes).0 + begins.padding;
   is_element = begins.is_element;
   bytes_are = more_padded bytes rest (element_bytes form (first.0, first.1.now) ++ first.2.now) begins.padding is begins.bytes_are;
@@ -96,13 +96,13 @@ elements_left-zeros : (form : ExtensionsForm) (padding : ℕ) (bytes : List ℕ)
 elements_left-zeros form zero bytes = refl
 elements_left-zeros form (suc padding) bytes = elements_left-padding form (replicate padding 0 ++ bytes) ∙ elements_left-zeros form padding bytes
 
-pub elements_left-first : (form : ExtensionsForm) (bytes : List ℕ) (element : Element) (after : List ℕ) → BeginsWith form bytes element after
+pub elements_left-first : (form : ExtensionsForm) (bytes : List ℕ) (element : Element) (after : List ℕ) → BeginsWithElement form bytes element after
     → elements_left form bytes ≡ element ∷ elements_left form after
 elements_left-first form bytes element after begins =
     ap (elements_left form) begins.bytes_are
     ∙ (elements_left-zeros form begins.padding (element_bytes form element ++ after) ∙ elements_left-element form element after begins.is_element)
 
-pub elements_left-no_first : (form : ExtensionsForm) (bytes : List ℕ) → BeginsWithNone form bytes → elements_left form bytes ≡ []
+pub elements_left-no_first : (form : ExtensionsForm) (bytes : List ℕ) → BeginsWithNoElement form bytes → elements_left form bytes ≡ []
 elements_left-no_first form bytes none =
     ap (elements_left form) none.bytes_are
     ∙ (elements_left-zeros form none.padding none.tail ∙ elements_left-tail form none.tail none.is_tail)

@@ -7,10 +7,10 @@ use Rattle.rtp_ext.specs.declared.form.ExtensionsForm.TheVariants.{OneByte, TwoB
 use Rattle.rtp_base.specs.Overwriting.{overwritten}
 use Rattle.rtp_ext.specs.declared.place.Place.{Place}
 use Rattle.rtp_ext.specs.Elements.{Element, IsElement, element_bytes, AreElements}
-use Rattle.rtp_ext.specs.ElementReading.{BeginsWithNone}
-use Rattle.rtp_ext.specs.ElementWriting.{header_bytes}
+use Rattle.rtp_ext.specs.ElementReading.{BeginsWithNoElement}
+use Rattle.rtp_ext.specs.ElementWriting.{element_header}
 use Rattle.rtp_ext.specs.ElementsInPlace.{HasNone, HasLast, HasLastOf, SetsLast}
-use Rattle.rtp_ext.specs.Places.{LiesAt, IsNextPlace, AreWhole, IsLastPlace, LiesLast, IsLastOrNone, IsPassed}
+use Rattle.rtp_ext.specs.ElementPlaces.{LiesAt, IsNextPlace, AreWhole, IsLastPlace, LiesLast, IsLastOrNone, IsPassed}
 use Rattle.rtp_ext.proofs.ElementLemmasOfBodies.{AreElements-only}
 use Rattle.rtp_ext.proofs.PlaceLemmas.{element_bytes-split, length-lies, overwritten-at, passed_next, end_next}
 use Rattle.rtp_ext.proofs.PieceLemmas.{AreWhole-nil, AreWhole-zeros, AreWhole-append, AreElements-after, AreWhole-next, AreElements-none}
@@ -47,10 +47,10 @@ IsElement-others TwoByte id bytes others as_many is = (omega arith, omega arith,
 
 -- padding, a header and as many bytes of data
 next_bytes : (form : ExtensionsForm) (passed : List ℕ) (padding id len : ℕ) (bytes : List ℕ) → length bytes ≡ len
-    → passed ++ (replicate padding 0 ++ element_bytes form (id, bytes)) ≡ (passed ++ (replicate padding 0 ++ header_bytes form id len)) ++ (bytes ++ [])
+    → passed ++ (replicate padding 0 ++ element_bytes form (id, bytes)) ≡ (passed ++ (replicate padding 0 ++ element_header form id len)) ++ (bytes ++ [])
 next_bytes form passed padding id len bytes len_is =
-    let header : List ℕ = header_bytes form id len in
-    let element : element_bytes form (id, bytes) ≡ header ++ bytes = element_bytes-split form id bytes ∙ ap (λ n. header_bytes form id n ++ bytes) len_is in
+    let header : List ℕ = element_header form id len in
+    let element : element_bytes form (id, bytes) ≡ header ++ bytes = element_bytes-split form id bytes ∙ ap (λ n. element_header form id n ++ bytes) len_is in
     ap (λ b. passed ++ (replicate padding 0 ++ b)) element
     ∙ (ap (λ b. passed ++ b) (sym (append_assoc (replicate padding 0) header bytes))
     ∙ (sym (append_assoc passed (replicate padding 0 ++ header) bytes)
@@ -59,7 +59,7 @@ next_bytes form passed padding id len bytes len_is =
 IsLastPlace-this : (form : ExtensionsForm) (body passed : List ℕ) (at : ℕ) (place : Place) (elements : List Element) → at ≡ length passed → AreWhole form passed elements
     → (next : IsNextPlace form body at place) → IsLastPlace (AreWhole form) place.id (passed ++ (replicate next.padding 0 ++ element_bytes form (place.id, next.bytes))) place
 IsLastPlace-this form body passed at place elements at_is whole next =
-    let header : List ℕ = header_bytes form place.id (length next.bytes) in
+    let header : List ℕ = element_header form place.id (length next.bytes) in
     record {
       front = passed ++ (replicate next.padding 0 ++ header);
       was = next.bytes;
@@ -184,11 +184,11 @@ IsPassed-this form body at id last place was next this =
     )
 
 -- where reading ends
-ended_left : (form : ExtensionsForm) (body : List ℕ) (at id : ℕ) (last : Option Place) (was : IsPassed form body at id last) → BeginsWithNone form (drop at body) → AreElements form was.left []
+ended_left : (form : ExtensionsForm) (body : List ℕ) (at id : ℕ) (last : Option Place) (was : IsPassed form body at id last) → BeginsWithNoElement form (drop at body) → AreElements form was.left []
 ended_left form body at id last was none =
     subst (λ b. AreElements form b []) (ap (drop at) was.body_is ∙ drop_at was.passed was.left at (sym was.at_is)) (AreElements-none form (drop at body) none)
 
-pub IsPassed-found : (form : ExtensionsForm) (body : List ℕ) (at id : ℕ) (last : Option Place) → IsPassed form body at id last → BeginsWithNone form (drop at body)
+pub IsPassed-found : (form : ExtensionsForm) (body : List ℕ) (at id : ℕ) (last : Option Place) → IsPassed form body at id last → BeginsWithNoElement form (drop at body)
     → IfSome last (IsLastPlace (AreElements form) id body)
 IsPassed-found form body at id None was none = tt
 IsPassed-found form body at id (Some place) was none =
@@ -216,7 +216,7 @@ pub IsPassed-id : (form : ExtensionsForm) (body : List ℕ) (at id : ℕ) (last 
 IsPassed-id form body at id None was = tt
 IsPassed-id form body at id (Some place) was = was.last_is.1
 
-pub IsPassed-lies : (form : ExtensionsForm) (body : List ℕ) (at id : ℕ) (last : Option Place) → IsPassed form body at id last → BeginsWithNone form (drop at body)
+pub IsPassed-lies : (form : ExtensionsForm) (body : List ℕ) (at id : ℕ) (last : Option Place) → IsPassed form body at id last → BeginsWithNoElement form (drop at body)
     → IfSome last (LiesLast form (AreElements form) id body)
 IsPassed-lies form body at id None was none = tt
 IsPassed-lies form body at id (Some place) was none =
@@ -258,7 +258,7 @@ pub lies-within : (form : ExtensionsForm) (id : ℕ) (body : List ℕ) (last : O
 lies-within form id body None is = tt
 lies-within form id body (Some place) is = LiesAt-within form body place is.lies
 
-pub IsPassed-none : (form : ExtensionsForm) (body : List ℕ) (at id : ℕ) (last : Option Place) → IsPassed form body at id last → BeginsWithNone form (drop at body)
+pub IsPassed-none : (form : ExtensionsForm) (body : List ℕ) (at id : ℕ) (last : Option Place) → IsPassed form body at id last → BeginsWithNoElement form (drop at body)
     → (elements : List Element) → AreElements form body elements → IfNone last (HasNone elements id)
 IsPassed-none form body at id (Some place) was none elements are = tt
 IsPassed-none form body at id None was none elements are =

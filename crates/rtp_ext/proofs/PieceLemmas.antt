@@ -6,8 +6,8 @@ use Rattle.std.proofs.lemmas.List.Concat.{flat_map-append}
 use Rattle.std.proofs.lemmas.List.Elements.{filter_map-append}
 use Rattle.rtp_ext.specs.declared.form.ExtensionsForm.{ExtensionsForm}
 use Rattle.rtp_ext.specs.Elements.{Element, IsElement, element_bytes, IsPiece, piece_bytes, AreElements}
-use Rattle.rtp_ext.specs.ElementReading.{BeginsWithNone}
-use Rattle.rtp_ext.specs.Places.{AreWhole}
+use Rattle.rtp_ext.specs.ElementReading.{BeginsWithNoElement}
+use Rattle.rtp_ext.specs.ElementPlaces.{AreWhole}
 
 pub AllByRecursion-append : {X : Type 0} (P : X → Type 0) (xs ys : List X) → AllByRecursion P xs → AllByRecursion P ys → AllByRecursion P (xs ++ ys)
 AllByRecursion-append P [] ys all others = others
@@ -60,7 +60,7 @@ pub AreWhole-next : (form : ExtensionsForm) (padding : ℕ) (element : Element) 
 AreWhole-next form padding element is =
     AreWhole-append form (replicate padding 0) (element_bytes form element) [] (element ∷ []) (AreWhole-zeros form padding) (AreWhole-element form element is)
 
-pub AreElements-none : (form : ExtensionsForm) (bytes : List ℕ) → BeginsWithNone form bytes → AreElements form bytes []
+pub AreElements-none : (form : ExtensionsForm) (bytes : List ℕ) → BeginsWithNoElement form bytes → AreElements form bytes []
 AreElements-none form bytes none = subst (λ b. AreElements form b []) (sym none.bytes_are)
     (AreElements-after form (replicate none.padding 0) none.tail [] [] (AreWhole-zeros form none.padding)
     (record { pieces = []; tail = none.tail; are_pieces = tt; is_tail = none.is_tail; body_is = refl; elements_are = refl }))

@@ -6,26 +6,26 @@ use Rattle.rtp_ext.specs.declared.form.ExtensionsForm.{ExtensionsForm}
 use Rattle.rtp_ext.specs.declared.form.ExtensionsForm.TheVariants.{OneByte, TwoByte}
 use Rattle.rtp_ext.specs.declared.place.Place.{Place}
 use Rattle.rtp_ext.specs.Elements.{element_bytes}
-use Rattle.rtp_ext.specs.ElementReading.{BeginsWith}
-use Rattle.rtp_ext.specs.ElementWriting.{header_bytes}
+use Rattle.rtp_ext.specs.ElementReading.{BeginsWithElement}
+use Rattle.rtp_ext.specs.ElementWriting.{element_header}
 use Rattle.rtp_ext.specs.ElementsInPlace.{bytes_under}
-use Rattle.rtp_ext.specs.Places.{LiesAt, IsNextPlace}
+use Rattle.rtp_ext.specs.ElementPlaces.{LiesAt, IsNextPlace}
 
 -- an element is its header and its data
-pub element_bytes-split : (form : ExtensionsForm) (id : ℕ) (bytes : List ℕ) → element_bytes form (id, bytes) ≡ header_bytes form id (length bytes) ++ bytes
+pub element_bytes-split : (form : ExtensionsForm) (id : ℕ) (bytes : List ℕ) → element_bytes form (id, bytes) ≡ element_header form id (length bytes) ++ bytes
 element_bytes-split OneByte id bytes = refl
 element_bytes-split TwoByte id bytes = refl
 
-pub length-header : (form : ExtensionsForm) (id other len : ℕ) → length (header_bytes form id len) ≡ length (header_bytes form other len)
+pub length-header : (form : ExtensionsForm) (id other len : ℕ) → length (element_header form id len) ≡ length (element_header form other len)
 length-header OneByte id other len = refl
 length-header TwoByte id other len = refl
 
-pub length-header-some : (form : ExtensionsForm) (id len : ℕ) → 1 ≤ length (header_bytes form id len)
+pub length-header-some : (form : ExtensionsForm) (id len : ℕ) → 1 ≤ length (element_header form id len)
 length-header-some OneByte id len = omega arith
 length-header-some TwoByte id len = omega arith
 
-pub length-element : (form : ExtensionsForm) (id : ℕ) (bytes : List ℕ) → length (element_bytes form (id, bytes)) ≡ length (header_bytes form id (length bytes)) + length bytes
-length-element form id bytes = ap length (element_bytes-split form id bytes) ∙ length-append (header_bytes form id (length bytes)) bytes
+pub length-element : (form : ExtensionsForm) (id : ℕ) (bytes : List ℕ) → length (element_bytes form (id, bytes)) ≡ length (element_header form id (length bytes)) + length bytes
+length-element form id bytes = ap length (element_bytes-split form id bytes) ∙ length-append (element_header form id (length bytes)) bytes
 
 -- bytes over as many others
 pub overwritten-at : (front was rest bytes : List ℕ) (at : ℕ) → at ≡ length front → length was ≡ length bytes → overwritten (front ++ (was ++ rest)) at bytes ≡ front ++ (bytes ++ rest)
@@ -37,14 +37,14 @@ overwritten-at front was rest bytes at is as_many =
 
 -- what writing another header leaves, and writing zeros
 pub renumbered_at : (form : ExtensionsForm) (body front bytes after : List ℕ) (start len old id : ℕ) → body ≡ front ++ (element_bytes form (old, bytes) ++ after)
-    → start ≡ length front → len ≡ length bytes → overwritten body start (header_bytes form id len) ≡ front ++ (element_bytes form (id, bytes) ++ after)
+    → start ≡ length front → len ≡ length bytes → overwritten body start (element_header form id len) ≡ front ++ (element_bytes form (id, bytes) ++ after)
 renumbered_at form body front bytes after start len old id is start_is len_is =
-    let header : List ℕ = header_bytes form id (length bytes) in
-    let split : body ≡ front ++ (header_bytes form old (length bytes) ++ (bytes ++ after)) =
-    is ∙ ap (λ b. front ++ b) (ap (λ b. b ++ after) (element_bytes-split form old bytes) ∙ append_assoc (header_bytes form old (length bytes)) bytes after) in
-    ap (λ n. overwritten body start (header_bytes form id n)) len_is
+    let header : List ℕ = element_header form id (length bytes) in
+    let split : body ≡ front ++ (element_header form old (length bytes) ++ (bytes ++ after)) =
+    is ∙ ap (λ b. front ++ b) (ap (λ b. b ++ after) (element_bytes-split form old bytes) ∙ append_assoc (element_header form old (length bytes)) bytes after) in
+    ap (λ n. overwritten body start (element_header form id n)) len_is
     ∙ (ap (λ b. overwritten b start header) split
-    ∙ (overwritten-at front (header_bytes form old (length bytes)) (bytes ++ after) header start start_is (length-header form old id (length bytes))
+    ∙ (overwritten-at front (element_header form old (length bytes)) (bytes ++ after) header start start_is (length-header form old id (length bytes))
     ∙ ap (λ b. front ++ b) (sym (append_assoc header bytes after) ∙ ap (λ b. b ++ after) (sym (element_bytes-split form id bytes)))))
 
 pub zeros_at : (form : ExtensionsForm) (body front bytes after : List ℕ) (start count id : ℕ) → body ≡ front ++ (element_bytes form (id, bytes) ++ after)
@@ -61,8 +61,8 @@ length-lies form body place lies = omega (arith, lies.data_is, lies.end_is, leng
 
 -- the first element from an offset on
 pub length-begins : (form : ExtensionsForm) (body : List ℕ) (at id : ℕ) (bytes after : List ℕ) → at ≤ length body
-    → (begins : BeginsWith form (take (length body - at) (drop at body)) (id, bytes) after)
-    → at + begins.padding + length (header_bytes form id (length bytes)) + length bytes + length after ≡ length body
+    → (begins : BeginsWithElement form (take (length body - at) (drop at body)) (id, bytes) after)
+    → at + begins.padding + length (element_header form id (length bytes)) + length bytes + length after ≡ length body
 length-begins form body at id bytes after within begins =
     let whole : drop at body ≡ replicate begins.padding 0 ++ (element_bytes form (id, bytes) ++ after) = sym (take_rest body at) ∙ begins.bytes_are in
     omega (
@@ -76,7 +76,7 @@ length-begins form body at id bytes after within begins =
     )
 
 pub IsNextPlace-begins : (form : ExtensionsForm) (body : List ℕ) (at id header : ℕ) (bytes after : List ℕ) → at ≤ length body
-    → BeginsWith form (take (length body - at) (drop at body)) (id, bytes) after → header ≡ length (header_bytes form id (length bytes))
+    → BeginsWithElement form (take (length body - at) (drop at body)) (id, bytes) after → header ≡ length (element_header form id (length bytes))
     → IsNextPlace form body at (record {
       id = id;
       start = length body - length after - length bytes - header;
@@ -84,7 +84,7 @@ pub IsNextPlace-begins : (form : ExtensionsForm) (body : List ℕ) (at id header
       end = length body - length after;
     })
 IsNextPlace-begins form body at id header bytes after within begins header_is =
-    let total : at + begins.padding + length (header_bytes form id (length bytes)) + length bytes + length after ≡ length body = length-begins form body at id bytes after within begins in
+    let total : at + begins.padding + length (element_header form id (length bytes)) + length bytes + length after ≡ length body = length-begins form body at id bytes after within begins in
     record {
       padding = begins.padding;
       bytes = bytes;

@@ -6,8 +6,8 @@ use Rattle.std.proofs.lemmas.List.{drop_more, drop-map, drop_all}
 use Rattle.rtp_ext.specs.declared.form.ExtensionsForm.{ExtensionsForm}
 use Rattle.rtp_ext.specs.declared.form.ExtensionsForm.TheVariants.{OneByte, TwoByte}
 use Rattle.rtp_ext.specs.Elements.{Element, IsElement, AreElements, element_bytes, elements_bytes}
-use Rattle.rtp_ext.specs.ElementWriting.{header_bytes}
-use Rattle.rtp_ext.specs.ElementsInARow.{IsWritable, FitInARow}
+use Rattle.rtp_ext.specs.ElementWriting.{element_header}
+use Rattle.rtp_ext.specs.ElementsInARow.{IsWritable, AreWritableIn}
 use Rattle.rtp_base.specs.Overwriting.{overwritten}
 use Rattle.rtp_base.proofs.OverwritingLemmas.{overwritten-overwritten, overwritten-nil, overwritten-front, length-overwritten}
 use Rattle.rtp_ext.proofs.WrittenBlockLemmas.{length-header}
@@ -46,16 +46,16 @@ IsRoomAfter form element room left =
     × IfNone left (IsWritable form element → length (element_bytes form element) ≤ room → ⊥)
 
 pub IsRoomAfter-taken : (form : ExtensionsForm) (id : ℕ) (bytes : List ℕ) (room header : ℕ) (left : Option ℕ) → IsWritable form (id, bytes)
-    → header ≡ length (header_bytes form id (length bytes)) → SomeIff left (header + length bytes ≤ room) (room - (header + length bytes))
+    → header ≡ length (element_header form id (length bytes)) → SomeIff left (header + length bytes ≤ room) (room - (header + length bytes))
     → IsRoomAfter form (id, bytes) room left
 IsRoomAfter-taken form id bytes room header None writable is none =
     (tt, λ again fits. none (omega (arith, is, length-header form id bytes)))
 IsRoomAfter-taken form id bytes room header (Some rest) writable is some =
     ((writable, omega (arith, is, length-header form id bytes, some.0, some.1)), tt)
 
-pub FitInARow-more : (form : ExtensionsForm) (left more : List Element) (element : Element) (room rest : ℕ) → left ≡ element ∷ more
-    → IsWritable form element → rest + length (element_bytes form element) ≡ room → FitInARow form more rest ↔ FitInARow form left room
-FitInARow-more form left more element room rest split writable is =
+pub AreWritableIn-more : (form : ExtensionsForm) (left more : List Element) (element : Element) (room rest : ℕ) → left ≡ element ∷ more
+    → IsWritable form element → rest + length (element_bytes form element) ≡ room → AreWritableIn form more rest ↔ AreWritableIn form left room
+AreWritableIn-more form left more element room rest split writable is =
     let long : length (elements_bytes form left) ≡ length (element_bytes form element) + length (elements_bytes form more) =
     ap (λ es. length (elements_bytes form es)) split ∙ length-append (element_bytes form element) (elements_bytes form more) in (
       λ fit. record {
@@ -68,15 +68,15 @@ FitInARow-more form left more element room rest split writable is =
       },
     )
 
-pub FitInARow-not : (form : ExtensionsForm) (left more : List Element) (element : Element) (room : ℕ) → left ≡ element ∷ more
-    → (IsWritable form element → length (element_bytes form element) ≤ room → ⊥) → FitInARow form left room → ⊥
-FitInARow-not form left more element room split none fit =
+pub AreWritableIn-not : (form : ExtensionsForm) (left more : List Element) (element : Element) (room : ℕ) → left ≡ element ∷ more
+    → (IsWritable form element → length (element_bytes form element) ≤ room → ⊥) → AreWritableIn form left room → ⊥
+AreWritableIn-not form left more element room split none fit =
     let long : length (elements_bytes form left) ≡ length (element_bytes form element) + length (elements_bytes form more) =
     ap (λ es. length (elements_bytes form es)) split ∙ length-append (element_bytes form element) (elements_bytes form more) in
     none (subst (AllByRecursion (IsWritable form)) split fit.writable).0 (omega (arith, fit.bytes_fit, long))
 
-pub FitInARow-end : (form : ExtensionsForm) (left : List Element) (room : ℕ) → left ≡ [] → FitInARow form left room
-FitInARow-end form left room none = record {
+pub AreWritableIn-end : (form : ExtensionsForm) (left : List Element) (room : ℕ) → left ≡ [] → AreWritableIn form left room
+AreWritableIn-end form left room none = record {
   writable = subst (AllByRecursion (IsWritable form)) (sym none) tt;
   bytes_fit = rw none (omega arith);
 }
@@ -88,10 +88,10 @@ pub record AreUnderWay (form : ExtensionsForm) (old buf : List ℕ) (elements le
   pub makes : overwritten buf at (elements_bytes form left) ≡ overwritten old 0 (elements_bytes form elements)
   pub ends : at + length (elements_bytes form left) ≡ length (elements_bytes form elements)
   pub long : length buf ≡ length old
-  pub fit : FitInARow form elements (length old)
+  pub fit : AreWritableIn form elements (length old)
   pub writable : AllByRecursion (IsWritable form) left
 
-pub AreUnderWay-start : (form : ExtensionsForm) (old : List ℕ) (elements : List Element) → FitInARow form elements (length old)
+pub AreUnderWay-start : (form : ExtensionsForm) (old : List ℕ) (elements : List Element) → AreWritableIn form elements (length old)
     → AreUnderWay form old old elements elements 0
 AreUnderWay-start form old elements fit = record { makes = refl; ends = omega arith; long = refl; fit = fit; writable = fit.writable }
 
@@ -139,9 +139,9 @@ AreUnderWay-end form old buf elements left at before none =
     (end, whole ∙ ap (λ (k : ℕ). row ++ drop k old) (sym end))
 
 -- and are read, with any zeros after them
-pub FitInARow-read : (form : ExtensionsForm) (elements : List Element) (room zeros : ℕ) → FitInARow form elements room
+pub AreWritableIn-read : (form : ExtensionsForm) (elements : List Element) (room zeros : ℕ) → AreWritableIn form elements room
     → AreElements form (elements_bytes form elements ++ replicate zeros 0) elements
-FitInARow-read form elements room zeros fit = AreElements-in_a_row form elements zeros (all-elements form elements fit.writable)
+AreWritableIn-read form elements room zeros fit = AreElements-in_a_row form elements zeros (all-elements form elements fit.writable)
 
 -- also as the front of the buffer
 pub AreElements-front : (form : ExtensionsForm) (elements : List Element) (buf rest : List ℕ) (len zeros : ℕ) → len ≡ length (elements_bytes form elements)

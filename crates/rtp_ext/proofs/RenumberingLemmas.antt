@@ -13,9 +13,9 @@ use Rattle.rtp_ext.specs.declared.form.ExtensionsForm.{ExtensionsForm}
 use Rattle.rtp_ext.specs.declared.form.ExtensionsForm.TheVariants.{OneByte, TwoByte}
 use Rattle.rtp_ext.specs.declared.place.Place.{Place}
 use Rattle.rtp_ext.specs.Elements.{Element, IsElement, element_bytes, IsPiece, piece_bytes, AreElements}
-use Rattle.rtp_ext.specs.ElementReading.{BeginsWithNone, elements_left}
-use Rattle.rtp_ext.specs.ElementsInPlace.{bytes_under, renumbered, renumbered_bytes, HasOtherIds, CanRenumber, HasNone, all_but}
-use Rattle.rtp_ext.specs.Places.{LiesAt, IsNextPlace, AreWhole}
+use Rattle.rtp_ext.specs.ElementReading.{BeginsWithNoElement, elements_left}
+use Rattle.rtp_ext.specs.ElementsInPlace.{bytes_under, renumbered, renumbered_bytes, ChangesIds, CanRenumber, HasNone, all_but}
+use Rattle.rtp_ext.specs.ElementPlaces.{LiesAt, IsNextPlace, AreWhole}
 use Rattle.rtp_ext.specs.IdChanges.{HasOtherIdsTo}
 use Rattle.rtp_ext.proofs.ElementLemmas.{elements_left-padding}
 use Rattle.rtp_ext.proofs.ElementLemmasOfBodies.{elements_left-element}
@@ -169,7 +169,7 @@ HasOtherIdsTo-next form ids old body new at lost place id within was next id_is 
 -- ---- where reading ends
 
 pub HasOtherIdsTo-end : (form : ExtensionsForm) (ids : ℕ → Option ℕ) (old body : List ℕ) (at : ℕ) (lost : Bool) → HasOtherIdsTo form ids old body at lost
-    → BeginsWithNone form (drop at body) → HasOtherIds form ids old body
+    → BeginsWithNoElement form (drop at body) → ChangesIds form ids old body
 HasOtherIdsTo-end form ids old body at lost was none =
     let left_is : was.left ≡ replicate none.padding 0 ++ none.tail =
     sym (ap (drop at) was.new_is ∙ drop_at (flat_map (renumbered_bytes form ids) was.pieces) was.left at (sym was.at_is)) ∙ none.bytes_are in
@@ -189,7 +189,7 @@ HasOtherIdsTo-end form ids old body at lost was none =
 
 -- whether one of the elements that the body had is padding
 pub lost-end : (form : ExtensionsForm) (ids : ℕ → Option ℕ) (old body : List ℕ) (at : ℕ) (lost : Bool) (elements : List Element) → HasOtherIdsTo form ids old body at lost
-    → BeginsWithNone form (drop at body) → AreElements form old elements → lost ≡ list_any (λ (e : Element). is_none (ids e.0)) elements
+    → BeginsWithNoElement form (drop at body) → AreElements form old elements → lost ≡ list_any (λ (e : Element). is_none (ids e.0)) elements
 lost-end form ids old body at lost elements was none are =
     let had : List Element = filter_map (λ piece. piece) was.pieces in
     let left : AreElements form was.left [] =
@@ -229,11 +229,11 @@ AreWhole-renumbered form ids (Some element ∷ pieces) are can =
     (AreWhole-renumbered form ids pieces are.1 (All-tail (λ (e : Element). IsElement form e → CanRenumber form ids e) element rest can)))
 
 -- the elements that the body had
-AreElements-had : (form : ExtensionsForm) (ids : ℕ → Option ℕ) (old new : List ℕ) (has : HasOtherIds form ids old new) → AreElements form old (filter_map (λ piece. piece) has.pieces)
+AreElements-had : (form : ExtensionsForm) (ids : ℕ → Option ℕ) (old new : List ℕ) (has : ChangesIds form ids old new) → AreElements form old (filter_map (λ piece. piece) has.pieces)
 AreElements-had form ids old new has =
     record { pieces = has.pieces; tail = has.tail; are_pieces = has.are_pieces; is_tail = has.is_tail; body_is = has.old_is; elements_are = refl }
 
-pub AreElements-renumbered : (form : ExtensionsForm) (ids : ℕ → Option ℕ) (old new : List ℕ) (elements : List Element) → HasOtherIds form ids old new → AreElements form old elements
+pub AreElements-renumbered : (form : ExtensionsForm) (ids : ℕ → Option ℕ) (old new : List ℕ) (elements : List Element) → ChangesIds form ids old new → AreElements form old elements
     → All (λ element. IsElement form element → CanRenumber form ids element) elements → AreElements form new (filter_map (renumbered ids) elements)
 AreElements-renumbered form ids old new elements has are can =
     let had : List Element = filter_map (λ piece. piece) has.pieces in
@@ -293,7 +293,7 @@ unchanged_pieces form id (Some element ∷ pieces) none =
     ap (λ i. bytes_under form element i ++ flat_map (renumbered_bytes form (all_but id)) pieces) kept
     ∙ ap (λ b. element_bytes form element ++ b) (unchanged_pieces form id pieces both.1)
 
-pub unchanged-all_but : (form : ExtensionsForm) (id : ℕ) (old new : List ℕ) (lost : Bool) → HasOtherIds form (all_but id) old new
+pub unchanged-all_but : (form : ExtensionsForm) (id : ℕ) (old new : List ℕ) (lost : Bool) → ChangesIds form (all_but id) old new
     → ((elements : List Element) → AreElements form old elements → lost ≡ list_any (λ (e : Element). is_none (all_but id e.0)) elements) → OnFalse lost (new ≡ old)
 unchanged-all_but form id old new true has lost_is = tt
 unchanged-all_but form id old new false has lost_is =

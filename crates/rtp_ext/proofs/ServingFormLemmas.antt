@@ -7,7 +7,7 @@ use Rattle.std.proofs.lemmas.List.{get_or-map, length-map}
 use Rattle.rtp_ext.specs.declared.form.ExtensionsForm.{ExtensionsForm}
 use Rattle.rtp_ext.specs.declared.form.ExtensionsForm.TheVariants.{OneByte, TwoByte}
 use Rattle.rtp_ext.specs.Elements.{Element, element_bytes, elements_bytes}
-use Rattle.rtp_ext.specs.ElementsInARow.{IsWritable, IsUnwritable, FitInARow, CannotBeInARow, unwritable, short_room, serves_one_byte, form_for}
+use Rattle.rtp_ext.specs.ElementsInARow.{IsWritable, IsUnwritable, AreWritableIn, AreNotWritableIn, unwritable, short_room, serves_one_byte, form_for}
 
 and_parts : (a b : Bool) → (a && b) ≡ true → (a ≡ true) × (b ≡ true)
 and_parts true b e = (refl, e)
@@ -48,9 +48,9 @@ AllByRecursion-not form (element ∷ elements) all (zero, x, within, is, bad) = 
 AllByRecursion-not form (element ∷ elements) all (suc k, x, within, is, bad) = AllByRecursion-not form elements all.1 (k, x, omega arith, is, bad)
 
 -- that they fit rules out each refusal
-pub CannotBeInARow-not : (elements : List Element) (room : ℕ) (form : ExtensionsForm) → form ≡ form_for elements → FitInARow form elements room → CannotBeInARow elements room → ⊥
-CannotBeInARow-not elements room form form-is fit (unwritable any) = AllByRecursion-not form elements fit.writable any
-CannotBeInARow-not elements room form form-is fit (short_room short) =
+pub AreNotWritableIn-not : (elements : List Element) (room : ℕ) (form : ExtensionsForm) → form ≡ form_for elements → AreWritableIn form elements room → AreNotWritableIn elements room → ⊥
+AreNotWritableIn-not elements room form form-is fit (unwritable any) = AllByRecursion-not form elements fit.writable any
+AreNotWritableIn-not elements room form form-is fit (short_room short) =
     let fits = fit.bytes_fit in omega (arith, ap (λ (f : ExtensionsForm). length (elements_bytes f elements)) form-is)
 
 -- an element that is given, where neither form can carry it
@@ -113,7 +113,7 @@ AreCounted-step elements left more element form next room rest rest' split writa
 
 -- no room for the next one
 pub AreCounted-short : (elements left more : List Element) (element : Element) (form : ExtensionsForm) (room rest : ℕ) → left ≡ element ∷ more
-    → (1 + length element.1 ≤ rest → ⊥) → AreCounted elements left form room rest → CannotBeInARow elements room
+    → (1 + length element.1 ≤ rest → ⊥) → AreCounted elements left form room rest → AreNotWritableIn elements room
 AreCounted-short elements left more element form room rest split short before =
     let long : length (elements_bytes OneByte left) ≡ length (element_bytes OneByte element) + length (elements_bytes OneByte more) =
     ap (λ es. length (elements_bytes OneByte es)) split ∙ length-append (element_bytes OneByte element) (elements_bytes OneByte more) in
@@ -122,7 +122,7 @@ AreCounted-short elements left more element form room rest split short before =
 -- all are counted, and fit where there is room for longer headers too
 pub AreCounted-fit : (elements left : List Element) (form : ExtensionsForm) (room rest more : ℕ) → left ≡ [] → AreCounted elements left form room rest
     → length (elements_bytes form elements) ≡ length (elements_bytes OneByte elements) + more → more ≤ rest
-    → (form ≡ form_for elements) × FitInARow form elements room
+    → (form ≡ form_for elements) × AreWritableIn form elements room
 AreCounted-fit elements left form room rest more none counted longer fits =
     let form_is : form ≡ form_for elements = sym (counted.form_is ∙ ap (serving form) none) in
     let all : AllByRecursion (IsWritable TwoByte) elements = counted.writable (subst (AllByRecursion (IsWritable TwoByte)) (sym none) tt) in
@@ -136,7 +136,7 @@ AreCounted-fit elements left form room rest more none counted longer fits =
 
 -- and not where there is none
 pub AreCounted-longer : (elements left : List Element) (form : ExtensionsForm) (room rest more : ℕ) → left ≡ [] → AreCounted elements left form room rest
-    → length (elements_bytes form elements) ≡ length (elements_bytes OneByte elements) + more → (more ≤ rest → ⊥) → CannotBeInARow elements room
+    → length (elements_bytes form elements) ≡ length (elements_bytes OneByte elements) + more → (more ≤ rest → ⊥) → AreNotWritableIn elements room
 AreCounted-longer elements left form room rest more none counted longer short =
     let form_is : form ≡ form_for elements = sym (counted.form_is ∙ ap (serving form) none) in
     let bytes = counted.bytes ∙ ap (λ (es : List Element). room + length (elements_bytes OneByte es)) none in

@@ -8,7 +8,7 @@ use Rattle.rtp_ext.specs.declared.form.ExtensionsForm.TheVariants.{OneByte, TwoB
 use Rattle.rtp_values.specs.declared.kind.Extension.{Extension}
 use Rattle.rtp_values.specs.declared.value.values.ExtensionValues.{ExtensionValues}
 use Rattle.rtp_ext.specs.Elements.{Element, IsElement, elements_bytes}
-use Rattle.rtp_ext.specs.ElementWriting.{header_bytes, bytes_at, items_bytes, CanCarry, IsCarried}
+use Rattle.rtp_ext.specs.ElementWriting.{element_header, element_or_nothing, items_bytes, CanCarry, IsCarried}
 use Rattle.rtp_ext.specs.ExtensionMap.{Slots, items_from}
 use Rattle.rtp_base.specs.Overwriting.{overwritten}
 use Rattle.rtp_values.specs.Spelling.{spelled_data, carried_values, longest}
@@ -25,12 +25,12 @@ unfolding items_bytes
 items_bytes-nil form values = refl
 
 pub items_bytes-cons : (form : ExtensionsForm) (values : ExtensionValues) (item : Item) (items : List Item)
-    → items_bytes form values (item ∷ items) ≡ bytes_at form item.0 (spelled_data item.1 values) ++ items_bytes form values items
+    → items_bytes form values (item ∷ items) ≡ element_or_nothing form item.0 (spelled_data item.1 values) ++ items_bytes form values items
 unfolding items_bytes
 items_bytes-cons form values item items = refl
 
 bytes-cons : (form : ExtensionsForm) (id : ℕ) (bytes : Option (List ℕ)) (rest : List Element)
-    → elements_bytes form (cons_option (option_map (λ b. (id, b)) bytes) rest) ≡ bytes_at form id bytes ++ elements_bytes form rest
+    → elements_bytes form (cons_option (option_map (λ b. (id, b)) bytes) rest) ≡ element_or_nothing form id bytes ++ elements_bytes form rest
 bytes-cons form id None rest = refl
 bytes-cons form id (Some bytes) rest = refl
 
@@ -39,7 +39,7 @@ items_bytes-elements : (form : ExtensionsForm) (values : ExtensionValues) (items
 unfolding items_bytes
 items_bytes-elements form values [] = refl
 items_bytes-elements form values (item ∷ items) =
-    ap (λ (rest : List ℕ). bytes_at form item.0 (spelled_data item.1 values) ++ rest) (items_bytes-elements form values items)
+    ap (λ (rest : List ℕ). element_or_nothing form item.0 (spelled_data item.1 values) ++ rest) (items_bytes-elements form values items)
     ∙ sym (bytes-cons form item.0 (spelled_data item.1 values) (elements_of values items))
 
 pub items_bytes-written : (form : ExtensionsForm) (exts : Slots) (values : ExtensionValues)
@@ -48,27 +48,27 @@ items_bytes-written form exts values = items_bytes-elements form values (items_f
 
 -- ---- one element
 
-pub length-header : (form : ExtensionsForm) (id : ℕ) (bytes : List ℕ) → length (bytes_at form id (Some bytes)) ≡ length (header_bytes form id (length bytes)) + length bytes
+pub length-header : (form : ExtensionsForm) (id : ℕ) (bytes : List ℕ) → length (element_or_nothing form id (Some bytes)) ≡ length (element_header form id (length bytes)) + length bytes
 length-header OneByte id bytes = omega arith
 length-header TwoByte id bytes = omega arith
 
-pub header-append : (form : ExtensionsForm) (id : ℕ) (bytes : List ℕ) → header_bytes form id (length bytes) ++ bytes ≡ bytes_at form id (Some bytes)
+pub header-append : (form : ExtensionsForm) (id : ℕ) (bytes : List ℕ) → element_header form id (length bytes) ++ bytes ≡ element_or_nothing form id (Some bytes)
 header-append OneByte id bytes = refl
 header-append TwoByte id bytes = refl
 
-pub length-header_bytes : (form : ExtensionsForm) (id len : ℕ) → length (header_bytes form id len) ≤ 2
+pub length-header_bytes : (form : ExtensionsForm) (id len : ℕ) → length (element_header form id len) ≤ 2
 length-header_bytes OneByte id len = omega arith
 length-header_bytes TwoByte id len = omega arith
 
 pub length-element : (form : ExtensionsForm) (id header len : ℕ) (bytes : Option (List ℕ)) → Some len ≡ option_map length bytes
-    → header ≡ length (header_bytes form id len) → header + len ≡ length (bytes_at form id bytes)
+    → header ≡ length (element_header form id len) → header + len ≡ length (element_or_nothing form id bytes)
 length-element form id header len None long is = cc
 length-element form id header len (Some bytes) long is =
     let same : len ≡ length bytes = cc in
-    ap (λ (h : ℕ). h + len) is ∙ (ap (λ (l : ℕ). length (header_bytes form id l) + l) same ∙ sym (length-header form id bytes))
+    ap (λ (h : ℕ). h + len) is ∙ (ap (λ (l : ℕ). length (element_header form id l) + l) same ∙ sym (length-header form id bytes))
 
 length-carried : (form : ExtensionsForm) (values : ExtensionValues) (id : ℕ) (kind : Extension) (bytes : Option (List ℕ))
-    → IfSome bytes (λ b. IsElement form (id, b) × Reads kind b (carried_values values)) → length (bytes_at form id bytes) ≤ 257
+    → IfSome bytes (λ b. IsElement form (id, b) × Reads kind b (carried_values values)) → length (element_or_nothing form id bytes) ≤ 257
 length-carried form values id kind None carried = omega arith
 length-carried OneByte values id kind (Some bytes) carried = let few = carried.0.2 in omega arith
 length-carried TwoByte values id kind (Some bytes) carried = let few = carried.0.2 in omega arith
@@ -80,21 +80,21 @@ length-items form values (item ∷ items) all =
     omega (
       arith,
       ap length (items_bytes-cons form values item items),
-      length-append (bytes_at form item.0 (spelled_data item.1 values)) (items_bytes form values items),
+      length-append (element_or_nothing form item.0 (spelled_data item.1 values)) (items_bytes form values items),
       length-carried form values item.0 item.1 (spelled_data item.1 values) all.0,
       length-items form values items all.1,
     )
 
 -- without room for a header there are no data
 pub none-without_room : (form : ExtensionsForm) (id : ℕ) (bytes : Option (List ℕ)) (header room : ℕ)
-    → ((i l : ℕ) → header ≡ length (header_bytes form i l)) → length (bytes_at form id bytes) ≤ room → room < header → bytes ≡ None
+    → ((i l : ℕ) → header ≡ length (element_header form i l)) → length (element_or_nothing form id bytes) ≤ room → room < header → bytes ≡ None
 none-without_room form id None header room is fits short = refl
 none-without_room form id (Some bytes) header room is fits short =
     absurd (omega (arith, length-header form id bytes, is id (length bytes)))
 
 -- where there is room for the element there is room for its data after the header
 pub room-for_data : (form : ExtensionsForm) (id : ℕ) (bytes : Option (List ℕ)) (header room : ℕ)
-    → ((i l : ℕ) → header ≡ length (header_bytes form i l)) → length (bytes_at form id bytes) ≤ room → header ≤ room
+    → ((i l : ℕ) → header ≡ length (element_header form i l)) → length (element_or_nothing form id bytes) ≤ room → header ≤ room
     → header + length (unwrap_or bytes []) ≤ room
 room-for_data form id None header room is fits short = omega arith
 room-for_data form id (Some bytes) header room is fits short = omega (arith, length-header form id bytes, is id (length bytes))
@@ -105,8 +105,8 @@ none-from_map (Some bytes) is = cc
 
 -- what is left where there are none
 pub record HasNone (form : ExtensionsForm) (values : ExtensionValues) (buf : List ℕ) (at : ℕ) (item : Item) : Type 0 where
-  pub written : buf ≡ overwritten buf at (bytes_at form item.0 (spelled_data item.1 values))
-  pub end : at ≡ at + length (bytes_at form item.0 (spelled_data item.1 values))
+  pub written : buf ≡ overwritten buf at (element_or_nothing form item.0 (spelled_data item.1 values))
+  pub end : at ≡ at + length (element_or_nothing form item.0 (spelled_data item.1 values))
   pub carried : IsCarried form values item
 
 pub HasNone-from_none : (form : ExtensionsForm) (values : ExtensionValues) (buf : List ℕ) (at id : ℕ) (kind : Extension)
@@ -118,19 +118,19 @@ HasNone-from_none form values buf at id kind none = record {
 }
 
 -- its data are put, and then its header in front of them
-pub bytes_at-put : (form : ExtensionsForm) (id len at start : ℕ) (old data_put new : List ℕ) (bytes : Option (List ℕ))
-    → Some len ≡ option_map length bytes → start ≡ at + length (header_bytes form id len) → at + length (bytes_at form id bytes) ≤ length old
-    → data_put ≡ overwritten old start (unwrap_or bytes []) → new ≡ overwritten data_put at (header_bytes form id len)
-    → (new ≡ overwritten old at (bytes_at form id bytes)) × (start + len ≡ at + length (bytes_at form id bytes))
-bytes_at-put form id len at start old data_put new None long start-is fits data-is new-is = cc
-bytes_at-put form id len at start old data_put new (Some bytes) long start-is fits data-is new-is =
+pub element_or_nothing-put : (form : ExtensionsForm) (id len at start : ℕ) (old data_put new : List ℕ) (bytes : Option (List ℕ))
+    → Some len ≡ option_map length bytes → start ≡ at + length (element_header form id len) → at + length (element_or_nothing form id bytes) ≤ length old
+    → data_put ≡ overwritten old start (unwrap_or bytes []) → new ≡ overwritten data_put at (element_header form id len)
+    → (new ≡ overwritten old at (element_or_nothing form id bytes)) × (start + len ≡ at + length (element_or_nothing form id bytes))
+element_or_nothing-put form id len at start old data_put new None long start-is fits data-is new-is = cc
+element_or_nothing-put form id len at start old data_put new (Some bytes) long start-is fits data-is new-is =
     let len-is : len ≡ length bytes = cc in
-    let header : header_bytes form id len ≡ header_bytes form id (length bytes) = ap (header_bytes form id) len-is in
+    let header : element_header form id len ≡ element_header form id (length bytes) = ap (element_header form id) len-is in
     let both = length-header form id bytes in
-    let start-at : start ≡ at + length (header_bytes form id (length bytes)) = start-is ∙ ap (λ (h : List ℕ). at + length h) header in (
-      new-is ∙ ap (λ (b : List ℕ). overwritten b at (header_bytes form id len)) data-is
+    let start-at : start ≡ at + length (element_header form id (length bytes)) = start-is ∙ ap (λ (h : List ℕ). at + length h) header in (
+      new-is ∙ ap (λ (b : List ℕ). overwritten b at (element_header form id len)) data-is
           ∙ ap (overwritten (overwritten old start bytes) at) header
-          ∙ overwritten-before old (header_bytes form id (length bytes)) bytes at start start-at (omega arith)
+          ∙ overwritten-before old (element_header form id (length bytes)) bytes at start start-at (omega arith)
           ∙ ap (overwritten old at) (header-append form id bytes),
       omega arith,
     )
@@ -168,21 +168,21 @@ IsUnderWay-start form values old items fit =
 -- there is room for the next one, and the form can carry it
 pub IsUnderWay-next : (form : ExtensionsForm) (values : ExtensionValues) (old buf : List ℕ) (items left more : List Item) (item : Item) (at : ℕ)
     → IsUnderWay form values old buf items left at → left ≡ item ∷ more → length (items_bytes form values items) ≤ length old
-    → (at + length (bytes_at form item.0 (spelled_data item.1 values)) ≤ length buf) × IsFit form values item
+    → (at + length (element_or_nothing form item.0 (spelled_data item.1 values)) ≤ length buf) × IsFit form values item
 IsUnderWay-next form values old buf items left more item at before split room =
     let bytes = ap length (ap (items_bytes form values) split ∙ items_bytes-cons form values item more) in (
-      omega (arith, before.ends, before.long, bytes, length-append (bytes_at form item.0 (spelled_data item.1 values)) (items_bytes form values more)),
+      omega (arith, before.ends, before.long, bytes, length-append (element_or_nothing form item.0 (spelled_data item.1 values)) (items_bytes form values more)),
       (subst (AllByRecursion (IsFit form values)) split before.fit).0,
     )
 
 -- the next one is written
 pub IsUnderWay-step : (form : ExtensionsForm) (values : ExtensionValues) (old buf new : List ℕ) (items left more : List Item) (item : Item) (at end : ℕ)
     → IsUnderWay form values old buf items left at → left ≡ item ∷ more → length (items_bytes form values items) ≤ length old
-    → new ≡ overwritten buf at (bytes_at form item.0 (spelled_data item.1 values))
-    → end ≡ at + length (bytes_at form item.0 (spelled_data item.1 values)) → IsCarried form values item
+    → new ≡ overwritten buf at (element_or_nothing form item.0 (spelled_data item.1 values))
+    → end ≡ at + length (element_or_nothing form item.0 (spelled_data item.1 values)) → IsCarried form values item
     → IsUnderWay form values old new items more end
 IsUnderWay-step form values old buf new items left more item at end before split room written end-is carried =
-    let xs = bytes_at form item.0 (spelled_data item.1 values) in
+    let xs = element_or_nothing form item.0 (spelled_data item.1 values) in
     let ys = items_bytes form values more in
     let bytes : items_bytes form values left ≡ xs ++ ys = ap (items_bytes form values) split ∙ items_bytes-cons form values item more in
     let fits : at + length (xs ++ ys) ≤ length buf = omega (arith, before.ends, before.long, ap length bytes) in

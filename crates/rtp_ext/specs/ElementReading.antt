@@ -42,19 +42,19 @@ abbrev pub elements_left : ExtensionsForm → List ℕ → List Element
 elements_left form bytes = elements_after form 0 bytes
 
 -- bytes begin with padding and an element, and these bytes follow it
-pub record BeginsWith (form : ExtensionsForm) (bytes : List ℕ) (element : Element) (after : List ℕ) : Type 0 where
+pub record BeginsWithElement (form : ExtensionsForm) (bytes : List ℕ) (element : Element) (after : List ℕ) : Type 0 where
   pub padding : ℕ
   pub is_element : IsElement form element
   pub bytes_are : bytes ≡ replicate padding 0 ++ (element_bytes form element ++ after)
 
 -- bytes are padding and then what ends reading
-pub record BeginsWithNone (form : ExtensionsForm) (bytes : List ℕ) : Type 0 where
+pub record BeginsWithNoElement (form : ExtensionsForm) (bytes : List ℕ) : Type 0 where
   pub padding : ℕ
   pub tail : List ℕ
   pub is_tail : IsTail form tail
   pub bytes_are : bytes ≡ replicate padding 0 ++ tail
 
 -- the first element of bytes, as its id, its data and the bytes after it, or that there is none
-abbrev pub IsFirst : ExtensionsForm → List ℕ → Option (ℕ × Bor (List ℕ) × Bor (List ℕ)) → Type 0
-IsFirst form bytes None = BeginsWithNone form bytes
-IsFirst form bytes (Some first) = BeginsWith form bytes (first.0, first.1.now) first.2.now
+abbrev pub IsFirstElement : ExtensionsForm → List ℕ → Option (ℕ × Bor (List ℕ) × Bor (List ℕ)) → Type 0
+IsFirstElement form bytes None = BeginsWithNoElement form bytes
+IsFirstElement form bytes (Some first) = BeginsWithElement form bytes (first.0, first.1.now) first.2.now

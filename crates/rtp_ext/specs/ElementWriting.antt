@@ -10,18 +10,18 @@ use Rattle.rtp_values.specs.Spelling.{spelled_data, carried_values, longest}
 use Rattle.rtp_values.specs.Values.{Reads}
 
 -- the bytes in front of an element's data, by its id and the length of its data
-abbrev pub header_bytes : ExtensionsForm → ℕ → ℕ → List ℕ
-header_bytes OneByte id len = (id * 16 + (len - 1)) ∷ []
-header_bytes TwoByte id len = id ∷ len ∷ []
+abbrev pub element_header : ExtensionsForm → ℕ → ℕ → List ℕ
+element_header OneByte id len = (id * 16 + (len - 1)) ∷ []
+element_header TwoByte id len = id ∷ len ∷ []
 
 -- the bytes of an element, and none where its data are absent
-abbrev pub bytes_at : ExtensionsForm → ℕ → Option (List ℕ) → List ℕ
-bytes_at form id None = []
-bytes_at form id (Some bytes) = element_bytes form (id, bytes)
+abbrev pub element_or_nothing : ExtensionsForm → ℕ → Option (List ℕ) → List ℕ
+element_or_nothing form id None = []
+element_or_nothing form id (Some bytes) = element_bytes form (id, bytes)
 
 -- the elements of mapped ids in a row
 unfoldable pub items_bytes : ExtensionsForm → ExtensionValues → List (ℕ × Extension) → List ℕ
-items_bytes form values items = flat_map (λ item. bytes_at form item.0 (spelled_data item.1 values)) items
+items_bytes form values items = flat_map (λ item. element_or_nothing form item.0 (spelled_data item.1 values)) items
 
 -- an element of a mapped id that may be written in the form: none in the one-byte form whose kind may have more than 16 bytes
 abbrev pub CanCarry : ExtensionsForm → ℕ × Extension → Option (List ℕ) → Type 0

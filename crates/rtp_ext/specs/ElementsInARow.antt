@@ -15,7 +15,7 @@ abbrev pub IsWritable : ExtensionsForm → Element → Type 0
 IsWritable form element = (1 ≤ element.0) × IsElement form element
 
 -- each element may be written in the form, and there is room for them in a row
-pub record FitInARow (form : ExtensionsForm) (elements : List Element) (room : ℕ) : Type 0 where
+pub record AreWritableIn (form : ExtensionsForm) (elements : List Element) (room : ℕ) : Type 0 where
   pub writable : AllByRecursion (IsWritable form) elements
   pub bytes_fit : length (elements_bytes form elements) ≤ room
 
@@ -33,6 +33,6 @@ abbrev pub IsUnwritable : Element → Type 0
 IsUnwritable element = (element.0 ≡ 0) ⊎ (255 < length element.1)
 
 -- the elements can't be written in a row in the form that serves for them: there is one that neither form can carry, or they take more than the room
-pub data CannotBeInARow (elements : List Element) (room : ℕ) : Type 0 where
-  unwritable : Any IsUnwritable elements → CannotBeInARow elements room
-  short_room : room < length (elements_bytes (form_for elements) elements) → CannotBeInARow elements room
+pub data AreNotWritableIn (elements : List Element) (room : ℕ) : Type 0 where
+  unwritable : Any IsUnwritable elements → AreNotWritableIn elements room
+  short_room : room < length (elements_bytes (form_for elements) elements) → AreNotWritableIn elements room

@@ -49,7 +49,7 @@ renumbered_bytes form ids None = 0 ∷ []
 renumbered_bytes form ids (Some element) = bytes_under form element (ids element.0)
 
 -- each element of a body has its new id or is padding, and all other bytes stay
-pub record HasOtherIds (form : ExtensionsForm) (ids : ℕ → Option ℕ) (old new : List ℕ) : Type 0 where
+pub record ChangesIds (form : ExtensionsForm) (ids : ℕ → Option ℕ) (old new : List ℕ) : Type 0 where
   pub pieces : List (Option Element)
   pub tail : List ℕ
   pub are_pieces : AllByRecursion (IsPiece form) pieces

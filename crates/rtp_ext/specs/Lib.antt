@@ -14,5 +14,5 @@ pub mod MapSlots
 pub mod EqualMaps
 pub mod ElementReading
 pub mod ElementWriting
-pub mod Places
+pub mod ElementPlaces
 pub mod IdChanges

@@ -43,12 +43,12 @@ abbrev pub items_at : Slots → List ℕ → List (ℕ × Extension)
 items_at slots ids = filter_map (λ id. option_map (λ extension. (id, extension)) (extension_at slots id)) ids
 
 -- some ids, and zeros for those of the 255 that are left
-abbrev pub padded : List ℕ → List ℕ
-padded ids = ids ++ replicate (255 - length ids) 0
+abbrev pub padded_ids : List ℕ → List ℕ
+padded_ids ids = ids ++ replicate (255 - length ids) 0
 
--- For the prover: a list that is zeros from a place on is the padded list of what stands before.
-pub padded-front : (ids : List ℕ) (count : ℕ) → count ≤ length ids → drop count ids ≡ replicate (255 - count) 0 → padded (take count ids) ≡ ids
-padded-front ids count within zeros =
+-- For the prover: a list that is zeros from a place on is the padded_ids list of what stands before.
+pub padded_ids-front : (ids : List ℕ) (count : ℕ) → count ≤ length ids → drop count ids ≡ replicate (255 - count) 0 → padded_ids (take count ids) ≡ ids
+padded_ids-front ids count within zeros =
     ap (λ (n : ℕ). take count ids ++ replicate (255 - n) 0) (length-take-le count ids within)
     ∙ ap (λ (left : List ℕ). take count ids ++ left) (sym zeros)
     ∙ take-append-drop count ids

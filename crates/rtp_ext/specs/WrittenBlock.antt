@@ -27,8 +27,8 @@ abbrev pub form_of : Slots → ExtensionValues → ExtensionsForm
 form_of exts values = if list_any (needs_two values) (items_from 0 exts) then TwoByte else OneByte
 
 -- the elements of the one-byte form have at most 17 bytes for each mapped id
-abbrev pub IsShort : Slots → ExtensionValues → Type 0
-IsShort exts values = length (elements_bytes OneByte (written_elements exts values)) ≤ 17 * mapped_count exts
+abbrev pub TakesAtMost17Each : Slots → ExtensionValues → Type 0
+TakesAtMost17Each exts values = length (elements_bytes OneByte (written_elements exts values)) ≤ 17 * mapped_count exts
 
 -- of the values the fields of the kinds of these items, and every other field absent
 abbrev pub fields_of_items : List (ℕ × Extension) → ExtensionValues → ExtensionValues

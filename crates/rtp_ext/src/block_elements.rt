@@ -5,14 +5,14 @@ ghost use Rattle.std.specs.List.{list_any};
 ghost use Rattle.rtp_ext.specs.declared.form.ExtensionsForm.TheVariants.{OneByte, TwoByte};
 ghost use Rattle.rtp_ext.specs.Elements.{AreElements, elements_bytes};
 ghost use Rattle.rtp_ext.specs.ExtensionMap.{items_from, mapped_count};
-ghost use Rattle.rtp_ext.specs.ElementWriting.{header_bytes, bytes_at, CanCarry, IsCarried};
+ghost use Rattle.rtp_ext.specs.ElementWriting.{element_header, element_or_nothing, CanCarry, IsCarried};
 ghost use Rattle.rtp_values.specs.Spelling.{spelled_data};
 ghost use Rattle.rtp_values.specs.KnownKind.{extension_of_kind};
 ghost use Rattle.rtp_ext.specs.KindsById.{known_slots, has_empty};
 ghost use Rattle.rtp_base.specs.Overwriting.{overwritten};
 ghost use Rattle.rtp_ext.specs.BlockValues.{AreValues};
 ghost use Rattle.rtp_values.specs.Values.{no_values};
-ghost use Rattle.rtp_ext.specs.WrittenBlock.{written_elements, form_of, needs_two, image_values, IsShort};
+ghost use Rattle.rtp_ext.specs.WrittenBlock.{written_elements, form_of, needs_two, image_values, TakesAtMost17Each};
 
 use super::form::{header_len, write_header};
 use super::kinds::{Cursor, Kinds};
@@ -21,7 +21,7 @@ use rtp_values::{ExtensionValues, KnownKind};
 
 // How many bytes the element of a kind takes, 0 where a value that it needs is absent.
 fn element_len(form: ExtensionsForm, kind: KnownKind, ev: &ExtensionValues) -> usize
-    ensures length { (id : ℕ) → result ≡ length (bytes_at form id (spelled_data (extension_of_kind kind) ev.now)) }
+    ensures length { (id : ℕ) → result ≡ length (element_or_nothing form id (spelled_data (extension_of_kind kind) ev.now)) }
     ensures few { result ≤ 257 }
 {
     match kind.data_len(ev) {
@@ -41,12 +41,12 @@ fn write_element(
     kind: KnownKind,
     ev: &ExtensionValues,
 ) -> usize
-    requires room { at + length (bytes_at form id (spelled_data (extension_of_kind kind) ev.now)) ≤ length buf.old }
+    requires room { at + length (element_or_nothing form id (spelled_data (extension_of_kind kind) ev.now)) ≤ length buf.old }
     requires id { 1 ≤ id }
     requires fits { CanCarry form (id, (extension_of_kind kind)) (spelled_data (extension_of_kind kind) ev.now) }
     ensures written { buf.new
-        ≡ overwritten buf.old at (bytes_at form id (spelled_data (extension_of_kind kind) ev.now)) }
-    ensures end { result ≡ at + length (bytes_at form id (spelled_data (extension_of_kind kind) ev.now)) }
+        ≡ overwritten buf.old at (element_or_nothing form id (spelled_data (extension_of_kind kind) ev.now)) }
+    ensures end { result ≡ at + length (element_or_nothing form id (spelled_data (extension_of_kind kind) ev.now)) }
     ensures carried { IsCarried form ev.now (id, (extension_of_kind kind)) }
 {
     let start = at + header_len(form);
@@ -81,7 +81,7 @@ fn has_empty_data<K: Kinds>(kinds: &K, start: Cursor, ev: &ExtensionValues) -> b
 fn needs_two_bytes<K: Kinds>(kinds: &K, start: Cursor, ev: &ExtensionValues) -> bool
     requires { K.left kinds.now start ≡ items_from 0 (K.known kinds.now) }
     ensures needed { result ≡ list_any (needs_two ev.now) (items_from 0 (K.slots kinds.now)) }
-    ensures short { result ≡ false → IsShort (K.known kinds.now) ev.now }
+    ensures short { result ≡ false → TakesAtMost17Each (K.known kinds.now) ev.now }
 {
     if kinds.has_long(start) {
         return true;
@@ -95,7 +95,7 @@ fn needs_two_bytes<K: Kinds>(kinds: &K, start: Cursor, ev: &ExtensionValues) -> 
 pub fn values_form<K: Kinds>(kinds: &K, start: Cursor, ev: &ExtensionValues) -> ExtensionsForm
     requires { K.left kinds.now start ≡ items_from 0 (K.known kinds.now) }
     ensures form { result ≡ form_of (K.slots kinds.now) ev.now }
-    ensures short { result ≡ OneByte → IsShort (K.known kinds.now) ev.now }
+    ensures short { result ≡ OneByte → TakesAtMost17Each (K.known kinds.now) ev.now }
 {
     if needs_two_bytes(kinds, start, ev) {
         ExtensionsForm::TwoByte
@@ -172,8 +172,8 @@ impl ExtensionMap {
         ensures form { result ≡ form_of self.now ev.now }
 
         // An element of the one-byte form has at most 17 bytes.
-        ensures short { result ≡ OneByte → IsShort self.now ev.now }
-        ensures known { result ≡ OneByte → IsShort (known_slots self.now) ev.now }
+        ensures short { result ≡ OneByte → TakesAtMost17Each self.now ev.now }
+        ensures known { result ≡ OneByte → TakesAtMost17Each (known_slots self.now) ev.now }
     {
         values_form(self, self.start(), ev)
     }

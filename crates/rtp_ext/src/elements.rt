@@ -4,7 +4,7 @@ ghost use Rattle.std.specs.Prelude.{◌≡◌, List};
 ghost use Rattle.std.specs.Iterator.{YieldsFirstBy, item_count};
 ghost use Rattle.rtp_ext.specs.declared.form.ExtensionsForm.TheVariants.{OneByte, TwoByte};
 ghost use Rattle.rtp_ext.specs.Elements.{Element, AreElements};
-ghost use Rattle.rtp_ext.specs.ElementReading.{without_padding, HasNoPadding, IsFirst};
+ghost use Rattle.rtp_ext.specs.ElementReading.{without_padding, HasNoPadding, IsFirstElement};
 
 use super::ExtensionsForm;
 use std::marker::Model;
@@ -69,7 +69,7 @@ impl<'a> Iterator for Elements<'a> {
 
 // The first element of bytes, and what follows it; None where reading ends before one.
 pub(super) fn first_element(bytes: &[u8], form: ExtensionsForm) -> Option<(u8, &[u8], &[u8])>
-    ensures { IsFirst form bytes.now result }
+    ensures { IsFirstElement form bytes.now result }
 {
     let bytes = skip_padding(bytes);
     match form {
@@ -131,7 +131,7 @@ fn skip_zero_words(bytes: &[u8]) -> &[u8]
 // ends.
 fn first_of_one_byte(bytes: &[u8]) -> Option<(u8, &[u8], &[u8])>
     requires { HasNoPadding bytes.now }
-    ensures { IsFirst OneByte bytes.now result }
+    ensures { IsFirstElement OneByte bytes.now result }
 {
     let (header, after) = bytes.split_first()?;
     if *header >= 240 {
@@ -149,7 +149,7 @@ fn first_of_one_byte(bytes: &[u8]) -> Option<(u8, &[u8], &[u8])>
 // ends.
 fn first_of_two_byte(bytes: &[u8]) -> Option<(u8, &[u8], &[u8])>
     requires { HasNoPadding bytes.now }
-    ensures { IsFirst TwoByte bytes.now result }
+    ensures { IsFirstElement TwoByte bytes.now result }
 {
     let (id, after) = bytes.split_first()?;
     let (len, after) = after.split_first()?;

@@ -7,9 +7,9 @@ ghost use Rattle.std.specs.Int.{w16, from_be_bytes, to_be_bytes};
 ghost use Rattle.rtp_ext.specs.Form.{form_word, IsFormWord};
 ghost use Rattle.rtp_ext.specs.declared.form.ExtensionsForm.TheVariants.{OneByte, TwoByte};
 ghost use Rattle.rtp_base.specs.Overwriting.{overwritten};
-ghost use Rattle.rtp_ext.specs.ElementWriting.{header_bytes};
+ghost use Rattle.rtp_ext.specs.ElementWriting.{element_header};
 ghost use Rattle.rtp_ext.specs.Elements.{Element, elements_bytes};
-ghost use Rattle.rtp_ext.specs.ElementsInARow.{elements_of, serves_one_byte, form_for, IsWritable, IsUnwritable, FitInARow, CannotBeInARow};
+ghost use Rattle.rtp_ext.specs.ElementsInARow.{elements_of, serves_one_byte, form_for, IsWritable, IsUnwritable, AreWritableIn, AreNotWritableIn};
 
 /// The greatest id that an element of the one-byte form can have (RFC 8285, 4.2).
 pub const MAX_ID_ONE_BYTE_FORM: u8 = 14;
@@ -75,7 +75,7 @@ impl ExtensionsForm {
 
 // How many bytes stand before an element's data.
 pub(super) fn header_len(form: ExtensionsForm) -> usize
-    ensures { (id len : ℕ) → result ≡ length (header_bytes form id len) }
+    ensures { (id len : ℕ) → result ≡ length (element_header form id len) }
 {
     match form {
         ExtensionsForm::OneByte => 1,
@@ -85,9 +85,9 @@ pub(super) fn header_len(form: ExtensionsForm) -> usize
 
 // Writes the header of an element at the offset, by its id and the length of its data.
 pub(super) fn write_header(buf: &mut [u8], at: usize, form: ExtensionsForm, id: u8, len: u8)
-    requires room { at + length (header_bytes form id len) ≤ length buf.old }
+    requires room { at + length (element_header form id len) ≤ length buf.old }
     requires fits { form ≡ OneByte → (id ≤ 14) × (1 ≤ len) × (len ≤ 16) }
-    ensures { buf.new ≡ overwritten buf.old at (header_bytes form id len) }
+    ensures { buf.new ≡ overwritten buf.old at (element_header form id len) }
 {
     match form {
         ExtensionsForm::OneByte => buf[at] = id * 16 + (len - 1),
@@ -129,9 +129,9 @@ impl ExtensionsForm {
     /// `None` where an element has the id 0 or more than 255 bytes of data, or where they take more
     /// than `room` bytes.
     pub fn for_elements(elements: &[(u8, &[u8])], room: usize) -> Option<Self>
-        ensures refused { IsNone result ↔ CannotBeInARow (elements_of elements.now) room }
+        ensures refused { IsNone result ↔ AreNotWritableIn (elements_of elements.now) room }
         ensures form { IfSome result (λ form. form ≡ form_for (elements_of elements.now)) }
-        ensures fit { IfSome result (λ form. FitInARow form (elements_of elements.now) room) }
+        ensures fit { IfSome result (λ form. AreWritableIn form (elements_of elements.now) room) }
     {
         let mut form = ExtensionsForm::OneByte;
         let mut left = room;

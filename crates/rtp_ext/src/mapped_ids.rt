@@ -21,7 +21,7 @@ pub(super) struct MappedIds {
 
 impl Model for MappedIds {
     ghost use Rattle.std.specs.Prelude.{◌≡◌, ℕ, ◌-◌, ◌≤◌, List, length, take, drop, replicate};
-    ghost use Rattle.rtp_ext.specs.MapSlots.{padded, padded-front, length-front};
+    ghost use Rattle.rtp_ext.specs.MapSlots.{padded_ids, padded_ids-front, length-front};
     ghost use Rattle.rtp_ext.specs.declared.map.TheConstants.{MAX_ID};
 
     ghost Value = { List ℕ };
@@ -32,10 +32,10 @@ impl Model for MappedIds {
         × (mapped.count ≤ length mapped.ids)
         × (drop mapped.count mapped.ids ≡ replicate (MAX_ID - mapped.count) 0) };
 
-    ghost inverse = { λ ids. record { ids = padded ids; count = length ids } };
+    ghost inverse = { λ ids. record { ids = padded_ids ids; count = length ids } };
 
     ghost inverse_ok = { λ mapped known i. record {
-      ids = padded-front mapped.ids mapped.count known.1 known.2 i;
+      ids = padded_ids-front mapped.ids mapped.count known.1 known.2 i;
       count = length-front mapped.ids mapped.count known.1 i;
     } };
 }

@@ -3,9 +3,9 @@
 ghost use Rattle.std.specs.Prelude.{◌≡◌, ◌↔◌, ◌<◌, ◌≤◌, ◌++◌, List, length, drop, IsTrue, Some, IfSome, IfNone, All, is_none};
 ghost use Rattle.rtp_ext.specs.declared.form.ExtensionsForm.TheVariants.{OneByte};
 ghost use Rattle.rtp_ext.specs.Elements.{Element, AreElements, IsElement};
-ghost use Rattle.rtp_ext.specs.ElementReading.{BeginsWithNone, elements_left};
-ghost use Rattle.rtp_ext.specs.ElementsInPlace.{HasNone, bytes_under, HasLast, HasLastOf, SetsLast, HasOtherIds, CanRenumber, renumbered, all_but};
-ghost use Rattle.rtp_ext.specs.Places.{LiesAt, IsNextPlace, IsLastPlace, LiesLast, WritesLast};
+ghost use Rattle.rtp_ext.specs.ElementReading.{BeginsWithNoElement, elements_left};
+ghost use Rattle.rtp_ext.specs.ElementsInPlace.{HasNone, bytes_under, HasLast, HasLastOf, SetsLast, ChangesIds, CanRenumber, renumbered, all_but};
+ghost use Rattle.rtp_ext.specs.ElementPlaces.{LiesAt, IsNextPlace, IsLastPlace, LiesLast, WritesLast};
 ghost use Rattle.std.specs.Bool.{OnTrue, OnFalse};
 ghost use Rattle.rtp_ext.specs.ExtensionMap.{Slots, extension_at, IsOnlyId};
 ghost use Rattle.rtp_ext.specs.BlockValues.{SaysValues};
@@ -44,7 +44,7 @@ pub fn next_place(form: ExtensionsForm, body: &[u8], at: usize) -> Option<Place>
     requires { at ≤ length body.now }
     ensures found { IfSome result (IsNextPlace form body.now at) }
     ensures further { IfSome result (λ place. (at < place.end) × (place.end ≤ length body.now)) }
-    ensures none { IfNone result (BeginsWithNone form (drop at body.now)) }
+    ensures none { IfNone result (BeginsWithNoElement form (drop at body.now)) }
 {
     let (id, data, after) = first_element(&body[at..], form)?;
     let end = body.len() - after.len();
@@ -172,7 +172,7 @@ impl IdChange<'_> {
 fn change_ids(form: ExtensionsForm, body: &mut [u8], change: IdChange<'_>) -> bool
     requires { All (λ element. IsElement form element → CanRenumber form (ids_of change) element)
         (elements_left form body.old) }
-    ensures changed { HasOtherIds form (ids_of change.entry) body.old body.new }
+    ensures changed { ChangesIds form (ids_of change.entry) body.old body.new }
     ensures lost { (elements : List Element) → AreElements form body.old elements →
         result ≡ list_any (λ element. is_none (ids_of change.entry element.0)) elements }
 {
@@ -194,7 +194,7 @@ fn change_ids(form: ExtensionsForm, body: &mut [u8], change: IdChange<'_>) -> bo
 /// In the body `10 AA 21 BB CC 10 DD 00` (hexadecimal) of the one-byte form the removal of id 1
 /// leaves `00 00 21 BB CC 00 00 00`.
 pub fn remove_element(form: ExtensionsForm, body: &mut [u8], id: u8) -> bool
-    ensures removed { HasOtherIds form (all_but id) body.old body.new }
+    ensures removed { ChangesIds form (all_but id) body.old body.new }
     ensures unchanged { OnFalse result (body.new ≡ body.old) }
     ensures answer { (elements : List Element) → AreElements form body.old elements →
         IsTrue result ↔ (HasNone elements id → ⊥) }
@@ -213,7 +213,7 @@ pub fn remove_element(form: ExtensionsForm, body: &mut [u8], id: u8) -> bool
 /// first, of the kinds that the second maps and no other. Where id 1 becomes 3, and 2 has no new
 /// id, the body `10 AA 21 BB CC 00` (hexadecimal) of the one-byte form becomes `30 AA 00 00 00 00`.
 pub fn renumber(form: ExtensionsForm, body: &mut [u8], ids: &NewIds) -> bool
-    ensures renumbered { OnTrue result (HasOtherIds form (new_id ids.now) body.old body.new) }
+    ensures renumbered { OnTrue result (ChangesIds form (new_id ids.now) body.old body.new) }
     ensures unchanged { OnFalse result (body.new ≡ body.old) }
     ensures answer { (elements : List Element) → AreElements form body.old elements →
         IsTrue result ↔ All (CanRenumber form (new_id ids.now)) elements }

@@ -3,7 +3,7 @@
 ghost use Rattle.std.specs.Prelude.{◌≡◌, ◌↔◌, ◌≤◌, ◌+◌, ℕ, ◌++◌, length, take, drop, replicate, IsTrue, IsSome, IfSome, IfNone};
 ghost use Rattle.rtp_base.specs.Overwriting.{overwritten};
 ghost use Rattle.rtp_ext.specs.Elements.{AreElements, element_bytes, elements_bytes};
-ghost use Rattle.rtp_ext.specs.ElementsInARow.{elements_of, IsWritable, FitInARow};
+ghost use Rattle.rtp_ext.specs.ElementsInARow.{elements_of, IsWritable, AreWritableIn};
 
 use super::ExtensionsForm;
 use super::form::{header_len, write_header};
@@ -24,7 +24,7 @@ fn room_after(room: usize, form: ExtensionsForm, id: u8, bytes: &[u8]) -> Option
 
 // Whether the elements can be written in the form, and in the room.
 fn fit(room: usize, form: ExtensionsForm, elements: &[(u8, &[u8])]) -> bool
-    ensures { IsTrue result ↔ FitInARow form (elements_of elements.now) room }
+    ensures { IsTrue result ↔ AreWritableIn form (elements_of elements.now) room }
 {
     let mut left = room;
     for (id, bytes) in elements {
@@ -54,7 +54,7 @@ fn put_element(buf: &mut [u8], at: usize, form: ExtensionsForm, id: u8, bytes: &
 /// Requires a form that can carry every one of them, and a buffer of at least the length that they
 /// take in it: [`ExtensionsForm::for_elements`] returns such a form.
 pub fn put_elements(buf: &mut [u8], form: ExtensionsForm, elements: &[(u8, &[u8])]) -> usize
-    requires { FitInARow form (elements_of elements.now) (length buf.old) }
+    requires { AreWritableIn form (elements_of elements.now) (length buf.old) }
     ensures written { buf.new
         ≡ elements_bytes form (elements_of elements.now) ++ drop result buf.old }
     ensures length { result ≡ length (elements_bytes form (elements_of elements.now)) }
@@ -87,7 +87,7 @@ pub fn write_elements(
     elements: &[(u8, &[u8])],
 ) -> Option<usize>
     ensures fits { IsSome result
-        ↔ FitInARow form (elements_of elements.now) (length buf.old) }
+        ↔ AreWritableIn form (elements_of elements.now) (length buf.old) }
     ensures unchanged { IfNone result (buf.new ≡ buf.old) }
     ensures written { IfSome result (λ len. buf.new
         ≡ elements_bytes form (elements_of elements.now) ++ drop len buf.old) }

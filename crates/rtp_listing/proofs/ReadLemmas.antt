@@ -7,7 +7,7 @@ use Rattle.hex.specs.declared.error.FromHexError.{FromHexError}
 use Rattle.hex.specs.declared.error.FromHexError.TheVariants.{InvalidHexCharacter, OddLength}
 use Rattle.rtp_ext.specs.ExtensionMap.{Slots}
 use Rattle.rtp_listing.specs.MapLine.{IsMapLine}
-use Rattle.rtp_listing.specs.Input.{Item, AreMapLines, AreHex, AreLines, AreMapped, IsStandard, IsMapOf, Spells, IsFirstBadLine, IsInput, HasBadLine}
+use Rattle.rtp_listing.specs.Input.{Item, AreMapLines, AreHex, AreLines, AreMapped, IsStandardMap, IsMapOf, Spells, IsFirstBadLine, IsInput, HasBadLine}
 use Rattle.rtp_listing.specs.Front.{IsFront, IsFirstNotHex, MapsNoneFirst}
 
 -- a fact on an error, from another on it
@@ -117,7 +117,7 @@ AreLines-after text rest exts count datagrams front hex = record {
 }
 
 -- as many items as map lines
-standard_of : (maps : List (List ℕ)) (items : List Item) (exts : Slots) → AreMapLines maps items → length maps ≡ 0 → IsStandard exts → IsMapOf items exts
+standard_of : (maps : List (List ℕ)) (items : List Item) (exts : Slots) → AreMapLines maps items → length maps ≡ 0 → IsStandardMap exts → IsMapOf items exts
 standard_of maps [] exts are none standard = standard
 standard_of [] (item ∷ items) exts are none standard = absurd are
 standard_of (line ∷ maps) (item ∷ items) exts are none standard = absurd (omega (arith, none))
@@ -128,7 +128,7 @@ mapped_of [] [] exts are some mapped = absurd (some refl)
 mapped_of (line ∷ maps) [] exts are some mapped = absurd are
 
 pub Spells-standard : (text rest : List ℕ) (exts standard : Slots) (count : ℕ) (datagrams : List (List ℕ)) → IsFront text exts count rest → AreHex (lines rest) datagrams
-    → count ≡ 0 → IsStandard standard → Spells text standard datagrams
+    → count ≡ 0 → IsStandardMap standard → Spells text standard datagrams
 Spells-standard text rest exts standard count datagrams front hex none is_standard = record {
   items = front.items;
   lines_are = AreLines-after text rest exts count datagrams front hex;

@@ -42,12 +42,12 @@ abbrev pub AreMapped : List Item → Slots → Type 0
 AreMapped items exts = (id : ℕ) → IsEntryOf (last_for id items) (entry_at exts id)
 
 -- the standard map: its listing, and nothing locked
-abbrev pub IsStandard : Slots → Type 0
-IsStandard exts = IsListing exts (λ _. true) standard_items × IsUnlocked exts
+abbrev pub IsStandardMap : Slots → Type 0
+IsStandardMap exts = IsListing exts (λ _. true) standard_items × IsUnlocked exts
 
 -- the map that the items make, and without any the standard one
 abbrev pub IsMapOf : List Item → Slots → Type 0
-IsMapOf [] exts = IsStandard exts
+IsMapOf [] exts = IsStandardMap exts
 IsMapOf (item ∷ items) exts = AreMapped (item ∷ items) exts
 
 -- the lines of the text give this map and these datagrams

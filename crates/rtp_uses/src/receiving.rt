@@ -7,7 +7,7 @@ ghost use Rattle.rtp_wire.specs.Packet.{PacketParts, IsPacket};
 ghost use Rattle.rtp_wire.specs.PartsOf.{parts_of};
 ghost use Rattle.rtp_wire.specs.Receiver.{Holds, IsNumberOf, IsFresh, IsJudged, taken_after};
 ghost use Rattle.rtp_wire.specs.Receivers.{receiver_of, state_of};
-ghost use Rattle.rtp_wire.specs.TrueNumbers.{IsTrueNumber, AreTrue, AreTrueVerdicts};
+ghost use Rattle.rtp_wire.specs.TrueNumbers.{IsTrueNumber, AreTrueNumbers, AreTrueVerdicts};
 ghost use Rattle.rtp_wire.specs.Sending.{packet_ids_of};
 ghost use Rattle.rtp_wire.specs.declared.receive.verdict.Verdict.TheVariants.{Taken, Unreadable};
 
@@ -60,7 +60,7 @@ pub fn receive_authentic<F: FnOnce(SeqNo) -> bool>(
 /// first is below 65,536 and each later one is less than 32,768 away from the highest one before it
 /// (RFC 3711, 3.3.1).
 pub fn receive_each(alloc: Global, headers: &[RtpHeader]) -> Result<Vec<Verdict>, AllocError>
-    ensures { (numbers : List ℕ) → AreTrue 0 (packet_ids_of headers.now) numbers →
+    ensures { (numbers : List ℕ) → AreTrueNumbers 0 (packet_ids_of headers.now) numbers →
         IfOk result (λ found. AreTrueVerdicts (packet_ids_of headers.now) numbers found.items) }
 {
     let mut verdicts = Vec::with_capacity(alloc, headers.len())?;

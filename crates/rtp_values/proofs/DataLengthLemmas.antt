@@ -9,7 +9,7 @@ use Rattle.rtp_vla.specs.AllocationWritten.{can_be_written, written_of}
 use Rattle.rtp_values.specs.declared.kind.Extension.{Extension}
 use Rattle.rtp_values.specs.declared.kind.Extension.TheVariants.{AbsoluteSendTime, AbsoluteCaptureTime, AudioLevel, TransmissionTimeOffset, VideoOrientation, TransportSequenceNumber, PlayoutDelay, VideoContentType, VideoTiming, RtpStreamId, RepairedRtpStreamId, RtpMid, FrameMarking, ColorSpace, VideoLayersAllocation, UnknownUri}
 use Rattle.rtp_values.specs.declared.value.values.ExtensionValues.{ExtensionValues}
-use Rattle.rtp_values.specs.Spelling.{bytes_of, offset_bytes, of_both, element_allocation, spelled_data, longest}
+use Rattle.rtp_values.specs.Spelling.{bytes_of_number, offset_bytes, of_both, element_allocation, spelled_data, longest}
 use Rattle.rtp_values.proofs.ValueLemmas.{length-offset_bytes}
 
 few_of : {A : Type 0} (f : A → List ℕ) (most : ℕ) (value : Option A) → ((x : A) → length (f x) ≤ most) → IfSome (option_map f value) (λ bytes. length bytes ≤ most)
@@ -46,7 +46,7 @@ pub few_data : (kind : Extension) (values : ExtensionValues) → IsShortText val
     → IfSome (spelled_data kind values) (λ bytes. length bytes ≤ longest kind)
 few_data AbsoluteSendTime values mid rid repair = few_of _ 16 values.abs_send_time (λ x. omega arith)
 few_data AbsoluteCaptureTime values mid rid repair =
-    few_of _ 16 values.abs_capture_time (λ x. omega (arith, length-append (bytes_of 8 x.capture_time) (offset_bytes x.clock_offset), length-offset_bytes x.clock_offset))
+    few_of _ 16 values.abs_capture_time (λ x. omega (arith, length-append (bytes_of_number 8 x.capture_time) (offset_bytes x.clock_offset), length-offset_bytes x.clock_offset))
 few_data AudioLevel values mid rid repair = few_of_both _ 16 values.audio_level values.voice_activity (λ x y. omega arith)
 few_data TransmissionTimeOffset values mid rid repair = few_of _ 16 values.tx_time_offs (λ x. omega arith)
 few_data VideoOrientation values mid rid repair = few_of _ 16 values.video_orientation (λ x. omega arith)

@@ -9,7 +9,7 @@ use Rattle.rtp_values.specs.declared.known_kind.KnownKind.{KnownKind}
 use Rattle.rtp_values.specs.declared.known_kind.KnownKind.TheVariants.{AbsoluteSendTime, AbsoluteCaptureTime, AudioLevel, TransmissionTimeOffset, VideoOrientation, TransportSequenceNumber, PlayoutDelay, VideoContentType, VideoTiming, RtpStreamId, RepairedRtpStreamId, RtpMid, FrameMarking, ColorSpace, VideoLayersAllocation}
 use Rattle.rtp_values.specs.KnownKind.{extension_of_kind}
 use Rattle.rtp_values.specs.declared.value.values.ExtensionValues.{ExtensionValues}
-use Rattle.rtp_values.specs.Spelling.{has_no_data, has_empty_text, bytes_of, offset_bytes, of_both, element_allocation, spelled_data}
+use Rattle.rtp_values.specs.Spelling.{has_no_data, has_empty_text, bytes_of_number, offset_bytes, of_both, element_allocation, spelled_data}
 
 -- data that are made of a value have some bytes, or are absent with it
 some_data : {A : Type 0} (f : A → List ℕ) (value : Option A) → ((x : A) → (length (f x) == 0) ≡ false) → has_no_data (option_map f value) ≡ false
@@ -25,7 +25,7 @@ some_of_both f (Some x) (Some y) some = some x y
 pub no_empty_data : (kind : KnownKind) (values : ExtensionValues) → kind ≢ RtpStreamId → kind ≢ RepairedRtpStreamId → kind ≢ RtpMid → has_no_data (spelled_data (extension_of_kind kind) values) ≡ false
 no_empty_data AbsoluteSendTime values a b c = some_data _ values.abs_send_time (λ x. refl)
 no_empty_data AbsoluteCaptureTime values a b c =
-    some_data _ values.abs_capture_time (λ x. ne_eqb _ 0 (λ e. omega (arith, length-append (bytes_of 8 x.capture_time) (offset_bytes x.clock_offset))))
+    some_data _ values.abs_capture_time (λ x. ne_eqb _ 0 (λ e. omega (arith, length-append (bytes_of_number 8 x.capture_time) (offset_bytes x.clock_offset))))
 no_empty_data AudioLevel values a b c = some_of_both _ values.audio_level values.voice_activity (λ x y. refl)
 no_empty_data TransmissionTimeOffset values a b c = some_data _ values.tx_time_offs (λ x. refl)
 no_empty_data VideoOrientation values a b c = some_data _ values.video_orientation (λ x. refl)

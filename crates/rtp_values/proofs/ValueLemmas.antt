@@ -21,7 +21,7 @@ use Rattle.rtp_values.specs.declared.value.video_orientation.VideoOrientation as
 use Rattle.rtp_values.specs.declared.value.video_orientation.VideoOrientation.TheVariants.{Deg0, Deg90, Deg180, Deg270}
 use Rattle.rtp_base.specs.Flag.{bit}
 use Rattle.rtp_values.specs.Values.{Reads, big_endian, offset_of, orientation_of, hundredths}
-use Rattle.rtp_values.specs.Spelling.{bytes_of, spelled_data, HasRoom, carried_values, longest, send_ticks, delay_of, offset_bytes, orientation_bits, timing_bytes}
+use Rattle.rtp_values.specs.Spelling.{bytes_of_number, spelled_data, HasRoom, carried_values, longest, send_ticks, delay_of, offset_bytes, orientation_bits, timing_bytes}
 use Rattle.rtp_values.specs.KindBytes.{WritesData}
 
 -- ---- what is written
@@ -104,11 +104,11 @@ AreData-id size {id} {text} enough spelled reads is are = record {
 -- ---- kind by kind; `shown` is what the fields hold
 
 module _ {shown values : ExtensionValues} (same : shown ≡ values) where
-  pub spelled-send_time : {micros ticks : ℕ} → shown.abs_send_time ≡ Some micros → ticks ≡ send_ticks micros → spelled_data AbsoluteSendTime values ≡ Some (bytes_of 3 ticks)
+  pub spelled-send_time : {micros ticks : ℕ} → shown.abs_send_time ≡ Some micros → ticks ≡ send_ticks micros → spelled_data AbsoluteSendTime values ≡ Some (bytes_of_number 3 ticks)
   spelled-send_time is ticks-is = rw (← same, is, ticks-is) refl
 
-  pub AreData-send_time : {micros ticks : ℕ} → shown.abs_send_time ≡ Some micros → ticks ≡ send_ticks micros → big_endian (bytes_of 3 ticks) ≡ ticks
-      → AreData AbsoluteSendTime values (bytes_of 3 ticks)
+  pub AreData-send_time : {micros ticks : ℕ} → shown.abs_send_time ≡ Some micros → ticks ≡ send_ticks micros → big_endian (bytes_of_number 3 ticks) ≡ ticks
+      → AreData AbsoluteSendTime values (bytes_of_number 3 ticks)
   unfolding carried_values
   AreData-send_time is ticks-is back = record {
     spelled = spelled-send_time is ticks-is;
@@ -116,10 +116,10 @@ module _ {shown values : ExtensionValues} (same : shown ≡ values) where
     few = omega arith;
   }
 
-  pub spelled-transmission_offset : {offset : ℕ} → shown.tx_time_offs ≡ Some offset → spelled_data TransmissionTimeOffset values ≡ Some (bytes_of 4 offset)
+  pub spelled-transmission_offset : {offset : ℕ} → shown.tx_time_offs ≡ Some offset → spelled_data TransmissionTimeOffset values ≡ Some (bytes_of_number 4 offset)
   spelled-transmission_offset is = rw (← same, is) refl
 
-  pub AreData-transmission_offset : {offset : ℕ} → shown.tx_time_offs ≡ Some offset → big_endian (bytes_of 4 offset) ≡ offset → AreData TransmissionTimeOffset values (bytes_of 4 offset)
+  pub AreData-transmission_offset : {offset : ℕ} → shown.tx_time_offs ≡ Some offset → big_endian (bytes_of_number 4 offset) ≡ offset → AreData TransmissionTimeOffset values (bytes_of_number 4 offset)
   unfolding carried_values
   AreData-transmission_offset is back = record {
     spelled = spelled-transmission_offset is;
@@ -127,10 +127,10 @@ module _ {shown values : ExtensionValues} (same : shown ≡ values) where
     few = omega arith;
   }
 
-  pub spelled-transport : {number : ℕ} → shown.transport_cc ≡ Some number → spelled_data TransportSequenceNumber values ≡ Some (bytes_of 2 number)
+  pub spelled-transport : {number : ℕ} → shown.transport_cc ≡ Some number → spelled_data TransportSequenceNumber values ≡ Some (bytes_of_number 2 number)
   spelled-transport is = rw (← same, is) refl
 
-  pub AreData-transport : {number : ℕ} → shown.transport_cc ≡ Some number → big_endian (bytes_of 2 number) ≡ number → AreData TransportSequenceNumber values (bytes_of 2 number)
+  pub AreData-transport : {number : ℕ} → shown.transport_cc ≡ Some number → big_endian (bytes_of_number 2 number) ≡ number → AreData TransportSequenceNumber values (bytes_of_number 2 number)
   unfolding carried_values
   AreData-transport is back = record {
     spelled = spelled-transport is;
@@ -138,10 +138,10 @@ module _ {shown values : ExtensionValues} (same : shown ≡ values) where
     few = omega arith;
   }
 
-  pub spelled-frame_marking : {marking : ℕ} → shown.frame_mark ≡ Some marking → spelled_data FrameMarking values ≡ Some (bytes_of 4 marking)
+  pub spelled-frame_marking : {marking : ℕ} → shown.frame_mark ≡ Some marking → spelled_data FrameMarking values ≡ Some (bytes_of_number 4 marking)
   spelled-frame_marking is = rw (← same, is) refl
 
-  pub AreData-frame_marking : {marking : ℕ} → shown.frame_mark ≡ Some marking → big_endian (bytes_of 4 marking) ≡ marking → AreData FrameMarking values (bytes_of 4 marking)
+  pub AreData-frame_marking : {marking : ℕ} → shown.frame_mark ≡ Some marking → big_endian (bytes_of_number 4 marking) ≡ marking → AreData FrameMarking values (bytes_of_number 4 marking)
   unfolding carried_values
   AreData-frame_marking is back = record {
     spelled = spelled-frame_marking is;
@@ -189,12 +189,12 @@ module _ {shown values : ExtensionValues} (same : shown ≡ values) where
       }
 
   pub spelled-delays : {min max : Fraction} {least most : ℕ} → shown.play_delay_min ≡ Some min → shown.play_delay_max ≡ Some max
-      → least ≡ delay_of min → most ≡ delay_of max → spelled_data PlayoutDelay values ≡ Some (bytes_of 3 (least * 4096 + most))
+      → least ≡ delay_of min → most ≡ delay_of max → spelled_data PlayoutDelay values ≡ Some (bytes_of_number 3 (least * 4096 + most))
   spelled-delays min-is max-is least-is most-is = rw (← same, min-is, max-is, least-is, most-is) refl
 
   pub AreData-delays : {min max : Fraction} {least most : ℕ} → shown.play_delay_min ≡ Some min → shown.play_delay_max ≡ Some max
-      → least ≡ delay_of min → most ≡ delay_of max → big_endian (bytes_of 3 (least * 4096 + most)) ≡ least * 4096 + most
-      → AreData PlayoutDelay values (bytes_of 3 (least * 4096 + most))
+      → least ≡ delay_of min → most ≡ delay_of max → big_endian (bytes_of_number 3 (least * 4096 + most)) ≡ least * 4096 + most
+      → AreData PlayoutDelay values (bytes_of_number 3 (least * 4096 + most))
   unfolding carried_values
   AreData-delays {min} {max} {least} {most} min-is max-is least-is most-is back =
       let below : most < 4096 = omega arith in
@@ -212,8 +212,8 @@ module _ {shown values : ExtensionValues} (same : shown ≡ values) where
   spelled-timing is bytes-are = rw (← same, is) (ap Some (sym bytes-are))
 
   pub AreData-timing : {t : timing.VideoTiming} {bytes : List ℕ} → shown.video_timing ≡ Some t → bytes ≡ timing_bytes t
-      → big_endian (bytes_of 2 t.encode_start) ≡ t.encode_start → big_endian (bytes_of 2 t.encode_finish) ≡ t.encode_finish
-      → big_endian (bytes_of 2 t.packetize_complete) ≡ t.packetize_complete → big_endian (bytes_of 2 t.last_left_pacer) ≡ t.last_left_pacer
+      → big_endian (bytes_of_number 2 t.encode_start) ≡ t.encode_start → big_endian (bytes_of_number 2 t.encode_finish) ≡ t.encode_finish
+      → big_endian (bytes_of_number 2 t.packetize_complete) ≡ t.packetize_complete → big_endian (bytes_of_number 2 t.last_left_pacer) ≡ t.last_left_pacer
       → AreData VideoTiming values bytes
   unfolding carried_values
   AreData-timing is bytes-are start finish complete left = record {
@@ -223,12 +223,12 @@ module _ {shown values : ExtensionValues} (same : shown ≡ values) where
   }
 
   pub spelled-capture : {t : capture.AbsCaptureTime} {offset : Option ℤ} → shown.abs_capture_time ≡ Some t → t.clock_offset ≡ offset
-      → spelled_data AbsoluteCaptureTime values ≡ Some (bytes_of 8 t.capture_time ++ offset_bytes offset)
+      → spelled_data AbsoluteCaptureTime values ≡ Some (bytes_of_number 8 t.capture_time ++ offset_bytes offset)
   spelled-capture is offset-is = rw (← same, is, offset-is) refl
 
   pub AreData-capture : {t : capture.AbsCaptureTime} {offset : Option ℤ} → shown.abs_capture_time ≡ Some t → t.clock_offset ≡ offset
-      → big_endian (bytes_of 8 t.capture_time) ≡ t.capture_time → offset_of (offset_bytes offset) ≡ offset
-      → AreData AbsoluteCaptureTime values (bytes_of 8 t.capture_time ++ offset_bytes offset)
+      → big_endian (bytes_of_number 8 t.capture_time) ≡ t.capture_time → offset_of (offset_bytes offset) ≡ offset
+      → AreData AbsoluteCaptureTime values (bytes_of_number 8 t.capture_time ++ offset_bytes offset)
   unfolding carried_values
   AreData-capture {t} {offset} is offset-is word back = record {
     spelled = spelled-capture is offset-is;

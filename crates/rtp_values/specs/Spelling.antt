@@ -16,9 +16,9 @@ use Rattle.rtp_base.specs.Flag.{bit}
 use Rattle.rtp_values.specs.Values.{hundredths}
 
 -- the low `count` bytes of a number, the high one first
-abbrev pub bytes_of : ℕ → ℕ → List ℕ
-bytes_of zero number = []
-bytes_of (suc more) number = (number / 256 ^ more % 256) ∷ bytes_of more number
+abbrev pub bytes_of_number : ℕ → ℕ → List ℕ
+bytes_of_number zero number = []
+bytes_of_number (suc more) number = (number / 256 ^ more % 256) ∷ bytes_of_number more number
 
 -- something of two values, where both are there
 abbrev pub of_both : {A B C : Type 0} → (A → B → C) → Option A → Option B → Option C
@@ -37,7 +37,7 @@ carried_send_time micros = send_ticks micros * 1000000 / 262144
 -- a clock offset in eight bytes, in two's complement; nothing where it is absent
 abbrev pub offset_bytes : Option ℤ → List ℕ
 offset_bytes None = []
-offset_bytes (Some offset) = bytes_of 8 (cast_unsigned w64 offset)
+offset_bytes (Some offset) = bytes_of_number 8 (cast_unsigned w64 offset)
 
 -- the two bits of an orientation
 abbrev pub orientation_bits : orientation.VideoOrientation → ℕ
@@ -53,8 +53,8 @@ delay_of time = whole_ticks time 100 % 4096
 -- flags, four times, and four bytes of zeros
 abbrev pub timing_bytes : timing.VideoTiming → List ℕ
 timing_bytes t =
-    t.flags ∷ (bytes_of 2 t.encode_start ++ (bytes_of 2 t.encode_finish ++ (bytes_of 2 t.packetize_complete
-    ++ (bytes_of 2 t.last_left_pacer ++ replicate 4 0))))
+    t.flags ∷ (bytes_of_number 2 t.encode_start ++ (bytes_of_number 2 t.encode_finish ++ (bytes_of_number 2 t.packetize_complete
+    ++ (bytes_of_number 2 t.last_left_pacer ++ replicate 4 0))))
 
 -- the allocation where an element can carry it: it can be written, and in at most 255 bytes
 abbrev pub element_allocation : Option Allocation → Option Allocation
@@ -63,22 +63,22 @@ element_allocation (Some a) = if can_be_written a && nat_le (length (written_of 
 
 -- the data of an element of the kind, and nothing where a value that it needs is absent
 abbrev pub spelled_data : Extension → ExtensionValues → Option (List ℕ)
-spelled_data AbsoluteSendTime values = option_map (λ time. bytes_of 3 (send_ticks time)) values.abs_send_time
+spelled_data AbsoluteSendTime values = option_map (λ time. bytes_of_number 3 (send_ticks time)) values.abs_send_time
 spelled_data AbsoluteCaptureTime values =
-    option_map (λ time. bytes_of 8 time.capture_time ++ offset_bytes time.clock_offset) values.abs_capture_time
+    option_map (λ time. bytes_of_number 8 time.capture_time ++ offset_bytes time.clock_offset) values.abs_capture_time
 spelled_data AudioLevel values =
     of_both (λ level voice. (bit voice * 128 + unsigned_abs level % 128) ∷ []) values.audio_level values.voice_activity
-spelled_data TransmissionTimeOffset values = option_map (bytes_of 4) values.tx_time_offs
+spelled_data TransmissionTimeOffset values = option_map (bytes_of_number 4) values.tx_time_offs
 spelled_data VideoOrientation values = option_map (λ turn. orientation_bits turn ∷ []) values.video_orientation
-spelled_data TransportSequenceNumber values = option_map (bytes_of 2) values.transport_cc
+spelled_data TransportSequenceNumber values = option_map (bytes_of_number 2) values.transport_cc
 spelled_data PlayoutDelay values =
-    of_both (λ min max. bytes_of 3 (delay_of min * 4096 + delay_of max)) values.play_delay_min values.play_delay_max
+    of_both (λ min max. bytes_of_number 3 (delay_of min * 4096 + delay_of max)) values.play_delay_min values.play_delay_max
 spelled_data VideoContentType values = option_map (λ content. content ∷ []) values.video_content_type
 spelled_data VideoTiming values = option_map timing_bytes values.video_timing
 spelled_data RtpStreamId values = option_map before_padding values.rid
 spelled_data RepairedRtpStreamId values = option_map before_padding values.rid_repair
 spelled_data RtpMid values = option_map before_padding values.mid
-spelled_data FrameMarking values = option_map (bytes_of 4) values.frame_mark
+spelled_data FrameMarking values = option_map (bytes_of_number 4) values.frame_mark
 spelled_data ColorSpace values = None
 spelled_data VideoLayersAllocation values = option_map written_of (element_allocation values.video_layers_allocation)
 spelled_data (UnknownUri uri) values = None

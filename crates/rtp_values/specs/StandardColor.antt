@@ -1,7 +1,7 @@
 -- A color space (WebRTC's color-space): code points of H.273, range and siting in four bytes, and HDR metadata in 24 more.
 use Rattle.std.specs.Prelude.{◌==◌, if◌then◌else◌, ℕ, ◌+◌, ◌*◌, ◌/◌, ◌%◌, List, [], ◌∷◌, ◌++◌, length, drop, slice_index, slice_range, Option, Some, None}
 use Rattle.rtp_values.specs.Values.{big_endian}
-use Rattle.rtp_values.specs.Spelling.{bytes_of}
+use Rattle.rtp_values.specs.Spelling.{bytes_of_number}
 use Rattle.rtp_values.specs.declared.standard.color_space.ColorRange.{ColorRange}
 use Rattle.rtp_values.specs.declared.standard.color_space.ColorRange.TheVariants.{Unknown, Limited, Full, Derived}
 use Rattle.rtp_values.specs.declared.standard.color_space.ChromaSiting.{ChromaSiting}
@@ -78,7 +78,7 @@ hdr_numbers h =
 -- each number in two bytes
 abbrev pub numbers_data : List ℕ → List ℕ
 numbers_data [] = []
-numbers_data (number ∷ numbers) = bytes_of 2 number ++ numbers_data numbers
+numbers_data (number ∷ numbers) = bytes_of_number 2 number ++ numbers_data numbers
 
 -- the bytes of the metadata, where there are some
 abbrev pub hdr_data : Option HdrMetadata → List ℕ

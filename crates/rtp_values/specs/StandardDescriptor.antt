@@ -3,7 +3,7 @@ use Rattle.std.specs.Prelude.{ℕ, ◌+◌, ◌*◌, ◌%◌, List, ◌∷◌, s
 use Rattle.rtp_base.specs.Flag.{bit}
 use Rattle.rtp_values.specs.StandardBits.{has_bit}
 use Rattle.rtp_values.specs.Values.{big_endian}
-use Rattle.rtp_values.specs.Spelling.{bytes_of}
+use Rattle.rtp_values.specs.Spelling.{bytes_of_number}
 use Rattle.rtp_values.specs.declared.standard.dependency_descriptor.DependencyDescriptor.{DependencyDescriptor}
 
 -- what the bytes say
@@ -17,4 +17,4 @@ descriptor_in bytes = record {
 
 -- the bytes that are written
 abbrev pub descriptor_bytes : DependencyDescriptor → List ℕ
-descriptor_bytes d = (bit d.start_of_frame * 128 + bit d.end_of_frame * 64 + d.template_id) ∷ bytes_of 2 d.frame_number
+descriptor_bytes d = (bit d.start_of_frame * 128 + bit d.end_of_frame * 64 + d.template_id) ∷ bytes_of_number 2 d.frame_number

@@ -1,7 +1,7 @@
 -- A video timing (WebRTC's video-timing): six times of 16 bits, after a byte of flags, which the older form doesn't have.
 use Rattle.std.specs.Prelude.{◌==◌, if◌then◌else◌, ℕ, List, [], ◌∷◌, ◌++◌, length, drop, slice_index, slice_range, Option, Some, None}
 use Rattle.rtp_values.specs.Values.{big_endian}
-use Rattle.rtp_values.specs.Spelling.{bytes_of}
+use Rattle.rtp_values.specs.Spelling.{bytes_of_number}
 use Rattle.rtp_values.specs.declared.standard.timing.Timing.{Timing}
 
 -- the times in twelve bytes, with these flags
@@ -23,8 +23,8 @@ timing_in bytes = if length bytes == 12 then timing_after None bytes else timing
 -- the times, two bytes each
 abbrev pub times_data : Timing → List ℕ
 times_data t =
-    bytes_of 2 t.encode_start ++ (bytes_of 2 t.encode_finish ++ (bytes_of 2 t.packetize_complete
-    ++ (bytes_of 2 t.last_left_pacer ++ (bytes_of 2 t.network ++ bytes_of 2 t.network2))))
+    bytes_of_number 2 t.encode_start ++ (bytes_of_number 2 t.encode_finish ++ (bytes_of_number 2 t.packetize_complete
+    ++ (bytes_of_number 2 t.last_left_pacer ++ (bytes_of_number 2 t.network ++ bytes_of_number 2 t.network2))))
 
 -- the byte of the flags, where there are some
 abbrev pub flags_data : Option ℕ → List ℕ

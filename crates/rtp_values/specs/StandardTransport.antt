@@ -2,7 +2,7 @@
 use Rattle.std.specs.Prelude.{◌==◌, ◌&&◌, nat_lt, if◌then◌else◌, ℕ, ◌+◌, ◌*◌, ◌/◌, ◌%◌, Bool, true, List, [], ◌++◌, length, take, drop, Option, Some, None}
 use Rattle.rtp_base.specs.Flag.{bit}
 use Rattle.rtp_values.specs.Values.{big_endian}
-use Rattle.rtp_values.specs.Spelling.{bytes_of}
+use Rattle.rtp_values.specs.Spelling.{bytes_of_number}
 use Rattle.rtp_values.specs.declared.standard.transport_number.TransportNumber.{TransportNumber}
 use Rattle.rtp_values.specs.declared.standard.transport_number.FeedbackRequest.{FeedbackRequest}
 
@@ -20,7 +20,7 @@ transport_in bytes = record {
 -- the 16 bits of a request
 abbrev pub request_bytes : Option FeedbackRequest → List ℕ
 request_bytes None = []
-request_bytes (Some request) = bytes_of 2 (bit request.timestamps * 32768 + request.packets)
+request_bytes (Some request) = bytes_of_number 2 (bit request.timestamps * 32768 + request.packets)
 
 -- whether a request is for some packets, whose count fits into its 15 bits
 abbrev pub is_request : Option FeedbackRequest → Bool
@@ -29,4 +29,4 @@ is_request (Some request) = nat_lt 0 request.packets && nat_lt request.packets 3
 
 -- the data, where the request can be written
 abbrev pub transport_data : TransportNumber → Option (List ℕ)
-transport_data t = if is_request t.request then Some (bytes_of 2 t.number ++ request_bytes t.request) else None
+transport_data t = if is_request t.request then Some (bytes_of_number 2 t.number ++ request_bytes t.request) else None

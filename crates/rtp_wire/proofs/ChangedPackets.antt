@@ -12,7 +12,7 @@ use Rattle.rtp_ext.specs.BlockValues.{SaysValues}
 use Rattle.rtp_wire.specs.declared.packet.rtp_packet_mut.RtpPacketMut.{RtpPacketMut}
 use Rattle.rtp_wire.specs.NotAHeader.{sources_end}
 use Rattle.rtp_wire.specs.Packet.{PacketParts, IsPacket}
-use Rattle.rtp_wire.specs.PartsAt.{IsLaidOut, form_in, header_end, parts_at}
+use Rattle.rtp_wire.specs.PartsAt.{HasLayout, form_in, header_end, parts_at}
 use Rattle.rtp_wire.specs.PartsOf.{parts_in}
 use Rattle.rtp_wire.specs.PacketElements.{AreElementsOf, HasValues}
 use Rattle.rtp_wire.specs.ChangedPacket.{ChangesBlock, ChangesOnly, ChangesOnlyBody}
@@ -29,7 +29,7 @@ form-block None body = refl
 form-block (Some form) body = refl
 
 -- a packet's bytes are laid out as its header's length and its block's form say
-pub HasHeader-laid_out : (bytes : List ℕ) (header_len : ℕ) (form : Option ExtensionsForm) → IsLaidOut bytes header_len form → HasHeader bytes header_len form
+pub HasHeader-laid_out : (bytes : List ℕ) (header_len : ℕ) (form : Option ExtensionsForm) → HasLayout bytes header_len form → HasHeader bytes header_len form
 unfolding parts_at
 HasHeader-laid_out bytes header_len form is =
     let p = whole_and_parts bytes is.parts is.is_packet in
@@ -47,9 +47,9 @@ HasHeader-laid_out bytes header_len form is =
       within = subst (λ (k : ℕ). k ≤ length bytes) (sym end) p.0.within;
     }
 
-pub IsLaidOut-header : (bytes : List ℕ) (header_len : ℕ) (form : Option ExtensionsForm) → IsPacket bytes (parts_at bytes) → HasHeader bytes header_len form → IsLaidOut bytes header_len form
+pub HasLayout-header : (bytes : List ℕ) (header_len : ℕ) (form : Option ExtensionsForm) → IsPacket bytes (parts_at bytes) → HasHeader bytes header_len form → HasLayout bytes header_len form
 unfolding parts_at
-IsLaidOut-header bytes header_len form is header =
+HasLayout-header bytes header_len form is header =
     let within = header.within in
     let ends = header.ends in
     record {

@@ -11,7 +11,7 @@ use Rattle.std.proofs.lemmas.Option.{none-some}
 use Rattle.std.proofs.lemmas.List.{length_push, get_or_append_left, get_or_at}
 use Rattle.std.proofs.lemmas.Map.Made.{lookup-map_values}
 use Rattle.rtp_wire.specs.declared.receive.state.ReceiverState.{ReceiverState}
-use Rattle.rtp_wire.specs.Places.{past_the_end, source_at, held_at, held, held_of, ArePlaces}
+use Rattle.rtp_wire.specs.SourcePlaces.{past_the_end, source_at, held_at, held, held_of, ArePlaces}
 
 -- a value isn't both there and not
 pub is_none : {A : Type 0} (value : Option A) → value ≡ None → IsSome value → ⊥

@@ -11,7 +11,7 @@ use Rattle.rtp_wire.specs.declared.receive.state.ReceiverState.{ReceiverState}
 use Rattle.rtp_wire.specs.declared.receive.state.ReceiverState.TheVariants.{Start}
 use Rattle.rtp_wire.specs.Receiver.{Holds, StaysBelowZeroIn}
 use Rattle.rtp_wire.specs.Receivers.{ReceiverStates, receiver_of, state_of}
-use Rattle.rtp_wire.specs.Places.{past_the_end, held_at, held, ArePlaces}
+use Rattle.rtp_wire.specs.SourcePlaces.{past_the_end, held_at, held, ArePlaces}
 use Rattle.rtp_wire.proofs.PlacesLemmas.{held_of-place, held_of-found, held_of-none, ArePlaces-set, held-set_same, held-set_other}
 
 -- receivers as they are seen, by the list that has them and the places in it

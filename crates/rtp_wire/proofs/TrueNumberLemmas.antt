@@ -11,7 +11,7 @@ use Rattle.rtp_wire.specs.declared.receive.verdict.Verdict.TheVariants.{Unreadab
 use Rattle.rtp_wire.specs.Widening.{IsNearest}
 use Rattle.rtp_wire.specs.Receiver.{IsNothing, IsHighest, ExtendsFrom, IsNumberOf, IsFresh, taken_after}
 use Rattle.rtp_wire.specs.Verdicts.{PacketId, ArePacketIds, taken_by, IsVerdict, IsRun, AreVerdicts}
-use Rattle.rtp_wire.specs.TrueNumbers.{IsInReach, IsTrueNumber, numbers_of, AreTrue, IsTrueVerdict, AreTrueVerdicts}
+use Rattle.rtp_wire.specs.TrueNumbers.{IsInReach, IsTrueNumber, numbers_of, AreTrueNumbers, IsTrueVerdict, AreTrueVerdicts}
 use Rattle.rtp_wire.proofs.ReceiverLemmas.{not_nothing}
 use Rattle.rtp_wire.proofs.VerdictLemmas.{or_assoc, or_false, taken_by-push, one_packet_ids}
 use Rattle.rtp_wire.proofs.WideningLemmas.{only_near, Extends-within_half}
@@ -246,7 +246,7 @@ Agrees-same a b c d (Some h) first second agrees = record {
 }
 
 -- what is taken and the true numbers agree before each place
-before_place : (count : ℕ) (packet_ids : List (Option PacketId)) (verdicts : List Verdict) (numbers : List ℕ) → IsRun count packet_ids verdicts → AreTrue count packet_ids numbers
+before_place : (count : ℕ) (packet_ids : List (Option PacketId)) (verdicts : List Verdict) (numbers : List ℕ) → IsRun count packet_ids verdicts → AreTrueNumbers count packet_ids numbers
     → (i : ℕ) → i ≤ length packet_ids → (highest : Option ℕ) × Agrees (taken_by (take i verdicts)) (numbers_of (take i packet_ids) (take i numbers)) highest
 before_place count packet_ids verdicts numbers run are zero within = (None, (λ n. refl, λ n. refl))
 before_place count packet_ids verdicts numbers run are (suc i) within =
@@ -269,7 +269,7 @@ before_place count packet_ids verdicts numbers run are (suc i) within =
           ∙ numbers_of-push (take i packet_ids) (take i numbers) packet_id number n many) one.agrees,
     )
 
-pub AreTrueVerdicts-run : (count : ℕ) (packet_ids : List (Option PacketId)) (verdicts : List Verdict) (numbers : List ℕ) → IsRun count packet_ids verdicts → AreTrue count packet_ids numbers
+pub AreTrueVerdicts-run : (count : ℕ) (packet_ids : List (Option PacketId)) (verdicts : List Verdict) (numbers : List ℕ) → IsRun count packet_ids verdicts → AreTrueNumbers count packet_ids numbers
     → AreTrueVerdicts packet_ids numbers verdicts
 AreTrueVerdicts-run count packet_ids verdicts numbers run are = record {
   as_many = run.as_many;
@@ -281,7 +281,7 @@ AreTrueVerdicts-run count packet_ids verdicts numbers run are = record {
 
 -- the verdicts on datagrams, by the true numbers of their packets
 pub AreTrueVerdicts-of : (exts : ExtensionMap) (datagrams : List (List ℕ)) (verdicts : List Verdict) (packet_ids : List (Option PacketId)) (numbers : List ℕ)
-    → AreVerdicts exts datagrams verdicts → ArePacketIds exts datagrams packet_ids → AreTrue 0 packet_ids numbers → AreTrueVerdicts packet_ids numbers verdicts
+    → AreVerdicts exts datagrams verdicts → ArePacketIds exts datagrams packet_ids → AreTrueNumbers 0 packet_ids numbers → AreTrueVerdicts packet_ids numbers verdicts
 AreTrueVerdicts-of exts datagrams verdicts packet_ids numbers are read true_are =
     AreTrueVerdicts-run 0 packet_ids verdicts numbers
     (subst (λ rs. IsRun 0 rs verdicts) (one_packet_ids exts datagrams are.packet_ids packet_ids are.are_packet_ids read) are.run) true_are

@@ -2,9 +2,9 @@
 use Rattle.std.proofs.Common.{◌≡◌, ◌⊎◌, ℕ, ◌+◌, ◌-◌, ◌*◌, ◌≤◌, ◌<◌, List, ◌++◌, length, take, drop, Some, refl, ap, ◌∙◌, arith, inl, inr, length-take-le}
 use Rattle.rtp_ext.specs.declared.form.ExtensionsForm.{ExtensionsForm}
 use Rattle.rtp_ext.specs.Elements.{Element, elements_bytes}
-use Rattle.rtp_ext.specs.ElementsInARow.{form_for, FitInARow, CannotBeInARow}
+use Rattle.rtp_ext.specs.ElementsInARow.{form_for, AreWritableIn, AreNotWritableIn}
 use Rattle.rtp_ext.specs.WrittenBlock.{filled, block_of}
-use Rattle.rtp_ext.proofs.ServingFormLemmas.{CannotBeInARow-not}
+use Rattle.rtp_ext.proofs.ServingFormLemmas.{AreNotWritableIn-not}
 use Rattle.rtp_base.specs.Overwriting.{overwritten}
 use Rattle.rtp_base.proofs.OverwritingLemmas.{length-overwritten, overwritten-rest}
 use Rattle.rtp_wire.specs.declared.header.rtp_header.RtpHeader.{RtpHeader}
@@ -26,7 +26,7 @@ length-wire_bytes_with h elements within = length-header_bytes (with_block h) (b
 
 -- where there is no block, or no room for it after the sources
 pub CannotBeWrittenWith-refused : (h : RtpHeader) (elements : List Element) (room left : ℕ) → h.csrc_count ≤ length h.csrc → left ≡ room - (12 + 4 * h.csrc_count)
-    → CannotBeInARow elements 262140 ⊎ (left < length (block_in (form_for elements) elements)) → CannotBeWrittenWith h elements room
+    → AreNotWritableIn elements 262140 ⊎ (left < length (block_in (form_for elements) elements)) → CannotBeWrittenWith h elements room
 CannotBeWrittenWith-refused h elements room left within left-is (inl cannot) = no_block cannot
 CannotBeWrittenWith-refused h elements room left within left-is (inr short) = short_room (omega (arith, length-wire_bytes_with h elements within))
 
@@ -37,7 +37,7 @@ pub record CanBeWrittenWith (h : RtpHeader) (elements : List Element) (room left
   pub slots : length h.csrc ≡ 15
   pub left_is : left ≡ room - (12 + 4 * h.csrc_count)
   pub form_is : form ≡ form_for elements
-  pub fit : FitInARow form elements 262140
+  pub fit : AreWritableIn form elements 262140
   pub block_fits : length (block_in form elements) ≤ left
 
 length-in_form : (elements : List Element) (form : ExtensionsForm) → form ≡ form_for elements → length (block_in form elements) ≡ length (block_in (form_for elements) elements)
@@ -54,7 +54,7 @@ pub CannotBeWrittenWith-not : (h : RtpHeader) (elements : List Element) (room le
     → CannotBeWrittenWith h elements room → ⊥
 CannotBeWrittenWith-not h elements room left form can (large_payload_type large) = let few = can.payload_type in omega arith
 CannotBeWrittenWith-not h elements room left form can (many_sources many) = let few = can.count in omega arith
-CannotBeWrittenWith-not h elements room left form can (no_block cannot) = CannotBeInARow-not elements 262140 form can.form_is can.fit cannot
+CannotBeWrittenWith-not h elements room left form can (no_block cannot) = AreNotWritableIn-not elements 262140 form can.form_is can.fit cannot
 CannotBeWrittenWith-not h elements room left form can (short_room short) =
     let within : h.csrc_count ≤ length h.csrc = omega (arith, can.count, can.slots) in
     omega (arith, short, has_room h elements room left form can, length-in_form elements form can.form_is, length-wire_bytes_with h elements within)
@@ -96,7 +96,7 @@ wire_bytes_with-from_pieces h elements left form buf one two new fixed first sec
 
 -- a packet of the header's fields and this block
 pub IsPacket-written_with : (h : RtpHeader) (elements : List Element) (form : ExtensionsForm) (rest : List ℕ) → IsInRange (with_block h) → form ≡ form_for elements
-    → FitInARow form elements 262140 → IsPacket (wire_bytes_with h elements ++ rest) (parts_with h elements rest)
+    → AreWritableIn form elements 262140 → IsPacket (wire_bytes_with h elements ++ rest) (parts_with h elements rest)
 unfolding wire_bytes_with
 IsPacket-written_with h elements form rest fits form-is fit =
     let few : length (elements_bytes (form_for elements) elements) ≤ 262140 = omega (arith, fit.bytes_fit, ap (λ (f : ExtensionsForm). length (elements_bytes f elements)) form-is) in

@@ -24,7 +24,7 @@ pub mod NotAPacket
 pub mod Rtcp
 pub mod PacketElements
 pub mod PartsOf
-pub mod Places
+pub mod SourcePlaces
 pub mod ChangedPacket
 pub mod GivenFields
 pub mod Header

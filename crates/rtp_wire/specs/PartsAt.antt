@@ -44,7 +44,7 @@ parts_at bytes = record {
 }
 
 -- the bytes are a packet with a header of this length and a block of this form, and without a block where there is no form
-pub record IsLaidOut (bytes : List ℕ) (header_len : ℕ) (form : Option ExtensionsForm) : Type 0 where
+pub record HasLayout (bytes : List ℕ) (header_len : ℕ) (form : Option ExtensionsForm) : Type 0 where
   pub parts : PacketParts
   pub is_packet : IsPacket bytes parts
   pub form_is : form ≡ option_map (λ block. block.0) parts.block

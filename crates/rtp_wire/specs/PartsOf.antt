@@ -11,8 +11,8 @@ abbrev pub parts_of : RtpPacket → PacketParts
 parts_of packet = parts_at packet.datagram.now
 
 -- the bytes of the datagram that an `RtpPacket` was read from
-abbrev pub bytes_of : RtpPacket → List ℕ
-bytes_of packet = packet.datagram.now
+abbrev pub datagram_of : RtpPacket → List ℕ
+datagram_of packet = packet.datagram.now
 
 -- the buffer of a packet that can be changed
 abbrev pub buffer_of : RtpPacketMut → MutBor (List ℕ)

@@ -4,7 +4,7 @@ use Rattle.std.specs.List.{AllZip, AllByRecursion}
 use Rattle.rtp_ext.specs.declared.map.ExtensionMap.{ExtensionMap}
 use Rattle.rtp_wire.specs.declared.header.rtp_header.RtpHeader.{RtpHeader}
 use Rattle.rtp_wire.specs.Header.{IsWire}
-use Rattle.rtp_wire.specs.TrueNumbers.{AreTrue}
+use Rattle.rtp_wire.specs.TrueNumbers.{AreTrueNumbers}
 use Rattle.rtp_wire.specs.Verdicts.{PacketId, packet_id_of}
 use Rattle.rtp_wire.specs.Written.{image_of}
 
@@ -25,4 +25,4 @@ pub record AreSent (exts : ExtensionMap) (headers : List RtpHeader) (numbers : L
   pub source : ℕ
   pub of_source : AllByRecursion (IsOfSource source) headers
   pub arrive : AllZip (Arrives exts) headers datagrams
-  pub are_true : AreTrue 0 (packet_ids_of headers) numbers
+  pub are_true : AreTrueNumbers 0 (packet_ids_of headers) numbers

@@ -5,7 +5,7 @@ use Rattle.rtp_ext.specs.declared.map.ExtensionMap.{ExtensionMap}
 use Rattle.rtp_wire.specs.declared.receive.verdict.Verdict.{Verdict}
 use Rattle.rtp_wire.specs.declared.header.rtp_header.RtpHeader.{RtpHeader}
 use Rattle.rtp_wire.specs.Verdicts.{PacketId, ArePacketIds, taken_by, IsRunBy, AreVerdicts, TakesOnce}
-use Rattle.rtp_wire.specs.TrueNumbers.{AreTrue, AreTrueVerdicts}
+use Rattle.rtp_wire.specs.TrueNumbers.{AreTrueNumbers, AreTrueVerdicts}
 use Rattle.rtp_wire.specs.Sending.{packet_ids_of, AreSent}
 
 -- whether a packet id is that of a packet of this source; an unreadable datagram is of no source
@@ -57,7 +57,7 @@ TakesEachOnce packet_ids datagrams verdicts = TakesOnce verdicts
 
 -- these numbers decide, where they are the true numbers of the source's packets
 abbrev pub IsDecidedBy : List ℕ → FactOfSource
-IsDecidedBy numbers packet_ids datagrams verdicts = AreTrue 0 packet_ids numbers → AreTrueVerdicts packet_ids numbers verdicts
+IsDecidedBy numbers packet_ids datagrams verdicts = AreTrueNumbers 0 packet_ids numbers → AreTrueVerdicts packet_ids numbers verdicts
 
 -- these numbers decide, where they are those of a sender whose headers arrive
 abbrev pub IsDecidedBySender : ExtensionMap → List RtpHeader → List ℕ → FactOfSource

@@ -27,7 +27,7 @@ numbers_of (None ∷ packet_ids) (number ∷ numbers) n = numbers_of packet_ids 
 numbers_of (Some packet_id ∷ packet_ids) (number ∷ numbers) n = (n == number) || numbers_of packet_ids numbers n
 
 -- a number for each place: at each readable one the number of its packet, by the numbers at the readable places before it
-pub record AreTrue (count : ℕ) (packet_ids : List (Option PacketId)) (numbers : List ℕ) : Type 0 where
+pub record AreTrueNumbers (count : ℕ) (packet_ids : List (Option PacketId)) (numbers : List ℕ) : Type 0 where
   pub as_many : length numbers ≡ length packet_ids
   pub each : (i : ℕ) → i < length packet_ids → IfSome (slice_index_or packet_ids i None) (λ packet_id.
       IsTrueNumber count (numbers_of (take i packet_ids) (take i numbers)) packet_id.low (slice_index_or numbers i 0))

@@ -1,7 +1,7 @@
 -- The RTP header and a block of any elements, as they are written (RFC 3550, 5.1 and 5.3.1; RFC 8285, 4.2 and 4.3).
 use Rattle.std.specs.Prelude.{ℕ, ◌<◌, List, length, true, Some}
 use Rattle.rtp_ext.specs.Elements.{Element, elements_bytes}
-use Rattle.rtp_ext.specs.ElementsInARow.{form_for, CannotBeInARow}
+use Rattle.rtp_ext.specs.ElementsInARow.{form_for, AreNotWritableIn}
 use Rattle.rtp_ext.specs.WrittenBlock.{filled, block_of}
 use Rattle.rtp_wire.specs.declared.header.rtp_header.RtpHeader.{RtpHeader}
 use Rattle.rtp_wire.specs.Packet.{PacketParts}
@@ -27,5 +27,5 @@ parts_with h elements payload = parts_written (with_block h) (Some (form_for ele
 pub data CannotBeWrittenWith (h : RtpHeader) (elements : List Element) (room : ℕ) : Type 0 where
   large_payload_type : 127 < h.payload_type → CannotBeWrittenWith h elements room
   many_sources : 15 < h.csrc_count → CannotBeWrittenWith h elements room
-  no_block : CannotBeInARow elements 262140 → CannotBeWrittenWith h elements room
+  no_block : AreNotWritableIn elements 262140 → CannotBeWrittenWith h elements room
   short_room : room < length (wire_bytes_with h elements) → CannotBeWrittenWith h elements room

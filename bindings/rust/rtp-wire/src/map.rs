@@ -2,7 +2,7 @@ use core::fmt;
 
 use crate::error::BadId;
 use crate::sys;
-use crate::views::KindsOfIds;
+use crate::views::StoredMap;
 
 /// What a header extension says of its packet.
 #[derive(Clone, Copy, Debug, PartialEq, Eq, Hash)]
@@ -75,14 +75,14 @@ impl Kind {
 /// ```
 #[derive(Clone, Copy, PartialEq, Eq)]
 pub struct Map {
-    pub(crate) kinds: KindsOfIds,
+    pub(crate) kinds: StoredMap,
 }
 
 impl Map {
     /// A map in which no id means anything.
     pub const fn new() -> Map {
         Map {
-            kinds: KindsOfIds { kind: [0; 256] },
+            kinds: StoredMap { kind: [0; 256] },
         }
     }
 

@@ -2,7 +2,7 @@ use core::fmt;
 
 use crate::map::Map;
 use crate::sys;
-use crate::views::IdsOfIds;
+use crate::views::StoredNewIds;
 
 /// Which ids elements get where a packet goes from one map to another: 256 bytes, made once for the two
 /// maps. [`PacketMut::renumber`](crate::PacketMut::renumber) takes it.
@@ -17,14 +17,14 @@ use crate::views::IdsOfIds;
 /// ```
 #[derive(Clone, Copy, PartialEq, Eq)]
 pub struct NewIds {
-    pub(crate) ids: IdsOfIds,
+    pub(crate) ids: StoredNewIds,
 }
 
 impl NewIds {
     /// No id has a new one.
     pub const fn new() -> NewIds {
         NewIds {
-            ids: IdsOfIds { id: [0; 256] },
+            ids: StoredNewIds { id: [0; 256] },
         }
     }
 

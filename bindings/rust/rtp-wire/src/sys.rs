@@ -7,7 +7,7 @@
 #![allow(unsafe_code)]
 
 use crate::views::{
-    FieldsView, HeaderView, IdsOfIds, KindsOfIds, Layers, PacketParts, Place, ReceiverState,
+    FieldsView, HeaderView, StoredNewIds, StoredMap, Layers, PacketParts, Place, ReceiverState,
     ValuesView,
 };
 
@@ -27,7 +27,7 @@ pub const CSRC_AT: usize = 12;
 
 mod c {
     use super::{
-        FieldsView, HeaderView, IdsOfIds, KindsOfIds, Layers, PacketParts, Place, ReceiverState,
+        FieldsView, HeaderView, StoredNewIds, StoredMap, Layers, PacketParts, Place, ReceiverState,
         ValuesView,
     };
 
@@ -79,33 +79,33 @@ mod c {
             body: *const u8,
             body_len: usize,
             form: u8,
-            map: *const KindsOfIds,
+            map: *const StoredMap,
             values: *mut ValuesView,
         ) -> i32;
         pub fn rtpw_kind_of_uri(uri: *const u8, len: usize) -> u8;
-        pub fn rtpw_map_set(map: *mut KindsOfIds, id: u8, kind: u8) -> i32;
-        pub fn rtpw_map_get(map: *const KindsOfIds, id: u8) -> u8;
-        pub fn rtpw_map_standard(map: *mut KindsOfIds);
+        pub fn rtpw_map_set(map: *mut StoredMap, id: u8, kind: u8) -> i32;
+        pub fn rtpw_map_get(map: *const StoredMap, id: u8) -> u8;
+        pub fn rtpw_map_standard(map: *mut StoredMap);
         pub fn rtpw_parse(
             datagram: *const u8,
             len: usize,
-            map: *const KindsOfIds,
+            map: *const StoredMap,
             header: *mut HeaderView,
         ) -> i32;
         pub fn rtpw_parse_layers(
             datagram: *const u8,
             len: usize,
-            map: *const KindsOfIds,
+            map: *const StoredMap,
             header: *mut HeaderView,
             layers: *mut Layers,
         ) -> i32;
         pub fn rtpw_wire_len(
-            map: *const KindsOfIds,
+            map: *const StoredMap,
             header: *const HeaderView,
             len: *mut usize,
         ) -> i32;
         pub fn rtpw_write(
-            map: *const KindsOfIds,
+            map: *const StoredMap,
             header: *const HeaderView,
             buf: *mut u8,
             size: usize,
@@ -132,11 +132,11 @@ mod c {
             len: *mut usize,
         ) -> i32;
         pub fn rtpw_new_ids_between(
-            from: *const KindsOfIds,
-            to: *const KindsOfIds,
-            ids: *mut IdsOfIds,
+            from: *const StoredMap,
+            to: *const StoredMap,
+            ids: *mut StoredNewIds,
         );
-        pub fn rtpw_renumber(datagram: *mut u8, len: usize, ids: *const IdsOfIds) -> i32;
+        pub fn rtpw_renumber(datagram: *mut u8, len: usize, ids: *const StoredNewIds) -> i32;
         pub fn rtpw_pad(
             datagram: *mut u8,
             size: usize,
@@ -244,7 +244,7 @@ pub fn last_element(body: &[u8], form: u8, id: u8) -> Option<Place> {
     (status == OK).then_some(place)
 }
 
-pub fn values_read(body: &[u8], form: u8, map: &KindsOfIds, values: &mut ValuesView) -> i32 {
+pub fn values_read(body: &[u8], form: u8, map: &StoredMap, values: &mut ValuesView) -> i32 {
     // SAFETY: a slice and a reference that are read, and an exclusive reference.
     unsafe { c::rtpw_values_read(body.as_ptr(), body.len(), form, map, values) }
 }
@@ -254,29 +254,29 @@ pub fn kind_of_uri(uri: &[u8]) -> u8 {
     unsafe { c::rtpw_kind_of_uri(uri.as_ptr(), uri.len()) }
 }
 
-pub fn map_set(map: &mut KindsOfIds, id: u8, kind: u8) -> i32 {
+pub fn map_set(map: &mut StoredMap, id: u8, kind: u8) -> i32 {
     // SAFETY: an exclusive reference.
     unsafe { c::rtpw_map_set(map, id, kind) }
 }
 
-pub fn map_get(map: &KindsOfIds, id: u8) -> u8 {
+pub fn map_get(map: &StoredMap, id: u8) -> u8 {
     // SAFETY: a reference that is read.
     unsafe { c::rtpw_map_get(map, id) }
 }
 
-pub fn map_standard(map: &mut KindsOfIds) {
+pub fn map_standard(map: &mut StoredMap) {
     // SAFETY: an exclusive reference.
     unsafe { c::rtpw_map_standard(map) }
 }
 
-pub fn parse(datagram: &[u8], map: &KindsOfIds, header: &mut HeaderView) -> i32 {
+pub fn parse(datagram: &[u8], map: &StoredMap, header: &mut HeaderView) -> i32 {
     // SAFETY: a slice and a reference that are read, and an exclusive reference.
     unsafe { c::rtpw_parse(datagram.as_ptr(), datagram.len(), map, header) }
 }
 
 pub fn parse_layers(
     datagram: &[u8],
-    map: &KindsOfIds,
+    map: &StoredMap,
     header: &mut HeaderView,
     layers: &mut Layers,
 ) -> i32 {
@@ -284,12 +284,12 @@ pub fn parse_layers(
     unsafe { c::rtpw_parse_layers(datagram.as_ptr(), datagram.len(), map, header, layers) }
 }
 
-pub fn wire_len(map: &KindsOfIds, header: &HeaderView, len: &mut usize) -> i32 {
+pub fn wire_len(map: &StoredMap, header: &HeaderView, len: &mut usize) -> i32 {
     // SAFETY: two references that are read, and an exclusive reference.
     unsafe { c::rtpw_wire_len(map, header, len) }
 }
 
-pub fn write(map: &KindsOfIds, header: &HeaderView, buf: &mut [u8], len: &mut usize) -> i32 {
+pub fn write(map: &StoredMap, header: &HeaderView, buf: &mut [u8], len: &mut usize) -> i32 {
     // SAFETY: two references that are read, an exclusive slice, and an exclusive reference.
     unsafe { c::rtpw_write(map, header, buf.as_mut_ptr(), buf.len(), len) }
 }
@@ -338,12 +338,12 @@ pub fn write_elements(
     }
 }
 
-pub fn new_ids_between(from: &KindsOfIds, to: &KindsOfIds, ids: &mut IdsOfIds) {
+pub fn new_ids_between(from: &StoredMap, to: &StoredMap, ids: &mut StoredNewIds) {
     // SAFETY: two references that are read, and an exclusive reference.
     unsafe { c::rtpw_new_ids_between(from, to, ids) }
 }
 
-pub fn renumber(datagram: &mut [u8], ids: &IdsOfIds) -> i32 {
+pub fn renumber(datagram: &mut [u8], ids: &StoredNewIds) -> i32 {
     // SAFETY: an exclusive slice, and a reference that is read.
     unsafe { c::rtpw_renumber(datagram.as_mut_ptr(), datagram.len(), ids) }
 }

@@ -3,7 +3,7 @@
 ghost use Rattle.std.specs.Prelude.{◌≡◌, ℕ, ◌^◌, ◌%◌, ◌<◌, ◌≤◌, length};
 ghost use Rattle.std.specs.Option.{SomeIff};
 ghost use Rattle.rtp_values.specs.Values.{big_endian};
-ghost use Rattle.rtp_values.specs.Spelling.{bytes_of};
+ghost use Rattle.rtp_values.specs.Spelling.{bytes_of_number};
 ghost use Rattle.rtp_values.specs.StandardNtp.{apart};
 
 use crate::value::first_u64;
@@ -24,8 +24,8 @@ pub fn parse_ntp_64(bytes: &[u8]) -> Option<u64>
 
 /// The data of an NTP timestamp of 64 bits (RFC 6051, 3.3).
 pub fn ntp_64_bytes(time: u64) -> [u8; 8]
-    ensures bytes { result ≡ bytes_of 8 time }
-    ensures back { big_endian (bytes_of 8 time) ≡ time }
+    ensures bytes { result ≡ bytes_of_number 8 time }
+    ensures back { big_endian (bytes_of_number 8 time) ≡ time }
 {
     time.to_be_bytes()
 }
@@ -43,8 +43,8 @@ pub fn parse_ntp_56(bytes: &[u8]) -> Option<u64>
 
 /// The data of the low 56 bits of an NTP timestamp (RFC 6051, 3.3).
 pub fn ntp_56_bytes(time: u64) -> [u8; 7]
-    ensures bytes { result ≡ bytes_of 7 time }
-    ensures back { big_endian (bytes_of 7 time) ≡ time % 2 ^ 56 }
+    ensures bytes { result ≡ bytes_of_number 7 time }
+    ensures back { big_endian (bytes_of_number 7 time) ≡ time % 2 ^ 56 }
 {
     let [_, a, b, c, d, e, f, g] = time.to_be_bytes();
     [a, b, c, d, e, f, g]

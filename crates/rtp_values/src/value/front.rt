@@ -4,7 +4,7 @@ ghost use Rattle.std.specs.Prelude.{◌≡◌, ◌+◌, ◌≤◌, ◌<◌, ◌^
 ghost use Rattle.std.specs.Option.{SomeIff};
 ghost use Rattle.rtp_base.specs.Overwriting.{overwritten};
 ghost use Rattle.rtp_values.specs.Values.{big_endian};
-ghost use Rattle.rtp_values.specs.Spelling.{bytes_of};
+ghost use Rattle.rtp_values.specs.Spelling.{bytes_of_number};
 
 use rtp_base::put;
 
@@ -26,8 +26,8 @@ pub(crate) fn u16_at(bytes: &[u8], offset: usize) -> u16
 
 // The two bytes of a number.
 pub(crate) fn u16_bytes(number: u16) -> [u8; 2]
-    ensures bytes { result ≡ bytes_of 2 number }
-    ensures back { big_endian (bytes_of 2 number) ≡ number }
+    ensures bytes { result ≡ bytes_of_number 2 number }
+    ensures back { big_endian (bytes_of_number 2 number) ≡ number }
 {
     number.to_be_bytes()
 }
@@ -75,8 +75,8 @@ pub(super) fn put_text(buf: &mut [u8], text: &[u8]) -> usize
 pub(super) fn put_u16(buf: &mut [u8], number: u16) -> usize
     requires room { 2 ≤ length buf.old }
     ensures length { result ≡ 2 }
-    ensures written { buf.new ≡ overwritten buf.old 0 (bytes_of 2 number) }
-    ensures back { big_endian (bytes_of 2 number) ≡ number }
+    ensures written { buf.new ≡ overwritten buf.old 0 (bytes_of_number 2 number) }
+    ensures back { big_endian (bytes_of_number 2 number) ≡ number }
 {
     put(buf, 0, &number.to_be_bytes())
 }
@@ -86,8 +86,8 @@ pub(super) fn put_u24(buf: &mut [u8], number: u32) -> usize
     requires small { number < 2 ^ 24 }
     requires room { 3 ≤ length buf.old }
     ensures length { result ≡ 3 }
-    ensures written { buf.new ≡ overwritten buf.old 0 (bytes_of 3 number) }
-    ensures back { big_endian (bytes_of 3 number) ≡ number }
+    ensures written { buf.new ≡ overwritten buf.old 0 (bytes_of_number 3 number) }
+    ensures back { big_endian (bytes_of_number 3 number) ≡ number }
 {
     put(buf, 0, &number.to_be_bytes()[1..])
 }
@@ -96,8 +96,8 @@ pub(super) fn put_u24(buf: &mut [u8], number: u32) -> usize
 pub(super) fn put_u32(buf: &mut [u8], number: u32) -> usize
     requires room { 4 ≤ length buf.old }
     ensures length { result ≡ 4 }
-    ensures written { buf.new ≡ overwritten buf.old 0 (bytes_of 4 number) }
-    ensures back { big_endian (bytes_of 4 number) ≡ number }
+    ensures written { buf.new ≡ overwritten buf.old 0 (bytes_of_number 4 number) }
+    ensures back { big_endian (bytes_of_number 4 number) ≡ number }
 {
     put(buf, 0, &number.to_be_bytes())
 }
@@ -106,8 +106,8 @@ pub(super) fn put_u32(buf: &mut [u8], number: u32) -> usize
 pub(super) fn put_u64(buf: &mut [u8], number: u64) -> usize
     requires room { 8 ≤ length buf.old }
     ensures length { result ≡ 8 }
-    ensures written { buf.new ≡ overwritten buf.old 0 (bytes_of 8 number) }
-    ensures back { big_endian (bytes_of 8 number) ≡ number }
+    ensures written { buf.new ≡ overwritten buf.old 0 (bytes_of_number 8 number) }
+    ensures back { big_endian (bytes_of_number 8 number) ≡ number }
 {
     put(buf, 0, &number.to_be_bytes())
 }

@@ -5,7 +5,7 @@ ghost use Rattle.std.specs.Option.{option_map};
 ghost use Rattle.rtp_base.specs.Id.{before_padding};
 ghost use Rattle.rtp_values.specs.KnownKind.{extension_of_kind};
 ghost use Rattle.rtp_values.specs.declared.kind.Extension.{Extension};
-ghost use Rattle.rtp_values.specs.Spelling.{has_no_data, has_empty_text, spelled_data, bytes_of, offset_bytes, of_both, longest};
+ghost use Rattle.rtp_values.specs.Spelling.{has_no_data, has_empty_text, spelled_data, bytes_of_number, offset_bytes, of_both, longest};
 
 use super::{AbsCaptureTime, ExtensionValues, video_layers_allocation};
 use crate::KnownKind;
@@ -28,7 +28,7 @@ fn len_of_both<A, B>(first: &Option<A>, second: &Option<B>, len: usize) -> Optio
 // The length of a capture time, which is followed by its offset where that is known.
 fn capture_len(time: &Option<AbsCaptureTime>) -> Option<usize>
     ensures { result ≡ option_map
-        (λ t. length (bytes_of 8 t.capture_time ++ offset_bytes t.clock_offset)) time.now }
+        (λ t. length (bytes_of_number 8 t.capture_time ++ offset_bytes t.clock_offset)) time.now }
 {
     match time {
         Some(time) if time.clock_offset.is_some() => Some(16),

@@ -6,10 +6,10 @@ ghost use Rattle.std.specs.Int.{w16, to_be_bytes};
 ghost use Rattle.rtp_base.specs.Overwriting.{overwritten};
 ghost use Rattle.rtp_ext.specs.Form.{form_word};
 ghost use Rattle.rtp_ext.specs.Elements.{AreElements, elements_bytes};
-ghost use Rattle.rtp_ext.specs.ElementsInARow.{elements_of, form_for, FitInARow, CannotBeInARow};
+ghost use Rattle.rtp_ext.specs.ElementsInARow.{elements_of, form_for, AreWritableIn, AreNotWritableIn};
 ghost use Rattle.rtp_wire.specs.Header.{IsExtensionPart};
 ghost use Rattle.rtp_wire.specs.WrittenWith.{body_with};
-ghost use Rattle.rtp_ext.specs.WrittenBlock.{IsShort, form_of, block_of, filled, image_values, whole_words};
+ghost use Rattle.rtp_ext.specs.WrittenBlock.{TakesAtMost17Each, form_of, block_of, filled, image_values, whole_words};
 ghost use Rattle.rtp_wire.specs.WrittenInForm.{block_bytes_in, IsWithinMap};
 ghost use Rattle.rtp_ext.specs.ExtensionMap.{items_from};
 ghost use Rattle.rtp_ext.specs.declared.form.ExtensionsForm.TheVariants.{OneByte};
@@ -77,7 +77,7 @@ pub(super) fn block_fits<K: Kinds>(
 ) -> bool
     requires start { K.left kinds.now start ≡ items_from 0 (K.known kinds.now) }
     requires few_ids { length (items_from 0 (K.known kinds.now)) ≤ 255 }
-    requires short { form ≡ OneByte → IsShort (K.known kinds.now) ev.now }
+    requires short { form ≡ OneByte → TakesAtMost17Each (K.known kinds.now) ev.now }
     ensures { IsTrue result ↔ (length (block_bytes_in form (K.slots kinds.now) ev.now) ≤ room) }
 {
     let most = MAX_LEN_ONE_BYTE_FORM * kinds.at_most(start);
@@ -136,7 +136,7 @@ pub(super) fn write_block_of(
     form: ExtensionsForm,
     elements: &[(u8, &[u8])],
 ) -> usize
-    requires fit { FitInARow form (elements_of elements.now) 262140 }
+    requires fit { AreWritableIn form (elements_of elements.now) 262140 }
     requires room { length (block_of form (filled (elements_bytes form (elements_of elements.now))))
         ≤ length buf.old }
     ensures written { buf.new
@@ -153,10 +153,10 @@ pub(super) fn write_block_of(
 
 // The form of a block of these elements that has room.
 pub(super) fn block_form(room: usize, elements: &[(u8, &[u8])]) -> Option<ExtensionsForm>
-    ensures refused { IfNone result (CannotBeInARow (elements_of elements.now) 262140
+    ensures refused { IfNone result (AreNotWritableIn (elements_of elements.now) 262140
         ⊎ (room < length (block_of (form_for (elements_of elements.now)) (body_with (elements_of elements.now))))) }
     ensures form { IfSome result (λ form. form ≡ form_for (elements_of elements.now)) }
-    ensures fit { IfSome result (λ form. FitInARow form (elements_of elements.now) 262140) }
+    ensures fit { IfSome result (λ form. AreWritableIn form (elements_of elements.now) 262140) }
     ensures room { IfSome result (λ form.
         length (block_of form (filled (elements_bytes form (elements_of elements.now)))) ≤ room) }
 {

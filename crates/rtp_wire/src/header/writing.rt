@@ -8,7 +8,7 @@ ghost use Rattle.rtp_ext.specs.declared.form.ExtensionsForm.TheVariants.{OneByte
 ghost use Rattle.rtp_ext.specs.Elements.{AreElements};
 ghost use Rattle.rtp_ext.specs.ElementsInARow.{elements_of, form_for};
 ghost use Rattle.rtp_ext.specs.ExtensionMap.{items_from, mapped_count, HasNoIdAbove};
-ghost use Rattle.rtp_ext.specs.WrittenBlock.{IsShort, whole_words};
+ghost use Rattle.rtp_ext.specs.WrittenBlock.{TakesAtMost17Each, whole_words};
 ghost use Rattle.rtp_wire.specs.Header.{IsExtensionPart, IsWire};
 ghost use Rattle.rtp_wire.specs.Packet.{IsFirstByte, IsPacket};
 ghost use Rattle.rtp_wire.specs.Written.{fixed_bytes, extension_bytes, wire_bytes, carried_image, image_of, CannotBeWritten};
@@ -153,7 +153,7 @@ impl RtpHeader {
         requires { K.left kinds.now start ≡ items_from 0 (K.known kinds.now) }
         ensures form { result
             ≡ announced_form (K.slots kinds.now) self.now.has_extension self.now.ext_vals }
-        ensures short { result ≡ Some OneByte → IsShort (K.known kinds.now) self.now.ext_vals }
+        ensures short { result ≡ Some OneByte → TakesAtMost17Each (K.known kinds.now) self.now.ext_vals }
     {
         if !self.has_extension {
             return None;
@@ -175,7 +175,7 @@ impl RtpHeader {
         requires sources { self.now.csrc_count ≤ 15 }
         requires form { form
             ≡ announced_form (K.slots kinds.now) self.now.has_extension self.now.ext_vals }
-        requires short { form ≡ Some OneByte → IsShort (K.known kinds.now) self.now.ext_vals }
+        requires short { form ≡ Some OneByte → TakesAtMost17Each (K.known kinds.now) self.now.ext_vals }
         ensures { IsTrue result ↔ (length (wire_bytes (K.slots kinds.now) self.now) ≤ room) }
     {
         let Some(left) = room.checked_sub(12 + 4 * self.csrc_count) else {

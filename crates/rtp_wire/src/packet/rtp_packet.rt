@@ -6,7 +6,7 @@ ghost use Rattle.std.specs.Option.{option_map};
 ghost use Rattle.rtp_ext.specs.Elements.{Element};
 ghost use Rattle.rtp_wire.specs.Block.{word_at};
 ghost use Rattle.rtp_wire.specs.NotAHeader.{NotAHeader};
-ghost use Rattle.rtp_wire.specs.NotAPacket.{AppliesToBlock, IsFirst, IsFirstCause};
+ghost use Rattle.rtp_wire.specs.NotAPacket.{AppliesToBlock, IsFirstCause, IsFirstCause};
 ghost use Rattle.rtp_wire.specs.Packet.{PacketParts, IsPacket, IsWithoutPadding, header_len_of};
 ghost use Rattle.rtp_wire.specs.PacketElements.{AreElementsOf, IsLast};
 ghost use Rattle.rtp_wire.specs.Padding.{padding_count};
@@ -36,7 +36,7 @@ pub struct RtpPacket<'a> {
 }
 
 impl<'a> RtpPacket<'a> {
-    ghost use Rattle.rtp_wire.specs.PartsOf.{parts_of, bytes_of};
+    ghost use Rattle.rtp_wire.specs.PartsOf.{parts_of, datagram_of};
 
     /// Returns the packet that the datagram is (RFC 3550, 5.1 and 5.3.1; RFC 8285, 4), or the first
     /// cause for which it is none. Only the header is looked at, and nothing is allocated.
@@ -50,7 +50,7 @@ impl<'a> RtpPacket<'a> {
         ensures only { (parts : PacketParts) → IsPacket datagram.now parts →
             IsOkAnd result (λ packet. parts_of packet ≡ parts) }
 
-        ensures bytes { IfOk result (λ packet. bytes_of packet ≡ datagram.now) }
+        ensures bytes { IfOk result (λ packet. datagram_of packet ≡ datagram.now) }
 
         // The cause is the first that applies, and there are no others.
         ensures cause { IfErr result (IsFirstCause datagram.now) }
@@ -82,7 +82,7 @@ impl<'a> RtpPacket<'a> {
         requires known { is_some form ≡ has_block datagram.now }
         requires ends { header_len ≡ header_end datagram.now }
         requires within { header_len ≤ length datagram.now }
-        ensures { bytes_of result ≡ datagram.now }
+        ensures { datagram_of result ≡ datagram.now }
     {
         RtpPacket {
             datagram,
@@ -268,7 +268,7 @@ fn first_block(bytes: &[u8]) -> Result<(ExtensionsForm, usize), NotAPacket>
     ensures form { IfOk result (λ block. form_of_word (word_at bytes.now 0) ≡ Some block.0) }
     ensures length { IfOk result (λ block. block.1 ≡ 4 + 4 * word_at bytes.now 2) }
     ensures within { IfOk result (λ block. block.1 ≤ length bytes.now) }
-    ensures cause { IfErr result (IsFirst (AppliesToBlock bytes.now)) }
+    ensures cause { IfErr result (IsFirstCause (AppliesToBlock bytes.now)) }
 {
     let Some((header, after)) = bytes.split_first_chunk::<4>() else {
         return Err(NotAPacket::CutBlockHeader);

@@ -8,10 +8,10 @@ ghost use Rattle.rtp_values.specs.declared.kind.Extension.{Extension};
 ghost use Rattle.rtp_values.specs.declared.value.values.ExtensionValues.{ExtensionValues};
 ghost use Rattle.rtp_values.specs.Values.{Reads, with_fields, IsWellFormed};
 ghost use Rattle.rtp_ext.specs.Elements.{Element};
-ghost use Rattle.rtp_ext.specs.ElementsInPlace.{HasNone, HasLastOf, SetsLast, HasOtherIds, CanRenumber, renumbered, all_but};
+ghost use Rattle.rtp_ext.specs.ElementsInPlace.{HasNone, HasLastOf, SetsLast, ChangesIds, CanRenumber, renumbered, all_but};
 ghost use Rattle.rtp_ext.specs.ExtensionMap.{Slots, extension_at, IsOnlyId};
 ghost use Rattle.rtp_ext.specs.NewIds.{new_id, AreNewIds};
-ghost use Rattle.rtp_ext.specs.Places.{WritesLast};
+ghost use Rattle.rtp_ext.specs.ElementPlaces.{WritesLast};
 ghost use Rattle.rtp_ext.specs.WrittenBlock.{mapped_fields};
 ghost use Rattle.rtp_wire.specs.ChangedPacket.{ChangesBlock, ChangesOnly, ChangesOnlyBody};
 ghost use Rattle.rtp_wire.specs.GivenFields.{with_header_fields, LieBetween};
@@ -19,7 +19,7 @@ ghost use Rattle.rtp_wire.specs.NotAHeader.{NotAHeader};
 ghost use Rattle.rtp_wire.specs.NotAPacket.{IsFirstCause};
 ghost use Rattle.rtp_wire.specs.Packet.{PacketParts, IsPacket};
 ghost use Rattle.rtp_wire.specs.PacketElements.{AreElementsOf, HasValues};
-ghost use Rattle.rtp_wire.specs.PartsAt.{form_in, has_block, header_end, IsLaidOut};
+ghost use Rattle.rtp_wire.specs.PartsAt.{form_in, has_block, header_end, HasLayout};
 
 use super::rtp_packet::body_start;
 use super::{Fields, NotAPacket, RtpPacket, flag};
@@ -44,7 +44,7 @@ pub struct RtpPacketMut<'a> {
 }
 
 impl<'a> RtpPacketMut<'a> {
-    ghost use Rattle.rtp_wire.specs.PartsOf.{parts_of, bytes_of, parts_in, buffer_of};
+    ghost use Rattle.rtp_wire.specs.PartsOf.{parts_of, datagram_of, parts_in, buffer_of};
 
     /// The packet in the buffer, whose header was found by [`RtpPacket::parse`]: it has this length
     /// and a block of this form.
@@ -53,7 +53,7 @@ impl<'a> RtpPacketMut<'a> {
     /// [`parse`](Self::parse) takes the buffer, and what is left of it where it is refused can't be
     /// stated. `RtpPacket::parse` only reads it.
     pub fn new(datagram: &'a mut [u8], header_len: usize, form: Option<ExtensionsForm>) -> Self
-        requires { IsLaidOut datagram.old header_len form }
+        requires { HasLayout datagram.old header_len form }
         ensures same_buffer { (buffer_of result).ghost_name ≡ datagram.entry.ghost_name }
         ensures same_bytes { (buffer_of result).now ≡ datagram.old }
     {
@@ -84,7 +84,7 @@ impl<'a> RtpPacketMut<'a> {
     /// The packet as it stands in the buffer: its bytes are read as these parts, whatever was changed.
     pub fn as_packet(&self) -> RtpPacket<'_>
         ensures parts { parts_of result ≡ parts_in self.now }
-        ensures bytes { bytes_of result ≡ (buffer_of self.now).now }
+        ensures bytes { datagram_of result ≡ (buffer_of self.now).now }
         ensures is_packet { IsPacket (buffer_of self.now).now (parts_in self.now) }
     {
         RtpPacket::new(self.datagram, self.header_len, self.form)
@@ -250,7 +250,7 @@ impl<'a> RtpPacketMut<'a> {
     /// form, the removal of id 1 leaves the body `00 00 21 BB CC 00 00 00`.
     pub fn remove_element(&mut self, id: u8) -> bool
         ensures removed { OnTrue result
-            (ChangesBlock (λ form. HasOtherIds form (all_but id)) (parts_in self.old) (parts_in self.new)) }
+            (ChangesBlock (λ form. ChangesIds form (all_but id)) (parts_in self.old) (parts_in self.new)) }
         ensures unchanged { OnFalse result ((buffer_of self.new).now ≡ (buffer_of self.old).now) }
         ensures bytes { ChangesOnlyBody (buffer_of self.old).now (buffer_of self.new).now }
         ensures answer { (elements : List Element) → AreElementsOf (parts_in self.old).block elements →
@@ -275,7 +275,7 @@ impl<'a> RtpPacketMut<'a> {
     /// second maps and no other.
     pub fn renumber(&mut self, ids: &NewIds) -> bool
         ensures renumbered { OnTrue result (IfSome (parts_in self.old).block (λ _. ChangesBlock
-            (λ form. HasOtherIds form (new_id ids.now)) (parts_in self.old) (parts_in self.new))) }
+            (λ form. ChangesIds form (new_id ids.now)) (parts_in self.old) (parts_in self.new))) }
         ensures unchanged { OnFalse result ((buffer_of self.new).now ≡ (buffer_of self.old).now) }
         ensures bytes { ChangesOnlyBody (buffer_of self.old).now (buffer_of self.new).now }
         ensures without_block { IfNone (parts_in self.old).block

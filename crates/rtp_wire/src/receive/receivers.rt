@@ -40,7 +40,7 @@ pub struct Receivers {
 
 impl Model for Receivers {
     ghost use Rattle.rtp_wire.specs.Receivers.{ReceiverStates};
-    ghost use Rattle.rtp_wire.specs.Places.{held, ArePlaces};
+    ghost use Rattle.rtp_wire.specs.SourcePlaces.{held, ArePlaces};
 
     ghost Value = { ReceiverStates };
 

@@ -4,7 +4,7 @@ ghost use Rattle.std.specs.Prelude.{◌≡◌, ℕ, List, [], map, Option, IsOk,
 ghost use Rattle.rtp_ext.specs.declared.map.ExtensionMap.{ExtensionMap};
 ghost use Rattle.rtp_wire.specs.declared.header.rtp_header.RtpHeader.{RtpHeader};
 ghost use Rattle.rtp_wire.specs.Verdicts.{PacketId, ArePacketIds, AreVerdicts, TakesOnce};
-ghost use Rattle.rtp_wire.specs.TrueNumbers.{AreTrue, AreTrueVerdicts};
+ghost use Rattle.rtp_wire.specs.TrueNumbers.{AreTrueNumbers, AreTrueVerdicts};
 ghost use Rattle.rtp_wire.specs.Sending.{AreSent, packet_ids_of};
 ghost use Rattle.rtp_wire.specs.Sources.{AreVerdictsBySource, OfEachSource, IsRunAlone, TakesEachOnce, IsDecidedBy, IsDecidedBySender};
 
@@ -91,7 +91,7 @@ pub fn receive_run_one(
     // 65,536, and each later one is less than 32,768 away from the highest before it.
     ensures true_numbers { (packet_ids : List (Option PacketId)) → (numbers : List ℕ) →
         ArePacketIds exts.now (map (λ d. d.items) datagrams.now) packet_ids →
-        AreTrue 0 packet_ids numbers →
+        AreTrueNumbers 0 packet_ids numbers →
         IfOk result (λ found. AreTrueVerdicts packet_ids numbers found.items) }
 
     // What a sender's headers were written as is read, whatever the sender's map is and whatever is

@@ -4,7 +4,7 @@ ghost use Rattle.std.specs.Prelude.{◌≡◌, ◌≢◌, ◌+◌, ◌<◌, ◌�
 ghost use Rattle.std.specs.Option.{option_copied};
 ghost use Rattle.std.specs.Ordering.{nat_cmp};
 ghost use Rattle.std.specs.BTreeMap.{get, Updates};
-ghost use Rattle.rtp_wire.specs.Places.{source_at, held_of, ArePlaces};
+ghost use Rattle.rtp_wire.specs.SourcePlaces.{source_at, held_of, ArePlaces};
 
 use super::Receiver;
 use rtp_base::Ssrc;

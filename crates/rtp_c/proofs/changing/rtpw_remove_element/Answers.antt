@@ -1,6 +1,6 @@
 use Rattle.std.proofs.Common.{refl, sym, subst, arith, rules}
 use Rattle.std.proofs.lemmas.Bool.{false≢true}
-use Rattle.rtp_ext.specs.ElementsInPlace.{HasOtherIds, all_but}
+use Rattle.rtp_ext.specs.ElementsInPlace.{ChangesIds, all_but}
 use Rattle.rtp_wire.specs.Packet.{PacketParts}
 use Rattle.rtp_wire.specs.PacketElements.{AreElementsOf}
 use Rattle.rtp_c.proofs.StatusLemmas.{none≢ok}
@@ -15,7 +15,7 @@ returns-in-Err-clause-otherwise c parts is not_ok = absurd (c.in-Err.ensures.onl
 
 pub returns-then-remove_element-clause-removed : goal.returns-then-remove_element-clause-removed
 returns-then-remove_element-clause-removed c parts is ok =
-    BecomesPacket-changed (λ form. HasOtherIds form (all_but c.args.id)) c.args.datagram.now parts c.new-packet.result c.remove_element.new.self _ is
+    BecomesPacket-changed (λ form. ChangesIds form (all_but c.args.id)) c.args.datagram.now parts c.new-packet.result c.remove_element.new.self _ is
     c.new-packet.ensures.same_bytes c.if-remove_element.ensures.removed (omega (arith, c.type_inv.datagram 1)) (search rules)
 
 pub returns-then-remove_element-clause-answer : goal.returns-then-remove_element-clause-answer

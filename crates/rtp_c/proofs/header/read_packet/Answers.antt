@@ -5,7 +5,7 @@ use Rattle.rtp_wire.specs.PartsOf.{parts_of}
 use Rattle.rtp_wire.specs.RefusedMemory.{BlockHasAllocation}
 use Rattle.rtp_wire.proofs.NotAPacketLemmas.{no_packet-refused}
 use Rattle.rtp_wire.proofs.ValuesLemmas.{HasValues-none, HasValues-read}
-use Rattle.rtp_c.specs.KindsOfIds.{numbered_slots}
+use Rattle.rtp_c.specs.StoredMap.{numbered_slots}
 use Rattle.rtp_c.proofs.NumberedLemmas.{HasKinds-numbered}
 use Rattle.rtp_c.proofs.header.read_packet.Goals as goal
 

@@ -1,10 +1,10 @@
 use Rattle.std.proofs.Common.{◌≡◌, List, ℕ, replicate, set, refl}
-use Rattle.rtp_c.proofs.KindsOfIdsLemmas.{IsStandard-numbers, standard_numbers, low-numbers}
+use Rattle.rtp_c.proofs.StoredMapLemmas.{AreStandardNumbers-numbers, standard_numbers, low-numbers}
 use Rattle.rtp_c.proofs.map.rtpw_map_standard.Goals as goal
 
 pub returns-clause-standard : goal.returns-clause-standard
 returns-clause-standard c =
-    IsStandard-numbers _
+    AreStandardNumbers-numbers _
     (rw (c.number_of.ensures, c.number_of-2.ensures, c.number_of-3.ensures, c.number_of-4.ensures, c.number_of-5.ensures, c.number_of-6.ensures, c.number_of-7.ensures) refl)
 
 pub returns-clause-kinds : goal.returns-clause-kinds

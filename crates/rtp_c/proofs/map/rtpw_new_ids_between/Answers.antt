@@ -1,7 +1,7 @@
 use Rattle.std.proofs.Common.{subst, ℕ, List, sym}
 use Rattle.std.specs.Prelude.{Option}
 use Rattle.rtp_ext.specs.NewIds.{AreNewIds}
-use Rattle.rtp_c.specs.KindsOfIds.{numbered_slots}
+use Rattle.rtp_c.specs.StoredMap.{numbered_slots}
 use Rattle.rtp_c.proofs.NumberedLemmas.{HasKinds-numbered}
 use Rattle.rtp_c.proofs.map.rtpw_new_ids_between.Goals as goal
 

@@ -2,7 +2,7 @@ use Rattle.std.proofs.Common.{◌≡◌, ◌<◌, ◌↔◌, ℕ, List, [], Bool
 use Rattle.std.proofs.lemmas.Bool.{false≢true}
 use Rattle.rtp_ext.specs.declared.form.ExtensionsForm.{ExtensionsForm}
 use Rattle.rtp_ext.specs.Elements.{Element}
-use Rattle.rtp_ext.specs.ElementsInPlace.{HasOtherIds, CanRenumber}
+use Rattle.rtp_ext.specs.ElementsInPlace.{ChangesIds, CanRenumber}
 use Rattle.rtp_ext.specs.NewIds.{new_id, ids_in_bytes, AreNewIds}
 use Rattle.std.specs.Prelude.{slice_index}
 use Rattle.rtp_wire.specs.declared.packet.rtp_packet_mut.RtpPacketMut.{RtpPacketMut}
@@ -39,14 +39,14 @@ answer_of elements done was parts table ids same same_ids answer =
 
 renumbered_from : (was : List ℕ) (parts : PacketParts) (old new : RtpPacketMut) (bytes : List ℕ) (table ids : List (Option ℕ)) → IsPacket was parts
     → old.datagram.now ≡ was → table ≡ ids → slice_index bytes 1 < 256 → new.datagram.now ≡ bytes
-    → IfSome (parts_in old).block (λ _. ChangesBlock (λ form. HasOtherIds form (new_id table)) (parts_in old) (parts_in new))
-    → IfSome parts.block (λ _. BecomesPacket (λ form. HasOtherIds form (new_id ids)) parts bytes)
+    → IfSome (parts_in old).block (λ _. ChangesBlock (λ form. ChangesIds form (new_id table)) (parts_in old) (parts_in new))
+    → IfSome parts.block (λ _. BecomesPacket (λ form. ChangesIds form (new_id ids)) parts bytes)
 renumbered_from was parts old new bytes table ids is same same_ids fits ends changes =
     let same_parts = parts-in was parts old is same in
-    subst (λ (q : PacketParts). IfSome q.block (λ _. BecomesPacket (λ form. HasOtherIds form (new_id ids)) parts bytes)) same_parts
-    (subst (λ (t : List (Option ℕ)). IfSome (parts_in old).block (λ _. BecomesPacket (λ form. HasOtherIds form (new_id t)) parts bytes)) same_ids
-    (if_some_weaker (parts_in old).block (λ _. ChangesBlock (λ form. HasOtherIds form (new_id table)) (parts_in old) (parts_in new)) (λ _. BecomesPacket (λ form. HasOtherIds form (new_id table)) parts bytes)
-    (λ _ change. BecomesPacket-changed (λ form. HasOtherIds form (new_id table)) was parts old new bytes is same change fits ends) changes))
+    subst (λ (q : PacketParts). IfSome q.block (λ _. BecomesPacket (λ form. ChangesIds form (new_id ids)) parts bytes)) same_parts
+    (subst (λ (t : List (Option ℕ)). IfSome (parts_in old).block (λ _. BecomesPacket (λ form. ChangesIds form (new_id t)) parts bytes)) same_ids
+    (if_some_weaker (parts_in old).block (λ _. ChangesBlock (λ form. ChangesIds form (new_id table)) (parts_in old) (parts_in new)) (λ _. BecomesPacket (λ form. ChangesIds form (new_id table)) parts bytes)
+    (λ _ change. BecomesPacket-changed (λ form. ChangesIds form (new_id table)) was parts old new bytes is same change fits ends) changes))
 
 pub returns-in-Err-clause-renumbered : goal.returns-in-Err-clause-renumbered
 returns-in-Err-clause-renumbered c parts is ok = absurd (c.in-Err.ensures.only parts is)

@@ -1,15 +1,15 @@
 use Rattle.std.proofs.Common.{◌≡◌, ◌+◌, ◌-◌, ap, ◌∙◌, arith, ℕ, rules, length}
 use Rattle.rtp_wire.specs.Packet.{header_len_of}
-use Rattle.rtp_wire.specs.PartsOf.{parts_of, bytes_of}
+use Rattle.rtp_wire.specs.PartsOf.{parts_of, datagram_of}
 use Rattle.rtp_wire.proofs.PartsLemmas.{length-packet}
-use Rattle.rtp_c.specs.PacketView.{bytes_at, body_of}
+use Rattle.rtp_c.specs.PacketView.{slice_at, body_of}
 use Rattle.rtp_c.proofs.PacketLemmas.{body-at, payload-at, body-within}
 use Rattle.rtp_c.proofs.packet.view_of.Goals as goal
 
 pub returns : goal.returns
 returns c =
     let parts = parts_of c.args.packet.now in
-    let bytes = bytes_of c.args.packet.now in
+    let bytes = datagram_of c.args.packet.now in
     let header = c.header_len-payload_at.result in
     let body = c.block_numbers-block_form.result.1 in
     let header_is : header ≡ header_len_of parts = c.header_len-payload_at.ensures in
@@ -25,10 +25,10 @@ returns c =
       ssrc_is = search rules;
       sources_are = search rules;
       form_is = search rules;
-      body_is = ap (bytes_at bytes (header - body)) body_is ∙ body-at bytes parts c.requires (header - body) (omega (arith, ends, body_is, header_is));
+      body_is = ap (slice_at bytes (header - body)) body_is ∙ body-at bytes parts c.requires (header - body) (omega (arith, ends, body_is, header_is));
       body_ends = ends;
-      payload_is = ap (λ (n : ℕ). bytes_at bytes header n) (ap length payload_is)
-          ∙ ap (λ (n : ℕ). bytes_at bytes n (length parts.payload)) header_is ∙ payload-at bytes parts c.requires;
+      payload_is = ap (λ (n : ℕ). slice_at bytes header n) (ap length payload_is)
+          ∙ ap (λ (n : ℕ). slice_at bytes n (length parts.payload)) header_is ∙ payload-at bytes parts c.requires;
       payload_ends = omega (arith, header_is, ap length payload_is, length-packet bytes parts c.requires);
       unpadded_is = c.unpadded_len_of-unpadded_len.ensures;
     }

@@ -3,7 +3,7 @@ use Rattle.rtp_values.specs.declared.value.values.ExtensionValues.{ExtensionValu
 use Rattle.rtp_ext.specs.BlockValues.{AreValues}
 use Rattle.rtp_ext.specs.ElementReading.{elements_left}
 use Rattle.rtp_ext.proofs.ElementLemmasOfBodies.{AreElements-found}
-use Rattle.rtp_c.specs.KindsOfIds.{numbered_slots}
+use Rattle.rtp_c.specs.StoredMap.{numbered_slots}
 use Rattle.rtp_c.proofs.NumberedLemmas.{HasKinds-numbered}
 use Rattle.rtp_c.proofs.values.rtpw_values_read.Goals as goal
 

@@ -1,4 +1,4 @@
-use Rattle.rtp_c.specs.KindsOfIds.{numbered_slots}
+use Rattle.rtp_c.specs.StoredMap.{numbered_slots}
 use Rattle.rtp_c.proofs.NumberedLemmas.{HasKinds-numbered}
 use Rattle.rtp_c.proofs.writing.rtpw_wire_len.Goals as goal
 

@@ -1,5 +1,5 @@
 use Rattle.std.proofs.Common.{refl, length}
-use Rattle.rtp_c.specs.KindsOfIds.{numbered_slots}
+use Rattle.rtp_c.specs.StoredMap.{numbered_slots}
 use Rattle.rtp_c.proofs.NumberedLemmas.{HasKinds-numbered}
 use Rattle.rtp_c.proofs.WrittenHeaderLemmas.{IsTooLong-refused}
 use Rattle.rtp_c.proofs.writing.rtpw_write.Goals as goal

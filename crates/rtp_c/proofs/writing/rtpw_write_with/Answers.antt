@@ -1,5 +1,5 @@
 use Rattle.std.proofs.Common.{◌≡◌, ℕ, List, Bor, refl, sym, ap, ◌∙◌, subst, length, true≢false}
-use Rattle.rtp_ext.specs.ElementsInARow.{elements_of, CannotBeInARow}
+use Rattle.rtp_ext.specs.ElementsInARow.{elements_of, AreNotWritableIn}
 use Rattle.rtp_wire.specs.WrittenWith.{no_block}
 use Rattle.rtp_c.specs.WrittenElements.{elements_in}
 use Rattle.rtp_c.proofs.WrittenHeaderLemmas.{IsPaired, IsWrittenWith-paired, IsTooLongWith-paired}
@@ -27,9 +27,9 @@ returns-clause-short c is_short =
     ap (λ (pairs : List (ℕ × Bor (List ℕ))). elements_of pairs) c.deref.ensures.value ∙ c.in-Ok.ensures.found.1 in
     let paired : IsPaired c.args.header.now c.args.bytes.now c.args.elements.now elements c.put_given_fields.new.header =
     record { fields = c.in-Some.ensures.found; within = c.in-Ok.ensures.found.0; named = named } in
-    let in_a_row : CannotBeInARow elements 262140 → ⊥ =
+    let in_a_row : AreNotWritableIn elements 262140 → ⊥ =
     λ none. true≢false (c.in-Some-for_elements.ensures.refused.1
-    (subst (λ (pairs : List (ℕ × Bor (List ℕ))). CannotBeInARow (elements_of pairs) 262140) (c.deref.ensures.value ∙ sym c.deref-2.ensures.value) none)) in
+    (subst (λ (pairs : List (ℕ × Bor (List ℕ))). AreNotWritableIn (elements_of pairs) 262140) (c.deref.ensures.value ∙ sym c.deref-2.ensures.value) none)) in
     IsTooLongWith-paired c.args.header.now c.args.bytes.now c.args.elements.now elements c.put_given_fields.new.header paired
     (length c.args.buf.now) in_a_row (c.in_default-write_with.ensures.refused.0 refl)
 

@@ -1,7 +1,7 @@
 use Rattle.std.proofs.Common.{arith, ap, ◌∙◌, length, length-append}
 use Rattle.rtp_values.specs.KnownKind.{extension_of_kind}
 use Rattle.rtp_values.specs.Spelling.{spelled_data}
-use Rattle.rtp_ext.specs.ElementWriting.{items_bytes, bytes_at}
+use Rattle.rtp_ext.specs.ElementWriting.{items_bytes, element_or_nothing}
 use Rattle.rtp_ext.proofs.WrittenBlockLemmas.{items_bytes-nil, items_bytes-cons}
 use Rattle.rtp_ext.proofs.CursorLemmas.{known_bytes}
 use Rattle.rtp_ext.proofs.KnownItemsLemmas.{count_known}
@@ -14,7 +14,7 @@ loop-kind-preserved g c =
     let data_is = spelled_data (extension_of_kind c.in-Some.kind) c.args.ev.now in
     let split = ap length (ap (items_bytes c.args.form c.args.ev.now) c.in-Some.ensures.some
     ∙ items_bytes-cons c.args.form c.args.ev.now (id, (extension_of_kind c.in-Some.kind)) more) in
-    let long = length-append (bytes_at c.args.form id data_is) (items_bytes c.args.form c.args.ev.now more) in (
+    let long = length-append (element_or_nothing c.args.form id data_is) (items_bytes c.args.form c.args.ev.now more) in (
       omega (arith, c.loop-kind.invariant.0, split, long, c.element_len-len.ensures.length id),
       omega (arith, ap length c.in-Some.ensures.some, c.loop-kind.invariant.1, c.element_len-len.ensures.few),
       c.loop-kind.invariant.2,

@@ -1,14 +1,14 @@
 use Rattle.std.proofs.Common.{arith, sym, ap, ◌∙◌, refl, [], ◌+◌, ◌-◌, ◌≤◌, ◌≡◌, ℕ, length}
 use Rattle.std.specs.Option.{unwrap_or}
 use Rattle.std.proofs.lemmas.List.{take_rest, length-drop}
-use Rattle.rtp_ext.specs.ElementWriting.{bytes_at, header_bytes}
+use Rattle.rtp_ext.specs.ElementWriting.{element_or_nothing, element_header}
 use Rattle.rtp_ext.specs.declared.form.ExtensionsForm.{ExtensionsForm}
 use Rattle.rtp_ext.specs.declared.form.ExtensionsForm.TheVariants.{OneByte, TwoByte}
 use Rattle.rtp_base.specs.Overwriting.{overwritten}
 use Rattle.rtp_values.specs.KnownKind.{extension_of_kind}
 use Rattle.rtp_values.specs.Spelling.{spelled_data}
 use Rattle.rtp_base.proofs.OverwritingLemmas.{overwritten-nil, overwritten-rest}
-use Rattle.rtp_ext.proofs.WrittenBlockLemmas.{HasNone, HasNone-from_none, none-without_room, room-for_data, none-from_map, bytes_at-put, IsCarried-from}
+use Rattle.rtp_ext.proofs.WrittenBlockLemmas.{HasNone, HasNone-from_none, none-without_room, room-for_data, none-from_map, element_or_nothing-put, IsCarried-from}
 use Rattle.rtp_ext.proofs.block_elements.write_element.Goals as goal
 
 -- there are no data
@@ -52,15 +52,15 @@ returns-in_default-clause-written c =
 
 -- the data are put after the header, and it in front of them
 element_put : (c : goal.After-slice_known-3-1) →
-    (c.write_header.new.buf ≡ overwritten c.args.buf.now c.args.at (bytes_at c.args.form c.args.id (spelled_data (extension_of_kind c.args.kind) c.args.ev.now)))
-    × (c.args.at + c.header_len.result + c.in-Some.len ≡ c.args.at + length (bytes_at c.args.form c.args.id (spelled_data (extension_of_kind c.args.kind) c.args.ev.now)))
+    (c.write_header.new.buf ≡ overwritten c.args.buf.now c.args.at (element_or_nothing c.args.form c.args.id (spelled_data (extension_of_kind c.args.kind) c.args.ev.now)))
+    × (c.args.at + c.header_len.result + c.in-Some.len ≡ c.args.at + length (element_or_nothing c.args.form c.args.id (spelled_data (extension_of_kind c.args.kind) c.args.ev.now)))
 element_put c =
     let bytes = spelled_data (extension_of_kind c.args.kind) c.args.ev.now in
     let start = c.args.at + c.header_len.result in
     let room : c.header_len.result + length (unwrap_or bytes []) ≤ length c.args.buf.now - c.args.at =
     room-for_data c.args.form c.args.id bytes c.header_len.result
     (length c.args.buf.now - c.args.at) c.header_len.ensures (omega (arith, c.requires.room)) (omega (arith, c.if-start-buf.false)) in
-    bytes_at-put c.args.form c.args.id c.in-Some.len c.args.at start c.args.buf.now _ c.write_header.new.buf bytes
+    element_or_nothing-put c.args.form c.args.id c.in-Some.len c.args.at start c.args.buf.now _ c.write_header.new.buf bytes
     (sym c.in-Some.is ∙ c.write_to.ensures.length) (ap (λ (h : ℕ). c.args.at + h) (c.header_len.ensures c.args.id c.in-Some.len)) c.requires.room
     (overwritten-rest c.args.buf.now c.write_to.new.buf (unwrap_or bytes []) start (omega (arith, room, c.if-start-buf.false)) c.write_to.ensures.written)
     c.write_header.ensures
@@ -77,7 +77,7 @@ returns-clause-carried c =
     c.requires.id (omega arith) c.requires.fits c.write_to.ensures.read_back c.write_to.ensures.few
 
 -- a header has at most two bytes
-few : (form : ExtensionsForm) (header : ℕ) → ((id len : ℕ) → header ≡ length (header_bytes form id len)) → header ≤ 2
+few : (form : ExtensionsForm) (header : ℕ) → ((id len : ℕ) → header ≡ length (element_header form id len)) → header ≤ 2
 few OneByte header is = omega (arith, is 0 0)
 few TwoByte header is = omega (arith, is 0 0)
 

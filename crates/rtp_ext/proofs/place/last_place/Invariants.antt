@@ -1,5 +1,5 @@
 use Rattle.std.proofs.Common.{◌-◌, length}
-use Rattle.rtp_ext.specs.Places.{IsPassed}
+use Rattle.rtp_ext.specs.ElementPlaces.{IsPassed}
 use Rattle.rtp_ext.proofs.place.last_place.Given as goal
 
 -- the last element of the id up to the offset

@@ -1,7 +1,7 @@
 use Rattle.std.proofs.Common.{arith, ap, ◌∙◌, ◌+◌, ℕ, List, length}
 use Rattle.rtp_base.specs.Overwriting.{overwritten}
 use Rattle.rtp_base.proofs.OverwritingLemmas.{overwritten-overwritten}
-use Rattle.rtp_ext.specs.ElementWriting.{header_bytes}
+use Rattle.rtp_ext.specs.ElementWriting.{element_header}
 use Rattle.rtp_ext.proofs.WrittenBlockLemmas.{length-header, header-append}
 use Rattle.rtp_ext.proofs.raw_writing.put_element.Goals as goal
 
@@ -12,6 +12,6 @@ returns-clause-written c =
     let header_len = c.header_len.ensures c.args.id (length bytes) in
     c.put.ensures.written
     ∙ (ap (λ (b : List ℕ). overwritten b start bytes) c.write_header.ensures
-    ∙ (overwritten-overwritten c.args.buf.now (header_bytes c.args.form c.args.id (length bytes)) bytes c.args.at start
+    ∙ (overwritten-overwritten c.args.buf.now (element_header c.args.form c.args.id (length bytes)) bytes c.args.at start
     (ap (λ (n : ℕ). c.args.at + n) header_len) (omega (arith, c.requires.room, header_len, length-header c.args.form c.args.id bytes))
     ∙ ap (overwritten c.args.buf.now c.args.at) (header-append c.args.form c.args.id bytes)))

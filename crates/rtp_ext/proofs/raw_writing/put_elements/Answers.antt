@@ -1,6 +1,6 @@
 use Rattle.std.proofs.Common.{◌≡◌, ◌+◌, ◌++◌, ℕ, List, [], length, map, drop, get_or, Bor, arith}
 use Rattle.rtp_ext.specs.Elements.{Element, elements_bytes}
-use Rattle.rtp_ext.proofs.RawWritingLemmas.{left-more, left-none, AreUnderWay-room, AreUnderWay-step, AreUnderWay-end, FitInARow-read}
+use Rattle.rtp_ext.proofs.RawWritingLemmas.{left-more, left-none, AreUnderWay-room, AreUnderWay-step, AreUnderWay-end, AreWritableIn-read}
 use Rattle.rtp_ext.proofs.raw_writing.put_elements.Goals as goal
 
 abbrev Given : Type 0
@@ -48,4 +48,4 @@ pub returns-clause-written : goal.returns-clause-written
 returns-clause-written c = (all c).1
 
 pub returns-clause-elements : goal.returns-clause-elements
-returns-clause-elements c zeros = FitInARow-read c.args.form (map shown c.args.elements.now) (length c.args.buf.now) zeros c.requires
+returns-clause-elements c zeros = AreWritableIn-read c.args.form (map shown c.args.elements.now) (length c.args.buf.now) zeros c.requires

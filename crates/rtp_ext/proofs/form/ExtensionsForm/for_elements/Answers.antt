@@ -2,9 +2,9 @@ use Rattle.std.proofs.Common.{rules, ◌≡◌, ◌+◌, ℕ, List, [], drop, ge
 use Rattle.std.proofs.lemmas.Bool.{false≢true}
 use Rattle.std.proofs.lemmas.List.{length-map}
 use Rattle.rtp_ext.specs.Elements.{Element}
-use Rattle.rtp_ext.specs.ElementsInARow.{elements_of, form_for, FitInARow, unwritable}
+use Rattle.rtp_ext.specs.ElementsInARow.{elements_of, form_for, AreWritableIn, unwritable}
 use Rattle.rtp_ext.proofs.RawWritingLemmas.{left-more, left-none}
-use Rattle.rtp_ext.proofs.ServingFormLemmas.{Any-given, AreCounted-step, AreCounted-short, AreCounted-longer, AreCounted-fit, CannotBeInARow-not}
+use Rattle.rtp_ext.proofs.ServingFormLemmas.{Any-given, AreCounted-step, AreCounted-short, AreCounted-longer, AreCounted-fit, AreNotWritableIn-not}
 use Rattle.rtp_ext.proofs.form.ExtensionsForm.for_elements.Goals as goal
 
 abbrev Given : Type 0
@@ -49,7 +49,7 @@ returns-then-left-longer_by-clause-refused c =
 
 -- all are counted and fit
 all : (c : goal.Else-left-longer_by) → (c.loop-id.form ≡ form_for (elements_of c.args.elements.now))
-    × FitInARow c.loop-id.form (elements_of c.args.elements.now) c.args.room
+    × AreWritableIn c.loop-id.form (elements_of c.args.elements.now) c.args.room
 all c =
     let given = c.args.elements.now in
     AreCounted-fit (elements_of given) _ c.loop-id.form c.args.room c.loop-id.left c.longer_by.result
@@ -59,7 +59,7 @@ all c =
 pub returns-clause-refused : goal.returns-clause-refused
 returns-clause-refused c = (
   λ some. absurd (false≢true (sym some)),
-  λ cannot. absurd (CannotBeInARow-not (elements_of c.args.elements.now) c.args.room c.loop-id.form (all c).0 (all c).1 cannot),
+  λ cannot. absurd (AreNotWritableIn-not (elements_of c.args.elements.now) c.args.room c.loop-id.form (all c).0 (all c).1 cannot),
 )
 
 pub returns-clause-form : goal.returns-clause-form

@@ -1,12 +1,12 @@
 use Rattle.std.proofs.Common.{arith, rules, ◌≡◌, ◌<◌, ℕ, refl}
 use Rattle.rtp_values.specs.declared.standard.color_space.HdrMetadata.{HdrMetadata}
 use Rattle.rtp_values.specs.Values.{big_endian}
-use Rattle.rtp_values.specs.Spelling.{bytes_of}
+use Rattle.rtp_values.specs.Spelling.{bytes_of_number}
 use Rattle.rtp_values.specs.StandardColor.{hdr_in, hdr_numbers, numbers_data}
 use Rattle.rtp_values.proofs.standard.color_space.hdr_numbers.Goals as goal
 
 abbrev again : ℕ → ℕ
-again n = big_endian (bytes_of 2 n)
+again n = big_endian (bytes_of_number 2 n)
 
 again-is : (n : ℕ) → n < 65536 → again n ≡ n
 again-is n fits = omega arith

@@ -4,7 +4,7 @@ use Rattle.std.proofs.lemmas.List.{take_rest}
 use Rattle.rtp_base.specs.Overwriting.{overwritten}
 use Rattle.rtp_base.proofs.OverwritingLemmas.{overwritten-front, overwritten-rest, overwritten-overwritten}
 use Rattle.rtp_values.specs.Values.{offset_of}
-use Rattle.rtp_values.specs.Spelling.{bytes_of, offset_bytes}
+use Rattle.rtp_values.specs.Spelling.{bytes_of_number, offset_bytes}
 use Rattle.rtp_values.proofs.ValueLemmas.{room_of, spelled-capture, AreData-capture, WritesData-put}
 use Rattle.rtp_values.proofs.value.abs_capture_time.write.Goals as goal
 
@@ -46,4 +46,4 @@ returns c =
     let put = c.put_offset.ensures.written ∙ (ap (λ (o : Option ℤ). overwritten rest 0 (offset_bytes o)) same ∙ overwritten-front rest bytes) in
     WritesData-put (AreData-capture c.ev.view_is c.in_ok-time.was c.in-Some.is c.put_u64-2.ensures.back back) refl
     (overwritten-rest c.put_u64-2.new.buf c.put_offset.new.buf bytes 8 (omega (arith, c.put_u64-2.auto.buf, all)) put
-    ∙ (ap (λ buf. overwritten buf 8 bytes) c.put_u64-2.ensures.written ∙ overwritten-overwritten c.args.buf.now (bytes_of 8 time.capture_time) bytes 0 8 refl (omega (arith, all))))
+    ∙ (ap (λ buf. overwritten buf 8 bytes) c.put_u64-2.ensures.written ∙ overwritten-overwritten c.args.buf.now (bytes_of_number 8 time.capture_time) bytes 0 8 refl (omega (arith, all))))

@@ -1,11 +1,11 @@
 use Rattle.std.proofs.Common.{arith, ◌≡◌, ℕ, List, [], ◌∷◌, get_or, refl}
 use Rattle.rtp_values.specs.declared.value.video_timing.VideoTiming as timing
-use Rattle.rtp_values.specs.Spelling.{bytes_of, timing_bytes}
+use Rattle.rtp_values.specs.Spelling.{bytes_of_number, timing_bytes}
 use Rattle.rtp_values.proofs.ValueLemmas.{room_of, spelled-timing, AreData-timing, WritesData-put}
 use Rattle.rtp_values.proofs.value.video_timing.write.Goals as goal
 
-cells : (t : timing.VideoTiming) (start finish complete left : List ℕ) → start ≡ bytes_of 2 t.encode_start → finish ≡ bytes_of 2 t.encode_finish
-    → complete ≡ bytes_of 2 t.packetize_complete → left ≡ bytes_of 2 t.last_left_pacer
+cells : (t : timing.VideoTiming) (start finish complete left : List ℕ) → start ≡ bytes_of_number 2 t.encode_start → finish ≡ bytes_of_number 2 t.encode_finish
+    → complete ≡ bytes_of_number 2 t.packetize_complete → left ≡ bytes_of_number 2 t.last_left_pacer
     → (t.flags ∷ get_or start 0 0 ∷ get_or start 1 0 ∷ get_or finish 0 0 ∷ get_or finish 1 0 ∷ get_or complete 0 0 ∷ get_or complete 1 0
     ∷ get_or left 0 0 ∷ get_or left 1 0 ∷ 0 ∷ 0 ∷ 0 ∷ 0 ∷ []) ≡ timing_bytes t
 cells t start finish complete left start-is finish-is complete-is left-is = rw (start-is, finish-is, complete-is, left-is) refl

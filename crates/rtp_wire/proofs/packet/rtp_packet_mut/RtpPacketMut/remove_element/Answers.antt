@@ -3,7 +3,7 @@ use Rattle.std.specs.List.{filter_map}
 use Rattle.std.proofs.lemmas.Bool.{false≢true, OnTrue_from}
 use Rattle.std.proofs.lemmas.List.Elements.{All-nil}
 use Rattle.rtp_ext.specs.Elements.{Element}
-use Rattle.rtp_ext.specs.ElementsInPlace.{HasNone, HasOtherIds, renumbered, all_but}
+use Rattle.rtp_ext.specs.ElementsInPlace.{HasNone, ChangesIds, renumbered, all_but}
 use Rattle.rtp_wire.specs.NotAHeader.{sources_end}
 use Rattle.rtp_wire.specs.PartsOf.{parts_in}
 use Rattle.rtp_wire.specs.PacketElements.{AreElementsOf}
@@ -39,7 +39,7 @@ invariant_of-self c =
 pub returns-clause-removed : goal.returns-clause-removed
 returns-clause-removed c = OnTrue_from _ _ (λ _.
     ChangesBlock-body c.args.self.now c.in-Some.form c.body_start-start.result c.in-Some.is (omega (arith, c.body_start-start.ensures))
-    c.remove_element.new.body c.remove_element.auto.body (λ form. HasOtherIds form (all_but c.args.id)) c.remove_element.ensures.removed)
+    c.remove_element.new.body c.remove_element.auto.body (λ form. ChangesIds form (all_but c.args.id)) c.remove_element.ensures.removed)
 
 pub returns-clause-answer : goal.returns-clause-answer
 returns-clause-answer c elements are =

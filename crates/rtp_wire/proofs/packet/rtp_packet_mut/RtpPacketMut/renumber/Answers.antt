@@ -4,7 +4,7 @@ use Rattle.std.proofs.lemmas.Bool.{OnTrue_at, OnTrue_from}
 use Rattle.rtp_values.specs.Values.{no_values}
 use Rattle.rtp_ext.specs.declared.form.ExtensionsForm.{ExtensionsForm}
 use Rattle.rtp_ext.specs.Elements.{Element}
-use Rattle.rtp_ext.specs.ElementsInPlace.{HasOtherIds, CanRenumber, renumbered}
+use Rattle.rtp_ext.specs.ElementsInPlace.{ChangesIds, CanRenumber, renumbered}
 use Rattle.rtp_ext.specs.BlockValues.{AreValues}
 use Rattle.rtp_ext.specs.NewIds.{new_id}
 use Rattle.rtp_ext.specs.WrittenBlock.{mapped_fields}
@@ -59,7 +59,7 @@ returns-clause-renumbered c =
     OnTrue_from _ _ (λ set.
     if_some _ _
     (ChangesBlock-body c.args.self.now c.in-Some.form c.body_start-start.result c.in-Some.is start
-    c.renumber.new.body c.renumber.auto.body (λ form. HasOtherIds form (new_id c.args.ids.now)) (OnTrue_at set c.renumber.ensures.renumbered)))
+    c.renumber.new.body c.renumber.auto.body (λ form. ChangesIds form (new_id c.args.ids.now)) (OnTrue_at set c.renumber.ensures.renumbered)))
 
 pub returns-clause-without_block : goal.returns-clause-without_block
 returns-clause-without_block c =

@@ -1,6 +1,6 @@
 use Rattle.std.proofs.Common.{ℕ, List, ap, ◌∙◌}
 use Rattle.rtp_wire.specs.declared.receive.state.ReceiverState.{ReceiverState}
-use Rattle.rtp_wire.specs.Places.{held_of}
+use Rattle.rtp_wire.specs.SourcePlaces.{held_of}
 use Rattle.rtp_wire.specs.Receivers.{ReceiverStates, receiver_of}
 use Rattle.rtp_wire.proofs.ReceiversLemmas.{no_place}
 use Rattle.rtp_wire.proofs.PlacesLemmas.{ArePlaces-push, ArePlaces-same, held-push_same, held-push_other}

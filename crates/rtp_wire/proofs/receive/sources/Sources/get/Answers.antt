@@ -2,7 +2,7 @@ use Rattle.std.proofs.Common.{arith, ℕ, sym, ap, ◌∙◌}
 use Rattle.std.specs.Prelude.{Some}
 use Rattle.std.proofs.lemmas.List.{get_or_default}
 use Rattle.rtp_wire.specs.declared.receive.state.ReceiverState.{ReceiverState}
-use Rattle.rtp_wire.specs.Places.{past_the_end}
+use Rattle.rtp_wire.specs.SourcePlaces.{past_the_end}
 use Rattle.rtp_wire.proofs.PlacesLemmas.{held_of-found, held_of-none}
 use Rattle.rtp_wire.proofs.receive.sources.Sources.get.Goals as goal
 

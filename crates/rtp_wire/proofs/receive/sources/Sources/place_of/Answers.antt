@@ -2,7 +2,7 @@ use Rattle.std.proofs.Common.{rules, ℕ, ◌<◌, length, sym, subst, ◌≡◌
 use Rattle.std.specs.Prelude.{Some}
 use Rattle.std.specs.BTreeMap.{get}
 use Rattle.std.specs.Ordering.{nat_cmp}
-use Rattle.rtp_wire.specs.Places.{source_at}
+use Rattle.rtp_wire.specs.SourcePlaces.{source_at}
 use Rattle.rtp_wire.proofs.receive.sources.Sources.place_of.Goals as goal
 
 pub returns-in-Some : goal.returns-in-Some

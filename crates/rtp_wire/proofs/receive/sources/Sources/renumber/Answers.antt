@@ -2,7 +2,7 @@ use Rattle.std.proofs.Common.{rules, ◌≡◌, ℕ, sym, ap, ◌∙◌}
 use Rattle.std.specs.Option.{option_copied_mut}
 use Rattle.std.specs.Ordering.{nat_cmp}
 use Rattle.std.specs.BTreeMap.{get}
-use Rattle.rtp_wire.specs.Places.{source_at}
+use Rattle.rtp_wire.specs.SourcePlaces.{source_at}
 use Rattle.rtp_wire.proofs.PlacesLemmas.{is_none}
 use Rattle.rtp_wire.proofs.receive.sources.Sources.renumber.Goals as goal
 

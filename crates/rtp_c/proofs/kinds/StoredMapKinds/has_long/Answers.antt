@@ -2,7 +2,7 @@ use Rattle.std.proofs.Common.{◌≡◌, sym, ap, ◌∙◌, length, rules}
 use Rattle.std.specs.List.{list_any}
 use Rattle.rtp_ext.specs.KindsById.{is_long_item}
 use Rattle.rtp_c.proofs.NumberedLemmas.{numbered-short}
-use Rattle.rtp_c.proofs.kinds.KindsOfIdsKinds.has_long.Goals as goal
+use Rattle.rtp_c.proofs.kinds.StoredMapKinds.has_long.Goals as goal
 
 pub returns-then-not-has_number : goal.returns-then-not-has_number
 returns-then-not-has_number c =

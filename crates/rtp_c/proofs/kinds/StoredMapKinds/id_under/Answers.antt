@@ -4,9 +4,9 @@ use Rattle.std.proofs.lemmas.List.{take_all}
 use Rattle.rtp_values.specs.KnownKind.{extension_of_kind}
 use Rattle.rtp_ext.specs.ExtensionMap.{extension_at}
 use Rattle.rtp_ext.specs.NewIds.{IsNewId}
-use Rattle.rtp_c.specs.KindsOfIds.{IsFirstNumber, numbered_slots}
+use Rattle.rtp_c.specs.StoredMap.{IsFirstNumber, numbered_slots}
 use Rattle.rtp_c.proofs.NumberedLemmas.{numbered-found, numbered-unmapped}
-use Rattle.rtp_c.proofs.kinds.KindsOfIdsKinds.id_under.Goals as goal
+use Rattle.rtp_c.proofs.kinds.StoredMapKinds.id_under.Goals as goal
 
 -- the numbers of the ids from 1 on
 rest_is : (numbers : List ℕ) → length numbers ≡ 256 → take 255 (drop 1 numbers) ≡ drop 1 numbers

@@ -2,8 +2,8 @@ use Rattle.std.proofs.Common.{◌≡◌, length, take, drop}
 use Rattle.std.specs.List.{list_any}
 use Rattle.rtp_ext.specs.ExtensionMap.{items_from}
 use Rattle.rtp_ext.specs.KindsById.{is_long_item}
-use Rattle.rtp_c.specs.KindsOfIds.{numbered_slots}
-use Rattle.rtp_c.proofs.kinds.KindsOfIdsKinds.has_long.Given as goal
+use Rattle.rtp_c.specs.StoredMap.{numbered_slots}
+use Rattle.rtp_c.proofs.kinds.StoredMapKinds.has_long.Given as goal
 
 -- the ids that are left decide
 abbrev pub invariant-loop-id : goal.invariant-loop-id

@@ -4,10 +4,10 @@ use Rattle.std.proofs.Common.{◌≡◌, ℕ, List, Bor, Option, subst, ◌+◌,
 use Rattle.std.proofs.lemmas.Bool.{cases_lt}
 use Rattle.std.proofs.lemmas.List.{get_or-drop, get_or_past, get_or-take, length-drop, length-take}
 use Rattle.rtp_ext.specs.ExtensionMap.{items_from}
-use Rattle.rtp_c.specs.KindsOfIds.{numbered_slots}
+use Rattle.rtp_c.specs.StoredMap.{numbered_slots}
 use Rattle.rtp_c.proofs.NumberedLemmas.{numbered-low, numbered-all, numbered-few}
-use Rattle.rtp_c.proofs.kinds.KindsOfIdsKinds.start.Goals as goal
-use Rattle.rtp_c.proofs.kinds.KindsOfIdsKinds.start.Goals.{else-is_low, then-is_low+then-is_few, then-is_low+else-is_few+then-self-eq0, then-is_low+else-is_few+else-self-eq0}
+use Rattle.rtp_c.proofs.kinds.StoredMapKinds.start.Goals as goal
+use Rattle.rtp_c.proofs.kinds.StoredMapKinds.start.Goals.{else-is_low, then-is_low+then-is_few, then-is_low+else-is_few+then-self-eq0, then-is_low+else-is_few+else-self-eq0}
 
 -- numbers that are 0 between two indices, as they are looked at
 zeros_in : (numbers : List ℕ) (n m i : ℕ) → n + m ≤ length numbers

@@ -5,7 +5,7 @@ use Rattle.rtp_ext.specs.declared.form.ExtensionsForm.{ExtensionsForm}
 use Rattle.rtp_ext.specs.declared.place.Place.{Place}
 use Rattle.rtp_base.specs.Overwriting.{overwritten}
 use Rattle.rtp_ext.specs.Elements.{Element, IsElement, element_bytes, IsPiece, piece_bytes, AreElements}
-use Rattle.rtp_ext.specs.ElementWriting.{header_bytes}
+use Rattle.rtp_ext.specs.ElementWriting.{element_header}
 use Rattle.rtp_ext.specs.ElementsInPlace.{HasNone}
 
 -- an element with these data lies at the place, between these bytes
@@ -16,7 +16,7 @@ pub record LiesAt (form : ExtensionsForm) (body : List ℕ) (place : Place) : Ty
   pub is_element : IsElement form (place.id, bytes)
   pub body_is : body ≡ front ++ (element_bytes form (place.id, bytes) ++ after)
   pub start_is : place.start ≡ length front
-  pub data_is : place.data_start ≡ place.start + length (header_bytes form place.id (length bytes))
+  pub data_is : place.data_start ≡ place.start + length (element_header form place.id (length bytes))
   pub end_is : place.end ≡ place.data_start + length bytes
 
 -- the first element from the offset on lies at the place, and only padding before it
@@ -27,7 +27,7 @@ pub record IsNextPlace (form : ExtensionsForm) (body : List ℕ) (at : ℕ) (pla
   pub is_element : IsElement form (place.id, bytes)
   pub left_is : drop at body ≡ replicate padding 0 ++ (element_bytes form (place.id, bytes) ++ after)
   pub start_is : place.start ≡ at + padding
-  pub data_is : place.data_start ≡ place.start + length (header_bytes form place.id (length bytes))
+  pub data_is : place.data_start ≡ place.start + length (element_header form place.id (length bytes))
   pub end_is : place.end ≡ place.data_start + length bytes
   pub within : place.end + length after ≡ length body
 

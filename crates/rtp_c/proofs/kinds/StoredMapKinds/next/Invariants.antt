@@ -1,7 +1,7 @@
 use Rattle.std.proofs.Common.{◌≡◌, ◌≤◌, ◌-◌, take, drop}
 use Rattle.rtp_ext.specs.ExtensionMap.{items_from}
-use Rattle.rtp_c.specs.KindsOfIds.{numbered_slots}
-use Rattle.rtp_c.proofs.kinds.KindsOfIdsKinds.next.Given as goal
+use Rattle.rtp_c.specs.StoredMap.{numbered_slots}
+use Rattle.rtp_c.proofs.kinds.StoredMapKinds.next.Given as goal
 
 -- the ids so far are mapped to nothing
 abbrev pub invariant-loop-at : goal.invariant-loop-at

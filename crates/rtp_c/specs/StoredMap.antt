@@ -14,7 +14,7 @@ pub record HasKinds (numbers : List ℕ) (slots : Slots) : Type 0 where
   pub slots_are : slots ≡ slots_of kinds
 
 -- the ids mean the usual extensions, each its own, and no other id means one
-pub record IsStandard (numbers : List ℕ) : Type 0 where
+pub record AreStandardNumbers (numbers : List ℕ) : Type 0 where
   pub slots : Slots
   pub has_kinds : HasKinds numbers slots
   pub listing : IsListing slots (λ _. true) standard_items

@@ -1,7 +1,7 @@
 use Rattle.std.proofs.Common.{arith, ap, ◌∙◌, get_or}
 use Rattle.rtp_c.specs.KindNumbers.{kind_numbered}
 use Rattle.rtp_c.proofs.NumberedLemmas.{extension_numbered}
-use Rattle.rtp_c.proofs.kinds.KindsOfIdsKinds.get.Goals as goal
+use Rattle.rtp_c.proofs.kinds.StoredMapKinds.get.Goals as goal
 
 pub returns : goal.returns
 returns c =

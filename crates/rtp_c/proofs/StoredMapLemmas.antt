@@ -8,7 +8,7 @@ use Rattle.rtp_ext.specs.ExtensionMap.{IsListing, items_from, standard_items}
 use Rattle.rtp_ext.specs.KindsById.{slots_of}
 use Rattle.rtp_ext.proofs.ListingLemmas.{IsListing-from_slots}
 use Rattle.rtp_c.specs.KindNumbers.{kind_number, IsKindNumbered}
-use Rattle.rtp_c.specs.KindsOfIds.{HasKinds, IsStandard}
+use Rattle.rtp_c.specs.StoredMap.{HasKinds, AreStandardNumbers}
 use Rattle.rtp_c.proofs.KindNumberLemmas.{number≢0}
 
 -- the number of a kind, and 0 for none
@@ -51,8 +51,8 @@ items_are : items_from 0 (slots_of standard_kinds) ≡ standard_items
 unfolding standard_kinds
 items_are = refl
 
-pub IsStandard-numbers : (numbers : List ℕ) → numbers ≡ standard_numbers → IsStandard numbers
-IsStandard-numbers numbers is = record {
+pub AreStandardNumbers-numbers : (numbers : List ℕ) → numbers ≡ standard_numbers → AreStandardNumbers numbers
+AreStandardNumbers-numbers numbers is = record {
   slots = slots_of standard_kinds;
   has_kinds = subst (λ (n : List ℕ). HasKinds n (slots_of standard_kinds)) (numbers_are ∙ sym is) (HasKinds-numbers standard_kinds);
   listing = subst (IsListing (slots_of standard_kinds) (λ _. true)) items_are (IsListing-from_slots (slots_of standard_kinds));
