@@ -20,7 +20,7 @@
  *
  * The caller owes what C asks anyway:
  *   - a pointer is to as much memory as is said, and aligned for its type: NULL may stand only where the
- *     size or the count after it is 0;
+ *     size or the count after it is 0 (that this is as a buffer of no bytes is tested, not proved);
  *   - what is written overlaps nothing else that is passed.
  *
  * A buffer is a pointer and then its size in bytes. Numbers are in the byte order of the machine:

@@ -65,8 +65,12 @@ static inline memory memory_of(size_t size) {
     return it;
 }
 
-/* A block of exactly this many bytes, at one of the two ends of the room. The one before it is gone. */
+/* A block of exactly this many bytes, at one of the two ends of the room; one of no bytes is NULL at times. The
+ * one before it is gone. */
 static inline void *block_in(memory *it, size_t len) {
+    if (len == 0 && random_u64() % 2 == 0) {
+        return NULL;
+    }
     if (uses_malloc) {
         free(it->block);
         it->block = malloc(len);
