@@ -1,9 +1,9 @@
 //! Mixer-to-client audio levels (RFC 6465, 4): a byte for each CSRC.
 
-ghost use Rattle.std.specs.Prelude.{◌≡◌, ◌<◌, ◌≤◌, ◌%◌, ◌↔◌, IsTrue, All, IfSome, IfNone, map, length, slice_index, unsigned_abs, neg_ℤ, pos};
+ghost use Rattle.std.specs.Prelude.{◌≡◌, ℕ, ◌<◌, ◌≤◌, ◌↔◌, IsTrue, All, IfSome, IfNone, map, length, slice_index, slice_index_or, unsigned_abs, pos};
 ghost use Rattle.std.specs.Option.{SomeIff};
 ghost use Rattle.rtp_base.specs.Overwriting.{overwritten};
-ghost use Rattle.rtp_values.specs.StandardLevels.{IsLevel};
+ghost use Rattle.rtp_values.specs.StandardLevels.{IsLevel, level_in};
 
 use rtp_base::put;
 
@@ -18,7 +18,7 @@ use rtp_base::put;
 /// ```
 pub fn mixer_audio_level(bytes: &[u8], csrc_count: usize, index: usize) -> Option<i8>
     ensures { SomeIff result ((index < csrc_count) × (index < length bytes.now))
-        (neg_ℤ (pos (slice_index bytes.now index % 128))) }
+        (level_in (slice_index bytes.now index)) }
 {
     if index >= csrc_count {
         return None;
@@ -50,6 +50,10 @@ pub fn write_mixer_audio_levels(levels: &[i8], buf: &mut [u8]) -> Option<usize>
     ensures result { SomeIff result (All IsLevel levels.now) (length levels.now) }
     ensures written { IfSome result (λ _. buf.new ≡ overwritten buf.old 0 (map unsigned_abs levels.now)) }
     ensures unchanged { IfNone result (buf.new ≡ buf.old) }
+
+    // The bytes are read as the levels again.
+    ensures back { IfSome result (λ _. (i : ℕ) → i < length levels.now →
+        level_in (slice_index (map unsigned_abs levels.now) i) ≡ slice_index_or levels.now i (pos 0)) }
 {
     if !are_levels(levels) {
         return None;

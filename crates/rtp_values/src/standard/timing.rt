@@ -23,9 +23,9 @@ pub struct Timing {
     pub packetize_complete: u16,
     /// When its last packet left the pacer.
     pub last_left_pacer: u16,
-    /// When its last packet reached a server on the way, which fills it in.
+    /// A time that a server on the way fills in; what it means is the application's.
     pub network: u16,
-    /// When its last packet left that server, which fills it in.
+    /// Another such time.
     pub network2: u16,
 }
 

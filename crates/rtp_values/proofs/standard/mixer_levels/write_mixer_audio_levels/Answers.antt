@@ -2,6 +2,10 @@ use Rattle.std.proofs.Common.{arith, rules, sym, ◌≡◌, ◌≤◌, ◌<◌, 
 use Rattle.std.proofs.Math.Seq.{take-suc}
 use Rattle.std.proofs.lemmas.List.{map-append, length-map}
 use Rattle.std.proofs.lemmas.Int.{to_z-of_z}
+use Rattle.std.proofs.lemmas.Int.{ints}
+use Rattle.std.proofs.Math.ListN.{get_or-map}
+use Rattle.std.specs.Prelude.{All, slice_index}
+use Rattle.rtp_values.specs.StandardLevels.{IsLevel, level_in}
 use Rattle.rtp_base.specs.Overwriting.{overwritten}
 use Rattle.rtp_base.proofs.OverwritingLemmas.{overwritten-nil, overwritten-overwritten}
 use Rattle.rtp_values.proofs.standard.mixer_levels.write_mixer_audio_levels.Goals as goal
@@ -32,3 +36,16 @@ loop-index-preserved c =
     let fits : FitsSigned w8 level = search rules in
     put-next c.args.buf.now c.loop-index.buf c.put.new.buf c.args.levels.now (pos 0) c.unsigned_abs.result c.loop-index.index c.loop-index-test.true c.requires.room
     c.loop-index.invariant (c.unsigned_abs.ensures.value ∙ ap unsigned_abs (to_z-of_z w8 level fits)) c.put.ensures.written
+
+level-again : (level : ℤ) → IsLevel level → level_in (unsigned_abs level) ≡ level
+level-again level is = omega (arith, ints)
+
+levels-again : (levels : List ℤ) → All IsLevel levels → (i : ℕ) → i < length levels
+    → level_in (slice_index (map unsigned_abs levels) i) ≡ slice_index_or levels i (pos 0)
+levels-again levels are i within =
+    ap level_in (get_or-map unsigned_abs levels i (pos 0)) ∙ level-again (slice_index_or levels i (pos 0)) (are i (pos 0) within)
+
+pub returns-clause-back : goal.returns-clause-back
+returns-clause-back c =
+    let are : All IsLevel c.args.levels.now = search (rules, c.if-not-are_levels.ensures) in
+    levels-again c.args.levels.now are
