@@ -7,7 +7,7 @@ use Rattle.rtp_ext.specs.declared.form.ExtensionsForm.{ExtensionsForm}
 use Rattle.rtp_ext.specs.Form.{IsFormWord}
 use Rattle.rtp_wire.specs.Block.{word_at}
 use Rattle.rtp_wire.specs.NotAHeader.{cut_header, unknown_form, cut_words, NotAHeader, cut_fixed, other_version, cut_sources, no_block, sources_end}
-use Rattle.rtp_wire.specs.NotAPacket.{AppliesToBlock, Applies, place_of, IsFirstCause, IsFirstCause}
+use Rattle.rtp_wire.specs.NotAPacket.{AppliesToBlock, Applies, place_of, IsFirstOf, IsFirstCause}
 use Rattle.rtp_wire.specs.Packet.{PacketParts, IsPacket}
 use Rattle.rtp_wire.proofs.PacketLemmas.{no_packet}
 
@@ -48,15 +48,15 @@ applied-after bytes UnknownForm long version room applies = applies.1
 applied-after bytes CutBlock long version room applies = applies.1
 
 pub IsFirstCause-block : (bytes : List ℕ) (cause : NotAPacket) → 12 ≤ length bytes → slice_index bytes 0 / 64 ≡ 2 → sources_end bytes ≤ length bytes
-    → slice_index bytes 0 / 16 % 2 ≡ 1 → IsFirstCause (AppliesToBlock (drop (sources_end bytes) bytes)) cause → IsFirstCause bytes cause
+    → slice_index bytes 0 / 16 % 2 ≡ 1 → IsFirstOf (AppliesToBlock (drop (sources_end bytes) bytes)) cause → IsFirstCause bytes cause
 IsFirstCause-block bytes cause long version room set is = record {
   applies = applies-after bytes cause set is.applies;
   none_before = λ earlier before applies. is.none_before earlier before (applied-after bytes earlier long version room applies);
 }
 
 -- the first cause in what is to be a block: its form is unknown, or its words are cut short
-pub IsFirstCause-unknown_form : (bytes : List ℕ) → 4 ≤ length bytes → AppliesToBlock bytes UnknownForm → IsFirstCause (AppliesToBlock bytes) UnknownForm
-IsFirstCause-unknown_form bytes long unknown = record { applies = unknown; none_before = none_before bytes long }
+pub IsFirstOf-unknown_form : (bytes : List ℕ) → 4 ≤ length bytes → AppliesToBlock bytes UnknownForm → IsFirstOf (AppliesToBlock bytes) UnknownForm
+IsFirstOf-unknown_form bytes long unknown = record { applies = unknown; none_before = none_before bytes long }
   where
     none_before : (bytes : List ℕ) → 4 ≤ length bytes → (earlier : NotAPacket) → place_of earlier < 4 → AppliesToBlock bytes earlier → ⊥
     none_before bytes long CutFixedPart before applies = applies
@@ -66,8 +66,8 @@ IsFirstCause-unknown_form bytes long unknown = record { applies = unknown; none_
     none_before bytes long UnknownForm before applies = omega arith
     none_before bytes long CutBlock before applies = omega arith
 
-pub IsFirstCause-cut_block : (bytes : List ℕ) (form : ExtensionsForm) → 4 ≤ length bytes → IsFormWord (word_at bytes 0) form → AppliesToBlock bytes CutBlock → IsFirstCause (AppliesToBlock bytes) CutBlock
-IsFirstCause-cut_block bytes form long is short = record { applies = short; none_before = none_before bytes form long is }
+pub IsFirstOf-cut_block : (bytes : List ℕ) (form : ExtensionsForm) → 4 ≤ length bytes → IsFormWord (word_at bytes 0) form → AppliesToBlock bytes CutBlock → IsFirstOf (AppliesToBlock bytes) CutBlock
+IsFirstOf-cut_block bytes form long is short = record { applies = short; none_before = none_before bytes form long is }
   where
     none_before : (bytes : List ℕ) (form : ExtensionsForm) → 4 ≤ length bytes → IsFormWord (word_at bytes 0) form → (earlier : NotAPacket) → place_of earlier < 5 → AppliesToBlock bytes earlier → ⊥
     none_before bytes form long is CutFixedPart before applies = applies

@@ -39,10 +39,10 @@ place_of UnknownForm = 4
 place_of CutBlock = 5
 
 -- of the causes that apply, this one is the first
-pub record IsFirstCause (Fact : NotAPacket → Type 0) (cause : NotAPacket) : Type 0 where
+pub record IsFirstOf (Fact : NotAPacket → Type 0) (cause : NotAPacket) : Type 0 where
   pub applies : Fact cause
   pub none_before : (earlier : NotAPacket) → place_of earlier < place_of cause → Fact earlier → ⊥
 
 -- the cause for which the bytes of a datagram are no packet: it applies, and none before it does
 abbrev pub IsFirstCause : List ℕ → NotAPacket → Type 0
-IsFirstCause bytes cause = IsFirstCause (Applies bytes) cause
+IsFirstCause bytes cause = IsFirstOf (Applies bytes) cause

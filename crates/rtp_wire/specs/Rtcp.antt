@@ -1,8 +1,6 @@
 -- Which datagrams are RTCP on a port that carries RTP too (RFC 5761, 4; RFC 3550, 6.4.1).
---
--- "The RTCP packet type field occupies the same position in the packet as the combination of the RTP
--- marker (M) bit and the RTP payload type (PT)." RTCP packet types are kept to 192 to 223, "so that only
--- the RTP payload types in the range 64-95 are blocked".
+-- The packet type of RTCP is the second byte, which in RTP is M and the payload type; the types 192 to 223 are RTCP's, so
+-- a stream on such a port has no payload type of 64 to 95.
 use Rattle.std.specs.Prelude.{◌≡◌, ℕ, ◌/◌, ◌≤◌, List, length, slice_index}
 
 -- version 2 in the top two bits of the first byte, and one of these packet types in the second

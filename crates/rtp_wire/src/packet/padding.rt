@@ -4,8 +4,7 @@ ghost use Rattle.std.specs.Prelude.{◌≡◌, ◌↔◌, ◌<◌, ◌≤◌, le
 ghost use Rattle.rtp_wire.specs.ChangedPacket.{ChangesOnly, HasUnpadded};
 ghost use Rattle.rtp_wire.specs.Padding.{padding_count};
 
-use super::RtpPacketMut;
-use super::rtp_packet_mut::flag;
+use super::{RtpPacketMut, flag};
 use rtp_base::put;
 
 impl<'a> RtpPacketMut<'a> {

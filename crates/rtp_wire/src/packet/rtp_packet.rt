@@ -6,7 +6,7 @@ ghost use Rattle.std.specs.Option.{option_map};
 ghost use Rattle.rtp_ext.specs.Elements.{Element};
 ghost use Rattle.rtp_wire.specs.Block.{word_at};
 ghost use Rattle.rtp_wire.specs.NotAHeader.{NotAHeader};
-ghost use Rattle.rtp_wire.specs.NotAPacket.{AppliesToBlock, IsFirstCause, IsFirstCause};
+ghost use Rattle.rtp_wire.specs.NotAPacket.{AppliesToBlock, IsFirstOf, IsFirstCause};
 ghost use Rattle.rtp_wire.specs.Packet.{PacketParts, IsPacket, IsWithoutPadding, header_len_of};
 ghost use Rattle.rtp_wire.specs.PacketElements.{AreElementsOf, IsLast};
 ghost use Rattle.rtp_wire.specs.Padding.{padding_count};
@@ -268,7 +268,7 @@ fn first_block(bytes: &[u8]) -> Result<(ExtensionsForm, usize), NotAPacket>
     ensures form { IfOk result (λ block. form_of_word (word_at bytes.now 0) ≡ Some block.0) }
     ensures length { IfOk result (λ block. block.1 ≡ 4 + 4 * word_at bytes.now 2) }
     ensures within { IfOk result (λ block. block.1 ≤ length bytes.now) }
-    ensures cause { IfErr result (IsFirstCause (AppliesToBlock bytes.now)) }
+    ensures cause { IfErr result (IsFirstOf (AppliesToBlock bytes.now)) }
 {
     let Some((header, after)) = bytes.split_first_chunk::<4>() else {
         return Err(NotAPacket::CutBlockHeader);

@@ -2,7 +2,7 @@ use Rattle.std.proofs.Common.{arith, ap, sym, subst, ◌∙◌, ◌<◌, ℕ, Li
 use Rattle.std.specs.Prelude.{slice_index}
 use Rattle.std.proofs.lemmas.Bool.{false≢true}
 use Rattle.std.proofs.lemmas.Result.{err_from_is_err_and}
-use Rattle.rtp_wire.specs.NotAPacket.{IsFirstCause, AppliesToBlock, IsFirstCause}
+use Rattle.rtp_wire.specs.NotAPacket.{IsFirstOf, AppliesToBlock, IsFirstCause}
 use Rattle.rtp_wire.specs.declared.packet.not_a_packet.NotAPacket.TheVariants.{CutSources}
 use Rattle.rtp_wire.specs.Packet.{IsPacket}
 use Rattle.rtp_wire.specs.PartsAt.{parts_at}
@@ -44,7 +44,7 @@ block_cause c =
     let start = c.sources_end-start.ensures in
     let after = c.in-Some.ensures.cases.2 ∙ ap (λ (k : ℕ). drop k bytes) start in
     IsFirstCause-block bytes c.in_err-form.field-0.0 c.if-datagram-lt12.false c.if-first-ne2.false (omega (arith, c.in-Some.ensures.cases.0, start)) (x_set _ c.if-first-eq0.false)
-    (subst (λ (b : List ℕ). IsFirstCause (AppliesToBlock b) c.in_err-form.field-0.0) after c.in_err-form.ensures.cause)
+    (subst (λ (b : List ℕ). IsFirstOf (AppliesToBlock b) c.in_err-form.field-0.0) after c.in_err-form.ensures.cause)
 
 pub returns-in_err-form-clause-only : goal.returns-in_err-form-clause-only
 returns-in_err-form-clause-only c parts is = absurd (no_packet c.args.datagram.now c.in_err-form.field-0.0 parts (block_cause c).applies is)
