@@ -12,5 +12,3 @@ pub mod AllocationWritingLemmas
 pub mod AllocationTrimming
 pub mod AllocationSpelling
 pub mod AllocationWriting
-mod UpToLemmas
-mod VideoLayersLemmas

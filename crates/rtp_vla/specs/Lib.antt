@@ -8,5 +8,3 @@ pub mod Leaving
 pub mod AllocationEqual
 pub mod AllocationReading
 pub mod AllocationPutting
-pub mod UpTo
-pub mod VideoLayers

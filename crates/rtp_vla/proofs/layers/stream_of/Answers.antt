@@ -1,6 +1,6 @@
 use Rattle.std.proofs.Common.{refl, arith}
 use Rattle.rtp_vla.proofs.AllocationReadingLemmas.{active_next, length-marks_of, length-marks_of-more, deals_more, deals_all}
-use Rattle.rtp_vla.proofs.lists.stream_of.Goals as goal
+use Rattle.rtp_vla.proofs.layers.stream_of.Goals as goal
 
 pub layer_of-requires : goal.layer_of-requires
 layer_of-requires c = active_next c.loop-marks.marks _ c.loop-marks.invariant.fits c.loop-marks-test.true c.loop-marks.invariant.deals.enough
@@ -17,7 +17,7 @@ push_reserved-requires c = omega (arith, c.loop-marks.invariant.room, length-mar
 
 pub loop-marks-preserved : goal.loop-marks-preserved
 loop-marks-preserved c = record {
-  deals = rw c.push_reserved.ensures.items (deals_more c.loop-marks.marks _ _ _ _ _ _ c.loop-marks.invariant.fits c.loop-marks-test.true c.in_ok-layer.ensures c.loop-marks.invariant.deals);
+  deals = rw c.push_reserved.ensures.items (deals_more c.loop-marks.marks _ _ _ _ _ _ c.loop-marks.invariant.fits c.loop-marks-test.true c.in_ok-layer_of.ensures c.loop-marks.invariant.deals);
   fits = omega (arith, c.loop-marks.invariant.fits);
   room = omega (arith, c.loop-marks.invariant.room, c.push_reserved.ensures.len, c.push_reserved.ensures.capacity, length-marks_of-more c.loop-marks.marks c.loop-marks.invariant.fits c.loop-marks-test.true);
 }

@@ -1,0 +1,7 @@
+use Rattle.std.proofs.Common.{◌≡◌, take}
+use Rattle.rtp_vla.specs.AllocationReading.{halves}
+use Rattle.rtp_vla.proofs.parsing.read_halves.Given as goal
+
+-- the masks so far are read
+abbrev pub invariant-loop-i : goal.invariant-loop-i
+invariant-loop-i l = take l.i l.masks ≡ take l.i (halves l.spelled)
