@@ -2,8 +2,8 @@
  * rtp_lines for Linux on aarch64: the assembly text that Rattle's compiler makes of the program, each function of which is proved.
  * Made anew by: generated/make
  * kit: rattle-kit-13b logic dac8208d650f15bf
- * sources: 12cd052c9335c13e7393a4271d4dcc84e2082a5d2ac1cd7850ec47cf055dd99f
- * text: c0f818c56ddbe488f4fbc078a8f44eb16d5705e95ee8c4370b66233985493ecc
+ * sources: fccd7a6d52461059359b15d18211fa555eb17b8a2e39fbc513d3a250d1e61cd8
+ * text: ee75da58437267ee60962d275a6cd444414b5d03487290a459bbbf178b9f7e02
  * SPDX-License-Identifier: MIT OR Apache-2.0
  * Copyright (c) 2026 The rtp-wire developers (NOTICE)
  */
@@ -1004,10 +1004,10 @@
 	.size	"core::array::slots::IntoIter::drop::<#266ce6664b7170e1>", .Lrtp_func_end5-"core::array::slots::IntoIter::drop::<#266ce6664b7170e1>"
 	.cfi_endproc
 
-	.section	".text.rtp_ext::ext::map::ExtensionMap::set","ax",@progbits
+	.section	".text.rtp_ext::map::ExtensionMap::set","ax",@progbits
 	.p2align	2
-	.type	"rtp_ext::ext::map::ExtensionMap::set",@function
-"rtp_ext::ext::map::ExtensionMap::set":
+	.type	"rtp_ext::map::ExtensionMap::set",@function
+"rtp_ext::map::ExtensionMap::set":
 	.cfi_startproc
 	sub	sp, sp, #272
 	str	x30, [sp, #256]
@@ -1327,7 +1327,7 @@
 .Lrtp_BB6_70:
 	brk	#0x1
 .Lrtp_func_end6:
-	.size	"rtp_ext::ext::map::ExtensionMap::set", .Lrtp_func_end6-"rtp_ext::ext::map::ExtensionMap::set"
+	.size	"rtp_ext::map::ExtensionMap::set", .Lrtp_func_end6-"rtp_ext::map::ExtensionMap::set"
 	.cfi_endproc
 
 	.section	.rodata.cst16,"aM",@progbits,16
@@ -1981,7 +1981,7 @@
 	add	x8, sp, #1808
 	sub	x2, x24, x9
 	add	x4, x8, #88
-	bl	"rtp_ext::ext::block_values::read_known::<#e9d93fbd56e26b0d>"
+	bl	"rtp_ext::block_values::read_values::<#c2ad4153350a5d4e>"
 	and	w8, w0, #0xff
 	tbnz	w8, #0, .Lrtp_BB7_570
 	ldr	x24, [sp, #2112]
@@ -5338,7 +5338,7 @@
 	b.ne	.Lrtp_BB7_567
 	add	x8, sp, #288
 	add	x0, x8, #288
-	bl	"std_alloc::vec::Vec::drop::<#26dd5a1f17346404>"
+	bl	"std_alloc::vec::Vec::drop::<#96fc43e7743eb198>"
 	mov	w1, w20
 .Lrtp_BB7_567:
 	cbz	x24, .Lrtp_BB7_569
@@ -5508,10 +5508,10 @@
 .Lrtp_CPI8_0:
 	.word	100
 	.word	0
-	.section	".text.rtp_ext::ext::block_values::read_known::<#e9d93fbd56e26b0d>","ax",@progbits
+	.section	".text.rtp_ext::block_values::read_values::<#c2ad4153350a5d4e>","ax",@progbits
 	.p2align	2
-	.type	"rtp_ext::ext::block_values::read_known::<#e9d93fbd56e26b0d>",@function
-"rtp_ext::ext::block_values::read_known::<#e9d93fbd56e26b0d>":
+	.type	"rtp_ext::block_values::read_values::<#c2ad4153350a5d4e>",@function
+"rtp_ext::block_values::read_values::<#c2ad4153350a5d4e>":
 	.cfi_startproc
 	sub	sp, sp, #176
 	stp	x29, x30, [sp, #112]
@@ -5557,7 +5557,7 @@
 .Lrtp_BB8_6:
 	sub	x1, x20, #1
 	add	x0, x21, #1
-	bl	"rtp_ext::ext::elements::skip_far"
+	bl	"rtp_ext::elements::skip_far"
 	subs	x8, x1, #2
 	b.lo	.Lrtp_BB8_232
 .Lrtp_BB8_7:
@@ -6088,7 +6088,7 @@
 .Lrtp_BB8_125:
 	sub	x1, x20, #1
 	add	x0, x21, #1
-	bl	"rtp_ext::ext::elements::skip_far"
+	bl	"rtp_ext::elements::skip_far"
 	mov	x20, x1
 	cbz	x1, .Lrtp_BB8_232
 .Lrtp_BB8_126:
@@ -6592,9 +6592,9 @@
 	add	sp, sp, #176
 	ret
 .Lrtp_func_end8:
-	.size	"rtp_ext::ext::block_values::read_known::<#e9d93fbd56e26b0d>", .Lrtp_func_end8-"rtp_ext::ext::block_values::read_known::<#e9d93fbd56e26b0d>"
+	.size	"rtp_ext::block_values::read_values::<#c2ad4153350a5d4e>", .Lrtp_func_end8-"rtp_ext::block_values::read_values::<#c2ad4153350a5d4e>"
 	.cfi_endproc
-	.section	".rodata.rtp_ext::ext::block_values::read_known::<#e9d93fbd56e26b0d>","a",@progbits
+	.section	".rodata.rtp_ext::block_values::read_values::<#c2ad4153350a5d4e>","a",@progbits
 .Lrtp_JTI8_0:
 	.byte	(.Lrtp_BB8_10-.Lrtp_BB8_2)>>2
 	.byte	(.Lrtp_BB8_28-.Lrtp_BB8_2)>>2
@@ -6628,10 +6628,10 @@
 	.byte	(.Lrtp_BB8_121-.Lrtp_BB8_120)>>2
 	.byte	(.Lrtp_BB8_132-.Lrtp_BB8_120)>>2
 
-	.section	".text.rtp_ext::ext::elements::skip_far","ax",@progbits
+	.section	".text.rtp_ext::elements::skip_far","ax",@progbits
 	.p2align	2
-	.type	"rtp_ext::ext::elements::skip_far",@function
-"rtp_ext::ext::elements::skip_far":
+	.type	"rtp_ext::elements::skip_far",@function
+"rtp_ext::elements::skip_far":
 	.cfi_startproc
 .Lrtp_BB9_1:
 	mov	x8, x1
@@ -6656,7 +6656,7 @@
 .Lrtp_BB9_7:
 	ret
 .Lrtp_func_end9:
-	.size	"rtp_ext::ext::elements::skip_far", .Lrtp_func_end9-"rtp_ext::ext::elements::skip_far"
+	.size	"rtp_ext::elements::skip_far", .Lrtp_func_end9-"rtp_ext::elements::skip_far"
 	.cfi_endproc
 
 	.section	".text.rtp_values::value::video_layers_allocation::read","ax",@progbits
@@ -9112,10 +9112,10 @@
 	.size	"rtp_listing::listing::write_sending::<#5e1603e38c63b5f6>", .Lrtp_func_end19-"rtp_listing::listing::write_sending::<#5e1603e38c63b5f6>"
 	.cfi_endproc
 
-	.section	".text.std_alloc::vec::Vec::drop::<#26dd5a1f17346404>","ax",@progbits
+	.section	".text.std_alloc::vec::Vec::drop::<#96fc43e7743eb198>","ax",@progbits
 	.p2align	2
-	.type	"std_alloc::vec::Vec::drop::<#26dd5a1f17346404>",@function
-"std_alloc::vec::Vec::drop::<#26dd5a1f17346404>":
+	.type	"std_alloc::vec::Vec::drop::<#96fc43e7743eb198>",@function
+"std_alloc::vec::Vec::drop::<#96fc43e7743eb198>":
 	.cfi_startproc
 	stp	x29, x30, [sp, #-80]!
 	stp	x26, x25, [sp, #16]
@@ -9183,7 +9183,7 @@
 	ldp	x29, x30, [sp], #80
 	ret
 .Lrtp_func_end20:
-	.size	"std_alloc::vec::Vec::drop::<#26dd5a1f17346404>", .Lrtp_func_end20-"std_alloc::vec::Vec::drop::<#26dd5a1f17346404>"
+	.size	"std_alloc::vec::Vec::drop::<#96fc43e7743eb198>", .Lrtp_func_end20-"std_alloc::vec::Vec::drop::<#96fc43e7743eb198>"
 	.cfi_endproc
 
 	.section	".text.std_collections::btree::node::Node::destroy::<#2fe7f96373f75378>","ax",@progbits
@@ -10900,7 +10900,7 @@ main:
 	str	x25, [x8, #10752]
 	str	x24, [x8, #10768]
 	str	x23, [x8, #10776]
-	bl	"rtp_ext::ext::map::ExtensionMap::set"
+	bl	"rtp_ext::map::ExtensionMap::set"
 	ldr	x24, [sp, #32]
 	ldr	x20, [sp, #16]
 	add	x27, x27, #1
@@ -11131,14 +11131,14 @@ main:
 	add	x2, x2, #1624
 	mov	w1, #1
 	str	x8, [x23, #488]
-	bl	"rtp_ext::ext::map::ExtensionMap::set"
+	bl	"rtp_ext::map::ExtensionMap::set"
 	add	x0, sp, #13, lsl #12
 	add	x2, sp, #11, lsl #12
 	mov	w1, #2
 	add	x0, x0, #3736
 	add	x2, x2, #520
 	str	xzr, [x28]
-	bl	"rtp_ext::ext::map::ExtensionMap::set"
+	bl	"rtp_ext::map::ExtensionMap::set"
 	add	x0, sp, #13, lsl #12
 	add	x2, sp, #10, lsl #12
 	mov	w8, #5
@@ -11146,7 +11146,7 @@ main:
 	add	x2, x2, #4000
 	mov	w1, #3
 	str	x8, [x26]
-	bl	"rtp_ext::ext::map::ExtensionMap::set"
+	bl	"rtp_ext::map::ExtensionMap::set"
 	add	x0, sp, #13, lsl #12
 	add	x2, sp, #11, lsl #12
 	mov	w8, #11
@@ -11155,7 +11155,7 @@ main:
 	mov	w1, #4
 	str	x8, [x23]
 	mov	w21, #4
-	bl	"rtp_ext::ext::map::ExtensionMap::set"
+	bl	"rtp_ext::map::ExtensionMap::set"
 	add	x0, sp, #13, lsl #12
 	add	x2, sp, #13, lsl #12
 	mov	w8, #9
@@ -11165,21 +11165,21 @@ main:
 	str	x8, [x23, #10752]
 	mov	x26, x22
 	mov	w22, #10
-	bl	"rtp_ext::ext::map::ExtensionMap::set"
+	bl	"rtp_ext::map::ExtensionMap::set"
 	add	x0, sp, #13, lsl #12
 	add	x2, sp, #13, lsl #12
 	mov	w1, #11
 	add	x0, x0, #3736
 	add	x2, x2, #3664
 	str	x22, [x23, #10720]
-	bl	"rtp_ext::ext::map::ExtensionMap::set"
+	bl	"rtp_ext::map::ExtensionMap::set"
 	add	x0, sp, #13, lsl #12
 	add	x2, sp, #13, lsl #12
 	mov	w1, #13
 	add	x0, x0, #3736
 	add	x2, x2, #3632
 	str	x21, [x23, #10688]
-	bl	"rtp_ext::ext::map::ExtensionMap::set"
+	bl	"rtp_ext::map::ExtensionMap::set"
 	add	x20, x20, #16
 	add	x0, sp, #5, lsl #12
 	ldr	x21, [x23, #10792]

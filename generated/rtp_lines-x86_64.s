@@ -2,8 +2,8 @@
  * rtp_lines for Linux on x86_64: the assembly text that Rattle's compiler makes of the program, each function of which is proved.
  * Made anew by: generated/make
  * kit: rattle-kit-13b logic dac8208d650f15bf
- * sources: 12cd052c9335c13e7393a4271d4dcc84e2082a5d2ac1cd7850ec47cf055dd99f
- * text: bb2d1f5fee9227b37be65b921de78a931ec6151e6ce459b08a4a3ffadaba6e6b
+ * sources: fccd7a6d52461059359b15d18211fa555eb17b8a2e39fbc513d3a250d1e61cd8
+ * text: a0faf658b253d2405f8959bd5250e0df219f8be1d7df6f06b4f9f7d7e18f14da
  * SPDX-License-Identifier: MIT OR Apache-2.0
  * Copyright (c) 2026 The rtp-wire developers (NOTICE)
  */
@@ -1034,7 +1034,7 @@
 	movzbl	%r14b, %esi
 	leaq	1936(%rsp), %rdi
 	leaq	80(%rsp), %rdx
-	callq	"rtp_ext::ext::map::ExtensionMap::set"
+	callq	"rtp_ext::map::ExtensionMap::set"
 	movq	48(%rsp), %rbx
 	incq	%rbx
 	testq	%r13, %r13
@@ -1336,37 +1336,37 @@
 	leaq	24416(%rsp), %rdx
 	movq	%rbx, %rdi
 	movl	$1, %esi
-	callq	"rtp_ext::ext::map::ExtensionMap::set"
+	callq	"rtp_ext::map::ExtensionMap::set"
 	movq	$0, 208(%rsp)
 	leaq	208(%rsp), %rdx
 	movq	%rbx, %rdi
 	movl	$2, %esi
-	callq	"rtp_ext::ext::map::ExtensionMap::set"
+	callq	"rtp_ext::map::ExtensionMap::set"
 	movq	$5, 1320(%rsp)
 	leaq	1320(%rsp), %rdx
 	movq	%rbx, %rdi
 	movl	$3, %esi
-	callq	"rtp_ext::ext::map::ExtensionMap::set"
+	callq	"rtp_ext::map::ExtensionMap::set"
 	movq	$11, 832(%rsp)
 	leaq	832(%rsp), %rdx
 	movq	%rbx, %rdi
 	movl	$4, %esi
-	callq	"rtp_ext::ext::map::ExtensionMap::set"
+	callq	"rtp_ext::map::ExtensionMap::set"
 	movq	$9, 80(%rsp)
 	leaq	80(%rsp), %rdx
 	movq	%rbx, %rdi
 	movl	$10, %esi
-	callq	"rtp_ext::ext::map::ExtensionMap::set"
+	callq	"rtp_ext::map::ExtensionMap::set"
 	movq	$10, 176(%rsp)
 	leaq	176(%rsp), %rdx
 	movq	%rbx, %rdi
 	movl	$11, %esi
-	callq	"rtp_ext::ext::map::ExtensionMap::set"
+	callq	"rtp_ext::map::ExtensionMap::set"
 	movq	$4, 144(%rsp)
 	leaq	144(%rsp), %rdx
 	movq	%rbx, %rdi
 	movl	$13, %esi
-	callq	"rtp_ext::ext::map::ExtensionMap::set"
+	callq	"rtp_ext::map::ExtensionMap::set"
 	movq	1936(%rsp), %r12
 	movq	1944(%rsp), %r13
 	leaq	1952(%rsp), %rsi
@@ -2772,10 +2772,10 @@
 	.size	"core::array::slots::IntoIter::drop::<#266ce6664b7170e1>", .Lrtp_func_end6-"core::array::slots::IntoIter::drop::<#266ce6664b7170e1>"
 	.cfi_endproc
 
-	.section	".text.rtp_ext::ext::map::ExtensionMap::set","ax",@progbits
+	.section	".text.rtp_ext::map::ExtensionMap::set","ax",@progbits
 	.p2align	4
-	.type	"rtp_ext::ext::map::ExtensionMap::set",@function
-"rtp_ext::ext::map::ExtensionMap::set":
+	.type	"rtp_ext::map::ExtensionMap::set",@function
+"rtp_ext::map::ExtensionMap::set":
 	.cfi_startproc
 	pushq	%rbp
 	.cfi_def_cfa_offset 16
@@ -3153,7 +3153,7 @@
 .Lrtp_BB7_78:
 	ud2
 .Lrtp_func_end7:
-	.size	"rtp_ext::ext::map::ExtensionMap::set", .Lrtp_func_end7-"rtp_ext::ext::map::ExtensionMap::set"
+	.size	"rtp_ext::map::ExtensionMap::set", .Lrtp_func_end7-"rtp_ext::map::ExtensionMap::set"
 	.cfi_endproc
 
 	.section	.rodata.cst16,"aM",@progbits,16
@@ -5535,7 +5535,7 @@
 	movzbl	%r13b, %ecx
 	movq	1528(%rsp), %rdi
 	leaq	760(%rsp), %r8
-	callq	"rtp_ext::ext::block_values::read_known::<#e9d93fbd56e26b0d>"
+	callq	"rtp_ext::block_values::read_values::<#c2ad4153350a5d4e>"
 	testb	%al, %al
 	jne	.Lrtp_BB8_555
 	movq	976(%rsp), %rax
@@ -6857,7 +6857,7 @@
 	cmpb	$1, 1824(%rsp)
 	jne	.Lrtp_BB8_522
 	leaq	1840(%rsp), %rdi
-	callq	"std_alloc::vec::Vec::drop::<#26dd5a1f17346404>"
+	callq	"std_alloc::vec::Vec::drop::<#96fc43e7743eb198>"
 	jmp	.Lrtp_BB8_522
 .Lrtp_BB8_555:
 	cmpb	$1, 936(%rsp)
@@ -7051,10 +7051,10 @@
 	.zero	1
 	.zero	1
 	.zero	1
-	.section	".text.rtp_ext::ext::block_values::read_known::<#e9d93fbd56e26b0d>","ax",@progbits
+	.section	".text.rtp_ext::block_values::read_values::<#c2ad4153350a5d4e>","ax",@progbits
 	.p2align	4
-	.type	"rtp_ext::ext::block_values::read_known::<#e9d93fbd56e26b0d>",@function
-"rtp_ext::ext::block_values::read_known::<#e9d93fbd56e26b0d>":
+	.type	"rtp_ext::block_values::read_values::<#c2ad4153350a5d4e>",@function
+"rtp_ext::block_values::read_values::<#c2ad4153350a5d4e>":
 	.cfi_startproc
 	pushq	%rbp
 	.cfi_def_cfa_offset 16
@@ -7106,7 +7106,7 @@
 	incq	%r15
 	movq	%r15, %rdi
 	movq	%rdx, %rsi
-	callq	"rtp_ext::ext::elements::skip_far"
+	callq	"rtp_ext::elements::skip_far"
 	cmpq	$2, %rdx
 	jae	.Lrtp_BB9_6
 	jmp	.Lrtp_BB9_236
@@ -7678,7 +7678,7 @@
 	incq	%r15
 	movq	%r15, %rdi
 	movq	%rdx, %rsi
-	callq	"rtp_ext::ext::elements::skip_far"
+	callq	"rtp_ext::elements::skip_far"
 	testq	%rdx, %rdx
 	jne	.Lrtp_BB9_127
 	jmp	.Lrtp_BB9_236
@@ -8247,9 +8247,9 @@
 	.cfi_def_cfa_offset 8
 	retq
 .Lrtp_func_end9:
-	.size	"rtp_ext::ext::block_values::read_known::<#e9d93fbd56e26b0d>", .Lrtp_func_end9-"rtp_ext::ext::block_values::read_known::<#e9d93fbd56e26b0d>"
+	.size	"rtp_ext::block_values::read_values::<#c2ad4153350a5d4e>", .Lrtp_func_end9-"rtp_ext::block_values::read_values::<#c2ad4153350a5d4e>"
 	.cfi_endproc
-	.section	".rodata.rtp_ext::ext::block_values::read_known::<#e9d93fbd56e26b0d>","a",@progbits
+	.section	".rodata.rtp_ext::block_values::read_values::<#c2ad4153350a5d4e>","a",@progbits
 	.p2align	2, 0x0
 .Lrtp_JTI9_0:
 	.long	.Lrtp_BB9_9-.Lrtp_JTI9_0
@@ -8284,10 +8284,10 @@
 	.long	.Lrtp_BB9_121-.Lrtp_JTI9_1
 	.long	.Lrtp_BB9_133-.Lrtp_JTI9_1
 
-	.section	".text.rtp_ext::ext::elements::skip_far","ax",@progbits
+	.section	".text.rtp_ext::elements::skip_far","ax",@progbits
 	.p2align	4
-	.type	"rtp_ext::ext::elements::skip_far",@function
-"rtp_ext::ext::elements::skip_far":
+	.type	"rtp_ext::elements::skip_far",@function
+"rtp_ext::elements::skip_far":
 	.cfi_startproc
 	.p2align	4
 .Lrtp_BB10_1:
@@ -8316,7 +8316,7 @@
 	movq	%rsi, %rax
 	retq
 .Lrtp_func_end10:
-	.size	"rtp_ext::ext::elements::skip_far", .Lrtp_func_end10-"rtp_ext::ext::elements::skip_far"
+	.size	"rtp_ext::elements::skip_far", .Lrtp_func_end10-"rtp_ext::elements::skip_far"
 	.cfi_endproc
 
 	.section	.rodata.cst16,"aM",@progbits,16
@@ -10836,10 +10836,10 @@
 	.size	"rtp_listing::listing::write_sending::<#5e1603e38c63b5f6>", .Lrtp_func_end20-"rtp_listing::listing::write_sending::<#5e1603e38c63b5f6>"
 	.cfi_endproc
 
-	.section	".text.std_alloc::vec::Vec::drop::<#26dd5a1f17346404>","ax",@progbits
+	.section	".text.std_alloc::vec::Vec::drop::<#96fc43e7743eb198>","ax",@progbits
 	.p2align	4
-	.type	"std_alloc::vec::Vec::drop::<#26dd5a1f17346404>",@function
-"std_alloc::vec::Vec::drop::<#26dd5a1f17346404>":
+	.type	"std_alloc::vec::Vec::drop::<#96fc43e7743eb198>",@function
+"std_alloc::vec::Vec::drop::<#96fc43e7743eb198>":
 	.cfi_startproc
 	pushq	%rbp
 	.cfi_def_cfa_offset 16
@@ -10940,7 +10940,7 @@
 	.cfi_def_cfa_offset 8
 	retq
 .Lrtp_func_end21:
-	.size	"std_alloc::vec::Vec::drop::<#26dd5a1f17346404>", .Lrtp_func_end21-"std_alloc::vec::Vec::drop::<#26dd5a1f17346404>"
+	.size	"std_alloc::vec::Vec::drop::<#96fc43e7743eb198>", .Lrtp_func_end21-"std_alloc::vec::Vec::drop::<#96fc43e7743eb198>"
 	.cfi_endproc
 
 	.section	".text.std_collections::btree::node::Node::destroy::<#2fe7f96373f75378>","ax",@progbits
