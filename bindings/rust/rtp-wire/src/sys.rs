@@ -7,7 +7,7 @@
 #![allow(unsafe_code)]
 
 use crate::views::{
-    FieldsView, HeaderView, StoredNewIds, StoredMap, Layers, PacketParts, Place, ReceiverState,
+    FieldsView, HeaderView, Layers, PacketParts, Place, ReceiverState, StoredMap, StoredNewIds,
     ValuesView,
 };
 
@@ -27,7 +27,7 @@ pub const CSRC_AT: usize = 12;
 
 mod c {
     use super::{
-        FieldsView, HeaderView, StoredNewIds, StoredMap, Layers, PacketParts, Place, ReceiverState,
+        FieldsView, HeaderView, Layers, PacketParts, Place, ReceiverState, StoredMap, StoredNewIds,
         ValuesView,
     };
 

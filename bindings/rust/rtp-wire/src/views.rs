@@ -196,7 +196,10 @@ mod tests {
         lies!(Layer, 40, kbps 0, width 32, height 34, framerate 36, has_resolution 37, rates 38);
         lies!(Stream, 168, layers 0, count 160);
         lies!(Layers, 680, streams 0, count 672, current 673);
-        assert_eq!((size_of::<StoredMap>(), size_of::<StoredNewIds>()), (256, 256));
+        assert_eq!(
+            (size_of::<StoredMap>(), size_of::<StoredNewIds>()),
+            (256, 256)
+        );
     }
 
     #[test]
