@@ -1,11 +1,11 @@
 #!/usr/bin/env bash
-# Tests the library for C, C++ and Rust: it is installed from its texts, and the programs of bindings/test,
+# Tests the library for C, C++, Rust and Go: it is installed from its texts, and the programs of bindings/test,
 # bindings/c/test and bindings/examples are run with it. Prints a line for each thing that was checked, and ends
 # at the first one that fails.
 #
 # usage: bindings/test.sh [--prove]
 #
-# It needs cc and c++. What needs cargo, valgrind, or aarch64-linux-gnu-gcc and qemu-aarch64 is left out where
+# It needs cc and c++. What needs cargo, go, valgrind, or aarch64-linux-gnu-gcc and qemu-aarch64 is left out where
 # they are missing, and a line says so. With --prove it tests what `rt` proves and builds instead of the texts.
 set -euo pipefail
 here=$(cd -- "$(dirname -- "$(readlink -f -- "${BASH_SOURCE[0]}")")" && pwd)
@@ -94,9 +94,14 @@ said 'values worked out by hand, as C99 and C++11'
 cargo=(cargo --quiet)
 export CARGO_TARGET_DIR=$here/out/cargo CARGO_NET_OFFLINE=true RUSTFLAGS='-D warnings' RUSTDOCFLAGS='-D warnings'
 rust=bindings/rust/rtp-wire
+go=bindings/go
+export GOCACHE=$here/out/gocache GOPROXY=off GOTOOLCHAIN=local GOFLAGS=
 if [ -n "$proves" ]; then
-    # The crate with the text of what was proved now.
+    # The packages with the text of what was proved now.
     mkdir -p "$scratch/bindings/rust"
+    cp -r "$go" "$scratch/bindings"
+    cp "$here/out/build-x86_64-unknown-linux-gnu/rtp_wire.s" "$scratch/$go/rtp_wire_linux_amd64.S"
+    go=$scratch/$go
     cp -r "$rust" "$scratch/bindings/rust"
     cp "$here/out/build-x86_64-unknown-linux-gnu/rtp_wire.s" "$scratch/$rust/assembly/rtp_wire-x86_64.s"
     rust=$scratch/$rust CARGO_TARGET_DIR+=-proved
@@ -114,6 +119,12 @@ if has cargo; then
 else
     languages='C and C++'
     said 'Rust was left out: there is no cargo'
+fi
+if has go; then
+    (cd "$go" && go build -o "$scratch/lines_go" ./examples/lines)
+    languages="${languages/ and /, } and Go"
+else
+    said 'Go was left out: there is no go'
 fi
 compare() {
     # by_hand.lines has what no capture has: padding, sources, no extension, a replay, a rollover, no packet, zeros
@@ -172,6 +183,11 @@ if has cargo; then
     "${cargo[@]}" fmt "${crate[@]}" --check
     said 'the crate for Rust: cargo test, cargo doc and cargo fmt, without a warning'
 fi
+if has go; then
+    (cd "$go" && go test -count=1 ./... >"$scratch/go.log" 2>&1) || { cat "$scratch/go.log" >&2; fail 'go test'; }
+    said 'the package for Go: go test'
+fi
+[ -n "$proves" ] || .ci/languages
 
 # The programs of docs/CALLING.md print what stands there: in the section of each language the first block of that
 # language is the program, and the first one of none its output.
@@ -190,14 +206,11 @@ if has cargo; then
     rustc --edition 2021 -D warnings "$scratch/call.rs" -o "$scratch/call_Rust" \
         --extern "rtp_wire=$CARGO_TARGET_DIR/debug/librtp_wire.rlib"
 fi
-if has go && has pkg-config; then
+if has go; then
     mkdir "$scratch/go"
     block Go go >"$scratch/go/main.go"
-    (
-        export PKG_CONFIG_PATH=$prefix/lib/pkgconfig CGO_LDFLAGS="-Wl,-rpath,$prefix/lib" CGO_LDFLAGS_ALLOW=.*
-        cd "$scratch/go" && GO111MODULE=off GOCACHE=$scratch/gocache go build -o "$scratch/call_Go" main.go
-    )
-    languages="${languages/ and /, } and Go"
+    block Go mod | sed "s, => .*, => $(readlink -f "$go")," >"$scratch/go/go.mod"
+    (cd "$scratch/go" && go build -o "$scratch/call_Go" .)
 fi
 for program in "$scratch"/call_*; do
     it=${program##*_}

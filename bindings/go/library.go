@@ -107,10 +107,6 @@ func extend32(previous uint64, number uint32) uint64 {
 	return uint64(C.rtpw_extend_u32(C.uint64_t(previous), C.uint32_t(number)))
 }
 
-func isRTCP(datagram []byte) bool {
-	return bool(C.rtpw_is_rtcp(first(datagram), size(datagram)))
-}
-
 func (l *Layers) parse(datagram []byte, m *Map) error {
 	layers := (*C.rtpw_layers)(unsafe.Pointer(&l.streams))
 	return errorOf(int32(C.call_parse_layers(first(datagram), size(datagram), m.c(), layers)))

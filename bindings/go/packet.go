@@ -77,5 +77,5 @@ func PeekSSRC(datagram []byte) (ssrc uint32, ok bool) {
 // second byte, the RTCP packet type, is 192 to 223. It comes before [Packet.Parse], which would take a receiver
 // report for RTP: as RTP that byte is M and a payload type of 64 to 95, which a stream on such a port must not have.
 func IsRTCP(datagram []byte) bool {
-	return isRTCP(datagram)
+	return len(datagram) >= 2 && datagram[0]>>6 == 2 && 192 <= datagram[1] && datagram[1] <= 223
 }

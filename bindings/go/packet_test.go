@@ -171,13 +171,21 @@ func TestElements(t *testing.T) {
 }
 
 func TestRTCP(t *testing.T) {
-	rows := map[string]bool{
-		"": false, "\x80": false, "\x80\xC8": true, "\x80\xBF": false, "\x80\xC0": true, "\x80\xDF": true,
-		"\x80\xE0": false, "\xA1\xC9\x00\x01": true, "\x40\xC9": false, "\xC0\xC9": false, "\x80\x60": false,
+	// version 2 is 0x80 to 0xBF of the first byte; the packet types of RTCP are 192 to 223
+	found := 0
+	for high := 0; high < 256; high++ {
+		same(t, "one byte", rtpwire.IsRTCP([]byte{byte(high)}), false)
+		for low := 0; low < 256; low++ {
+			if rtpwire.IsRTCP([]byte{byte(high), byte(low)}) {
+				found++
+				if high < 0x80 || high > 0xBF || low < 0xC0 || low > 0xDF {
+					t.Errorf("%02X %02X", high, low)
+				}
+			}
+		}
 	}
-	for datagram, is := range rows {
-		same(t, datagram, rtpwire.IsRTCP([]byte(datagram)), is)
-	}
+	same(t, "how many pairs", found, 64*32)
+	same(t, "none", rtpwire.IsRTCP(nil), false)
 }
 
 func TestPeekSSRC(t *testing.T) {

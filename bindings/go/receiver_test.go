@@ -115,3 +115,38 @@ func TestExtend(t *testing.T) {
 	same(t, "16 bits", []uint64{rtpwire.Extend16(65530, 4), rtpwire.Extend16(65536, 65535)}, []uint64{65540, 65535})
 	same(t, "32 bits", rtpwire.Extend32(1<<32-1, 0), uint64(1<<32))
 }
+
+func TestNoMemoryIsTaken(t *testing.T) {
+	m := rtpwire.StandardMap()
+	ids := rtpwire.NewIDsBetween(m, m)
+	datagram := []byte{0x90, 96, 0, 5, 0, 0, 0, 1, 0, 0, 0, 7, 0xBE, 0xDE, 0, 1, 0x10, 0x8A, 0, 0, 'h', 'i'}
+	buf := make([]byte, 100)
+	places := make([]rtpwire.Place, 0, 4)
+	var packet rtpwire.Packet
+	var receiver rtpwire.Receiver
+	number := uint16(0)
+	taken := testing.AllocsPerRun(100, func() {
+		number++
+		var fields rtpwire.Fields
+		fields.SetSequenceNumber(number)
+		err := fields.Apply(datagram)
+		if err == nil {
+			_, err = receiver.ReceivePacket(datagram, m, &packet)
+		}
+		if err == nil {
+			err = rtpwire.Renumber(datagram, ids)
+		}
+		if err == nil {
+			_, err = packet.Header.Write(buf, m)
+		}
+		places = packet.AppendPlaces(places[:0])
+		_, isThere := packet.Element(1)
+		if err != nil || len(places) != 1 || !isThere {
+			t.Fatal(err, places)
+		}
+		if err := packet.Parse(datagram[:19], m); err == nil {
+			t.Fatal("cut")
+		}
+	})
+	same(t, "how often", taken, 0.0)
+}
