@@ -176,12 +176,7 @@ fi
 
 # The programs of docs/CALLING.md print what stands there: in the section of each language the first block of that
 # language is the program, and the first one of none its output.
-block() { # section, language
-    awk -v section="## $1" -v language="$2" '
-        /^## / { inside = $0 == section }
-        /^```/ { open = !open; here = open && inside && !found && substr($0, 4) == language; found = found || here; next }
-        here' docs/CALLING.md
-}
+block() { .ci/block docs/CALLING.md "$@"; } # section, language
 block C c >"$scratch/call.c"
 block C++ cpp >"$scratch/call.cpp"
 block Rust rust >"$scratch/call.rs"
