@@ -237,6 +237,20 @@ hostile cc "$library" "$scratch/hostile"
 wait $! || { cat "$scratch/first" >&2; fail hostile; }
 said 'each function with random bytes and structs between pages that may not be touched, a million times'
 
+# What a fuzzer runs, with the packets of the captures as its inputs; and beside one function in place of another.
+fuzz() { # program, options
+    cc -std=c99 -g "${strict[@]}" -D_GNU_SOURCE -D FUZZ_MAIN "${@:2}" bindings/test/fuzz.c bindings/test/hostile_*.c "$library" -o "$1"
+}
+bindings/test/inputs.sh "$scratch/inputs"
+fuzz "$scratch/fuzz"
+"$scratch/fuzz" "$scratch/inputs/"*
+for ((len = 0; len < 70; len++)); do head -c "$len" "$scratch/inputs/1" | "$scratch/fuzz"; done
+fuzz "$scratch/other" -O0 -D rtpw_extend_u15=rtpw_extend_u16
+status=0
+{ "$scratch/other" "$scratch/inputs/"* >"$scratch/told"; } 2>"$scratch/aborted" || status=$?
+[ $status -eq 134 ] && grep -q rtpw_extend_u15 "$scratch/told" || fail 'a wrong function passed the entry for fuzzers'
+said "the entry for fuzzers, with $(find "$scratch/inputs" -type f | wc -l) packets of the captures"
+
 if has valgrind; then
     valgrind --quiet --error-exitcode=9 --leak-check=full "$scratch/hostile" 3 20000 malloc
     said 'the same under valgrind, 20,000 times'
