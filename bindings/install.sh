@@ -158,15 +158,10 @@ rm -f -- "$work/librtp_wire.a"
 $cc -shared -o "$work/librtp_wire.so" "$object" \
     -Wl,-soname,"librtp_wire.so.$abi" -Wl,--no-undefined -Wl,-z,noexecstack -Wl,-z,relro -Wl,-z,now
 
-# Fills in a template: each name between two @ is that of a variable.
 fill_in() { # template, file
-    local text name
-    text=$(<"$1")
-    for name in prefix libdir up version abi; do text=${text//@$name@/"${!name}"}; done
-    printf '%s\n' "$text" >"$2"
+    "$here/fill_in" "$1" prefix="$prefix" libdir="$libdir" up="$(sed -E 's|[^/]+|..|g' <<<"$libdir")" \
+        version="$version" abi="$abi" >"$2"
 }
-up=$(sed -E 's|[^/]+|..|g' <<<"$libdir")
-
 install -d -- "$to/$libdir/pkgconfig" "$to/$libdir/cmake/rtp_wire" "$to/include"
 install -m 644 -- "$work/librtp_wire.a" "$to/$libdir"
 install -m 755 -- "$work/librtp_wire.so" "$to/$libdir/librtp_wire.so.$version"
