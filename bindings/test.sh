@@ -275,6 +275,8 @@ if has aarch64-linux-gnu-gcc && has qemu-aarch64; then
     arm=$here/out/aarch64-unknown-linux-gnu/lib/librtp_wire.a
     aarch64-linux-gnu-gcc -std=c11 "${strict[@]}" -fsyntax-only bindings/test/layout.c
     CC='aarch64-linux-gnu-gcc -static' RUN=qemu-aarch64 bindings/test/abi.sh || fail 'the ABI on ARM'
+    aarch64-linux-gnu-nm -g --defined-only "$arm" | awk 'NF == 3 { print $3 }' | sort | diff "$scratch/declared" - >&2 ||
+        fail 'the list and the library for ARM differ'
     aarch64-linux-gnu-gcc -std=c99 "${strict[@]}" "${include[@]}" -static bindings/examples/lines.c "$arm" -o "$scratch/arm"
     compare qemu-aarch64 "$scratch/arm"
     for it in packets padding faults headers statuses; do

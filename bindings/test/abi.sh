@@ -40,7 +40,7 @@ read -ra run <<<"${RUN-}"
             type[count] = substr($0, 1, RSTART - 1); sub(/ $/, "", type[count]); type[count] = type[count] dims; count++
         }' "$scratch/lines"
     for name in $(grep -oE '\benum \{[^}]*\}' "$scratch/lines" | grep -oE 'RTPW_[A-Z0-9_]+') \
-        $(sed -nE 's/^#define (RTPW_[A-Z0-9_]+) [0-9]+$/\1/p' "$scratch/macros" | grep -vx RTPW_VERSION_NUMBER | sort); do
+        $(sed -nE 's/^#define (RTPW_[A-Z0-9_]+) [0-9(].*$/\1/p' "$scratch/macros" | grep -vx RTPW_VERSION_NUMBER | sort); do
         printf 'printf("constant %s: %%ld\\n", (long)%s);\n' "$name" "$name"
     done
     printf 'return 0;\n}\n'
