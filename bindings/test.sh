@@ -66,7 +66,7 @@ for name in $wanted; do
     esac
 done
 for name in $(cat "$scratch/exported"); do
-    for callers in 'bindings/test/hostile*.c' bindings/test/stack.c bindings/rust/rtp-wire/src/sys.rs; do
+    for callers in 'bindings/test/hostile_*.c' bindings/test/stack.c bindings/rust/rtp-wire/src/sys.rs; do
         case $callers in *stack.c) word=${name#rtpw_} ;; *) word=$name ;; esac
         # shellcheck disable=SC2086
         grep -qw -- "$word" $callers || fail "$name is not called in $callers"
