@@ -117,8 +117,7 @@ rust=bindings/rust/rtp-wire
 if [ -n "$proves" ]; then
     # The crate with the text of what was proved now.
     mkdir -p "$scratch/bindings/rust"
-    cp -rL "$rust" "$scratch/bindings/rust"
-    cp -r bindings/examples bindings/c "$scratch/bindings"
+    cp -r "$rust" "$scratch/bindings/rust"
     cp "$here/out/build-x86_64-unknown-linux-gnu/rtp_wire.s" "$scratch/$rust/assembly/rtp_wire-x86_64.s"
     rust=$scratch/$rust CARGO_TARGET_DIR+=-proved
 fi

@@ -17,6 +17,7 @@ pub struct Element<'a> {
 
 impl Place {
     /// An element of this id, whose data are these bytes of what they are written from.
+    #[must_use]
     pub fn new(id: u8, data: Range<usize>) -> Place {
         Place {
             data_at: data.start,
@@ -27,6 +28,7 @@ impl Place {
     }
 
     /// The id.
+    #[must_use]
     pub fn id(&self) -> u8 {
         self.id
     }
@@ -38,6 +40,7 @@ impl Place {
     }
 
     /// Where its data lie: offsets from the first byte of the block's body.
+    #[must_use]
     pub fn data(&self) -> Range<usize> {
         self.data_at..self.end
     }
@@ -57,6 +60,7 @@ impl<'a> Elements<'a> {
     }
 
     /// Where the data of each lie in the block's body.
+    #[must_use]
     pub fn places(self) -> Places<'a> {
         self.places
     }

@@ -66,8 +66,9 @@ impl Error for NoMemory {}
 
 /// Why a header wasn't read.
 #[derive(Clone, Copy, Debug, PartialEq, Eq, Hash)]
+#[non_exhaustive]
 pub enum NotAHeader {
-    /// The bytes are no packet.
+    /// The bytes are no packet: [`source`](Error::source) says why.
     NotAPacket(NotAPacket),
     /// Memory was refused.
     NoMemory,
@@ -85,13 +86,20 @@ impl NotAHeader {
 impl fmt::Display for NotAHeader {
     fn fmt(&self, f: &mut fmt::Formatter<'_>) -> fmt::Result {
         match self {
-            NotAHeader::NotAPacket(cause) => cause.fmt(f),
+            NotAHeader::NotAPacket(_) => f.write_str("no RTP packet"),
             NotAHeader::NoMemory => NoMemory.fmt(f),
         }
     }
 }
 
-impl Error for NotAHeader {}
+impl Error for NotAHeader {
+    fn source(&self) -> Option<&(dyn Error + 'static)> {
+        match self {
+            NotAHeader::NotAPacket(cause) => Some(cause),
+            NotAHeader::NoMemory => None,
+        }
+    }
+}
 
 impl From<NotAPacket> for NotAHeader {
     fn from(cause: NotAPacket) -> NotAHeader {
@@ -107,6 +115,7 @@ impl From<NoMemory> for NotAHeader {
 
 /// Why nothing was written.
 #[derive(Clone, Copy, Debug, PartialEq, Eq, Hash)]
+#[non_exhaustive]
 pub enum NotWritten {
     /// No packet can carry what was given.
     BadField,
@@ -138,6 +147,61 @@ impl fmt::Display for NotWritten {
 }
 
 impl Error for NotWritten {}
+
+/// Why a packet or a header was left as it was.
+#[derive(Clone, Copy, Debug, PartialEq, Eq, Hash)]
+#[non_exhaustive]
+pub enum NotChanged {
+    /// The payload type is above 127.
+    BadPayloadType,
+    /// There are more contributing sources than the 15 that a header has room for.
+    TooManySources,
+    /// The CSRC list has no such place.
+    NoSource,
+    /// No element has the id, or the last one has another number of bytes.
+    NoElement,
+    /// An element would get an id that the packet's form can't carry: one above 14 in the one-byte form.
+    BadNewId,
+    /// The padding's last byte counts more bytes than the payload has.
+    BadPadding,
+}
+
+impl NotChanged {
+    /// What the status of a change says that has one cause beside those for which bytes are no packet.
+    pub(crate) fn of_status(status: i32, cause: NotChanged) -> Result<(), NotChanged> {
+        match status {
+            sys::OK => Ok(()),
+            _ => Err(cause),
+        }
+    }
+}
+
+impl fmt::Display for NotChanged {
+    fn fmt(&self, f: &mut fmt::Formatter<'_>) -> fmt::Result {
+        f.write_str(match self {
+            NotChanged::BadPayloadType => "the payload type is above 127",
+            NotChanged::TooManySources => "more than 15 contributing sources",
+            NotChanged::NoSource => "no such place in the CSRC list",
+            NotChanged::NoElement => "no element of the id and of this length",
+            NotChanged::BadNewId => "the block's form can't carry a new id",
+            NotChanged::BadPadding => "the padding is longer than the payload",
+        })
+    }
+}
+
+impl Error for NotChanged {}
+
+/// The rollover count of a stream's first packet was 2^48 or more.
+#[derive(Clone, Copy, Debug, PartialEq, Eq, Hash)]
+pub struct BadRolloverCount;
+
+impl fmt::Display for BadRolloverCount {
+    fn fmt(&self, f: &mut fmt::Formatter<'_>) -> fmt::Result {
+        f.write_str("a rollover count of 2^48 or more")
+    }
+}
+
+impl Error for BadRolloverCount {}
 
 /// The id 0 was given, which is padding and can't mean a kind.
 #[derive(Clone, Copy, Debug, PartialEq, Eq, Hash)]

@@ -1,5 +1,5 @@
 use crate::elements::Place;
-use crate::error::{NotAHeader, NotWritten};
+use crate::error::{NotAHeader, NotChanged, NotWritten};
 use crate::layers::Layers;
 use crate::map::Map;
 use crate::sys;
@@ -27,7 +27,8 @@ use crate::views::HeaderView;
 /// assert_eq!(read.values.mid.as_deref(), Some("1"));
 /// # Ok::<(), Box<dyn std::error::Error>>(())
 /// ```
-#[derive(Clone, Copy, Debug, Default, PartialEq, Eq)]
+#[derive(Clone, Copy, Debug, Default, PartialEq, Eq, Hash)]
+#[expect(clippy::struct_field_names, reason = "header_len is a word of its own")]
 pub struct Header {
     /// M.
     pub marker: bool,
@@ -81,25 +82,30 @@ impl Header {
     }
 
     /// How many bytes the header took that was read: the payload begins there. It is 0 where none was.
+    #[must_use]
     pub fn header_len(&self) -> usize {
         self.header_len
     }
 
     /// The contributing sources, in order.
+    #[must_use]
     pub fn csrcs(&self) -> &[u32] {
         &self.csrcs[..usize::from(self.csrc_count)]
     }
 
-    /// Sets the contributing sources. Returns `false`, and changes nothing, where there are more than 15.
-    #[must_use]
-    pub fn set_csrcs(&mut self, csrcs: &[u32]) -> bool {
-        if csrcs.len() > self.csrcs.len() {
-            return false;
-        }
-        self.csrcs = [0; 15];
-        self.csrcs[..csrcs.len()].copy_from_slice(csrcs);
-        self.csrc_count = csrcs.len() as u8;
-        true
+    /// Sets the contributing sources.
+    ///
+    /// # Errors
+    ///
+    /// [`NotChanged::TooManySources`] where there are more than 15; nothing changes then.
+    pub fn set_csrcs(&mut self, csrcs: &[u32]) -> Result<(), NotChanged> {
+        let mut list = [0; 15];
+        let used = list.get_mut(..csrcs.len());
+        used.ok_or(NotChanged::TooManySources)?
+            .copy_from_slice(csrcs);
+        self.csrcs = list;
+        self.csrc_count = csrcs.len() as u8; // at most 15
+        Ok(())
     }
 
     /// How many bytes [`write_to`](Header::write_to) writes: a multiple of 4, 12 to 65,612.

@@ -1,28 +1,16 @@
-//! RTP packets where they lie in memory (RFC 3550, 5.1; RFC 8285), and the numbers of their streams.
+#![doc = include_str!("../README.md")]
 //!
-//! The work is done by a library whose functions are proved: each returns for every input, and its
-//! result is what its contract says. This crate gives it the types of Rust. It needs no
-//! `std`, has no state, and takes no memory but for a layer allocation that is read ([`Kind::Layers`]) and
-//! for a list of elements that is written ([`write_elements`], [`Header::write_with`]).
+//! # Where to look
 //!
-//! ```
-//! use rtp_wire::{NotAPacket, Packet, Receiver};
-//!
-//! let datagram = [0x80, 0x21, 0xB7, 0x98, 0, 0, 0x27, 0x10, 0, 0, 0, 0x2C, 1, 2, 3];
-//! let packet = Packet::parse(&datagram)?; // where RTCP comes too, after `is_rtcp`
-//! assert_eq!(packet.payload_type(), 33);
-//! assert_eq!(packet.payload(), [1, 2, 3]);
-//!
-//! let mut receiver = Receiver::new();
-//! assert_eq!(receiver.receive(packet.sequence_number()), Some(47_000));
-//! assert_eq!(receiver.receive(packet.sequence_number()), None); // a replay
-//!
-//! assert_eq!(Packet::parse(&datagram[..11]), Err(NotAPacket::CutFixedPart));
-//! # Ok::<(), NotAPacket>(())
-//! ```
+//! - To receive: [`is_rtcp`], [`Packet`] and its [`Elements`], [`Header`] and its [`Values`] under a [`Map`],
+//!   [`Receiver`].
+//! - To send: [`Header::write_to`], [`Header::write_with`], [`write_elements`], [`pad`].
+//! - To send on: [`PacketMut`], [`Fields`], [`NewIds`], [`read_original`], [`write_original`].
+//! - What went wrong: [`NotAPacket`], [`NotAHeader`], [`NotWritten`], [`NotChanged`], [`NotAText`], [`BadId`],
+//!   [`BadRolloverCount`], [`NoMemory`].
 #![no_std]
 #![deny(unsafe_code)]
-#![warn(missing_docs)]
+#![warn(missing_docs, missing_debug_implementations)]
 
 mod assembly;
 mod elements;
@@ -41,7 +29,9 @@ mod values;
 mod views;
 
 pub use elements::{write_elements, Element, Elements, Place, Places};
-pub use error::{BadId, NoMemory, NotAHeader, NotAPacket, NotWritten};
+pub use error::{
+    BadId, BadRolloverCount, NoMemory, NotAHeader, NotAPacket, NotChanged, NotWritten,
+};
 pub use header::Header;
 pub use layers::{Layer, Layers, Resolution, Stream};
 pub use map::{Kind, Map};

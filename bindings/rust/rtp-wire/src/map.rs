@@ -5,8 +5,9 @@ use crate::sys;
 use crate::views::StoredMap;
 
 /// What a header extension says of its packet.
-#[derive(Clone, Copy, Debug, PartialEq, Eq, Hash)]
-#[allow(missing_docs)] // the names are those of the extensions
+#[derive(Clone, Copy, Debug, PartialEq, Eq, PartialOrd, Ord, Hash)]
+#[non_exhaustive]
+#[expect(missing_docs, reason = "the names are those of the extensions")]
 pub enum Kind {
     AbsSendTime = 1,
     AbsCaptureTime = 2,
@@ -52,6 +53,7 @@ impl Kind {
     /// assert_eq!(Kind::from_uri("urn:ietf:params:rtp-hdrext:sdes:mid"), Some(Kind::Mid));
     /// assert_eq!(Kind::from_uri("urn:ietf:params:rtp-hdrext:sdes"), None);
     /// ```
+    #[must_use]
     pub fn from_uri(uri: &str) -> Option<Kind> {
         Kind::of_number(sys::kind_of_uri(uri.as_bytes()))
     }
@@ -73,13 +75,14 @@ impl Kind {
 /// assert_eq!(map, MAP);
 /// # Ok::<(), rtp_wire::BadId>(())
 /// ```
-#[derive(Clone, Copy, PartialEq, Eq)]
+#[derive(Clone, Copy, PartialEq, Eq, Hash)]
 pub struct Map {
     pub(crate) kinds: StoredMap,
 }
 
 impl Map {
     /// A map in which no id means anything.
+    #[must_use]
     pub const fn new() -> Map {
         Map {
             kinds: StoredMap { kind: [0; 256] },
@@ -88,6 +91,7 @@ impl Map {
 
     /// The usual ids: 1 audio level, 2 send time, 3 transport number, 4 mid, 10 rid, 11 repaired rid, 13
     /// video orientation.
+    #[must_use]
     pub fn standard() -> Map {
         let mut map = Map::new();
         sys::map_standard(&mut map.kinds);
@@ -133,8 +137,29 @@ impl Map {
     }
 
     /// The kind that the id means.
+    #[must_use]
     pub fn get(&self, id: u8) -> Option<Kind> {
         Kind::of_number(sys::map_get(&self.kinds, id))
+    }
+
+    /// The lowest id that means the kind: that of the element to set
+    /// ([`PacketMut::set_element`](crate::PacketMut::set_element)), say.
+    #[must_use]
+    pub fn id_of(&self, kind: Kind) -> Option<u8> {
+        self.iter().find(|(_, it)| *it == kind).map(|(id, _)| id)
+    }
+
+    /// The ids that mean something, by rising id, and what each of them means.
+    ///
+    /// ```
+    /// use rtp_wire::{Kind, Map};
+    ///
+    /// let map = Map::new().with(5, Kind::Mid).with(3, Kind::AudioLevel).with(7, Kind::Mid);
+    /// assert!(map.iter().eq([(3, Kind::AudioLevel), (5, Kind::Mid), (7, Kind::Mid)]));
+    /// assert_eq!(map.id_of(Kind::Mid), Some(5));
+    /// ```
+    pub fn iter(&self) -> impl Iterator<Item = (u8, Kind)> + '_ {
+        (1..=255).filter_map(|id| Some((id, self.get(id)?)))
     }
 }
 
@@ -146,7 +171,6 @@ impl Default for Map {
 
 impl fmt::Debug for Map {
     fn fmt(&self, f: &mut fmt::Formatter<'_>) -> fmt::Result {
-        let known = (1..=255).filter_map(|id| Some((id, self.get(id)?)));
-        f.debug_map().entries(known).finish()
+        f.debug_map().entries(self.iter()).finish()
     }
 }

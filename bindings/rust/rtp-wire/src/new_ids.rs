@@ -15,13 +15,14 @@ use crate::views::StoredNewIds;
 /// let ids = NewIds::between(&from, &to);
 /// assert_eq!((ids.get(1), ids.get(2)), (Some(5), None));
 /// ```
-#[derive(Clone, Copy, PartialEq, Eq)]
+#[derive(Clone, Copy, PartialEq, Eq, Hash)]
 pub struct NewIds {
     pub(crate) ids: StoredNewIds,
 }
 
 impl NewIds {
     /// No id has a new one.
+    #[must_use]
     pub const fn new() -> NewIds {
         NewIds {
             ids: StoredNewIds { id: [0; 256] },
@@ -29,6 +30,7 @@ impl NewIds {
     }
 
     /// For each id that means a kind in `from` the lowest id that means it in `to`.
+    #[must_use]
     pub fn between(from: &Map, to: &Map) -> NewIds {
         let mut new = NewIds::new();
         sys::new_ids_between(&from.kinds, &to.kinds, &mut new.ids);
@@ -45,6 +47,7 @@ impl NewIds {
     }
 
     /// The new id of an id.
+    #[must_use]
     pub fn get(&self, id: u8) -> Option<u8> {
         Some(self.ids.id[usize::from(id)]).filter(|new| id != 0 && *new != 0)
     }

@@ -45,36 +45,43 @@ impl<'a> Packet<'a> {
     }
 
     /// The whole datagram.
+    #[must_use]
     pub fn datagram(&self) -> &'a [u8] {
         self.datagram
     }
 
     /// M.
+    #[must_use]
     pub fn marker(&self) -> bool {
         self.parts.marker != 0
     }
 
     /// What the payload is, 0 to 127.
+    #[must_use]
     pub fn payload_type(&self) -> u8 {
         self.parts.payload_type
     }
 
     /// The low 16 bits of the packet's number.
+    #[must_use]
     pub fn sequence_number(&self) -> u16 {
         self.parts.sequence_number
     }
 
     /// The moment of the payload's first byte, in ticks of its own clock.
+    #[must_use]
     pub fn timestamp(&self) -> u32 {
         self.parts.timestamp
     }
 
     /// The stream's source.
+    #[must_use]
     pub fn ssrc(&self) -> u32 {
         self.parts.ssrc
     }
 
     /// The contributing sources, at most 15, in order.
+    #[must_use]
     pub fn csrcs(&self) -> Csrcs<'a> {
         let list = &self.datagram[sys::CSRC_AT..];
         Csrcs {
@@ -83,22 +90,26 @@ impl<'a> Packet<'a> {
     }
 
     /// How many bytes the header takes: 12 to 262,216.
+    #[must_use]
     pub fn header_len(&self) -> usize {
         self.parts.payload_at
     }
 
     /// The payload with any padding.
+    #[must_use]
     pub fn payload(&self) -> &'a [u8] {
         &self.datagram[self.parts.payload_at..]
     }
 
     /// P: whether there is padding at the end of the payload.
+    #[must_use]
     pub fn has_padding(&self) -> bool {
         self.parts.has_padding != 0
     }
 
     /// The payload without its padding; `None` where the padding's last byte counts more bytes than the
     /// payload has. Of SRTP the padding is encrypted: decrypt first.
+    #[must_use]
     pub fn unpadded_payload(&self) -> Option<&'a [u8]> {
         if self.parts.padding_fits == 0 {
             return None;
@@ -107,6 +118,7 @@ impl<'a> Packet<'a> {
     }
 
     /// The form of the block; `None` where the packet has none (X is clear).
+    #[must_use]
     pub fn form(&self) -> Option<Form> {
         match self.parts.block_form {
             sys::ONE_BYTE_FORM => Some(Form::OneByte),
@@ -116,17 +128,20 @@ impl<'a> Packet<'a> {
     }
 
     /// The form and the body of the block, after the four bytes of its header.
+    #[must_use]
     pub fn block(&self) -> Option<(Form, &'a [u8])> {
         let body = &self.datagram[self.parts.body_at..self.parts.payload_at];
         Some((self.form()?, body))
     }
 
     /// The elements of the block, in order: none where there is no block.
+    #[must_use]
     pub fn elements(&self) -> Elements<'a> {
         Elements::of(self.block())
     }
 
     /// The data of the last element of this id, which is the one that counts.
+    #[must_use]
     pub fn element(&self, id: u8) -> Option<&'a [u8]> {
         let (form, body) = self.block()?;
         let place = sys::last_element(body, form.number(), id)?;
@@ -166,6 +181,7 @@ impl<'a> TryFrom<&'a [u8]> for Packet<'a> {
 /// assert!(rtp_wire::is_rtcp(&[0x80, 201, 0, 1, 0, 0, 0, 0x2C])); // a receiver report
 /// assert!(!rtp_wire::is_rtcp(&[0x80, 96, 0, 1]) && !rtp_wire::is_rtcp(&[0x80, 128 + 96, 0, 1]));
 /// ```
+#[must_use]
 pub fn is_rtcp(datagram: &[u8]) -> bool {
     sys::is_rtcp(datagram)
 }
@@ -187,6 +203,14 @@ impl Iterator for Csrcs<'_> {
 
     fn size_hint(&self) -> (usize, Option<usize>) {
         (self.list.len() / 4, Some(self.list.len() / 4))
+    }
+}
+
+impl DoubleEndedIterator for Csrcs<'_> {
+    fn next_back(&mut self) -> Option<u32> {
+        let (rest, source) = self.list.split_last_chunk::<4>()?;
+        self.list = rest;
+        Some(u32::from_be_bytes(*source))
     }
 }
 

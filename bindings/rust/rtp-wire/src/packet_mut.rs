@@ -1,13 +1,13 @@
 use core::fmt;
 
-use crate::error::NotAPacket;
+use crate::error::{NotAPacket, NotChanged};
 use crate::new_ids::NewIds;
 use crate::packet::Packet;
 use crate::sys;
 use crate::views::FieldsView;
 
 /// Fields that [`PacketMut::set_fields`] sets at once; one that is `None` stays as it is.
-#[derive(Clone, Copy, Debug, Default, PartialEq, Eq)]
+#[derive(Clone, Copy, Debug, Default, PartialEq, Eq, Hash)]
 pub struct Fields {
     /// M.
     pub marker: Option<bool>,
@@ -70,11 +70,14 @@ impl<'a> PacketMut<'a> {
     }
 
     /// The packet as it is now.
+    #[must_use]
+    #[expect(clippy::missing_panics_doc, reason = "it is a packet")]
     pub fn as_packet(&self) -> Packet<'_> {
         Packet::parse(self.datagram).expect("what was a packet stays one")
     }
 
     /// The bytes of the packet, to encrypt the payload in place, say.
+    #[must_use]
     pub fn into_datagram(self) -> &'a mut [u8] {
         self.datagram
     }
@@ -84,10 +87,14 @@ impl<'a> PacketMut<'a> {
         done(sys::set_marker(self.datagram, marker));
     }
 
-    /// Sets the payload type. Returns `false`, and changes nothing, where it is above 127.
-    #[must_use]
-    pub fn set_payload_type(&mut self, payload_type: u8) -> bool {
-        sys::set_payload_type(self.datagram, payload_type) == sys::OK
+    /// Sets the payload type.
+    ///
+    /// # Errors
+    ///
+    /// [`NotChanged::BadPayloadType`] where it is above 127; nothing changes then.
+    pub fn set_payload_type(&mut self, payload_type: u8) -> Result<(), NotChanged> {
+        let status = sys::set_payload_type(self.datagram, payload_type);
+        NotChanged::of_status(status, NotChanged::BadPayloadType)
     }
 
     /// Sets the sequence number.
@@ -105,39 +112,49 @@ impl<'a> PacketMut<'a> {
         done(sys::set_ssrc(self.datagram, ssrc));
     }
 
-    /// Sets the fields that are given after one look at the packet, and leaves the others. Returns
-    /// `false`, and changes nothing, where a payload type is given that is above 127.
+    /// Sets the fields that are given after one look at the packet, and leaves the others.
+    ///
+    /// # Errors
+    ///
+    /// [`NotChanged::BadPayloadType`] where a payload type is given that is above 127; nothing changes then.
     ///
     /// ```
     /// use rtp_wire::{Fields, PacketMut};
     ///
     /// let mut datagram = [0x80, 0xE0, 0, 5, 0, 0, 0x27, 0x10, 0, 0, 0, 0x2C];
     /// let mut packet = PacketMut::parse(&mut datagram)?;
-    /// assert!(packet.set_fields(&Fields {
+    /// packet.set_fields(&Fields {
     ///     payload_type: Some(8),
     ///     sequence_number: Some(6),
     ///     ..Fields::default()
-    /// }));
+    /// })?;
     /// assert_eq!(datagram[..4], [0x80, 0x88, 0, 6]); // M stays
-    /// # Ok::<(), rtp_wire::NotAPacket>(())
+    /// # Ok::<(), Box<dyn std::error::Error>>(())
     /// ```
-    #[must_use]
-    pub fn set_fields(&mut self, fields: &Fields) -> bool {
-        sys::set_fields(self.datagram, &fields.view()) == sys::OK
+    pub fn set_fields(&mut self, fields: &Fields) -> Result<(), NotChanged> {
+        let status = sys::set_fields(self.datagram, &fields.view());
+        NotChanged::of_status(status, NotChanged::BadPayloadType)
     }
 
-    /// Sets the contributing source at this place, counted from 0. Returns `false`, and changes nothing,
-    /// where the list has no such place.
-    #[must_use]
-    pub fn set_csrc(&mut self, index: usize, source: u32) -> bool {
-        sys::set_csrc(self.datagram, index, source) == sys::OK
+    /// Sets the contributing source at this place, counted from 0.
+    ///
+    /// # Errors
+    ///
+    /// [`NotChanged::NoSource`] where the list has no such place; nothing changes then.
+    pub fn set_csrc(&mut self, index: usize, source: u32) -> Result<(), NotChanged> {
+        let status = sys::set_csrc(self.datagram, index, source);
+        NotChanged::of_status(status, NotChanged::NoSource)
     }
 
-    /// Gives the last element of this id these data. Returns `false`, and changes nothing, where there
-    /// is no element of the id, or its last one has another number of bytes.
-    #[must_use]
-    pub fn set_element(&mut self, id: u8, data: &[u8]) -> bool {
-        sys::set_element(self.datagram, id, data) == sys::OK
+    /// Gives the last element of this id these data.
+    ///
+    /// # Errors
+    ///
+    /// [`NotChanged::NoElement`] where there is no element of the id, or its last one has another number
+    /// of bytes; nothing changes then.
+    pub fn set_element(&mut self, id: u8, data: &[u8]) -> Result<(), NotChanged> {
+        let status = sys::set_element(self.datagram, id, data);
+        NotChanged::of_status(status, NotChanged::NoElement)
     }
 
     /// Makes each element of this id padding. Returns whether there was one.
@@ -152,34 +169,51 @@ impl<'a> PacketMut<'a> {
     }
 
     /// Takes the padding off: clears P, and returns how many bytes the packet then has, which are the
-    /// first ones of the datagram; where P is clear, all of them. `None`, and nothing changes, where the
-    /// padding's last byte counts more bytes than the payload has. Of SRTP the padding is encrypted:
-    /// decrypt first.
+    /// first ones of the datagram; where P is clear, all of them. Of SRTP the padding is encrypted: decrypt
+    /// first.
+    ///
+    /// # Errors
+    ///
+    /// [`NotChanged::BadPadding`] where the padding's last byte counts more bytes than the payload has;
+    /// nothing changes then.
     ///
     /// ```
     /// let mut datagram = [0xA0, 0, 0, 1, 0, 0, 0, 0, 0, 0, 0, 0x2C, 0xAA, 0xBB, 0, 2];
     /// let mut packet = rtp_wire::PacketMut::parse(&mut datagram)?;
-    /// assert_eq!(packet.remove_padding(), Some(14));
+    /// assert_eq!(packet.remove_padding(), Ok(14));
     /// assert_eq!(datagram[0], 0x80);
     /// # Ok::<(), rtp_wire::NotAPacket>(())
     /// ```
-    #[must_use]
-    pub fn remove_padding(&mut self) -> Option<usize> {
-        sys::remove_padding(self.datagram)
+    pub fn remove_padding(&mut self) -> Result<usize, NotChanged> {
+        let mut len = 0;
+        let status = sys::remove_padding(self.datagram, &mut len);
+        NotChanged::of_status(status, NotChanged::BadPadding)?;
+        Ok(len)
     }
 
-    /// Gives each element its new id, and makes one that has none padding. Returns `false`, and changes
-    /// nothing, where the packet's form can't carry a new id that an element gets: one above 14 in the
-    /// one-byte form.
-    #[must_use]
-    pub fn renumber(&mut self, ids: &NewIds) -> bool {
-        sys::renumber(self.datagram, &ids.ids) == sys::OK
+    /// Gives each element its new id, and makes one that has none padding.
+    ///
+    /// # Errors
+    ///
+    /// [`NotChanged::BadNewId`] where the packet's form can't carry a new id that an element gets: one above
+    /// 14 in the one-byte form; nothing changes then.
+    pub fn renumber(&mut self, ids: &NewIds) -> Result<(), NotChanged> {
+        let status = sys::renumber(self.datagram, &ids.ids);
+        NotChanged::of_status(status, NotChanged::BadNewId)
     }
 }
 
 /// A call on a packet does what it is for.
 fn done(status: i32) {
     debug_assert_eq!(status, sys::OK);
+}
+
+impl<'a> TryFrom<&'a mut [u8]> for PacketMut<'a> {
+    type Error = NotAPacket;
+
+    fn try_from(datagram: &'a mut [u8]) -> Result<PacketMut<'a>, NotAPacket> {
+        PacketMut::parse(datagram)
+    }
 }
 
 impl fmt::Debug for PacketMut<'_> {

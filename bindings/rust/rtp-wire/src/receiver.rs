@@ -1,3 +1,4 @@
+use crate::error::BadRolloverCount;
 use crate::sys;
 use crate::views::ReceiverState;
 
@@ -14,38 +15,47 @@ use crate::views::ReceiverState;
 /// assert_eq!(receiver.receive(0), Some(65_536)); // a rollover
 /// assert_eq!(receiver.receive(65_535), None); // a replay
 /// ```
-#[derive(Clone, Copy, Debug, Default)]
+#[derive(Clone, Copy, Debug, Default, PartialEq, Eq, Hash)]
 pub struct Receiver {
     state: ReceiverState,
 }
 
 impl Receiver {
     /// A receiver that has taken nothing yet, of a stream from its beginning.
+    #[must_use]
     pub fn new() -> Receiver {
         Receiver::default()
     }
 
-    /// A receiver that has taken nothing yet, whose first packet has this rollover count. `None` where
-    /// it is 2^48 or more. With a count of 1 or more a packet from before the first one has a number
-    /// too.
-    pub fn starting_at(rollover_count: u64) -> Option<Receiver> {
+    /// A receiver that has taken nothing yet, whose first packet has this rollover count. With a count of
+    /// 1 or more a packet from before the first one has a number too.
+    ///
+    /// # Errors
+    ///
+    /// [`BadRolloverCount`] where it is 2^48 or more.
+    pub fn starting_at(rollover_count: u64) -> Result<Receiver, BadRolloverCount> {
         let mut receiver = Receiver::new();
-        let status = sys::receiver_start(&mut receiver.state, rollover_count);
-        (status == sys::OK).then_some(receiver)
+        match sys::receiver_start(&mut receiver.state, rollover_count) {
+            sys::OK => Ok(receiver),
+            _ => Err(BadRolloverCount),
+        }
     }
 
     /// The highest number taken; `None` where nothing is taken yet.
+    #[must_use]
     pub fn highest(&self) -> Option<u64> {
         (self.state.started != 0).then_some(self.state.highest)
     }
 
     /// The extended sequence number of a packet: the nearest to the highest taken that ends in these 16
     /// bits. Its low 48 bits are SRTP's packet index.
+    #[must_use]
     pub fn number_of(&self, sequence_number: u16) -> u64 {
         sys::receiver_number_of(&self.state, sequence_number)
     }
 
     /// Whether the number may be taken.
+    #[must_use]
     pub fn accepts(&self, number: u64) -> bool {
         sys::receiver_accepts(&self.state, number)
     }
@@ -68,6 +78,7 @@ impl Receiver {
 /// ```
 /// assert_eq!(rtp_wire::extend_u8(255, 0), 256);
 /// ```
+#[must_use]
 pub fn extend_u8(previous: u64, number: u8) -> u64 {
     sys::extend_u8(previous, number)
 }
@@ -77,6 +88,7 @@ pub fn extend_u8(previous: u64, number: u8) -> u64 {
 /// ```
 /// assert_eq!(rtp_wire::extend_u15(32_767, 0), 32_768);
 /// ```
+#[must_use]
 pub fn extend_u15(previous: u64, number: u16) -> u64 {
     sys::extend_u15(previous, number)
 }
@@ -86,6 +98,7 @@ pub fn extend_u15(previous: u64, number: u16) -> u64 {
 /// ```
 /// assert_eq!(rtp_wire::extend_u32(u64::from(u32::MAX), 0), 1 << 32);
 /// ```
+#[must_use]
 pub fn extend_u32(previous: u64, number: u32) -> u64 {
     sys::extend_u32(previous, number)
 }
@@ -96,6 +109,7 @@ pub fn extend_u32(previous: u64, number: u32) -> u64 {
 /// ```
 /// assert_eq!(rtp_wire::extend_u16(65_530, 4), 65_540);
 /// ```
+#[must_use]
 pub fn extend_u16(previous: u64, number: u16) -> u64 {
     sys::extend_u16(previous, number)
 }

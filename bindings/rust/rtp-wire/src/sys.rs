@@ -3,7 +3,8 @@
 //!
 //! Each of them may be called with any values: it asks only that a pointer is aligned and is to as many
 //! bytes as is said, and that what it writes overlaps nothing else that it is given. A reference of Rust
-//! is never NULL, and an exclusive one overlaps no other. No function keeps a pointer. That is the reason of each call below.
+//! is never NULL, and an exclusive one overlaps no other. No function keeps a pointer. That is the reason of
+//! each call below.
 #![allow(unsafe_code)]
 
 use crate::views::{
@@ -223,11 +224,9 @@ pub fn set_padding(datagram: &mut [u8], has_padding: bool) -> i32 {
     unsafe { c::rtpw_set_padding(datagram.as_mut_ptr(), datagram.len(), has_padding) }
 }
 
-pub fn remove_padding(datagram: &mut [u8]) -> Option<usize> {
-    let mut len = 0;
+pub fn remove_padding(datagram: &mut [u8], len: &mut usize) -> i32 {
     // SAFETY: an exclusive slice, and an exclusive reference.
-    let status = unsafe { c::rtpw_remove_padding(datagram.as_mut_ptr(), datagram.len(), &mut len) };
-    (status == OK).then_some(len)
+    unsafe { c::rtpw_remove_padding(datagram.as_mut_ptr(), datagram.len(), len) }
 }
 
 pub fn next_element(body: &[u8], form: u8, at: usize) -> Option<Place> {
@@ -353,20 +352,19 @@ pub fn pad(
     header_len: usize,
     pad_len: u8,
     block_size: usize,
-) -> Option<usize> {
-    let mut count = 0;
+    count: &mut usize,
+) -> i32 {
     // SAFETY: an exclusive slice, and an exclusive reference.
-    let status = unsafe {
+    unsafe {
         c::rtpw_pad(
             datagram.as_mut_ptr(),
             datagram.len(),
             header_len,
             pad_len,
             block_size,
-            &mut count,
+            count,
         )
-    };
-    (status == OK).then_some(count)
+    }
 }
 
 pub fn read_original(payload: &[u8]) -> Option<u16> {

@@ -1,10 +1,13 @@
+use core::borrow::Borrow;
 use core::error::Error;
 use core::fmt;
+use core::hash::{Hash, Hasher};
 use core::ops::Deref;
 use core::str::{self, FromStr};
 
 /// A text of ASCII letters, digits and underscores, of fewer characters than `ROOM`: a [`Mid`] or a
-/// [`Rid`]. It is copied, and takes no memory.
+/// [`Rid`]. It is copied, and takes no memory. It is compared and hashed as the `str` that it is: a map
+/// whose keys are `Mid`s is asked for a `str` too.
 ///
 /// ```
 /// use rtp_wire::Mid;
@@ -14,7 +17,7 @@ use core::str::{self, FromStr};
 /// assert!("audio 0".parse::<Mid>().is_err());
 /// # Ok::<(), rtp_wire::NotAText>(())
 /// ```
-#[derive(Clone, Copy, PartialEq, Eq, Hash)]
+#[derive(Clone, Copy, PartialEq, Eq, PartialOrd, Ord)]
 pub struct Text<const ROOM: usize> {
     /// The characters, and zeros after them, of which there is one.
     bytes: [u8; ROOM],
@@ -37,6 +40,8 @@ impl<const ROOM: usize> Text<ROOM> {
     }
 
     /// The text.
+    #[must_use]
+    #[expect(clippy::missing_panics_doc, reason = "the characters are ASCII")]
     pub fn as_str(&self) -> &str {
         let len = self.bytes.iter().position(|byte| *byte == 0);
         let text = &self.bytes[..len.unwrap_or(ROOM)];
@@ -87,6 +92,18 @@ impl<const ROOM: usize> Deref for Text<ROOM> {
     }
 }
 
+impl<const ROOM: usize> Borrow<str> for Text<ROOM> {
+    fn borrow(&self) -> &str {
+        self.as_str()
+    }
+}
+
+impl<const ROOM: usize> Hash for Text<ROOM> {
+    fn hash<H: Hasher>(&self, state: &mut H) {
+        self.as_str().hash(state);
+    }
+}
+
 impl<const ROOM: usize> AsRef<str> for Text<ROOM> {
     fn as_ref(&self) -> &str {
         self.as_str()
@@ -102,6 +119,18 @@ impl<const ROOM: usize> PartialEq<str> for Text<ROOM> {
 impl<const ROOM: usize> PartialEq<&str> for Text<ROOM> {
     fn eq(&self, other: &&str) -> bool {
         self.as_str() == *other
+    }
+}
+
+impl<const ROOM: usize> PartialEq<Text<ROOM>> for str {
+    fn eq(&self, other: &Text<ROOM>) -> bool {
+        self == other.as_str()
+    }
+}
+
+impl<const ROOM: usize> PartialEq<Text<ROOM>> for &str {
+    fn eq(&self, other: &Text<ROOM>) -> bool {
+        *self == other.as_str()
     }
 }
 

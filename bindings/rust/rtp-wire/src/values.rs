@@ -24,7 +24,7 @@ pub struct VideoTiming {
 
 /// What the elements of a packet say under a map, all but a layer allocation
 /// ([`Header::parse_with_layers`](crate::Header::parse_with_layers)).
-#[derive(Clone, Copy, Debug, Default, PartialEq, Eq)]
+#[derive(Clone, Copy, Debug, Default, PartialEq, Eq, Hash)]
 #[non_exhaustive]
 pub struct Values {
     /// When the packet left its sender, in microseconds: as read modulo 64 seconds.

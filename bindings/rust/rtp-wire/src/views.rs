@@ -50,7 +50,7 @@ pub struct Place {
 
 /// `rtpw_receiver`
 #[repr(C)]
-#[derive(Clone, Copy, Debug, Default)]
+#[derive(Clone, Copy, Debug, Default, PartialEq, Eq, Hash)]
 pub struct ReceiverState {
     pub highest: u64,
     pub recorded_low: u64,
@@ -60,14 +60,14 @@ pub struct ReceiverState {
 
 /// `rtpw_map`
 #[repr(C)]
-#[derive(Clone, Copy, PartialEq, Eq)]
+#[derive(Clone, Copy, PartialEq, Eq, Hash)]
 pub struct StoredMap {
     pub kind: [u8; 256],
 }
 
 /// `rtpw_new_ids`
 #[repr(C)]
-#[derive(Clone, Copy, PartialEq, Eq)]
+#[derive(Clone, Copy, PartialEq, Eq, Hash)]
 pub struct StoredNewIds {
     pub id: [u8; 256],
 }
@@ -142,7 +142,7 @@ pub struct HeaderView {
 
 /// A spatial layer of a [`Stream`].
 #[repr(C)]
-#[derive(Clone, Copy, Debug, Default, PartialEq, Eq)]
+#[derive(Clone, Copy, Debug, Default, PartialEq, Eq, Hash)]
 pub struct Layer {
     pub(crate) kbps: [u64; 4],
     pub(crate) width: u16,
@@ -154,7 +154,7 @@ pub struct Layer {
 
 /// A simulcast stream of a [`Layers`].
 #[repr(C)]
-#[derive(Clone, Copy, Debug, Default, PartialEq, Eq)]
+#[derive(Clone, Copy, Debug, Default, PartialEq, Eq, Hash)]
 pub struct Stream {
     pub(crate) layers: [Layer; 4],
     pub(crate) count: u8,
@@ -162,7 +162,7 @@ pub struct Stream {
 
 /// Which simulcast streams and layers a sender of video keeps active (`video-layers-allocation00`).
 #[repr(C)]
-#[derive(Clone, Copy, Debug, Default, PartialEq, Eq)]
+#[derive(Clone, Copy, Debug, Default, PartialEq, Eq, Hash)]
 pub struct Layers {
     pub(crate) streams: [Stream; 4],
     pub(crate) count: u8,

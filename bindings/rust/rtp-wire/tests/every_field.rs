@@ -109,7 +109,7 @@ fn header() -> Header {
     header.has_padding = true;
     header.has_extension = true;
     header.values = given();
-    assert!(header.set_csrcs(&SOURCES));
+    assert_eq!(header.set_csrcs(&SOURCES), Ok(()));
     header
 }
 
@@ -213,37 +213,37 @@ type Row = (Kind, fn(&mut Values, Values));
 const ALONE: [Row; 13] = [
     (Kind::AbsSendTime, |to, from| to.send_time = from.send_time),
     (Kind::AbsCaptureTime, |to, from| {
-        (to.capture_time, to.capture_offset) = (from.capture_time, from.capture_offset)
+        (to.capture_time, to.capture_offset) = (from.capture_time, from.capture_offset);
     }),
     (Kind::AudioLevel, |to, from| {
-        (to.audio_level, to.voice_activity) = (from.audio_level, from.voice_activity)
+        (to.audio_level, to.voice_activity) = (from.audio_level, from.voice_activity);
     }),
     (Kind::TransmissionOffset, |to, from| {
-        to.transmission_offset = from.transmission_offset
+        to.transmission_offset = from.transmission_offset;
     }),
     (Kind::VideoOrientation, |to, from| {
-        to.video_orientation = from.video_orientation
+        to.video_orientation = from.video_orientation;
     }),
     (Kind::TransportNumber, |to, from| {
-        to.transport_number = from.transport_number
+        to.transport_number = from.transport_number;
     }),
     (Kind::PlayoutDelay, |to, from| {
         (to.playout_delay_min, to.playout_delay_max) =
-            (from.playout_delay_min, from.playout_delay_max)
+            (from.playout_delay_min, from.playout_delay_max);
     }),
     (Kind::VideoContentType, |to, from| {
-        to.video_content_type = from.video_content_type
+        to.video_content_type = from.video_content_type;
     }),
     (Kind::VideoTiming, |to, from| {
-        to.video_timing = from.video_timing
+        to.video_timing = from.video_timing;
     }),
     (Kind::Rid, |to, from| to.rid = from.rid),
     (Kind::RepairedRid, |to, from| {
-        to.repaired_rid = from.repaired_rid
+        to.repaired_rid = from.repaired_rid;
     }),
     (Kind::Mid, |to, from| to.mid = from.mid),
     (Kind::FrameMarking, |to, from| {
-        to.frame_marking = from.frame_marking
+        to.frame_marking = from.frame_marking;
     }),
 ];
 

@@ -6,7 +6,7 @@ mod guarded;
 use guarded::at_end;
 use rtp_wire::{
     pad, read_original, write_elements, write_original, Form, Header, Kind, Map, NewIds,
-    NotAHeader, NotAPacket, NotWritten, Packet, PacketMut, Place,
+    NotAHeader, NotAPacket, NotChanged, NotWritten, Packet, PacketMut, Place,
 };
 
 /// V=2, P, X, CC=1; the source 9; a block of two words: 1 (AA), 2 (BB CC), 3 ("xy"); a payload of 1 byte
@@ -92,9 +92,15 @@ fn an_element_ends_with_its_block() {
         assert_eq!(packet.values(&MAP).unwrap().rid, None);
         assert_eq!(Header::parse(bytes, &MAP).unwrap().values.rid, None);
         let mut packet = PacketMut::parse(bytes).unwrap();
-        assert!(!packet.set_element(3, at_end(&[1, 2, 3])));
+        assert_eq!(
+            packet.set_element(3, at_end(&[1, 2, 3])),
+            Err(NotChanged::NoElement)
+        );
         assert!(!packet.remove_element(3));
-        assert!(packet.renumber(&NewIds::new().with(1, 7).with(2, 8).with(3, 99)));
+        assert_eq!(
+            packet.renumber(&NewIds::new().with(1, 7).with(2, 8).with(3, 99)),
+            Ok(())
+        );
         assert_eq!(
             packet.into_datagram()[20..],
             [&[0x70, 0xAA, 0x81], &running_out()[23..len]].concat()
@@ -107,22 +113,32 @@ fn a_packet_is_changed_within_its_datagram() {
     for len in [LEAST, SAMPLE.len()] {
         let mut packet = PacketMut::parse(at_end(&SAMPLE[..len])).unwrap();
         packet.set_marker(true);
-        assert!(packet.set_payload_type(0x62));
+        assert_eq!(packet.set_payload_type(0x62), Ok(()));
         packet.set_sequence_number(0x0304);
         packet.set_timestamp(0x0506_0708);
         packet.set_ssrc(0x090A_0B0C);
-        assert!(packet.set_csrc(0, 0x0D0E_0F10));
-        assert!(
-            !packet.set_csrc(1, 7)
-                && !packet.set_csrc(1 << 32, 7)
-                && !packet.set_csrc(usize::MAX, 7)
+        assert_eq!(packet.set_csrc(0, 0x0D0E_0F10), Ok(()));
+        for index in [1, 1 << 32, usize::MAX] {
+            assert_eq!(packet.set_csrc(index, 7), Err(NotChanged::NoSource));
+        }
+        assert_eq!(packet.set_element(3, at_end(&[0x1A, 0x1B])), Ok(()));
+        assert_eq!(
+            packet.set_element(3, at_end(&[0x1A])),
+            Err(NotChanged::NoElement)
         );
-        assert!(packet.set_element(3, at_end(&[0x1A, 0x1B])));
-        assert!(!packet.set_element(3, at_end(&[0x1A])));
-        assert!(!packet.set_element(2, at_end(&[7, 7, 7])));
-        assert!(!packet.set_element(2, at_end(&[7; 258])));
+        assert_eq!(
+            packet.set_element(2, at_end(&[7, 7, 7])),
+            Err(NotChanged::NoElement)
+        );
+        assert_eq!(
+            packet.set_element(2, at_end(&[7; 258])),
+            Err(NotChanged::NoElement)
+        );
         assert!(packet.remove_element(1));
-        assert!(packet.renumber(&NewIds::new().with(2, 4).with(3, 5)));
+        assert_eq!(
+            packet.renumber(&NewIds::new().with(2, 4).with(3, 5)),
+            Ok(())
+        );
         assert_eq!(
             packet.into_datagram()[..LEAST],
             [
@@ -235,23 +251,26 @@ fn what_is_written_lies_in_the_data() {
 #[test]
 fn padding_and_originals_end_with_the_buffer() {
     let mut buf = at_end(&[0x80; 12 + 239]);
-    assert_eq!(pad(buf, 12, 255, 16), None);
+    assert_eq!(pad(buf, 12, 255, 16), Err(NotWritten::ShortBuffer));
     assert_eq!(*buf, [0x80; 12 + 239]);
     buf = at_end(&[0x80; 12 + 240]);
-    assert_eq!(pad(buf, 12, 255, 16), Some(240));
+    assert_eq!(pad(buf, 12, 255, 16), Ok(240));
     assert_eq!((buf[0], &buf[1..12]), (0xA0, &[0x80; 11][..]));
     assert_eq!((&buf[12..251], buf[251]), (&[0; 239][..], 240));
 
     for len in [0, 1] {
         assert_eq!(read_original(at_end(&[1, 2][..len])), None);
-        assert!(!write_original(at_end(&[1, 2][..len]), 7));
+        assert_eq!(
+            write_original(at_end(&[1, 2][..len]), 7),
+            Err(NotWritten::ShortBuffer)
+        );
     }
     assert_eq!(
         read_original(at_end(&[0xA1, 0xB2])),
         Some((0xA1B2, &[][..]))
     );
     let payload = at_end(&[1, 2]);
-    assert!(write_original(payload, 0xFFFF_FFFF_FFFF_C3D4));
+    assert_eq!(write_original(payload, 0xFFFF_FFFF_FFFF_C3D4), Ok(()));
     assert_eq!(payload, [0xC3, 0xD4]);
 }
 

@@ -3,7 +3,7 @@
 mod by_hand;
 
 use by_hand::Fields;
-use rtp_wire::{Header, Map, NotAPacket, NotWritten, Packet, PacketMut, Values};
+use rtp_wire::{Header, Map, NotAPacket, NotChanged, NotWritten, Packet, PacketMut, Values};
 
 const SOURCES: [u32; 15] = [
     0xF1,
@@ -68,7 +68,7 @@ fn header_of(
         (has_padding, has_extension, marker);
     (header.payload_type, header.sequence_number) = (payload_type, number);
     (header.timestamp, header.ssrc) = (timestamp, ssrc);
-    assert!(header.set_csrcs(&SOURCES[..count]));
+    assert_eq!(header.set_csrcs(&SOURCES[..count]), Ok(()));
     header
 }
 
@@ -147,22 +147,25 @@ fn each_row_is_set_where_it_lies() {
         let mut all = [0; 80];
         let mut other = header_of((row.0, 0x55, 0x5555, 0x5555_5555, 0xAAAA_AAAA, 0));
         other.marker = !row.0[2];
-        assert!(other.set_csrcs(&[0x5A5A_5A5A; 15][..row.5]));
+        assert_eq!(other.set_csrcs(&[0x5A5A_5A5A; 15][..row.5]), Ok(()));
         let len = other.write_to(&mut all, &Map::new()).unwrap();
         let mut packet = PacketMut::parse(&mut all[..len]).unwrap();
         packet.set_marker(row.0[2]);
-        assert!(packet.set_payload_type(row.1));
+        assert_eq!(packet.set_payload_type(row.1), Ok(()));
         packet.set_sequence_number(row.2);
         packet.set_timestamp(row.3);
         packet.set_ssrc(row.4);
         for (index, source) in SOURCES[..row.5].iter().enumerate() {
-            assert!(packet.set_csrc(index, *source));
+            assert_eq!(packet.set_csrc(index, *source), Ok(()));
         }
         for payload_type in [128, 129, 255] {
-            assert!(!packet.set_payload_type(payload_type));
+            assert_eq!(
+                packet.set_payload_type(payload_type),
+                Err(NotChanged::BadPayloadType)
+            );
         }
         for index in [row.5, 15, 16, 256, 1 << 32, usize::MAX] {
-            assert!(!packet.set_csrc(index, 7));
+            assert_eq!(packet.set_csrc(index, 7), Err(NotChanged::NoSource));
         }
         assert_eq!(packet.as_packet().sequence_number(), row.2);
         assert_eq!(by_hand::read(packet.into_datagram()), fields_of(row));
@@ -184,16 +187,21 @@ fn there_are_at_most_fifteen_sources() {
         assert!(buf[12 + 4 * count..].iter().all(|byte| *byte == 0xEE));
     }
     let mut header = header_of(ROWS[7]);
-    assert!(!header.set_csrcs(&[7; 16]) && !header.set_csrcs(&[7; 271]));
+    for csrcs in [&[7; 16][..], &[7; 271]] {
+        assert_eq!(header.set_csrcs(csrcs), Err(NotChanged::TooManySources));
+    }
     assert_eq!(header, header_of(ROWS[7]));
-    assert!(header.set_csrcs(&SOURCES[..7]));
+    assert_eq!(header.set_csrcs(&SOURCES[..7]), Ok(()));
     let mut same = header_of(ROWS[7]);
-    assert!(same.set_csrcs(&[]) && same.csrcs().is_empty() && same.set_csrcs(&SOURCES[..7]));
+    assert_eq!(same.set_csrcs(&[]), Ok(()));
+    assert!(same.csrcs().is_empty());
+    assert_eq!(same.set_csrcs(&SOURCES[..7]), Ok(()));
     assert_eq!(header, same);
     let mut other = Header::default();
-    assert!(other.set_csrcs(&[1, 2]) && other.set_csrcs(&[3]));
+    assert_eq!(other.set_csrcs(&[1, 2]), Ok(()));
+    assert_eq!(other.set_csrcs(&[3]), Ok(()));
     let mut same = Header::default();
-    assert!(same.set_csrcs(&[3]));
+    assert_eq!(same.set_csrcs(&[3]), Ok(()));
     assert_eq!(other, same); // nothing is left of the 2
 }
 
@@ -234,7 +242,7 @@ fn headers_are_equal_by_all_fields() {
         |it| it.timestamp ^= 1,
         |it| it.ssrc ^= 1,
         |it| it.values.transport_number = Some(0),
-        |it| assert!(it.set_csrcs(&SOURCES[..13])),
+        |it| assert_eq!(it.set_csrcs(&SOURCES[..13]), Ok(())),
     ];
     for (index, change) in changes.into_iter().enumerate() {
         let mut other = header;

@@ -4,8 +4,8 @@
 use std::time::Duration;
 
 use rtp_wire::{
-    write_elements, BadId, Form, Header, Kind, Map, NewIds, NotAHeader, NotAPacket, NotWritten,
-    Packet, PacketMut, Place, Resolution, Values, VideoTiming,
+    write_elements, BadId, Form, Header, Kind, Map, NewIds, NotAHeader, NotAPacket, NotChanged,
+    NotWritten, Packet, PacketMut, Place, Resolution, Values, VideoTiming,
 };
 
 const MAP: Map = Map::new()
@@ -67,7 +67,7 @@ fn a_header_is_read() {
 
     let cause = Header::parse(&SAMPLE[..55], &MAP).unwrap_err();
     assert_eq!(cause, NotAHeader::NotAPacket(NotAPacket::CutBlock));
-    assert_eq!(cause.to_string(), "the extension block is cut short");
+    assert_eq!(cause.to_string(), "no RTP packet");
     assert_eq!(NotAHeader::NoMemory.to_string(), "memory was refused");
 }
 
@@ -82,8 +82,8 @@ fn a_header_is_written() {
     header.ssrc = 44;
     header.has_extension = true;
     header.values = values();
-    assert!(header.set_csrcs(&[9]));
-    assert!(!header.set_csrcs(&[1; 16]));
+    assert_eq!(header.set_csrcs(&[9]), Ok(()));
+    assert_eq!(header.set_csrcs(&[1; 16]), Err(NotChanged::TooManySources));
 
     // the mid takes 7 bytes, the delay 5, the timing 15, the rid 2 and the padding 3
     let mut buf = [0xEE; 60];
@@ -187,8 +187,11 @@ fn packets_are_renumbered() {
         0x90, 0, 0, 1, 0, 0, 0, 2, 0, 0, 0, 3, 0xBE, 0xDE, 0, 1, 0x10, b'1', 0x20, 0x8A,
     ];
     let mut packet = PacketMut::parse(&mut datagram).unwrap();
-    assert!(!packet.renumber(&NewIds::new().with(1, 1).with(2, 15)));
-    assert!(packet.renumber(&ids));
+    assert_eq!(
+        packet.renumber(&NewIds::new().with(1, 1).with(2, 15)),
+        Err(NotChanged::BadNewId)
+    );
+    assert_eq!(packet.renumber(&ids), Ok(()));
     assert_eq!(packet.into_datagram()[16..], [0, 0, 0xE0, 0x8A]);
 }
 

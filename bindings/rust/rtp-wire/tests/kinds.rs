@@ -93,7 +93,7 @@ const KINDS: [(Kind, u8, &str, &str); 15] = [
 
 #[test]
 fn each_kind_has_its_number_and_its_uri() {
-    let header_file = include_str!("../../../c/rtp_wire.h");
+    let header_file = include_str!("rtp_wire.h");
     for (kind, number, name, uri) in KINDS {
         assert_eq!(kind as u8, number);
         assert!(
@@ -196,4 +196,20 @@ fn new_ids_lead_from_one_map_to_the_other() {
     assert_eq!(format!("{by_hand:?}"), "{1: 255, 255: 1}");
     assert_eq!(by_hand, NewIds::new().with(255, 1).with(1, 255));
     assert_ne!(by_hand, by_hand.with(255, 2));
+}
+
+#[test]
+fn each_map_lists_its_ids() {
+    assert_eq!(Map::new().iter().next(), None);
+    // index 0 is the kind of the number 1, and so on
+    for (index, (kind, ..)) in KINDS.into_iter().enumerate() {
+        let map = Map::new()
+            .with(255, kind)
+            .with(0, kind)
+            .with(index as u8 + 1, kind);
+        let ids = [index as u8 + 1, 255];
+        assert!(map.iter().eq(ids.map(|id| (id, kind))), "{kind:?}");
+        assert_eq!(map.id_of(kind), Some(ids[0]));
+        assert_eq!(map.id_of(KINDS[(index + 1) % KINDS.len()].0), None);
+    }
 }

@@ -52,7 +52,9 @@ fn bytes_of(current: u8, streams: &[Vec<Given>]) -> Vec<u8> {
         &mut bytes,
     );
     for (rates, _) in &active {
-        rates.iter().for_each(|rate| leb128(*rate, &mut bytes));
+        for rate in rates {
+            leb128(*rate, &mut bytes);
+        }
     }
     for (width, height, framerate) in active.iter().filter_map(|(_, resolution)| *resolution) {
         bytes.extend((width - 1).to_be_bytes());

@@ -3,7 +3,7 @@
 
 use rtp_wire::{
     pad, read_original, write_elements, write_original, Element, Form, Header, Kind, Map, NewIds,
-    NotWritten, Packet, PacketMut, Place,
+    NotChanged, NotWritten, Packet, PacketMut, Place,
 };
 
 const LEN: usize = 12 + 60 + 4 + 262_140;
@@ -119,11 +119,15 @@ fn the_last_elements_are_changed() {
     let mut packet = PacketMut::parse(&mut bytes).unwrap();
     let last = LEN - 257; // the last element has the id 255, as each of the four at the same place of their 255
     assert_eq!(places(packet.as_packet())[1019].id(), 255);
-    assert!(packet.set_element(255, &[5; 255]) && !packet.set_element(255, &[5; 254]));
+    assert_eq!(packet.set_element(255, &[5; 255]), Ok(()));
+    assert_eq!(
+        packet.set_element(255, &[5; 254]),
+        Err(NotChanged::NoElement)
+    );
     expected[last + 2..LEN].fill(5);
     // 1 to 255 become 255 to 1
     let ids = (1..=255).fold(NewIds::new(), |ids, id: u8| ids.with(id, id.wrapping_neg()));
-    assert!(packet.renumber(&ids));
+    assert_eq!(packet.renumber(&ids), Ok(()));
     for (index, at) in (76..LEN).step_by(257).enumerate() {
         expected[at] = element(index).0.wrapping_neg();
     }
@@ -140,11 +144,12 @@ fn the_fixed_part_is_changed() {
     let mut bytes = datagram();
     let mut packet = PacketMut::parse(&mut bytes).unwrap();
     packet.set_marker(true);
-    assert!(packet.set_payload_type(0x21));
+    assert_eq!(packet.set_payload_type(0x21), Ok(()));
     packet.set_sequence_number(0x2223);
     packet.set_timestamp(0x2425_2627);
     packet.set_ssrc(0x2829_2A2B);
-    assert!(packet.set_csrc(14, 0x2C2D_2E2F) && !packet.set_csrc(15, 7));
+    assert_eq!(packet.set_csrc(14, 0x2C2D_2E2F), Ok(()));
+    assert_eq!(packet.set_csrc(15, 7), Err(NotChanged::NoSource));
     let mut expected = datagram();
     expected[1..12].copy_from_slice(&[
         0xA1, 0x22, 0x23, 0x24, 0x25, 0x26, 0x27, 0x28, 0x29, 0x2A, 0x2B,
@@ -157,12 +162,13 @@ fn the_fixed_part_is_changed() {
 fn long_buffers_are_used_whole() {
     for len in [256, 512, 65_536, 131_072] {
         let mut buf = vec![0x90; len];
-        assert_eq!(pad(&mut buf, len - 240, 239, 2), Some(240));
+        assert_eq!(pad(&mut buf, len - 240, 239, 2), Ok(240));
         assert_eq!(
             (buf[len - 241], &buf[len - 240..len - 1], buf[len - 1]),
             (0x90, &[0; 239][..], 240)
         );
-        assert!(write_original(&mut buf, 0x0102) && buf[..3] == [1, 2, 0x90]);
+        assert_eq!(write_original(&mut buf, 0x0102), Ok(()));
+        assert_eq!(buf[..3], [1, 2, 0x90]);
         assert_eq!(read_original(&buf), Some((0x0102, &buf[2..])));
         assert_eq!(Header::default().write_to(&mut buf, &Map::new()), Ok(12));
         assert_eq!(buf[..13], [0x80, 0, 0, 0, 0, 0, 0, 0, 0, 0, 0, 0, buf[12]]);

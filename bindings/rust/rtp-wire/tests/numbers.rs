@@ -1,7 +1,7 @@
 //! The numbers of a stream, near 2^16, 2^32, 2^48 and 2^64. Expected values are worked out by hand from RFC
 //! 3711, 3.3.1 and 3.3.2.
 
-use rtp_wire::{extend_u15, extend_u16, extend_u32, extend_u8, Receiver};
+use rtp_wire::{extend_u15, extend_u16, extend_u32, extend_u8, BadRolloverCount, Receiver};
 
 #[test]
 fn the_nearest_number_is_found() {
@@ -158,7 +158,11 @@ fn a_receiver_starts_at_each_rollover_count() {
         assert_eq!(receiver.receive(0xABCD), None);
     }
     for count in [1 << 48, (1 << 48) + 1, 1 << 63, u64::MAX] {
-        assert!(Receiver::starting_at(count).is_none(), "{count}");
+        assert_eq!(
+            Receiver::starting_at(count),
+            Err(BadRolloverCount),
+            "{count}"
+        );
     }
     for mut receiver in [
         Receiver::new(),

@@ -1,8 +1,8 @@
 //! The types of the crate. Expected values are worked out by hand from RFC 3550, 5.1 and RFC 8285.
 
 use rtp_wire::{
-    extend_u16, is_rtcp, Element, Fields, Form, Kind, Map, NoMemory, NotAPacket, Packet, PacketMut,
-    Receiver, Values,
+    extend_u16, is_rtcp, BadRolloverCount, Element, Fields, Form, Kind, Map, NoMemory, NotAPacket,
+    NotChanged, NotWritten, Packet, PacketMut, Receiver, Values,
 };
 
 /// V=2, P, X, CC=2; M, PT=33; 47,000; 10,000; 44; the sources 1 and 2; a block of two words with the
@@ -23,12 +23,12 @@ fn crosses_threads<T: Send + Sync + 'static>(_: &T) {}
 
 #[test]
 fn types_cross_threads() {
+    static mut DATAGRAM: [u8; 12] = [0x80; 12];
     crosses_threads(&Packet::parse(&SAMPLE).unwrap());
     crosses_threads(&Receiver::new());
     crosses_threads(&NotAPacket::CutBlock);
     crosses_threads(&Map::new());
     crosses_threads(&Values::default());
-    static mut DATAGRAM: [u8; 12] = [0x80; 12];
     // SAFETY: no other reference to it is made.
     #[allow(static_mut_refs)]
     crosses_threads(&PacketMut::parse(unsafe { &mut DATAGRAM }).unwrap());
@@ -129,12 +129,15 @@ fn other_bytes_are_refused() {
 fn several_fields_are_set() {
     let mut bytes = SAMPLE;
     let mut packet = PacketMut::parse(&mut bytes).unwrap();
-    assert!(packet.set_fields(&Fields::default()));
-    assert!(packet.set_fields(&Fields {
-        payload_type: Some(8),
-        sequence_number: Some(0x1234),
-        ..Fields::default()
-    }));
+    assert_eq!(packet.set_fields(&Fields::default()), Ok(()));
+    assert_eq!(
+        packet.set_fields(&Fields {
+            payload_type: Some(8),
+            sequence_number: Some(0x1234),
+            ..Fields::default()
+        }),
+        Ok(())
+    );
     // M stays.
     assert_eq!(packet.into_datagram()[..4], [0xB2, 0x88, 0x12, 0x34]);
     assert_eq!(bytes[4..], SAMPLE[4..]);
@@ -146,12 +149,15 @@ fn several_fields_are_set() {
         timestamp: Some(0x5678_9ABC),
         ssrc: Some(0),
     };
-    assert!(packet.set_fields(&all));
-    assert!(!packet.set_fields(&Fields {
-        payload_type: Some(128),
-        ssrc: Some(1),
-        ..Fields::default()
-    }));
+    assert_eq!(packet.set_fields(&all), Ok(()));
+    assert_eq!(
+        packet.set_fields(&Fields {
+            payload_type: Some(128),
+            ssrc: Some(1),
+            ..Fields::default()
+        }),
+        Err(NotChanged::BadPayloadType)
+    );
     assert_eq!(
         packet.into_datagram()[..12],
         [0xB2, 0x7F, 0xFF, 0xFF, 0x56, 0x78, 0x9A, 0xBC, 0, 0, 0, 0]
@@ -164,20 +170,26 @@ fn a_packet_is_changed() {
     let mut bytes = SAMPLE;
     let mut packet = PacketMut::parse(&mut bytes).unwrap();
     packet.set_marker(false);
-    assert!(packet.set_payload_type(96));
-    assert!(!packet.set_payload_type(128));
+    assert_eq!(packet.set_payload_type(96), Ok(()));
+    assert_eq!(
+        packet.set_payload_type(128),
+        Err(NotChanged::BadPayloadType)
+    );
     packet.set_sequence_number(0x1234);
     packet.set_timestamp(0x5678_9ABC);
     packet.set_ssrc(0xDEF0_1234);
-    assert!(packet.set_csrc(1, 0xA1B2_C3D4));
-    assert!(!packet.set_csrc(2, 5));
+    assert_eq!(packet.set_csrc(1, 0xA1B2_C3D4), Ok(()));
+    assert_eq!(packet.set_csrc(2, 5), Err(NotChanged::NoSource));
     assert_eq!(
         packet.as_packet().csrcs().collect::<Vec<_>>(),
         [1, 0xA1B2_C3D4]
     );
-    assert!(packet.set_csrc(1, 2));
-    assert!(packet.set_element(1, &[0xEE]));
-    assert!(!packet.set_element(1, &[0xEE, 0xFF]));
+    assert_eq!(packet.set_csrc(1, 2), Ok(()));
+    assert_eq!(packet.set_element(1, &[0xEE]), Ok(()));
+    assert_eq!(
+        packet.set_element(1, &[0xEE, 0xFF]),
+        Err(NotChanged::NoElement)
+    );
     assert!(packet.remove_element(2));
     assert!(!packet.remove_element(2));
     assert_eq!(packet.as_packet().element(1), Some(&[0xEE][..]));
@@ -208,7 +220,7 @@ fn a_receiver_judges() {
 
     let mut receiver = Receiver::starting_at(3).unwrap();
     assert_eq!(receiver.receive(9), Some(3 * 65_536 + 9));
-    assert!(Receiver::starting_at(1 << 48).is_none());
+    assert_eq!(Receiver::starting_at(1 << 48), Err(BadRolloverCount));
     assert_eq!(extend_u16(70_000, 0), 65_536);
 }
 
@@ -240,15 +252,15 @@ fn values_are_read() {
 fn padding_is_taken_off() {
     let mut bytes = SAMPLE;
     let mut packet = PacketMut::parse(&mut bytes).unwrap();
-    assert_eq!(packet.remove_padding(), Some(35));
+    assert_eq!(packet.remove_padding(), Ok(35));
     assert!(!packet.as_packet().has_padding());
-    assert_eq!(packet.remove_padding(), Some(37));
+    assert_eq!(packet.remove_padding(), Ok(37));
     packet.set_padding(true);
     packet.set_padding(true);
     assert_eq!(packet.into_datagram(), SAMPLE);
     bytes[36] = 6;
     let mut packet = PacketMut::parse(&mut bytes).unwrap();
-    assert_eq!(packet.remove_padding(), None);
+    assert_eq!(packet.remove_padding(), Err(NotChanged::BadPadding));
     assert!(packet.as_packet().has_padding());
     packet.set_padding(false);
     assert_eq!(packet.into_datagram()[0], 0x92);
@@ -284,20 +296,29 @@ fn rtcp_is_told_apart() {
 #[test]
 fn padding_and_originals_have_limits() {
     let mut buf = [0x80; 251];
-    assert_eq!(rtp_wire::pad(&mut buf, 12, 255, 16), None);
-    assert_eq!(rtp_wire::pad(&mut buf[..15], 12, 3, 4), None);
-    assert_eq!(rtp_wire::pad(&mut buf, 11, 3, 0), None);
+    assert_eq!(
+        rtp_wire::pad(&mut buf, 12, 255, 16),
+        Err(NotWritten::ShortBuffer)
+    );
+    assert_eq!(
+        rtp_wire::pad(&mut buf[..15], 12, 3, 4),
+        Err(NotWritten::ShortBuffer)
+    );
+    assert_eq!(rtp_wire::pad(&mut buf, 11, 3, 0), Err(NotWritten::BadField));
     assert_eq!(buf, [0x80; 251]);
-    assert_eq!(rtp_wire::pad(&mut buf[..16], 12, 3, 4), Some(4));
+    assert_eq!(rtp_wire::pad(&mut buf[..16], 12, 3, 4), Ok(4));
     assert_eq!(buf[12..17], [0, 0, 0, 4, 0x80]);
-    assert_eq!(rtp_wire::pad(&mut buf, 11, 255, 16), Some(240));
+    assert_eq!(rtp_wire::pad(&mut buf, 11, 255, 16), Ok(240));
     assert_eq!(rtp_wire::read_original(&[1]), None);
     assert_eq!(rtp_wire::read_original(&[0, 0]), Some((0, &[][..])));
     assert_eq!(
         rtp_wire::read_original(&[0xFF, 0, 9, 8]),
         Some((0xFF00, &[9, 8][..]))
     );
-    assert!(!rtp_wire::write_original(&mut [1], 2));
+    assert_eq!(
+        rtp_wire::write_original(&mut [1], 2),
+        Err(NotWritten::ShortBuffer)
+    );
     assert_eq!(rtp_wire::version(), 256); // 0.1.0
 }
 
@@ -321,7 +342,7 @@ fn padding_is_in_whole_blocks() {
     for (pad_len, block_size, count) in rows {
         let mut buf = [0x95; 20 + 240];
         let written = rtp_wire::pad(&mut buf, 20, pad_len, block_size);
-        assert_eq!(written, Some(usize::from(count)), "{pad_len} {block_size}");
+        assert_eq!(written, Ok(usize::from(count)), "{pad_len} {block_size}");
         let end = 20 + usize::from(count);
         assert_eq!((buf[0], &buf[1..20]), (0xB5, &[0x95; 19][..]));
         assert!(buf[20..end - 1].iter().all(|byte| *byte == 0));
@@ -329,19 +350,20 @@ fn padding_is_in_whole_blocks() {
         assert!(buf[end..].iter().all(|byte| *byte == 0x95));
     }
     let mut buf = [0x95; 20 + 240];
-    assert_eq!(rtp_wire::pad(&mut buf, 20, 0, 4), Some(0));
-    assert_eq!(rtp_wire::pad(&mut buf, 261, 0, 4), Some(0));
-    for (header_len, pad_len, block_size) in [
-        (20, 0, 0),
-        (20, 1, 0),
-        (257, 1, 4),
-        (1 << 32, 1, 4),
-        (usize::MAX, 1, 4),
-        (usize::MAX - 3, 1, 4),
+    assert_eq!(rtp_wire::pad(&mut buf, 20, 0, 4), Ok(0));
+    assert_eq!(rtp_wire::pad(&mut buf, 261, 0, 4), Ok(0));
+    for (header_len, pad_len, block_size, cause) in [
+        (20, 0, 0, NotWritten::BadField),
+        (20, 1, 0, NotWritten::BadField),
+        (usize::MAX, 1, 0, NotWritten::BadField),
+        (257, 1, 4, NotWritten::ShortBuffer),
+        (1 << 32, 1, 4, NotWritten::ShortBuffer),
+        (usize::MAX, 1, 4, NotWritten::ShortBuffer),
+        (usize::MAX - 3, 1, 4, NotWritten::ShortBuffer),
     ] {
         assert_eq!(
             rtp_wire::pad(&mut buf, header_len, pad_len, block_size),
-            None
+            Err(cause)
         );
     }
     assert_eq!(buf, [0x95; 20 + 240]);

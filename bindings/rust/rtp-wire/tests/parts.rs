@@ -2,7 +2,7 @@
 
 use std::iter::FusedIterator;
 
-use rtp_wire::{Element, Form, Map, Packet, PacketMut, Place};
+use rtp_wire::{Element, Form, Map, NotChanged, Packet, PacketMut, Place};
 
 /// V=2, X, CC=3; M, PT=34; 0x0102; 0x03040506; 0x0708090A; three sources; a block of three words in the
 /// one-byte form: 1 (AA), 2 (BB), 3 (CC DD), and padding; a payload of one byte.
@@ -35,6 +35,17 @@ fn announced<I: FusedIterator + Clone>(mut it: I) -> Vec<Option<usize>> {
 }
 
 #[test]
+fn slices_become_packets() {
+    let mut bytes = SAMPLE;
+    assert_eq!(Packet::try_from(&SAMPLE[..]), Packet::parse(&SAMPLE));
+    let mut packet = PacketMut::try_from(&mut bytes[..]).unwrap();
+    packet.set_ssrc(7);
+    assert_eq!(packet.as_packet().ssrc(), 7);
+    let cause = PacketMut::try_from(&mut bytes[..11]).unwrap_err();
+    assert_eq!(cause, Packet::try_from(&SAMPLE[..11]).unwrap_err());
+}
+
+#[test]
 fn sources_are_counted() {
     let mut sources = Packet::parse(&SAMPLE).unwrap().csrcs();
     for (left, source) in [(3, 11), (2, 12), (1, 0xFF00_000D)] {
@@ -42,7 +53,8 @@ fn sources_are_counted() {
             (sources.len(), sources.size_hint()),
             (left, (left, Some(left)))
         );
-        assert_eq!(sources.clone().last(), Some(0xFF00_000D));
+        let back: Vec<u32> = sources.clone().rev().collect();
+        assert_eq!(back, [0xFF00_000D, 12, 11][..left]);
         assert_eq!(sources.next(), Some(source));
     }
     assert_eq!(
@@ -201,8 +213,10 @@ fn an_absent_element_stays_absent() {
         for id in (0..=255).filter(|id| !ids.contains(id)) {
             let mut bytes = datagram.to_vec();
             let mut packet = PacketMut::parse(&mut bytes).unwrap();
-            assert!(
-                !packet.remove_element(id) && !packet.set_element(id, &[]),
+            assert!(!packet.remove_element(id), "{id}");
+            assert_eq!(
+                packet.set_element(id, &[]),
+                Err(NotChanged::NoElement),
                 "{id}"
             );
             assert_eq!(packet.as_packet().element(id), None);

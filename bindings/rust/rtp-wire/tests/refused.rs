@@ -63,13 +63,13 @@ const LEVEL: Map = Map::new().with(1, Kind::AudioLevel);
 const LAYERS: Map = LEVEL.with(5, Kind::Layers);
 
 /// That the call is refused its memory until it has enough, and then returns what it is for.
-fn is_refused_first<T: PartialEq + std::fmt::Debug>(refused: T, call: impl Fn() -> T) {
-    assert_eq!(with(0, &call), refused);
+fn is_refused_first<T: PartialEq + std::fmt::Debug>(refused: &T, call: impl Fn() -> T) {
+    assert_eq!(with(0, &call), *refused);
     let done = call();
-    assert_ne!(done, refused);
+    assert_ne!(done, *refused);
     let enough = (1..100).find(|granted| {
         let result = with(*granted, &call);
-        assert!(result == refused || result == done, "{result:?}");
+        assert!(result == *refused || result == done, "{result:?}");
         result == done
     });
     assert!(enough.is_some());
@@ -78,13 +78,13 @@ fn is_refused_first<T: PartialEq + std::fmt::Debug>(refused: T, call: impl Fn() 
 #[test]
 fn reading_an_allocation_takes_memory() {
     let packet = Packet::parse(&DATAGRAM).unwrap();
-    is_refused_first(Err(NotAHeader::NoMemory), || {
+    is_refused_first(&Err(NotAHeader::NoMemory), || {
         Header::parse(&DATAGRAM, &LAYERS)
     });
-    is_refused_first(Err(NotAHeader::NoMemory), || {
+    is_refused_first(&Err(NotAHeader::NoMemory), || {
         Header::parse_with_layers(&DATAGRAM, &LAYERS)
     });
-    is_refused_first(Err(NoMemory), || packet.values(&LAYERS));
+    is_refused_first(&Err(NoMemory), || packet.values(&LAYERS));
 }
 
 #[test]
@@ -97,7 +97,7 @@ fn writing_elements_takes_memory() {
             buf,
         )
     };
-    is_refused_first((Err(NotWritten::NoMemory), [0; 64]), write);
+    is_refused_first(&(Err(NotWritten::NoMemory), [0; 64]), write);
     let write = || {
         let mut buf = [0; 64];
         (
@@ -105,7 +105,7 @@ fn writing_elements_takes_memory() {
             buf,
         )
     };
-    is_refused_first((Err(NotWritten::NoMemory), [0; 64]), write);
+    is_refused_first(&(Err(NotWritten::NoMemory), [0; 64]), write);
 }
 
 #[test]

@@ -4,8 +4,8 @@
 use std::error::Error;
 
 use rtp_wire::{
-    write_elements, BadId, Form, Header, Map, NoMemory, NotAHeader, NotAPacket, NotAText,
-    NotWritten, Packet, PacketMut, Place,
+    write_elements, BadId, BadRolloverCount, Form, Header, Map, NoMemory, NotAHeader, NotAPacket,
+    NotAText, NotChanged, NotWritten, Packet, PacketMut, Place,
 };
 
 /// V=2, X, CC=1; the source 9; a block of one word: 1 (AA).
@@ -114,7 +114,7 @@ fn forms_are_seventeen() {
 
 #[test]
 fn texts_are_those_of_the_header_file() {
-    let header_file = include_str!("../../../c/rtp_wire.h");
+    let header_file = include_str!("rtp_wire.h");
     let has = |name: &str, number: i32, text: &str| {
         assert!(
             header_file.contains(&format!("    RTPW_{name} = {number}")),
@@ -129,7 +129,9 @@ fn texts_are_those_of_the_header_file() {
     for (cause, number, name, text) in CAUSES {
         has(name, number, text);
         assert_eq!(told(&cause), text);
-        assert_eq!(told(&NotAHeader::from(cause)), text);
+        let not_a_header = NotAHeader::from(cause);
+        assert_eq!(told(&not_a_header), "no RTP packet");
+        assert_eq!(not_a_header.source().map(told), Some(text.to_string()));
     }
     has("NO_MEMORY", 7, "memory was refused");
     has("SHORT_BUFFER", 8, "a buffer is too short");
@@ -149,6 +151,30 @@ fn texts_are_those_of_the_header_file() {
     assert_eq!(told(&BadId), "the id 0 is padding");
     let text = "another character than a letter, a digit or an underscore, or too many";
     assert_eq!(told(&NotAText), text);
+    assert_eq!(told(&BadRolloverCount), "a rollover count of 2^48 or more");
+    for (cause, text) in [
+        (NotChanged::BadPayloadType, "the payload type is above 127"),
+        (
+            NotChanged::TooManySources,
+            "more than 15 contributing sources",
+        ),
+        (NotChanged::NoSource, "no such place in the CSRC list"),
+        (
+            NotChanged::NoElement,
+            "no element of the id and of this length",
+        ),
+        (
+            NotChanged::BadNewId,
+            "the block's form can't carry a new id",
+        ),
+        (
+            NotChanged::BadPadding,
+            "the padding is longer than the payload",
+        ),
+    ] {
+        assert_eq!(told(&cause), text);
+    }
+    assert!(NotAHeader::NoMemory.source().is_none());
 
     let version = env!("CARGO_PKG_VERSION");
     assert!(header_file.contains(&format!("\n#define RTPW_VERSION \"{version}\"\n")));
@@ -165,14 +191,14 @@ fn texts_are_those_of_the_header_file() {
 
 #[test]
 fn causes_become_causes() {
-    assert_eq!(NotAHeader::from(NoMemory), NotAHeader::NoMemory);
-    for (cause, ..) in CAUSES {
-        assert_eq!(NotAHeader::from(cause), NotAHeader::NotAPacket(cause));
-    }
     fn both(bytes: &[u8]) -> Result<u16, NotAHeader> {
         let packet = Packet::parse(bytes)?;
         packet.values(&Map::new())?;
         Ok(packet.sequence_number())
+    }
+    assert_eq!(NotAHeader::from(NoMemory), NotAHeader::NoMemory);
+    for (cause, ..) in CAUSES {
+        assert_eq!(NotAHeader::from(cause), NotAHeader::NotAPacket(cause));
     }
     assert_eq!(both(&SAMPLE), Ok(1));
     assert_eq!(

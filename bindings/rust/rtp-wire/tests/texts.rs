@@ -1,6 +1,6 @@
 //! Texts: which there are (RFC 9143, RFC 8852), how they compare, and how they are shown.
 
-use std::collections::HashSet;
+use std::collections::{BTreeSet, HashMap, HashSet};
 
 use rtp_wire::{Mid, NotAText, Rid};
 
@@ -32,13 +32,13 @@ fn texts_have_at_most_so_many_characters() {
         let text = &letters[..len];
         let mid = text.parse::<Mid>();
         assert_eq!(
-            mid.as_ref().map(|it| it.as_str()),
+            mid.as_ref().map(rtp_wire::Text::as_str),
             if len <= 16 { Ok(text) } else { Err(&NotAText) }
         );
         assert_eq!(Mid::try_from(text), mid);
         let rid = text.parse::<Rid>();
         assert_eq!(
-            rid.as_ref().map(|it| it.as_str()),
+            rid.as_ref().map(rtp_wire::Text::as_str),
             if len <= 8 { Ok(text) } else { Err(&NotAText) }
         );
         assert_eq!(Rid::try_from(text), rid);
@@ -53,8 +53,29 @@ fn texts_are_equal_by_their_characters() {
     for text in ["cd", "a", "abc", "AB", "", "ab\0"] {
         assert!(ab != *text && ab != text, "{text:?}");
     }
-    assert!(ab == *"ab" && ab == "ab" && none == *"" && none == "");
+    assert!(ab == *"ab" && ab == "ab" && none == *"" && none.is_empty());
+    for text in ["ab", "cd"] {
+        assert_eq!((*text == ab, text == ab), (text == "ab", text == "ab"));
+    }
     assert_eq!(HashSet::from([ab, same, other, longer, none]).len(), 4);
+}
+
+#[test]
+fn texts_are_looked_up_and_ordered_as_str() {
+    let words = ["b", "a_", "", "ab", "aB", "a", "a1", "abcdefgh"];
+    let lens: HashMap<Rid, usize> = words
+        .iter()
+        .map(|word| (word.parse().unwrap(), word.len()))
+        .collect();
+    for word in words {
+        assert_eq!(lens.get(word), Some(&word.len()), "{word:?}");
+    }
+    assert_eq!(lens.get("abc"), None);
+    let ordered: BTreeSet<Rid> = lens.keys().copied().collect();
+    assert!(ordered
+        .iter()
+        .eq(["", "a", "a1", "aB", "a_", "ab", "abcdefgh", "b"].iter()));
+    assert!(ordered.contains("aB") && !ordered.contains("c"));
 }
 
 #[test]

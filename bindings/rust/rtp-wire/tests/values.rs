@@ -57,7 +57,7 @@ fn levels_have_a_magnitude() {
 fn orientations_are_four() {
     for (degrees, byte) in [(0, 0), (270, 1), (180, 2), (90, 3)] {
         let data = written(Kind::VideoOrientation, |it| {
-            it.video_orientation = Some(degrees)
+            it.video_orientation = Some(degrees);
         });
         assert_eq!(data, Ok(vec![byte]));
         assert_eq!(
@@ -71,7 +71,7 @@ fn orientations_are_four() {
     }
     for degrees in [1, 45, 91, 256, 360, 65_535] {
         let data = written(Kind::VideoOrientation, |it| {
-            it.video_orientation = Some(degrees)
+            it.video_orientation = Some(degrees);
         });
         assert_eq!(data, Err(NotWritten::BadField));
         let mut header = Header::default(); // also where it isn't written
@@ -131,7 +131,7 @@ fn delays_are_whole_hundredths() {
     // modulo 4,096; 2^64 - 1 nanoseconds are 1,844,674,407,370 hundredths, 450,359,962 times 4,096 and 3,018
     let rows = [
         (Duration::from_nanos(9_999_999), 0),
-        (Duration::from_nanos(10_000_000), 1),
+        (Duration::from_millis(10), 1),
         (Duration::from_nanos(40_959_999_999), 4095),
         (Duration::from_millis(40_960), 0),
         (Duration::from_secs(1 << 32), 0), // 100 times 2^32 hundredths

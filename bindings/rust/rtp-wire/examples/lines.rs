@@ -95,11 +95,11 @@ fn main() -> io::Result<ExitCode> {
         };
         count += 1;
         match Header::parse(&datagram, &map) {
-            Err(NotAHeader::NoMemory) => return Err(io::ErrorKind::OutOfMemory.into()),
             Err(NotAHeader::NotAPacket(_)) => writeln!(
                 out,
                 "packet {count}: unreadable\nverdict {count}: unreadable"
             )?,
+            Err(cause) => return Err(io::Error::other(cause)), // memory was refused
             Ok(header) => {
                 print_header(&mut out, count, &header)?;
                 print_values(&mut out, &header.values)?;

@@ -1,0 +1,128 @@
+/*
+ * What library.go calls: each function of rtp_wire.h with an output that would have to lie where C can point to, here
+ * as one that returns it; and those as one that are owed to a whole packet.
+ */
+#ifndef RTPWIRE_CALLS_H
+#define RTPWIRE_CALLS_H
+
+#include "rtp_wire.h"
+
+typedef struct {
+    uint64_t number;
+    int32_t status;
+} call_number;
+
+typedef struct {
+    size_t len;
+    int32_t status;
+} call_len;
+
+typedef struct {
+    rtpw_element element;
+    int32_t status;
+} call_place;
+
+static inline int32_t call_parse(const uint8_t *datagram, size_t len, const rtpw_map *map, rtpw_header *header,
+                                 rtpw_packet *packet) {
+    int32_t status = rtpw_parse(datagram, len, map, header);
+    return status != RTPW_OK ? status : rtpw_packet_parse(datagram, len, packet);
+}
+
+static inline call_number call_receive(rtpw_receiver *receiver, uint16_t sequence_number) {
+    call_number it = {0};
+    it.status = rtpw_receiver_receive(receiver, sequence_number, &it.number);
+    return it;
+}
+
+static inline call_number call_receive_packet(rtpw_receiver *receiver, const uint8_t *datagram, size_t len,
+                                              const rtpw_map *map, rtpw_header *header, rtpw_packet *packet) {
+    call_number it = {0};
+    it.status = call_parse(datagram, len, map, header, packet);
+    return it.status != RTPW_OK ? it : call_receive(receiver, header->sequence_number);
+}
+
+static inline call_number call_check_packet(const rtpw_receiver *receiver, const uint8_t *datagram, size_t len,
+                                            const rtpw_map *map, rtpw_header *header, rtpw_packet *packet) {
+    call_number it = {0};
+    it.status = call_parse(datagram, len, map, header, packet);
+    if (it.status == RTPW_OK) {
+        it.number = rtpw_receiver_number_of(receiver, header->sequence_number);
+        it.status = rtpw_receiver_accepts(receiver, it.number) ? RTPW_OK : RTPW_REFUSED;
+    }
+    return it;
+}
+
+static inline int32_t call_parse_layers(const uint8_t *datagram, size_t len, const rtpw_map *map,
+                                        rtpw_layers *layers) {
+    rtpw_header header;
+    return rtpw_parse_layers(datagram, len, map, &header, layers);
+}
+
+static inline call_place call_last_element(const uint8_t *body, size_t len, uint8_t form, uint8_t id) {
+    call_place it = {{0}, RTPW_OK};
+    it.status = rtpw_last_element(body, len, form, id, &it.element);
+    return it;
+}
+
+/* The elements from an offset on, as many as there is room for: how many there are. */
+static inline size_t call_next_elements(const uint8_t *body, size_t len, uint8_t form, size_t at,
+                                        rtpw_element *elements, size_t room) {
+    size_t count = 0;
+    while (count < room && rtpw_next_element(body, len, form, at, &elements[count]) == RTPW_OK) {
+        at = elements[count++].end;
+    }
+    return count;
+}
+
+static inline call_len call_wire_len(const rtpw_map *map, const rtpw_header *header) {
+    call_len it = {0};
+    it.status = rtpw_wire_len(map, header, &it.len);
+    return it;
+}
+
+static inline call_len call_write(const rtpw_map *map, const rtpw_header *header, uint8_t *buf, size_t size) {
+    call_len it = {0};
+    it.status = rtpw_write(map, header, buf, size, &it.len);
+    return it;
+}
+
+static inline call_len call_write_with(const rtpw_header *header, const uint8_t *data, size_t data_len,
+                                       const rtpw_element *elements, size_t count, uint8_t *buf, size_t size) {
+    call_len it = {0};
+    it.status = rtpw_write_with(header, data, data_len, elements, count, buf, size, &it.len);
+    return it;
+}
+
+static inline call_len call_write_elements(const uint8_t *data, size_t data_len, const rtpw_element *elements,
+                                           size_t count, uint8_t form, uint8_t *buf, size_t size) {
+    call_len it = {0};
+    it.status = rtpw_write_elements(data, data_len, elements, count, form, buf, size, &it.len);
+    return it;
+}
+
+static inline int32_t call_set_fields(uint8_t *datagram, size_t len, rtpw_fields fields) {
+    return rtpw_set_fields(datagram, len, &fields);
+}
+
+static inline call_len call_remove_padding(uint8_t *datagram, size_t len) {
+    call_len it = {0};
+    it.status = rtpw_remove_padding(datagram, len, &it.len);
+    return it;
+}
+
+static inline call_len call_pad(uint8_t *datagram, size_t size, size_t header_len, uint8_t pad_len,
+                                size_t block_size) {
+    call_len it = {0};
+    it.status = rtpw_pad(datagram, size, header_len, pad_len, block_size, &it.len);
+    return it;
+}
+
+static inline call_number call_read_original(const uint8_t *payload, size_t len) {
+    uint16_t number = 0;
+    call_number it = {0};
+    it.status = rtpw_read_original(payload, len, &number);
+    it.number = number;
+    return it;
+}
+
+#endif

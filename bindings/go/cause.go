@@ -1,0 +1,81 @@
+package rtpwire
+
+import "errors"
+
+// A Cause says why bytes are no RTP packet. It is an error: errors.Is finds each cause, and ErrNotAPacket for all
+// of them.
+type Cause uint8
+
+// The causes in the order in which they are looked for: the first that applies is returned.
+const (
+	// CutFixedPart: there are fewer than the twelve bytes that every header has.
+	CutFixedPart Cause = 1 + iota
+	// OtherVersion: the version is another than 2.
+	OtherVersion
+	// CutSources: the CSRC list is cut short.
+	CutSources
+	// CutBlockHeader: X is set, and the first four bytes of the block are cut short.
+	CutBlockHeader
+	// UnknownForm: the block's form is neither 0xBEDE nor 0x1000 to 0x100F.
+	UnknownForm
+	// CutBlock: the block is longer than what is left.
+	CutBlock
+)
+
+// What a call returns that did nothing, beside a Cause.
+var (
+	// ErrNotAPacket is what every Cause is, by errors.Is.
+	ErrNotAPacket = errors.New("rtpwire: no RTP packet")
+	// ErrNoMemory: memory was refused.
+	ErrNoMemory = errors.New("rtpwire: memory was refused")
+	// ErrShortBuffer: the buffer has too few bytes, and nothing else is amiss.
+	ErrShortBuffer = errors.New("rtpwire: a buffer is too short")
+	// ErrBadField: what was given is out of its range, or no packet can carry it.
+	ErrBadField = errors.New("rtpwire: an argument is out of its range")
+	// ErrRefused: a replay, or too old to tell.
+	ErrRefused = errors.New("rtpwire: a replay, or too old to tell")
+	// ErrNotFound: the packet has no such element, or no such place in its CSRC list.
+	ErrNotFound = errors.New("rtpwire: no such element")
+)
+
+var causes = [...]string{
+	CutFixedPart:   "rtpwire: fewer than twelve bytes",
+	OtherVersion:   "rtpwire: another version than 2",
+	CutSources:     "rtpwire: the CSRC list is cut short",
+	CutBlockHeader: "rtpwire: the header of the extension block is cut short",
+	UnknownForm:    "rtpwire: a header extension of an unknown form",
+	CutBlock:       "rtpwire: the extension block is cut short",
+}
+
+// Error says the cause in words.
+func (c Cause) Error() string {
+	if c == 0 || int(c) >= len(causes) {
+		return "rtpwire: no cause"
+	}
+	return causes[c]
+}
+
+// Is makes every cause an ErrNotAPacket.
+func (c Cause) Is(target error) bool {
+	return target == ErrNotAPacket
+}
+
+// errorOf is the error that a status of the library means; nil where the call did what it is for.
+func errorOf(status int32) error {
+	switch status {
+	case 0:
+		return nil
+	case 7:
+		return ErrNoMemory
+	case 8:
+		return ErrShortBuffer
+	case 9:
+		return ErrBadField
+	case 10:
+		return ErrRefused
+	case 11:
+		return ErrNotFound
+	default:
+		return Cause(status)
+	}
+}

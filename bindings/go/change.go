@@ -1,0 +1,122 @@
+package rtpwire
+
+// Each function here changes the part that it names of the packet that the datagram is, and no other byte. It
+// returns the first Cause for which the datagram is no packet; where it returns an error nothing changes. All but
+// RemovePadding need the header alone: its bytes are a packet without a payload, and what they become is, with the
+// payload behind it, what the whole would become. So a server copies and changes only the header for each receiver.
+
+// Fields are to be set together. A field that isn't set stays as it is in the packet.
+type Fields struct {
+	timestamp, ssrc           uint32
+	sequenceNumber            uint16
+	payloadType               uint8
+	marker                    bool
+	hasTimestamp, hasSSRC     bool
+	hasSequenceNumber         bool
+	hasPayloadType, hasMarker bool
+}
+
+// SetTimestamp gives the packet this timestamp.
+func (f *Fields) SetTimestamp(timestamp uint32) {
+	f.timestamp, f.hasTimestamp = timestamp, true
+}
+
+// SetSSRC gives the packet this source.
+func (f *Fields) SetSSRC(ssrc uint32) {
+	f.ssrc, f.hasSSRC = ssrc, true
+}
+
+// SetSequenceNumber gives the packet this number.
+func (f *Fields) SetSequenceNumber(number uint16) {
+	f.sequenceNumber, f.hasSequenceNumber = number, true
+}
+
+// SetPayloadType gives the packet this payload type, 0 to 127.
+func (f *Fields) SetPayloadType(payloadType uint8) {
+	f.payloadType, f.hasPayloadType = payloadType, true
+}
+
+// SetMarker sets or clears M.
+func (f *Fields) SetMarker(marker bool) {
+	f.marker, f.hasMarker = marker, true
+}
+
+// Apply sets them in the packet that the datagram is, and leaves the others. It returns ErrBadField where there is a
+// payload type above 127.
+func (f *Fields) Apply(datagram []byte) error {
+	return setFields(datagram, f)
+}
+
+// SetCSRC sets the contributing source at this place of the packet's list, counted from 0. It returns ErrNotFound
+// where the list has no such place.
+func SetCSRC(datagram []byte, index int, source uint32) error {
+	return setCSRC(datagram, index, source)
+}
+
+// SetElement gives the last element of this id these data. It returns ErrNotFound where the packet has no element of
+// the id, or its last one has another number of bytes. The data may not overlap the datagram.
+func SetElement(datagram []byte, id uint8, data []byte) error {
+	return setElement(datagram, id, data)
+}
+
+// RemoveElement makes each element of this id padding. It returns ErrNotFound where the packet has none.
+func RemoveElement(datagram []byte, id uint8) error {
+	return removeElement(datagram, id)
+}
+
+// Renumber gives each element its new id, and makes one that has none padding. It returns ErrBadField where the
+// packet's form can't carry a new id that an element gets: one above 14 in the one-byte form.
+func Renumber(datagram []byte, ids *NewIDs) error {
+	return renumber(datagram, ids)
+}
+
+// SetPadding sets or clears P, and no other bit: the padding is the caller's to write ([Pad]), or to keep.
+func SetPadding(datagram []byte, hasPadding bool) error {
+	return setPadding(datagram, hasPadding)
+}
+
+// RemovePadding takes the padding off: it clears P, and returns the bytes that the packet then has, the first ones of
+// the datagram; where P is clear, all of them. It returns ErrBadField where the padding's last byte counts more bytes
+// than the payload has. Of SRTP the padding is encrypted: decrypt first.
+func RemovePadding(datagram []byte) ([]byte, error) {
+	length, err := removePadding(datagram)
+	if err != nil {
+		return nil, err
+	}
+	return datagram[:length], nil
+}
+
+// Pad makes a packet of padding alone after its header: it sets P, and writes the padding from headerLen on, zeros and
+// in the last byte their count, which is returned. It is padLen in whole blocks, but at most 240 bytes; with a padLen
+// of 0 nothing changes, and no room is wanted. To pad a packet with a payload, pass the end of the payload as
+// headerLen. Whether the bytes are a packet isn't looked at.
+//
+// It returns ErrBadField where the block size is below 1, and else ErrShortBuffer where there is no room.
+func Pad(buf []byte, headerLen int, padLen uint8, blockSize int) (int, error) {
+	if blockSize < 0 {
+		return 0, ErrBadField
+	}
+	return pad(buf, headerLen, padLen, blockSize)
+}
+
+// ReadOriginal is the original sequence number that the payload of a retransmission packet begins with (RFC 4588, 4),
+// and the original payload behind it. It returns ErrShortBuffer of fewer than two bytes.
+func ReadOriginal(payload []byte) (number uint16, original []byte, err error) {
+	read, err := readOriginal(payload)
+	if err != nil {
+		return 0, nil, err
+	}
+	return uint16(read), payload[2:], nil
+}
+
+// WriteOriginal writes the low 16 bits of the original sequence number to the front of the payload of a
+// retransmission packet. It returns ErrShortBuffer of fewer than two bytes.
+func WriteOriginal(payload []byte, number uint64) error {
+	return writeOriginal(payload, number)
+}
+
+// LibraryVersion is the version of the library that is linked: 65,536 times its major number, 256 times the minor
+// one, and the patch.
+func LibraryVersion() uint32 {
+	return libraryVersion()
+}

@@ -1,0 +1,208 @@
+package rtpwire_test
+
+import (
+	"bytes"
+	"errors"
+	"testing"
+
+	"rtpwire"
+)
+
+// changed is what the call makes of the sample, which has to be the sample with these bytes at these places.
+func changed(t *testing.T, what string, call func([]byte) error, wanted error, places map[int]byte) {
+	t.Helper()
+	got, expected := sample(), sample()
+	if err := call(got); !errors.Is(err, wanted) || wanted == nil && err != nil {
+		t.Errorf("%s: %v, wanted %v", what, err, wanted)
+	}
+	for at, b := range places {
+		expected[at] = b
+	}
+	same(t, what, got, expected)
+}
+
+func TestFields(t *testing.T) {
+	set := func(change func(*rtpwire.Fields)) func([]byte) error {
+		return func(datagram []byte) error {
+			var fields rtpwire.Fields
+			change(&fields)
+			return fields.Apply(datagram)
+		}
+	}
+	changed(t, "none", set(func(*rtpwire.Fields) {}), nil, nil)
+	changed(t, "M", set(func(f *rtpwire.Fields) { f.SetMarker(false) }), nil, map[int]byte{1: 0x21})
+	changed(t, "PT", set(func(f *rtpwire.Fields) { f.SetPayloadType(8) }), nil, map[int]byte{1: 0x88})
+	changed(t, "number", set(func(f *rtpwire.Fields) { f.SetSequenceNumber(0x0102) }), nil, map[int]byte{2: 1, 3: 2})
+	changed(t, "timestamp", set(func(f *rtpwire.Fields) { f.SetTimestamp(0x01020304) }), nil,
+		map[int]byte{4: 1, 5: 2, 6: 3, 7: 4})
+	changed(t, "SSRC", set(func(f *rtpwire.Fields) { f.SetSSRC(0x01020304) }), nil,
+		map[int]byte{8: 1, 9: 2, 10: 3, 11: 4})
+	changed(t, "several", set(func(f *rtpwire.Fields) {
+		f.SetSSRC(77)
+		f.SetSequenceNumber(5)
+	}), nil, map[int]byte{2: 0, 3: 5, 11: 77})
+	changed(t, "PT 128", set(func(f *rtpwire.Fields) {
+		f.SetPayloadType(128)
+		f.SetSSRC(77)
+	}), rtpwire.ErrBadField, nil)
+	changed(t, "no packet", func(datagram []byte) error {
+		var fields rtpwire.Fields
+		fields.SetSSRC(77)
+		return fields.Apply(datagram[:31])
+	}, rtpwire.CutBlock, nil)
+}
+
+func TestParts(t *testing.T) {
+	changed(t, "a source", func(d []byte) error { return rtpwire.SetCSRC(d, 1, 0x0A0B0C0D) }, nil,
+		map[int]byte{16: 10, 17: 11, 18: 12, 19: 13})
+	for _, index := range []int{2, 15, -1} {
+		changed(t, "no source", func(d []byte) error { return rtpwire.SetCSRC(d, index, 1) }, rtpwire.ErrNotFound, nil)
+	}
+	changed(t, "an element", func(d []byte) error { return rtpwire.SetElement(d, 2, []byte{1, 2}) }, nil,
+		map[int]byte{27: 1, 28: 2})
+	changed(t, "the last element", func(d []byte) error { return rtpwire.SetElement(d, 1, []byte{9}) }, nil, map[int]byte{30: 9})
+	changed(t, "another length", func(d []byte) error { return rtpwire.SetElement(d, 2, nil) }, rtpwire.ErrNotFound, nil)
+	changed(t, "no element", func(d []byte) error { return rtpwire.SetElement(d, 3, []byte{1}) }, rtpwire.ErrNotFound, nil)
+	changed(t, "removed", func(d []byte) error { return rtpwire.RemoveElement(d, 1) }, nil,
+		map[int]byte{24: 0, 25: 0, 29: 0, 30: 0})
+	changed(t, "none removed", func(d []byte) error { return rtpwire.RemoveElement(d, 3) }, rtpwire.ErrNotFound, nil)
+	changed(t, "P cleared", func(d []byte) error { return rtpwire.SetPadding(d, false) }, nil, map[int]byte{0: 0x92})
+	changed(t, "P set", func(d []byte) error { return rtpwire.SetPadding(d, true) }, nil, nil)
+}
+
+func TestNewIDs(t *testing.T) {
+	from, to := new(rtpwire.Map), new(rtpwire.Map)
+	for _, err := range []error{
+		from.Set(1, rtpwire.KindAudioLevel), from.Set(2, rtpwire.KindMID),
+		to.Set(9, rtpwire.KindAudioLevel), to.Set(4, rtpwire.KindAudioLevel),
+	} {
+		same(t, "set", err, nil)
+	}
+	ids := rtpwire.NewIDsBetween(from, to)
+	same(t, "ids", []uint8{ids.Get(1), ids.Get(2), ids.Get(0)}, []uint8{4, 0, 0})
+	changed(t, "renumbered", func(d []byte) error { return rtpwire.Renumber(d, ids) }, nil,
+		map[int]byte{24: 0x40, 26: 0, 27: 0, 28: 0, 29: 0x40})
+	ids.Set(2, 15)
+	ids.Set(0, 5)
+	same(t, "ids", []uint8{ids.Get(2), ids.Get(0)}, []uint8{15, 0})
+	changed(t, "an id of 15", func(d []byte) error { return rtpwire.Renumber(d, ids) }, rtpwire.ErrBadField, nil)
+	same(t, "of no map", *rtpwire.NewIDsBetween(nil, nil), rtpwire.NewIDs{})
+}
+
+func TestPadding(t *testing.T) {
+	datagram := sample()
+	rest, err := rtpwire.RemovePadding(datagram)
+	same(t, "removed", []any{len(rest), err, datagram[0]}, []any{35, nil, byte(0x92)})
+	rest, err = rtpwire.RemovePadding(datagram)
+	same(t, "removed again", []any{len(rest), err}, []any{37, nil})
+	datagram = sample()
+	datagram[36] = 6
+	_, err = rtpwire.RemovePadding(datagram)
+	same(t, "too long", []any{err, datagram[0]}, []any{rtpwire.ErrBadField, byte(0xB2)})
+
+	rows := []struct {
+		size, headerLen int
+		padLen          uint8
+		blockSize       int
+		count           int
+		err             error
+	}{
+		{16, 12, 3, 4, 4, nil},
+		{252, 12, 255, 16, 240, nil},
+		{12, 12, 0, 4, 0, nil},
+		{0, 12, 0, 4, 0, nil},
+		{15, 12, 3, 4, 0, rtpwire.ErrShortBuffer},
+		{16, 12, 3, 0, 0, rtpwire.ErrBadField},
+		{16, 12, 3, -1, 0, rtpwire.ErrBadField},
+		{16, -1, 3, 4, 0, rtpwire.ErrShortBuffer},
+	}
+	for _, row := range rows {
+		buf := bytes.Repeat([]byte{0x80}, row.size)
+		wanted := bytes.Repeat([]byte{0x80}, row.size)
+		if row.count > 0 {
+			wanted[0] = 0xA0
+			copy(wanted[row.headerLen:], append(make([]byte, row.count-1), byte(row.count)))
+		}
+		count, err := rtpwire.Pad(buf, row.headerLen, row.padLen, row.blockSize)
+		same(t, "count", []any{count, err}, []any{row.count, row.err})
+		same(t, "bytes", buf, wanted)
+	}
+}
+
+func TestOriginals(t *testing.T) {
+	number, original, err := rtpwire.ReadOriginal([]byte{0xFF, 1, 9})
+	same(t, "read", []any{number, original, err}, []any{uint16(0xFF01), []byte{9}, nil})
+	payload := []byte{7, 7, 7}
+	same(t, "written", rtpwire.WriteOriginal(payload, 65536+258), nil)
+	same(t, "payload", payload, []byte{1, 2, 7})
+	for _, short := range [][]byte{nil, {7}} {
+		_, _, err := rtpwire.ReadOriginal(short)
+		same(t, "short", err, rtpwire.ErrShortBuffer)
+		same(t, "short", rtpwire.WriteOriginal(short, 1), rtpwire.ErrShortBuffer)
+	}
+}
+
+func TestHeadersAreWritten(t *testing.T) {
+	header := rtpwire.Header{PayloadType: 33, SequenceNumber: 47000, Timestamp: 10000, SSRC: 44, Marker: true}
+	same(t, "sources", header.SetCSRC([]uint32{9}), nil)
+	buf := bytes.Repeat([]byte{0xEE}, 20)
+	n, err := header.Write(buf, nil)
+	same(t, "written", []any{n, err}, []any{16, nil})
+	same(t, "bytes", buf, []byte{
+		0x81, 0xA1, 0xB7, 0x98, 0, 0, 0x27, 0x10, 0, 0, 0, 0x2C, 0, 0, 0, 9, 0xEE, 0xEE, 0xEE, 0xEE,
+	})
+	same(t, "16 sources", header.SetCSRC(make([]uint32, 16)), rtpwire.ErrBadField)
+	same(t, "sources", header.CSRC(), []uint32{9})
+	same(t, "15 sources", header.SetCSRC(make([]uint32, 15)), nil)
+	same(t, "none", []any{header.SetCSRC(nil), len(header.CSRC())}, []any{nil, 0})
+
+	for _, short := range [][]byte{nil, make([]byte, 11)} {
+		n, err = header.Write(short, nil)
+		same(t, "short", []any{n, err}, []any{0, rtpwire.ErrShortBuffer})
+	}
+	header.PayloadType = 128
+	n, err = header.Write(buf, nil)
+	same(t, "PT 128", []any{n, err}, []any{0, rtpwire.ErrBadField})
+	_, err = header.WireLen(nil)
+	same(t, "PT 128", err, rtpwire.ErrBadField)
+}
+
+func TestElementsAreWritten(t *testing.T) {
+	data := []byte{0xAA, 0xBB, 0xCC}
+	places := []rtpwire.Place{{ID: 1, Len: 1}, {ID: 2, At: 1, Len: 2}}
+	buf := make([]byte, 40)
+	n, err := rtpwire.WriteElements(buf, rtpwire.OneByteForm, data, places)
+	same(t, "one-byte form", []any{buf[:n], err}, []any{[]byte{0x10, 0xAA, 0x21, 0xBB, 0xCC}, nil})
+	n, err = rtpwire.WriteElements(buf, rtpwire.TwoByteForm, data, places)
+	same(t, "two-byte form", []any{buf[:n], err}, []any{[]byte{1, 1, 0xAA, 2, 2, 0xBB, 0xCC}, nil})
+	n, err = rtpwire.WriteElements(nil, rtpwire.OneByteForm, nil, nil)
+	same(t, "none", []any{n, err}, []any{0, nil})
+	_, err = rtpwire.WriteElements(buf, rtpwire.NoBlock, data, places)
+	same(t, "no form", err, rtpwire.ErrBadField)
+	_, err = rtpwire.WriteElements(buf[:4], rtpwire.OneByteForm, data, places)
+	same(t, "short", err, rtpwire.ErrShortBuffer)
+
+	header := rtpwire.Header{SequenceNumber: 1}
+	n, err = header.WriteWith(buf, data, places)
+	same(t, "with a header", []any{buf[:n], err}, []any{[]byte{
+		0x90, 0, 0, 1, 0, 0, 0, 0, 0, 0, 0, 0, 0xBE, 0xDE, 0, 2, 0x10, 0xAA, 0x21, 0xBB, 0xCC, 0, 0, 0,
+	}, nil})
+	for _, place := range []rtpwire.Place{
+		{ID: 0, Len: 1}, {ID: 1, Len: 4}, {ID: 1, At: 3, Len: 1}, {ID: 1, At: -1, Len: 1}, {ID: 1, Len: -1}, {ID: 1, At: 4},
+	} {
+		_, err = header.WriteWith(buf, data, []rtpwire.Place{place})
+		same(t, "a bad place", err, rtpwire.ErrBadField)
+	}
+
+	// The elements of a packet, under other ids.
+	packet := parsed(t, sample(), nil)
+	read := packet.AppendPlaces(nil)
+	_, body := packet.Block()
+	for at := range read {
+		read[at].ID += 20
+	}
+	n, err = header.WriteWith(buf, body, read)
+	same(t, "renumbered", []any{buf[12:n], err}, []any{[]byte{
+		0x10, 0, 0, 3, 21, 1, 0xAA, 22, 2, 0xBB, 0xCC, 21, 1, 0xDD, 0, 0,
+	}, nil})
+}

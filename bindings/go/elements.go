@@ -1,0 +1,87 @@
+package rtpwire
+
+// A Form is that of an extension block (RFC 8285, 4.2 and 4.3).
+type Form uint8
+
+// The forms of a block.
+const (
+	NoBlock     Form = 0 // X is clear
+	OneByteForm Form = 1 // 0xBEDE: ids up to 14, and 1 to 16 bytes of data
+	TwoByteForm Form = 2 // 0x1000 to 0x100F: ids up to 255, and up to 255 bytes of data
+)
+
+// String names the form.
+func (f Form) String() string {
+	switch f {
+	case NoBlock:
+		return "no block"
+	case OneByteForm:
+		return "one-byte form"
+	case TwoByteForm:
+		return "two-byte form"
+	default:
+		return "unknown form"
+	}
+}
+
+// A Place says where the data of an element lie: in the body of a packet's block ([Packet.AppendPlaces]), or in the
+// data that elements are written from ([Header.WriteWith], [WriteElements]).
+type Place struct {
+	// At is where they begin.
+	At int
+	// Len is how many bytes they are: 0 to 255.
+	Len int
+	end int
+	// ID is the element's: as read 0 to 14 in the one-byte form, 1 to 255 in the two-byte form.
+	ID uint8
+}
+
+// AppendPlaces appends the places of the elements of the packet's block, in order. They end where one is cut short,
+// and in the one-byte form where one has the id 15. Where the slice has room for them, and one more, it takes one
+// call of the library and no memory.
+func (p *Packet) AppendPlaces(places []Place) []Place {
+	form, body := p.Block()
+	at := 0
+	for form != NoBlock {
+		if len(places) == cap(places) {
+			places = append(places, make([]Place, 8)...)[:len(places)]
+		}
+		room := places[len(places):cap(places)]
+		count := nextPlaces(body, form, at, room)
+		places = places[:len(places)+count]
+		if count < len(room) {
+			break
+		}
+		at = room[count-1].end
+	}
+	return places
+}
+
+// Data is the data at a place that AppendPlaces told of this packet.
+func (p *Packet) Data(place Place) []byte {
+	_, body := p.Block()
+	return body[place.At : place.At+place.Len]
+}
+
+// Element is the data of the last element of this id, which is the one that counts. It is not ok where the packet has
+// no element of the id.
+func (p *Packet) Element(id uint8) (data []byte, ok bool) {
+	form, body := p.Block()
+	if form == NoBlock {
+		return nil, false
+	}
+	place, err := lastElement(body, form, id)
+	if err != nil {
+		return nil, false
+	}
+	return body[place.At:place.end], true
+}
+
+// WriteElements writes elements, one after the other, as a block's body has them, to the front of the buffer, and
+// returns how many bytes they took; those after them stay. Each place is one in data.
+//
+// It returns ErrBadField where the form is none of the two or can't carry one of them, or one has bytes past the end
+// of data; and else ErrShortBuffer or ErrNoMemory. Nothing is written then.
+func WriteElements(buf []byte, form Form, data []byte, places []Place) (int, error) {
+	return writeElements(buf, form, data, places)
+}

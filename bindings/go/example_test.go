@@ -1,0 +1,130 @@
+package rtpwire_test
+
+import (
+	"errors"
+	"fmt"
+	"log"
+
+	"rtpwire"
+)
+
+// This receives a stream whose packets needn't be authenticated: each once, whatever arrives.
+func Example() {
+	var m rtpwire.Map // the ids of the lines a=extmap of SDP
+	if _, err := m.SetURI(1, "urn:ietf:params:rtp-hdrext:ssrc-audio-level"); err != nil {
+		log.Fatal(err)
+	}
+	receiver, err := rtpwire.NewReceiver(1) // one for each SSRC
+	if err != nil {
+		log.Fatal(err)
+	}
+	datagram := []byte{0x90, 96, 0, 5, 0, 0, 0, 160, 0, 0, 0, 7, 0xBE, 0xDE, 0, 1, 0x10, 0x8A, 0, 0, 'h', 'i'}
+
+	var packet rtpwire.Packet // used again for each packet
+	for _, received := range [][]byte{datagram, datagram, datagram[:19]} {
+		number, err := receiver.ReceivePacket(received, &m, &packet)
+		switch {
+		case errors.Is(err, rtpwire.ErrRefused):
+			fmt.Println("a replay, or too old")
+			continue
+		case err != nil:
+			fmt.Println(err)
+			continue
+		}
+		fmt.Printf("%d: payload type %d, %q\n", number, packet.PayloadType, packet.Payload())
+		if level, voice, ok := packet.Values.AudioLevel(); ok {
+			fmt.Println("audio at", level, "dB, voice", voice)
+		}
+	}
+	// Output:
+	// 65541: payload type 96, "hi"
+	// audio at -10 dB, voice true
+	// a replay, or too old
+	// rtpwire: the extension block is cut short
+}
+
+// With SRTP a forged packet must change nothing: the number is recorded once the packet is authenticated.
+func ExampleReceiver_CheckPacket() {
+	isAuthentic := func(packet *rtpwire.Packet, number uint64) bool { return packet.SSRC == 7 }
+	var receiver rtpwire.Receiver
+	var packet rtpwire.Packet
+	for _, ssrc := range []byte{8, 7, 7} {
+		datagram := []byte{0x80, 96, 0, 5, 0, 0, 0, 160, 0, 0, 0, ssrc}
+		number, err := receiver.CheckPacket(datagram, nil, &packet)
+		if err != nil || !isAuthentic(&packet, number) {
+			fmt.Println("a replay, too old, or forged")
+			continue
+		}
+		receiver.Record(number)
+		fmt.Println("taken as", number)
+	}
+	// Output:
+	// a replay, too old, or forged
+	// taken as 5
+	// a replay, too old, or forged
+}
+
+func ExampleHeader_Write() {
+	m := rtpwire.StandardMap()
+	header := rtpwire.Header{PayloadType: 111, SequenceNumber: 47000, SSRC: 44, HasExtension: true}
+	if err := header.Values.SetMID("audio"); err != nil {
+		log.Fatal(err)
+	}
+	buf := make([]byte, 1500)
+	n, err := header.Write(buf, m)
+	if err != nil {
+		log.Fatal(err)
+	}
+	n += copy(buf[n:], "payload")
+	fmt.Printf("% X\n%q\n", buf[:16], buf[16:n])
+	// Output:
+	// 90 6F B7 98 00 00 00 00 00 00 00 2C BE DE 00 02
+	// "Daudio\x00\x00payload"
+}
+
+// A server sends a packet on under another SSRC and number, with the ids of the other side.
+func ExampleRenumber() {
+	publisher, subscriber := new(rtpwire.Map), new(rtpwire.Map)
+	for _, err := range []error{publisher.Set(1, rtpwire.KindAudioLevel), subscriber.Set(5, rtpwire.KindAudioLevel)} {
+		if err != nil {
+			log.Fatal(err)
+		}
+	}
+	ids := rtpwire.NewIDsBetween(publisher, subscriber) // once for two streams
+
+	datagram := []byte{0x90, 96, 0, 5, 0, 0, 0, 160, 0, 0, 0, 7, 0xBE, 0xDE, 0, 1, 0x10, 0x8A, 0, 0, 'h', 'i'}
+	var fields rtpwire.Fields
+	fields.SetSSRC(77)
+	fields.SetSequenceNumber(1)
+	if err := fields.Apply(datagram); err != nil {
+		log.Fatal(err)
+	}
+	if err := rtpwire.Renumber(datagram, ids); err != nil {
+		log.Fatal(err)
+	}
+	fmt.Printf("% X\n", datagram)
+	// Output: 90 60 00 01 00 00 00 A0 00 00 00 4D BE DE 00 01 50 8A 00 00 68 69
+}
+
+func ExamplePacket_AppendPlaces() {
+	datagram := []byte{0x90, 96, 0, 5, 0, 0, 0, 160, 0, 0, 0, 7, 0xBE, 0xDE, 0, 2, 0x10, 0x8A, 0x21, 1, 2, 0, 0, 0}
+	var packet rtpwire.Packet
+	if err := packet.Parse(datagram, nil); err != nil {
+		log.Fatal(err)
+	}
+	var places []rtpwire.Place // places[:0] for the next packet
+	places = packet.AppendPlaces(places)
+	for _, place := range places {
+		fmt.Printf("%d: % X\n", place.ID, packet.Data(place))
+	}
+	// Output:
+	// 1: 8A
+	// 2: 01 02
+}
+
+func ExampleCause() {
+	var packet rtpwire.Packet
+	err := packet.Parse([]byte{0x80, 96, 0, 5}, nil)
+	fmt.Println(errors.Is(err, rtpwire.ErrNotAPacket), errors.Is(err, rtpwire.CutFixedPart), err)
+	// Output: true true rtpwire: fewer than twelve bytes
+}

@@ -1,0 +1,131 @@
+// Lines reads datagrams from standard input, one a line in hexadecimal, and prints of each its header, the values of
+// its extensions, and whether a receiver takes it. Each SSRC has a receiver of its own. Lines `map ID URI` before the
+// first datagram say which extension an id means.
+package main
+
+import (
+	"bufio"
+	"encoding/hex"
+	"errors"
+	"fmt"
+	"io"
+	"os"
+	"strconv"
+	"strings"
+
+	"rtpwire"
+)
+
+// errBadLine: the program ends with the status 2.
+var errBadLine = errors.New("neither a map line nor hex")
+
+func main() {
+	out := bufio.NewWriter(os.Stdout)
+	err := printAll(out, os.Stdin)
+	if flushed := out.Flush(); err == nil {
+		err = flushed
+	}
+	switch {
+	case err == nil:
+	case errors.Is(err, errBadLine):
+		os.Exit(2)
+	default:
+		fmt.Fprintln(os.Stderr, err)
+		os.Exit(1)
+	}
+}
+
+func printAll(out io.Writer, in io.Reader) error {
+	var m rtpwire.Map
+	receivers := make(map[uint32]*rtpwire.Receiver)
+	count := 0
+	lines := bufio.NewScanner(in)
+	lines.Buffer(nil, 1<<20)
+	for number := 1; lines.Scan(); number++ {
+		if count == 0 && isMapped(&m, lines.Text()) {
+			continue
+		}
+		datagram, err := hex.DecodeString(lines.Text())
+		if err != nil {
+			fmt.Fprintf(out, "line %d: %v\n", number, errBadLine)
+			return errBadLine
+		}
+		count++
+		if err := printPacket(out, count, datagram, &m, receivers); err != nil {
+			return err
+		}
+	}
+	return lines.Err()
+}
+
+// isMapped maps the id of the line, where it is a map line.
+func isMapped(m *rtpwire.Map, line string) bool {
+	words := strings.SplitN(line, " ", 3)
+	if len(words) < 3 || words[0] != "map" || words[2] == "" {
+		return false
+	}
+	id, err := strconv.ParseUint(words[1], 10, 8)
+	if err != nil {
+		return false
+	}
+	_, err = m.SetURI(uint8(id), words[2])
+	return err == nil
+}
+
+func printPacket(out io.Writer, count int, datagram []byte, m *rtpwire.Map, receivers map[uint32]*rtpwire.Receiver) error {
+	ssrc, _ := rtpwire.PeekSSRC(datagram)
+	receiver, isKnown := receivers[ssrc]
+	if !isKnown {
+		receiver = new(rtpwire.Receiver)
+	}
+	var packet rtpwire.Packet
+	number, err := receiver.ReceivePacket(datagram, m, &packet)
+	switch {
+	case errors.Is(err, rtpwire.ErrNotAPacket):
+		fmt.Fprintf(out, "packet %d: unreadable\nverdict %d: unreadable\n", count, count)
+	case errors.Is(err, rtpwire.ErrRefused):
+		printHeader(out, count, &packet)
+		fmt.Fprintf(out, "verdict %d: refused\n", count)
+	case err != nil:
+		return err
+	default:
+		receivers[ssrc] = receiver
+		printHeader(out, count, &packet)
+		fmt.Fprintf(out, "verdict %d: taken %d\n", count, number)
+	}
+	return nil
+}
+
+func printHeader(out io.Writer, count int, packet *rtpwire.Packet) {
+	fmt.Fprintf(out, "packet %d: pt %d seq %d ts %d ssrc %d", count, packet.PayloadType, packet.SequenceNumber,
+		packet.Timestamp, packet.SSRC)
+	fmt.Fprintf(out, " marker %s padding %s extension %s csrc %d header %d", yesOrNo(packet.Marker),
+		yesOrNo(packet.HasPadding), yesOrNo(packet.HasExtension), len(packet.CSRC()), packet.HeaderLen())
+	values := &packet.Values
+	if mid, ok := values.MID(); ok {
+		fmt.Fprintf(out, " mid %s", mid)
+	}
+	if rid, ok := values.RID(); ok {
+		fmt.Fprintf(out, " rid %s", rid)
+	}
+	if rid, ok := values.RepairedRID(); ok {
+		fmt.Fprintf(out, " repaired %s", rid)
+	}
+	if level, voice, ok := values.AudioLevel(); ok {
+		fmt.Fprintf(out, " level %d voice %s", level, yesOrNo(voice))
+	}
+	if micros, ok := values.SendTime(); ok {
+		fmt.Fprintf(out, " send %d", micros)
+	}
+	if number, ok := values.TransportNumber(); ok {
+		fmt.Fprintf(out, " transport %d", number)
+	}
+	fmt.Fprintln(out)
+}
+
+func yesOrNo(flag bool) string {
+	if flag {
+		return "yes"
+	}
+	return "no"
+}

@@ -1,0 +1,3 @@
+module rtpwire
+
+go 1.19

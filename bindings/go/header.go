@@ -1,0 +1,67 @@
+package rtpwire
+
+// A Header is the header of a packet (RFC 3550, 5.1), with the values of its block: a [Packet] has the one that was
+// read, and [Header.Write] writes one. It may be copied.
+type Header struct {
+	headerLen int
+	// Timestamp is the moment of the payload's first byte, in ticks of the payload's own clock.
+	Timestamp uint32
+	// SSRC is the stream's source.
+	SSRC uint32
+	csrc [15]uint32
+	// SequenceNumber is the low 16 bits of the packet's number.
+	SequenceNumber uint16
+	// PayloadType says what the payload is, 0 to 127.
+	PayloadType uint8
+	csrcCount   uint8
+	// Marker is M.
+	Marker bool
+	// HasPadding is P: whether there is padding at the end of the payload.
+	HasPadding bool
+	// HasExtension is X: whether there is a block of elements. Without one no value is written.
+	HasExtension bool
+	// Values are those of the block's elements: none without a block.
+	Values Values
+}
+
+// CSRC is the contributing sources, at most 15, in order. It is a part of the header, not a copy.
+func (h *Header) CSRC() []uint32 {
+	return h.csrc[:h.csrcCount:h.csrcCount]
+}
+
+// SetCSRC sets the contributing sources. It returns ErrBadField, and changes nothing, where there are more than 15.
+func (h *Header) SetCSRC(sources []uint32) error {
+	if len(sources) > len(h.csrc) {
+		return ErrBadField
+	}
+	h.csrc = [15]uint32{}
+	h.csrcCount = uint8(copy(h.csrc[:], sources))
+	return nil
+}
+
+// WireLen is how many bytes Write writes: a multiple of 4. It returns ErrBadField as Write does.
+func (h *Header) WireLen(m *Map) (int, error) {
+	return h.wireLen(m)
+}
+
+// Write writes the header to the front of the buffer, and returns how many bytes it took: the payload follows there.
+// Those after them stay. Where there is a block it has an element for each mapped id whose value is there, by rising
+// id, in the one-byte form where no id above 14 and no KindLayers is mapped, and no text that is written is empty. A
+// layer allocation is not written.
+//
+// It returns ErrBadField where the payload type is above 127, or the orientation none of the four, and else
+// ErrShortBuffer where the buffer has too few bytes; nothing is written then.
+func (h *Header) Write(buf []byte, m *Map) (int, error) {
+	return h.write(buf, m)
+}
+
+// WriteWith writes the header with a block of these elements, whatever HasExtension and Values hold, and returns how
+// many bytes it took; those after them stay. Each place is one in data. The block is in the one-byte form where that
+// can carry each element: ids 1 to 14, 1 to 16 bytes.
+//
+// It returns ErrBadField where the payload type is above 127, or an element has the id 0, more than 255 bytes or
+// bytes past the end of data, or all of them are too long for a block; and else ErrShortBuffer or ErrNoMemory.
+// Nothing is written then.
+func (h *Header) WriteWith(buf, data []byte, places []Place) (int, error) {
+	return h.writeWith(buf, data, places)
+}

@@ -1,0 +1,61 @@
+package rtpwire
+
+// Layers says which simulcast streams and layers a sender of video keeps active (video-layers-allocation00).
+type Layers struct {
+	streams [4]Stream
+	count   uint8
+	current uint8
+}
+
+// A Stream is a simulcast stream of a Layers.
+type Stream struct {
+	layers [4]Layer
+	count  uint8
+}
+
+// A Layer is a spatial layer of a Stream.
+type Layer struct {
+	kbps          [4]uint64
+	width, height uint16
+	framerate     uint8
+	hasResolution bool
+	rates         uint8
+}
+
+// A Resolution is that of a Layer, and its frame rate.
+type Resolution struct {
+	Width, Height uint16 // in pixels, 1 to 65,535
+	Framerate     uint8  // the highest, in frames per second
+}
+
+// Parse reads the layer allocation of the packet that the datagram is, where it has one ([Values.HasLayers]); else
+// there is no stream. It returns an error as [Packet.Parse], and nothing changes then.
+func (l *Layers) Parse(datagram []byte, m *Map) error {
+	return l.parse(datagram, m)
+}
+
+// Current is which of the streams the packet is of, from 0.
+func (l *Layers) Current() int {
+	return int(l.current)
+}
+
+// Streams is the streams, at most 4: none where nothing is sent.
+func (l *Layers) Streams() []Stream {
+	return l.streams[:l.count]
+}
+
+// Layers is the spatial layers by rising resolution, at most 4.
+func (s *Stream) Layers() []Layer {
+	return s.layers[:s.count]
+}
+
+// Kbps is the rate of each temporal layer with those below it, in kilobits per second, at most 4: none where the
+// layer isn't active.
+func (l *Layer) Kbps() []uint64 {
+	return l.kbps[:l.rates]
+}
+
+// Resolution is the resolution, where the sender tells it.
+func (l *Layer) Resolution() (resolution Resolution, ok bool) {
+	return Resolution{l.width, l.height, l.framerate}, l.hasResolution
+}

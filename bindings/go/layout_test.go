@@ -1,0 +1,126 @@
+package rtpwire
+
+import (
+	"testing"
+	"unsafe"
+)
+
+// Where the fields lie that C reads and writes, as the sizes in rtp_wire.h and the order of its fields have it on a
+// machine of 64 bits.
+func TestStructsLieAsThoseOfC(t *testing.T) {
+	var (
+		p  parts
+		f  Fields
+		e  Place
+		r  Receiver
+		v  Values
+		h  Header
+		la Layer
+		s  Stream
+		l  Layers
+	)
+	rows := []struct {
+		name        string
+		got, wanted uintptr
+	}{
+		{"packet", unsafe.Sizeof(p), 56},
+		{"packet.payload_len", unsafe.Offsetof(p.payloadLen), 8},
+		{"packet.unpadded_len", unsafe.Offsetof(p.unpaddedLen), 16},
+		{"packet.body_at", unsafe.Offsetof(p.bodyAt), 24},
+		{"packet.body_len", unsafe.Offsetof(p.bodyLen), 32},
+		{"packet.timestamp", unsafe.Offsetof(p.timestamp), 40},
+		{"packet.ssrc", unsafe.Offsetof(p.ssrc), 44},
+		{"packet.sequence_number", unsafe.Offsetof(p.sequenceNumber), 48},
+		{"packet.payload_type", unsafe.Offsetof(p.payloadType), 50},
+		{"packet.csrc_count", unsafe.Offsetof(p.csrcCount), 51},
+		{"packet.marker", unsafe.Offsetof(p.marker), 52},
+		{"packet.has_padding", unsafe.Offsetof(p.hasPadding), 53},
+		{"packet.padding_fits", unsafe.Offsetof(p.paddingFits), 54},
+		{"packet.block_form", unsafe.Offsetof(p.form), 55},
+		{"fields", unsafe.Sizeof(f), 20},
+		{"fields.ssrc", unsafe.Offsetof(f.ssrc), 4},
+		{"fields.sequence_number", unsafe.Offsetof(f.sequenceNumber), 8},
+		{"fields.payload_type", unsafe.Offsetof(f.payloadType), 10},
+		{"fields.marker", unsafe.Offsetof(f.marker), 11},
+		{"fields.has_timestamp", unsafe.Offsetof(f.hasTimestamp), 12},
+		{"fields.has_ssrc", unsafe.Offsetof(f.hasSSRC), 13},
+		{"fields.has_sequence_number", unsafe.Offsetof(f.hasSequenceNumber), 14},
+		{"fields.has_payload_type", unsafe.Offsetof(f.hasPayloadType), 15},
+		{"fields.has_marker", unsafe.Offsetof(f.hasMarker), 16},
+		{"element", unsafe.Sizeof(e), 32},
+		{"element.data_len", unsafe.Offsetof(e.Len), 8},
+		{"element.end", unsafe.Offsetof(e.end), 16},
+		{"element.id", unsafe.Offsetof(e.ID), 24},
+		{"receiver", unsafe.Sizeof(r), 32},
+		{"receiver.recorded_low", unsafe.Offsetof(r.recordedLow), 8},
+		{"receiver.recorded_high", unsafe.Offsetof(r.recordedHigh), 16},
+		{"receiver.started", unsafe.Offsetof(r.started), 24},
+		{"header", unsafe.Sizeof(h), 224},
+		{"header.timestamp", unsafe.Offsetof(h.Timestamp), 8},
+		{"header.ssrc", unsafe.Offsetof(h.SSRC), 12},
+		{"header.csrc", unsafe.Offsetof(h.csrc), 16},
+		{"header.sequence_number", unsafe.Offsetof(h.SequenceNumber), 76},
+		{"header.payload_type", unsafe.Offsetof(h.PayloadType), 78},
+		{"header.csrc_count", unsafe.Offsetof(h.csrcCount), 79},
+		{"header.marker", unsafe.Offsetof(h.Marker), 80},
+		{"header.has_padding", unsafe.Offsetof(h.HasPadding), 81},
+		{"header.has_extension", unsafe.Offsetof(h.HasExtension), 82},
+		{"header.values", unsafe.Offsetof(h.Values), 88},
+		{"values", unsafe.Sizeof(v), 136},
+		{"values.capture_time", unsafe.Offsetof(v.captureTime), 8},
+		{"values.capture_offset", unsafe.Offsetof(v.captureOffset), 16},
+		{"values.playout_delay_min", unsafe.Offsetof(v.playoutMin), 24},
+		{"values.playout_delay_max", unsafe.Offsetof(v.playoutMax), 40},
+		{"time.hertz", unsafe.Offsetof(v.playoutMax.hertz), 8},
+		{"values.transmission_offset", unsafe.Offsetof(v.transmissionOffset), 56},
+		{"values.frame_marking", unsafe.Offsetof(v.frameMarking), 60},
+		{"values.transport_number", unsafe.Offsetof(v.transportNumber), 64},
+		{"values.video_orientation", unsafe.Offsetof(v.videoOrientation), 66},
+		{"values.encode_start", unsafe.Offsetof(v.videoTiming), 68},
+		{"values.encode_finish", unsafe.Offsetof(v.videoTiming) + unsafe.Offsetof(v.videoTiming.encodeFinish), 70},
+		{"values.packetize_complete", unsafe.Offsetof(v.videoTiming) + unsafe.Offsetof(v.videoTiming.packetizeComplete), 72},
+		{"values.last_left_pacer", unsafe.Offsetof(v.videoTiming) + unsafe.Offsetof(v.videoTiming.lastLeftPacer), 74},
+		{"values.timing_flags", unsafe.Offsetof(v.timingFlags), 76},
+		{"values.video_content_type", unsafe.Offsetof(v.videoContentType), 77},
+		{"values.audio_level", unsafe.Offsetof(v.audioLevel), 78},
+		{"values.voice_activity", unsafe.Offsetof(v.voiceActivity), 79},
+		{"values.mid", unsafe.Offsetof(v.mid), 80},
+		{"values.rid", unsafe.Offsetof(v.rid), 97},
+		{"values.repaired_rid", unsafe.Offsetof(v.repairedRID), 106},
+		{"values.has_send_time", unsafe.Offsetof(v.hasSendTime), 115},
+		{"values.has_capture_time", unsafe.Offsetof(v.hasCaptureTime), 116},
+		{"values.has_capture_offset", unsafe.Offsetof(v.hasCaptureOffset), 117},
+		{"values.has_transmission_offset", unsafe.Offsetof(v.hasTransmissionOffset), 118},
+		{"values.has_frame_marking", unsafe.Offsetof(v.hasFrameMarking), 119},
+		{"values.has_transport_number", unsafe.Offsetof(v.hasTransportNumber), 120},
+		{"values.has_video_orientation", unsafe.Offsetof(v.hasVideoOrientation), 121},
+		{"values.has_video_content_type", unsafe.Offsetof(v.hasVideoContentType), 122},
+		{"values.has_audio_level", unsafe.Offsetof(v.hasAudioLevel), 123},
+		{"values.has_voice_activity", unsafe.Offsetof(v.hasVoiceActivity), 124},
+		{"values.has_playout_delay_min", unsafe.Offsetof(v.hasPlayoutMin), 125},
+		{"values.has_playout_delay_max", unsafe.Offsetof(v.hasPlayoutMax), 126},
+		{"values.has_video_timing", unsafe.Offsetof(v.hasVideoTiming), 127},
+		{"values.has_mid", unsafe.Offsetof(v.hasMID), 128},
+		{"values.has_rid", unsafe.Offsetof(v.hasRID), 129},
+		{"values.has_repaired_rid", unsafe.Offsetof(v.hasRepairedRID), 130},
+		{"values.has_layers", unsafe.Offsetof(v.hasLayers), 131},
+		{"layer", unsafe.Sizeof(la), 40},
+		{"layer.width", unsafe.Offsetof(la.width), 32},
+		{"layer.height", unsafe.Offsetof(la.height), 34},
+		{"layer.framerate", unsafe.Offsetof(la.framerate), 36},
+		{"layer.has_resolution", unsafe.Offsetof(la.hasResolution), 37},
+		{"layer.rates", unsafe.Offsetof(la.rates), 38},
+		{"stream", unsafe.Sizeof(s), 168},
+		{"stream.count", unsafe.Offsetof(s.count), 160},
+		{"layers", unsafe.Sizeof(l), 680},
+		{"layers.count", unsafe.Offsetof(l.count), 672},
+		{"layers.current", unsafe.Offsetof(l.current), 673},
+		{"map", unsafe.Sizeof(Map{}), 256},
+		{"new_ids", unsafe.Sizeof(NewIDs{}), 256},
+	}
+	for _, row := range rows {
+		if row.got != row.wanted {
+			t.Errorf("%s: %d, wanted %d", row.name, row.got, row.wanted)
+		}
+	}
+}

@@ -1,0 +1,209 @@
+package rtpwire
+
+// This file has all calls of the library, and all that is unsafe: structs of Go that lie in memory as those of
+// rtp_wire.h, which layout_test.go tests, are given to it by their addresses. None of them holds a pointer of Go,
+// the library keeps none, and an empty slice is given as NULL.
+
+// #include "calls.h"
+import "C"
+import "unsafe"
+
+// first is where the bytes lie.
+func first(bytes []byte) *C.uint8_t {
+	if len(bytes) == 0 {
+		return nil
+	}
+	return (*C.uint8_t)(unsafe.Pointer(&bytes[0]))
+}
+
+func size(bytes []byte) C.size_t {
+	return C.size_t(len(bytes))
+}
+
+func firstPlace(places []Place) *C.rtpw_element {
+	if len(places) == 0 {
+		return nil
+	}
+	return (*C.rtpw_element)(unsafe.Pointer(&places[0]))
+}
+
+// noKinds is the map in which no id means anything.
+var noKinds Map
+
+func (m *Map) c() *C.rtpw_map {
+	if m == nil {
+		m = &noKinds
+	}
+	return (*C.rtpw_map)(unsafe.Pointer(m))
+}
+
+func (h *Header) c() *C.rtpw_header {
+	return (*C.rtpw_header)(unsafe.Pointer(&h.headerLen))
+}
+
+func (p *parts) c() *C.rtpw_packet {
+	return (*C.rtpw_packet)(unsafe.Pointer(p))
+}
+
+func (r *Receiver) c() *C.rtpw_receiver {
+	return (*C.rtpw_receiver)(unsafe.Pointer(&r.highest))
+}
+
+func numberOr(it C.call_number) (uint64, error) {
+	return uint64(it.number), errorOf(int32(it.status))
+}
+
+func lenOr(it C.call_len) (int, error) {
+	return int(it.len), errorOf(int32(it.status))
+}
+
+func (p *Packet) parse(datagram []byte, m *Map) error {
+	return errorOf(int32(C.call_parse(first(datagram), size(datagram), m.c(), p.Header.c(), p.parts.c())))
+}
+
+func (r *Receiver) receive(sequenceNumber uint16) (uint64, error) {
+	return numberOr(C.call_receive(r.c(), C.uint16_t(sequenceNumber)))
+}
+
+func (r *Receiver) receivePacket(datagram []byte, m *Map, p *Packet) (uint64, error) {
+	it := C.call_receive_packet(r.c(), first(datagram), size(datagram), m.c(), p.Header.c(), p.parts.c())
+	return numberOr(it)
+}
+
+func (r *Receiver) checkPacket(datagram []byte, m *Map, p *Packet) (uint64, error) {
+	it := C.call_check_packet(r.c(), first(datagram), size(datagram), m.c(), p.Header.c(), p.parts.c())
+	return numberOr(it)
+}
+
+func (r *Receiver) start(rolloverCount uint64) error {
+	return errorOf(int32(C.rtpw_receiver_start(r.c(), C.uint64_t(rolloverCount))))
+}
+
+func (r *Receiver) numberOf(sequenceNumber uint16) uint64 {
+	return uint64(C.rtpw_receiver_number_of(r.c(), C.uint16_t(sequenceNumber)))
+}
+
+func (r *Receiver) accepts(number uint64) bool {
+	return bool(C.rtpw_receiver_accepts(r.c(), C.uint64_t(number)))
+}
+
+func (r *Receiver) record(number uint64) {
+	C.rtpw_receiver_record(r.c(), C.uint64_t(number))
+}
+
+func extend8(previous uint64, number uint8) uint64 {
+	return uint64(C.rtpw_extend_u8(C.uint64_t(previous), C.uint8_t(number)))
+}
+
+func extend15(previous uint64, number uint16) uint64 {
+	return uint64(C.rtpw_extend_u15(C.uint64_t(previous), C.uint16_t(number)))
+}
+
+func extend16(previous uint64, number uint16) uint64 {
+	return uint64(C.rtpw_extend_u16(C.uint64_t(previous), C.uint16_t(number)))
+}
+
+func extend32(previous uint64, number uint32) uint64 {
+	return uint64(C.rtpw_extend_u32(C.uint64_t(previous), C.uint32_t(number)))
+}
+
+func isRTCP(datagram []byte) bool {
+	return bool(C.rtpw_is_rtcp(first(datagram), size(datagram)))
+}
+
+func (l *Layers) parse(datagram []byte, m *Map) error {
+	layers := (*C.rtpw_layers)(unsafe.Pointer(&l.streams))
+	return errorOf(int32(C.call_parse_layers(first(datagram), size(datagram), m.c(), layers)))
+}
+
+// lastElement is the place of the last element of the id.
+func lastElement(body []byte, form Form, id uint8) (Place, error) {
+	it := C.call_last_element(first(body), size(body), C.uint8_t(form), C.uint8_t(id))
+	return *(*Place)(unsafe.Pointer(&it.element)), errorOf(int32(it.status))
+}
+
+// nextPlaces writes the places of the elements from an offset on, as many as there is room for, and says how many.
+func nextPlaces(body []byte, form Form, at int, room []Place) int {
+	count := C.call_next_elements(first(body), size(body), C.uint8_t(form), C.size_t(at), firstPlace(room), C.size_t(len(room)))
+	return int(count)
+}
+
+func kindOfURI(uri []byte) Kind {
+	return Kind(C.rtpw_kind_of_uri(first(uri), size(uri)))
+}
+
+func (m *Map) set(id uint8, kind Kind) error {
+	return errorOf(int32(C.rtpw_map_set((*C.rtpw_map)(unsafe.Pointer(&m.kinds)), C.uint8_t(id), C.uint8_t(kind))))
+}
+
+func (m *Map) standard() {
+	C.rtpw_map_standard((*C.rtpw_map)(unsafe.Pointer(&m.kinds)))
+}
+
+func (h *Header) wireLen(m *Map) (int, error) {
+	return lenOr(C.call_wire_len(m.c(), h.c()))
+}
+
+func (h *Header) write(buf []byte, m *Map) (int, error) {
+	return lenOr(C.call_write(m.c(), h.c(), first(buf), size(buf)))
+}
+
+func (h *Header) writeWith(buf, data []byte, places []Place) (int, error) {
+	count := C.size_t(len(places))
+	return lenOr(C.call_write_with(h.c(), first(data), size(data), firstPlace(places), count, first(buf), size(buf)))
+}
+
+func writeElements(buf []byte, form Form, data []byte, places []Place) (int, error) {
+	count := C.size_t(len(places))
+	it := C.call_write_elements(first(data), size(data), firstPlace(places), count, C.uint8_t(form), first(buf), size(buf))
+	return lenOr(it)
+}
+
+func setFields(datagram []byte, fields *Fields) error {
+	return errorOf(int32(C.call_set_fields(first(datagram), size(datagram), *(*C.rtpw_fields)(unsafe.Pointer(fields)))))
+}
+
+func setCSRC(datagram []byte, index int, source uint32) error {
+	return errorOf(int32(C.rtpw_set_csrc(first(datagram), size(datagram), C.size_t(index), C.uint32_t(source))))
+}
+
+func setElement(datagram []byte, id uint8, data []byte) error {
+	return errorOf(int32(C.rtpw_set_element(first(datagram), size(datagram), C.uint8_t(id), first(data), size(data))))
+}
+
+func removeElement(datagram []byte, id uint8) error {
+	return errorOf(int32(C.rtpw_remove_element(first(datagram), size(datagram), C.uint8_t(id))))
+}
+
+func setPadding(datagram []byte, hasPadding bool) error {
+	return errorOf(int32(C.rtpw_set_padding(first(datagram), size(datagram), C.bool(hasPadding))))
+}
+
+func removePadding(datagram []byte) (int, error) {
+	return lenOr(C.call_remove_padding(first(datagram), size(datagram)))
+}
+
+func (n *NewIDs) between(from, to *Map) {
+	C.rtpw_new_ids_between(from.c(), to.c(), (*C.rtpw_new_ids)(unsafe.Pointer(&n.ids)))
+}
+
+func renumber(datagram []byte, n *NewIDs) error {
+	return errorOf(int32(C.rtpw_renumber(first(datagram), size(datagram), (*C.rtpw_new_ids)(unsafe.Pointer(&n.ids)))))
+}
+
+func pad(datagram []byte, headerLen int, padLen uint8, blockSize int) (int, error) {
+	it := C.call_pad(first(datagram), size(datagram), C.size_t(headerLen), C.uint8_t(padLen), C.size_t(blockSize))
+	return lenOr(it)
+}
+
+func readOriginal(payload []byte) (uint64, error) {
+	return numberOr(C.call_read_original(first(payload), size(payload)))
+}
+
+func writeOriginal(payload []byte, number uint64) error {
+	return errorOf(int32(C.rtpw_write_original(first(payload), size(payload), C.uint64_t(number))))
+}
+
+func libraryVersion() uint32 {
+	return uint32(C.rtpw_version())
+}

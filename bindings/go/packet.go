@@ -1,0 +1,81 @@
+package rtpwire
+
+// A Packet is a packet in the bytes of its datagram, of which nothing is copied but the header: its fields and
+// values are those of the Header, and its methods lend parts of the datagram. Use one again for the next packet:
+// what it lent stays as it is.
+type Packet struct {
+	Header
+	parts    parts
+	datagram []byte
+}
+
+// parts is where the parts of a packet lie: rtpw_packet in C.
+type parts struct {
+	payloadAt, payloadLen, unpaddedLen int
+	bodyAt, bodyLen                    int
+	timestamp, ssrc                    uint32
+	sequenceNumber                     uint16
+	payloadType, csrcCount             uint8
+	marker, hasPadding, paddingFits    bool
+	form                               Form
+}
+
+// Parse reads the packet that the datagram is, in one call of the library: the fields, the values of its block under
+// the map, and where its parts lie. On a port that RTP and RTCP share [IsRTCP] comes first.
+//
+// It returns the first Cause for which the datagram is no packet; or ErrNoMemory, which only a layer allocation takes
+// ([KindLayers]). Nothing changes then.
+func (p *Packet) Parse(datagram []byte, m *Map) error {
+	err := p.parse(datagram, m)
+	if err == nil {
+		p.datagram = datagram
+	}
+	return err
+}
+
+// Datagram is the whole datagram.
+func (p *Packet) Datagram() []byte {
+	return p.datagram
+}
+
+// HeaderLen is how many bytes the header takes: 12 to 262,216.
+func (p *Packet) HeaderLen() int {
+	return p.parts.payloadAt
+}
+
+// Payload is the payload with any padding.
+func (p *Packet) Payload() []byte {
+	return p.datagram[p.parts.payloadAt:]
+}
+
+// UnpaddedPayload is the payload without its padding. It is not ok where the padding's last byte counts more bytes
+// than the payload has: drop the packet. Of SRTP the padding is encrypted: decrypt first.
+func (p *Packet) UnpaddedPayload() (payload []byte, ok bool) {
+	if !p.parts.paddingFits {
+		return nil, false
+	}
+	return p.Payload()[:p.parts.unpaddedLen], true
+}
+
+// Block is the form and the body of the extension block, after the four bytes of its header. Where there is none (X is
+// clear) the form is NoBlock.
+func (p *Packet) Block() (Form, []byte) {
+	return p.parts.form, p.datagram[p.parts.bodyAt:p.parts.payloadAt]
+}
+
+// PeekSSRC is where a packet has its SSRC, to find the Receiver of a datagram before [Receiver.ReceivePacket] reads
+// it. It is not ok of fewer than twelve bytes, and says nothing else of the datagram.
+func PeekSSRC(datagram []byte) (ssrc uint32, ok bool) {
+	if len(datagram) < 12 {
+		return 0, false
+	}
+	b := datagram[8:12]
+	return uint32(b[0])<<24 | uint32(b[1])<<16 | uint32(b[2])<<8 | uint32(b[3]), true
+}
+
+// IsRTCP is whether a datagram on a port that RTP and RTCP share is RTCP (RFC 5761, 4): it has version 2, and its
+// second byte, the RTCP packet type, is 192 to 223. It comes before [Packet.Parse], which would take a receiver
+// report for RTP: as RTP that byte is M and a payload type of 64 to 95, which a stream on such a port must not have.
+func IsRTCP(datagram []byte) bool {
+	return isRTCP(datagram)
+}

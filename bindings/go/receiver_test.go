@@ -1,0 +1,117 @@
+package rtpwire_test
+
+import (
+	"errors"
+	"testing"
+
+	"rtpwire"
+)
+
+func TestReceiver(t *testing.T) {
+	var r rtpwire.Receiver
+	if _, ok := r.Highest(); ok {
+		t.Error("a number was taken")
+	}
+	rows := []struct {
+		low    uint16
+		number uint64
+		ok     bool
+	}{
+		{65535, 65535, true},
+		{0, 65536, true}, // a rollover
+		{65535, 0, false},
+		{200, 65736, true},
+		{72, 0, false}, // 128 below the highest
+		{73, 65609, true},
+		{73, 0, false},
+	}
+	for _, row := range rows {
+		before := r
+		number, ok := r.Receive(row.low)
+		same(t, "verdict", []any{number, ok}, []any{row.number, row.ok})
+		if !row.ok {
+			same(t, "the receiver", r, before)
+		}
+	}
+	highest, ok := r.Highest()
+	same(t, "highest", []any{highest, ok}, []any{uint64(65736), true})
+}
+
+func TestRolloverCounts(t *testing.T) {
+	r, err := rtpwire.NewReceiver(1)
+	if err != nil {
+		t.Fatal(err)
+	}
+	// one from before the first
+	for _, row := range [][2]uint64{{5, 65541}, {65533, 65533}, {6, 65542}} {
+		number, ok := r.Receive(uint16(row[0]))
+		same(t, "number", []any{number, ok}, []any{row[1], true})
+	}
+	if _, err := rtpwire.NewReceiver(1<<48 - 1); err != nil {
+		t.Error(err)
+	}
+	if r, err := rtpwire.NewReceiver(1 << 48); err != rtpwire.ErrBadField || r != nil {
+		t.Error(r, err)
+	}
+}
+
+func TestThreeSteps(t *testing.T) {
+	var r rtpwire.Receiver
+	r.Record(r.NumberOf(100))
+	before := r
+	same(t, "number", r.NumberOf(99), uint64(99))
+	same(t, "accepted", []bool{r.Accepts(99), r.Accepts(100), r.Accepts(101)}, []bool{true, false, true})
+	same(t, "the receiver", r, before)
+	r.Record(99)
+	same(t, "accepted", r.Accepts(99), false)
+}
+
+func TestPacketsAreReceived(t *testing.T) {
+	r, err := rtpwire.NewReceiver(1)
+	if err != nil {
+		t.Fatal(err)
+	}
+	var packet rtpwire.Packet
+	m := rtpwire.StandardMap()
+	datagram := []byte{0x90, 96, 0, 5, 0, 0, 0, 1, 0, 0, 0, 7, 0xBE, 0xDE, 0, 1, 0x10, 0x8A, 0, 0, 'h', 'i'}
+
+	// It isn't recorded by a test.
+	for range [2]int{} {
+		number, err := r.CheckPacket(datagram, m, &packet)
+		same(t, "checked", []any{number, err}, []any{uint64(65541), nil})
+	}
+	number, err := r.ReceivePacket(datagram, m, &packet)
+	same(t, "received", []any{number, err}, []any{uint64(65541), nil})
+	level, voice, ok := packet.Values.AudioLevel()
+	same(t, "level", []any{level, voice, ok, string(packet.Payload())}, []any{int8(-10), true, true, "hi"})
+
+	// A replay is read, and changes nothing of the receiver.
+	before := *r
+	replay := append([]byte(nil), datagram...)
+	replay[21] = 'o'
+	_, err = r.ReceivePacket(replay, m, &packet)
+	same(t, "a replay", []any{err, string(packet.Payload()), *r}, []any{rtpwire.ErrRefused, "ho", before})
+	number, err = r.CheckPacket(datagram, m, &packet)
+	same(t, "a replay", []any{number, err, string(packet.Payload()), *r}, []any{uint64(65541), rtpwire.ErrRefused, "hi", before})
+
+	// What is no packet changes neither.
+	read := packet
+	for _, call := range []func([]byte, *rtpwire.Map, *rtpwire.Packet) (uint64, error){r.ReceivePacket, r.CheckPacket} {
+		_, err = call(datagram[:19], m, &packet)
+		if !errors.Is(err, rtpwire.CutBlock) {
+			t.Error(err)
+		}
+		same(t, "both", []any{packet, *r}, []any{read, before})
+	}
+	r.Record(65542)
+	datagram[3] = 6
+	_, err = r.ReceivePacket(datagram, m, &packet)
+	same(t, "one that was recorded", err, rtpwire.ErrRefused)
+}
+
+func TestExtend(t *testing.T) {
+	same(t, "8 bits", []uint64{rtpwire.Extend8(255, 0), rtpwire.Extend8(256, 255)}, []uint64{256, 255})
+	same(t, "15 bits", []uint64{rtpwire.Extend15(32767, 0), rtpwire.Extend15(32767, 0x8000)}, []uint64{32768, 32768})
+	same(t, "16 bits", []uint64{rtpwire.Extend16(65530, 4), rtpwire.Extend16(65536, 65535)}, []uint64{65540, 65535})
+	same(t, "32 bits", rtpwire.Extend32(1<<32-1, 0), uint64(1<<32))
+}

@@ -1,0 +1,530 @@
+/*
+ * rtp_wire.h: RTP packets where they lie in memory (RFC 3550, 5.1; RFC 8285).
+ *
+ * The functions are those of the library rtp-wire, each proved: what is said here of results and
+ * outputs holds for every input. Only rtpw_status_text is written in C, and tested.
+ *
+ *     if (rtpw_is_rtcp(datagram, len)) { // on a port that RTP and RTCP share
+ *         return control(datagram, len);
+ *     }
+ *     rtpw_packet packet;
+ *     int32_t status = rtpw_packet_parse(datagram, len, &packet);
+ *     if (status != RTPW_OK) {
+ *         return drop(status);
+ *     }
+ *     deliver(packet.ssrc, packet.timestamp, datagram + packet.payload_at, packet.unpadded_len);
+ *
+ * Each function may be called with any values, and returns. It keeps no pointer, has no state of its
+ * own and takes no memory but where it says so. Calls on several threads at once are safe as long as
+ * nothing that one of them writes is read or written by another.
+ *
+ * The caller owes what C asks anyway:
+ *   - a pointer is to as much memory as is said, and aligned for its type: NULL may stand only where the
+ *     size or the count after it is 0 (that this is as a buffer of no bytes is tested, not proved);
+ *   - what is written overlaps nothing else that is passed.
+ *
+ * A buffer is a pointer and then its size in bytes. Numbers are in the byte order of the machine:
+ * what stands in a packet in network byte order is turned. Outputs are written whole where the
+ * status is RTPW_OK, and else not at all.
+ *
+ * Where a call has several faults, the status is that of the first of these:
+ *   1. an argument is out of its range whatever the buffers hold: RTPW_BAD_FIELD;
+ *   2. the buffer holds no packet: the first of the causes 1 to 6;
+ *   3. memory is refused: RTPW_NO_MEMORY;
+ *   4. what is named isn't there, or the packet or an element doesn't allow it: RTPW_NONE, or RTPW_BAD_FIELD;
+ *   5. there is no room: RTPW_SHORT_BUFFER.
+ */
+#ifndef RTPW_H
+#define RTPW_H
+
+#include <stdbool.h>
+#include <stddef.h>
+#include <stdint.h>
+
+#ifdef __cplusplus
+extern "C" {
+#endif
+
+/* Before a function whose status has to be looked at; empty where the compiler has no word for that. */
+#if defined(__cplusplus) && __cplusplus >= 201703L
+#define RTPW_CHECKED [[nodiscard]]
+#elif defined(__STDC_VERSION__) && __STDC_VERSION__ >= 202311L
+#define RTPW_CHECKED [[nodiscard]]
+#elif defined(__GNUC__)
+#define RTPW_CHECKED __attribute__((warn_unused_result))
+#else
+#define RTPW_CHECKED
+#endif
+
+#define RTPW_VERSION "0.1.0"
+
+/* The version of the library that is linked: 65,536 times its major number, 256 times the minor one,
+ * and the patch. That of this header file is 256. */
+uint32_t rtpw_version(void);
+
+/* ---- Statuses ---- */
+
+/* What a function returns as an int32_t. Those from 1 to 6 are the causes for which bytes are no RTP
+ * packet, in the order in which they are looked for: the first that applies is returned. */
+enum {
+    RTPW_OK = 0,               /* the call did what it is for */
+    RTPW_CUT_FIXED_PART = 1,   /* fewer than the twelve bytes that every header has */
+    RTPW_OTHER_VERSION = 2,    /* another version than 2 */
+    RTPW_CUT_SOURCES = 3,      /* the CSRC list is cut short */
+    RTPW_CUT_BLOCK_HEADER = 4, /* X is set, and the first four bytes of the block are cut short */
+    RTPW_UNKNOWN_FORM = 5,     /* the block's form is neither 0xBEDE nor 0x1000 to 0x100F */
+    RTPW_CUT_BLOCK = 6,        /* the block is longer than what is left */
+    RTPW_NO_MEMORY = 7,        /* memory was refused */
+    RTPW_SHORT_BUFFER = 8,     /* a buffer is too short */
+    RTPW_BAD_FIELD = 9,        /* an argument is out of its range */
+    RTPW_REFUSED = 10,         /* a replay, or too old to tell */
+    RTPW_NONE = 11             /* there is no such element */
+};
+
+/* What a status says, in words. */
+static inline const char *rtpw_status_text(int32_t status) {
+    switch (status) {
+    case RTPW_OK: return "done";
+    case RTPW_CUT_FIXED_PART: return "fewer than twelve bytes";
+    case RTPW_OTHER_VERSION: return "another version than 2";
+    case RTPW_CUT_SOURCES: return "the CSRC list is cut short";
+    case RTPW_CUT_BLOCK_HEADER: return "the header of the extension block is cut short";
+    case RTPW_UNKNOWN_FORM: return "a header extension of an unknown form";
+    case RTPW_CUT_BLOCK: return "the extension block is cut short";
+    case RTPW_NO_MEMORY: return "memory was refused";
+    case RTPW_SHORT_BUFFER: return "a buffer is too short";
+    case RTPW_BAD_FIELD: return "an argument is out of its range";
+    case RTPW_REFUSED: return "a replay, or too old to tell";
+    case RTPW_NONE: return "no such element";
+    default: return "no status of this library";
+    }
+}
+
+/* ---- A packet where it lies ---- */
+
+enum {
+    RTPW_NO_BLOCK = 0,      /* X is clear */
+    RTPW_ONE_BYTE_FORM = 1, /* 0xBEDE */
+    RTPW_TWO_BYTE_FORM = 2  /* 0x1000 to 0x100F */
+};
+
+/* Where the CSRC list begins in each packet: four bytes for each source, the high one first. */
+#define RTPW_CSRC_AT 12
+
+/* What the header says, and where the parts of the packet lie, in bytes from the packet's first one.
+ * 56 bytes. */
+typedef struct {
+    size_t payload_at;        /* where the payload begins: the length of the header, 12 to 262,216 */
+    size_t payload_len;       /* of the payload with any padding: payload_at + payload_len is the packet's length */
+    size_t unpadded_len;      /* of the payload without its padding (with SRTP decrypt first); 0 where padding_fits is 0 */
+    size_t body_at;           /* where the body of the extension block begins, after the four bytes of its header; without one payload_at */
+    size_t body_len;          /* of the body, which ends where the payload begins; 0 without a block */
+    uint32_t timestamp;       /* in ticks of the payload's clock */
+    uint32_t ssrc;            /* the stream's source */
+    uint16_t sequence_number; /* the low 16 bits of the packet's number */
+    uint8_t payload_type;     /* 0 to 127 */
+    uint8_t csrc_count;       /* 0 to 15 */
+    uint8_t marker;           /* M: 0 or 1 */
+    uint8_t has_padding;      /* P: 0 or 1 */
+    uint8_t padding_fits;     /* 0 where P is set and the payload's last byte counts more bytes than there are, and else 1: a
+                               * last byte of 0 takes nothing away, and neither does P of an empty payload */
+    uint8_t block_form;       /* RTPW_ONE_BYTE_FORM or RTPW_TWO_BYTE_FORM; RTPW_NO_BLOCK where X is clear */
+} rtpw_packet;
+
+/* Whether a datagram on a port that RTP and RTCP share is RTCP (RFC 5761, 4): it has version 2, and its
+ * second byte, the RTCP packet type, is 192 to 223. It comes before rtpw_packet_parse and rtpw_parse, which
+ * would take a receiver report for RTP: as RTP that byte is M and a payload type of 64 to 95, which a stream
+ * on such a port must not have. False of fewer than two bytes. */
+bool rtpw_is_rtcp(const uint8_t *datagram, size_t len);
+
+/* Reads the header of the packet in the buffer. RTPW_OK, or the first cause for which it holds none. */
+RTPW_CHECKED int32_t rtpw_packet_parse(const uint8_t *datagram, size_t len, rtpw_packet *packet);
+
+/* ---- A packet, changed where it lies ---- */
+
+/* Each changes the part of the packet in the buffer that it names, and no other byte. RTPW_OK, or the
+ * first cause for which the buffer holds no packet; rtpw_set_payload_type and rtpw_set_fields also
+ * RTPW_BAD_FIELD, before all else, where the payload type is above 127. Where it isn't RTPW_OK nothing changes.
+ *
+ * The header alone is enough for each of them (rtpw_remove_padding aside) and for rtpw_renumber: its
+ * payload_at bytes are a packet without a payload, and what they become is, with the payload behind it, what
+ * the whole packet would become. So a server copies and changes only the header for each receiver, and sends
+ * it before the one payload (writev). */
+RTPW_CHECKED int32_t rtpw_set_marker(uint8_t *datagram, size_t len, bool marker);
+RTPW_CHECKED int32_t rtpw_set_payload_type(uint8_t *datagram, size_t len, uint8_t payload_type);
+RTPW_CHECKED int32_t rtpw_set_sequence_number(uint8_t *datagram, size_t len, uint16_t number);
+RTPW_CHECKED int32_t rtpw_set_timestamp(uint8_t *datagram, size_t len, uint32_t timestamp);
+RTPW_CHECKED int32_t rtpw_set_ssrc(uint8_t *datagram, size_t len, uint32_t ssrc);
+
+/* Fields to be set together: each where its has_ isn't 0, and what stands beside one that is 0 isn't
+ * looked at. 20 bytes. */
+typedef struct {
+    uint32_t timestamp;
+    uint32_t ssrc;
+    uint16_t sequence_number;
+    uint8_t payload_type; /* 0 to 127 */
+    uint8_t marker;       /* M counts as set where it isn't 0 */
+    uint8_t has_timestamp;
+    uint8_t has_ssrc;
+    uint8_t has_sequence_number;
+    uint8_t has_payload_type;
+    uint8_t has_marker;
+} rtpw_fields;
+
+/* Sets all of them after one look at the packet. RTPW_BAD_FIELD where there is a payload
+ * type above 127.
+ *
+ *     rtpw_fields fields = {0};
+ *     fields.has_sequence_number = fields.has_ssrc = 1;
+ *     fields.sequence_number = route->next++;
+ *     fields.ssrc = route->ssrc;
+ *     int32_t status = rtpw_set_fields(datagram, len, &fields);
+ */
+RTPW_CHECKED int32_t rtpw_set_fields(uint8_t *datagram, size_t len, const rtpw_fields *fields);
+
+/* The contributing source at this place, counted from 0. RTPW_NONE where the list has no such place. */
+RTPW_CHECKED int32_t rtpw_set_csrc(uint8_t *datagram, size_t len, size_t index, uint32_t source);
+
+/* Gives the last element of this id these data. RTPW_NONE where the packet has no element of the id,
+ * or its last one has another number of bytes. */
+RTPW_CHECKED int32_t rtpw_set_element(uint8_t *datagram, size_t len, uint8_t id, const uint8_t *data, size_t data_len);
+/* Makes each element of this id padding. RTPW_NONE where the packet has none. */
+RTPW_CHECKED int32_t rtpw_remove_element(uint8_t *datagram, size_t len, uint8_t id);
+
+/* Sets or clears P, and no other bit: the padding is the caller's to write (rtpw_pad), or to keep. */
+RTPW_CHECKED int32_t rtpw_set_padding(uint8_t *datagram, size_t len, bool has_padding);
+/* Takes the padding off: clears P, and writes how many bytes the packet then has, which are its first ones;
+ * where P is clear, all of them. RTPW_BAD_FIELD where padding_fits is 0. With SRTP decrypt first. */
+RTPW_CHECKED int32_t rtpw_remove_padding(uint8_t *datagram, size_t len, size_t *new_len);
+
+/* ---- The elements of a block ---- */
+
+/* Where an element lies, in bytes from the first one of the block's body. 32 bytes. */
+typedef struct {
+    size_t data_at;  /* where its data begin */
+    size_t data_len; /* 0 to 255 */
+    size_t end;      /* where its data end */
+    uint8_t id;      /* 0 to 14 in the one-byte form, 1 to 255 in the two-byte form */
+} rtpw_element;
+
+/* The first element from an offset on. RTPW_OK; RTPW_NONE where reading ends before an element;
+ * RTPW_BAD_FIELD where the form is none of the two, or the offset is past the body's end.
+ *
+ *     const uint8_t *body = datagram + packet.body_at;
+ *     rtpw_element element = {0};
+ *     while (rtpw_next_element(body, packet.body_len, packet.block_form, element.end, &element) == RTPW_OK) {
+ *         look(element.id, body + element.data_at, element.data_len);
+ *     }
+ */
+RTPW_CHECKED int32_t rtpw_next_element(const uint8_t *body, size_t body_len, uint8_t form, size_t at,
+                                       rtpw_element *element);
+/* The last element of an id, which is the one that counts. RTPW_OK; RTPW_NONE where no element has the
+ * id; RTPW_BAD_FIELD where the form is none of the two. */
+RTPW_CHECKED int32_t rtpw_last_element(const uint8_t *body, size_t body_len, uint8_t form, uint8_t id,
+                                       rtpw_element *element);
+
+/* ---- The values of a block ---- */
+
+/* The kinds of extension, by numbers of this library. */
+enum {
+    RTPW_KIND_NONE = 0,
+    RTPW_KIND_ABS_SEND_TIME = 1,
+    RTPW_KIND_ABS_CAPTURE_TIME = 2,
+    RTPW_KIND_AUDIO_LEVEL = 3,
+    RTPW_KIND_TRANSMISSION_OFFSET = 4,
+    RTPW_KIND_VIDEO_ORIENTATION = 5,
+    RTPW_KIND_TRANSPORT_NUMBER = 6,
+    RTPW_KIND_PLAYOUT_DELAY = 7,
+    RTPW_KIND_VIDEO_CONTENT_TYPE = 8,
+    RTPW_KIND_VIDEO_TIMING = 9,
+    RTPW_KIND_RID = 10,
+    RTPW_KIND_REPAIRED_RID = 11,
+    RTPW_KIND_MID = 12,
+    RTPW_KIND_FRAME_MARKING = 13,
+    RTPW_KIND_COLOR_SPACE = 14,
+    RTPW_KIND_LAYERS = 15
+};
+
+/* kind[id] is the kind that the id means; another number than one of those above means none, and
+ * kind[0] isn't looked at. It may be filled by hand, copied, stored, and shared as static const:
+ *
+ *     rtpw_map map = {{0}};
+ *     map.kind[3] = RTPW_KIND_AUDIO_LEVEL;
+ *
+ * Or from the lines of an SDP, `a=extmap:ID URI` (RFC 8285, 5 and 6):
+ *
+ *     uint8_t kind = rtpw_kind_of_uri((const uint8_t *)uri, strlen(uri));
+ *     if (kind != RTPW_KIND_NONE && rtpw_map_set(&map, id, kind) != RTPW_OK) {
+ *         return refuse(id);
+ *     }
+ */
+typedef struct {
+    uint8_t kind[256];
+} rtpw_map;
+
+/* The kind whose URI these bytes are, letter for letter; RTPW_KIND_NONE where it is that of none. The
+ * URI is the bytes alone, without a zero behind them. */
+uint8_t rtpw_kind_of_uri(const uint8_t *uri, size_t len);
+/* The id means the kind from now on, or nothing with RTPW_KIND_NONE. RTPW_OK, or RTPW_BAD_FIELD where the
+ * id is 0 or the kind is none of those above; then nothing changes. */
+RTPW_CHECKED int32_t rtpw_map_set(rtpw_map *map, uint8_t id, uint8_t kind);
+/* The kind that the id means; RTPW_KIND_NONE where it means none. */
+uint8_t rtpw_map_get(const rtpw_map *map, uint8_t id);
+/* The map of the usual ids, whatever it was: 1 audio level, 2 send time, 3 transport number, 4 mid, 10
+ * rid, 11 repaired rid, 13 video orientation; RTPW_KIND_NONE at each other index, 0 too. */
+void rtpw_map_standard(rtpw_map *map);
+
+/* A time: ticks / hertz seconds. 16 bytes. */
+typedef struct {
+    uint64_t ticks;
+    uint32_t hertz; /* ticks of a second: 100 where the time was read */
+} rtpw_time;
+
+/* The values of a block's elements. Each has_ is 1 where the value is there; as read, one that is absent
+ * is 0. The texts are letters, digits and underscores, and a zero ends them. 136 bytes. */
+typedef struct {
+    uint64_t send_time;           /* microseconds, modulo 64 seconds */
+    uint64_t capture_time;        /* an NTP timestamp, 32.32 */
+    int64_t capture_offset;       /* the capturer's clock is ahead by these seconds, 32.32 */
+    rtpw_time playout_delay_min;   /* the receiver may hold the frame for so long at least */
+    rtpw_time playout_delay_max;   /* and for so long at most */
+    uint32_t transmission_offset; /* ticks of the stream's clock; an element of four bytes */
+    uint32_t frame_marking;       /* the first four bytes */
+    uint16_t transport_number;    /* over all streams of the transport */
+    uint16_t video_orientation;   /* degrees counter-clockwise: 0, 90, 180 or 270 */
+    uint16_t encode_start;        /* video timing, in milliseconds after the frame's capture: its encoding began, */
+    uint16_t encode_finish;       /* and ended, */
+    uint16_t packetize_complete;  /* its last packet was made, */
+    uint16_t last_left_pacer;     /* and left the pacer */
+    uint8_t timing_flags;         /* why these were sent: bit 0 a timer, bit 1 a large frame */
+    uint8_t video_content_type;   /* 0 unspecified, 1 a screen */
+    int8_t audio_level;           /* dB relative to the overload point, -127 to 0 */
+    uint8_t voice_activity;       /* 0 or 1 */
+    char mid[17];                 /* the media section, up to 16 characters (RFC 9143) */
+    char rid[9];                  /* the stream, up to 8 characters (RFC 8852) */
+    char repaired_rid[9];         /* the stream that this one repairs, up to 8 characters (RFC 8852) */
+    uint8_t has_send_time;
+    uint8_t has_capture_time;
+    uint8_t has_capture_offset;
+    uint8_t has_transmission_offset;
+    uint8_t has_frame_marking;
+    uint8_t has_transport_number;
+    uint8_t has_video_orientation;
+    uint8_t has_video_content_type;
+    uint8_t has_audio_level;
+    uint8_t has_voice_activity;
+    uint8_t has_playout_delay_min;
+    uint8_t has_playout_delay_max;
+    uint8_t has_video_timing; /* the four times and timing_flags */
+    uint8_t has_mid;
+    uint8_t has_rid;
+    uint8_t has_repaired_rid;
+    uint8_t has_layers; /* a layer allocation: rtpw_parse_layers tells it */
+} rtpw_values;
+
+/* The values that the elements of a body give under the map: for each kind those of the last element
+ * whose id means it and whose data are well-formed for it. RTPW_OK; RTPW_BAD_FIELD where the form is none
+ * of the two; RTPW_NO_MEMORY. Memory is taken for a layer allocation alone (RTPW_KIND_LAYERS mapped to the
+ * id of an element of two bytes or more), and given back before the call returns. */
+RTPW_CHECKED int32_t rtpw_values_read(const uint8_t *body, size_t body_len, uint8_t form, const rtpw_map *map,
+                                      rtpw_values *values);
+
+/* ---- A header, read and written ---- */
+
+/* The header of a packet, with the values of its block. 224 bytes. */
+typedef struct {
+    size_t header_len;        /* of the header that was read: the payload begins there; nothing is written of it */
+    uint32_t timestamp;       /* in ticks of the payload's clock */
+    uint32_t ssrc;            /* the stream's source */
+    uint32_t csrc[15];        /* the contributing sources, csrc_count of them; as read the others are 0 */
+    uint16_t sequence_number; /* the low 16 bits of the packet's number */
+    uint8_t payload_type;     /* 0 to 127 */
+    uint8_t csrc_count;       /* 0 to 15 */
+    uint8_t marker;           /* M: 0 or 1 */
+    uint8_t has_padding;      /* P: 0 or 1 */
+    uint8_t has_extension;    /* X: 0 or 1, whether there is a block */
+    rtpw_values values;        /* of the block: none where there is none */
+} rtpw_header;
+
+/* Reads the header that the bytes begin with, and the values of its block under the map: in one call
+ * what rtpw_packet_parse and rtpw_values_read tell, and on a port with RTCP after rtpw_is_rtcp. Nothing
+ * after the header is looked at. RTPW_OK; the first cause for which there is none; or RTPW_NO_MEMORY, as
+ * rtpw_values_read.
+ *
+ *     rtpw_header header;
+ *     if (rtpw_parse(datagram, len, &map, &header) == RTPW_OK && header.values.has_mid) {
+ *         deliver(header.values.mid, datagram + header.header_len, len - header.header_len);
+ *     }
+ */
+RTPW_CHECKED int32_t rtpw_parse(const uint8_t *datagram, size_t len, const rtpw_map *map, rtpw_header *header);
+
+/* A spatial layer. 40 bytes. */
+typedef struct {
+    uint64_t kbps[4];       /* of each temporal layer with those below it, in kilobits per second; 0 after the last */
+    uint16_t width;         /* in pixels, 1 to 65,535; 0 where has_resolution is 0 */
+    uint16_t height;        /* the same */
+    uint8_t framerate;      /* at most so many frames per second; 0 where has_resolution is 0 */
+    uint8_t has_resolution; /* 0 or 1 */
+    uint8_t rates;          /* how many temporal layers there are, 0 to 4: 0 where the layer isn't active */
+} rtpw_layer;
+
+/* A simulcast stream: its spatial layers by rising resolution, all zeros after the last. 168 bytes. */
+typedef struct {
+    rtpw_layer layers[4];
+    uint8_t count; /* 0 to 4 */
+} rtpw_stream;
+
+/* Which simulcast streams and layers a sender of video keeps active (video-layers-allocation00); all
+ * zeros after the last stream. 680 bytes. */
+typedef struct {
+    rtpw_stream streams[4];
+    uint8_t count;   /* 0 to 4; 0 where nothing is sent */
+    uint8_t current; /* which of the streams the packet is of, from 0 */
+} rtpw_layers;
+
+/* As rtpw_parse, and the layer allocation where values.has_layers is 1; else *layers becomes all zeros. */
+RTPW_CHECKED int32_t rtpw_parse_layers(const uint8_t *datagram, size_t len, const rtpw_map *map, rtpw_header *header,
+                                       rtpw_layers *layers);
+
+/* How many bytes rtpw_write writes: a multiple of 4, 12 to 4,668. RTPW_OK; RTPW_BAD_FIELD as rtpw_write. */
+RTPW_CHECKED int32_t rtpw_wire_len(const rtpw_map *map, const rtpw_header *header, size_t *len);
+
+/* Writes the header to the front of the buffer; bytes after it stay. Where has_extension isn't 0 there is
+ * a block: by rising id an element for each mapped id whose value is there (its has_ isn't 0), in the
+ * one-byte form unless an id above 14 or RTPW_KIND_LAYERS is mapped or a text that it writes is empty.
+ * An audio level takes has_voice_activity too, a playout delay both its times, and a capture offset
+ * a capture time; a layer allocation is not written. Of a time the whole ticks are written of 2^-18
+ * seconds (send time, modulo 64 seconds) or of 1/100 second (playout delay, modulo 4,096); of a level
+ * its magnitude modulo 128. Flags count as set where they aren't 0.
+ *
+ * RTPW_OK; RTPW_BAD_FIELD where payload_type is above 127, csrc_count above 15, or of the values that are
+ * there, mapped or not and also where has_extension is 0, a text has another character than letters, digits
+ * and underscores before its first zero or has no zero, an orientation is none of the four, or a time has 0
+ * hertz; RTPW_SHORT_BUFFER where only the buffer is too short.
+ *
+ *     rtpw_header header = {0};
+ *     header.payload_type = 111;
+ *     header.sequence_number = (uint16_t)number;
+ *     header.ssrc = ssrc;
+ *     header.has_extension = 1;
+ *     header.values.has_mid = 1;
+ *     strcpy(header.values.mid, "audio");
+ *     uint8_t packet[1500];
+ *     size_t header_len;
+ *     if (rtpw_write(&map, &header, packet, sizeof packet, &header_len) == RTPW_OK) {
+ *         put_payload(packet + header_len, sizeof packet - header_len);
+ *     }
+ */
+RTPW_CHECKED int32_t rtpw_write(const rtpw_map *map, const rtpw_header *header, uint8_t *buf, size_t size, size_t *len);
+
+/* The same with a block of these elements, whatever has_extension and the values hold. The data of each
+ * are the data_len bytes at data_at of `data`: those that rtpw_next_element told of a body, say. What
+ * `end` holds isn't looked at; data_at is, also of an element of no bytes. The block is in the one-byte
+ * form where that can carry each element (ids 1 to 14, 1 to 16 bytes), and else in the two-byte form (ids
+ * 1 to 255, 0 to 255 bytes).
+ *
+ * RTPW_OK; RTPW_BAD_FIELD where payload_type is above 127, csrc_count above 15, or an element has the id
+ * 0, more than 255 bytes, or its data_at + data_len is past the end of the data, or all of them take more
+ * than the 262,140 bytes of a block; RTPW_SHORT_BUFFER where the buffer alone is at fault;
+ * RTPW_NO_MEMORY. Memory is taken for a list of the elements, where there are any, and given back before
+ * the call returns. */
+RTPW_CHECKED int32_t rtpw_write_with(const rtpw_header *header, const uint8_t *data, size_t data_len,
+                                     const rtpw_element *elements, size_t count, uint8_t *buf, size_t size,
+                                     size_t *len);
+
+/* Writes elements, one after the other, as a block's body has them, to the front of the buffer; bytes
+ * after them stay. RTPW_OK; RTPW_BAD_FIELD where the form is none of the two or can't carry one of them, or
+ * data_at + data_len of one is past the end of the data; RTPW_SHORT_BUFFER where the buffer alone is at fault;
+ * RTPW_NO_MEMORY, as rtpw_write_with. */
+RTPW_CHECKED int32_t rtpw_write_elements(const uint8_t *data, size_t data_len, const rtpw_element *elements, size_t count,
+                                         uint8_t form, uint8_t *buf, size_t size, size_t *len);
+
+/* ---- From one map to another ---- */
+
+/* id[i] is the id that elements of the id i get, and 0 where they get none; id[0] isn't looked at. As a
+ * map it may be filled by hand, copied, stored and shared. */
+typedef struct {
+    uint8_t id[256];
+} rtpw_new_ids;
+
+/* For each id of a kind in `from` its lowest id in `to`, and 0 for all others, as for a URI without a kind
+ * and at index 0.
+ * Make it once for two streams:
+ *
+ *     rtpw_new_ids_between(&publisher.map, &subscriber.map, &route.ids);
+ *     ...
+ *     int32_t status = rtpw_renumber(datagram, len, &route.ids); // for each packet
+ */
+void rtpw_new_ids_between(const rtpw_map *from, const rtpw_map *to, rtpw_new_ids *ids);
+/* Gives each element of the packet in the buffer its new id, and makes one that gets none padding; no
+ * other byte changes. A packet without a block stays as it is. RTPW_OK; RTPW_BAD_FIELD where the packet's
+ * form can't carry a new id that an element gets (one above 14 in the one-byte form); or the first cause
+ * for which the buffer holds no packet. Where it isn't RTPW_OK nothing changes. */
+RTPW_CHECKED int32_t rtpw_renumber(uint8_t *datagram, size_t len, const rtpw_new_ids *ids);
+
+/* ---- Padding and retransmissions ---- */
+
+/* Makes a packet of padding alone after its header: sets P, and writes the padding from header_len on,
+ * zeros and in the last byte their count: pad_len rounded up to whole blocks, at most 240 bytes. With a
+ * pad_len of 0 nothing changes, no room is wanted, and the count is 0. To pad a packet with a payload, pass
+ * the end of the payload as header_len. Whether the buffer holds a packet isn't looked at. RTPW_OK;
+ * RTPW_BAD_FIELD where block_size is 0, whatever pad_len is; RTPW_SHORT_BUFFER where size is below header_len
+ * and the padding. The packet then has header_len + *count bytes. */
+RTPW_CHECKED int32_t rtpw_pad(uint8_t *datagram, size_t size, size_t header_len, uint8_t pad_len,
+                              size_t block_size, size_t *count);
+
+/* The original sequence number that the payload of a retransmission packet begins with (RFC 4588, 4),
+ * before the original payload: read, or the low 16 bits of it written. RTPW_OK, or RTPW_SHORT_BUFFER where
+ * there are fewer than two bytes. */
+RTPW_CHECKED int32_t rtpw_read_original(const uint8_t *payload, size_t len, uint16_t *number);
+RTPW_CHECKED int32_t rtpw_write_original(uint8_t *payload, size_t size, uint64_t number);
+
+/* ---- The numbers of a stream ---- */
+
+/* The receive state of one stream, a replay window of 128 numbers (RFC 3711, 3.3.1 and 3.3.2). 32
+ * bytes of plain memory, of which each value is a state: it may be copied and stored. {0} has taken
+ * nothing yet, and its first packet has the rollover count 0.
+ *
+ * The fields are told as the functions write them. As these read them, each `started` but 0 counts as 1, and
+ * where started the highest number as taken, whatever bit 0 of recorded_low is; where not, of the numbers
+ * only those bits of `highest` count that are above the low 16. A bit for a number below 0 is 0 unless the
+ * caller set it.
+ *
+ * SRTP: number_of, accepts, authenticate the packet, record; a forged packet then changes nothing.
+ * Where nothing is authenticated: receive. */
+typedef struct {
+    uint64_t highest;       /* the highest number taken; before that, 65,536 times the first packet's rollover count */
+    uint64_t recorded_low;  /* bit i: whether highest - i is taken, and so bit 0 is set; 0 before that */
+    uint64_t recorded_high; /* bit i: whether highest - 64 - i is taken; 0 before that */
+    uint8_t started;        /* 0 where nothing is taken yet, and then 1 */
+} rtpw_receiver;
+
+/* Nothing is taken yet, and the first packet has this rollover count: `highest` becomes 65,536 times the
+ * count, and all else 0, whatever it was. RTPW_OK, or RTPW_BAD_FIELD where the count is 2^48 or more.
+ * With a count of 1 or more a packet from before the first one has a number too; with 0 it gets one near
+ * 2^64, and once that is taken nearly all later ones are refused. */
+RTPW_CHECKED int32_t rtpw_receiver_start(rtpw_receiver *receiver, uint64_t rollover_count);
+/* The extended sequence number: the nearest to the highest taken that ends in these 16 bits; of the
+ * first packet the one with the rollover count of the start. Its low 48 bits are SRTP's packet index. */
+uint64_t rtpw_receiver_number_of(const rtpw_receiver *receiver, uint16_t sequence_number);
+/* Whether the number may be taken: nothing is taken yet, or it is above the highest taken, or less
+ * than 128 below it and not taken. */
+bool rtpw_receiver_accepts(const rtpw_receiver *receiver, uint64_t number);
+/* Records that the number is taken. One that isn't accepted changes nothing, except that `started` and
+ * bit 0 of recorded_low become 1 where they weren't. */
+void rtpw_receiver_record(rtpw_receiver *receiver, uint64_t number);
+/* RTPW_OK, and the number is written and recorded; or RTPW_REFUSED where it may not be taken. */
+RTPW_CHECKED int32_t rtpw_receiver_receive(rtpw_receiver *receiver, uint16_t sequence_number, uint64_t *number);
+
+/* The number nearest to the previous one, modulo 2^64, that ends in these 8, 15, 16 or 32 bits. Where two
+ * are equally near it is the one with the rollover count of the previous one. The sixteenth bit of what is
+ * extended as 15 bits isn't looked at. */
+uint64_t rtpw_extend_u8(uint64_t previous, uint8_t number);
+uint64_t rtpw_extend_u15(uint64_t previous, uint16_t number);
+uint64_t rtpw_extend_u16(uint64_t previous, uint16_t number);
+uint64_t rtpw_extend_u32(uint64_t previous, uint32_t number);
+
+#ifdef __cplusplus
+}
+#endif
+#endif

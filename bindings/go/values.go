@@ -1,0 +1,288 @@
+package rtpwire
+
+import (
+	"bytes"
+	"time"
+)
+
+// Values are what the elements of a packet say under a map: for each kind the last element whose id means it and whose
+// data are well-formed for it. Each is told with whether it is there, and set to be written. They may be copied, and
+// those that were read may be compared with ==.
+type Values struct {
+	sendTime              uint64
+	captureTime           uint64
+	captureOffset         int64
+	playoutMin            ticks
+	playoutMax            ticks
+	transmissionOffset    uint32
+	frameMarking          uint32
+	transportNumber       uint16
+	videoOrientation      uint16
+	videoTiming           times
+	timingFlags           uint8
+	videoContentType      uint8
+	audioLevel            int8
+	voiceActivity         bool
+	mid                   [17]byte
+	rid                   [9]byte
+	repairedRID           [9]byte
+	hasSendTime           bool
+	hasCaptureTime        bool
+	hasCaptureOffset      bool
+	hasTransmissionOffset bool
+	hasFrameMarking       bool
+	hasTransportNumber    bool
+	hasVideoOrientation   bool
+	hasVideoContentType   bool
+	hasAudioLevel         bool
+	hasVoiceActivity      bool
+	hasPlayoutMin         bool
+	hasPlayoutMax         bool
+	hasVideoTiming        bool
+	hasMID                bool
+	hasRID                bool
+	hasRepairedRID        bool
+	hasLayers             bool
+}
+
+// ticks is a time: so many of so many a second.
+type ticks struct {
+	ticks uint64
+	hertz uint32
+}
+
+// times are those of a VideoTiming.
+type times struct {
+	encodeStart, encodeFinish, packetizeComplete, lastLeftPacer uint16
+}
+
+// A VideoTiming says when a frame passed each step on its way out, in milliseconds after its capture.
+type VideoTiming struct {
+	Flags             uint8  // why the times were sent: bit 0 a timer, bit 1 a large frame
+	EncodeStart       uint16 // when its encoding began,
+	EncodeFinish      uint16 // and ended,
+	PacketizeComplete uint16 // its last packet was made,
+	LastLeftPacer     uint16 // and left the pacer
+}
+
+// SendTime is when the packet left its sender, in microseconds: as read modulo 64 seconds.
+func (v *Values) SendTime() (micros uint64, ok bool) {
+	return v.sendTime, v.hasSendTime
+}
+
+// SetSendTime sets the send time, in microseconds. Its whole units of 2^-18 seconds are written, modulo 64 seconds.
+func (v *Values) SetSendTime(micros uint64) {
+	v.sendTime, v.hasSendTime = micros, true
+}
+
+// CaptureTime is when the frame was captured, as an NTP timestamp with 32 bits of fraction.
+func (v *Values) CaptureTime() (ntp uint64, ok bool) {
+	return v.captureTime, v.hasCaptureTime
+}
+
+// SetCaptureTime sets the capture time, as an NTP timestamp with 32 bits of fraction.
+func (v *Values) SetCaptureTime(ntp uint64) {
+	v.captureTime, v.hasCaptureTime = ntp, true
+}
+
+// CaptureOffset is how far the capturer's clock is ahead of the sender's, in seconds with 32 bits of fraction.
+func (v *Values) CaptureOffset() (offset int64, ok bool) {
+	return v.captureOffset, v.hasCaptureOffset
+}
+
+// SetCaptureOffset sets the capture offset, which is written with a capture time alone.
+func (v *Values) SetCaptureOffset(offset int64) {
+	v.captureOffset, v.hasCaptureOffset = offset, true
+}
+
+// PlayoutDelay is for how long the receiver may hold the frame at least and at most: whole hundredths of a second, up
+// to 40.95 seconds.
+func (v *Values) PlayoutDelay() (least, most time.Duration, ok bool) {
+	return v.playoutMin.duration(), v.playoutMax.duration(), v.hasPlayoutMin && v.hasPlayoutMax
+}
+
+// SetPlayoutDelay sets the playout delay, of which whole hundredths of a second are written, modulo 40.96 seconds. One
+// below 0 counts as 0.
+func (v *Values) SetPlayoutDelay(least, most time.Duration) {
+	v.playoutMin, v.hasPlayoutMin = ticksOf(least), true
+	v.playoutMax, v.hasPlayoutMax = ticksOf(most), true
+}
+
+func (t ticks) duration() time.Duration {
+	if t.hertz == 0 {
+		return 0
+	}
+	return time.Duration(t.ticks) * (time.Second / time.Duration(t.hertz))
+}
+
+func ticksOf(d time.Duration) ticks {
+	if d < 0 {
+		d = 0
+	}
+	return ticks{uint64(d), uint32(time.Second)}
+}
+
+// TransmissionOffset is in ticks of the stream's clock; an element of four bytes.
+func (v *Values) TransmissionOffset() (ticks uint32, ok bool) {
+	return v.transmissionOffset, v.hasTransmissionOffset
+}
+
+// SetTransmissionOffset sets the transmission offset.
+func (v *Values) SetTransmissionOffset(ticks uint32) {
+	v.transmissionOffset, v.hasTransmissionOffset = ticks, true
+}
+
+// FrameMarking is the first four bytes of the frame marking.
+func (v *Values) FrameMarking() (marking uint32, ok bool) {
+	return v.frameMarking, v.hasFrameMarking
+}
+
+// SetFrameMarking sets the four bytes of the frame marking.
+func (v *Values) SetFrameMarking(marking uint32) {
+	v.frameMarking, v.hasFrameMarking = marking, true
+}
+
+// TransportNumber is the packet's number over all streams of the transport.
+func (v *Values) TransportNumber() (number uint16, ok bool) {
+	return v.transportNumber, v.hasTransportNumber
+}
+
+// SetTransportNumber sets the transport number.
+func (v *Values) SetTransportNumber(number uint16) {
+	v.transportNumber, v.hasTransportNumber = number, true
+}
+
+// VideoOrientation is how the picture is to be turned, in degrees counter-clockwise: 0, 90, 180 or 270.
+func (v *Values) VideoOrientation() (degrees uint16, ok bool) {
+	return v.videoOrientation, v.hasVideoOrientation
+}
+
+// SetVideoOrientation sets the orientation: Write returns ErrBadField where it is none of the four.
+func (v *Values) SetVideoOrientation(degrees uint16) {
+	v.videoOrientation, v.hasVideoOrientation = degrees, true
+}
+
+// VideoTiming is when the frame was encoded and sent.
+func (v *Values) VideoTiming() (timing VideoTiming, ok bool) {
+	t := v.videoTiming
+	return VideoTiming{v.timingFlags, t.encodeStart, t.encodeFinish, t.packetizeComplete, t.lastLeftPacer}, v.hasVideoTiming
+}
+
+// SetVideoTiming sets the video timing.
+func (v *Values) SetVideoTiming(t VideoTiming) {
+	v.videoTiming = times{t.EncodeStart, t.EncodeFinish, t.PacketizeComplete, t.LastLeftPacer}
+	v.timingFlags, v.hasVideoTiming = t.Flags, true
+}
+
+// VideoContentType is 0 unspecified, 1 a screen.
+func (v *Values) VideoContentType() (contentType uint8, ok bool) {
+	return v.videoContentType, v.hasVideoContentType
+}
+
+// SetVideoContentType sets the content type.
+func (v *Values) SetVideoContentType(contentType uint8) {
+	v.videoContentType, v.hasVideoContentType = contentType, true
+}
+
+// AudioLevel is in decibels relative to the overload point, -127 to 0, and whether the audio has voice.
+func (v *Values) AudioLevel() (level int8, voice, ok bool) {
+	return v.audioLevel, v.voiceActivity, v.hasAudioLevel && v.hasVoiceActivity
+}
+
+// SetAudioLevel sets the audio level, whose magnitude is written modulo 128, and the voice activity.
+func (v *Values) SetAudioLevel(level int8, voice bool) {
+	v.audioLevel, v.hasAudioLevel = level, true
+	v.voiceActivity, v.hasVoiceActivity = voice, true
+}
+
+// MID is the media section that the packet is of (RFC 9143), up to 16 characters.
+func (v *Values) MID() (mid string, ok bool) {
+	return textOf(v.mid[:]), v.hasMID
+}
+
+// SetMID sets the media section. It returns ErrBadField, and changes nothing, where it has more than 16 characters, or
+// others than ASCII letters, digits and underscores.
+func (v *Values) SetMID(mid string) error {
+	return setText(v.mid[:], mid, &v.hasMID)
+}
+
+// RID is the stream that the packet is of (RFC 8852), up to 8 characters.
+func (v *Values) RID() (rid string, ok bool) {
+	return textOf(v.rid[:]), v.hasRID
+}
+
+// SetRID sets the stream. It returns ErrBadField as SetMID does, and where it has more than 8 characters.
+func (v *Values) SetRID(rid string) error {
+	return setText(v.rid[:], rid, &v.hasRID)
+}
+
+// RepairedRID is the stream that this one repairs (RFC 8852), up to 8 characters.
+func (v *Values) RepairedRID() (rid string, ok bool) {
+	return textOf(v.repairedRID[:]), v.hasRepairedRID
+}
+
+// SetRepairedRID sets the stream that this one repairs. It returns ErrBadField as SetRID does.
+func (v *Values) SetRepairedRID(rid string) error {
+	return setText(v.repairedRID[:], rid, &v.hasRepairedRID)
+}
+
+// Clear takes the value of the kind away, and those that an element of it has beside it.
+func (v *Values) Clear(kind Kind) {
+	switch kind {
+	case KindAbsSendTime:
+		v.hasSendTime = false
+	case KindAbsCaptureTime:
+		v.hasCaptureTime, v.hasCaptureOffset = false, false
+	case KindAudioLevel:
+		v.hasAudioLevel, v.hasVoiceActivity = false, false
+	case KindTransmissionOffset:
+		v.hasTransmissionOffset = false
+	case KindVideoOrientation:
+		v.hasVideoOrientation = false
+	case KindTransportNumber:
+		v.hasTransportNumber = false
+	case KindPlayoutDelay:
+		v.hasPlayoutMin, v.hasPlayoutMax = false, false
+	case KindVideoContentType:
+		v.hasVideoContentType = false
+	case KindVideoTiming:
+		v.hasVideoTiming = false
+	case KindRID:
+		v.hasRID = false
+	case KindRepairedRID:
+		v.hasRepairedRID = false
+	case KindMID:
+		v.hasMID = false
+	case KindFrameMarking:
+		v.hasFrameMarking = false
+	case KindLayers:
+		v.hasLayers = false
+	}
+}
+
+// HasLayers is whether there is a layer allocation: [Layers.Parse] reads it.
+func (v *Values) HasLayers() bool {
+	return v.hasLayers
+}
+
+// textOf is the text that a zero ends.
+func textOf(room []byte) string {
+	return string(room[:bytes.IndexByte(room, 0)])
+}
+
+func setText(room []byte, text string, has *bool) error {
+	if len(text) >= len(room) {
+		return ErrBadField
+	}
+	for _, c := range []byte(text) {
+		isLetter := 'a' <= c|0x20 && c|0x20 <= 'z'
+		if !isLetter && (c < '0' || c > '9') && c != '_' {
+			return ErrBadField
+		}
+	}
+	for i := copy(room, text); i < len(room); i++ {
+		room[i] = 0
+	}
+	*has = true
+	return nil
+}

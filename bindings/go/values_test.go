@@ -1,0 +1,235 @@
+package rtpwire_test
+
+import (
+	"bytes"
+	"errors"
+	"strings"
+	"testing"
+	"time"
+
+	"rtpwire"
+)
+
+// The ids 1 to 14 mean the kinds of the numbers 1 to 14, and 15 a layer allocation.
+func everyKind(t *testing.T) *rtpwire.Map {
+	m := new(rtpwire.Map)
+	for kind := rtpwire.KindAbsSendTime; kind <= rtpwire.KindLayers; kind++ {
+		if err := m.Set(uint8(kind), kind); err != nil {
+			t.Fatal(err)
+		}
+	}
+	return m
+}
+
+// everyValue is a block of the two-byte form with an element of each kind that has a value.
+var everyValue = []byte{
+	0x90, 0, 0, 1, 0, 0, 0, 2, 0, 0, 0, 3, 0x10, 0, 0, 24,
+	1, 3, 0xA0, 0, 0, // 40 s: 40 * 2^18
+	2, 16, 1, 2, 3, 4, 5, 6, 7, 8, 0xFF, 0xFF, 0xFF, 0xFF, 0xFF, 0xFF, 0xFF, 0xFE,
+	3, 1, 0x8A, // -10 dB with voice
+	4, 4, 0, 0, 1, 0, // 256 ticks
+	5, 1, 1, // 270 degrees: 90 clockwise
+	6, 2, 0x12, 0x34,
+	7, 3, 0, 0x50, 0x64, // 5 and 100 hundredths
+	8, 1, 1, // a screen
+	9, 13, 1, 0, 10, 0, 20, 0, 30, 0, 40, 0, 0, 0, 0,
+	10, 2, 'r', '1',
+	11, 2, 'r', '2',
+	12, 7, 'a', 'u', 'd', 'i', 'o', '_', '1',
+	13, 4, 0xDE, 0xAD, 0xBE, 0xEF,
+	15, 8, 1, 0, 5, 1, 0x3F, 0, 0xEF, 30, // a stream of a layer of 5 kbps, 320 by 240, 30 frames
+	0,
+	'p',
+}
+
+func TestEveryValueIsRead(t *testing.T) {
+	packet := parsed(t, everyValue, everyKind(t))
+	same(t, "payload", packet.Payload(), []byte("p"))
+	v := &packet.Values
+	sendTime, ok := v.SendTime()
+	same(t, "send time", []any{sendTime, ok}, []any{uint64(40_000_000), true})
+	captureTime, ok := v.CaptureTime()
+	same(t, "capture time", []any{captureTime, ok}, []any{uint64(0x0102030405060708), true})
+	offset, ok := v.CaptureOffset()
+	same(t, "capture offset", []any{offset, ok}, []any{int64(-2), true})
+	level, voice, ok := v.AudioLevel()
+	same(t, "audio level", []any{level, voice, ok}, []any{int8(-10), true, true})
+	ticks, ok := v.TransmissionOffset()
+	same(t, "transmission offset", []any{ticks, ok}, []any{uint32(256), true})
+	degrees, ok := v.VideoOrientation()
+	same(t, "orientation", []any{degrees, ok}, []any{uint16(270), true})
+	number, ok := v.TransportNumber()
+	same(t, "transport number", []any{number, ok}, []any{uint16(0x1234), true})
+	least, most, ok := v.PlayoutDelay()
+	same(t, "playout delay", []any{least, most, ok}, []any{50 * time.Millisecond, time.Second, true})
+	contentType, ok := v.VideoContentType()
+	same(t, "content type", []any{contentType, ok}, []any{uint8(1), true})
+	timing, ok := v.VideoTiming()
+	same(t, "timing", []any{timing, ok}, []any{rtpwire.VideoTiming{1, 10, 20, 30, 40}, true})
+	rid, ok := v.RID()
+	same(t, "rid", []any{rid, ok}, []any{"r1", true})
+	repaired, ok := v.RepairedRID()
+	same(t, "repaired rid", []any{repaired, ok}, []any{"r2", true})
+	mid, ok := v.MID()
+	same(t, "mid", []any{mid, ok}, []any{"audio_1", true})
+	marking, ok := v.FrameMarking()
+	same(t, "frame marking", []any{marking, ok}, []any{uint32(0xDEADBEEF), true})
+	same(t, "layers", v.HasLayers(), true)
+}
+
+func TestNoValueIsThere(t *testing.T) {
+	for _, m := range []*rtpwire.Map{nil, new(rtpwire.Map)} {
+		packet := parsed(t, everyValue, m)
+		same(t, "values", packet.Values, rtpwire.Values{})
+	}
+	var v rtpwire.Values
+	_, sendTime := v.SendTime()
+	_, captureTime := v.CaptureTime()
+	_, offset := v.CaptureOffset()
+	_, _, level := v.AudioLevel()
+	_, ticks := v.TransmissionOffset()
+	_, degrees := v.VideoOrientation()
+	_, number := v.TransportNumber()
+	least, most, delay := v.PlayoutDelay()
+	_, contentType := v.VideoContentType()
+	_, timing := v.VideoTiming()
+	rid, isRID := v.RID()
+	_, repaired := v.RepairedRID()
+	_, mid := v.MID()
+	_, marking := v.FrameMarking()
+	if sendTime || captureTime || offset || level || ticks || degrees || number || delay || contentType || timing ||
+		isRID || repaired || mid || marking || v.HasLayers() || rid != "" || least != 0 || most != 0 {
+		t.Error("a value is there")
+	}
+}
+
+// What is set is written and read again; a layer allocation alone isn't written.
+func TestEveryValueIsWritten(t *testing.T) {
+	m := everyKind(t)
+	header := rtpwire.Header{SequenceNumber: 1, Timestamp: 2, SSRC: 3, HasExtension: true}
+	v := &header.Values
+	v.SetSendTime(40_000_000)
+	v.SetCaptureTime(0x0102030405060708)
+	v.SetCaptureOffset(-2)
+	v.SetAudioLevel(-10, true)
+	v.SetTransmissionOffset(256)
+	v.SetVideoOrientation(270)
+	v.SetTransportNumber(0x1234)
+	v.SetPlayoutDelay(50*time.Millisecond+9*time.Millisecond, time.Second)
+	v.SetVideoContentType(1)
+	v.SetVideoTiming(rtpwire.VideoTiming{1, 10, 20, 30, 40})
+	v.SetFrameMarking(0xDEADBEEF)
+	for _, err := range []error{v.SetRID("r1"), v.SetRepairedRID("r2"), v.SetMID("audio_1")} {
+		if err != nil {
+			t.Fatal(err)
+		}
+	}
+	buf := bytes.Repeat([]byte{0xEE}, 200)
+	n, err := header.Write(buf, m)
+	if err != nil {
+		t.Fatal(err)
+	}
+	wireLen, err := header.WireLen(m)
+	same(t, "length", []any{wireLen, err}, []any{n, nil})
+	// 22 words: the elements above without the allocation's ten bytes are 85 bytes, and three of padding
+	same(t, "length", n, 16+88)
+	wanted := append([]byte(nil), everyValue[:16+85]...)
+	wanted[15] = 22
+	wanted = append(wanted, 0, 0, 0)
+	same(t, "bytes", buf[:n], wanted)
+	same(t, "bytes after them", buf[n:], bytes.Repeat([]byte{0xEE}, 200-n))
+
+	for kind := rtpwire.KindAbsSendTime; kind < rtpwire.KindLayers; kind++ {
+		v.Clear(kind)
+	}
+	n, err = header.Write(buf, m)
+	same(t, "an empty block", []any{buf[12:n], err}, []any{[]byte{0x10, 0, 0, 0}, nil})
+}
+
+func TestTexts(t *testing.T) {
+	var v rtpwire.Values
+	for _, text := range []string{"", "a", "A_z09", "abcdefgh"} {
+		for _, err := range []error{v.SetMID(text), v.SetRID(text), v.SetRepairedRID(text)} {
+			if err != nil {
+				t.Fatal(text, err)
+			}
+		}
+		mid, _ := v.MID()
+		rid, _ := v.RID()
+		repaired, _ := v.RepairedRID()
+		same(t, "texts", []string{mid, rid, repaired}, []string{text, text, text})
+	}
+	same(t, "16 characters", v.SetMID("0123456789_bcdef"), nil)
+	before := v
+	for _, text := range []string{"a b", "ä", "a-b", "a\x00", "@", "[", "`", "{", "/", ":", strings.Repeat("a", 17)} {
+		for _, err := range []error{v.SetMID(text), v.SetRID(text), v.SetRepairedRID(text)} {
+			same(t, text, err, rtpwire.ErrBadField)
+		}
+	}
+	same(t, "nine characters", v.SetRID("abcdefghi"), rtpwire.ErrBadField)
+	same(t, "the values", v, before)
+}
+
+func TestDelaysBelowZero(t *testing.T) {
+	var v rtpwire.Values
+	v.SetPlayoutDelay(-time.Second, 40950*time.Millisecond)
+	least, most, _ := v.PlayoutDelay()
+	same(t, "delays", []time.Duration{least, most}, []time.Duration{0, 40950 * time.Millisecond})
+}
+
+func TestLayers(t *testing.T) {
+	m := everyKind(t)
+	var layers rtpwire.Layers
+	if err := layers.Parse(everyValue, m); err != nil {
+		t.Fatal(err)
+	}
+	same(t, "streams", []int{len(layers.Streams()), layers.Current()}, []int{1, 0})
+	stream := layers.Streams()[0]
+	same(t, "layers", len(stream.Layers()), 1)
+	layer := stream.Layers()[0]
+	same(t, "kbps", layer.Kbps(), []uint64{5})
+	resolution, ok := layer.Resolution()
+	same(t, "resolution", []any{resolution, ok}, []any{rtpwire.Resolution{320, 240, 30}, true})
+
+	before := layers
+	err := layers.Parse(everyValue[:100], m)
+	if !errors.Is(err, rtpwire.CutBlock) || layers != before {
+		t.Errorf("%v, %v", err, layers)
+	}
+	if err := layers.Parse(everyValue, nil); err != nil || layers != (rtpwire.Layers{}) {
+		t.Errorf("%v, %v", err, layers)
+	}
+}
+
+func TestMaps(t *testing.T) {
+	m := new(rtpwire.Map)
+	same(t, "the id 0", m.Set(0, rtpwire.KindMID), rtpwire.ErrBadField)
+	same(t, "no kind", m.Set(1, rtpwire.KindLayers+1), rtpwire.ErrBadField)
+	same(t, "the map", *m, rtpwire.Map{})
+	same(t, "an id of none", m.IDOf(rtpwire.KindMID), uint8(0))
+
+	kind, err := m.SetURI(9, "urn:ietf:params:rtp-hdrext:sdes:mid")
+	same(t, "by URI", []any{kind, err}, []any{rtpwire.KindMID, nil})
+	same(t, "255", m.Set(255, rtpwire.KindMID), nil)
+	same(t, "3", m.Set(3, rtpwire.KindRID), nil)
+	same(t, "kinds", []rtpwire.Kind{m.Get(9), m.Get(255), m.Get(3), m.Get(4)},
+		[]rtpwire.Kind{rtpwire.KindMID, rtpwire.KindMID, rtpwire.KindRID, rtpwire.KindNone})
+	same(t, "the lowest", m.IDOf(rtpwire.KindMID), uint8(9))
+	same(t, "none of none", m.IDOf(rtpwire.KindNone), uint8(0))
+	kind, err = m.SetURI(9, "urn:x")
+	same(t, "an unknown URI", []any{kind, err, m.Get(9)}, []any{rtpwire.KindNone, nil, rtpwire.KindNone})
+	_, err = m.SetURI(0, "urn:ietf:params:rtp-hdrext:sdes:mid")
+	same(t, "the id 0 by URI", err, rtpwire.ErrBadField)
+
+	standard := rtpwire.StandardMap()
+	usual := map[uint8]rtpwire.Kind{
+		1: rtpwire.KindAudioLevel, 2: rtpwire.KindAbsSendTime, 3: rtpwire.KindTransportNumber, 4: rtpwire.KindMID,
+		10: rtpwire.KindRID, 11: rtpwire.KindRepairedRID, 13: rtpwire.KindVideoOrientation,
+	}
+	for id := 0; id < 256; id++ {
+		same(t, "standard", standard.Get(uint8(id)), usual[uint8(id)])
+		same(t, "nil", (*rtpwire.Map)(nil).Get(uint8(id)), rtpwire.KindNone)
+	}
+	names := []string{rtpwire.KindNone.String(), rtpwire.KindLayers.String(), rtpwire.Kind(16).String()}
+	same(t, "names", names, []string{"none", "layers", "kind 16"})
+}
