@@ -90,12 +90,17 @@ def metadata() -> bytes:
     return METADATA.format(version=version(), licences=licences, description=description).encode()
 
 
-def tag() -> str:
-    """The library is called by ctypes: any Python 3 can load it, on this system and machine."""
+def this_machine() -> str:
+    """The end of the name of the text for this machine."""
     machine = MACHINES.get(platform.machine().lower())
     if not sys.platform.startswith("linux") or machine is None or struct.calcsize("P") != 8:
         raise SystemExit("rtp_wire: there is a text for Linux on x86-64 and ARM (aarch64), of 64 bits, alone")
-    return f"py3-none-linux_{machine}"
+    return machine
+
+
+def tag() -> str:
+    """The library is called by ctypes: any Python 3 can load it, on this system and machine."""
+    return f"py3-none-linux_{this_machine()}"
 
 
 def compiler() -> List[str]:
@@ -107,12 +112,12 @@ def compiler() -> List[str]:
     raise SystemExit("rtp_wire: there is no C compiler: install one, or name it by CC")
 
 
-def library() -> bytes:
-    """The shared library, of which only the functions of rtp_wire.h and src/whole_packet.c can be seen."""
+def library(machine: str) -> bytes:
+    """The shared library for a machine. Only the functions of rtp_wire.h and src/whole_packet.c can be seen."""
     with tempfile.TemporaryDirectory() as folder:
         names, made = Path(folder, "names"), Path(folder, "librtp_wire.so")
         names.write_text("{ global: rtpw_*; whole_packet_parse; local: *; };", "utf-8")
-        found, machine = texts(), MACHINES[platform.machine().lower()]
+        found = texts()
         sources = [found[name] for name in (f"rtp_wire-{machine}.s", "heap.c") if name in found]
         command = [*compiler(), "-shared", "-fPIC", "-std=c99", "-O2", "-s", "-o", str(made)]
         command += [f"-I{found['rtp_wire.h'].parent}", str(HERE / "src/whole_packet.c"), *map(str, sources)]
@@ -160,7 +165,7 @@ def build_wheel(
 ) -> str:
     info = f"rtp_wire-{version()}.dist-info"
     files = {name: file.read_bytes() for name, file in package_files().items()}
-    files["rtp_wire/librtp_wire.so"] = library()
+    files["rtp_wire/librtp_wire.so"] = library(this_machine())
     files.update({f"{info}/{name}": data for name, data in info_files().items()})
     record = [f"{name},sha256={digest_of(data)},{len(data)}\n" for name, data in files.items()]
     files[f"{info}/RECORD"] = "".join([*record, f"{info}/RECORD,,\n"]).encode()
@@ -177,8 +182,17 @@ def build_wheel(
 
 def source_files() -> List[Tuple[str, Path]]:
     """Those of this folder, and the texts."""
-    parts = ("pyproject.toml", "README.md", "backend/*.py", "src/*.c", "src/rtp_wire/*.py", "src/rtp_wire/py.typed", "examples/*.py", "tests/*.py")
-    own = [file for part in parts for file in sorted(HERE.glob(part)) ]
+    parts = (
+        "pyproject.toml",
+        "README.md",
+        "backend/*.py",
+        "src/*.c",
+        "src/rtp_wire/*.py",
+        "src/rtp_wire/py.typed",
+        "examples/*.py",
+        "tests/*.py",
+    )
+    own = [file for part in parts for file in sorted(HERE.glob(part))]
     named = [(str(file.relative_to(HERE)), file) for file in own]
     return named + [(f"texts/{name}", place) for name, place in texts().items()]
 

@@ -1,16 +1,20 @@
 """The wheel and the source distribution."""
 
 import importlib.util
+import os
+import shutil
 import subprocess
 import sys
 import tarfile
 import tempfile
 import unittest
+import unittest.mock
 import zipfile
 from pathlib import Path
 from types import ModuleType
 from typing import Any, Dict
 
+ARM = "aarch64-linux-gnu-gcc"
 HERE = Path(__file__).resolve().parent.parent
 
 
@@ -43,7 +47,14 @@ class Build(unittest.TestCase):
 
     def test_a_source_distribution_has_all_that_a_wheel_is_built_of(self) -> None:
         unpacked = self.unpacked()
-        for name in ("rtp_wire.h", "rtp_wire-x86_64.s", "rtp_wire-aarch64.s", "LICENSE-MIT", "LICENSE-APACHE", "NOTICE"):
+        for name in (
+            "rtp_wire.h",
+            "rtp_wire-x86_64.s",
+            "rtp_wire-aarch64.s",
+            "LICENSE-MIT",
+            "LICENSE-APACHE",
+            "NOTICE",
+        ):
             self.assertTrue((unpacked / "texts" / name).is_file(), name)
         here, there = self.folder / "here", self.folder / "there"
         here.mkdir()
@@ -67,6 +78,13 @@ class Build(unittest.TestCase):
             name = build(str(self.folder))
             self.assertEqual(build(str(other)), name)
             self.assertEqual((self.folder / name).read_bytes(), (other / name).read_bytes())
+
+    @unittest.skipUnless(shutil.which(ARM), f"there is no {ARM}")
+    def test_the_library_is_built_for_arm(self) -> None:
+        with unittest.mock.patch.dict(os.environ, CC=ARM):
+            made = self.backend.library("aarch64")
+        # an ELF file of 64 bits for AArch64 (183)
+        self.assertEqual((made[:5], made[18:20]), (b"\x7fELF\x02", b"\xb7\x00"))
 
     def test_the_list_of_a_wheel(self) -> None:
         files = files_of(self.folder / self.backend.build_wheel(str(self.folder)))

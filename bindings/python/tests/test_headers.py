@@ -25,7 +25,9 @@ class Headers(unittest.TestCase):
         self.assertEqual((read, read.header_len), (self.HEADER, 28))
         self.assertEqual(Header().write(self.MAP), bytes.fromhex("80") + bytes(11))
         self.assertEqual(Header(values=Values(mid="1")).write(self.MAP), bytes.fromhex("80") + bytes(11))
-        self.assertEqual(Header(has_extension=True).write(Map()), bytes.fromhex("90") + bytes(11) + bytes.fromhex("BEDE0000"))
+        self.assertEqual(
+            Header(has_extension=True).write(Map()), bytes.fromhex("90") + bytes(11) + bytes.fromhex("BEDE0000")
+        )
 
     def test_what_cannot_be_written(self) -> None:
         buf = bytearray(27)
@@ -65,12 +67,25 @@ class Headers(unittest.TestCase):
         self.assertEqual(len(with_sources), 12 + 60 + 4 + 260)
 
     def test_elements_that_cannot_be_written(self) -> None:
-        for elements in ([(0, b"\xAA")], [(256, b"\xAA")], [(-1, b"\xAA")], [(1, bytes(256))], [(1, bytes(255))] * 1021):
+        for elements in (
+            [(0, b"\xAA")],
+            [(256, b"\xAA")],
+            [(-1, b"\xAA")],
+            [(1, bytes(256))],
+            [(1, bytes(255))] * 1021,
+        ):
             with self.assertRaises(BadField):
                 Header().write_with(elements)
         # 1,020 * 257 bytes are as many as a block can have
         self.assertEqual(len(Header().write_with([(1, bytes(255))] * 1020)), 16 + 262_140)
-        for form, id, data in ((1, 15, b"a"), (1, 1, b""), (1, 1, bytes(17)), (0, 1, b"a"), (3, 1, b"a"), (256, 1, b"a")):
+        for form, id, data in (
+            (1, 15, b"a"),
+            (1, 1, b""),
+            (1, 1, bytes(17)),
+            (0, 1, b"a"),
+            (3, 1, b"a"),
+            (256, 1, b"a"),
+        ):
             with self.assertRaises(BadField):
                 write_elements([(id, data)], form)
 

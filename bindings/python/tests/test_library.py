@@ -2,17 +2,18 @@
 
 import ctypes
 import os
+import pickle
 import re
-import shlex
+import shutil
 import subprocess
 import tempfile
 import unittest
 from importlib import metadata
 from pathlib import Path
-from typing import Any, Dict, Iterator, List, Tuple
+from typing import Any, Dict, Iterator, List, Tuple, Type
 
 import rtp_wire
-from rtp_wire import Cause, Form, Kind, Status, _library
+from rtp_wire import Cause, Form, Kind, Status, _errors, _library
 
 HERE = Path(__file__).resolve().parent.parent
 # In the repository, and in a source distribution.
@@ -84,18 +85,24 @@ class Library(unittest.TestCase):
         self.assertGreater(len(wanted), 39)
 
     def test_each_function_is_used(self) -> None:
-        used = "".join(it.read_text("utf-8") for it in (HERE / "src/rtp_wire").glob("_[a-z]*.py") if it.stem != "_library")
-        used += (HERE / "src/rtp_wire/__init__.py").read_text("utf-8") + (HERE / "src/whole_packet.c").read_text("utf-8")
+        used = "".join(
+            it.read_text("utf-8") for it in (HERE / "src/rtp_wire").glob("_[a-z]*.py") if it.stem != "_library"
+        )
+        used += (HERE / "src/rtp_wire/__init__.py").read_text("utf-8") + (HERE / "src/whole_packet.c").read_text(
+            "utf-8"
+        )
         for name in _library.FUNCTIONS:
             self.assertRegex(used, rf"_library\.{name[5:]}\b|\b{name}\(")
 
     def test_each_field_lies_where_it_does_in_c(self) -> None:
-        lines = [(HERE / "src/whole_packet.c").read_text("utf-8"), *(f"_Static_assert({it}, \"\");" for it in facts())]
+        lines = [(HERE / "src/whole_packet.c").read_text("utf-8"), *(f'_Static_assert({it}, "");' for it in facts())]
+        options = ["-std=c11", "-Wall", "-Wextra", "-Wpedantic", "-Werror", f"-I{HEADER.parent}", "-fsyntax-only"]
         with tempfile.TemporaryDirectory() as folder:
             Path(folder, "facts.c").write_text("\n".join(lines), "utf-8")
-            command = [*shlex.split(os.environ.get("CC") or "cc"), "-std=c11", "-Wall", "-Wextra", "-Wpedantic", "-Werror", f"-I{HEADER.parent}"]
-            said = subprocess.run([*command, "-fsyntax-only", f"{folder}/facts.c"], capture_output=True, text=True, check=False)
-        self.assertEqual((said.returncode, said.stderr), (0, ""))
+            for compiler in filter(shutil.which, (os.environ.get("CC") or "cc", "aarch64-linux-gnu-gcc")):
+                command = [compiler, *options, f"{folder}/facts.c"]
+                said = subprocess.run(command, stderr=subprocess.PIPE, text=True, check=False)
+                self.assertEqual((said.returncode, said.stderr), (0, ""))
 
     def test_numbers_and_texts(self) -> None:
         statuses = {it.name: it.value for it in Status}
@@ -103,9 +110,31 @@ class Library(unittest.TestCase):
         self.assertEqual({name: everything[name] for name in statuses}, statuses)
         self.assertEqual({it.name: it.value for it in Cause}, {it.name: it.value for it in Status if 0 < it < 7})
         self.assertEqual(names_in("KIND_"), {it.name: it.value for it in Kind})
-        self.assertEqual((everything["NO_BLOCK"], everything["ONE_BYTE_FORM"], everything["TWO_BYTE_FORM"]), tuple(Form))
+        self.assertEqual(
+            (everything["NO_BLOCK"], everything["ONE_BYTE_FORM"], everything["TWO_BYTE_FORM"]), tuple(Form)
+        )
         texts = dict(re.findall(r'case RTPW_(\w+): return "(.*)";', TEXT))
         self.assertEqual({it.name: it.text for it in Status}, texts)
+
+    def test_exceptions(self) -> None:
+        kinds: Dict[Status, Type[Exception]] = {
+            Status.SHORT_BUFFER: rtp_wire.ShortBuffer,
+            Status.BAD_FIELD: rtp_wire.BadField,
+            Status.NONE: rtp_wire.NoElement,
+            Status.REFUSED: rtp_wire.RtpError,
+            Status.NO_MEMORY: MemoryError,
+            **{Status(cause): rtp_wire.NotAPacket for cause in Cause},
+        }
+        for status, kind in kinds.items():
+            with self.assertRaises(kind) as raised:
+                _errors.check(status)
+            self.assertIs(type(raised.exception), kind)
+            self.assertEqual(str(raised.exception), status.text)
+            stored = pickle.loads(pickle.dumps(raised.exception))
+            self.assertEqual((type(stored), str(stored)), (kind, status.text))
+            if isinstance(stored, rtp_wire.RtpError):
+                self.assertEqual((stored.status, isinstance(stored, ValueError)), (status, True))
+        _errors.check(Status.OK)
 
     def test_the_version(self) -> None:
         version = re.findall(r'#define RTPW_VERSION "(.*)"', TEXT)

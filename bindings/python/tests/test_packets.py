@@ -3,6 +3,7 @@
 import array
 import mmap
 import unittest
+from random import Random
 from typing import Any, Callable
 
 import rtp_wire
@@ -32,7 +33,9 @@ class Reading(unittest.TestCase):
             self.assertEqual((packet.csrc, packet.form, packet.header_len), ((1, 2), Form.ONE_BYTE, 32))
             self.assertEqual((bytes(packet.payload), packet.unpadded_payload), (b"\1\2\3\0\2", b"\1\2\3"))
             self.assertEqual((bytes(packet.body), bytes(packet.header_bytes)), (SAMPLE[24:32], SAMPLE[:32]))
-            self.assertEqual([(it.id, bytes(it.data)) for it in packet.elements()], [(1, b"\xAA"), (2, b"\xBB\xCC"), (1, b"\xDD")])
+            self.assertEqual(
+                [(it.id, bytes(it.data)) for it in packet.elements()], [(1, b"\xAA"), (2, b"\xBB\xCC"), (1, b"\xDD")]
+            )
             self.assertEqual((packet.element(1), packet.element(2)), (b"\xDD", b"\xBB\xCC"))
             self.assertEqual((packet.element(3), packet.element(255)), (None, None))
             self.assertEqual((bytes(packet), len(packet)), (SAMPLE, 37))
@@ -106,9 +109,13 @@ class Reading(unittest.TestCase):
 
     def test_elements_end_where_one_is_cut(self) -> None:
         # in the one-byte form id 15 ends the elements, and the id 0 with data is one of them (RFC 8285, 4.2)
-        found = [(it.id, bytes(it.data)) for it in rtp_wire.elements(bytes.fromhex("10AA 00 01BBCC F0 10DD"), Form.ONE_BYTE)]
+        found = [
+            (it.id, bytes(it.data)) for it in rtp_wire.elements(bytes.fromhex("10AA 00 01BBCC F0 10DD"), Form.ONE_BYTE)
+        ]
         self.assertEqual(found, [(1, b"\xAA"), (0, b"\xBB\xCC")])
-        found = [(it.id, bytes(it.data)) for it in rtp_wire.elements(bytes.fromhex("0100 00 FF02AABB 0303CC"), Form.TWO_BYTE)]
+        found = [
+            (it.id, bytes(it.data)) for it in rtp_wire.elements(bytes.fromhex("0100 00 FF02AABB 0303CC"), Form.TWO_BYTE)
+        ]
         self.assertEqual(found, [(1, b""), (255, b"\xAA\xBB")])
 
     def test_rtcp(self) -> None:
@@ -118,8 +125,35 @@ class Reading(unittest.TestCase):
         for data in (b"", b"\x80", b"\x40\xC8"):
             self.assertFalse(rtp_wire.is_rtcp(data))
 
+    def test_random_bytes(self) -> None:
+        random = Random(1)
+        for _ in range(400):
+            data = bytes([random.choice((0x80, 0x90, 0xB1, 0xA2)), *random.choices(range(256), k=random.randrange(60))])
+            form = random.choice(("BEDE0001", "BEDE0004", "10000002", "100F0005"))
+            data = data[:12] + bytes.fromhex(form) + data[12:]
+            told = {self.told(buffer(data)) for buffer in BUFFERS}
+            self.assertEqual(len(told), 1)
+
+    def told(self, datagram: Any) -> str:
+        try:
+            packet = Packet.parse(datagram, Map.standard())
+        except NotAPacket as error:
+            return str(error)
+        elements = [(id, bytes(data)) for id, data in packet.elements()]
+        last = dict(elements)
+        self.assertEqual({id: packet.element(id) for id in last}, last)
+        self.assertEqual(packet.values, rtp_wire.Header.parse(datagram, Map.standard()).values)
+        self.assertEqual(
+            packet.values, Values.read(packet.body, packet.form, Map.standard()) if packet.form else Values()
+        )
+        self.assertEqual(len(packet), packet.header_len + len(packet.payload))
+        unpadded = packet.unpadded_payload
+        return f"{packet!r}{elements}{None if unpadded is None else bytes(unpadded)!r}"
+
     def test_repr(self) -> None:
-        packet = Packet.parse(bytes.fromhex("90E00005 000000A0 00000007 BEDE0001 108A0000 6869"), Map({1: Kind.AUDIO_LEVEL}))
+        packet = Packet.parse(
+            bytes.fromhex("90E00005 000000A0 00000007 BEDE0001 108A0000 6869"), Map({1: Kind.AUDIO_LEVEL})
+        )
         self.assertEqual(
             repr(packet),
             "Packet(payload_type=96, sequence_number=5, timestamp=160, ssrc=7, csrc=(), marker=True, has_padding=False,"
@@ -174,6 +208,12 @@ class Changing(unittest.TestCase):
             with self.assertRaises(BadField):
                 self.packet.set_csrc(index, source)
         self.is_changed()
+
+    def test_data_of_the_datagram_itself(self) -> None:
+        first = next(self.packet.elements())
+        self.packet.set_element(1, first.data)
+        self.is_changed(30)
+        self.assertEqual(self.packet.element(1), b"\xAA")
 
     def test_elements(self) -> None:
         self.packet.set_element(1, b"\x8A")  # the last of the two: -10 dB with voice

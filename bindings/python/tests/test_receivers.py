@@ -66,7 +66,12 @@ class Receivers(unittest.TestCase):
         self.assertEqual((rtp_wire.extend_u16(65535, 0), rtp_wire.extend_u16(0, 32768)), (65536, 32768))
         self.assertEqual((rtp_wire.extend_u16(5, 65535), rtp_wire.extend_u16(LAST, 0)), (LAST, 0))
         self.assertEqual(rtp_wire.extend_u32(0xFFFFFFFF, 1), (1 << 32) + 1)
-        for extend, bits in ((rtp_wire.extend_u8, 8), (rtp_wire.extend_u15, 15), (rtp_wire.extend_u16, 16), (rtp_wire.extend_u32, 32)):
+        for extend, bits in (
+            (rtp_wire.extend_u8, 8),
+            (rtp_wire.extend_u15, 15),
+            (rtp_wire.extend_u16, 16),
+            (rtp_wire.extend_u32, 32),
+        ):
             for previous, number in ((0, 1 << bits), (1 << 64, 0), (-1, 0), (0, -1)):
                 with self.assertRaises(BadField):
                     extend(previous, number)

@@ -23,7 +23,12 @@ ROWS = [
         bytes.fromhex("8182838485868788 FEFDFCFBFAF9F8F8"),
         Values(capture_time=0x8182838485868788, capture_offset=-0x0102030405060708),
     ),
-    (8, Kind.PLAYOUT_DELAY, bytes.fromhex("07BC8A"), Values(playout_delay_min=Time(123, 100), playout_delay_max=Time(3210, 100))),
+    (
+        8,
+        Kind.PLAYOUT_DELAY,
+        bytes.fromhex("07BC8A"),
+        Values(playout_delay_min=Time(123, 100), playout_delay_max=Time(3210, 100)),
+    ),
     (9, Kind.FRAME_MARKING, b"1234", Values(frame_marking=0x31323334)),
     # 40 seconds
     (10, Kind.ABS_SEND_TIME, bytes.fromhex("A00000"), Values(send_time=40_000_000)),

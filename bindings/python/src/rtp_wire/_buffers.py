@@ -3,13 +3,13 @@
 from __future__ import annotations
 
 from ctypes import Structure, addressof, byref, c_char, c_int, c_ssize_t, c_void_p, py_object, pythonapi
-from typing import TYPE_CHECKING, Optional, Union
+from typing import TYPE_CHECKING, Optional, Tuple, Union
 
 if TYPE_CHECKING:
     from _typeshed import ReadableBuffer as Buffer
     from _typeshed import WriteableBuffer as WritableBuffer
 
-    __all__ = ["Address", "Buffer", "WritableBuffer", "address_of", "view_of", "writable_view_of"]
+    __all__ = ["Address", "Buffer", "WritableBuffer", "address_of", "place_of", "view_of", "writable_view_of"]
 
     # What ctypes passes as a pointer to the first byte: None where there is no byte.
     Address = Union[bytes, int, None]
@@ -68,3 +68,11 @@ def address_of(view: memoryview) -> Optional[int]:
         return raw.buf  # type: ignore[no-any-return]
     finally:
         _release_buffer(byref(raw))
+
+
+def place_of(data: Buffer) -> Tuple[Union[bytes, memoryview], Address]:
+    """The bytes as they lie, and what ctypes passes as a pointer to them, for as long as the first of the two lives."""
+    if isinstance(data, bytes):
+        return data, data
+    view = memoryview(data) if isinstance(data, bytearray) else view_of(data)
+    return view, address_of(view)

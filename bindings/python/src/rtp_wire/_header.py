@@ -7,7 +7,7 @@ from dataclasses import dataclass, field
 from typing import TYPE_CHECKING, Iterable, Optional, Tuple
 
 from . import _library
-from ._buffers import address_of, view_of, writable_view_of
+from ._buffers import address_of, place_of, view_of, writable_view_of
 from ._errors import BadField, Status, check, error_of, unsigned
 from ._layers import layers_of
 from ._map import Map
@@ -70,8 +70,8 @@ class Header:
     def parse(cls, datagram: Buffer, map: Optional[Map] = None) -> Header:
         """Reads the header that the bytes begin with, and what its elements say under the map; nothing after it is
         looked at. NotAPacket and MemoryError as Packet.parse."""
-        view = view_of(datagram)
-        raw, values = read_header(address_of(view), len(view), Map() if map is None else map)
+        data, at = place_of(datagram)
+        raw, values = read_header(at, len(data), Map() if map is None else map)
         return cls(
             raw.payload_type,
             raw.sequence_number,

@@ -8,7 +8,7 @@ from struct import unpack_from
 from typing import TYPE_CHECKING, Iterator, NamedTuple, Optional, Tuple, Union
 
 from . import _library
-from ._buffers import address_of, view_of, writable_view_of
+from ._buffers import address_of, place_of, view_of, writable_view_of
 from ._errors import check, error_of, unsigned
 from ._header import read_header
 from ._library import whole_packet_parse
@@ -39,8 +39,8 @@ class Element(NamedTuple):
 def is_rtcp(datagram: Buffer) -> bool:
     """Whether a datagram on a port that RTP and RTCP share is RTCP (RFC 5761, 4). It comes before `Packet.parse`,
     which would take a receiver report for RTP."""
-    view = view_of(datagram)
-    return bool(_library.is_rtcp(address_of(view), len(view)))
+    data, at = place_of(datagram)
+    return bool(_library.is_rtcp(at, len(data)))
 
 
 def elements(body: Buffer, form: int) -> Iterator[Element]:
@@ -79,13 +79,9 @@ class Packet:
         """
         packet = cls.__new__(cls)
         packet._map = map
-        if isinstance(datagram, bytes):
-            packet._data, packet._len = datagram, len(datagram)
-            packet._read(datagram)
-        else:
-            packet._data = view = view_of(datagram)
-            packet._len = len(view)
-            packet._read(address_of(view))
+        packet._data, at = place_of(datagram)
+        packet._len = len(packet._data)
+        packet._read(at)
         return packet
 
     def _read(self, at: Address) -> None:
@@ -279,8 +275,8 @@ class Packet:
     def set_element(self, id: int, data: Buffer) -> None:
         """Gives the last element of this id these data. NoElement where the packet has none, or its last one has
         another number of bytes."""
-        view = view_of(data)
-        self._set(_library.set_element, unsigned("an id", id, 8), address_of(view), len(view))
+        copy = bytes(view_of(data))  # they may be a part of the datagram, which the library mustn't see twice
+        self._set(_library.set_element, unsigned("an id", id, 8), copy, len(copy))
 
     def remove_element(self, id: int) -> None:
         """Makes each element of this id padding. NoElement where the packet has none."""

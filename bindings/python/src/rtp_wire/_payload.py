@@ -6,7 +6,7 @@ from ctypes import c_size_t, c_uint16
 from typing import TYPE_CHECKING
 
 from . import _library
-from ._buffers import address_of, view_of, writable_view_of
+from ._buffers import address_of, place_of, writable_view_of
 from ._errors import check, unsigned
 
 if TYPE_CHECKING:
@@ -21,7 +21,11 @@ def pad(datagram: WritableBuffer, header_len: int, pad_len: int, block_size: int
     BadField where the block size is 0, or the padding above 255; ShortBuffer where there is too little room.
     """
     view, count = writable_view_of(datagram), c_size_t()
-    sizes = unsigned("header_len", header_len, 64), unsigned("pad_len", pad_len, 8), unsigned("block_size", block_size, 64)
+    sizes = (
+        unsigned("header_len", header_len, 64),
+        unsigned("pad_len", pad_len, 8),
+        unsigned("block_size", block_size, 64),
+    )
     check(_library.pad(address_of(view), len(view), *sizes, count))
     return count.value
 
@@ -29,8 +33,9 @@ def pad(datagram: WritableBuffer, header_len: int, pad_len: int, block_size: int
 def read_original(payload: Buffer) -> int:
     """The original sequence number that the payload of a retransmission packet begins with, two bytes before the
     original payload (RFC 4588, 4). ShortBuffer where there are fewer."""
-    view, number = view_of(payload), c_uint16()
-    check(_library.read_original(address_of(view), len(view), number))
+    number = c_uint16()
+    data, at = place_of(payload)
+    check(_library.read_original(at, len(data), number))
     return number.value
 
 

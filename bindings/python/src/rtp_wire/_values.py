@@ -8,7 +8,7 @@ from operator import attrgetter
 from typing import TYPE_CHECKING, Any, Callable, Dict, NamedTuple, Optional, Tuple
 
 from . import _library
-from ._buffers import address_of, view_of
+from ._buffers import place_of
 from ._errors import BadField, Status, check, unsigned, within
 from ._layers import Layers
 from ._map import Map
@@ -82,9 +82,9 @@ class Values:
     def read(cls, body: Buffer, form: int, map: Map) -> Values:
         """The values of the elements of a block's body under the map, but for a layer allocation, which is read from
         a whole packet. BadField where the form is none of the two."""
-        view = view_of(body)
+        data, at = place_of(body)
         raw = _library.RawValues()
-        check(_library.values_read(address_of(view), len(view), unsigned("a form", form, 8), map.raw, raw))
+        check(_library.values_read(at, len(data), unsigned("a form", form, 8), map.raw, raw))
         return values_of(raw)
 
     def __repr__(self) -> str:
