@@ -1,14 +1,18 @@
 #!/usr/bin/env bash
-# Installs the library for C: PREFIX/lib/librtp_wire.a, librtp_wire.so and pkgconfig/rtp_wire.pc, and
-# PREFIX/include/rtp_wire.h.
+# Installs the library for C into PREFIX: the static and the shared library, the header file, and what pkg-config
+# and CMake ask for.
 #
-# usage: bindings/install.sh [--prove] [--target x86_64-unknown-linux-gnu | aarch64-unknown-linux-gnu] [PREFIX]
+# usage: bindings/install.sh [--prove] [--target TARGET] [--libdir DIR] [PREFIX]
+#        bindings/install.sh --uninstall [--target TARGET] [--libdir DIR] [PREFIX]
 #
-# Without PREFIX it installs into bindings/out/TARGET. It takes the assembly text of the folder generated, and a
-# C compiler and binutils of the target: for this machine `cc` (or $CC), for the other aarch64-linux-gnu-gcc and
-# the like. With --prove it takes `rt` too, proves and builds the library from the sources, which takes minutes
-# the first time, installs that, and says whether it is the text. Only the names rtpw_* are visible in both
-# libraries, which want nothing but the C library.
+# TARGET is x86_64-unknown-linux-gnu or aarch64-unknown-linux-gnu, by default this machine's. Without PREFIX it
+# installs into bindings/out/TARGET. Libraries go into PREFIX/DIR, by default `lib`. Where DESTDIR is set all files
+# are put below that folder, for a package, and name PREFIX alone. With --uninstall it removes what it installs.
+#
+# It takes the assembly text of the folder generated, and a C compiler and binutils of the target: for this machine
+# `cc` (or $CC), for the other aarch64-linux-gnu-gcc and the like. With --prove it takes `rt` too, proves and builds
+# the library from the sources, which takes minutes the first time, installs that, and says whether it is the text.
+# Only the names rtpw_* are visible in both libraries, which want nothing but the C library.
 set -euo pipefail
 
 say() { echo "install.sh: $*" >&2; }
@@ -21,18 +25,21 @@ here=$(cd -- "$(dirname -- "$(readlink -f -- "${BASH_SOURCE[0]}")")" && pwd)
 top=$(cd -- "$here/.." && pwd)
 machine=$(uname -m)
 target=$machine-unknown-linux-gnu
+libdir=lib
 prefix=
 proves=
+uninstalls=
 while [ $# -gt 0 ]; do
     case $1 in
     --prove) proves=yes ;;
-    --target)
-        [ $# -ge 2 ] || give_up '--target wants a name'
-        target=$2
+    --uninstall) uninstalls=yes ;;
+    --target | --libdir)
+        [ $# -ge 2 ] || give_up "$1 wants a name"
+        if [ "$1" = --target ]; then target=$2; else libdir=${2%/}; fi
         shift
         ;;
     -h | --help)
-        sed -n '2,12s/^# \{0,1\}//p' "$here/install.sh"
+        sed -n '2,/^set /s/^# \{0,1\}//p' "$here/install.sh"
         exit
         ;;
     -*) give_up "no such option: $1" ;;
@@ -47,6 +54,23 @@ case $target in
 x86_64-unknown-linux-gnu | aarch64-unknown-linux-gnu) processor=${target%%-*} ;;
 *) give_up "no such target: $target" ;;
 esac
+case /$libdir/ in
+// | //* | */./* | */../*) give_up "--libdir wants a folder below PREFIX, and not $libdir" ;;
+esac
+prefix=$(realpath -m -- "${prefix:-$here/out/$target}")
+to=${DESTDIR-}$prefix
+
+# The number of the shared library is the major one: what is linked with it can use each later one of that number.
+version=$(sed -n 's/^#define RTPW_VERSION "\(.*\)"$/\1/p' "$here/c/rtp_wire.h")
+abi=${version%%.*}
+if [ -n "$uninstalls" ]; then
+    rm -f -- "$to/include/rtp_wire.h" "$to/$libdir/pkgconfig/rtp_wire.pc" "$to/$libdir"/cmake/rtp_wire/rtp_wire-config{,-version}.cmake \
+        "$to/$libdir"/librtp_wire.{a,so,"so.$abi"} "$to/$libdir/librtp_wire.so.$abi."*
+    [ ! -d "$to/$libdir/cmake/rtp_wire" ] || rmdir -- "$to/$libdir/cmake/rtp_wire"
+    say "removed the library from $to"
+    exit
+fi
+
 tools=$processor-linux-gnu-
 cc=${tools}gcc
 if [ "$processor" = "$machine" ]; then
@@ -55,14 +79,20 @@ fi
 for tool in "$cc" "${tools}ar" "${tools}ld" "${tools}objcopy" ${proves:+rt}; do
     command -v "${tool%% *}" >/dev/null || give_up "$tool is not on the path"
 done
-prefix=$(realpath -m -- "${prefix:-$here/out/$target}")
 work=$here/out/build-$target
 mkdir -p -- "$work"
-# shellcheck source=.ci/proving
-. "$top/.ci/proving"
 # shellcheck source=generated/heads.sh
 . "$top/generated/heads.sh"
 text=$(text_of rtp_wire "$processor")
+if [ -d "$top/crates" ]; then
+    # shellcheck source=.ci/proving
+    . "$top/.ci/proving"
+elif [ -n "$proves" ]; then
+    give_up 'there are no sources here to prove'
+else
+    # What bindings/package.sh packs has no sources, and was packed where they were those of the text.
+    now[rtp_wire]=$(said_of "$text" sources)
+fi
 fault=$(fault_of rtp_wire "$processor")
 
 compile() { # files
@@ -126,24 +156,22 @@ rm -f -- "$work/librtp_wire.a"
 "${tools}ar" rcsD "$work/librtp_wire.a" "$object"
 # shellcheck disable=SC2086
 $cc -shared -o "$work/librtp_wire.so" "$object" \
-    -Wl,-soname,librtp_wire.so -Wl,--no-undefined -Wl,-z,noexecstack -Wl,-z,relro -Wl,-z,now
+    -Wl,-soname,"librtp_wire.so.$abi" -Wl,--no-undefined -Wl,-z,noexecstack -Wl,-z,relro -Wl,-z,now
 
-version=$(sed -n 's/^#define RTPW_VERSION "\(.*\)"$/\1/p' "$here/c/rtp_wire.h")
-cat >"$work/rtp_wire.pc" <<PC
-prefix=$prefix
-libdir=\${prefix}/lib
-includedir=\${prefix}/include
-
-Name: rtp_wire
-Description: RTP packets, read and changed where they lie (RFC 3550, RFC 8285)
-Version: $version
-Libs: -L\${libdir} -lrtp_wire
-Cflags: -I\${includedir}
-PC
-
-install -d -- "$prefix/lib/pkgconfig" "$prefix/include"
-install -m 644 -- "$work/librtp_wire.a" "$prefix/lib"
-install -m 755 -- "$work/librtp_wire.so" "$prefix/lib"
-install -m 644 -- "$work/rtp_wire.pc" "$prefix/lib/pkgconfig"
-install -m 644 -- "$here/c/rtp_wire.h" "$prefix/include"
-say "installed $what, into $prefix: $(stat -c %s "$work/librtp_wire.a") bytes of librtp_wire.a"
+fill_in() { # template, file
+    "$here/fill_in" "$1" prefix="$prefix" libdir="$libdir" up="$(sed -E 's|[^/]+|..|g' <<<"$libdir")" \
+        version="$version" abi="$abi" >"$2"
+}
+install -d -- "$to/$libdir/pkgconfig" "$to/$libdir/cmake/rtp_wire" "$to/include"
+install -m 644 -- "$work/librtp_wire.a" "$to/$libdir"
+install -m 755 -- "$work/librtp_wire.so" "$to/$libdir/librtp_wire.so.$version"
+ln -sf "librtp_wire.so.$version" "$to/$libdir/librtp_wire.so.$abi"
+ln -sf "librtp_wire.so.$abi" "$to/$libdir/librtp_wire.so"
+install -m 644 -- "$here/c/rtp_wire.h" "$to/include"
+fill_in "$here/rtp_wire.pc.in" "$work/rtp_wire.pc"
+install -m 644 -- "$work/rtp_wire.pc" "$to/$libdir/pkgconfig"
+for it in rtp_wire-config.cmake rtp_wire-config-version.cmake; do
+    fill_in "$here/cmake/$it.in" "$work/$it"
+    install -m 644 -- "$work/$it" "$to/$libdir/cmake/rtp_wire"
+done
+say "installed $what, into $to: $(stat -c %s "$work/librtp_wire.a") bytes of librtp_wire.a"

@@ -31,13 +31,33 @@ library=$prefix/lib/librtp_wire.a
 strict=(-O2 -Wall -Wextra -Wpedantic -Werror)
 include=(-I"$prefix/include")
 
+# The ABI: what the header file declares is what the list says, and a change of it is told.
+abi=bindings/test/abi-$(sed -n 's/^#define RTPW_VERSION "\([0-9]*\)\..*/\1/p' bindings/c/rtp_wire.h).txt
+bindings/test/abi.sh || fail "the header file isn't what $abi lists: where that is meant, bindings/test/abi.sh --write"
+mkdir -p "$scratch/bindings"/{c,test}
+cp bindings/test/abi* "$scratch/bindings/test"
+sed -e 's/uint8_t id;/uint16_t id;/' -e '/RTPW_REFUSED/s/10,/12,/' -e '/rtpw_set_marker(/s/bool/uint8_t/' \
+    -e 's/^uint32_t rtpw_version(void);/uint32_t rtpw_versions(void);/' bindings/c/rtp_wire.h >"$scratch/bindings/c/rtp_wire.h"
+! "$scratch/bindings/test/abi.sh" 2>"$scratch/told" || fail 'another ABI passed'
+LC_ALL=C sort >"$scratch/expected" <<'END'
+abi.sh: gone or changed: rtpw_element.id at 24, 1 bytes: uint8_t
+abi.sh: gone or changed: constant RTPW_REFUSED: 10
+abi.sh: gone or changed: function int32_t rtpw_set_marker(uint8_t *, size_t, _Bool)
+abi.sh: gone or changed: function uint32_t rtpw_version(void)
+abi.sh: new: rtpw_element.id at 24, 2 bytes: uint16_t
+abi.sh: new: constant RTPW_REFUSED: 12
+abi.sh: new: function int32_t rtpw_set_marker(uint8_t *, size_t, uint8_t)
+abi.sh: new: function uint32_t rtpw_versions(void)
+END
+LC_ALL=C sort "$scratch/told" | diff "$scratch/expected" - >&2 || fail 'what is told of another ABI'
+said "the ABI: $(grep -c '^struct' "$abi") structs, $(grep -c '^constant' "$abi") constants and $(grep -c '^function' "$abi") functions, as $abi lists them"
+
 # The names that can be seen, and those that are wanted.
-cc -E -P bindings/c/rtp_wire.h | tr '\n' ' ' | grep -oE '\brtpw_[a-z0-9_]+ ?\([^(){}]*\);' |
-    grep -oE '^rtpw_[a-z0-9_]+' | sort >"$scratch/declared"
+sed -nE 's/^function .*\<(rtpw_[a-z0-9_]+)\(.*/\1/p' "$abi" | sort >"$scratch/declared"
 nm -g --defined-only "$library" | awk 'NF == 3 { print $3 }' | sort >"$scratch/exported"
 nm -D --defined-only "$prefix/lib/librtp_wire.so" | awk '{ print $3 }' | sort >"$scratch/shared"
-diff "$scratch/declared" "$scratch/exported" >&2 || fail 'the header file and the library differ'
-diff "$scratch/declared" "$scratch/shared" >&2 || fail 'the header file and the shared library differ'
+diff "$scratch/declared" "$scratch/exported" >&2 || fail 'the list and the library differ'
+diff "$scratch/declared" "$scratch/shared" >&2 || fail 'the list and the shared library differ'
 wanted=$(nm -u "$library" | awk '$1 == "U" { print $2 }' | sort -u | tr '\n' ' ')
 for name in $wanted; do
     case $name in
@@ -46,7 +66,7 @@ for name in $wanted; do
     esac
 done
 for name in $(cat "$scratch/exported"); do
-    for callers in 'bindings/test/hostile*.c' bindings/test/stack.c bindings/rust/rtp-wire/src/sys.rs; do
+    for callers in 'bindings/test/hostile_*.c' bindings/test/stack.c bindings/rust/rtp-wire/src/sys.rs; do
         case $callers in *stack.c) word=${name#rtpw_} ;; *) word=$name ;; esac
         # shellcheck disable=SC2086
         grep -qw -- "$word" $callers || fail "$name is not called in $callers"
@@ -191,12 +211,7 @@ fi
 
 # The programs of docs/CALLING.md print what stands there: in the section of each language the first block of that
 # language is the program, and the first one of none its output.
-block() { # section, language
-    awk -v section="## $1" -v language="$2" '
-        /^## / { inside = $0 == section }
-        /^```/ { open = !open; here = open && inside && !found && substr($0, 4) == language; found = found || here; next }
-        here' docs/CALLING.md
-}
+block() { .ci/block docs/CALLING.md "$@"; } # section, language
 block C c >"$scratch/call.c"
 block C++ cpp >"$scratch/call.cpp"
 block Rust rust >"$scratch/call.rs"
@@ -234,6 +249,20 @@ hostile cc "$library" "$scratch/hostile"
 wait $! || { cat "$scratch/first" >&2; fail hostile; }
 said 'each function with random bytes and structs between pages that may not be touched, a million times'
 
+# What a fuzzer runs, with the packets of the captures as its inputs; and beside one function in place of another.
+fuzz() { # program, options
+    cc -std=c99 -g "${strict[@]}" -D_GNU_SOURCE -D FUZZ_MAIN "${@:2}" bindings/test/fuzz.c bindings/test/hostile_*.c "$library" -o "$1"
+}
+bindings/test/inputs.sh "$scratch/inputs"
+fuzz "$scratch/fuzz"
+"$scratch/fuzz" "$scratch/inputs/"*
+for ((len = 0; len < 70; len++)); do head -c "$len" "$scratch/inputs/1" | "$scratch/fuzz"; done
+fuzz "$scratch/other" -O0 -D rtpw_extend_u15=rtpw_extend_u16
+status=0
+{ "$scratch/other" "$scratch/inputs/"* >"$scratch/told"; } 2>"$scratch/aborted" || status=$?
+[ $status -eq 134 ] && grep -q rtpw_extend_u15 "$scratch/told" || fail 'a wrong function passed the entry for fuzzers'
+said "the entry for fuzzers, with $(find "$scratch/inputs" -type f | wc -l) packets of the captures"
+
 if has valgrind; then
     valgrind --quiet --error-exitcode=9 --leak-check=full "$scratch/hostile" 3 20000 malloc
     said 'the same under valgrind, 20,000 times'
@@ -257,6 +286,9 @@ if has aarch64-linux-gnu-gcc && has qemu-aarch64; then
     bindings/install.sh $proves --target aarch64-unknown-linux-gnu
     arm=$here/out/aarch64-unknown-linux-gnu/lib/librtp_wire.a
     aarch64-linux-gnu-gcc -std=c11 "${strict[@]}" -fsyntax-only bindings/test/layout.c
+    CC='aarch64-linux-gnu-gcc -static' RUN=qemu-aarch64 bindings/test/abi.sh || fail 'the ABI on ARM'
+    aarch64-linux-gnu-nm -g --defined-only "$arm" | awk 'NF == 3 { print $3 }' | sort | diff "$scratch/declared" - >&2 ||
+        fail 'the list and the library for ARM differ'
     aarch64-linux-gnu-gcc -std=c99 "${strict[@]}" "${include[@]}" -static bindings/examples/lines.c "$arm" -o "$scratch/arm"
     compare qemu-aarch64 "$scratch/arm"
     for it in packets padding faults headers statuses; do
@@ -269,7 +301,7 @@ if has aarch64-linux-gnu-gcc && has qemu-aarch64; then
     qemu-aarch64 "$scratch/arm" || fail 'refused memory, on ARM'
     aarch64-linux-gnu-gcc -std=c99 -D_GNU_SOURCE "${strict[@]}" -static bindings/test/hostile*.c "$arm" -o "$scratch/arm"
     qemu-aarch64 "$scratch/arm" 4 20000
-    said 'on ARM, emulated: layouts, the example, the values worked out by hand, the stack, refused memory, and random bytes 20,000 times'
+    said 'on ARM, emulated: the ABI, layouts, the example, the values worked out by hand, the stack, refused memory, and random bytes 20,000 times'
 else
     said 'ARM was left out: there is no aarch64-linux-gnu-gcc or no qemu-aarch64'
 fi

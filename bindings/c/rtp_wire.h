@@ -56,10 +56,12 @@ extern "C" {
 #define RTPW_CHECKED
 #endif
 
+/* The version of this header file: as text, and as the number that rtpw_version returns of its library. */
 #define RTPW_VERSION "0.1.0"
+#define RTPW_VERSION_NUMBER 256
 
 /* The version of the library that is linked: 65,536 times its major number, 256 times the minor one,
- * and the patch. That of this header file is 256. */
+ * and the patch. */
 uint32_t rtpw_version(void);
 
 /* ---- Statuses ---- */

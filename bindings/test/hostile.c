@@ -113,16 +113,7 @@ int main(int argc, char **argv) {
     uses_malloc = argc > 3;
     for (round_number = 0; round_number < rounds; round_number++) {
         random_state = seed + round_number * 0x2545F4914F6CDD1Du;
-        packets_round();
-        changes_round();
-        elements_round();
-        receivers_round();
-        values_round();
-        headers_round();
-        maps_round();
-        writing_round();
-        written_elements_round();
-        payload_round();
+        every_round();
     }
     printf("hostile: %llu rounds, seed %llu\n", (unsigned long long)rounds, (unsigned long long)seed);
     return 0;

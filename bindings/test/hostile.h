@@ -1,4 +1,4 @@
-/* The parts of the program `hostile`. Each makes its calls once, with random bytes and values. */
+/* The parts of the programs `hostile` and `fuzz`. Each makes its calls once, with random bytes and values. */
 #ifndef HOSTILE_H
 #define HOSTILE_H
 
@@ -9,6 +9,8 @@
 /* The longest datagram that is tried: the longest header and a little. */
 #define LONGEST 262300
 
+/* hostile.c makes these of random numbers, and fuzz.c of its input. */
+
 /* A length, from 0 on: mostly short, at times past the longest header. */
 size_t random_len(void);
 /* Random bytes, most of which begin as a packet does. */
@@ -17,6 +19,7 @@ void random_packet(uint8_t *bytes, size_t len);
 void random_body(uint8_t *body, size_t len, int form);
 /* An id, mostly one of those that the bodies have. */
 uint8_t random_id(void);
+
 /* A map in which most numbers are those of kinds. */
 void random_map(rtpw_map *map);
 /* A header, most of which can be written. */
@@ -34,5 +37,18 @@ void maps_round(void);
 void writing_round(void);
 void written_elements_round(void);
 void payload_round(void);
+
+static inline void every_round(void) {
+    packets_round();
+    changes_round();
+    elements_round();
+    receivers_round();
+    values_round();
+    headers_round();
+    maps_round();
+    writing_round();
+    written_elements_round();
+    payload_round();
+}
 
 #endif

@@ -58,5 +58,5 @@ void payload_round(void) {
     }
     CHECK(memcmp(payload, before, len) == 0);
     pad(len, payload);
-    CHECK(rtpw_version() == 256); /* 0.1.0 */
+    CHECK(rtpw_version() == RTPW_VERSION_NUMBER);
 }

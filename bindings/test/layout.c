@@ -126,6 +126,7 @@ HOLDS(offsetof(rtpw_map, kind) == 0);
 HOLDS(sizeof(rtpw_new_ids) == 256);
 HOLDS(offsetof(rtpw_new_ids, id) == 0);
 
+HOLDS(RTPW_VERSION_NUMBER == 256);
 HOLDS(RTPW_OK == 0);
 HOLDS(RTPW_CUT_FIXED_PART == 1);
 HOLDS(RTPW_OTHER_VERSION == 2);

@@ -17,7 +17,8 @@ extern uint64_t round_number;
     do { \
         if (!(holds)) { \
             printf("%s:%d: round %llu: %s\n", __FILE__, __LINE__, (unsigned long long)round_number, #holds); \
-            exit(1); \
+            fflush(stdout); \
+            abort(); \
         } \
     } while (0)
 

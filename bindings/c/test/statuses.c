@@ -53,6 +53,7 @@ static void versions_agree(void) {
     CHECK(sscanf(RTPW_VERSION, "%u.%u.%u%c", &major, &minor, &patch, &rest) == 3);
     CHECK(rtpw_version() == 65536 * major + 256 * minor + patch);
     CHECK(rtpw_version() == 256);
+    CHECK(RTPW_VERSION_NUMBER == 256);
 }
 
 int main(void) {

@@ -1,0 +1,82 @@
+#!/usr/bin/env bash
+# Packs the library for C for a release: a source archive, which has no Rattle and needs a C compiler alone, and for
+# each processor a Debian package of what bindings/install.sh installs. Their bytes are the same on each run: all times
+# are the date of the release in CHANGELOG.md, or $SOURCE_DATE_EPOCH.
+#
+# usage: bindings/package.sh [FOLDER]      without FOLDER into bindings/out/packages
+#
+# The Debian packages take dpkg-deb, and that for another processor its compiler. What isn't there is said.
+set -euo pipefail
+umask 022
+export LC_ALL=C TZ=UTC
+top=$(cd -- "$(dirname -- "$(readlink -f -- "${BASH_SOURCE[0]}")")/.." && pwd)
+to=$(realpath -m -- "${1:-$top/bindings/out/packages}")
+cd -- "$top"
+scratch=$(mktemp -d)
+trap 'rm -rf -- "$scratch"' EXIT
+say() { echo "package.sh: $*" >&2; }
+give_up() {
+    say "$*"
+    exit 1
+}
+
+generated/make --digest || give_up 'the texts are not those of the sources'
+version=$(sed -n 's/^#define RTPW_VERSION "\(.*\)"$/\1/p' bindings/c/rtp_wire.h)
+date=$(sed -n "s/^## \[$version\] - //p" CHANGELOG.md)
+[ -n "$date" ] || give_up "CHANGELOG.md has no date of $version"
+SOURCE_DATE_EPOCH=${SOURCE_DATE_EPOCH:-$(date -d "$date" +%s)}
+export SOURCE_DATE_EPOCH
+mkdir -p -- "$to"
+
+pack_sources() {
+    local name=rtp-wire-c-$version
+    mkdir "$scratch/$name"
+    cp -r --parents -t "$scratch/$name" CHANGELOG.md LICENSE-APACHE LICENSE-MIT NOTICE SECURITY.md captures \
+        bindings/{CMakeLists.txt,README.md,fill_in,install.sh,rtp_wire.pc.in,c/rtp_wire.h} bindings/cmake \
+        bindings/examples/*.c bindings/examples/*.cpp bindings/test/{fuzz.c,hostile_*.c,*.h,inputs.sh} \
+        generated/{heads.sh,heap.c,rtp_wire-*.s}
+    ln -s bindings/README.md "$scratch/$name/README.md"
+    tar --format=ustar --sort=name --owner=0 --group=0 --numeric-owner --mode=u+rw,go+r-w,a+X \
+        --mtime="@$SOURCE_DATE_EPOCH" -C "$scratch" -c "$name" | gzip -9n >"$to/$name.tar.gz"
+    say "packed $name.tar.gz"
+}
+
+# A text as a field of Debian's files has it.
+paragraphs() {
+    sed 's/^$/./; s/^/ /' "$1"
+}
+
+pack_for_debian() { # architecture, processor
+    local root=$scratch/$1 name=librtp-wire-dev_${version}_$1.deb kilobytes documents
+    documents=$root/usr/share/doc/librtp-wire-dev
+    DESTDIR=$root bindings/install.sh --target "$2-unknown-linux-gnu" --libdir "lib/$2-linux-gnu" /usr 2>"$scratch/said" ||
+        give_up "$(cat "$scratch/said")"
+    chmod 644 "$root/usr/lib/$2-linux-gnu"/*.so.*
+    install -Dm 644 -t "$documents/examples" bindings/examples/*.c bindings/examples/*.cpp
+    install -m 644 -t "$documents" bindings/README.md SECURITY.md
+    gzip -9n <CHANGELOG.md >"$documents/changelog.gz"
+    bindings/fill_in bindings/debian/copyright.in notice="$(paragraphs NOTICE)" mit="$(paragraphs LICENSE-MIT)" >"$documents/copyright"
+    kilobytes=$(find "$root/usr" -type f -printf '%s\n' | awk '{ sum += int(($1 + 1023) / 1024) } END { print sum }')
+    mkdir "$root/DEBIAN"
+    bindings/fill_in bindings/debian/control.in version="$version" architecture="$1" kilobytes="$kilobytes" >"$root/DEBIAN/control"
+    echo 'activate-noawait ldconfig' >"$root/DEBIAN/triggers"
+    (cd -- "$root" && find usr -type f -print0 | sort -z | xargs -0 md5sum) >"$root/DEBIAN/md5sums"
+    find "$root" -exec touch -hd "@$SOURCE_DATE_EPOCH" {} +
+    DPKG_DEB_THREADS_MAX=1 dpkg-deb --root-owner-group -Zxz --build "$root" "$to/$name" >"$scratch/said" 2>&1 ||
+        give_up "$(cat "$scratch/said")"
+    say "packed $name"
+}
+
+pack_sources
+if ! command -v dpkg-deb >/dev/null; then
+    say 'the Debian packages were left out: there is no dpkg-deb'
+    exit
+fi
+for it in 'amd64 x86_64' 'arm64 aarch64'; do
+    read -r architecture processor <<<"$it"
+    if [ "$processor" = "$(uname -m)" ] || command -v "$processor-linux-gnu-gcc" >/dev/null; then
+        pack_for_debian "$architecture" "$processor"
+    else
+        say "the package for $architecture was left out: there is no $processor-linux-gnu-gcc"
+    fi
+done

@@ -1,0 +1,210 @@
+"""Builds the package rtp_wire for pip (PEP 517): its wheel, with the shared library that a C compiler makes of the
+assembly text for this machine, and its source distribution, with the texts for all machines.
+
+In the repository the texts are taken from where they lie there; a source distribution has them in the folder `texts`.
+The compiler is $CC, or else cc, gcc or clang. Linux on x86-64 or ARM (aarch64), with a Python of 64 bits.
+"""
+
+import base64
+import gzip
+import hashlib
+import io
+import os
+import platform
+import re
+import shlex
+import shutil
+import struct
+import subprocess
+import sys
+import tarfile
+import tempfile
+import zipfile
+from pathlib import Path
+from typing import Any, Dict, List, Optional, Tuple
+
+HERE = Path(__file__).resolve().parent.parent
+REPOSITORY = HERE.parent.parent
+# Where each text lies in the repository. Those in OPTIONAL are taken where they are there.
+TEXTS = {
+    "rtp_wire.h": "bindings/c",
+    "rtp_wire-x86_64.s": "generated",
+    "rtp_wire-aarch64.s": "generated",
+    "heap.c": "generated",
+    "LICENSE-APACHE": ".",
+    "LICENSE-MIT": ".",
+    "NOTICE": ".",
+}
+OPTIONAL = {"heap.c"}
+LICENCES = ("LICENSE-APACHE", "LICENSE-MIT", "NOTICE")
+MACHINES = {"x86_64": "x86_64", "amd64": "x86_64", "aarch64": "aarch64", "arm64": "aarch64"}
+METADATA = """\
+Metadata-Version: 2.1
+Name: rtp-wire
+Version: {version}
+Summary: RTP packets, their header extensions and receive state: read, written, and changed where they lie
+License: MIT OR Apache-2.0
+Keywords: rtp,rfc3550,rfc8285,webrtc,srtp
+Classifier: Development Status :: 4 - Beta
+Classifier: Intended Audience :: Developers
+Classifier: License :: OSI Approved :: Apache Software License
+Classifier: License :: OSI Approved :: MIT License
+Classifier: Operating System :: POSIX :: Linux
+Classifier: Programming Language :: Python :: 3
+Classifier: Programming Language :: Python :: Implementation :: CPython
+Classifier: Topic :: Multimedia
+Classifier: Typing :: Typed
+Requires-Python: >=3.9
+Description-Content-Type: text/markdown
+{licences}
+{description}"""
+# All files of an archive have one date, so that the same files give the same archive.
+DATE = (1980, 1, 1, 0, 0, 0)
+
+
+def texts() -> Dict[str, Path]:
+    """Where each text lies: in this folder, or in the repository around it."""
+    found: Dict[str, Path] = {}
+    for name, folder in TEXTS.items():
+        for place in (HERE / "texts" / name, REPOSITORY / folder / name):
+            if place.is_file():
+                found.setdefault(name, place)
+    missing = ", ".join(TEXTS.keys() - found.keys() - OPTIONAL)
+    if missing:
+        raise SystemExit(
+            f"rtp_wire: missing: {missing}. Build in a clone of the repository, with pip 21.3 or later, or from the"
+            " source distribution."
+        )
+    return found
+
+
+def version() -> str:
+    found = re.search(r'^#define RTPW_VERSION "(.*)"$', texts()["rtp_wire.h"].read_text("utf-8"), re.M)
+    assert found, "rtp_wire.h has no version"
+    return found[1]
+
+
+def metadata() -> bytes:
+    licences = "".join(f"License-File: {name}\n" for name in LICENCES)
+    description = (HERE / "README.md").read_text("utf-8")
+    return METADATA.format(version=version(), licences=licences, description=description).encode()
+
+
+def this_machine() -> str:
+    """The end of the name of the text for this machine."""
+    machine = MACHINES.get(platform.machine().lower())
+    if not sys.platform.startswith("linux") or machine is None or struct.calcsize("P") != 8:
+        raise SystemExit("rtp_wire: there is a text for Linux on x86-64 and ARM (aarch64), of 64 bits, alone")
+    return machine
+
+
+def tag() -> str:
+    """The library is called by ctypes: any Python 3 can load it, on this system and machine."""
+    return f"py3-none-linux_{this_machine()}"
+
+
+def compiler() -> List[str]:
+    if os.environ.get("CC"):
+        return shlex.split(os.environ["CC"])
+    for name in ("cc", "gcc", "clang"):
+        if shutil.which(name):
+            return [name]
+    raise SystemExit("rtp_wire: there is no C compiler: install one, or name it by CC")
+
+
+def library(machine: str) -> bytes:
+    """The shared library for a machine. Only the functions of rtp_wire.h and src/whole_packet.c can be seen."""
+    with tempfile.TemporaryDirectory() as folder:
+        names, made = Path(folder, "names"), Path(folder, "librtp_wire.so")
+        names.write_text("{ global: rtpw_*; whole_packet_parse; local: *; };", "utf-8")
+        found = texts()
+        sources = [found[name] for name in (f"rtp_wire-{machine}.s", "heap.c") if name in found]
+        command = [*compiler(), "-shared", "-fPIC", "-std=c99", "-O2", "-s", "-o", str(made)]
+        command += [f"-I{found['rtp_wire.h'].parent}", str(HERE / "src/whole_packet.c"), *map(str, sources)]
+        command += [f"-Wl,--version-script={names}", "-Wl,-soname,librtp_wire.so", "-Wl,--no-undefined"]
+        command += ["-Wl,-z,noexecstack", "-Wl,-z,relro", "-Wl,-z,now"]
+        if subprocess.run(command, check=False).returncode != 0:
+            raise SystemExit(f"rtp_wire: this failed: {shlex.join(command)}")
+        return made.read_bytes()
+
+
+def package_files() -> Dict[str, Path]:
+    return {
+        f"rtp_wire/{file.name}": file
+        for file in sorted((HERE / "src/rtp_wire").iterdir())
+        if file.suffix == ".py" or file.name == "py.typed"
+    }
+
+
+def digest_of(data: bytes) -> str:
+    return base64.urlsafe_b64encode(hashlib.sha256(data).digest()).rstrip(b"=").decode()
+
+
+def info_files() -> Dict[str, bytes]:
+    """The files of the folder .dist-info, but for the list of all files."""
+    wheel = f"Wheel-Version: 1.0\nGenerator: rtp_wire_backend\nRoot-Is-Purelib: false\nTag: {tag()}\n"
+    files = {"METADATA": metadata(), "WHEEL": wheel.encode()}
+    for name in LICENCES:
+        files[f"licenses/{name}"] = texts()[name].read_bytes()
+    return files
+
+
+def prepare_metadata_for_build_wheel(metadata_directory: str, config_settings: Optional[Dict[str, Any]] = None) -> str:
+    folder = f"rtp_wire-{version()}.dist-info"
+    for name, data in info_files().items():
+        place = Path(metadata_directory, folder, name)
+        place.parent.mkdir(parents=True, exist_ok=True)
+        place.write_bytes(data)
+    return folder
+
+
+def build_wheel(
+    wheel_directory: str,
+    config_settings: Optional[Dict[str, Any]] = None,
+    metadata_directory: Optional[str] = None,
+) -> str:
+    info = f"rtp_wire-{version()}.dist-info"
+    files = {name: file.read_bytes() for name, file in package_files().items()}
+    files["rtp_wire/librtp_wire.so"] = library(this_machine())
+    files.update({f"{info}/{name}": data for name, data in info_files().items()})
+    record = [f"{name},sha256={digest_of(data)},{len(data)}\n" for name, data in files.items()]
+    files[f"{info}/RECORD"] = "".join([*record, f"{info}/RECORD,,\n"]).encode()
+
+    wheel = f"rtp_wire-{version()}-{tag()}.whl"
+    with zipfile.ZipFile(Path(wheel_directory, wheel), "w", zipfile.ZIP_DEFLATED) as archive:
+        for name, data in files.items():
+            item = zipfile.ZipInfo(name, DATE)
+            item.compress_type = zipfile.ZIP_DEFLATED
+            item.external_attr = (0o100755 if name.endswith(".so") else 0o100644) << 16
+            archive.writestr(item, data)
+    return wheel
+
+
+def source_files() -> List[Tuple[str, Path]]:
+    """Those of this folder, and the texts."""
+    parts = (
+        "pyproject.toml",
+        "README.md",
+        "backend/*.py",
+        "src/*.c",
+        "src/rtp_wire/*.py",
+        "src/rtp_wire/py.typed",
+        "examples/*.py",
+        "tests/*.py",
+    )
+    own = [file for part in parts for file in sorted(HERE.glob(part))]
+    named = [(str(file.relative_to(HERE)), file) for file in own]
+    return named + [(f"texts/{name}", place) for name, place in texts().items()]
+
+
+def build_sdist(sdist_directory: str, config_settings: Optional[Dict[str, Any]] = None) -> str:
+    folder = f"rtp_wire-{version()}"
+    files = [("PKG-INFO", metadata()), *((name, file.read_bytes()) for name, file in source_files())]
+    packed = io.BytesIO()
+    with tarfile.open(fileobj=packed, mode="w", format=tarfile.PAX_FORMAT) as archive:
+        for name, data in files:
+            item = tarfile.TarInfo(f"{folder}/{name}")
+            item.size, item.mode = len(data), 0o644
+            archive.addfile(item, io.BytesIO(data))
+    Path(sdist_directory, f"{folder}.tar.gz").write_bytes(gzip.compress(packed.getvalue(), mtime=0))
+    return f"{folder}.tar.gz"

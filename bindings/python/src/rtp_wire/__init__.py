@@ -1,0 +1,54 @@
+"""RTP packets (RFC 3550, 5.1), their header extensions (RFC 8285) and the receive state of a stream.
+
+`Packet` reads a packet where it lies, and changes it in place; `Header` is the header as a value, to be read or
+written; `Map` says which extension each id means; `Receiver` judges the packets of a stream. The work is done by the
+functions of librtp_wire, each of which is proved.
+"""
+
+from . import _library
+from ._errors import BadField, Cause, NoElement, NotAPacket, RtpError, ShortBuffer, Status
+from ._header import Header, write_elements
+from ._layers import Layer, Layers, Resolution
+from ._map import Kind, Map, NewIds
+from ._packet import Element, Form, Packet, elements, is_rtcp
+from ._payload import pad, read_original, write_original
+from ._receiver import Receiver, extend_u8, extend_u15, extend_u16, extend_u32
+from ._values import Time, Values, VideoTiming
+
+__all__ = [
+    "BadField",
+    "Cause",
+    "Element",
+    "Form",
+    "Header",
+    "Kind",
+    "Layer",
+    "Layers",
+    "Map",
+    "NewIds",
+    "NoElement",
+    "NotAPacket",
+    "Packet",
+    "Receiver",
+    "Resolution",
+    "RtpError",
+    "ShortBuffer",
+    "Status",
+    "Time",
+    "Values",
+    "VideoTiming",
+    "elements",
+    "extend_u15",
+    "extend_u16",
+    "extend_u32",
+    "extend_u8",
+    "is_rtcp",
+    "pad",
+    "read_original",
+    "write_elements",
+    "write_original",
+]
+
+_version: int = _library.version()
+__version__ = f"{_version >> 16}.{_version >> 8 & 0xFF}.{_version & 0xFF}"
+"""The version of the library."""

@@ -1,0 +1,122 @@
+"""What the functions of the library return, and the exceptions for it."""
+
+from __future__ import annotations
+
+from enum import IntEnum
+from operator import index
+from typing import Optional, Union
+
+
+class Status(IntEnum):
+    """What a function of the library returns. Those from 1 to 6 are the causes for which bytes are no packet."""
+
+    OK = 0
+    CUT_FIXED_PART = 1
+    OTHER_VERSION = 2
+    CUT_SOURCES = 3
+    CUT_BLOCK_HEADER = 4
+    UNKNOWN_FORM = 5
+    CUT_BLOCK = 6
+    NO_MEMORY = 7
+    SHORT_BUFFER = 8
+    BAD_FIELD = 9
+    REFUSED = 10
+    NONE = 11
+
+    @property
+    def text(self) -> str:
+        """What the status says, in words."""
+        return _TEXTS[self]
+
+
+_TEXTS = (
+    "done",
+    "fewer than twelve bytes",
+    "another version than 2",
+    "the CSRC list is cut short",
+    "the header of the extension block is cut short",
+    "a header extension of an unknown form",
+    "the extension block is cut short",
+    "memory was refused",
+    "a buffer is too short",
+    "an argument is out of its range",
+    "a replay, or too old to tell",
+    "no such element",
+)
+
+
+class Cause(IntEnum):
+    """Why bytes are no RTP packet: the first of these that applies."""
+
+    CUT_FIXED_PART = 1
+    OTHER_VERSION = 2
+    CUT_SOURCES = 3
+    CUT_BLOCK_HEADER = 4
+    UNKNOWN_FORM = 5
+    CUT_BLOCK = 6
+
+
+class RtpError(ValueError):
+    """A call was refused, and changed nothing. `status` says why."""
+
+    status: Status
+
+    def __init__(self, status: Status, text: Optional[str] = None) -> None:
+        super().__init__(text or status.text)
+        self.status = status
+
+    def __reduce__(self) -> tuple[object, ...]:
+        return type(self), (self.status, str(self))
+
+
+class NotAPacket(RtpError):
+    """The bytes are no RTP packet."""
+
+    @property
+    def cause(self) -> Cause:
+        """The first cause for which they are none."""
+        return Cause(self.status)
+
+
+class BadField(RtpError):
+    """An argument or a field is out of its range."""
+
+
+class ShortBuffer(RtpError):
+    """The buffer is too short."""
+
+
+class NoElement(RtpError, LookupError):
+    """The packet has no such element or contributing source, or the element has another length."""
+
+
+_KINDS = {Status.SHORT_BUFFER: ShortBuffer, Status.BAD_FIELD: BadField, Status.NONE: NoElement}
+
+
+def error_of(status: int) -> Union[RtpError, MemoryError]:
+    """The exception for a status that isn't OK."""
+    status = Status(status)
+    if status == Status.NO_MEMORY:
+        return MemoryError(status.text)
+    if status <= Status.CUT_BLOCK:
+        return NotAPacket(status)
+    return _KINDS.get(status, RtpError)(status)
+
+
+def check(status: int) -> None:
+    """Raises the exception for a status that isn't OK."""
+    if status:
+        raise error_of(status)
+
+
+def within(name: str, value: int, low: int, high: int) -> int:
+    """The value, where it is in this range; TypeError where it is no whole number."""
+    value = index(value)
+    if not low <= value <= high:
+        raise BadField(Status.BAD_FIELD, f"{name} is {value}, and not {low} to {high}")
+    return value
+
+
+def unsigned(name: str, value: int, bits: int) -> int:
+    """The value, where it is a whole number of so many bits."""
+    return within(name, value, 0, (1 << bits) - 1)

@@ -1,0 +1,171 @@
+"""A header as a value of its own."""
+
+from __future__ import annotations
+
+from ctypes import c_size_t
+from dataclasses import dataclass, field
+from typing import TYPE_CHECKING, Iterable, Optional, Tuple
+
+from . import _library
+from ._buffers import address_of, place_of, view_of, writable_view_of
+from ._errors import BadField, Status, check, error_of, unsigned
+from ._layers import layers_of
+from ._map import Map
+from ._values import Values, put_values, values_of
+
+if TYPE_CHECKING:
+    from ._buffers import Address, Buffer, WritableBuffer
+
+MOST_CSRCS = 15
+# Of the header of a block, and the word that its elements are filled up to.
+BLOCK_HEADER, WORD = 4, 4
+
+
+def read_header(address: Address, length: int, map: Map) -> Tuple[_library.RawHeader, Values]:
+    """The header that the bytes begin with, and the values of its block under the map."""
+    raw = _library.RawHeader()
+    status = _library.parse(address, length, map.raw, raw)
+    if status:
+        raise error_of(status)
+    values = values_of(raw.values)
+    if raw.values.has[-1]:
+        layers = _library.RawLayers()
+        check(_library.parse_layers(address, length, map.raw, raw, layers))
+        values.layers = layers_of(layers)
+    return raw, values
+
+
+@dataclass
+class Header:
+    """The header of a packet, with the values of its block: read by `parse`, or filled and written by `write`.
+
+    >>> from rtp_wire import Kind
+    >>> header = Header(payload_type=33, sequence_number=47000, has_extension=True, values=Values(mid="1"))
+    >>> header.write(Map({3: Kind.MID})).hex(" ", 4)
+    '9021b798 00000000 00000000 bede0001 30310000'
+    """
+
+    payload_type: int = 0
+    """What the payload is, 0 to 127."""
+    sequence_number: int = 0
+    """The low 16 bits of the packet's number."""
+    timestamp: int = 0
+    """In ticks of the payload's clock, 32 bits."""
+    ssrc: int = 0
+    """The stream's source, 32 bits."""
+    csrc: Tuple[int, ...] = ()
+    """The contributing sources, up to 15."""
+    marker: bool = False
+    """M."""
+    has_padding: bool = False
+    """P."""
+    has_extension: bool = False
+    """X, whether there is a block: without one no value is written."""
+    values: Values = field(default_factory=Values)
+    """What the elements of the block say."""
+    header_len: int = field(default=0, compare=False)
+    """How many bytes the header took that was read: the payload begins there. Nothing is written of it."""
+
+    @classmethod
+    def parse(cls, datagram: Buffer, map: Optional[Map] = None) -> Header:
+        """Reads the header that the bytes begin with, and what its elements say under the map; nothing after it is
+        looked at. NotAPacket and MemoryError as Packet.parse."""
+        data, at = place_of(datagram)
+        raw, values = read_header(at, len(data), Map() if map is None else map)
+        return cls(
+            raw.payload_type,
+            raw.sequence_number,
+            raw.timestamp,
+            raw.ssrc,
+            tuple(raw.csrc[: raw.csrc_count]),
+            raw.marker != 0,
+            raw.has_padding != 0,
+            raw.has_extension != 0,
+            values,
+            raw.header_len,
+        )
+
+    def _raw(self, with_values: bool = True) -> _library.RawHeader:
+        raw = _library.RawHeader()
+        raw.payload_type = unsigned("payload_type", self.payload_type, 7)
+        raw.sequence_number = unsigned("sequence_number", self.sequence_number, 16)
+        raw.timestamp = unsigned("timestamp", self.timestamp, 32)
+        raw.ssrc = unsigned("ssrc", self.ssrc, 32)
+        if len(self.csrc) > MOST_CSRCS:
+            raise BadField(Status.BAD_FIELD, f"csrc has {len(self.csrc)} sources, and not up to {MOST_CSRCS}")
+        raw.csrc_count = len(self.csrc)
+        raw.csrc[: len(self.csrc)] = [unsigned("a source", source, 32) for source in self.csrc]
+        raw.marker, raw.has_padding, raw.has_extension = self.marker, self.has_padding, self.has_extension
+        if with_values:
+            put_values(raw.values, self.values)
+        return raw
+
+    def wire_len(self, map: Map) -> int:
+        """How many bytes `write` writes: a multiple of 4. BadField as `write`."""
+        length = c_size_t()
+        check(_library.wire_len(map.raw, self._raw(), length))
+        return length.value
+
+    def write(self, map: Map) -> bytes:
+        """The bytes of the header. Where has_extension is set there is a block, by rising id an element for each
+        mapped id whose value is there: in the one-byte form unless an id above 14 or Kind.LAYERS is mapped or a text
+        that is written is empty. BadField where a field or a value is out of its range."""
+        raw, length = self._raw(), c_size_t()
+        check(_library.wire_len(map.raw, raw, length))
+        buf = bytearray(length.value)
+        check(_library.write(map.raw, raw, address_of(memoryview(buf)), len(buf), length))
+        return bytes(buf)
+
+    def write_to(self, buf: WritableBuffer, map: Map) -> int:
+        """Writes the header to the front of the buffer, and returns how many bytes it took; those after it stay.
+        BadField as `write`, and else ShortBuffer; nothing is written then."""
+        view, length = writable_view_of(buf), c_size_t()
+        check(_library.write(map.raw, self._raw(), address_of(view), len(view), length))
+        return length.value
+
+    def write_with(self, elements: Iterable[Tuple[int, Buffer]]) -> bytes:
+        """The bytes of the header with a block of these elements, pairs of an id and its data, whatever has_extension
+        and the values hold: in the one-byte form where that can carry each of them. BadField where a field is out of
+        its range, an id isn't 1 to 255, data have more than 255 bytes, or a block can't have as many bytes."""
+        data, places = _gather(elements)
+        room = _room(data, places) + BLOCK_HEADER + 12 + 4 * len(self.csrc)
+        buf, length = bytearray(room), c_size_t()
+        check(
+            _library.write_with(
+                self._raw(with_values=False),
+                data,
+                len(data),
+                places,
+                len(places),
+                address_of(memoryview(buf)),
+                len(buf),
+                length,
+            )
+        )
+        return bytes(memoryview(buf)[: length.value])
+
+
+def _gather(elements: Iterable[Tuple[int, Buffer]]) -> Tuple[bytes, _library.Places]:
+    """The data of all elements, one after the other, and where those of each lie."""
+    data, places = bytearray(), []
+    for id, part in elements:
+        view = view_of(part)
+        places.append(_library.RawElement(len(data), len(view), 0, unsigned("an id", id, 8)))
+        data += view
+    return bytes(data), (_library.RawElement * len(places))(*places)
+
+
+def _room(data: bytes, places: _library.Places) -> int:
+    """As many bytes as the elements take in the two-byte form, and as a word is filled up with."""
+    return len(data) + 2 * len(places) + WORD - 1
+
+
+def write_elements(elements: Iterable[Tuple[int, Buffer]], form: int) -> bytes:
+    """The elements, pairs of an id and its data, one after the other as the body of a block has them. BadField where
+    the form is none of the two, or can't carry one of them."""
+    data, places = _gather(elements)
+    buf, length = bytearray(_room(data, places)), c_size_t()
+    form = unsigned("a form", form, 8)
+    view = memoryview(buf)
+    check(_library.write_elements(data, len(data), places, len(places), form, address_of(view), len(buf), length))
+    return bytes(view[: length.value])

@@ -1,0 +1,282 @@
+"""The functions of the shared library and their structs, as rtp_wire.h declares them."""
+
+from __future__ import annotations
+
+from ctypes import (
+    POINTER,
+    PyDLL,
+    Structure,
+    c_bool,
+    c_char,
+    c_int8,
+    c_int32,
+    c_int64,
+    c_size_t,
+    c_uint8,
+    c_uint16,
+    c_uint32,
+    c_uint64,
+    c_void_p,
+)
+from pathlib import Path
+from typing import TYPE_CHECKING, Any, Callable, Dict, cast
+
+
+class RawPacket(Structure):
+    payload_at: int
+    payload_len: int
+    unpadded_len: int
+    body_at: int
+    body_len: int
+    timestamp: int
+    ssrc: int
+    sequence_number: int
+    payload_type: int
+    csrc_count: int
+    marker: int
+    has_padding: int
+    padding_fits: int
+    block_form: int
+    _fields_ = [
+        ("payload_at", c_size_t),
+        ("payload_len", c_size_t),
+        ("unpadded_len", c_size_t),
+        ("body_at", c_size_t),
+        ("body_len", c_size_t),
+        ("timestamp", c_uint32),
+        ("ssrc", c_uint32),
+        ("sequence_number", c_uint16),
+        ("payload_type", c_uint8),
+        ("csrc_count", c_uint8),
+        ("marker", c_uint8),
+        ("has_padding", c_uint8),
+        ("padding_fits", c_uint8),
+        ("block_form", c_uint8),
+    ]
+
+
+class RawFields(Structure):
+    _fields_ = [
+        ("timestamp", c_uint32),
+        ("ssrc", c_uint32),
+        ("sequence_number", c_uint16),
+        ("payload_type", c_uint8),
+        ("marker", c_uint8),
+        ("has_timestamp", c_uint8),
+        ("has_ssrc", c_uint8),
+        ("has_sequence_number", c_uint8),
+        ("has_payload_type", c_uint8),
+        ("has_marker", c_uint8),
+    ]
+
+
+class RawElement(Structure):
+    _fields_ = [("data_at", c_size_t), ("data_len", c_size_t), ("end", c_size_t), ("id", c_uint8)]
+
+
+class RawMap(Structure):
+    _fields_ = [("kind", c_uint8 * 256)]
+
+
+class RawNewIds(Structure):
+    _fields_ = [("id", c_uint8 * 256)]
+
+
+class RawTime(Structure):
+    _fields_ = [("ticks", c_uint64), ("hertz", c_uint32)]
+
+
+# What each of the flags in RawValues.has is for, in order: in rtp_wire.h has_send_time and so on.
+VALUES = (
+    "send_time",
+    "capture_time",
+    "capture_offset",
+    "transmission_offset",
+    "frame_marking",
+    "transport_number",
+    "video_orientation",
+    "video_content_type",
+    "audio_level",
+    "voice_activity",
+    "playout_delay_min",
+    "playout_delay_max",
+    "video_timing",
+    "mid",
+    "rid",
+    "repaired_rid",
+    "layers",
+)
+
+
+class RawValues(Structure):
+    _fields_ = [
+        ("send_time", c_uint64),
+        ("capture_time", c_uint64),
+        ("capture_offset", c_int64),
+        ("playout_delay_min", RawTime),
+        ("playout_delay_max", RawTime),
+        ("transmission_offset", c_uint32),
+        ("frame_marking", c_uint32),
+        ("transport_number", c_uint16),
+        ("video_orientation", c_uint16),
+        ("encode_start", c_uint16),
+        ("encode_finish", c_uint16),
+        ("packetize_complete", c_uint16),
+        ("last_left_pacer", c_uint16),
+        ("timing_flags", c_uint8),
+        ("video_content_type", c_uint8),
+        ("audio_level", c_int8),
+        ("voice_activity", c_uint8),
+        ("mid", c_char * 17),
+        ("rid", c_char * 9),
+        ("repaired_rid", c_char * 9),
+        ("has", c_uint8 * len(VALUES)),
+    ]
+
+
+class WholePacket(RawPacket):
+    """A packet and its values, as src/whole_packet.c has them."""
+
+    has_layers: int
+    values: RawValues
+    _fields_ = [("values", cast(Any, RawValues)), ("has_layers", c_uint8)]
+
+
+class RawHeader(Structure):
+    _fields_ = [
+        ("header_len", c_size_t),
+        ("timestamp", c_uint32),
+        ("ssrc", c_uint32),
+        ("csrc", c_uint32 * 15),
+        ("sequence_number", c_uint16),
+        ("payload_type", c_uint8),
+        ("csrc_count", c_uint8),
+        ("marker", c_uint8),
+        ("has_padding", c_uint8),
+        ("has_extension", c_uint8),
+        ("values", RawValues),
+    ]
+
+
+class RawLayer(Structure):
+    _fields_ = [
+        ("kbps", c_uint64 * 4),
+        ("width", c_uint16),
+        ("height", c_uint16),
+        ("framerate", c_uint8),
+        ("has_resolution", c_uint8),
+        ("rates", c_uint8),
+    ]
+
+
+class RawStream(Structure):
+    _fields_ = [("layers", RawLayer * 4), ("count", c_uint8)]
+
+
+class RawLayers(Structure):
+    _fields_ = [("streams", RawStream * 4), ("count", c_uint8), ("current", c_uint8)]
+
+
+class RawReceiver(Structure):
+    _fields_ = [
+        ("highest", c_uint64),
+        ("recorded_low", c_uint64),
+        ("recorded_high", c_uint64),
+        ("started", c_uint8),
+    ]
+
+
+# The interpreter's lock is kept during a call: to give it away would take as long as most calls do.
+_LIBRARY = PyDLL(str(Path(__file__).with_name("librtp_wire.so")))
+if TYPE_CHECKING:
+    from ctypes import Array
+
+    Places = Array[RawElement]
+
+FUNCTIONS: Dict[str, Any] = {}
+Function = Callable[..., Any]
+_BYTES, _SIZE, _STATUS = c_void_p, c_size_t, c_int32
+
+
+def _declare(result: Any, name: str, *arguments: Any) -> Function:
+    function = FUNCTIONS[name] = _LIBRARY[name]
+    function.restype, function.argtypes = result, arguments
+    return function
+
+
+whole_packet_parse = _declare(_STATUS, "whole_packet_parse", _BYTES, _SIZE, POINTER(RawMap), POINTER(WholePacket))
+
+version = _declare(c_uint32, "rtpw_version")
+
+is_rtcp = _declare(c_bool, "rtpw_is_rtcp", _BYTES, _SIZE)
+packet_parse = _declare(_STATUS, "rtpw_packet_parse", _BYTES, _SIZE, POINTER(RawPacket))
+
+set_marker = _declare(_STATUS, "rtpw_set_marker", _BYTES, _SIZE, c_bool)
+set_payload_type = _declare(_STATUS, "rtpw_set_payload_type", _BYTES, _SIZE, c_uint8)
+set_sequence_number = _declare(_STATUS, "rtpw_set_sequence_number", _BYTES, _SIZE, c_uint16)
+set_timestamp = _declare(_STATUS, "rtpw_set_timestamp", _BYTES, _SIZE, c_uint32)
+set_ssrc = _declare(_STATUS, "rtpw_set_ssrc", _BYTES, _SIZE, c_uint32)
+set_fields = _declare(_STATUS, "rtpw_set_fields", _BYTES, _SIZE, POINTER(RawFields))
+set_csrc = _declare(_STATUS, "rtpw_set_csrc", _BYTES, _SIZE, _SIZE, c_uint32)
+set_element = _declare(_STATUS, "rtpw_set_element", _BYTES, _SIZE, c_uint8, _BYTES, _SIZE)
+remove_element = _declare(_STATUS, "rtpw_remove_element", _BYTES, _SIZE, c_uint8)
+set_padding = _declare(_STATUS, "rtpw_set_padding", _BYTES, _SIZE, c_bool)
+remove_padding = _declare(_STATUS, "rtpw_remove_padding", _BYTES, _SIZE, POINTER(c_size_t))
+
+next_element = _declare(_STATUS, "rtpw_next_element", _BYTES, _SIZE, c_uint8, _SIZE, POINTER(RawElement))
+last_element = _declare(_STATUS, "rtpw_last_element", _BYTES, _SIZE, c_uint8, c_uint8, POINTER(RawElement))
+
+kind_of_uri = _declare(c_uint8, "rtpw_kind_of_uri", _BYTES, _SIZE)
+map_set = _declare(_STATUS, "rtpw_map_set", POINTER(RawMap), c_uint8, c_uint8)
+map_get = _declare(c_uint8, "rtpw_map_get", POINTER(RawMap), c_uint8)
+map_standard = _declare(None, "rtpw_map_standard", POINTER(RawMap))
+values_read = _declare(_STATUS, "rtpw_values_read", _BYTES, _SIZE, c_uint8, POINTER(RawMap), POINTER(RawValues))
+
+parse = _declare(_STATUS, "rtpw_parse", _BYTES, _SIZE, POINTER(RawMap), POINTER(RawHeader))
+parse_layers = _declare(
+    _STATUS, "rtpw_parse_layers", _BYTES, _SIZE, POINTER(RawMap), POINTER(RawHeader), POINTER(RawLayers)
+)
+wire_len = _declare(_STATUS, "rtpw_wire_len", POINTER(RawMap), POINTER(RawHeader), POINTER(c_size_t))
+write = _declare(_STATUS, "rtpw_write", POINTER(RawMap), POINTER(RawHeader), _BYTES, _SIZE, POINTER(c_size_t))
+write_with = _declare(
+    _STATUS,
+    "rtpw_write_with",
+    POINTER(RawHeader),
+    _BYTES,
+    _SIZE,
+    POINTER(RawElement),
+    _SIZE,
+    _BYTES,
+    _SIZE,
+    POINTER(c_size_t),
+)
+write_elements = _declare(
+    _STATUS,
+    "rtpw_write_elements",
+    _BYTES,
+    _SIZE,
+    POINTER(RawElement),
+    _SIZE,
+    c_uint8,
+    _BYTES,
+    _SIZE,
+    POINTER(c_size_t),
+)
+
+new_ids_between = _declare(None, "rtpw_new_ids_between", POINTER(RawMap), POINTER(RawMap), POINTER(RawNewIds))
+renumber = _declare(_STATUS, "rtpw_renumber", _BYTES, _SIZE, POINTER(RawNewIds))
+
+pad = _declare(_STATUS, "rtpw_pad", _BYTES, _SIZE, _SIZE, c_uint8, _SIZE, POINTER(c_size_t))
+read_original = _declare(_STATUS, "rtpw_read_original", _BYTES, _SIZE, POINTER(c_uint16))
+write_original = _declare(_STATUS, "rtpw_write_original", _BYTES, _SIZE, c_uint64)
+
+receiver_start = _declare(_STATUS, "rtpw_receiver_start", POINTER(RawReceiver), c_uint64)
+receiver_number_of = _declare(c_uint64, "rtpw_receiver_number_of", POINTER(RawReceiver), c_uint16)
+receiver_accepts = _declare(c_bool, "rtpw_receiver_accepts", POINTER(RawReceiver), c_uint64)
+receiver_record = _declare(None, "rtpw_receiver_record", POINTER(RawReceiver), c_uint64)
+receiver_receive = _declare(_STATUS, "rtpw_receiver_receive", POINTER(RawReceiver), c_uint16, POINTER(c_uint64))
+
+extend_u8 = _declare(c_uint64, "rtpw_extend_u8", c_uint64, c_uint8)
+extend_u15 = _declare(c_uint64, "rtpw_extend_u15", c_uint64, c_uint16)
+extend_u16 = _declare(c_uint64, "rtpw_extend_u16", c_uint64, c_uint16)
+extend_u32 = _declare(c_uint64, "rtpw_extend_u32", c_uint64, c_uint32)

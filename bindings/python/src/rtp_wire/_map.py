@@ -1,0 +1,138 @@
+"""Which extension each id means, and the ids of another map."""
+
+from __future__ import annotations
+
+from enum import IntEnum
+from typing import Any, Iterable, Iterator, Mapping, MutableMapping, Tuple, TypeVar, Union
+
+from . import _library
+from ._errors import check, unsigned, within
+
+
+class Kind(IntEnum):
+    """The kinds of header extension, by numbers of this library."""
+
+    NONE = 0
+    ABS_SEND_TIME = 1
+    ABS_CAPTURE_TIME = 2
+    AUDIO_LEVEL = 3
+    TRANSMISSION_OFFSET = 4
+    VIDEO_ORIENTATION = 5
+    TRANSPORT_NUMBER = 6
+    PLAYOUT_DELAY = 7
+    VIDEO_CONTENT_TYPE = 8
+    VIDEO_TIMING = 9
+    RID = 10
+    REPAIRED_RID = 11
+    MID = 12
+    FRAME_MARKING = 13
+    COLOR_SPACE = 14
+    LAYERS = 15
+
+    @classmethod
+    def from_uri(cls, uri: str) -> Kind:
+        """The kind whose URI this is, letter for letter; NONE where it is that of none."""
+        data = uri.encode()
+        return cls(_library.kind_of_uri(data, len(data)))
+
+
+Entry = TypeVar("Entry", bound=int)
+
+
+class _Table(MutableMapping[int, Entry]):
+    """A number for each id from 1 to 255: 0 for those that have no entry."""
+
+    __slots__ = ("raw",)
+    raw: Any
+
+    def __delitem__(self, id: int) -> None:
+        self[id]  # raises KeyError where there is no entry
+        self._remove(id)
+
+    def _remove(self, id: int) -> None:
+        raise NotImplementedError
+
+    def __iter__(self) -> Iterator[int]:
+        return (id for id, entry in enumerate(bytes(self.raw)) if entry)
+
+    def __len__(self) -> int:
+        return sum(map(bool, bytes(self.raw)))
+
+    def __repr__(self) -> str:
+        entries = ", ".join(f"{id}: {entry!r}" for id, entry in self.items())
+        return f"{type(self).__name__}({{{entries}}})"
+
+    def __reduce__(self) -> Tuple[object, ...]:
+        return type(self), (dict(self),)
+
+
+class Map(_Table[Kind]):
+    """Which extension each id means, as the lines `a=extmap` of SDP say it (RFC 8285, 5): a mapping from ids, 1 to
+    255, to kinds.
+
+    >>> Map({1: Kind.AUDIO_LEVEL})[1].name
+    'AUDIO_LEVEL'
+    """
+
+    __slots__ = ()
+
+    def __init__(self, kinds: Union[Mapping[int, Kind], Iterable[Tuple[int, Kind]]] = ()) -> None:
+        self.raw = _library.RawMap()
+        self.update(kinds)
+
+    @classmethod
+    def standard(cls) -> Map:
+        """The usual ids: 1 audio level, 2 send time, 3 transport number, 4 mid, 10 rid, 11 repaired rid, 13 video
+        orientation."""
+        made = cls()
+        _library.map_standard(made.raw)
+        return made
+
+    @classmethod
+    def from_uris(cls, uris: Union[Mapping[int, str], Iterable[Tuple[int, str]]]) -> Map:
+        """The map of the URIs by their ids. An id whose URI is of no kind has no entry."""
+        return cls([(id, Kind.from_uri(uri)) for id, uri in dict(uris).items()])
+
+    def __getitem__(self, id: int) -> Kind:
+        kind = _library.map_get(self.raw, id) if 0 < id < 256 else 0
+        if not kind:
+            raise KeyError(id)
+        return Kind(kind)
+
+    def __setitem__(self, id: int, kind: Kind) -> None:
+        """The id means the kind from now on, or nothing with Kind.NONE. BadField where the id isn't 1 to 255."""
+        check(_library.map_set(self.raw, unsigned("an id", id, 8), unsigned("a kind", kind, 8)))
+
+    def _remove(self, id: int) -> None:
+        self[id] = Kind.NONE
+
+
+class NewIds(_Table[int]):
+    """The new id that elements of each id get: a mapping from ids, 1 to 255. Elements of an id that has no entry
+    become padding."""
+
+    __slots__ = ()
+
+    def __init__(self, ids: Union[Mapping[int, int], Iterable[Tuple[int, int]]] = ()) -> None:
+        self.raw = _library.RawNewIds()
+        self.update(ids)
+
+    @classmethod
+    def between(cls, sender: Map, receiver: Map) -> NewIds:
+        """For each id of a kind in the sender's map its lowest id in the receiver's. An extension whose URI has no
+        kind is in no map: set its new id by hand."""
+        made = cls()
+        _library.new_ids_between(sender.raw, receiver.raw, made.raw)
+        return made
+
+    def __getitem__(self, id: int) -> int:
+        new: int = self.raw.id[id] if 0 < id < 256 else 0
+        if not new:
+            raise KeyError(id)
+        return new
+
+    def __setitem__(self, id: int, new: int) -> None:
+        self.raw.id[within("an id", id, 1, 255)] = within("a new id", new, 1, 255)
+
+    def _remove(self, id: int) -> None:
+        self.raw.id[id] = 0

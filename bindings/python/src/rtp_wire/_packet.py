@@ -1,0 +1,289 @@
+"""A packet where it lies in its datagram."""
+
+from __future__ import annotations
+
+from ctypes import c_size_t
+from enum import IntEnum
+from struct import unpack_from
+from typing import TYPE_CHECKING, Iterator, NamedTuple, Optional, Tuple, Union
+
+from . import _library
+from ._buffers import address_of, place_of, view_of, writable_view_of
+from ._errors import check, error_of, unsigned
+from ._header import read_header
+from ._library import whole_packet_parse
+from ._map import Map, NewIds
+from ._values import Values, values_of
+
+if TYPE_CHECKING:
+    from ._buffers import Address, Buffer
+
+CSRC_AT = 12
+
+
+class Form(IntEnum):
+    """The form of a block of elements (RFC 8285, 4)."""
+
+    NONE = 0
+    ONE_BYTE = 1
+    TWO_BYTE = 2
+
+
+class Element(NamedTuple):
+    """An element of a block: its id, and its data where they lie."""
+
+    id: int
+    data: memoryview
+
+
+def is_rtcp(datagram: Buffer) -> bool:
+    """Whether a datagram on a port that RTP and RTCP share is RTCP (RFC 5761, 4). It comes before `Packet.parse`,
+    which would take a receiver report for RTP."""
+    data, at = place_of(datagram)
+    return bool(_library.is_rtcp(at, len(data)))
+
+
+def elements(body: Buffer, form: int) -> Iterator[Element]:
+    """The elements of a block's body in order, up to one that is cut short, or in the one-byte form has the id 15."""
+    view, raw = view_of(body), _library.RawElement()
+    at, length = address_of(view), len(view)
+    while _library.next_element(at, length, form, raw.end, raw) == 0:
+        yield Element(raw.id, view[raw.data_at : raw.end])
+
+
+class Packet:
+    """A packet where it lies. `parse` looks at it once; no byte of it is copied.
+
+    The datagram is `bytes`, or another object with the buffer protocol, whose size then can't change while there is a
+    packet of it. One that can be written, as a `bytearray`, is changed in place: by setting an attribute of the packet,
+    or by its methods. Of one that can't be written that is a TypeError.
+    """
+
+    __slots__ = ("_data", "_len", "_map", "_raw", "_values")
+
+    _data: Union[bytes, memoryview]
+    _len: int
+    _map: Optional[Map]
+    _raw: _library.WholePacket
+    _values: Optional[Values]
+
+    def __init__(self) -> None:
+        raise TypeError("a packet is read by Packet.parse")
+
+    @classmethod
+    def parse(cls, datagram: Buffer, map: Optional[Map] = None) -> Packet:
+        """Reads the packet that the datagram is, and what its elements say under the map.
+
+        NotAPacket, with the first cause for which it is none. MemoryError where memory is refused, which only a layer
+        allocation takes.
+        """
+        packet = cls.__new__(cls)
+        packet._map = map
+        packet._data, at = place_of(datagram)
+        packet._len = len(packet._data)
+        packet._read(at)
+        return packet
+
+    def _read(self, at: Address) -> None:
+        """Reads the packet as it is now."""
+        map = self._map
+        self._raw = raw = _library.WholePacket()
+        status = whole_packet_parse(at, self._len, None if map is None else map.raw, raw)
+        if status:
+            raise error_of(status)
+        self._values = None
+        if raw.has_layers and map is not None:
+            self._values = read_header(at, self._len, map)[1]
+
+    def __bytes__(self) -> bytes:
+        """A copy of the whole packet."""
+        return bytes(self._data)
+
+    def __len__(self) -> int:
+        """How many bytes the packet has."""
+        return self._len
+
+    def __repr__(self) -> str:
+        return (
+            f"Packet(payload_type={self.payload_type}, sequence_number={self.sequence_number},"
+            f" timestamp={self.timestamp}, ssrc={self.ssrc}, csrc={self.csrc}, marker={self.marker},"
+            f" has_padding={self.has_padding}, form={self.form!r}, header_len={self.header_len},"
+            f" payload=<{self._raw.payload_len} bytes>, values={self.values})"
+        )
+
+    # ---- The header, and where it can be written the way to change it ----
+
+    @property
+    def payload_type(self) -> int:
+        """What the payload is, 0 to 127."""
+        return self._raw.payload_type
+
+    @payload_type.setter
+    def payload_type(self, payload_type: int) -> None:
+        self._set(_library.set_payload_type, unsigned("payload_type", payload_type, 7))
+
+    @property
+    def sequence_number(self) -> int:
+        """The low 16 bits of the packet's number."""
+        return self._raw.sequence_number
+
+    @sequence_number.setter
+    def sequence_number(self, number: int) -> None:
+        self._set(_library.set_sequence_number, unsigned("sequence_number", number, 16))
+
+    @property
+    def timestamp(self) -> int:
+        """In ticks of the payload's clock, 32 bits."""
+        return self._raw.timestamp
+
+    @timestamp.setter
+    def timestamp(self, timestamp: int) -> None:
+        self._set(_library.set_timestamp, unsigned("timestamp", timestamp, 32))
+
+    @property
+    def ssrc(self) -> int:
+        """The stream's source, 32 bits."""
+        return self._raw.ssrc
+
+    @ssrc.setter
+    def ssrc(self, ssrc: int) -> None:
+        self._set(_library.set_ssrc, unsigned("ssrc", ssrc, 32))
+
+    @property
+    def marker(self) -> bool:
+        """M."""
+        return self._raw.marker != 0
+
+    @marker.setter
+    def marker(self, marker: bool) -> None:
+        self._set(_library.set_marker, marker)
+
+    @property
+    def has_padding(self) -> bool:
+        """P. To set or clear it changes no other bit."""
+        return self._raw.has_padding != 0
+
+    @has_padding.setter
+    def has_padding(self, has_padding: bool) -> None:
+        self._set(_library.set_padding, has_padding)
+
+    @property
+    def csrc(self) -> Tuple[int, ...]:
+        """The contributing sources, up to 15."""
+        count = self._raw.csrc_count
+        return unpack_from(f">{count}I", self._data, CSRC_AT) if count else ()
+
+    def set_csrc(self, index: int, source: int) -> None:
+        """Sets the contributing source at this place, counted from 0. NoElement where the list has no such place."""
+        self._set(_library.set_csrc, unsigned("index", index, 64), unsigned("source", source, 32))
+
+    def set_fields(
+        self,
+        *,
+        payload_type: Optional[int] = None,
+        sequence_number: Optional[int] = None,
+        timestamp: Optional[int] = None,
+        ssrc: Optional[int] = None,
+        marker: Optional[bool] = None,
+    ) -> None:
+        """Sets those that are given, after one look at the packet: all of them or, where one is refused, none."""
+        fields = _library.RawFields()
+        given = (
+            ("payload_type", payload_type, 7),
+            ("sequence_number", sequence_number, 16),
+            ("timestamp", timestamp, 32),
+            ("ssrc", ssrc, 32),
+            ("marker", marker, 1),
+        )
+        for name, value, bits in given:
+            if value is not None:
+                setattr(fields, name, unsigned(name, value, bits))
+                setattr(fields, f"has_{name}", 1)
+        self._set(_library.set_fields, fields)
+
+    def _set(self, change: _library.Function, *arguments: object) -> None:
+        """Changes the packet, and reads it again."""
+        data = writable_view_of(memoryview(self._data))
+        at = address_of(data)
+        check(change(at, self._len, *arguments))
+        self._read(at)
+
+    def _view(self) -> memoryview:
+        return memoryview(self._data)
+
+    # ---- The payload ----
+
+    @property
+    def header_len(self) -> int:
+        """How many bytes the header has: the payload begins there."""
+        return self._raw.payload_at
+
+    @property
+    def header_bytes(self) -> memoryview:
+        """The header where it lies: a packet without a payload."""
+        return self._view()[: self._raw.payload_at]
+
+    @property
+    def payload(self) -> memoryview:
+        """The payload where it lies, with any padding."""
+        return self._view()[self._raw.payload_at :]
+
+    @property
+    def unpadded_payload(self) -> Optional[memoryview]:
+        """The payload without its padding; None where the padding is longer than the payload. With SRTP the padding is
+        known only once the payload is decrypted."""
+        raw = self._raw
+        return self._view()[raw.payload_at : raw.payload_at + raw.unpadded_len] if raw.padding_fits else None
+
+    def remove_padding(self) -> int:
+        """Clears P, and returns how many bytes the packet then has, which are its first ones. BadField where the
+        padding is longer than the payload."""
+        length = c_size_t()
+        self._set(_library.remove_padding, length)
+        return length.value
+
+    # ---- The elements of its block ----
+
+    @property
+    def form(self) -> Form:
+        """The form of the block; NONE where X is clear."""
+        return Form(self._raw.block_form)
+
+    @property
+    def body(self) -> memoryview:
+        """The body of the block where it lies; no bytes where there is no block."""
+        return self._view()[self._raw.body_at : self._raw.payload_at]
+
+    @property
+    def values(self) -> Values:
+        """What the elements say under the map that the packet was parsed with; nothing without a map."""
+        if self._values is None:
+            self._values = values_of(self._raw.values)
+        return self._values
+
+    def elements(self) -> Iterator[Element]:
+        """The elements of the block in order, up to one that is cut short, or in the one-byte form has the id 15."""
+        return elements(self.body, self._raw.block_form)
+
+    def element(self, id: int) -> Optional[memoryview]:
+        """The data of the last element of this id, which is the one that counts; None where there is none."""
+        body, found = self.body, _library.RawElement()
+        form = self._raw.block_form
+        status = _library.last_element(address_of(body), len(body), form, unsigned("an id", id, 8), found)
+        return body[found.data_at : found.end] if status == 0 else None
+
+    def set_element(self, id: int, data: Buffer) -> None:
+        """Gives the last element of this id these data. NoElement where the packet has none, or its last one has
+        another number of bytes."""
+        copy = bytes(view_of(data))  # they may be a part of the datagram, which the library mustn't see twice
+        self._set(_library.set_element, unsigned("an id", id, 8), copy, len(copy))
+
+    def remove_element(self, id: int) -> None:
+        """Makes each element of this id padding. NoElement where the packet has none."""
+        self._set(_library.remove_element, unsigned("an id", id, 8))
+
+    def renumber(self, ids: NewIds) -> None:
+        """Gives each element its new id, and makes one that gets none padding. BadField where the form of the block
+        can't carry a new id, one above 14 in the one-byte form; then nothing changes. To read the values under the
+        receiver's map parse the packet again."""
+        self._set(_library.renumber, ids.raw)

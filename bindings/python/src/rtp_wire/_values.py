@@ -1,0 +1,188 @@
+"""What the elements of a block say."""
+
+from __future__ import annotations
+
+from dataclasses import dataclass, fields
+from functools import lru_cache
+from operator import attrgetter
+from typing import TYPE_CHECKING, Any, Callable, Dict, NamedTuple, Optional, Tuple
+
+from . import _library
+from ._buffers import place_of
+from ._errors import BadField, Status, check, unsigned, within
+from ._layers import Layers
+from ._map import Map
+
+if TYPE_CHECKING:
+    from ._buffers import Buffer
+
+
+class Time(NamedTuple):
+    """A length of time: ticks / hertz seconds."""
+
+    ticks: int
+    hertz: int
+
+    @property
+    def seconds(self) -> float:
+        return self.ticks / self.hertz
+
+
+class VideoTiming(NamedTuple):
+    """When a frame passed each step on its way out, in milliseconds after its capture."""
+
+    encode_start: int
+    encode_finish: int
+    packetize_complete: int
+    last_left_pacer: int
+    flags: int  # why the times were sent: bit 0 a timer, bit 1 a large frame
+
+
+@dataclass(repr=False)
+class Values:
+    """What the elements of a block say under a map. A value is None where it isn't there."""
+
+    mid: Optional[str] = None
+    """The media section, up to 16 letters, digits and underscores (RFC 9143)."""
+    rid: Optional[str] = None
+    """The stream, up to 8 of them (RFC 8852)."""
+    repaired_rid: Optional[str] = None
+    """The stream that this one repairs, up to 8 of them (RFC 8852)."""
+    audio_level: Optional[int] = None
+    """Decibels relative to the overload point, -127 to 0. It is written together with the voice activity, or not."""
+    voice_activity: Optional[bool] = None
+    """Whether the audio has voice."""
+    send_time: Optional[int] = None
+    """When the packet left its sender, in microseconds: as read modulo 64 seconds."""
+    transport_number: Optional[int] = None
+    """The packet's number over all streams of the transport, 16 bits."""
+    video_orientation: Optional[int] = None
+    """How the picture is to be turned, in degrees counter-clockwise: 0, 90, 180 or 270."""
+    capture_time: Optional[int] = None
+    """When the frame was captured, an NTP timestamp with 32 bits of fraction."""
+    capture_offset: Optional[int] = None
+    """How far the capturer's clock is ahead of the sender's, in seconds with 32 bits of fraction. It is written with a
+    capture time alone."""
+    transmission_offset: Optional[int] = None
+    """Ticks of the stream's clock, 32 bits."""
+    playout_delay_min: Optional[Time] = None
+    """For how long the receiver may hold the frame at least. Of the two delays both are written, or none."""
+    playout_delay_max: Optional[Time] = None
+    """And for how long at most."""
+    video_content_type: Optional[int] = None
+    """0 unspecified, 1 a screen."""
+    video_timing: Optional[VideoTiming] = None
+    """When the frame was encoded and sent."""
+    frame_marking: Optional[int] = None
+    """The first four bytes of the frame marking."""
+    layers: Optional[Layers] = None
+    """Which simulcast streams and layers the sender keeps active. It is not written."""
+
+    @classmethod
+    def read(cls, body: Buffer, form: int, map: Map) -> Values:
+        """The values of the elements of a block's body under the map, but for a layer allocation, which is read from
+        a whole packet. BadField where the form is none of the two."""
+        data, at = place_of(body)
+        raw = _library.RawValues()
+        check(_library.values_read(at, len(data), unsigned("a form", form, 8), map.raw, raw))
+        return values_of(raw)
+
+    def __repr__(self) -> str:
+        """With the values that are there alone."""
+        told = ((it.name, getattr(self, it.name)) for it in fields(self))
+        return f"Values({', '.join(f'{name}={value!r}' for name, value in told if value is not None)})"
+
+
+Raw = _library.RawValues
+
+
+def _time_of(raw: _library.RawTime) -> Time:
+    return Time(raw.ticks, raw.hertz)
+
+
+def _timing_of(raw: Raw) -> VideoTiming:
+    times = (raw.encode_start, raw.encode_finish, raw.packetize_complete, raw.last_left_pacer)
+    return VideoTiming(*times, flags=raw.timing_flags)
+
+
+# How each value that isn't a number is read from the struct.
+_READERS: Dict[str, Callable[[Raw], Any]] = {
+    "mid": lambda raw: raw.mid.decode(),
+    "rid": lambda raw: raw.rid.decode(),
+    "repaired_rid": lambda raw: raw.repaired_rid.decode(),
+    "voice_activity": lambda raw: raw.voice_activity != 0,
+    "playout_delay_min": lambda raw: _time_of(raw.playout_delay_min),
+    "playout_delay_max": lambda raw: _time_of(raw.playout_delay_max),
+    "video_timing": _timing_of,
+    "layers": lambda raw: None,
+}
+
+
+@lru_cache(maxsize=1024)
+def _readers_of(has: bytes) -> Tuple[Tuple[str, Callable[[Raw], Any]], ...]:
+    """The values that these flags say are there, and how each is read."""
+    there = (name for name, flag in zip(_library.VALUES, has) if flag)
+    return tuple((name, _READERS.get(name) or attrgetter(name)) for name in there)
+
+
+def values_of(raw: Raw) -> Values:
+    """The values of the struct, but for a layer allocation."""
+    values = Values()
+    for name, read in _readers_of(bytes(raw.has)):
+        setattr(values, name, read(raw))
+    return values
+
+
+def _text(name: str, text: str, most: int) -> bytes:
+    data = text.encode("ascii", "replace")
+    if len(data) > most or b"\0" in data:
+        raise BadField(Status.BAD_FIELD, f"{name} is {text!r}, and not up to {most} letters, digits and underscores")
+    return data
+
+
+def _raw_time(name: str, time: Time) -> _library.RawTime:
+    ticks, hertz = time
+    return _library.RawTime(unsigned(name, ticks, 64), unsigned(name, hertz, 32))
+
+
+_BITS = {
+    "send_time": 64,
+    "capture_time": 64,
+    "transmission_offset": 32,
+    "frame_marking": 32,
+    "transport_number": 16,
+    "video_orientation": 16,
+    "video_content_type": 8,
+    "voice_activity": 1,
+}
+# What each value is in the struct.
+_WRITERS: Dict[str, Callable[[Any], Any]] = {
+    "mid": lambda value: _text("mid", value, 16),
+    "rid": lambda value: _text("rid", value, 8),
+    "repaired_rid": lambda value: _text("repaired_rid", value, 8),
+    "audio_level": lambda value: within("audio_level", value, -127, 0),
+    "capture_offset": lambda value: within("capture_offset", value, -(1 << 63), (1 << 63) - 1),
+    "playout_delay_min": lambda value: _raw_time("playout_delay_min", value),
+    "playout_delay_max": lambda value: _raw_time("playout_delay_max", value),
+}
+
+
+def _put_timing(raw: Raw, timing: VideoTiming) -> None:
+    for name in ("encode_start", "encode_finish", "packetize_complete", "last_left_pacer"):
+        setattr(raw, name, unsigned(name, getattr(timing, name), 16))
+    raw.timing_flags = unsigned("flags of video_timing", timing.flags, 8)
+
+
+def put_values(raw: Raw, values: Values) -> None:
+    """Puts the values into an empty struct. BadField where one is out of the range that the struct can hold."""
+    for at, name in enumerate(_library.VALUES):
+        value = getattr(values, name)
+        if value is None or name == "layers":
+            continue
+        if name == "video_timing":
+            _put_timing(raw, value)
+        elif name in _WRITERS:
+            setattr(raw, name, _WRITERS[name](value))
+        else:
+            setattr(raw, name, unsigned(name, value, _BITS[name]))
+        raw.has[at] = 1

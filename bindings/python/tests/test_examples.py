@@ -1,0 +1,76 @@
+"""What the documents and examples show."""
+
+import contextlib
+import doctest
+import importlib
+import io
+import re
+import subprocess
+import sys
+import unittest
+from pathlib import Path
+from typing import List
+
+HERE = Path(__file__).resolve().parent.parent
+README = (HERE / "README.md").read_text("utf-8")
+CAPTURES = HERE.parent.parent / "captures"
+LINES = [*CAPTURES.glob("*.lines"), *(HERE.parent / "test").glob("by_hand.lines")]
+
+
+@unittest.skipUnless(LINES, "there are no captures here")
+class Captures(unittest.TestCase):
+    def lines(self, text: bytes) -> "subprocess.CompletedProcess[bytes]":
+        command = [sys.executable, str(HERE / "examples/lines.py")]
+        return subprocess.run(command, input=text, stdout=subprocess.PIPE, check=False)
+
+    def test_lines_are_those_of_rtp_lines(self) -> None:
+        self.assertGreater(len(LINES), 4)
+        for lines in LINES:
+            said = self.lines(lines.read_bytes())
+            self.assertEqual(said.returncode, 0)
+            self.assertEqual(said.stdout.decode(), lines.with_suffix(".expected").read_text("utf-8"), lines)
+
+    def test_a_bad_line(self) -> None:
+        for bad in (b"802", b"8G", b"map 0 urn:x", b"map 256 urn:x", b"map 3", b"map 3 ", b"mop 3 urn:x"):
+            said = self.lines(bad + b"\n")
+            self.assertEqual((said.returncode, said.stdout), (2, b"line 1: neither a map line nor hex\n"))
+        for bad in (b"802", b"8G", b"map 3 urn:x"):
+            said = self.lines(b"80\n" + bad + b"\n")
+            told = b"packet 1: unreadable\nverdict 1: unreadable\nline 2: neither a map line nor hex\n"
+            self.assertEqual((said.returncode, said.stdout), (2, told))
+
+    def test_the_table_of_the_readme(self) -> None:
+        program = blocks("python")[0]
+        self.assertLessEqual(len(program.splitlines()), 10)
+        said = subprocess.run(
+            [sys.executable, "-c", program], cwd=CAPTURES.parent, stdout=subprocess.PIPE, check=True, text=True
+        )
+        shown = next(it for it in blocks("") if it.startswith("$ python3 table.py\n"))
+        self.assertEqual(said.stdout, shown.partition("\n")[2])
+
+
+def blocks(language: str) -> List[str]:
+    """The blocks of code of the README that are in this language."""
+    return [body for it, body in re.findall(r"^```(\w*)\n(.*?)^```$", README, re.M | re.S) if it == language]
+
+
+class Doctests(unittest.TestCase):
+    def test_the_readme(self) -> None:
+        test = doctest.DocTestParser().get_doctest(README, {}, "README.md", "README.md", 0)
+        self.assertGreater(len(test.examples), 2)
+        self.is_right(test)
+
+    def test_the_package(self) -> None:
+        for file in (HERE / "src/rtp_wire").glob("_[a-z]*.py"):
+            for test in doctest.DocTestFinder().find(importlib.import_module(f"rtp_wire.{file.stem}")):
+                self.is_right(test)
+
+    def is_right(self, test: doctest.DocTest) -> None:
+        said = io.StringIO()
+        with contextlib.redirect_stdout(said):
+            failed = doctest.DocTestRunner(optionflags=doctest.NORMALIZE_WHITESPACE).run(test).failed
+        self.assertEqual((failed, said.getvalue()), (0, ""))
+
+
+if __name__ == "__main__":
+    unittest.main()

@@ -1,0 +1,145 @@
+"""The structs and functions of the package beside those of rtp_wire.h."""
+
+import ctypes
+import os
+import pickle
+import re
+import shutil
+import subprocess
+import tempfile
+import unittest
+from importlib import metadata
+from pathlib import Path
+from typing import Any, Dict, Iterator, List, Tuple, Type
+
+import rtp_wire
+from rtp_wire import Cause, Form, Kind, Status, _errors, _library
+
+HERE = Path(__file__).resolve().parent.parent
+# In the repository, and in a source distribution.
+HEADER = next(it for it in (HERE.parent / "c/rtp_wire.h", HERE / "texts/rtp_wire.h") if it.exists())
+TEXT = re.sub(r"/\*.*?\*/|//.*?$", " ", HEADER.read_text("utf-8"), flags=re.S | re.M)
+STRUCTS = {
+    "rtpw_packet": _library.RawPacket,
+    "rtpw_fields": _library.RawFields,
+    "rtpw_element": _library.RawElement,
+    "rtpw_map": _library.RawMap,
+    "rtpw_new_ids": _library.RawNewIds,
+    "rtpw_time": _library.RawTime,
+    "rtpw_values": _library.RawValues,
+    "rtpw_header": _library.RawHeader,
+    "rtpw_layer": _library.RawLayer,
+    "rtpw_stream": _library.RawStream,
+    "rtpw_layers": _library.RawLayers,
+    "rtpw_receiver": _library.RawReceiver,
+    "whole_packet": _library.WholePacket,
+}
+NUMBERS: Dict[str, Any] = {
+    "void": None,
+    "bool": ctypes.c_bool,
+    "size_t": ctypes.c_size_t,
+    **{f"{it}_t": getattr(ctypes, f"c_{it}") for it in ("uint8", "uint16", "uint32", "uint64", "int32")},
+}
+
+
+def type_of(text: str) -> Any:
+    """The type of a parameter or result, as the package declares it."""
+    name, *pointer = re.sub(r"\bconst\b", "", text).replace("*", " * ").split()
+    if pointer[:1] != ["*"]:
+        return NUMBERS[name]
+    return ctypes.c_void_p if name == "uint8_t" else ctypes.POINTER(STRUCTS.get(name) or NUMBERS[name])
+
+
+def declared() -> Iterator[Tuple[str, Any, List[Any]]]:
+    """The functions of rtp_wire.h, with the types of their results and parameters."""
+    for result, name, parameters in re.findall(r"^(?:RTPW_CHECKED )?(\w+) (rtpw_\w+)\(([^)]*)\);", TEXT, re.M):
+        listed = [] if parameters == "void" else parameters.split(",")
+        yield name, NUMBERS[result], [type_of(it) for it in listed]
+
+
+def names_in(prefix: str) -> Dict[str, int]:
+    return {name: int(number) for name, number in re.findall(rf"\bRTPW_{prefix}(\w+) = (\d+)", TEXT)}
+
+
+def facts() -> Iterator[str]:
+    """What C has to say of each field."""
+    for name, struct in STRUCTS.items():
+        yield f"sizeof({name}) == {ctypes.sizeof(struct)}"
+        for field in struct._fields_:
+            described = getattr(struct, field[0])
+            places = [(field[0], described.offset, described.size)]
+            if (name, field[0]) == ("rtpw_values", "has"):
+                places = [(f"has_{it}", described.offset + at, 1) for at, it in enumerate(_library.VALUES)]
+            if (name, field[0]) == ("whole_packet", "values"):
+                yield f"offsetof({name}, packet) == 0"
+            for place, offset, size in places:
+                yield f"offsetof({name}, {place}) == {offset}"
+                yield f"sizeof((({name} *)0)->{place}) == {size}"
+
+
+class Library(unittest.TestCase):
+    def test_each_function_is_declared_as_in_the_header_file(self) -> None:
+        functions = {name: it for name, it in _library.FUNCTIONS.items() if name.startswith("rtpw_")}
+        wanted = {name: (result, parameters) for name, result, parameters in declared()}
+        self.assertEqual({name: (it.restype, list(it.argtypes)) for name, it in functions.items()}, wanted)
+        self.assertGreater(len(wanted), 39)
+
+    def test_each_function_is_used(self) -> None:
+        used = "".join(
+            it.read_text("utf-8") for it in (HERE / "src/rtp_wire").glob("_[a-z]*.py") if it.stem != "_library"
+        )
+        used += (HERE / "src/rtp_wire/__init__.py").read_text("utf-8") + (HERE / "src/whole_packet.c").read_text(
+            "utf-8"
+        )
+        for name in _library.FUNCTIONS:
+            self.assertRegex(used, rf"_library\.{name[5:]}\b|\b{name}\(")
+
+    def test_each_field_lies_where_it_does_in_c(self) -> None:
+        lines = [(HERE / "src/whole_packet.c").read_text("utf-8"), *(f'_Static_assert({it}, "");' for it in facts())]
+        options = ["-std=c11", "-Wall", "-Wextra", "-Wpedantic", "-Werror", f"-I{HEADER.parent}", "-fsyntax-only"]
+        with tempfile.TemporaryDirectory() as folder:
+            Path(folder, "facts.c").write_text("\n".join(lines), "utf-8")
+            for compiler in filter(shutil.which, (os.environ.get("CC") or "cc", "aarch64-linux-gnu-gcc")):
+                command = [compiler, *options, f"{folder}/facts.c"]
+                said = subprocess.run(command, stderr=subprocess.PIPE, text=True, check=False)
+                self.assertEqual((said.returncode, said.stderr), (0, ""))
+
+    def test_numbers_and_texts(self) -> None:
+        statuses = {it.name: it.value for it in Status}
+        everything = names_in("")
+        self.assertEqual({name: everything[name] for name in statuses}, statuses)
+        self.assertEqual({it.name: it.value for it in Cause}, {it.name: it.value for it in Status if 0 < it < 7})
+        self.assertEqual(names_in("KIND_"), {it.name: it.value for it in Kind})
+        self.assertEqual(
+            (everything["NO_BLOCK"], everything["ONE_BYTE_FORM"], everything["TWO_BYTE_FORM"]), tuple(Form)
+        )
+        texts = dict(re.findall(r'case RTPW_(\w+): return "(.*)";', TEXT))
+        self.assertEqual({it.name: it.text for it in Status}, texts)
+
+    def test_exceptions(self) -> None:
+        kinds: Dict[Status, Type[Exception]] = {
+            Status.SHORT_BUFFER: rtp_wire.ShortBuffer,
+            Status.BAD_FIELD: rtp_wire.BadField,
+            Status.NONE: rtp_wire.NoElement,
+            Status.REFUSED: rtp_wire.RtpError,
+            Status.NO_MEMORY: MemoryError,
+            **{Status(cause): rtp_wire.NotAPacket for cause in Cause},
+        }
+        for status, kind in kinds.items():
+            with self.assertRaises(kind) as raised:
+                _errors.check(status)
+            self.assertIs(type(raised.exception), kind)
+            self.assertEqual(str(raised.exception), status.text)
+            stored = pickle.loads(pickle.dumps(raised.exception))
+            self.assertEqual((type(stored), str(stored)), (kind, status.text))
+            if isinstance(stored, rtp_wire.RtpError):
+                self.assertEqual((stored.status, isinstance(stored, ValueError)), (status, True))
+        _errors.check(Status.OK)
+
+    def test_the_version(self) -> None:
+        version = re.findall(r'#define RTPW_VERSION "(.*)"', TEXT)
+        self.assertEqual([rtp_wire.__version__, metadata.version("rtp_wire")], version * 2)
+
+
+if __name__ == "__main__":
+    unittest.main()

@@ -1,0 +1,276 @@
+"""Packets where they lie. Expected values are worked out by hand from RFC 3550, 5.1 and RFC 8285, 4.2 and 4.3."""
+
+import array
+import mmap
+import unittest
+from random import Random
+from typing import Any, Callable
+
+import rtp_wire
+from rtp_wire import BadField, Cause, Form, Kind, Map, NewIds, NoElement, NotAPacket, Packet, Values
+
+# V=2, P, X, CC=2; M, PT=33; 47,000; 10,000; 44; the sources 1 and 2; a block of two words: 1 (AA), 2 (BB CC),
+# 1 (DD) and a byte of padding; a payload of 3 bytes and 2 of padding.
+SAMPLE = bytes.fromhex("B2A1B798 00002710 0000002C 00000001 00000002 BEDE0002 10AA21BB CC10DD00 010203 0002")
+BUFFERS: "list[Callable[[bytes], Any]]" = [
+    bytes,
+    bytearray,
+    memoryview,
+    lambda data: memoryview(bytearray(data)),
+    lambda data: memoryview(b"\x01\x02\x03" + data + b"\x04")[3:-1],
+    lambda data: memoryview(bytearray(b"\x01\x02\x03" + data + b"\x04"))[3:-1],
+    lambda data: array.array("B", data),
+    lambda data: memoryview(array.array("b", data)),
+]
+
+
+class Reading(unittest.TestCase):
+    def test_each_buffer_is_read(self) -> None:
+        for buffer in BUFFERS:
+            packet = Packet.parse(buffer(SAMPLE))
+            self.assertEqual((packet.payload_type, packet.marker, packet.has_padding), (33, True, True))
+            self.assertEqual((packet.sequence_number, packet.timestamp, packet.ssrc), (47000, 10000, 44))
+            self.assertEqual((packet.csrc, packet.form, packet.header_len), ((1, 2), Form.ONE_BYTE, 32))
+            self.assertEqual((bytes(packet.payload), packet.unpadded_payload), (b"\1\2\3\0\2", b"\1\2\3"))
+            self.assertEqual((bytes(packet.body), bytes(packet.header_bytes)), (SAMPLE[24:32], SAMPLE[:32]))
+            self.assertEqual(
+                [(it.id, bytes(it.data)) for it in packet.elements()], [(1, b"\xAA"), (2, b"\xBB\xCC"), (1, b"\xDD")]
+            )
+            self.assertEqual((packet.element(1), packet.element(2)), (b"\xDD", b"\xBB\xCC"))
+            self.assertEqual((packet.element(3), packet.element(255)), (None, None))
+            self.assertEqual((bytes(packet), len(packet)), (SAMPLE, 37))
+            self.assertFalse(rtp_wire.is_rtcp(buffer(SAMPLE)))
+
+    def test_a_mapped_file_is_read_and_changed(self) -> None:
+        with mmap.mmap(-1, 4096) as file:
+            file[:12] = bytes.fromhex("8021B798000027100000002C")
+            packet = Packet.parse(memoryview(file)[:12])
+            packet.ssrc = 77
+            self.assertEqual((file[:12], packet.ssrc), (bytes.fromhex("8021B798000027100000004D"), 77))
+            self.assertEqual(len(Packet.parse(file).payload), 4084)
+            del packet
+
+    def test_nothing_is_copied(self) -> None:
+        datagram = bytearray(SAMPLE)
+        packet = Packet.parse(datagram)
+        payload, element = packet.payload, packet.element(2)
+        datagram[32], datagram[27] = 9, 8
+        self.assertEqual((payload[0], element), (9, b"\x08\xCC"))
+        self.assertIs(payload.obj, datagram)
+        payload[1] = 7
+        self.assertEqual(datagram[33], 7)
+        with self.assertRaises(BufferError):
+            datagram.append(0)
+        self.assertIs(Packet.parse(SAMPLE).payload.obj, SAMPLE)
+        self.assertTrue(Packet.parse(SAMPLE).payload.readonly)
+
+    def test_a_view_may_be_released(self) -> None:
+        with memoryview(bytes(SAMPLE)) as view:
+            packet = Packet.parse(view)
+        self.assertEqual((packet.element(2), packet.csrc), (b"\xBB\xCC", (1, 2)))
+
+    def test_each_cause(self) -> None:
+        rows = [
+            (b"", Cause.CUT_FIXED_PART),
+            (SAMPLE[:11], Cause.CUT_FIXED_PART),
+            (b"\x72" + SAMPLE[1:], Cause.OTHER_VERSION),
+            (SAMPLE[:19], Cause.CUT_SOURCES),
+            (SAMPLE[:23], Cause.CUT_BLOCK_HEADER),
+            (SAMPLE[:21] + b"\xDF" + SAMPLE[22:], Cause.UNKNOWN_FORM),
+            (SAMPLE[:31], Cause.CUT_BLOCK),
+        ]
+        for data, cause in rows:
+            for buffer in BUFFERS:
+                for parse in (Packet.parse, rtp_wire.Header.parse):
+                    with self.assertRaises(NotAPacket) as raised:
+                        parse(buffer(data), Map.standard())
+                    self.assertEqual(raised.exception.cause, cause)
+                    self.assertEqual(raised.exception.status, cause)
+                    self.assertIsInstance(raised.exception, ValueError)
+
+    def test_what_is_no_buffer_of_bytes_together(self) -> None:
+        for data in ("text", 12, None, [1, 2], memoryview(SAMPLE * 2)[::2]):
+            with self.assertRaises(TypeError):
+                Packet.parse(data)  # type: ignore[arg-type]
+        with self.assertRaises(TypeError):
+            Packet()
+
+    def test_padding(self) -> None:
+        self.assertIsNone(Packet.parse(SAMPLE[:-1] + b"\x06").unpadded_payload)
+        self.assertEqual(Packet.parse(SAMPLE[:-1] + b"\x05").unpadded_payload, b"")
+        # a last byte of 0, and P of an empty payload
+        self.assertEqual(Packet.parse(bytes.fromhex("A0000001 00000002 00000003 0700")).unpadded_payload, b"\x07\x00")
+        self.assertEqual(Packet.parse(bytes.fromhex("A0000001 00000002 00000003")).unpadded_payload, b"")
+
+    def test_a_header_alone(self) -> None:
+        packet = Packet.parse(bytes.fromhex("8021B798000027100000002C"), Map.standard())
+        self.assertEqual((packet.form, packet.csrc, packet.payload, packet.body), (Form.NONE, (), b"", b""))
+        self.assertEqual((list(packet.elements()), packet.element(1), packet.values), ([], None, Values()))
+
+    def test_elements_end_where_one_is_cut(self) -> None:
+        # in the one-byte form id 15 ends the elements, and the id 0 with data is one of them (RFC 8285, 4.2)
+        found = [
+            (it.id, bytes(it.data)) for it in rtp_wire.elements(bytes.fromhex("10AA 00 01BBCC F0 10DD"), Form.ONE_BYTE)
+        ]
+        self.assertEqual(found, [(1, b"\xAA"), (0, b"\xBB\xCC")])
+        found = [
+            (it.id, bytes(it.data)) for it in rtp_wire.elements(bytes.fromhex("0100 00 FF02AABB 0303CC"), Form.TWO_BYTE)
+        ]
+        self.assertEqual(found, [(1, b""), (255, b"\xAA\xBB")])
+
+    def test_rtcp(self) -> None:
+        # a sender report, 200; RTP with M and the payload type 72 would have the same byte
+        for second, is_rtcp in ((191, False), (192, True), (200, True), (223, True), (224, False)):
+            self.assertEqual(rtp_wire.is_rtcp(bytes([0x80, second])), is_rtcp)
+        for data in (b"", b"\x80", b"\x40\xC8"):
+            self.assertFalse(rtp_wire.is_rtcp(data))
+
+    def test_random_bytes(self) -> None:
+        random = Random(1)
+        for _ in range(400):
+            data = bytes([random.choice((0x80, 0x90, 0xB1, 0xA2)), *random.choices(range(256), k=random.randrange(60))])
+            form = random.choice(("BEDE0001", "BEDE0004", "10000002", "100F0005"))
+            data = data[:12] + bytes.fromhex(form) + data[12:]
+            told = {self.told(buffer(data)) for buffer in BUFFERS}
+            self.assertEqual(len(told), 1)
+
+    def told(self, datagram: Any) -> str:
+        try:
+            packet = Packet.parse(datagram, Map.standard())
+        except NotAPacket as error:
+            return str(error)
+        elements = [(id, bytes(data)) for id, data in packet.elements()]
+        last = dict(elements)
+        self.assertEqual({id: packet.element(id) for id in last}, last)
+        self.assertEqual(packet.values, rtp_wire.Header.parse(datagram, Map.standard()).values)
+        self.assertEqual(
+            packet.values, Values.read(packet.body, packet.form, Map.standard()) if packet.form else Values()
+        )
+        self.assertEqual(len(packet), packet.header_len + len(packet.payload))
+        unpadded = packet.unpadded_payload
+        return f"{packet!r}{elements}{None if unpadded is None else bytes(unpadded)!r}"
+
+    def test_repr(self) -> None:
+        packet = Packet.parse(
+            bytes.fromhex("90E00005 000000A0 00000007 BEDE0001 108A0000 6869"), Map({1: Kind.AUDIO_LEVEL})
+        )
+        self.assertEqual(
+            repr(packet),
+            "Packet(payload_type=96, sequence_number=5, timestamp=160, ssrc=7, csrc=(), marker=True, has_padding=False,"
+            " form=<Form.ONE_BYTE: 1>, header_len=20, payload=<2 bytes>,"
+            " values=Values(audio_level=-10, voice_activity=True))",
+        )
+
+
+class Changing(unittest.TestCase):
+    def setUp(self) -> None:
+        self.datagram = bytearray(SAMPLE)
+        self.packet = Packet.parse(self.datagram, Map({1: Kind.AUDIO_LEVEL, 2: Kind.TRANSPORT_NUMBER}))
+
+    def is_changed(self, *places: int) -> None:
+        self.assertEqual([at for at in range(37) if self.datagram[at] != SAMPLE[at]], list(places))
+
+    def test_fields(self) -> None:
+        self.packet.marker = False
+        self.packet.payload_type = 96
+        self.assertEqual((self.datagram[1], self.packet.marker, self.packet.payload_type), (96, False, 96))
+        self.packet.sequence_number, self.packet.timestamp, self.packet.ssrc = 0x1234, 0x56789ABC, 0xDEF01234
+        self.assertEqual(self.datagram[2:12].hex(), "123456789abcdef01234")
+        read = (self.packet.sequence_number, self.packet.timestamp, self.packet.ssrc)
+        self.assertEqual(read, (0x1234, 0x56789ABC, 0xDEF01234))
+        self.packet.set_csrc(1, 0xA1B2C3D4)
+        self.assertEqual(self.packet.csrc, (1, 0xA1B2C3D4))
+        self.packet.has_padding = False
+        self.assertEqual((self.datagram[0], self.packet.has_padding), (0x92, False))
+        self.assertEqual(self.datagram[20:], SAMPLE[20:])
+
+    def test_several_fields(self) -> None:
+        self.packet.set_fields()
+        self.is_changed()
+        self.packet.set_fields(payload_type=8, sequence_number=0x1234)
+        self.assertEqual(self.datagram[:4].hex(), "b2881234")
+        self.packet.set_fields(timestamp=0x56789ABC, ssrc=0xDEF01234, marker=False)
+        self.assertEqual(self.datagram[:12].hex(), "b208123456789abcdef01234")
+        self.assertEqual(self.datagram[12:], SAMPLE[12:])
+
+    def test_what_is_out_of_its_range_changes_nothing(self) -> None:
+        for name, value in (("payload_type", 128), ("sequence_number", 65536), ("timestamp", 1 << 32), ("ssrc", -1)):
+            with self.assertRaises(BadField):
+                setattr(self.packet, name, value)
+            with self.assertRaises(BadField):
+                self.packet.set_fields(**{"marker": False, name: value})  # type: ignore[arg-type]
+            with self.assertRaises(TypeError):
+                setattr(self.packet, name, 1.5)
+        for index in (2, 1 << 63):
+            with self.assertRaises(NoElement):
+                self.packet.set_csrc(index, 5)
+        for index, source in ((-1, 5), (0, 1 << 32)):
+            with self.assertRaises(BadField):
+                self.packet.set_csrc(index, source)
+        self.is_changed()
+
+    def test_data_of_the_datagram_itself(self) -> None:
+        first = next(self.packet.elements())
+        self.packet.set_element(1, first.data)
+        self.is_changed(30)
+        self.assertEqual(self.packet.element(1), b"\xAA")
+
+    def test_elements(self) -> None:
+        self.packet.set_element(1, b"\x8A")  # the last of the two: -10 dB with voice
+        self.is_changed(30)
+        self.assertEqual(self.packet.values, Values(audio_level=-10, voice_activity=True, transport_number=0xBBCC))
+        for id, data in ((1, b""), (1, b"\x01\x02"), (3, b"\x01"), (0, b"")):
+            with self.assertRaises(NoElement) as raised:
+                self.packet.set_element(id, data)
+            self.assertIsInstance(raised.exception, LookupError)
+        self.packet.remove_element(1)
+        self.assertEqual(self.datagram[24:32].hex(), "000021bbcc000000")
+        self.assertEqual(self.packet.values, Values(transport_number=0xBBCC))
+        with self.assertRaises(NoElement):
+            self.packet.remove_element(1)
+
+    def test_new_ids(self) -> None:
+        self.packet.renumber(NewIds({1: 5, 3: 7}))
+        self.assertEqual(self.datagram[24:32].hex(), "50aa00000050dd00")
+        with self.assertRaises(BadField):
+            self.packet.renumber(NewIds({5: 15}))
+        self.assertEqual(self.datagram[24:32].hex(), "50aa00000050dd00")
+
+    def test_padding_is_taken_off(self) -> None:
+        self.assertEqual(self.packet.remove_padding(), 35)
+        self.is_changed(0)
+        self.assertEqual(Packet.parse(bytes(self.packet)[:35]).payload, b"\x01\x02\x03")
+        self.assertEqual(self.packet.remove_padding(), 37)
+        packet = Packet.parse(bytearray(SAMPLE[:-1] + b"\x06"))
+        with self.assertRaises(BadField):
+            packet.remove_padding()
+        self.assertTrue(packet.has_padding)
+
+    def test_what_cannot_be_written(self) -> None:
+        for buffer in (bytes, memoryview):
+            packet = Packet.parse(buffer(SAMPLE))
+            changes: "list[Callable[[], Any]]" = [
+                lambda: setattr(packet, "ssrc", 1),
+                lambda: setattr(packet, "marker", False),
+                lambda: setattr(packet, "has_padding", False),
+                lambda: packet.set_fields(ssrc=1),
+                lambda: packet.set_csrc(0, 1),
+                lambda: packet.set_element(1, b"\x01"),
+                lambda: packet.remove_element(1),
+                lambda: packet.renumber(NewIds()),
+                packet.remove_padding,
+            ]
+            for change in changes:
+                with self.assertRaises(TypeError):
+                    change()
+            self.assertEqual((bytes(packet), packet.ssrc), (SAMPLE, 44))
+
+    def test_a_packet_that_was_destroyed(self) -> None:
+        self.datagram[0] = 0x40
+        with self.assertRaises(NotAPacket):
+            self.packet.ssrc = 1
+        self.is_changed(0)
+
+
+if __name__ == "__main__":
+    unittest.main()

@@ -1,0 +1,123 @@
+/*
+ * What a call of each function costs: costs.sh prints the table of docs/COSTS.md from what this program prints, the
+ * nanoseconds of each by the least of some rounds, and from the instructions that callgrind counts in it.
+ *
+ * usage: costs CALLS
+ */
+#define _POSIX_C_SOURCE 199309L
+#include <rtp_wire.h>
+#include <stdio.h>
+#include <stdlib.h>
+#include <string.h>
+#include <time.h>
+
+/* A packet of 1,200 bytes, whose block in the one-byte form has a level, a send time, a transport number and a mid. */
+static uint8_t packet[1200] = {0x90, 111,  0xB7, 0x98, 0,    0,    0x27, 0x10, 0,    0,    0,    0x2C, 0xBE, 0xDE, 0,    4,
+                               0x10, 0xAA, 0x22, 0x0A, 0xBB, 0xCC, 0x31, 0,    7,    0x42, 'm',  'i',  'd'};
+/* One with two sources and no block. */
+static uint8_t mixed[32] = {0x82, 111, 0xB7, 0x98, 0, 0, 0x27, 0x10, 0, 0, 0, 0x2C};
+static const uint8_t rtcp[8] = {0x80, 201, 0, 1};
+static const char uri[] = "urn:ietf:params:rtp-hdrext:sdes:mid";
+static uint8_t buf[1500];
+static size_t len, count;
+static uint64_t number;
+static rtpw_packet parts;
+static rtpw_header header, written;
+static rtpw_values values;
+static rtpw_element element;
+static rtpw_layers layers;
+static rtpw_map map, other_map;
+static rtpw_new_ids ids;
+static rtpw_receiver receiver;
+static rtpw_fields fields;
+
+/* The status of a call that is timed may be any. */
+static volatile int64_t sink;
+
+enum { BODY_AT = 16, BODY_LEN = 16 };
+
+#define CALLS(X)                                                                                                      \
+    X(rtpw_version, rtpw_version())                                                                                   \
+    X(rtpw_is_rtcp, rtpw_is_rtcp(rtcp, sizeof rtcp))                                                                  \
+    X(rtpw_packet_parse, rtpw_packet_parse(packet, sizeof packet, &parts))                                            \
+    X(rtpw_parse, rtpw_parse(packet, sizeof packet, &map, &header))                                                   \
+    X(rtpw_parse_layers, rtpw_parse_layers(packet, sizeof packet, &map, &header, &layers))                            \
+    X(rtpw_values_read, rtpw_values_read(packet + BODY_AT, BODY_LEN, RTPW_ONE_BYTE_FORM, &map, &values))              \
+    X(rtpw_next_element, rtpw_next_element(packet + BODY_AT, BODY_LEN, RTPW_ONE_BYTE_FORM, 0, &element))              \
+    X(rtpw_last_element, rtpw_last_element(packet + BODY_AT, BODY_LEN, RTPW_ONE_BYTE_FORM, 3, &element))              \
+    X(rtpw_set_marker, rtpw_set_marker(packet, sizeof packet, false))                                                 \
+    X(rtpw_set_payload_type, rtpw_set_payload_type(packet, sizeof packet, 111))                                       \
+    X(rtpw_set_sequence_number, rtpw_set_sequence_number(packet, sizeof packet, 47000))                               \
+    X(rtpw_set_timestamp, rtpw_set_timestamp(packet, sizeof packet, 10000))                                           \
+    X(rtpw_set_ssrc, rtpw_set_ssrc(packet, sizeof packet, 44))                                                        \
+    X(rtpw_set_fields, rtpw_set_fields(packet, sizeof packet, &fields))                                               \
+    X(rtpw_set_element, rtpw_set_element(packet, sizeof packet, 3, rtcp, 2))                                          \
+    X(rtpw_remove_element, rtpw_remove_element(packet, sizeof packet, 9))                                             \
+    X(rtpw_set_csrc, rtpw_set_csrc(mixed, sizeof mixed, 1, 7))                                                        \
+    X(rtpw_renumber, rtpw_renumber(packet, sizeof packet, &ids))                                                      \
+    X(rtpw_set_padding, rtpw_set_padding(packet, sizeof packet, false))                                               \
+    X(rtpw_remove_padding, rtpw_remove_padding(packet, sizeof packet, &len))                                          \
+    X(rtpw_wire_len, rtpw_wire_len(&map, &written, &len))                                                             \
+    X(rtpw_write, rtpw_write(&map, &written, buf, sizeof buf, &len))                                                  \
+    X(rtpw_write_with, rtpw_write_with(&written, rtcp, sizeof rtcp, &element, 1, buf, sizeof buf, &len))              \
+    X(rtpw_write_elements, rtpw_write_elements(rtcp, sizeof rtcp, &element, 1, RTPW_ONE_BYTE_FORM, buf, sizeof buf, &len)) \
+    X(rtpw_kind_of_uri, rtpw_kind_of_uri((const uint8_t *)uri, sizeof uri - 1))                                       \
+    X(rtpw_map_set, rtpw_map_set(&other_map, 3, RTPW_KIND_AUDIO_LEVEL))                                               \
+    X(rtpw_map_get, rtpw_map_get(&map, 3))                                                                            \
+    X(rtpw_map_standard, (rtpw_map_standard(&other_map), 0))                                                          \
+    X(rtpw_new_ids_between, (rtpw_new_ids_between(&map, &map, &ids), 0))                                              \
+    X(rtpw_pad, rtpw_pad(buf, sizeof buf, 32, 100, 16, &count))                                                       \
+    X(rtpw_read_original, rtpw_read_original(packet + 32, sizeof packet - 32, &parts.sequence_number))                \
+    X(rtpw_write_original, rtpw_write_original(buf, sizeof buf, 47000))                                               \
+    X(rtpw_receiver_start, rtpw_receiver_start(&receiver, 1))                                                         \
+    X(rtpw_receiver_number_of, rtpw_receiver_number_of(&receiver, (uint16_t)(number + 1)))                            \
+    X(rtpw_receiver_accepts, rtpw_receiver_accepts(&receiver, number + 1))                                            \
+    X(rtpw_receiver_record, (rtpw_receiver_record(&receiver, ++number), 0))                                           \
+    X(rtpw_receiver_receive, rtpw_receiver_receive(&receiver, (uint16_t)(number + 1), &number))                       \
+    X(rtpw_extend_u8, rtpw_extend_u8(number, 7))                                                                      \
+    X(rtpw_extend_u15, rtpw_extend_u15(number, 7))                                                                    \
+    X(rtpw_extend_u16, rtpw_extend_u16(number, 7))                                                                    \
+    X(rtpw_extend_u32, rtpw_extend_u32(number, 7))
+
+#define RUN(name, call)                                                                                               \
+    static void run_##name(long calls) {                                                                              \
+        while (calls-- > 0) sink = (int64_t)(call);                                                                   \
+    }
+CALLS(RUN)
+
+static void run_nothing(long calls) {
+    while (calls-- > 0) sink = 0;
+}
+
+static double nanoseconds(void (*run)(long), long calls) {
+    double least = 0;
+    int round;
+    for (round = 0; round < 9; round++) {
+        struct timespec from, to;
+        double took;
+        clock_gettime(CLOCK_MONOTONIC, &from);
+        run(calls);
+        clock_gettime(CLOCK_MONOTONIC, &to);
+        took = ((double)(to.tv_sec - from.tv_sec) * 1e9 + (double)(to.tv_nsec - from.tv_nsec)) / (double)calls;
+        if (round == 0 || took < least) least = took;
+    }
+    return least;
+}
+
+int main(int argc, char **argv) {
+    long calls = argc == 2 ? atol(argv[1]) : 0;
+    double nothing;
+    if (calls < 1) {
+        fputs("usage: costs CALLS\n", stderr);
+        return 2;
+    }
+    rtpw_map_standard(&map);
+    memset(&fields, 1, sizeof fields);
+    if (rtpw_parse(packet, sizeof packet, &map, &written) != RTPW_OK || rtpw_receiver_start(&receiver, 1) != RTPW_OK) return 1;
+    element.id = 3;
+    element.data_len = 2;
+    nothing = nanoseconds(run_nothing, calls);
+#define PRINT(name, call) printf(#name " %.1f\n", nanoseconds(run_##name, calls) - nothing);
+    CALLS(PRINT)
+    return 0;
+}
