@@ -203,11 +203,12 @@ if has cargo; then
     "${cargo[@]}" fmt "${crate[@]}" --check
     said 'the crate for Rust: cargo test, cargo doc and cargo fmt, without a warning'
 fi
-if has go; then
+if [ -z "$proves" ]; then
+    .ci/languages
+elif has go; then
     (cd "$go" && go test -count=1 ./... >"$scratch/go.log" 2>&1) || { cat "$scratch/go.log" >&2; fail 'go test'; }
     said 'the package for Go: go test'
 fi
-[ -n "$proves" ] || .ci/languages
 
 # The programs of docs/CALLING.md print what stands there: in the section of each language the first block of that
 # language is the program, and the first one of none its output.
