@@ -1,0 +1,69 @@
+package rtpwire_test
+
+import (
+	"os"
+	"syscall"
+	"testing"
+
+	"rtpwire"
+)
+
+// atEnd is a copy of the bytes that ends where a page begins that may not be touched.
+func atEnd(t *testing.T, data []byte) []byte {
+	t.Helper()
+	page := os.Getpagesize()
+	pages, err := syscall.Mmap(-1, 0, 2*page, syscall.PROT_READ|syscall.PROT_WRITE, syscall.MAP_ANON|syscall.MAP_PRIVATE)
+	if err == nil {
+		err = syscall.Mprotect(pages[page:], syscall.PROT_NONE)
+	}
+	if err != nil {
+		t.Fatal(err)
+	}
+	t.Cleanup(func() { _ = syscall.Munmap(pages) })
+	copied := pages[page-len(data) : page : page]
+	copy(copied, data)
+	return copied
+}
+
+func TestNothingPastTheEndIsTouched(t *testing.T) {
+	m := everyKind(t)
+	for _, datagram := range [][]byte{sample(), everyValue} {
+		for length := 0; length <= len(datagram); length++ {
+			cut := atEnd(t, datagram[:length])
+			var packet rtpwire.Packet
+			var receiver rtpwire.Receiver
+			var layers rtpwire.Layers
+			var fields rtpwire.Fields
+			fields.SetSSRC(7)
+			rtpwire.IsRTCP(cut)
+			rtpwire.PeekSSRC(cut)
+			calls := map[string]error{
+				"Parse":    packet.Parse(cut, m),
+				"layers":   layers.Parse(cut, m),
+				"fields":   fields.Apply(cut),
+				"renumber": rtpwire.Renumber(cut, rtpwire.NewIDsBetween(m, m)),
+			}
+			_, calls["ReceivePacket"] = receiver.ReceivePacket(cut, m, &packet)
+			for what, err := range calls {
+				if (err == nil) != (calls["Parse"] == nil) {
+					t.Fatalf("%s of %d bytes: %v", what, length, err)
+				}
+			}
+			if calls["Parse"] != nil {
+				continue
+			}
+			places := packet.AppendPlaces(nil)
+			buf := atEnd(t, make([]byte, packet.HeaderLen()))
+			_, body := packet.Block()
+			if n, err := packet.Header.WriteWith(buf, body, places); err != nil || n > len(buf) {
+				t.Fatal(n, err)
+			}
+			buf = atEnd(t, make([]byte, 20))
+			n, err := packet.Header.Write(buf, m)
+			if err != rtpwire.ErrShortBuffer || n != 0 {
+				t.Fatal(n, err)
+			}
+			packet.UnpaddedPayload()
+		}
+	}
+}
