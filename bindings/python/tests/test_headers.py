@@ -4,6 +4,7 @@ and RFC 8285, 4.2 and 4.3."""
 import copy
 import pickle
 import unittest
+from types import SimpleNamespace
 
 from rtp_wire import BadField, Form, Header, Kind, Map, NewIds, ShortBuffer, Values, write_elements
 
@@ -122,6 +123,11 @@ class Maps(unittest.TestCase):
             map[1] = 16  # type: ignore[assignment]
         self.assertEqual(map, Map({4: Kind.MID}))
         self.assertEqual(repr(map), "Map({4: <Kind.MID: 12>})")
+
+    def test_maps_of_what_other_packages_have(self) -> None:
+        # RTCRtpHeaderExtensionParameters of aiortc have these attributes
+        negotiated = [SimpleNamespace(id=4, uri=MID), SimpleNamespace(id=5, uri="urn:x")]
+        self.assertEqual(Map.from_uris((it.id, it.uri) for it in negotiated), Map({4: Kind.MID}))
 
     def test_the_usual_ids(self) -> None:
         usual = {
