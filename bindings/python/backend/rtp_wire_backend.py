@@ -149,7 +149,9 @@ def info_files() -> Dict[str, bytes]:
     return files
 
 
-def prepare_metadata_for_build_wheel(metadata_directory: str, config_settings: Optional[Dict[str, Any]] = None) -> str:
+def prepare_metadata_for_build_wheel(
+    metadata_directory: str, config_settings: Optional[Dict[str, Any]] = None
+) -> str:
     folder = f"rtp_wire-{version()}.dist-info"
     for name, data in info_files().items():
         place = Path(metadata_directory, folder, name)

@@ -63,11 +63,24 @@ class Build(unittest.TestCase):
         self.assertEqual(backend_of(unpacked).build_wheel(str(there)), wheel)
         self.assertEqual((here / wheel).read_bytes(), (there / wheel).read_bytes())
         files = files_of(here / wheel)
-        self.assertLessEqual({"rtp_wire/py.typed", "rtp_wire/librtp_wire.so", "rtp_wire/_packet.py"}, files.keys())
+        self.assertLessEqual(
+            {"rtp_wire/py.typed", "rtp_wire/librtp_wire.so", "rtp_wire/_packet.py"}, files.keys()
+        )
 
     def test_a_source_distribution_has_the_tests(self) -> None:
         unpacked = self.unpacked()
-        command = [sys.executable, "-m", "unittest", "discover", "-s", "tests", "-k", "Reading", "-k", "Library"]
+        command = [
+            sys.executable,
+            "-m",
+            "unittest",
+            "discover",
+            "-s",
+            "tests",
+            "-k",
+            "Reading",
+            "-k",
+            "Library",
+        ]
         said = subprocess.run(command, cwd=unpacked, capture_output=True, text=True, check=False)
         self.assertEqual(said.returncode, 0, said.stderr)
 
@@ -98,7 +111,12 @@ class Build(unittest.TestCase):
     def test_metadata(self) -> None:
         folder = self.backend.prepare_metadata_for_build_wheel(str(self.folder))
         said = (self.folder / folder / "METADATA").read_text("utf-8")
-        for line in ("Name: rtp-wire", f"Version: {self.backend.version()}", "Requires-Python: >=3.9", "# rtp_wire"):
+        for line in (
+            "Name: rtp-wire",
+            f"Version: {self.backend.version()}",
+            "Requires-Python: >=3.9",
+            "# rtp_wire",
+        ):
             self.assertIn(line + "\n", said)
 
 

@@ -43,7 +43,11 @@ class Captures(unittest.TestCase):
         program = blocks("python")[0]
         self.assertLessEqual(len(program.splitlines()), 10)
         said = subprocess.run(
-            [sys.executable, "-c", program], cwd=CAPTURES.parent, stdout=subprocess.PIPE, check=True, text=True
+            [sys.executable, "-c", program],
+            cwd=CAPTURES.parent,
+            stdout=subprocess.PIPE,
+            check=True,
+            text=True,
         )
         shown = next(it for it in blocks("") if it.startswith("$ python3 table.py\n"))
         self.assertEqual(said.stdout, shown.partition("\n")[2])

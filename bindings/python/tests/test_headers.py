@@ -4,6 +4,7 @@ and RFC 8285, 4.2 and 4.3."""
 import copy
 import pickle
 import unittest
+from types import SimpleNamespace
 
 from rtp_wire import BadField, Form, Header, Kind, Map, NewIds, ShortBuffer, Values, write_elements
 
@@ -26,7 +27,8 @@ class Headers(unittest.TestCase):
         self.assertEqual(Header().write(self.MAP), bytes.fromhex("80") + bytes(11))
         self.assertEqual(Header(values=Values(mid="1")).write(self.MAP), bytes.fromhex("80") + bytes(11))
         self.assertEqual(
-            Header(has_extension=True).write(Map()), bytes.fromhex("90") + bytes(11) + bytes.fromhex("BEDE0000")
+            Header(has_extension=True).write(Map()),
+            bytes.fromhex("90") + bytes(11) + bytes.fromhex("BEDE0000"),
         )
 
     def test_what_cannot_be_written(self) -> None:
@@ -59,7 +61,8 @@ class Headers(unittest.TestCase):
         fixed = bytes.fromhex("90") + bytes(11)
         self.assertEqual(Header().write_with(elements), fixed + bytes.fromhex("BEDE0002 10AA21BB CC000000"))
         self.assertEqual(
-            Header().write_with([(15, b"\xAA"), *elements[1:]]), fixed + bytes.fromhex("10000002 0F01AA02 02BBCC00")
+            Header().write_with([(15, b"\xAA"), *elements[1:]]),
+            fixed + bytes.fromhex("10000002 0F01AA02 02BBCC00"),
         )
         # its elements are those that are given, whatever the values are
         self.assertEqual(Header(values=Values(mid="-")).write_with([]), fixed + bytes.fromhex("BEDE0000"))
@@ -121,9 +124,23 @@ class Maps(unittest.TestCase):
         self.assertEqual(map, Map({4: Kind.MID}))
         self.assertEqual(repr(map), "Map({4: <Kind.MID: 12>})")
 
+    def test_maps_of_what_other_packages_have(self) -> None:
+        # RTCRtpHeaderExtensionParameters of aiortc have these attributes
+        negotiated = [SimpleNamespace(id=4, uri=MID), SimpleNamespace(id=5, uri="urn:x")]
+        self.assertEqual(Map.from_uris((it.id, it.uri) for it in negotiated), Map({4: Kind.MID}))
+
     def test_the_usual_ids(self) -> None:
-        usual = {1: "AUDIO_LEVEL", 2: "ABS_SEND_TIME", 3: "TRANSPORT_NUMBER", 4: "MID", 10: "RID", 11: "REPAIRED_RID"}
-        self.assertEqual({id: kind.name for id, kind in Map.standard().items()}, {**usual, 13: "VIDEO_ORIENTATION"})
+        usual = {
+            1: "AUDIO_LEVEL",
+            2: "ABS_SEND_TIME",
+            3: "TRANSPORT_NUMBER",
+            4: "MID",
+            10: "RID",
+            11: "REPAIRED_RID",
+        }
+        self.assertEqual(
+            {id: kind.name for id, kind in Map.standard().items()}, {**usual, 13: "VIDEO_ORIENTATION"}
+        )
 
     def test_new_ids(self) -> None:
         sender = Map({1: Kind.MID, 2: Kind.RID, 3: Kind.MID, 4: Kind.AUDIO_LEVEL})

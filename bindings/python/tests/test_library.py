@@ -52,7 +52,9 @@ def type_of(text: str) -> Any:
 
 def declared() -> Iterator[Tuple[str, Any, List[Any]]]:
     """The functions of rtp_wire.h, with the types of their results and parameters."""
-    for result, name, parameters in re.findall(r"^(?:RTPW_CHECKED )?(\w+) (rtpw_\w+)\(([^)]*)\);", TEXT, re.M):
+    for result, name, parameters in re.findall(
+        r"^(?:RTPW_CHECKED )?(\w+) (rtpw_\w+)\(([^)]*)\);", TEXT, re.M
+    ):
         listed = [] if parameters == "void" else parameters.split(",")
         yield name, NUMBERS[result], [type_of(it) for it in listed]
 
@@ -86,17 +88,30 @@ class Library(unittest.TestCase):
 
     def test_each_function_is_used(self) -> None:
         used = "".join(
-            it.read_text("utf-8") for it in (HERE / "src/rtp_wire").glob("_[a-z]*.py") if it.stem != "_library"
+            it.read_text("utf-8")
+            for it in (HERE / "src/rtp_wire").glob("_[a-z]*.py")
+            if it.stem != "_library"
         )
-        used += (HERE / "src/rtp_wire/__init__.py").read_text("utf-8") + (HERE / "src/whole_packet.c").read_text(
-            "utf-8"
-        )
+        used += (HERE / "src/rtp_wire/__init__.py").read_text("utf-8") + (
+            HERE / "src/whole_packet.c"
+        ).read_text("utf-8")
         for name in _library.FUNCTIONS:
             self.assertRegex(used, rf"_library\.{name[5:]}\b|\b{name}\(")
 
     def test_each_field_lies_where_it_does_in_c(self) -> None:
-        lines = [(HERE / "src/whole_packet.c").read_text("utf-8"), *(f'_Static_assert({it}, "");' for it in facts())]
-        options = ["-std=c11", "-Wall", "-Wextra", "-Wpedantic", "-Werror", f"-I{HEADER.parent}", "-fsyntax-only"]
+        lines = [
+            (HERE / "src/whole_packet.c").read_text("utf-8"),
+            *(f'_Static_assert({it}, "");' for it in facts()),
+        ]
+        options = [
+            "-std=c11",
+            "-Wall",
+            "-Wextra",
+            "-Wpedantic",
+            "-Werror",
+            f"-I{HEADER.parent}",
+            "-fsyntax-only",
+        ]
         with tempfile.TemporaryDirectory() as folder:
             Path(folder, "facts.c").write_text("\n".join(lines), "utf-8")
             for compiler in filter(shutil.which, (os.environ.get("CC") or "cc", "aarch64-linux-gnu-gcc")):
@@ -108,7 +123,9 @@ class Library(unittest.TestCase):
         statuses = {it.name: it.value for it in Status}
         everything = names_in("")
         self.assertEqual({name: everything[name] for name in statuses}, statuses)
-        self.assertEqual({it.name: it.value for it in Cause}, {it.name: it.value for it in Status if 0 < it < 7})
+        self.assertEqual(
+            {it.name: it.value for it in Cause}, {it.name: it.value for it in Status if 0 < it < 7}
+        )
         self.assertEqual(names_in("KIND_"), {it.name: it.value for it in Kind})
         self.assertEqual(
             (everything["NO_BLOCK"], everything["ONE_BYTE_FORM"], everything["TWO_BYTE_FORM"]), tuple(Form)

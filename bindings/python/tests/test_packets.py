@@ -34,7 +34,8 @@ class Reading(unittest.TestCase):
             self.assertEqual((bytes(packet.payload), packet.unpadded_payload), (b"\1\2\3\0\2", b"\1\2\3"))
             self.assertEqual((bytes(packet.body), bytes(packet.header_bytes)), (SAMPLE[24:32], SAMPLE[:32]))
             self.assertEqual(
-                [(it.id, bytes(it.data)) for it in packet.elements()], [(1, b"\xAA"), (2, b"\xBB\xCC"), (1, b"\xDD")]
+                [(it.id, bytes(it.data)) for it in packet.elements()],
+                [(1, b"\xAA"), (2, b"\xBB\xCC"), (1, b"\xDD")],
             )
             self.assertEqual((packet.element(1), packet.element(2)), (b"\xDD", b"\xBB\xCC"))
             self.assertEqual((packet.element(3), packet.element(255)), (None, None))
@@ -99,7 +100,9 @@ class Reading(unittest.TestCase):
         self.assertIsNone(Packet.parse(SAMPLE[:-1] + b"\x06").unpadded_payload)
         self.assertEqual(Packet.parse(SAMPLE[:-1] + b"\x05").unpadded_payload, b"")
         # a last byte of 0, and P of an empty payload
-        self.assertEqual(Packet.parse(bytes.fromhex("A0000001 00000002 00000003 0700")).unpadded_payload, b"\x07\x00")
+        self.assertEqual(
+            Packet.parse(bytes.fromhex("A0000001 00000002 00000003 0700")).unpadded_payload, b"\x07\x00"
+        )
         self.assertEqual(Packet.parse(bytes.fromhex("A0000001 00000002 00000003")).unpadded_payload, b"")
 
     def test_a_header_alone(self) -> None:
@@ -110,13 +113,20 @@ class Reading(unittest.TestCase):
     def test_elements_end_where_one_is_cut(self) -> None:
         # in the one-byte form id 15 ends the elements, and the id 0 with data is one of them (RFC 8285, 4.2)
         found = [
-            (it.id, bytes(it.data)) for it in rtp_wire.elements(bytes.fromhex("10AA 00 01BBCC F0 10DD"), Form.ONE_BYTE)
+            (it.id, bytes(it.data))
+            for it in rtp_wire.elements(bytes.fromhex("10AA 00 01BBCC F0 10DD"), Form.ONE_BYTE)
         ]
         self.assertEqual(found, [(1, b"\xAA"), (0, b"\xBB\xCC")])
         found = [
-            (it.id, bytes(it.data)) for it in rtp_wire.elements(bytes.fromhex("0100 00 FF02AABB 0303CC"), Form.TWO_BYTE)
+            (it.id, bytes(it.data))
+            for it in rtp_wire.elements(bytes.fromhex("0100 00 FF02AABB 0303CC"), Form.TWO_BYTE)
         ]
         self.assertEqual(found, [(1, b""), (255, b"\xAA\xBB")])
+
+    def test_a_form_of_none(self) -> None:
+        for form in (0, 3, 257):
+            with self.assertRaises(BadField):
+                next(rtp_wire.elements(b"\x10\xAA", form))
 
     def test_rtcp(self) -> None:
         # a sender report, 200; RTP with M and the payload type 72 would have the same byte
@@ -128,7 +138,9 @@ class Reading(unittest.TestCase):
     def test_random_bytes(self) -> None:
         random = Random(1)
         for _ in range(400):
-            data = bytes([random.choice((0x80, 0x90, 0xB1, 0xA2)), *random.choices(range(256), k=random.randrange(60))])
+            data = bytes(
+                [random.choice((0x80, 0x90, 0xB1, 0xA2)), *random.choices(range(256), k=random.randrange(60))]
+            )
             form = random.choice(("BEDE0001", "BEDE0004", "10000002", "100F0005"))
             data = data[:12] + bytes.fromhex(form) + data[12:]
             told = {self.told(buffer(data)) for buffer in BUFFERS}
@@ -194,7 +206,12 @@ class Changing(unittest.TestCase):
         self.assertEqual(self.datagram[12:], SAMPLE[12:])
 
     def test_what_is_out_of_its_range_changes_nothing(self) -> None:
-        for name, value in (("payload_type", 128), ("sequence_number", 65536), ("timestamp", 1 << 32), ("ssrc", -1)):
+        for name, value in (
+            ("payload_type", 128),
+            ("sequence_number", 65536),
+            ("timestamp", 1 << 32),
+            ("ssrc", -1),
+        ):
             with self.assertRaises(BadField):
                 setattr(self.packet, name, value)
             with self.assertRaises(BadField):
@@ -218,7 +235,9 @@ class Changing(unittest.TestCase):
     def test_elements(self) -> None:
         self.packet.set_element(1, b"\x8A")  # the last of the two: -10 dB with voice
         self.is_changed(30)
-        self.assertEqual(self.packet.values, Values(audio_level=-10, voice_activity=True, transport_number=0xBBCC))
+        self.assertEqual(
+            self.packet.values, Values(audio_level=-10, voice_activity=True, transport_number=0xBBCC)
+        )
         for id, data in ((1, b""), (1, b"\x01\x02"), (3, b"\x01"), (0, b"")):
             with self.assertRaises(NoElement) as raised:
                 self.packet.set_element(id, data)

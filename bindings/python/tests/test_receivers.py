@@ -15,10 +15,21 @@ class Receivers(unittest.TestCase):
     def test_a_run(self) -> None:
         receiver = Receiver(1)
         self.assertIsNone(receiver.highest)
-        rows = [(5, 65541), (65533, 65533), (6, 65542), (6, None), (5, None), (134, 65670), (6, None), (7, 65543)]
+        rows = [
+            (5, 65541),
+            (65533, 65533),
+            (6, 65542),
+            (6, None),
+            (5, None),
+            (134, 65670),
+            (6, None),
+            (7, 65543),
+        ]
         for low, number in rows:
             self.assertEqual(receiver.receive(low), number)
-        self.assertEqual((receiver.highest, repr(receiver)), (65670, "Receiver(rollover_count=1, highest=65670)"))
+        self.assertEqual(
+            (receiver.highest, repr(receiver)), (65670, "Receiver(rollover_count=1, highest=65670)")
+        )
 
     def test_three_steps(self) -> None:
         receiver = Receiver()
@@ -62,7 +73,9 @@ class Receivers(unittest.TestCase):
 
     def test_the_nearest_number(self) -> None:
         self.assertEqual((rtp_wire.extend_u8(255, 0), rtp_wire.extend_u8(256, 129)), (256, 129))
-        self.assertEqual((rtp_wire.extend_u15(32767, 0), rtp_wire.extend_u15(0, 16385)), (32768, LAST - 16382))
+        self.assertEqual(
+            (rtp_wire.extend_u15(32767, 0), rtp_wire.extend_u15(0, 16385)), (32768, LAST - 16382)
+        )
         self.assertEqual((rtp_wire.extend_u16(65535, 0), rtp_wire.extend_u16(0, 32768)), (65536, 32768))
         self.assertEqual((rtp_wire.extend_u16(5, 65535), rtp_wire.extend_u16(LAST, 0)), (LAST, 0))
         self.assertEqual(rtp_wire.extend_u32(0xFFFFFFFF, 1), (1 << 32) + 1)

@@ -3,7 +3,20 @@
 import unittest
 from dataclasses import replace
 
-from rtp_wire import BadField, Form, Header, Kind, Layer, Layers, Map, Packet, Resolution, Time, Values, VideoTiming
+from rtp_wire import (
+    BadField,
+    Form,
+    Header,
+    Kind,
+    Layer,
+    Layers,
+    Map,
+    Packet,
+    Resolution,
+    Time,
+    Values,
+    VideoTiming,
+)
 
 # For each id the kind, the data of its element, and what they say.
 ROWS = [

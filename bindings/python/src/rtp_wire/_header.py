@@ -8,8 +8,8 @@ from typing import TYPE_CHECKING, Iterable, Optional, Tuple
 
 from . import _library
 from ._buffers import address_of, place_of, view_of, writable_view_of
-from ._errors import BadField, Status, check, error_of, unsigned
-from ._layers import layers_of
+from ._errors import BadField, Status, check, unsigned
+from ._layers import Layers, layers_of
 from ._map import Map
 from ._values import Values, put_values, values_of
 
@@ -21,18 +21,11 @@ MOST_CSRCS = 15
 BLOCK_HEADER, WORD = 4, 4
 
 
-def read_header(address: Address, length: int, map: Map) -> Tuple[_library.RawHeader, Values]:
-    """The header that the bytes begin with, and the values of its block under the map."""
-    raw = _library.RawHeader()
-    status = _library.parse(address, length, map.raw, raw)
-    if status:
-        raise error_of(status)
-    values = values_of(raw.values)
-    if raw.values.has[-1]:
-        layers = _library.RawLayers()
-        check(_library.parse_layers(address, length, map.raw, raw, layers))
-        values.layers = layers_of(layers)
-    return raw, values
+def read_layers(address: Address, length: int, map: Map) -> Layers:
+    """The layer allocation of the header that the bytes begin with, which has one under the map."""
+    header, layers = _library.RawHeader(), _library.RawLayers()
+    check(_library.parse_layers(address, length, map._raw, header, layers))
+    return layers_of(layers)
 
 
 @dataclass
@@ -71,7 +64,11 @@ class Header:
         """Reads the header that the bytes begin with, and what its elements say under the map; nothing after it is
         looked at. NotAPacket and MemoryError as Packet.parse."""
         data, at = place_of(datagram)
-        raw, values = read_header(at, len(data), Map() if map is None else map)
+        map, raw = Map() if map is None else map, _library.RawHeader()
+        check(_library.parse(at, len(data), map._raw, raw))
+        values = values_of(raw.values)
+        if raw.values.has[-1]:
+            values.layers = read_layers(at, len(data), map)
         return cls(
             raw.payload_type,
             raw.sequence_number,
@@ -103,7 +100,7 @@ class Header:
     def wire_len(self, map: Map) -> int:
         """How many bytes `write` writes: a multiple of 4. BadField as `write`."""
         length = c_size_t()
-        check(_library.wire_len(map.raw, self._raw(), length))
+        check(_library.wire_len(map._raw, self._raw(), length))
         return length.value
 
     def write(self, map: Map) -> bytes:
@@ -111,22 +108,23 @@ class Header:
         mapped id whose value is there: in the one-byte form unless an id above 14 or Kind.LAYERS is mapped or a text
         that is written is empty. BadField where a field or a value is out of its range."""
         raw, length = self._raw(), c_size_t()
-        check(_library.wire_len(map.raw, raw, length))
+        check(_library.wire_len(map._raw, raw, length))
         buf = bytearray(length.value)
-        check(_library.write(map.raw, raw, address_of(memoryview(buf)), len(buf), length))
+        check(_library.write(map._raw, raw, address_of(memoryview(buf)), len(buf), length))
         return bytes(buf)
 
     def write_to(self, buf: WritableBuffer, map: Map) -> int:
         """Writes the header to the front of the buffer, and returns how many bytes it took; those after it stay.
         BadField as `write`, and else ShortBuffer; nothing is written then."""
         view, length = writable_view_of(buf), c_size_t()
-        check(_library.write(map.raw, self._raw(), address_of(view), len(view), length))
+        check(_library.write(map._raw, self._raw(), address_of(view), len(view), length))
         return length.value
 
     def write_with(self, elements: Iterable[Tuple[int, Buffer]]) -> bytes:
         """The bytes of the header with a block of these elements, pairs of an id and its data, whatever has_extension
         and the values hold: in the one-byte form where that can carry each of them. BadField where a field is out of
-        its range, an id isn't 1 to 255, data have more than 255 bytes, or a block can't have as many bytes."""
+        its range, an id isn't 1 to 255, data have more than 255 bytes, or a block can't have as many bytes.
+        """
         data, places = _gather(elements)
         room = _room(data, places) + BLOCK_HEADER + 12 + 4 * len(self.csrc)
         buf, length = bytearray(room), c_size_t()
@@ -167,5 +165,9 @@ def write_elements(elements: Iterable[Tuple[int, Buffer]], form: int) -> bytes:
     buf, length = bytearray(_room(data, places)), c_size_t()
     form = unsigned("a form", form, 8)
     view = memoryview(buf)
-    check(_library.write_elements(data, len(data), places, len(places), form, address_of(view), len(buf), length))
+    check(
+        _library.write_elements(
+            data, len(data), places, len(places), form, address_of(view), len(buf), length
+        )
+    )
     return bytes(view[: length.value])

@@ -204,7 +204,9 @@ def _declare(result: Any, name: str, *arguments: Any) -> Function:
     return function
 
 
-whole_packet_parse = _declare(_STATUS, "whole_packet_parse", _BYTES, _SIZE, POINTER(RawMap), POINTER(WholePacket))
+whole_packet_parse = _declare(
+    _STATUS, "whole_packet_parse", _BYTES, _SIZE, POINTER(RawMap), POINTER(WholePacket)
+)
 
 version = _declare(c_uint32, "rtpw_version")
 
@@ -230,7 +232,9 @@ kind_of_uri = _declare(c_uint8, "rtpw_kind_of_uri", _BYTES, _SIZE)
 map_set = _declare(_STATUS, "rtpw_map_set", POINTER(RawMap), c_uint8, c_uint8)
 map_get = _declare(c_uint8, "rtpw_map_get", POINTER(RawMap), c_uint8)
 map_standard = _declare(None, "rtpw_map_standard", POINTER(RawMap))
-values_read = _declare(_STATUS, "rtpw_values_read", _BYTES, _SIZE, c_uint8, POINTER(RawMap), POINTER(RawValues))
+values_read = _declare(
+    _STATUS, "rtpw_values_read", _BYTES, _SIZE, c_uint8, POINTER(RawMap), POINTER(RawValues)
+)
 
 parse = _declare(_STATUS, "rtpw_parse", _BYTES, _SIZE, POINTER(RawMap), POINTER(RawHeader))
 parse_layers = _declare(
@@ -274,7 +278,9 @@ receiver_start = _declare(_STATUS, "rtpw_receiver_start", POINTER(RawReceiver), 
 receiver_number_of = _declare(c_uint64, "rtpw_receiver_number_of", POINTER(RawReceiver), c_uint16)
 receiver_accepts = _declare(c_bool, "rtpw_receiver_accepts", POINTER(RawReceiver), c_uint64)
 receiver_record = _declare(None, "rtpw_receiver_record", POINTER(RawReceiver), c_uint64)
-receiver_receive = _declare(_STATUS, "rtpw_receiver_receive", POINTER(RawReceiver), c_uint16, POINTER(c_uint64))
+receiver_receive = _declare(
+    _STATUS, "rtpw_receiver_receive", POINTER(RawReceiver), c_uint16, POINTER(c_uint64)
+)
 
 extend_u8 = _declare(c_uint64, "rtpw_extend_u8", c_uint64, c_uint8)
 extend_u15 = _declare(c_uint64, "rtpw_extend_u15", c_uint64, c_uint16)

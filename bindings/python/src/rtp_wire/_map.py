@@ -42,8 +42,8 @@ Entry = TypeVar("Entry", bound=int)
 class _Table(MutableMapping[int, Entry]):
     """A number for each id from 1 to 255: 0 for those that have no entry."""
 
-    __slots__ = ("raw",)
-    raw: Any
+    __slots__ = ("_raw",)
+    _raw: Any
 
     def __delitem__(self, id: int) -> None:
         self[id]  # raises KeyError where there is no entry
@@ -53,10 +53,10 @@ class _Table(MutableMapping[int, Entry]):
         raise NotImplementedError
 
     def __iter__(self) -> Iterator[int]:
-        return (id for id, entry in enumerate(bytes(self.raw)) if entry)
+        return (id for id, entry in enumerate(bytes(self._raw)) if entry)
 
     def __len__(self) -> int:
-        return sum(map(bool, bytes(self.raw)))
+        return sum(map(bool, bytes(self._raw)))
 
     def __repr__(self) -> str:
         entries = ", ".join(f"{id}: {entry!r}" for id, entry in self.items())
@@ -77,7 +77,7 @@ class Map(_Table[Kind]):
     __slots__ = ()
 
     def __init__(self, kinds: Union[Mapping[int, Kind], Iterable[Tuple[int, Kind]]] = ()) -> None:
-        self.raw = _library.RawMap()
+        self._raw = _library.RawMap()
         self.update(kinds)
 
     @classmethod
@@ -85,7 +85,7 @@ class Map(_Table[Kind]):
         """The usual ids: 1 audio level, 2 send time, 3 transport number, 4 mid, 10 rid, 11 repaired rid, 13 video
         orientation."""
         made = cls()
-        _library.map_standard(made.raw)
+        _library.map_standard(made._raw)
         return made
 
     @classmethod
@@ -94,14 +94,14 @@ class Map(_Table[Kind]):
         return cls([(id, Kind.from_uri(uri)) for id, uri in dict(uris).items()])
 
     def __getitem__(self, id: int) -> Kind:
-        kind = _library.map_get(self.raw, id) if 0 < id < 256 else 0
+        kind = _library.map_get(self._raw, id) if 0 < id < 256 else 0
         if not kind:
             raise KeyError(id)
         return Kind(kind)
 
     def __setitem__(self, id: int, kind: Kind) -> None:
         """The id means the kind from now on, or nothing with Kind.NONE. BadField where the id isn't 1 to 255."""
-        check(_library.map_set(self.raw, unsigned("an id", id, 8), unsigned("a kind", kind, 8)))
+        check(_library.map_set(self._raw, unsigned("an id", id, 8), unsigned("a kind", kind, 8)))
 
     def _remove(self, id: int) -> None:
         self[id] = Kind.NONE
@@ -114,7 +114,7 @@ class NewIds(_Table[int]):
     __slots__ = ()
 
     def __init__(self, ids: Union[Mapping[int, int], Iterable[Tuple[int, int]]] = ()) -> None:
-        self.raw = _library.RawNewIds()
+        self._raw = _library.RawNewIds()
         self.update(ids)
 
     @classmethod
@@ -122,17 +122,17 @@ class NewIds(_Table[int]):
         """For each id of a kind in the sender's map its lowest id in the receiver's. An extension whose URI has no
         kind is in no map: set its new id by hand."""
         made = cls()
-        _library.new_ids_between(sender.raw, receiver.raw, made.raw)
+        _library.new_ids_between(sender._raw, receiver._raw, made._raw)
         return made
 
     def __getitem__(self, id: int) -> int:
-        new: int = self.raw.id[id] if 0 < id < 256 else 0
+        new: int = self._raw.id[id] if 0 < id < 256 else 0
         if not new:
             raise KeyError(id)
         return new
 
     def __setitem__(self, id: int, new: int) -> None:
-        self.raw.id[within("an id", id, 1, 255)] = within("a new id", new, 1, 255)
+        self._raw.id[within("an id", id, 1, 255)] = within("a new id", new, 1, 255)
 
     def _remove(self, id: int) -> None:
-        self.raw.id[id] = 0
+        self._raw.id[id] = 0

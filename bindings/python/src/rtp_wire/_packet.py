@@ -9,8 +9,8 @@ from typing import TYPE_CHECKING, Iterator, NamedTuple, Optional, Tuple, Union
 
 from . import _library
 from ._buffers import address_of, place_of, view_of, writable_view_of
-from ._errors import check, error_of, unsigned
-from ._header import read_header
+from ._errors import Status, check, error_of, unsigned
+from ._header import read_layers
 from ._library import whole_packet_parse
 from ._map import Map, NewIds
 from ._values import Values, values_of
@@ -44,10 +44,15 @@ def is_rtcp(datagram: Buffer) -> bool:
 
 
 def elements(body: Buffer, form: int) -> Iterator[Element]:
-    """The elements of a block's body in order, up to one that is cut short, or in the one-byte form has the id 15."""
+    """The elements of a block's body in order, up to one that is cut short, or in the one-byte form has the id 15.
+    BadField where the form is none of the two."""
     view, raw = view_of(body), _library.RawElement()
-    at, length = address_of(view), len(view)
-    while _library.next_element(at, length, form, raw.end, raw) == 0:
+    at, length, form = address_of(view), len(view), unsigned("a form", form, 8)
+    while True:
+        status = _library.next_element(at, length, form, raw.end, raw)
+        if status == Status.NONE:
+            return
+        check(status)
         yield Element(raw.id, view[raw.data_at : raw.end])
 
 
@@ -87,13 +92,14 @@ class Packet:
     def _read(self, at: Address) -> None:
         """Reads the packet as it is now."""
         map = self._map
-        self._raw = raw = _library.WholePacket()
-        status = whole_packet_parse(at, self._len, None if map is None else map.raw, raw)
+        raw = _library.WholePacket()
+        status = whole_packet_parse(at, self._len, None if map is None else map._raw, raw)
         if status:
             raise error_of(status)
-        self._values = None
+        self._raw, self._values = raw, None
         if raw.has_layers and map is not None:
-            self._values = read_header(at, self._len, map)[1]
+            self._values = values_of(raw.values)
+            self._values.layers = read_layers(at, self._len, map)
 
     def __bytes__(self) -> bytes:
         """A copy of the whole packet."""
@@ -263,7 +269,7 @@ class Packet:
 
     def elements(self) -> Iterator[Element]:
         """The elements of the block in order, up to one that is cut short, or in the one-byte form has the id 15."""
-        return elements(self.body, self._raw.block_form)
+        return elements(self.body, self._raw.block_form) if self._raw.block_form else iter(())
 
     def element(self, id: int) -> Optional[memoryview]:
         """The data of the last element of this id, which is the one that counts; None where there is none."""
@@ -286,4 +292,4 @@ class Packet:
         """Gives each element its new id, and makes one that gets none padding. BadField where the form of the block
         can't carry a new id, one above 14 in the one-byte form; then nothing changes. To read the values under the
         receiver's map parse the packet again."""
-        self._set(_library.renumber, ids.raw)
+        self._set(_library.renumber, ids._raw)

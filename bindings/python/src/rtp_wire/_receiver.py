@@ -47,7 +47,9 @@ class Receiver:
     def receive(self, sequence_number: int) -> Optional[int]:
         """Takes the packet's number, and returns it; None where it is a replay, or too old to tell."""
         number = c_uint64()
-        status = _library.receiver_receive(self._raw, unsigned("sequence_number", sequence_number, 16), number)
+        status = _library.receiver_receive(
+            self._raw, unsigned("sequence_number", sequence_number, 16), number
+        )
         return None if status == Status.REFUSED else number.value
 
     def __eq__(self, other: object) -> bool:

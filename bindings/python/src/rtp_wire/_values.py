@@ -84,7 +84,7 @@ class Values:
         a whole packet. BadField where the form is none of the two."""
         data, at = place_of(body)
         raw = _library.RawValues()
-        check(_library.values_read(at, len(data), unsigned("a form", form, 8), map.raw, raw))
+        check(_library.values_read(at, len(data), unsigned("a form", form, 8), map._raw, raw))
         return values_of(raw)
 
     def __repr__(self) -> str:
@@ -136,7 +136,9 @@ def values_of(raw: Raw) -> Values:
 def _text(name: str, text: str, most: int) -> bytes:
     data = text.encode("ascii", "replace")
     if len(data) > most or b"\0" in data:
-        raise BadField(Status.BAD_FIELD, f"{name} is {text!r}, and not up to {most} letters, digits and underscores")
+        raise BadField(
+            Status.BAD_FIELD, f"{name} is {text!r}, and not up to {most} letters, digits and underscores"
+        )
     return data
 
 
