@@ -261,8 +261,7 @@ def check_packets(receiver, sender):
 
 
 def started(*command):
-    process = subprocess.Popen(command, stdin=subprocess.PIPE, stdout=subprocess.PIPE, text=True)
-    return process
+    return subprocess.Popen(command, stdin=subprocess.PIPE, stdout=subprocess.PIPE, text=True)
 
 
 def port_of(process):
@@ -319,9 +318,12 @@ def call(sfu_program, processes):
     for count, receiver in enumerate(receivers, 1):
         check(len(receiver.packets) == counts["taken"], f"receiver {count} got {len(receiver.packets)} packets")
         check_packets(receiver, sender)
-        check(receiver.frames[VIDEO] == video, f"receiver {count}: other VP8 frames ({len(receiver.frames[VIDEO])} of {len(video)})")
-        check(receiver.frames[AUDIO] == audio, f"receiver {count}: other Opus packets ({len(receiver.frames[AUDIO])} of {len(audio)})")
-        check(receiver.pictures == pictures, f"receiver {count}: other pictures ({len(receiver.pictures)} of {len(pictures)})")
+        for name, got, due in (
+            ("VP8 frames", receiver.frames[VIDEO], video),
+            ("Opus packets", receiver.frames[AUDIO], audio),
+            ("pictures", receiver.pictures, pictures),
+        ):
+            check(got == due, f"receiver {count}: {len(got)} {name}, and due are {len(due)}, or others")
         print(
             f"receiver {count}: {len(video)} of {len(sender.frames[VIDEO])} VP8 frames, {len(audio)} Opus packets and"
             f" {len(pictures)} pictures, byte for byte those that were sent and not lost"
@@ -330,9 +332,11 @@ def call(sfu_program, processes):
 
 def missing():
     """The elements of GStreamer that aren't there."""
-    names = "videotestsrc audiotestsrc vp8enc vp8dec opusenc level rtpvp8pay rtpvp8depay rtpopuspay rtpopusdepay rtpbin udpsrc"
-    names = names.split() + ["udpsink", "appsrc", "rtphdrextmid", "rtphdrexttwcc", "rtphdrextclientaudiolevel"]
-    return [name for name in names if Gst.ElementFactory.find(name) is None]
+    names = (
+        "videotestsrc audiotestsrc vp8enc vp8dec opusenc level rtpvp8pay rtpvp8depay rtpopuspay rtpopusdepay rtpbin"
+        " udpsrc udpsink appsrc fakesink rtphdrextmid rtphdrexttwcc rtphdrextclientaudiolevel"
+    )
+    return [name for name in names.split() if Gst.ElementFactory.find(name) is None]
 
 
 def main():

@@ -27,5 +27,5 @@ fi
 cc -std=c99 -O2 -I "$top/bindings/c" "$here/sfu.c" "$here/sfu_sockets.c" "$top/generated/rtp_wire-$(uname -m).s" \
     "$top/generated/heap.c" -o "$scratch/sfu"
 for ((i = 0; i < ${1:-1}; i++)); do
-    timeout --kill-after=5 60 "$python" "$here/call.py" "$scratch/sfu"
+    timeout --foreground --kill-after=5 60 "$python" "$here/call.py" "$scratch/sfu"
 done

@@ -32,9 +32,9 @@ static inline bool is_map_line(rtpw_map *map, const char *line) {
     return rtpw_map_set(map, (uint8_t)id, rtpw_kind_of_uri((const uint8_t *)uri, strcspn(uri, "\r\n"))) == RTPW_OK;
 }
 
-static inline void print_counts(const sfu_counts *counts) {
-    printf("taken %lu replays %lu late %lu rtcp %lu unreadable %lu strangers %lu sent %lu unsent %lu\n", counts->taken,
-           counts->replays, counts->late, counts->rtcp, counts->unreadable, counts->strangers, counts->sent, counts->unsent);
+static inline void print_counts(const sfu_counts *it) {
+    printf("taken %lu replays %lu late %lu rtcp %lu unreadable %lu strangers %lu sent %lu unsent %lu\n", it->taken,
+           it->replays, it->late, it->rtcp, it->unreadable, it->strangers, it->sent, it->unsent);
 }
 
 #endif

@@ -53,7 +53,8 @@ static size_t block_with(const uint8_t *body, const rtpw_packet *packet, uint8_t
     bool narrow = id <= 14 && data_len >= 1 && data_len <= 16;
     uint8_t form = packet->block_form == RTPW_TWO_BYTE_FORM || !narrow ? RTPW_TWO_BYTE_FORM : RTPW_ONE_BYTE_FORM;
     size_t len = 0, count = 0;
-    if (packet->body_len > 2048 || (packet->block_form == RTPW_ONE_BYTE_FORM && form != RTPW_ONE_BYTE_FORM && !may_change_form)) {
+    bool changes = packet->block_form == RTPW_ONE_BYTE_FORM && form == RTPW_TWO_BYTE_FORM;
+    if (packet->body_len > 2048 || (changes && !may_change_form)) {
         return 0;
     }
     memcpy(all, body, packet->body_len);
@@ -63,7 +64,8 @@ static size_t block_with(const uint8_t *body, const rtpw_packet *packet, uint8_t
     count = elements_with(body, packet, new, elements, 64);
     memset(block, 0, 2048);
     if (count == SIZE_MAX ||
-        rtpw_write_elements(all, packet->body_len + data_len, elements, count, form, block + 4, 2044, &len) != RTPW_OK) {
+        rtpw_write_elements(all, packet->body_len + data_len, elements, count, form, block + 4, 2044, &len) !=
+            RTPW_OK) {
         return 0;
     }
     len = len < packet->body_len ? packet->body_len : (len + 3) / 4 * 4;
