@@ -20,7 +20,7 @@ for it in python3 /usr/bin/python3; do
     missing=$("$it" "$here/call.py" --missing 2>"$scratch/errors") && [ -z "$missing" ] && python=$it && break
 done
 if [ -z "$python" ]; then
-    echo "the call was left out: ${missing:-$(tail -n 1 "$scratch/errors")}"
+    echo "the call was left out, for want of ${missing:-$(tail -n 1 "$scratch/errors")}"
     exit
 fi
 

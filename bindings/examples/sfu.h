@@ -17,9 +17,9 @@ enum {
 
 /* What a receiver agreed to, and under what it gets the streams. */
 typedef struct {
-    rtpw_map map;          /* its ids of extensions */
-    const char *mid;       /* its mids begin so, and end in the stream's number, a hexadecimal digit */
-    uint32_t first_ssrc;   /* of the stream 0; each other stream has the next one */
+    rtpw_map map;           /* its ids of extensions */
+    const char *mid;        /* its mids begin so, and end in the stream's number, a hexadecimal digit */
+    uint32_t first_ssrc;    /* of the stream 0; each other stream has the next one */
     uint16_t number_offset; /* what is added to each sequence number */
 } sfu_peer;
 
