@@ -42,6 +42,10 @@ struct Route {
     mid: Vec<u8>,
     /// From the sender's ids to the receiver's.
     ids: NewIds,
+    /// The receiver's ids of these extensions, where it has one.
+    mid_id: Option<u8>,
+    transport_number_id: Option<u8>,
+    send_time_id: Option<u8>,
     /// An id of the two-byte form that means nothing on this way.
     spare_id: u8,
     /// Whether the receiver's ids or mids need the two-byte form.
@@ -97,11 +101,15 @@ struct Sfu {
 impl Route {
     fn new(sender: &Map, peer: &Peer) -> Route {
         let ids = NewIds::between(sender, &peer.map);
-        let long_mid = peer.map.id_of(Kind::Mid).is_some() && peer.mid.len() + 1 > 16;
+        let mid_id = peer.map.id_of(Kind::Mid);
+        let long_mid = mid_id.is_some() && peer.mid.len() + 1 > 16;
         Route {
             peer: *peer,
             mid: format!("{}0", peer.mid).into(),
             ids,
+            mid_id,
+            transport_number_id: peer.map.id_of(Kind::TransportNumber),
+            send_time_id: peer.map.id_of(Kind::AbsSendTime),
             spare_id: (15..=255).rfind(|id| ids.get(*id).is_none()).unwrap_or(0),
             wide: long_mid || peer.map.iter().any(|(id, _)| id > 14),
             transport_number: 0,
@@ -109,8 +117,8 @@ impl Route {
     }
 
     /// Gives the packet this element, where the receiver has an id for it.
-    fn put(&self, header: &mut Vec<u8>, kind: Kind, data: &[u8]) -> Option<()> {
-        match self.peer.map.id_of(kind) {
+    fn put(&self, header: &mut Vec<u8>, id: Option<u8>, data: &[u8]) -> Option<()> {
+        match id {
             Some(id) => put_element(header, HEADER, id, data, self.wide),
             None => Some(()),
         }
@@ -147,12 +155,12 @@ impl Route {
         };
         PacketMut::parse(header).ok()?.set_fields(&fields).ok()?;
         *self.mid.last_mut()? = b"0123456789ABCDEF"[stream];
-        self.put(header, Kind::Mid, &self.mid)?;
+        self.put(header, self.mid_id, &self.mid)?;
         let number = self.transport_number;
         self.transport_number = number.wrapping_add(1);
-        self.put(header, Kind::TransportNumber, &number.to_be_bytes())?;
+        self.put(header, self.transport_number_id, &number.to_be_bytes())?;
         let time = microseconds % 64_000_000 * 262_144 / 1_000_000; // 24 bits, in units of 2^-18 seconds
-        self.put(header, Kind::AbsSendTime, &time.to_be_bytes()[5..])
+        self.put(header, self.send_time_id, &time.to_be_bytes()[5..])
     }
 }
 
