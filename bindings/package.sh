@@ -33,7 +33,7 @@ pack_sources() {
     mkdir "$scratch/$name"
     cp -r --parents -t "$scratch/$name" CHANGELOG.md LICENSE-APACHE LICENSE-MIT NOTICE SECURITY.md captures \
         bindings/{CMakeLists.txt,README.md,fill_in,install.sh,rtp_wire.pc.in,c/rtp_wire.h} bindings/cmake \
-        bindings/examples/*.c bindings/examples/*.cpp bindings/test/{fuzz.c,hostile_*.c,*.h,inputs.sh} \
+        bindings/examples/{*.c,*.cpp,*.h,call*} bindings/test/{fuzz.c,hostile_*.c,*.h,inputs.sh} \
         generated/{heads.sh,heap.c,rtp_wire-*.s}
     ln -s bindings/README.md "$scratch/$name/README.md"
     tar --format=ustar --sort=name --owner=0 --group=0 --numeric-owner --mode=u+rw,go+r-w,a+X \
@@ -52,7 +52,7 @@ pack_for_debian() { # architecture, processor
     DESTDIR=$root bindings/install.sh --target "$2-unknown-linux-gnu" --libdir "lib/$2-linux-gnu" /usr 2>"$scratch/said" ||
         give_up "$(cat "$scratch/said")"
     chmod 644 "$root/usr/lib/$2-linux-gnu"/*.so.*
-    install -Dm 644 -t "$documents/examples" bindings/examples/*.c bindings/examples/*.cpp
+    install -Dm 644 -t "$documents/examples" bindings/examples/*.c bindings/examples/*.cpp bindings/examples/*.h
     install -m 644 -t "$documents" bindings/README.md SECURITY.md
     gzip -9n <CHANGELOG.md >"$documents/changelog.gz"
     bindings/fill_in bindings/debian/copyright.in notice="$(paragraphs NOTICE)" mit="$(paragraphs LICENSE-MIT)" >"$documents/copyright"

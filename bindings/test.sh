@@ -196,6 +196,49 @@ status=0
 [ $status -eq 2 ] && [ ! -s "$scratch/forwarded" ] || fail 'the forwarder without all its arguments'
 said 'the forwarder in C'
 
+# The SFU, in C and in Rust: what three receivers get of a packet with a mid of one character, a transport number and
+# a level (ids 1 to 3), which comes twice; of one with P, a contributing source and no block; and of one that jumps
+# ahead, after which another comes too late. Between them a receiver report, and a datagram that is no packet. The
+# first receiver gets the numbers as they are, the second one plus 40,000, the third one less 1; the datagrams come
+# 20 ms apart, so that the send times are 0, 60 ms (15,728 = 0x3D70) and 100 ms (26,214 = 0x6666).
+cc -std=c99 "${strict[@]}" "${include[@]}" bindings/examples/sfu{,_lines}.c "$library" -o "$scratch/sfu_c"
+cc -std=c99 "${strict[@]}" "${include[@]}" bindings/examples/sfu{,_sockets}.c "$library" -o "$scratch/sfu_sockets"
+second=7365636F6E645F666C6F6F725F63616D6572615F # second_floor_camera_
+alice=63616D6572615F6F665F616C696365            # camera_of_alice
+printf '%s\n' 'map 1 urn:ietf:params:rtp-hdrext:sdes:mid' \
+    'map 2 http://www.ietf.org/id/draft-holmer-rmcat-transport-wide-cc-extensions-01' \
+    'map 3 urn:ietf:params:rtp-hdrext:ssrc-audio-level' 906F0005000000A00000002CBEDE00021061210007308A000102 \
+    906F0005000000A00000002CBEDE00021061210007308A000102 80C900010000002C \
+    A1EFFFFF000000010000002D00000009AABB0002 80 806F00CD000000A00000002C 806F0006000000A00000002C >"$scratch/sfu.lines"
+cat >"$scratch/expected" <<END
+1 906F0005000000A0000003E8BEDE0003216D30510000908A720000000102
+2 906F9C45000000A0000007D0100000091415${second}30C802000001018AFF03000000000102
+3 906F0004000000A000000BB8BEDE0006EF${alice}30110000320000000102
+1 B1EFFFFF00000001000003E900000009BEDE0003216D3151000172003D700000AABB0002
+2 B1EF9C3F00000001000007D100000009100000081415${second}31C8020001FF03003D70AABB0002
+3 B1EFFFFE0000000100000BB900000009BEDE0006EF${alice}3111000132003D70AABB0002
+1 906F00CD000000A0000003E8BEDE0003216D30510002720066660000
+2 906F9D0D000000A0000007D0100000081415${second}30C8020002FF03006666
+3 906F00CC000000A000000BB8BEDE0006EF${alice}3011000232006666
+taken 3 replays 1 late 1 rtcp 1 unreadable 1 strangers 0 sent 9 unsent 0
+END
+"$scratch/sfu_c" <"$scratch/sfu.lines" | diff "$scratch/expected" - >&2 || fail 'the SFU in C'
+alike='in C'
+if has cargo; then
+    "${cargo[@]}" build "${crate[@]}" --example sfu
+    # One source more than there is room for, and a block of 2,040 bytes: its header has no room.
+    for i in {1..17}; do printf '9021B7980000271000000%03XBEDE000132000000\n' "$i"; done >"$scratch/full.lines"
+    printf '9021B7990000271000000001100001FE%04080d\n' 0 >>"$scratch/full.lines"
+    for lines in captures/*.lines bindings/test/by_hand.lines "$scratch"/{sfu,full}.lines; do
+        "$scratch/sfu_c" <"$lines" >"$scratch/said"
+        "$CARGO_TARGET_DIR/debug/examples/sfu" <"$lines" | diff "$scratch/said" - >&2 || fail "the SFU in Rust, $lines"
+    done
+    "$scratch/sfu_c" <"$scratch/full.lines" | tail -n 1 >"$scratch/said"
+    echo 'taken 17 replays 0 late 0 rtcp 0 unreadable 0 strangers 1 sent 48 unsent 3' | diff - "$scratch/said" >&2 || fail 'an SFU without room'
+    alike='in C and in Rust, which print the same over captures/*.lines'
+fi
+said "the SFU $alike"
+
 if has cargo; then
     "${cargo[@]}" test "${crate[@]}" >"$scratch/cargo.log" 2>&1 || { cat "$scratch/cargo.log" >&2; fail 'cargo test'; }
     "${cargo[@]}" test "${crate[@]}" --release >"$scratch/cargo.log" 2>&1 || { cat "$scratch/cargo.log" >&2; fail 'cargo test'; }

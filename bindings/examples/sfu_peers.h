@@ -1,0 +1,40 @@
+/* The three receivers of the examples, and what both programs read and print. */
+#ifndef SFU_PEERS_H
+#define SFU_PEERS_H
+
+#include "sfu.h"
+
+#include <stdio.h>
+#include <string.h>
+
+/* Low ids and short mids; ids and mids of the two-byte form; and one that agreed to no audio level. */
+static const sfu_peer PEERS[3] = {
+    {{.kind = {[2] = RTPW_KIND_MID, [5] = RTPW_KIND_TRANSPORT_NUMBER, [7] = RTPW_KIND_ABS_SEND_TIME,
+               [9] = RTPW_KIND_AUDIO_LEVEL}}, "m", 1000, 0},
+    {{.kind = {[20] = RTPW_KIND_MID, [200] = RTPW_KIND_TRANSPORT_NUMBER, [255] = RTPW_KIND_ABS_SEND_TIME,
+               [1] = RTPW_KIND_AUDIO_LEVEL}}, "second_floor_camera_", 2000, 40000},
+    {{.kind = {[14] = RTPW_KIND_MID, [1] = RTPW_KIND_TRANSPORT_NUMBER, [3] = RTPW_KIND_ABS_SEND_TIME}},
+     "camera_of_alice", 3000, 65535},
+};
+
+static inline bool add_peers(sfu *sfu, const rtpw_map *sender) {
+    return sfu_add(sfu, sender, &PEERS[0]) && sfu_add(sfu, sender, &PEERS[1]) && sfu_add(sfu, sender, &PEERS[2]);
+}
+
+/* Whether the line maps an id of the sender, which is done: `map ID URI`. */
+static inline bool is_map_line(rtpw_map *map, const char *line) {
+    unsigned id;
+    int uri_at = 0;
+    if (sscanf(line, "map %3u %n", &id, &uri_at) != 1 || uri_at == 0 || id > 255) {
+        return false;
+    }
+    const char *uri = line + uri_at;
+    return rtpw_map_set(map, (uint8_t)id, rtpw_kind_of_uri((const uint8_t *)uri, strcspn(uri, "\r\n"))) == RTPW_OK;
+}
+
+static inline void print_counts(const sfu_counts *it) {
+    printf("taken %lu replays %lu late %lu rtcp %lu unreadable %lu strangers %lu sent %lu unsent %lu\n", it->taken,
+           it->replays, it->late, it->rtcp, it->unreadable, it->strangers, it->sent, it->unsent);
+}
+
+#endif

@@ -1,0 +1,399 @@
+//! The core of an SFU, without sockets: the packets of a sender go on to each of three receivers under SSRCs,
+//! numbers, ids of extensions and mids of their own. A packet is never written anew: its header is copied and
+//! changed for each receiver, and its payload stays where it lies.
+//!
+//! Reads the datagrams of the sender from standard input, one a line in hexadecimal, the second one 20
+//! milliseconds after the first and so on, and prints what each receiver gets: its number, 1 to 3, and the
+//! packet. At last it prints what became of the datagrams. Lines `map ID URI` before the first datagram are the
+//! sender's ids of extensions.
+
+use std::fmt;
+use std::io::{self, BufRead, Write};
+use std::process::ExitCode;
+
+use rtp_wire::{is_rtcp, Fields, Form, Kind, Map, NewIds, Packet, PacketMut, Receiver};
+
+use put::put_element;
+
+/// So many numbers up to the highest one a receiver keeps.
+const WINDOW: u64 = 128;
+/// So many SSRCs of the sender at most.
+const STREAMS: usize = 16;
+/// A header that is sent on has at most so many bytes.
+const HEADER: usize = 2048;
+
+/// What a receiver agreed to, and under what it gets the streams.
+#[derive(Clone, Copy)]
+struct Peer {
+    /// Its ids of extensions.
+    map: Map,
+    /// Its mids begin so, and end in the stream's number, a hexadecimal digit.
+    mid: &'static str,
+    /// Of the stream 0; each other stream has the next one.
+    first_ssrc: u32,
+    /// What is added to each sequence number.
+    number_offset: u16,
+}
+
+/// The way to a receiver.
+struct Route {
+    peer: Peer,
+    /// The mid of the stream that was sent last.
+    mid: Vec<u8>,
+    /// From the sender's ids to the receiver's.
+    ids: NewIds,
+    /// The receiver's ids of these extensions, where it has one.
+    mid_id: Option<u8>,
+    transport_number_id: Option<u8>,
+    send_time_id: Option<u8>,
+    /// An id of the two-byte form that means nothing on this way.
+    spare_id: u8,
+    /// Whether the receiver's ids or mids need the two-byte form.
+    wide: bool,
+    /// Of the next packet.
+    transport_number: u16,
+}
+
+struct Stream {
+    ssrc: u32,
+    receiver: Receiver,
+}
+
+/// What became of the datagrams: each one is counted in one of the first six.
+#[derive(Default)]
+struct Counts {
+    taken: u64,
+    replays: u64,
+    late: u64,
+    rtcp: u64,
+    unreadable: u64,
+    strangers: u64,
+    sent: u64,
+    unsent: u64,
+}
+
+impl fmt::Display for Counts {
+    fn fmt(&self, f: &mut fmt::Formatter<'_>) -> fmt::Result {
+        write!(
+            f,
+            "taken {} replays {} late {} rtcp {} unreadable {} strangers {} sent {} unsent {}",
+            self.taken,
+            self.replays,
+            self.late,
+            self.rtcp,
+            self.unreadable,
+            self.strangers,
+            self.sent,
+            self.unsent
+        )
+    }
+}
+
+#[derive(Default)]
+struct Sfu {
+    /// The header of the packet that goes.
+    header: Vec<u8>,
+    routes: Vec<Route>,
+    streams: Vec<Stream>,
+    counts: Counts,
+}
+
+impl Route {
+    fn new(sender: &Map, peer: &Peer) -> Route {
+        let ids = NewIds::between(sender, &peer.map);
+        let mid_id = peer.map.id_of(Kind::Mid);
+        let long_mid = mid_id.is_some() && peer.mid.len() + 1 > 16;
+        Route {
+            peer: *peer,
+            mid: format!("{}0", peer.mid).into(),
+            ids,
+            mid_id,
+            transport_number_id: peer.map.id_of(Kind::TransportNumber),
+            send_time_id: peer.map.id_of(Kind::AbsSendTime),
+            spare_id: (15..=255).rfind(|id| ids.get(*id).is_none()).unwrap_or(0),
+            wide: long_mid || peer.map.iter().any(|(id, _)| id > 14),
+            transport_number: 0,
+        }
+    }
+
+    /// Gives the packet this element, where the receiver has an id for it.
+    fn put(&self, header: &mut Vec<u8>, id: Option<u8>, data: &[u8]) -> Option<()> {
+        match id {
+            Some(id) => put_element(header, HEADER, id, data, self.wide),
+            None => Some(()),
+        }
+    }
+
+    /// Gives the packet the ids of the receiver. A one-byte block can't carry ids above 14: so it first gets an
+    /// element that makes it a two-byte one, and that becomes padding with all that has no id there.
+    fn renumber(&self, header: &mut Vec<u8>, form: Option<Form>) -> Option<()> {
+        if self.wide && form != Some(Form::TwoByte) {
+            put_element(header, HEADER, self.spare_id, &[], true)?;
+        }
+        PacketMut::parse(header).ok()?.renumber(&self.ids).ok()
+    }
+
+    /// Makes this the header of the packet, which is of this stream, for the receiver; `None` where it has no room.
+    fn change(
+        &mut self,
+        header: &mut Vec<u8>,
+        packet: &Packet,
+        stream: usize,
+        microseconds: u64,
+    ) -> Option<()> {
+        if packet.header_len() > HEADER {
+            return None;
+        }
+        header.clear();
+        header.extend_from_slice(&packet.datagram()[..packet.header_len()]);
+        self.renumber(header, packet.form())?;
+        let number = packet.sequence_number();
+        let fields = Fields {
+            ssrc: Some(self.peer.first_ssrc.wrapping_add(stream as u32)),
+            sequence_number: Some(number.wrapping_add(self.peer.number_offset)),
+            ..Fields::default()
+        };
+        PacketMut::parse(header).ok()?.set_fields(&fields).ok()?;
+        *self.mid.last_mut()? = b"0123456789ABCDEF"[stream];
+        self.put(header, self.mid_id, &self.mid)?;
+        let number = self.transport_number;
+        self.transport_number = number.wrapping_add(1);
+        self.put(header, self.transport_number_id, &number.to_be_bytes())?;
+        let time = microseconds % 64_000_000 * 262_144 / 1_000_000; // 24 bits, in units of 2^-18 seconds
+        self.put(header, self.send_time_id, &time.to_be_bytes()[5..])
+    }
+}
+
+impl Sfu {
+    /// The stream's place; `None` where there is no room for one more.
+    fn stream_of(&mut self, ssrc: u32) -> Option<usize> {
+        let at = self.streams.iter().position(|it| it.ssrc == ssrc);
+        if at.is_some() || self.streams.len() == STREAMS {
+            return at;
+        }
+        // A packet from before the first one that came has a number too.
+        let receiver = Receiver::starting_at(1).ok()?;
+        self.streams.push(Stream { ssrc, receiver });
+        Some(self.streams.len() - 1)
+    }
+
+    /// Takes a datagram that came at this moment; `send` gets each receiver's place, header and payload.
+    fn receive(
+        &mut self,
+        datagram: &[u8],
+        microseconds: u64,
+        mut send: impl FnMut(usize, &[u8], &[u8]),
+    ) {
+        if is_rtcp(datagram) {
+            self.counts.rtcp += 1;
+            return;
+        }
+        let Ok(packet) = Packet::parse(datagram) else {
+            self.counts.unreadable += 1;
+            return;
+        };
+        let Some(stream) = self.stream_of(packet.ssrc()) else {
+            self.counts.strangers += 1;
+            return;
+        };
+        let receiver = &mut self.streams[stream].receiver;
+        let number = receiver.number_of(packet.sequence_number());
+        if !receiver.accepts(number) {
+            match receiver.highest() {
+                Some(highest) if highest - number < WINDOW => self.counts.replays += 1,
+                _ => self.counts.late += 1,
+            }
+            return;
+        }
+        receiver.record(number); // with SRTP once it is authentic
+        self.counts.taken += 1;
+        for (at, route) in self.routes.iter_mut().enumerate() {
+            let header = &mut self.header;
+            match route.change(header, &packet, stream, microseconds) {
+                Some(()) => {
+                    send(at, header, packet.payload());
+                    self.counts.sent += 1;
+                }
+                None => self.counts.unsent += 1,
+            }
+        }
+    }
+}
+
+/// A stand-in for `put_element`, which the crate is getting: this module goes once [`PacketMut`] has it. It takes
+/// no more than the example needs: packets with a header alone, and blocks of at most 63 elements.
+mod put {
+    use rtp_wire::{write_elements, Form, Packet, PacketMut, Place};
+
+    const LONGEST: usize = 2044;
+
+    /// The places of the elements, with the new one in place of the last of its id, or at the end.
+    fn with(packet: &Packet, new: Place) -> Vec<Place> {
+        let places: Vec<Place> = packet.elements().places().collect();
+        let last = places.iter().rposition(|it| it.id() == new.id());
+        let mut all = Vec::new();
+        for (at, place) in places.into_iter().enumerate() {
+            if Some(at) == last {
+                all.push(new);
+            } else if place.id() != new.id() && place.id() != 0 {
+                all.push(place);
+            }
+        }
+        if last.is_none() {
+            all.push(new);
+        }
+        all
+    }
+
+    /// The block with the element in it; `None` where it has no room, or has to have the form that it mustn't get.
+    fn block(packet: &Packet, id: u8, data: &[u8], may_change_form: bool) -> Option<Vec<u8>> {
+        let body = packet.block().map_or(&[][..], |(_, body)| body);
+        let narrow = id <= 14 && (1..=16).contains(&data.len());
+        let form = match packet.form() {
+            Some(Form::OneByte) if !narrow && !may_change_form => return None,
+            Some(Form::OneByte) | None if narrow => Form::OneByte,
+            _ => Form::TwoByte,
+        };
+        let all = [body, data].concat();
+        let places = with(packet, Place::new(id, body.len()..all.len()));
+        if places.len() > 63 {
+            return None;
+        }
+        let mut block = vec![0; 4 + LONGEST];
+        let len = write_elements(&mut block[4..], form, &all, &places).ok()?;
+        let len = len.next_multiple_of(4).max(body.len());
+        let profile: [u8; 2] = if form == Form::OneByte {
+            [0xBE, 0xDE]
+        } else {
+            [0x10, 0x00]
+        };
+        block[..2].copy_from_slice(&profile);
+        block[2..4].copy_from_slice(&((len / 4) as u16).to_be_bytes());
+        block.truncate(4 + len);
+        Some(block)
+    }
+
+    /// Afterwards the packet, a header alone, has exactly one element of this id, with these data, and all else as
+    /// it was.
+    pub fn put_element(
+        header: &mut Vec<u8>,
+        size: usize,
+        id: u8,
+        data: &[u8],
+        may_change_form: bool,
+    ) -> Option<()> {
+        let packet = Packet::parse(header).ok()?;
+        let is_sole = packet.elements().filter(|it| it.id == id).count() == 1;
+        let block_at = 12 + 4 * packet.csrcs().len();
+        let block = block(&packet, id, data, may_change_form);
+        if is_sole && PacketMut::parse(header).ok()?.set_element(id, data).is_ok() {
+            return Some(()); // it has as many bytes
+        }
+        let block = block?;
+        if block_at + block.len() > size {
+            return None;
+        }
+        header.truncate(block_at);
+        header.extend(block);
+        header[0] |= 0x10;
+        Some(())
+    }
+}
+
+/// The three receivers: low ids and short mids; ids and mids of the two-byte form; and one that agreed to no audio
+/// level.
+const PEERS: [Peer; 3] = [
+    Peer {
+        map: Map::new()
+            .with(2, Kind::Mid)
+            .with(5, Kind::TransportNumber)
+            .with(7, Kind::AbsSendTime)
+            .with(9, Kind::AudioLevel),
+        mid: "m",
+        first_ssrc: 1000,
+        number_offset: 0,
+    },
+    Peer {
+        map: Map::new()
+            .with(20, Kind::Mid)
+            .with(200, Kind::TransportNumber)
+            .with(255, Kind::AbsSendTime)
+            .with(1, Kind::AudioLevel),
+        mid: "second_floor_camera_",
+        first_ssrc: 2000,
+        number_offset: 40000,
+    },
+    Peer {
+        map: Map::new()
+            .with(14, Kind::Mid)
+            .with(1, Kind::TransportNumber)
+            .with(3, Kind::AbsSendTime),
+        mid: "camera_of_alice",
+        first_ssrc: 3000,
+        number_offset: 65535,
+    },
+];
+
+/// Maps the id of the line, where it is a map line.
+fn is_mapped(map: &mut Map, line: &str) -> bool {
+    let words = line.strip_prefix("map ").and_then(|it| it.split_once(' '));
+    let Some((id, uri)) = words else {
+        return false;
+    };
+    id.parse()
+        .is_ok_and(|id| map.set(id, Kind::from_uri(uri)).is_ok())
+}
+
+/// The bytes that the text spells.
+fn bytes_of(text: &str) -> Option<Vec<u8>> {
+    let digits: Option<Vec<u8>> = text.chars().map(|c| Some(c.to_digit(16)? as u8)).collect();
+    let digits = digits?;
+    let pairs = digits.chunks_exact(2);
+    pairs
+        .remainder()
+        .is_empty()
+        .then(|| pairs.map(|pair| pair[0] << 4 | pair[1]).collect())
+}
+
+/// The packet in hexadecimal.
+fn text_of(header: &[u8], payload: &[u8]) -> String {
+    let mut text = String::new();
+    for byte in header.iter().chain(payload) {
+        text.extend(
+            [byte >> 4, byte & 15].map(|it| char::from(b"0123456789ABCDEF"[usize::from(it)])),
+        );
+    }
+    text
+}
+
+fn main() -> io::Result<ExitCode> {
+    let mut out = io::BufWriter::new(io::stdout().lock());
+    let mut sender = Map::new();
+    let mut sfu = Sfu::default();
+    let mut count = 0;
+    for (index, line) in io::stdin().lock().lines().enumerate() {
+        let line = line?;
+        if count == 0 && is_mapped(&mut sender, &line) {
+            continue;
+        }
+        let Some(datagram) = bytes_of(&line) else {
+            writeln!(out, "line {}: neither a map line nor hex", index + 1)?;
+            out.flush()?;
+            return Ok(ExitCode::from(2));
+        };
+        if count == 0 {
+            sfu.routes = PEERS.iter().map(|peer| Route::new(&sender, peer)).collect();
+        }
+        let mut sent = Vec::new();
+        sfu.receive(&datagram, 20_000 * count, |receiver, header, payload| {
+            sent.push(format!("{} {}", receiver + 1, text_of(header, payload)));
+        });
+        for line in sent {
+            writeln!(out, "{line}")?;
+        }
+        count += 1;
+    }
+    writeln!(out, "{}", sfu.counts)?;
+    out.flush()?;
+    Ok(ExitCode::SUCCESS)
+}
