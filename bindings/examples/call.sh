@@ -4,7 +4,7 @@
 # What each of them puts out and decodes has to be, byte for byte, what was sent and not lost: call.py says what is
 # compared. All that it starts ends with it.
 #
-# It needs cc, and of Debian python3-gi, gir1.2-gst-plugins-base-1.0 and gstreamer1.0-plugins-base, -good and -bad;
+# It needs cc, and of Debian python3-gi, gir1.2-gst-plugins-base-1.0 and gstreamer1.0-plugins-base and -good;
 # where they are missing it says so and does nothing.
 #
 # usage: bindings/examples/call.sh [TIMES]
