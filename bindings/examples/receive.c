@@ -1,4 +1,4 @@
-/* Receives the packets of one stream, each once, whatever arrives. */
+/* Receives the packets of one stream, and refuses replays. */
 #include <rtp_wire.h>
 #include <stdio.h>
 

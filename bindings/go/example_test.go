@@ -8,7 +8,7 @@ import (
 	"rtpwire"
 )
 
-// This receives a stream whose packets needn't be authenticated: each once, whatever arrives.
+// This receives a stream whose packets needn't be authenticated: a replay is refused.
 func Example() {
 	var m rtpwire.Map // the ids of the lines a=extmap of SDP
 	if _, err := m.SetURI(1, "urn:ietf:params:rtp-hdrext:ssrc-audio-level"); err != nil {

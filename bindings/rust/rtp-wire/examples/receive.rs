@@ -1,4 +1,4 @@
-//! Receives the packets of one stream, each once, whatever arrives.
+//! Receives the packets of one stream, and refuses replays.
 
 use rtp_wire::{Header, Map, NotAHeader, Receiver};
 
@@ -17,8 +17,8 @@ fn main() -> Result<(), Box<dyn std::error::Error>> {
     let packet = *b"\x90\x6F\0\x05\0\0\0\xA0\0\0\0\x07\xBE\xDE\0\x01\x10\x8A\0\0\x01\x02";
     receive(&mut receiver, &map, &packet)?;
     receive(&mut receiver, &map, &packet)?; // a replay: nothing is printed
-    if let Err(cause) = receive(&mut receiver, &map, &packet[..11]) {
-        println!("no packet: {cause}");
+    if let Err(error) = receive(&mut receiver, &map, &packet[..11]) {
+        println!("{error}");
     }
     Ok(())
 }

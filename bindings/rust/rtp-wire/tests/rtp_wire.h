@@ -283,7 +283,9 @@ typedef struct {
 } rtpw_time;
 
 /* The values of a block's elements. Each has_ is 1 where the value is there; as read, one that is absent
- * is 0. The texts are letters, digits and underscores, and a zero ends them. 136 bytes. */
+ * is 0. The texts are letters, digits and underscores, and a zero ends them: as read each other character is an
+ * underscore, and what is too long is cut, so compare with the SDP's text changed likewise, or look at the
+ * element's data. 136 bytes. */
 typedef struct {
     uint64_t send_time;           /* microseconds, modulo 64 seconds */
     uint64_t capture_time;        /* an NTP timestamp, 32.32 */
@@ -293,7 +295,7 @@ typedef struct {
     uint32_t transmission_offset; /* ticks of the stream's clock; an element of four bytes */
     uint32_t frame_marking;       /* the first four bytes */
     uint16_t transport_number;    /* over all streams of the transport */
-    uint16_t video_orientation;   /* degrees counter-clockwise: 0, 90, 180 or 270 */
+    uint16_t video_orientation;   /* how the receiver has to turn the picture, counter-clockwise: 0, 90, 180 or 270 */
     uint16_t encode_start;        /* video timing, in milliseconds after the frame's capture: its encoding began, */
     uint16_t encode_finish;       /* and ended, */
     uint16_t packetize_complete;  /* its last packet was made, */
