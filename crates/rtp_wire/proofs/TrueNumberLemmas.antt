@@ -6,15 +6,15 @@ use Rattle.std.proofs.lemmas.List.{take_more}
 use Rattle.rtp_base.specs.Window.{Numbers, IsGreatest, Accepts, including}
 use Rattle.rtp_base.proofs.WindowLemmas.{greatest_stays}
 use Rattle.rtp_ext.specs.declared.map.ExtensionMap.{ExtensionMap}
-use Rattle.rtp_wire.specs.declared.receive.verdict.Verdict.{Verdict}
-use Rattle.rtp_wire.specs.declared.receive.verdict.Verdict.TheVariants.{Unreadable, Taken, Refused}
+use Rattle.rtp_wire.specs.declared.receive.receiver.Verdict.{Verdict}
+use Rattle.rtp_wire.specs.declared.receive.receiver.Verdict.TheVariants.{Unreadable, Taken, Refused}
 use Rattle.rtp_wire.specs.Widening.{IsNearest}
 use Rattle.rtp_wire.specs.Receiver.{IsNothing, IsHighest, ExtendsFrom, IsNumberOf, IsFresh, taken_after}
 use Rattle.rtp_wire.specs.Verdicts.{PacketId, ArePacketIds, taken_by, IsVerdict, IsRun, AreVerdicts}
 use Rattle.rtp_wire.specs.TrueNumbers.{IsInReach, IsTrueNumber, numbers_of, AreTrueNumbers, IsTrueVerdict, AreTrueVerdicts}
 use Rattle.rtp_wire.proofs.ReceiverLemmas.{not_nothing}
 use Rattle.rtp_wire.proofs.VerdictLemmas.{or_assoc, or_false, taken_by-push, one_packet_ids}
-use Rattle.rtp_wire.proofs.WideningLemmas.{only_near, Extends-within_half}
+use Rattle.rtp_wire.proofs.NearestLemmas.{only_near, Extends-within_half}
 
 -- ---- the number of a packet
 
