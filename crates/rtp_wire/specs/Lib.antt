@@ -47,4 +47,5 @@ pub mod Sources
 pub mod WrittenInForm
 pub mod PartsAt
 pub mod Moduli
+pub mod WideState
 pub mod EachSource

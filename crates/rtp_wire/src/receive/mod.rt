@@ -6,10 +6,13 @@ mod run;
 mod sources;
 mod state;
 mod verdict;
+mod wide_receiver;
+mod wide_state;
 mod widening;
 
 pub use receiver::Receiver;
 pub use receivers::Receivers;
 pub use run::{receive_run, receive_run_one};
 pub use verdict::Verdict;
+pub use wide_receiver::WideReceiver;
 pub use widening::{extend_u7, extend_u8, extend_u15, extend_u16, extend_u32};
