@@ -1,0 +1,48 @@
+"""What is kept of the wrong bodies that the prover refused, so that one is tried again only where that may differ.
+
+A line of crates/NAME/wrong/refused has the name of a body and a digest: of the edit, of the crate's sources,
+definitions and proofs, of the sources and definitions of the crates below it, whose contracts its functions are proved by,
+and of the logic that proved them.
+"""
+
+import hashlib
+import re
+
+OWN, BELOW = ("src", "specs", "proofs"), ("src", "specs")
+
+
+class Refused:
+    """The lines of one crate, and the digest that a body would have now."""
+
+    def __init__(self, top, lines, crate, version):
+        self.file = top / "crates" / crate / "wrong" / "refused"
+        known = self.file.read_text().splitlines() if self.file.is_file() else []
+        self.known = dict(it.split() for it in known)
+        self.stands_on = hashlib.sha256(re.sub(r".*\b(logic \w+).*", r"\1", version, flags=re.S).encode())
+        for name, line in lines.items():
+            self.stands_on.update(line.encode())
+            for part in OWN if name == crate else BELOW:
+                folder = top / "crates" / name / part
+                for file in sorted(it for it in folder.rglob("*") if it.is_file()):
+                    self.stands_on.update(f"\n{name}/{part}/{file.relative_to(folder)}\n".encode())
+                    self.stands_on.update(file.read_bytes())
+
+    def digest(self, body):
+        whole = self.stands_on.copy()
+        whole.update(body.text.encode())
+        return whole.hexdigest()[:32]
+
+    def has(self, body):
+        """Whether it was refused, and nothing that this stands on has changed."""
+        return self.known.get(body.name) == self.digest(body)
+
+    def keep(self, tried):
+        """Writes a line for each of these bodies that was refused, and drops those of bodies that weren't or are gone."""
+        if not tried:
+            return
+        for body, was_refused in tried.items():
+            self.known.pop(body.name, None)
+            if was_refused:
+                self.known[body.name] = self.digest(body)
+        names = sorted(it for it in self.known if self.file.with_name(f"{it}.edit").is_file())
+        self.file.write_text("".join(f"{it} {self.known[it]}\n" for it in names))
