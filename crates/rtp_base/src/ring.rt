@@ -1,6 +1,6 @@
 //! A replay window in words that the caller has: a ring of bits, 64 numbers to a word.
 
-ghost use Rattle.std.specs.Prelude.{◌≡◌, ℕ, ◌+◌, ◌-◌, ◌*◌, ◌/◌, ◌%◌, ◌<◌, ◌≤◌, ◌↔◌, Bool, true, false, ◌||◌, ◌==◌, length, slice_index_or, IsTrue};
+ghost use Rattle.std.specs.Prelude.{◌≡◌, ℕ, ◌+◌, ◌-◌, ◌*◌, ◌/◌, ◌%◌, ◌<◌, ◌≤◌, ◌↔◌, ◌⊎◌, Bool, true, false, ◌||◌, ◌==◌, length, slice_index_or, IsTrue};
 ghost use Rattle.std.specs.Int.{bit_at};
 ghost use Rattle.rtp_base.specs.Window.{Numbers, only, up_to, including, KeepsOf, ShowsBelowZeroOf, StaysBelowZeroOf, AcceptsOf};
 ghost use Rattle.rtp_base.specs.Ring.{ring_size, ring_bit, ring_bits, ring_window};
@@ -144,9 +144,13 @@ pub fn ring_restore(words: &mut [u64], greatest: SeqNo)
 /// above the greatest, or less than the size below it and not recorded.
 pub fn ring_accepts(words: &[u64], greatest: SeqNo, seq: SeqNo) -> bool
     requires { 0 < length words.now }
-    ensures { (taken : Numbers) →
+    ensures accepts { (taken : Numbers) →
         KeepsOf (ring_size words.now) (ring_window words.now greatest) taken →
         (IsTrue result ↔ AcceptsOf (ring_size words.now) taken seq) }
+
+    // The same of any words, whether or not they are a window, by the number's own bit.
+    ensures by_bit { IsTrue result ↔ ((greatest < seq)
+        ⊎ ((greatest < seq + ring_size words.now) × (ring_bit words.now seq ≡ false))) }
 {
     let (greatest, number) = (greatest.get(), seq.get());
     number > greatest || is_new(words, greatest, number)

@@ -46,4 +46,5 @@ pub mod Sources
 -- What functions inside promise each other.
 pub mod WrittenInForm
 pub mod PartsAt
+pub mod WideState
 pub mod EachSource

@@ -2,7 +2,7 @@ use Rattle.std.proofs.Common.{Bool, if◌then◌else◌, sym, ◌∙◌, subst, 
 use Rattle.std.proofs.lemmas.Bool.{cases_Bool, false≢true}
 use Rattle.rtp_base.specs.Window.{including}
 use Rattle.rtp_wire.specs.Receiver.{Holds}
-use Rattle.rtp_wire.proofs.ReceiverLemmas.{Holds-refused}
+use Rattle.rtp_wire.proofs.ReceiverLemmas.{HoldsOf-refused}
 use Rattle.rtp_wire.proofs.receive.receiver.Receiver.record.Goals as goal
 
 pub returns-clause-recorded : goal.returns-clause-recorded
@@ -12,7 +12,7 @@ returns-clause-recorded c count taken holds =
     elim (cases_Bool c.take.result) [
       | inl answered ↦ subst held answered (c.take.ensures.taken count taken holds)
       | inr refuses ↦
-          Holds-refused c.take.new.self count taken c.args.number (λ fresh. false≢true (sym refuses ∙ told.1 fresh)) (subst held refuses (c.take.ensures.taken count taken holds))
+          HoldsOf-refused 128 c.take.new.self count taken c.args.number (λ fresh. false≢true (sym refuses ∙ told.1 fresh)) (subst held refuses (c.take.ensures.taken count taken holds))
     ]
 
 pub returns-clause-unchanged : goal.returns-clause-unchanged
