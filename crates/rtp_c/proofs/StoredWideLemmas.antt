@@ -9,8 +9,8 @@ use Rattle.rtp_base.proofs.RingLemmas.{ring_bits-near}
 use Rattle.rtp_base.proofs.WindowLemmas.{AcceptsOf-low, KeepsOf-first, KeepsOf-shown}
 use Rattle.rtp_wire.specs.Receiver.{IsNothing, IsFreshOf}
 use Rattle.rtp_c.specs.declared.wide_receiver.StoredWideReceiver.{StoredWideReceiver}
+use Rattle.rtp_c.specs.StoredWideReceiver.{IsReceivedAs}
 use Rattle.rtp_c.specs.StoredWindow.{IsRestored, HoldsWindow, HoldsStored}
-use Rattle.rtp_c.specs.StoredWideReceiver.{IsJudgedIn}
 
 or_none : (x y : Bool) → y ≡ false → (x || y) ≡ x
 or_none true y none = refl
@@ -155,9 +155,9 @@ kept_there made joined at here set words highest keeps =
 
 -- ---- the status of another call
 
-pub IsJudgedIn-passed_on : (count : ℕ) (taken : Numbers) (number : ℕ) (status : ℤ) (after : StoredWideReceiver) (words : List ℕ)
-    → IsJudgedIn count taken number status after words → IsJudgedIn count taken number (to_z w32 (of_z w32 status)) after words
-IsJudgedIn-passed_on count taken number status after words judged = elim judged [
-  | inl is ↦ inl (ap (λ (z : ℤ). to_z w32 (of_z w32 z)) is.0, is.1)
+pub IsReceivedAs-passed_on : (count : ℕ) (taken : Numbers) (number : ℕ) (status : ℤ) (written : ℕ) (after : StoredWideReceiver) (words : List ℕ)
+    → IsReceivedAs count taken number status written after words → IsReceivedAs count taken number (to_z w32 (of_z w32 status)) written after words
+IsReceivedAs-passed_on count taken number status written after words received = elim received [
+  | inl is ↦ inl (ap (λ (z : ℤ). to_z w32 (of_z w32 z)) is.0, is.1, is.2)
   | inr is ↦ inr (ap (λ (z : ℤ). to_z w32 (of_z w32 z)) is.0, is.1)
 ]

@@ -5,7 +5,7 @@ ghost use Rattle.rtp_base.specs.Ring.{ring_size};
 ghost use Rattle.rtp_base.specs.Window.{Numbers, including};
 ghost use Rattle.rtp_wire.specs.Receiver.{IsNothing, IsNumberOf, IsFreshOf};
 ghost use Rattle.rtp_c.specs.Status.{ok, bad_field};
-ghost use Rattle.rtp_c.specs.StoredWideReceiver.{IsWindowLen, HoldsIn, unstarted, IsStartedIn, MovesBelowZeroIn, IsJudgedIn, IsReceivedIn};
+ghost use Rattle.rtp_c.specs.StoredWideReceiver.{IsWindowLen, HoldsIn, unstarted, IsStartedIn, MovesBelowZeroIn, IsJudgedIn, IsReceivedAs, IsReceivedIn};
 
 use super::status::{BAD_FIELD, OK, REFUSED};
 use rtp_base::{SeqNo, ring_accepts, ring_restore, ring_start, ring_take};
@@ -51,6 +51,7 @@ fn accepts(receiver: &StoredWideReceiver, words: &[u64], number: u64) -> bool
 }
 
 // Takes the number where it may be taken, and returns whether it may.
+#[inline(always)]
 fn take(receiver: &mut StoredWideReceiver, words: &mut [u64], number: u64) -> bool
     requires { 0 < length words.old }
     ensures judged { (count : ℕ) (taken : Numbers) → HoldsIn receiver.old words.old count taken →
@@ -75,11 +76,51 @@ fn take(receiver: &mut StoredWideReceiver, words: &mut [u64], number: u64) -> bo
         ring_restore(words, highest);
         ring_take(words, &mut highest, seq_no);
     }
-    *receiver = StoredWideReceiver {
-        highest: highest.get(),
-        started: 1,
-    };
+    receiver.highest = highest.get();
+    receiver.started = 1;
     true
+}
+
+// Takes the number where it may be taken, and then writes it.
+#[inline(always)]
+fn receive_number(
+    receiver: &mut StoredWideReceiver,
+    words: &mut [u64],
+    number: u64,
+    written: &mut u64,
+) -> i32
+    requires { 0 < length words.old }
+    ensures received { (count : ℕ) (taken : Numbers) → HoldsIn receiver.old words.old count taken →
+        IsReceivedAs count taken number result written.new receiver.new words.new }
+    ensures below_zero { result ≡ ok →
+        MovesBelowZeroIn receiver.old words.old receiver.new words.new }
+    ensures unchanged { result ≢ ok → (receiver.new ≡ receiver.old)
+        × (words.new ≡ words.old) × (written.new ≡ written.old) }
+{
+    if !take(receiver, words, number) {
+        return REFUSED;
+    }
+    *written = number;
+    OK
+}
+
+// The same, out of line: what calls it stays short for the next number after the highest, as most are.
+#[inline(never)]
+fn receive_other(
+    receiver: &mut StoredWideReceiver,
+    words: &mut [u64],
+    number: u64,
+    written: &mut u64,
+) -> i32
+    requires { 0 < length words.old }
+    ensures received { (count : ℕ) (taken : Numbers) → HoldsIn receiver.old words.old count taken →
+        IsReceivedAs count taken number result written.new receiver.new words.new }
+    ensures below_zero { result ≡ ok →
+        MovesBelowZeroIn receiver.old words.old receiver.new words.new }
+    ensures unchanged { result ≢ ok → (receiver.new ≡ receiver.old)
+        × (words.new ≡ words.old) × (written.new ≡ written.old) }
+{
+    receive_number(receiver, words, number, written)
 }
 
 /// Makes the receiver one that has taken nothing yet, whose first packet has this rollover count:
@@ -185,7 +226,7 @@ pub extern "C" fn rtpw_wide_receiver_receive(
     sequence_number: u16,
     number: &mut u64,
 ) -> i32
-    ensures judged { IsWindowLen words.old → (count : ℕ) (taken : Numbers) →
+    ensures received { IsWindowLen words.old → (count : ℕ) (taken : Numbers) →
         HoldsIn receiver.old words.old count taken →
         IsReceivedIn count taken sequence_number result number.new receiver.new words.new }
     ensures other { (IsWindowLen words.old → ⊥) → result ≡ bad_field }
@@ -194,10 +235,14 @@ pub extern "C" fn rtpw_wide_receiver_receive(
     ensures unchanged { result ≢ ok → (receiver.new ≡ receiver.old)
         × (words.new ≡ words.old) × (number.new ≡ number.old) }
 {
-    let extended = rtpw_wide_receiver_number_of(receiver, sequence_number);
-    let status = rtpw_wide_receiver_record(receiver, words, extended);
-    if status == OK {
-        *number = extended;
+    if !is_window(words) {
+        return BAD_FIELD;
     }
-    status
+    let extended = rtpw_wide_receiver_number_of(receiver, sequence_number);
+    let highest = SeqNo::from(receiver.highest);
+    if receiver.started != 0 && highest.is_next(SeqNo::from(extended)) {
+        receive_number(receiver, words, extended, number)
+    } else {
+        receive_other(receiver, words, extended, number)
+    }
 }
