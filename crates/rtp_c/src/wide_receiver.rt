@@ -1,6 +1,6 @@
 //! The numbers of one stream, judged by a replay window of another size.
 
-ghost use Rattle.std.specs.Prelude.{◌≡◌, ◌≢◌, ◌↔◌, ◌^◌, ◌<◌, ◌≤◌, ◌/◌, ℕ, List, length, IsTrue, true, false};
+ghost use Rattle.std.specs.Prelude.{◌+◌, ◌≡◌, ◌≢◌, ◌↔◌, ◌^◌, ◌<◌, ◌≤◌, ◌/◌, ℕ, List, length, IsTrue, true, false};
 ghost use Rattle.rtp_base.specs.Ring.{ring_size};
 ghost use Rattle.rtp_base.specs.Window.{Numbers, including};
 ghost use Rattle.rtp_wire.specs.Receiver.{IsNothing, IsNumberOf, IsFreshOf};
@@ -48,6 +48,13 @@ fn accepts(receiver: &StoredWideReceiver, words: &[u64], number: u64) -> bool
     }
     let highest = SeqNo::from(receiver.highest);
     number != receiver.highest && ring_accepts(words, highest, SeqNo::from(number))
+}
+
+// Whether the number is the next one after the highest and has its bit in the same word, as most do.
+fn is_usual(highest: u64, number: u64) -> bool
+    ensures { IsTrue result ↔ ((number ≡ highest + 1) × (number / 64 ≡ highest / 64)) }
+{
+    number > highest && number - highest == 1 && number / 64 == highest / 64
 }
 
 // Takes the number where it may be taken, and returns whether it may.
@@ -104,7 +111,7 @@ fn receive_number(
     OK
 }
 
-// The same, out of line: what calls it stays short for the next number after the highest, as most are.
+// The same, out of line: what calls it stays short for the usual number.
 #[inline(never)]
 fn receive_other(
     receiver: &mut StoredWideReceiver,
@@ -239,8 +246,7 @@ pub extern "C" fn rtpw_wide_receiver_receive(
         return BAD_FIELD;
     }
     let extended = rtpw_wide_receiver_number_of(receiver, sequence_number);
-    let highest = SeqNo::from(receiver.highest);
-    if receiver.started != 0 && highest.is_next(SeqNo::from(extended)) {
+    if receiver.started != 0 && is_usual(receiver.highest, extended) {
         receive_number(receiver, words, extended, number)
     } else {
         receive_other(receiver, words, extended, number)
