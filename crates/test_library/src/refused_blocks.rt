@@ -3,10 +3,8 @@
 
 use crate::checks::{are_values, holds, parsed, same, verdict};
 use crate::fixtures::{WITH_ALLOCATION, is_written, level};
-use rtp_wire::{
-    Extension, ExtensionMap, ExtensionValues, ExtensionsForm, RtpHeader, Verdict, receive_run,
-    receive_run_one,
-};
+use crate::refused_samples::{datagrams, have_verdicts, have_verdicts_of_one};
+use rtp_wire::{Extension, ExtensionMap, ExtensionValues, ExtensionsForm, RtpHeader, Verdict};
 use std::alloc::{AllocError, Global};
 use std::process::Abort;
 
@@ -125,95 +123,57 @@ fn a_header(rt: HostRuntime) {
     holds(&rt, "the values", is_whole(&header.ext_vals, 5));
 }
 
-// A plain packet of number 46,999, the packet twice, and one that is cut short.
-fn datagrams(alloc: Global) -> Result<Vec<Vec<u8>>, AllocError> {
-    let plain = [0x80, 33, 0xB7, 0x97, 0, 0, 0, 0, 0, 0, 0, 44];
-    let mut datagrams = Vec::new(alloc);
-    for bytes in [
-        plain.as_slice(),
-        &WITH_ALLOCATION,
-        &WITH_ALLOCATION,
-        &WITH_ALLOCATION[..27],
-    ] {
-        datagrams.push(Vec::from_slice(alloc, bytes)?)?;
-    }
-    Ok(datagrams)
-}
+// A plain packet of number 46,999.
+const PLAIN: [u8; 12] = [0x80, 33, 0xB7, 0x97, 0, 0, 0, 0, 0, 0, 0, 44];
 
-// The datagrams, with memory at the second try.
+// The plain packet, the packet twice, and one that is cut short.
 fn made(rt: &impl Abort, alloc: Global) -> Vec<Vec<u8>> {
-    match datagrams(alloc) {
-        Ok(datagrams) => datagrams,
-        Err(_) => datagrams(alloc).expect(rt, "memory"),
-    }
+    let whole = WITH_ALLOCATION.as_slice();
+    datagrams(rt, alloc, &[&PLAIN, whole, whole, &WITH_ALLOCATION[..27]])
 }
 
-// The verdicts are those on the four datagrams.
-fn are_due(rt: &impl Abort, verdicts: &[Verdict]) {
-    let wanted = [
+// What is said of the four.
+fn due() -> [Verdict; 4] {
+    [
         verdict(Some(46_999)),
         verdict(Some(47_000)),
         Verdict::Refused,
         Verdict::Unreadable,
-    ];
-    same(rt, "the run", verdicts, wanted.as_slice());
+    ]
 }
 
 #[test]
 fn a_run(rt: HostRuntime) {
     let datagrams = made(&rt, rt.alloc());
-    let verdicts = match receive_run(rt.alloc(), &datagrams, &map()) {
-        Ok(verdicts) => verdicts,
-        Err(_) => receive_run(rt.alloc(), &datagrams, &map()).expect(&rt, "memory"),
-    };
-    are_due(&rt, &verdicts);
+    have_verdicts(&rt, rt.alloc(), &datagrams, &map(), &due());
 }
 
 #[test]
 fn a_run_by_one_receiver(rt: HostRuntime) {
     let datagrams = made(&rt, rt.alloc());
-    let verdicts = match receive_run_one(rt.alloc(), &datagrams, &map()) {
-        Ok(verdicts) => verdicts,
-        Err(_) => receive_run_one(rt.alloc(), &datagrams, &map()).expect(&rt, "memory"),
-    };
-    are_due(&rt, &verdicts);
+    have_verdicts_of_one(&rt, rt.alloc(), &datagrams, &map(), &due());
 }
 
-// Two packets of one source, each with an allocation.
-fn packets(alloc: Global) -> Result<[Vec<u8>; 2], AllocError> {
-    Ok([
-        Vec::from_slice(alloc, &WITH_ALLOCATION)?,
-        Vec::from_slice(alloc, &WITH_ALLOCATION)?,
-    ])
+// Two packets of one source, each with an allocation, and what is said of them.
+fn packets(rt: &impl Abort, alloc: Global) -> Vec<Vec<u8>> {
+    datagrams(rt, alloc, &[&WITH_ALLOCATION, &WITH_ALLOCATION])
+}
+
+fn due_of_two() -> [Verdict; 2] {
+    [verdict(Some(47_000)), Verdict::Refused]
 }
 
 // Beside the packets, memory is asked for the list of the verdicts and for the receiver of their
 // source.
 #[test]
 fn a_run_of_two_packets(rt: HostRuntime) {
-    let packets = match packets(rt.alloc()) {
-        Ok(packets) => packets,
-        Err(_) => packets(rt.alloc()).expect(&rt, "memory"),
-    };
-    let verdicts = match receive_run(rt.alloc(), &packets, &map()) {
-        Ok(verdicts) => verdicts,
-        Err(_) => receive_run(rt.alloc(), &packets, &map()).expect(&rt, "memory"),
-    };
-    let wanted = [verdict(Some(47_000)), Verdict::Refused];
-    same(&rt, "the run", verdicts.as_slice(), wanted.as_slice());
+    let packets = packets(&rt, rt.alloc());
+    have_verdicts(&rt, rt.alloc(), &packets, &map(), &due_of_two());
 }
 
 // The same by one receiver, for which no memory is asked.
 #[test]
 fn a_run_of_two_packets_by_one(rt: HostRuntime) {
-    let packets = match packets(rt.alloc()) {
-        Ok(packets) => packets,
-        Err(_) => packets(rt.alloc()).expect(&rt, "memory"),
-    };
-    let verdicts = match receive_run_one(rt.alloc(), &packets, &map()) {
-        Ok(verdicts) => verdicts,
-        Err(_) => receive_run_one(rt.alloc(), &packets, &map()).expect(&rt, "memory"),
-    };
-    let wanted = [verdict(Some(47_000)), Verdict::Refused];
-    same(&rt, "the run", verdicts.as_slice(), wanted.as_slice());
+    let packets = packets(&rt, rt.alloc());
+    have_verdicts_of_one(&rt, rt.alloc(), &packets, &map(), &due_of_two());
 }

@@ -1,16 +1,15 @@
 //! Reading where memory may be refused once: what stands then, and that the same call with memory
 //! gives all of it. `.ci/run` refuses each growth in turn.
 
-use crate::checks::{holds, same};
+use crate::checks::{holds, same, verdict};
 use crate::refused_copies::{allocation, header};
-use crate::refused_samples::{ALLOCATION, PACKET, has_whole, is_whole, map};
-use rtp_base::{Mid, SeqNo};
-use rtp_wire::vla::VideoLayersAllocation;
-use rtp_wire::{
-    Extension, ExtensionValues, ExtensionsForm, RtpHeader, RtpPacket, Verdict, receive_run,
-    receive_run_one, vla,
+use crate::refused_samples::{
+    ALLOCATION, PACKET, datagrams, has_whole, have_verdicts, have_verdicts_of_one, is_whole, map,
 };
-use std::alloc::{AllocError, Global};
+use rtp_base::Mid;
+use rtp_wire::vla::VideoLayersAllocation;
+use rtp_wire::{Extension, ExtensionValues, ExtensionsForm, RtpHeader, RtpPacket, Verdict};
+use std::alloc::Global;
 use std::process::Abort;
 
 // An allocation that takes no memory.
@@ -153,61 +152,32 @@ fn a_header_read_again(rt: HostRuntime) {
 }
 
 // A packet, and one that is cut short.
-fn datagrams(alloc: Global) -> Result<Vec<Vec<u8>>, AllocError> {
-    let packet = Vec::from_slice(alloc, &PACKET)?;
-    let short = Vec::from_slice(alloc, &PACKET[..11])?;
-    Ok(vec![in alloc; packet, short]?)
-}
-
-// Both, with memory at the second try.
 fn made(rt: &impl Abort, alloc: Global) -> Vec<Vec<u8>> {
-    match datagrams(alloc) {
-        Ok(datagrams) => datagrams,
-        Err(_) => datagrams(alloc).expect(rt, "memory"),
-    }
+    datagrams(rt, alloc, &[&PACKET, &PACKET[..11]])
 }
 
-// These are the verdicts, with a receiver for each source.
-fn have_verdicts(rt: &impl Abort, alloc: Global, datagrams: &[Vec<u8>], wanted: &[Verdict]) {
-    let verdicts = match receive_run(alloc, datagrams, &map()) {
-        Ok(verdicts) => verdicts,
-        Err(_) => receive_run(alloc, datagrams, &map()).expect(rt, "memory"),
-    };
-    same(rt, "by source", verdicts.as_slice(), wanted);
-}
-
-// The same with one receiver for all.
-fn have_verdicts_of_one(rt: &impl Abort, alloc: Global, datagrams: &[Vec<u8>], wanted: &[Verdict]) {
-    let verdicts = match receive_run_one(alloc, datagrams, &map()) {
-        Ok(verdicts) => verdicts,
-        Err(_) => receive_run_one(alloc, datagrams, &map()).expect(rt, "memory"),
-    };
-    same(rt, "by one", verdicts.as_slice(), wanted);
-}
-
-// What is said of the packet.
-fn taken() -> Verdict {
-    Verdict::Taken(SeqNo::from(47_000))
+// What is said of the two.
+fn due() -> [Verdict; 2] {
+    [verdict(Some(47_000)), Verdict::Unreadable]
 }
 
 #[test]
 fn a_run(rt: HostRuntime) {
     let datagrams = made(&rt, rt.alloc());
-    let wanted = [taken(), Verdict::Unreadable];
-    have_verdicts(&rt, rt.alloc(), &datagrams, &wanted);
+    have_verdicts(&rt, rt.alloc(), &datagrams, &map(), &due());
 }
 
 #[test]
 fn a_run_by_one_receiver(rt: HostRuntime) {
     let datagrams = made(&rt, rt.alloc());
-    let wanted = [taken(), Verdict::Unreadable];
-    have_verdicts_of_one(&rt, rt.alloc(), &datagrams, &wanted);
+    have_verdicts_of_one(&rt, rt.alloc(), &datagrams, &map(), &due());
 }
 
 #[test]
 fn a_run_of_one_datagram(rt: HostRuntime) {
     let datagrams = made(&rt, rt.alloc());
     let packet = datagrams.get(..1).expect(&rt, "the packet");
-    have_verdicts(&rt, rt.alloc(), packet, &[taken()]);
-    have_verdicts_of_one(&rt, rt.alloc(), packet, &[taken()]);
+    let wanted = [verdict(Some(47_000))];
+    have_verdicts(&rt, rt.alloc(), packet, &map(), &wanted);
+    have_verdicts_of_one(&rt, rt.alloc(), packet, &map(), &wanted);
 }

@@ -2,8 +2,10 @@
 
 use crate::checks::same;
 use rtp_wire::vla::VideoLayersAllocation;
-use rtp_wire::{Extension, ExtensionMap, ExtensionValues, vla};
-use std::alloc::Global;
+use rtp_wire::{
+    Extension, ExtensionMap, ExtensionValues, Verdict, receive_run, receive_run_one, vla,
+};
+use std::alloc::{AllocError, Global};
 use std::process::Abort;
 
 // Two streams of one layer each, of two rates and of one, and the first one's resolution.
@@ -51,4 +53,50 @@ pub(crate) fn named(rt: &impl Abort, alloc: Global, uri: &str) -> Extension {
     };
     same(rt, uri, ext.as_uri(), uri);
     ext
+}
+
+fn datagrams_of(alloc: Global, rows: &[&[u8]]) -> Result<Vec<Vec<u8>>, AllocError> {
+    let mut datagrams = Vec::new(alloc);
+    for bytes in rows {
+        datagrams.push(Vec::from_slice(alloc, bytes)?)?;
+    }
+    Ok(datagrams)
+}
+
+// Datagrams of these bytes, with memory at the second try.
+pub(crate) fn datagrams(rt: &impl Abort, alloc: Global, rows: &[&[u8]]) -> Vec<Vec<u8>> {
+    match datagrams_of(alloc, rows) {
+        Ok(datagrams) => datagrams,
+        Err(_) => datagrams_of(alloc, rows).expect(rt, "memory"),
+    }
+}
+
+// The verdicts are these, with memory at the second try and a receiver for each source.
+pub(crate) fn have_verdicts(
+    rt: &impl Abort,
+    alloc: Global,
+    datagrams: &[Vec<u8>],
+    exts: &ExtensionMap,
+    wanted: &[Verdict],
+) {
+    let verdicts = match receive_run(alloc, datagrams, exts) {
+        Ok(verdicts) => verdicts,
+        Err(_) => receive_run(alloc, datagrams, exts).expect(rt, "memory"),
+    };
+    same(rt, "by source", verdicts.as_slice(), wanted);
+}
+
+// The same with one receiver for all.
+pub(crate) fn have_verdicts_of_one(
+    rt: &impl Abort,
+    alloc: Global,
+    datagrams: &[Vec<u8>],
+    exts: &ExtensionMap,
+    wanted: &[Verdict],
+) {
+    let verdicts = match receive_run_one(alloc, datagrams, exts) {
+        Ok(verdicts) => verdicts,
+        Err(_) => receive_run_one(alloc, datagrams, exts).expect(rt, "memory"),
+    };
+    same(rt, "by one", verdicts.as_slice(), wanted);
 }
