@@ -40,8 +40,6 @@ mod many_ids;
 #[cfg(test)]
 mod maps;
 #[cfg(test)]
-mod packet_ends;
-#[cfg(test)]
 mod refused_blocks;
 #[cfg(test)]
 mod refused_copies;
@@ -62,6 +60,8 @@ mod refused_never_times;
 #[cfg(test)]
 mod refused_never_values;
 #[cfg(test)]
+mod refused_never_widenings;
+#[cfg(test)]
 mod refused_readings;
 #[cfg(test)]
 mod refused_samples;
@@ -74,8 +74,6 @@ mod renegotiations;
 #[cfg(test)]
 mod runs;
 #[cfg(test)]
-mod send_times;
-#[cfg(test)]
 mod sent_runs;
 #[cfg(test)]
 mod sources;
@@ -83,8 +81,6 @@ mod sources;
 mod times;
 #[cfg(test)]
 mod values;
-#[cfg(test)]
-mod widenings;
 #[cfg(test)]
 mod windows;
 #[cfg(test)]

@@ -1,4 +1,4 @@
-//! Low bits widened to 64.
+//! Low bits widened to 64. No call asks for memory: `.ci/run` sees that a test of this file asks for none.
 
 use crate::checks::same;
 use rtp_base::SeqNo;
@@ -6,7 +6,7 @@ use rtp_wire::{RtpHeader, extend_u7, extend_u8, extend_u15, extend_u16, extend_u
 use std::process::Abort;
 
 // A previous number, seven bits, and what they are widened to.
-const SEVEN: [(Option<u64>, u8, u64); 7] = [
+const SEVEN: [(Option<u64>, u8, u64); 8] = [
     (None, 0, 0),
     (None, 1, 1),
     (None, 127, 127),
@@ -15,6 +15,7 @@ const SEVEN: [(Option<u64>, u8, u64); 7] = [
     (Some(0), 63, 63),
     (Some(0), 64, 64),
     (Some(0), 65, 18446744073709551553),
+    (Some(130), 3, 131),
 ];
 
 // A previous number, eight bits, and what they are widened to.
@@ -36,7 +37,7 @@ fn seven_and_eight_bits(rt: HostRuntime) {
 }
 
 // A previous number, fifteen bits, and what they are widened to.
-const FIFTEEN: [(Option<u64>, u16, u64); 7] = [
+const FIFTEEN: [(Option<u64>, u16, u64); 8] = [
     (None, 0, 0),
     (None, 1, 1),
     (None, 32_767, 32_767),
@@ -44,6 +45,7 @@ const FIFTEEN: [(Option<u64>, u16, u64); 7] = [
     (Some(0), 16_383, 16_383),
     (Some(0), 16_384, 16_384),
     (Some(0), 16_385, 18446744073709535233),
+    (Some(32_767), 0, 32_768),
 ];
 
 #[test]
@@ -54,7 +56,7 @@ fn fifteen_bits(rt: HostRuntime) {
 }
 
 // A previous number, 16 bits, and what they are widened to.
-const SIXTEEN: [(Option<u64>, u16, u64); 13] = [
+const SIXTEEN: [(Option<u64>, u16, u64); 14] = [
     (None, 0, 0),
     (Some(0), 1, 1),
     (Some(2), 1, 1),
@@ -71,6 +73,7 @@ const SIXTEEN: [(Option<u64>, u16, u64); 13] = [
     // Back past 0, and on past the greatest number.
     (Some(2), 65_535, 18446744073709551615),
     (Some(18446744073709551615), 2, 2),
+    (Some(65_535), 2, 65_538),
 ];
 
 // The header's 16 bits are widened to this number.
