@@ -4,8 +4,6 @@
 #[cfg(test)]
 mod checks;
 #[cfg(test)]
-mod failing_streams;
-#[cfg(test)]
 mod listings;
 #[cfg(test)]
 mod map_lines;

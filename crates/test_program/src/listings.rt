@@ -6,7 +6,6 @@ use std::alloc::Global;
 use std::fmt::Display;
 use std::io::Read;
 use std::process::Abort;
-use std::test::Fail;
 
 // A datagram of twelve bytes.
 pub(crate) const PLAIN: &[u8] = b"8021B798000027100000002C\n";
@@ -132,19 +131,29 @@ fn runs(rt: HostRuntime) {
     }
 }
 
+// Lines, and the bytes that they have in hexadecimal.
+const LINES: [(&[u8], &[u8]); 3] = [
+    (b"", &[]),
+    (b"80ff", &[0x80, 0xFF]),
+    (b"80FF", &[0x80, 0xFF]),
+];
+
+// Lines that are not hexadecimal.
+const OTHER_LINES: [&[u8]; 3] = [b"8", b"8g", b"80 21"];
+
+// What the line is decoded to.
+fn decoded(rt: &impl Abort, alloc: Global, line: &[u8]) -> Option<Vec<u8>> {
+    datagram(alloc, line).expect(rt, "memory")
+}
+
 #[test]
-fn datagrams_in_either_case(rt: HostRuntime) -> Result<(), Fail> {
-    let lines: [(&[u8], &[u8]); 3] = [
-        (b"", &[]),
-        (b"80ff", &[0x80, 0xFF]),
-        (b"80FF", &[0x80, 0xFF]),
-    ];
-    for (line, bytes) in lines {
-        let found = datagram(rt.alloc(), line)?.ok_or("hexadecimal")?;
-        assert_eq!(rt; found.as_slice(), bytes);
+fn datagrams_in_either_case(rt: HostRuntime) {
+    for &(line, bytes) in &LINES {
+        let found = decoded(&rt, rt.alloc(), line).expect(&rt, "hexadecimal");
+        same(&rt, line.len(), found.as_slice(), bytes);
     }
-    for line in [b"8".as_slice(), b"8g", b"80 21"] {
-        assert!(rt; datagram(rt.alloc(), line)?.is_none());
+    for line in &OTHER_LINES {
+        let found = decoded(&rt, rt.alloc(), line);
+        same(&rt, line.len(), found.is_none(), true);
     }
-    Ok(())
 }

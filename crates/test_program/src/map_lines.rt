@@ -5,7 +5,7 @@ use crate::listings::{PLAIN_LISTING, lists, names_bad_line};
 use rtp_listing::{InputError, RunEnd, read_input};
 use rtp_wire::{Extension, ExtensionMap};
 use std::alloc::Global;
-use std::test::Fail;
+use std::process::Abort;
 
 // An input that is refused, and the number of the line that is named.
 const REFUSED: [(&[u8], u64); 21] = [
@@ -73,41 +73,40 @@ fn taken_lines(rt: HostRuntime) {
 }
 
 // The map that the lines make.
-pub(crate) fn map_of(alloc: Global, text: &[u8]) -> Result<ExtensionMap, Fail> {
-    let input = read_input(alloc, text).ok().ok_or("an input")?;
-    Ok(input.exts)
+pub(crate) fn map_of(rt: &impl Abort, alloc: Global, text: &[u8]) -> ExtensionMap {
+    read_input(alloc, text).ok().expect(rt, "an input").exts
 }
 
 // The map of these ids to these URIs, and of no other id.
-fn map_with(alloc: Global, entries: &[(u8, &str)]) -> Result<ExtensionMap, Fail> {
+fn map_with(rt: &impl Abort, alloc: Global, entries: &[(u8, &str)]) -> ExtensionMap {
     let mut exts = ExtensionMap::empty();
     for (id, uri) in entries {
-        exts.set(*id, Extension::from_sdp_uri(alloc, uri)?);
+        let ext = Extension::from_sdp_uri(alloc, uri);
+        exts.set(*id, ext.expect(rt, "memory"));
     }
-    Ok(exts)
+    exts
 }
 
+// Lines, and the entries of the map that they make.
+const MAPS: [(&[u8], &[(u8, &str)]); 8] = [
+    (b"map 3 urn:x", &[(3, "urn:x")]),
+    (b"map 3 a\nmap 016 b\n80\n", &[(3, "a"), (16, "b")]),
+    (b"map 001 a\n", &[(1, "a")]),
+    (b"map 17 a\nmap 255 b\n", &[(17, "a"), (255, "b")]),
+    // The last line for an id counts.
+    (b"map 3 a\nmap 4 b\nmap 3 c\n", &[(3, "c"), (4, "b")]),
+    // The rest of the line is the URI, spaces included.
+    (b"map 1  x \n", &[(1, " x ")]),
+    // A CR before the LF is part of the line's end, and any other CR of the URI.
+    (b"map 1 x\r\nmap 2 y\r", &[(1, "x"), (2, "y\r")]),
+    (b"map 1 \xC3\xA9\n", &[(1, "é")]),
+];
+
 #[test]
-fn the_map_of_the_lines(rt: HostRuntime) -> Result<(), Fail> {
-    let alloc = rt.alloc();
-    let entries: [(&[u8], &[(u8, &str)]); 8] = [
-        (b"map 3 urn:x", &[(3, "urn:x")]),
-        (b"map 3 a\nmap 016 b\n80\n", &[(3, "a"), (16, "b")]),
-        (b"map 001 a\n", &[(1, "a")]),
-        (b"map 17 a\nmap 255 b\n", &[(17, "a"), (255, "b")]),
-        // The last line for an id counts.
-        (b"map 3 a\nmap 4 b\nmap 3 c\n", &[(3, "c"), (4, "b")]),
-        // The rest of the line is the URI, spaces included.
-        (b"map 1  x \n", &[(1, " x ")]),
-        // A CR before the LF is part of the line's end, and any other CR of the URI.
-        (b"map 1 x\r\nmap 2 y\r", &[(1, "x"), (2, "y\r")]),
-        (b"map 1 \xC3\xA9\n", &[(1, "é")]),
-    ];
-    for (index, (text, expected)) in entries.into_iter().enumerate() {
-        assert!(rt;
-            map_of(alloc, text)? == map_with(alloc, expected)?,
-            "at {index}"
-        );
+fn the_map_of_the_lines(rt: HostRuntime) {
+    for (index, &(text, entries)) in MAPS.iter().enumerate() {
+        let found = map_of(&rt, rt.alloc(), text);
+        let wanted = map_with(&rt, rt.alloc(), entries);
+        same(&rt, index, found == wanted, true);
     }
-    Ok(())
 }

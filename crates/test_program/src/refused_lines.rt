@@ -1,23 +1,29 @@
 //! Lines whose memory may be refused once. `.ci/run` refuses each growth in turn.
 
+use crate::checks::same;
 use rtp_listing::datagram;
-use std::test::Fail;
 
 // The line is as it was, and with memory all of it is decoded.
 #[test]
-fn a_datagram(rt: HostRuntime) -> Result<(), Fail> {
-    let line = b"80";
-    let found = datagram(rt.alloc(), line).or_else(|_| datagram(rt.alloc(), line))?;
-    assert_eq!(rt; found.ok_or("hexadecimal")?.as_slice(), [0x80].as_slice());
-    assert_eq!(rt; line, b"80");
-    Ok(())
+fn a_datagram(rt: HostRuntime) {
+    let line = b"80".as_slice();
+    let found = match datagram(rt.alloc(), line) {
+        Ok(found) => found,
+        Err(_) => datagram(rt.alloc(), line).expect(&rt, "memory"),
+    };
+    let found = found.expect(&rt, "hexadecimal");
+    same(&rt, "the bytes", found.as_slice(), [0x80].as_slice());
+    same(&rt, "the line", line, b"80".as_slice());
 }
+
+// Lines that are not hexadecimal.
+const OTHER_LINES: [&[u8]; 4] = [b"8", b"8g", b"80 21", b"map 3 urn:x"];
 
 // What isn't hexadecimal is told whether there is memory or not.
 #[test]
-fn no_datagram(rt: HostRuntime) -> Result<(), Fail> {
-    for line in [b"8".as_slice(), b"8g", b"80 21", b"map 3 urn:x"] {
-        assert!(rt; datagram(rt.alloc(), line)?.is_none());
+fn no_datagram(rt: HostRuntime) {
+    for line in &OTHER_LINES {
+        let found = datagram(rt.alloc(), line).expect(&rt, "no memory is needed");
+        same(&rt, line.len(), found.is_none(), true);
     }
-    Ok(())
 }
