@@ -12,3 +12,4 @@ pub mod AllocationWritingLemmas
 pub mod AllocationTrimming
 pub mod AllocationSpelling
 pub mod AllocationWriting
+pub mod UpToLemmas

@@ -1,13 +1,16 @@
 //! From bytes to an allocation.
 
 ghost use Rattle.std.specs.Prelude.{◌≡◌, ◌↔◌, ◌%◌, ◌/◌, ◌+◌, ◌≤◌, ◌∷◌, [], length, take, Some, IsTrue, IsOk, IfOk, IfSome, IfNone};
+ghost use Rattle.std.specs.List.{AllByRecursion};
 ghost use Rattle.rtp_vla.specs.Allocation.{Allocation, Means};
 ghost use Rattle.rtp_vla.specs.AllocationReading as reading;
 
 use super::allocation::VideoLayersAllocation;
 use super::counts::Counts;
-use super::layers::{LayerReader, streams_of};
+use super::layers::LayerReader;
+use super::lists::listed_streams;
 use super::parts::{active_count, after_rates, half_at, resolutions_fit};
+use super::video_layers::VideoLayers;
 use std::alloc::{AllocError, Global};
 
 // What the bytes have before any layer is made of them.
@@ -83,6 +86,44 @@ fn says_nothing(buf: &[u8]) -> bool
     buf.len() == 1 && buf[0] == 0
 }
 
+// The streams of the masks, with the layers that are left to read.
+fn video_layers_of(index: u8, masks: &[u8], mut left: LayerReader) -> VideoLayers
+    requires few { length masks.now ≤ 4 }
+    requires fit { AllByRecursion (λ mask. mask ≤ 15) masks.now }
+    requires enough { reading.active_count masks.now ≤ length left }
+    ensures { result ≡ record {
+      current_simulcast_stream_index = index;
+      simulcast_streams = reading.dealt_streams masks.now left.entry;
+    } }
+{
+    let mut layers = VideoLayers::new(index);
+    for mask in masks {
+        layers.push(left.next_stream(*mask));
+    }
+    layers
+}
+
+impl VideoLayers {
+    /// Reads an allocation, as [`parse`] reads it, and takes no memory.
+    pub fn parse(buf: &[u8]) -> Option<VideoLayers>
+        // The bytes mean the result, and what they mean is the result; they mean no two allocations.
+        ensures found { IfSome result (Means buf.now) }
+        ensures only { (a : Allocation) → Means buf.now a → result ≡ Some a }
+        ensures one { (a b : Allocation) → Means buf.now a → Means buf.now b → a ≡ b }
+    {
+        if says_nothing(buf) {
+            return Some(VideoLayers::default());
+        }
+        let Layout {
+            index,
+            masks,
+            streams,
+            layers,
+        } = layout_of(buf)?;
+        Some(video_layers_of(index, &masks[..streams], layers))
+    }
+}
+
 /// Reads an allocation. The bytes are a head, masks, counts of temporal layers, rates and
 /// resolutions (`video-layers-allocation00`); bytes after the last resolution are not looked at,
 /// rates that are not there are 0, and layers whose resolution isn't there have none. The single
@@ -118,6 +159,6 @@ pub fn parse(alloc: Global, buf: &[u8]) -> Result<Option<VideoLayersAllocation>,
     } = layout;
     Ok(Some(VideoLayersAllocation {
         current_simulcast_stream_index: index,
-        simulcast_streams: streams_of(alloc, &masks[..streams], layers)?,
+        simulcast_streams: listed_streams(alloc, &masks[..streams], layers)?,
     }))
 }
