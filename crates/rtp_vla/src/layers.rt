@@ -1,12 +1,15 @@
-//! The active layers that bytes have, and the streams that masks make of them, one after another.
+//! The active layers that bytes have, and the streams that masks make of them.
 
-ghost use Rattle.std.specs.Prelude.{◌≡◌, ◌≤◌, ◌∷◌, length, drop};
+ghost use Rattle.std.specs.Prelude.{◌≡◌, ◌≤◌, ◌∷◌, length, drop, IfOk, OnOk};
 ghost use Rattle.std.specs.Bool.{OnTrue};
+ghost use Rattle.std.specs.List.{AllByRecursion};
 ghost use Rattle.rtp_vla.specs.AllocationReading as reading;
 
+use super::allocation::{SimulcastStreamAllocation, SpatialLayerAllocation};
 use super::counts::Counts;
-use super::parts::{rates_at, resolution_at};
-use super::video_layers::{VideoLayer, VideoStream};
+use super::parts::{held_rates, rates_at, resolution_at};
+use super::video_layers::VideoLayer;
+use std::alloc::{AllocError, Global};
 use std::marker::Model;
 
 /// The active layers that are left to read.
@@ -44,12 +47,13 @@ impl<'a> LayerReader<'a> {
     }
 
     // The next layer, of which there is one.
+    #[inline(always)]
     fn next(&mut self) -> VideoLayer
         requires { 1 ≤ length self.old }
         ensures { self.old ≡ result ∷ self.new }
     {
         let rates = usize::from(self.counts.next()) + 1;
-        let (temporal_layers, rates) = rates_at(self.rates, rates);
+        let (temporal_layers, rates) = held_rates(self.rates, rates);
         let (resolution_and_framerate, resolutions) = resolution_at(self.resolutions);
         self.rates = rates;
         self.resolutions = resolutions;
@@ -57,7 +61,8 @@ impl<'a> LayerReader<'a> {
     }
 
     // The next layer where it is active, and an idle one where it isn't.
-    fn next_if(&mut self, is_active: bool) -> VideoLayer
+    #[inline(always)]
+    pub(super) fn next_if(&mut self, is_active: bool) -> VideoLayer
         requires { OnTrue is_active (1 ≤ length self.old) }
         ensures { reading.Deals is_active self.old result self.new }
     {
@@ -68,19 +73,84 @@ impl<'a> LayerReader<'a> {
         }
     }
 
-    // The stream of a mask, with the next of the layers wherever it marks one.
-    pub(super) fn next_stream(&mut self, mask: u8) -> VideoStream
-        requires fits { mask ≤ 15 }
-        requires enough { reading.active_in mask ≤ length self.old }
-        ensures dealt { result ≡ reading.dealt (reading.marks_of mask) self.old }
-        ensures left { self.new ≡ drop (reading.active_in mask) self.old }
+    // The next layer in lists, of which there is one.
+    fn next_listed(&mut self, alloc: Global) -> Result<SpatialLayerAllocation, AllocError>
+        requires { 1 ≤ length self.old }
+        ensures { IfOk result (λ layer. self.old ≡ layer ∷ self.new) }
     {
-        let mut stream = VideoStream::new();
-        let mut marks = mask;
-        while marks > 0 {
-            stream.push(self.next_if(marks % 2 == 1));
-            marks /= 2;
-        }
-        stream
+        let rates = usize::from(self.counts.next()) + 1;
+        let (temporal_layers, rates) = rates_at(alloc, self.rates, rates)?;
+        let (resolution_and_framerate, resolutions) = resolution_at(self.resolutions);
+        self.rates = rates;
+        self.resolutions = resolutions;
+        Ok(SpatialLayerAllocation {
+            temporal_layers,
+            resolution_and_framerate,
+        })
     }
+}
+
+// A layer that isn't active.
+fn idle_layer(alloc: Global) -> SpatialLayerAllocation
+    ensures { result ≡ reading.idle_layer }
+{
+    SpatialLayerAllocation {
+        temporal_layers: Vec::new(alloc),
+        resolution_and_framerate: None,
+    }
+}
+
+// The next layer where it is active, and an idle one where it isn't.
+fn layer_of(
+    alloc: Global,
+    is_active: bool,
+    left: &mut LayerReader,
+) -> Result<SpatialLayerAllocation, AllocError>
+    requires { OnTrue is_active (1 ≤ length left.old) }
+    ensures { IfOk result (λ layer. reading.Deals is_active left.old layer left.new) }
+{
+    if is_active {
+        left.next_listed(alloc)
+    } else {
+        Ok(idle_layer(alloc))
+    }
+}
+
+// The stream of a mask, with the next of the active layers where it marks one.
+fn stream_of(
+    alloc: Global,
+    mask: u8,
+    left: &mut LayerReader,
+) -> Result<SimulcastStreamAllocation, AllocError>
+    requires fits { mask ≤ 15 }
+    requires enough { reading.active_in mask ≤ length left.old }
+    ensures dealt { IfOk result (λ stream.
+        stream ≡ reading.dealt (reading.marks_of mask) left.old) }
+    ensures left { OnOk result (left.new ≡ drop (reading.active_in mask) left.old) }
+{
+    let len = 8 - mask.leading_zeros() as usize;
+    let mut spatial_layers = Vec::with_capacity(alloc, len)?;
+    let mut marks = mask;
+    while marks > 0 {
+        spatial_layers.push_reserved(layer_of(alloc, marks % 2 == 1, left)?);
+        marks /= 2;
+    }
+    Ok(SimulcastStreamAllocation { spatial_layers })
+}
+
+// The streams of the masks.
+pub(super) fn streams_of(
+    alloc: Global,
+    masks: &[u8],
+    mut left: LayerReader,
+) -> Result<Vec<SimulcastStreamAllocation>, AllocError>
+    requires fit { AllByRecursion (λ mask. mask ≤ 15) masks.now }
+    requires enough { reading.active_count masks.now ≤ length left }
+    ensures { IfOk result (λ streams. streams.items ≡ reading.dealt_streams masks.now left.entry) }
+{
+    let mut streams = Vec::with_capacity(alloc, masks.len())?;
+    for mask in masks {
+        streams.push_reserved(stream_of(alloc, *mask, &mut left)?);
+    }
+    Ok(streams)
 }

@@ -4,9 +4,9 @@
 mod active;
 mod allocation;
 mod counts;
+mod holding;
 mod layers;
 mod leb;
-mod lists;
 mod measuring;
 mod parsing;
 mod parts;

@@ -1,15 +1,38 @@
 //! The parts of an allocation, each read by itself.
 
-ghost use Rattle.std.specs.Prelude.{◌≡◌, ◌↔◌, ℕ, ◌+◌, ◌*◌, ◌/◌, ◌<◌, ◌≤◌, length, take, slice_index, Some, IsTrue};
+ghost use Rattle.std.specs.Prelude.{◌≡◌, ◌↔◌, ℕ, ◌+◌, ◌*◌, ◌/◌, ◌<◌, ◌≤◌, length, take, slice_index, Some, IsTrue, IfOk, IfSome, IfNone};
 ghost use Rattle.std.specs.List.{AllByRecursion};
 ghost use Rattle.rtp_vla.specs.AllocationReading as reading;
 
 use super::allocation::{ResolutionAndFramerate, TemporalLayerAllocation};
 use super::leb::parse_leb_u63;
 use super::up_to::UpTo;
+use std::alloc::{AllocError, Global};
 
 // The first `count` rates, and the bytes after them.
-pub(super) fn rates_at(bytes: &[u8], count: usize) -> (UpTo<TemporalLayerAllocation, 4>, &[u8])
+pub(super) fn rates_at(
+    alloc: Global,
+    bytes: &[u8],
+    count: usize,
+) -> Result<(Vec<TemporalLayerAllocation>, &[u8]), AllocError>
+    ensures rates { IfOk result (λ read. read.0.items ≡ reading.rates_of count bytes.now) }
+    ensures after { IfOk result (λ read. read.1.now ≡ reading.after_rates count bytes.now) }
+{
+    let mut rates = Vec::with_capacity(alloc, count)?;
+    let mut after = bytes;
+    for _i in 0..count {
+        let (cumulative_kbps, next) = parse_leb_u63(after);
+        rates.push_reserved(TemporalLayerAllocation { cumulative_kbps });
+        after = next;
+    }
+    Ok((rates, after))
+}
+
+// The same in a value of fixed size.
+pub(super) fn held_rates(
+    bytes: &[u8],
+    count: usize,
+) -> (UpTo<TemporalLayerAllocation, 4>, &[u8])
     requires few { count ≤ 4 }
     ensures rates { result.0 ≡ reading.rates_of count bytes.now }
     ensures after { result.1.now ≡ reading.after_rates count bytes.now }

@@ -1,14 +1,9 @@
 //! The allocation in a value of fixed size.
 
-ghost use Rattle.std.specs.Prelude.{◌≡◌, ◌<◌, ◌≤◌, ◌∷◌, ◌++◌, [], length, IsOk, IfOk};
+ghost use Rattle.std.specs.Prelude.{◌≡◌, ◌<◌, ◌≤◌, ◌∷◌, ◌++◌, [], length};
 
-use super::allocation::{
-    ResolutionAndFramerate, SimulcastStreamAllocation, TemporalLayerAllocation,
-    VideoLayersAllocation,
-};
-use super::lists::listed_stream;
+use super::allocation::{ResolutionAndFramerate, TemporalLayerAllocation};
 use super::up_to::{Unused, UpTo};
-use std::alloc::{AllocError, Global};
 use std::marker::Model;
 
 impl Unused for TemporalLayerAllocation {
@@ -340,22 +335,5 @@ impl VideoLayers {
         ensures few { length result.now ≤ 4 }
     {
         self.simulcast_streams.as_slice()
-    }
-
-    /// The same allocation in lists. Memory is taken for each that isn't empty; where it is refused
-    /// nothing is returned.
-    pub fn to_lists(&self, alloc: Global) -> Result<VideoLayersAllocation, AllocError>
-        ensures same { IfOk result (λ listed. listed ≡ self.now) }
-        ensures succeeds { self.now.simulcast_streams ≡ [] → IsOk result }
-    {
-        let streams = self.simulcast_streams();
-        let mut simulcast_streams = Vec::with_capacity(alloc, streams.len())?;
-        for stream in streams {
-            simulcast_streams.push_reserved(listed_stream(alloc, stream)?);
-        }
-        Ok(VideoLayersAllocation {
-            current_simulcast_stream_index: self.current_simulcast_stream_index,
-            simulcast_streams,
-        })
     }
 }

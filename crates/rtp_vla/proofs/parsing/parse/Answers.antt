@@ -16,27 +16,27 @@ returns-in_default-clause-only c a =
 pub returns-in_default-clause-one : goal.returns-in_default-clause-one
 returns-in_default-clause-one c = one_meaning c.args.buf.now
 
-pub listed_streams-requires-clause-enough : goal.listed_streams-requires-clause-enough
-listed_streams-requires-clause-enough c = omega (arith, laid_out_layers _ _ _ _ c.in-Some.ensures.found)
+pub streams_of-requires-clause-enough : goal.streams_of-requires-clause-enough
+streams_of-requires-clause-enough c = omega (arith, laid_out_layers _ _ _ _ c.in-Some.ensures.found)
 
-pub returns-in_err-listed_streams-clause-one : goal.returns-in_err-listed_streams-clause-one
-returns-in_err-listed_streams-clause-one c = one_meaning c.args.buf.now
+pub returns-in_err-streams_of-clause-one : goal.returns-in_err-streams_of-clause-one
+returns-in_err-streams_of-clause-one c = one_meaning c.args.buf.now
 
-pub returns-in_err-listed_streams-clause-succeeds : goal.returns-in_err-listed_streams-clause-succeeds
-returns-in_err-listed_streams-clause-succeeds c = λ short. absurd (omega (arith, laid_out_long _ _ _ _ c.in-Some.ensures.found))
+pub returns-in_err-streams_of-clause-succeeds : goal.returns-in_err-streams_of-clause-succeeds
+returns-in_err-streams_of-clause-succeeds c = λ short. absurd (omega (arith, laid_out_long _ _ _ _ c.in-Some.ensures.found))
 
 pub returns-clause-found : goal.returns-clause-found
 returns-clause-found c =
     let all : AreBytes c.args.buf.now = AreBytes-from c.args.buf.now (λ i. omega (arith, c.type_inv.buf i)) in
     inr (subst (λ (streams : List Stream). IsPacked c.args.buf.now (record { current_simulcast_stream_index = c.in-Some.layout.index; simulcast_streams = streams }))
-    (sym c.in_ok-listed_streams.ensures) (packed_from _ _ _ _ all c.in-Some.ensures.found))
+    (sym c.in_ok-streams_of.ensures) (packed_from _ _ _ _ all c.in-Some.ensures.found))
 
 pub returns-clause-only : goal.returns-clause-only
 returns-clause-only c a =
     ⊎_elim
     (λ nothing. absurd (false≢true (c.if-says_nothing.ensures.1 nothing.0)))
     (λ p. let same = packed_only _ _ _ _ a c.in-Some.ensures.found p in
-    (λ i. Some (record { current_simulcast_stream_index = c.in-Some.layout.index; simulcast_streams = c.in_ok-listed_streams.ensures i })) ∙ ap (λ (b : Allocation). Some b) (sym same))
+    (λ i. Some (record { current_simulcast_stream_index = c.in-Some.layout.index; simulcast_streams = c.in_ok-streams_of.ensures i })) ∙ ap (λ (b : Allocation). Some b) (sym same))
 
 pub returns-clause-one : goal.returns-clause-one
 returns-clause-one c = one_meaning c.args.buf.now

@@ -20,7 +20,7 @@ invariant_of-self c =
 pub returns : goal.returns
 returns c =
     let r = c.self.inside in
-    let read = c.rates_at-temporal_layers.ensures in
+    let read = c.held_rates-temporal_layers.ensures in
     let found = c.resolution_at-resolution_and_framerate.ensures in
     let left = c.next.new.self in
     sym c.self.view_is
@@ -29,4 +29,4 @@ returns c =
     ∷ layers_read left (after_rates n r.rates.now) (after_resolution r.resolutions.now)) (sym (add-one c.next.result) ∙ ap (λ (n : ℕ). n + 1) (sym c.from-rates.ensures))
     ∙ (λ i. record { temporal_layers = sym read.rates i; resolution_and_framerate = sym found.resolution i }
     ∷ layers_read left (sym read.after i) (sym found.after i))
-    ∙ (λ i. sym c.of.ensures i ∷ layers_read left c.rates_at-temporal_layers.result.1.now c.resolution_at-resolution_and_framerate.result.1.now)
+    ∙ (λ i. sym c.of.ensures i ∷ layers_read left c.held_rates-temporal_layers.result.1.now c.resolution_at-resolution_and_framerate.result.1.now)

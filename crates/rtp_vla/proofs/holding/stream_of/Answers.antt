@@ -1,6 +1,6 @@
 use Rattle.std.proofs.Common.{refl, arith, length-append, ◌∷◌, []}
 use Rattle.rtp_vla.proofs.AllocationReadingLemmas.{active_next, few_marks, length-marks_of-more, deals_more, deals_all}
-use Rattle.rtp_vla.proofs.layers.LayerReader.next_stream.Goals as goal
+use Rattle.rtp_vla.proofs.holding.stream_of.Goals as goal
 
 pub loop-marks-init : goal.loop-marks-init
 loop-marks-init c = record {
