@@ -13,3 +13,4 @@ pub mod AllocationTrimming
 pub mod AllocationSpelling
 pub mod AllocationWriting
 pub mod UpToLemmas
+pub mod LentLemmas

@@ -7,6 +7,7 @@ mod counts;
 mod holding;
 mod layers;
 mod leb;
+mod lent;
 mod measuring;
 mod parsing;
 mod parts;
