@@ -29,10 +29,7 @@ pub(super) fn rates_at(
 }
 
 // The same in a value of fixed size.
-pub(super) fn held_rates(
-    bytes: &[u8],
-    count: usize,
-) -> (UpTo<TemporalLayerAllocation, 4>, &[u8])
+pub(super) fn held_rates(bytes: &[u8], count: usize) -> (UpTo<TemporalLayerAllocation, 4>, &[u8])
     requires few { count ≤ 4 }
     ensures rates { result.0 ≡ reading.rates_of count bytes.now }
     ensures after { result.1.now ≡ reading.after_rates count bytes.now }
