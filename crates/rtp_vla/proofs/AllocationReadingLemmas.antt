@@ -153,6 +153,19 @@ as_long : (mask : ℕ) → mask ≤ 15 → eqb (length (marks_of mask)) (8 - lea
 unfolding marks_of count_leading_zeros
 as_long mask few = agree_below_at (λ m. eqb (length (marks_of m)) (8 - leading_zeros w8 m)) (λ m. true) 16 mask refl (omega arith)
 
+few_bits : (room mask : ℕ) → length (mask_bits room mask) ≤ room
+few_bits zero mask = omega arith
+few_bits (suc room) mask =
+    ⊎_elim
+    (λ none. omega (arith, ap length (ap (mask_bits (suc room)) none ∙ mask_bits-zero (suc room))))
+    (λ some. omega (arith, ap length (mask_bits-above room mask some), few_bits room (mask / 2)))
+    (zero_or_more mask)
+
+-- a mask marks up to four layers
+pub few_marks : (mask : ℕ) → length (marks_of mask) ≤ 4
+unfolding marks_of
+few_marks mask = few_bits 4 mask
+
 pub length-marks_of : (mask : ℕ) → mask ≤ 15 → length (marks_of mask) ≡ 8 - leading_zeros w8 mask
 length-marks_of mask few = eqb-true _ _ (as_long mask few)
 

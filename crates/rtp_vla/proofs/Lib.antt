@@ -12,3 +12,5 @@ pub mod AllocationWritingLemmas
 pub mod AllocationTrimming
 pub mod AllocationSpelling
 pub mod AllocationWriting
+pub mod UpToLemmas
+pub mod LentLemmas

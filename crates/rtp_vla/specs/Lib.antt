@@ -8,3 +8,4 @@ pub mod Leaving
 pub mod AllocationEqual
 pub mod AllocationReading
 pub mod AllocationPutting
+pub mod UpTo

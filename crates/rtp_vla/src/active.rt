@@ -1,36 +1,16 @@
 //! The active layers of an allocation, one after another.
 
-ghost use Rattle.std.specs.Prelude.{◌≡◌, ◌∷◌, [], length, IfSome, IfNone};
-ghost use Rattle.std.specs.Iterator.{YieldsFirstRef, item_count};
-ghost use Rattle.std.specs.List.{filter};
-ghost use Rattle.rtp_vla.specs.Allocation.{is_active, active_layers};
+ghost use Rattle.std.specs.Prelude.{◌≡◌};
+ghost use Rattle.rtp_vla.specs.Allocation.{active_layers};
 
-use super::allocation::{SimulcastStreamAllocation, SpatialLayerAllocation};
+use super::lent::{LentLayer, LentLayers, LentStreams};
 use std::marker::Model;
-
-// The first active layer, and the layers after it.
-fn first_active(
-    layers: &[SpatialLayerAllocation],
-) -> Option<(&SpatialLayerAllocation, &[SpatialLayerAllocation])>
-    ensures found { IfSome result (λ first.
-        filter is_active layers.now ≡ first.0.now ∷ filter is_active first.1.now) }
-    ensures none { IfNone result (filter is_active layers.now ≡ []) }
-{
-    let mut left = layers;
-    while let Some((layer, after)) = left.split_first() {
-        if !layer.temporal_layers.is_empty() {
-            return Some((layer, after));
-        }
-        left = after;
-    }
-    None
-}
 
 /// The active layers, in order of the streams and then of the layers.
 #[derive(Drop)]
 pub(super) struct ActiveLayers<'a> {
-    layers: &'a [SpatialLayerAllocation],
-    streams: &'a [SimulcastStreamAllocation],
+    layers: LentLayers<'a>,
+    streams: LentStreams<'a>,
 }
 
 impl<'a> Model for ActiveLayers<'a> {
@@ -40,38 +20,36 @@ impl<'a> Model for ActiveLayers<'a> {
 
     ghost Value = { List Layer };
 
-    ghost view = { λ active. filter is_active active.layers.now
-        ++ active_layers active.streams.now };
+    ghost view = { λ active. filter is_active active.layers ++ active_layers active.streams };
 }
 
 impl<'a> ActiveLayers<'a> {
     // Those of the streams.
-    pub(super) fn new(streams: &'a [SimulcastStreamAllocation]) -> Self
-        ensures { result ≡ active_layers streams.now }
+    pub(super) fn new(streams: LentStreams<'a>) -> Self
+        ensures { result ≡ active_layers streams.entry }
     {
         ActiveLayers {
-            layers: &[],
+            layers: LentLayers::new(),
             streams,
         }
     }
 }
 
 impl<'a> Iterator for ActiveLayers<'a> {
-    type Item = &'a SpatialLayerAllocation;
+    ghost use Rattle.std.specs.Iterator.{YieldsFirst, item_count};
 
-    ghost next_gives = { YieldsFirstRef (λ left. left) };
+    type Item = LentLayer<'a>;
+
+    ghost next_gives = { YieldsFirst (λ left. left) };
 
     ghost remaining = { item_count (λ left. left) };
 
-    fn next(&mut self) -> Option<&'a SpatialLayerAllocation> {
+    fn next(&mut self) -> Option<LentLayer<'a>> {
         loop {
-            if let Some((layer, after)) = first_active(self.layers) {
-                self.layers = after;
+            if let Some(layer) = self.layers.next_active() {
                 return Some(layer);
             }
-            let (stream, after) = self.streams.split_first()?;
-            self.layers = &stream.spatial_layers;
-            self.streams = after;
+            self.layers = self.streams.next()?;
         }
     }
 }

@@ -7,7 +7,8 @@ ghost use Rattle.rtp_vla.specs.AllocationReading as reading;
 
 use super::allocation::{SimulcastStreamAllocation, SpatialLayerAllocation};
 use super::counts::Counts;
-use super::parts::{rates_at, resolution_at};
+use super::parts::{held_rates, rates_at, resolution_at};
+use super::video_layers::VideoLayer;
 use std::alloc::{AllocError, Global};
 use std::marker::Model;
 
@@ -46,7 +47,34 @@ impl<'a> LayerReader<'a> {
     }
 
     // The next layer, of which there is one.
-    fn next(&mut self, alloc: Global) -> Result<SpatialLayerAllocation, AllocError>
+    #[inline(always)]
+    fn next(&mut self) -> VideoLayer
+        requires { 1 ≤ length self.old }
+        ensures { self.old ≡ result ∷ self.new }
+    {
+        let rates = usize::from(self.counts.next()) + 1;
+        let (temporal_layers, rates) = held_rates(self.rates, rates);
+        let (resolution_and_framerate, resolutions) = resolution_at(self.resolutions);
+        self.rates = rates;
+        self.resolutions = resolutions;
+        VideoLayer::of(temporal_layers, resolution_and_framerate)
+    }
+
+    // The next layer where it is active, and an idle one where it isn't.
+    #[inline(always)]
+    pub(super) fn next_if(&mut self, is_active: bool) -> VideoLayer
+        requires { OnTrue is_active (1 ≤ length self.old) }
+        ensures { reading.Deals is_active self.old result self.new }
+    {
+        if is_active {
+            self.next()
+        } else {
+            VideoLayer::default()
+        }
+    }
+
+    // The next layer in lists, of which there is one.
+    fn next_listed(&mut self, alloc: Global) -> Result<SpatialLayerAllocation, AllocError>
         requires { 1 ≤ length self.old }
         ensures { IfOk result (λ layer. self.old ≡ layer ∷ self.new) }
     {
@@ -82,7 +110,7 @@ fn layer_of(
     ensures { IfOk result (λ layer. reading.Deals is_active left.old layer left.new) }
 {
     if is_active {
-        left.next(alloc)
+        left.next_listed(alloc)
     } else {
         Ok(idle_layer(alloc))
     }

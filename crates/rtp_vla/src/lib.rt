@@ -4,11 +4,15 @@
 mod active;
 mod allocation;
 mod counts;
+mod holding;
 mod layers;
 mod leb;
+mod lent;
 mod measuring;
 mod parsing;
 mod parts;
+mod up_to;
+mod video_layers;
 mod writing;
 
 /// The layers that a sender of video keeps active: which simulcast streams it sends, their layers,
@@ -20,5 +24,6 @@ pub mod vla {
     };
     pub use crate::leb::{encode_leb_u63, parse_leb_u63};
     pub use crate::parsing::parse;
+    pub use crate::video_layers::{VideoLayer, VideoLayers, VideoStream};
     pub use crate::writing::{checked_wire_len, is_writable, wire_len, write_to};
 }

@@ -3,35 +3,27 @@
 ghost use Rattle.std.specs.Prelude.{◌≡◌, ◌↔◌, ◌+◌, ◌*◌, ◌/◌, ◌<◌, ◌≤◌, ◌==◌, true, false, Some, None, length, map, IsTrue, IfSome, IfNone};
 ghost use Rattle.std.specs.Bool.{OnTrue};
 ghost use Rattle.std.specs.List.{flat_map, list_all};
-ghost use Rattle.rtp_vla.specs.Allocation.{is_active, mask_of};
+ghost use Rattle.rtp_vla.specs.Allocation.{mask_of};
 ghost use Rattle.rtp_vla.specs.AllocationWritten as written;
 ghost use Rattle.rtp_vla.specs.Leb.{shortest_of};
 
 use super::active::ActiveLayers;
-use super::allocation::{
-    ResolutionAndFramerate, SimulcastStreamAllocation, SpatialLayerAllocation,
-    TemporalLayerAllocation, VideoLayersAllocation,
-};
+use super::allocation::{ResolutionAndFramerate, TemporalLayerAllocation};
 use super::leb::leb_len;
-
-// Whether the layer is active.
-fn is_active(layer: &SpatialLayerAllocation) -> bool
-    ensures { result ≡ is_active layer.now }
-{
-    !layer.temporal_layers.is_empty()
-}
+use super::lent::{LentAllocation, LentLayers, LentStreams};
 
 // The mask of a stream that can be written.
-fn mask_of(layers: &[SpatialLayerAllocation]) -> Option<u8>
-    ensures fits { IfSome result (λ mask. (written.stream_fits layers.now ≡ true)
-        × (mask ≡ mask_of layers.now)) }
-    ensures unfit { IfNone result (written.stream_fits layers.now ≡ false) }
+#[tactic(auto, using(crate::proofs::LentLemmas::drop_with))]
+fn mask_of(layers: LentLayers) -> Option<u8>
+    ensures fits { IfSome result (λ mask. (written.stream_fits layers.entry ≡ true)
+        × (mask ≡ mask_of layers.entry)) }
+    ensures unfit { IfNone result (written.stream_fits layers.entry ≡ false) }
     ensures few { IfSome result (λ mask. mask ≤ 15) }
 {
     let mut mask = 0;
     for i in (0..layers.len()).rev() {
-        let layer = &layers[i];
-        let active = is_active(layer);
+        let layer = layers.at(i);
+        let active = !layer.temporal_layers.is_empty();
         if !active {
             if layer.resolution_and_framerate.is_some() {
                 return None;
@@ -104,7 +96,7 @@ fn layers_len(mut left: ActiveLayers) -> Option<usize>
     let mut len = 0;
     let mut ended = false;
     while let Some(layer) = left.next() {
-        let rates = rates_len(&layer.temporal_layers)?;
+        let rates = rates_len(layer.temporal_layers)?;
         let resolution = resolution_len(&layer.resolution_and_framerate, ended)?;
         ended = layer.resolution_and_framerate.is_none();
         active += 1;
@@ -114,13 +106,14 @@ fn layers_len(mut left: ActiveLayers) -> Option<usize>
 }
 
 // Reads off the masks of streams that can be written, and says whether they can.
-pub(super) fn put_masks_of(streams: &[SimulcastStreamAllocation], masks: &mut [u8]) -> bool
+#[tactic(auto, using(crate::proofs::LentLemmas::take_with))]
+pub(super) fn put_masks_of(streams: &LentStreams, masks: &mut [u8]) -> bool
     requires { length streams.now ≡ length masks.old }
     ensures fits { IsTrue result ↔ (list_all written.stream_fits streams.now ≡ true) }
     ensures masks { OnTrue result (masks.new ≡ map mask_of streams.now) }
 {
-    for (i, stream) in streams.iter().enumerate() {
-        let Some(mask) = mask_of(&stream.spatial_layers) else {
+    for i in 0..streams.len() {
+        let Some(mask) = mask_of(streams.at(i)) else {
             return false;
         };
         masks[i] = mask;
@@ -160,29 +153,25 @@ fn masks_len(masks: &[u8]) -> usize
 
 // How many bytes the allocation has, where it can be written: the test and the measure in one.
 #[tactic(auto, unfolding(crate::specs::AllocationWritten::written_of))]
-pub(super) fn writable_len(v: &VideoLayersAllocation) -> Option<usize>
+pub(super) fn writable_len(v: &LentAllocation) -> Option<usize>
     ensures fits { IfSome result (λ len. (written.can_be_written v.now ≡ true)
         × (len ≡ length (written.written_of v.now))) }
     ensures unfit { IfNone result (written.can_be_written v.now ≡ false) }
 {
-    let streams = v.simulcast_streams.len();
+    let streams = v.streams.len();
     if streams == 0 {
-        return if v.current_simulcast_stream_index == 0 {
-            Some(1)
-        } else {
-            None
-        };
+        return if v.index == 0 { Some(1) } else { None };
     }
-    if v.current_simulcast_stream_index > 3 {
+    if v.index > 3 {
         return None;
     }
     if streams > 4 {
         return None;
     }
     let mut masks = [0; 4];
-    if !put_masks_of(&v.simulcast_streams, &mut masks[..streams]) {
+    if !put_masks_of(&v.streams, &mut masks[..streams]) {
         return None;
     }
-    let layers = layers_len(ActiveLayers::new(&v.simulcast_streams))?;
+    let layers = layers_len(ActiveLayers::new(v.streams.again()))?;
     Some(1 + masks_len(&masks[..streams]) + layers)
 }

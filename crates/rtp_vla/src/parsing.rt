@@ -1,13 +1,16 @@
 //! From bytes to an allocation.
 
-ghost use Rattle.std.specs.Prelude.{◌≡◌, ◌↔◌, ◌%◌, ◌/◌, ◌+◌, ◌≤◌, ◌∷◌, [], length, take, Some, IsTrue, IsOk, IfOk, IfSome, IfNone};
+ghost use Rattle.std.specs.Prelude.{◌≡◌, ◌↔◌, ◌%◌, ◌/◌, ◌+◌, ◌≤◌, ◌∷◌, [], length, take, true, false, Some, IsTrue, IsOk, IfOk, IfSome, IfNone};
+ghost use Rattle.std.specs.Bool.{OnTrue};
 ghost use Rattle.rtp_vla.specs.Allocation.{Allocation, Means};
 ghost use Rattle.rtp_vla.specs.AllocationReading as reading;
 
 use super::allocation::VideoLayersAllocation;
 use super::counts::Counts;
+use super::holding::put_streams;
 use super::layers::{LayerReader, streams_of};
 use super::parts::{active_count, after_rates, half_at, resolutions_fit};
+use super::video_layers::VideoLayers;
 use std::alloc::{AllocError, Global};
 
 // What the bytes have before any layer is made of them.
@@ -81,6 +84,49 @@ fn says_nothing(buf: &[u8]) -> bool
     ensures { IsTrue result ↔ (buf.now ≡ 0 ∷ []) }
 {
     buf.len() == 1 && buf[0] == 0
+}
+
+impl VideoLayers {
+    /// Reads an allocation, as [`parse`] reads it, and takes no memory.
+    #[inline(always)]
+    pub fn parse(buf: &[u8]) -> Option<VideoLayers>
+        // The bytes mean the result, and what they mean is the result; they mean no two allocations.
+        ensures found { IfSome result (Means buf.now) }
+        ensures only { (a : Allocation) → Means buf.now a → result ≡ Some a }
+        ensures one { (a b : Allocation) → Means buf.now a → Means buf.now b → a ≡ b }
+    {
+        let mut layers = VideoLayers::default();
+        if !layers.parse_into(buf) {
+            return None;
+        }
+        Some(layers)
+    }
+
+    /// Reads an allocation into this value, as [`parse`](Self::parse) reads it. Nothing of the
+    /// allocation as it was stays. Returns `false` exactly where the bytes mean no allocation, and
+    /// then nothing changes.
+    pub fn parse_into(&mut self, buf: &[u8]) -> bool
+        ensures found { OnTrue result (Means buf.now self.new) }
+        ensures only { (a : Allocation) → Means buf.now a → (result ≡ true) × (self.new ≡ a) }
+        ensures same { result ≡ false → self.new ≡ self.old }
+    {
+        if says_nothing(buf) {
+            *self = VideoLayers::default();
+            return true;
+        }
+        let Some(layout) = layout_of(buf) else {
+            return false;
+        };
+        let Layout {
+            index,
+            masks,
+            streams,
+            layers,
+        } = layout;
+        *self = VideoLayers::new(index);
+        put_streams(self, &masks[..streams], layers);
+        true
+    }
 }
 
 /// Reads an allocation. The bytes are a head, masks, counts of temporal layers, rates and

@@ -6,6 +6,7 @@ ghost use Rattle.rtp_vla.specs.AllocationReading as reading;
 
 use super::allocation::{ResolutionAndFramerate, TemporalLayerAllocation};
 use super::leb::parse_leb_u63;
+use super::up_to::UpTo;
 use std::alloc::{AllocError, Global};
 
 // The first `count` rates, and the bytes after them.
@@ -25,6 +26,22 @@ pub(super) fn rates_at(
         after = next;
     }
     Ok((rates, after))
+}
+
+// The same in a value of fixed size.
+pub(super) fn held_rates(bytes: &[u8], count: usize) -> (UpTo<TemporalLayerAllocation, 4>, &[u8])
+    requires few { count ≤ 4 }
+    ensures rates { result.0 ≡ reading.rates_of count bytes.now }
+    ensures after { result.1.now ≡ reading.after_rates count bytes.now }
+{
+    let mut rates = UpTo::new();
+    let mut after = bytes;
+    for _i in 0..count {
+        let (cumulative_kbps, next) = parse_leb_u63(after);
+        rates.push(TemporalLayerAllocation { cumulative_kbps });
+        after = next;
+    }
+    (rates, after)
 }
 
 // The bytes after the first `count` rates.

@@ -9,12 +9,11 @@ ghost use Rattle.rtp_vla.specs.AllocationPutting as putting;
 ghost use Rattle.rtp_vla.specs.Leb.{shortest_of};
 
 use super::active::ActiveLayers;
-use super::allocation::{
-    ResolutionAndFramerate, SimulcastStreamAllocation, TemporalLayerAllocation,
-    VideoLayersAllocation,
-};
+use super::allocation::{ResolutionAndFramerate, TemporalLayerAllocation, VideoLayersAllocation};
 use super::leb::put_leb;
+use super::lent::{LentAllocation, LentStreams};
 use super::measuring::{put_masks_of, shared_of, writable_len};
+use super::video_layers::VideoLayers;
 use rtp_base::put;
 
 // Puts the masks, two in a byte.
@@ -90,7 +89,7 @@ fn put_rates(buf: &mut [u8], at: usize, mut left: ActiveLayers) -> usize
 {
     let mut end = at;
     while let Some(layer) = left.next() {
-        end = put_layer_rates(buf, end, &layer.temporal_layers);
+        end = put_layer_rates(buf, end, layer.temporal_layers);
     }
     end
 }
@@ -147,7 +146,7 @@ fn put_masks(buf: &mut [u8], at: usize, masks: &[u8]) -> usize
 }
 
 // Puts streams, of which there are some, and returns how many bytes they have.
-fn put_streams(buf: &mut [u8], index: u8, streams: &[SimulcastStreamAllocation]) -> usize
+fn put_streams(buf: &mut [u8], index: u8, streams: &LentStreams) -> usize
     requires some { 1 ≤ length streams.now }
     requires fit { written.streams_fit index streams.now ≡ true }
     requires room { length (written.packed_bytes index streams.now) ≤ length buf.old }
@@ -160,9 +159,22 @@ fn put_streams(buf: &mut [u8], index: u8, streams: &[SimulcastStreamAllocation])
     let head = 64 * index + 16 * (streams.len() - 1) as u8 + shared_of(masks);
     let end = put(buf, 0, &[head]);
     let end = put_masks(buf, end, masks);
-    let end = put_counts(buf, end, ActiveLayers::new(streams));
-    let end = put_rates(buf, end, ActiveLayers::new(streams));
-    put_resolutions(buf, end, ActiveLayers::new(streams))
+    let end = put_counts(buf, end, ActiveLayers::new(streams.again()));
+    let end = put_rates(buf, end, ActiveLayers::new(streams.again()));
+    put_resolutions(buf, end, ActiveLayers::new(streams.again()))
+}
+
+// Puts an allocation, and returns how many bytes it has.
+fn put_allocation(v: &LentAllocation, buf: &mut [u8]) -> usize
+    requires writable { written.can_be_written v.now ≡ true }
+    requires room { length (written.written_of v.now) ≤ length buf.old }
+    ensures written { buf.new ≡ written.written_of v.now ++ drop result buf.old }
+    ensures length { result ≡ length (written.written_of v.now) }
+{
+    if v.streams.len() == 0 {
+        return put(buf, 0, &[0]);
+    }
+    put_streams(buf, v.index, &v.streams)
 }
 
 /// Whether the allocation can be written: some bytes mean it, once the layers at the end of each
@@ -198,7 +210,7 @@ pub fn checked_wire_len(v: &VideoLayersAllocation) -> Option<usize>
     // The same by the cases of `is_writable`.
     ensures cases { is_some result ≡ written.can_be_written v.now }
 {
-    writable_len(v)
+    writable_len(&LentAllocation::listed(v))
 }
 
 /// Writes the allocation to the front of the buffer, and returns how many bytes it has; the bytes
@@ -216,8 +228,33 @@ pub fn write_to(v: &VideoLayersAllocation, buf: &mut [u8]) -> usize
     ensures length { result ≡ length (written.written_of v.now) }
     ensures means { Means (written.written_of v.now) (written.trimmed v.now) }
 {
-    if v.simulcast_streams.is_empty() {
-        return put(buf, 0, &[0]);
+    put_allocation(&LentAllocation::listed(v), buf)
+}
+
+impl VideoLayers {
+    /// How many bytes [`write_to`](Self::write_to) writes, and `None` exactly when the allocation
+    /// isn't writable, for the causes of [`is_writable`].
+    pub fn checked_wire_len(&self) -> Option<usize>
+        ensures found { IfSome result (λ len.
+            written.Writable self.now × (len ≡ length (written.written_of self.now))) }
+        ensures none { IfNone result (written.Writable self.now → ⊥) }
+
+        // The same by the cases of `is_writable`.
+        ensures cases { is_some result ≡ written.can_be_written self.now }
+    {
+        writable_len(&LentAllocation::held(self))
     }
-    put_streams(buf, v.current_simulcast_stream_index, &v.simulcast_streams)
+
+    /// Writes the allocation to the front of the buffer, as [`write_to`] does, and returns how many
+    /// bytes it has; the bytes after them stay. It requires an allocation that is writable, and room
+    /// for [`checked_wire_len`](Self::checked_wire_len) bytes.
+    pub fn write_to(&self, buf: &mut [u8]) -> usize
+        requires writable { written.Writable self.now }
+        requires room { length (written.written_of self.now) ≤ length buf.old }
+        ensures written { buf.new ≡ written.written_of self.now ++ drop result buf.old }
+        ensures length { result ≡ length (written.written_of self.now) }
+        ensures means { Means (written.written_of self.now) (written.trimmed self.now) }
+    {
+        put_allocation(&LentAllocation::held(self), buf)
+    }
 }

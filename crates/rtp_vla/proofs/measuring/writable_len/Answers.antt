@@ -9,22 +9,22 @@ use Rattle.rtp_vla.proofs.measuring.writable_len.Goals as goal
 
 pub layers_len-requires : goal.layers_len-requires
 layers_len-requires c =
-    let streams = c.v.inside.simulcast_streams.items in
-    let fits : list_all stream_fits streams ≡ true = rw (sym c.deref.ensures.value) (c.put_masks_of.ensures.fits.0 c.if-not-put_masks_of.false) in
-    omega (arith, ap length c.new.ensures, ap (λ (ss : List Stream). length (active_layers ss)) c.deref-2.ensures.value, length-active streams fits, c.v.inside.simulcast_streams.ok.0)
+    let streams = c.v.inside.streams in
+    let fits : list_all stream_fits streams ≡ true = c.put_masks_of.ensures.fits.0 c.if-not-put_masks_of.false in
+    omega (arith, ap length c.new.ensures, ap (λ (ss : List Stream). length (active_layers ss)) c.again.ensures, length-active streams fits)
 
 pub returns-clause-fits : goal.returns-clause-fits
 unfolding written_of
 returns-clause-fits c =
-    let index = c.v.inside.current_simulcast_stream_index in
-    let streams = c.v.inside.simulcast_streams.items in
-    let some : 0 < length streams = omega (arith, c.v.inside.simulcast_streams.ok.0, c.len-streams.ensures) in
-    let few : length streams ≤ 4 = omega (arith, c.v.inside.simulcast_streams.ok.0, c.len-streams.ensures) in
-    let fits : list_all stream_fits streams ≡ true = rw (sym c.deref.ensures.value) (c.put_masks_of.ensures.fits.0 c.if-not-put_masks_of.false) in
-    let layers : c.new.result ≡ active_layers streams = c.new.ensures ∙ ap (λ (ss : List Stream). active_layers ss) c.deref-2.ensures.value in
+    let index = c.v.inside.index in
+    let streams = c.v.inside.streams in
+    let some : 0 < length streams = omega (arith, c.len-streams.ensures) in
+    let few : length streams ≤ 4 = omega (arith, c.len-streams.ensures) in
+    let fits : list_all stream_fits streams ≡ true = c.put_masks_of.ensures.fits.0 c.if-not-put_masks_of.false in
+    let layers : c.new.result ≡ active_layers streams = c.new.ensures ∙ ap (λ (ss : List Stream). active_layers ss) c.again.ensures in
     let body = rw layers at c.in_ok-layers.ensures.fits in
-    let masks : c.put_masks_of.new.masks ≡ map mask_of streams = OnTrue_at c.if-not-put_masks_of.false c.put_masks_of.ensures.masks ∙ ap (λ (ss : List Stream). map mask_of ss) c.deref.ensures.value in
-    let len : length c.put_masks_of.new.masks ≡ c.len-streams.result = omega (arith, ap length masks, length-map streams mask_of, c.len-streams.ensures, c.v.inside.simulcast_streams.ok.0) in
+    let masks : c.put_masks_of.new.masks ≡ map mask_of streams = OnTrue_at c.if-not-put_masks_of.false c.put_masks_of.ensures.masks in
+    let len : length c.put_masks_of.new.masks ≡ c.len-streams.result = omega (arith, ap length masks, length-map streams mask_of, c.len-streams.ensures) in
     let spelled : c.masks_len.result ≡ length (mask_bytes (map mask_of streams)) =
     c.masks_len.ensures.len ∙ ap (λ (ms : List ℕ). length (mask_bytes ms)) (take_at c.put_masks_of.new.masks _ c.len-streams.result len ∙ masks) in
     subst (λ (a : Allocation). (can_be_written a ≡ true) × (1 + c.masks_len.result + c.in_ok-layers.layers ≡ length (written_of a))) c.v.view_is

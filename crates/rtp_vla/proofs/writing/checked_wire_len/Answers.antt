@@ -6,7 +6,7 @@ use Rattle.rtp_vla.proofs.writing.checked_wire_len.Goals as goal
 pub returns : goal.returns
 returns c =
     let v = c.args.v.now in
-    let measured = c.writable_len.ensures in
+    let measured = rw c.listed.ensures at c.writable_len.ensures in
     record {
       found = some_found c.writable_len.result v (length (written_of v)) measured.fits;
       none = none_found c.writable_len.result v measured.unfit;

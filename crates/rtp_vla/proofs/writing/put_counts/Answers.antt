@@ -7,10 +7,10 @@ use Rattle.rtp_vla.proofs.writing.put_counts.Goals as goal
 
 pub loop-layer-preserved : goal.loop-layer-preserved
 loop-layer-preserved c =
-    let split = quarters_more c.loop-layer.left c.next.new.self c.next_count-second.new.left c.next_count-third.new.left c.next_count-fourth.new.left c.in-Some.layer.now
+    let split = quarters_more c.loop-layer.left c.next.new.self c.next_count-second.new.left c.next_count-third.new.left c.next_count-fourth.new.left c.in-Some.layer
     c.saturating_sub-first.result c.next_count-second.result c.next_count-third.result c.next_count-fourth.result
     c.in-Some.ensures.steps
-    (omega (arith, c.saturating_sub-first.ensures, c.len.ensures, c.layer.inside.temporal_layers.ok.0, ap (λ (l : Layer). length l.temporal_layers) c.layer.view_is))
+    (omega (arith, c.saturating_sub-first.ensures, ap (λ (l : Layer). length l.temporal_layers) c.layer.view_is))
     c.next_count-second.ensures.count c.next_count-second.ensures.left c.next_count-third.ensures.count c.next_count-third.ensures.left c.next_count-fourth.ensures.count c.next_count-fourth.ensures.left in
     record {
       leaves = Leaves-byte c.loop-layer.buf _ _ _ c.loop-layer.end c.args.at _ (rw split at c.loop-layer.invariant.leaves);

@@ -9,8 +9,8 @@ use Rattle.rtp_vla.proofs.writing.put_rates.Goals as goal
 
 pub loop-layer-preserved : goal.loop-layer-preserved
 loop-layer-preserved c =
-    let split : flat_map rate_bytes c.loop-layer.left ≡ rate_bytes c.in-Some.layer.now ++ flat_map rate_bytes c.next.new.self = ap (flat_map rate_bytes) c.in-Some.ensures.steps in
-    let bytes : flat_map shortest_of c.deref.result.now ≡ rate_bytes c.in-Some.layer.now = ap (flat_map shortest_of) c.deref.ensures.value ∙ ap rate_bytes c.layer.view_is in
+    let split : flat_map rate_bytes c.loop-layer.left ≡ rate_bytes c.in-Some.layer ++ flat_map rate_bytes c.next.new.self = ap (flat_map rate_bytes) c.in-Some.ensures.steps in
+    let bytes : flat_map shortest_of c.layer.inside.temporal_layers.now ≡ rate_bytes c.in-Some.layer = ap rate_bytes c.layer.view_is in
     record {
       leaves = Leaves-part c.loop-layer.buf c.put_layer_rates-end.new.buf _ _ _ _ c.loop-layer.end c.put_layer_rates-end.result c.args.at (rw split at c.loop-layer.invariant.leaves) (c.put_layer_rates-end.ensures.written ∙ ap (overwritten c.loop-layer.buf c.loop-layer.end) bytes) (c.put_layer_rates-end.ensures.end ∙ ap (λ (bs : List ℕ). c.loop-layer.end + length bs) bytes);
       small = AllByRecursion-tail _ _ _ c.in-Some.ensures.steps c.loop-layer.invariant.small;

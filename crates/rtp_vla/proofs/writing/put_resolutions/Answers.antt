@@ -8,8 +8,8 @@ use Rattle.rtp_vla.proofs.writing.put_resolutions.Goals as goal
 
 pub loop-layer-preserved : goal.loop-layer-preserved
 loop-layer-preserved c =
-    let split : flat_map resolution_bytes c.loop-layer.left ≡ resolution_bytes c.in-Some.layer.now ++ flat_map resolution_bytes c.next.new.self = ap (flat_map resolution_bytes) c.in-Some.ensures.steps in
-    let bytes : resolution_field c.layer.inside.resolution_and_framerate ≡ resolution_bytes c.in-Some.layer.now = ap resolution_bytes c.layer.view_is in
+    let split : flat_map resolution_bytes c.loop-layer.left ≡ resolution_bytes c.in-Some.layer ++ flat_map resolution_bytes c.next.new.self = ap (flat_map resolution_bytes) c.in-Some.ensures.steps in
+    let bytes : resolution_field c.layer.inside.resolution_and_framerate ≡ resolution_bytes c.in-Some.layer = ap resolution_bytes c.layer.view_is in
     record {
       leaves = Leaves-part c.loop-layer.buf c.put_resolution-end.new.buf _ _ _ _ c.loop-layer.end c.put_resolution-end.result c.args.at (rw split at c.loop-layer.invariant.leaves) (c.put_resolution-end.ensures.written ∙ ap (overwritten c.loop-layer.buf c.loop-layer.end) bytes) (c.put_resolution-end.ensures.end ∙ ap (λ (bs : List ℕ). c.loop-layer.end + length bs) bytes);
       some = AllByRecursion-tail _ _ _ c.in-Some.ensures.steps c.loop-layer.invariant.some;

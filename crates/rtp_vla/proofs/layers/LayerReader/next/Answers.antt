@@ -1,6 +1,6 @@
 use Rattle.std.proofs.Common.{sym, ◌∙◌, ap, subst, ℕ, List, length, arith, ◌+◌, ◌∷◌, add-one}
 use Rattle.rtp_vla.specs.AllocationReading.{layers_read, rates_of, after_rates, resolution_in, after_resolution, FitResolutions}
-use Rattle.rtp_vla.proofs.AllocationReadingLemmas.{length-layers_read, FitResolutions-next, FitResolutions-fewer}
+use Rattle.rtp_vla.proofs.AllocationReadingLemmas.{length-layers_read, FitResolutions-next}
 use Rattle.rtp_vla.proofs.layers.LayerReader.next.Goals as goal
 
 pub next-requires : goal.next-requires
@@ -14,17 +14,13 @@ resolution_at-resolution_and_framerate-requires c =
 
 pub invariant_of-self : goal.invariant_of-self
 invariant_of-self c =
-    FitResolutions-fewer (length c.next.new.self) _ (subst (λ (n : ℕ). FitResolutions n c.self.inside.resolutions.now) (ap length c.next.ensures.next) c.self.invariant)
-
-pub invariant_of-self-2 : goal.invariant_of-self-2
-invariant_of-self-2 c =
     rw c.resolution_at-resolution_and_framerate.ensures.after
     (FitResolutions-next (length c.next.new.self) _ (subst (λ (n : ℕ). FitResolutions n c.self.inside.resolutions.now) (ap length c.next.ensures.next) c.self.invariant)).1
 
 pub returns : goal.returns
 returns c =
     let r = c.self.inside in
-    let read = c.in_ok-temporal_layers.ensures in
+    let read = c.held_rates-temporal_layers.ensures in
     let found = c.resolution_at-resolution_and_framerate.ensures in
     let left = c.next.new.self in
     sym c.self.view_is
@@ -33,3 +29,4 @@ returns c =
     ∷ layers_read left (after_rates n r.rates.now) (after_resolution r.resolutions.now)) (sym (add-one c.next.result) ∙ ap (λ (n : ℕ). n + 1) (sym c.from-rates.ensures))
     ∙ (λ i. record { temporal_layers = sym read.rates i; resolution_and_framerate = sym found.resolution i }
     ∷ layers_read left (sym read.after i) (sym found.after i))
+    ∙ (λ i. sym c.of.ensures i ∷ layers_read left c.held_rates-temporal_layers.result.1.now c.resolution_at-resolution_and_framerate.result.1.now)

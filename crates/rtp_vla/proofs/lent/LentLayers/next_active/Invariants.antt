@@ -1,11 +1,11 @@
 use Rattle.std.proofs.Common.{◌≡◌, length}
 use Rattle.std.specs.List.{filter}
 use Rattle.rtp_vla.specs.Allocation.{is_active}
-use Rattle.rtp_vla.proofs.active.first_active.Given as goal
+use Rattle.rtp_vla.proofs.lent.LentLayers.next_active.Given as goal
 
 -- the layers that were passed aren't active
 abbrev pub invariant-loop-layer : goal.invariant-loop-layer
-invariant-loop-layer l = filter is_active l.left ≡ filter is_active l.layers
+invariant-loop-layer l = filter is_active l.self ≡ filter is_active l.initial.self
 
 abbrev pub decreases-loop-layer : goal.decreases-loop-layer
-decreases-loop-layer l = length l.left
+decreases-loop-layer l = length l.self
