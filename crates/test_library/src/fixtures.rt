@@ -133,7 +133,7 @@ pub(crate) fn is_written(kind: &Extension, values: &ExtensionValues, data: &[u8]
 pub(crate) type Row<'a> = (&'a [u64], Option<(u16, u16, u8)>);
 
 // What is told of a layer.
-fn told(size: Option<(u16, u16, u8)>) -> Option<ResolutionAndFramerate> {
+pub(crate) fn told(size: Option<(u16, u16, u8)>) -> Option<ResolutionAndFramerate> {
     let (width, height, framerate) = size?;
     Some(ResolutionAndFramerate {
         width,
