@@ -41,6 +41,7 @@ pub mod Receiver
 pub mod Verdicts
 pub mod TrueNumbers
 pub mod Sending
+pub mod Restarting
 pub mod Receivers
 pub mod Sources
 -- What functions inside promise each other.
@@ -48,4 +49,5 @@ pub mod WrittenInForm
 pub mod PartsAt
 pub mod Moduli
 pub mod WideState
+pub mod RestartingState
 pub mod EachSource

@@ -2,6 +2,8 @@
 
 mod receiver;
 mod receivers;
+mod restarting;
+mod restarting_verdict;
 mod run;
 mod sources;
 mod state;
@@ -12,6 +14,8 @@ mod widening;
 
 pub use receiver::Receiver;
 pub use receivers::Receivers;
+pub use restarting::RestartingReceiver;
+pub use restarting_verdict::RestartingVerdict;
 pub use run::{receive_run, receive_run_one};
 pub use verdict::Verdict;
 pub use wide_receiver::WideReceiver;

@@ -206,7 +206,7 @@ impl<const N: usize> WideReceiver<N> {
     }
 
     // Records the number where it may be taken, and returns whether it may.
-    fn take(&mut self, number: SeqNo) -> bool
+    pub(super) fn take(&mut self, number: SeqNo) -> bool
         ensures accepts { (count : ℕ) → (taken : Numbers) → HoldsOf (64 * N) self.old count taken →
             (IsTrue result ↔ IsFreshOf (64 * N) taken number) }
         ensures taken { (count : ℕ) → (taken : Numbers) → HoldsOf (64 * N) self.old count taken →

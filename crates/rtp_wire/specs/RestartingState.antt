@@ -1,0 +1,31 @@
+-- What a receiver of a stream whose sender may start again holds of the packets that came.
+use Rattle.std.specs.Prelude.{◌≡◌, ℕ, ◌+◌, ◌*◌, ◌%◌, ◌≤◌, ◌⊎◌, ◌↔◌, List}
+use Rattle.rtp_base.specs.Window.{Numbers}
+use Rattle.rtp_wire.specs.Receiver.{HoldsOf}
+use Rattle.rtp_wire.specs.Restarting.{Bounds, IsOutside, Arrival, taken_in, LeadUp, IsRestartingRun}
+use Rattle.rtp_wire.specs.declared.receive.restarting.RestartingReceiver.{RestartingReceiver}
+use Rattle.rtp_wire.specs.declared.receive.restarting_verdict.RestartingVerdict.{RestartingVerdict}
+use Rattle.rtp_wire.specs.declared.receive.restarting_verdict.RestartingVerdict.TheVariants.{Refused}
+
+-- what its caller chose
+abbrev pub bounds_of : (words : ℕ) → RestartingReceiver words → Bounds
+bounds_of words receiver = record { max_dropout = receiver.max_dropout; size = 64 * words; min_sequential = receiver.min_sequential }
+
+-- it holds the numbers taken in the epoch; the first epoch starts at the rollover count 1
+abbrev pub HoldsEpoch : (words : ℕ) → RestartingReceiver words → Numbers → Type 0
+HoldsEpoch words receiver taken = HoldsOf (64 * words) receiver.receiver 1 taken
+
+-- by the row that it holds this many packets lead up to a packet of these 16 bits: none, or at most as many as are in the row, where the bits are those that come next
+abbrev pub RowLeads : (words : ℕ) → RestartingReceiver words → ℕ → ℕ → Type 0
+RowLeads words receiver low k = (k ≡ 0) ⊎ ((k ≤ receiver.in_row) × (low ≡ receiver.next))
+
+-- a packet makes the row longer where it is outside of the stream and refused, and else ends it
+abbrev pub RowGrows : (words : ℕ) → RestartingReceiver words → Numbers → ℕ → RestartingVerdict → RestartingReceiver words → Type 0
+RowGrows words old taken low verdict new = (later k : ℕ) → k + 1 ≤ 255 →
+    RowLeads words new later (k + 1) ↔ ((verdict ≡ Refused) × IsOutside (bounds_of words old) taken low × (later ≡ (low + 1) % 65536) × RowLeads words old low k)
+
+-- it is what these packets have left, of which the latest comes first
+pub record Remembers (words : ℕ) (receiver : RestartingReceiver words) (before : List Arrival) : Type 0 where
+  pub run : IsRestartingRun (bounds_of words receiver) before
+  pub holds : HoldsEpoch words receiver (taken_in before)
+  pub row : (low k : ℕ) → k ≤ 255 → LeadUp (bounds_of words receiver) before low k ↔ RowLeads words receiver low k
