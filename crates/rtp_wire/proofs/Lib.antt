@@ -24,6 +24,7 @@ mod StandardFacts
 pub mod WideningLemmas
 mod ReceiverLemmas
 pub mod ReceiversLemmas
+mod RestartingLemmas
 pub mod VerdictLemmas
 pub mod TrueNumberLemmas
 mod SendingLemmas

@@ -112,3 +112,17 @@ IsNext bounds before arrival = IsRestartingVerdict bounds (taken_in before) (Lea
 abbrev pub IsRestartingRun : Bounds → List Arrival → Type 0
 IsRestartingRun bounds [] = Unit {0}
 IsRestartingRun bounds (arrival ∷ before) = IsNext bounds before arrival × IsRestartingRun bounds before
+
+-- two packets in a row: this one and the one just before it were outside of the stream, the first was refused, and the second has the number after it
+abbrev pub IsPair : Bounds → List Arrival → ℕ → Type 0
+IsPair bounds before low = IsOutside bounds (taken_in before) low × LeadUp bounds before low 1
+
+-- no two of the packets are such a pair
+abbrev pub HasNoPair : Bounds → List Arrival → Type 0
+HasNoPair bounds [] = Unit {0}
+HasNoPair bounds (arrival ∷ before) = (IsPair bounds before arrival.low → ⊥) × HasNoPair bounds before
+
+-- the sender never starts again
+abbrev pub IsOneEpoch : List Arrival → Type 0
+IsOneEpoch [] = Unit {0}
+IsOneEpoch (arrival ∷ before) = ((number : ℕ) → arrival.verdict ≡ Restarted number → ⊥) × IsOneEpoch before

@@ -1,5 +1,5 @@
 -- What a receiver of a stream whose sender may start again holds of the packets that came.
-use Rattle.std.specs.Prelude.{◌≡◌, ℕ, ◌+◌, ◌*◌, ◌%◌, ◌≤◌, ◌⊎◌, ◌↔◌, List}
+use Rattle.std.specs.Prelude.{◌≡◌, ℕ, suc, ◌+◌, ◌*◌, ◌%◌, ◌≤◌, ◌⊎◌, ◌↔◌, List}
 use Rattle.rtp_base.specs.Window.{Numbers}
 use Rattle.rtp_wire.specs.Receiver.{HoldsOf}
 use Rattle.rtp_wire.specs.Restarting.{Bounds, IsOutside, Arrival, taken_in, LeadUp, IsRestartingRun}
@@ -21,11 +21,12 @@ RowLeads words receiver low k = (k ≡ 0) ⊎ ((k ≤ receiver.in_row) × (low �
 
 -- a packet makes the row longer where it is outside of the stream and refused, and else ends it
 abbrev pub RowGrows : (words : ℕ) → RestartingReceiver words → Numbers → ℕ → RestartingVerdict → RestartingReceiver words → Type 0
-RowGrows words old taken low verdict new = (later k : ℕ) → k + 1 ≤ 255 →
-    RowLeads words new later (k + 1) ↔ ((verdict ≡ Refused) × IsOutside (bounds_of words old) taken low × (later ≡ (low + 1) % 65536) × RowLeads words old low k)
+RowGrows words old taken low verdict new = (later k : ℕ) → suc k ≤ 255 →
+    RowLeads words new later (suc k) ↔ ((verdict ≡ Refused) × IsOutside (bounds_of words old) taken low × (later ≡ (low + 1) % 65536) × RowLeads words old low k)
 
 -- it is what these packets have left, of which the latest comes first
 pub record Remembers (words : ℕ) (receiver : RestartingReceiver words) (before : List Arrival) : Type 0 where
   pub run : IsRestartingRun (bounds_of words receiver) before
   pub holds : HoldsEpoch words receiver (taken_in before)
+  pub few : receiver.min_sequential ≤ 255
   pub row : (low k : ℕ) → k ≤ 255 → LeadUp (bounds_of words receiver) before low k ↔ RowLeads words receiver low k

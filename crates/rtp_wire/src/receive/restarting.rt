@@ -1,9 +1,9 @@
 //! The receive state of one stream whose sender may start again.
 
-ghost use Rattle.std.specs.Prelude.{◌≡◌, ◌↔◌, ◌+◌, ◌*◌, ◌%◌, ◌^◌, ◌<◌, ◌≤◌, ℕ, List, [], ◌∷◌, Option, Some, None, false};
+ghost use Rattle.std.specs.Prelude.{◌≡◌, ◌↔◌, ◌+◌, ◌*◌, ◌%◌, ◌^◌, ◌<◌, ◌≤◌, ℕ, suc, IsTrue, List, [], ◌∷◌, Option, Some, None, false};
 ghost use Rattle.rtp_base.specs.Window.{Numbers};
 ghost use Rattle.rtp_wire.specs.Receiver.{IsHighest, IsJudgedOf};
-ghost use Rattle.rtp_wire.specs.Restarting.{IsOfStream, IsOutside, leading, first_number, IsFirst, BeginsOrRefused, in_stream, IsRestartingVerdict, Arrival, epoch_after, taken_in, IsNext};
+ghost use Rattle.rtp_wire.specs.Restarting.{IsOfStream, IsOutside, leading, first_number, IsFirst, Begins, BeginsOrRefused, in_stream, IsRestartingVerdict, Arrival, epoch_after, taken_in, IsNext, HasNoPair, IsOneEpoch};
 ghost use Rattle.rtp_wire.specs.RestartingState.{bounds_of, HoldsEpoch, RowLeads, RowGrows, Remembers};
 ghost use Rattle.rtp_wire.specs.declared.receive.restarting_verdict.RestartingVerdict.{RestartingVerdict};
 ghost use Rattle.rtp_wire.specs.declared.receive.restarting_verdict.RestartingVerdict.TheVariants.{Taken, Refused};
@@ -119,6 +119,12 @@ impl<const N: usize> RestartingReceiver<N> {
         ensures after { (before : List Arrival) → Remembers N self.old before →
             Remembers N self.new (record { low = sequence_number; verdict = result } ∷ before) }
 
+        // Without two packets in a row that are outside of the stream there is one epoch.
+        ensures one_epoch { (before : List Arrival) → Remembers N self.old before →
+            HasNoPair (bounds_of N self.old)
+            (record { low = sequence_number; verdict = result } ∷ before) →
+            IsOneEpoch (record { low = sequence_number; verdict = result } ∷ before) }
+
         // No number is taken twice in an epoch.
         ensures once { (before : List Arrival) → Remembers N self.old before →
             (number : ℕ) → result ≡ Taken number → taken_in before number ≡ false }
@@ -138,12 +144,21 @@ impl<const N: usize> RestartingReceiver<N> {
     {
         let highest = self.receiver.highest()?;
         let number = self.receiver.number_of(sequence_number);
-        let is_near = if number >= highest {
-            number.get() - highest.get() < u64::from(self.max_dropout)
+        if self.is_near(highest.get(), number.get()) {
+            Some(number)
         } else {
-            (highest.get() - number.get()) / WORD < N as u64
-        };
-        if is_near { Some(number) } else { None }
+            None
+        }
+    }
+
+    // Whether a number is as near to the highest one as those of the stream are.
+    fn is_near(&self, highest: u64, number: u64) -> bool
+        ensures { IsTrue result ↔ ((number < highest + self.now.max_dropout)
+            × (highest < number + 64 * N)) }
+    {
+        let is_ahead = number < highest || number - highest < u64::from(self.max_dropout);
+        let is_behind = highest < number || (highest - number) / WORD < N as u64;
+        is_ahead && is_behind
     }
 
     // The verdict on a packet of the stream, by its number.
@@ -174,8 +189,20 @@ impl<const N: usize> RestartingReceiver<N> {
         }
     }
 
-    // Begins an epoch with a packet; nothing changes where no number of 64 bits is left for it.
-    fn begin(&mut self, sequence_number: u16) -> Option<RestartingVerdict>
+    // How many packets lead up to one of these 16 bits.
+    fn row_before(&self, sequence_number: u16) -> u8
+        ensures { (k : ℕ) → RowLeads N self.now sequence_number k ↔ k ≤ result }
+    {
+        if sequence_number == self.next {
+            self.in_row
+        } else {
+            0
+        }
+    }
+
+    // Begins an epoch with a packet, whatever leads up to it. Nothing changes where no number of 64
+    // bits is left for it.
+    fn start_epoch(&mut self, sequence_number: u16) -> Option<RestartingVerdict>
         ensures first { (taken : Numbers) → HoldsEpoch N self.old taken →
             (verdict : RestartingVerdict) → result ≡ Some verdict →
             IsFirst taken sequence_number verdict }
@@ -193,8 +220,29 @@ impl<const N: usize> RestartingReceiver<N> {
             return Some(RestartingVerdict::Taken(number));
         };
         let number = next_epoch(highest, sequence_number)?;
-        self.receiver = WideReceiver::from_window(WideWindow::new(number));
+        self.receiver.start_with(number);
         Some(RestartingVerdict::Restarted(number))
+    }
+
+    // Begins an epoch with a packet, where as many lead up to it as must.
+    fn begin(&mut self, sequence_number: u16) -> Option<RestartingVerdict>
+        ensures begins { (taken : Numbers) → HoldsEpoch N self.old taken →
+            (verdict : RestartingVerdict) → result ≡ Some verdict →
+            Begins (bounds_of N self.old) taken
+            (RowLeads N self.old sequence_number) sequence_number verdict }
+        ensures epoch { (taken : Numbers) → HoldsEpoch N self.old taken →
+            (verdict : RestartingVerdict) → result ≡ Some verdict →
+            HoldsEpoch N self.new (epoch_after taken verdict) }
+        ensures none { result ≡ None → (taken : Numbers) → HoldsEpoch N self.old taken →
+            (verdict : RestartingVerdict) → Begins (bounds_of N self.old) taken
+            (RowLeads N self.old sequence_number) sequence_number verdict → ⊥ }
+        ensures unchanged { result ≡ None → self.new ≡ self.old }
+        ensures bounds { bounds_of N self.new ≡ bounds_of N self.old }
+    {
+        if self.row_before(sequence_number) < self.leading() {
+            return None;
+        }
+        self.start_epoch(sequence_number)
     }
 
     // The verdict on a packet that is outside of the stream.
@@ -204,24 +252,22 @@ impl<const N: usize> RestartingReceiver<N> {
             (RowLeads N self.old sequence_number) sequence_number result }
         ensures epoch { (taken : Numbers) → HoldsEpoch N self.old taken →
             HoldsEpoch N self.new (epoch_after taken result) }
-        ensures row { (later k : ℕ) → k + 1 ≤ 255 → RowLeads N self.new later (k + 1)
+        ensures row { (taken : Numbers) → HoldsEpoch N self.old taken →
+            (later k : ℕ) → suc k ≤ 255 → RowLeads N self.new later (suc k)
             ↔ ((result ≡ Refused) × (later ≡ (sequence_number + 1) % 65536)
             × RowLeads N self.old sequence_number k) }
         ensures bounds { bounds_of N self.new ≡ bounds_of N self.old }
     {
-        let before = if sequence_number == self.next {
-            self.in_row
-        } else {
-            0
-        };
-        if before >= self.leading() {
-            if let Some(verdict) = self.begin(sequence_number) {
+        match self.begin(sequence_number) {
+            Some(verdict) => {
                 self.in_row = 0;
-                return verdict;
+                verdict
+            }
+            None => {
+                self.in_row = self.row_before(sequence_number).saturating_add(1);
+                self.next = sequence_number.wrapping_add(1);
+                RestartingVerdict::Refused
             }
         }
-        self.in_row = before.saturating_add(1);
-        self.next = sequence_number.wrapping_add(1);
-        RestartingVerdict::Refused
     }
 }
