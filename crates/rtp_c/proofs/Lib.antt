@@ -13,3 +13,4 @@ mod WritingLemmas
 mod WrittenHeaderLemmas
 mod JudgingLemmas
 mod StoredLemmas
+mod StoredWideLemmas

@@ -2,8 +2,10 @@
 pub mod Status
 pub mod PacketView
 pub mod ChangedElements
+pub mod StoredWindow
 pub mod StoredReceiver
 pub mod Judging
+pub mod StoredWideReceiver
 pub mod ElementView
 pub mod KindNumbers
 pub mod StoredMap

@@ -1,8 +1,8 @@
 -- A receiver in the memory of C: what it holds of the numbers of one stream (RFC 3711, 3.3.1 and 3.3.2).
-use Rattle.std.specs.Prelude.{◌≡◌, ℕ, ◌+◌, ◌-◌, ◌*◌, ◌/◌, ◌%◌, ◌^◌, ◌<◌, ◌⊎◌, Bool, false, ◌||◌, ◌==◌, slice_index_or}
+use Rattle.std.specs.Prelude.{◌≡◌, ℕ, ◌+◌, ◌*◌, ◌/◌, ◌%◌, ◌^◌, ◌<◌, Bool, false, slice_index_or}
 use Rattle.rtp_base.specs.Bitmap.{bits_of}
-use Rattle.rtp_base.specs.Window.{Numbers, WindowState, Keeps}
-use Rattle.rtp_wire.specs.Receiver.{IsNothing}
+use Rattle.rtp_base.specs.Window.{Numbers, WindowState, window_size}
+use Rattle.rtp_c.specs.StoredWindow.{IsRestored, HoldsStored, MovesBelow}
 use Rattle.rtp_c.specs.declared.receiver.StoredReceiver.{StoredReceiver}
 
 -- the two halves of its bits as one number
@@ -10,21 +10,12 @@ abbrev pub recorded_bits : StoredReceiver → ℕ
 recorded_bits stored = stored.recorded_high * 2 ^ 64 + stored.recorded_low
 
 -- the window that it holds: the highest number is recorded whatever its bit says
-pub record IsWindowOf (stored : StoredReceiver) (window : WindowState) : Type 0 where
-  pub greatest_is : window.greatest ≡ stored.highest
-  pub recorded_are : (k : ℕ) → k < 128 →
-      slice_index_or window.recorded k false ≡ (slice_index_or (bits_of (recorded_bits stored)) k false || k == 0)
-
--- these numbers are those that its window keeps
-pub record HoldsWindow (stored : StoredReceiver) (taken : Numbers) : Type 0 where
-  pub window : WindowState
-  pub is_window : IsWindowOf stored window
-  pub keeps : Keeps window taken
+abbrev pub IsWindowOf : StoredReceiver → WindowState → Type 0
+IsWindowOf stored window = IsRestored window_size stored.highest (bits_of (recorded_bits stored)) window
 
 -- these numbers were taken: none yet, and the first packet has this rollover count, or those that its window keeps
 abbrev pub HoldsNumbers : StoredReceiver → ℕ → Numbers → Type 0
-HoldsNumbers stored count taken =
-    ((stored.started ≡ 0) × (stored.highest / 65536 ≡ count) × IsNothing taken) ⊎ ((0 < stored.started) × HoldsWindow stored taken)
+HoldsNumbers stored count taken = HoldsStored window_size stored.highest (bits_of (recorded_bits stored)) stored.started count taken
 
 -- a receiver that has taken nothing yet, whose first packet has this rollover count
 abbrev pub unstarted : ℕ → StoredReceiver
@@ -43,11 +34,10 @@ stored_again stored = record stored { recorded_low = stored.recorded_low / 2 * 2
 abbrev pub bit_of : StoredReceiver → ℕ → Bool
 bit_of stored index = slice_index_or (bits_of (recorded_bits stored)) index false
 
--- the bits past the highest number, where there is no number left: clear once the first number is taken, and then they move with the others
-pub record MovesBelowZero (old new : StoredReceiver) : Type 0 where
-  pub first : old.started ≡ 0 → (index : ℕ) → new.highest < index → index < 128 → bit_of new index ≡ false
-  pub later : 0 < old.started → (index : ℕ) → new.highest < index → index < 128
-      → bit_of new index ≡ bit_of old (index - (new.highest - old.highest))
+-- the bits past the highest number, where there is no number left
+abbrev pub MovesBelowZero : StoredReceiver → StoredReceiver → Type 0
+MovesBelowZero old new =
+    MovesBelow window_size old.started old.highest new.highest (bits_of (recorded_bits old)) (bits_of (recorded_bits new))
 
 -- What the inside promises itself: each half of the bits has 64 of them.
 pub record HasHalves (stored : StoredReceiver) : Type 0 where

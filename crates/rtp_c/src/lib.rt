@@ -19,6 +19,7 @@ mod receiver;
 mod rtcp;
 mod status;
 mod values;
+mod wide_receiver;
 mod writing;
 
 /// The version of the library: 65,536 times its major number, 256 times the minor one, and the patch.
