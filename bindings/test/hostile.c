@@ -117,6 +117,8 @@ int main(int argc, char **argv) {
         changes_round();
         elements_round();
         receivers_round();
+        wide_receivers_round();
+        restarting_round();
         values_round();
         headers_round();
         maps_round();

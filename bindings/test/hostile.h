@@ -28,6 +28,8 @@ void packets_round(void);
 void changes_round(void);
 void elements_round(void);
 void receivers_round(void);
+void wide_receivers_round(void);
+void restarting_round(void);
 void values_round(void);
 void headers_round(void);
 void maps_round(void);

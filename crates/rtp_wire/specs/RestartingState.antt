@@ -15,14 +15,21 @@ bounds_of words receiver = record { max_dropout = receiver.max_dropout; size = 6
 abbrev pub HoldsEpoch : (words : ℕ) → RestartingReceiver words → Numbers → Type 0
 HoldsEpoch words receiver taken = HoldsOf (64 * words) receiver.receiver 1 taken
 
--- by the row that it holds this many packets lead up to a packet of these 16 bits: none, or at most as many as are in the row, where the bits are those that come next
-abbrev pub RowLeads : (words : ℕ) → RestartingReceiver words → ℕ → ℕ → Type 0
-RowLeads words receiver low k = (k ≡ 0) ⊎ ((k ≤ receiver.in_row) × (low ≡ receiver.next))
+-- by a row of this many packets as many lead up to a packet of these 16 bits: none, or at most all of them where the bits are those that come next
+abbrev pub Leads : ℕ → ℕ → ℕ → ℕ → Type 0
+Leads in_row next low k = (k ≡ 0) ⊎ ((k ≤ in_row) × (low ≡ next))
 
 -- a packet makes the row longer where it is outside of the stream and refused, and else ends it
+abbrev pub Grows : Bounds → Numbers → ℕ → RestartingVerdict → ℕ → ℕ → ℕ → ℕ → Type 0
+Grows bounds taken low verdict old_in_row old_next in_row next = (later k : ℕ) → suc k ≤ 255 →
+    Leads in_row next later (suc k) ↔ ((verdict ≡ Refused) × IsOutside bounds taken low × (later ≡ (low + 1) % 65536) × Leads old_in_row old_next low k)
+
+-- the same of a receiver
+abbrev pub RowLeads : (words : ℕ) → RestartingReceiver words → ℕ → ℕ → Type 0
+RowLeads words receiver = Leads receiver.in_row receiver.next
+
 abbrev pub RowGrows : (words : ℕ) → RestartingReceiver words → Numbers → ℕ → RestartingVerdict → RestartingReceiver words → Type 0
-RowGrows words old taken low verdict new = (later k : ℕ) → suc k ≤ 255 →
-    RowLeads words new later (suc k) ↔ ((verdict ≡ Refused) × IsOutside (bounds_of words old) taken low × (later ≡ (low + 1) % 65536) × RowLeads words old low k)
+RowGrows words old taken low verdict new = Grows (bounds_of words old) taken low verdict old.in_row old.next new.in_row new.next
 
 -- it is what these packets have left, of which the latest comes first
 pub record Remembers (words : ℕ) (receiver : RestartingReceiver words) (before : List Arrival) : Type 0 where

@@ -94,6 +94,41 @@ impl<const N: usize> RestartingReceiver<N> {
         }
     }
 
+    /// The receiver that goes on from these parts: with the same bounds, what [`epoch`](Self::epoch)
+    /// lent, and what [`row`](Self::row) returned.
+    pub fn from_parts(
+        epoch: WideReceiver<N>,
+        max_dropout: u16,
+        min_sequential: u8,
+        row: (u8, u16),
+    ) -> Self
+        ensures { result ≡ record { receiver = epoch.entry; max_dropout = max_dropout;
+            min_sequential = min_sequential; in_row = row.0; next = row.1 } }
+    {
+        RestartingReceiver {
+            receiver: epoch,
+            max_dropout,
+            min_sequential,
+            in_row: row.0,
+            next: row.1,
+        }
+    }
+
+    /// What is taken in the epoch. Where nothing is taken yet it starts at the rollover count 1.
+    pub fn epoch(&self) -> &WideReceiver<N>
+        ensures { result.now ≡ self.now.receiver }
+    {
+        &self.receiver
+    }
+
+    /// How many packets outside of the stream came last in a row, at most 255, and the 16 bits of the
+    /// number after the last of them.
+    pub fn row(&self) -> (u8, u16)
+        ensures { (result.0 ≡ self.now.in_row) × (result.1 ≡ self.now.next) }
+    {
+        (self.in_row, self.next)
+    }
+
     /// The highest number taken in the epoch, and `None` where nothing is taken yet.
     pub fn highest(&self) -> Option<SeqNo>
         ensures highest { (taken : Numbers) → HoldsEpoch N self.now taken → IsHighest taken result }

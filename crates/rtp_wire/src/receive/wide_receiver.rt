@@ -227,7 +227,7 @@ impl<const N: usize> WideReceiver<N> {
     pub(super) fn start_with(&mut self, number: SeqNo)
         ensures { (count : ℕ) → HoldsOf (64 * N) self.new count (only number) }
     {
-        let _ = &self.state;
-        self.state = WideState::Window(WideWindow::new(number));
+        let state = &mut self.state;
+        *state = WideState::Window(WideWindow::new(number));
     }
 }
