@@ -72,7 +72,9 @@ fn clear_in_word(words: &mut [u64], number: u64, count: u64)
     words[at] &= !mask(bit, bit + count);
 }
 
-// Clears the bits of the numbers from one to before another, a word at a time.
+// Clears the bits of the numbers from one to before another, a word at a time. Out of line, since
+// most numbers are the next one after the greatest.
+#[inline(never)]
 fn clear(words: &mut [u64], first: u64, end: u64)
     requires some { 0 < length words.old }
     requires in_order { first ≤ end }
@@ -92,6 +94,19 @@ fn clear(words: &mut [u64], first: u64, end: u64)
     }
 }
 
+// The same, where there are any.
+fn clear_between(words: &mut [u64], first: u64, end: u64)
+    requires some { 0 < length words.old }
+    requires in_order { first ≤ end }
+    ensures cleared { (n : ℕ) → first ≤ n → n < end → ring_bit words.new n ≡ false }
+    ensures others { (n : ℕ) → end ≤ n → n < first + ring_size words.old →
+        ring_bit words.new n ≡ ring_bit words.old n }
+{
+    if first < end {
+        clear(words, first, end);
+    }
+}
+
 // Records a number above the greatest.
 fn advance(words: &mut [u64], greatest: u64, number: u64)
     requires some { 0 < length words.old }
@@ -103,11 +118,12 @@ fn advance(words: &mut [u64], greatest: u64, number: u64)
         slice_index_or (ring_bits words.new number) k false
         ≡ slice_index_or (ring_bits words.old greatest) (k - (number - greatest)) false }
 {
-    clear(words, greatest + 1, number);
+    clear_between(words, greatest + 1, number);
     set(words, number);
 }
 
 /// Makes the words a window in which this number alone is recorded, and is the greatest.
+#[inline(never)]
 pub fn ring_start(words: &mut [u64], seq: SeqNo)
     requires { 0 < length words.old }
     ensures kept { KeepsOf (ring_size words.old) (ring_window words.new seq) (only seq) }

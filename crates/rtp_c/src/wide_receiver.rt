@@ -51,6 +51,7 @@ fn accepts(receiver: &StoredWideReceiver, words: &[u64], number: u64) -> bool
 }
 
 // Takes the number where it may be taken, and returns whether it may.
+#[inline(always)]
 fn take(receiver: &mut StoredWideReceiver, words: &mut [u64], number: u64) -> bool
     requires { 0 < length words.old }
     ensures judged { (count : ℕ) (taken : Numbers) → HoldsIn receiver.old words.old count taken →
@@ -75,10 +76,8 @@ fn take(receiver: &mut StoredWideReceiver, words: &mut [u64], number: u64) -> bo
         ring_restore(words, highest);
         ring_take(words, &mut highest, seq_no);
     }
-    *receiver = StoredWideReceiver {
-        highest: highest.get(),
-        started: 1,
-    };
+    receiver.highest = highest.get();
+    receiver.started = 1;
     true
 }
 
@@ -194,10 +193,13 @@ pub extern "C" fn rtpw_wide_receiver_receive(
     ensures unchanged { result ≢ ok → (receiver.new ≡ receiver.old)
         × (words.new ≡ words.old) × (number.new ≡ number.old) }
 {
-    let extended = rtpw_wide_receiver_number_of(receiver, sequence_number);
-    let status = rtpw_wide_receiver_record(receiver, words, extended);
-    if status == OK {
-        *number = extended;
+    if !is_window(words) {
+        return BAD_FIELD;
     }
-    status
+    let extended = rtpw_wide_receiver_number_of(receiver, sequence_number);
+    if !take(receiver, words, extended) {
+        return REFUSED;
+    }
+    *number = extended;
+    OK
 }

@@ -1,29 +1,34 @@
-use Rattle.std.proofs.Common.{◌≡◌, ℤ, pos, to_z, of_z, w32, ap, sym, ◌∙◌, refl, inl, inr}
-use Rattle.rtp_c.proofs.StoredWideLemmas.{IsJudgedIn-passed_on}
+use Rattle.std.proofs.Common.{◌≡◌, ℕ, ◌*◌, length, refl, sym, ◌∙◌, subst, inl, inr, arith}
+use Rattle.std.proofs.lemmas.Bool.{false≢true}
+use Rattle.rtp_wire.specs.Receiver.{IsFreshOf}
 use Rattle.rtp_c.proofs.wide_receiver.rtpw_wide_receiver_receive.Goals as goal
 
-pub returns-then-status-eq-OK-clause-judged : goal.returns-then-status-eq-OK-clause-judged
-returns-then-status-eq-OK-clause-judged c few count taken holds =
+pub returns-then-not-take-clause-judged : goal.returns-then-not-take-clause-judged
+returns-then-not-take-clause-judged c few count taken holds =
     let number = c.rtpw_wide_receiver_number_of-extended.result in
-    let recorded = c.rtpw_wide_receiver_record-status in
+    let same : length c.take.new.words ≡ length c.args.words.now = omega arith in
+    let told = c.take.ensures.judged count taken holds in
     record {
       number = number;
       is_number = c.rtpw_wide_receiver_number_of-extended.ensures.nearest c.args.words.now count taken holds;
-      judged = IsJudgedIn-passed_on count taken number recorded.result recorded.new.receiver recorded.new.words (recorded.ensures.judged few count taken holds);
-      written_is = λ is. refl;
+      judged = inr (refl, λ fresh. false≢true (sym c.if-not-take.true ∙ told.1 (subst (λ (n : ℕ). IsFreshOf (64 * n) taken number) same fresh)));
+      written_is = λ is. absurd (cc);
     }
 
-pub returns-else-status-eq-OK-clause-judged : goal.returns-else-status-eq-OK-clause-judged
-returns-else-status-eq-OK-clause-judged c few count taken holds =
+pub returns-clause-judged : goal.returns-clause-judged
+returns-clause-judged c few count taken holds =
     let number = c.rtpw_wide_receiver_number_of-extended.result in
-    let recorded = c.rtpw_wide_receiver_record-status in
-    let judged = recorded.ensures.judged few count taken holds in
+    let same : length c.args.words.now ≡ length c.take.new.words = omega arith in
     record {
       number = number;
       is_number = c.rtpw_wide_receiver_number_of-extended.ensures.nearest c.args.words.now count taken holds;
-      judged = IsJudgedIn-passed_on count taken number recorded.result recorded.new.receiver recorded.new.words judged;
-      written_is = λ is. elim judged [
-        | inl done ↦ absurd (c.if-status-eq-OK.false (ap (λ (z : ℤ). of_z w32 z) done.0))
-        | inr refused ↦ absurd (let never : pos 10 ≡ pos 0 = sym (ap (λ (z : ℤ). to_z w32 (of_z w32 z)) refused.0) ∙ is in cc)
-      ];
+      judged = inl (
+        refl,
+        record {
+          fresh = subst (λ (n : ℕ). IsFreshOf (64 * n) taken number) same ((c.take.ensures.judged count taken holds).0 c.if-not-take.false);
+          recorded = c.take.ensures.recorded count taken holds c.if-not-take.false;
+          started = c.take.ensures.started c.if-not-take.false;
+        },
+      );
+      written_is = λ is. refl;
     }
