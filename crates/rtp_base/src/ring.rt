@@ -94,16 +94,16 @@ fn clear(words: &mut [u64], first: u64, end: u64)
     }
 }
 
-// The same, where there are any.
-fn clear_between(words: &mut [u64], first: u64, end: u64)
+// Clears the bits of the numbers between the greatest and one above it.
+fn clear_between(words: &mut [u64], greatest: u64, number: u64)
     requires some { 0 < length words.old }
-    requires in_order { first ≤ end }
-    ensures cleared { (n : ℕ) → first ≤ n → n < end → ring_bit words.new n ≡ false }
-    ensures others { (n : ℕ) → end ≤ n → n < first + ring_size words.old →
+    requires above { greatest < number }
+    ensures cleared { (n : ℕ) → greatest + 1 ≤ n → n < number → ring_bit words.new n ≡ false }
+    ensures others { (n : ℕ) → number ≤ n → n < greatest + 1 + ring_size words.old →
         ring_bit words.new n ≡ ring_bit words.old n }
 {
-    if first < end {
-        clear(words, first, end);
+    if number - greatest > 1 {
+        clear(words, greatest + 1, number);
     }
 }
 
@@ -118,7 +118,7 @@ fn advance(words: &mut [u64], greatest: u64, number: u64)
         slice_index_or (ring_bits words.new number) k false
         ≡ slice_index_or (ring_bits words.old greatest) (k - (number - greatest)) false }
 {
-    clear_between(words, greatest + 1, number);
+    clear_between(words, greatest, number);
     set(words, number);
 }
 

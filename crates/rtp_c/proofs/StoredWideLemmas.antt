@@ -1,5 +1,5 @@
 -- A window in words that the caller has: what it accepts, what it keeps once a number is taken, and that it always keeps some set.
-use Rattle.std.proofs.Common.{◌≡◌, ◌≢◌, ℕ, ◌+◌, ◌-◌, ◌*◌, ◌<◌, ◌≤◌, ◌⊎◌, ◌↔◌, IsTrue, nat_eq, Bool, true, false, ◌||◌, List, length, get_or, map, inl, inr, refl, sym, ap, ◌∙◌, subst, arith}
+use Rattle.std.proofs.Common.{◌≡◌, ◌≢◌, ℕ, ◌+◌, ◌-◌, ◌*◌, ◌<◌, ◌≤◌, ◌⊎◌, ◌↔◌, IsTrue, nat_eq, ℤ, to_z, of_z, w32, Bool, true, false, ◌||◌, List, length, get_or, map, inl, inr, refl, sym, ap, ◌∙◌, subst, arith}
 use Rattle.std.proofs.lemmas.Bool.{eq-eqb, ne_eqb, or_right, false≢true, cases_lt, cases_eq}
 use Rattle.std.proofs.lemmas.List.FromFn.{get_or-map-range_with_len}
 use Rattle.std.specs.List.{range_with_len}
@@ -8,6 +8,8 @@ use Rattle.rtp_base.specs.Window.{Numbers, WindowState, IsGreatest, KeepsOf, Acc
 use Rattle.rtp_base.proofs.RingLemmas.{ring_bits-near}
 use Rattle.rtp_base.proofs.WindowLemmas.{AcceptsOf-low, KeepsOf-first, KeepsOf-shown}
 use Rattle.rtp_wire.specs.Receiver.{IsNothing, IsFreshOf}
+use Rattle.rtp_c.specs.declared.wide_receiver.StoredWideReceiver.{StoredWideReceiver}
+use Rattle.rtp_c.specs.StoredWideReceiver.{IsReceivedAs}
 use Rattle.rtp_c.specs.StoredWindow.{IsRestored, HoldsWindow, HoldsStored}
 
 or_none : (x y : Bool) → y ≡ false → (x || y) ≡ x
@@ -154,3 +156,12 @@ pub kept_there : (made joined : List ℕ) (at here : ℕ) (set : Numbers) → jo
 kept_there made joined at here set words highest keeps =
     subst (λ (ws : List ℕ). KeepsOf (ring_size ws) (ring_window ws here) set) (sym words)
     (subst (λ (h : ℕ). KeepsOf (ring_size made) (ring_window made h) set) (sym highest) keeps)
+
+-- ---- the status of another call
+
+pub IsReceivedAs-passed_on : (count : ℕ) (taken : Numbers) (number : ℕ) (status : ℤ) (written : ℕ) (after : StoredWideReceiver) (words : List ℕ)
+    → IsReceivedAs count taken number status written after words → IsReceivedAs count taken number (to_z w32 (of_z w32 status)) written after words
+IsReceivedAs-passed_on count taken number status written after words received = elim received [
+  | inl is ↦ inl (ap (λ (z : ℤ). to_z w32 (of_z w32 z)) is.0, is.1, is.2)
+  | inr is ↦ inr (ap (λ (z : ℤ). to_z w32 (of_z w32 z)) is.0, is.1)
+]

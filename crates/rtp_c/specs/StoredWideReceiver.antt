@@ -40,9 +40,13 @@ abbrev pub IsJudgedIn : ℕ → Numbers → ℕ → ℤ → StoredWideReceiver �
 IsJudgedIn count taken number status after words =
     ((status ≡ ok) × IsTakenIn count taken number after words) ⊎ ((status ≡ refused) × (IsFreshOf (ring_size words) taken number → ⊥))
 
--- the packet of this sequence number has a number, which is written and taken where it may be, and else refused
+-- this number is taken where it may be, and then written, and else refused
+abbrev pub IsReceivedAs : ℕ → Numbers → ℕ → ℤ → ℕ → StoredWideReceiver → List ℕ → Type 0
+IsReceivedAs count taken number status written after words =
+    ((status ≡ ok) × (written ≡ number) × IsTakenIn count taken number after words) ⊎ ((status ≡ refused) × (IsFreshOf (ring_size words) taken number → ⊥))
+
+-- the packet of this sequence number has a number, which is taken where it may be, and then written, and else refused
 pub record IsReceivedIn (count : ℕ) (taken : Numbers) (sequence_number : ℕ) (status : ℤ) (written : ℕ) (after : StoredWideReceiver) (words : List ℕ) : Type 0 where
   pub number : ℕ
   pub is_number : IsNumberOf count taken sequence_number number
-  pub judged : IsJudgedIn count taken number status after words
-  pub written_is : status ≡ ok → written ≡ number
+  pub received : IsReceivedAs count taken number status written after words

@@ -1,11 +1,11 @@
 //! The numbers of one stream, judged by a replay window of another size.
 
-ghost use Rattle.std.specs.Prelude.{◌≡◌, ◌≢◌, ◌↔◌, ◌^◌, ◌<◌, ◌≤◌, ◌/◌, ℕ, List, length, IsTrue, true, false};
+ghost use Rattle.std.specs.Prelude.{◌+◌, ◌≡◌, ◌≢◌, ◌↔◌, ◌^◌, ◌<◌, ◌≤◌, ◌/◌, ℕ, List, length, IsTrue, true, false};
 ghost use Rattle.rtp_base.specs.Ring.{ring_size};
 ghost use Rattle.rtp_base.specs.Window.{Numbers, including};
 ghost use Rattle.rtp_wire.specs.Receiver.{IsNothing, IsNumberOf, IsFreshOf};
 ghost use Rattle.rtp_c.specs.Status.{ok, bad_field};
-ghost use Rattle.rtp_c.specs.StoredWideReceiver.{IsWindowLen, HoldsIn, unstarted, IsStartedIn, MovesBelowZeroIn, IsJudgedIn, IsReceivedIn};
+ghost use Rattle.rtp_c.specs.StoredWideReceiver.{IsWindowLen, HoldsIn, unstarted, IsStartedIn, MovesBelowZeroIn, IsJudgedIn, IsReceivedAs, IsReceivedIn};
 
 use super::status::{BAD_FIELD, OK, REFUSED};
 use rtp_base::{SeqNo, ring_accepts, ring_restore, ring_start, ring_take};
@@ -50,6 +50,13 @@ fn accepts(receiver: &StoredWideReceiver, words: &[u64], number: u64) -> bool
     number != receiver.highest && ring_accepts(words, highest, SeqNo::from(number))
 }
 
+// Whether the number is the next one after the highest and has its bit in the same word, as most do.
+fn is_usual(highest: u64, number: u64) -> bool
+    ensures { IsTrue result ↔ ((number ≡ highest + 1) × (number / 64 ≡ highest / 64)) }
+{
+    number > highest && number - highest == 1 && number / 64 == highest / 64
+}
+
 // Takes the number where it may be taken, and returns whether it may.
 #[inline(always)]
 fn take(receiver: &mut StoredWideReceiver, words: &mut [u64], number: u64) -> bool
@@ -79,6 +86,48 @@ fn take(receiver: &mut StoredWideReceiver, words: &mut [u64], number: u64) -> bo
     receiver.highest = highest.get();
     receiver.started = 1;
     true
+}
+
+// Takes the number where it may be taken, and then writes it.
+#[inline(always)]
+fn receive_number(
+    receiver: &mut StoredWideReceiver,
+    words: &mut [u64],
+    number: u64,
+    written: &mut u64,
+) -> i32
+    requires { 0 < length words.old }
+    ensures received { (count : ℕ) (taken : Numbers) → HoldsIn receiver.old words.old count taken →
+        IsReceivedAs count taken number result written.new receiver.new words.new }
+    ensures below_zero { result ≡ ok →
+        MovesBelowZeroIn receiver.old words.old receiver.new words.new }
+    ensures unchanged { result ≢ ok → (receiver.new ≡ receiver.old)
+        × (words.new ≡ words.old) × (written.new ≡ written.old) }
+{
+    if !take(receiver, words, number) {
+        return REFUSED;
+    }
+    *written = number;
+    OK
+}
+
+// The same, out of line: what calls it stays short for the usual number.
+#[inline(never)]
+fn receive_other(
+    receiver: &mut StoredWideReceiver,
+    words: &mut [u64],
+    number: u64,
+    written: &mut u64,
+) -> i32
+    requires { 0 < length words.old }
+    ensures received { (count : ℕ) (taken : Numbers) → HoldsIn receiver.old words.old count taken →
+        IsReceivedAs count taken number result written.new receiver.new words.new }
+    ensures below_zero { result ≡ ok →
+        MovesBelowZeroIn receiver.old words.old receiver.new words.new }
+    ensures unchanged { result ≢ ok → (receiver.new ≡ receiver.old)
+        × (words.new ≡ words.old) × (written.new ≡ written.old) }
+{
+    receive_number(receiver, words, number, written)
 }
 
 /// Makes the receiver one that has taken nothing yet, whose first packet has this rollover count:
@@ -184,7 +233,7 @@ pub extern "C" fn rtpw_wide_receiver_receive(
     sequence_number: u16,
     number: &mut u64,
 ) -> i32
-    ensures judged { IsWindowLen words.old → (count : ℕ) (taken : Numbers) →
+    ensures received { IsWindowLen words.old → (count : ℕ) (taken : Numbers) →
         HoldsIn receiver.old words.old count taken →
         IsReceivedIn count taken sequence_number result number.new receiver.new words.new }
     ensures other { (IsWindowLen words.old → ⊥) → result ≡ bad_field }
@@ -197,9 +246,9 @@ pub extern "C" fn rtpw_wide_receiver_receive(
         return BAD_FIELD;
     }
     let extended = rtpw_wide_receiver_number_of(receiver, sequence_number);
-    if !take(receiver, words, extended) {
-        return REFUSED;
+    if receiver.started != 0 && is_usual(receiver.highest, extended) {
+        receive_number(receiver, words, extended, number)
+    } else {
+        receive_other(receiver, words, extended, number)
     }
-    *number = extended;
-    OK
 }
