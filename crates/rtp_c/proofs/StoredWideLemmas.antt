@@ -99,8 +99,7 @@ pub stored-accepts : (words : List ℕ) (highest number : ℕ) (taken : Numbers)
     → IsTrue outcome ↔ ((highest < number) ⊎ ((highest < number + ring_size words) × (ring_bit words number ≡ false)))
     → IsTrue outcome ↔ IsFreshOf (ring_size words) taken number
 stored-accepts words highest number taken outcome other held is =
-    let top = (kept (ring_size words) highest (ring_bits words highest) taken held).top in
-    (
+    let top = (kept (ring_size words) highest (ring_bits words highest) taken held).top in (
       λ yes. elim (is.0 yes) [
         | inl above ↦ inr (record { greatest = highest; is_greatest = top; above_or_new = inl above })
         | inr near ↦ elim (cases_lt highest number) [

@@ -32,12 +32,12 @@ pub Verdict-same : (bounds : Bounds) (taken : Numbers) (one other : ℕ → Type
 Verdict-same bounds taken one other low verdict few same is = elim is [
   | inl judged ↦ inl judged
   | inr outside ↦ inr (record {
-      outside = outside.outside;
-      judged = elim outside.judged [
-        | inl begins ↦ inl (Begins-same bounds taken one other low verdict few (λ k le. (same k le).1) begins)
-        | inr refused ↦ inr (refused.0, λ v begins. refused.1 v (Begins-same bounds taken other one low v few (λ k le. (same k le).0) begins))
-      ];
-    })
+    outside = outside.outside;
+    judged = elim outside.judged [
+      | inl begins ↦ inl (Begins-same bounds taken one other low verdict few (λ k le. (same k le).1) begins)
+      | inr refused ↦ inr (refused.0, λ v begins. refused.1 v (Begins-same bounds taken other one low v few (λ k le. (same k le).0) begins))
+    ];
+  })
 ]
 
 -- ---- one packet more

@@ -81,8 +81,11 @@ impl<const N: usize> RestartingReceiver<N> {
     /// `min_sequential` packets in a row; 0 is the same as 1. Precondition: N is at least 1.
     pub fn with_bounds(max_dropout: u16, min_sequential: u8) -> Self
         requires { 0 < N }
-        ensures bounds { bounds_of N result ≡ record { max_dropout = max_dropout; size = 64 * N;
-            min_sequential = min_sequential } }
+        ensures bounds { bounds_of N result ≡ record {
+          max_dropout = max_dropout;
+          size = 64 * N;
+          min_sequential = min_sequential;
+        } }
         ensures empty { Remembers N result [] }
     {
         RestartingReceiver {
@@ -102,8 +105,13 @@ impl<const N: usize> RestartingReceiver<N> {
         min_sequential: u8,
         row: (u8, u16),
     ) -> Self
-        ensures { result ≡ record { receiver = epoch.entry; max_dropout = max_dropout;
-            min_sequential = min_sequential; in_row = row.0; next = row.1 } }
+        ensures { result ≡ record {
+          receiver = epoch.entry;
+          max_dropout = max_dropout;
+          min_sequential = min_sequential;
+          in_row = row.0;
+          next = row.1;
+        } }
     {
         RestartingReceiver {
             receiver: epoch,
