@@ -102,7 +102,7 @@ done
 if grep -oE '\b(rtp|RTP)_\w+' bindings/c/rtp_wire.h | grep -vx rtp_wire >&2; then fail 'names of the header file'; fi
 said "the header file beside ${beside:-no other library}"
 
-for it in packets padding faults headers statuses; do
+for it in packets padding faults headers statuses receivers; do
     cc -std=c99 "${strict[@]}" bindings/c/test/$it.c "$library" -o "$scratch/by_hand"
     "$scratch/by_hand"
     c++ -std=c++11 "${strict[@]}" -Wno-missing-field-initializers -x c++ bindings/c/test/$it.c -x none "$library" -o "$scratch/by_hand"
@@ -335,7 +335,7 @@ if has aarch64-linux-gnu-gcc && has qemu-aarch64; then
         fail 'the list and the library for ARM differ'
     aarch64-linux-gnu-gcc -std=c99 "${strict[@]}" "${include[@]}" -static bindings/examples/lines.c "$arm" -o "$scratch/arm"
     compare qemu-aarch64 "$scratch/arm"
-    for it in packets padding faults headers statuses; do
+    for it in packets padding faults headers statuses receivers; do
         aarch64-linux-gnu-gcc -std=c99 "${strict[@]}" -static bindings/c/test/$it.c "$arm" -o "$scratch/arm"
         qemu-aarch64 "$scratch/arm"
     done

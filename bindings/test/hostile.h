@@ -31,6 +31,8 @@ void packets_round(void);
 void changes_round(void);
 void elements_round(void);
 void receivers_round(void);
+void wide_receivers_round(void);
+void restarting_round(void);
 void values_round(void);
 void headers_round(void);
 void maps_round(void);
@@ -43,6 +45,8 @@ static inline void every_round(void) {
     changes_round();
     elements_round();
     receivers_round();
+    wide_receivers_round();
+    restarting_round();
     values_round();
     headers_round();
     maps_round();

@@ -47,6 +47,19 @@ HOLDS(offsetof(rtpw_receiver, recorded_low) == 8);
 HOLDS(offsetof(rtpw_receiver, recorded_high) == 16);
 HOLDS(offsetof(rtpw_receiver, started) == 24);
 
+HOLDS(sizeof(rtpw_wide_receiver) == 16);
+HOLDS(offsetof(rtpw_wide_receiver, highest) == 0);
+HOLDS(offsetof(rtpw_wide_receiver, started) == 8);
+
+HOLDS(sizeof(rtpw_restarting_receiver) == 32);
+HOLDS(offsetof(rtpw_restarting_receiver, highest) == 0);
+HOLDS(offsetof(rtpw_restarting_receiver, words) == 8);
+HOLDS(offsetof(rtpw_restarting_receiver, max_dropout) == 24);
+HOLDS(offsetof(rtpw_restarting_receiver, next) == 26);
+HOLDS(offsetof(rtpw_restarting_receiver, min_sequential) == 28);
+HOLDS(offsetof(rtpw_restarting_receiver, in_row) == 29);
+HOLDS(offsetof(rtpw_restarting_receiver, started) == 30);
+
 HOLDS(sizeof(rtpw_time) == 16);
 HOLDS(offsetof(rtpw_time, ticks) == 0);
 HOLDS(offsetof(rtpw_time, hertz) == 8);

@@ -22,6 +22,9 @@ static rtpw_packet packet;
 static rtpw_element element;
 static rtpw_fields fields = {2, 3, 1, 96, 1, 1, 1, 1, 1, 1};
 static rtpw_receiver receiver;
+static rtpw_wide_receiver wide;
+static uint64_t words[512];
+static rtpw_restarting_receiver restarting;
 static rtpw_map map;
 static rtpw_values values;
 static rtpw_header header, given;
@@ -89,6 +92,12 @@ static void receiver_start(void) { status = rtpw_receiver_start(&receiver, 1); }
 static void receiver_number_of(void) { number = rtpw_receiver_number_of(&receiver, 9); }
 static void receiver_accepts(void) { number = rtpw_receiver_accepts(&receiver, 9); }
 static void receiver_record(void) { rtpw_receiver_record(&receiver, 65545); }
+static void wide_receiver_start(void) { status = rtpw_wide_receiver_start(&wide, 1); }
+static void wide_receiver_number_of(void) { number = rtpw_wide_receiver_number_of(&wide, 9); }
+static void wide_receiver_accepts(void) { number = rtpw_wide_receiver_accepts(&wide, words, 512, 9); }
+static void wide_receiver_record(void) { status = rtpw_wide_receiver_record(&wide, words, 512, 65545); }
+static void wide_receiver_receive(void) { status = rtpw_wide_receiver_receive(&wide, words, 512, 99, &number); }
+static void restarting_receive(void) { status = rtpw_restarting_receive(&restarting, 99, &number); }
 static void receiver_receive(void) { status = rtpw_receiver_receive(&receiver, 99, &number); }
 static void values_read(void) { status = rtpw_values_read(datagram + 76, 262140, RTPW_ONE_BYTE_FORM, &map, &values); }
 static void kind_of_uri(void) { number = rtpw_kind_of_uri((const uint8_t *)LAST_URI, sizeof LAST_URI - 1); }
@@ -146,7 +155,9 @@ int main(void) {
         CALL(set_timestamp), CALL(set_ssrc), CALL(set_fields), CALL(set_csrc), CALL(set_element),
         CALL(remove_element),
         CALL(next_element), CALL(last_element), CALL(receiver_start), CALL(receiver_number_of),
-        CALL(receiver_accepts), CALL(receiver_record), CALL(receiver_receive), CALL(extend_u16),
+        CALL(receiver_accepts), CALL(receiver_record), CALL(receiver_receive), CALL(wide_receiver_start),
+        CALL(wide_receiver_number_of), CALL(wide_receiver_accepts), CALL(wide_receiver_record),
+        CALL(wide_receiver_receive), CALL(restarting_receive), CALL(extend_u16),
         CALL(extend_u8), CALL(extend_u15), CALL(extend_u32), CALL(is_rtcp), CALL(set_padding), CALL(remove_padding),
         CALL(values_read), CALL(kind_of_uri), CALL(map_set), CALL(map_get), CALL(map_standard), CALL(parse),
         CALL(parse_layers), CALL(wire_len), CALL(write), CALL(write_with), CALL(write_elements),

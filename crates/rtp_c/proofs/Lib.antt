@@ -14,3 +14,4 @@ mod WrittenHeaderLemmas
 mod JudgingLemmas
 mod StoredLemmas
 mod StoredWideLemmas
+mod RestartingLemmas

@@ -28,7 +28,7 @@ kept size highest bits taken held =
     subst (λ (n : ℕ). KeepsOf size (record { greatest = n; recorded = held.window.recorded }) taken) held.is_window.greatest_is held.keeps
 
 -- and by any bits that show the same
-KeepsOf-bits : (size highest : ℕ) (old new : List Bool) (taken : Numbers) → ((k : ℕ) → k < size → get_or new k false ≡ get_or old k false)
+pub KeepsOf-bits : (size highest : ℕ) (old new : List Bool) (taken : Numbers) → ((k : ℕ) → k < size → get_or new k false ≡ get_or old k false)
     → KeepsOf size (record { greatest = highest; recorded = old }) taken → KeepsOf size (record { greatest = highest; recorded = new }) taken
 KeepsOf-bits size highest old new taken same keeps = record {
   top = keeps.top;
@@ -43,11 +43,11 @@ KeepsOf-set size window old new same keeps = record {
 }
 
 -- a window that keeps a set is stored as it is
-pub HoldsStored-kept : (words : List ℕ) (highest count : ℕ) (taken : Numbers) → 0 < length words → KeepsOf (ring_size words) (ring_window words highest) taken
-    → HoldsStored (ring_size words) highest (ring_bits words highest) 1 count taken
-HoldsStored-kept words highest count taken words-some keeps =
+pub HoldsWindow-kept : (words : List ℕ) (highest : ℕ) (taken : Numbers) → 0 < length words → KeepsOf (ring_size words) (ring_window words highest) taken
+    → HoldsWindow (ring_size words) highest (ring_bits words highest) taken
+HoldsWindow-kept words highest taken words-some keeps =
     let first : get_or (ring_bits words highest) 0 false ≡ true = KeepsOf-first (ring_size words) highest (ring_bits words highest) taken (omega arith) keeps in
-    inr (omega arith, record {
+    record {
       window = ring_window words highest;
       is_window = record {
         greatest_is = refl;
@@ -59,7 +59,11 @@ HoldsStored-kept words highest count taken words-some keeps =
         ];
       };
       keeps = keeps;
-    })
+    }
+
+pub HoldsStored-kept : (words : List ℕ) (highest count : ℕ) (taken : Numbers) → 0 < length words → KeepsOf (ring_size words) (ring_window words highest) taken
+    → HoldsStored (ring_size words) highest (ring_bits words highest) 1 count taken
+HoldsStored-kept words highest count taken words-some keeps = inr (omega arith, HoldsWindow-kept words highest taken words-some keeps)
 
 -- and has the bit of its highest number set
 pub first_bit : (words : List ℕ) (highest : ℕ) (taken : Numbers) → 0 < length words → KeepsOf (ring_size words) (ring_window words highest) taken → ring_bit words highest ≡ true
@@ -95,8 +99,7 @@ pub stored-accepts : (words : List ℕ) (highest number : ℕ) (taken : Numbers)
     → IsTrue outcome ↔ ((highest < number) ⊎ ((highest < number + ring_size words) × (ring_bit words number ≡ false)))
     → IsTrue outcome ↔ IsFreshOf (ring_size words) taken number
 stored-accepts words highest number taken outcome other held is =
-    let top = (kept (ring_size words) highest (ring_bits words highest) taken held).top in
-    (
+    let top = (kept (ring_size words) highest (ring_bits words highest) taken held).top in (
       λ yes. elim (is.0 yes) [
         | inl above ↦ inr (record { greatest = highest; is_greatest = top; above_or_new = inl above })
         | inr near ↦ elim (cases_lt highest number) [

@@ -6,6 +6,7 @@ pub mod StoredWindow
 pub mod StoredReceiver
 pub mod Judging
 pub mod StoredWideReceiver
+pub mod StoredRestarting
 pub mod ElementView
 pub mod KindNumbers
 pub mod StoredMap

@@ -37,6 +37,10 @@ refused = pos 10
 abbrev pub none : ℤ
 none = pos 11
 
+-- a packet is taken, as the first one after its sender has started again
+abbrev pub restarted : ℤ
+restarted = pos 12
+
 -- the status of the first cause for which these bytes are no packet
 pub record IsCauseStatus (bytes : List ℕ) (status : ℤ) : Type 0 where
   pub cause : NotAPacket

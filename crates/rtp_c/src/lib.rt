@@ -16,6 +16,7 @@ mod packet;
 mod padding;
 mod payload;
 mod receiver;
+mod restarting;
 mod rtcp;
 mod status;
 mod values;

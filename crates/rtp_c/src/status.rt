@@ -29,6 +29,8 @@ pub const BAD_FIELD: i32 = 9;
 pub const REFUSED: i32 = 10;
 /// There is no such element.
 pub const NONE: i32 = 11;
+/// A packet is taken, as the first one after its sender has started again.
+pub const RESTARTED: i32 = 12;
 
 // The status of this cause.
 pub fn status_of(cause: NotAPacket) -> i32

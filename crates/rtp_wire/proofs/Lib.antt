@@ -25,6 +25,7 @@ pub mod WideningLemmas
 pub mod NearestLemmas
 mod ReceiverLemmas
 pub mod ReceiversLemmas
+mod RestartingLemmas
 pub mod VerdictLemmas
 pub mod TrueNumberLemmas
 mod SendingLemmas

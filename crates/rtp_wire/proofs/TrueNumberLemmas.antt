@@ -26,7 +26,7 @@ number_within count (Some h) low number near fits whole ends within is =
     only_near 16 (Some h) low near number (omega arith) (omega arith) fits is
     (Extends-within_half 16 (Some h) low number (whole, omega (arith, ends), omega (arith, within.0, within.1)))
 
-one_greatest : (numbers : Numbers) (a b : ℕ) → IsGreatest numbers a → IsGreatest numbers b → a ≡ b
+pub one_greatest : (numbers : Numbers) (a b : ℕ) → IsGreatest numbers a → IsGreatest numbers b → a ≡ b
 one_greatest numbers a b first second = let low = second.top a first.member in let high = first.top b second.member in omega arith
 
 pub one_highest : (numbers : Numbers) (a b : Option ℕ) → IsHighest numbers a → IsHighest numbers b → a ≡ b

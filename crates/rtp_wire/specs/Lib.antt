@@ -41,10 +41,12 @@ pub mod Receiver
 pub mod Verdicts
 pub mod TrueNumbers
 pub mod Sending
+pub mod Restarting
 pub mod Receivers
 pub mod Sources
 -- What functions inside promise each other.
 pub mod WrittenInForm
 pub mod PartsAt
 pub mod WideState
+pub mod RestartingState
 pub mod EachSource

@@ -23,10 +23,12 @@ mod packet;
 mod packet_mut;
 mod payload;
 mod receiver;
+mod restarting;
 mod sys;
 mod text;
 mod values;
 mod views;
+mod wide_receiver;
 
 pub use elements::{write_elements, Element, Elements, Place, Places};
 pub use error::{
@@ -40,5 +42,7 @@ pub use packet::{is_rtcp, Csrcs, Form, Packet};
 pub use packet_mut::{Fields, PacketMut};
 pub use payload::{pad, read_original, version, write_original};
 pub use receiver::{extend_u15, extend_u16, extend_u32, extend_u8, Receiver};
+pub use restarting::{Arrival, RestartingReceiver};
 pub use text::{Mid, NotAText, Rid, Text};
 pub use values::{Values, VideoTiming};
+pub use wide_receiver::WideReceiver;

@@ -8,8 +8,8 @@
 #![allow(unsafe_code)]
 
 use crate::views::{
-    FieldsView, HeaderView, Layers, PacketParts, Place, ReceiverState, StoredMap, StoredNewIds,
-    ValuesView,
+    FieldsView, HeaderView, Layers, PacketParts, Place, ReceiverState, RestartingState, StoredMap,
+    StoredNewIds, ValuesView, WideState,
 };
 
 pub const OK: i32 = 0;
@@ -21,6 +21,7 @@ pub const UNKNOWN_FORM: i32 = 5;
 pub const CUT_BLOCK: i32 = 6;
 pub const NO_MEMORY: i32 = 7;
 pub const SHORT_BUFFER: i32 = 8;
+pub const RESTARTED: i32 = 12;
 
 pub const ONE_BYTE_FORM: u8 = 1;
 pub const TWO_BYTE_FORM: u8 = 2;
@@ -28,8 +29,8 @@ pub const CSRC_AT: usize = 12;
 
 mod c {
     use super::{
-        FieldsView, HeaderView, Layers, PacketParts, Place, ReceiverState, StoredMap, StoredNewIds,
-        ValuesView,
+        FieldsView, HeaderView, Layers, PacketParts, Place, ReceiverState, RestartingState,
+        StoredMap, StoredNewIds, ValuesView, WideState,
     };
 
     extern "C" {
@@ -73,6 +74,35 @@ mod c {
         pub fn rtpw_receiver_record(receiver: *mut ReceiverState, number: u64);
         pub fn rtpw_receiver_receive(
             receiver: *mut ReceiverState,
+            sequence_number: u16,
+            number: *mut u64,
+        ) -> i32;
+        pub fn rtpw_wide_receiver_start(receiver: *mut WideState, rollover_count: u64) -> i32;
+        pub fn rtpw_wide_receiver_number_of(
+            receiver: *const WideState,
+            sequence_number: u16,
+        ) -> u64;
+        pub fn rtpw_wide_receiver_accepts(
+            receiver: *const WideState,
+            words: *const u64,
+            count: usize,
+            number: u64,
+        ) -> bool;
+        pub fn rtpw_wide_receiver_record(
+            receiver: *mut WideState,
+            words: *mut u64,
+            count: usize,
+            number: u64,
+        ) -> i32;
+        pub fn rtpw_wide_receiver_receive(
+            receiver: *mut WideState,
+            words: *mut u64,
+            count: usize,
+            sequence_number: u16,
+            number: *mut u64,
+        ) -> i32;
+        pub fn rtpw_restarting_receive(
+            receiver: *mut RestartingState,
             sequence_number: u16,
             number: *mut u64,
         ) -> i32;
@@ -409,6 +439,52 @@ pub fn receiver_receive(receiver: &mut ReceiverState, sequence_number: u16) -> O
     // SAFETY: two exclusive references.
     let status = unsafe { c::rtpw_receiver_receive(receiver, sequence_number, &mut number) };
     (status == OK).then_some(number)
+}
+
+pub fn wide_receiver_start(receiver: &mut WideState, rollover_count: u64) -> i32 {
+    // SAFETY: an exclusive reference.
+    unsafe { c::rtpw_wide_receiver_start(receiver, rollover_count) }
+}
+
+pub fn wide_receiver_number_of(receiver: &WideState, sequence_number: u16) -> u64 {
+    // SAFETY: a reference that is read.
+    unsafe { c::rtpw_wide_receiver_number_of(receiver, sequence_number) }
+}
+
+pub fn wide_receiver_accepts(receiver: &WideState, words: &[u64], number: u64) -> bool {
+    // SAFETY: a reference and a slice that are read.
+    unsafe { c::rtpw_wide_receiver_accepts(receiver, words.as_ptr(), words.len(), number) }
+}
+
+pub fn wide_receiver_record(receiver: &mut WideState, words: &mut [u64], number: u64) -> i32 {
+    // SAFETY: an exclusive reference, and an exclusive slice.
+    unsafe { c::rtpw_wide_receiver_record(receiver, words.as_mut_ptr(), words.len(), number) }
+}
+
+pub fn wide_receiver_receive(
+    receiver: &mut WideState,
+    words: &mut [u64],
+    sequence_number: u16,
+) -> Option<u64> {
+    let mut number = 0;
+    // SAFETY: two exclusive references, and an exclusive slice.
+    let status = unsafe {
+        c::rtpw_wide_receiver_receive(
+            receiver,
+            words.as_mut_ptr(),
+            words.len(),
+            sequence_number,
+            &mut number,
+        )
+    };
+    (status == OK).then_some(number)
+}
+
+pub fn restarting_receive(receiver: &mut RestartingState, sequence_number: u16) -> (i32, u64) {
+    let mut number = 0;
+    // SAFETY: two exclusive references.
+    let status = unsafe { c::rtpw_restarting_receive(receiver, sequence_number, &mut number) };
+    (status, number)
 }
 
 pub fn extend_u8(previous: u64, number: u8) -> u64 {

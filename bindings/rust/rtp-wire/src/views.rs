@@ -58,6 +58,27 @@ pub struct ReceiverState {
     pub started: u8,
 }
 
+/// `rtpw_wide_receiver`
+#[repr(C)]
+#[derive(Clone, Copy, Debug, Default)]
+pub struct WideState {
+    pub highest: u64,
+    pub started: u8,
+}
+
+/// `rtpw_restarting_receiver`
+#[repr(C)]
+#[derive(Clone, Copy, Debug, Default)]
+pub struct RestartingState {
+    pub highest: u64,
+    pub words: [u64; 2],
+    pub max_dropout: u16,
+    pub next: u16,
+    pub min_sequential: u8,
+    pub in_row: u8,
+    pub started: u8,
+}
+
 /// `rtpw_map`
 #[repr(C)]
 #[derive(Clone, Copy, PartialEq, Eq, Hash)]
@@ -190,6 +211,9 @@ mod tests {
             has_padding 53, padding_fits 54, block_form 55);
         lies!(Place, 32, data_at 0, data_len 8, end 16, id 24);
         lies!(ReceiverState, 32, highest 0, recorded_low 8, recorded_high 16, started 24);
+        lies!(WideState, 16, highest 0, started 8);
+        lies!(RestartingState, 32, highest 0, words 8, max_dropout 24, next 26, min_sequential 28,
+            in_row 29, started 30);
         lies!(Time, 16, ticks 0, hertz 8);
         lies!(HeaderView, 224, header_len 0, timestamp 8, ssrc 12, csrc 16, sequence_number 76,
             payload_type 78, csrc_count 79, marker 80, has_padding 81, has_extension 82, values 88);

@@ -2,6 +2,8 @@
 
 mod receiver;
 mod receivers;
+mod restarting;
+mod restarting_verdict;
 mod run;
 mod sources;
 mod wide_receiver;
@@ -10,6 +12,8 @@ mod widening;
 
 pub use receiver::{Receiver, Verdict};
 pub use receivers::Receivers;
+pub use restarting::RestartingReceiver;
+pub use restarting_verdict::RestartingVerdict;
 pub use run::{receive_run, receive_run_one};
 pub use wide_receiver::WideReceiver;
 pub use widening::{extend_u7, extend_u8, extend_u15, extend_u16, extend_u32};

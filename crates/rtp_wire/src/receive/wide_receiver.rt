@@ -1,7 +1,7 @@
 //! The receive state of one stream, with a replay window of a size that the caller chooses.
 
 ghost use Rattle.std.specs.Prelude.{◌≡◌, ◌↔◌, ◌^◌, ◌*◌, ◌<◌, ◌/◌, ℕ, Option, Some, None, option_copied, IsTrue, false, if◌then◌else◌};
-ghost use Rattle.rtp_base.specs.Window.{Numbers, WindowState, including};
+ghost use Rattle.rtp_base.specs.Window.{Numbers, WindowState, only, including};
 ghost use Rattle.rtp_wire.specs.Receiver.{HoldsOf, IsHighest, IsNumberOf, IsFreshOf, IsJudgedOf, taken_after, StaysBelowZeroInOf};
 ghost use Rattle.rtp_wire.specs.declared.receive.receiver.ReceiverState.TheVariants.{Start, Window};
 ghost use Rattle.rtp_wire.specs.declared.receive.receiver.Verdict.TheVariants.{Refused};
@@ -208,7 +208,7 @@ impl<const N: usize> WideReceiver<N> {
     }
 
     // Records the number where it may be taken, and returns whether it may.
-    fn take(&mut self, number: SeqNo) -> bool
+    pub(super) fn take(&mut self, number: SeqNo) -> bool
         ensures accepts { (count : ℕ) → (taken : Numbers) → HoldsOf (64 * N) self.old count taken →
             (IsTrue result ↔ IsFreshOf (64 * N) taken number) }
         ensures taken { (count : ℕ) → (taken : Numbers) → HoldsOf (64 * N) self.old count taken →
@@ -223,5 +223,13 @@ impl<const N: usize> WideReceiver<N> {
             }
             WideState::Window(window) => window.take(number),
         }
+    }
+
+    // Forgets what was taken, and takes this number alone.
+    pub(super) fn start_with(&mut self, number: SeqNo)
+        ensures { (count : ℕ) → HoldsOf (64 * N) self.new count (only number) }
+    {
+        let state = &mut self.state;
+        *state = WideState::Window(WideWindow::new(number));
     }
 }

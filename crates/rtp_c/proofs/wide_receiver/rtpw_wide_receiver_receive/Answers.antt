@@ -1,7 +1,7 @@
 use Rattle.rtp_c.proofs.StoredWideLemmas.{IsReceivedAs-passed_on}
 use Rattle.rtp_c.proofs.wide_receiver.rtpw_wide_receiver_receive.Goals as goal
 
-pub returns-then-is_usual-clause-received : goal.returns-then-is_next-clause-received
+pub returns-then-is_usual-clause-received : goal.returns-then-is_usual-clause-received
 returns-then-is_usual-clause-received c few count taken holds =
     let number = c.rtpw_wide_receiver_number_of-extended.result in
     let call = c.receive_number in

@@ -1,0 +1,96 @@
+/* Windows of other sizes, and senders that start again. The expected values are worked out by hand from
+ * RFC 3711, 3.3.1 and 3.3.2, and RFC 3550, appendix A.1. */
+#include "../rtp_wire.h"
+
+#include <stdio.h>
+#include <string.h>
+
+static int failed = 0;
+
+#define CHECK(holds) \
+    do { \
+        if (!(holds)) { \
+            printf("line %d: %s\n", __LINE__, #holds); \
+            failed = 1; \
+        } \
+    } while (0)
+
+/* What a packet is told as: its status, and its number, or 7 where none is written. */
+typedef struct {
+    uint16_t low;
+    int32_t status;
+    uint64_t number;
+} row;
+
+static void a_thousand_numbers(void) {
+    static const rtpw_wide_receiver NEW = {0};
+    static const row ROWS[] = {
+        {5000, RTPW_OK, 5000}, {3977, RTPW_OK, 3977}, {3977, RTPW_REFUSED, 7}, {3976, RTPW_REFUSED, 7},
+        {5001, RTPW_OK, 5001}, {3978, RTPW_OK, 3978}, {5001, RTPW_REFUSED, 7}};
+    rtpw_wide_receiver receiver = NEW;
+    uint64_t words[16], number;
+    size_t i;
+    memset(words, 0xA5, sizeof words); /* what they hold before the first number isn't read */
+    for (i = 0; i < sizeof ROWS / sizeof *ROWS; i++) {
+        number = 7;
+        CHECK(rtpw_wide_receiver_receive(&receiver, words, 16, ROWS[i].low, &number) == ROWS[i].status);
+        CHECK(number == ROWS[i].number);
+    }
+    CHECK(receiver.highest == 5001 && receiver.started == 1);
+    CHECK(rtpw_wide_receiver_number_of(&receiver, 4000) == 4000);
+    CHECK(rtpw_wide_receiver_accepts(&receiver, words, 16, 4000));
+    CHECK(rtpw_wide_receiver_record(&receiver, words, 16, 4000) == RTPW_OK);
+    CHECK(rtpw_wide_receiver_record(&receiver, words, 16, 4000) == RTPW_REFUSED);
+    CHECK(!rtpw_wide_receiver_accepts(&receiver, words, 16, 4000));
+    CHECK(words[4000 / 64 % 16] >> 4000 % 64 & 1);
+}
+
+static void counts_of_words(void) {
+    static const rtpw_wide_receiver NEW = {0};
+    rtpw_wide_receiver receiver = NEW;
+    static uint64_t words[513];
+    uint64_t number = 7;
+    CHECK(rtpw_wide_receiver_receive(&receiver, NULL, 0, 9, &number) == RTPW_BAD_FIELD && number == 7);
+    CHECK(rtpw_wide_receiver_receive(&receiver, words, 513, 9, &number) == RTPW_BAD_FIELD && number == 7);
+    CHECK(rtpw_wide_receiver_record(&receiver, words, 513, 9) == RTPW_BAD_FIELD && receiver.started == 0);
+    CHECK(!rtpw_wide_receiver_accepts(&receiver, NULL, 0, 9));
+    CHECK(rtpw_wide_receiver_start(&receiver, (uint64_t)1 << 48) == RTPW_BAD_FIELD);
+    CHECK(rtpw_wide_receiver_start(&receiver, 1) == RTPW_OK && receiver.highest == 65536);
+    CHECK(rtpw_wide_receiver_receive(&receiver, words, 512, 5, &number) == RTPW_OK && number == 65541);
+    CHECK(rtpw_wide_receiver_receive(&receiver, words, 512, 65533, &number) == RTPW_OK && number == 65533);
+    CHECK(rtpw_wide_receiver_receive(&receiver, words, 512, 32774, &number) == RTPW_OK && number == 32774);
+}
+
+static void judged(rtpw_restarting_receiver *receiver, const row *rows, size_t count) {
+    size_t i;
+    for (i = 0; i < count; i++) {
+        uint64_t number = 7;
+        CHECK(rtpw_restarting_receive(receiver, rows[i].low, &number) == rows[i].status);
+        CHECK(number == rows[i].number);
+    }
+}
+
+static void senders_start_again(void) {
+    static const rtpw_restarting_receiver NEW = {0};
+    static const row ROWS[] = {
+        {1000, RTPW_OK, 66536},     {3999, RTPW_OK, 69535},         {6999, RTPW_REFUSED, 7}, {7001, RTPW_REFUSED, 7},
+        {7000, RTPW_REFUSED, 7},    {7001, RTPW_RESTARTED, 203609}, {7001, RTPW_REFUSED, 7}, {7000, RTPW_OK, 203608},
+        {65535, RTPW_REFUSED, 7},   {7002, RTPW_OK, 203610},        {0, RTPW_REFUSED, 7},    {65535, RTPW_REFUSED, 7},
+        {0, RTPW_RESTARTED, 327680}};
+    static const row VALID[] = {
+        {500, RTPW_REFUSED, 7}, {502, RTPW_REFUSED, 7}, {503, RTPW_OK, 66039}, {603, RTPW_REFUSED, 7}, {602, RTPW_OK, 66138}};
+    rtpw_restarting_receiver receiver = NEW;
+    judged(&receiver, ROWS, sizeof ROWS / sizeof *ROWS);
+    CHECK(receiver.highest == 327680 && receiver.started == 1 && receiver.in_row == 0);
+    receiver = NEW;
+    receiver.max_dropout = 100;
+    receiver.min_sequential = 2;
+    judged(&receiver, VALID, sizeof VALID / sizeof *VALID);
+}
+
+int main(void) {
+    a_thousand_numbers();
+    counts_of_words();
+    senders_start_again();
+    return failed;
+}

@@ -1,0 +1,77 @@
+use crate::sys;
+use crate::views::WideState;
+
+/// The receive state of one stream, as [`Receiver`](crate::Receiver), with a replay window of
+/// 64 * WORDS numbers in place of 128: of 1 to 512 words, which is tested as the program is compiled.
+///
+/// Choose it so that the window is longer than a packet can be late: at 30 Mbit/s 128 numbers are 43 ms.
+/// libwebrtc has 1,024, which are 16 words.
+///
+/// ```
+/// let mut receiver = rtp_wire::WideReceiver::<16>::new();
+/// assert_eq!(receiver.receive(5000), Some(5000));
+/// assert_eq!(receiver.receive(3977), Some(3977)); // 1,023 below
+/// assert_eq!(receiver.receive(3977), None); // a replay
+/// assert_eq!(receiver.receive(3976), None); // too old to tell
+/// ```
+#[derive(Clone, Copy, Debug)]
+pub struct WideReceiver<const WORDS: usize> {
+    state: WideState,
+    words: [u64; WORDS],
+}
+
+impl<const WORDS: usize> Default for WideReceiver<WORDS> {
+    fn default() -> Self {
+        Self::new()
+    }
+}
+
+impl<const WORDS: usize> WideReceiver<WORDS> {
+    const HAS_WINDOW: () = assert!(WORDS >= 1 && WORDS <= 512, "a window has 1 to 512 words");
+
+    /// A receiver that has taken nothing yet, of a stream from its beginning.
+    pub fn new() -> Self {
+        let () = Self::HAS_WINDOW;
+        WideReceiver {
+            state: WideState::default(),
+            words: [0; WORDS],
+        }
+    }
+
+    /// A receiver that has taken nothing yet, whose first packet has this rollover count. `None` where
+    /// it is 2^48 or more. With a count of 1 or more a packet from before the first one has a number
+    /// too.
+    pub fn starting_at(rollover_count: u64) -> Option<Self> {
+        let mut receiver = Self::new();
+        let status = sys::wide_receiver_start(&mut receiver.state, rollover_count);
+        (status == sys::OK).then_some(receiver)
+    }
+
+    /// The highest number taken; `None` where nothing is taken yet.
+    pub fn highest(&self) -> Option<u64> {
+        (self.state.started != 0).then_some(self.state.highest)
+    }
+
+    /// The extended sequence number of a packet: the nearest to the highest taken that ends in these 16
+    /// bits. Its low 48 bits are SRTP's packet index.
+    pub fn number_of(&self, sequence_number: u16) -> u64 {
+        sys::wide_receiver_number_of(&self.state, sequence_number)
+    }
+
+    /// Whether the number may be taken.
+    pub fn accepts(&self, number: u64) -> bool {
+        sys::wide_receiver_accepts(&self.state, &self.words, number)
+    }
+
+    /// Records that the number is taken, and returns whether it was accepted. Where it wasn't nothing
+    /// changes.
+    pub fn record(&mut self, number: u64) -> bool {
+        sys::wide_receiver_record(&mut self.state, &mut self.words, number) == sys::OK
+    }
+
+    /// Takes a packet that needn't be authenticated, and returns its extended number; `None`, and
+    /// nothing changes, where it is a replay or too old to tell.
+    pub fn receive(&mut self, sequence_number: u16) -> Option<u64> {
+        sys::wide_receiver_receive(&mut self.state, &mut self.words, sequence_number)
+    }
+}

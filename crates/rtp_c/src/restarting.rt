@@ -1,0 +1,115 @@
+//! The numbers of one stream whose sender may start again.
+
+ghost use Rattle.std.specs.Prelude.{◌≡◌};
+ghost use Rattle.rtp_base.specs.Window.{Numbers};
+ghost use Rattle.rtp_wire.specs.RestartingState.{bounds_of, HoldsEpoch};
+ghost use Rattle.rtp_c.specs.Status.{refused};
+ghost use Rattle.rtp_c.specs.StoredRestarting.{bounds_in, HoldsIn, IsAnsweredIn};
+
+use super::status::{OK, REFUSED, RESTARTED};
+use rtp_base::{SeqNo, WideWindow};
+use rtp_wire::{RestartingReceiver, RestartingVerdict, WideReceiver};
+
+// RFC 3550's MAX_DROPOUT.
+const MAX_DROPOUT: u16 = 3000;
+
+/// The receive state of one stream: `rtpw_restarting_receiver` in C, 32 bytes. Each value is one; all
+/// zeros have taken nothing yet, and have RFC 3550's bounds.
+///
+/// Each `started` but 0 counts as 1, and the highest number as taken whatever its bit says. Where
+/// nothing is taken yet neither `highest` nor the words are looked at.
+#[repr(C)]
+#[derive(Clone, Copy)]
+pub struct StoredRestarting {
+    /// The highest number taken in the epoch.
+    pub highest: u64,
+    /// Bit n % 64 of word n / 64 % 2 says whether the number n is taken, for the highest one and each
+    /// of the 127 below it.
+    pub words: [u64; 2],
+    /// A packet of the stream is less than this above the highest number taken; 0 stands for 3,000.
+    pub max_dropout: u16,
+    /// The 16 bits of the number after the last packet outside of the stream.
+    pub next: u16,
+    /// With how many packets in a row a new source is valid; 0 is the same as 1.
+    pub min_sequential: u8,
+    /// How many packets outside of the stream came last in a row, at most 255.
+    pub in_row: u8,
+    /// 0 where nothing is taken yet, and 1 afterwards.
+    pub started: u8,
+}
+
+// The receiver that is stored there.
+fn receiver_of(stored: &StoredRestarting) -> RestartingReceiver<2>
+    ensures bounds { bounds_of 2 result ≡ bounds_in stored.now }
+    ensures held { (taken : Numbers) → HoldsIn stored.now taken → HoldsEpoch 2 result taken }
+    ensures row { (result.in_row ≡ stored.now.in_row) × (result.next ≡ stored.now.next) }
+{
+    let epoch = if stored.started == 0 {
+        WideReceiver::starting_at(1)
+    } else {
+        let highest = SeqNo::from(stored.highest);
+        WideReceiver::from_window(WideWindow::from_parts(highest, stored.words))
+    };
+    let max_dropout = if stored.max_dropout == 0 {
+        MAX_DROPOUT
+    } else {
+        stored.max_dropout
+    };
+    let row = (stored.in_row, stored.next);
+    RestartingReceiver::from_parts(epoch, max_dropout, stored.min_sequential, row)
+}
+
+// Stores what the receiver holds of the packets that came.
+fn store(receiver: &RestartingReceiver<2>, stored: &mut StoredRestarting)
+    ensures held { (taken : Numbers) → HoldsEpoch 2 receiver.now taken → HoldsIn stored.new taken }
+    ensures row { (stored.new.in_row ≡ receiver.now.in_row)
+        × (stored.new.next ≡ receiver.now.next) }
+    ensures bounds { (stored.new.max_dropout ≡ stored.old.max_dropout)
+        × (stored.new.min_sequential ≡ stored.old.min_sequential) }
+{
+    match receiver.epoch().window() {
+        None => stored.started = 0,
+        Some(window) => {
+            let (highest, words) = window.parts();
+            stored.highest = highest.get();
+            stored.words = *words;
+            stored.started = 1;
+        }
+    }
+    (stored.in_row, stored.next) = receiver.row();
+}
+
+/// The verdict on the next packet of the source, by its sequence number, where nothing is
+/// authenticated (RFC 3550, appendix A.1). `OK`: it is of the stream and is taken, or it is the first
+/// one of the source. `RESTARTED`: the sender has started again, and it is taken as the first one of a
+/// new epoch. In both cases its extended number is written. `REFUSED`: it is a replay, or outside of
+/// the stream; the number isn't written.
+#[unsafe(no_mangle)]
+pub extern "C" fn rtpw_restarting_receive(
+    receiver: &mut StoredRestarting,
+    sequence_number: u16,
+    number: &mut u64,
+) -> i32
+    ensures answered { (taken : Numbers) → HoldsIn receiver.old taken →
+        IsAnsweredIn receiver.old taken sequence_number result number.new receiver.new }
+
+    // Each value of the struct holds some set, so the clauses here always speak of something.
+    ensures some { (taken : Numbers) × HoldsIn receiver.old taken }
+    ensures bounds { bounds_in receiver.new ≡ bounds_in receiver.old }
+    ensures unchanged { result ≡ refused → number.new ≡ number.old }
+{
+    let mut changed = receiver_of(receiver);
+    let verdict = changed.receive(sequence_number);
+    store(&changed, receiver);
+    match verdict {
+        RestartingVerdict::Taken(taken) => {
+            *number = taken.get();
+            OK
+        }
+        RestartingVerdict::Restarted(first) => {
+            *number = first.get();
+            RESTARTED
+        }
+        RestartingVerdict::Refused => REFUSED,
+    }
+}

@@ -1,0 +1,73 @@
+use Rattle.std.proofs.Common.{◌≡◌, ℕ, List, ◌∷◌, refl, subst, inl, inr, arith}
+use Rattle.rtp_wire.specs.declared.receive.restarting_verdict.RestartingVerdict.{RestartingVerdict}
+use Rattle.rtp_wire.specs.Restarting.{taken_in, IsRestartingVerdict}
+use Rattle.rtp_wire.specs.RestartingState.{bounds_of, RowLeads}
+use Rattle.rtp_wire.proofs.RestartingLemmas.{next_verdict, Remembers-after, one_epoch, taken_once}
+use Rattle.rtp_wire.proofs.receive.restarting.RestartingReceiver.receive.Goals as goal
+
+pub returns-in-Some-clause-verdict : goal.returns-in-Some-clause-verdict
+returns-in-Some-clause-verdict g c taken holds =
+    inl (record { number = c.in-Some.number; of_stream = c.in-Some.ensures.some taken holds c.in-Some.number refl; judged = c.receive_in_stream.ensures.judged taken holds })
+
+pub returns-in-Some-clause-row : goal.returns-in-Some-clause-row
+returns-in-Some-clause-row g c taken holds later k few = (
+  λ leads. elim leads [ inl is ↦ absurd (omega arith) | inr is ↦ absurd (omega (arith, is.0, c.receive_in_stream.ensures.row)) ],
+  λ parts. absurd (parts.1 c.in-Some.number (c.in-Some.ensures.some taken holds c.in-Some.number refl)),
+)
+
+pub returns-in-Some-clause-next : goal.returns-in-Some-clause-next
+returns-in-Some-clause-next g c before remembers =
+    next_verdict g.row.N c.args.self.now c.receive_in_stream.new.self before c.args.sequence_number c.receive_in_stream.result remembers
+    (returns-in-Some-clause-verdict g c (taken_in before) remembers.holds)
+
+pub returns-in-Some-clause-after : goal.returns-in-Some-clause-after
+returns-in-Some-clause-after g c before remembers =
+    Remembers-after g.row.N c.args.self.now c.receive_in_stream.new.self before c.args.sequence_number c.receive_in_stream.result remembers
+    (returns-in-Some-clause-verdict g c (taken_in before) remembers.holds)
+    (c.receive_in_stream.ensures.epoch (taken_in before) remembers.holds)
+    (returns-in-Some-clause-row g c (taken_in before) remembers.holds) c.receive_in_stream.ensures.bounds
+
+pub returns-in-Some-clause-one_epoch : goal.returns-in-Some-clause-one_epoch
+returns-in-Some-clause-one_epoch g c before remembers none =
+    one_epoch (bounds_of g.row.N c.args.self.now) (record { low = c.args.sequence_number; verdict = c.receive_in_stream.result } ∷ before)
+    (returns-in-Some-clause-next g c before remembers, remembers.run) none
+
+pub returns-in-Some-clause-once : goal.returns-in-Some-clause-once
+returns-in-Some-clause-once g c before remembers number is =
+    taken_once (bounds_of g.row.N c.args.self.now) (taken_in before) (RowLeads g.row.N c.args.self.now c.args.sequence_number) c.args.sequence_number number
+    (subst (λ (v : RestartingVerdict). IsRestartingVerdict (bounds_of g.row.N c.args.self.now) (taken_in before) (RowLeads g.row.N c.args.self.now c.args.sequence_number) c.args.sequence_number v)
+    is (returns-in-Some-clause-verdict g c (taken_in before) remembers.holds))
+
+pub returns-in-None-clause-verdict : goal.returns-in-None-clause-verdict
+returns-in-None-clause-verdict g c taken holds =
+    inr (record { outside = c.in-None.ensures.none taken holds refl; judged = c.receive_outside.ensures.judged taken holds })
+
+pub returns-in-None-clause-row : goal.returns-in-None-clause-row
+returns-in-None-clause-row g c taken holds later k few =
+    let grown = c.receive_outside.ensures.row taken holds later k few in (
+      λ leads. let parts = grown.0 leads in (parts.0, c.in-None.ensures.none taken holds refl, parts.1, parts.2),
+      λ parts. grown.1 (parts.0, parts.2, parts.3),
+    )
+
+pub returns-in-None-clause-next : goal.returns-in-None-clause-next
+returns-in-None-clause-next g c before remembers =
+    next_verdict g.row.N c.args.self.now c.receive_outside.new.self before c.args.sequence_number c.receive_outside.result remembers
+    (returns-in-None-clause-verdict g c (taken_in before) remembers.holds)
+
+pub returns-in-None-clause-after : goal.returns-in-None-clause-after
+returns-in-None-clause-after g c before remembers =
+    Remembers-after g.row.N c.args.self.now c.receive_outside.new.self before c.args.sequence_number c.receive_outside.result remembers
+    (returns-in-None-clause-verdict g c (taken_in before) remembers.holds)
+    (c.receive_outside.ensures.epoch (taken_in before) remembers.holds)
+    (returns-in-None-clause-row g c (taken_in before) remembers.holds) c.receive_outside.ensures.bounds
+
+pub returns-in-None-clause-one_epoch : goal.returns-in-None-clause-one_epoch
+returns-in-None-clause-one_epoch g c before remembers none =
+    one_epoch (bounds_of g.row.N c.args.self.now) (record { low = c.args.sequence_number; verdict = c.receive_outside.result } ∷ before)
+    (returns-in-None-clause-next g c before remembers, remembers.run) none
+
+pub returns-in-None-clause-once : goal.returns-in-None-clause-once
+returns-in-None-clause-once g c before remembers number is =
+    taken_once (bounds_of g.row.N c.args.self.now) (taken_in before) (RowLeads g.row.N c.args.self.now c.args.sequence_number) c.args.sequence_number number
+    (subst (λ (v : RestartingVerdict). IsRestartingVerdict (bounds_of g.row.N c.args.self.now) (taken_in before) (RowLeads g.row.N c.args.self.now c.args.sequence_number) c.args.sequence_number v)
+    is (returns-in-None-clause-verdict g c (taken_in before) remembers.holds))

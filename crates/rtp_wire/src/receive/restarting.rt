@@ -1,0 +1,316 @@
+//! The receive state of one stream whose sender may start again.
+
+ghost use Rattle.std.specs.Prelude.{◌≡◌, ◌↔◌, ◌+◌, ◌*◌, ◌%◌, ◌^◌, ◌<◌, ◌≤◌, ℕ, suc, IsTrue, List, [], ◌∷◌, Option, Some, None, false};
+ghost use Rattle.rtp_base.specs.Window.{Numbers};
+ghost use Rattle.rtp_wire.specs.Receiver.{IsHighest, IsJudgedOf};
+ghost use Rattle.rtp_wire.specs.Restarting.{IsOfStream, IsOutside, leading, first_number, IsFirst, Begins, BeginsOrRefused, in_stream, IsRestartingVerdict, Arrival, epoch_after, taken_in, IsNext, HasNoPair, IsOneEpoch};
+ghost use Rattle.rtp_wire.specs.RestartingState.{bounds_of, HoldsEpoch, RowLeads, RowGrows, Remembers};
+ghost use Rattle.rtp_wire.specs.declared.receive.restarting_verdict.RestartingVerdict.{RestartingVerdict};
+ghost use Rattle.rtp_wire.specs.declared.receive.restarting_verdict.RestartingVerdict.TheVariants.{Taken, Refused};
+
+use super::restarting_verdict::RestartingVerdict;
+use super::wide_receiver::WideReceiver;
+use rtp_base::{SeqNo, WideWindow};
+
+/// The receive state of one stream that isn't authenticated and whose sender may start again under
+/// the same SSRC (RFC 3550, appendix A.1), with a window of 64 * N numbers.
+///
+/// A packet is of the stream where its number is less than `max_dropout` above the highest number
+/// taken, or less than 64 * N below it: it is taken or refused as by
+/// [`WideReceiver`](crate::WideReceiver). Any other is outside of the stream, and is refused; but
+/// where the very next packet has the number after it and is outside of the stream too, the sender
+/// has started again. That second packet is then taken as the first one of a new epoch, with a new
+/// window.
+///
+/// Don't use it for SRTP: there a packet that isn't authentic must change nothing, and a sender that
+/// starts again would use the numbers of its key anew.
+///
+/// The first epoch has the rollover count 1 at its first packet, and each later one 2 more than the
+/// highest number before it: so a packet from before the first one of an epoch has a number, and each
+/// number of an epoch is above all of those before it.
+///
+/// ```
+/// let mut receiver = RestartingReceiver::<2>::new();
+/// assert_eq!(receiver.receive(60_000), RestartingVerdict::Taken(SeqNo::from(125_536)));
+/// assert_eq!(receiver.receive(7), RestartingVerdict::Refused);
+/// assert_eq!(receiver.receive(8), RestartingVerdict::Restarted(SeqNo::from(196_616)));
+/// assert_eq!(receiver.receive(7), RestartingVerdict::Taken(SeqNo::from(196_615)));
+/// ```
+#[derive(Debug, Drop)]
+pub struct RestartingReceiver<const N: usize> {
+    receiver: WideReceiver<N>,
+    max_dropout: u16,
+    min_sequential: u8,
+    // How many packets outside of the stream came last in a row, at most 255, and the 16 bits of the
+    // number after the last of them.
+    in_row: u8,
+    next: u16,
+}
+
+// How many numbers have their bits in one word of the window.
+const WORD: u64 = 64;
+
+// The number of the first packet of the epoch after the one with this highest number.
+fn next_epoch(highest: SeqNo, sequence_number: u16) -> Option<SeqNo>
+    ensures some { (number : ℕ) → result ≡ Some number →
+        number ≡ first_number (Some highest) sequence_number }
+    ensures none { result ≡ None → 2 ^ 64 ≤ first_number (Some highest) sequence_number }
+{
+    let rollover_count = highest.roc() + 2;
+    if rollover_count >= 1 << 48 {
+        return None;
+    }
+    Some(SeqNo::from(rollover_count * 65_536 + u64::from(sequence_number)))
+}
+
+impl<const N: usize> RestartingReceiver<N> {
+    /// A receiver that has taken nothing yet, with RFC 3550's `MAX_DROPOUT` of 3,000, that takes the
+    /// first packet of a source. Precondition: N is at least 1.
+    pub fn new() -> Self
+        requires { 0 < N }
+        ensures bounds { bounds_of N result
+            ≡ record { max_dropout = 3000; size = 64 * N; min_sequential = 1 } }
+        ensures empty { Remembers N result [] }
+    {
+        Self::with_bounds(3000, 1)
+    }
+
+    /// A receiver that has taken nothing yet, with these bounds in place of RFC 3550's. A packet of
+    /// the stream is less than `max_dropout` above the highest number taken; 32,768 or more is as
+    /// far as 16 bits tell. A source is valid, and its first packet is taken, with the last of
+    /// `min_sequential` packets in a row; 0 is the same as 1. Precondition: N is at least 1.
+    pub fn with_bounds(max_dropout: u16, min_sequential: u8) -> Self
+        requires { 0 < N }
+        ensures bounds { bounds_of N result ≡ record {
+          max_dropout = max_dropout;
+          size = 64 * N;
+          min_sequential = min_sequential;
+        } }
+        ensures empty { Remembers N result [] }
+    {
+        RestartingReceiver {
+            receiver: WideReceiver::starting_at(1),
+            max_dropout,
+            min_sequential,
+            in_row: 0,
+            next: 0,
+        }
+    }
+
+    /// The receiver that goes on from these parts: with the same bounds, what [`epoch`](Self::epoch)
+    /// lent, and what [`row`](Self::row) returned.
+    pub fn from_parts(
+        epoch: WideReceiver<N>,
+        max_dropout: u16,
+        min_sequential: u8,
+        row: (u8, u16),
+    ) -> Self
+        ensures { result ≡ record {
+          receiver = epoch.entry;
+          max_dropout = max_dropout;
+          min_sequential = min_sequential;
+          in_row = row.0;
+          next = row.1;
+        } }
+    {
+        RestartingReceiver {
+            receiver: epoch,
+            max_dropout,
+            min_sequential,
+            in_row: row.0,
+            next: row.1,
+        }
+    }
+
+    /// What is taken in the epoch. Where nothing is taken yet it starts at the rollover count 1.
+    pub fn epoch(&self) -> &WideReceiver<N>
+        ensures { result.now ≡ self.now.receiver }
+    {
+        &self.receiver
+    }
+
+    /// How many packets outside of the stream came last in a row, at most 255, and the 16 bits of the
+    /// number after the last of them.
+    pub fn row(&self) -> (u8, u16)
+        ensures { (result.0 ≡ self.now.in_row) × (result.1 ≡ self.now.next) }
+    {
+        (self.in_row, self.next)
+    }
+
+    /// The highest number taken in the epoch, and `None` where nothing is taken yet.
+    pub fn highest(&self) -> Option<SeqNo>
+        ensures highest { (taken : Numbers) → HoldsEpoch N self.now taken → IsHighest taken result }
+    {
+        self.receiver.highest()
+    }
+
+    /// The verdict on the next packet of the source, by its sequence number.
+    pub fn receive(&mut self, sequence_number: u16) -> RestartingVerdict
+        ensures verdict { (taken : Numbers) → HoldsEpoch N self.old taken →
+            IsRestartingVerdict (bounds_of N self.old) taken
+            (RowLeads N self.old sequence_number) sequence_number result }
+        ensures epoch { (taken : Numbers) → HoldsEpoch N self.old taken →
+            HoldsEpoch N self.new (epoch_after taken result) }
+        ensures row { (taken : Numbers) → HoldsEpoch N self.old taken →
+            RowGrows N self.old taken sequence_number result self.new }
+        ensures bounds { bounds_of N self.new ≡ bounds_of N self.old }
+
+        // The same by all packets that came before, whatever they were.
+        ensures next { (before : List Arrival) → Remembers N self.old before →
+            IsNext (bounds_of N self.old) before
+            (record { low = sequence_number; verdict = result }) }
+        ensures after { (before : List Arrival) → Remembers N self.old before →
+            Remembers N self.new (record { low = sequence_number; verdict = result } ∷ before) }
+
+        // Without two packets in a row that are outside of the stream there is one epoch.
+        ensures one_epoch { (before : List Arrival) → Remembers N self.old before →
+            HasNoPair (bounds_of N self.old)
+            (record { low = sequence_number; verdict = result } ∷ before) →
+            IsOneEpoch (record { low = sequence_number; verdict = result } ∷ before) }
+
+        // No number is taken twice in an epoch.
+        ensures once { (before : List Arrival) → Remembers N self.old before →
+            (number : ℕ) → result ≡ Taken number → taken_in before number ≡ false }
+    {
+        match self.stream_number(sequence_number) {
+            Some(number) => self.receive_in_stream(number),
+            None => self.receive_outside(sequence_number),
+        }
+    }
+
+    // The number of a packet of the stream.
+    fn stream_number(&self, sequence_number: u16) -> Option<SeqNo>
+        ensures some { (taken : Numbers) → HoldsEpoch N self.now taken → (number : ℕ) →
+            result ≡ Some number → IsOfStream (bounds_of N self.now) taken sequence_number number }
+        ensures none { (taken : Numbers) → HoldsEpoch N self.now taken → result ≡ None →
+            IsOutside (bounds_of N self.now) taken sequence_number }
+    {
+        let highest = self.receiver.highest()?;
+        let number = self.receiver.number_of(sequence_number);
+        if self.is_near(highest.get(), number.get()) {
+            Some(number)
+        } else {
+            None
+        }
+    }
+
+    // Whether a number is as near to the highest one as those of the stream are.
+    fn is_near(&self, highest: u64, number: u64) -> bool
+        ensures { IsTrue result ↔ ((number < highest + self.now.max_dropout)
+            × (highest < number + 64 * N)) }
+    {
+        let is_ahead = number < highest || number - highest < u64::from(self.max_dropout);
+        let is_behind = highest < number || (highest - number) / WORD < N as u64;
+        is_ahead && is_behind
+    }
+
+    // The verdict on a packet of the stream, by its number.
+    fn receive_in_stream(&mut self, number: SeqNo) -> RestartingVerdict
+        ensures judged { (taken : Numbers) → HoldsEpoch N self.old taken →
+            IsJudgedOf (64 * N) taken number (in_stream result) }
+        ensures epoch { (taken : Numbers) → HoldsEpoch N self.old taken →
+            HoldsEpoch N self.new (epoch_after taken result) }
+        ensures row { self.new.in_row ≡ 0 }
+        ensures bounds { bounds_of N self.new ≡ bounds_of N self.old }
+    {
+        self.in_row = 0;
+        if self.receiver.take(number) {
+            RestartingVerdict::Taken(number)
+        } else {
+            RestartingVerdict::Refused
+        }
+    }
+
+    // How many packets in a row lead up to the first one of an epoch.
+    fn leading(&self) -> u8
+        ensures { (taken : Numbers) → HoldsEpoch N self.now taken → (highest : Option ℕ) →
+            IsHighest taken highest → result ≡ leading (bounds_of N self.now) highest }
+    {
+        match self.receiver.highest() {
+            None => self.min_sequential.saturating_sub(1),
+            Some(_) => 1,
+        }
+    }
+
+    // How many packets lead up to one of these 16 bits.
+    fn row_before(&self, sequence_number: u16) -> u8
+        ensures { (k : ℕ) → RowLeads N self.now sequence_number k ↔ k ≤ result }
+    {
+        if sequence_number == self.next {
+            self.in_row
+        } else {
+            0
+        }
+    }
+
+    // Begins an epoch with a packet, whatever leads up to it. Nothing changes where no number of 64
+    // bits is left for it.
+    fn start_epoch(&mut self, sequence_number: u16) -> Option<RestartingVerdict>
+        ensures first { (taken : Numbers) → HoldsEpoch N self.old taken →
+            (verdict : RestartingVerdict) → result ≡ Some verdict →
+            IsFirst taken sequence_number verdict }
+        ensures epoch { (taken : Numbers) → HoldsEpoch N self.old taken →
+            (verdict : RestartingVerdict) → result ≡ Some verdict →
+            HoldsEpoch N self.new (epoch_after taken verdict) }
+        ensures none { result ≡ None → (taken : Numbers) → HoldsEpoch N self.old taken →
+            (verdict : RestartingVerdict) → IsFirst taken sequence_number verdict → ⊥ }
+        ensures unchanged { result ≡ None → self.new ≡ self.old }
+        ensures bounds { bounds_of N self.new ≡ bounds_of N self.old }
+    {
+        let Some(highest) = self.receiver.highest() else {
+            let number = self.receiver.number_of(sequence_number);
+            self.receiver.record(number);
+            return Some(RestartingVerdict::Taken(number));
+        };
+        let number = next_epoch(highest, sequence_number)?;
+        self.receiver.start_with(number);
+        Some(RestartingVerdict::Restarted(number))
+    }
+
+    // Begins an epoch with a packet, where as many lead up to it as must.
+    fn begin(&mut self, sequence_number: u16) -> Option<RestartingVerdict>
+        ensures begins { (taken : Numbers) → HoldsEpoch N self.old taken →
+            (verdict : RestartingVerdict) → result ≡ Some verdict →
+            Begins (bounds_of N self.old) taken
+            (RowLeads N self.old sequence_number) sequence_number verdict }
+        ensures epoch { (taken : Numbers) → HoldsEpoch N self.old taken →
+            (verdict : RestartingVerdict) → result ≡ Some verdict →
+            HoldsEpoch N self.new (epoch_after taken verdict) }
+        ensures none { result ≡ None → (taken : Numbers) → HoldsEpoch N self.old taken →
+            (verdict : RestartingVerdict) → Begins (bounds_of N self.old) taken
+            (RowLeads N self.old sequence_number) sequence_number verdict → ⊥ }
+        ensures unchanged { result ≡ None → self.new ≡ self.old }
+        ensures bounds { bounds_of N self.new ≡ bounds_of N self.old }
+    {
+        if self.row_before(sequence_number) < self.leading() {
+            return None;
+        }
+        self.start_epoch(sequence_number)
+    }
+
+    // The verdict on a packet that is outside of the stream.
+    fn receive_outside(&mut self, sequence_number: u16) -> RestartingVerdict
+        ensures judged { (taken : Numbers) → HoldsEpoch N self.old taken →
+            BeginsOrRefused (bounds_of N self.old) taken
+            (RowLeads N self.old sequence_number) sequence_number result }
+        ensures epoch { (taken : Numbers) → HoldsEpoch N self.old taken →
+            HoldsEpoch N self.new (epoch_after taken result) }
+        ensures row { (taken : Numbers) → HoldsEpoch N self.old taken →
+            (later k : ℕ) → suc k ≤ 255 → RowLeads N self.new later (suc k)
+            ↔ ((result ≡ Refused) × (later ≡ (sequence_number + 1) % 65536)
+            × RowLeads N self.old sequence_number k) }
+        ensures bounds { bounds_of N self.new ≡ bounds_of N self.old }
+    {
+        match self.begin(sequence_number) {
+            Some(verdict) => {
+                self.in_row = 0;
+                verdict
+            }
+            None => {
+                self.in_row = self.row_before(sequence_number).saturating_add(1);
+                self.next = sequence_number.wrapping_add(1);
+                RestartingVerdict::Refused
+            }
+        }
+    }
+}
