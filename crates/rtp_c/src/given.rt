@@ -69,9 +69,7 @@ fn text_in(bytes: &[u8]) -> Option<&[u8]>
     ensures found { IfSome result (λ text. IsTextIn bytes.now text.now) }
     ensures none { IfNone result ((text : List ℕ) → IsTextIn bytes.now text → ⊥) }
 {
-    let Some(len) = first_zero(bytes) else {
-        return None;
-    };
+    let len = first_zero(bytes)?;
     let text = &bytes[..len];
     if !are_id_bytes(text) {
         return None;
@@ -95,10 +93,8 @@ fn mid_of(bytes: &[u8; 17]) -> Option<Mid>
     ensures found { IfSome result (IsIdIn 16 bytes.now) }
     ensures none { IfNone result ((id : List ℕ) → IsIdIn 16 bytes.now id → ⊥) }
 {
-    match text_in(bytes) {
-        Some(text) => Some(Mid::from_array(padded(text))),
-        None => None,
-    }
+    let text = text_in(bytes)?;
+    Some(Mid::from_array(padded(text)))
 }
 
 // The stream id whose text this is.
@@ -106,10 +102,8 @@ fn rid_of(bytes: &[u8; 9]) -> Option<Rid>
     ensures found { IfSome result (IsIdIn 8 bytes.now) }
     ensures none { IfNone result ((id : List ℕ) → IsIdIn 8 bytes.now id → ⊥) }
 {
-    match text_in(bytes) {
-        Some(text) => Some(Rid::from_array(padded(text))),
-        None => None,
-    }
+    let text = text_in(bytes)?;
+    Some(Rid::from_array(padded(text)))
 }
 
 // The orientation of these degrees, where it is given; `None` where it is given and there is no such one.

@@ -8,8 +8,8 @@ ghost use Rattle.rtp_wire.specs.PartsOf.{parts_of};
 ghost use Rattle.rtp_c.specs.HeaderView.{IsViewOfHeader, BeginsWithHeader, IsParsedAs, IsParsedWithLayersAs, TakesMemoryFrom};
 ghost use Rattle.rtp_c.specs.Status.{ok, no_memory, IsCauseStatus};
 
+use super::kinds::StoredMap;
 use super::layers::{Layers, put_layers};
-use super::map::StoredMap;
 use super::status::{NO_MEMORY, OK, status_of};
 use super::values::{ValuesView, flag_number, put_no_values, put_values};
 use rtp_ext::read_values;

@@ -1,12 +1,21 @@
 //! The map that C fills, as it stands, as a map of kinds.
 
 ghost use Rattle.std.specs.Prelude.{◌≡◌, ◌≢◌, ◌↔◌, ℕ, ◌<◌, ◌≤◌, length, slice_index, false, IsTrue, IfSome, IfNone};
-ghost use Rattle.rtp_c.specs.KindNumbers.{kind_numbered};
+ghost use Rattle.rtp_c.specs.KindNumbers.{kind_number, kind_numbered};
 ghost use Rattle.rtp_c.specs.StoredMap.{IsFirstNumber};
 
-use super::map::{StoredMap, number_of};
 use rtp_ext::{Cursor, Kinds, is_long};
 use rtp_values::KnownKind;
+
+/// The extensions by their ids (RFC 8285, 5): `rtpw_map` in C, 256 bytes, which C may fill itself. Each
+/// value is one: a number that is no kind's maps its id to nothing, and what stands at index 0 is
+/// passed over.
+#[repr(C)]
+#[derive(Clone, Copy)]
+pub struct StoredMap {
+    /// The number of the kind of each id.
+    pub kind: [u8; 256],
+}
 
 // A walk ends after so many slots, where the others are empty: those of the one-byte form, or all.
 // Where only ids below 8 are mapped it ends after the last one.
@@ -16,6 +25,9 @@ const ALL_SLOTS: usize = 255;
 
 // The number of the kind that may have long data.
 const LAYERS: u8 = 15;
+
+// The greatest number of a kind.
+pub const LAST_NUMBER: u8 = 15;
 
 // The kind of this number.
 #[inline(always)]
@@ -40,6 +52,29 @@ fn kind_numbered(number: u8) -> Option<KnownKind>
         14 => Some(KnownKind::ColorSpace),
         15 => Some(KnownKind::VideoLayersAllocation),
         _ => None,
+    }
+}
+
+// The number of the kind.
+pub fn number_of(kind: KnownKind) -> u8
+    ensures { result ≡ kind_number kind }
+{
+    match kind {
+        KnownKind::AbsoluteSendTime => 1,
+        KnownKind::AbsoluteCaptureTime => 2,
+        KnownKind::AudioLevel => 3,
+        KnownKind::TransmissionTimeOffset => 4,
+        KnownKind::VideoOrientation => 5,
+        KnownKind::TransportSequenceNumber => 6,
+        KnownKind::PlayoutDelay => 7,
+        KnownKind::VideoContentType => 8,
+        KnownKind::VideoTiming => 9,
+        KnownKind::RtpStreamId => 10,
+        KnownKind::RepairedRtpStreamId => 11,
+        KnownKind::RtpMid => 12,
+        KnownKind::FrameMarking => 13,
+        KnownKind::ColorSpace => 14,
+        KnownKind::VideoLayersAllocation => 15,
     }
 }
 

@@ -18,47 +18,12 @@ ghost use Rattle.rtp_c.specs.StoredMap.{AreStandardNumbers, AreNewIdsOf};
 ghost use Rattle.rtp_c.specs.Status.{ok, bad_field, IsCauseStatus};
 
 use super::changing::layout_of;
+use super::kinds::{LAST_NUMBER, StoredMap, number_of};
 use super::status::{BAD_FIELD, OK};
 use rtp_ext::NewIds;
 use rtp_values::KnownKind;
 use rtp_wire::RtpPacketMut;
 use std::str;
-
-/// The extensions by their ids (RFC 8285, 5): `rtpw_map` in C, 256 bytes, which C may fill itself. Each
-/// value is one: a number that is no kind's maps its id to nothing, and what stands at index 0 is
-/// passed over.
-#[repr(C)]
-#[derive(Clone, Copy)]
-pub struct StoredMap {
-    /// The number of the kind of each id.
-    pub kind: [u8; 256],
-}
-
-// The greatest number of a kind.
-const LAST_NUMBER: u8 = 15;
-
-// The number of the kind.
-pub fn number_of(kind: KnownKind) -> u8
-    ensures { result ≡ kind_number kind }
-{
-    match kind {
-        KnownKind::AbsoluteSendTime => 1,
-        KnownKind::AbsoluteCaptureTime => 2,
-        KnownKind::AudioLevel => 3,
-        KnownKind::TransmissionTimeOffset => 4,
-        KnownKind::VideoOrientation => 5,
-        KnownKind::TransportSequenceNumber => 6,
-        KnownKind::PlayoutDelay => 7,
-        KnownKind::VideoContentType => 8,
-        KnownKind::VideoTiming => 9,
-        KnownKind::RtpStreamId => 10,
-        KnownKind::RepairedRtpStreamId => 11,
-        KnownKind::RtpMid => 12,
-        KnownKind::FrameMarking => 13,
-        KnownKind::ColorSpace => 14,
-        KnownKind::VideoLayersAllocation => 15,
-    }
-}
 
 /// Maps the id to the kind of this number, or to nothing where it is 0, instead of what it was mapped
 /// to (RFC 8285, 5). `OK`; `BAD_FIELD` where the id is 0, which is that of padding, or the number is

@@ -10,7 +10,7 @@ ghost use Rattle.rtp_c.specs.Told.{IsToldOr, IsTold, IsToldTime, IsToldText, no_
 ghost use Rattle.rtp_c.specs.PacketView.{form_number};
 ghost use Rattle.rtp_c.specs.ValuesView.{IsViewOfValues, IsReadAs, TakesMemoryIn};
 
-use super::map::StoredMap;
+use super::kinds::StoredMap;
 use super::packet::form_of;
 use super::status::{BAD_FIELD, NO_MEMORY, OK};
 use rtp_base::{MediaTime, Mid, Rid, put};

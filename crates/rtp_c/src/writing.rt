@@ -14,7 +14,7 @@ ghost use Rattle.rtp_c.specs.WrittenHeader.{IsLengthOf, IsWrittenHeader, IsTooLo
 
 use super::given::{put_given_fields, put_given_header};
 use super::header::HeaderView;
-use super::map::StoredMap;
+use super::kinds::StoredMap;
 use super::packet::{ElementView, form_of};
 use super::status::{BAD_FIELD, NO_MEMORY, OK, SHORT_BUFFER};
 use rtp_ext::{ExtensionsForm, write_elements};

@@ -63,21 +63,6 @@ impl Model for KindsById {
 }
 
 impl KindsById {
-    // The table of these kinds, each at the index of its id; what stands at index 0 is passed over.
-    fn new(kinds: [Option<KnownKind>; IDS]) -> Self
-        ensures { slots_of result ≡ slots_of kinds }
-    {
-        let mut kinds = kinds;
-        kinds[0] = None;
-        let mapped = MappedIds::of_kinds(&kinds[1..]);
-        let is_long = has_long(&kinds, mapped.as_slice());
-        KindsById {
-            kinds,
-            mapped,
-            is_long,
-        }
-    }
-
     // A table in which no id is mapped.
     pub(super) fn empty() -> Self
         ensures { slots_of result ≡ replicate MAX_ID None }
@@ -96,7 +81,13 @@ impl KindsById {
     {
         let mut kinds = [None; IDS];
         copy_known(slots, &mut kinds[1..]);
-        Self::new(kinds)
+        let mapped = MappedIds::of_kinds(&kinds[1..]);
+        let is_long = has_long(&kinds, mapped.as_slice());
+        KindsById {
+            kinds,
+            mapped,
+            is_long,
+        }
     }
 
     // How many ids are mapped.

@@ -157,19 +157,12 @@ impl ExtensionMap {
         slots::id_of(&self.slots, &ext)
     }
 
-    // The mapped ids by rising id, each with its extension.
-    pub(super) fn items(&self) -> Iter<'_>
-        ensures items { result ≡ items_from 0 self.now }
-        ensures few { length (items_from 0 self.now) ≤ MAX_ID }
-    {
-        Iter::new(&self.slots, self.mapped.as_slice())
-    }
-
     /// The mapped ids by rising id, each with its extension.
     pub fn iter(&self) -> Iter<'_>
-        ensures { spec.IsListing self.now (λ _. true) result }
+        ensures listing { spec.IsListing self.now (λ _. true) result }
+        ensures items { result ≡ items_from 0 self.now }
     {
-        self.items()
+        Iter::new(&self.slots, self.mapped.as_slice())
     }
 
     /// The ids whose extensions are for audio, or else for video, by rising id, each with its
@@ -300,7 +293,7 @@ impl fmt::Debug for ExtensionMap {
 
     fn fmt<W: fmt::Write>(&self, f: &mut fmt::Formatter<W>) -> fmt::Result {
         f.write_str("Extensions(")?;
-        write_entries(f, self.items())?;
+        write_entries(f, self.iter())?;
         f.write_str(")")
     }
 }

@@ -9,7 +9,7 @@ use Rattle.hex.specs.Hex.{decode_of}
 use Rattle.rtp_base.specs.Window.{Numbers}
 use Rattle.rtp_ext.specs.declared.map.ExtensionMap.{ExtensionMap}
 use Rattle.rtp_wire.specs.declared.header.rtp_header.RtpHeader.{RtpHeader}
-use Rattle.rtp_wire.specs.declared.receive.verdict.Verdict.{Verdict}
+use Rattle.rtp_wire.specs.declared.receive.receiver.Verdict.{Verdict}
 use Rattle.rtp_wire.specs.Receivers.{ReceiverStates}
 use Rattle.rtp_wire.specs.Verdicts.{packet_id_of, IsVerdict}
 use Rattle.rtp_wire.specs.Sources.{numbers_beside}

@@ -9,7 +9,7 @@ ghost use Rattle.rtp_wire.specs.Receiver.{Holds, IsNumberOf, IsFresh, IsJudged, 
 ghost use Rattle.rtp_wire.specs.Receivers.{receiver_of, state_of};
 ghost use Rattle.rtp_wire.specs.TrueNumbers.{IsTrueNumber, AreTrueNumbers, AreTrueVerdicts};
 ghost use Rattle.rtp_wire.specs.Sending.{packet_ids_of};
-ghost use Rattle.rtp_wire.specs.declared.receive.verdict.Verdict.TheVariants.{Taken, Unreadable};
+ghost use Rattle.rtp_wire.specs.declared.receive.receiver.Verdict.TheVariants.{Taken, Unreadable};
 
 use rtp_base::{SeqNo, Ssrc};
 use rtp_wire::{Receiver, Receivers, RtpHeader, RtpPacket, Verdict};

@@ -4,8 +4,8 @@ use Rattle.std.specs.Prelude.{IsTrue}
 use Rattle.std.proofs.lemmas.Bool.{false≢true}
 use Rattle.rtp_base.specs.Window.{Numbers, WindowState, IsGreatest, Keeps, Accepts, including}
 use Rattle.rtp_base.proofs.WindowLemmas.{Keeps-refused}
-use Rattle.rtp_wire.specs.declared.receive.state.ReceiverState.{ReceiverState}
-use Rattle.rtp_wire.specs.declared.receive.state.ReceiverState.TheVariants.{Start, Window}
+use Rattle.rtp_wire.specs.declared.receive.receiver.ReceiverState.{ReceiverState}
+use Rattle.rtp_wire.specs.declared.receive.receiver.ReceiverState.TheVariants.{Start, Window}
 use Rattle.rtp_wire.specs.Receiver.{Holds, IsNothing, IsFresh}
 
 -- a set with a greatest number is not empty

@@ -7,8 +7,8 @@ use Rattle.std.specs.BTreeMap.{BTreeMap, get}
 use Rattle.std.proofs.lemmas.List.{get_or_default}
 use Rattle.std.proofs.lemmas.Option.{none-some}
 use Rattle.rtp_base.specs.Window.{Numbers}
-use Rattle.rtp_wire.specs.declared.receive.state.ReceiverState.{ReceiverState}
-use Rattle.rtp_wire.specs.declared.receive.state.ReceiverState.TheVariants.{Start}
+use Rattle.rtp_wire.specs.declared.receive.receiver.ReceiverState.{ReceiverState}
+use Rattle.rtp_wire.specs.declared.receive.receiver.ReceiverState.TheVariants.{Start}
 use Rattle.rtp_wire.specs.Receiver.{Holds, StaysBelowZeroIn}
 use Rattle.rtp_wire.specs.Receivers.{ReceiverStates, receiver_of, state_of}
 use Rattle.rtp_wire.specs.SourcePlaces.{past_the_end, held_at, held, ArePlaces}
@@ -45,18 +45,21 @@ module _ (rollover_count : ℕ) (places : BTreeMap ℕ ℕ) (list : List (ℕ ×
   pub no_place : receiver_of receivers source ≡ None → get nat_cmp places source ≡ None
   no_place none = no_value list (get nat_cmp places source) (sym (held_of-place places list source) ∙ ap (λ (rs : ReceiverStates). receiver_of rs source) same ∙ none)
 
+  start : {state : ReceiverState} → state ≡ Start rollover_count → state ≡ Start receivers.rollover_count
+  start is = is ∙ ap (λ (rs : ReceiverStates). Start rs.rollover_count) same
+
   -- a receiver that is made for it holds what is held of it
-  pub Holds-new : (added : ReceiverState) → get nat_cmp places source ≡ None → added ≡ Start receivers.rollover_count → (count : ℕ) (taken : Numbers)
+  pub Holds-new : (added : ReceiverState) → get nat_cmp places source ≡ None → added ≡ Start rollover_count → (count : ℕ) (taken : Numbers)
       → Holds (state_of receivers source) count taken → Holds added count taken
   Holds-new added none is count taken holds =
-      subst (λ (state : ReceiverState). Holds state count taken) (ap (λ (o : Option ReceiverState). unwrap_or o (Start receivers.rollover_count)) (no_receiver none) ∙ sym is) holds
+      subst (λ (state : ReceiverState). Holds state count taken) (ap (λ (o : Option ReceiverState). unwrap_or o (Start receivers.rollover_count)) (no_receiver none) ∙ sym (start is)) holds
 
   -- and it stays with the numbers below 0 that the source had
-  pub StaysBelowZeroIn-new : (made added : ReceiverState) (after : ReceiverStates) → get nat_cmp places source ≡ None → made ≡ Start receivers.rollover_count
+  pub StaysBelowZeroIn-new : (made added : ReceiverState) (after : ReceiverStates) → get nat_cmp places source ≡ None → made ≡ Start rollover_count
       → receiver_of after source ≡ Some added → StaysBelowZeroIn made added → StaysBelowZeroIn (state_of receivers source) (state_of after source)
   StaysBelowZeroIn-new made added after none is now stays =
       subst (λ (s : ReceiverState). StaysBelowZeroIn s (state_of after source))
-      (is ∙ sym (ap (λ (o : Option ReceiverState). unwrap_or o (Start receivers.rollover_count)) (no_receiver none)))
+      (start is ∙ sym (ap (λ (o : Option ReceiverState). unwrap_or o (Start receivers.rollover_count)) (no_receiver none)))
       (subst (λ (s : ReceiverState). StaysBelowZeroIn made s) (sym (state_is after source added now)) stays)
 
   module _ (place : ℕ) (value : ℕ × ReceiverState) (are : ArePlaces places list) (is : get nat_cmp places source ≡ Some place) (read : value ≡ get_or list place value) where

@@ -8,8 +8,8 @@ use Rattle.std.proofs.lemmas.List.{length-map}
 use Rattle.rtp_base.specs.Window.{Numbers}
 use Rattle.rtp_ext.specs.declared.map.ExtensionMap.{ExtensionMap}
 use Rattle.rtp_wire.specs.declared.header.rtp_header.RtpHeader.{RtpHeader}
-use Rattle.rtp_wire.specs.declared.receive.state.ReceiverState.{ReceiverState}
-use Rattle.rtp_wire.specs.declared.receive.verdict.Verdict.{Verdict}
+use Rattle.rtp_wire.specs.declared.receive.receiver.ReceiverState.{ReceiverState}
+use Rattle.rtp_wire.specs.declared.receive.receiver.Verdict.{Verdict}
 use Rattle.rtp_wire.specs.Receiver.{Holds, taken_after}
 use Rattle.rtp_wire.specs.Receivers.{ReceiverStates, receiver_of, state_of}
 use Rattle.rtp_wire.specs.Verdicts.{PacketId, packet_id_of, IsPacketId, ArePacketIds, taken_by, IsVerdict, IsRun, AreVerdicts}

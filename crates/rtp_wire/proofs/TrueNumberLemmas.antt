@@ -6,8 +6,8 @@ use Rattle.std.proofs.lemmas.List.{take_more}
 use Rattle.rtp_base.specs.Window.{Numbers, IsGreatest, Accepts, including}
 use Rattle.rtp_base.proofs.WindowLemmas.{greatest_stays}
 use Rattle.rtp_ext.specs.declared.map.ExtensionMap.{ExtensionMap}
-use Rattle.rtp_wire.specs.declared.receive.verdict.Verdict.{Verdict}
-use Rattle.rtp_wire.specs.declared.receive.verdict.Verdict.TheVariants.{Unreadable, Taken, Refused}
+use Rattle.rtp_wire.specs.declared.receive.receiver.Verdict.{Verdict}
+use Rattle.rtp_wire.specs.declared.receive.receiver.Verdict.TheVariants.{Unreadable, Taken, Refused}
 use Rattle.rtp_wire.specs.Widening.{IsNearest}
 use Rattle.rtp_wire.specs.Receiver.{IsNothing, IsHighest, ExtendsFrom, IsNumberOf, IsFresh, taken_after}
 use Rattle.rtp_wire.specs.Verdicts.{PacketId, ArePacketIds, taken_by, IsVerdict, IsRun, AreVerdicts}

@@ -8,10 +8,10 @@ use Rattle.rtp_base.specs.Window.{Numbers}
 use Rattle.rtp_ext.specs.declared.map.ExtensionMap.{ExtensionMap}
 use Rattle.rtp_ext.proofs.ElementLemmasOfBodies.{AreBytes}
 use Rattle.rtp_wire.specs.declared.header.rtp_header.RtpHeader.{RtpHeader}
-use Rattle.rtp_wire.specs.declared.receive.state.ReceiverState.{ReceiverState}
-use Rattle.rtp_wire.specs.declared.receive.state.ReceiverState.TheVariants.{Start, Window}
-use Rattle.rtp_wire.specs.declared.receive.verdict.Verdict.{Verdict}
-use Rattle.rtp_wire.specs.declared.receive.verdict.Verdict.TheVariants.{Unreadable, Taken, Refused}
+use Rattle.rtp_wire.specs.declared.receive.receiver.ReceiverState.{ReceiverState}
+use Rattle.rtp_wire.specs.declared.receive.receiver.ReceiverState.TheVariants.{Start, Window}
+use Rattle.rtp_wire.specs.declared.receive.receiver.Verdict.{Verdict}
+use Rattle.rtp_wire.specs.declared.receive.receiver.Verdict.TheVariants.{Unreadable, Taken, Refused}
 use Rattle.rtp_wire.specs.Packet.{PacketParts, IsPacket}
 use Rattle.rtp_wire.specs.Header.{header_of, IsWire}
 use Rattle.rtp_wire.specs.Receiver.{Holds, IsFresh, taken_after}

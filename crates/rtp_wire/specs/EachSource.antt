@@ -1,7 +1,7 @@
 -- What receivers hold of each source, before and after a datagram: what the functions of `receive` promise each other.
 use Rattle.std.specs.Prelude.{ℕ, if◌then◌else◌, Option}
 use Rattle.rtp_base.specs.Window.{Numbers}
-use Rattle.rtp_wire.specs.declared.receive.verdict.Verdict.{Verdict}
+use Rattle.rtp_wire.specs.declared.receive.receiver.Verdict.{Verdict}
 use Rattle.rtp_wire.specs.Receiver.{Holds, taken_after}
 use Rattle.rtp_wire.specs.Receivers.{ReceiverStates, state_of}
 use Rattle.rtp_wire.specs.Verdicts.{PacketId}

@@ -2,7 +2,7 @@
 use Rattle.std.specs.Prelude.{ℕ, List, [], ◌∷◌, Bool, false, if◌then◌else◌, ◌==◌, Option, Some, None}
 use Rattle.rtp_base.specs.Window.{Numbers}
 use Rattle.rtp_ext.specs.declared.map.ExtensionMap.{ExtensionMap}
-use Rattle.rtp_wire.specs.declared.receive.verdict.Verdict.{Verdict}
+use Rattle.rtp_wire.specs.declared.receive.receiver.Verdict.{Verdict}
 use Rattle.rtp_wire.specs.declared.header.rtp_header.RtpHeader.{RtpHeader}
 use Rattle.rtp_wire.specs.Verdicts.{PacketId, ArePacketIds, taken_by, IsRunBy, AreVerdicts, TakesOnce}
 use Rattle.rtp_wire.specs.TrueNumbers.{AreTrueNumbers, AreTrueVerdicts}

@@ -1,8 +1,8 @@
 -- The numbers that a sender gave its packets, and what a receiver says of these packets (RFC 3711, 3.3.1).
 use Rattle.std.specs.Prelude.{◌≡◌, ℕ, ◌+◌, ◌*◌, ◌%◌, ◌^◌, ◌<◌, ◌≤◌, List, [], ◌∷◌, length, take, false, ◌||◌, ◌==◌, Option, Some, None, IfSome, slice_index_or}
 use Rattle.rtp_base.specs.Window.{Numbers}
-use Rattle.rtp_wire.specs.declared.receive.verdict.Verdict.{Verdict}
-use Rattle.rtp_wire.specs.declared.receive.verdict.Verdict.TheVariants.{Unreadable}
+use Rattle.rtp_wire.specs.declared.receive.receiver.Verdict.{Verdict}
+use Rattle.rtp_wire.specs.declared.receive.receiver.Verdict.TheVariants.{Unreadable}
 use Rattle.rtp_wire.specs.Receiver.{IsHighest, IsJudged}
 use Rattle.rtp_wire.specs.Verdicts.{PacketId}
 

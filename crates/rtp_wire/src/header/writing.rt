@@ -9,9 +9,9 @@ ghost use Rattle.rtp_ext.specs.Elements.{AreElements};
 ghost use Rattle.rtp_ext.specs.ElementsInARow.{elements_of, form_for};
 ghost use Rattle.rtp_ext.specs.ExtensionMap.{items_from, mapped_count, HasNoIdAbove};
 ghost use Rattle.rtp_ext.specs.WrittenBlock.{TakesAtMost17Each, whole_words};
-ghost use Rattle.rtp_wire.specs.Header.{IsExtensionPart, IsWire};
+ghost use Rattle.rtp_wire.specs.Header.{IsWire};
 ghost use Rattle.rtp_wire.specs.Packet.{IsFirstByte, IsPacket};
-ghost use Rattle.rtp_wire.specs.Written.{fixed_bytes, extension_bytes, wire_bytes, carried_image, image_of, CannotBeWritten};
+ghost use Rattle.rtp_wire.specs.Written.{fixed_bytes, extension_bytes, wire_bytes, image_of, CannotBeWritten};
 ghost use Rattle.rtp_wire.specs.WrittenInForm.{announced_form, IsWithinMap};
 ghost use Rattle.rtp_wire.specs.WrittenWith.{body_with, wire_bytes_with, parts_with, CannotBeWrittenWith};
 
@@ -214,40 +214,10 @@ impl RtpHeader {
         let sources = &self.csrc[..self.csrc_count];
         let end = put(buf, 0, &self.fixed_bytes(self.has_extension));
         let end = put_sources(buf, end, sources);
-        self.put_extension(buf, end, kinds, start, form)
-    }
-
-    // Puts the block in this form, and returns the offset after it.
-    #[inline(always)]
-    fn put_extension<K: Kinds>(
-        &self,
-        buf: &mut [u8],
-        at: usize,
-        kinds: &K,
-        start: Cursor,
-        form: Option<ExtensionsForm>,
-    ) -> usize
-        requires start { K.left kinds.now start ≡ items_from 0 (K.known kinds.now) }
-        requires few_ids { length (items_from 0 (K.known kinds.now)) ≤ 255 }
-        requires form { form
-            ≡ announced_form (K.slots kinds.now) self.now.has_extension self.now.ext_vals }
-        requires room { at
-            + length (extension_bytes (K.slots kinds.now) self.now.has_extension self.now.ext_vals)
-            ≤ length buf.old }
-        ensures written { buf.new ≡ overwritten buf.old at
-            (extension_bytes (K.slots kinds.now) self.now.has_extension self.now.ext_vals) }
-        ensures end { result ≡ at
-            + length (extension_bytes (K.slots kinds.now) self.now.has_extension self.now.ext_vals) }
-        ensures few { IsWithinMap (K.slots kinds.now)
-            (length (extension_bytes (K.slots kinds.now) self.now.has_extension self.now.ext_vals)) }
-        ensures read_back { IsExtensionPart (K.slots kinds.now) self.now.has_extension
-            (extension_bytes (K.slots kinds.now) self.now.has_extension self.now.ext_vals)
-            (carried_image (K.slots kinds.now) self.now.has_extension self.now.ext_vals) }
-    {
         let Some(form) = form else {
-            return at;
+            return end;
         };
-        at + write_block(kinds, start, form, &mut buf[at..], &self.ext_vals)
+        end + write_block(kinds, start, form, &mut buf[end..], &self.ext_vals)
     }
 
     // The twelve bytes that every header begins with, with this X. The ranges are those of the types,

@@ -1,20 +1,40 @@
-//! The receive state of one stream.
+//! The receive state of one stream, and what it says of a packet.
 
 ghost use Rattle.std.specs.Prelude.{◌≡◌, ◌↔◌, ◌^◌, ◌<◌, ◌/◌, ℕ, Option, Some, None, option_copied, IsTrue, false, if◌then◌else◌};
 ghost use Rattle.rtp_base.specs.Window.{Numbers, WindowState, including};
 ghost use Rattle.rtp_ext.specs.declared.map.ExtensionMap.{ExtensionMap};
 ghost use Rattle.rtp_wire.specs.Receiver.{Holds, IsHighest, IsNumberOf, IsFresh, IsJudged, taken_after, StaysBelowZeroIn};
-ghost use Rattle.rtp_wire.specs.declared.receive.state.ReceiverState.TheVariants.{Start, Window};
+ghost use Rattle.rtp_wire.specs.declared.receive.receiver.ReceiverState.TheVariants.{Start, Window};
 ghost use Rattle.rtp_wire.specs.Verdicts.{PacketId, IsPacketId, IsVerdict};
-ghost use Rattle.rtp_wire.specs.declared.receive.verdict.Verdict.TheVariants.{Refused};
+ghost use Rattle.rtp_wire.specs.declared.receive.receiver.Verdict.TheVariants.{Refused};
 ghost use Rattle.rtp_wire.specs.TrueNumbers.{IsTrueNumber};
 
-use super::Verdict;
-use super::state::{ReceiverState, RolloverCount};
 use super::widening::extend_u16;
 use crate::packet::RtpPacket;
 use rtp_base::{SeqNo, SeqNoWindow};
 use std::marker::Model;
+
+/// What a receiver says of a datagram.
+#[derive(Clone, Copy, Debug, PartialEq, Eq)]
+pub enum Verdict {
+    /// It begins with no RTP header.
+    Unreadable,
+    /// Its packet has this extended sequence number, and is taken.
+    Taken(SeqNo),
+    /// Its packet is a replay, or too old to tell: its number was taken before, or is 128 or more
+    /// below the highest one taken.
+    Refused,
+}
+
+// What a receiver holds.
+#[derive(Debug, Drop)]
+enum ReceiverState {
+    // Nothing is taken yet, and this is the first packet's rollover count: the 48 bits of its number
+    // above the 16 of its header.
+    Start(u64),
+    // The numbers taken are those of the replay window.
+    Window(SeqNoWindow),
+}
 
 /// The receive state of one stream: the rollover count at which it starts, and then a replay window
 /// (RFC 3711, 3.3.2).
@@ -35,16 +55,19 @@ pub struct Receiver {
 }
 
 impl Model for Receiver {
-    ghost use Rattle.rtp_wire.specs.declared.receive.state.ReceiverState.{ReceiverState};
+    ghost use Rattle.rtp_wire.specs.declared.receive.receiver.ReceiverState.{ReceiverState};
+    ghost use Rattle.rtp_wire.specs.Receiver.{StartsInRange};
 
     ghost Value = { ReceiverState };
 
     ghost view = { λ receiver. receiver.state };
+
+    ghost invariant = { λ receiver. StartsInRange receiver.state };
 }
 
 impl From<SeqNoWindow> for Receiver {
     ghost use Rattle.std.specs.Prelude.{◌≡◌};
-    ghost use Rattle.rtp_wire.specs.declared.receive.state.ReceiverState.TheVariants.{Window};
+    ghost use Rattle.rtp_wire.specs.declared.receive.receiver.ReceiverState.TheVariants.{Window};
 
     ghost from_gives = { λ window receiver. receiver ≡ Window window };
 
@@ -74,7 +97,7 @@ impl Receiver {
         ensures { result ≡ Start rollover_count }
     {
         Receiver {
-            state: ReceiverState::Start(RolloverCount::new(rollover_count)),
+            state: ReceiverState::Start(rollover_count),
         }
     }
 
@@ -102,7 +125,7 @@ impl Receiver {
         ensures fits { result < 2 ^ 48 }
     {
         match &self.state {
-            ReceiverState::Start(count) => count.get(),
+            ReceiverState::Start(count) => *count,
             ReceiverState::Window(window) => window.parts().0.roc(),
         }
     }
@@ -137,7 +160,9 @@ impl Receiver {
             IsTrueNumber count numbers sequence_number number → result ≡ number }
     {
         match &self.state {
-            ReceiverState::Start(count) => count.number(sequence_number),
+            ReceiverState::Start(count) => {
+                SeqNo::from(count * 65_536 + u64::from(sequence_number))
+            }
             ReceiverState::Window(window) => {
                 let highest = window.max_seq().get();
                 SeqNo::from(extend_u16(Some(highest), sequence_number))

@@ -7,14 +7,13 @@ ghost use Rattle.rtp_ext.specs.declared.map.ExtensionMap.{ExtensionMap};
 ghost use Rattle.rtp_wire.specs.Receiver.{Holds, IsNumberOf, IsFresh, IsJudged, taken_after, StaysBelowZeroIn};
 ghost use Rattle.rtp_wire.specs.Receivers.{receiver_of, state_of};
 ghost use Rattle.rtp_wire.specs.Verdicts.{PacketId, IsPacketId, IsVerdict};
-ghost use Rattle.rtp_wire.specs.declared.receive.verdict.Verdict.TheVariants.{Refused};
-ghost use Rattle.rtp_wire.specs.declared.receive.state.ReceiverState.TheVariants.{Start};
+ghost use Rattle.rtp_wire.specs.declared.receive.receiver.Verdict.TheVariants.{Refused};
+ghost use Rattle.rtp_wire.specs.declared.receive.receiver.ReceiverState.TheVariants.{Start};
 ghost use Rattle.rtp_wire.specs.TrueNumbers.{IsTrueNumber};
 ghost use Rattle.rtp_wire.specs.Sources.{numbers_beside};
 ghost use Rattle.rtp_wire.specs.EachSource.{HoldsEach, taken_after_each};
 
 use super::sources::Sources;
-use super::state::RolloverCount;
 use super::{Receiver, Verdict};
 use crate::packet::RtpPacket;
 use rtp_base::{SeqNo, Ssrc};
@@ -34,11 +33,13 @@ use std::marker::Model;
 /// of source 2 and 0 of source 1, `receive` takes 65,535, 10 and 65,536.
 #[derive(Debug, Drop)]
 pub struct Receivers {
-    rollover_count: RolloverCount,
+    // Of the first packet of each source.
+    rollover_count: u64,
     sources: Sources,
 }
 
 impl Model for Receivers {
+    ghost use Rattle.std.specs.Prelude.{◌^◌, ◌<◌};
     ghost use Rattle.rtp_wire.specs.Receivers.{ReceiverStates};
     ghost use Rattle.rtp_wire.specs.SourcePlaces.{held, ArePlaces};
 
@@ -49,8 +50,8 @@ impl Model for Receivers {
       by_source = held receivers.sources.places receivers.sources.list.items;
     } };
 
-    ghost invariant = { λ receivers.
-        ArePlaces receivers.sources.places receivers.sources.list.items };
+    ghost invariant = { λ receivers. (receivers.rollover_count < 2 ^ 48)
+        × ArePlaces receivers.sources.places receivers.sources.list.items };
 }
 
 impl Receivers {
@@ -70,23 +71,16 @@ impl Receivers {
         ensures { result ≡ record { rollover_count = rollover_count; by_source = [] } }
     {
         Receivers {
-            rollover_count: RolloverCount::new(rollover_count),
+            rollover_count,
             sources: Sources::new(alloc),
         }
-    }
-
-    // The receiver of a source that has none yet.
-    fn new_receiver(&self) -> Receiver
-        ensures { result ≡ Start self.now.rollover_count }
-    {
-        Receiver::starting_at(self.rollover_count.get())
     }
 
     /// How many sources have a receiver.
     pub fn len(&self) -> usize
         ensures { result ≡ length self.now.by_source }
     {
-        self.sources.len()
+        self.sources.places.len()
     }
 
     /// Whether no source has a receiver.
@@ -100,7 +94,8 @@ impl Receivers {
     pub fn get(&self, ssrc: Ssrc) -> Option<&Receiver>
         ensures { option_copied result ≡ receiver_of self.now ssrc }
     {
-        self.sources.get(ssrc)
+        let place = self.sources.place_of(ssrc)?;
+        Some(&self.sources.list[place].1)
     }
 
     /// Drops the source, as after it said goodbye (RFC 3550, 6.6), and returns its receiver;
@@ -136,7 +131,7 @@ impl Receivers {
             IsTrueNumber count numbers sequence_number number → result ≡ number }
     {
         match self.get(ssrc) {
-            None => self.new_receiver().number_of(sequence_number),
+            None => Receiver::starting_at(self.rollover_count).number_of(sequence_number),
             Some(receiver) => receiver.number_of(sequence_number),
         }
     }
@@ -184,7 +179,7 @@ impl Receivers {
             self.sources.list[place].1.record(number);
             return Ok(());
         }
-        let mut receiver = self.new_receiver();
+        let mut receiver = Receiver::starting_at(self.rollover_count);
         receiver.record(number);
         self.add(ssrc, receiver)?;
         Ok(())
@@ -241,7 +236,7 @@ impl Receivers {
             self.sources.last = place;
             return Ok(self.sources.list[place].1.receive(sequence_number));
         }
-        let mut added = self.new_receiver();
+        let mut added = Receiver::starting_at(self.rollover_count);
         let verdict = added.receive(sequence_number);
         self.add(ssrc, added)?;
         Ok(verdict)

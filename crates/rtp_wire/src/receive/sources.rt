@@ -34,13 +34,6 @@ impl Sources {
         }
     }
 
-    // How many sources there are.
-    pub(super) fn len(&self) -> usize
-        ensures { result ≡ length self.now.places.entries }
-    {
-        self.places.len()
-    }
-
     // The place of the source in the list, and `None` where it has none.
     pub(super) fn place_of(&self, ssrc: Ssrc) -> Option<usize>
         requires { ArePlaces self.now.places self.now.list.items }
@@ -49,17 +42,6 @@ impl Sources {
         match self.list.get(self.last) {
             Some((source, _)) if *source == ssrc => Some(self.last),
             _ => self.places.get(&ssrc).copied(),
-        }
-    }
-
-    // The receiver of the source, and `None` where it has none.
-    pub(super) fn get(&self, ssrc: Ssrc) -> Option<&Receiver>
-        requires { ArePlaces self.now.places self.now.list.items }
-        ensures { option_copied result ≡ held_of self.now.places self.now.list.items ssrc }
-    {
-        match self.place_of(ssrc) {
-            None => None,
-            Some(place) => Some(&self.list[place].1),
         }
     }
 

@@ -41,50 +41,8 @@ fn widened(previous: Option<u64>, number: u64, bits: u32) -> u64
     }
 }
 
-/// Extends a number of 7 bits to 64 bits: returns the number nearest to `previous`, modulo 2^64,
-/// that ends in the 7 bits of `number`. Where two are equally near, 64 away on either side, it is
-/// the one with the rollover count of `previous`. With no previous number, returns the 7 bits alone
-/// (RFC 3711, 3.3.1). The eighth bit of `number` is ignored.
-pub fn extend_u7(previous: Option<u64>, number: u8) -> u64
-    ensures near { Extends 7 previous number result }
-
-    // No other number meets `near`, and one that ends in these bits and is less than 64 away does.
-    ensures only { (n : ℕ) → Extends 7 previous number n → result ≡ n }
-    ensures close { (n : ℕ) → IsWithinHalf 7 previous number n → result ≡ n }
-{
-    widened(previous, u64::from(number), 7)
-}
-
-/// Extends a number of 8 bits to 64 bits: returns the number nearest to `previous`, modulo 2^64,
-/// that ends in the 8 bits of `number`. Where two are equally near, 128 away on either side, it is
-/// the one with the rollover count of `previous`. With no previous number, returns the 8 bits alone
-/// (RFC 3711, 3.3.1).
-pub fn extend_u8(previous: Option<u64>, number: u8) -> u64
-    ensures near { Extends 8 previous number result }
-
-    // No other number meets `near`, and one that ends in these bits and is less than 128 away does.
-    ensures only { (n : ℕ) → Extends 8 previous number n → result ≡ n }
-    ensures close { (n : ℕ) → IsWithinHalf 8 previous number n → result ≡ n }
-{
-    widened(previous, u64::from(number), 8)
-}
-
-/// Extends a number of 15 bits to 64 bits: returns the number nearest to `previous`, modulo 2^64,
-/// that ends in the 15 bits of `number`. Where two are equally near, 16384 away on either side, it
-/// is the one with the rollover count of `previous`. With no previous number, returns the 15 bits
-/// alone (RFC 3711, 3.3.1). The sixteenth bit of `number` is ignored.
-pub fn extend_u15(previous: Option<u64>, number: u16) -> u64
-    ensures near { Extends 15 previous number result }
-
-    // No other number meets `near`, and one that ends in these bits and is less than 16384 away does.
-    ensures only { (n : ℕ) → Extends 15 previous number n → result ≡ n }
-    ensures close { (n : ℕ) → IsWithinHalf 15 previous number n → result ≡ n }
-{
-    widened(previous, u64::from(number), 15)
-}
-
 /// Extends a number of 16 bits to 64 bits: returns the number nearest to `previous`, modulo 2^64,
-/// that ends in the 16 bits of `number`. Where two are equally near, 32768 away on either side, it
+/// that ends in the 16 bits of `number`. Where two are equally near, 32,768 away on either side, it
 /// is the one with the rollover count of `previous`. With no previous number, returns the 16 bits
 /// alone (RFC 3711, 3.3.1).
 ///
@@ -96,21 +54,47 @@ pub fn extend_u15(previous: Option<u64>, number: u16) -> u64
 pub fn extend_u16(previous: Option<u64>, number: u16) -> u64
     ensures near { Extends 16 previous number result }
 
-    // No other number meets `near`, and one that ends in these bits and is less than 32768 away does.
+    // No other number meets `near`, and one that ends in these bits and is less than 32,768 away does.
     ensures only { (n : ℕ) → Extends 16 previous number n → result ≡ n }
     ensures close { (n : ℕ) → IsWithinHalf 16 previous number n → result ≡ n }
 {
     widened(previous, u64::from(number), 16)
 }
 
-/// Extends a number of 32 bits to 64 bits: returns the number nearest to `previous`, modulo 2^64,
-/// that ends in the 32 bits of `number`. Where two are equally near, 2^31 away on either side, it
-/// is the one with the rollover count of `previous`. With no previous number, returns the 32 bits
-/// alone (RFC 3711, 3.3.1).
+/// Extends a number of 7 bits to 64 bits, as [`extend_u16`] does one of 16: where two are equally
+/// near, they are 64 away. The eighth bit of `number` is ignored.
+pub fn extend_u7(previous: Option<u64>, number: u8) -> u64
+    ensures near { Extends 7 previous number result }
+    ensures only { (n : ℕ) → Extends 7 previous number n → result ≡ n }
+    ensures close { (n : ℕ) → IsWithinHalf 7 previous number n → result ≡ n }
+{
+    widened(previous, u64::from(number), 7)
+}
+
+/// Extends a number of 8 bits to 64 bits, as [`extend_u16`] does one of 16: where two are equally
+/// near, they are 128 away.
+pub fn extend_u8(previous: Option<u64>, number: u8) -> u64
+    ensures near { Extends 8 previous number result }
+    ensures only { (n : ℕ) → Extends 8 previous number n → result ≡ n }
+    ensures close { (n : ℕ) → IsWithinHalf 8 previous number n → result ≡ n }
+{
+    widened(previous, u64::from(number), 8)
+}
+
+/// Extends a number of 15 bits to 64 bits, as [`extend_u16`] does one of 16: where two are equally
+/// near, they are 16,384 away. The sixteenth bit of `number` is ignored.
+pub fn extend_u15(previous: Option<u64>, number: u16) -> u64
+    ensures near { Extends 15 previous number result }
+    ensures only { (n : ℕ) → Extends 15 previous number n → result ≡ n }
+    ensures close { (n : ℕ) → IsWithinHalf 15 previous number n → result ≡ n }
+{
+    widened(previous, u64::from(number), 15)
+}
+
+/// Extends a number of 32 bits to 64 bits, as [`extend_u16`] does one of 16: where two are equally
+/// near, they are 2^31 away.
 pub fn extend_u32(previous: Option<u64>, number: u32) -> u64
     ensures near { Extends 32 previous number result }
-
-    // No other number meets `near`, and one that ends in these bits and is less than 2^31 away does.
     ensures only { (n : ℕ) → Extends 32 previous number n → result ≡ n }
     ensures close { (n : ℕ) → IsWithinHalf 32 previous number n → result ≡ n }
 {

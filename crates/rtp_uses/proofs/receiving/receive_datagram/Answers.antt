@@ -1,6 +1,6 @@
 use Rattle.std.proofs.Common.{◌≡◌, ℕ, sym, ap, ◌∙◌, subst, rules}
 use Rattle.std.specs.Prelude.{IsSome, IfOk}
-use Rattle.rtp_wire.specs.declared.receive.verdict.Verdict.{Verdict}
+use Rattle.rtp_wire.specs.declared.receive.receiver.Verdict.{Verdict}
 use Rattle.rtp_wire.specs.Packet.{PacketParts, IsPacket}
 use Rattle.rtp_wire.specs.Receiver.{Holds, IsNumberOf, IsJudged}
 use Rattle.rtp_wire.specs.Receivers.{receiver_of, state_of}

@@ -1,5 +1,5 @@
 use Rattle.std.proofs.Common.{refl, sym, ap, ◌∙◌, subst, arith}
-use Rattle.rtp_wire.specs.declared.receive.verdict.Verdict.TheVariants.{Taken}
+use Rattle.rtp_wire.specs.declared.receive.receiver.Verdict.TheVariants.{Taken}
 use Rattle.rtp_wire.specs.Receiver.{Holds}
 use Rattle.rtp_wire.specs.Receivers.{state_of}
 use Rattle.rtp_wire.proofs.ReceiversLemmas.{same_state}

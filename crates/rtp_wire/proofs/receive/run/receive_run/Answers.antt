@@ -2,7 +2,7 @@ use Rattle.std.proofs.Common.{◌≡◌, ℕ, ◌+◌, List, [], ◌∷◌, ◌+
 use Rattle.std.specs.Prelude.{Option}
 use Rattle.std.specs.Global.{Vec}
 use Rattle.std.proofs.lemmas.List.{get_or-map, length-map, length_push, take_more}
-use Rattle.rtp_wire.specs.declared.receive.verdict.Verdict.{Verdict}
+use Rattle.rtp_wire.specs.declared.receive.receiver.Verdict.{Verdict}
 use Rattle.rtp_wire.specs.Verdicts.{PacketId, IsPacketId}
 use Rattle.rtp_wire.specs.Sources.{at_source, taken_of}
 use Rattle.rtp_wire.proofs.VerdictLemmas.{TakesOnce-run, ReadSoFar, ReadSoFar-none, ReadSoFar-more, ReadSoFar-all}

@@ -1,7 +1,15 @@
-use Rattle.std.proofs.Common.{arith, ap, ◌≡◌, ◌++◌, length, take, drop}
+use Rattle.std.proofs.Common.{◌≡◌, ◌+◌, ◌-◌, ◌*◌, ◌≤◌, ℕ, List, [], refl, sym, ap, ◌∙◌, ◌++◌, length, drop, take, arith}
 use Rattle.std.proofs.lemmas.List.{length-take-le}
-use Rattle.rtp_wire.specs.Written.{wire_bytes}
+use Rattle.std.specs.Prelude.{Some}
+use Rattle.rtp_base.specs.Overwriting.{overwritten}
+use Rattle.rtp_ext.specs.declared.form.ExtensionsForm.{ExtensionsForm}
+use Rattle.rtp_ext.specs.ExtensionMap.{Slots}
+use Rattle.rtp_wire.specs.declared.header.rtp_header.RtpHeader.{RtpHeader}
+use Rattle.rtp_wire.specs.Written.{extension_bytes, fixed_bytes, wire_bytes}
+use Rattle.rtp_wire.specs.WrittenInForm.{announced_form, block_bytes_in}
+use Rattle.rtp_base.proofs.OverwritingLemmas.{overwritten-nil, overwritten-rest}
 use Rattle.rtp_wire.proofs.RoundTrip.{length-wire_bytes, wire_bytes-from_pieces, IsWire-written, AllByRecursion-from_each}
+use Rattle.rtp_wire.proofs.WrittenInFormLemmas.{no_part, a_part, IsExtensionPart-none, IsExtensionPart-some}
 use Rattle.rtp_wire.proofs.header.rtp_header.RtpHeader.write_in.Goals as goal
 
 pub put-end-requires : goal.put-end-requires
@@ -19,32 +27,97 @@ put_sources-end-requires g c =
       length-take-le c.args.self.now.csrc_count c.args.self.now.csrc (omega arith),
     )
 
-pub put_extension-requires-clause-room : goal.put_extension-requires-clause-room
-put_extension-requires-clause-room g c =
+-- without a form nothing is put after the sources
+none : (g : _) (c : goal.In_default g) → extension_bytes (g.K.Kinds.slots c.args.kinds.now) c.args.self.now.has_extension c.args.self.now.ext_vals ≡ []
+none g c = no_part (g.K.Kinds.slots c.args.kinds.now) c.args.self.now.has_extension c.args.self.now.ext_vals (sym c.in_default.is ∙ c.requires.form)
+
+none_put : (g : _) (c : goal.In_default g) → (c.put_sources-end.result ≡ length (wire_bytes (g.K.Kinds.slots c.args.kinds.now) c.args.self.now))
+    × (c.put_sources-end.new.buf ≡ wire_bytes (g.K.Kinds.slots c.args.kinds.now) c.args.self.now ++ drop c.put_sources-end.result c.args.buf.now)
+none_put g c =
+    wire_bytes-from_pieces c.args.self.now (g.K.Kinds.slots c.args.kinds.now) c.args.buf.now c.put-end.new.buf c.put_sources-end.new.buf c.put_sources-end.new.buf
+    c.fixed_bytes.result c.put-end.result c.put_sources-end.result c.put_sources-end.result (omega arith) c.requires.room c.fixed_bytes.ensures.bytes
+    c.put-end.ensures.written c.put-end.ensures.end c.put_sources-end.ensures.written c.put_sources-end.ensures.end
+    (rw (none g c) (sym (overwritten-nil c.put_sources-end.new.buf c.put_sources-end.result))) (omega (arith, ap length (none g c)))
+
+pub returns-in_default-clause-written : goal.returns-in_default-clause-written
+returns-in_default-clause-written g c = (none_put g c).1
+
+pub returns-in_default-clause-length : goal.returns-in_default-clause-length
+returns-in_default-clause-length g c = (none_put g c).0
+
+pub returns-in_default-clause-few : goal.returns-in_default-clause-few
+returns-in_default-clause-few g c = (omega (arith, ap length (none g c)), omega (arith, ap length (none g c)))
+
+pub returns-in_default-clause-read_back : goal.returns-in_default-clause-read_back
+returns-in_default-clause-read_back g c rest = IsWire-written c.args.self.now (g.K.Kinds.slots c.args.kinds.now) rest (record {
+  payload_type = c.requires.payload_type;
+  count = c.requires.sources;
+  slots = omega arith;
+  number = c.fixed_bytes.ensures.number;
+  timestamp = c.fixed_bytes.ensures.timestamp;
+  ssrc = c.fixed_bytes.ensures.ssrc;
+  sources = AllByRecursion-from_each (take c.args.self.now.csrc_count c.args.self.now.csrc) c.put_sources-end.ensures.in_range;
+}) (IsExtensionPart-none (g.K.Kinds.slots c.args.kinds.now) c.args.self.now.has_extension c.args.self.now.ext_vals (sym c.in_default.is ∙ c.requires.form))
+
+-- with one the block in it is put, and there is room for it
+room : (exts : Slots) (h : RtpHeader) (form : ExtensionsForm) (fixed : List ℕ) (first second len : ℕ) → h.csrc_count ≤ length h.csrc → Some form ≡ announced_form exts h.has_extension h.ext_vals
+    → length (wire_bytes exts h) ≤ len → fixed ≡ fixed_bytes h → first ≡ 0 + length fixed → second ≡ first + 4 * length (take h.csrc_count h.csrc)
+    → second + length (block_bytes_in form exts h.ext_vals) ≤ len
+room exts h form fixed first second len within is fits fixed-is first-is second-is =
     omega (
       arith,
-      c.requires.room,
-      length-wire_bytes (g.K.Kinds.slots c.args.kinds.now) c.args.self.now (omega arith),
-      ap length c.fixed_bytes.ensures.bytes,
-      c.put-end.ensures.end,
-      c.put_sources-end.ensures.end,
-      length-take-le c.args.self.now.csrc_count c.args.self.now.csrc (omega arith),
+      fits,
+      length-wire_bytes exts h within,
+      ap length fixed-is,
+      ap length (a_part exts h.has_extension h.ext_vals form is),
+      first-is,
+      second-is,
+      length-take-le h.csrc_count h.csrc within,
     )
 
--- what was put, and where it ends
-all_put : (g : _) (c : goal.After-slice_known-4-1 g) → (c.put_extension.result ≡ length (wire_bytes (g.K.Kinds.slots c.args.kinds.now) c.args.self.now))
-    × (c.put_extension.new.buf ≡ wire_bytes (g.K.Kinds.slots c.args.kinds.now) c.args.self.now ++ drop c.put_extension.result c.args.buf.now)
-all_put g c =
-    wire_bytes-from_pieces c.args.self.now (g.K.Kinds.slots c.args.kinds.now) c.args.buf.now c.put-end.new.buf c.put_sources-end.new.buf c.put_extension.new.buf
-    c.fixed_bytes.result c.put-end.result c.put_sources-end.result c.put_extension.result (omega arith) c.requires.room c.fixed_bytes.ensures.bytes
-    c.put-end.ensures.written c.put-end.ensures.end c.put_sources-end.ensures.written c.put_sources-end.ensures.end
-    c.put_extension.ensures.written c.put_extension.ensures.end
+pub slice_bounds-write_block-count : goal.slice_bounds-write_block-count
+slice_bounds-write_block-count g c =
+    let there = room (g.K.Kinds.slots c.args.kinds.now) c.args.self.now c.in-Some.form c.fixed_bytes.result c.put-end.result c.put_sources-end.result (length c.args.buf.now) (omega arith)
+    (sym c.in-Some.is ∙ c.requires.form) c.requires.room c.fixed_bytes.ensures.bytes c.put-end.ensures.end c.put_sources-end.ensures.end in omega (arith, there)
 
-pub returns-clause-length : goal.returns-clause-length
-returns-clause-length g c = (all_put g c).0
+pub slice_bounds-write_block-start : goal.slice_bounds-write_block-start
+slice_bounds-write_block-start g c =
+    let there = room (g.K.Kinds.slots c.args.kinds.now) c.args.self.now c.in-Some.form c.fixed_bytes.result c.put-end.result c.put_sources-end.result (length c.args.buf.now) (omega arith)
+    (sym c.in-Some.is ∙ c.requires.form) c.requires.room c.fixed_bytes.ensures.bytes c.put-end.ensures.end c.put_sources-end.ensures.end in omega (arith, there)
+
+pub write_block-requires-clause-room : goal.write_block-requires-clause-room
+write_block-requires-clause-room g c =
+    let there = room (g.K.Kinds.slots c.args.kinds.now) c.args.self.now c.in-Some.form c.fixed_bytes.result c.put-end.result c.put_sources-end.result (length c.args.buf.now) (omega arith)
+    (sym c.in-Some.is ∙ c.requires.form) c.requires.room c.fixed_bytes.ensures.bytes c.put-end.ensures.end c.put_sources-end.ensures.end in omega (arith, there)
+
+-- what was put, and where it ends
+all_put : (g : _) (c : goal.After-slice_known-4-1 g) (put : List ℕ)
+    → put ≡ overwritten c.put_sources-end.new.buf c.put_sources-end.result (block_bytes_in c.in-Some.form (g.K.Kinds.slots c.args.kinds.now) c.args.self.now.ext_vals)
+    → (c.put_sources-end.result + c.write_block.result ≡ length (wire_bytes (g.K.Kinds.slots c.args.kinds.now) c.args.self.now))
+    × (put ≡ wire_bytes (g.K.Kinds.slots c.args.kinds.now) c.args.self.now ++ drop (c.put_sources-end.result + c.write_block.result) c.args.buf.now)
+all_put g c put is =
+    wire_bytes-from_pieces c.args.self.now (g.K.Kinds.slots c.args.kinds.now) c.args.buf.now c.put-end.new.buf c.put_sources-end.new.buf put
+    c.fixed_bytes.result c.put-end.result c.put_sources-end.result (c.put_sources-end.result + c.write_block.result) (omega arith) c.requires.room c.fixed_bytes.ensures.bytes
+    c.put-end.ensures.written c.put-end.ensures.end c.put_sources-end.ensures.written c.put_sources-end.ensures.end
+    (is ∙ ap (overwritten c.put_sources-end.new.buf c.put_sources-end.result) (sym (a_part (g.K.Kinds.slots c.args.kinds.now) c.args.self.now.has_extension c.args.self.now.ext_vals c.in-Some.form (sym c.in-Some.is ∙ c.requires.form))))
+    (omega (arith, c.write_block.ensures.length, ap length (a_part (g.K.Kinds.slots c.args.kinds.now) c.args.self.now.has_extension c.args.self.now.ext_vals c.in-Some.form (sym c.in-Some.is ∙ c.requires.form))))
 
 pub returns-clause-written : goal.returns-clause-written
-returns-clause-written g c = (all_put g c).1
+returns-clause-written g c =
+    let buf = c.put_sources-end.new.buf in
+    let at = c.put_sources-end.result in
+    let bytes = block_bytes_in c.in-Some.form (g.K.Kinds.slots c.args.kinds.now) c.args.self.now.ext_vals in
+    let fits = room (g.K.Kinds.slots c.args.kinds.now) c.args.self.now c.in-Some.form c.fixed_bytes.result c.put-end.result c.put_sources-end.result (length c.args.buf.now) (omega arith)
+    (sym c.in-Some.is ∙ c.requires.form) c.requires.room c.fixed_bytes.ensures.bytes c.put-end.ensures.end c.put_sources-end.ensures.end in
+    let there : at + length bytes ≤ length buf = omega (arith, fits) in
+    (all_put g c _ (overwritten-rest buf c.write_block.new.buf bytes at there
+    (c.write_block.ensures.written ∙ ap (λ (k : ℕ). bytes ++ drop k (take (length buf - at) (drop at buf))) c.write_block.ensures.length))).1
+
+pub returns-clause-length : goal.returns-clause-length
+returns-clause-length g c = (all_put g c _ refl).0
+
+pub returns-clause-few : goal.returns-clause-few
+returns-clause-few g c = rw (ap length (a_part (g.K.Kinds.slots c.args.kinds.now) c.args.self.now.has_extension c.args.self.now.ext_vals c.in-Some.form (sym c.in-Some.is ∙ c.requires.form)) ∙ sym c.write_block.ensures.length) c.write_block.ensures.few
 
 pub returns-clause-read_back : goal.returns-clause-read_back
 returns-clause-read_back g c rest = IsWire-written c.args.self.now (g.K.Kinds.slots c.args.kinds.now) rest (record {
@@ -55,4 +128,5 @@ returns-clause-read_back g c rest = IsWire-written c.args.self.now (g.K.Kinds.sl
   timestamp = c.fixed_bytes.ensures.timestamp;
   ssrc = c.fixed_bytes.ensures.ssrc;
   sources = AllByRecursion-from_each (take c.args.self.now.csrc_count c.args.self.now.csrc) c.put_sources-end.ensures.in_range;
-}) c.put_extension.ensures.read_back
+}) (IsExtensionPart-some (g.K.Kinds.slots c.args.kinds.now) c.args.self.now.has_extension c.args.self.now.ext_vals c.in-Some.form (sym c.in-Some.is ∙ c.requires.form)
+    c.write_block.ensures.read_back)

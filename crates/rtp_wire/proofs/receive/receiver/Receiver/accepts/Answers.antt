@@ -1,5 +1,5 @@
 use Rattle.std.proofs.Common.{inr, sym, ◌∙◌, subst}
-use Rattle.rtp_wire.specs.declared.receive.state.ReceiverState.{ReceiverState}
+use Rattle.rtp_wire.specs.declared.receive.receiver.ReceiverState.{ReceiverState}
 use Rattle.rtp_wire.specs.Receiver.{Holds}
 use Rattle.rtp_wire.proofs.ReceiverLemmas.{Accepts-fresh}
 use Rattle.rtp_wire.proofs.receive.receiver.Receiver.accepts.Goals as goal

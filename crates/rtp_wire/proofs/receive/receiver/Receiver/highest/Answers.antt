@@ -1,6 +1,6 @@
 use Rattle.std.proofs.Common.{false, refl, sym, ◌∙◌, subst}
 use Rattle.rtp_base.specs.Window.{Numbers}
-use Rattle.rtp_wire.specs.declared.receive.state.ReceiverState.{ReceiverState}
+use Rattle.rtp_wire.specs.declared.receive.receiver.ReceiverState.{ReceiverState}
 use Rattle.rtp_wire.specs.Receiver.{Holds, IsNothing}
 use Rattle.rtp_wire.proofs.receive.receiver.Receiver.highest.Goals as goal
 

@@ -1,6 +1,6 @@
 use Rattle.std.proofs.Common.{inr, sym, ◌∙◌, subst}
 use Rattle.rtp_base.specs.Window.{WindowState, Keeps}
-use Rattle.rtp_wire.specs.declared.receive.state.ReceiverState.{ReceiverState}
+use Rattle.rtp_wire.specs.declared.receive.receiver.ReceiverState.{ReceiverState}
 use Rattle.rtp_wire.specs.Receiver.{Holds}
 use Rattle.rtp_wire.proofs.ReceiverLemmas.{Accepts-fresh, Keeps-taken}
 use Rattle.rtp_wire.proofs.receive.receiver.Receiver.take.Goals as goal

@@ -1,6 +1,6 @@
 use Rattle.std.proofs.Common.{Option, refl, subst, arith}
 use Rattle.std.specs.Prelude.{Some, None}
-use Rattle.rtp_wire.specs.declared.receive.verdict.Verdict.TheVariants.{Unreadable}
+use Rattle.rtp_wire.specs.declared.receive.receiver.Verdict.TheVariants.{Unreadable}
 use Rattle.rtp_wire.specs.PartsOf.{parts_of}
 use Rattle.rtp_wire.specs.Verdicts.{PacketId, IsVerdict}
 use Rattle.rtp_wire.proofs.VerdictLemmas.{IsPacketId-packet, IsPacketId-none, one_packet_id}

@@ -1,5 +1,5 @@
 use Rattle.std.proofs.Common.{ℕ, List, ap, ◌∙◌}
-use Rattle.rtp_wire.specs.declared.receive.state.ReceiverState.{ReceiverState}
+use Rattle.rtp_wire.specs.declared.receive.receiver.ReceiverState.{ReceiverState}
 use Rattle.rtp_wire.specs.SourcePlaces.{held_of}
 use Rattle.rtp_wire.specs.Receivers.{ReceiverStates, receiver_of}
 use Rattle.rtp_wire.proofs.ReceiversLemmas.{no_place}
@@ -11,12 +11,12 @@ add-requires c = no_place c.self.inside.rollover_count c.self.inside.sources.pla
 
 pub invariant_of-self : goal.invariant_of-self
 invariant_of-self c =
-    rw c.in_err-add.ensures.same_list (ArePlaces-same c.self.inside.sources.places c.add.new.self.places c.self.inside.sources.list.items c.in_err-add.ensures.same_places c.self.invariant)
+    rw c.in_err-add.ensures.same_list (c.self.invariant.0, ArePlaces-same c.self.inside.sources.places c.add.new.self.places c.self.inside.sources.list.items c.in_err-add.ensures.same_places c.self.invariant.1)
 
 pub invariant_of-self-2 : goal.invariant_of-self-2
 invariant_of-self-2 c =
     let none = no_place c.self.inside.rollover_count c.self.inside.sources.places c.self.inside.sources.list.items c.args.self.now c.args.ssrc c.self.view_is c.requires in
-    rw c.in_ok-add.ensures.list (ArePlaces-push c.self.inside.sources.places c.add.new.self.places c.self.inside.sources.list.items (c.args.ssrc, c.args.receiver) c.self.invariant none c.in_ok-add.ensures.places)
+    rw c.in_ok-add.ensures.list (c.self.invariant.0, ArePlaces-push c.self.inside.sources.places c.add.new.self.places c.self.inside.sources.list.items (c.args.ssrc, c.args.receiver) c.self.invariant.1 none c.in_ok-add.ensures.places)
 
 pub returns-clause-added : goal.returns-clause-added
 returns-clause-added c =
@@ -26,5 +26,5 @@ returns-clause-added c =
 pub returns-clause-others : goal.returns-clause-others
 returns-clause-others c source apart =
     ap (λ (list : List (ℕ × ReceiverState)). held_of c.add.new.self.places list source) c.in_ok-add.ensures.list
-    ∙ held-push_other c.self.inside.sources.places c.add.new.self.places c.self.inside.sources.list.items (c.args.ssrc, c.args.receiver) source c.self.invariant c.in_ok-add.ensures.places apart
+    ∙ held-push_other c.self.inside.sources.places c.add.new.self.places c.self.inside.sources.list.items (c.args.ssrc, c.args.receiver) source c.self.invariant.1 c.in_ok-add.ensures.places apart
     ∙ ap (λ (rs : ReceiverStates). receiver_of rs source) c.self.view_is

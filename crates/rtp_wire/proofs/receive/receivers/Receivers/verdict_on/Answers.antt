@@ -1,7 +1,7 @@
 use Rattle.std.proofs.Common.{Option, refl, subst, arith}
 use Rattle.std.specs.Prelude.{Some, None, IfOk}
-use Rattle.rtp_wire.specs.declared.receive.verdict.Verdict.{Verdict}
-use Rattle.rtp_wire.specs.declared.receive.verdict.Verdict.TheVariants.{Unreadable}
+use Rattle.rtp_wire.specs.declared.receive.receiver.Verdict.{Verdict}
+use Rattle.rtp_wire.specs.declared.receive.receiver.Verdict.TheVariants.{Unreadable}
 use Rattle.rtp_wire.specs.PartsOf.{parts_of}
 use Rattle.rtp_wire.specs.Verdicts.{PacketId, IsVerdict}
 use Rattle.rtp_wire.specs.Sources.{numbers_beside}
