@@ -269,10 +269,3 @@ numbered-unmapped from to rest id kind rest_is is never = λ extension mapped.
           | inl within ↦ never k (omega (arith, within, ap length rest_is)) (ap (λ (ns : List ℕ). get_or ns k 0) rest_is ∙ number)
           | inr past ↦ number≢0 kind (sym number ∙ get_or_past (drop 1 to) k 0 (omega (arith, past)))
         ]
-
-pub numbered-none : (from to : List ℕ) (id : ℕ) → option_map extension_of_kind None ≡ extension_at (numbered_slots from) id
-    → IsNewId (numbered_slots from) (numbered_slots to) id None
-numbered-none from to id is = λ extension mapped. let found = is ∙ mapped in cc
-
-pub length-numbered_slots : (numbers : List ℕ) → length numbers ≡ 256 → length (numbered_slots numbers) ≡ 255
-length-numbered_slots numbers long = omega (arith, long, length-numbered numbers)

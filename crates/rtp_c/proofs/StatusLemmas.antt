@@ -20,19 +20,7 @@ ok≢cause CutBlockHeader same = cc
 ok≢cause UnknownForm same = cc
 ok≢cause CutBlock same = cc
 
-no_memory≢cause : (cause : NotAPacket) → no_memory ≡ cause_status cause → ⊥
-no_memory≢cause CutFixedPart same = cc
-no_memory≢cause OtherVersion same = cc
-no_memory≢cause CutSources same = cc
-no_memory≢cause CutBlockHeader same = cc
-no_memory≢cause UnknownForm same = cc
-no_memory≢cause CutBlock same = cc
-
--- the status of a cause is not that of memory
-pub cause≢no_memory : (bytes : List ℕ) (status : ℤ) → IsCauseStatus bytes status → status ≡ no_memory → ⊥
-cause≢no_memory bytes status is same = no_memory≢cause is.cause (sym same ∙ is.status_is)
-
--- and neither is `OK`
+-- the status of a cause is not `OK`
 pub not_ok : (bytes : List ℕ) (status : ℤ) → (status ≡ no_memory) ⊎ IsCauseStatus bytes status → status ≡ ok → ⊥
 not_ok bytes status (inl memory) same = cc
 not_ok bytes status (inr is) same = ok≢cause is.cause (sym same ∙ is.status_is)

@@ -9,7 +9,7 @@ use Rattle.rtp_ext.specs.declared.place.Place.{Place}
 use Rattle.rtp_ext.specs.Elements.{Element, IsElement, element_bytes, AreElements}
 use Rattle.rtp_ext.specs.ElementReading.{BeginsWithNoElement}
 use Rattle.rtp_ext.specs.ElementWriting.{element_header}
-use Rattle.rtp_ext.specs.ElementsInPlace.{HasNone, HasLast, HasLastOf, SetsLast}
+use Rattle.rtp_ext.specs.ElementsInPlace.{HasNone, HasLast, SetsLast}
 use Rattle.rtp_ext.specs.ElementPlaces.{LiesAt, IsNextPlace, AreWhole, IsLastPlace, LiesLast, IsLastOrNone, IsPassed}
 use Rattle.rtp_ext.proofs.ElementLemmasOfBodies.{AreElements-only}
 use Rattle.rtp_ext.proofs.PlaceLemmas.{element_bytes-split, length-lies, overwritten-at, passed_next, end_next}
@@ -284,9 +284,6 @@ one_last id x y (e ∷ b1) a1 (d ∷ b2) a2 same none others =
 
 pub HasLast-only : (elements : List Element) (id : ℕ) (x y : List ℕ) → HasLast elements id x → HasLast elements id y → x ≡ y
 HasLast-only elements id x y one other = one_last id x y one.before one.after other.before other.after (sym one.in_order ∙ other.in_order) one.last other.last
-
-pub HasLastOf-none : (elements : List Element) (id count : ℕ) → HasNone elements id → HasLastOf elements id count → ⊥
-HasLastOf-none elements id count none has = HasNone-absurd has.1.before has.1.after id has.0 (subst (λ es. HasNone es id) has.1.in_order none)
 
 -- what is set
 pub HasLast-place : (form : ExtensionsForm) (id : ℕ) (body : List ℕ) (place : Place) (elements : List Element) → (is : IsLastPlace (AreElements form) id body place) → AreElements form body elements

@@ -6,7 +6,7 @@ use Rattle.std.proofs.lemmas.List.{append_assoc}
 use Rattle.rtp_values.specs.declared.kind.Extension.{Extension}
 use Rattle.rtp_values.specs.declared.value.values.ExtensionValues.{ExtensionValues}
 use Rattle.rtp_ext.specs.Elements.{Element}
-use Rattle.rtp_ext.specs.ExtensionMap.{Slots, IsEmpty, extension_at, extension_of}
+use Rattle.rtp_ext.specs.ExtensionMap.{Slots, extension_at}
 use Rattle.rtp_values.specs.Values.{Reads, with_fields, SameFields, IsWellFormed}
 use Rattle.rtp_values.proofs.FieldLemmas.{Reads-one, Reads-same, SameFields-joined, SameFields-refl, SameFields-trans, SameFields-others, same_values}
 use Rattle.rtp_values.proofs.KindLemmas.{same_or_not, one_kind}
@@ -89,14 +89,6 @@ AreFields-one exts elements kind old v w (none not_carried same) (none also w_sa
 -- the values of a block are the only ones
 pub one_values : (exts : Slots) (elements : List Element) (old v w : ExtensionValues) → AreValues exts elements old v → AreValues exts elements old w → v ≡ w
 one_values exts elements old v w v_values w_values = same_values v w (λ kind. AreFields-one exts elements kind old v w (v_values kind) (w_values kind))
-
--- where nothing is mapped no value changes
-pub unmapped_values : (exts : Slots) (elements : List Element) (old v : ExtensionValues) → IsEmpty exts → AreValues exts elements old v → v ≡ old
-unmapped_values exts elements old v empty values = sym (same_values old v (λ kind. same kind (values kind)))
-  where
-    same : (kind : Extension) → AreFields exts elements kind old v → SameFields kind old v
-    same kind (last before after element is mapped reads later) = let at = ap extension_of (empty element.0) in cc
-    same kind (none not_carried is) = is
 
 -- one more element is read, well-formed or not, by a reader that says which
 pub AreValues-parsed : (exts : Slots) (done : List Element) (element : Element) (kind : Extension) (old between new : ExtensionValues)

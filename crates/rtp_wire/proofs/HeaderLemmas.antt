@@ -1,5 +1,5 @@
 -- The header of a packet is one, bytes that are refused begin with none, and its values are one.
-use Rattle.std.proofs.Common.{◌≡◌, ℕ, Bool, List, Option, Some, None, sym, ap, ◌∙◌, subst}
+use Rattle.std.proofs.Common.{◌≡◌, ℕ, List, Option, Some, None, sym, ap, ◌∙◌, subst}
 use Rattle.rtp_ext.specs.declared.form.ExtensionsForm.{ExtensionsForm}
 use Rattle.rtp_ext.specs.declared.map.ExtensionMap.{ExtensionMap}
 use Rattle.rtp_values.specs.declared.value.values.ExtensionValues.{ExtensionValues}
@@ -48,16 +48,3 @@ pub IsHeaderOf-read : (exts : ExtensionMap) (parts : PacketParts) (old values : 
     → HasValues exts parts.block values → IsHeaderOf exts parts (record h { ext_vals = values })
 IsHeaderOf-read exts parts old values h is has =
     record { fields_are = ap (λ (g : RtpHeader). record g { ext_vals = values }) is; values_are = has }
-
--- a header by its fields
-unfoldable whole : ℕ → Bool → Bool → ℕ → Bool → ℕ → ℕ → ℕ → ℕ → List ℕ → ExtensionValues → ℕ → RtpHeader
-whole version padding extension count marker payload_type number timestamp ssrc slots values len = record { version = version; has_padding = padding; has_extension = extension; csrc_count = count; marker = marker; payload_type = payload_type; sequence_number = number; timestamp = timestamp; ssrc = ssrc; csrc = slots; ext_vals = values; header_len = len }
-
--- headers with the same fields are one
-pub same_header : (h g : RtpHeader) → h.version ≡ g.version → h.has_padding ≡ g.has_padding → h.has_extension ≡ g.has_extension → h.csrc_count ≡ g.csrc_count
-    → h.marker ≡ g.marker → h.payload_type ≡ g.payload_type → h.sequence_number ≡ g.sequence_number → h.timestamp ≡ g.timestamp → h.ssrc ≡ g.ssrc
-    → h.csrc ≡ g.csrc → h.ext_vals ≡ g.ext_vals → h.header_len ≡ g.header_len → h ≡ g
-unfolding whole
-same_header h g version padding extension count marker payload_type number timestamp ssrc slots values len =
-    let fields : whole h.version h.has_padding h.has_extension h.csrc_count h.marker h.payload_type h.sequence_number h.timestamp h.ssrc h.csrc h.ext_vals h.header_len ≡ whole g.version g.has_padding g.has_extension g.csrc_count g.marker g.payload_type g.sequence_number g.timestamp g.ssrc g.csrc g.ext_vals g.header_len = cc in
-    fields

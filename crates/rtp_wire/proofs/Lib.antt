@@ -22,6 +22,7 @@ mod WritingWithLemmas
 mod PaddingLemmas
 mod StandardFacts
 pub mod WideningLemmas
+pub mod NearestLemmas
 mod ReceiverLemmas
 pub mod ReceiversLemmas
 pub mod VerdictLemmas

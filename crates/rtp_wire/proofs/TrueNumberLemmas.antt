@@ -14,7 +14,7 @@ use Rattle.rtp_wire.specs.Verdicts.{PacketId, ArePacketIds, taken_by, IsVerdict,
 use Rattle.rtp_wire.specs.TrueNumbers.{IsInReach, IsTrueNumber, numbers_of, AreTrueNumbers, IsTrueVerdict, AreTrueVerdicts}
 use Rattle.rtp_wire.proofs.ReceiverLemmas.{not_nothing}
 use Rattle.rtp_wire.proofs.VerdictLemmas.{or_assoc, or_false, taken_by-push, one_packet_ids}
-use Rattle.rtp_wire.proofs.WideningLemmas.{only_near, Extends-within_half}
+use Rattle.rtp_wire.proofs.NearestLemmas.{only_near, Extends-within_half}
 
 -- ---- the number of a packet
 

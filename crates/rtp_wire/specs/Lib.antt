@@ -46,5 +46,4 @@ pub mod Sources
 -- What functions inside promise each other.
 pub mod WrittenInForm
 pub mod PartsAt
-pub mod Moduli
 pub mod EachSource

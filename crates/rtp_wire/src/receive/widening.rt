@@ -1,29 +1,10 @@
 //! The extended sequence number from the low bits that the wire carries.
 
-ghost use Rattle.std.specs.Prelude.{◌≡◌, ℕ, ◌^◌, ◌<◌, ◌≤◌};
+ghost use Rattle.std.specs.Prelude.{◌≡◌, ℕ, ◌<◌, ◌≤◌};
 ghost use Rattle.rtp_wire.specs.Widening.{Extends, IsWithinHalf};
-ghost use Rattle.rtp_wire.specs.Moduli.{IsModulus, IsNearestModulo};
 
 use crate::header::RtpHeader;
 use rtp_base::SeqNo;
-
-// The number nearest to the previous one, modulo 2^64, among those that are `low` modulo `modulus`.
-fn nearest(previous: u64, low: u64, modulus: u64) -> u64
-    requires is_modulus { IsModulus modulus }
-    requires below { low < modulus }
-    ensures { IsNearestModulo modulus previous low result }
-{
-    let half = modulus / 2;
-    let ahead = low.wrapping_sub(previous) % modulus;
-    let number = previous.wrapping_add(ahead);
-    if ahead < half {
-        return number;
-    }
-    if ahead == half && previous % modulus < half {
-        return number;
-    }
-    number.wrapping_sub(modulus)
-}
 
 // The number nearest to the previous one that ends in these low bits; with none, the low bits alone.
 fn widened(previous: Option<u64>, number: u64, bits: u32) -> u64
@@ -35,10 +16,19 @@ fn widened(previous: Option<u64>, number: u64, bits: u32) -> u64
 {
     let modulus = 1 << bits;
     let low = number % modulus;
-    match previous {
-        None => low,
-        Some(previous) => nearest(previous, low, modulus),
+    let Some(previous) = previous else {
+        return low;
+    };
+    let half = modulus / 2;
+    let ahead = low.wrapping_sub(previous) % modulus;
+    let after = previous.wrapping_add(ahead);
+    if ahead < half {
+        return after;
     }
+    if ahead == half && previous % modulus < half {
+        return after;
+    }
+    after.wrapping_sub(modulus)
 }
 
 /// Extends a number of 16 bits to 64 bits: returns the number nearest to `previous`, modulo 2^64,

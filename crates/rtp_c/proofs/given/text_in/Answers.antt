@@ -4,7 +4,7 @@ use Rattle.rtp_c.proofs.GivenLemmas.{IsTextIn-first, all-text, no_text}
 use Rattle.rtp_c.proofs.given.text_in.Goals as goal
 
 pub returns-in_err-len-clause-none : goal.returns-in_err-len-clause-none
-returns-in_err-len-clause-none c text is = no_text c.args.bytes.now text c.in_err-len.ensures.none is
+returns-in_err-len-clause-none c = rw c.from_residual.ensures (λ text is. no_text c.args.bytes.now text c.in_err-len.ensures.none is)
 
 pub returns-clause-found : goal.returns-clause-found
 returns-clause-found c =

@@ -1,29 +1,23 @@
-use Rattle.std.proofs.Common.{arith, rules, subst, ℕ, ◌≡◌, ◌*◌, ◌%◌, ◌^◌, ◌<◌, IfSome}
+use Rattle.std.proofs.Common.{arith, rules, inl, inr}
 use Rattle.std.proofs.lemmas.Nat.{one_shl}
-use Rattle.rtp_wire.specs.Moduli.{IsNearestModulo}
-use Rattle.rtp_wire.specs.Widening.{Extends}
-use Rattle.rtp_wire.proofs.WideningLemmas.{IsModulus-pow, IsNearest-from_modulus, only_near, Extends-within_half}
+use Rattle.rtp_wire.proofs.NearestLemmas.{IsWidened-ahead, IsWidened-before}
 use Rattle.rtp_wire.proofs.receive.widening.widened.Goals as goal
+use Rattle.rtp_wire.proofs.receive.widening.widened.Goals.{else-ahead-half-2-via-then-ahead-half-2+else-previous-modulus, else-ahead-half-2-via-else-ahead-half-2}
 
-pub nearest-requires-clause-is_modulus : goal.nearest-requires-clause-is_modulus
-nearest-requires-clause-is_modulus c = rw (one_shl c.args.bits 64 (omega arith)) (IsModulus-pow c.args.bits c.requires.some c.requires.few)
+pub returns-then-ahead-half : goal.returns-then-ahead-half
+returns-then-ahead-half c =
+    IsWidened-ahead c.args.bits _ c.args.previous c.in-Some.previous c.args.number c.requires.some c.requires.few c.in-Some.is (search rules) (one_shl c.args.bits 64 (omega arith))
+    (inl c.if-ahead-half.true)
 
--- the number before is of 64 bits
-in_range : (c : goal.After-nearest) → IfSome c.args.previous (λ previous. previous < 2 ^ 64)
-in_range c = let fits : c.in-Some.previous < 2 ^ 64 = search rules in rw c.in-Some.is fits
+pub returns-then-previous-modulus : goal.returns-then-previous-modulus
+returns-then-previous-modulus c =
+    IsWidened-ahead c.args.bits _ c.args.previous c.in-Some.previous c.args.number c.requires.some c.requires.few c.in-Some.is (search rules) (one_shl c.args.bits 64 (omega arith))
+    (inr (c.if-ahead-half-2.true, c.if-previous-modulus.true))
 
--- what was found is near
-near_here : (c : goal.After-nearest) → Extends c.args.bits c.args.previous c.args.number c.nearest.result
-near_here c =
-    let modulus : 1 * 2 ^ c.args.bits % 2 ^ 64 ≡ 2 ^ c.args.bits = one_shl c.args.bits 64 (omega arith) in
-    rw c.in-Some.is (IsNearest-from_modulus c.args.bits c.in-Some.previous c.args.number c.nearest.result c.requires.some
-    (subst (λ (t : ℕ). IsNearestModulo t c.in-Some.previous (c.args.number % t) c.nearest.result) modulus c.nearest.ensures))
-
-pub returns-in-Some-clause-only : goal.returns-in-Some-clause-only
-returns-in-Some-clause-only c n near =
-    only_near c.args.bits c.args.previous c.args.number c.nearest.result n c.requires.some c.requires.few (in_range c) (near_here c) near
-
-pub returns-in-Some-clause-close : goal.returns-in-Some-clause-close
-returns-in-Some-clause-close c n close =
-    only_near c.args.bits c.args.previous c.args.number c.nearest.result n c.requires.some c.requires.few (in_range c) (near_here c)
-    (Extends-within_half c.args.bits c.args.previous c.args.number n close)
+pub returns : goal.returns
+returns c =
+    IsWidened-before c.args.bits _ c.args.previous c.in-Some.previous c.args.number c.requires.some c.requires.few c.in-Some.is (search rules) (one_shl c.args.bits 64 (omega arith))
+    c.if-ahead-half.false (elim c.else-ahead-half-2.branch [
+      | else-ahead-half-2-via-then-ahead-half-2+else-previous-modulus w ↦ λ _. w.if-previous-modulus.false
+      | else-ahead-half-2-via-else-ahead-half-2 w ↦ λ just. absurd (w.if-ahead-half-2.false just)
+    ])
