@@ -5,6 +5,7 @@ mod ElementLemmas
 mod KindNumberLemmas
 mod StoredMapLemmas
 mod NumberedLemmas
+mod MeantLemmas
 mod FewSlotsLemmas
 mod LayersLemmas
 mod HeaderViewLemmas
