@@ -29,3 +29,5 @@ pub mod RenumberedValuesLemmas
 mod SetValuesLemmas
 mod RawWritingLemmas
 pub mod ServingFormLemmas
+pub mod GatheredLemmas
+mod SurveyLemmas

@@ -1,0 +1,50 @@
+-- What a body has of an id, and its elements in a row: what the functions that make a body anew promise each other.
+use Rattle.std.specs.Prelude.{◌≡◌, ℕ, ◌+◌, ◌≤◌, List, ◌++◌, length, take, Option, IfSome, IfNone}
+use Rattle.std.specs.List.{filter}
+use Rattle.rtp_ext.specs.declared.form.ExtensionsForm.{ExtensionsForm}
+use Rattle.rtp_ext.specs.declared.form.ExtensionsForm.TheVariants.{OneByte, TwoByte}
+use Rattle.rtp_ext.specs.declared.place.Place.{Place}
+use Rattle.rtp_ext.specs.declared.growing.Survey.{Survey}
+use Rattle.rtp_ext.specs.Elements.{Element, AreElements, elements_bytes}
+use Rattle.rtp_ext.specs.ElementsInPlace.{HasNone}
+use Rattle.rtp_ext.specs.ElementPlaces.{IsLastPlace, LiesLast, IsPassed, AreWhole}
+use Rattle.rtp_ext.specs.PutElement.{has_id, without}
+
+-- the place of the last element of the id, how many elements have it, and how many bytes the others take
+pub record IsSurvey (form : ExtensionsForm) (body : List ℕ) (id : ℕ) (survey : Survey) : Type 0 where
+  pub elements : List Element
+  pub are_elements : AreElements form body elements
+  pub last_is : IfSome survey.last (λ place. (place.id ≡ id) × IsLastPlace (AreElements form) id body place × LiesLast form (AreElements form) id body place)
+  pub none_is : IfNone survey.last (HasNone elements id)
+  pub count_is : survey.count ≡ length (filter (has_id id) elements)
+  pub others_are : survey.others_len ≡ length (elements_bytes form (without id elements))
+
+-- the same of the body up to an offset
+pub record IsSurveyedTo (form : ExtensionsForm) (body : List ℕ) (at id : ℕ) (last : Option Place) (count others_len : ℕ) : Type 0 where
+  pub passed : IsPassed form body at id last
+  pub count_is : count ≡ length (filter (has_id id) passed.elements)
+  pub others_are : others_len ≡ length (elements_bytes form (without id passed.elements))
+  pub count_small : count ≤ at
+  pub others_small : others_len ≤ at
+
+-- the elements of other ids stand in a row at the front, in so many bytes
+pub record IsGathered (form : ExtensionsForm) (id : ℕ) (old new : List ℕ) (len : ℕ) : Type 0 where
+  pub elements : List Element
+  pub are_elements : AreElements form old elements
+  pub row_is : take len new ≡ elements_bytes form (without id elements)
+  pub len_is : len ≡ length (elements_bytes form (without id elements))
+  pub length_is : length new ≡ length old
+  pub within : len ≤ length old
+
+-- the same of the elements up to an offset; what follows that is as it was
+pub record IsGatheredTo (form : ExtensionsForm) (id : ℕ) (old new : List ℕ) (at len : ℕ) : Type 0 where
+  pub passed : List ℕ
+  pub gap : List ℕ
+  pub left : List ℕ
+  pub elements : List Element
+  pub are_whole : AreWhole form passed elements
+  pub old_is : old ≡ passed ++ left
+  pub new_is : new ≡ elements_bytes form (without id elements) ++ (gap ++ left)
+  pub at_is : at ≡ length passed
+  pub len_is : len ≡ length (elements_bytes form (without id elements))
+  pub gap_is : len + length gap ≡ at
