@@ -31,3 +31,5 @@ mod RawWritingLemmas
 pub mod ServingFormLemmas
 pub mod GatheredLemmas
 mod SurveyLemmas
+mod PutLemmas
+mod BetweenLemmas

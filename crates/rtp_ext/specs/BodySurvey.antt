@@ -1,6 +1,6 @@
 -- What a body has of an id, and its elements in a row: what the functions that make a body anew promise each other.
-use Rattle.std.specs.Prelude.{◌≡◌, ℕ, ◌+◌, ◌≤◌, List, ◌++◌, length, take, Option, IfSome, IfNone}
-use Rattle.std.specs.List.{filter}
+use Rattle.std.specs.Prelude.{◌≡◌, ℕ, ◌+◌, ◌-◌, ◌≤◌, List, ◌++◌, length, take, drop, slice_range, Option, IfSome, IfNone}
+use Rattle.std.specs.List.{filter, AllByRecursion}
 use Rattle.rtp_ext.specs.declared.form.ExtensionsForm.{ExtensionsForm}
 use Rattle.rtp_ext.specs.declared.form.ExtensionsForm.TheVariants.{OneByte, TwoByte}
 use Rattle.rtp_ext.specs.declared.place.Place.{Place}
@@ -8,6 +8,7 @@ use Rattle.rtp_ext.specs.declared.growing.Survey.{Survey}
 use Rattle.rtp_ext.specs.Elements.{Element, AreElements, elements_bytes}
 use Rattle.rtp_ext.specs.ElementsInPlace.{HasNone}
 use Rattle.rtp_ext.specs.ElementPlaces.{IsLastPlace, LiesLast, IsPassed, AreWhole}
+use Rattle.rtp_ext.specs.ElementsInARow.{IsWritable}
 use Rattle.rtp_ext.specs.PutElement.{has_id, without}
 
 -- the place of the last element of the id, how many elements have it, and how many bytes the others take
@@ -48,3 +49,19 @@ pub record IsGatheredTo (form : ExtensionsForm) (id : ℕ) (old new : List ℕ) 
   pub at_is : at ≡ length passed
   pub len_is : len ≡ length (elements_bytes form (without id elements))
   pub gap_is : len + length gap ≡ at
+
+-- the last bytes of a room, so many of them, are elements of the one-byte form in a row, none of the id 0, and the room is as long as they are in the two-byte form
+pub record IsWideRow (room : List ℕ) (len : ℕ) : Type 0 where
+  pub elements : List Element
+  pub are_writable : AllByRecursion (IsWritable OneByte) elements
+  pub row_is : drop (length room - len) room ≡ elements_bytes OneByte elements
+  pub within : len ≤ length room
+  pub fits : length (elements_bytes TwoByte elements) ≤ length room
+
+-- these elements stand at the front of the room in the two-byte form, in so many bytes
+pub record IsWidened (old new : List ℕ) (len end : ℕ) : Type 0 where
+  pub elements : List Element
+  pub are_writable : AllByRecursion (IsWritable OneByte) elements
+  pub row_was : drop (length old - len) old ≡ elements_bytes OneByte elements
+  pub row_is : take end new ≡ elements_bytes TwoByte elements
+  pub end_is : end ≡ length (elements_bytes TwoByte elements)

@@ -1,11 +1,20 @@
 //! A body that is made anew where it lies, with an element put into it or taken out of it, without
 //! memory.
 
-ghost use Rattle.std.specs.Prelude.{◌≡◌, ◌+◌, ◌-◌, ◌≤◌, ◌++◌, length, take, drop};
-ghost use Rattle.rtp_ext.specs.BodySurvey.{IsSurvey, IsGathered};
+ghost use Rattle.std.specs.Prelude.{◌≡◌, ◌↔◌, ℕ, ◌+◌, ◌-◌, ◌*◌, ◌≤◌, ◌++◌, ◌⊎◌, List, length, take, drop, slice_range, IsTrue};
+ghost use Rattle.std.specs.Bool.{OnTrue, OnFalse};
+ghost use Rattle.rtp_ext.specs.declared.form.ExtensionsForm.TheVariants.{OneByte, TwoByte};
+ghost use Rattle.rtp_ext.specs.Elements.{Element, AreElements, element_bytes, elements_bytes};
+ghost use Rattle.rtp_ext.specs.ElementsInARow.{IsWritable};
+ghost use Rattle.rtp_ext.specs.ElementsInPlace.{SetsLast};
+ghost use Rattle.rtp_ext.specs.BodySurvey.{IsSurvey, IsGathered, IsWideRow, IsWidened};
+ghost use Rattle.rtp_ext.specs.PutElement.{without, put_element, carried_in, needed_form, allowed_form, row_to, IsSole};
 
 use super::ExtensionsForm;
+use super::form::{form_with, header_len, write_header};
 use super::place::{Place, next_place};
+use super::raw_writing::put_element;
+use rtp_base::{put, put_zeros};
 
 /// What a body has of an id, and how much besides.
 #[derive(Clone, Copy, Drop)]
@@ -59,4 +68,73 @@ fn gather(form: ExtensionsForm, body: &mut [u8], id: u8) -> usize
         len += place.end - place.start;
     }
     len
+}
+
+/// The form that a block gets with an element put into it, where it has this form or there is none yet
+/// (RFC 8285, 4.1.2): the one that it needs, which is the two-byte form where it has that, or the
+/// one-byte form can't carry the element; or the one form that is allowed, where that serves. `None`
+/// where it doesn't: the block needs the two-byte form, and only the one-byte form is allowed.
+pub fn form_to_put(
+    block: Option<ExtensionsForm>,
+    allowed: Option<ExtensionsForm>,
+    id: u8,
+    data: &[u8],
+) -> Option<ExtensionsForm>
+    ensures { result ≡ allowed_form allowed (needed_form block (id, «data».now)) }
+{
+    let needed = form_with(block.unwrap_or(ExtensionsForm::OneByte), id, data);
+    match (allowed, needed) {
+        (None, needed) => Some(needed),
+        (Some(ExtensionsForm::TwoByte), _) => Some(ExtensionsForm::TwoByte),
+        (Some(ExtensionsForm::OneByte), ExtensionsForm::OneByte) => Some(ExtensionsForm::OneByte),
+        (Some(ExtensionsForm::OneByte), ExtensionsForm::TwoByte) => None,
+    }
+}
+
+/// Gives the element of the id these data where it lies, where it is the only one and has as many
+/// bytes, and returns whether it is; all other bytes stay. Else nothing changes.
+pub fn set_sole(body: &mut [u8], survey: &Survey, id: u8, data: &[u8]) -> bool
+    requires { (form : ExtensionsForm) × IsSurvey form body.old id survey.now }
+    ensures set { (form : ExtensionsForm) → IsSurvey form body.old id survey.now →
+        OnTrue result (SetsLast form id «data».now body.old body.new) }
+    ensures unchanged { OnFalse result (body.new ≡ body.old) }
+    ensures answer { (form : ExtensionsForm) (elements : List Element) → IsSurvey form body.old id survey.now →
+        AreElements form body.old elements → IsTrue result ↔ IsSole elements (id, «data».now) }
+    ensures elements { (form : ExtensionsForm) (elements : List Element) → IsSurvey form body.old id survey.now →
+        AreElements form body.old elements →
+        OnTrue result (AreElements form body.new (put_element (id, «data».now) elements)) }
+{
+    let Some(place) = survey.last else {
+        return false;
+    };
+    if survey.count != 1 || place.end - place.data_start != data.len() {
+        return false;
+    }
+    put(body, place.data_start, data);
+    true
+}
+
+// Puts the element after so many bytes at the front of the body, and behind it the `count` bytes at the
+// offset. Returns where these end.
+fn put_between(
+    form: ExtensionsForm,
+    body: &mut [u8],
+    front: usize,
+    at: usize,
+    count: usize,
+    id: u8,
+    data: &[u8],
+) -> usize
+    requires writable { IsWritable form (id, «data».now) }
+    requires order { front ≤ at }
+    requires within { at + count ≤ length body.old }
+    requires room { front + length (element_bytes form (id, «data».now)) + count ≤ length body.old }
+    ensures row { take result body.new ≡ take front body.old
+        ++ (element_bytes form (id, «data».now) ++ slice_range body.old at (at + count)) }
+    ensures end { result ≡ front + length (element_bytes form (id, «data».now)) + count }
+{
+    let end = front + header_len(form) + data.len();
+    body.copy_within(at..at + count, end);
+    put_element(body, front, form, id, data);
+    end + count
 }
