@@ -33,3 +33,4 @@ pub mod GatheredLemmas
 mod SurveyLemmas
 mod PutLemmas
 mod BetweenLemmas
+mod AroundLemmas

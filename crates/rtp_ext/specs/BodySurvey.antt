@@ -1,11 +1,11 @@
 -- What a body has of an id, and its elements in a row: what the functions that make a body anew promise each other.
-use Rattle.std.specs.Prelude.{◌≡◌, ℕ, ◌+◌, ◌-◌, ◌≤◌, List, ◌++◌, length, take, drop, slice_range, Option, IfSome, IfNone}
+use Rattle.std.specs.Prelude.{◌≡◌, ℕ, ◌+◌, ◌-◌, ◌≤◌, List, ◌∷◌, ◌++◌, length, take, drop, slice_range, Option, IfSome, IfNone}
 use Rattle.std.specs.List.{filter, AllByRecursion}
 use Rattle.rtp_ext.specs.declared.form.ExtensionsForm.{ExtensionsForm}
 use Rattle.rtp_ext.specs.declared.form.ExtensionsForm.TheVariants.{OneByte, TwoByte}
 use Rattle.rtp_ext.specs.declared.place.Place.{Place}
 use Rattle.rtp_ext.specs.declared.growing.Survey.{Survey}
-use Rattle.rtp_ext.specs.Elements.{Element, AreElements, elements_bytes}
+use Rattle.rtp_ext.specs.Elements.{Element, IsElement, AreElements, elements_bytes}
 use Rattle.rtp_ext.specs.ElementsInPlace.{HasNone}
 use Rattle.rtp_ext.specs.ElementPlaces.{IsLastPlace, LiesLast, IsPassed, AreWhole}
 use Rattle.rtp_ext.specs.ElementsInARow.{IsWritable}
@@ -65,3 +65,31 @@ pub record IsWidened (old new : List ℕ) (len end : ℕ) : Type 0 where
   pub row_was : drop (length old - len) old ≡ elements_bytes OneByte elements
   pub row_is : take end new ≡ elements_bytes TwoByte elements
   pub end_is : end ≡ length (elements_bytes TwoByte elements)
+
+-- of the bytes before an offset, and between two further ones, the elements of other ids stand in a row at the front, and from the first of these offsets on
+pub record HasRows (form : ExtensionsForm) (id : ℕ) (old new : List ℕ) (start end body_len front count : ℕ) : Type 0 where
+  pub before : List Element
+  pub after : List Element
+  pub are_before : AreElements form (take start old) before
+  pub are_after : AreElements form (slice_range old end body_len) after
+  pub front_is : take front new ≡ elements_bytes form (without id before)
+  pub after_is : slice_range new end (end + count) ≡ elements_bytes form (without id after)
+  pub front_len : front ≡ length (elements_bytes form (without id before))
+  pub count_is : count ≡ length (elements_bytes form (without id after))
+  pub length_is : length new ≡ length old
+  pub front_within : front ≤ start
+  pub after_within : end + count ≤ body_len
+
+-- elements of the one-byte form stand in a row at the front, and others from an offset on, and there is room for them in the two-byte form with an element between them
+pub record HasNarrowRows (body : List ℕ) (front at count : ℕ) (element : Element) : Type 0 where
+  pub before : List Element
+  pub after : List Element
+  pub are_before : AllByRecursion (IsElement OneByte) before
+  pub are_after : AllByRecursion (IsElement OneByte) after
+  pub front_is : take front body ≡ elements_bytes OneByte before
+  pub after_is : slice_range body at (at + count) ≡ elements_bytes OneByte after
+  pub front_len : front ≡ length (elements_bytes OneByte before)
+  pub count_is : count ≡ length (elements_bytes OneByte after)
+  pub order : front ≤ at
+  pub within : at + count ≤ length body
+  pub fits : length (elements_bytes TwoByte (without 0 before ++ element ∷ without 0 after)) ≤ length body

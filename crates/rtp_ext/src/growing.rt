@@ -1,13 +1,13 @@
 //! A body that is made anew where it lies, with an element put into it or taken out of it, without
 //! memory.
 
-ghost use Rattle.std.specs.Prelude.{◌≡◌, ◌↔◌, ℕ, ◌+◌, ◌-◌, ◌*◌, ◌≤◌, ◌++◌, ◌⊎◌, List, length, take, drop, slice_range, IsTrue};
+ghost use Rattle.std.specs.Prelude.{◌≡◌, ◌↔◌, ℕ, ◌+◌, ◌-◌, ◌*◌, ◌≤◌, ◌++◌, ◌⊎◌, List, length, take, drop, slice_range, IsTrue, IfSome, IfNone};
 ghost use Rattle.std.specs.Bool.{OnTrue, OnFalse};
 ghost use Rattle.rtp_ext.specs.declared.form.ExtensionsForm.TheVariants.{OneByte, TwoByte};
 ghost use Rattle.rtp_ext.specs.Elements.{Element, AreElements, element_bytes, elements_bytes};
 ghost use Rattle.rtp_ext.specs.ElementsInARow.{IsWritable};
 ghost use Rattle.rtp_ext.specs.ElementsInPlace.{SetsLast};
-ghost use Rattle.rtp_ext.specs.BodySurvey.{IsSurvey, IsGathered, IsWideRow, IsWidened};
+ghost use Rattle.rtp_ext.specs.BodySurvey.{IsSurvey, IsGathered, HasRows, HasNarrowRows, IsWideRow, IsWidened};
 ghost use Rattle.rtp_ext.specs.PutElement.{without, put_element, carried_in, needed_form, allowed_form, row_to, IsSole};
 
 use super::ExtensionsForm;
@@ -137,4 +137,38 @@ fn put_between(
     body.copy_within(at..at + count, end);
     put_element(body, front, form, id, data);
     end + count
+}
+
+impl Survey {
+    // Where the bytes before the last element of the id end, and those after it begin. Without one all of
+    // the body is before it.
+    fn around(&self, body_len: usize) -> (usize, usize)
+        ensures some { IfSome self.now.last (λ place. (result.0 ≡ place.start) × (result.1 ≡ place.end)) }
+        ensures none { IfNone self.now.last ((result.0 ≡ body_len) × (result.1 ≡ body_len)) }
+    {
+        match self.last {
+            Some(place) => (place.start, place.end),
+            None => (body_len, body_len),
+        }
+    }
+}
+
+// Puts the elements of other ids before an offset in a row at the front, and those between two further
+// offsets in a row from the first of these on. Returns how many bytes they take, there and there.
+fn gather_around(
+    form: ExtensionsForm,
+    body: &mut [u8],
+    start: usize,
+    end: usize,
+    body_len: usize,
+    id: u8,
+) -> (usize, usize)
+    requires order { start ≤ end }
+    requires after { end ≤ body_len }
+    requires within { body_len ≤ length body.old }
+    ensures { HasRows form id body.old body.new start end body_len result.0 result.1 }
+{
+    let front = gather(form, &mut body[..start], id);
+    let count = gather(form, &mut body[end..body_len], id);
+    (front, count)
 }
