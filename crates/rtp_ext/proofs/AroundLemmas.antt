@@ -1,5 +1,5 @@
 -- The elements before the last one of an id, and after it, each in a row.
-use Rattle.std.proofs.Common.{◌≡◌, ℕ, ◌+◌, ◌-◌, ◌≤◌, List, [], ◌∷◌, ◌++◌, length, take, drop, replicate, Option, Some, None, IfSome, IfNone, append_assoc, length-append, length-drop, length-take-le, arith, refl, sym, ap, ◌∙◌, subst}
+use Rattle.std.proofs.Common.{◌≡◌, ℕ, ◌+◌, ◌-◌, ◌≤◌, List, [], ◌∷◌, ◌++◌, length, take, drop, replicate, Option, Some, None, IfSome, IfNone, append_assoc, length-append, length-drop, length-take-le, arith, refl, sym, ap, ◌∙◌, subst, inl, inr, ◌⊎◌}
 use Rattle.std.specs.Prelude.{slice_range}
 use Rattle.std.proofs.lemmas.List.{take_at, drop_at, take-append-le, take-take, take_all, drop_all, take_rest, append-nil}
 use Rattle.std.proofs.lemmas.Slice.{drop-append-drop, take-put_mid_below, between-put_mid}
@@ -64,6 +64,7 @@ pub record IsSplit (form : ExtensionsForm) (id : ℕ) (body : List ℕ) (start e
   pub order : start ≤ end
   pub within : end ≤ length body
   pub put_is : (elements : List Element) (bytes : List ℕ) → AreElements form body elements → put_element (id, bytes) elements ≡ without id before ++ (id, bytes) ∷ after
+  pub around : (elements : List Element) → AreElements form body elements → ((was : List ℕ) × (elements ≡ before ++ (id, was) ∷ after)) ⊎ (HasNone elements id × (before ≡ elements) × (after ≡ []))
 
 AreElements-nothing : (form : ExtensionsForm) → AreElements form [] []
 AreElements-nothing form = record { pieces = []; tail = []; are_pieces = tt; is_tail = ended refl; body_is = refl; elements_are = refl }
@@ -98,6 +99,8 @@ split_at form body id place is id_is =
           ap (put_element (id, bytes)) (AreElements-same form body elements ((is.before ++ (place.id, is.lies.bytes) ∷ []) ++ is.after) are all
           ∙ (append_assoc is.before ((place.id, is.lies.bytes) ∷ []) is.after ∙ ap (λ (i : ℕ). is.before ++ (i, is.lies.bytes) ∷ is.after) id_is))
           ∙ put_element-last id bytes is.lies.bytes is.before is.after is.last;
+      around = λ elements are. inl (is.lies.bytes, AreElements-same form body elements ((is.before ++ (place.id, is.lies.bytes) ∷ []) ++ is.after) are all
+          ∙ (append_assoc is.before ((place.id, is.lies.bytes) ∷ []) is.after ∙ ap (λ (i : ℕ). is.before ++ (i, is.lies.bytes) ∷ is.after) id_is));
     }
 
 split_none : (form : ExtensionsForm) (body : List ℕ) (id : ℕ) (elements : List Element) → AreElements form body elements → HasNone elements id → IsSplit form id body (length body) (length body)
@@ -112,6 +115,9 @@ split_none form body id elements are none = record {
   put_is = λ others bytes are_others.
       let same : others ≡ elements = AreElements-same form body others elements are_others are in
       ap (put_element (id, bytes)) same ∙ (put_element-none (id, bytes) elements none ∙ ap (λ es. es ++ (id, bytes) ∷ []) (sym (without-none id elements none)));
+  around = λ others are_others.
+      let same : others ≡ elements = AreElements-same form body others elements are_others are in
+      inr (subst (λ es. HasNone es id) (sym same) none, sym same, refl);
 }
 
 -- by a survey

@@ -34,3 +34,4 @@ mod SurveyLemmas
 mod PutLemmas
 mod BetweenLemmas
 mod AroundLemmas
+mod WidenLemmas

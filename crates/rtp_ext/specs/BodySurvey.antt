@@ -93,3 +93,16 @@ pub record HasNarrowRows (body : List ℕ) (front at count : ℕ) (element : Ele
   pub order : front ≤ at
   pub within : at + count ≤ length body
   pub fits : length (elements_bytes TwoByte (without 0 before ++ element ∷ without 0 after)) ≤ length body
+
+-- the same of the elements up to an offset, with those that are left
+pub record IsWidenedTo (old new : List ℕ) (len at end : ℕ) : Type 0 where
+  pub passed : List Element
+  pub left : List Element
+  pub are_passed : AllByRecursion (IsWritable OneByte) passed
+  pub are_left : AllByRecursion (IsWritable OneByte) left
+  pub row_was : drop (length old - len) old ≡ elements_bytes OneByte (passed ++ left)
+  pub left_is : drop at new ≡ elements_bytes OneByte left
+  pub row_is : take end new ≡ elements_bytes TwoByte passed
+  pub end_is : end ≡ length (elements_bytes TwoByte passed)
+  pub at_is : at + length (elements_bytes OneByte left) ≡ length new
+  pub fits : end + length (elements_bytes TwoByte left) ≤ length new

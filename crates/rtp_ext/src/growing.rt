@@ -1,7 +1,7 @@
 //! A body that is made anew where it lies, with an element put into it or taken out of it, without
 //! memory.
 
-ghost use Rattle.std.specs.Prelude.{◌≡◌, ◌↔◌, ℕ, ◌+◌, ◌-◌, ◌*◌, ◌≤◌, ◌++◌, ◌⊎◌, List, length, take, drop, slice_range, IsTrue, IfSome, IfNone};
+ghost use Rattle.std.specs.Prelude.{◌≡◌, ◌↔◌, ℕ, ◌+◌, ◌-◌, ◌*◌, ◌≤◌, ◌∷◌, ◌++◌, ◌⊎◌, List, length, take, drop, slice_range, IsTrue, IfSome, IfNone};
 ghost use Rattle.std.specs.Bool.{OnTrue, OnFalse};
 ghost use Rattle.rtp_ext.specs.declared.form.ExtensionsForm.TheVariants.{OneByte, TwoByte};
 ghost use Rattle.rtp_ext.specs.Elements.{Element, AreElements, element_bytes, elements_bytes};
@@ -171,4 +171,84 @@ fn gather_around(
     let front = gather(form, &mut body[..start], id);
     let count = gather(form, &mut body[end..body_len], id);
     (front, count)
+}
+
+// Puts elements of the one-byte form, which are the last `len` bytes of the room, to its front in the
+// two-byte form. Returns how many bytes they then take.
+fn widen(room: &mut [u8], len: usize) -> usize
+    requires { IsWideRow room.old len }
+    ensures { IsWidened room.old room.new len result }
+{
+    let mut end = 0;
+    let mut at = room.len() - len;
+    while let Some(place) = next_place(ExtensionsForm::OneByte, room, at) {
+        at = place.end;
+        let data_len = place.end - place.data_start;
+        room.copy_within(place.data_start..place.end, end + 2);
+        write_header(room, end, ExtensionsForm::TwoByte, place.id, data_len as u8);
+        end += 2 + data_len;
+    }
+    end
+}
+
+// The same as `put_between` of elements in the one-byte form, which are put in the two-byte form, except for
+// those of the id 0.
+fn put_widened(
+    body: &mut [u8],
+    front: usize,
+    at: usize,
+    count: usize,
+    id: u8,
+    data: &[u8],
+) -> usize
+    requires writable { IsWritable TwoByte (id, «data».now) }
+    requires rows { HasNarrowRows body.old front at count (id, «data».now) }
+    ensures row { (rows : HasNarrowRows body.old front at count (id, «data».now)) →
+        take result body.new ≡ elements_bytes TwoByte
+        (without 0 rows.before ++ (id, «data».now) ∷ without 0 rows.after) }
+    ensures end { (rows : HasNarrowRows body.old front at count (id, «data».now)) →
+        result ≡ length (elements_bytes TwoByte
+        (without 0 rows.before ++ (id, «data».now) ∷ without 0 rows.after)) }
+{
+    let form = ExtensionsForm::OneByte;
+    let (front, count) = gather_around(form, body, front, at, at + count, 0);
+    let rest = body.len() - count;
+    body.copy_within(at..at + count, rest);
+    body.copy_within(..front, rest - front);
+    let front = widen(&mut body[..rest], front);
+    let at = put_element(body, front, ExtensionsForm::TwoByte, id, data);
+    at + widen(&mut body[at..], count)
+}
+
+/// Makes a body anew with the element in it, in this form or the two-byte form (RFC 8285, 4.2 and 4.3):
+/// the elements in a row, and zeros to the end of the slice, at whose front the body lies.
+pub fn put_anew(
+    form: ExtensionsForm,
+    new_form: ExtensionsForm,
+    body: &mut [u8],
+    body_len: usize,
+    survey: &Survey,
+    id: u8,
+    data: &[u8],
+)
+    requires within { body_len ≤ length body.old }
+    requires survey { IsSurvey form (take body_len body.old) id survey.now }
+    requires writable { IsWritable new_form (id, «data».now) }
+    requires forms { (new_form ≡ form) ⊎ (new_form ≡ TwoByte) }
+    requires room { (elements : List Element) → AreElements form (take body_len body.old) elements →
+        length (elements_bytes new_form (put_element (id, «data».now) (carried_in new_form elements)))
+        ≤ length body.old }
+    ensures { (elements : List Element) → AreElements form (take body_len body.old) elements →
+        body.new ≡ row_to new_form (put_element (id, «data».now) (carried_in new_form elements))
+        (length body.old) }
+{
+    let (start, end) = survey.around(body_len);
+    let (front, count) = gather_around(form, body, start, end, body_len, id);
+    let len = if new_form == form {
+        put_between(form, body, front, end, count, id, data)
+    } else {
+        put_widened(body, front, end, count, id, data)
+    };
+    let left = body.len() - len;
+    put_zeros(body, len, left);
 }
