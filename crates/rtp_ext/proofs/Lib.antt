@@ -35,3 +35,4 @@ mod PutLemmas
 mod BetweenLemmas
 mod AroundLemmas
 mod WidenLemmas
+mod WidenAroundLemmas

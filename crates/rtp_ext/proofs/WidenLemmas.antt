@@ -20,7 +20,7 @@ use Rattle.rtp_ext.proofs.WrittenElementsLemmas.{AreElements-in_a_row}
 use Rattle.rtp_ext.proofs.ServingFormLemmas.{length-two}
 use Rattle.rtp_ext.proofs.GatheredLemmas.{elements_bytes-append}
 
-are_elements : (elements : List Element) → AllByRecursion (IsWritable OneByte) elements → AllByRecursion (IsElement OneByte) elements
+pub are_elements : (elements : List Element) → AllByRecursion (IsWritable OneByte) elements → AllByRecursion (IsElement OneByte) elements
 are_elements [] all = tt
 are_elements (element ∷ elements) all = (all.0.1, are_elements elements all.1)
 
