@@ -132,3 +132,10 @@ IsSplit-surveyed form body id survey start end is some none = by_last survey.las
         subst (λ (s : ℕ). IsSplit form id body s end) (sym none.0) (subst (λ (e : ℕ). IsSplit form id body (length body) e) (sym none.1) (split_none form body id is.elements is.are_elements has_none))
     by_last (Some place) known has_none some none =
         subst (λ (s : ℕ). IsSplit form id body s end) (sym some.0) (subst (λ (e : ℕ). IsSplit form id body place.start e) (sym some.1) (split_at form body id place known.2 known.0))
+
+-- of a body at the front of a slice
+pub IsSplit-by : (form : ExtensionsForm) (body : List ℕ) (body_len id : ℕ) (survey : Survey) (start end : ℕ) → body_len ≤ length body → IsSurvey form (take body_len body) id survey
+    → IfSome survey.last (λ place. (start ≡ place.start) × (end ≡ place.end)) → IfNone survey.last ((start ≡ body_len) × (end ≡ body_len)) → IsSplit form id (take body_len body) start end
+IsSplit-by form body body_len id survey start end within is some none =
+    IsSplit-surveyed form (take body_len body) id survey start end is some
+    (subst (λ (n : ℕ). IfNone survey.last ((start ≡ n) × (end ≡ n))) (sym (length-take-le body_len body within)) none)

@@ -36,3 +36,4 @@ mod BetweenLemmas
 mod AroundLemmas
 mod WidenLemmas
 mod WidenAroundLemmas
+mod AnewLemmas
