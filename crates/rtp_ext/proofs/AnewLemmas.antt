@@ -85,7 +85,7 @@ without-around id before after was above =
     ∙ ap (λ (b : Bool). without 0 before ++ cond (not b) ((id, was) ∷ without 0 after) (without 0 after)) (ne_eqb id 0 other)
 
 -- the element put among those that the two-byte form can carry
-put_element-carried : (form : ExtensionsForm) (id start end : ℕ) (body bytes : List ℕ) (elements : List Element) → (split : IsSplit form id body start end) → 1 ≤ id → AreElements form body elements
+pub put_element-carried : (form : ExtensionsForm) (id start end : ℕ) (body bytes : List ℕ) (elements : List Element) → (split : IsSplit form id body start end) → 1 ≤ id → AreElements form body elements
     → put_element (id, bytes) (without 0 elements) ≡ without 0 (without id split.before) ++ (id, bytes) ∷ without 0 split.after
 put_element-carried form id start end body bytes elements split above are = by_case (split.around elements are)
   where

@@ -43,13 +43,13 @@ HasRows-gathered form id body g1 g2 start end body_len front count order after w
       front_len = first.len_is;
       count_is = second.len_is;
       length_is = omega (
-          arith,
-          length-append (take end body1) (g2 ++ drop (body_len - end) (drop end body1)),
-          length-append g2 (drop (body_len - end) (drop end body1)),
-          length-take-le end body1 (omega arith),
-          length-drop (body_len - end) (drop end body1),
-          length-drop end body1,
-        );
+        arith,
+        length-append (take end body1) (g2 ++ drop (body_len - end) (drop end body1)),
+        length-append g2 (drop (body_len - end) (drop end body1)),
+        length-take-le end body1 (omega arith),
+        length-drop (body_len - end) (drop end body1),
+        length-drop end body1,
+      );
       front_within = few1;
       after_within = omega arith;
     }
@@ -99,8 +99,11 @@ split_at form body id place is id_is =
           ap (put_element (id, bytes)) (AreElements-same form body elements ((is.before ++ (place.id, is.lies.bytes) ∷ []) ++ is.after) are all
           ∙ (append_assoc is.before ((place.id, is.lies.bytes) ∷ []) is.after ∙ ap (λ (i : ℕ). is.before ++ (i, is.lies.bytes) ∷ is.after) id_is))
           ∙ put_element-last id bytes is.lies.bytes is.before is.after is.last;
-      around = λ elements are. inl (is.lies.bytes, AreElements-same form body elements ((is.before ++ (place.id, is.lies.bytes) ∷ []) ++ is.after) are all
-          ∙ (append_assoc is.before ((place.id, is.lies.bytes) ∷ []) is.after ∙ ap (λ (i : ℕ). is.before ++ (i, is.lies.bytes) ∷ is.after) id_is));
+      around = λ elements are. inl (
+        is.lies.bytes,
+        AreElements-same form body elements ((is.before ++ (place.id, is.lies.bytes) ∷ []) ++ is.after) are all
+            ∙ (append_assoc is.before ((place.id, is.lies.bytes) ∷ []) is.after ∙ ap (λ (i : ℕ). is.before ++ (i, is.lies.bytes) ∷ is.after) id_is),
+      );
     }
 
 split_none : (form : ExtensionsForm) (body : List ℕ) (id : ℕ) (elements : List Element) → AreElements form body elements → HasNone elements id → IsSplit form id body (length body) (length body)
@@ -139,3 +142,12 @@ pub IsSplit-by : (form : ExtensionsForm) (body : List ℕ) (body_len id : ℕ) (
 IsSplit-by form body body_len id survey start end within is some none =
     IsSplit-surveyed form (take body_len body) id survey start end is some
     (subst (λ (n : ℕ). IfNone survey.last ((start ≡ n) × (end ≡ n))) (sym (length-take-le body_len body within)) none)
+
+-- at some offsets
+pub some_split : (form : ExtensionsForm) (body : List ℕ) (id : ℕ) (survey : Survey) → IsSurvey form body id survey → (start : ℕ) × ((end : ℕ) × IsSplit form id body start end)
+some_split form body id survey is = by_last survey.last is.last_is is.none_is
+  where
+    by_last : (last : Option Place) → IfSome last (λ place. (place.id ≡ id) × IsLastPlace (AreElements form) id body place × LiesLast form (AreElements form) id body place)
+        → IfNone last (HasNone is.elements id) → (start : ℕ) × ((end : ℕ) × IsSplit form id body start end)
+    by_last None known has_none = (length body, (length body, split_none form body id is.elements is.are_elements has_none))
+    by_last (Some place) known has_none = (place.start, (place.end, split_at form body id place known.2 known.0))

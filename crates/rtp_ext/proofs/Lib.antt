@@ -37,3 +37,5 @@ mod AroundLemmas
 mod WidenLemmas
 mod WidenAroundLemmas
 mod AnewLemmas
+mod PutLengthLemmas
+mod SameFormLemmas

@@ -64,13 +64,13 @@ IsSurveyedTo-other form body at id last count others_len place was next other =
       passed = IsPassed-other form body at id last place was.passed next other;
       count_is = omega (arith, was.count_is, ap (λ es. length (filter (has_id id) es)) all, counted id was.passed.elements (place.id, next.bytes) false (ne_eqb place.id id other));
       others_are = omega (
-          arith,
-          was.others_are,
-          ap (λ es. length (elements_bytes form (without id es))) all,
-          ap length (row-other form id was.passed.elements (place.id, next.bytes) other),
-          length-append row (element_bytes form (place.id, next.bytes)),
-          element_len form body at place next,
-        );
+        arith,
+        was.others_are,
+        ap (λ es. length (elements_bytes form (without id es))) all,
+        ap length (row-other form id was.passed.elements (place.id, next.bytes) other),
+        length-append row (element_bytes form (place.id, next.bytes)),
+        element_len form body at place next,
+      );
       count_small = omega (arith, was.count_small, next.start_is, next.data_is, next.end_is);
       others_small = omega (arith, was.others_small, next.start_is, next.data_is, next.end_is);
     }
@@ -100,4 +100,5 @@ IsSurvey-end form body at id last count others_len was none =
       none_is = none_known form id p.passed p.elements last p.last_is;
       count_is = was.count_is;
       others_are = was.others_are;
+      others_within = omega (arith, was.others_small, p.at_is, ap length p.body_is, length-append p.passed p.left);
     }

@@ -213,8 +213,14 @@ module _ (body body1 body2 body3 : List ℕ) (front at count id r0 r1 : ℕ) (da
       body5_len : length body5 ≡ length body1
       body5_len =
           let n = next_early in
-          omega (arith, ap length body5_is, length-append (take f room1 ++ element_bytes TwoByte (id, data_bytes)) (drop next (room1 ++ drop (length body1 - r1) body3)), head_len,
-            length-drop next (room1 ++ drop (length body1 - r1) body3), body4_len)
+          omega (
+            arith,
+            ap length body5_is,
+            length-append (take f room1 ++ element_bytes TwoByte (id, data_bytes)) (drop next (room1 ++ drop (length body1 - r1) body3)),
+            head_len,
+            length-drop next (room1 ++ drop (length body1 - r1) body3),
+            body4_len,
+          )
 
       left_is : drop next body5 ≡ drop next room1 ++ drop (length body1 - r1) body3
       left_is =

@@ -158,13 +158,13 @@ module _ (old room : List ℕ) (len at end : ℕ) (place : Place) (was : IsWiden
         row_is = ap (take (end + (2 + n))) whole ∙ (take_at (take end room ++ element) rest (end + (2 + n)) front
             ∙ (ap (λ b. b ++ element) was.row_is ∙ sym (elements_bytes-append TwoByte was.passed ((place.id, next.bytes) ∷ []) ∙ ap (λ b. elements_bytes TwoByte was.passed ++ b) (append-nil element))));
         end_is = omega (
-            arith,
-            was.end_is,
-            ap length (elements_bytes-append TwoByte was.passed ((place.id, next.bytes) ∷ [])),
-            length-append (elements_bytes TwoByte was.passed) (elements_bytes TwoByte ((place.id, next.bytes) ∷ [])),
-            ap length (append-nil element),
-            count,
-          );
+          arith,
+          was.end_is,
+          ap length (elements_bytes-append TwoByte was.passed ((place.id, next.bytes) ∷ [])),
+          length-append (elements_bytes TwoByte was.passed) (elements_bytes TwoByte ((place.id, next.bytes) ∷ [])),
+          ap length (append-nil element),
+          count,
+        );
         at_is = omega (arith, was.at_is, left_len, long, next.end_is, data_at);
         fits = omega (arith, was.fits, wide_len, long, count);
       }

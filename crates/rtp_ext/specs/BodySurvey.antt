@@ -1,5 +1,5 @@
 -- What a body has of an id, and its elements in a row: what the functions that make a body anew promise each other.
-use Rattle.std.specs.Prelude.{◌≡◌, ℕ, ◌+◌, ◌-◌, ◌≤◌, List, ◌∷◌, ◌++◌, length, take, drop, slice_range, Option, IfSome, IfNone}
+use Rattle.std.specs.Prelude.{◌≡◌, ℕ, ◌+◌, ◌-◌, ◌*◌, ◌≤◌, List, ◌∷◌, ◌++◌, length, take, drop, slice_range, Option, IfSome, IfNone}
 use Rattle.std.specs.List.{filter, AllByRecursion}
 use Rattle.rtp_ext.specs.declared.form.ExtensionsForm.{ExtensionsForm}
 use Rattle.rtp_ext.specs.declared.form.ExtensionsForm.TheVariants.{OneByte, TwoByte}
@@ -9,7 +9,7 @@ use Rattle.rtp_ext.specs.Elements.{Element, IsElement, AreElements, elements_byt
 use Rattle.rtp_ext.specs.ElementsInPlace.{HasNone}
 use Rattle.rtp_ext.specs.ElementPlaces.{IsLastPlace, LiesLast, IsPassed, AreWhole}
 use Rattle.rtp_ext.specs.ElementsInARow.{IsWritable}
-use Rattle.rtp_ext.specs.PutElement.{has_id, without}
+use Rattle.rtp_ext.specs.PutElement.{has_id, without, row_to}
 
 -- the place of the last element of the id, how many elements have it, and how many bytes the others take
 pub record IsSurvey (form : ExtensionsForm) (body : List ℕ) (id : ℕ) (survey : Survey) : Type 0 where
@@ -19,6 +19,7 @@ pub record IsSurvey (form : ExtensionsForm) (body : List ℕ) (id : ℕ) (survey
   pub none_is : IfNone survey.last (HasNone elements id)
   pub count_is : survey.count ≡ length (filter (has_id id) elements)
   pub others_are : survey.others_len ≡ length (elements_bytes form (without id elements))
+  pub others_within : survey.others_len ≤ length body
 
 -- the same of the body up to an offset
 pub record IsSurveyedTo (form : ExtensionsForm) (body : List ℕ) (at id : ℕ) (last : Option Place) (count others_len : ℕ) : Type 0 where
@@ -106,3 +107,22 @@ pub record IsWidenedTo (old new : List ℕ) (len at end : ℕ) : Type 0 where
   pub end_is : end ≡ length (elements_bytes TwoByte passed)
   pub at_is : at + length (elements_bytes OneByte left) ≡ length new
   pub fits : end + length (elements_bytes TwoByte left) ≤ length new
+
+-- how long the elements of other ids up to an offset are in the two-byte form, without those of the id 0
+pub record IsWidthTo (body : List ℕ) (at id len : ℕ) : Type 0 where
+  pub passed : List ℕ
+  pub left : List ℕ
+  pub elements : List Element
+  pub are_whole : AreWhole OneByte passed elements
+  pub body_is : body ≡ passed ++ left
+  pub at_is : at ≡ length passed
+  pub len_is : len ≡ length (elements_bytes TwoByte (without 0 (without id elements)))
+  pub small : len ≤ 2 * at
+
+-- a body is its elements without those of the id, in a row of so many bytes, and zeros
+pub record IsTakenOut (form : ExtensionsForm) (id : ℕ) (old new : List ℕ) (len : ℕ) : Type 0 where
+  pub elements : List Element
+  pub are_elements : AreElements form old elements
+  pub new_is : new ≡ row_to form (without id elements) (length old)
+  pub len_is : len ≡ length (elements_bytes form (without id elements))
+  pub within : len ≤ length old

@@ -7,7 +7,7 @@ ghost use Rattle.rtp_ext.specs.declared.form.ExtensionsForm.TheVariants.{OneByte
 ghost use Rattle.rtp_ext.specs.Elements.{Element, AreElements, element_bytes, elements_bytes};
 ghost use Rattle.rtp_ext.specs.ElementsInARow.{IsWritable};
 ghost use Rattle.rtp_ext.specs.ElementsInPlace.{SetsLast};
-ghost use Rattle.rtp_ext.specs.BodySurvey.{IsSurvey, IsGathered, HasRows, HasNarrowRows, IsWideRow, IsWidened};
+ghost use Rattle.rtp_ext.specs.BodySurvey.{IsSurvey, IsGathered, HasRows, HasNarrowRows, IsWideRow, IsWidened, IsTakenOut};
 ghost use Rattle.rtp_ext.specs.PutElement.{without, put_element, carried_in, needed_form, allowed_form, row_to, IsSole};
 
 use super::ExtensionsForm;
@@ -193,14 +193,7 @@ fn widen(room: &mut [u8], len: usize) -> usize
 
 // The same as `put_between` of elements in the one-byte form, which are put in the two-byte form, except for
 // those of the id 0.
-fn put_widened(
-    body: &mut [u8],
-    front: usize,
-    at: usize,
-    count: usize,
-    id: u8,
-    data: &[u8],
-) -> usize
+fn put_widened(body: &mut [u8], front: usize, at: usize, count: usize, id: u8, data: &[u8]) -> usize
     requires writable { IsWritable TwoByte (id, «data».now) }
     requires rows { HasNarrowRows body.old front at count (id, «data».now) }
     ensures row { (rows : HasNarrowRows body.old front at count (id, «data».now)) →
@@ -238,9 +231,11 @@ pub fn put_anew(
     requires room { (elements : List Element) → AreElements form (take body_len body.old) elements →
         length (elements_bytes new_form (put_element (id, «data».now) (carried_in new_form elements)))
         ≤ length body.old }
-    ensures { (elements : List Element) → AreElements form (take body_len body.old) elements →
+    ensures row { (elements : List Element) → AreElements form (take body_len body.old) elements →
         body.new ≡ row_to new_form (put_element (id, «data».now) (carried_in new_form elements))
         (length body.old) }
+    ensures elements { (elements : List Element) → AreElements form (take body_len body.old) elements →
+        AreElements new_form body.new (put_element (id, «data».now) (carried_in new_form elements)) }
 {
     let (start, end) = survey.around(body_len);
     let (front, count) = gather_around(form, body, start, end, body_len, id);
@@ -251,4 +246,60 @@ pub fn put_anew(
     };
     let left = body.len() - len;
     put_zeros(body, len, left);
+}
+
+// How many bytes the elements of other ids take in the two-byte form, without those of the id 0.
+fn widened_len(body: &[u8], id: u8) -> usize
+    requires { length body.now ≤ 262140 }
+    ensures length { (elements : List Element) → AreElements OneByte body.now elements →
+        result ≡ length (elements_bytes TwoByte (without 0 (without id elements))) }
+    ensures few { result ≤ 2 * length body.now }
+{
+    let mut len = 0;
+    let mut at = 0;
+    while let Some(place) = next_place(ExtensionsForm::OneByte, body, at) {
+        at = place.end;
+        if place.id != id && place.id != 0 {
+            len += 2 + (place.end - place.data_start);
+        }
+    }
+    len
+}
+
+/// How many bytes the elements of a body take with this one put among them, in this form or the
+/// two-byte form.
+pub fn put_len(
+    form: ExtensionsForm,
+    new_form: ExtensionsForm,
+    body: &[u8],
+    survey: &Survey,
+    id: u8,
+    data: &[u8],
+) -> usize
+    requires few { length body.now ≤ 262140 }
+    requires survey { IsSurvey form body.now id survey.now }
+    requires writable { IsWritable new_form (id, «data».now) }
+    requires forms { (new_form ≡ form) ⊎ (new_form ≡ TwoByte) }
+    ensures length { (elements : List Element) → AreElements form body.now elements →
+        result ≡ length (elements_bytes new_form
+        (put_element (id, «data».now) (carried_in new_form elements))) }
+    ensures few { result ≤ 2 * length body.now + 257 }
+{
+    let others_len = if new_form == form {
+        survey.others_len
+    } else {
+        widened_len(body, id)
+    };
+    others_len + header_len(new_form) + data.len()
+}
+
+/// Makes a body anew without the elements of the id (RFC 8285, 4.2 and 4.3): the others in a row, and
+/// zeros to its end. Returns how many bytes the row takes.
+pub fn take_out(form: ExtensionsForm, body: &mut [u8], id: u8) -> usize
+    ensures { IsTakenOut form id body.old body.new result }
+{
+    let len = gather(form, body, id);
+    let left = body.len() - len;
+    put_zeros(body, len, left);
+    len
 }

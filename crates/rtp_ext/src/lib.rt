@@ -21,7 +21,7 @@ pub use block_elements::{values_form, values_len, write_values};
 pub use block_values::read_values;
 pub use elements::Elements;
 pub use form::{ExtensionsForm, MAX_ID_ONE_BYTE_FORM};
-pub use growing::{Survey, survey_of};
+pub use growing::{Survey, form_to_put, put_anew, put_len, set_sole, survey_of, take_out};
 pub use iter::{Iter, IterByMediaType};
 pub use kinds::{Cursor, Kinds, is_long};
 pub use map::{ExtensionMap, MAX_ID};
