@@ -10,6 +10,7 @@ mod BytesBetween
 mod PacketChanges
 mod PacketParts
 mod PaddingChanges
+mod OpenedLemmas
 mod ChangedPackets
 pub mod NotAPacketLemmas
 pub mod ValuesLemmas

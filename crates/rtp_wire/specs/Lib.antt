@@ -46,5 +46,6 @@ pub mod Sources
 -- What functions inside promise each other.
 pub mod WrittenInForm
 pub mod PartsAt
+pub mod GrownPacket
 pub mod Moduli
 pub mod EachSource

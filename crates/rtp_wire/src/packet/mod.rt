@@ -2,6 +2,7 @@
 
 mod csrcs;
 mod fields;
+mod growing;
 mod header_bytes;
 mod not_a_packet;
 mod padding;
@@ -11,6 +12,7 @@ mod rtp_packet_mut;
 
 pub use csrcs::Csrcs;
 pub use fields::Fields;
+pub use growing::Layout;
 pub(crate) use fields::flag;
 pub use not_a_packet::NotAPacket;
 pub use rtcp::is_rtcp;
