@@ -5,6 +5,7 @@ pub use Rattle.rtp_ext.specs.ExtensionMap
 pub use Rattle.rtp_ext.specs.Elements
 pub use Rattle.rtp_ext.specs.ElementsInPlace
 pub use Rattle.rtp_ext.specs.NewIds
+pub use Rattle.rtp_ext.specs.PutElement
 pub use Rattle.rtp_values.specs.HeaderValues
 pub use Rattle.rtp_values.specs.Values
 pub use Rattle.rtp_ext.specs.BlockValues

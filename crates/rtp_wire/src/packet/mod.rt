@@ -1,5 +1,6 @@
 //! An RTP packet where it lies in the bytes of a datagram.
 
+mod cannot_put;
 mod csrcs;
 mod fields;
 mod growing;
@@ -10,6 +11,7 @@ mod rtcp;
 mod rtp_packet;
 mod rtp_packet_mut;
 
+pub use cannot_put::CannotPut;
 pub use csrcs::Csrcs;
 pub use fields::Fields;
 pub use growing::Layout;
