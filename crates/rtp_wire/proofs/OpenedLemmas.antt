@@ -1,11 +1,14 @@
 -- A buffer in which room is made for a block's body.
-use Rattle.std.proofs.Common.{◌≡◌, ℕ, suc, ◌+◌, ◌-◌, ◌≤◌, List, [], ◌∷◌, ◌++◌, length, take, drop, Option, Some, None, append_assoc, length-append, length-drop, length-take-le, take-append-drop, arith, refl, sym, ap, ◌∙◌}
+use Rattle.std.proofs.Common.{◌≡◌, ℕ, suc, ◌+◌, ◌-◌, ◌/◌, ◌≤◌, List, [], ◌∷◌, ◌++◌, length, take, drop, Option, Some, None, append_assoc, length-append, length-drop, length-take-le, take-append-drop, arith, refl, sym, ap, ◌∙◌}
 use Rattle.std.specs.Prelude.{slice_index, slice_range}
-use Rattle.std.proofs.lemmas.List.{take-take, drop-take}
+use Rattle.std.specs.Int.{w16, to_be_bytes}
+use Rattle.std.proofs.lemmas.List.{take-take, drop-take, take_at, drop_at}
+use borrow.Rule.Slice.PartMut.{put_mid}
 use lib.Seq.{paste}
 use Rattle.rtp_ext.specs.declared.form.ExtensionsForm.{ExtensionsForm}
 use Rattle.rtp_ext.specs.declared.form.ExtensionsForm.TheVariants.{OneByte, TwoByte}
-use Rattle.rtp_wire.specs.GrownPacket.{word_bytes}
+use Rattle.rtp_wire.specs.declared.packet.growing.Layout.{Layout}
+use Rattle.rtp_wire.specs.GrownPacket.{word_bytes, first_with_block, with_body}
 use Rattle.rtp_base.specs.Overwriting.{overwritten}
 use Rattle.rtp_ext.proofs.PlaceLemmas.{overwritten-at}
 
@@ -74,3 +77,57 @@ length-word (Some OneByte) OneByte bytes two = two
 length-word (Some OneByte) TwoByte bytes two = refl
 length-word (Some TwoByte) OneByte bytes two = refl
 length-word (Some TwoByte) TwoByte bytes two = two
+
+-- ---- the body in it
+
+module _ (layout : Layout) (start end : ℕ) (form : ExtensionsForm) (buf : List ℕ) (fixed : 16 ≤ start) (order : start ≤ end) (within : end ≤ length buf) where
+  front : List ℕ
+  front = (first_with_block layout.form (slice_index buf 0) ∷ slice_range buf 1 (start - 4))
+      ++ (word_bytes layout.form form (slice_range buf (start - 4) (start - 2)) ++ to_be_bytes w16 ((end - start) / 4))
+
+  tail : List ℕ
+  tail = slice_range buf layout.header_len layout.len ++ drop (end + (layout.len - layout.header_len)) buf
+
+  front_len : length front ≡ start
+  unfolding front
+  front_len =
+      let word : List ℕ = word_bytes layout.form form (slice_range buf (start - 4) (start - 2)) in
+      let words : List ℕ = to_be_bytes w16 ((end - start) / 4) in
+      let two = length-word layout.form form (slice_range buf (start - 4) (start - 2)) (length-range buf (start - 4) (start - 2) (omega arith) (omega arith) ∙ omega arith) in
+      omega (
+        arith,
+        length-append (first_with_block layout.form (slice_index buf 0) ∷ slice_range buf 1 (start - 4)) (word ++ words),
+        length-append word words,
+        length-range buf 1 (start - 4) (omega arith) (omega arith),
+        two,
+      )
+
+  split : (body : List ℕ) → with_body layout start form end body buf ≡ front ++ (body ++ tail)
+  unfolding front tail
+  split body =
+      let f : List ℕ = first_with_block layout.form (slice_index buf 0) ∷ slice_range buf 1 (start - 4) in
+      let word : List ℕ = word_bytes layout.form form (slice_range buf (start - 4) (start - 2)) in
+      let words : List ℕ = to_be_bytes w16 ((end - start) / 4) in
+      let rest : List ℕ = body ++ (slice_range buf layout.header_len layout.len ++ drop (end + (layout.len - layout.header_len)) buf) in
+      ap (λ l. f ++ l) (sym (append_assoc word words rest)) ∙ sym (append_assoc f (word ++ words) rest)
+
+  -- it stands between the two offsets
+  pub body_between : (body : List ℕ) → length body ≡ end - start → slice_range (with_body layout start form end body buf) start end ≡ body
+  body_between body long =
+      ap (λ l. slice_range l start end) (split body)
+      ∙ (ap (take (end - start)) (drop_at front (body ++ tail) start front_len) ∙ take_at body tail (end - start) long)
+
+  -- another one in its place
+  pub body_replaced : (body other : List ℕ) → length body ≡ end - start
+      → put_mid start (end - start) (with_body layout start form end body buf) other ≡ with_body layout start form end other buf
+  body_replaced body other long =
+      ap (λ l. put_mid start (end - start) l other) (split body)
+      ∙ (ap (λ l. l ++ (other ++ drop (end - start) (drop start (front ++ (body ++ tail))))) (take_at front (body ++ tail) start front_len)
+      ∙ (ap (λ l. front ++ (other ++ drop (end - start) l)) (drop_at front (body ++ tail) start front_len)
+      ∙ (ap (λ l. front ++ (other ++ l)) (drop_at body tail (end - start) long) ∙ sym (split other))))
+
+-- the old body at the front of the new one's place
+pub old_body : (buf : List ℕ) (start header_len end body_len : ℕ) → body_len ≡ header_len - start → header_len ≤ end → start ≤ end
+    → take body_len (slice_range buf start end) ≡ slice_range buf start header_len
+old_body buf start header_len end body_len is grows order =
+    ap (λ (k : ℕ). take k (slice_range buf start end)) is ∙ take-take (header_len - start) (end - start) (drop start buf) (omega arith)
