@@ -10,7 +10,6 @@ mod BytesBetween
 mod PacketChanges
 mod PacketParts
 mod PaddingChanges
-mod OpenedLemmas
 mod ChangedPackets
 pub mod NotAPacketLemmas
 pub mod ValuesLemmas

@@ -5,7 +5,6 @@ pub use Rattle.rtp_ext.specs.ExtensionMap
 pub use Rattle.rtp_ext.specs.Elements
 pub use Rattle.rtp_ext.specs.ElementsInPlace
 pub use Rattle.rtp_ext.specs.NewIds
-pub use Rattle.rtp_ext.specs.PutElement
 pub use Rattle.rtp_values.specs.HeaderValues
 pub use Rattle.rtp_values.specs.Values
 pub use Rattle.rtp_ext.specs.BlockValues
@@ -47,6 +46,5 @@ pub mod Sources
 -- What functions inside promise each other.
 pub mod WrittenInForm
 pub mod PartsAt
-pub mod GrownPacket
 pub mod Moduli
 pub mod EachSource

@@ -8,7 +8,7 @@ mod payload;
 mod receive;
 
 pub use header::RtpHeader;
-pub use packet::{CannotPut, Csrcs, Fields, Layout, NotAPacket, RtpPacket, RtpPacketMut, is_rtcp};
+pub use packet::{Csrcs, Fields, NotAPacket, RtpPacket, RtpPacketMut, is_rtcp};
 pub use payload::{
     MAX_BLANK_PADDING_PAYLOAD_SIZE, create_padding_packet, read_original_sequence_number,
     try_create_padding_packet, unpad_payload, write_original_sequence_number,

@@ -1,9 +1,7 @@
 //! An RTP packet where it lies in the bytes of a datagram.
 
-mod cannot_put;
 mod csrcs;
 mod fields;
-mod growing;
 mod header_bytes;
 mod not_a_packet;
 mod padding;
@@ -11,10 +9,8 @@ mod rtcp;
 mod rtp_packet;
 mod rtp_packet_mut;
 
-pub use cannot_put::CannotPut;
 pub use csrcs::Csrcs;
 pub use fields::Fields;
-pub use growing::Layout;
 pub(crate) use fields::flag;
 pub use not_a_packet::NotAPacket;
 pub use rtcp::is_rtcp;
