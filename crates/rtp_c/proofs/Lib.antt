@@ -10,6 +10,7 @@ mod FewSlotsLemmas
 mod LayersLemmas
 mod HeaderViewLemmas
 mod GivenLemmas
+mod ElementDataLemmas
 mod WritingLemmas
 mod WrittenHeaderLemmas
 mod JudgingLemmas

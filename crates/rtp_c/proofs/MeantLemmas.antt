@@ -183,9 +183,9 @@ named_or_not number = elim (cases_lt number 128) [
   | inl low ↦ elim (cases_lt number 16) [
     | inl lower ↦ elim (cases_lt 0 number) [
       | inl above ↦ inl (inl (omega (arith, above), omega (arith, lower)))
-      | inr none ↦ inr (λ named. elim named [ | inl kind ↦ omega (arith, none, kind.0) | inr own ↦ omega (arith, low, own) ])
+      | inr none ↦ inr (λ named. elim named [ inl kind ↦ omega (arith, none, kind.0) | inr own ↦ omega (arith, low, own) ])
     ]
-    | inr between ↦ inr (λ named. elim named [ | inl kind ↦ omega (arith, between, kind.1) | inr own ↦ omega (arith, low, own) ])
+    | inr between ↦ inr (λ named. elim named [ inl kind ↦ omega (arith, between, kind.1) | inr own ↦ omega (arith, low, own) ])
   ]
   | inr own ↦ inl (inr own)
 ]

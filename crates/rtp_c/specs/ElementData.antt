@@ -31,23 +31,23 @@ pub record HasNoData (number : ℕ) (view : ValuesView) : Type 0 where
   pub asked : IsAskedFor number view kind values
   pub no_data : data_of kind values ≡ None
 
--- these are the data of an element of the kind, which are read as the values that they carry
-pub record AreDataOf (number : ℕ) (view : ValuesView) (data : List ℕ) : Type 0 where
+-- these are the data of an element of the kind
+pub record AreDataOf (number : ℕ) (view : ValuesView) (bytes : List ℕ) : Type 0 where
   pub kind : KnownKind
   pub values : ExtensionValues
   pub asked : IsAskedFor number view (Some kind) values
-  pub data_are : data_of (Some kind) values ≡ Some data
-  pub read_back : Reads (extension_of_kind kind) data (carried_values values)
+  pub data_are : data_of (Some kind) values ≡ Some bytes
 
--- they stand at the front of the buffer, and its other bytes are as they were
+-- they stand at the front of the buffer, whose other bytes are as they were, and are read as the values that they carry
 pub record AreWrittenData (number : ℕ) (view : ValuesView) (old new : List ℕ) (len : ℕ) : Type 0 where
-  pub data : List ℕ
-  pub are_data : AreDataOf number view data
-  pub len_is : len ≡ length data
-  pub written : new ≡ data ++ drop len old
+  pub bytes : List ℕ
+  pub are_data : AreDataOf number view bytes
+  pub len_is : len ≡ length bytes
+  pub written : new ≡ bytes ++ drop len old
+  pub read_back : Reads (extension_of_kind are_data.kind) bytes (carried_values are_data.values)
 
 -- they take more than the room
 pub record AreTooLongData (number : ℕ) (view : ValuesView) (room : ℕ) : Type 0 where
-  pub data : List ℕ
-  pub are_data : AreDataOf number view data
-  pub too_long : room < length data
+  pub bytes : List ℕ
+  pub are_data : AreDataOf number view bytes
+  pub too_long : room < length bytes

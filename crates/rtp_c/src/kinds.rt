@@ -141,7 +141,11 @@ impl StoredMap {
         ensures { IsNumberAt self.now.kind id result }
     {
         let number = self.kind[usize::from(id)];
-        if id != 0 && is_named(number) { number } else { 0 }
+        if id != 0 && is_named(number) {
+            number
+        } else {
+            0
+        }
     }
 
     // The lowest id that means the number, and 0 where none does.
