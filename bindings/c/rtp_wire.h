@@ -343,7 +343,7 @@ RTPW_CHECKED int32_t rtpw_values_read(const uint8_t *body, size_t body_len, uint
 /* Writes the data that an element of the kind has for these values, as rtpw_write would, to the front of the
  * buffer; bytes after them stay. So one value is set where it lies:
  *
- *     uint8_t data[16]; // enough for each kind
+ *     uint8_t data[3];
  *     size_t data_len;
  *     if (rtpw_data_of(RTPW_KIND_ABS_SEND_TIME, &values, data, sizeof data, &data_len) == RTPW_OK) {
  *         uint8_t id = rtpw_id_of(&map, RTPW_KIND_ABS_SEND_TIME);

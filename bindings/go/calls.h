@@ -80,6 +80,12 @@ static inline call_len call_wire_len(const rtpw_map *map, const rtpw_header *hea
     return it;
 }
 
+static inline call_len call_data_of(uint8_t kind, const rtpw_values *values, uint8_t *buf, size_t size) {
+    call_len it = {0};
+    it.status = rtpw_data_of(kind, values, buf, size, &it.len);
+    return it;
+}
+
 static inline call_len call_write(const rtpw_map *map, const rtpw_header *header, uint8_t *buf, size_t size) {
     call_len it = {0};
     it.status = rtpw_write(map, header, buf, size, &it.len);

@@ -132,6 +132,14 @@ func (m *Map) set(id uint8, kind Kind) error {
 	return errorOf(int32(C.rtpw_map_set((*C.rtpw_map)(unsafe.Pointer(&m.kinds)), C.uint8_t(id), C.uint8_t(kind))))
 }
 
+func (m *Map) idOf(kind Kind) uint8 {
+	return uint8(C.rtpw_id_of(m.c(), C.uint8_t(kind)))
+}
+
+func (v *Values) data(buf []byte, kind Kind) (int, error) {
+	return lenOr(C.call_data_of(C.uint8_t(kind), (*C.rtpw_values)(unsafe.Pointer(v)), first(buf), size(buf)))
+}
+
 func (m *Map) standard() {
 	C.rtpw_map_standard((*C.rtpw_map)(unsafe.Pointer(&m.kinds)))
 }

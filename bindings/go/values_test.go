@@ -201,6 +201,35 @@ func TestLayers(t *testing.T) {
 	}
 }
 
+func TestOwnKinds(t *testing.T) {
+	const descriptor = rtpwire.KindOwn + 2
+	from, to := new(rtpwire.Map), new(rtpwire.Map)
+	same(t, "set", []error{from.Set(9, descriptor), to.Set(12, descriptor), to.Set(7, descriptor)}, []error{nil, nil, nil})
+	same(t, "127", from.Set(1, 127), rtpwire.ErrBadField)
+	same(t, "255", from.Set(2, 255), nil)
+	same(t, "get", []rtpwire.Kind{from.Get(9), from.Get(2), from.Get(1)}, []rtpwire.Kind{descriptor, 255, rtpwire.KindNone})
+	same(t, "the lowest", []uint8{to.IDOf(descriptor), to.IDOf(255), (*rtpwire.Map)(nil).IDOf(255)}, []uint8{7, 0, 0})
+	ids := rtpwire.NewIDsBetween(from, to)
+	same(t, "new ids", []uint8{ids.Get(9), ids.Get(2), ids.Get(1)}, []uint8{7, 0, 0})
+}
+
+func TestDataOfOneKind(t *testing.T) {
+	var v rtpwire.Values
+	buf := []byte{0xA5, 0xA5, 0xA5, 0xA5}
+	n, err := v.Data(buf, rtpwire.KindAbsSendTime)
+	same(t, "absent", []any{n, err}, []any{0, rtpwire.ErrNotFound})
+	v.SetSendTime(40000000) // 2^18 * 40 of 40 seconds
+	n, err = v.Data(buf, rtpwire.KindAbsSendTime)
+	same(t, "send time", []any{n, err, string(buf)}, []any{3, nil, "\xA0\x00\x00\xA5"})
+	_, err = v.Data(buf[:2], rtpwire.KindAbsSendTime)
+	same(t, "short", err, rtpwire.ErrShortBuffer)
+	_, err = v.Data(buf, rtpwire.KindOwn)
+	same(t, "own", err, rtpwire.ErrNotFound)
+	_, err = v.Data(buf, rtpwire.KindNone)
+	same(t, "no kind", err, rtpwire.ErrBadField)
+	same(t, "unchanged", string(buf), "\xA0\x00\x00\xA5")
+}
+
 func TestMaps(t *testing.T) {
 	m := new(rtpwire.Map)
 	same(t, "the id 0", m.Set(0, rtpwire.KindMID), rtpwire.ErrBadField)

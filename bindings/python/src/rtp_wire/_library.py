@@ -231,9 +231,13 @@ last_element = _declare(_STATUS, "rtpw_last_element", _BYTES, _SIZE, c_uint8, c_
 kind_of_uri = _declare(c_uint8, "rtpw_kind_of_uri", _BYTES, _SIZE)
 map_set = _declare(_STATUS, "rtpw_map_set", POINTER(RawMap), c_uint8, c_uint8)
 map_get = _declare(c_uint8, "rtpw_map_get", POINTER(RawMap), c_uint8)
+id_of = _declare(c_uint8, "rtpw_id_of", POINTER(RawMap), c_uint8)
 map_standard = _declare(None, "rtpw_map_standard", POINTER(RawMap))
 values_read = _declare(
     _STATUS, "rtpw_values_read", _BYTES, _SIZE, c_uint8, POINTER(RawMap), POINTER(RawValues)
+)
+data_of = _declare(
+    _STATUS, "rtpw_data_of", c_uint8, POINTER(RawValues), _BYTES, _SIZE, POINTER(c_size_t)
 )
 
 parse = _declare(_STATUS, "rtpw_parse", _BYTES, _SIZE, POINTER(RawMap), POINTER(RawHeader))

@@ -3,14 +3,15 @@
 from __future__ import annotations
 
 from enum import IntEnum
-from typing import Any, Iterable, Iterator, Mapping, MutableMapping, Tuple, TypeVar, Union
+from typing import Any, Iterable, Iterator, Mapping, MutableMapping, Optional, Tuple, TypeVar, Union
 
 from . import _library
 from ._errors import check, unsigned, within
 
 
 class Kind(IntEnum):
-    """The kinds of header extension, by numbers of this library."""
+    """The kinds of header extension, by numbers of this library; those from OWN to 255 are the caller's, for extensions
+    that have no value here, as a dependency descriptor. What reads and writes values passes over the ids of these."""
 
     NONE = 0
     ABS_SEND_TIME = 1
@@ -28,12 +29,18 @@ class Kind(IntEnum):
     FRAME_MARKING = 13
     COLOR_SPACE = 14
     LAYERS = 15
+    OWN = 128
 
     @classmethod
     def from_uri(cls, uri: str) -> Kind:
         """The kind whose URI this is, letter for letter; NONE where it is that of none."""
         data = uri.encode()
         return cls(_library.kind_of_uri(data, len(data)))
+
+
+def _kind_of(number: int) -> int:
+    """The kind of the number, or the number itself where it is one of the caller's own."""
+    return Kind(number) if number <= Kind.OWN else number
 
 
 Entry = TypeVar("Entry", bound=int)
@@ -66,9 +73,9 @@ class _Table(MutableMapping[int, Entry]):
         return type(self), (dict(self),)
 
 
-class Map(_Table[Kind]):
+class Map(_Table[int]):
     """Which extension each id means, as the lines `a=extmap` of SDP say it (RFC 8285, 5): a mapping from ids, 1 to
-    255, to kinds.
+    255, to kinds, where those of the caller's own above Kind.OWN are numbers.
 
     >>> Map({1: Kind.AUDIO_LEVEL})[1].name
     'AUDIO_LEVEL'
@@ -76,7 +83,7 @@ class Map(_Table[Kind]):
 
     __slots__ = ()
 
-    def __init__(self, kinds: Union[Mapping[int, Kind], Iterable[Tuple[int, Kind]]] = ()) -> None:
+    def __init__(self, kinds: Union[Mapping[int, int], Iterable[Tuple[int, int]]] = ()) -> None:
         self._raw = _library.RawMap()
         self.update(kinds)
 
@@ -93,14 +100,19 @@ class Map(_Table[Kind]):
         """The map of the URIs by their ids. An id whose URI is of no kind has no entry."""
         return cls([(id, Kind.from_uri(uri)) for id, uri in dict(uris).items()])
 
-    def __getitem__(self, id: int) -> Kind:
+    def __getitem__(self, id: int) -> int:
         kind = _library.map_get(self._raw, id) if 0 < id < 256 else 0
         if not kind:
             raise KeyError(id)
-        return Kind(kind)
+        return _kind_of(kind)
 
-    def __setitem__(self, id: int, kind: Kind) -> None:
-        """The id means the kind from now on, or nothing with Kind.NONE. BadField where the id isn't 1 to 255."""
+    def id_of(self, kind: int) -> Optional[int]:
+        """The lowest id that means the kind: that of the element to set, say. None where no id does."""
+        return _library.id_of(self._raw, unsigned("a kind", kind, 8)) or None
+
+    def __setitem__(self, id: int, kind: int) -> None:
+        """The id means the kind from now on, or nothing with Kind.NONE. BadField where the id isn't 1 to 255, or the
+        kind is one of 16 to 127."""
         check(_library.map_set(self._raw, unsigned("an id", id, 8), unsigned("a kind", kind, 8)))
 
     def _remove(self, id: int) -> None:
@@ -119,8 +131,8 @@ class NewIds(_Table[int]):
 
     @classmethod
     def between(cls, sender: Map, receiver: Map) -> NewIds:
-        """For each id of a kind in the sender's map its lowest id in the receiver's. An extension whose URI has no
-        kind is in no map: set its new id by hand."""
+        """For each id of a kind in the sender's map, one of the caller's own too, its lowest id in the receiver's. So
+        give an extension whose URI has no kind one number of your own in both."""
         made = cls()
         _library.new_ids_between(sender._raw, receiver._raw, made._raw)
         return made

@@ -2,13 +2,14 @@
 
 from __future__ import annotations
 
+from ctypes import c_size_t
 from dataclasses import dataclass, fields
 from functools import lru_cache
 from operator import attrgetter
 from typing import TYPE_CHECKING, Any, Callable, Dict, NamedTuple, Optional, Tuple
 
 from . import _library
-from ._buffers import place_of
+from ._buffers import address_of, place_of
 from ._errors import BadField, Status, check, unsigned, within
 from ._layers import Layers
 from ._map import Map
@@ -86,6 +87,19 @@ class Values:
         raw = _library.RawValues()
         check(_library.values_read(at, len(data), unsigned("a form", form, 8), map._raw, raw))
         return values_of(raw)
+
+    def data_of(self, kind: int) -> Optional[bytes]:
+        """The data that an element of the kind has for these values, to set it where it lies. None where a value that
+        the kind needs isn't there, as always for Kind.LAYERS, Kind.COLOR_SPACE and the caller's own. BadField where
+        the kind is Kind.NONE or one of 16 to 127, or a value is out of its range."""
+        raw, length, buf = _library.RawValues(), c_size_t(), bytearray(255)
+        put_values(raw, self)
+        number = unsigned("a kind", kind, 8)
+        status = _library.data_of(number, raw, address_of(memoryview(buf)), len(buf), length)
+        if status == Status.NONE:
+            return None
+        check(status)
+        return bytes(buf[: length.value])
 
     def __repr__(self) -> str:
         """With the values that are there alone."""
