@@ -3,14 +3,15 @@
 from __future__ import annotations
 
 from enum import IntEnum
-from typing import Any, Iterable, Iterator, Mapping, MutableMapping, Tuple, TypeVar, Union
+from typing import Any, Iterable, Iterator, Mapping, MutableMapping, Optional, Tuple, TypeVar, Union
 
 from . import _library
 from ._errors import check, unsigned, within
 
 
 class Kind(IntEnum):
-    """The kinds of header extension, by numbers of this library."""
+    """The kinds of header extension, by numbers of this library, and from Kind(128), which is Kind.OWN, to Kind(255) by
+    yours: extensions that have no value here, as a dependency descriptor, whose elements you read and write."""
 
     NONE = 0
     ABS_SEND_TIME = 1
@@ -28,10 +29,23 @@ class Kind(IntEnum):
     FRAME_MARKING = 13
     COLOR_SPACE = 14
     LAYERS = 15
+    OWN = 128
+
+    @classmethod
+    def _missing_(cls, value: object) -> Optional[Kind]:
+        if not isinstance(value, int) or not cls.OWN < value < 256:
+            return None
+        made = int.__new__(cls, value)
+        made._name_, made._value_ = f"OWN + {value - cls.OWN}", value
+        return cls._value2member_map_.setdefault(value, made)  # type: ignore[return-value]
+
+    def __reduce_ex__(self, protocol: object) -> Tuple[object, ...]:
+        return Kind, (int(self),)  # not by its name, which one of your own can't be found by
 
     @classmethod
     def from_uri(cls, uri: str) -> Kind:
-        """The kind whose URI this is, letter for letter; NONE where it is that of none."""
+        """The kind whose URI this is, letter for letter; NONE where it is that of none, as for those of your own kinds.
+        """
         data = uri.encode()
         return cls(_library.kind_of_uri(data, len(data)))
 
@@ -99,6 +113,10 @@ class Map(_Table[Kind]):
             raise KeyError(id)
         return Kind(kind)
 
+    def id_of(self, kind: Kind) -> Optional[int]:
+        """The lowest id that means the kind; None where none does."""
+        return _library.id_of(self._raw, unsigned("a kind", kind, 8)) or None
+
     def __setitem__(self, id: int, kind: Kind) -> None:
         """The id means the kind from now on, or nothing with Kind.NONE. BadField where the id isn't 1 to 255."""
         check(_library.map_set(self._raw, unsigned("an id", id, 8), unsigned("a kind", kind, 8)))
@@ -119,8 +137,8 @@ class NewIds(_Table[int]):
 
     @classmethod
     def between(cls, sender: Map, receiver: Map) -> NewIds:
-        """For each id of a kind in the sender's map its lowest id in the receiver's. An extension whose URI has no
-        kind is in no map: set its new id by hand."""
+        """For each id of a kind in the sender's map, your own kinds too, its lowest id in the receiver's. An extension
+        whose URI has no kind goes on where both maps give it one kind of your own, or its new id is set by hand."""
         made = cls()
         _library.new_ids_between(sender._raw, receiver._raw, made._raw)
         return made

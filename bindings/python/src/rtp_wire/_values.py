@@ -2,19 +2,23 @@
 
 from __future__ import annotations
 
+from ctypes import c_size_t
 from dataclasses import dataclass, fields
 from functools import lru_cache
 from operator import attrgetter
 from typing import TYPE_CHECKING, Any, Callable, Dict, NamedTuple, Optional, Tuple
 
 from . import _library
-from ._buffers import place_of
+from ._buffers import address_of, place_of
 from ._errors import BadField, Status, check, unsigned, within
 from ._layers import Layers
-from ._map import Map
+from ._map import Kind, Map
 
 if TYPE_CHECKING:
     from ._buffers import Buffer
+
+# Enough for the data of an element of each kind.
+MOST_DATA = 16
 
 
 class Time(NamedTuple):
@@ -86,6 +90,17 @@ class Values:
         raw = _library.RawValues()
         check(_library.values_read(at, len(data), unsigned("a form", form, 8), map._raw, raw))
         return values_of(raw)
+
+    def data_of(self, kind: Kind) -> bytes:
+        """The data that an element of the kind has for these values, as `Header.write` writes them: so
+        `packet.set_element(map.id_of(kind), values.data_of(kind))` sets one value where it lies. NoElement where a value
+        that the kind needs isn't there, and always for Kind.COLOR_SPACE, Kind.LAYERS and your own kinds. BadField for
+        Kind.NONE, and where a value, of this kind or not, is out of its range."""
+        raw, data, length = _library.RawValues(), bytearray(MOST_DATA), c_size_t()
+        put_values(raw, self)
+        view = memoryview(data)
+        check(_library.data_of(unsigned("a kind", kind, 8), raw, address_of(view), len(data), length))
+        return bytes(view[: length.value])
 
     def __repr__(self) -> str:
         """With the values that are there alone."""
