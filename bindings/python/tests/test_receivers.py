@@ -96,7 +96,14 @@ class WideReceivers(unittest.TestCase):
         receiver = WideReceiver()
         self.assertIsNone(receiver.highest)
         # 1,023 below the highest, and 1,024
-        for low, number in ((5000, 70536), (3977, 69513), (3977, None), (3976, None), (5001, 70537), (3978, 69514)):
+        for low, number in (
+            (5000, 70536),
+            (3977, 69513),
+            (3977, None),
+            (3976, None),
+            (5001, 70537),
+            (3978, 69514),
+        ):
             self.assertEqual(receiver.receive(low), number)
         self.assertEqual(
             (receiver.highest, repr(receiver)),

@@ -253,9 +253,7 @@ values_read = _declare(
     _STATUS, "rtpw_values_read", _BYTES, _SIZE, c_uint8, POINTER(RawMap), POINTER(RawValues)
 )
 
-data_of = _declare(
-    _STATUS, "rtpw_data_of", c_uint8, POINTER(RawValues), _BYTES, _SIZE, POINTER(c_size_t)
-)
+data_of = _declare(_STATUS, "rtpw_data_of", c_uint8, POINTER(RawValues), _BYTES, _SIZE, POINTER(c_size_t))
 
 parse = _declare(_STATUS, "rtpw_parse", _BYTES, _SIZE, POINTER(RawMap), POINTER(RawHeader))
 parse_layers = _declare(

@@ -11,7 +11,8 @@ from ._errors import check, unsigned, within
 
 class Kind(IntEnum):
     """The kinds of header extension, by numbers of this library, and from Kind(128), which is Kind.OWN, to Kind(255) by
-    yours: extensions that have no value here, as a dependency descriptor, whose elements you read and write."""
+    yours: extensions that have no value here, as a dependency descriptor, whose elements you read and write.
+    """
 
     NONE = 0
     ABS_SEND_TIME = 1
@@ -44,8 +45,7 @@ class Kind(IntEnum):
 
     @classmethod
     def from_uri(cls, uri: str) -> Kind:
-        """The kind whose URI this is, letter for letter; NONE where it is that of none, as for those of your own kinds.
-        """
+        """The kind whose URI this is, letter for letter; NONE where it is that of none, as of your own kinds."""
         data = uri.encode()
         return cls(_library.kind_of_uri(data, len(data)))
 
@@ -138,7 +138,8 @@ class NewIds(_Table[int]):
     @classmethod
     def between(cls, sender: Map, receiver: Map) -> NewIds:
         """For each id of a kind in the sender's map, your own kinds too, its lowest id in the receiver's. An extension
-        whose URI has no kind goes on where both maps give it one kind of your own, or its new id is set by hand."""
+        whose URI has no kind goes on where both maps give it one kind of your own, or its new id is set by hand.
+        """
         made = cls()
         _library.new_ids_between(sender._raw, receiver._raw, made._raw)
         return made

@@ -88,15 +88,14 @@ class Receiver(_State):
 
 class WideReceiver(_State):
     """The receive state of one stream with a replay window of another size: 64 numbers for each of 1 to 512 words.
-    Choose it so that the window is longer than a packet can be late: at 30 Mbit/s the 128 numbers of a `Receiver` are 43
-    ms, and 16 words are 1,024 numbers. Its calls are those of `Receiver`.
+    Choose it so that the window is longer than a packet can be late: at 30 Mbit/s the 128 numbers of a `Receiver` are
+    43 ms, and 16 words are 1,024 numbers. Its calls are those of `Receiver`.
     """
 
     __slots__ = ("_words",)
 
     def __init__(self, words: int = 16, rollover_count: int = 1) -> None:
-        """The first packet has this rollover count, below 2^48. BadField otherwise, or where the words aren't 1 to 512.
-        """
+        """The first packet has this rollover count, below 2^48. BadField otherwise, or where words isn't 1 to 512."""
         self._words = (c_uint64 * within("words", words, 1, MOST_WORDS))()
         self._raw = _library.RawWideReceiver()
         check(_library.wide_receiver_start(self._raw, unsigned("rollover_count", rollover_count, 64)))
@@ -125,9 +124,7 @@ class WideReceiver(_State):
 
     def __repr__(self) -> str:
         taken = f", highest={self.highest}" if self._raw.started else ""
-        return (
-            f"WideReceiver(words={len(self._words)}, rollover_count={self._raw.highest >> 16}{taken})"
-        )
+        return f"WideReceiver(words={len(self._words)}, rollover_count={self._raw.highest >> 16}{taken})"
 
     def _state(self) -> Tuple[int, bool, Tuple[int, ...]]:
         return self._raw.highest, self._raw.started != 0, tuple(self._words)
@@ -152,12 +149,12 @@ class RestartingReceiver(_State):
     (RFC 3550, appendix A.1). Not for SRTP: there a packet that isn't authentic must change nothing.
 
     A packet is of the stream where its number is less than max_dropout above the highest one taken, or less than 128
-    below it: it is judged by the window, as by `Receiver`. Any other is outside of the stream, and is refused; but where
-    the very next packet has the number after it and is outside of the stream too, the sender has started again. That
-    second packet is taken as the first one of a new epoch, with a new window.
+    below it: it is judged by the window, as by `Receiver`. Any other is outside of the stream, and is refused; but
+    where the very next packet has the number after it and is outside of the stream too, the sender has started again.
+    That second packet is taken as the first one of a new epoch, with a new window.
 
-    The first packet of all has the rollover count 1, and the first one of each later epoch 2 more than the highest number
-    before it, so all numbers of an epoch are above those of the epochs before it.
+    The first packet of all has the rollover count 1, and the first one of each later epoch 2 more than the highest
+    number before it, so all numbers of an epoch are above those of the epochs before it.
     """
 
     __slots__ = ()
@@ -171,8 +168,8 @@ class RestartingReceiver(_State):
         )
 
     def receive(self, sequence_number: int) -> Optional[Taken]:
-        """Judges the next packet of the source: its number, and whether its sender has started again. None where it is a
-        replay or outside of the stream."""
+        """Judges the next packet of the source: its number, and whether its sender has started again. None where it is
+        a replay or outside of the stream."""
         low, number = unsigned("sequence_number", sequence_number, 16), c_uint64()
         status = _library.restarting_receive(self._raw, low, number)
         if status == Status.REFUSED:
