@@ -32,6 +32,8 @@ STRUCTS = {
     "rtpw_stream": _library.RawStream,
     "rtpw_layers": _library.RawLayers,
     "rtpw_receiver": _library.RawReceiver,
+    "rtpw_wide_receiver": _library.RawWideReceiver,
+    "rtpw_restarting_receiver": _library.RawRestartingReceiver,
     "whole_packet": _library.WholePacket,
 }
 NUMBERS: Dict[str, Any] = {

@@ -1,12 +1,13 @@
 """The numbers of a stream, padding and retransmissions. Expected values are worked out by hand from RFC 3711, 3.3.1 and
-3.3.2, RFC 3550, 5.1 and RFC 4588, 4."""
+3.3.2, RFC 3550, 5.1 and A.1, and RFC 4588, 4."""
 
 import copy
 import pickle
 import unittest
+from typing import List, Optional, Tuple
 
 import rtp_wire
-from rtp_wire import BadField, Receiver, ShortBuffer
+from rtp_wire import BadField, Receiver, RestartingReceiver, ShortBuffer, Taken, WideReceiver
 
 LAST = (1 << 64) - 1
 
@@ -88,6 +89,153 @@ class Receivers(unittest.TestCase):
             for previous, number in ((0, 1 << bits), (1 << 64, 0), (-1, 0), (0, -1)):
                 with self.assertRaises(BadField):
                     extend(previous, number)
+
+
+class WideReceivers(unittest.TestCase):
+    def test_a_window_of_1024(self) -> None:
+        receiver = WideReceiver()
+        self.assertIsNone(receiver.highest)
+        # 1,023 below the highest, and 1,024
+        for low, number in (
+            (5000, 70536),
+            (3977, 69513),
+            (3977, None),
+            (3976, None),
+            (5001, 70537),
+            (3978, 69514),
+        ):
+            self.assertEqual(receiver.receive(low), number)
+        self.assertEqual(
+            (receiver.highest, repr(receiver)),
+            (70537, "WideReceiver(words=16, rollover_count=1, highest=70537)"),
+        )
+
+    def test_the_least_and_the_most_words(self) -> None:
+        for words in (1, 512):
+            size, receiver = 64 * words, WideReceiver(words)
+            self.assertEqual(receiver.receive(40000), 105536)
+            self.assertTrue(receiver.accepts(105536 - size + 1))
+            self.assertFalse(receiver.accepts(105536 - size))
+        for words in (-1, 0, 513):
+            with self.assertRaises(BadField):
+                WideReceiver(words)
+        with self.assertRaises(TypeError):
+            WideReceiver(16.0)  # type: ignore[arg-type]
+
+    def test_three_steps(self) -> None:
+        receiver = WideReceiver(2, rollover_count=0)
+        self.assertEqual(receiver.number_of(65535), 65535)
+        self.assertTrue(receiver.record(65535))
+        self.assertEqual(receiver.number_of(0), 65536)
+        self.assertTrue(receiver.accepts(65536))
+        self.assertTrue(receiver.record(65536))
+        self.assertFalse(receiver.accepts(65536))
+        state = copy.copy(receiver)
+        self.assertFalse(receiver.record(65536))
+        self.assertFalse(receiver.record(65536 - 128))
+        self.assertEqual(receiver, state)
+        self.assertTrue(receiver.record(65536 - 127))
+
+    def test_the_start(self) -> None:
+        self.assertEqual(repr(WideReceiver(3)), "WideReceiver(words=3, rollover_count=1)")
+        self.assertEqual(WideReceiver(1, (1 << 48) - 1).receive(65535), LAST)
+        for count in (-1, 1 << 48, 1 << 64):
+            with self.assertRaises(BadField):
+                WideReceiver(1, count)
+
+    def test_the_state_is_copied_and_stored(self) -> None:
+        receiver = WideReceiver(4)
+        self.assertNotEqual(receiver, WideReceiver(5))
+        receiver.receive(7)
+        for made in (copy.copy(receiver), copy.deepcopy(receiver), pickle.loads(pickle.dumps(receiver))):
+            self.assertEqual(made, receiver)
+            self.assertEqual((made.receive(7), made.receive(8)), (None, 65544))
+            self.assertNotEqual(made, receiver)
+        self.assertEqual(receiver.highest, 65543)
+
+    def test_what_is_out_of_its_range(self) -> None:
+        receiver = WideReceiver()
+        for number in (-1, 65536):
+            for call in (receiver.receive, receiver.number_of):
+                with self.assertRaises(BadField):
+                    call(number)
+        for number in (-1, 1 << 64):
+            for change in (receiver.accepts, receiver.record):
+                with self.assertRaises(BadField):
+                    change(number)
+        self.assertEqual(receiver, WideReceiver())
+
+
+class RestartingReceivers(unittest.TestCase):
+    Rows = List[Tuple[int, Optional[Taken]]]
+
+    def judges(self, receiver: RestartingReceiver, rows: Rows) -> None:
+        for low, taken in rows:
+            self.assertEqual(receiver.receive(low), taken)
+
+    def test_a_large_jump(self) -> None:
+        # 2,999 ahead is of the stream, and 3,000 isn't. 65,536 + 6,999 has the rollover count 1: the epoch has 3.
+        receiver = RestartingReceiver()
+        self.assertIsNone(receiver.highest)
+        rows: RestartingReceivers.Rows = [
+            (1000, Taken(66536, False)),
+            (3999, Taken(69535, False)),
+            (6999, None),
+            (7001, None),
+            (7000, None),
+            (7001, Taken(203609, True)),
+            (7001, None),
+            (7000, Taken(203608, False)),
+            (7002, Taken(203610, False)),
+        ]
+        self.judges(receiver, rows)
+        self.assertEqual(
+            (receiver.highest, repr(receiver)),
+            (203610, "RestartingReceiver(max_dropout=3000, min_sequential=1, highest=203610)"),
+        )
+
+    def test_the_very_next_packet(self) -> None:
+        rows: RestartingReceivers.Rows = [
+            (1000, Taken(66536, False)),
+            (873, Taken(66409, False)),
+            (872, None),
+            (1001, Taken(66537, False)),
+            (873, None),
+            (30000, None),
+            (30001, Taken(226609, True)),
+        ]
+        self.judges(RestartingReceiver(), rows)
+
+    def test_the_bounds(self) -> None:
+        rows: RestartingReceivers.Rows = [
+            (500, None),
+            (502, None),
+            (503, Taken(66039, False)),
+            (603, None),
+            (602, Taken(66138, False)),
+        ]
+        self.judges(RestartingReceiver(max_dropout=100, min_sequential=2), rows)
+        self.judges(RestartingReceiver(min_sequential=0), [(10, Taken(65546, False))])
+        for bounds in ((0, 1), (65536, 1), (-1, 1), (1, -1), (1, 256)):
+            with self.assertRaises(BadField):
+                RestartingReceiver(*bounds)
+        for number in (-1, 65536):
+            with self.assertRaises(BadField):
+                RestartingReceiver().receive(number)
+
+    def test_the_state_is_copied_and_stored(self) -> None:
+        receiver = RestartingReceiver(max_dropout=100)
+        self.assertNotEqual(receiver, RestartingReceiver())
+        self.judges(receiver, [(7, Taken(65543, False)), (200, None)])
+        for made in (copy.copy(receiver), copy.deepcopy(receiver), pickle.loads(pickle.dumps(receiver))):
+            self.assertEqual(made, receiver)
+            self.judges(made, [(201, Taken(196809, True))])
+            self.assertNotEqual(made, receiver)
+        # which packet was the last one outside of the stream counts no more
+        self.judges(receiver, [(8, Taken(65544, False))])
+        other = RestartingReceiver(max_dropout=100)
+        self.judges(other, [(7, Taken(65543, False)), (8, Taken(65544, False))])
+        self.assertEqual(receiver, other)
 
 
 class Payloads(unittest.TestCase):

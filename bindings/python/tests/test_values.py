@@ -1,5 +1,7 @@
 """What elements say. Expected values are worked out by hand from the documents of the extensions."""
 
+import copy
+import pickle
 import unittest
 from dataclasses import replace
 
@@ -11,6 +13,8 @@ from rtp_wire import (
     Layer,
     Layers,
     Map,
+    NewIds,
+    NoElement,
     Packet,
     Resolution,
     Time,
@@ -100,6 +104,28 @@ class Kinds(unittest.TestCase):
         # other characters than letters, digits and underscores
         self.assertEqual(Values.read(b"\x42a-b", Form.ONE_BYTE, MAP), Values(mid="a_b"))
 
+    def test_the_data_of_each_value(self) -> None:
+        for _, kind, data, values in ROWS:
+            self.assertEqual((values.data_of(kind), joined().data_of(kind)), (data, data))
+            with self.assertRaises(NoElement):
+                Values().data_of(kind)
+        for kind in (Kind.COLOR_SPACE, Kind.LAYERS, Kind.OWN, Kind(255)):
+            with self.assertRaises(NoElement):
+                joined().data_of(kind)
+        for number in (0, 16, 127, 256, -1):
+            with self.assertRaises(BadField):
+                joined().data_of(number)  # type: ignore[arg-type]
+        for values in (Values(mid="a-b"), Values(send_time=0, video_orientation=45), Values(rid="123456789")):
+            with self.assertRaises(BadField):
+                values.data_of(Kind.ABS_SEND_TIME)
+        self.assertEqual(Values(mid="").data_of(Kind.MID), b"")
+
+    def test_one_value_is_set_where_it_lies(self) -> None:
+        # 1 second, of 2^-18 seconds
+        packet = Packet.parse(bytearray(datagram(b"\x22\0\0\0")), Map({2: Kind.ABS_SEND_TIME}))
+        packet.set_element(2, Values(send_time=1_000_000).data_of(Kind.ABS_SEND_TIME))
+        self.assertEqual(packet.body, bytes.fromhex("22040000"))
+
     def test_values_are_told(self) -> None:
         self.assertEqual(repr(Values()), "Values()")
         self.assertEqual(repr(Values(send_time=0, mid="")), "Values(mid='', send_time=0)")
@@ -138,6 +164,41 @@ class Kinds(unittest.TestCase):
                 header.wire_len(MAP)
             with self.assertRaises(BadField, msg=repr(values)):
                 header.write_to(bytearray(99), MAP)
+
+
+class OwnKinds(unittest.TestCase):
+    def test_numbers(self) -> None:
+        self.assertEqual([int(Kind(it)) for it in (128, 129, 255)], [128, 129, 255])
+        self.assertIs(Kind(128), Kind.OWN)
+        self.assertEqual(repr(Kind(130)), "<Kind.OWN + 2: 130>")
+        for kind in (Kind(130), Kind.MID):
+            for made in (Kind(int(kind)), copy.deepcopy(kind), pickle.loads(pickle.dumps(kind))):
+                self.assertIs(made, kind)
+        for number in (-1, 16, 127, 256):
+            with self.assertRaises(ValueError):
+                Kind(number)
+        self.assertEqual((len(Kind), Kind.from_uri("urn:x")), (17, Kind.NONE))
+
+    def test_ids(self) -> None:
+        map = Map({9: Kind.MID, 4: Kind.MID, 5: Kind(130)})
+        ids = [map.id_of(it) for it in (Kind.MID, Kind(130), Kind(131), Kind.RID, Kind.NONE)]
+        self.assertEqual(ids, [4, 5, None, None, None])
+        self.assertIs(map[5], Kind(130))
+        self.assertEqual(pickle.loads(pickle.dumps(map)), map)
+        with self.assertRaises(BadField):
+            map.id_of(256)  # type: ignore[arg-type]
+        for number in (16, 127):
+            with self.assertRaises(BadField):
+                map[6] = number  # type: ignore[assignment]
+
+    def test_elements_go_on(self) -> None:
+        ids = NewIds.between(Map({5: Kind(130), 6: Kind.MID, 7: Kind(131)}), Map({8: Kind(130), 9: Kind.MID}))
+        self.assertEqual(dict(ids), {5: 8, 6: 9})
+        packet = Packet.parse(bytearray(datagram(bytes.fromhex("50AB 6061 70CD"))), Map({5: Kind(130)}))
+        self.assertEqual(packet.values, Values())
+        packet.renumber(ids)
+        self.assertEqual(packet.body[:4], bytes.fromhex("80AB 9061"))
+        self.assertIsNone(packet.element(7))
 
 
 class LayerAllocations(unittest.TestCase):

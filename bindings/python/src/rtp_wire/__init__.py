@@ -12,7 +12,16 @@ from ._layers import Layer, Layers, Resolution
 from ._map import Kind, Map, NewIds
 from ._packet import Element, Form, Packet, elements, is_rtcp
 from ._payload import pad, read_original, write_original
-from ._receiver import Receiver, extend_u8, extend_u15, extend_u16, extend_u32
+from ._receiver import (
+    Receiver,
+    RestartingReceiver,
+    Taken,
+    WideReceiver,
+    extend_u8,
+    extend_u15,
+    extend_u16,
+    extend_u32,
+)
 from ._values import Time, Values, VideoTiming
 
 __all__ = [
@@ -31,12 +40,15 @@ __all__ = [
     "Packet",
     "Receiver",
     "Resolution",
+    "RestartingReceiver",
     "RtpError",
     "ShortBuffer",
     "Status",
+    "Taken",
     "Time",
     "Values",
     "VideoTiming",
+    "WideReceiver",
     "elements",
     "extend_u15",
     "extend_u16",

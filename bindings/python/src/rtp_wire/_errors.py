@@ -22,6 +22,7 @@ class Status(IntEnum):
     BAD_FIELD = 9
     REFUSED = 10
     NONE = 11
+    RESTARTED = 12
 
     @property
     def text(self) -> str:
@@ -42,6 +43,7 @@ _TEXTS = (
     "an argument is out of its range",
     "a replay, or too old to tell",
     "no such element",
+    "taken, and the sender has started again",
 )
 
 
@@ -87,7 +89,8 @@ class ShortBuffer(RtpError):
 
 
 class NoElement(RtpError, LookupError):
-    """The packet has no such element or contributing source, or the element has another length."""
+    """The packet has no such element or contributing source, or the element has another length; or a value that an
+    element needs isn't there."""
 
 
 _KINDS = {Status.SHORT_BUFFER: ShortBuffer, Status.BAD_FIELD: BadField, Status.NONE: NoElement}

@@ -186,6 +186,22 @@ class RawReceiver(Structure):
     ]
 
 
+class RawWideReceiver(Structure):
+    _fields_ = [("highest", c_uint64), ("started", c_uint8)]
+
+
+class RawRestartingReceiver(Structure):
+    _fields_ = [
+        ("highest", c_uint64),
+        ("words", c_uint64 * 2),
+        ("max_dropout", c_uint16),
+        ("next", c_uint16),
+        ("min_sequential", c_uint8),
+        ("in_row", c_uint8),
+        ("started", c_uint8),
+    ]
+
+
 # The interpreter's lock is kept during a call: to give it away would take as long as most calls do.
 _LIBRARY = PyDLL(str(Path(__file__).with_name("librtp_wire.so")))
 if TYPE_CHECKING:
@@ -236,9 +252,8 @@ map_standard = _declare(None, "rtpw_map_standard", POINTER(RawMap))
 values_read = _declare(
     _STATUS, "rtpw_values_read", _BYTES, _SIZE, c_uint8, POINTER(RawMap), POINTER(RawValues)
 )
-data_of = _declare(
-    _STATUS, "rtpw_data_of", c_uint8, POINTER(RawValues), _BYTES, _SIZE, POINTER(c_size_t)
-)
+
+data_of = _declare(_STATUS, "rtpw_data_of", c_uint8, POINTER(RawValues), _BYTES, _SIZE, POINTER(c_size_t))
 
 parse = _declare(_STATUS, "rtpw_parse", _BYTES, _SIZE, POINTER(RawMap), POINTER(RawHeader))
 parse_layers = _declare(
@@ -284,6 +299,30 @@ receiver_accepts = _declare(c_bool, "rtpw_receiver_accepts", POINTER(RawReceiver
 receiver_record = _declare(None, "rtpw_receiver_record", POINTER(RawReceiver), c_uint64)
 receiver_receive = _declare(
     _STATUS, "rtpw_receiver_receive", POINTER(RawReceiver), c_uint16, POINTER(c_uint64)
+)
+
+wide_receiver_start = _declare(_STATUS, "rtpw_wide_receiver_start", POINTER(RawWideReceiver), c_uint64)
+wide_receiver_number_of = _declare(
+    c_uint64, "rtpw_wide_receiver_number_of", POINTER(RawWideReceiver), c_uint16
+)
+wide_receiver_accepts = _declare(
+    c_bool, "rtpw_wide_receiver_accepts", POINTER(RawWideReceiver), POINTER(c_uint64), _SIZE, c_uint64
+)
+wide_receiver_record = _declare(
+    _STATUS, "rtpw_wide_receiver_record", POINTER(RawWideReceiver), POINTER(c_uint64), _SIZE, c_uint64
+)
+wide_receiver_receive = _declare(
+    _STATUS,
+    "rtpw_wide_receiver_receive",
+    POINTER(RawWideReceiver),
+    POINTER(c_uint64),
+    _SIZE,
+    c_uint16,
+    POINTER(c_uint64),
+)
+
+restarting_receive = _declare(
+    _STATUS, "rtpw_restarting_receive", POINTER(RawRestartingReceiver), c_uint16, POINTER(c_uint64)
 )
 
 extend_u8 = _declare(c_uint64, "rtpw_extend_u8", c_uint64, c_uint8)

@@ -10,8 +10,9 @@ from ._errors import check, unsigned, within
 
 
 class Kind(IntEnum):
-    """The kinds of header extension, by numbers of this library; those from OWN to 255 are the caller's, for extensions
-    that have no value here, as a dependency descriptor. What reads and writes values passes over the ids of these."""
+    """The kinds of header extension, by numbers of this library, and from Kind(128), which is Kind.OWN, to Kind(255) by
+    yours: extensions that have no value here, as a dependency descriptor, whose elements you read and write.
+    """
 
     NONE = 0
     ABS_SEND_TIME = 1
@@ -32,15 +33,21 @@ class Kind(IntEnum):
     OWN = 128
 
     @classmethod
+    def _missing_(cls, value: object) -> Optional[Kind]:
+        if not isinstance(value, int) or not cls.OWN < value < 256:
+            return None
+        made = int.__new__(cls, value)
+        made._name_, made._value_ = f"OWN + {value - cls.OWN}", value
+        return cls._value2member_map_.setdefault(value, made)  # type: ignore[return-value]
+
+    def __reduce_ex__(self, protocol: object) -> Tuple[object, ...]:
+        return Kind, (int(self),)  # not by its name, which one of your own can't be found by
+
+    @classmethod
     def from_uri(cls, uri: str) -> Kind:
-        """The kind whose URI this is, letter for letter; NONE where it is that of none."""
+        """The kind whose URI this is, letter for letter; NONE where it is that of none, as of your own kinds."""
         data = uri.encode()
         return cls(_library.kind_of_uri(data, len(data)))
-
-
-def _kind_of(number: int) -> int:
-    """The kind of the number, or the number itself where it is one of the caller's own."""
-    return Kind(number) if number <= Kind.OWN else number
 
 
 Entry = TypeVar("Entry", bound=int)
@@ -73,9 +80,9 @@ class _Table(MutableMapping[int, Entry]):
         return type(self), (dict(self),)
 
 
-class Map(_Table[int]):
+class Map(_Table[Kind]):
     """Which extension each id means, as the lines `a=extmap` of SDP say it (RFC 8285, 5): a mapping from ids, 1 to
-    255, to kinds, where those of the caller's own above Kind.OWN are numbers.
+    255, to kinds.
 
     >>> Map({1: Kind.AUDIO_LEVEL})[1].name
     'AUDIO_LEVEL'
@@ -83,7 +90,7 @@ class Map(_Table[int]):
 
     __slots__ = ()
 
-    def __init__(self, kinds: Union[Mapping[int, int], Iterable[Tuple[int, int]]] = ()) -> None:
+    def __init__(self, kinds: Union[Mapping[int, Kind], Iterable[Tuple[int, Kind]]] = ()) -> None:
         self._raw = _library.RawMap()
         self.update(kinds)
 
@@ -100,19 +107,18 @@ class Map(_Table[int]):
         """The map of the URIs by their ids. An id whose URI is of no kind has no entry."""
         return cls([(id, Kind.from_uri(uri)) for id, uri in dict(uris).items()])
 
-    def __getitem__(self, id: int) -> int:
+    def __getitem__(self, id: int) -> Kind:
         kind = _library.map_get(self._raw, id) if 0 < id < 256 else 0
         if not kind:
             raise KeyError(id)
-        return _kind_of(kind)
+        return Kind(kind)
 
-    def id_of(self, kind: int) -> Optional[int]:
-        """The lowest id that means the kind: that of the element to set, say. None where no id does."""
+    def id_of(self, kind: Kind) -> Optional[int]:
+        """The lowest id that means the kind; None where none does."""
         return _library.id_of(self._raw, unsigned("a kind", kind, 8)) or None
 
-    def __setitem__(self, id: int, kind: int) -> None:
-        """The id means the kind from now on, or nothing with Kind.NONE. BadField where the id isn't 1 to 255, or the
-        kind is one of 16 to 127."""
+    def __setitem__(self, id: int, kind: Kind) -> None:
+        """The id means the kind from now on, or nothing with Kind.NONE. BadField where the id isn't 1 to 255."""
         check(_library.map_set(self._raw, unsigned("an id", id, 8), unsigned("a kind", kind, 8)))
 
     def _remove(self, id: int) -> None:
@@ -131,8 +137,9 @@ class NewIds(_Table[int]):
 
     @classmethod
     def between(cls, sender: Map, receiver: Map) -> NewIds:
-        """For each id of a kind in the sender's map, one of the caller's own too, its lowest id in the receiver's. So
-        give an extension whose URI has no kind one number of your own in both."""
+        """For each id of a kind in the sender's map, your own kinds too, its lowest id in the receiver's. An extension
+        whose URI has no kind goes on where both maps give it one kind of your own, or its new id is set by hand.
+        """
         made = cls()
         _library.new_ids_between(sender._raw, receiver._raw, made._raw)
         return made

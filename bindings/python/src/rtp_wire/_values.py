@@ -12,10 +12,13 @@ from . import _library
 from ._buffers import address_of, place_of
 from ._errors import BadField, Status, check, unsigned, within
 from ._layers import Layers
-from ._map import Map
+from ._map import Kind, Map
 
 if TYPE_CHECKING:
     from ._buffers import Buffer
+
+# Enough for the data of an element of each kind.
+MOST_DATA = 16
 
 
 class Time(NamedTuple):
@@ -88,18 +91,16 @@ class Values:
         check(_library.values_read(at, len(data), unsigned("a form", form, 8), map._raw, raw))
         return values_of(raw)
 
-    def data_of(self, kind: int) -> Optional[bytes]:
-        """The data that an element of the kind has for these values, to set it where it lies. None where a value that
-        the kind needs isn't there, as always for Kind.LAYERS, Kind.COLOR_SPACE and the caller's own. BadField where
-        the kind is Kind.NONE or one of 16 to 127, or a value is out of its range."""
-        raw, length, buf = _library.RawValues(), c_size_t(), bytearray(255)
+    def data_of(self, kind: Kind) -> bytes:
+        """The data that an element of the kind has for these values, as `Header.write` writes them: so
+        `packet.set_element(id, values.data_of(kind))` sets one value where it lies. NoElement where a value that the
+        kind needs isn't there, and always for Kind.COLOR_SPACE, Kind.LAYERS and your own kinds. BadField for Kind.NONE,
+        and where a value, of this kind or not, is out of its range."""
+        raw, data, length = _library.RawValues(), bytearray(MOST_DATA), c_size_t()
         put_values(raw, self)
-        number = unsigned("a kind", kind, 8)
-        status = _library.data_of(number, raw, address_of(memoryview(buf)), len(buf), length)
-        if status == Status.NONE:
-            return None
-        check(status)
-        return bytes(buf[: length.value])
+        view = memoryview(data)
+        check(_library.data_of(unsigned("a kind", kind, 8), raw, address_of(view), len(data), length))
+        return bytes(view[: length.value])
 
     def __repr__(self) -> str:
         """With the values that are there alone."""
