@@ -7,7 +7,7 @@ use Rattle.rtp_wire.specs.Receiver.{IsHighest, IsNumberOf, IsFreshOf}
 use Rattle.rtp_wire.specs.Widening.{IsNearest}
 use Rattle.rtp_wire.proofs.ReceiverLemmas.{not_nothing}
 use Rattle.rtp_wire.proofs.TrueNumberLemmas.{one_greatest}
-use Rattle.rtp_wire.proofs.WideningLemmas.{only_near}
+use Rattle.rtp_wire.proofs.NearestLemmas.{only_near}
 use Rattle.rtp_wire.specs.declared.receive.restarting.RestartingReceiver.{RestartingReceiver}
 use Rattle.rtp_wire.specs.declared.receive.restarting_verdict.RestartingVerdict.{RestartingVerdict}
 use Rattle.rtp_wire.specs.declared.receive.restarting_verdict.RestartingVerdict.TheVariants.{Taken, Restarted, Refused}
