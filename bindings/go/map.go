@@ -2,7 +2,8 @@ package rtpwire
 
 import "strconv"
 
-// A Kind is what a header extension says of its packet. Its numbers are this library's own.
+// A Kind is what a header extension says of its packet. Its numbers are this library's own, and from KindOwn to 255
+// yours: extensions that have no value here, as a dependency descriptor, whose elements you read and write.
 type Kind uint8
 
 // The kinds of extension; KindNone is that of an id that means nothing, and of a URI that is that of none.
@@ -24,6 +25,9 @@ const (
 	KindColorSpace
 	KindLayers
 )
+
+// KindOwn is the first of the caller's own kinds.
+const KindOwn Kind = 128
 
 var kinds = [...]string{
 	KindNone:               "none",
@@ -73,7 +77,7 @@ func StandardMap() *Map {
 }
 
 // Set makes the id mean the kind from now on, or nothing with KindNone. It returns ErrBadField, and changes
-// nothing, where the id is 0 or the kind none of those above.
+// nothing, where the id is 0 or the kind is one of 16 to 127.
 func (m *Map) Set(id uint8, kind Kind) error {
 	return m.set(id, kind)
 }
@@ -95,12 +99,7 @@ func (m *Map) Get(id uint8) Kind {
 
 // IDOf is the lowest id that means the kind: that of the element to set, say. It is 0 where none means it.
 func (m *Map) IDOf(kind Kind) uint8 {
-	for id := 1; kind != KindNone && id <= 255; id++ {
-		if m.Get(uint8(id)) == kind {
-			return uint8(id)
-		}
-	}
-	return 0
+	return m.idOf(kind)
 }
 
 // NewIDs says which ids elements get where a packet goes from one map to another. In the zero NewIDs none gets
@@ -117,8 +116,8 @@ func NewIDsBetween(from, to *Map) *NewIDs {
 	return n
 }
 
-// Set gives elements of the id this new id, or none with 0: the extensions that have a kind in neither map have
-// no new id unless it is set so. The id 0, which is padding, never gets one.
+// Set gives elements of the id this new id, or none with 0: the extensions that have a kind in neither map, not even
+// one of your own, have no new id unless it is set so. The id 0, which is padding, never gets one.
 func (n *NewIDs) Set(id, newID uint8) {
 	if id != 0 {
 		n.ids[id] = newID
