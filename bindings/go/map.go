@@ -108,8 +108,8 @@ type NewIDs struct {
 	ids [256]uint8
 }
 
-// NewIDsBetween has for each id that means a kind in from the lowest id that means it in to. Make it once for two
-// streams.
+// NewIDsBetween has for each id that means a kind in from, one of your own too, the lowest id that means it in to. Make
+// it once for two streams.
 func NewIDsBetween(from, to *Map) *NewIDs {
 	n := new(NewIDs)
 	n.between(from, to)
