@@ -52,6 +52,47 @@ static inline call_number call_check_packet(const rtpw_receiver *receiver, const
     return it;
 }
 
+static inline call_number call_wide_receive(rtpw_wide_receiver *receiver, uint64_t *words, size_t count,
+                                            uint16_t sequence_number) {
+    call_number it = {0};
+    it.status = rtpw_wide_receiver_receive(receiver, words, count, sequence_number, &it.number);
+    return it;
+}
+
+static inline call_number call_wide_receive_packet(rtpw_wide_receiver *receiver, uint64_t *words, size_t count,
+                                                   const uint8_t *datagram, size_t len, const rtpw_map *map,
+                                                   rtpw_header *header, rtpw_packet *packet) {
+    call_number it = {0};
+    it.status = call_parse(datagram, len, map, header, packet);
+    return it.status != RTPW_OK ? it : call_wide_receive(receiver, words, count, header->sequence_number);
+}
+
+static inline call_number call_wide_check_packet(const rtpw_wide_receiver *receiver, const uint64_t *words,
+                                                 size_t count, const uint8_t *datagram, size_t len,
+                                                 const rtpw_map *map, rtpw_header *header, rtpw_packet *packet) {
+    call_number it = {0};
+    it.status = call_parse(datagram, len, map, header, packet);
+    if (it.status == RTPW_OK) {
+        it.number = rtpw_wide_receiver_number_of(receiver, header->sequence_number);
+        it.status = rtpw_wide_receiver_accepts(receiver, words, count, it.number) ? RTPW_OK : RTPW_REFUSED;
+    }
+    return it;
+}
+
+static inline call_number call_restarting_receive(rtpw_restarting_receiver *receiver, uint16_t sequence_number) {
+    call_number it = {0};
+    it.status = rtpw_restarting_receive(receiver, sequence_number, &it.number);
+    return it;
+}
+
+static inline call_number call_restarting_receive_packet(rtpw_restarting_receiver *receiver,
+                                                         const uint8_t *datagram, size_t len, const rtpw_map *map,
+                                                         rtpw_header *header, rtpw_packet *packet) {
+    call_number it = {0};
+    it.status = call_parse(datagram, len, map, header, packet);
+    return it.status != RTPW_OK ? it : call_restarting_receive(receiver, header->sequence_number);
+}
+
 static inline int32_t call_parse_layers(const uint8_t *datagram, size_t len, const rtpw_map *map,
                                         rtpw_layers *layers) {
     rtpw_header header;
@@ -80,15 +121,15 @@ static inline call_len call_wire_len(const rtpw_map *map, const rtpw_header *hea
     return it;
 }
 
-static inline call_len call_data_of(uint8_t kind, const rtpw_values *values, uint8_t *buf, size_t size) {
-    call_len it = {0};
-    it.status = rtpw_data_of(kind, values, buf, size, &it.len);
-    return it;
-}
-
 static inline call_len call_write(const rtpw_map *map, const rtpw_header *header, uint8_t *buf, size_t size) {
     call_len it = {0};
     it.status = rtpw_write(map, header, buf, size, &it.len);
+    return it;
+}
+
+static inline call_len call_data_of(uint8_t kind, const rtpw_values *values, uint8_t *buf, size_t size) {
+    call_len it = {0};
+    it.status = rtpw_data_of(kind, values, buf, size, &it.len);
     return it;
 }
 

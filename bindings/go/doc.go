@@ -10,6 +10,9 @@
 // [Packet.Parse] reads all fields, values and places, and [Receiver.ReceivePacket] judges the packet too.
 // What is a look at these needs no call: the fields, the values, [Packet.Payload], [Header.CSRC].
 //
+// [WideReceiver] has a window of another size, and [RestartingReceiver], which is not for SRTP, tells that a sender has
+// started again.
+//
 // No function keeps a pointer to what it is given, but a Packet the datagram that it was read from. Calls from
 // several goroutines at once are safe as long as nothing that one of them changes is used by another.
 //

@@ -13,6 +13,8 @@ func TestStructsLieAsThoseOfC(t *testing.T) {
 		f  Fields
 		e  Place
 		r  Receiver
+		w  wideState
+		rr RestartingReceiver
 		v  Values
 		h  Header
 		la Layer
@@ -55,6 +57,16 @@ func TestStructsLieAsThoseOfC(t *testing.T) {
 		{"receiver.recorded_low", unsafe.Offsetof(r.recordedLow), 8},
 		{"receiver.recorded_high", unsafe.Offsetof(r.recordedHigh), 16},
 		{"receiver.started", unsafe.Offsetof(r.started), 24},
+		{"wide_receiver", unsafe.Sizeof(w), 16},
+		{"wide_receiver.highest", unsafe.Offsetof(w.highest), 0},
+		{"wide_receiver.started", unsafe.Offsetof(w.started), 8},
+		{"restarting_receiver", unsafe.Sizeof(rr), 32},
+		{"restarting_receiver.words", unsafe.Offsetof(rr.words), 8},
+		{"restarting_receiver.max_dropout", unsafe.Offsetof(rr.MaxDropout), 24},
+		{"restarting_receiver.next", unsafe.Offsetof(rr.next), 26},
+		{"restarting_receiver.min_sequential", unsafe.Offsetof(rr.MinSequential), 28},
+		{"restarting_receiver.in_row", unsafe.Offsetof(rr.inRow), 29},
+		{"restarting_receiver.started", unsafe.Offsetof(rr.started), 30},
 		{"header", unsafe.Sizeof(h), 224},
 		{"header.timestamp", unsafe.Offsetof(h.Timestamp), 8},
 		{"header.ssrc", unsafe.Offsetof(h.SSRC), 12},

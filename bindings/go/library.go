@@ -49,6 +49,30 @@ func (r *Receiver) c() *C.rtpw_receiver {
 	return (*C.rtpw_receiver)(unsafe.Pointer(&r.highest))
 }
 
+func (r *WideReceiver) c() *C.rtpw_wide_receiver {
+	return (*C.rtpw_wide_receiver)(unsafe.Pointer(&r.state))
+}
+
+// firstWord is where its words lie.
+func (r *WideReceiver) firstWord() *C.uint64_t {
+	if len(r.words) == 0 {
+		return nil
+	}
+	return (*C.uint64_t)(unsafe.Pointer(&r.words[0]))
+}
+
+func (r *WideReceiver) count() C.size_t {
+	return C.size_t(len(r.words))
+}
+
+func (r *RestartingReceiver) c() *C.rtpw_restarting_receiver {
+	return (*C.rtpw_restarting_receiver)(unsafe.Pointer(r))
+}
+
+func (v *Values) c() *C.rtpw_values {
+	return (*C.rtpw_values)(unsafe.Pointer(v))
+}
+
 func numberOr(it C.call_number) (uint64, error) {
 	return uint64(it.number), errorOf(int32(it.status))
 }
@@ -89,6 +113,60 @@ func (r *Receiver) accepts(number uint64) bool {
 
 func (r *Receiver) record(number uint64) {
 	C.rtpw_receiver_record(r.c(), C.uint64_t(number))
+}
+
+func (r *WideReceiver) receive(sequenceNumber uint16) (uint64, error) {
+	return numberOr(C.call_wide_receive(r.c(), r.firstWord(), r.count(), C.uint16_t(sequenceNumber)))
+}
+
+func (r *WideReceiver) receivePacket(datagram []byte, m *Map, p *Packet) (uint64, error) {
+	it := C.call_wide_receive_packet(r.c(), r.firstWord(), r.count(), first(datagram), size(datagram), m.c(), p.Header.c(), p.parts.c())
+	return numberOr(it)
+}
+
+func (r *WideReceiver) checkPacket(datagram []byte, m *Map, p *Packet) (uint64, error) {
+	it := C.call_wide_check_packet(r.c(), r.firstWord(), r.count(), first(datagram), size(datagram), m.c(), p.Header.c(), p.parts.c())
+	return numberOr(it)
+}
+
+func (r *WideReceiver) start(rolloverCount uint64) error {
+	return errorOf(int32(C.rtpw_wide_receiver_start(r.c(), C.uint64_t(rolloverCount))))
+}
+
+func (r *WideReceiver) numberOf(sequenceNumber uint16) uint64 {
+	return uint64(C.rtpw_wide_receiver_number_of(r.c(), C.uint16_t(sequenceNumber)))
+}
+
+func (r *WideReceiver) accepts(number uint64) bool {
+	return bool(C.rtpw_wide_receiver_accepts(r.c(), r.firstWord(), r.count(), C.uint64_t(number)))
+}
+
+func (r *WideReceiver) record(number uint64) error {
+	return errorOf(int32(C.rtpw_wide_receiver_record(r.c(), r.firstWord(), r.count(), C.uint64_t(number))))
+}
+
+// verdictOr is the verdict of a RestartingReceiver, or the error for which the datagram is no packet.
+func verdictOr(it C.call_number) (uint64, Verdict, error) {
+	switch it.status {
+	case C.RTPW_OK:
+		return uint64(it.number), Taken, nil
+	case C.RTPW_RESTARTED:
+		return uint64(it.number), Restarted, nil
+	case C.RTPW_REFUSED:
+		return 0, Refused, nil
+	default:
+		return 0, Refused, errorOf(int32(it.status))
+	}
+}
+
+func (r *RestartingReceiver) receive(sequenceNumber uint16) (uint64, Verdict) {
+	number, verdict, _ := verdictOr(C.call_restarting_receive(r.c(), C.uint16_t(sequenceNumber)))
+	return number, verdict
+}
+
+func (r *RestartingReceiver) receivePacket(datagram []byte, m *Map, p *Packet) (uint64, Verdict, error) {
+	it := C.call_restarting_receive_packet(r.c(), first(datagram), size(datagram), m.c(), p.Header.c(), p.parts.c())
+	return verdictOr(it)
 }
 
 func extend8(previous uint64, number uint8) uint64 {
@@ -136,8 +214,8 @@ func (m *Map) idOf(kind Kind) uint8 {
 	return uint8(C.rtpw_id_of(m.c(), C.uint8_t(kind)))
 }
 
-func (v *Values) data(buf []byte, kind Kind) (int, error) {
-	return lenOr(C.call_data_of(C.uint8_t(kind), (*C.rtpw_values)(unsafe.Pointer(v)), first(buf), size(buf)))
+func (v *Values) dataOf(kind Kind, buf []byte) (int, error) {
+	return lenOr(C.call_data_of(C.uint8_t(kind), v.c(), first(buf), size(buf)))
 }
 
 func (m *Map) standard() {

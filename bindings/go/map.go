@@ -3,12 +3,10 @@ package rtpwire
 import "strconv"
 
 // A Kind is what a header extension says of its packet. Its numbers are this library's own, and from KindOwn to 255
-// the caller's: extensions that have no value here, as a dependency descriptor. What reads and writes values passes
-// over the ids of these.
+// yours: extensions that have no value here, as a dependency descriptor, whose elements you read and write.
 type Kind uint8
 
-// The kinds of extension; KindNone is that of an id that means nothing, and of a URI that is that of none, and KindOwn
-// the first of the caller's own.
+// The kinds of extension; KindNone is that of an id that means nothing, and of a URI that is that of none.
 const (
 	KindNone Kind = iota
 	KindAbsSendTime
@@ -26,9 +24,10 @@ const (
 	KindFrameMarking
 	KindColorSpace
 	KindLayers
-
-	KindOwn Kind = 128
 )
+
+// KindOwn is the first of the caller's own kinds.
+const KindOwn Kind = 128
 
 var kinds = [...]string{
 	KindNone:               "none",
@@ -100,9 +99,6 @@ func (m *Map) Get(id uint8) Kind {
 
 // IDOf is the lowest id that means the kind: that of the element to set, say. It is 0 where none means it.
 func (m *Map) IDOf(kind Kind) uint8 {
-	if m == nil {
-		return 0
-	}
 	return m.idOf(kind)
 }
 
@@ -112,16 +108,16 @@ type NewIDs struct {
 	ids [256]uint8
 }
 
-// NewIDsBetween has for each id that means a kind in from, one of the caller's own too, the lowest id that means it
-// in to. Make it once for two streams.
+// NewIDsBetween has for each id that means a kind in from, one of your own too, the lowest id that means it in to. Make
+// it once for two streams.
 func NewIDsBetween(from, to *Map) *NewIDs {
 	n := new(NewIDs)
 	n.between(from, to)
 	return n
 }
 
-// Set gives elements of the id this new id, or none with 0: the extensions that have a kind in neither map, nor a
-// number of the caller's own, have no new id unless it is set so. The id 0, which is padding, never gets one.
+// Set gives elements of the id this new id, or none with 0: the extensions that have a kind in neither map, not even
+// one of your own, have no new id unless it is set so. The id 0, which is padding, never gets one.
 func (n *NewIDs) Set(id, newID uint8) {
 	if id != 0 {
 		n.ids[id] = newID

@@ -124,6 +124,9 @@ func TestNoMemoryIsTaken(t *testing.T) {
 	places := make([]rtpwire.Place, 0, 4)
 	var packet rtpwire.Packet
 	var receiver rtpwire.Receiver
+	wideReceiver := wide(t, 16, 1)
+	var restarting rtpwire.RestartingReceiver
+	var elementData [rtpwire.MostData]byte
 	number := uint16(0)
 	taken := testing.AllocsPerRun(100, func() {
 		number++
@@ -132,6 +135,15 @@ func TestNoMemoryIsTaken(t *testing.T) {
 		err := fields.Apply(datagram)
 		if err == nil {
 			_, err = receiver.ReceivePacket(datagram, m, &packet)
+		}
+		if err == nil {
+			_, err = wideReceiver.ReceivePacket(datagram, m, &packet)
+		}
+		if err == nil {
+			_, _, err = restarting.ReceivePacket(datagram, m, &packet)
+		}
+		if err == nil {
+			_, err = packet.Values.DataOf(rtpwire.KindAudioLevel, elementData[:])
 		}
 		if err == nil {
 			err = rtpwire.Renumber(datagram, ids)

@@ -65,14 +65,6 @@ type VideoTiming struct {
 	LastLeftPacer     uint16 // and left the pacer
 }
 
-// Data writes the data that an element of the kind has for these values to the front of buf, to set it where it lies
-// (SetElement), and says how many bytes they are. It returns ErrNotFound where a value that the kind needs isn't there, as
-// always for KindLayers, KindColorSpace and the caller's own; ErrBadField where the kind is KindNone or one of 16 to
-// 127, or a value that is there is bad; or ErrShortBuffer. Where it returns an error it writes nothing.
-func (v *Values) Data(buf []byte, kind Kind) (int, error) {
-	return v.data(buf, kind)
-}
-
 // SendTime is when the packet left its sender, in microseconds: as read modulo 64 seconds.
 func (v *Values) SendTime() (micros uint64, ok bool) {
 	return v.sendTime, v.hasSendTime
@@ -232,6 +224,29 @@ func (v *Values) RepairedRID() (rid string, ok bool) {
 // SetRepairedRID sets the stream that this one repairs. It returns ErrBadField as SetRID does.
 func (v *Values) SetRepairedRID(rid string) error {
 	return setText(v.repairedRID[:], rid, &v.hasRepairedRID)
+}
+
+// MostData is enough room for the data of an element of each kind.
+const MostData = 16
+
+// DataOf writes the data that an element of the kind has for these values, as [Header.Write] would, to the front of the
+// buffer, and returns them; the bytes after them stay. So one value is set where it lies:
+//
+//	var buf [rtpwire.MostData]byte
+//	data, err := values.DataOf(rtpwire.KindAbsSendTime, buf[:])
+//	if err == nil {
+//		err = rtpwire.SetElement(datagram, m.IDOf(rtpwire.KindAbsSendTime), data)
+//	}
+//
+// It returns ErrBadField where the kind is KindNone or one of 16 to 127, or a value, of this kind or not, is one that
+// can't be written; ErrNotFound where a value that the kind needs isn't there, and always for KindColorSpace,
+// KindLayers and your own kinds; ErrShortBuffer. Then nothing changes.
+func (v *Values) DataOf(kind Kind, buf []byte) ([]byte, error) {
+	length, err := v.dataOf(kind, buf)
+	if err != nil {
+		return nil, err
+	}
+	return buf[:length], nil
 }
 
 // Clear takes the value of the kind away, and those that an element of it has beside it.

@@ -201,35 +201,6 @@ func TestLayers(t *testing.T) {
 	}
 }
 
-func TestOwnKinds(t *testing.T) {
-	const descriptor = rtpwire.KindOwn + 2
-	from, to := new(rtpwire.Map), new(rtpwire.Map)
-	same(t, "set", []error{from.Set(9, descriptor), to.Set(12, descriptor), to.Set(7, descriptor)}, []error{nil, nil, nil})
-	same(t, "127", from.Set(1, 127), rtpwire.ErrBadField)
-	same(t, "255", from.Set(2, 255), nil)
-	same(t, "get", []rtpwire.Kind{from.Get(9), from.Get(2), from.Get(1)}, []rtpwire.Kind{descriptor, 255, rtpwire.KindNone})
-	same(t, "the lowest", []uint8{to.IDOf(descriptor), to.IDOf(255), (*rtpwire.Map)(nil).IDOf(255)}, []uint8{7, 0, 0})
-	ids := rtpwire.NewIDsBetween(from, to)
-	same(t, "new ids", []uint8{ids.Get(9), ids.Get(2), ids.Get(1)}, []uint8{7, 0, 0})
-}
-
-func TestDataOfOneKind(t *testing.T) {
-	var v rtpwire.Values
-	buf := []byte{0xA5, 0xA5, 0xA5, 0xA5}
-	n, err := v.Data(buf, rtpwire.KindAbsSendTime)
-	same(t, "absent", []any{n, err}, []any{0, rtpwire.ErrNotFound})
-	v.SetSendTime(40000000) // 2^18 * 40 of 40 seconds
-	n, err = v.Data(buf, rtpwire.KindAbsSendTime)
-	same(t, "send time", []any{n, err, string(buf)}, []any{3, nil, "\xA0\x00\x00\xA5"})
-	_, err = v.Data(buf[:2], rtpwire.KindAbsSendTime)
-	same(t, "short", err, rtpwire.ErrShortBuffer)
-	_, err = v.Data(buf, rtpwire.KindOwn)
-	same(t, "own", err, rtpwire.ErrNotFound)
-	_, err = v.Data(buf, rtpwire.KindNone)
-	same(t, "no kind", err, rtpwire.ErrBadField)
-	same(t, "unchanged", string(buf), "\xA0\x00\x00\xA5")
-}
-
 func TestMaps(t *testing.T) {
 	m := new(rtpwire.Map)
 	same(t, "the id 0", m.Set(0, rtpwire.KindMID), rtpwire.ErrBadField)
@@ -245,6 +216,7 @@ func TestMaps(t *testing.T) {
 		[]rtpwire.Kind{rtpwire.KindMID, rtpwire.KindMID, rtpwire.KindRID, rtpwire.KindNone})
 	same(t, "the lowest", m.IDOf(rtpwire.KindMID), uint8(9))
 	same(t, "none of none", m.IDOf(rtpwire.KindNone), uint8(0))
+	same(t, "none of nil", (*rtpwire.Map)(nil).IDOf(rtpwire.KindMID), uint8(0))
 	kind, err = m.SetURI(9, "urn:x")
 	same(t, "an unknown URI", []any{kind, err, m.Get(9)}, []any{rtpwire.KindNone, nil, rtpwire.KindNone})
 	_, err = m.SetURI(0, "urn:ietf:params:rtp-hdrext:sdes:mid")
@@ -261,4 +233,63 @@ func TestMaps(t *testing.T) {
 	}
 	names := []string{rtpwire.KindNone.String(), rtpwire.KindLayers.String(), rtpwire.Kind(16).String()}
 	same(t, "names", names, []string{"none", "layers", "kind 16"})
+}
+
+func TestOwnKinds(t *testing.T) {
+	from, to := new(rtpwire.Map), new(rtpwire.Map)
+	for id, kind := range map[uint8]rtpwire.Kind{5: 255, 6: rtpwire.KindMID, 7: rtpwire.KindOwn} {
+		same(t, "set", []any{from.Set(id, kind), from.Get(id)}, []any{nil, kind})
+	}
+	same(t, "ids", []uint8{from.IDOf(255), from.IDOf(rtpwire.KindOwn), from.IDOf(200)}, []uint8{5, 7, 0})
+	for _, kind := range []rtpwire.Kind{16, 127} {
+		same(t, "no kind", []any{to.Set(1, kind), to.IDOf(kind)}, []any{rtpwire.ErrBadField, uint8(0)})
+	}
+	same(t, "set", []error{to.Set(8, 255), to.Set(9, rtpwire.KindMID)}, []error{nil, nil})
+	ids := rtpwire.NewIDsBetween(from, to)
+	same(t, "new ids", []uint8{ids.Get(5), ids.Get(6), ids.Get(7)}, []uint8{8, 9, 0})
+
+	datagram := []byte{0x90, 96, 0, 5, 0, 0, 0, 1, 0, 0, 0, 7, 0xBE, 0xDE, 0, 1, 0x50, 0xAB, 0x60, 'a'}
+	packet := parsed(t, datagram, from)
+	mid, ok := packet.Values.MID()
+	same(t, "the mid alone", []any{mid, ok}, []any{"a", true})
+	same(t, "renumbered", rtpwire.Renumber(datagram, ids), nil)
+	same(t, "elements", datagram[16:], []byte{0x80, 0xAB, 0x90, 'a'})
+}
+
+func TestDataOf(t *testing.T) {
+	var v rtpwire.Values
+	v.SetSendTime(40_000_000)
+	v.SetTransportNumber(0x4142)
+	v.SetAudioLevel(-93, true)
+	if err := v.SetMID("mid_0123456789AB"); err != nil {
+		t.Fatal(err)
+	}
+	rows := []struct {
+		kind rtpwire.Kind
+		data string
+	}{
+		{rtpwire.KindAbsSendTime, "\xA0\x00\x00"}, // 40 of 64 seconds, of 2^24
+		{rtpwire.KindTransportNumber, "\x41\x42"},
+		{rtpwire.KindAudioLevel, "\xDD"},
+		{rtpwire.KindMID, "mid_0123456789AB"},
+	}
+	for _, row := range rows {
+		buf := [rtpwire.MostData + 1]byte{rtpwire.MostData: 7}
+		data, err := v.DataOf(row.kind, buf[:])
+		same(t, "data", []any{string(data), err, buf[rtpwire.MostData]}, []any{row.data, nil, uint8(7)})
+		_, err = v.DataOf(row.kind, buf[:len(row.data)-1])
+		same(t, "too short", err, rtpwire.ErrShortBuffer)
+	}
+	buf := make([]byte, rtpwire.MostData)
+	for _, kind := range []rtpwire.Kind{rtpwire.KindRID, rtpwire.KindColorSpace, rtpwire.KindLayers, rtpwire.KindOwn, 255} {
+		data, err := v.DataOf(kind, buf)
+		same(t, "no value", []any{len(data), err}, []any{0, rtpwire.ErrNotFound})
+	}
+	for _, kind := range []rtpwire.Kind{rtpwire.KindNone, 16, 127} {
+		_, err := v.DataOf(kind, buf)
+		same(t, "no kind", err, rtpwire.ErrBadField)
+	}
+	v.SetVideoOrientation(45)
+	_, err := v.DataOf(rtpwire.KindMID, buf)
+	same(t, "a value of another kind", err, rtpwire.ErrBadField)
 }

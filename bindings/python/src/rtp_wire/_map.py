@@ -118,7 +118,8 @@ class Map(_Table[Kind]):
         return _library.id_of(self._raw, unsigned("a kind", kind, 8)) or None
 
     def __setitem__(self, id: int, kind: Kind) -> None:
-        """The id means the kind from now on, or nothing with Kind.NONE. BadField where the id isn't 1 to 255."""
+        """The id means the kind from now on, or nothing with Kind.NONE. BadField where the id isn't 1 to 255, or the
+        kind is one of 16 to 127."""
         check(_library.map_set(self._raw, unsigned("an id", id, 8), unsigned("a kind", kind, 8)))
 
     def _remove(self, id: int) -> None:

@@ -1,0 +1,92 @@
+package rtpwire_test
+
+import (
+	"errors"
+	"testing"
+
+	"rtpwire"
+)
+
+type judged struct {
+	low     uint16
+	number  uint64
+	verdict rtpwire.Verdict
+}
+
+// judges compares the verdicts on packets, one after another, with those of RFC 3550, A.1, by hand.
+func judges(t *testing.T, r *rtpwire.RestartingReceiver, rows []judged) {
+	t.Helper()
+	for _, row := range rows {
+		number, verdict := r.Receive(row.low)
+		same(t, "verdict", judged{row.low, number, verdict}, row)
+	}
+}
+
+func TestLargeJump(t *testing.T) {
+	var r rtpwire.RestartingReceiver
+	if _, ok := r.Highest(); ok {
+		t.Error("a number was taken")
+	}
+	// 2,999 ahead is of the stream, and 3,000 isn't.
+	judges(t, &r, []judged{
+		{1000, 66536, rtpwire.Taken},
+		{3999, 69535, rtpwire.Taken},
+		{6999, 0, rtpwire.Refused},
+		{7001, 0, rtpwire.Refused},
+		{7000, 0, rtpwire.Refused},
+		{7001, 203609, rtpwire.Restarted},
+		{7001, 0, rtpwire.Refused},
+		{7000, 203608, rtpwire.Taken},
+		{7002, 203610, rtpwire.Taken},
+	})
+	highest, ok := r.Highest()
+	same(t, "highest", []any{highest, ok}, []any{uint64(203610), true})
+}
+
+func TestVeryNextPacket(t *testing.T) {
+	judges(t, new(rtpwire.RestartingReceiver), []judged{
+		{1000, 66536, rtpwire.Taken},
+		{873, 66409, rtpwire.Taken}, // 127 below
+		{872, 0, rtpwire.Refused},
+		{1001, 66537, rtpwire.Taken},
+		{873, 0, rtpwire.Refused},
+		{30000, 0, rtpwire.Refused},
+		{30001, 226609, rtpwire.Restarted},
+	})
+}
+
+func TestBounds(t *testing.T) {
+	judges(t, &rtpwire.RestartingReceiver{MaxDropout: 100, MinSequential: 2}, []judged{
+		{500, 0, rtpwire.Refused},
+		{502, 0, rtpwire.Refused},
+		{503, 66039, rtpwire.Taken},
+		{603, 0, rtpwire.Refused},
+		{602, 66138, rtpwire.Taken},
+	})
+}
+
+func TestPacketsAreJudged(t *testing.T) {
+	var r rtpwire.RestartingReceiver
+	var packet rtpwire.Packet
+	datagram := []byte{0x80, 96, 0, 5, 0, 0, 0, 1, 0, 0, 0, 7, 'h', 'i'}
+	rows := []judged{
+		{5, 65541, rtpwire.Taken},
+		{5, 0, rtpwire.Refused},
+		{20000, 0, rtpwire.Refused},
+		{20001, 216609, rtpwire.Restarted},
+	}
+	for _, row := range rows {
+		datagram[2], datagram[3] = byte(row.low>>8), byte(row.low)
+		number, verdict, err := r.ReceivePacket(datagram, nil, &packet)
+		same(t, "judged", []any{number, verdict, err}, []any{row.number, row.verdict, nil})
+		same(t, "read", []any{packet.SequenceNumber, string(packet.Payload())}, []any{row.low, "hi"})
+	}
+	read, before := packet, r
+	number, verdict, err := r.ReceivePacket(datagram[:11], nil, &packet)
+	if !errors.Is(err, rtpwire.CutFixedPart) {
+		t.Error(err)
+	}
+	same(t, "no packet", []any{number, verdict, packet, r}, []any{uint64(0), rtpwire.Refused, read, before})
+	names := []string{rtpwire.Refused.String(), rtpwire.Taken.String(), rtpwire.Restarted.String()}
+	same(t, "names", names, []string{"refused", "taken", "restarted"})
+}

@@ -1,0 +1,80 @@
+package rtpwire
+
+// A WideReceiver is the receive state of one stream as a [Receiver] is, with a window of another size: 64 numbers for
+// each of 1 to 512 words. Choose it so that the window is longer than a packet can be late: at 30 Mbit/s the 128
+// numbers of a Receiver are 43 ms, and 16 words are 1,024 numbers.
+//
+// Make it by [NewWideReceiver]: the zero WideReceiver has no words, and takes no packet. A copy has the same words, so
+// only one of the two may be used.
+type WideReceiver struct {
+	state wideState
+	words []uint64
+}
+
+type wideState struct {
+	highest uint64
+	started bool
+}
+
+// NewWideReceiver is a receiver that has taken nothing yet, whose first packet has this rollover count: with 1 or more
+// a packet from before the first one has a number too, as [NewReceiver] says. It returns ErrBadField where the words
+// aren't 1 to 512, or the count is 2^48 or more.
+func NewWideReceiver(words int, rolloverCount uint64) (*WideReceiver, error) {
+	if words < 1 || words > 512 {
+		return nil, ErrBadField
+	}
+	r := new(WideReceiver)
+	if err := r.start(rolloverCount); err != nil {
+		return nil, err
+	}
+	r.words = make([]uint64, words)
+	return r, nil
+}
+
+// ReceivePacket reads the packet that the datagram is, and takes it, as [Receiver.ReceivePacket] does.
+func (r *WideReceiver) ReceivePacket(datagram []byte, m *Map, p *Packet) (uint64, error) {
+	number, err := r.receivePacket(datagram, m, p)
+	if err == nil || err == ErrRefused {
+		p.datagram = datagram
+	}
+	return number, err
+}
+
+// CheckPacket reads the packet that the datagram is, and tests whether it may be taken, as [Receiver.CheckPacket] does.
+func (r *WideReceiver) CheckPacket(datagram []byte, m *Map, p *Packet) (uint64, error) {
+	number, err := r.checkPacket(datagram, m, p)
+	if err == nil || err == ErrRefused {
+		p.datagram = datagram
+	}
+	return number, err
+}
+
+// Receive takes a packet that was read already and needn't be authenticated, and returns its extended number. It is
+// not ok, and nothing changes, where the packet is a replay or too old to tell.
+func (r *WideReceiver) Receive(sequenceNumber uint16) (number uint64, ok bool) {
+	number, err := r.receive(sequenceNumber)
+	return number, err == nil
+}
+
+// Highest is the highest number taken. It is not ok where nothing is taken yet.
+func (r *WideReceiver) Highest() (number uint64, ok bool) {
+	if !r.state.started {
+		return 0, false
+	}
+	return r.state.highest, true
+}
+
+// NumberOf is the extended sequence number of a packet, as [Receiver.NumberOf].
+func (r *WideReceiver) NumberOf(sequenceNumber uint16) uint64 {
+	return r.numberOf(sequenceNumber)
+}
+
+// Accepts is whether the number may be taken.
+func (r *WideReceiver) Accepts(number uint64) bool {
+	return r.accepts(number)
+}
+
+// Record records that the number is taken. It is not ok, and nothing changes, where the number isn't accepted.
+func (r *WideReceiver) Record(number uint64) (ok bool) {
+	return r.record(number) == nil
+}
