@@ -138,9 +138,7 @@ impl<const N: usize> WideReceiver<N> {
             IsTrueNumber count numbers sequence_number number → result ≡ number }
     {
         match &self.state {
-            WideState::Start(count) => {
-                SeqNo::from(count * 65_536 + u64::from(sequence_number))
-            }
+            WideState::Start(count) => { SeqNo::from(count * 65_536 + u64::from(sequence_number)) }
             WideState::Window(window) => {
                 let highest = window.max_seq().get();
                 SeqNo::from(extend_u16(Some(highest), sequence_number))
