@@ -65,6 +65,8 @@ enum { BODY_AT = 16, BODY_LEN = 16 };
     X(rtpw_map_set, rtpw_map_set(&other_map, 3, RTPW_KIND_AUDIO_LEVEL))                                               \
     X(rtpw_map_get, rtpw_map_get(&map, 3))                                                                            \
     X(rtpw_map_standard, (rtpw_map_standard(&other_map), 0))                                                          \
+    X(rtpw_id_of, rtpw_id_of(&map, RTPW_KIND_VIDEO_ORIENTATION))                                                      \
+    X(rtpw_data_of, rtpw_data_of(RTPW_KIND_AUDIO_LEVEL, &written.values, buf, sizeof buf, &len))                      \
     X(rtpw_new_ids_between, (rtpw_new_ids_between(&map, &map, &ids), 0))                                              \
     X(rtpw_pad, rtpw_pad(buf, sizeof buf, 32, 100, 16, &count))                                                       \
     X(rtpw_read_original, rtpw_read_original(packet + 32, sizeof packet - 32, &parts.sequence_number))                \

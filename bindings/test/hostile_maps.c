@@ -1,4 +1,5 @@
-/* rtpw_kind_of_uri, rtpw_map_set, rtpw_map_get, rtpw_map_standard, rtpw_new_ids_between, rtpw_renumber */
+/* rtpw_kind_of_uri, rtpw_map_set, rtpw_map_get, rtpw_map_standard, rtpw_id_of, rtpw_new_ids_between,
+ * rtpw_renumber */
 #include "hostile.h"
 
 #include "walk_values.h"
@@ -54,14 +55,27 @@ static void uri(void) {
     CHECK(memcmp(bytes, copy, len) == 0);
 }
 
+/* The number of a kind, or one of the caller's own. */
+static bool is_named(uint8_t kind) {
+    return (kind >= 1 && kind <= 15) || kind >= 128;
+}
+
+/* The lowest id that means the kind, which names something; 0 where none does. */
+static uint8_t lowest_id(const rtpw_map *map, uint8_t kind) {
+    const uint8_t *at = is_named(kind) ? memchr(map->kind + 1, kind, 255) : NULL;
+    return at == NULL ? 0 : (uint8_t)(at - map->kind);
+}
+
 static void map_calls(rtpw_map *map) {
     rtpw_map expected;
     memcpy(&expected, map, sizeof expected);
     uint64_t x = random_u64();
     uint8_t id = (uint8_t)(x % 8 == 0 ? 0 : x / 8), kind = (uint8_t)(x / 65536 % 4 == 0 ? x >> 32 : x >> 32 & 15);
-    uint8_t held = id != 0 && map->kind[id] <= 15 ? map->kind[id] : 0;
+    uint8_t held = id != 0 && is_named(map->kind[id]) ? map->kind[id] : 0;
     CHECK(rtpw_map_get(map, id) == held);
-    bool is_set = id != 0 && kind <= 15;
+    CHECK(rtpw_id_of(map, kind) == lowest_id(map, kind));
+    CHECK(rtpw_id_of(map, map->kind[id]) == lowest_id(map, map->kind[id]));
+    bool is_set = id != 0 && (kind == 0 || is_named(kind));
     CHECK(rtpw_map_set(map, id, kind) == (is_set ? RTPW_OK : RTPW_BAD_FIELD));
     if (is_set) {
         expected.kind[id] = kind;
@@ -84,15 +98,8 @@ static void new_ids(const rtpw_map *from, const rtpw_map *to, rtpw_new_ids *ids)
     fill(ids, sizeof *ids);
     rtpw_new_ids_between(from, to, ids);
     CHECK(memcmp(from, &same_from, sizeof same_from) == 0 && memcmp(to, &same_to, sizeof same_to) == 0);
-    uint8_t lowest[16] = {0};
-    for (size_t id = 255; id > 0; id--) {
-        if (same_to.kind[id] <= 15) {
-            lowest[same_to.kind[id]] = (uint8_t)id;
-        }
-    }
     for (size_t id = 1; id < 256; id++) {
-        uint8_t kind = same_from.kind[id];
-        CHECK(ids->id[id] == (kind == 0 || kind > 15 ? 0 : lowest[kind]));
+        CHECK(ids->id[id] == lowest_id(&same_to, same_from.kind[id]));
     }
     CHECK(ids->id[0] == 0);
 }

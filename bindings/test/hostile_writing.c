@@ -1,4 +1,4 @@
-/* rtpw_wire_len, rtpw_write: against a writer that owes nothing to the library (RFC 3550, 5.1; RFC 8285, 4.2
+/* rtpw_wire_len, rtpw_write, rtpw_data_of: against a writer that owes nothing to the library (RFC 3550, 5.1; RFC 8285, 4.2
  * and 4.3; the documents of the extensions). What was written is read again. */
 #include "hostile.h"
 
@@ -98,16 +98,18 @@ static bool is_text(const char *text, size_t room) {
     return len < room && text[len] == '\0';
 }
 
-static bool is_given(const rtpw_header *header) {
-    const rtpw_values *it = &header->values;
+static bool are_given(const rtpw_values *it) {
     uint16_t turn = it->video_orientation;
-    return header->payload_type < 128 && header->csrc_count < 16 &&
-           (it->has_video_orientation == 0 || turn == 0 || turn == 90 || turn == 180 || turn == 270) &&
+    return (it->has_video_orientation == 0 || turn == 0 || turn == 90 || turn == 180 || turn == 270) &&
            (it->has_playout_delay_min == 0 || it->playout_delay_min.hertz != 0) &&
            (it->has_playout_delay_max == 0 || it->playout_delay_max.hertz != 0) &&
            (it->has_mid == 0 || is_text(it->mid, sizeof it->mid)) &&
            (it->has_rid == 0 || is_text(it->rid, sizeof it->rid)) &&
            (it->has_repaired_rid == 0 || is_text(it->repaired_rid, sizeof it->repaired_rid));
+}
+
+static bool is_given(const rtpw_header *header) {
+    return header->payload_type < 128 && header->csrc_count < 16 && are_given(&header->values);
 }
 
 /* ---- The bytes ---- */
@@ -325,6 +327,35 @@ static size_t *length(size_t *before) {
     return len;
 }
 
+/* The data of one kind, of any number. */
+static void one_value(const rtpw_values *values) {
+    uint8_t written[17], expected[24];
+    uint64_t x = random_u64();
+    uint8_t kind = (uint8_t)(x % 8 == 0 ? x >> 8 : 1 + x / 8 % 15);
+    int32_t due = RTPW_BAD_FIELD;
+    size_t wanted = 0;
+    if (kind != 0 && (kind <= 15 || kind >= 128) && are_given(values)) {
+        int len = data_of(kind, values, written);
+        due = len < 0 ? RTPW_NONE : RTPW_OK;
+        wanted = len < 0 ? 0 : (size_t)len;
+    }
+    size_t size = x / 128 % 4 == 0 ? x / 512 % (wanted + 1) : wanted + x / 512 % 8;
+    due = due == RTPW_OK && size < wanted ? RTPW_SHORT_BUFFER : due;
+    uint8_t *buf = block_in(&buffers, size);
+    fill(buf, size);
+    memcpy(expected, buf, size);
+    if (due == RTPW_OK) {
+        memcpy(expected, written, wanted);
+    }
+    rtpw_values *given = block_in(&headers, sizeof *given);
+    memcpy(given, values, sizeof *given);
+    size_t before, *len = length(&before);
+    CHECK(rtpw_data_of(kind, given, buf, size, len) == due);
+    CHECK(*len == (due == RTPW_OK ? wanted : before));
+    CHECK(memcmp(buf, expected, size) == 0);
+    CHECK(memcmp(given, values, sizeof *given) == 0);
+}
+
 void writing_round(void) {
     static uint8_t written[LONGEST_WRITTEN], expected[LONGEST_WRITTEN + 8];
     if (maps.size == 0) {
@@ -369,4 +400,5 @@ void writing_round(void) {
     }
     CHECK(memcmp(map, &same_map, sizeof same_map) == 0);
     CHECK(memcmp(header, &same, sizeof same) == 0);
+    one_value(&same.values);
 }

@@ -103,6 +103,8 @@ static void values_read(void) { status = rtpw_values_read(datagram + 76, 262140,
 static void kind_of_uri(void) { number = rtpw_kind_of_uri((const uint8_t *)LAST_URI, sizeof LAST_URI - 1); }
 static void map_set(void) { status = rtpw_map_set(&usual, 255, RTPW_KIND_MID); }
 static void map_get(void) { number = rtpw_map_get(&map, 3); }
+static void id_of(void) { number = rtpw_id_of(&map, 255); }
+static void data_of(void) { status = rtpw_data_of(RTPW_KIND_MID, &given.values, datagram, sizeof datagram, &count); }
 static void map_standard(void) { rtpw_map_standard(&usual); }
 static void parse(void) { status = rtpw_parse(datagram, sizeof datagram, &map, &header); }
 static void parse_layers(void) { status = rtpw_parse_layers(datagram, sizeof datagram, &map, &header, &layers); }
@@ -159,7 +161,8 @@ int main(void) {
         CALL(wide_receiver_number_of), CALL(wide_receiver_accepts), CALL(wide_receiver_record),
         CALL(wide_receiver_receive), CALL(restarting_receive), CALL(extend_u16),
         CALL(extend_u8), CALL(extend_u15), CALL(extend_u32), CALL(is_rtcp), CALL(set_padding), CALL(remove_padding),
-        CALL(values_read), CALL(kind_of_uri), CALL(map_set), CALL(map_get), CALL(map_standard), CALL(parse),
+        CALL(values_read), CALL(kind_of_uri), CALL(map_set), CALL(map_get), CALL(map_standard), CALL(id_of), CALL(data_of),
+        CALL(parse),
         CALL(parse_layers), CALL(wire_len), CALL(write), CALL(write_with), CALL(write_elements),
         CALL(new_ids_between), CALL(renumber), CALL(pad), CALL(read_original), CALL(write_original), CALL(version),
     };

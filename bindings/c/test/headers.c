@@ -192,6 +192,82 @@ static void maps_are_filled(void) {
     CHECK(rtpw_map_get(&map, 13) == RTPW_KIND_VIDEO_ORIENTATION);
 }
 
+/* A dependency descriptor has no value here: it has a number of the caller's own in both maps. */
+static void own_kinds_are_kept(void) {
+    enum { DEPENDENCY_DESCRIPTOR = RTPW_KIND_OWN, UNKNOWN_TO_ALL = 255 };
+    uint8_t bytes[24] = {0x90, 0, 0, 1, 0, 0, 0, 2, 0,    0,    0,    3,
+                         0xBE, 0xDE, 0, 2, 0x72, 9, 8, 7, 0x10, 0x8A, 0x90, 1};
+    rtpw_map from, to;
+    rtpw_new_ids ids;
+    rtpw_header header;
+    size_t len = 0;
+    memset(&from, 0, sizeof from);
+    memset(&to, 0, sizeof to);
+    CHECK(rtpw_map_set(&from, 7, DEPENDENCY_DESCRIPTOR) == RTPW_OK);
+    CHECK(rtpw_map_set(&from, 9, UNKNOWN_TO_ALL) == RTPW_OK);
+    CHECK(rtpw_map_set(&from, 1, RTPW_KIND_AUDIO_LEVEL) == RTPW_OK);
+    CHECK(rtpw_map_set(&from, 2, 127) == RTPW_BAD_FIELD && rtpw_map_set(&from, 0, 128) == RTPW_BAD_FIELD);
+    CHECK(rtpw_map_get(&from, 7) == 128 && rtpw_map_get(&from, 9) == 255 && rtpw_map_get(&from, 2) == 0);
+    to.kind[4] = to.kind[12] = DEPENDENCY_DESCRIPTOR;
+    to.kind[3] = RTPW_KIND_AUDIO_LEVEL;
+    to.kind[5] = from.kind[5] = 100; /* means nothing on either side */
+    CHECK(rtpw_id_of(&to, DEPENDENCY_DESCRIPTOR) == 4 && rtpw_id_of(&to, RTPW_KIND_AUDIO_LEVEL) == 3);
+    CHECK(rtpw_id_of(&to, UNKNOWN_TO_ALL) == 0 && rtpw_id_of(&to, RTPW_KIND_MID) == 0);
+    CHECK(rtpw_id_of(&to, 100) == 0 && rtpw_id_of(&to, RTPW_KIND_NONE) == 0);
+    rtpw_new_ids_between(&from, &to, &ids);
+    CHECK(ids.id[7] == 4 && ids.id[9] == 0 && ids.id[1] == 3 && ids.id[5] == 0 && ids.id[0] == 0);
+    CHECK(rtpw_renumber(bytes, sizeof bytes, &ids) == RTPW_OK);
+    CHECK(memcmp(bytes + 16, "\x42\x09\x08\x07\x30\x8A\0\0", 8) == 0);
+    /* It reads no value, is not written, and needs no two-byte form: a level under the id 3, above which is 200. */
+    to.kind[200] = UNKNOWN_TO_ALL;
+    CHECK(rtpw_parse(bytes, sizeof bytes, &to, &header) == RTPW_OK);
+    CHECK(header.values.has_audio_level == 1 && header.values.audio_level == -10);
+    CHECK(rtpw_write(&to, &header, bytes, sizeof bytes, &len) == RTPW_OK && len == 20);
+    CHECK(memcmp(bytes + 12, "\xBE\xDE\0\x01\x30\x8A\0\0", 8) == 0);
+}
+
+/* The data of one kind: 2^18 * 40 of 40 s; -10 dB with voice; a mid; a delay of 50 ms to 1 s. */
+static void data_are_written(void) {
+    rtpw_values values;
+    uint8_t data[16];
+    size_t len = 99;
+    memset(&values, 0, sizeof values);
+    memset(data, 0xA5, sizeof data);
+    CHECK(rtpw_data_of(RTPW_KIND_ABS_SEND_TIME, &values, data, sizeof data, &len) == RTPW_NONE && len == 99);
+    values.has_send_time = 1;
+    values.send_time = 40000000;
+    CHECK(rtpw_data_of(RTPW_KIND_ABS_SEND_TIME, &values, data, sizeof data, &len) == RTPW_OK && len == 3);
+    CHECK(memcmp(data, "\xA0\0\0\xA5", 4) == 0);
+    values.has_audio_level = 1;
+    values.audio_level = -10;
+    CHECK(rtpw_data_of(RTPW_KIND_AUDIO_LEVEL, &values, data, sizeof data, &len) == RTPW_NONE);
+    values.has_voice_activity = values.voice_activity = 1;
+    CHECK(rtpw_data_of(RTPW_KIND_AUDIO_LEVEL, &values, data, 1, &len) == RTPW_OK && len == 1 && data[0] == 0x8A);
+    values.has_mid = 1;
+    memcpy(values.mid, "v", 2);
+    CHECK(rtpw_data_of(RTPW_KIND_MID, &values, data, 0, &len) == RTPW_SHORT_BUFFER && len == 1);
+    CHECK(rtpw_data_of(RTPW_KIND_MID, &values, data, 1, &len) == RTPW_OK && len == 1 && data[0] == 'v');
+    values.mid[0] = '\0';
+    CHECK(rtpw_data_of(RTPW_KIND_MID, &values, NULL, 0, &len) == RTPW_OK && len == 0);
+    values.has_playout_delay_min = values.has_playout_delay_max = 1;
+    values.playout_delay_min.ticks = 5;
+    values.playout_delay_max.ticks = 100;
+    values.playout_delay_min.hertz = values.playout_delay_max.hertz = 100;
+    CHECK(rtpw_data_of(RTPW_KIND_PLAYOUT_DELAY, &values, data, sizeof data, &len) == RTPW_OK && len == 3);
+    CHECK(memcmp(data, "\0\x50\x64", 3) == 0);
+    /* No value: a kind without one, and one of the caller's own. Bad: a number that names nothing, and any bad value. */
+    values.has_layers = 1;
+    CHECK(rtpw_data_of(RTPW_KIND_LAYERS, &values, data, sizeof data, &len) == RTPW_NONE);
+    CHECK(rtpw_data_of(RTPW_KIND_COLOR_SPACE, &values, data, sizeof data, &len) == RTPW_NONE);
+    CHECK(rtpw_data_of(RTPW_KIND_OWN, &values, data, sizeof data, &len) == RTPW_NONE);
+    CHECK(rtpw_data_of(RTPW_KIND_NONE, &values, data, sizeof data, &len) == RTPW_BAD_FIELD);
+    CHECK(rtpw_data_of(127, &values, data, sizeof data, &len) == RTPW_BAD_FIELD);
+    values.mid[0] = '-';
+    CHECK(rtpw_data_of(RTPW_KIND_ABS_SEND_TIME, &values, data, 2, &len) == RTPW_BAD_FIELD);
+    CHECK(rtpw_data_of(RTPW_KIND_OWN, &values, data, sizeof data, &len) == RTPW_BAD_FIELD && len == 3);
+    CHECK(memcmp(data, "\0\x50\x64\xA5", 4) == 0);
+}
+
 static void is_renumbered(void) {
     static const uint8_t datagram[20] = {0x90, 0, 0,    1,    0, 0, 0,    2,    0,    0,
                                          0,    3, 0xBE, 0xDE, 0, 1, 0x10, 0xAA, 0x20, 0xBB};
@@ -224,5 +300,7 @@ int main(void) {
     elements_are_written();
     maps_are_filled();
     is_renumbered();
+    own_kinds_are_kept();
+    data_are_written();
     return failed;
 }

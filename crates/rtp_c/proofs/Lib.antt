@@ -5,10 +5,12 @@ mod ElementLemmas
 mod KindNumberLemmas
 mod StoredMapLemmas
 mod NumberedLemmas
+mod MeantLemmas
 mod FewSlotsLemmas
 mod LayersLemmas
 mod HeaderViewLemmas
 mod GivenLemmas
+mod ElementDataLemmas
 mod WritingLemmas
 mod WrittenHeaderLemmas
 mod JudgingLemmas

@@ -220,11 +220,11 @@ numbered-short numbers end at low none long = elim (cases_lt at end) [
 
 -- ---- the new id of an id
 
-after_first : (numbers : List ℕ) (k : ℕ) → get_or (drop 1 numbers) k 0 ≡ get_or numbers (suc k) 0
+pub after_first : (numbers : List ℕ) (k : ℕ) → get_or (drop 1 numbers) k 0 ≡ get_or numbers (suc k) 0
 after_first [] k = refl
 after_first (first ∷ numbers) k = refl
 
-numbered_kind : (numbers : List ℕ) (id : ℕ) (kind : KnownKind) → extension_at (numbered_slots numbers) id ≡ Some (extension_of_kind kind)
+pub numbered_kind : (numbers : List ℕ) (id : ℕ) (kind : KnownKind) → extension_at (numbered_slots numbers) id ≡ Some (extension_of_kind kind)
     → get_or numbers id 0 ≡ kind_number kind
 numbered_kind numbers zero kind is = cc
 numbered_kind numbers (suc k) kind is =

@@ -1,5 +1,5 @@
 -- The numbers by which C names the known kinds of extension (RFC 8285, 5).
-use Rattle.std.specs.Prelude.{◌≡◌, ◌≢◌, ℕ, List, [], ◌∷◌, Option, Some, None, slice_index_or}
+use Rattle.std.specs.Prelude.{◌≡◌, ◌≢◌, ◌≤◌, ◌⊎◌, ℕ, List, [], ◌∷◌, Option, Some, None, slice_index_or}
 use Rattle.rtp_values.specs.Kind.{kind_of}
 use Rattle.rtp_values.specs.KnownKind.{extension_of_kind}
 use Rattle.rtp_values.specs.declared.known_kind.KnownKind.{KnownKind}
@@ -41,6 +41,14 @@ kind_numbered number = slice_index_or numbered_kinds number None
 -- the greatest number
 abbrev pub last_number : ℕ
 last_number = 15
+
+-- the least number of the caller's own: extensions whose data this library doesn't know
+abbrev pub first_own : ℕ
+first_own = 128
+
+-- the number is that of a kind, or one of the caller's own
+abbrev pub IsNamed : ℕ → Type 0
+IsNamed number = ((1 ≤ number) × (number ≤ last_number)) ⊎ (first_own ≤ number)
 
 -- the URI that names a kind in SDP
 abbrev pub uri_of : KnownKind → List ℕ

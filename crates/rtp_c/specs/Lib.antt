@@ -15,6 +15,7 @@ pub mod ValuesView
 pub mod LayersView
 pub mod HeaderView
 pub mod Given
+pub mod ElementData
 pub mod SetFields
 pub mod WrittenElements
 pub mod WrittenHeader

@@ -202,7 +202,7 @@ fn put_some<T: Drop>(place: &mut Option<T>, value: Option<T>)
 // Puts the values that are given to values that are all absent; `None` where a text, an orientation or a
 // time is none.
 #[inline(always)]
-fn put_given_values(view: &ValuesView, values: &mut ExtensionValues) -> Option<()>
+pub fn put_given_values(view: &ValuesView, values: &mut ExtensionValues) -> Option<()>
     requires { values.old ≡ no_values }
     ensures found { IfSome result (λ _. AreGivenValues view.now values.new) }
     ensures none { IfNone result ((values : Values) → AreGivenValues view.now values → ⊥) }

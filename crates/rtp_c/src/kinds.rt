@@ -1,15 +1,15 @@
 //! The map that C fills, as it stands, as a map of kinds.
 
 ghost use Rattle.std.specs.Prelude.{◌≡◌, ◌≢◌, ◌↔◌, ℕ, ◌<◌, ◌≤◌, length, slice_index, false, IsTrue, IfSome, IfNone};
-ghost use Rattle.rtp_c.specs.KindNumbers.{kind_number, kind_numbered};
-ghost use Rattle.rtp_c.specs.StoredMap.{IsFirstNumber};
+ghost use Rattle.rtp_c.specs.KindNumbers.{kind_number, kind_numbered, IsNamed};
+ghost use Rattle.rtp_c.specs.StoredMap.{IsFirstNumber, IsNumberAt, IsIdOf};
 
 use rtp_ext::{Cursor, Kinds, is_long};
 use rtp_values::KnownKind;
 
 /// The extensions by their ids (RFC 8285, 5): `rtpw_map` in C, 256 bytes, which C may fill itself. Each
-/// value is one: a number that is no kind's maps its id to nothing, and what stands at index 0 is
-/// passed over.
+/// value is one: a number from 128 on is one of the caller's own, whose id is mapped to no kind; any
+/// other that is no kind's maps its id to nothing, and what stands at index 0 is passed over.
 #[repr(C)]
 #[derive(Clone, Copy)]
 pub struct StoredMap {
@@ -27,12 +27,23 @@ const ALL_SLOTS: usize = 255;
 const LAYERS: u8 = 15;
 
 // The greatest number of a kind.
-pub const LAST_NUMBER: u8 = 15;
+const LAST_NUMBER: u8 = 15;
+
+// The least number of the caller's own.
+const FIRST_OWN: u8 = 128;
+
+// Whether the number is that of a kind or one of the caller's own.
+#[inline(always)]
+pub fn is_named(number: u8) -> bool
+    ensures { IsTrue result ↔ IsNamed number }
+{
+    (1..=LAST_NUMBER).contains(&number) || number >= FIRST_OWN
+}
 
 // The kind of this number.
 #[inline(always)]
 #[tactic(auto, unfolding(crate::specs::KindNumbers::kind_numbered))]
-fn kind_numbered(number: u8) -> Option<KnownKind>
+pub fn kind_numbered(number: u8) -> Option<KnownKind>
     ensures { result ≡ kind_numbered number }
 {
     match number {
@@ -121,6 +132,34 @@ fn index_of(numbers: &[u8], wanted: u8) -> Option<usize>
         ((k : ℕ) → k < length numbers.now → slice_index numbers.now k ≢ wanted) }
 {
     numbers.iter().position(|number| *number == wanted)
+}
+
+impl StoredMap {
+    // The number that the id means, and 0 where it means none.
+    #[inline(always)]
+    pub fn number_at(&self, id: u8) -> u8
+        ensures { IsNumberAt self.now.kind id result }
+    {
+        let number = self.kind[usize::from(id)];
+        if id != 0 && is_named(number) {
+            number
+        } else {
+            0
+        }
+    }
+
+    // The lowest id that means the number, and 0 where none does.
+    pub fn id_of(&self, number: u8) -> u8
+        ensures { IsIdOf self.now.kind number result }
+    {
+        if !is_named(number) {
+            return 0;
+        }
+        match index_of(&self.kind[1..], number) {
+            Some(index) => index as u8 + 1,
+            None => 0,
+        }
+    }
 }
 
 impl Kinds for StoredMap {

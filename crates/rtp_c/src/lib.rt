@@ -7,6 +7,7 @@
 ghost use Rattle.std.specs.Prelude.{◌≡◌};
 
 mod changing;
+mod data;
 mod given;
 mod header;
 mod kinds;

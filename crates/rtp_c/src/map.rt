@@ -6,57 +6,60 @@ ghost use Rattle.rtp_values.specs.declared.value.values.ExtensionValues.{Extensi
 ghost use Rattle.rtp_ext.specs.Elements.{Element};
 ghost use Rattle.rtp_ext.specs.ElementsInPlace.{ChangesIds, CanRenumber};
 ghost use Rattle.rtp_ext.specs.ExtensionMap.{Slots};
-ghost use Rattle.rtp_ext.specs.NewIds.{new_id, AreNewIds, ids_in_bytes};
+ghost use Rattle.rtp_ext.specs.NewIds.{new_id, CarriesExtensions, ids_in_bytes};
 ghost use Rattle.rtp_ext.specs.WrittenBlock.{mapped_fields};
 ghost use Rattle.rtp_wire.specs.Packet.{PacketParts, IsPacket};
 ghost use Rattle.rtp_wire.specs.ChangedPacket.{ChangesOnlyBody};
 ghost use Rattle.rtp_wire.specs.NotAHeader.{NotAHeader};
 ghost use Rattle.rtp_wire.specs.PacketElements.{AreElementsOf, HasValues};
 ghost use Rattle.rtp_c.specs.ChangedElements.{BecomesPacket, GivesValues};
-ghost use Rattle.rtp_c.specs.KindNumbers.{kind_number, last_number, uri_of};
-ghost use Rattle.rtp_c.specs.StoredMap.{AreStandardNumbers, AreNewIdsOf};
+ghost use Rattle.rtp_c.specs.KindNumbers.{kind_number, last_number, first_own, IsNamed, uri_of};
+ghost use Rattle.rtp_c.specs.StoredMap.{AreStandardNumbers, IsNumberAt, IsIdOf, AreNewIdsOf, CarryKinds};
 ghost use Rattle.rtp_c.specs.Status.{ok, bad_field, IsCauseStatus};
 
 use super::changing::layout_of;
-use super::kinds::{LAST_NUMBER, StoredMap, number_of};
+use super::kinds::{StoredMap, is_named, number_of};
 use super::status::{BAD_FIELD, OK};
 use rtp_ext::NewIds;
 use rtp_values::KnownKind;
 use rtp_wire::RtpPacketMut;
 use std::str;
 
-/// Maps the id to the kind of this number, or to nothing where it is 0, instead of what it was mapped
-/// to (RFC 8285, 5). `OK`; `BAD_FIELD` where the id is 0, which is that of padding, or the number is
-/// above 15 and so no kind's: then nothing changes.
+/// Maps the id to the kind of this number, to an extension of the caller's own that it numbers so, from
+/// 128 to 255, or to nothing where the number is 0, instead of what it was mapped to (RFC 8285, 5).
+/// `OK`; `BAD_FIELD` where the id is 0, which is that of padding, or the number is one of 16 to 127:
+/// then nothing changes.
 #[unsafe(no_mangle)]
 pub extern "C" fn rtpw_map_set(map: &mut StoredMap, id: u8, kind: u8) -> i32
-    ensures set { 1 ≤ id → kind ≤ last_number →
+    ensures set { 1 ≤ id → (kind ≡ 0) ⊎ IsNamed kind →
         (result ≡ ok) × (map.new.kind ≡ slice_set map.old.kind id kind) }
-    ensures refused { (id ≡ 0) ⊎ (last_number < kind) → result ≡ bad_field }
+    ensures refused { (id ≡ 0) ⊎ ((last_number < kind) × (kind < first_own)) →
+        result ≡ bad_field }
     ensures unchanged { result ≢ ok → map.new ≡ map.old }
 {
-    if id == 0 || kind > LAST_NUMBER {
+    if id == 0 || (kind != 0 && !is_named(kind)) {
         return BAD_FIELD;
     }
     map.kind[usize::from(id)] = kind;
     OK
 }
 
-/// The number of the kind that the id is mapped to, and 0 where it is mapped to nothing: where its
-/// number is no kind's, and always for the id 0.
+/// The number of the kind that the id is mapped to, or the caller's own number that it has; 0 where it
+/// is mapped to nothing: where its number is one of 16 to 127, and always for the id 0.
 #[unsafe(no_mangle)]
 pub extern "C" fn rtpw_map_get(map: &StoredMap, id: u8) -> u8
-    ensures number { 1 ≤ id → slice_index map.now.kind id ≤ last_number →
-        result ≡ slice_index map.now.kind id }
-    ensures other_number { last_number < slice_index map.now.kind id → result ≡ 0 }
-    ensures padding { id ≡ 0 → result ≡ 0 }
+    ensures { IsNumberAt map.now.kind id result }
 {
-    let number = map.kind[usize::from(id)];
-    if id == 0 || number > LAST_NUMBER {
-        0
-    } else {
-        number
-    }
+    map.number_at(id)
+}
+
+/// The lowest id that is mapped to the kind of this number, or to the caller's own extension of it; 0
+/// where none is, and where the number is that of no extension.
+#[unsafe(no_mangle)]
+pub extern "C" fn rtpw_id_of(map: &StoredMap, kind: u8) -> u8
+    ensures { IsIdOf map.now.kind kind result }
+{
+    map.id_of(kind)
 }
 
 /// The usual ids of the usual extensions, for audio and video, and no others: 1 audio level, 2
@@ -105,14 +108,18 @@ pub struct StoredNewIds {
     pub id: [u8; 256],
 }
 
-/// For each id that `from` maps to a kind that `to` maps as well, the lowest id that `to` has for it.
-/// Every other id has no new one, and neither has 0. Made once for two maps.
+/// For each id that `from` maps to a kind, or to an extension of the caller's own, the lowest id that
+/// `to` has for the same number. Every other id has no new one, and neither has 0. Made once for two
+/// maps.
 #[unsafe(no_mangle)]
 pub extern "C" fn rtpw_new_ids_between(from: &StoredMap, to: &StoredMap, ids: &mut StoredNewIds)
     ensures ids { AreNewIdsOf from.now.kind to.now.kind ids.new.id }
+    ensures kinds { CarryKinds from.now.kind to.now.kind ids.new.id }
     ensures first { slice_index ids.new.id 0 ≡ 0 }
 {
-    ids.id = NewIds::between(from, to).ids();
+    for (id, new) in ids.id.iter_mut().enumerate() {
+        *new = to.id_of(from.number_at(id as u8));
+    }
 }
 
 /// Gives each element of the packet in the buffer its new id where it lies, and makes an element
@@ -137,7 +144,7 @@ pub extern "C" fn rtpw_renumber(datagram: &mut [u8], ids: &StoredNewIds) -> i32
     ensures otherwise { (parts : PacketParts) → IsPacket datagram.old parts → result ≢ ok →
         result ≡ bad_field }
     ensures values { (parts : PacketParts) (from to : Slots) (values : ExtensionValues) →
-        IsPacket datagram.old parts → AreNewIds from to (ids_in_bytes ids.now.id) →
+        IsPacket datagram.old parts → CarriesExtensions from to (ids_in_bytes ids.now.id) →
         HasValues from parts.block values → result ≡ ok →
         GivesValues to (mapped_fields to values) datagram.new }
     ensures cause { NotAHeader datagram.old → IsCauseStatus datagram.old result }

@@ -324,3 +324,18 @@ SetsLast-at form id bytes body new place is len written =
       new_elements = subst (λ b. AreElements form b (is.before ++ (id, bytes) ∷ is.after)) (sym new_is) (is.set bytes (sym as_many));
       last = is.last;
     }
+
+-- the elements that were passed, with one more
+pub elements-other : (form : ExtensionsForm) (body : List ℕ) (at id : ℕ) (last : Option Place) (place : Place) (was : IsPassed form body at id last) (next : IsNextPlace form body at place)
+    → (other : place.id ≢ id) → (IsPassed-other form body at id last place was next other).elements ≡ was.elements ++ (place.id, next.bytes) ∷ []
+unfolding IsPassed-other passed_by
+elements-other form body at id last place was next other = refl
+
+pub elements-this : (form : ExtensionsForm) (body : List ℕ) (at id : ℕ) (last : Option Place) (place : Place) (was : IsPassed form body at id last) (next : IsNextPlace form body at place)
+    → (this : place.id ≡ id) → (IsPassed-this form body at id last place was next this).elements ≡ was.elements ++ (place.id, next.bytes) ∷ []
+unfolding IsPassed-this passed_by
+elements-this form body at id last place was next this = refl
+
+pub elements-start : (form : ExtensionsForm) (body : List ℕ) (id : ℕ) → (IsPassed-start form body id).elements ≡ []
+unfolding IsPassed-start
+elements-start form body id = refl

@@ -4,9 +4,9 @@ mod ValueFacts
 pub mod ElementLemmasOfBodies
 pub mod ValuesFound
 pub mod FirstElementLemmas
-mod PlaceLemmas
+pub mod PlaceLemmas
 mod PieceLemmas
-mod LastPlaceLemmas
+pub mod LastPlaceLemmas
 mod RenumberingLemmas
 pub mod NewIdLemmas
 pub mod MemoryLemmas
@@ -27,5 +27,15 @@ pub mod WrittenElementsLemmas
 mod WrittenValuesLemmas
 pub mod RenumberedValuesLemmas
 mod SetValuesLemmas
-mod RawWritingLemmas
+pub mod RawWritingLemmas
 pub mod ServingFormLemmas
+pub mod GatheredLemmas
+mod SurveyLemmas
+pub mod PutLemmas
+mod BetweenLemmas
+mod AroundLemmas
+mod WidenLemmas
+mod WidenAroundLemmas
+pub mod AnewLemmas
+pub mod PutLengthLemmas
+pub mod SameFormLemmas

@@ -5,12 +5,14 @@ use Rattle.std.proofs.lemmas.Bool.{leb-true, le-leb, false≢true, cases_lt}
 use Rattle.std.proofs.Math.ListN.{get_or-map}
 use Rattle.std.proofs.lemmas.List.{get_or_past, get_or-set_same, get_or-set_other, map-set, length-map}
 use Rattle.std.proofs.lemmas.List.Elements.{All-nil, All-cons, All-head, All-tail}
+use Rattle.rtp_values.specs.declared.kind.Extension.{Extension}
+use Rattle.rtp_values.proofs.KindLemmas.{one_kind}
 use Rattle.rtp_ext.specs.declared.form.ExtensionsForm.{ExtensionsForm}
 use Rattle.rtp_ext.specs.declared.form.ExtensionsForm.TheVariants.{OneByte, TwoByte}
 use Rattle.rtp_ext.specs.Elements.{Element, IsElement, IsPiece, AreElements}
 use Rattle.rtp_ext.specs.ElementsInPlace.{CanRenumber}
-use Rattle.rtp_ext.specs.ExtensionMap.{Slots, IsId, entry_at, extension_of, HasNoIdAbove}
-use Rattle.rtp_ext.specs.NewIds.{new_id, IsNewId, AreNewIds, id_in_byte, ids_in_bytes, byte_of_id}
+use Rattle.rtp_ext.specs.ExtensionMap.{Slots, IsId, IsLowest, entry_at, extension_at, extension_of, HasNoIdAbove}
+use Rattle.rtp_ext.specs.NewIds.{new_id, IsNewId, AreNewIds, CarriesExtensions, id_in_byte, ids_in_bytes, byte_of_id}
 use Rattle.rtp_ext.specs.IdChanges.{carries_id}
 
 -- ---- what a form can carry
@@ -125,6 +127,16 @@ AreNewIds-table from to ids passed whole are = λ id. elim (cases_lt id 256) [
   where
     unmapped : {X : Type 0} {slot : Option X} {x : X} → slot ≡ None → slot ≡ Some x → ⊥
     unmapped empty filled = cc
+
+-- such a table carries the extensions
+pub CarriesExtensions-new : (from to : Slots) (ids : List (Option ℕ)) → AreNewIds from to ids → CarriesExtensions from to ids
+CarriesExtensions-new from to ids are = record {
+  mapped = λ id extension _. are id;
+  others = λ id new extension is mapped.
+      let found : (e : Extension) × (extension_at from id ≡ Some e) × IsLowest to e new = subst (IsNewId from to id) is (are id) in
+      let same : found.0 ≡ extension = one_kind (sym found.2.mapped ∙ mapped) in
+      found.1 ∙ ap Some same;
+}
 
 -- ---- a table of bytes
 

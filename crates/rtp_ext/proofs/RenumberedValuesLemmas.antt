@@ -12,34 +12,26 @@ use Rattle.rtp_values.proofs.KindLemmas.{one_kind}
 use Rattle.rtp_ext.specs.Elements.{Element}
 use Rattle.rtp_ext.specs.ElementsInPlace.{renumbered}
 use Rattle.rtp_ext.specs.ExtensionMap.{Slots, extension_at, IsUnmapped, IsLowest, items_from}
-use Rattle.rtp_ext.specs.NewIds.{IsNewId}
+use Rattle.rtp_ext.specs.NewIds.{IsNewId, new_id, CarriesExtensions}
 use Rattle.rtp_ext.specs.BlockValues.{Carries, AreFields, last, none, AreValues}
 use Rattle.rtp_ext.specs.WrittenBlock.{fields_of_items, mapped_fields}
 use Rattle.rtp_ext.proofs.FormLemmas.{Item}
 use Rattle.rtp_ext.proofs.ListingLemmas.{IsListing-from_slots}
 use Rattle.rtp_ext.proofs.WrittenValuesLemmas.{LastItem, find_last, found-mapped, fields-there, fields-absent, All-cons_option}
 
--- each id has its new id
-abbrev HaveNewIds : Slots → Slots → (ℕ → Option ℕ) → Type 0
-HaveNewIds from to ids = (id : ℕ) → IsNewId from to id (ids id)
-
 -- an element carries a kind under its new id only where it did before
-carried_before : (from to : Slots) (ids : ℕ → Option ℕ) (kind : Extension) (element : Element) (new : ℕ) → HaveNewIds from to ids → ids element.0 ≡ Some new
-    → Carries to kind (new, element.1) → Carries from kind element
-carried_before from to ids kind element new are is carries =
-    let found : (extension : Extension) × (extension_at from element.0 ≡ Some extension) × IsLowest to extension new =
-    subst (IsNewId from to element.0) is (are element.0) in
-    let same : found.0 ≡ kind = one_kind (sym found.2.mapped ∙ carries.0) in
-    (found.1 ∙ ap Some same, carries.1)
+carried_before : (from to : Slots) (ids : List (Option ℕ)) (kind : Extension) (element : Element) (new : ℕ) → CarriesExtensions from to ids
+    → new_id ids element.0 ≡ Some new → Carries to kind (new, element.1) → Carries from kind element
+carried_before from to ids kind element new are is carries = (are.others element.0 new kind is carries.0, carries.1)
 
-carried_never : (from to : Slots) (ids : ℕ → Option ℕ) (kind : Extension) (elements : List Element) → HaveNewIds from to ids → All (λ element. Carries from kind element → ⊥) elements
-    → All (λ element. Carries to kind element → ⊥) (filter_map (renumbered ids) elements)
+carried_never : (from to : Slots) (ids : List (Option ℕ)) (kind : Extension) (elements : List Element) → CarriesExtensions from to ids → All (λ element. Carries from kind element → ⊥) elements
+    → All (λ element. Carries to kind element → ⊥) (filter_map (renumbered (new_id ids)) elements)
 carried_never from to ids kind [] are never = All-nil (λ (element : Element). Carries to kind element → ⊥)
 carried_never from to ids kind (element ∷ elements) are never =
-    All-cons_option (λ (e : Element). Carries to kind e → ⊥) (renumbered ids element) (filter_map (renumbered ids) elements) (here (ids element.0) refl)
+    All-cons_option (λ (e : Element). Carries to kind e → ⊥) (renumbered (new_id ids) element) (filter_map (renumbered (new_id ids)) elements) (here (new_id ids element.0) refl)
     (carried_never from to ids kind elements are (All-tail (λ (e : Element). Carries from kind e → ⊥) element elements never))
   where
-    here : (id : Option ℕ) → ids element.0 ≡ id → IfSome (option_map (λ k. (k, element.1)) id) (λ (e : Element). Carries to kind e → ⊥)
+    here : (id : Option ℕ) → new_id ids element.0 ≡ id → IfSome (option_map (λ k. (k, element.1)) id) (λ (e : Element). Carries to kind e → ⊥)
     here None is = tt
     here (Some new) is = λ carries.
         All-head (λ (e : Element). Carries from kind e → ⊥) element elements never (carried_before from to ids kind element new are is carries)
@@ -51,37 +43,37 @@ unmapped exts kind others = λ id is.
     ((IsListing-from_slots exts).all id kind is refl) refl
 
 -- the fields of a kind that the new map has
-AreFields-mapped : (from to : Slots) (ids : ℕ → Option ℕ) (elements : List Element) (values : ExtensionValues) (kind : Extension) → HaveNewIds from to ids
+AreFields-mapped : (from to : Slots) (ids : List (Option ℕ)) (elements : List Element) (values : ExtensionValues) (kind : Extension) → CarriesExtensions from to ids
     → LastItem kind (items_from 0 to) → AreFields from elements kind no_values values
-    → AreFields to (filter_map (renumbered ids) elements) kind no_values (mapped_fields to values)
+    → AreFields to (filter_map (renumbered (new_id ids)) elements) kind no_values (mapped_fields to values)
 AreFields-mapped from to ids elements values kind are found (none never same) =
     none (carried_never from to ids kind elements are never)
     (SameFields-trans kind no_values values (mapped_fields to values) same
     (subst (λ (items : List Item). SameFields kind values (fields_of_items items values)) (sym found.is) (fields-there kind found.id found.before found.after values)))
-AreFields-mapped from to ids elements values kind are found (last before after element is mapped reads later) = here (ids element.0) refl
+AreFields-mapped from to ids elements values kind are found (last before after element is mapped reads later) = here (new_id ids element.0) refl
   where
     there : SameFields kind values (mapped_fields to values)
     there = subst (λ (items : List Item). SameFields kind values (fields_of_items items values)) (sym found.is) (fields-there kind found.id found.before found.after values)
 
-    here : (id : Option ℕ) → ids element.0 ≡ id → AreFields to (filter_map (renumbered ids) elements) kind no_values (mapped_fields to values)
+    here : (id : Option ℕ) → new_id ids element.0 ≡ id → AreFields to (filter_map (renumbered (new_id ids)) elements) kind no_values (mapped_fields to values)
     here None no_id =
-        let lost : IsNewId from to element.0 None = subst (IsNewId from to element.0) no_id (are element.0) in
+        let lost : IsNewId from to element.0 None = subst (IsNewId from to element.0) no_id (are.mapped element.0 kind mapped) in
         absurd (lost kind mapped found.id (found-mapped to kind found))
     here (Some new) new_is =
         let kept : (extension : Extension) × (extension_at from element.0 ≡ Some extension) × IsLowest to extension new =
-        subst (IsNewId from to element.0) new_is (are element.0) in
+        subst (IsNewId from to element.0) new_is (are.mapped element.0 kind mapped) in
         let same : kept.0 ≡ kind = one_kind (sym kept.1 ∙ mapped) in
-        last (filter_map (renumbered ids) before) (filter_map (renumbered ids) after) (new, element.1)
-        (ap (filter_map (renumbered ids)) is ∙ (filter_map-append (renumbered ids) before (element ∷ after)
-        ∙ ap (λ id. filter_map (renumbered ids) before ++ cons_option (option_map (λ k. (k, element.1)) id) (filter_map (renumbered ids) after)) new_is))
+        last (filter_map (renumbered (new_id ids)) before) (filter_map (renumbered (new_id ids)) after) (new, element.1)
+        (ap (filter_map (renumbered (new_id ids))) is ∙ (filter_map-append (renumbered (new_id ids)) before (element ∷ after)
+        ∙ ap (λ id. filter_map (renumbered (new_id ids)) before ++ cons_option (option_map (λ k. (k, element.1)) id) (filter_map (renumbered (new_id ids)) after)) new_is))
         (kept.2.mapped ∙ ap Some same)
         (Reads-same kind element.1 values (mapped_fields to values) reads there)
         (carried_never from to ids kind after are later)
 
-pub AreValues-renumbered : (from to : Slots) (ids : ℕ → Option ℕ) (elements : List Element) (values : ExtensionValues) → HaveNewIds from to ids
-    → AreValues from elements no_values values → AreValues to (filter_map (renumbered ids) elements) no_values (mapped_fields to values)
+pub AreValues-renumbered : (from to : Slots) (ids : List (Option ℕ)) (elements : List Element) (values : ExtensionValues) → CarriesExtensions from to ids
+    → AreValues from elements no_values values → AreValues to (filter_map (renumbered (new_id ids)) elements) no_values (mapped_fields to values)
 AreValues-renumbered from to ids elements values are says = λ kind. elim (find_last kind (items_from 0 to)) [
   | inl found ↦ AreFields-mapped from to ids elements values kind are found (says kind)
-  | inr others ↦ none (λ k d here carries. unmapped to kind others (get_or (filter_map (renumbered ids) elements) k d).0 carries.0)
+  | inr others ↦ none (λ k d here carries. unmapped to kind others (get_or (filter_map (renumbered (new_id ids)) elements) k d).0 carries.0)
       (fields-absent kind (items_from 0 to) values others)
 ]

@@ -9,6 +9,7 @@ pub mod WrittenBlock
 pub mod ElementsInARow
 pub mod ElementsInPlace
 pub mod NewIds
+pub mod PutElement
 -- What the inside promises itself.
 pub mod MapSlots
 pub mod EqualMaps
@@ -16,3 +17,4 @@ pub mod ElementReading
 pub mod ElementWriting
 pub mod ElementPlaces
 pub mod IdChanges
+pub mod BodySurvey

@@ -18,6 +18,12 @@ IsNewId from to id (Some new) = (extension : Extension) × (extension_at from id
 abbrev pub AreNewIds : Slots → Slots → List (Option ℕ) → Type 0
 AreNewIds from to ids = (id : ℕ) → IsNewId from to id (new_id ids id)
 
+-- the table carries the extensions of the first map to the second: an id that is mapped to one gets its new id, and an id gets one of an extension only where it is mapped to that extension
+pub record CarriesExtensions (from to : Slots) (ids : List (Option ℕ)) : Type 0 where
+  pub mapped : (id : ℕ) (extension : Extension) → extension_at from id ≡ Some extension → IsNewId from to id (new_id ids id)
+  pub others : (id new : ℕ) (extension : Extension) → new_id ids id ≡ Some new → extension_at to new ≡ Some extension
+      → extension_at from id ≡ Some extension
+
 -- the new id that a byte of a table says, and none where it is 0, which is the id of no extension
 abbrev pub id_in_byte : ℕ → Option ℕ
 id_in_byte zero = None

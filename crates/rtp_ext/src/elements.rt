@@ -88,15 +88,22 @@ fn skip_padding(bytes: &[u8]) -> &[u8]
     if *byte != 0 {
         return bytes;
     }
-    skip_zeros(after)
+    skip_far(after)
 }
 
 // The same after a zero. It stays out of line, since few elements have padding before them.
 #[inline(never)]
+fn skip_far(bytes: &[u8]) -> &[u8]
+    ensures { result.now ≡ without_padding bytes.now }
+{
+    skip_zeros(skip_zero_words(bytes))
+}
+
+// The bytes after the zeros at their front.
 fn skip_zeros(bytes: &[u8]) -> &[u8]
     ensures { result.now ≡ without_padding bytes.now }
 {
-    let mut rest = skip_zero_words(bytes);
+    let mut rest = bytes;
     while let Some((byte, after)) = rest.split_first() {
         if *byte != 0 {
             return rest;

@@ -99,7 +99,7 @@ pub(super) fn write_header(buf: &mut [u8], at: usize, form: ExtensionsForm, id: 
 }
 
 // The form that serves where there is one more element than the form served for.
-fn form_with(form: ExtensionsForm, id: u8, bytes: &[u8]) -> ExtensionsForm
+pub(super) fn form_with(form: ExtensionsForm, id: u8, bytes: &[u8]) -> ExtensionsForm
     ensures { result ≡ (if serves_one_byte (id, bytes.now) then form else TwoByte) }
 {
     if ExtensionsForm::OneByte.can_carry(id, bytes) {

@@ -4,7 +4,7 @@ ghost use Rattle.std.specs.Prelude.{◌≡◌, ◌↔◌, IsTrue, All, slice_ind
 ghost use Rattle.rtp_ext.specs.declared.form.ExtensionsForm.TheVariants.{OneByte};
 ghost use Rattle.rtp_ext.specs.ElementReading.{elements_left};
 ghost use Rattle.rtp_ext.specs.ElementsInPlace.{CanRenumber};
-ghost use Rattle.rtp_ext.specs.NewIds.{new_id, AreNewIds, id_in_byte, ids_in_bytes};
+ghost use Rattle.rtp_ext.specs.NewIds.{new_id, AreNewIds, CarriesExtensions, id_in_byte, ids_in_bytes};
 ghost use Rattle.rtp_ext.specs.IdChanges.{carries_id};
 
 use super::kinds::Kinds;
@@ -51,7 +51,8 @@ impl NewIds {
     /// For each id that `from` maps to an extension that `to` maps as well, the lowest id that `to`
     /// has for it (RFC 8285, 5). Every other id has no new one. Takes no memory.
     pub fn between<K: Kinds>(from: &K, to: &K) -> Self
-        ensures { AreNewIds (K.slots from.now) (K.slots to.now) result }
+        ensures ids { AreNewIds (K.slots from.now) (K.slots to.now) result }
+        ensures carries { CarriesExtensions (K.slots from.now) (K.slots to.now) result }
     {
         let mut ids = [0; IDS];
         for (id, new) in ids.iter_mut().enumerate() {

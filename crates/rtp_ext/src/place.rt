@@ -13,7 +13,7 @@ ghost use Rattle.rtp_values.specs.declared.kind.Extension.{Extension};
 ghost use Rattle.rtp_values.specs.declared.value.values.ExtensionValues.{ExtensionValues};
 ghost use Rattle.rtp_values.specs.Values.{Reads, with_fields, IsWellFormed};
 ghost use Rattle.std.specs.List.{filter_map, list_any};
-ghost use Rattle.rtp_ext.specs.NewIds.{new_id, AreNewIds};
+ghost use Rattle.rtp_ext.specs.NewIds.{new_id, CarriesExtensions};
 ghost use Rattle.rtp_ext.specs.IdChanges.{ids_of};
 ghost use Rattle.rtp_ext.specs.WrittenBlock.{mapped_fields};
 
@@ -219,8 +219,8 @@ pub fn renumber(form: ExtensionsForm, body: &mut [u8], ids: &NewIds) -> bool
         IsTrue result ↔ All (CanRenumber form (new_id ids.now)) elements }
     ensures elements { (elements : List Element) → AreElements form body.old elements → OnTrue result
         (AreElements form body.new (filter_map (renumbered (new_id ids.now)) elements)) }
-    ensures values { (from to : Slots) (values : ExtensionValues) → AreNewIds from to ids.now →
-        SaysValues form from body.old values →
+    ensures values { (from to : Slots) (values : ExtensionValues) →
+        CarriesExtensions from to ids.now → SaysValues form from body.old values →
         OnTrue result (SaysValues form to body.new (mapped_fields to values)) }
 {
     if !ids.can_renumber(form, body) {

@@ -37,7 +37,13 @@ fn fit(room: usize, form: ExtensionsForm, elements: &[(u8, &[u8])]) -> bool
 }
 
 // Puts an element at the offset, and returns the offset after it.
-fn put_element(buf: &mut [u8], at: usize, form: ExtensionsForm, id: u8, bytes: &[u8]) -> usize
+pub(super) fn put_element(
+    buf: &mut [u8],
+    at: usize,
+    form: ExtensionsForm,
+    id: u8,
+    bytes: &[u8],
+) -> usize
     requires room { at + length (element_bytes form (id, bytes.now)) ≤ length buf.old }
     requires writable { IsWritable form (id, bytes.now) }
     ensures written { buf.new ≡ overwritten buf.old at (element_bytes form (id, bytes.now)) }

@@ -5,7 +5,7 @@ ghost use Rattle.std.specs.Bool.{OnTrue, OnFalse};
 ghost use Rattle.rtp_ext.specs.ExtensionMap.{Slots};
 ghost use Rattle.rtp_ext.specs.Elements.{Element};
 ghost use Rattle.rtp_ext.specs.ElementsInPlace.{CanRenumber};
-ghost use Rattle.rtp_ext.specs.NewIds.{new_id, AreNewIds};
+ghost use Rattle.rtp_ext.specs.NewIds.{new_id, CarriesExtensions};
 ghost use Rattle.rtp_uses.specs.Forwarding.{IsForwarded};
 ghost use Rattle.rtp_wire.specs.PacketElements.{AreElementsOf};
 ghost use Rattle.rtp_wire.specs.PartsOf.{parts_in, buffer_of};
@@ -18,7 +18,7 @@ use rtp_wire::{NewIds, RtpPacketMut};
 /// id for becomes padding. Returns `false`, and changes nothing, where the form of its block can't
 /// carry one of these ids.
 pub fn forward(packet: &mut RtpPacketMut<'_>, ssrc: Ssrc, number: SeqNo, ids: &NewIds) -> bool
-    ensures forwarded { (from to : Slots) → AreNewIds from to ids.now → OnTrue result
+    ensures forwarded { (from to : Slots) → CarriesExtensions from to ids.now → OnTrue result
         (IsForwarded from to ssrc number (parts_in packet.old) (parts_in packet.new)) }
     ensures unchanged { OnFalse result ((buffer_of packet.new).now ≡ (buffer_of packet.old).now) }
     ensures answer { (elements : List Element) → AreElementsOf (parts_in packet.old).block elements →

@@ -5,7 +5,7 @@
 //! - To receive: [`is_rtcp`], [`Packet`] and its [`Elements`], [`Header`] and its [`Values`] under a [`Map`],
 //!   [`Receiver`].
 //! - To send: [`Header::write_to`], [`Header::write_with`], [`write_elements`], [`pad`].
-//! - To send on: [`PacketMut`], [`Fields`], [`NewIds`], [`read_original`], [`write_original`].
+//! - To send on: [`PacketMut`], [`Fields`], [`Values::data_of`], [`NewIds`], [`read_original`], [`write_original`].
 //! - What went wrong: [`NotAPacket`], [`NotAHeader`], [`NotWritten`], [`NotChanged`], [`NotAText`], [`BadId`],
 //!   [`BadRolloverCount`], [`NoMemory`].
 #![no_std]
@@ -36,7 +36,7 @@ pub use error::{
 };
 pub use header::Header;
 pub use layers::{Layer, Layers, Resolution, Stream};
-pub use map::{Kind, Map};
+pub use map::{Kind, Map, OwnKind};
 pub use new_ids::NewIds;
 pub use packet::{is_rtcp, Csrcs, Form, Packet};
 pub use packet_mut::{Fields, PacketMut};

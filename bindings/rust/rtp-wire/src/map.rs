@@ -4,26 +4,41 @@ use crate::error::BadId;
 use crate::sys;
 use crate::views::StoredMap;
 
+/// The number of an extension of the caller's own, 128 to 255.
+#[derive(Clone, Copy, Debug, PartialEq, Eq, PartialOrd, Ord, Hash)]
+pub struct OwnKind(u8);
+
+impl OwnKind {
+    /// The number.
+    #[must_use]
+    pub const fn number(self) -> u8 {
+        self.0
+    }
+}
+
 /// What a header extension says of its packet.
 #[derive(Clone, Copy, Debug, PartialEq, Eq, PartialOrd, Ord, Hash)]
 #[non_exhaustive]
 #[expect(missing_docs, reason = "the names are those of the extensions")]
 pub enum Kind {
-    AbsSendTime = 1,
-    AbsCaptureTime = 2,
-    AudioLevel = 3,
-    TransmissionOffset = 4,
-    VideoOrientation = 5,
-    TransportNumber = 6,
-    PlayoutDelay = 7,
-    VideoContentType = 8,
-    VideoTiming = 9,
-    Rid = 10,
-    RepairedRid = 11,
-    Mid = 12,
-    FrameMarking = 13,
-    ColorSpace = 14,
-    Layers = 15,
+    AbsSendTime,
+    AbsCaptureTime,
+    AudioLevel,
+    TransmissionOffset,
+    VideoOrientation,
+    TransportNumber,
+    PlayoutDelay,
+    VideoContentType,
+    VideoTiming,
+    Rid,
+    RepairedRid,
+    Mid,
+    FrameMarking,
+    ColorSpace,
+    Layers,
+    /// One of the caller's own, by the number that it gave it ([`Kind::own`]): an extension that has no
+    /// value here, as a dependency descriptor. What reads and writes values passes over its ids.
+    Own(OwnKind),
 }
 
 impl Kind {
@@ -45,6 +60,26 @@ impl Kind {
         Kind::Layers,
     ];
 
+    /// The extension of the caller's own that it gives this number, 128 to 255; `None` of other numbers.
+    /// Elements keep it where two maps have the same number ([`NewIds::between`](crate::NewIds::between)).
+    ///
+    /// ```
+    /// use rtp_wire::{Kind, Map, NewIds};
+    ///
+    /// let descriptor = Kind::own(128).unwrap();
+    /// let (from, to) = (Map::new().with(9, descriptor), Map::new().with(12, descriptor));
+    /// assert_eq!(NewIds::between(&from, &to).get(9), Some(12));
+    /// assert_eq!(Kind::own(127), None);
+    /// ```
+    #[must_use]
+    pub const fn own(number: u8) -> Option<Kind> {
+        if number >= sys::KIND_OWN {
+            Some(Kind::Own(OwnKind(number)))
+        } else {
+            None
+        }
+    }
+
     /// The kind that this URI names in SDP (RFC 8285, 5); `None` where it names none of these.
     ///
     /// ```
@@ -60,7 +95,30 @@ impl Kind {
 
     fn of_number(number: u8) -> Option<Kind> {
         let index = usize::from(number).checked_sub(1)?;
-        Kind::ALL.get(index).copied()
+        Kind::ALL.get(index).copied().or(Kind::own(number))
+    }
+
+    /// Its number in the header file for C.
+    #[must_use]
+    pub const fn number(self) -> u8 {
+        match self {
+            Kind::AbsSendTime => 1,
+            Kind::AbsCaptureTime => 2,
+            Kind::AudioLevel => 3,
+            Kind::TransmissionOffset => 4,
+            Kind::VideoOrientation => 5,
+            Kind::TransportNumber => 6,
+            Kind::PlayoutDelay => 7,
+            Kind::VideoContentType => 8,
+            Kind::VideoTiming => 9,
+            Kind::Rid => 10,
+            Kind::RepairedRid => 11,
+            Kind::Mid => 12,
+            Kind::FrameMarking => 13,
+            Kind::ColorSpace => 14,
+            Kind::Layers => 15,
+            Kind::Own(own) => own.number(),
+        }
     }
 }
 
@@ -118,7 +176,7 @@ impl Map {
     #[must_use]
     pub const fn with(mut self, id: u8, kind: Kind) -> Map {
         if id != 0 {
-            self.kinds.kind[id as usize] = kind as u8;
+            self.kinds.kind[id as usize] = kind.number();
         }
         self
     }
@@ -129,7 +187,7 @@ impl Map {
     ///
     /// [`BadId`], and nothing changes, where the id is 0.
     pub fn set(&mut self, id: u8, kind: Option<Kind>) -> Result<(), BadId> {
-        let number = kind.map_or(0, |kind| kind as u8);
+        let number = kind.map_or(0, Kind::number);
         match sys::map_set(&mut self.kinds, id, number) {
             sys::OK => Ok(()),
             _ => Err(BadId),
@@ -146,7 +204,7 @@ impl Map {
     /// ([`PacketMut::set_element`](crate::PacketMut::set_element)), say.
     #[must_use]
     pub fn id_of(&self, kind: Kind) -> Option<u8> {
-        self.iter().find(|(_, it)| *it == kind).map(|(id, _)| id)
+        Some(sys::id_of(&self.kinds, kind.number())).filter(|id| *id != 0)
     }
 
     /// The ids that mean something, by rising id, and what each of them means.

@@ -29,7 +29,8 @@ impl NewIds {
         }
     }
 
-    /// For each id that means a kind in `from` the lowest id that means it in `to`.
+    /// For each id that means a kind in `from`, one of the caller's own too, the lowest id that means it in
+    /// `to`.
     #[must_use]
     pub fn between(from: &Map, to: &Map) -> NewIds {
         let mut new = NewIds::new();

@@ -21,11 +21,13 @@ pub const UNKNOWN_FORM: i32 = 5;
 pub const CUT_BLOCK: i32 = 6;
 pub const NO_MEMORY: i32 = 7;
 pub const SHORT_BUFFER: i32 = 8;
+pub const NONE: i32 = 11;
 pub const RESTARTED: i32 = 12;
 
 pub const ONE_BYTE_FORM: u8 = 1;
 pub const TWO_BYTE_FORM: u8 = 2;
 pub const CSRC_AT: usize = 12;
+pub const KIND_OWN: u8 = 128;
 
 mod c {
     use super::{
@@ -116,7 +118,15 @@ mod c {
         pub fn rtpw_kind_of_uri(uri: *const u8, len: usize) -> u8;
         pub fn rtpw_map_set(map: *mut StoredMap, id: u8, kind: u8) -> i32;
         pub fn rtpw_map_get(map: *const StoredMap, id: u8) -> u8;
+        pub fn rtpw_id_of(map: *const StoredMap, kind: u8) -> u8;
         pub fn rtpw_map_standard(map: *mut StoredMap);
+        pub fn rtpw_data_of(
+            kind: u8,
+            values: *const ValuesView,
+            buf: *mut u8,
+            size: usize,
+            len: *mut usize,
+        ) -> i32;
         pub fn rtpw_parse(
             datagram: *const u8,
             len: usize,
@@ -291,6 +301,16 @@ pub fn map_set(map: &mut StoredMap, id: u8, kind: u8) -> i32 {
 pub fn map_get(map: &StoredMap, id: u8) -> u8 {
     // SAFETY: a reference that is read.
     unsafe { c::rtpw_map_get(map, id) }
+}
+
+pub fn id_of(map: &StoredMap, kind: u8) -> u8 {
+    // SAFETY: a reference that is read.
+    unsafe { c::rtpw_id_of(map, kind) }
+}
+
+pub fn data_of(kind: u8, values: &ValuesView, buf: &mut [u8], len: &mut usize) -> i32 {
+    // SAFETY: a reference that is read, an exclusive slice, and an exclusive reference.
+    unsafe { c::rtpw_data_of(kind, values, buf.as_mut_ptr(), buf.len(), len) }
 }
 
 pub fn map_standard(map: &mut StoredMap) {

@@ -1,7 +1,7 @@
 use core::time::Duration;
 
-use crate::error::NoMemory;
-use crate::map::Map;
+use crate::error::{NoMemory, NotWritten};
+use crate::map::{Kind, Map};
 use crate::packet::Packet;
 use crate::sys;
 use crate::text::{Mid, Rid};
@@ -119,6 +119,34 @@ impl Values {
             mid: held(view.has_mid, Mid::of(view.mid)),
             rid: held(view.has_rid, Rid::of(view.rid)),
             repaired_rid: held(view.has_repaired_rid, Rid::of(view.repaired_rid)),
+        }
+    }
+
+    /// Writes the data that an element of the kind has for these values to the front of the buffer, to set
+    /// it where it lies ([`PacketMut::set_element`](crate::PacketMut::set_element)), and tells how many
+    /// bytes they are; `None` where a value that the kind needs isn't there, as always for the layer
+    /// allocation, the color space and the caller's own kinds.
+    ///
+    /// # Errors
+    ///
+    /// [`NotWritten::BadField`] where the orientation is none of the four, whatever the kind is, and else
+    /// [`NotWritten::ShortBuffer`]; nothing is written then.
+    ///
+    /// ```
+    /// use rtp_wire::{Kind, Values};
+    ///
+    /// let mut values = Values::default();
+    /// values.transport_number = Some(0x0102);
+    /// let mut data = [0; 16];
+    /// assert_eq!(values.data_of(Kind::TransportNumber, &mut data), Ok(Some(2)));
+    /// assert_eq!(data[..2], [1, 2]);
+    /// assert_eq!(values.data_of(Kind::Mid, &mut data), Ok(None));
+    /// ```
+    pub fn data_of(&self, kind: Kind, buf: &mut [u8]) -> Result<Option<usize>, NotWritten> {
+        let mut len = 0;
+        match sys::data_of(kind.number(), &self.view(), buf, &mut len) {
+            sys::NONE => Ok(None),
+            status => NotWritten::of_status(status).map(|()| Some(len)),
         }
     }
 

@@ -1,6 +1,6 @@
 //! The fifteen kinds: their URIs, and their numbers in the header file for C.
 
-use rtp_wire::{BadId, Kind, Map, NewIds};
+use rtp_wire::{BadId, Kind, Map, NewIds, NotWritten, Values};
 
 /// The kind, its number, its name in the header file, and its URI.
 const KINDS: [(Kind, u8, &str, &str); 15] = [
@@ -95,7 +95,7 @@ const KINDS: [(Kind, u8, &str, &str); 15] = [
 fn each_kind_has_its_number_and_its_uri() {
     let header_file = include_str!("rtp_wire.h");
     for (kind, number, name, uri) in KINDS {
-        assert_eq!(kind as u8, number);
+        assert_eq!(kind.number(), number);
         assert!(
             header_file.contains(&format!("RTPW_KIND_{name} = {number}")),
             "{name}"
@@ -157,6 +157,51 @@ fn each_map_is_told() {
          12: TransmissionOffset, 13: AudioLevel, 14: AbsCaptureTime, 15: AbsSendTime, 255: Mid}"
     );
     assert_eq!(format!("{:?}", Map::new()), "{}");
+}
+
+#[test]
+fn own_kinds_have_numbers_from_128_on() {
+    for number in 0..=255 {
+        let own = Kind::own(number);
+        assert_eq!(own.is_some(), number >= 128, "{number}");
+        let Some(kind) = own else { continue };
+        let Kind::Own(it) = kind else {
+            panic!("{kind:?}")
+        };
+        assert_eq!(it.number(), number);
+        let mut map = Map::new().with(200, kind).with(3, kind).with(2, Kind::Mid);
+        assert_eq!((map.get(200), map.id_of(kind)), (Some(kind), Some(3)));
+        assert!(map.iter().eq([(2, Kind::Mid), (3, kind), (200, kind)]));
+        assert_eq!(map.set(0, own), Err(BadId));
+        let ids = NewIds::between(&Map::new().with(1, kind).with(4, Kind::Rid), &map);
+        assert_eq!((ids.get(1), ids.get(4)), (Some(3), None));
+        assert_eq!((map.set(3, None), map.id_of(kind)), (Ok(()), Some(200)));
+    }
+    assert_eq!(Map::standard().id_of(Kind::VideoOrientation), Some(13));
+    assert_eq!(Map::standard().id_of(Kind::ColorSpace), None);
+}
+
+#[test]
+fn data_of_one_kind() {
+    let mut data = [0xA5; 4];
+    let mut values = Values::default();
+    assert_eq!(values.data_of(Kind::AbsSendTime, &mut data), Ok(None));
+    values.send_time = Some(40_000_000); // 2^18 * 40 of 40 seconds
+    assert_eq!(values.data_of(Kind::AbsSendTime, &mut data), Ok(Some(3)));
+    assert_eq!(data, [0xA0, 0, 0, 0xA5]);
+    assert_eq!(
+        values.data_of(Kind::AbsSendTime, &mut data[..2]),
+        Err(NotWritten::ShortBuffer)
+    );
+    for kind in [Kind::Layers, Kind::ColorSpace, Kind::own(255).unwrap()] {
+        assert_eq!(values.data_of(kind, &mut data), Ok(None));
+    }
+    values.video_orientation = Some(45);
+    assert_eq!(
+        values.data_of(Kind::AbsSendTime, &mut data),
+        Err(NotWritten::BadField)
+    );
+    assert_eq!(data, [0xA0, 0, 0, 0xA5]);
 }
 
 #[test]

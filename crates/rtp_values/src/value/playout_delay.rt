@@ -9,12 +9,15 @@ use super::ExtensionValues;
 use super::front::{first_u24, put_u24};
 use rtp_base::MediaTime;
 
-// The whole hundredths of a second in a time, modulo 4096.
+// The whole hundredths of a second in a time, modulo 4096: those of its whole seconds, and those of
+// what is left.
 fn delay_of(time: MediaTime) -> u32
     ensures { result ≡ delay_of time }
 {
-    let hundredths = u128::from(time.numer()) * 100 / u128::from(time.denom());
-    (hundredths % 4096) as u32
+    let hertz = u64::from(time.denom());
+    let seconds = time.numer() / hertz % 4096;
+    let left = time.numer() % hertz * 100 / hertz;
+    ((seconds * 100 + left) % 4096) as u32
 }
 
 pub(super) fn read(buf: &[u8], ev: &mut ExtensionValues) -> Option<()>

@@ -3,7 +3,7 @@ use Rattle.std.proofs.lemmas.Bool.{false≢true}
 use Rattle.rtp_ext.specs.declared.form.ExtensionsForm.{ExtensionsForm}
 use Rattle.rtp_ext.specs.Elements.{Element}
 use Rattle.rtp_ext.specs.ElementsInPlace.{ChangesIds, CanRenumber}
-use Rattle.rtp_ext.specs.NewIds.{new_id, ids_in_bytes, AreNewIds}
+use Rattle.rtp_ext.specs.NewIds.{new_id, ids_in_bytes, CarriesExtensions}
 use Rattle.std.specs.Prelude.{slice_index}
 use Rattle.rtp_wire.specs.declared.packet.rtp_packet_mut.RtpPacketMut.{RtpPacketMut}
 use Rattle.rtp_wire.specs.ChangedPacket.{ChangesBlock}
@@ -89,7 +89,7 @@ returns-then-renumber-clause-values c parts from to values is are has ok =
     record {
       parts = parts_in c.renumber.new.self;
       is_packet = IsPacket-in c.renumber.new.self _ (omega (arith, c.type_inv.datagram 1)) (search rules);
-      has_values = c.if-renumber.ensures.values from to values (subst (AreNewIds from to) (sym c.from_ids.ensures) are)
+      has_values = c.if-renumber.ensures.values from to values (subst (CarriesExtensions from to) (sym c.from_ids.ensures) are)
           (subst (λ (q : PacketParts). HasValues from q.block values) (sym same) has);
     }
 

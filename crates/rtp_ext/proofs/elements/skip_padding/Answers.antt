@@ -10,4 +10,4 @@ returns-then-byte-ne0 c = sym (without_padding-other _ _ _ c.in-Some.ensures.cas
 
 pub returns : goal.returns
 returns c =
-    c.skip_zeros.ensures ∙ sym (without_padding-zero _ _ _ c.in-Some.ensures.cases c.if-byte-ne0.false)
+    c.skip_far.ensures ∙ sym (without_padding-zero _ _ _ c.in-Some.ensures.cases c.if-byte-ne0.false)

@@ -33,5 +33,5 @@ pub returns-clause-values : goal.returns-clause-values
 returns-clause-values c = λ from to values new says. record {
   elements = filter_map (renumbered (new_id c.args.ids.now)) says.elements;
   are_elements = elements_new c says.elements says.are_elements;
-  are_values = AreValues-renumbered from to (new_id c.args.ids.now) says.elements values new says.are_values;
+  are_values = AreValues-renumbered from to c.args.ids.now says.elements values new says.are_values;
 }

@@ -1,6 +1,6 @@
 use Rattle.std.proofs.Common.{ℕ, ◌+◌, map, set, replicate, refl, sym, subst}
 use Rattle.rtp_ext.specs.NewIds.{id_in_byte}
-use Rattle.rtp_ext.proofs.NewIdLemmas.{HasNewBytesTo, HasNewBytesTo-start, HasNewBytesTo-next, HasNewBytesTo-table, AreNewIds-table}
+use Rattle.rtp_ext.proofs.NewIdLemmas.{HasNewBytesTo, HasNewBytesTo-start, HasNewBytesTo-next, HasNewBytesTo-table, AreNewIds-table, CarriesExtensions-new}
 use Rattle.rtp_ext.proofs.new_ids.NewIds.between.Goals as goal
 
 pub loop-id-init : goal.loop-id-init
@@ -15,5 +15,8 @@ loop-id-preserved g c =
 pub invariant_of-result : goal.invariant_of-result
 invariant_of-result g c = HasNewBytesTo-table (g.K.Kinds.slots c.args.from.now) (g.K.Kinds.slots c.args.to.now) c.loop-id.new-items c.loop-id.id c.loop-id-test.false c.loop-id.invariant
 
-pub returns : goal.returns
-returns g c = AreNewIds-table (g.K.Kinds.slots c.args.from.now) (g.K.Kinds.slots c.args.to.now) (map id_in_byte c.loop-id.new-items) c.loop-id.id c.loop-id-test.false c.loop-id.invariant
+pub returns-clause-ids : goal.returns-clause-ids
+returns-clause-ids g c = AreNewIds-table (g.K.Kinds.slots c.args.from.now) (g.K.Kinds.slots c.args.to.now) (map id_in_byte c.loop-id.new-items) c.loop-id.id c.loop-id-test.false c.loop-id.invariant
+
+pub returns-clause-carries : goal.returns-clause-carries
+returns-clause-carries g c = CarriesExtensions-new (g.K.Kinds.slots c.args.from.now) (g.K.Kinds.slots c.args.to.now) (map id_in_byte c.loop-id.new-items) (returns-clause-ids g c)

@@ -36,7 +36,7 @@ returns-in_default-clause-values c from to values new has =
     record {
       elements = [];
       are_elements = subst (AreElementsOf (parts_in c.args.self.now).block) none has.are_elements;
-      are_values = AreValues-renumbered from to (new_id c.args.ids.now) [] values new
+      are_values = AreValues-renumbered from to c.args.ids.now [] values new
           (subst (λ (es : List Element). AreValues from es no_values values) none has.are_values);
     }
 

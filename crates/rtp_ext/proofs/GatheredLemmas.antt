@@ -1,0 +1,205 @@
+-- The elements of a body without those of an id, in a row.
+use Rattle.std.proofs.Common.{◌≡◌, ◌≢◌, ℕ, zero, suc, ◌+◌, ◌-◌, ◌≤◌, ◌<◌, ◌==◌, Bool, true, false, not, cond, List, [], ◌∷◌, ◌++◌, length, take, drop, replicate, Option, Some, None, IfSome, IfNone, append_assoc, length-append, length-drop, length-take-le, take-append-drop, arith, refl, sym, ap, ◌∙◌, subst}
+use Rattle.std.specs.List.{AllByRecursion, flat_map, filter_map, filter}
+use Rattle.std.proofs.lemmas.Bool.{eq-eqb, ne_eqb}
+use Rattle.std.proofs.lemmas.List.{append-nil, drop_at, take_at, length-replicate, drop-drop, drop-append-le}
+use Rattle.std.proofs.lemmas.List.Concat.{flat_map-append}
+use Rattle.std.proofs.lemmas.List.Elements.{filter-append, All-head, All-tail}
+use lib.Seq.{paste}
+use Rattle.rtp_ext.specs.declared.form.ExtensionsForm.{ExtensionsForm}
+use Rattle.rtp_ext.specs.declared.place.Place.{Place}
+use Rattle.rtp_ext.specs.Elements.{Element, IsElement, element_bytes, elements_bytes, IsPiece, piece_bytes, AreElements}
+use Rattle.rtp_ext.specs.ElementReading.{BeginsWithNoElement}
+use Rattle.rtp_ext.specs.ElementsInPlace.{HasNone}
+use Rattle.rtp_ext.specs.ElementPlaces.{IsNextPlace, AreWhole, IsPassed}
+use Rattle.rtp_ext.specs.BodySurvey.{IsGathered, IsGatheredTo}
+use Rattle.rtp_ext.specs.PutElement.{has_id, without}
+use Rattle.rtp_ext.proofs.PlaceLemmas.{left_next, passed_next, end_next, length-element}
+use Rattle.rtp_ext.proofs.PieceLemmas.{AreWhole-nil, AreWhole-append, AreWhole-next, AreElements-after, AreElements-none}
+
+-- one more element, of the id or of another
+pub without-this : (id : ℕ) (elements : List Element) (element : Element) → element.0 ≡ id → without id (elements ++ element ∷ []) ≡ without id elements
+without-this id elements element this =
+    filter-append (λ (e : Element). not (has_id id e)) elements (element ∷ [])
+    ∙ ap (λ (b : Bool). without id elements ++ cond (not b) (element ∷ []) []) (eq-eqb element.0 id this)
+    ∙ append-nil (without id elements)
+
+pub without-other : (id : ℕ) (elements : List Element) (element : Element) → element.0 ≢ id → without id (elements ++ element ∷ []) ≡ without id elements ++ element ∷ []
+without-other id elements element other =
+    filter-append (λ (e : Element). not (has_id id e)) elements (element ∷ [])
+    ∙ ap (λ (b : Bool). without id elements ++ cond (not b) (element ∷ []) []) (ne_eqb element.0 id other)
+
+pub elements_bytes-append : (form : ExtensionsForm) (xs ys : List Element) → elements_bytes form (xs ++ ys) ≡ elements_bytes form xs ++ elements_bytes form ys
+elements_bytes-append form xs ys = flat_map-append (element_bytes form) xs ys
+
+pub row-other : (form : ExtensionsForm) (id : ℕ) (elements : List Element) (element : Element) → element.0 ≢ id
+    → elements_bytes form (without id (elements ++ element ∷ [])) ≡ elements_bytes form (without id elements) ++ element_bytes form element
+row-other form id elements element other =
+    ap (elements_bytes form) (without-other id elements element other)
+    ∙ (elements_bytes-append form (without id elements) (element ∷ [])
+    ∙ ap (λ b. elements_bytes form (without id elements) ++ b) (append-nil (element_bytes form element)))
+
+-- bytes that are copied onto themselves
+pub paste-same : (body : List ℕ) (at n : ℕ) → paste body at (drop at body) n ≡ body
+paste-same body at n =
+    ap (λ b. take at body ++ take n (drop at body) ++ b) (sym (drop-drop n at body))
+    ∙ (append_assoc (take at body) (take n (drop at body)) (drop n (drop at body))
+    ∙ (ap (λ b. take at body ++ b) (take-append-drop n (drop at body)) ∙ take-append-drop at body))
+
+pub IsGatheredTo-start : (form : ExtensionsForm) (id : ℕ) (body : List ℕ) → IsGatheredTo form id body body 0 0
+IsGatheredTo-start form id body = record {
+  passed = [];
+  gap = [];
+  left = body;
+  elements = [];
+  are_whole = AreWhole-nil form;
+  old_is = refl;
+  new_is = refl;
+  at_is = refl;
+  len_is = refl;
+  gap_is = refl;
+}
+
+module _ (form : ExtensionsForm) (id : ℕ) (old body : List ℕ) (at len : ℕ) (place : Place) (was : IsGatheredTo form id old body at len) (next : IsNextPlace form body at place) where
+  element : Element
+  element = (place.id, next.bytes)
+
+  row : List ℕ
+  row = elements_bytes form (without id was.elements)
+
+  here : List ℕ
+  here = replicate next.padding 0 ++ element_bytes form (place.id, next.bytes)
+
+  front_is : body ≡ (row ++ was.gap) ++ was.left
+  unfolding row
+  front_is = was.new_is ∙ sym (append_assoc row was.gap was.left)
+
+  front_len : at ≡ length (row ++ was.gap)
+  unfolding row
+  front_len = omega (arith, was.gap_is, was.len_is, length-append row was.gap)
+
+  left_is : was.left ≡ here ++ next.after
+  unfolding here
+  left_is =
+      left_next form body (row ++ was.gap) was.left at place front_is front_len next
+      ∙ sym (append_assoc (replicate next.padding 0) (element_bytes form (place.id, next.bytes)) next.after)
+
+  here_len : length here ≡ next.padding + (place.end - place.start)
+  unfolding here
+  here_len =
+      omega (
+        arith,
+        next.data_is,
+        next.end_is,
+        length-element form place.id next.bytes,
+        length-append (replicate next.padding 0) (element_bytes form (place.id, next.bytes)),
+        length-replicate {A = ℕ} next.padding 0,
+      )
+
+  element_len : length (element_bytes form (place.id, next.bytes)) ≡ place.end - place.start
+  element_len = omega (arith, next.data_is, next.end_is, length-element form place.id next.bytes)
+
+  old_next : old ≡ (was.passed ++ here) ++ next.after
+  old_next = was.old_is ∙ (ap (λ b. was.passed ++ b) left_is ∙ sym (append_assoc was.passed here next.after))
+
+  at_next : place.end ≡ length (was.passed ++ here)
+  at_next = omega (arith, next.start_is, next.data_is, next.end_is, was.at_is, here_len, length-append was.passed here)
+
+  whole_next : AreWhole form (was.passed ++ here) (was.elements ++ (place.id, next.bytes) ∷ [])
+  unfolding here
+  whole_next =
+      AreWhole-append form was.passed (replicate next.padding 0 ++ element_bytes form (place.id, next.bytes)) was.elements ((place.id, next.bytes) ∷ [])
+      was.are_whole (AreWhole-next form next.padding (place.id, next.bytes) next.is_element)
+
+  -- one of the id stays behind
+  pub IsGatheredTo-this : place.id ≡ id → IsGatheredTo form id old body place.end len
+  unfolding row
+  IsGatheredTo-this this = record {
+    passed = was.passed ++ here;
+    gap = was.gap ++ here;
+    left = next.after;
+    elements = was.elements ++ (place.id, next.bytes) ∷ [];
+    are_whole = whole_next;
+    old_is = old_next;
+    new_is = was.new_is ∙ (ap (λ b. row ++ (was.gap ++ b)) left_is ∙ (ap (λ b. row ++ b) (sym (append_assoc was.gap here next.after))
+        ∙ ap (λ es. elements_bytes form es ++ ((was.gap ++ here) ++ next.after)) (sym (without-this id was.elements (place.id, next.bytes) this))));
+    at_is = at_next;
+    len_is = was.len_is ∙ ap (λ es. length (elements_bytes form es)) (sym (without-this id was.elements (place.id, next.bytes) this));
+    gap_is = omega (arith, was.gap_is, length-append was.gap here, here_len, next.start_is, next.data_is, next.end_is);
+  }
+
+  -- what comes after the row
+  rest_is : drop len body ≡ (was.gap ++ here) ++ next.after
+  unfolding row
+  rest_is =
+      ap (drop len) was.new_is ∙ (drop_at row (was.gap ++ was.left) len (sym was.len_is)
+      ∙ (ap (λ b. was.gap ++ b) left_is ∙ sym (append_assoc was.gap here next.after)))
+
+  moved : List ℕ
+  moved = drop (place.end - place.start) (was.gap ++ here)
+
+  bytes_at : take (place.end - place.start) (drop place.start body) ≡ element_bytes form (place.id, next.bytes)
+  bytes_at =
+      let skipped : List ℕ = (row ++ was.gap) ++ replicate next.padding 0 in
+      let split : body ≡ skipped ++ (element_bytes form (place.id, next.bytes) ++ next.after) =
+      front_is ∙ (ap (λ b. (row ++ was.gap) ++ b)
+      (left_next form body (row ++ was.gap) was.left at place front_is front_len next)
+      ∙ sym (append_assoc (row ++ was.gap) (replicate next.padding 0) (element_bytes form (place.id, next.bytes) ++ next.after))) in
+      let start : length skipped ≡ place.start =
+      omega (arith, next.start_is, front_len, length-append (row ++ was.gap) (replicate next.padding 0), length-replicate {A = ℕ} next.padding 0) in
+      ap (take (place.end - place.start)) (ap (drop place.start) split ∙ drop_at skipped (element_bytes form (place.id, next.bytes) ++ next.after) place.start start)
+      ∙ take_at (element_bytes form (place.id, next.bytes)) next.after (place.end - place.start) element_len
+
+  -- another one is moved to the end of the row
+  pub IsGatheredTo-other : (new : List ℕ) → place.id ≢ id → new ≡ paste body len (drop place.start body) (place.end - place.start)
+      → IsGatheredTo form id old new place.end (len + (place.end - place.start))
+  unfolding row moved
+  IsGatheredTo-other new other new_is =
+      let n : ℕ = place.end - place.start in
+      let bytes : List ℕ = element_bytes form (place.id, next.bytes) in
+      let grown : elements_bytes form (without id (was.elements ++ (place.id, next.bytes) ∷ [])) ≡ row ++ bytes =
+      row-other form id was.elements (place.id, next.bytes) other in
+      let front : take len body ≡ row = ap (take len) was.new_is ∙ take_at row (was.gap ++ was.left) len (sym was.len_is) in
+      let rest : drop (len + n) body ≡ moved ++ next.after =
+      sym (drop-drop n len body) ∙ (ap (drop n) rest_is ∙ drop-append-le n (was.gap ++ here) next.after (omega (arith, length-append was.gap here, here_len))) in
+      record {
+        passed = was.passed ++ here;
+        gap = moved;
+        left = next.after;
+        elements = was.elements ++ (place.id, next.bytes) ∷ [];
+        are_whole = whole_next;
+        old_is = old_next;
+        new_is = new_is ∙ (ap (λ b. b ++ take n (drop place.start body) ++ drop (len + n) body) front
+            ∙ (ap (λ b. row ++ b ++ drop (len + n) body) bytes_at ∙ (ap (λ b. row ++ bytes ++ b) rest
+            ∙ ap (λ b. b ++ (moved ++ next.after)) (sym grown))));
+        at_is = at_next;
+        len_is = omega (arith, ap length grown, length-append row bytes, was.len_is, element_len);
+        gap_is = omega (arith, was.gap_is, length-append was.gap here, here_len, next.start_is, next.data_is, next.end_is, length-drop n (was.gap ++ here));
+      }
+
+-- an element that stands at the end of the row already
+pub start-same : (form : ExtensionsForm) (id : ℕ) (old body : List ℕ) (at len : ℕ) (place : Place) → IsGatheredTo form id old body at len → IsNextPlace form body at place
+    → place.start ≤ len → body ≡ paste body len (drop place.start body) (place.end - place.start)
+start-same form id old body at len place was next early =
+    let same : place.start ≡ len = omega (arith, was.gap_is, next.start_is) in
+    sym (ap (λ k. paste body len (drop k body) (place.end - place.start)) same ∙ paste-same body len (place.end - place.start))
+
+-- where reading ends
+pub IsGathered-end : (form : ExtensionsForm) (id : ℕ) (old body : List ℕ) (at len : ℕ) → IsGatheredTo form id old body at len → BeginsWithNoElement form (drop at body)
+    → IsGathered form id old body len
+IsGathered-end form id old body at len was none =
+    let row : List ℕ = elements_bytes form (without id was.elements) in
+    let front_len : at ≡ length (row ++ was.gap) = omega (arith, was.gap_is, was.len_is, length-append row was.gap) in
+    let left : drop at body ≡ was.left =
+    ap (drop at) (was.new_is ∙ sym (append_assoc row was.gap was.left)) ∙ drop_at (row ++ was.gap) was.left at (sym front_len) in
+    record {
+      elements = was.elements;
+      are_elements = subst (λ b. AreElements form b was.elements) (sym was.old_is)
+          (subst (AreElements form (was.passed ++ was.left)) (append-nil was.elements)
+          (AreElements-after form was.passed was.left was.elements [] was.are_whole
+          (subst (λ b. AreElements form b []) left (AreElements-none form (drop at body) none))));
+      row_is = ap (take len) was.new_is ∙ take_at row (was.gap ++ was.left) len (sym was.len_is);
+      len_is = was.len_is;
+      length_is = omega (arith, ap length was.new_is, ap length was.old_is, was.at_is, was.gap_is, was.len_is, length-append row (was.gap ++ was.left), length-append was.gap was.left, length-append was.passed was.left);
+      within = omega (arith, ap length was.old_is, was.at_is, was.gap_is, length-append was.passed was.left);
+    }

@@ -1,0 +1,192 @@
+-- An element in place of the last of its id.
+use Rattle.std.proofs.Common.{◌≡◌, ◌≢◌, ℕ, suc, ◌+◌, ◌-◌, ◌≤◌, ◌↔◌, IsTrue, Bool, true, false, not, ◌||◌, cond, List, [], ◌∷◌, ◌++◌, length, take, drop, Option, Some, None, IfSome, IfNone, get_or, append_assoc, length-append, length-drop, length-take-le, arith, refl, sym, ap, ◌∙◌, subst}
+use Rattle.std.specs.Prelude.{slice_range}
+use Rattle.std.specs.List.{filter, list_any, AllByRecursion}
+use Rattle.std.specs.Bool.{OnTrue}
+use Rattle.std.proofs.lemmas.Bool.{eq-eqb, ne_eqb, eqb-true, false≢true}
+use Rattle.std.proofs.lemmas.List.{drop_at, take_at, take-append-le, take-take}
+use Rattle.std.proofs.lemmas.List.Elements.{filter-append, All-nil, All-cons, All-head, All-tail}
+use Rattle.std.proofs.lemmas.List.Folds.{list_any_none, list_any-append}
+use lib.Seq.{paste}
+use Rattle.rtp_base.specs.Overwriting.{overwritten}
+use Rattle.rtp_ext.specs.declared.form.ExtensionsForm.{ExtensionsForm}
+use Rattle.rtp_ext.specs.declared.place.Place.{Place}
+use Rattle.rtp_ext.specs.declared.growing.Survey.{Survey}
+use Rattle.rtp_ext.specs.Elements.{Element, AreElements, elements_bytes}
+use Rattle.rtp_ext.specs.ElementsInPlace.{HasNone, HasLast, SetsLast}
+use Rattle.rtp_ext.specs.ElementPlaces.{IsLastPlace, LiesLast}
+use Rattle.rtp_ext.specs.BodySurvey.{IsSurvey}
+use Rattle.rtp_ext.specs.PutElement.{has_id, without, put_element, IsSole}
+use Rattle.rtp_ext.proofs.LastPlaceLemmas.{AreElements-same, HasLast-place, HasLast-only, SetsLast-at}
+
+-- ---- elements of an id, and without it
+
+pub filter-none : (id : ℕ) (elements : List Element) → HasNone elements id → filter (has_id id) elements ≡ []
+filter-none id [] none = refl
+filter-none id (element ∷ elements) none =
+    ap (λ (b : Bool). cond b (element ∷ filter (has_id id) elements) (filter (has_id id) elements))
+    (ne_eqb element.0 id (All-head (λ (e : Element). e.0 ≢ id) element elements none))
+    ∙ filter-none id elements (All-tail (λ (e : Element). e.0 ≢ id) element elements none)
+
+pub without-none : (id : ℕ) (elements : List Element) → HasNone elements id → without id elements ≡ elements
+without-none id [] none = refl
+without-none id (element ∷ elements) none =
+    ap (λ (b : Bool). cond (not b) (element ∷ without id elements) (without id elements))
+    (ne_eqb element.0 id (All-head (λ (e : Element). e.0 ≢ id) element elements none))
+    ∙ ap (λ es. element ∷ es) (without-none id elements (All-tail (λ (e : Element). e.0 ≢ id) element elements none))
+
+-- where none was counted, none has the id
+pub none-counted : (id : ℕ) (elements : List Element) → length (filter (has_id id) elements) ≡ 0 → HasNone elements id
+none-counted id [] none = All-nil (λ (e : Element). e.0 ≢ id)
+none-counted id (element ∷ elements) none = by_test (λ rest. none-counted id elements rest) (has_id id element) refl
+  where
+    by_test : (length (filter (has_id id) elements) ≡ 0 → HasNone elements id) → (same : Bool) → has_id id element ≡ same → HasNone (element ∷ elements) id
+    by_test others true is =
+        let some : length (cond true (element ∷ filter (has_id id) elements) (filter (has_id id) elements)) ≡ 0 =
+        ap (λ (b : Bool). length (cond b (element ∷ filter (has_id id) elements) (filter (has_id id) elements))) (sym is) ∙ none in
+        absurd (omega arith)
+    by_test others false is =
+        let rest : length (filter (has_id id) elements) ≡ 0 =
+        ap (λ (b : Bool). length (cond b (element ∷ filter (has_id id) elements) (filter (has_id id) elements))) (sym is) ∙ none in
+        All-cons (λ (e : Element). e.0 ≢ id) element elements (λ same. false≢true (sym is ∙ eq-eqb element.0 id same)) (others rest)
+
+count-around : (id : ℕ) (before after : List Element) (bytes : List ℕ)
+    → length (filter (has_id id) (before ++ (id, bytes) ∷ after)) ≡ length (filter (has_id id) before) + (length (filter (has_id id) after) + 1)
+count-around id before after bytes =
+    let here : filter (has_id id) ((id, bytes) ∷ after) ≡ (id, bytes) ∷ filter (has_id id) after =
+    ap (λ (b : Bool). cond b ((id, bytes) ∷ filter (has_id id) after) (filter (has_id id) after)) (eq-eqb id id refl) in
+    omega (
+      arith,
+      ap length (filter-append (has_id id) before ((id, bytes) ∷ after)),
+      length-append (filter (has_id id) before) (filter (has_id id) ((id, bytes) ∷ after)),
+      ap length here,
+    )
+
+-- ---- the element in place of the last of its id
+
+any-none : (id : ℕ) (elements : List Element) → HasNone elements id → list_any (has_id id) elements ≡ false
+any-none id elements none = list_any_none (has_id id) elements (λ k d here. ne_eqb (get_or elements k d).0 id (none k d here))
+
+or_true : (b : Bool) → (b || true) ≡ true
+or_true true = refl
+or_true false = refl
+
+any-around : (id : ℕ) (before after : List Element) (bytes : List ℕ) → list_any (has_id id) (before ++ (id, bytes) ∷ after) ≡ true
+any-around id [] after bytes = ap (λ (b : Bool). b || list_any (has_id id) after) (eq-eqb id id refl)
+any-around id (element ∷ before) after bytes = ap (λ (b : Bool). has_id id element || b) (any-around id before after bytes) ∙ or_true (has_id id element)
+
+pub put_element-none : (new : Element) (elements : List Element) → HasNone elements new.0 → put_element new elements ≡ elements ++ new ∷ []
+put_element-none new [] none = refl
+put_element-none new (element ∷ elements) none =
+    ap (λ (b : Bool). cond b (cond (list_any (has_id new.0) elements) (put_element new elements) (new ∷ elements)) (element ∷ put_element new elements))
+    (ne_eqb element.0 new.0 (All-head (λ (e : Element). e.0 ≢ new.0) element elements none))
+    ∙ ap (λ es. element ∷ es) (put_element-none new elements (All-tail (λ (e : Element). e.0 ≢ new.0) element elements none))
+
+pub put_element-last : (id : ℕ) (bytes was : List ℕ) (before after : List Element) → HasNone after id
+    → put_element (id, bytes) (before ++ (id, was) ∷ after) ≡ without id before ++ (id, bytes) ∷ after
+put_element-last id bytes was [] after none =
+    ap (λ (b : Bool). cond b (cond (list_any (has_id id) after) (put_element (id, bytes) after) ((id, bytes) ∷ after)) ((id, was) ∷ put_element (id, bytes) after)) (eq-eqb id id refl)
+    ∙ ap (λ (b : Bool). cond b (put_element (id, bytes) after) ((id, bytes) ∷ after)) (any-none id after none)
+put_element-last id bytes was (element ∷ before) after none = by_test (put_element-last id bytes was before after none) (has_id id element) refl
+  where
+    by_test : put_element (id, bytes) (before ++ (id, was) ∷ after) ≡ without id before ++ (id, bytes) ∷ after → (same : Bool) → has_id id element ≡ same
+        → put_element (id, bytes) (element ∷ before ++ (id, was) ∷ after) ≡ without id (element ∷ before) ++ (id, bytes) ∷ after
+    by_test others true is =
+        ap (λ (b : Bool). cond b (cond (list_any (has_id id) (before ++ (id, was) ∷ after)) (put_element (id, bytes) (before ++ (id, was) ∷ after)) ((id, bytes) ∷ (before ++ (id, was) ∷ after)))
+        (element ∷ put_element (id, bytes) (before ++ (id, was) ∷ after))) is
+        ∙ (ap (λ (b : Bool). cond b (put_element (id, bytes) (before ++ (id, was) ∷ after)) ((id, bytes) ∷ (before ++ (id, was) ∷ after))) (any-around id before after was)
+        ∙ (others
+        ∙ ap (λ (b : Bool). cond (not b) (element ∷ without id before) (without id before) ++ (id, bytes) ∷ after) (sym is)))
+    by_test others false is =
+        ap (λ (b : Bool). cond b (cond (list_any (has_id id) (before ++ (id, was) ∷ after)) (put_element (id, bytes) (before ++ (id, was) ∷ after)) ((id, bytes) ∷ (before ++ (id, was) ∷ after)))
+        (element ∷ put_element (id, bytes) (before ++ (id, was) ∷ after))) is
+        ∙ (ap (λ es. element ∷ es) others
+        ∙ ap (λ (b : Bool). cond (not b) (element ∷ without id before) (without id before) ++ (id, bytes) ∷ after) (sym is))
+
+-- ---- a body whose one element of the id has as many bytes
+
+sole-counted : (elements : List Element) (id : ℕ) (bytes : List ℕ) → IsSole elements (id, bytes) → length (filter (has_id id) elements) ≡ 1
+sole-counted elements id bytes sole =
+    omega (
+      arith,
+      ap (λ es. length (filter (has_id id) es)) sole.in_order,
+      count-around id sole.before sole.after sole.was,
+      ap length (filter-none id sole.before sole.none_before),
+      ap length (filter-none id sole.after sole.none_after),
+    )
+
+-- the elements around the last one of the id
+in_order : (form : ExtensionsForm) (id : ℕ) (body : List ℕ) (place : Place) (elements : List Element) → (is : IsLastPlace (AreElements form) id body place) → AreElements form body elements
+    → elements ≡ is.before ++ (id, is.was) ∷ is.after
+in_order form id body place elements is are =
+    AreElements-same form body elements (is.before ++ (id, is.was) ∷ is.after) are
+    (subst (λ b. AreElements form b (is.before ++ (id, is.was) ∷ is.after)) (sym is.bytes_are) (is.set is.was refl))
+
+-- no survey without a place for an id that has a sole element
+pub sole-absent : (form : ExtensionsForm) (body : List ℕ) (id : ℕ) (survey : Survey) (elements : List Element) (bytes : List ℕ) → IsSurvey form body id survey → AreElements form body elements
+    → survey.last ≡ None → IsSole elements (id, bytes) → ⊥
+sole-absent form body id survey elements bytes is are none sole =
+    let has_none : HasNone is.elements id = subst (λ (last : Option Place). IfNone last (HasNone is.elements id)) none is.none_is in
+    let same : is.elements ≡ elements = AreElements-same form body is.elements elements is.are_elements are in
+    omega (arith, sole-counted elements id bytes sole, ap (λ es. length (filter (has_id id) es)) same, ap length (filter-none id is.elements has_none))
+
+module _ (form : ExtensionsForm) (body : List ℕ) (id : ℕ) (survey : Survey) (place : Place) (is : IsSurvey form body id survey) (found : survey.last ≡ Some place) where
+  known : (place.id ≡ id) × IsLastPlace (AreElements form) id body place × LiesLast form (AreElements form) id body place
+  known = subst (λ (last : Option Place). IfSome last (λ at. (at.id ≡ id) × IsLastPlace (AreElements form) id body at × LiesLast form (AreElements form) id body at)) found is.last_is
+
+  pub last_known : IsLastPlace (AreElements form) id body place
+  last_known = known.1
+
+  pub data_within : place.data_start ≤ place.end
+  data_within = let e = known.1.end_is in omega arith
+
+  pub data_in_body : place.end ≤ length body
+  data_in_body =
+      let l = known.1 in
+      omega (arith, l.data_is, l.end_is, ap length l.bytes_are, length-append l.front (l.was ++ l.rest), length-append l.was l.rest)
+
+  -- it is counted once where it is the only one
+  pub counted_once : (elements : List Element) (bytes : List ℕ) → AreElements form body elements → IsSole elements (id, bytes) → (survey.count ≡ 1) × (place.end - place.data_start ≡ length bytes)
+  counted_once elements bytes are sole =
+      let same : is.elements ≡ elements = AreElements-same form body is.elements elements is.are_elements are in
+      let l = known.1 in
+      let one : sole.was ≡ l.was =
+      HasLast-only elements id sole.was l.was (record { before = sole.before; after = sole.after; in_order = sole.in_order; last = sole.none_after })
+      (HasLast-place form id body place elements l are) in (
+        is.count_is ∙ (ap (λ es. length (filter (has_id id) es)) same ∙ sole-counted elements id bytes sole),
+        omega (arith, l.end_is, ap length one, sole.as_many),
+      )
+
+  module _ (elements : List Element) (bytes : List ℕ) (are : AreElements form body elements) (once : survey.count ≡ 1) (as_many : place.end - place.data_start ≡ length bytes) where
+    around : elements ≡ known.1.before ++ (id, known.1.was) ∷ known.1.after
+    around = in_order form id body place elements known.1 are
+
+    none_before : HasNone known.1.before id
+    none_before =
+        let same : is.elements ≡ elements = AreElements-same form body is.elements elements is.are_elements are in
+        none-counted id known.1.before
+        (omega (arith, is.count_is, once, ap (λ es. length (filter (has_id id) es)) (same ∙ around), count-around id known.1.before known.1.after known.1.was))
+
+    pub sole_found : IsSole elements (id, bytes)
+    sole_found = record {
+      before = known.1.before;
+      after = known.1.after;
+      was = known.1.was;
+      in_order = around;
+      none_before = none_before;
+      none_after = known.1.last;
+      as_many = let e = known.1.end_is in omega arith;
+    }
+
+    pub sole_set : (new : List ℕ) → new ≡ overwritten body place.data_start bytes → AreElements form new (put_element (id, bytes) elements)
+    sole_set new new_is =
+        let l = known.1 in
+        let set : SetsLast form id bytes body new = SetsLast-at form id bytes body new place l as_many new_is in
+        let listed : elements ≡ set.before ++ (id, set.was) ∷ set.after = AreElements-same form body elements (set.before ++ (id, set.was) ∷ set.after) are set.old_elements in
+        let same : is.elements ≡ elements = AreElements-same form body is.elements elements is.are_elements are in
+        let front : HasNone set.before id =
+        none-counted id set.before (omega (arith, is.count_is, once, ap (λ es. length (filter (has_id id) es)) (same ∙ listed), count-around id set.before set.after set.was)) in
+        subst (AreElements form new)
+        (sym (ap (put_element (id, bytes)) listed ∙ (put_element-last id bytes set.was set.before set.after set.last
+        ∙ ap (λ es. es ++ (id, bytes) ∷ set.after) (without-none id set.before front))))
+        set.new_elements

@@ -1,0 +1,176 @@
+-- How long a body's elements are with one put among them, and that they are read.
+use Rattle.std.proofs.Common.{◌≡◌, ◌≢◌, ℕ, ◌+◌, ◌-◌, ◌*◌, ◌≤◌, Bool, true, false, not, cond, List, [], ◌∷◌, ◌++◌, length, take, drop, replicate, Option, append_assoc, length-append, arith, refl, sym, ap, ◌∙◌, subst, inl, inr, ◌⊎◌}
+use Rattle.std.specs.List.{AllByRecursion, list_any, filter}
+use Rattle.std.proofs.lemmas.Bool.{eq-eqb, ne_eqb, false≢true}
+use Rattle.std.proofs.lemmas.List.{append-nil, drop_at}
+use Rattle.std.proofs.lemmas.List.Elements.{filter-append}
+use Rattle.rtp_ext.specs.declared.form.ExtensionsForm.{ExtensionsForm}
+use Rattle.rtp_ext.specs.declared.form.ExtensionsForm.TheVariants.{OneByte, TwoByte}
+use Rattle.rtp_ext.specs.declared.place.Place.{Place}
+use Rattle.rtp_ext.specs.declared.growing.Survey.{Survey}
+use Rattle.rtp_ext.specs.Elements.{Element, IsElement, element_bytes, elements_bytes, AreElements}
+use Rattle.rtp_ext.specs.ElementReading.{BeginsWithNoElement}
+use Rattle.rtp_ext.specs.ElementsInARow.{IsWritable}
+use Rattle.rtp_ext.specs.ElementsInPlace.{HasNone}
+use Rattle.rtp_ext.specs.ElementPlaces.{IsNextPlace, AreWhole}
+use Rattle.rtp_ext.specs.BodySurvey.{IsSurvey, IsWidthTo}
+use Rattle.rtp_ext.specs.PutElement.{has_id, without, put_element, carried_in, row_to}
+use Rattle.rtp_ext.proofs.PlaceLemmas.{passed_next, end_next, length-element}
+use Rattle.rtp_ext.proofs.PieceLemmas.{AreWhole-nil, AreWhole-append, AreWhole-next, AreElements-after, AreElements-none}
+use Rattle.rtp_ext.proofs.LastPlaceLemmas.{AreElements-same}
+use Rattle.rtp_ext.proofs.PutLemmas.{without-none}
+use Rattle.rtp_ext.proofs.GatheredLemmas.{elements_bytes-append, without-this, without-other}
+use Rattle.rtp_ext.proofs.WrittenElementsLemmas.{AreElements-in_a_row}
+use Rattle.rtp_ext.proofs.WidenAroundLemmas.{length-around}
+use Rattle.rtp_ext.proofs.AroundLemmas.{IsSplit}
+use Rattle.rtp_ext.proofs.AnewLemmas.{AreElements-each, without-each, carried_all, put_element-carried}
+
+-- ---- the elements without those of the id, around it
+
+without-split : (form : ExtensionsForm) (id start end : ℕ) (body : List ℕ) (elements : List Element) → (split : IsSplit form id body start end) → AreElements form body elements
+    → without id elements ≡ without id split.before ++ split.after
+without-split form id start end body elements split are = by_case (split.around elements are)
+  where
+    by_case : ((was : List ℕ) × (elements ≡ split.before ++ (id, was) ∷ split.after)) ⊎ (HasNone elements id × (split.before ≡ elements) × (split.after ≡ []))
+        → without id elements ≡ without id split.before ++ split.after
+    by_case (inl (was, is)) =
+        ap (without id) is ∙ (filter-append (λ (e : Element). not (has_id id e)) split.before ((id, was) ∷ split.after)
+        ∙ (ap (λ (b : Bool). without id split.before ++ cond (not b) ((id, was) ∷ without id split.after) (without id split.after)) (eq-eqb id id refl)
+        ∙ ap (λ es. without id split.before ++ es) (without-none id split.after split.none_after)))
+    by_case (inr (none, is, nothing)) =
+        ap (without id) (sym is) ∙ (sym (append-nil (without id split.before)) ∙ ap (λ es. without id split.before ++ es) (sym nothing))
+
+length-split : (form : ExtensionsForm) (xs ys : List Element) → length (elements_bytes form (xs ++ ys)) ≡ length (elements_bytes form xs) + length (elements_bytes form ys)
+length-split form xs ys = ap length (elements_bytes-append form xs ys) ∙ length-append (elements_bytes form xs) (elements_bytes form ys)
+
+module _ (form : ExtensionsForm) (id start end : ℕ) (body bytes : List ℕ) (elements : List Element) (split : IsSplit form id body start end) (are : AreElements form body elements) where
+  pub length-put_same : (new_form : ExtensionsForm) → new_form ≡ form
+      → length (elements_bytes new_form (put_element (id, bytes) (carried_in new_form elements))) ≡ length (elements_bytes form (without id elements)) + length (element_bytes new_form (id, bytes))
+  length-put_same new_form same =
+      let put : put_element (id, bytes) (carried_in new_form elements) ≡ without id split.before ++ (id, bytes) ∷ split.after =
+      ap (λ (f : ExtensionsForm). put_element (id, bytes) (carried_in f elements)) same
+      ∙ (ap (put_element (id, bytes)) (carried_all form elements (AreElements-each form body elements are)) ∙ split.put_is elements bytes are) in
+      omega (
+        arith,
+        ap (λ es. length (elements_bytes new_form es)) put,
+        ap (λ (f : ExtensionsForm). length (elements_bytes f (without id split.before ++ (id, bytes) ∷ split.after))) same,
+        ap (λ (f : ExtensionsForm). length (element_bytes f (id, bytes))) same,
+        length-around form (without id split.before) split.after (id, bytes),
+        ap (λ es. length (elements_bytes form es)) (without-split form id start end body elements split are),
+        length-split form (without id split.before) split.after,
+      )
+
+  pub length-put_wide : (new_form : ExtensionsForm) → new_form ≡ TwoByte → 1 ≤ id
+      → length (elements_bytes new_form (put_element (id, bytes) (carried_in new_form elements)))
+      ≡ length (elements_bytes TwoByte (without 0 (without id elements))) + length (element_bytes new_form (id, bytes))
+  length-put_wide new_form two above =
+      let put : put_element (id, bytes) (carried_in new_form elements) ≡ without 0 (without id split.before) ++ (id, bytes) ∷ without 0 split.after =
+      ap (λ (f : ExtensionsForm). put_element (id, bytes) (carried_in f elements)) two ∙ put_element-carried form id start end body bytes elements split above are in
+      omega (
+        arith,
+        ap (λ es. length (elements_bytes new_form es)) put,
+        ap (λ (f : ExtensionsForm). length (elements_bytes f (without 0 (without id split.before) ++ (id, bytes) ∷ without 0 split.after))) two,
+        ap (λ (f : ExtensionsForm). length (element_bytes f (id, bytes))) two,
+        length-around TwoByte (without 0 (without id split.before)) (without 0 split.after) (id, bytes),
+        ap (λ es. length (elements_bytes TwoByte (without 0 es))) (without-split form id start end body elements split are),
+        ap (λ es. length (elements_bytes TwoByte es)) (filter-append (λ (e : Element). not (has_id 0 e)) (without id split.before) split.after),
+        length-split TwoByte (without 0 (without id split.before)) (without 0 split.after),
+      )
+
+-- ---- that they are read
+
+put_element-each : (P : Element → Type 0) (new : Element) (elements : List Element) → AllByRecursion P elements → P new → AllByRecursion P (put_element new elements)
+put_element-each P new [] all is = (is, tt)
+put_element-each P new (element ∷ elements) all is = by_tests (has_id new.0 element) (list_any (has_id new.0) elements) (put_element-each P new elements all.1 is)
+  where
+    by_tests : (a b : Bool) → AllByRecursion P (put_element new elements)
+        → AllByRecursion P (cond a (cond b (put_element new elements) (new ∷ elements)) (element ∷ put_element new elements))
+    by_tests true true rest = rest
+    by_tests true false rest = (is, all.1)
+    by_tests false b rest = (all.0, rest)
+
+carried_wide : (elements : List Element) → AllByRecursion (IsElement OneByte) elements → AllByRecursion (IsElement TwoByte) (without 0 elements)
+carried_wide [] all = tt
+carried_wide (element ∷ elements) all = by_test (has_id 0 element) refl (carried_wide elements all.1)
+  where
+    by_test : (b : Bool) → has_id 0 element ≡ b → AllByRecursion (IsElement TwoByte) (without 0 elements)
+        → AllByRecursion (IsElement TwoByte) (cond (not (has_id 0 element)) (element ∷ without 0 elements) (without 0 elements))
+    by_test true is rest = subst (λ (b : Bool). AllByRecursion (IsElement TwoByte) (cond (not b) (element ∷ without 0 elements) (without 0 elements))) (sym is) rest
+    by_test false is rest =
+        let other : element.0 ≢ 0 = λ same. false≢true (sym is ∙ eq-eqb element.0 0 same) in
+        let here = all.0 in
+        subst (λ (b : Bool). AllByRecursion (IsElement TwoByte) (cond (not b) (element ∷ without 0 elements) (without 0 elements))) (sym is)
+        ((omega arith, omega arith, omega arith), rest)
+
+carried-each : (form new_form : ExtensionsForm) (elements : List Element) → (new_form ≡ form) ⊎ (new_form ≡ TwoByte) → AllByRecursion (IsElement form) elements
+    → AllByRecursion (IsElement new_form) (carried_in new_form elements)
+carried-each OneByte OneByte elements may all = all
+carried-each OneByte TwoByte elements may all = carried_wide elements all
+carried-each TwoByte TwoByte elements may all = without-each (IsElement TwoByte) 0 elements all
+carried-each TwoByte OneByte elements (inl same) all = cc
+carried-each TwoByte OneByte elements (inr two) all = cc
+
+pub row_to-read : (form new_form : ExtensionsForm) (body : List ℕ) (elements : List Element) (new : Element) (n : ℕ) → (new_form ≡ form) ⊎ (new_form ≡ TwoByte) → AreElements form body elements
+    → IsWritable new_form new → AreElements new_form (row_to new_form (put_element new (carried_in new_form elements)) n) (put_element new (carried_in new_form elements))
+row_to-read form new_form body elements new n may are writable =
+    AreElements-in_a_row new_form (put_element new (carried_in new_form elements)) (n - length (elements_bytes new_form (put_element new (carried_in new_form elements))))
+    (put_element-each (IsElement new_form) new (carried_in new_form elements) (carried-each form new_form elements may (AreElements-each form body elements are)) writable.1)
+
+-- ---- the length in the two-byte form, element by element
+
+pub IsWidthTo-start : (body : List ℕ) (id : ℕ) → IsWidthTo body 0 id 0
+IsWidthTo-start body id = record { passed = []; left = body; elements = []; are_whole = AreWhole-nil OneByte; body_is = refl; at_is = refl; len_is = refl; small = omega arith }
+
+module _ (body : List ℕ) (at id len : ℕ) (place : Place) (was : IsWidthTo body at id len) (next : IsNextPlace OneByte body at place) where
+  here : List ℕ
+  here = replicate next.padding 0 ++ element_bytes OneByte (place.id, next.bytes)
+
+  step : (new_len : ℕ) → new_len ≡ length (elements_bytes TwoByte (without 0 (without id (was.elements ++ (place.id, next.bytes) ∷ [])))) → new_len ≤ 2 * place.end → IsWidthTo body place.end id new_len
+  unfolding here
+  step new_len len_is small = record {
+    passed = was.passed ++ (replicate next.padding 0 ++ element_bytes OneByte (place.id, next.bytes));
+    left = next.after;
+    elements = was.elements ++ (place.id, next.bytes) ∷ [];
+    are_whole = AreWhole-append OneByte was.passed (replicate next.padding 0 ++ element_bytes OneByte (place.id, next.bytes)) was.elements ((place.id, next.bytes) ∷ [])
+        was.are_whole (AreWhole-next OneByte next.padding (place.id, next.bytes) next.is_element);
+    body_is = passed_next OneByte body was.passed was.left at place was.body_is was.at_is next;
+    at_is = end_next OneByte body was.passed at place was.at_is next;
+    len_is = len_is;
+    small = small;
+  }
+
+  pub IsWidthTo-this : place.id ≡ id → IsWidthTo body place.end id len
+  IsWidthTo-this this =
+      step len (was.len_is ∙ ap (λ es. length (elements_bytes TwoByte (without 0 es))) (sym (without-this id was.elements (place.id, next.bytes) this)))
+      (let s = was.small in omega (arith, next.start_is, next.data_is, next.end_is))
+
+  pub IsWidthTo-zero : place.id ≢ id → place.id ≡ 0 → IsWidthTo body place.end id len
+  IsWidthTo-zero other zero_id =
+      step len (was.len_is ∙ ap (λ es. length (elements_bytes TwoByte es)) (sym (ap (without 0) (without-other id was.elements (place.id, next.bytes) other)
+      ∙ without-this 0 (without id was.elements) (place.id, next.bytes) zero_id)))
+      (let s = was.small in omega (arith, next.start_is, next.data_is, next.end_is))
+
+  pub IsWidthTo-other : place.id ≢ id → place.id ≢ 0 → IsWidthTo body place.end id (len + (2 + (place.end - place.data_start)))
+  IsWidthTo-other other above =
+      let all : without 0 (without id (was.elements ++ (place.id, next.bytes) ∷ [])) ≡ without 0 (without id was.elements) ++ (place.id, next.bytes) ∷ [] =
+      ap (without 0) (without-other id was.elements (place.id, next.bytes) other) ∙ without-other 0 (without id was.elements) (place.id, next.bytes) above in
+      step (len + (2 + (place.end - place.data_start)))
+      (omega (
+        arith,
+        was.len_is,
+        next.end_is,
+        ap (λ es. length (elements_bytes TwoByte es)) all,
+        length-split TwoByte (without 0 (without id was.elements)) ((place.id, next.bytes) ∷ []),
+        ap length (append-nil (element_bytes TwoByte (place.id, next.bytes))),
+      ))
+      (let s = was.small in let e = next.is_element in omega (arith, next.start_is, next.data_is, next.end_is))
+
+pub IsWidthTo-end : (body : List ℕ) (at id len : ℕ) → IsWidthTo body at id len → BeginsWithNoElement OneByte (drop at body)
+    → (elements : List Element) → AreElements OneByte body elements → len ≡ length (elements_bytes TwoByte (without 0 (without id elements)))
+IsWidthTo-end body at id len was none elements are =
+    let all : AreElements OneByte body was.elements =
+    subst (λ b. AreElements OneByte b was.elements) (sym was.body_is)
+    (subst (AreElements OneByte (was.passed ++ was.left)) (append-nil was.elements)
+    (AreElements-after OneByte was.passed was.left was.elements [] was.are_whole
+    (subst (λ b. AreElements OneByte b []) (ap (drop at) was.body_is ∙ drop_at was.passed was.left at (sym was.at_is)) (AreElements-none OneByte (drop at body) none)))) in
+    was.len_is ∙ ap (λ es. length (elements_bytes TwoByte (without 0 (without id es)))) (AreElements-same OneByte body was.elements elements all are)

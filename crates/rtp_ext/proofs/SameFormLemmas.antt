@@ -1,0 +1,18 @@
+-- What a test of two forms says.
+use Rattle.std.proofs.Common.{◌≡◌, ◌≢◌, Bool, true, false, refl}
+use Rattle.rtp_ext.specs.declared.form.ExtensionsForm.{ExtensionsForm}
+use Rattle.rtp_ext.specs.declared.form.ExtensionsForm.TheVariants.{OneByte, TwoByte}
+use Rattle.rtp_ext.specs.contracts.form.ExtensionsForm.{the_type}
+use denote.Enum.Bare.{sameb}
+
+pub same_form : (a b : ExtensionsForm) → sameb the_type a b ≡ true → a ≡ b
+same_form OneByte OneByte is = refl
+same_form TwoByte TwoByte is = refl
+same_form OneByte TwoByte is = cc
+same_form TwoByte OneByte is = cc
+
+pub other_form : (a b : ExtensionsForm) → sameb the_type a b ≡ false → a ≢ b
+other_form OneByte OneByte is = cc
+other_form TwoByte TwoByte is = cc
+other_form OneByte TwoByte is = λ same. cc
+other_form TwoByte OneByte is = λ same. cc

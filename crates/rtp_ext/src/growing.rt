@@ -1,0 +1,305 @@
+//! A body that is made anew where it lies, with an element put into it or taken out of it, without
+//! memory.
+
+ghost use Rattle.std.specs.Prelude.{◌≡◌, ◌↔◌, ℕ, ◌+◌, ◌-◌, ◌*◌, ◌≤◌, ◌∷◌, ◌++◌, ◌⊎◌, List, length, take, drop, slice_range, IsTrue, IfSome, IfNone};
+ghost use Rattle.std.specs.Bool.{OnTrue, OnFalse};
+ghost use Rattle.rtp_ext.specs.declared.form.ExtensionsForm.TheVariants.{OneByte, TwoByte};
+ghost use Rattle.rtp_ext.specs.Elements.{Element, AreElements, element_bytes, elements_bytes};
+ghost use Rattle.rtp_ext.specs.ElementsInARow.{IsWritable};
+ghost use Rattle.rtp_ext.specs.ElementsInPlace.{SetsLast};
+ghost use Rattle.rtp_ext.specs.BodySurvey.{IsSurvey, IsGathered, HasRows, HasNarrowRows, IsWideRow, IsWidened, IsTakenOut};
+ghost use Rattle.rtp_ext.specs.PutElement.{without, put_element, carried_in, needed_form, allowed_form, row_to, IsSole};
+
+use super::ExtensionsForm;
+use super::form::{form_with, header_len, write_header};
+use super::place::{Place, next_place};
+use super::raw_writing::put_element;
+use rtp_base::{put, put_zeros};
+
+/// What a body has of an id, and how much besides.
+#[derive(Clone, Copy, Drop)]
+pub struct Survey {
+    /// The place of its last element, and `None` where no element has the id.
+    pub last: Option<Place>,
+    /// How many elements have the id.
+    pub count: usize,
+    /// How many bytes the elements of other ids take.
+    pub others_len: usize,
+}
+
+/// What a block's body has of an id (RFC 8285, 4.2 and 4.3), found in one walk.
+pub fn survey_of(form: ExtensionsForm, body: &[u8], id: u8) -> Survey
+    ensures { IsSurvey form body.now id result }
+{
+    let mut last = None;
+    let mut count = 0;
+    let mut others_len = 0;
+    let mut at = 0;
+    while let Some(place) = next_place(form, body, at) {
+        at = place.end;
+        if place.id == id {
+            last = Some(place);
+            count += 1;
+        } else {
+            others_len += place.end - place.start;
+        }
+    }
+    Survey {
+        last,
+        count,
+        others_len,
+    }
+}
+
+// Puts the elements of other ids in a row at the front, in order, and returns how many bytes they take.
+fn gather(form: ExtensionsForm, body: &mut [u8], id: u8) -> usize
+    ensures { IsGathered form id body.old body.new result }
+{
+    let mut len = 0;
+    let mut at = 0;
+    while let Some(place) = next_place(form, body, at) {
+        at = place.end;
+        if place.id == id {
+            continue;
+        }
+        if len < place.start {
+            body.copy_within(place.start..place.end, len);
+        }
+        len += place.end - place.start;
+    }
+    len
+}
+
+/// The form that a block gets with an element put into it, where it has this form or there is none yet
+/// (RFC 8285, 4.1.2): the one that it needs, which is the two-byte form where it has that, or the
+/// one-byte form can't carry the element; or the one form that is allowed, where that serves. `None`
+/// where it doesn't: the block needs the two-byte form, and only the one-byte form is allowed.
+pub fn form_to_put(
+    block: Option<ExtensionsForm>,
+    allowed: Option<ExtensionsForm>,
+    id: u8,
+    data: &[u8],
+) -> Option<ExtensionsForm>
+    ensures { result ≡ allowed_form allowed (needed_form block (id, «data».now)) }
+{
+    let needed = form_with(block.unwrap_or(ExtensionsForm::OneByte), id, data);
+    match (allowed, needed) {
+        (None, needed) => Some(needed),
+        (Some(ExtensionsForm::TwoByte), _) => Some(ExtensionsForm::TwoByte),
+        (Some(ExtensionsForm::OneByte), ExtensionsForm::OneByte) => Some(ExtensionsForm::OneByte),
+        (Some(ExtensionsForm::OneByte), ExtensionsForm::TwoByte) => None,
+    }
+}
+
+/// Gives the element of the id these data where it lies, where it is the only one and has as many
+/// bytes, and returns whether it is; all other bytes stay. Else nothing changes.
+pub fn set_sole(body: &mut [u8], survey: &Survey, id: u8, data: &[u8]) -> bool
+    requires { (form : ExtensionsForm) × IsSurvey form body.old id survey.now }
+    ensures set { (form : ExtensionsForm) → IsSurvey form body.old id survey.now →
+        OnTrue result (SetsLast form id «data».now body.old body.new) }
+    ensures unchanged { OnFalse result (body.new ≡ body.old) }
+    ensures answer { (form : ExtensionsForm) (elements : List Element) → IsSurvey form body.old id survey.now →
+        AreElements form body.old elements → IsTrue result ↔ IsSole elements (id, «data».now) }
+    ensures elements { (form : ExtensionsForm) (elements : List Element) → IsSurvey form body.old id survey.now →
+        AreElements form body.old elements →
+        OnTrue result (AreElements form body.new (put_element (id, «data».now) elements)) }
+{
+    let Some(place) = survey.last else {
+        return false;
+    };
+    if survey.count != 1 || place.end - place.data_start != data.len() {
+        return false;
+    }
+    put(body, place.data_start, data);
+    true
+}
+
+// Puts the element after so many bytes at the front of the body, and behind it the `count` bytes at the
+// offset. Returns where these end.
+fn put_between(
+    form: ExtensionsForm,
+    body: &mut [u8],
+    front: usize,
+    at: usize,
+    count: usize,
+    id: u8,
+    data: &[u8],
+) -> usize
+    requires writable { IsWritable form (id, «data».now) }
+    requires order { front ≤ at }
+    requires within { at + count ≤ length body.old }
+    requires room { front + length (element_bytes form (id, «data».now)) + count ≤ length body.old }
+    ensures row { take result body.new ≡ take front body.old
+        ++ (element_bytes form (id, «data».now) ++ slice_range body.old at (at + count)) }
+    ensures end { result ≡ front + length (element_bytes form (id, «data».now)) + count }
+{
+    let end = front + header_len(form) + data.len();
+    body.copy_within(at..at + count, end);
+    put_element(body, front, form, id, data);
+    end + count
+}
+
+impl Survey {
+    // Where the bytes before the last element of the id end, and those after it begin. Without one all of
+    // the body is before it.
+    fn around(&self, body_len: usize) -> (usize, usize)
+        ensures some { IfSome self.now.last (λ place. (result.0 ≡ place.start) × (result.1 ≡ place.end)) }
+        ensures none { IfNone self.now.last ((result.0 ≡ body_len) × (result.1 ≡ body_len)) }
+    {
+        match self.last {
+            Some(place) => (place.start, place.end),
+            None => (body_len, body_len),
+        }
+    }
+}
+
+// Puts the elements of other ids before an offset in a row at the front, and those between two further
+// offsets in a row from the first of these on. Returns how many bytes they take, there and there.
+fn gather_around(
+    form: ExtensionsForm,
+    body: &mut [u8],
+    start: usize,
+    end: usize,
+    body_len: usize,
+    id: u8,
+) -> (usize, usize)
+    requires order { start ≤ end }
+    requires after { end ≤ body_len }
+    requires within { body_len ≤ length body.old }
+    ensures { HasRows form id body.old body.new start end body_len result.0 result.1 }
+{
+    let front = gather(form, &mut body[..start], id);
+    let count = gather(form, &mut body[end..body_len], id);
+    (front, count)
+}
+
+// Puts elements of the one-byte form, which are the last `len` bytes of the room, to its front in the
+// two-byte form. Returns how many bytes they then take.
+fn widen(room: &mut [u8], len: usize) -> usize
+    requires { IsWideRow room.old len }
+    ensures { IsWidened room.old room.new len result }
+{
+    let mut end = 0;
+    let mut at = room.len() - len;
+    while let Some(place) = next_place(ExtensionsForm::OneByte, room, at) {
+        at = place.end;
+        let data_len = place.end - place.data_start;
+        room.copy_within(place.data_start..place.end, end + 2);
+        write_header(room, end, ExtensionsForm::TwoByte, place.id, data_len as u8);
+        end += 2 + data_len;
+    }
+    end
+}
+
+// The same as `put_between` of elements in the one-byte form, which are put in the two-byte form, except for
+// those of the id 0.
+fn put_widened(body: &mut [u8], front: usize, at: usize, count: usize, id: u8, data: &[u8]) -> usize
+    requires writable { IsWritable TwoByte (id, «data».now) }
+    requires rows { HasNarrowRows body.old front at count (id, «data».now) }
+    ensures row { (rows : HasNarrowRows body.old front at count (id, «data».now)) →
+        take result body.new ≡ elements_bytes TwoByte
+        (without 0 rows.before ++ (id, «data».now) ∷ without 0 rows.after) }
+    ensures end { (rows : HasNarrowRows body.old front at count (id, «data».now)) →
+        result ≡ length (elements_bytes TwoByte
+        (without 0 rows.before ++ (id, «data».now) ∷ without 0 rows.after)) }
+{
+    let form = ExtensionsForm::OneByte;
+    let (front, count) = gather_around(form, body, front, at, at + count, 0);
+    let rest = body.len() - count;
+    body.copy_within(at..at + count, rest);
+    body.copy_within(..front, rest - front);
+    let front = widen(&mut body[..rest], front);
+    let at = put_element(body, front, ExtensionsForm::TwoByte, id, data);
+    at + widen(&mut body[at..], count)
+}
+
+/// Makes a body anew with the element in it, in this form or the two-byte form (RFC 8285, 4.2 and 4.3):
+/// the elements in a row, and zeros to the end of the slice, at whose front the body lies.
+pub fn put_anew(
+    form: ExtensionsForm,
+    new_form: ExtensionsForm,
+    body: &mut [u8],
+    body_len: usize,
+    survey: &Survey,
+    id: u8,
+    data: &[u8],
+)
+    requires within { body_len ≤ length body.old }
+    requires survey { IsSurvey form (take body_len body.old) id survey.now }
+    requires writable { IsWritable new_form (id, «data».now) }
+    requires forms { (new_form ≡ form) ⊎ (new_form ≡ TwoByte) }
+    requires room { (elements : List Element) → AreElements form (take body_len body.old) elements →
+        length (elements_bytes new_form (put_element (id, «data».now) (carried_in new_form elements)))
+        ≤ length body.old }
+    ensures row { (elements : List Element) → AreElements form (take body_len body.old) elements →
+        body.new ≡ row_to new_form (put_element (id, «data».now) (carried_in new_form elements))
+        (length body.old) }
+    ensures elements { (elements : List Element) → AreElements form (take body_len body.old) elements →
+        AreElements new_form body.new (put_element (id, «data».now) (carried_in new_form elements)) }
+{
+    let (start, end) = survey.around(body_len);
+    let (front, count) = gather_around(form, body, start, end, body_len, id);
+    let len = if new_form == form {
+        put_between(form, body, front, end, count, id, data)
+    } else {
+        put_widened(body, front, end, count, id, data)
+    };
+    let left = body.len() - len;
+    put_zeros(body, len, left);
+}
+
+// How many bytes the elements of other ids take in the two-byte form, without those of the id 0.
+fn widened_len(body: &[u8], id: u8) -> usize
+    requires { length body.now ≤ 262140 }
+    ensures length { (elements : List Element) → AreElements OneByte body.now elements →
+        result ≡ length (elements_bytes TwoByte (without 0 (without id elements))) }
+    ensures few { result ≤ 2 * length body.now }
+{
+    let mut len = 0;
+    let mut at = 0;
+    while let Some(place) = next_place(ExtensionsForm::OneByte, body, at) {
+        at = place.end;
+        if place.id != id && place.id != 0 {
+            len += 2 + (place.end - place.data_start);
+        }
+    }
+    len
+}
+
+/// How many bytes the elements of a body take with this one put among them, in this form or the
+/// two-byte form.
+pub fn put_len(
+    form: ExtensionsForm,
+    new_form: ExtensionsForm,
+    body: &[u8],
+    survey: &Survey,
+    id: u8,
+    data: &[u8],
+) -> usize
+    requires few { length body.now ≤ 262140 }
+    requires survey { IsSurvey form body.now id survey.now }
+    requires writable { IsWritable new_form (id, «data».now) }
+    requires forms { (new_form ≡ form) ⊎ (new_form ≡ TwoByte) }
+    ensures length { (elements : List Element) → AreElements form body.now elements →
+        result ≡ length (elements_bytes new_form
+        (put_element (id, «data».now) (carried_in new_form elements))) }
+    ensures few { result ≤ 2 * length body.now + 257 }
+{
+    let others_len = if new_form == form {
+        survey.others_len
+    } else {
+        widened_len(body, id)
+    };
+    others_len + header_len(new_form) + data.len()
+}
+
+/// Makes a body anew without the elements of the id (RFC 8285, 4.2 and 4.3): the others in a row, and
+/// zeros to its end. Returns how many bytes the row takes.
+pub fn take_out(form: ExtensionsForm, body: &mut [u8], id: u8) -> usize
+    ensures { IsTakenOut form id body.old body.new result }
+{
+    let len = gather(form, body, id);
+    let left = body.len() - len;
+    put_zeros(body, len, left);
+    len
+}
