@@ -244,7 +244,8 @@ func TestOwnKinds(t *testing.T) {
 	for _, kind := range []rtpwire.Kind{16, 127} {
 		same(t, "no kind", []any{to.Set(1, kind), to.IDOf(kind)}, []any{rtpwire.ErrBadField, uint8(0)})
 	}
-	same(t, "set", []error{to.Set(8, 255), to.Set(9, rtpwire.KindMID)}, []error{nil, nil})
+	same(t, "set", []error{to.Set(12, 255), to.Set(8, 255), to.Set(9, rtpwire.KindMID)}, []error{nil, nil, nil})
+	same(t, "the lowest", []uint8{to.IDOf(255), (*rtpwire.Map)(nil).IDOf(255)}, []uint8{8, 0})
 	ids := rtpwire.NewIDsBetween(from, to)
 	same(t, "new ids", []uint8{ids.Get(5), ids.Get(6), ids.Get(7)}, []uint8{8, 9, 0})
 
@@ -292,4 +293,5 @@ func TestDataOf(t *testing.T) {
 	v.SetVideoOrientation(45)
 	_, err := v.DataOf(rtpwire.KindMID, buf)
 	same(t, "a value of another kind", err, rtpwire.ErrBadField)
+	same(t, "unchanged", buf, make([]byte, rtpwire.MostData))
 }

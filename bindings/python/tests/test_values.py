@@ -180,9 +180,10 @@ class OwnKinds(unittest.TestCase):
         self.assertEqual((len(Kind), Kind.from_uri("urn:x")), (17, Kind.NONE))
 
     def test_ids(self) -> None:
-        map = Map({9: Kind.MID, 4: Kind.MID, 5: Kind(130)})
+        map = Map({9: Kind.MID, 4: Kind.MID, 12: Kind(130), 5: Kind(130)})
         ids = [map.id_of(it) for it in (Kind.MID, Kind(130), Kind(131), Kind.RID, Kind.NONE)]
         self.assertEqual(ids, [4, 5, None, None, None])
+        self.assertIsNone(map.id_of(100))  # type: ignore[arg-type]
         self.assertIs(map[5], Kind(130))
         self.assertEqual(pickle.loads(pickle.dumps(map)), map)
         with self.assertRaises(BadField):
