@@ -66,8 +66,8 @@ type VideoTiming struct {
 }
 
 // Data writes the data that an element of the kind has for these values to the front of buf, to set it where it lies
-// (SetElement), and says how many bytes they are. It returns ErrNotFound where a value that the kind needs isn't there, as
-// always for KindLayers, KindColorSpace and the caller's own; ErrBadField where the kind is KindNone or one of 16 to
+// (SetElement), and says how many bytes they are. It returns ErrNotFound where a value that the kind needs isn't there,
+// as always for KindLayers, KindColorSpace and the caller's own; ErrBadField where the kind is KindNone or one of 16 to
 // 127, or a value that is there is bad; or ErrShortBuffer. Where it returns an error it writes nothing.
 func (v *Values) Data(buf []byte, kind Kind) (int, error) {
 	return v.data(buf, kind)

@@ -143,22 +143,26 @@ class Maps(unittest.TestCase):
         )
 
     def test_own_kinds(self) -> None:
-        map = Map({9: 200, 3: Kind.OWN, 12: 200, 4: Kind.MID})
-        self.assertEqual((map[9], map[3], map[4]), (200, Kind.OWN, Kind.MID))
-        self.assertEqual((map.id_of(200), map.id_of(Kind.MID), map.id_of(201)), (9, 4, None))
-        self.assertEqual((map.id_of(Kind.NONE), map.id_of(100)), (None, None))
+        own = Kind(200)
+        map = Map({9: own, 3: Kind.OWN, 12: own, 4: Kind.MID})
+        self.assertEqual((map[9], map[3], map[4], map[9].name), (own, Kind.OWN, Kind.MID, "OWN_200"))
+        self.assertEqual((map.id_of(own), map.id_of(Kind.MID), map.id_of(Kind(201))), (9, 4, None))
+        self.assertEqual((map.id_of(Kind.NONE), pickle.loads(pickle.dumps(map))), (None, map))
+        for number in (16, 127, 256):
+            with self.assertRaises(ValueError):
+                Kind(number)
         with self.assertRaises(BadField):
-            map[1] = 127
-        self.assertEqual(dict(NewIds.between(Map({1: 200, 2: 201, 5: Kind.OWN}), map)), {1: 9, 5: 3})
+            map[1] = 127  # type: ignore[assignment]
+        sender = Map({1: own, 2: Kind(201), 5: Kind.OWN})
+        self.assertEqual(dict(NewIds.between(sender, map)), {1: 9, 5: 3})
 
     def test_data_of_one_kind(self) -> None:
         values = Values(send_time=40_000_000, mid="v")  # 2^18 * 40 of 40 seconds
         self.assertEqual(values.data_of(Kind.ABS_SEND_TIME), bytes([0xA0, 0, 0]))
         self.assertEqual((values.data_of(Kind.MID), values.data_of(Kind.RID)), (b"v", None))
-        self.assertEqual((values.data_of(Kind.LAYERS), values.data_of(255)), (None, None))
-        for kind in (Kind.NONE, 16, 127):
-            with self.assertRaises(BadField):
-                values.data_of(kind)
+        self.assertEqual((values.data_of(Kind.LAYERS), values.data_of(Kind(255))), (None, None))
+        with self.assertRaises(BadField):
+            values.data_of(Kind.NONE)
         with self.assertRaises(BadField):
             Values(video_orientation=45).data_of(Kind.MID)
 

@@ -10,8 +10,12 @@ from ._errors import check, unsigned, within
 
 
 class Kind(IntEnum):
-    """The kinds of header extension, by numbers of this library; those from OWN to 255 are the caller's, for extensions
-    that have no value here, as a dependency descriptor. What reads and writes values passes over the ids of these."""
+    """The kinds of header extension, by numbers of this library. Kind(OWN) to Kind(255) are the caller's own, for
+    extensions that have no value here, as a dependency descriptor: what reads and writes values passes over their ids.
+
+    >>> Kind(200)
+    <Kind.OWN_200: 200>
+    """
 
     NONE = 0
     ABS_SEND_TIME = 1
@@ -32,15 +36,21 @@ class Kind(IntEnum):
     OWN = 128
 
     @classmethod
+    def _missing_(cls, value: object) -> Optional[Kind]:
+        if not isinstance(value, int) or not cls.OWN < value < 256:
+            return None
+        own = int.__new__(cls, value)
+        own._name_, own._value_ = f"OWN_{value}", value
+        return own
+
+    def __reduce_ex__(self, protocol: object) -> Tuple[object, ...]:
+        return Kind, (int(self),)
+
+    @classmethod
     def from_uri(cls, uri: str) -> Kind:
         """The kind whose URI this is, letter for letter; NONE where it is that of none."""
         data = uri.encode()
         return cls(_library.kind_of_uri(data, len(data)))
-
-
-def _kind_of(number: int) -> int:
-    """The kind of the number, or the number itself where it is one of the caller's own."""
-    return Kind(number) if number <= Kind.OWN else number
 
 
 Entry = TypeVar("Entry", bound=int)
@@ -73,9 +83,9 @@ class _Table(MutableMapping[int, Entry]):
         return type(self), (dict(self),)
 
 
-class Map(_Table[int]):
+class Map(_Table[Kind]):
     """Which extension each id means, as the lines `a=extmap` of SDP say it (RFC 8285, 5): a mapping from ids, 1 to
-    255, to kinds, where those of the caller's own above Kind.OWN are numbers.
+    255, to kinds.
 
     >>> Map({1: Kind.AUDIO_LEVEL})[1].name
     'AUDIO_LEVEL'
@@ -83,7 +93,7 @@ class Map(_Table[int]):
 
     __slots__ = ()
 
-    def __init__(self, kinds: Union[Mapping[int, int], Iterable[Tuple[int, int]]] = ()) -> None:
+    def __init__(self, kinds: Union[Mapping[int, Kind], Iterable[Tuple[int, Kind]]] = ()) -> None:
         self._raw = _library.RawMap()
         self.update(kinds)
 
@@ -100,17 +110,17 @@ class Map(_Table[int]):
         """The map of the URIs by their ids. An id whose URI is of no kind has no entry."""
         return cls([(id, Kind.from_uri(uri)) for id, uri in dict(uris).items()])
 
-    def __getitem__(self, id: int) -> int:
+    def __getitem__(self, id: int) -> Kind:
         kind = _library.map_get(self._raw, id) if 0 < id < 256 else 0
         if not kind:
             raise KeyError(id)
-        return _kind_of(kind)
+        return Kind(kind)
 
-    def id_of(self, kind: int) -> Optional[int]:
+    def id_of(self, kind: Kind) -> Optional[int]:
         """The lowest id that means the kind: that of the element to set, say. None where no id does."""
         return _library.id_of(self._raw, unsigned("a kind", kind, 8)) or None
 
-    def __setitem__(self, id: int, kind: int) -> None:
+    def __setitem__(self, id: int, kind: Kind) -> None:
         """The id means the kind from now on, or nothing with Kind.NONE. BadField where the id isn't 1 to 255, or the
         kind is one of 16 to 127."""
         check(_library.map_set(self._raw, unsigned("an id", id, 8), unsigned("a kind", kind, 8)))

@@ -12,7 +12,7 @@ from . import _library
 from ._buffers import address_of, place_of
 from ._errors import BadField, Status, check, unsigned, within
 from ._layers import Layers
-from ._map import Map
+from ._map import Kind, Map
 
 if TYPE_CHECKING:
     from ._buffers import Buffer
@@ -88,10 +88,10 @@ class Values:
         check(_library.values_read(at, len(data), unsigned("a form", form, 8), map._raw, raw))
         return values_of(raw)
 
-    def data_of(self, kind: int) -> Optional[bytes]:
+    def data_of(self, kind: Kind) -> Optional[bytes]:
         """The data that an element of the kind has for these values, to set it where it lies. None where a value that
         the kind needs isn't there, as always for Kind.LAYERS, Kind.COLOR_SPACE and the caller's own. BadField where
-        the kind is Kind.NONE or one of 16 to 127, or a value is out of its range."""
+        the kind is Kind.NONE, or a value is out of its range."""
         raw, length, buf = _library.RawValues(), c_size_t(), bytearray(255)
         put_values(raw, self)
         number = unsigned("a kind", kind, 8)
