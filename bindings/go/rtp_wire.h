@@ -227,7 +227,8 @@ RTPW_CHECKED int32_t rtpw_last_element(const uint8_t *body, size_t body_len, uin
 
 /* ---- The values of a block ---- */
 
-/* The kinds of extension, by numbers of this library. */
+/* The kinds of extension, by numbers of this library, and from RTPW_KIND_OWN to 255 by yours: extensions
+ * that have no value here, as a dependency descriptor, whose elements the caller reads and writes. */
 enum {
     RTPW_KIND_NONE = 0,
     RTPW_KIND_ABS_SEND_TIME = 1,
@@ -242,13 +243,15 @@ enum {
     RTPW_KIND_RID = 10,
     RTPW_KIND_REPAIRED_RID = 11,
     RTPW_KIND_MID = 12,
-    RTPW_KIND_FRAME_MARKING = 13,
+    RTPW_KIND_FRAME_MARKING = 13, /* of four bytes; not that of RFC 9626, whose elements have one or three: read these yourself */
     RTPW_KIND_COLOR_SPACE = 14,
-    RTPW_KIND_LAYERS = 15
+    RTPW_KIND_LAYERS = 15,
+    RTPW_KIND_OWN = 128
 };
 
-/* kind[id] is the kind that the id means; another number than one of those above means none, and
- * kind[0] isn't looked at. It may be filled by hand, copied, stored, and shared as static const:
+/* kind[id] is the kind that the id means; a number from 16 to 127 means none, and kind[0] isn't looked at.
+ * What reads and writes values passes over the ids of your own kinds as over those that mean none. It may be
+ * filled by hand, copied, stored, and shared as static const:
  *
  *     rtpw_map map = {{0}};
  *     map.kind[3] = RTPW_KIND_AUDIO_LEVEL;
@@ -264,14 +267,16 @@ typedef struct {
     uint8_t kind[256];
 } rtpw_map;
 
-/* The kind whose URI these bytes are, letter for letter; RTPW_KIND_NONE where it is that of none. The
- * URI is the bytes alone, without a zero behind them. */
+/* The kind whose URI these bytes are, letter for letter; RTPW_KIND_NONE where it is that of none, as for
+ * those of your own kinds. The URI is the bytes alone, without a zero behind them. */
 uint8_t rtpw_kind_of_uri(const uint8_t *uri, size_t len);
 /* The id means the kind from now on, or nothing with RTPW_KIND_NONE. RTPW_OK, or RTPW_BAD_FIELD where the
- * id is 0 or the kind is none of those above; then nothing changes. */
+ * id is 0 or the kind is one of 16 to 127; then nothing changes. */
 RTPW_CHECKED int32_t rtpw_map_set(rtpw_map *map, uint8_t id, uint8_t kind);
 /* The kind that the id means; RTPW_KIND_NONE where it means none. */
 uint8_t rtpw_map_get(const rtpw_map *map, uint8_t id);
+/* The lowest id that means the kind; 0 where none does, as for RTPW_KIND_NONE and 16 to 127. */
+uint8_t rtpw_id_of(const rtpw_map *map, uint8_t kind);
 /* The map of the usual ids, whatever it was: 1 audio level, 2 send time, 3 transport number, 4 mid, 10
  * rid, 11 repaired rid, 13 video orientation; RTPW_KIND_NONE at each other index, 0 too. */
 void rtpw_map_standard(rtpw_map *map);
@@ -332,6 +337,22 @@ typedef struct {
  * id of an element of two bytes or more), and given back before the call returns. */
 RTPW_CHECKED int32_t rtpw_values_read(const uint8_t *body, size_t body_len, uint8_t form, const rtpw_map *map,
                                       rtpw_values *values);
+
+/* Writes the data that an element of the kind has for these values, as rtpw_write would, to the front of the
+ * buffer; bytes after them stay. So one value is set where it lies:
+ *
+ *     uint8_t data[3];
+ *     size_t data_len;
+ *     if (rtpw_data_of(RTPW_KIND_ABS_SEND_TIME, &values, data, sizeof data, &data_len) == RTPW_OK) {
+ *         uint8_t id = rtpw_id_of(&map, RTPW_KIND_ABS_SEND_TIME);
+ *         status = rtpw_set_element(datagram, len, id, data, data_len);
+ *     }
+ *
+ * RTPW_OK; RTPW_BAD_FIELD where the kind is RTPW_KIND_NONE or one of 16 to 127, or a value that is there,
+ * of this kind or not, is one for which rtpw_write returns it; RTPW_NONE where a value that the kind needs
+ * isn't there, and always for RTPW_KIND_COLOR_SPACE, RTPW_KIND_LAYERS and kinds of your own;
+ * RTPW_SHORT_BUFFER. */
+RTPW_CHECKED int32_t rtpw_data_of(uint8_t kind, const rtpw_values *values, uint8_t *buf, size_t size, size_t *len);
 
 /* ---- A header, read and written ---- */
 
@@ -451,9 +472,9 @@ typedef struct {
     uint8_t id[256];
 } rtpw_new_ids;
 
-/* For each id of a kind in `from` its lowest id in `to`, and 0 for all others, as for a URI without a kind
- * and at index 0.
- * Make it once for two streams:
+/* For each id of a kind in `from`, your own kinds too, its lowest id in `to`, and 0 for all others and at
+ * index 0. So elements of an extension that has no kind here go on if both maps give it one number of your
+ * own. Make it once for two streams:
  *
  *     rtpw_new_ids_between(&publisher.map, &subscriber.map, &route.ids);
  *     ...

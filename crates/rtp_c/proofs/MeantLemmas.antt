@@ -9,7 +9,7 @@ use Rattle.rtp_values.specs.KnownKind.{extension_of_kind}
 use Rattle.rtp_values.specs.declared.kind.Extension.{Extension}
 use Rattle.rtp_values.specs.declared.known_kind.KnownKind.{KnownKind}
 use Rattle.rtp_values.proofs.KindLemmas.{one_kind}
-use Rattle.rtp_ext.specs.ExtensionMap.{IsLowest, extension_at}
+use Rattle.rtp_ext.specs.ExtensionMap.{extension_at}
 use Rattle.rtp_ext.specs.NewIds.{IsNewId, CarriesExtensions, new_id, id_in_byte, ids_in_bytes}
 use Rattle.rtp_c.specs.KindNumbers.{kind_number, kind_numbered, numbered_kinds, IsNamed}
 use Rattle.rtp_c.specs.StoredMap.{IsFirstNumber, Means, IsNumberAt, IsIdOf, IsLowestOf, AreNewIdsOf, CarryKinds, numbered_slots}

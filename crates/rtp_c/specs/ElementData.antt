@@ -7,7 +7,7 @@ use Rattle.rtp_values.specs.declared.known_kind.KnownKind.{KnownKind}
 use Rattle.rtp_values.specs.declared.value.values.ExtensionValues.{ExtensionValues}
 use Rattle.rtp_c.specs.declared.values.ValuesView.{ValuesView}
 use Rattle.rtp_c.specs.Given.{AreGivenValues}
-use Rattle.rtp_c.specs.KindNumbers.{kind_number, IsNamed, IsKindNumbered}
+use Rattle.rtp_c.specs.KindNumbers.{IsNamed, IsKindNumbered}
 
 -- the number names an extension, its kind if it is one, and these values are given
 pub record IsAskedFor (number : ℕ) (view : ValuesView) (kind : Option KnownKind) (values : ExtensionValues) : Type 0 where
