@@ -1,5 +1,5 @@
 -- A receiver in the memory of C whose sender may start again: what it says of a packet, and that it always holds some set.
-use Rattle.std.proofs.Common.{◌≡◌, ℕ, ◌<◌, ℤ, false, inl, inr, refl, sym, subst, arith}
+use Rattle.std.proofs.Common.{◌≡◌, ℕ, ℤ, false, inl, inr, refl, sym, subst, arith}
 use Rattle.std.proofs.lemmas.Bool.{cases_eq}
 use Rattle.rtp_base.specs.Ring.{ring_bits}
 use Rattle.rtp_base.specs.Window.{Numbers}

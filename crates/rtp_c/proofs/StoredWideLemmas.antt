@@ -1,5 +1,5 @@
 -- A window in words that the caller has: what it accepts, what it keeps once a number is taken, and that it always keeps some set.
-use Rattle.std.proofs.Common.{◌≡◌, ◌≢◌, ℕ, ◌+◌, ◌-◌, ◌*◌, ◌<◌, ◌≤◌, ◌⊎◌, ◌↔◌, IsTrue, nat_eq, ℤ, to_z, of_z, w32, Bool, true, false, ◌||◌, List, length, get_or, map, inl, inr, refl, sym, ap, ◌∙◌, subst, arith}
+use Rattle.std.proofs.Common.{◌≡◌, ◌≢◌, ℕ, ◌+◌, ◌-◌, ◌*◌, ◌<◌, ◌⊎◌, ◌↔◌, IsTrue, nat_eq, ℤ, to_z, of_z, w32, Bool, true, false, ◌||◌, List, length, get_or, map, inl, inr, refl, sym, ap, ◌∙◌, subst, arith}
 use Rattle.std.proofs.lemmas.Bool.{eq-eqb, ne_eqb, or_right, false≢true, cases_lt, cases_eq}
 use Rattle.std.proofs.lemmas.List.FromFn.{get_or-map-range_with_len}
 use Rattle.std.specs.List.{range_with_len}
@@ -10,7 +10,7 @@ use Rattle.rtp_base.proofs.WindowLemmas.{AcceptsOf-low, KeepsOf-first, KeepsOf-s
 use Rattle.rtp_wire.specs.Receiver.{IsNothing, IsFreshOf}
 use Rattle.rtp_c.specs.declared.wide_receiver.StoredWideReceiver.{StoredWideReceiver}
 use Rattle.rtp_c.specs.StoredWideReceiver.{IsReceivedAs}
-use Rattle.rtp_c.specs.StoredWindow.{IsRestored, HoldsWindow, HoldsStored}
+use Rattle.rtp_c.specs.StoredWindow.{HoldsWindow, HoldsStored}
 
 or_none : (x y : Bool) → y ≡ false → (x || y) ≡ x
 or_none true y none = refl

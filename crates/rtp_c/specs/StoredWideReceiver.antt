@@ -1,5 +1,5 @@
 -- A receiver in the memory of C whose window has another size: its words are the caller's.
-use Rattle.std.specs.Prelude.{◌≡◌, ℕ, ◌*◌, ◌<◌, ◌≤◌, ◌⊎◌, List, Bool, true, length, ℤ}
+use Rattle.std.specs.Prelude.{◌≡◌, ℕ, ◌*◌, ◌<◌, ◌≤◌, ◌⊎◌, List, true, length, ℤ}
 use Rattle.rtp_base.specs.Ring.{ring_size, ring_bit, ring_bits}
 use Rattle.rtp_base.specs.Window.{Numbers, including}
 use Rattle.rtp_wire.specs.Receiver.{IsNumberOf, IsFreshOf}

@@ -1,5 +1,5 @@
 -- Runs of packets whose sender may start again: the verdicts by what came before, and what follows for whole runs.
-use Rattle.std.proofs.Common.{◌≡◌, ℕ, zero, suc, ◌+◌, ◌-◌, ◌%◌, ◌^◌, ◌<◌, ◌≤◌, ◌⊎◌, ◌↔◌, min, Bool, true, false, List, [], ◌∷◌, refl, sym, ap, ◌∙◌, subst, inl, inr, arith}
+use Rattle.std.proofs.Common.{◌≡◌, ℕ, zero, suc, ◌+◌, ◌%◌, ◌^◌, ◌<◌, ◌≤◌, ◌⊎◌, ◌↔◌, min, false, List, [], ◌∷◌, refl, sym, ◌∙◌, subst, inl, inr, arith}
 use Rattle.std.specs.Prelude.{Option, Some, None}
 use Rattle.std.proofs.lemmas.Bool.{cases_Bool}
 use Rattle.rtp_base.specs.Window.{Numbers, IsGreatest}
@@ -11,7 +11,7 @@ use Rattle.rtp_wire.proofs.WideningLemmas.{only_near}
 use Rattle.rtp_wire.specs.declared.receive.restarting.RestartingReceiver.{RestartingReceiver}
 use Rattle.rtp_wire.specs.declared.receive.restarting_verdict.RestartingVerdict.{RestartingVerdict}
 use Rattle.rtp_wire.specs.declared.receive.restarting_verdict.RestartingVerdict.TheVariants.{Taken, Restarted, Refused}
-use Rattle.rtp_wire.specs.Restarting.{Bounds, announced, first_number, IsOfStream, IsOutside, leading, IsFirst, Begins, BeginsOrRefused, IsJudgedInStream, IsJudgedOutside, IsRestartingVerdict, Arrival, epoch_after, taken_in, LeadUp, IsNext, IsRestartingRun, HasNoPair, IsOneEpoch}
+use Rattle.rtp_wire.specs.Restarting.{Bounds, announced, first_number, IsOfStream, IsOutside, leading, IsFirst, Begins, IsRestartingVerdict, Arrival, epoch_after, taken_in, LeadUp, IsNext, IsRestartingRun, HasNoPair, IsOneEpoch}
 use Rattle.rtp_wire.specs.RestartingState.{bounds_of, HoldsEpoch, RowLeads, RowGrows, Remembers}
 
 -- as many as must lead up to an epoch are few

@@ -1,5 +1,4 @@
-use Rattle.std.proofs.Common.{ℕ, ◌*◌, length, sym, subst, inl, inr, IsTrue, ◌↔◌}
-use Rattle.rtp_wire.specs.Receiver.{IsFreshOf}
+use Rattle.std.proofs.Common.{inl, inr}
 use Rattle.rtp_c.proofs.StoredWideLemmas.{stored-accepts}
 use Rattle.rtp_c.proofs.wide_receiver.accepts.Goals as goal
 

@@ -1,4 +1,4 @@
-use Rattle.std.proofs.Common.{◌≡◌, ℕ, ◌/◌, ◌*◌, ◌<◌, length, false, refl, inl, inr, arith}
+use Rattle.std.proofs.Common.{◌/◌, false, refl, inl, inr, arith}
 use Rattle.std.specs.Prelude.{Some}
 use Rattle.rtp_base.specs.Ring.{ring_size, ring_bits}
 use Rattle.rtp_base.specs.Window.{Numbers}

@@ -1,6 +1,6 @@
-use Rattle.std.proofs.Common.{◌≡◌, ℕ, ◌*◌, ◌<◌, List, length, false, refl, sym, ◌∙◌, ap, subst, inl, inr, arith}
-use Rattle.rtp_base.specs.Ring.{ring_size, ring_bits, ring_window}
-use Rattle.rtp_base.specs.Window.{Numbers, KeepsOf, including}
+use Rattle.std.proofs.Common.{◌<◌, length, false, refl, ◌∙◌, inl, inr, arith}
+use Rattle.rtp_base.specs.Ring.{ring_size, ring_bits}
+use Rattle.rtp_base.specs.Window.{Numbers, including}
 use Rattle.rtp_wire.specs.Receiver.{IsNothing}
 use Rattle.rtp_c.proofs.StoredWideLemmas.{HoldsStored-kept, first_bit, HoldsWindow-some, first-kept, later-kept, kept_there}
 use Rattle.rtp_c.proofs.wide_receiver.take.Goals as goal

@@ -1,4 +1,4 @@
-use Rattle.std.proofs.Common.{◌≡◌, ℕ, ◌≤◌, arith}
+use Rattle.std.proofs.Common.{ℕ, arith}
 use Rattle.rtp_wire.specs.Restarting.{leading}
 use Rattle.rtp_wire.specs.RestartingState.{bounds_of}
 use Rattle.rtp_wire.proofs.receive.restarting.RestartingReceiver.begin.Goals as goal

@@ -1,4 +1,4 @@
-use Rattle.std.proofs.Common.{◌≡◌, ℕ, List, ◌∷◌, refl, subst, inl, inr, arith}
+use Rattle.std.proofs.Common.{◌∷◌, refl, subst, inl, inr, arith}
 use Rattle.rtp_wire.specs.declared.receive.restarting_verdict.RestartingVerdict.{RestartingVerdict}
 use Rattle.rtp_wire.specs.Restarting.{taken_in, IsRestartingVerdict}
 use Rattle.rtp_wire.specs.RestartingState.{bounds_of, RowLeads}

@@ -1,6 +1,5 @@
-use Rattle.std.proofs.Common.{◌≡◌, ℕ, ◌+◌, ◌*◌, ◌<◌, sym, ◌∙◌, subst, arith, IsTrue}
+use Rattle.std.proofs.Common.{arith}
 use Rattle.std.proofs.lemmas.Bool.{false≢true}
-use Rattle.rtp_wire.specs.Restarting.{IsOfStream}
 use Rattle.rtp_wire.specs.RestartingState.{bounds_of}
 use Rattle.rtp_wire.proofs.RestartingLemmas.{near_number}
 use Rattle.rtp_wire.proofs.receive.restarting.RestartingReceiver.stream_number.Goals as goal
