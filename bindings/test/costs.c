@@ -29,6 +29,10 @@ static rtpw_layers layers;
 static rtpw_map map, other_map;
 static rtpw_new_ids ids;
 static rtpw_receiver receiver;
+static rtpw_wide_receiver wide;
+static uint64_t words[16], wide_number;
+static rtpw_restarting_receiver restarting;
+static uint64_t restarting_number;
 static rtpw_fields fields;
 
 /* The status of a call that is timed may be any. */
@@ -76,6 +80,12 @@ enum { BODY_AT = 16, BODY_LEN = 16 };
     X(rtpw_receiver_accepts, rtpw_receiver_accepts(&receiver, number + 1))                                            \
     X(rtpw_receiver_record, (rtpw_receiver_record(&receiver, ++number), 0))                                           \
     X(rtpw_receiver_receive, rtpw_receiver_receive(&receiver, (uint16_t)(number + 1), &number))                       \
+    X(rtpw_wide_receiver_start, rtpw_wide_receiver_start(&wide, 1))                                                   \
+    X(rtpw_wide_receiver_number_of, rtpw_wide_receiver_number_of(&wide, (uint16_t)(wide_number + 1)))                 \
+    X(rtpw_wide_receiver_accepts, rtpw_wide_receiver_accepts(&wide, words, 16, wide_number + 1))                      \
+    X(rtpw_wide_receiver_record, rtpw_wide_receiver_record(&wide, words, 16, ++wide_number))                          \
+    X(rtpw_wide_receiver_receive, rtpw_wide_receiver_receive(&wide, words, 16, (uint16_t)(wide_number + 1), &wide_number))\
+    X(rtpw_restarting_receive, rtpw_restarting_receive(&restarting, (uint16_t)(restarting_number + 1), &restarting_number))\
     X(rtpw_extend_u8, rtpw_extend_u8(number, 7))                                                                      \
     X(rtpw_extend_u15, rtpw_extend_u15(number, 7))                                                                    \
     X(rtpw_extend_u16, rtpw_extend_u16(number, 7))                                                                    \
