@@ -1,9 +1,9 @@
 /*
  * rtp_lines for Linux on aarch64: the assembly text that Rattle's compiler makes of the program, each function of which is proved.
  * Made anew by: generated/make
- * kit: rattle-kit-13b logic dac8208d650f15bf
- * sources: fccd7a6d52461059359b15d18211fa555eb17b8a2e39fbc513d3a250d1e61cd8
- * text: ee75da58437267ee60962d275a6cd444414b5d03487290a459bbbf178b9f7e02
+ * kit: rattle-kit-13f logic dac8208d650f15bf
+ * sources: b8d7a0aac9979cb361ff593ca133e4996ec1d5eef180c4ca2c65d1b540732323
+ * text: 1f072af272c159b1964f51bf63e944b6503239306c947477b95735310215d91c
  * SPDX-License-Identifier: MIT OR Apache-2.0
  * Copyright (c) 2026 The rtp-wire developers (NOTICE)
  */

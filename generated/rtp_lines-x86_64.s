@@ -1,9 +1,9 @@
 /*
  * rtp_lines for Linux on x86_64: the assembly text that Rattle's compiler makes of the program, each function of which is proved.
  * Made anew by: generated/make
- * kit: rattle-kit-13b logic dac8208d650f15bf
- * sources: fccd7a6d52461059359b15d18211fa555eb17b8a2e39fbc513d3a250d1e61cd8
- * text: a0faf658b253d2405f8959bd5250e0df219f8be1d7df6f06b4f9f7d7e18f14da
+ * kit: rattle-kit-13f logic dac8208d650f15bf
+ * sources: b8d7a0aac9979cb361ff593ca133e4996ec1d5eef180c4ca2c65d1b540732323
+ * text: 32198953961d612c5ce985548261feb7b1940e352d35d10e2a2be69dd8704f50
  * SPDX-License-Identifier: MIT OR Apache-2.0
  * Copyright (c) 2026 The rtp-wire developers (NOTICE)
  */

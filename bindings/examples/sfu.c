@@ -6,15 +6,6 @@
 
 enum { WINDOW = 128 }; /* so many numbers up to the highest one a receiver keeps */
 
-/* The lowest id that means the kind; 0 where none does. */
-static uint8_t id_of(const rtpw_map *map, uint8_t kind) {
-    unsigned id = 1;
-    while (id <= 255 && rtpw_map_get(map, (uint8_t)id) != kind) {
-        id++;
-    }
-    return (uint8_t)id; /* 256 is 0 */
-}
-
 bool sfu_add(sfu *sfu, const rtpw_map *sender, const sfu_peer *peer) {
     size_t mid_len = strlen(peer->mid) + 1; /* with the stream's digit */
     if (sfu->route_count == SFU_RECEIVERS || mid_len > SFU_LONGEST_MID) {
@@ -23,9 +14,9 @@ bool sfu_add(sfu *sfu, const rtpw_map *sender, const sfu_peer *peer) {
     sfu_route *route = &sfu->routes[sfu->route_count++];
     *route = (sfu_route){.peer = *peer};
     rtpw_new_ids_between(sender, &peer->map, &route->ids);
-    route->mid_id = id_of(&peer->map, RTPW_KIND_MID);
-    route->transport_number_id = id_of(&peer->map, RTPW_KIND_TRANSPORT_NUMBER);
-    route->send_time_id = id_of(&peer->map, RTPW_KIND_ABS_SEND_TIME);
+    route->mid_id = rtpw_id_of(&peer->map, RTPW_KIND_MID);
+    route->transport_number_id = rtpw_id_of(&peer->map, RTPW_KIND_TRANSPORT_NUMBER);
+    route->send_time_id = rtpw_id_of(&peer->map, RTPW_KIND_ABS_SEND_TIME);
     route->wide = route->mid_id != 0 && mid_len > 16;
     for (unsigned id = 15; id <= 255; id++) { /* those that only the two-byte form can carry */
         route->wide |= rtpw_map_get(&peer->map, (uint8_t)id) != RTPW_KIND_NONE;

@@ -80,7 +80,8 @@ enum {
     RTPW_SHORT_BUFFER = 8,     /* a buffer is too short */
     RTPW_BAD_FIELD = 9,        /* an argument is out of its range */
     RTPW_REFUSED = 10,         /* a replay, or too old to tell */
-    RTPW_NONE = 11             /* there is no such element */
+    RTPW_NONE = 11,            /* there is no such element */
+    RTPW_RESTARTED = 12        /* a packet is taken, as the first one after its sender has started again */
 };
 
 /* What a status says, in words. */
@@ -98,6 +99,7 @@ static inline const char *rtpw_status_text(int32_t status) {
     case RTPW_BAD_FIELD: return "an argument is out of its range";
     case RTPW_REFUSED: return "a replay, or too old to tell";
     case RTPW_NONE: return "no such element";
+    case RTPW_RESTARTED: return "taken, and the sender has started again";
     default: return "no status of this library";
     }
 }
@@ -540,6 +542,74 @@ bool rtpw_receiver_accepts(const rtpw_receiver *receiver, uint64_t number);
 void rtpw_receiver_record(rtpw_receiver *receiver, uint64_t number);
 /* RTPW_OK, and the number is written and recorded; or RTPW_REFUSED where it may not be taken. */
 RTPW_CHECKED int32_t rtpw_receiver_receive(rtpw_receiver *receiver, uint16_t sequence_number, uint64_t *number);
+
+/* The receive state of one stream with a window of another size: 64 numbers for each of 1 to 512 words, which
+ * are the caller's array beside it. Choose it so that the window is longer than a packet can be late: at 30
+ * Mbit/s 128 numbers are 43 ms; libwebrtc has 1,024, which are 16 words.
+ *
+ *     rtpw_wide_receiver receiver = {0};
+ *     uint64_t words[16];
+ *     int32_t status = rtpw_wide_receiver_receive(&receiver, words, 16, packet.sequence_number, &number);
+ *
+ * 16 bytes of plain memory, of which each value is a state, with whatever words: these are written with the
+ * first number that is taken, and not read before. Each `started` but 0 counts as 1, and where started the
+ * highest number as taken, whatever its bit is. Pass the same words at each call, and as many: another count is
+ * another state.
+ *
+ * The calls are those of rtpw_receiver. Where count is 0 or above 512 they are refused: RTPW_BAD_FIELD, and not
+ * accepted. */
+typedef struct {
+    uint64_t highest; /* the highest number taken; before that, 65,536 times the first packet's rollover count */
+    uint8_t started;  /* 0 where nothing is taken yet, and then 1 */
+} rtpw_wide_receiver;
+
+/* Where started, bit n % 64 of words[n / 64 % count] is whether the number n is taken, for the highest number and
+ * each less than 64 * count below it. */
+
+RTPW_CHECKED int32_t rtpw_wide_receiver_start(rtpw_wide_receiver *receiver, uint64_t rollover_count);
+uint64_t rtpw_wide_receiver_number_of(const rtpw_wide_receiver *receiver, uint16_t sequence_number);
+/* Less than 64 * count below the highest number taken, where rtpw_receiver_accepts says 128. */
+bool rtpw_wide_receiver_accepts(const rtpw_wide_receiver *receiver, const uint64_t *words, size_t count,
+                                uint64_t number);
+/* RTPW_OK, and the number is recorded; or RTPW_REFUSED where it isn't accepted. */
+RTPW_CHECKED int32_t rtpw_wide_receiver_record(rtpw_wide_receiver *receiver, uint64_t *words, size_t count,
+                                               uint64_t number);
+RTPW_CHECKED int32_t rtpw_wide_receiver_receive(rtpw_wide_receiver *receiver, uint64_t *words, size_t count,
+                                                uint16_t sequence_number, uint64_t *number);
+
+/* The receive state of one stream that isn't authenticated and whose sender may start again under the same SSRC
+ * (RFC 3550, appendix A.1). Not for SRTP: there a packet that isn't authentic must change nothing, and a sender
+ * that starts again would use the numbers of its key anew.
+ *
+ * A packet is of the stream where its number is less than max_dropout above the highest one taken, or less than
+ * 128 below it: it is judged by the window, as by rtpw_receiver. Any other is outside of the stream, and is
+ * refused; but where the very next packet of the source has the number after it and is outside of the stream too,
+ * the sender has started again. That second packet is taken as the first one of a new epoch, with a new window:
+ * what hangs on numbers begins anew.
+ *
+ * The number of a packet has the low 16 bits that its header has. The first one of all has the rollover count 1,
+ * and the first one of each later epoch 2 more than the highest number before it: so all numbers of an epoch are
+ * above those of the epochs before it, and a packet from before the first one of an epoch has a number too. Where
+ * 2^64 leaves no such number the packet is refused.
+ *
+ * 32 bytes of plain memory, of which each value is a state. {0} has taken nothing yet, and has the bounds of the
+ * RFC; set max_dropout and min_sequential where others are wanted. Each `started` but 0 counts as 1, and where
+ * started the highest number as taken, whatever its bit is. */
+typedef struct {
+    uint64_t highest;       /* the highest number taken in the epoch; before that it isn't looked at */
+    uint64_t words[2];      /* bit n % 64 of words[n / 64 % 2]: whether the number n is taken in the epoch */
+    uint16_t max_dropout;   /* 0 stands for 3,000 */
+    uint16_t next;          /* the 16 bits after those of the last packet outside of the stream */
+    uint8_t min_sequential; /* a new source's first packet is taken with the last of so many in a row; 0 is as 1 */
+    uint8_t in_row;         /* how many packets outside of the stream came last in a row, at most 255 */
+    uint8_t started;        /* 0 where nothing is taken yet, and then 1 */
+} rtpw_restarting_receiver;
+
+/* Judges the next packet of the source. RTPW_OK, or RTPW_RESTARTED where it begins another epoch than the first:
+ * it is taken, and its number written. RTPW_REFUSED where it is a replay or outside of the stream: the number isn't
+ * written, and what is taken stays as it was. */
+RTPW_CHECKED int32_t rtpw_restarting_receive(rtpw_restarting_receiver *receiver, uint16_t sequence_number,
+                                             uint64_t *number);
 
 /* The number nearest to the previous one, modulo 2^64, that ends in these 8, 15, 16 or 32 bits. Where two
  * are equally near it is the one with the rollover count of the previous one. The sixteenth bit of what is
