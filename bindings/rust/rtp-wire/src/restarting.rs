@@ -44,6 +44,7 @@ pub struct RestartingReceiver {
 impl RestartingReceiver {
     /// A receiver that has taken nothing yet, with RFC 3550's `MAX_DROPOUT` of 3,000, that takes the
     /// first packet of a source.
+    #[must_use]
     pub fn new() -> RestartingReceiver {
         RestartingReceiver::default()
     }
@@ -51,6 +52,7 @@ impl RestartingReceiver {
     /// A receiver that has taken nothing yet, with other bounds. A packet of the stream is less than
     /// `max_dropout` above the highest number taken; 0 stands for 3,000. A source is valid, and its first
     /// packet is taken, with the last of `min_sequential` packets in a row; 0 is the same as 1.
+    #[must_use]
     pub fn with_bounds(max_dropout: u16, min_sequential: u8) -> RestartingReceiver {
         let mut receiver = RestartingReceiver::new();
         receiver.state.max_dropout = max_dropout;
@@ -59,6 +61,7 @@ impl RestartingReceiver {
     }
 
     /// The highest number taken in the epoch; `None` where nothing is taken yet.
+    #[must_use]
     pub fn highest(&self) -> Option<u64> {
         (self.state.started != 0).then_some(self.state.highest)
     }

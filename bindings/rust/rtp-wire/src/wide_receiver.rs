@@ -1,3 +1,4 @@
+use crate::error::BadRolloverCount;
 use crate::sys;
 use crate::views::WideState;
 
@@ -30,6 +31,7 @@ impl<const WORDS: usize> WideReceiver<WORDS> {
     const HAS_WINDOW: () = assert!(WORDS >= 1 && WORDS <= 512, "a window has 1 to 512 words");
 
     /// A receiver that has taken nothing yet, of a stream from its beginning.
+    #[must_use]
     pub fn new() -> Self {
         let () = Self::HAS_WINDOW;
         WideReceiver {
@@ -38,27 +40,35 @@ impl<const WORDS: usize> WideReceiver<WORDS> {
         }
     }
 
-    /// A receiver that has taken nothing yet, whose first packet has this rollover count. `None` where
-    /// it is 2^48 or more. With a count of 1 or more a packet from before the first one has a number
-    /// too.
-    pub fn starting_at(rollover_count: u64) -> Option<Self> {
+    /// A receiver that has taken nothing yet, whose first packet has this rollover count. With a count
+    /// of 1 or more a packet from before the first one has a number too.
+    ///
+    /// # Errors
+    ///
+    /// [`BadRolloverCount`] where it is 2^48 or more.
+    pub fn starting_at(rollover_count: u64) -> Result<Self, BadRolloverCount> {
         let mut receiver = Self::new();
-        let status = sys::wide_receiver_start(&mut receiver.state, rollover_count);
-        (status == sys::OK).then_some(receiver)
+        match sys::wide_receiver_start(&mut receiver.state, rollover_count) {
+            sys::OK => Ok(receiver),
+            _ => Err(BadRolloverCount),
+        }
     }
 
     /// The highest number taken; `None` where nothing is taken yet.
+    #[must_use]
     pub fn highest(&self) -> Option<u64> {
         (self.state.started != 0).then_some(self.state.highest)
     }
 
     /// The extended sequence number of a packet: the nearest to the highest taken that ends in these 16
     /// bits. Its low 48 bits are SRTP's packet index.
+    #[must_use]
     pub fn number_of(&self, sequence_number: u16) -> u64 {
         sys::wide_receiver_number_of(&self.state, sequence_number)
     }
 
     /// Whether the number may be taken.
+    #[must_use]
     pub fn accepts(&self, number: u64) -> bool {
         sys::wide_receiver_accepts(&self.state, &self.words, number)
     }
