@@ -61,7 +61,7 @@ diff "$scratch/declared" "$scratch/shared" >&2 || fail 'the list and the shared 
 wanted=$(nm -u "$library" | awk '$1 == "U" { print $2 }' | sort -u | tr '\n' ' ')
 for name in $wanted; do
     case $name in
-    malloc | realloc | free | memcpy | memmove | memset | memcmp | bcmp | __udivti3 | __umodti3) ;;
+    malloc | realloc | free | memcpy | memmove | memset) ;;
     *) fail "the library wants $name" ;;
     esac
 done
