@@ -18,10 +18,11 @@ cut -d' ' -f1 "$scratch/nanoseconds" | sort | diff "$scratch/declared" - >&2 || 
     echo 'costs.sh: not the functions of the header file' >&2
     exit 1
 }
-echo '| Call | ns | Instructions |'
-echo '|---|---|---|'
+echo '```'
+printf '%-30s %7s %13s\n' '' ns instructions
 # A function is called 900 times under callgrind, and those that the program prepares things by a little more often.
 while read -r name nanoseconds; do
     counted=$(awk -v name="$name" '$1 == name { print int($2 / 900 + 0.5); exit }' "$scratch/instructions")
-    echo "| \`$name\` | $nanoseconds | ${counted:-?} |"
+    printf '%-30s %7s %13s\n' "$name" "$nanoseconds" "${counted:-?}"
 done <"$scratch/nanoseconds"
+echo '```'
