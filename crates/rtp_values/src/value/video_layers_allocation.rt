@@ -41,6 +41,8 @@ pub(super) fn data_len(ev: &ExtensionValues) -> Option<usize>
     (len <= MAX_LEN).then_some(len)
 }
 
+// It stays out of line for the same reason.
+#[inline(never)]
 pub(super) fn write(buf: &mut [u8], ev: &ExtensionValues) -> Option<usize>
     requires room { HasRoom kind.VideoLayersAllocation ev.now buf.old }
     ensures { WritesData kind.VideoLayersAllocation ev.now buf.old buf.new result }
