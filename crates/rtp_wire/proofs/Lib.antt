@@ -26,6 +26,7 @@ pub mod NearestLemmas
 mod ReceiverLemmas
 pub mod ReceiversLemmas
 mod RestartingLemmas
+mod EpochLemmas
 pub mod VerdictLemmas
 pub mod TrueNumberLemmas
 mod SendingLemmas

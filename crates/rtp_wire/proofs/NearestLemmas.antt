@@ -5,7 +5,7 @@ use Rattle.std.proofs.lemmas.Nat.{div-add-mod', mod_below, mul-le, pow_pos, pow-
 use Rattle.std.proofs.lemmas.Bool.{cases_order}
 use Rattle.std.specs.Prelude.{Option, Some, None, IfSome}
 use Rattle.rtp_wire.specs.Widening.{distance, IsNearest, Extends, IsWithinHalf}
-use Rattle.rtp_wire.proofs.WideningLemmas.{IsModulus, IsNearestModulo, IsSplit, split, half-small, IsAhead, IsAhead-computed, IsNearestModulo-ahead, IsNearestModulo-before}
+use Rattle.rtp_wire.proofs.WideningLemmas.{IsModulus, IsNearestModulo, split, half-small, IsAhead-computed, IsNearestModulo-ahead, IsNearestModulo-before}
 
 -- ---- there is one nearest number
 

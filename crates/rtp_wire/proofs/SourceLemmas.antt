@@ -5,7 +5,7 @@ use Rattle.std.specs.declared.alloc.AllocError.{AllocError}
 use Rattle.std.specs.List.{AllZip, AllByRecursion}
 use Rattle.std.proofs.lemmas.Bool.{eq-eqb, eqb-true, false≢true}
 use Rattle.std.proofs.lemmas.List.{length-map}
-use Rattle.rtp_base.specs.Window.{Numbers}
+use Rattle.rtp_base.specs.Window.{Numbers, window_size}
 use Rattle.rtp_ext.specs.declared.map.ExtensionMap.{ExtensionMap}
 use Rattle.rtp_wire.specs.declared.header.rtp_header.RtpHeader.{RtpHeader}
 use Rattle.rtp_wire.specs.declared.receive.receiver.ReceiverState.{ReceiverState}
@@ -97,7 +97,7 @@ beside source taken (Some packet_id) verdict is judged = subst (λ s. IsVerdict 
 
 alone_more : (here : Bool) (packet_ids : List (Option PacketId)) (verdicts : List Verdict) (packet_id : Option PacketId) (verdict : Verdict) → IsRun 0 packet_ids verdicts
     → (here ≡ true → IsVerdict 0 (taken_by verdicts) packet_id verdict) → IsRun 0 (at_more here packet_ids packet_id) (at_more here verdicts verdict)
-alone_more true packet_ids verdicts packet_id verdict run is = IsRun-more 0 packet_ids verdicts packet_id verdict run (is refl)
+alone_more true packet_ids verdicts packet_id verdict run is = IsRun-more window_size 0 packet_ids verdicts packet_id verdict run (is refl)
 alone_more false packet_ids verdicts packet_id verdict run is = run
 
 taken_more : (here : Bool) (verdicts : List Verdict) (verdict : Verdict) (n : ℕ)
@@ -112,7 +112,7 @@ SoFarEach-more packet_ids packet_id verdicts verdict before after so_far is hold
     let pushed : (source : ℕ) → at_source source (packet_ids ++ packet_id ∷ []) (verdicts ++ verdict ∷ []) ≡ at_more (is_from source packet_id) (at_source source packet_ids verdicts) verdict =
     λ source. at_source-push source packet_ids verdicts packet_id verdict so_far.runs.as_many in
     record {
-      runs = IsRunBy-more 0 (λ r rs vs. numbers_beside (taken_of rs vs) r) packet_ids verdicts packet_id verdict so_far.runs is;
+      runs = IsRunBy-more window_size 0 (λ r rs vs. numbers_beside (taken_of rs vs) r) packet_ids verdicts packet_id verdict so_far.runs is;
       alone = λ source.
           subst (λ (rs : List (Option PacketId)). IsRun 0 rs (at_source source (packet_ids ++ packet_id ∷ []) (verdicts ++ verdict ∷ []))) (sym (at_source-push source packet_ids packet_ids packet_id packet_id refl))
           (subst (λ (vs : List Verdict). IsRun 0 (at_more (is_from source packet_id) (at_source source packet_ids packet_ids) packet_id) vs) (sym (pushed source))

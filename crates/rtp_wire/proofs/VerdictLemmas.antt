@@ -4,7 +4,7 @@ use Rattle.std.specs.Prelude.{Option, Some, None}
 use Rattle.std.specs.List.{AllZip}
 use Rattle.std.proofs.lemmas.Bool.{eq-eqb, cases_lt, false≢true, or_left, or_right}
 use Rattle.std.proofs.lemmas.List.{take-append-le, take_at, get_or_append_left, get_or_at, length_push, get_or-take, take_all}
-use Rattle.rtp_base.specs.Window.{Numbers}
+use Rattle.rtp_base.specs.Window.{Numbers, window_size}
 use Rattle.rtp_ext.specs.declared.map.ExtensionMap.{ExtensionMap}
 use Rattle.rtp_ext.proofs.ElementLemmasOfBodies.{AreBytes}
 use Rattle.rtp_wire.specs.declared.header.rtp_header.RtpHeader.{RtpHeader}
@@ -15,7 +15,7 @@ use Rattle.rtp_wire.specs.declared.receive.receiver.Verdict.TheVariants.{Unreada
 use Rattle.rtp_wire.specs.Packet.{PacketParts, IsPacket}
 use Rattle.rtp_wire.specs.Header.{header_of, IsWire}
 use Rattle.rtp_wire.specs.Receiver.{Holds, IsFresh, taken_after}
-use Rattle.rtp_wire.specs.Verdicts.{PacketId, packet_id_of, IsPacketId, ArePacketIds, taken_by, IsVerdict, IsRunBy, IsRun, AreVerdicts, TakesOnce}
+use Rattle.rtp_wire.specs.Verdicts.{PacketId, packet_id_of, IsPacketId, ArePacketIds, taken_by, IsVerdict, IsVerdictOf, IsRunBy, IsRun, IsRunOf, AreVerdicts, TakesOnce}
 use Rattle.rtp_wire.proofs.PacketLemmas.{one_packet}
 use Rattle.rtp_wire.proofs.HeaderUnderEachMap.{header_found}
 
@@ -52,36 +52,36 @@ Holds-same (Window window) count a b same keeps = record {
 }
 
 -- a verdict, at equal packet ids and verdicts
-IsVerdict-same : (count : ℕ) (before : Option PacketId → List (Option PacketId) → List Verdict → Numbers) (r s : Option PacketId) (rs ss : List (Option PacketId)) (vs ws : List Verdict) (v w : Verdict)
-    → r ≡ s → rs ≡ ss → vs ≡ ws → v ≡ w → IsVerdict count (before s ss ws) s w → IsVerdict count (before r rs vs) r v
-IsVerdict-same count before r s rs ss vs ws v w packet_id packet_ids verdicts verdict is =
-    subst (λ (x : Option PacketId). IsVerdict count (before x rs vs) x v) (sym packet_id)
-    (subst (λ (xs : List (Option PacketId)). IsVerdict count (before s xs vs) s v) (sym packet_ids)
-    (subst (λ (xs : List Verdict). IsVerdict count (before s ss xs) s v) (sym verdicts) (subst (IsVerdict count (before s ss ws) s) (sym verdict) is)))
+IsVerdict-same : (size count : ℕ) (before : Option PacketId → List (Option PacketId) → List Verdict → Numbers) (r s : Option PacketId) (rs ss : List (Option PacketId)) (vs ws : List Verdict) (v w : Verdict)
+    → r ≡ s → rs ≡ ss → vs ≡ ws → v ≡ w → IsVerdictOf size count (before s ss ws) s w → IsVerdictOf size count (before r rs vs) r v
+IsVerdict-same size count before r s rs ss vs ws v w packet_id packet_ids verdicts verdict is =
+    subst (λ (x : Option PacketId). IsVerdictOf size count (before x rs vs) x v) (sym packet_id)
+    (subst (λ (xs : List (Option PacketId)). IsVerdictOf size count (before s xs vs) s v) (sym packet_ids)
+    (subst (λ (xs : List Verdict). IsVerdictOf size count (before s ss xs) s v) (sym verdicts) (subst (IsVerdictOf size count (before s ss ws) s) (sym verdict) is)))
 
 -- a run with one packet id more
-pub IsRunBy-more : (count : ℕ) (before : Option PacketId → List (Option PacketId) → List Verdict → Numbers) (packet_ids : List (Option PacketId)) (verdicts : List Verdict) (packet_id : Option PacketId) (verdict : Verdict)
-    → IsRunBy count before packet_ids verdicts → IsVerdict count (before packet_id packet_ids verdicts) packet_id verdict → IsRunBy count before (packet_ids ++ packet_id ∷ []) (verdicts ++ verdict ∷ [])
-IsRunBy-more count before packet_ids verdicts packet_id verdict run is =
+pub IsRunBy-more : (size count : ℕ) (before : Option PacketId → List (Option PacketId) → List Verdict → Numbers) (packet_ids : List (Option PacketId)) (verdicts : List Verdict) (packet_id : Option PacketId) (verdict : Verdict)
+    → IsRunBy size count before packet_ids verdicts → IsVerdictOf size count (before packet_id packet_ids verdicts) packet_id verdict → IsRunBy size count before (packet_ids ++ packet_id ∷ []) (verdicts ++ verdict ∷ [])
+IsRunBy-more size count before packet_ids verdicts packet_id verdict run is =
     let many = length_push packet_ids packet_id in
     record {
       as_many = length_push verdicts verdict ∙ ap (λ (k : ℕ). k + 1) run.as_many ∙ sym many;
       each = λ i below. elim (cases_lt i (length packet_ids)) [
         | inl old ↦
             let within : i < length verdicts = omega (arith, run.as_many) in
-            IsVerdict-same count before _ _ _ _ _ _ _ _ (get_or_append_left packet_ids (packet_id ∷ []) None i old) (take-append-le i packet_ids (packet_id ∷ []) (omega arith))
+            IsVerdict-same size count before _ _ _ _ _ _ _ _ (get_or_append_left packet_ids (packet_id ∷ []) None i old) (take-append-le i packet_ids (packet_id ∷ []) (omega arith))
             (take-append-le i verdicts (verdict ∷ []) (omega arith)) (get_or_append_left verdicts (verdict ∷ []) Unreadable i within) (run.each i old)
         | inr new ↦
             let here : length packet_ids ≡ i = omega (arith, many) in
             let len : length verdicts ≡ i = run.as_many ∙ here in
-            IsVerdict-same count before _ _ _ _ _ _ _ _ (get_or_at packet_ids packet_id [] None i here) (take_at packet_ids (packet_id ∷ []) i here)
+            IsVerdict-same size count before _ _ _ _ _ _ _ _ (get_or_at packet_ids packet_id [] None i here) (take_at packet_ids (packet_id ∷ []) i here)
             (take_at verdicts (verdict ∷ []) i len) (get_or_at verdicts verdict [] Unreadable i len) is
       ];
     }
 
-pub IsRun-more : (count : ℕ) (packet_ids : List (Option PacketId)) (verdicts : List Verdict) (packet_id : Option PacketId) (verdict : Verdict) → IsRun count packet_ids verdicts
-    → IsVerdict count (taken_by verdicts) packet_id verdict → IsRun count (packet_ids ++ packet_id ∷ []) (verdicts ++ verdict ∷ [])
-IsRun-more count = IsRunBy-more count (λ packet_id earlier taken. taken_by taken)
+pub IsRun-more : (size count : ℕ) (packet_ids : List (Option PacketId)) (verdicts : List Verdict) (packet_id : Option PacketId) (verdict : Verdict) → IsRunOf size count packet_ids verdicts
+    → IsVerdictOf size count (taken_by verdicts) packet_id verdict → IsRunOf size count (packet_ids ++ packet_id ∷ []) (verdicts ++ verdict ∷ [])
+IsRun-more size count = IsRunBy-more size count (λ packet_id earlier taken. taken_by taken)
 
 pub AllZip-more : {A B : Type 0} (R : A → B → Type 0) (xs : List A) (ys : List B) (x : A) (y : B) → AllZip R xs ys → R x y → AllZip R (xs ++ x ∷ []) (ys ++ y ∷ [])
 AllZip-more R [] [] x y all one = (one, tt)
@@ -100,7 +100,7 @@ SoFar-none receiver holds = record { run = record { as_many = refl; each = λ i 
 pub SoFar-more : (packet_ids : List (Option PacketId)) (verdicts : List Verdict) (before after : ReceiverState) (packet_id : Option PacketId) (verdict : Verdict) → SoFar packet_ids verdicts before
     → IsVerdict 0 (taken_by verdicts) packet_id verdict → Holds after 0 (taken_after (taken_by verdicts) verdict) → SoFar (packet_ids ++ packet_id ∷ []) (verdicts ++ verdict ∷ []) after
 SoFar-more packet_ids verdicts before after packet_id verdict so_far is holds = record {
-  run = IsRun-more 0 packet_ids verdicts packet_id verdict so_far.run is;
+  run = IsRun-more window_size 0 packet_ids verdicts packet_id verdict so_far.run is;
   holds = Holds-same after 0 (taken_after (taken_by verdicts) verdict) (taken_by (verdicts ++ verdict ∷ [])) (taken_by-push verdicts verdict) holds;
 }
 

@@ -42,6 +42,7 @@ pub mod Verdicts
 pub mod TrueNumbers
 pub mod Sending
 pub mod Restarting
+pub mod EpochRun
 pub mod Receivers
 pub mod Sources
 -- What functions inside promise each other.

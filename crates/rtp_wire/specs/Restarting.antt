@@ -33,8 +33,8 @@ leading bounds (Some highest) = 1
 
 -- the number of an epoch's first packet: its 16 bits, under the rollover count 1 where the source is new, and else under the last epoch's highest one and 2 more, so that all numbers of an epoch are above those of the epochs before it
 abbrev pub first_number : Option ℕ → ℕ → ℕ
-first_number None low = 65536 + low
-first_number (Some highest) low = 65536 * (highest / 65536 + 2) + low
+first_number None low = 65536 + low % 65536
+first_number (Some highest) low = 65536 * (highest / 65536 + 2) + low % 65536
 
 -- how the first packet of an epoch is answered
 abbrev pub announced : Option ℕ → ℕ → RestartingVerdict

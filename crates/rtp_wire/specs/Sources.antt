@@ -1,6 +1,6 @@
 -- Runs of datagrams of many sources, each with a replay window of its own (RFC 3550, 3; RFC 3711, 3.2.3 and 3.3.2).
 use Rattle.std.specs.Prelude.{ℕ, List, [], ◌∷◌, Bool, false, if◌then◌else◌, ◌==◌, Option, Some, None}
-use Rattle.rtp_base.specs.Window.{Numbers}
+use Rattle.rtp_base.specs.Window.{Numbers, window_size}
 use Rattle.rtp_ext.specs.declared.map.ExtensionMap.{ExtensionMap}
 use Rattle.rtp_wire.specs.declared.receive.receiver.Verdict.{Verdict}
 use Rattle.rtp_wire.specs.declared.header.rtp_header.RtpHeader.{RtpHeader}
@@ -30,7 +30,7 @@ numbers_beside taken (Some packet_id) = taken packet_id.source
 
 -- a verdict for each packet id, after the numbers that the verdicts before it take of the same source, each of which starts at the rollover count 0
 abbrev pub AreRuns : List (Option PacketId) → List Verdict → Type 0
-AreRuns packet_ids verdicts = IsRunBy 0 (λ packet_id earlier verdicts_before. numbers_beside (taken_of earlier verdicts_before) packet_id) packet_ids verdicts
+AreRuns packet_ids verdicts = IsRunBy window_size 0 (λ packet_id earlier verdicts_before. numbers_beside (taken_of earlier verdicts_before) packet_id) packet_ids verdicts
 
 -- a verdict for each datagram, by its packet id and the verdicts on the datagrams of its source before it
 pub record AreVerdictsBySource (exts : ExtensionMap) (datagrams : List (List ℕ)) (verdicts : List Verdict) : Type 0 where

@@ -1,5 +1,6 @@
 //! The receiving side: extended sequence numbers and replay protection.
 
+mod epoch;
 mod receiver;
 mod receivers;
 mod restarting;

@@ -3,6 +3,7 @@ use Rattle.rtp_wire.specs.declared.receive.restarting_verdict.RestartingVerdict.
 use Rattle.rtp_wire.specs.Restarting.{taken_in, IsRestartingVerdict}
 use Rattle.rtp_wire.specs.RestartingState.{bounds_of, RowLeads}
 use Rattle.rtp_wire.proofs.RestartingLemmas.{next_verdict, Remembers-after, one_epoch, taken_once}
+use Rattle.rtp_wire.proofs.EpochLemmas.{run_in_epoch}
 use Rattle.rtp_wire.proofs.receive.restarting.RestartingReceiver.receive.Goals as goal
 
 pub returns-in-Some-clause-verdict : goal.returns-in-Some-clause-verdict
@@ -26,6 +27,11 @@ returns-in-Some-clause-after g c before remembers =
     (returns-in-Some-clause-verdict g c (taken_in before) remembers.holds)
     (c.receive_in_stream.ensures.epoch (taken_in before) remembers.holds)
     (returns-in-Some-clause-row g c (taken_in before) remembers.holds) c.receive_in_stream.ensures.bounds
+
+pub returns-in-Some-clause-in_epoch : goal.returns-in-Some-clause-in_epoch
+returns-in-Some-clause-in_epoch g c before remembers =
+    run_in_epoch (bounds_of g.row.N c.args.self.now) (record { low = c.args.sequence_number; verdict = c.receive_in_stream.result } ∷ before)
+    (returns-in-Some-clause-next g c before remembers, remembers.run)
 
 pub returns-in-Some-clause-one_epoch : goal.returns-in-Some-clause-one_epoch
 returns-in-Some-clause-one_epoch g c before remembers none =
@@ -60,6 +66,11 @@ returns-in-None-clause-after g c before remembers =
     (returns-in-None-clause-verdict g c (taken_in before) remembers.holds)
     (c.receive_outside.ensures.epoch (taken_in before) remembers.holds)
     (returns-in-None-clause-row g c (taken_in before) remembers.holds) c.receive_outside.ensures.bounds
+
+pub returns-in-None-clause-in_epoch : goal.returns-in-None-clause-in_epoch
+returns-in-None-clause-in_epoch g c before remembers =
+    run_in_epoch (bounds_of g.row.N c.args.self.now) (record { low = c.args.sequence_number; verdict = c.receive_outside.result } ∷ before)
+    (returns-in-None-clause-next g c before remembers, remembers.run)
 
 pub returns-in-None-clause-one_epoch : goal.returns-in-None-clause-one_epoch
 returns-in-None-clause-one_epoch g c before remembers none =

@@ -1,0 +1,43 @@
+-- One epoch of a stream whose sender may start again: its first packet is taken as the first one of a stream, and from there on the packets of the stream are judged as those of a sender that never starts again (RFC 3550, appendix A.1).
+use Rattle.std.specs.Prelude.{◌≡◌, ◌≢◌, ℕ, List, [], ◌∷◌, ◌++◌, map, Option, Some}
+use Rattle.rtp_wire.specs.declared.receive.receiver.Verdict.{Verdict}
+use Rattle.rtp_wire.specs.declared.receive.receiver.Verdict.TheVariants as plain
+use Rattle.rtp_wire.specs.declared.receive.restarting_verdict.RestartingVerdict.{RestartingVerdict}
+use Rattle.rtp_wire.specs.declared.receive.restarting_verdict.RestartingVerdict.TheVariants.{Taken, Restarted, Refused}
+use Rattle.rtp_wire.specs.Verdicts.{PacketId, IsRunOf, taken_by}
+use Rattle.rtp_wire.specs.Restarting.{Bounds, IsOfStream, IsOutside, Arrival, taken_in}
+
+-- of the packets that came, the latest first, these are the present epoch's, the earliest first
+pub data AreOfEpoch (bounds : Bounds) : List Arrival → List Arrival → Type 0 where
+  -- none came
+  none : AreOfEpoch bounds [] []
+  -- a packet outside of the stream that is taken begins an epoch
+  begins : (before : List Arrival) (arrival : Arrival) → IsOutside bounds (taken_in before) arrival.low → arrival.verdict ≢ Refused
+      → AreOfEpoch bounds (arrival ∷ before) (arrival ∷ [])
+  -- a packet of the stream is one more
+  goes_on : (before packets : List Arrival) (arrival : Arrival) (number : ℕ) → AreOfEpoch bounds before packets → IsOfStream bounds (taken_in before) arrival.low number
+      → AreOfEpoch bounds (arrival ∷ before) (packets ++ arrival ∷ [])
+  -- a packet outside of the stream that is refused isn't of the epoch
+  passed_by : (before packets : List Arrival) (arrival : Arrival) → AreOfEpoch bounds before packets → IsOutside bounds (taken_in before) arrival.low → arrival.verdict ≡ Refused
+      → AreOfEpoch bounds (arrival ∷ before) packets
+
+-- the packet id of a packet of this source
+abbrev pub packet_id_in : ℕ → Arrival → Option PacketId
+packet_id_in source arrival = Some (record { source = source; low = arrival.low })
+
+-- the verdict, as that of a receiver for a sender that never starts again
+abbrev pub verdict_in_epoch : RestartingVerdict → Verdict
+verdict_in_epoch (Taken number) = plain.Taken number
+verdict_in_epoch (Restarted number) = plain.Taken number
+verdict_in_epoch Refused = plain.Refused
+
+abbrev pub verdicts_in_epoch : List Arrival → List Verdict
+verdicts_in_epoch packets = map (λ arrival. verdict_in_epoch arrival.verdict) packets
+
+-- the verdicts on the packets of the present epoch are a run of a receiver with a window of this size, which starts at the rollover count of the first one's number; what the run takes is what is taken in the epoch
+pub record IsRunInEpoch (bounds : Bounds) (arrivals : List Arrival) : Type 0 where
+  pub packets : List Arrival
+  pub of_epoch : AreOfEpoch bounds arrivals packets
+  pub count : ℕ
+  pub run : (source : ℕ) → IsRunOf bounds.size count (map (packet_id_in source) packets) (verdicts_in_epoch packets)
+  pub taken : (number : ℕ) → taken_by (verdicts_in_epoch packets) number ≡ taken_in arrivals number
