@@ -1,5 +1,5 @@
 -- Within one epoch the packets of the stream are judged as those of a sender that never starts again.
-use Rattle.std.proofs.Common.{◌≡◌, ℕ, ◌*◌, ◌+◌, ◌/◌, ◌%◌, Bool, ◌||◌, eqb, List, [], ◌∷◌, ◌++◌, map, refl, sym, ap, ◌∙◌, subst, inl, inr, arith}
+use Rattle.std.proofs.Common.{◌≡◌, ℕ, ◌*◌, ◌+◌, ◌/◌, ◌%◌, Bool, false, ◌||◌, eqb, List, [], ◌∷◌, ◌++◌, map, refl, sym, ap, ◌∙◌, subst, inl, inr, arith}
 use Rattle.std.specs.Prelude.{Option, Some, None}
 use Rattle.std.proofs.lemmas.List.{map-append}
 use Rattle.std.proofs.Math.Path.{fun_ext}
@@ -10,11 +10,13 @@ use Rattle.rtp_wire.specs.declared.receive.restarting_verdict.RestartingVerdict.
 use Rattle.rtp_wire.specs.declared.receive.restarting_verdict.RestartingVerdict.TheVariants.{Taken, Restarted, Refused}
 use Rattle.rtp_wire.specs.Receiver.{IsHighest, IsJudgedOf, taken_after}
 use Rattle.rtp_wire.specs.Verdicts.{PacketId, IsVerdictOf, IsRunOf, taken_by}
-use Rattle.rtp_wire.specs.Restarting.{Bounds, IsOutside, IsFirst, announced, first_number, in_stream, IsJudgedInStream, IsRestartingRun, Arrival, epoch_after, taken_in}
+use Rattle.rtp_wire.specs.Restarting.{Bounds, IsOutside, IsFirst, announced, first_number, in_stream, IsJudgedInStream, IsRestartingRun, Arrival, epoch_after, taken_in, IsNext, IsRestartingVerdict, HasNoPair, IsOneEpoch}
+use Rattle.rtp_wire.specs.declared.receive.restarting.RestartingReceiver.{RestartingReceiver}
+use Rattle.rtp_wire.specs.RestartingState.{bounds_of, HoldsEpoch, RowLeads, RowGrows, Remembers}
 use Rattle.rtp_wire.specs.EpochRun.{AreOfEpoch, packet_id_in, verdict_in_epoch, verdicts_in_epoch, IsRunInEpoch}
 use Rattle.rtp_wire.specs.EpochRun as epoch
 use Rattle.rtp_wire.proofs.VerdictLemmas.{taken_by-push, or_false, IsRun-more}
-use Rattle.rtp_wire.proofs.RestartingLemmas.{first_not_refused}
+use Rattle.rtp_wire.proofs.RestartingLemmas.{first_not_refused, next_verdict, Remembers-after, one_epoch, taken_once}
 
 -- no packet has no verdict
 IsRunOf-none : (size count : ℕ) → IsRunOf size count [] []
@@ -106,7 +108,7 @@ passed bounds before arrival so_far outside refused = record {
   taken = λ n. so_far.taken n ∙ ap (λ (v : RestartingVerdict). epoch_after (taken_in before) v n) (sym refused);
 }
 
-pub run_in_epoch : (bounds : Bounds) (arrivals : List Arrival) → IsRestartingRun bounds arrivals → IsRunInEpoch bounds arrivals
+run_in_epoch : (bounds : Bounds) (arrivals : List Arrival) → IsRestartingRun bounds arrivals → IsRunInEpoch bounds arrivals
 run_in_epoch bounds [] run =
     record { packets = []; of_epoch = epoch.none; count = 0; run = λ source. IsRunOf-none bounds.size 0; taken = λ n. refl }
 run_in_epoch bounds (arrival ∷ before) run =
@@ -118,3 +120,28 @@ run_in_epoch bounds (arrival ∷ before) run =
         | inr refused ↦ passed bounds before arrival so_far is.outside refused.0
       ]
     ]
+
+-- ---- one packet more
+
+-- what a verdict and what is held after it say of all packets that came before
+pub record Follows (words : ℕ) (old new : RestartingReceiver words) (low : ℕ) (verdict : RestartingVerdict) (before : List Arrival) : Type 0 where
+  pub next : IsNext (bounds_of words old) before (record { low = low; verdict = verdict })
+  pub after : Remembers words new (record { low = low; verdict = verdict } ∷ before)
+  pub in_epoch : IsRunInEpoch (bounds_of words old) (record { low = low; verdict = verdict } ∷ before)
+  pub one_epoch : HasNoPair (bounds_of words old) (record { low = low; verdict = verdict } ∷ before) → IsOneEpoch (record { low = low; verdict = verdict } ∷ before)
+  pub once : (number : ℕ) → verdict ≡ Taken number → taken_in before number ≡ false
+
+pub follows : (words : ℕ) (old new : RestartingReceiver words) (low : ℕ) (verdict : RestartingVerdict) (before : List Arrival) → Remembers words old before
+    → IsRestartingVerdict (bounds_of words old) (taken_in before) (RowLeads words old low) low verdict → HoldsEpoch words new (epoch_after (taken_in before) verdict)
+    → RowGrows words old (taken_in before) low verdict new → bounds_of words new ≡ bounds_of words old → Follows words old new low verdict before
+follows words old new low verdict before remembers is holds grows same =
+    let bounds : Bounds = bounds_of words old in
+    let next : IsNext bounds before (record { low = low; verdict = verdict }) = next_verdict words old new before low verdict remembers is in
+    record {
+      next = next;
+      after = Remembers-after words old new before low verdict remembers is holds grows same;
+      in_epoch = run_in_epoch bounds (record { low = low; verdict = verdict } ∷ before) (next, remembers.run);
+      one_epoch = one_epoch bounds (record { low = low; verdict = verdict } ∷ before) (next, remembers.run);
+      once = λ number taken. taken_once bounds (taken_in before) (RowLeads words old low) low number
+          (subst (λ (v : RestartingVerdict). IsRestartingVerdict bounds (taken_in before) (RowLeads words old low) low v) taken is);
+    }

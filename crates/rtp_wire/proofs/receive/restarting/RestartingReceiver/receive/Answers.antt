@@ -1,10 +1,10 @@
-use Rattle.std.proofs.Common.{◌∷◌, refl, subst, inl, inr, arith}
-use Rattle.rtp_wire.specs.declared.receive.restarting_verdict.RestartingVerdict.{RestartingVerdict}
-use Rattle.rtp_wire.specs.Restarting.{taken_in, IsRestartingVerdict}
-use Rattle.rtp_wire.specs.RestartingState.{bounds_of, RowLeads}
-use Rattle.rtp_wire.proofs.RestartingLemmas.{next_verdict, Remembers-after, one_epoch, taken_once}
-use Rattle.rtp_wire.proofs.EpochLemmas.{run_in_epoch}
+use Rattle.std.proofs.Common.{List, refl, inl, inr, arith}
+use Rattle.rtp_wire.specs.Restarting.{Arrival, taken_in}
+use Rattle.rtp_wire.specs.RestartingState.{Remembers}
+use Rattle.rtp_wire.proofs.EpochLemmas.{Follows, follows}
 use Rattle.rtp_wire.proofs.receive.restarting.RestartingReceiver.receive.Goals as goal
+
+-- ---- a packet of the stream
 
 pub returns-in-Some-clause-verdict : goal.returns-in-Some-clause-verdict
 returns-in-Some-clause-verdict g c taken holds =
@@ -16,33 +16,29 @@ returns-in-Some-clause-row g c taken holds later k few = (
   λ parts. absurd (parts.1 c.in-Some.number (c.in-Some.ensures.some taken holds c.in-Some.number refl)),
 )
 
-pub returns-in-Some-clause-next : goal.returns-in-Some-clause-next
-returns-in-Some-clause-next g c before remembers =
-    next_verdict g.row.N c.args.self.now c.receive_in_stream.new.self before c.args.sequence_number c.receive_in_stream.result remembers
-    (returns-in-Some-clause-verdict g c (taken_in before) remembers.holds)
-
-pub returns-in-Some-clause-after : goal.returns-in-Some-clause-after
-returns-in-Some-clause-after g c before remembers =
-    Remembers-after g.row.N c.args.self.now c.receive_in_stream.new.self before c.args.sequence_number c.receive_in_stream.result remembers
-    (returns-in-Some-clause-verdict g c (taken_in before) remembers.holds)
-    (c.receive_in_stream.ensures.epoch (taken_in before) remembers.holds)
+of_stream : (g : _) (c : goal.After-receive_in_stream g) (before : List Arrival) → Remembers g.row.N c.args.self.now before
+    → Follows g.row.N c.args.self.now c.receive_in_stream.new.self c.args.sequence_number c.receive_in_stream.result before
+of_stream g c before remembers =
+    follows g.row.N c.args.self.now c.receive_in_stream.new.self c.args.sequence_number c.receive_in_stream.result before remembers
+    (returns-in-Some-clause-verdict g c (taken_in before) remembers.holds) (c.receive_in_stream.ensures.epoch (taken_in before) remembers.holds)
     (returns-in-Some-clause-row g c (taken_in before) remembers.holds) c.receive_in_stream.ensures.bounds
 
+pub returns-in-Some-clause-next : goal.returns-in-Some-clause-next
+returns-in-Some-clause-next g c before remembers = (of_stream g c before remembers).next
+
+pub returns-in-Some-clause-after : goal.returns-in-Some-clause-after
+returns-in-Some-clause-after g c before remembers = (of_stream g c before remembers).after
+
 pub returns-in-Some-clause-in_epoch : goal.returns-in-Some-clause-in_epoch
-returns-in-Some-clause-in_epoch g c before remembers =
-    run_in_epoch (bounds_of g.row.N c.args.self.now) (record { low = c.args.sequence_number; verdict = c.receive_in_stream.result } ∷ before)
-    (returns-in-Some-clause-next g c before remembers, remembers.run)
+returns-in-Some-clause-in_epoch g c before remembers = (of_stream g c before remembers).in_epoch
 
 pub returns-in-Some-clause-one_epoch : goal.returns-in-Some-clause-one_epoch
-returns-in-Some-clause-one_epoch g c before remembers none =
-    one_epoch (bounds_of g.row.N c.args.self.now) (record { low = c.args.sequence_number; verdict = c.receive_in_stream.result } ∷ before)
-    (returns-in-Some-clause-next g c before remembers, remembers.run) none
+returns-in-Some-clause-one_epoch g c before remembers = (of_stream g c before remembers).one_epoch
 
 pub returns-in-Some-clause-once : goal.returns-in-Some-clause-once
-returns-in-Some-clause-once g c before remembers number is =
-    taken_once (bounds_of g.row.N c.args.self.now) (taken_in before) (RowLeads g.row.N c.args.self.now c.args.sequence_number) c.args.sequence_number number
-    (subst (λ (v : RestartingVerdict). IsRestartingVerdict (bounds_of g.row.N c.args.self.now) (taken_in before) (RowLeads g.row.N c.args.self.now c.args.sequence_number) c.args.sequence_number v)
-    is (returns-in-Some-clause-verdict g c (taken_in before) remembers.holds))
+returns-in-Some-clause-once g c before remembers = (of_stream g c before remembers).once
+
+-- ---- a packet outside of it
 
 pub returns-in-None-clause-verdict : goal.returns-in-None-clause-verdict
 returns-in-None-clause-verdict g c taken holds =
@@ -55,30 +51,24 @@ returns-in-None-clause-row g c taken holds later k few =
       λ parts. grown.1 (parts.0, parts.2, parts.3),
     )
 
-pub returns-in-None-clause-next : goal.returns-in-None-clause-next
-returns-in-None-clause-next g c before remembers =
-    next_verdict g.row.N c.args.self.now c.receive_outside.new.self before c.args.sequence_number c.receive_outside.result remembers
-    (returns-in-None-clause-verdict g c (taken_in before) remembers.holds)
-
-pub returns-in-None-clause-after : goal.returns-in-None-clause-after
-returns-in-None-clause-after g c before remembers =
-    Remembers-after g.row.N c.args.self.now c.receive_outside.new.self before c.args.sequence_number c.receive_outside.result remembers
-    (returns-in-None-clause-verdict g c (taken_in before) remembers.holds)
-    (c.receive_outside.ensures.epoch (taken_in before) remembers.holds)
+outside : (g : _) (c : goal.After-receive_outside g) (before : List Arrival) → Remembers g.row.N c.args.self.now before
+    → Follows g.row.N c.args.self.now c.receive_outside.new.self c.args.sequence_number c.receive_outside.result before
+outside g c before remembers =
+    follows g.row.N c.args.self.now c.receive_outside.new.self c.args.sequence_number c.receive_outside.result before remembers
+    (returns-in-None-clause-verdict g c (taken_in before) remembers.holds) (c.receive_outside.ensures.epoch (taken_in before) remembers.holds)
     (returns-in-None-clause-row g c (taken_in before) remembers.holds) c.receive_outside.ensures.bounds
 
+pub returns-in-None-clause-next : goal.returns-in-None-clause-next
+returns-in-None-clause-next g c before remembers = (outside g c before remembers).next
+
+pub returns-in-None-clause-after : goal.returns-in-None-clause-after
+returns-in-None-clause-after g c before remembers = (outside g c before remembers).after
+
 pub returns-in-None-clause-in_epoch : goal.returns-in-None-clause-in_epoch
-returns-in-None-clause-in_epoch g c before remembers =
-    run_in_epoch (bounds_of g.row.N c.args.self.now) (record { low = c.args.sequence_number; verdict = c.receive_outside.result } ∷ before)
-    (returns-in-None-clause-next g c before remembers, remembers.run)
+returns-in-None-clause-in_epoch g c before remembers = (outside g c before remembers).in_epoch
 
 pub returns-in-None-clause-one_epoch : goal.returns-in-None-clause-one_epoch
-returns-in-None-clause-one_epoch g c before remembers none =
-    one_epoch (bounds_of g.row.N c.args.self.now) (record { low = c.args.sequence_number; verdict = c.receive_outside.result } ∷ before)
-    (returns-in-None-clause-next g c before remembers, remembers.run) none
+returns-in-None-clause-one_epoch g c before remembers = (outside g c before remembers).one_epoch
 
 pub returns-in-None-clause-once : goal.returns-in-None-clause-once
-returns-in-None-clause-once g c before remembers number is =
-    taken_once (bounds_of g.row.N c.args.self.now) (taken_in before) (RowLeads g.row.N c.args.self.now c.args.sequence_number) c.args.sequence_number number
-    (subst (λ (v : RestartingVerdict). IsRestartingVerdict (bounds_of g.row.N c.args.self.now) (taken_in before) (RowLeads g.row.N c.args.self.now c.args.sequence_number) c.args.sequence_number v)
-    is (returns-in-None-clause-verdict g c (taken_in before) remembers.holds))
+returns-in-None-clause-once g c before remembers = (outside g c before remembers).once
