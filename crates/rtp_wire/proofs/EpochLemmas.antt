@@ -68,27 +68,27 @@ record IsBegun (arrival : Arrival) (taken : Numbers) : Type 0 where
   verdict_is : verdict_in_epoch arrival.verdict ≡ plain.Taken (65536 * count + arrival.low % 65536)
   taken_is : (n : ℕ) → taken_by (verdict_in_epoch arrival.verdict ∷ []) n ≡ epoch_after taken arrival.verdict n
 
-begun : (taken : Numbers) (arrival : Arrival) (highest : Option ℕ) → IsHighest taken highest → arrival.verdict ≡ announced highest (first_number highest arrival.low) → IsBegun arrival taken
+begun : (taken : Numbers) (arrival : Arrival) (highest : Option ℕ) → IsHighest taken highest → arrival.verdict ≡ announced highest (first_number 1 highest arrival.low) → IsBegun arrival taken
 begun taken arrival None nothing is = record {
   count = 1;
   verdict_is = ap verdict_in_epoch is ∙ ap plain.Taken (omega arith);
   taken_is = λ n. subst (λ (v : RestartingVerdict). taken_by (verdict_in_epoch v ∷ []) n ≡ epoch_after taken v n) (sym is)
-      (or_false (eqb n (first_number None arrival.low)) ∙ ap (λ (b : Bool). b || eqb n (first_number None arrival.low)) (sym (nothing n)));
+      (or_false (eqb n (first_number 1 None arrival.low)) ∙ ap (λ (b : Bool). b || eqb n (first_number 1 None arrival.low)) (sym (nothing n)));
 }
 begun taken arrival (Some highest) top is = record {
   count = highest / 65536 + 2;
   verdict_is = ap verdict_in_epoch is;
-  taken_is = λ n. subst (λ (v : RestartingVerdict). taken_by (verdict_in_epoch v ∷ []) n ≡ epoch_after taken v n) (sym is) (or_false (eqb n (first_number (Some highest) arrival.low)));
+  taken_is = λ n. subst (λ (v : RestartingVerdict). taken_by (verdict_in_epoch v ∷ []) n ≡ epoch_after taken v n) (sym is) (or_false (eqb n (first_number 1 (Some highest) arrival.low)));
 }
 
-began : (bounds : Bounds) (before : List Arrival) (arrival : Arrival) → IsOutside bounds (taken_in before) arrival.low → IsFirst (taken_in before) arrival.low arrival.verdict
+began : (bounds : Bounds) (before : List Arrival) (arrival : Arrival) → IsOutside bounds (taken_in before) arrival.low → IsFirst 1 (taken_in before) arrival.low arrival.verdict
     → IsRunInEpoch bounds (arrival ∷ before)
 began bounds before arrival outside first =
     let is = begun (taken_in before) arrival first.highest first.is_highest first.verdict_is in
     let number : ℕ = 65536 * is.count + arrival.low % 65536 in
     record {
       packets = arrival ∷ [];
-      of_epoch = epoch.begins before arrival outside (λ refused. first_not_refused (taken_in before) arrival.low (subst (IsFirst (taken_in before) arrival.low) refused first));
+      of_epoch = epoch.begins before arrival outside (λ refused. first_not_refused 1 (taken_in before) arrival.low (subst (IsFirst 1 (taken_in before) arrival.low) refused first));
       count = is.count;
       run = λ source. IsRun-more bounds.size is.count [] [] (packet_id_in source arrival) (verdict_in_epoch arrival.verdict) (IsRunOf-none bounds.size is.count)
           (subst (IsVerdictOf bounds.size is.count (taken_by []) (packet_id_in source arrival)) (sym is.verdict_is)
@@ -132,7 +132,7 @@ pub record Follows (words : ℕ) (old new : RestartingReceiver words) (low : ℕ
   pub once : (number : ℕ) → verdict ≡ Taken number → taken_in before number ≡ false
 
 pub follows : (words : ℕ) (old new : RestartingReceiver words) (low : ℕ) (verdict : RestartingVerdict) (before : List Arrival) → Remembers words old before
-    → IsRestartingVerdict (bounds_of words old) (taken_in before) (RowLeads words old low) low verdict → HoldsEpoch words new (epoch_after (taken_in before) verdict)
+    → IsRestartingVerdict (bounds_of words old) 1 (taken_in before) (RowLeads words old low) low verdict → HoldsEpoch words new 1 (epoch_after (taken_in before) verdict)
     → RowGrows words old (taken_in before) low verdict new → bounds_of words new ≡ bounds_of words old → Follows words old new low verdict before
 follows words old new low verdict before remembers is holds grows same =
     let bounds : Bounds = bounds_of words old in
@@ -142,6 +142,6 @@ follows words old new low verdict before remembers is holds grows same =
       after = Remembers-after words old new before low verdict remembers is holds grows same;
       in_epoch = run_in_epoch bounds (record { low = low; verdict = verdict } ∷ before) (next, remembers.run);
       one_epoch = one_epoch bounds (record { low = low; verdict = verdict } ∷ before) (next, remembers.run);
-      once = λ number taken. taken_once bounds (taken_in before) (RowLeads words old low) low number
-          (subst (λ (v : RestartingVerdict). IsRestartingVerdict bounds (taken_in before) (RowLeads words old low) low v) taken is);
+      once = λ number taken. taken_once bounds 1 (taken_in before) (RowLeads words old low) low number
+          (subst (λ (v : RestartingVerdict). IsRestartingVerdict bounds 1 (taken_in before) (RowLeads words old low) low v) taken is);
     }

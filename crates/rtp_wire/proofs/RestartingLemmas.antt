@@ -20,22 +20,22 @@ leading-few bounds None few = omega arith
 leading-few bounds (Some h) few = omega arith
 
 -- the verdict by two ways to say how many packets lead up to it, which agree on few
-Begins-same : (bounds : Bounds) (taken : Numbers) (one other : ℕ → Type 0) (low : ℕ) (verdict : RestartingVerdict) → bounds.min_sequential ≤ 255
-    → ((k : ℕ) → k ≤ 255 → one k → other k) → Begins bounds taken one low verdict → Begins bounds taken other low verdict
-Begins-same bounds taken one other low verdict few to begins = record {
+Begins-same : (bounds : Bounds) (count : ℕ) (taken : Numbers) (one other : ℕ → Type 0) (low : ℕ) (verdict : RestartingVerdict) → bounds.min_sequential ≤ 255
+    → ((k : ℕ) → k ≤ 255 → one k → other k) → Begins bounds count taken one low verdict → Begins bounds count taken other low verdict
+Begins-same bounds count taken one other low verdict few to begins = record {
   is_first = begins.is_first;
   lead = to (leading bounds begins.is_first.highest) (leading-few bounds begins.is_first.highest few) begins.lead;
 }
 
-pub Verdict-same : (bounds : Bounds) (taken : Numbers) (one other : ℕ → Type 0) (low : ℕ) (verdict : RestartingVerdict) → bounds.min_sequential ≤ 255
-    → ((k : ℕ) → k ≤ 255 → other k ↔ one k) → IsRestartingVerdict bounds taken one low verdict → IsRestartingVerdict bounds taken other low verdict
-Verdict-same bounds taken one other low verdict few same is = elim is [
+pub Verdict-same : (bounds : Bounds) (count : ℕ) (taken : Numbers) (one other : ℕ → Type 0) (low : ℕ) (verdict : RestartingVerdict) → bounds.min_sequential ≤ 255
+    → ((k : ℕ) → k ≤ 255 → other k ↔ one k) → IsRestartingVerdict bounds count taken one low verdict → IsRestartingVerdict bounds count taken other low verdict
+Verdict-same bounds count taken one other low verdict few same is = elim is [
   | inl judged ↦ inl judged
   | inr outside ↦ inr (record {
     outside = outside.outside;
     judged = elim outside.judged [
-      | inl begins ↦ inl (Begins-same bounds taken one other low verdict few (λ k le. (same k le).1) begins)
-      | inr refused ↦ inr (refused.0, λ v begins. refused.1 v (Begins-same bounds taken other one low v few (λ k le. (same k le).0) begins))
+      | inl begins ↦ inl (Begins-same bounds count taken one other low verdict few (λ k le. (same k le).1) begins)
+      | inr refused ↦ inr (refused.0, λ v begins. refused.1 v (Begins-same bounds count taken other one low v few (λ k le. (same k le).0) begins))
     ];
   })
 ]
@@ -43,9 +43,9 @@ Verdict-same bounds taken one other low verdict few same is = elim is [
 -- ---- one packet more
 
 module _ (words : ℕ) (old new : RestartingReceiver words) (before : List Arrival) (low : ℕ) (verdict : RestartingVerdict) (remembers : Remembers words old before) where
-  pub next_verdict : IsRestartingVerdict (bounds_of words old) (taken_in before) (RowLeads words old low) low verdict
+  pub next_verdict : IsRestartingVerdict (bounds_of words old) 1 (taken_in before) (RowLeads words old low) low verdict
       → IsNext (bounds_of words old) before (record { low = low; verdict = verdict })
-  next_verdict is = Verdict-same (bounds_of words old) (taken_in before) (RowLeads words old low) (LeadUp (bounds_of words old) before low) low verdict remembers.few (remembers.row low) is
+  next_verdict is = Verdict-same (bounds_of words old) 1 (taken_in before) (RowLeads words old low) (LeadUp (bounds_of words old) before low) low verdict remembers.few (remembers.row low) is
 
   row_after : RowGrows words old (taken_in before) low verdict new → (later k : ℕ) → k ≤ 255
       → LeadUp (bounds_of words old) (record { low = low; verdict = verdict } ∷ before) later k ↔ RowLeads words new later k
@@ -55,8 +55,8 @@ module _ (words : ℕ) (old new : RestartingReceiver words) (before : List Arriv
       let held = remembers.row low k (omega arith) in
       (λ lead. grown.1 (lead.0, lead.1, lead.2, held.0 lead.3), λ leads. let parts = grown.0 leads in (parts.0, parts.1, parts.2, held.1 parts.3))
 
-  pub Remembers-after : IsRestartingVerdict (bounds_of words old) (taken_in before) (RowLeads words old low) low verdict
-      → HoldsEpoch words new (epoch_after (taken_in before) verdict) → RowGrows words old (taken_in before) low verdict new → bounds_of words new ≡ bounds_of words old
+  pub Remembers-after : IsRestartingVerdict (bounds_of words old) 1 (taken_in before) (RowLeads words old low) low verdict
+      → HoldsEpoch words new 1 (epoch_after (taken_in before) verdict) → RowGrows words old (taken_in before) low verdict new → bounds_of words new ≡ bounds_of words old
       → Remembers words new (record { low = low; verdict = verdict } ∷ before)
   Remembers-after is holds grows same = record {
     run = subst (λ (b : Bounds). IsRestartingRun b (record { low = low; verdict = verdict } ∷ before)) (sym same) (next_verdict is, remembers.run);
@@ -67,11 +67,11 @@ module _ (words : ℕ) (old new : RestartingReceiver words) (before : List Arriv
 
 -- ---- whole runs
 
-first-restarted : (bounds : Bounds) (before : List Arrival) (low number : ℕ) (first : IsFirst (taken_in before) low (Restarted number))
+first-restarted : (bounds : Bounds) (before : List Arrival) (low number : ℕ) (first : IsFirst 1 (taken_in before) low (Restarted number))
     → LeadUp bounds before low (leading bounds first.highest) → LeadUp bounds before low 1
 first-restarted bounds before low number first lead = led first.highest first.verdict_is lead
   where
-    led : (highest : Option ℕ) → Restarted number ≡ announced highest (first_number highest low)
+    led : (highest : Option ℕ) → Restarted number ≡ announced highest (first_number 1 highest low)
         → LeadUp bounds before low (leading bounds highest) → LeadUp bounds before low 1
     led None is lead = absurd (cc)
     led (Some h) is lead = lead
@@ -105,8 +105,8 @@ not_taken size taken number fresh = elim fresh [
   ]
 ]
 
-pub taken_once : (bounds : Bounds) (taken : Numbers) (Lead : ℕ → Type 0) (low number : ℕ) → IsRestartingVerdict bounds taken Lead low (Taken number) → taken number ≡ false
-taken_once bounds taken Lead low number is = elim is [
+pub taken_once : (bounds : Bounds) (count : ℕ) (taken : Numbers) (Lead : ℕ → Type 0) (low number : ℕ) → IsRestartingVerdict bounds count taken Lead low (Taken number) → taken number ≡ false
+taken_once bounds count taken Lead low number is = elim is [
   | inl judged ↦ rw judged.judged.0 (not_taken bounds.size taken judged.number judged.judged.1)
   | inr outside ↦ elim outside.judged [
     | inl begins ↦ first_taken begins.is_first.highest begins.is_first.is_highest begins.is_first.verdict_is
@@ -115,15 +115,15 @@ taken_once bounds taken Lead low number is = elim is [
 ]
   where
     first_taken : (highest : Option ℕ) → IsHighest taken highest
-        → Taken number ≡ announced highest (first_number highest low) → taken number ≡ false
+        → Taken number ≡ announced highest (first_number count highest low) → taken number ≡ false
     first_taken None none is = none number
     first_taken (Some h) top is = absurd (cc)
 
 -- the first packet of an epoch is not refused
-pub first_not_refused : (taken : Numbers) (low : ℕ) → IsFirst taken low Refused → ⊥
-first_not_refused taken low first = never first.highest first.verdict_is
+pub first_not_refused : (count : ℕ) (taken : Numbers) (low : ℕ) → IsFirst count taken low Refused → ⊥
+first_not_refused count taken low first = never first.highest first.verdict_is
   where
-    never : (highest : Option ℕ) → Refused ≡ announced highest (first_number highest low) → ⊥
+    never : (highest : Option ℕ) → Refused ≡ announced highest (first_number count highest low) → ⊥
     never None is = cc
     never (Some h) is = cc
 
@@ -137,10 +137,10 @@ row_grown in_row next in_row' next' before low later k few grown next-is held = 
 )
 
 -- the number of a packet of the stream is the one that the receiver gives it
-pub near_number : (bounds : Bounds) (taken : Numbers) (low number highest near : ℕ) → highest < 2 ^ 64 → IsGreatest taken highest → IsNumberOf 1 taken low near
+pub near_number : (bounds : Bounds) (count : ℕ) (taken : Numbers) (low number highest near : ℕ) → highest < 2 ^ 64 → IsGreatest taken highest → IsNumberOf count taken low near
     → IsOfStream bounds taken low number → (near < highest + bounds.max_dropout) × (highest < near + bounds.size)
-near_number bounds taken low number highest near fits top (None, none, is) of_stream = absurd (not_nothing taken highest top none)
-near_number bounds taken low number highest near fits top (Some h, h-top, is) of_stream =
+near_number bounds count taken low number highest near fits top (None, none, is) of_stream = absurd (not_nothing taken highest top none)
+near_number bounds count taken low number highest near fits top (Some h, h-top, is) of_stream =
     let here : h ≡ highest = one_greatest taken h highest h-top top in
     let there : of_stream.highest ≡ highest = one_greatest taken of_stream.highest highest of_stream.is_highest top in
     let same : near ≡ number =

@@ -31,10 +31,14 @@ abbrev pub leading : Bounds → Option ℕ → ℕ
 leading bounds None = bounds.min_sequential - 1
 leading bounds (Some highest) = 1
 
--- the number of an epoch's first packet: its 16 bits, under the rollover count 1 where the source is new, and else under the last epoch's highest one and 2 more, so that all numbers of an epoch are above those of the epochs before it
-abbrev pub first_number : Option ℕ → ℕ → ℕ
-first_number None low = 65536 + low % 65536
-first_number (Some highest) low = 65536 * (highest / 65536 + 2) + low % 65536
+-- the number of the first packet of an epoch after one with this highest number: its 16 bits, under the highest one's rollover count and 2 more, so that all numbers of an epoch are above those of the epochs before it
+abbrev pub restarted_number : ℕ → ℕ → ℕ
+restarted_number highest low = 65536 * (highest / 65536 + 2) + low % 65536
+
+-- the number of an epoch's first packet; where the source is new it has this rollover count
+abbrev pub first_number : ℕ → Option ℕ → ℕ → ℕ
+first_number count None low = 65536 * count + low % 65536
+first_number count (Some highest) low = restarted_number highest low
 
 -- how the first packet of an epoch is answered
 abbrev pub announced : Option ℕ → ℕ → RestartingVerdict
@@ -42,21 +46,21 @@ announced None number = Taken number
 announced (Some highest) number = Restarted number
 
 -- the verdict on a packet as the first one of an epoch, if its number has 64 bits
-pub record IsFirst (taken : Numbers) (low : ℕ) (verdict : RestartingVerdict) : Type 0 where
+pub record IsFirst (count : ℕ) (taken : Numbers) (low : ℕ) (verdict : RestartingVerdict) : Type 0 where
   pub highest : Option ℕ
   pub is_highest : IsHighest taken highest
-  pub fits : first_number highest low < 2 ^ 64
-  pub verdict_is : verdict ≡ announced highest (first_number highest low)
+  pub fits : first_number count highest low < 2 ^ 64
+  pub verdict_is : verdict ≡ announced highest (first_number count highest low)
 
 -- an epoch begins with this packet, and as many lead up to it as must; `Lead k` says that k packets do
-pub record Begins (bounds : Bounds) (taken : Numbers) (Lead : ℕ → Type 0) (low : ℕ) (verdict : RestartingVerdict) : Type 0 where
-  pub is_first : IsFirst taken low verdict
+pub record Begins (bounds : Bounds) (count : ℕ) (taken : Numbers) (Lead : ℕ → Type 0) (low : ℕ) (verdict : RestartingVerdict) : Type 0 where
+  pub is_first : IsFirst count taken low verdict
   pub lead : Lead (leading bounds is_first.highest)
 
 -- a packet begins an epoch, or is refused where it can't
-abbrev pub BeginsOrRefused : Bounds → Numbers → (ℕ → Type 0) → ℕ → RestartingVerdict → Type 0
-BeginsOrRefused bounds taken Lead low verdict =
-    Begins bounds taken Lead low verdict ⊎ ((verdict ≡ Refused) × ((other : RestartingVerdict) → Begins bounds taken Lead low other → ⊥))
+abbrev pub BeginsOrRefused : Bounds → ℕ → Numbers → (ℕ → Type 0) → ℕ → RestartingVerdict → Type 0
+BeginsOrRefused bounds count taken Lead low verdict =
+    Begins bounds count taken Lead low verdict ⊎ ((verdict ≡ Refused) × ((other : RestartingVerdict) → Begins bounds count taken Lead low other → ⊥))
 
 -- what a receiver says of a packet of the stream, as one for a sender that never starts again says it
 abbrev pub in_stream : RestartingVerdict → Verdict
@@ -71,13 +75,13 @@ pub record IsJudgedInStream (bounds : Bounds) (taken : Numbers) (low : ℕ) (ver
   pub judged : IsJudgedOf bounds.size taken number (in_stream verdict)
 
 -- the packet is outside of the stream: it begins an epoch, or is refused
-pub record IsJudgedOutside (bounds : Bounds) (taken : Numbers) (Lead : ℕ → Type 0) (low : ℕ) (verdict : RestartingVerdict) : Type 0 where
+pub record IsJudgedOutside (bounds : Bounds) (count : ℕ) (taken : Numbers) (Lead : ℕ → Type 0) (low : ℕ) (verdict : RestartingVerdict) : Type 0 where
   pub outside : IsOutside bounds taken low
-  pub judged : BeginsOrRefused bounds taken Lead low verdict
+  pub judged : BeginsOrRefused bounds count taken Lead low verdict
 
--- the verdict on a packet, where these numbers are taken in the epoch so far
-abbrev pub IsRestartingVerdict : Bounds → Numbers → (ℕ → Type 0) → ℕ → RestartingVerdict → Type 0
-IsRestartingVerdict bounds taken Lead low verdict = IsJudgedInStream bounds taken low verdict ⊎ IsJudgedOutside bounds taken Lead low verdict
+-- the verdict on a packet of a receiver that starts at this rollover count, where these numbers are taken in the epoch so far
+abbrev pub IsRestartingVerdict : Bounds → ℕ → Numbers → (ℕ → Type 0) → ℕ → RestartingVerdict → Type 0
+IsRestartingVerdict bounds count taken Lead low verdict = IsJudgedInStream bounds taken low verdict ⊎ IsJudgedOutside bounds count taken Lead low verdict
 
 -- ---- a whole run
 
@@ -104,9 +108,9 @@ LeadUp bounds [] low (suc k) = ⊥
 LeadUp bounds (arrival ∷ before) low (suc k) =
     (arrival.verdict ≡ Refused) × IsOutside bounds (taken_in before) arrival.low × (low ≡ (arrival.low + 1) % 65536) × LeadUp bounds before arrival.low k
 
--- the packet is judged by those that came before it
+-- the packet is judged by those that came before it; the receiver starts at the rollover count 1
 abbrev pub IsNext : Bounds → List Arrival → Arrival → Type 0
-IsNext bounds before arrival = IsRestartingVerdict bounds (taken_in before) (LeadUp bounds before arrival.low) arrival.low arrival.verdict
+IsNext bounds before arrival = IsRestartingVerdict bounds 1 (taken_in before) (LeadUp bounds before arrival.low) arrival.low arrival.verdict
 
 -- each packet is judged by those that came before it
 abbrev pub IsRestartingRun : Bounds → List Arrival → Type 0

@@ -11,9 +11,9 @@ use Rattle.rtp_wire.specs.declared.receive.restarting_verdict.RestartingVerdict.
 abbrev pub bounds_of : (words : ℕ) → RestartingReceiver words → Bounds
 bounds_of words receiver = record { max_dropout = receiver.max_dropout; size = 64 * words; min_sequential = receiver.min_sequential }
 
--- it holds the numbers taken in the epoch; the first epoch starts at the rollover count 1
-abbrev pub HoldsEpoch : (words : ℕ) → RestartingReceiver words → Numbers → Type 0
-HoldsEpoch words receiver taken = HoldsOf (64 * words) receiver.receiver 1 taken
+-- it holds the numbers taken in the epoch; the first epoch starts at this rollover count
+abbrev pub HoldsEpoch : (words : ℕ) → RestartingReceiver words → ℕ → Numbers → Type 0
+HoldsEpoch words receiver count taken = HoldsOf (64 * words) receiver.receiver count taken
 
 -- by a row of this many packets as many lead up to a packet of these 16 bits: none, or at most all of them where the bits are those that come next
 abbrev pub Leads : ℕ → ℕ → ℕ → ℕ → Type 0
@@ -31,9 +31,9 @@ RowLeads words receiver = Leads receiver.in_row receiver.next
 abbrev pub RowGrows : (words : ℕ) → RestartingReceiver words → Numbers → ℕ → RestartingVerdict → RestartingReceiver words → Type 0
 RowGrows words old taken low verdict new = Grows (bounds_of words old) taken low verdict old.in_row old.next new.in_row new.next
 
--- it is what these packets have left, of which the latest comes first
+-- it started at the rollover count 1, and is what these packets have left, of which the latest comes first
 pub record Remembers (words : ℕ) (receiver : RestartingReceiver words) (before : List Arrival) : Type 0 where
   pub run : IsRestartingRun (bounds_of words receiver) before
-  pub holds : HoldsEpoch words receiver (taken_in before)
+  pub holds : HoldsEpoch words receiver 1 (taken_in before)
   pub few : receiver.min_sequential ≤ 255
   pub row : (low k : ℕ) → k ≤ 255 → LeadUp (bounds_of words receiver) before low k ↔ RowLeads words receiver low k

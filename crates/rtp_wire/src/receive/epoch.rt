@@ -1,12 +1,13 @@
 //! What begins an epoch of a stream whose sender may start again.
 
-ghost use Rattle.std.specs.Prelude.{◌≡◌, ◌↔◌, ◌+◌, ◌%◌, ◌^◌, ◌≤◌, ℕ, suc, Option, Some, None};
+ghost use Rattle.std.specs.Prelude.{◌≡◌, ◌≢◌, ◌↔◌, ◌+◌, ◌*◌, ◌%◌, ◌^◌, ◌≤◌, ℕ, suc, Option, Some, None};
 ghost use Rattle.rtp_base.specs.Window.{Numbers};
-ghost use Rattle.rtp_wire.specs.Receiver.{IsHighest};
-ghost use Rattle.rtp_wire.specs.Restarting.{leading, first_number, IsFirst, Begins, BeginsOrRefused, epoch_after};
+ghost use Rattle.rtp_wire.specs.Receiver.{IsHighest, StaysBelowZeroInOf};
+ghost use Rattle.rtp_wire.specs.Restarting.{leading, restarted_number, IsFirst, Begins, BeginsOrRefused, epoch_after};
 ghost use Rattle.rtp_wire.specs.RestartingState.{bounds_of, HoldsEpoch, RowLeads};
 ghost use Rattle.rtp_wire.specs.declared.receive.restarting_verdict.RestartingVerdict.{RestartingVerdict};
-ghost use Rattle.rtp_wire.specs.declared.receive.restarting_verdict.RestartingVerdict.TheVariants.{Refused};
+ghost use Rattle.rtp_wire.specs.declared.receive.restarting_verdict.RestartingVerdict.TheVariants.{Taken, Restarted, Refused};
+ghost use Rattle.rtp_wire.specs.declared.receive.receiver.ReceiverState.TheVariants.{Start};
 
 use super::restarting::RestartingReceiver;
 use super::restarting_verdict::RestartingVerdict;
@@ -15,8 +16,8 @@ use rtp_base::SeqNo;
 // The number of the first packet of the epoch after the one with this highest number.
 fn next_epoch(highest: SeqNo, sequence_number: u16) -> Option<SeqNo>
     ensures some { (number : ℕ) → result ≡ Some number →
-        number ≡ first_number (Some highest) sequence_number }
-    ensures none { result ≡ None → 2 ^ 64 ≤ first_number (Some highest) sequence_number }
+        number ≡ restarted_number highest sequence_number }
+    ensures none { result ≡ None → 2 ^ 64 ≤ restarted_number highest sequence_number }
 {
     let rollover_count = highest.roc() + 2;
     if rollover_count >= 1 << 48 {
@@ -28,8 +29,9 @@ fn next_epoch(highest: SeqNo, sequence_number: u16) -> Option<SeqNo>
 impl<const N: usize> RestartingReceiver<N> {
     // How many packets in a row lead up to the first one of an epoch.
     fn leading(&self) -> u8
-        ensures { (taken : Numbers) → HoldsEpoch N self.now taken → (highest : Option ℕ) →
-            IsHighest taken highest → result ≡ leading (bounds_of N self.now) highest }
+        ensures { (count : ℕ) → (taken : Numbers) → HoldsEpoch N self.now count taken →
+            (highest : Option ℕ) → IsHighest taken highest →
+            result ≡ leading (bounds_of N self.now) highest }
     {
         match self.receiver.highest() {
             None => self.min_sequential.saturating_sub(1),
@@ -51,14 +53,21 @@ impl<const N: usize> RestartingReceiver<N> {
     // Begins an epoch with a packet, whatever leads up to it. Nothing changes where no number of 64
     // bits is left for it.
     fn start_epoch(&mut self, sequence_number: u16) -> Option<RestartingVerdict>
-        ensures first { (taken : Numbers) → HoldsEpoch N self.old taken →
+        ensures first { (count : ℕ) → (taken : Numbers) → HoldsEpoch N self.old count taken →
             (verdict : RestartingVerdict) → result ≡ Some verdict →
-            IsFirst taken sequence_number verdict }
-        ensures epoch { (taken : Numbers) → HoldsEpoch N self.old taken →
+            IsFirst count taken sequence_number verdict }
+        ensures epoch { (count : ℕ) → (taken : Numbers) → HoldsEpoch N self.old count taken →
             (verdict : RestartingVerdict) → result ≡ Some verdict →
-            HoldsEpoch N self.new (epoch_after taken verdict) }
-        ensures none { result ≡ None → (taken : Numbers) → HoldsEpoch N self.old taken →
-            (verdict : RestartingVerdict) → IsFirst taken sequence_number verdict → ⊥ }
+            HoldsEpoch N self.new count (epoch_after taken verdict) }
+        ensures none { result ≡ None → (count : ℕ) → (taken : Numbers) →
+            HoldsEpoch N self.old count taken →
+            (verdict : RestartingVerdict) → IsFirst count taken sequence_number verdict → ⊥ }
+        ensures accepted { (verdict : RestartingVerdict) → result ≡ Some verdict →
+            verdict ≢ Refused }
+        ensures below_zero { (number : ℕ) → result ≡ Some (Taken number) →
+            StaysBelowZeroInOf (64 * N) self.old.receiver self.new.receiver }
+        ensures restarted { (number : ℕ) → result ≡ Some (Restarted number) →
+            StaysBelowZeroInOf (64 * N) (Start 0) self.new.receiver }
         ensures unchanged { result ≡ None → self.new ≡ self.old }
         ensures bounds { bounds_of N self.new ≡ bounds_of N self.old }
     {
@@ -74,16 +83,23 @@ impl<const N: usize> RestartingReceiver<N> {
 
     // Begins an epoch with a packet, where as many lead up to it as must.
     fn begin(&mut self, sequence_number: u16) -> Option<RestartingVerdict>
-        ensures begins { (taken : Numbers) → HoldsEpoch N self.old taken →
+        ensures begins { (count : ℕ) → (taken : Numbers) → HoldsEpoch N self.old count taken →
             (verdict : RestartingVerdict) → result ≡ Some verdict →
-            Begins (bounds_of N self.old) taken
+            Begins (bounds_of N self.old) count taken
             (RowLeads N self.old sequence_number) sequence_number verdict }
-        ensures epoch { (taken : Numbers) → HoldsEpoch N self.old taken →
+        ensures epoch { (count : ℕ) → (taken : Numbers) → HoldsEpoch N self.old count taken →
             (verdict : RestartingVerdict) → result ≡ Some verdict →
-            HoldsEpoch N self.new (epoch_after taken verdict) }
-        ensures none { result ≡ None → (taken : Numbers) → HoldsEpoch N self.old taken →
-            (verdict : RestartingVerdict) → Begins (bounds_of N self.old) taken
+            HoldsEpoch N self.new count (epoch_after taken verdict) }
+        ensures none { result ≡ None → (count : ℕ) → (taken : Numbers) →
+            HoldsEpoch N self.old count taken →
+            (verdict : RestartingVerdict) → Begins (bounds_of N self.old) count taken
             (RowLeads N self.old sequence_number) sequence_number verdict → ⊥ }
+        ensures accepted { (verdict : RestartingVerdict) → result ≡ Some verdict →
+            verdict ≢ Refused }
+        ensures below_zero { (number : ℕ) → result ≡ Some (Taken number) →
+            StaysBelowZeroInOf (64 * N) self.old.receiver self.new.receiver }
+        ensures restarted { (number : ℕ) → result ≡ Some (Restarted number) →
+            StaysBelowZeroInOf (64 * N) (Start 0) self.new.receiver }
         ensures unchanged { result ≡ None → self.new ≡ self.old }
         ensures bounds { bounds_of N self.new ≡ bounds_of N self.old }
     {
@@ -95,15 +111,19 @@ impl<const N: usize> RestartingReceiver<N> {
 
     // The verdict on a packet that is outside of the stream.
     pub(super) fn receive_outside(&mut self, sequence_number: u16) -> RestartingVerdict
-        ensures judged { (taken : Numbers) → HoldsEpoch N self.old taken →
-            BeginsOrRefused (bounds_of N self.old) taken
+        ensures judged { (count : ℕ) → (taken : Numbers) → HoldsEpoch N self.old count taken →
+            BeginsOrRefused (bounds_of N self.old) count taken
             (RowLeads N self.old sequence_number) sequence_number result }
-        ensures epoch { (taken : Numbers) → HoldsEpoch N self.old taken →
-            HoldsEpoch N self.new (epoch_after taken result) }
-        ensures row { (taken : Numbers) → HoldsEpoch N self.old taken →
-            (later k : ℕ) → suc k ≤ 255 → RowLeads N self.new later (suc k)
+        ensures epoch { (count : ℕ) → (taken : Numbers) → HoldsEpoch N self.old count taken →
+            HoldsEpoch N self.new count (epoch_after taken result) }
+        ensures row { (later k : ℕ) → suc k ≤ 255 → RowLeads N self.new later (suc k)
             ↔ ((result ≡ Refused) × (later ≡ (sequence_number + 1) % 65536)
             × RowLeads N self.old sequence_number k) }
+        ensures refused { result ≡ Refused → self.new.receiver ≡ self.old.receiver }
+        ensures below_zero { (number : ℕ) → result ≡ Taken number →
+            StaysBelowZeroInOf (64 * N) self.old.receiver self.new.receiver }
+        ensures restarted { (number : ℕ) → result ≡ Restarted number →
+            StaysBelowZeroInOf (64 * N) (Start 0) self.new.receiver }
         ensures bounds { bounds_of N self.new ≡ bounds_of N self.old }
     {
         match self.begin(sequence_number) {

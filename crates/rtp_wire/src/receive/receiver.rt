@@ -250,8 +250,8 @@ impl Receiver {
         ensures read { (packet_id : Option PacketId)
             × ((exts : ExtensionMap) → IsPacketId exts datagram.now packet_id) }
         ensures verdict { (exts : ExtensionMap) → (packet_id : Option PacketId) →
-            IsPacketId exts datagram.now packet_id → (count : ℕ) → (taken : Numbers) → Holds self.old count taken →
-            IsVerdict count taken packet_id result }
+            IsPacketId exts datagram.now packet_id → (count : ℕ) → (taken : Numbers) →
+            Holds self.old count taken → IsVerdict count taken packet_id result }
         ensures after { (count : ℕ) → (taken : Numbers) → Holds self.old count taken →
             Holds self.new count (taken_after taken result) }
     {

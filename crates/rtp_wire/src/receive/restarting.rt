@@ -1,13 +1,14 @@
 //! The receive state of one stream whose sender may start again.
 
-ghost use Rattle.std.specs.Prelude.{◌≡◌, ◌↔◌, ◌+◌, ◌*◌, ◌<◌, ℕ, IsTrue, List, [], ◌∷◌, Some, None, false};
+ghost use Rattle.std.specs.Prelude.{◌≡◌, ◌≢◌, ◌↔◌, ◌+◌, ◌*◌, ◌<◌, ℕ, IsTrue, List, [], ◌∷◌, Some, None, false};
 ghost use Rattle.rtp_base.specs.Window.{Numbers};
-ghost use Rattle.rtp_wire.specs.Receiver.{IsHighest, IsJudgedOf};
+ghost use Rattle.rtp_wire.specs.Receiver.{IsHighest, IsJudgedOf, StaysBelowZeroInOf};
 ghost use Rattle.rtp_wire.specs.Restarting.{IsOfStream, IsOutside, in_stream, IsRestartingVerdict, Arrival, epoch_after, taken_in, IsNext, HasNoPair, IsOneEpoch};
 ghost use Rattle.rtp_wire.specs.EpochRun.{IsRunInEpoch};
 ghost use Rattle.rtp_wire.specs.RestartingState.{bounds_of, HoldsEpoch, RowLeads, RowGrows, Remembers};
 ghost use Rattle.rtp_wire.specs.declared.receive.restarting_verdict.RestartingVerdict.{RestartingVerdict};
-ghost use Rattle.rtp_wire.specs.declared.receive.restarting_verdict.RestartingVerdict.TheVariants.{Taken};
+ghost use Rattle.rtp_wire.specs.declared.receive.restarting_verdict.RestartingVerdict.TheVariants.{Taken, Restarted, Refused};
+ghost use Rattle.rtp_wire.specs.declared.receive.receiver.ReceiverState.TheVariants.{Start};
 
 use super::restarting_verdict::RestartingVerdict;
 use super::wide_receiver::WideReceiver;
@@ -86,7 +87,8 @@ impl<const N: usize> RestartingReceiver<N> {
     }
 
     /// The receiver that goes on from these parts: with the same bounds, what [`epoch`](Self::epoch)
-    /// lent, and what [`row`](Self::row) returned.
+    /// lent, and what [`row`](Self::row) returned. An epoch that has taken nothing yet may start at any
+    /// rollover count.
     pub fn from_parts(
         epoch: WideReceiver<N>,
         max_dropout: u16,
@@ -110,7 +112,8 @@ impl<const N: usize> RestartingReceiver<N> {
         }
     }
 
-    /// What is taken in the epoch. Where nothing is taken yet it starts at the rollover count 1.
+    /// What is taken in the epoch. Where nothing is taken yet it starts at the rollover count 1, or at
+    /// the one that [`from_parts`](Self::from_parts) was given.
     pub fn epoch(&self) -> &WideReceiver<N>
         ensures { result.now ≡ self.now.receiver }
     {
@@ -127,23 +130,35 @@ impl<const N: usize> RestartingReceiver<N> {
 
     /// The highest number taken in the epoch, and `None` where nothing is taken yet.
     pub fn highest(&self) -> Option<SeqNo>
-        ensures highest { (taken : Numbers) → HoldsEpoch N self.now taken → IsHighest taken result }
+        ensures highest { (count : ℕ) → (taken : Numbers) → HoldsEpoch N self.now count taken →
+            IsHighest taken result }
+
+        // Each receiver holds some set, so the clauses here always speak of something.
+        ensures some { (count : ℕ) × (taken : Numbers) × HoldsEpoch N self.now count taken }
     {
         self.receiver.highest()
     }
 
     /// The verdict on the next packet of the source, by its sequence number.
     pub fn receive(&mut self, sequence_number: u16) -> RestartingVerdict
-        ensures verdict { (taken : Numbers) → HoldsEpoch N self.old taken →
-            IsRestartingVerdict (bounds_of N self.old) taken
+        ensures verdict { (count : ℕ) → (taken : Numbers) → HoldsEpoch N self.old count taken →
+            IsRestartingVerdict (bounds_of N self.old) count taken
             (RowLeads N self.old sequence_number) sequence_number result }
-        ensures epoch { (taken : Numbers) → HoldsEpoch N self.old taken →
-            HoldsEpoch N self.new (epoch_after taken result) }
-        ensures row { (taken : Numbers) → HoldsEpoch N self.old taken →
+        ensures epoch { (count : ℕ) → (taken : Numbers) → HoldsEpoch N self.old count taken →
+            HoldsEpoch N self.new count (epoch_after taken result) }
+        ensures row { (count : ℕ) → (taken : Numbers) → HoldsEpoch N self.old count taken →
             RowGrows N self.old taken sequence_number result self.new }
         ensures bounds { bounds_of N self.new ≡ bounds_of N self.old }
 
-        // The same by all packets that came before, whatever they were.
+        // A refused packet leaves the window as it is, and a new epoch has a new one.
+        ensures refused { result ≡ Refused → self.new.receiver ≡ self.old.receiver }
+        ensures below_zero { (number : ℕ) → result ≡ Taken number →
+            StaysBelowZeroInOf (64 * N) self.old.receiver self.new.receiver }
+        ensures restarted { (number : ℕ) → result ≡ Restarted number →
+            StaysBelowZeroInOf (64 * N) (Start 0) self.new.receiver }
+
+        // The same by all packets that came before, where the first epoch starts at the rollover count
+        // 1, as in `new`.
         ensures next { (before : List Arrival) → Remembers N self.old before →
             IsNext (bounds_of N self.old) before
             (record { low = sequence_number; verdict = result }) }
@@ -173,10 +188,11 @@ impl<const N: usize> RestartingReceiver<N> {
 
     // The number of a packet of the stream.
     fn stream_number(&self, sequence_number: u16) -> Option<SeqNo>
-        ensures some { (taken : Numbers) → HoldsEpoch N self.now taken → (number : ℕ) →
-            result ≡ Some number → IsOfStream (bounds_of N self.now) taken sequence_number number }
-        ensures none { (taken : Numbers) → HoldsEpoch N self.now taken → result ≡ None →
-            IsOutside (bounds_of N self.now) taken sequence_number }
+        ensures some { (count : ℕ) → (taken : Numbers) → HoldsEpoch N self.now count taken →
+            (number : ℕ) → result ≡ Some number →
+            IsOfStream (bounds_of N self.now) taken sequence_number number }
+        ensures none { (count : ℕ) → (taken : Numbers) → HoldsEpoch N self.now count taken →
+            result ≡ None → IsOutside (bounds_of N self.now) taken sequence_number }
     {
         let highest = self.receiver.highest()?;
         let number = self.receiver.number_of(sequence_number);
@@ -199,12 +215,15 @@ impl<const N: usize> RestartingReceiver<N> {
 
     // The verdict on a packet of the stream, by its number.
     fn receive_in_stream(&mut self, number: SeqNo) -> RestartingVerdict
-        ensures judged { (taken : Numbers) → HoldsEpoch N self.old taken →
+        ensures judged { (count : ℕ) → (taken : Numbers) → HoldsEpoch N self.old count taken →
             IsJudgedOf (64 * N) taken number (in_stream result) }
-        ensures epoch { (taken : Numbers) → HoldsEpoch N self.old taken →
-            HoldsEpoch N self.new (epoch_after taken result) }
+        ensures epoch { (count : ℕ) → (taken : Numbers) → HoldsEpoch N self.old count taken →
+            HoldsEpoch N self.new count (epoch_after taken result) }
+        ensures same_epoch { (first : ℕ) → result ≢ Restarted first }
         ensures row { self.new.in_row ≡ 0 }
         ensures bounds { bounds_of N self.new ≡ bounds_of N self.old }
+        ensures refused { result ≡ Refused → self.new.receiver ≡ self.old.receiver }
+        ensures below_zero { StaysBelowZeroInOf (64 * N) self.old.receiver self.new.receiver }
     {
         self.in_row = 0;
         if self.receiver.take(number) {

@@ -225,7 +225,8 @@ impl<const N: usize> WideReceiver<N> {
 
     // Forgets what was taken, and takes this number alone.
     pub(super) fn start_with(&mut self, number: SeqNo)
-        ensures { (count : ℕ) → HoldsOf (64 * N) self.new count (only number) }
+        ensures taken { (count : ℕ) → HoldsOf (64 * N) self.new count (only number) }
+        ensures below_zero { (count : ℕ) → StaysBelowZeroInOf (64 * N) (Start count) self.new }
     {
         let state = &mut self.state;
         *state = WideState::Window(WideWindow::new(number));
