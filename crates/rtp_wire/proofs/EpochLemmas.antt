@@ -1,5 +1,5 @@
 -- Within one epoch the packets of the stream are judged as those of a sender that never starts again.
-use Rattle.std.proofs.Common.{◌≡◌, ℕ, ◌*◌, ◌+◌, ◌/◌, ◌%◌, Bool, false, ◌||◌, eqb, List, [], ◌∷◌, ◌++◌, map, refl, sym, ap, ◌∙◌, subst, inl, inr, arith}
+use Rattle.std.proofs.Common.{◌≡◌, ℕ, ◌*◌, ◌+◌, ◌/◌, ◌%◌, ◌^◌, ◌≤◌, Bool, false, ◌||◌, eqb, List, [], ◌∷◌, ◌++◌, map, refl, sym, ap, ◌∙◌, subst, inl, inr, arith}
 use Rattle.std.specs.Prelude.{Option, Some, None}
 use Rattle.std.proofs.lemmas.List.{map-append}
 use Rattle.std.proofs.Math.Path.{fun_ext}
@@ -13,9 +13,10 @@ use Rattle.rtp_wire.specs.Verdicts.{PacketId, IsVerdictOf, IsRunOf, taken_by}
 use Rattle.rtp_wire.specs.Restarting.{Bounds, IsOutside, IsFirst, announced, first_number, in_stream, IsJudgedInStream, IsRestartingRun, Arrival, epoch_after, taken_in, IsNext, IsRestartingVerdict, HasNoPair, IsOneEpoch}
 use Rattle.rtp_wire.specs.declared.receive.restarting.RestartingReceiver.{RestartingReceiver}
 use Rattle.rtp_wire.specs.RestartingState.{bounds_of, HoldsEpoch, RowLeads, RowGrows, Remembers}
-use Rattle.rtp_wire.specs.EpochRun.{AreOfEpoch, packet_id_in, verdict_in_epoch, verdicts_in_epoch, IsRunInEpoch}
+use Rattle.rtp_wire.specs.EpochRun.{AreOfEpoch, packet_id_in, verdict_in_epoch, verdicts_in_epoch, IsRunInEpoch, AreRising}
 use Rattle.rtp_wire.specs.EpochRun as epoch
 use Rattle.rtp_wire.proofs.VerdictLemmas.{taken_by-push, or_false, IsRun-more}
+use Rattle.rtp_wire.proofs.EpochOrder.{rising}
 use Rattle.rtp_wire.proofs.RestartingLemmas.{first_not_refused, next_verdict, Remembers-after, one_epoch, taken_once}
 
 -- no packet has no verdict
@@ -129,6 +130,7 @@ pub record Follows (words : ℕ) (old new : RestartingReceiver words) (low : ℕ
   pub after : Remembers words new (record { low = low; verdict = verdict } ∷ before)
   pub in_epoch : IsRunInEpoch (bounds_of words old) (record { low = low; verdict = verdict } ∷ before)
   pub one_epoch : HasNoPair (bounds_of words old) (record { low = low; verdict = verdict } ∷ before) → IsOneEpoch (record { low = low; verdict = verdict } ∷ before)
+  pub rising : 64 * words ≤ 2 ^ 63 → AreRising (record { low = low; verdict = verdict } ∷ before)
   pub once : (number : ℕ) → verdict ≡ Taken number → taken_in before number ≡ false
 
 pub follows : (words : ℕ) (old new : RestartingReceiver words) (low : ℕ) (verdict : RestartingVerdict) (before : List Arrival) → Remembers words old before
@@ -142,6 +144,7 @@ follows words old new low verdict before remembers is holds grows same =
       after = Remembers-after words old new before low verdict remembers is holds grows same;
       in_epoch = run_in_epoch bounds (record { low = low; verdict = verdict } ∷ before) (next, remembers.run);
       one_epoch = one_epoch bounds (record { low = low; verdict = verdict } ∷ before) (next, remembers.run);
+      rising = λ small. rising bounds (record { low = low; verdict = verdict } ∷ before) small (next, remembers.run);
       once = λ number taken. taken_once bounds 1 (taken_in before) (RowLeads words old low) low number
           (subst (λ (v : RestartingVerdict). IsRestartingVerdict bounds 1 (taken_in before) (RowLeads words old low) low v) taken is);
     }

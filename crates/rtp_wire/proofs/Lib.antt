@@ -26,6 +26,7 @@ pub mod NearestLemmas
 mod ReceiverLemmas
 pub mod ReceiversLemmas
 mod RestartingLemmas
+mod EpochOrder
 mod EpochLemmas
 pub mod VerdictLemmas
 pub mod TrueNumberLemmas

@@ -1,5 +1,6 @@
 -- One epoch of a stream whose sender may start again: its first packet is taken as the first one of a stream, and from there on the packets of the stream are judged as those of a sender that never starts again (RFC 3550, appendix A.1).
-use Rattle.std.specs.Prelude.{◌≡◌, ◌≢◌, ℕ, List, [], ◌∷◌, ◌++◌, map, Option, Some}
+use Rattle.std.specs.Prelude.{◌≡◌, ◌≢◌, ℕ, ◌<◌, false, ◌||◌, IsTrue, List, [], ◌∷◌, ◌++◌, map, Option, Some}
+use Rattle.rtp_base.specs.Window.{Numbers}
 use Rattle.rtp_wire.specs.declared.receive.receiver.Verdict.{Verdict}
 use Rattle.rtp_wire.specs.declared.receive.receiver.Verdict.TheVariants as plain
 use Rattle.rtp_wire.specs.declared.receive.restarting_verdict.RestartingVerdict.{RestartingVerdict}
@@ -41,3 +42,20 @@ pub record IsRunInEpoch (bounds : Bounds) (arrivals : List Arrival) : Type 0 whe
   pub count : ℕ
   pub run : (source : ℕ) → IsRunOf bounds.size count (map (packet_id_in source) packets) (verdicts_in_epoch packets)
   pub taken : (number : ℕ) → taken_by (verdicts_in_epoch packets) number ≡ taken_in arrivals number
+
+-- ---- epoch after epoch
+
+-- the numbers taken in the epochs before the present one, after a verdict
+abbrev pub earlier_after : Numbers → Numbers → RestartingVerdict → Numbers
+earlier_after earlier taken (Taken number) = earlier
+earlier_after earlier taken (Restarted number) = λ n. earlier n || taken n
+earlier_after earlier taken Refused = earlier
+
+-- the numbers taken in the epochs before the one that the latest of these packets belongs to
+abbrev pub taken_earlier : List Arrival → Numbers
+taken_earlier [] = λ n. false
+taken_earlier (arrival ∷ before) = earlier_after (taken_earlier before) (taken_in before) arrival.verdict
+
+-- each number taken in the present epoch is above all that were taken in the epochs before it
+abbrev pub AreRising : List Arrival → Type 0
+AreRising arrivals = (earlier number : ℕ) → IsTrue (taken_earlier arrivals earlier) → IsTrue (taken_in arrivals number) → earlier < number

@@ -1,10 +1,10 @@
 //! The receive state of one stream whose sender may start again.
 
-ghost use Rattle.std.specs.Prelude.{◌≡◌, ◌≢◌, ◌↔◌, ◌+◌, ◌*◌, ◌<◌, ℕ, IsTrue, List, [], ◌∷◌, Some, None, false};
+ghost use Rattle.std.specs.Prelude.{◌≡◌, ◌≢◌, ◌↔◌, ◌+◌, ◌*◌, ◌^◌, ◌<◌, ◌≤◌, ℕ, IsTrue, List, [], ◌∷◌, Some, None, false};
 ghost use Rattle.rtp_base.specs.Window.{Numbers};
 ghost use Rattle.rtp_wire.specs.Receiver.{IsHighest, IsJudgedOf, StaysBelowZeroInOf};
 ghost use Rattle.rtp_wire.specs.Restarting.{IsOfStream, IsOutside, in_stream, IsRestartingVerdict, Arrival, epoch_after, taken_in, IsNext, HasNoPair, IsOneEpoch};
-ghost use Rattle.rtp_wire.specs.EpochRun.{IsRunInEpoch};
+ghost use Rattle.rtp_wire.specs.EpochRun.{IsRunInEpoch, AreRising};
 ghost use Rattle.rtp_wire.specs.RestartingState.{bounds_of, HoldsEpoch, RowLeads, RowGrows, Remembers};
 ghost use Rattle.rtp_wire.specs.declared.receive.restarting_verdict.RestartingVerdict.{RestartingVerdict};
 ghost use Rattle.rtp_wire.specs.declared.receive.restarting_verdict.RestartingVerdict.TheVariants.{Taken, Restarted, Refused};
@@ -175,6 +175,11 @@ impl<const N: usize> RestartingReceiver<N> {
         ensures in_epoch { (before : List Arrival) → Remembers N self.old before →
             IsRunInEpoch (bounds_of N self.old)
             (record { low = sequence_number; verdict = result } ∷ before) }
+
+        // Each number of an epoch is above all those of the epochs before it.
+        ensures rising { (before : List Arrival) → Remembers N self.old before →
+            64 * N ≤ 2 ^ 63 →
+            AreRising (record { low = sequence_number; verdict = result } ∷ before) }
 
         // No number is taken twice in an epoch.
         ensures once { (before : List Arrival) → Remembers N self.old before →

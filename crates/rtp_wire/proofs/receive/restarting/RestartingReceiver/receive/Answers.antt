@@ -35,6 +35,9 @@ returns-in-Some-clause-in_epoch g c before remembers = (of_stream g c before rem
 pub returns-in-Some-clause-one_epoch : goal.returns-in-Some-clause-one_epoch
 returns-in-Some-clause-one_epoch g c before remembers = (of_stream g c before remembers).one_epoch
 
+pub returns-in-Some-clause-rising : goal.returns-in-Some-clause-rising
+returns-in-Some-clause-rising g c before remembers = (of_stream g c before remembers).rising
+
 pub returns-in-Some-clause-once : goal.returns-in-Some-clause-once
 returns-in-Some-clause-once g c before remembers = (of_stream g c before remembers).once
 
@@ -72,6 +75,9 @@ returns-in-None-clause-in_epoch g c before remembers = (outside g c before remem
 
 pub returns-in-None-clause-one_epoch : goal.returns-in-None-clause-one_epoch
 returns-in-None-clause-one_epoch g c before remembers = (outside g c before remembers).one_epoch
+
+pub returns-in-None-clause-rising : goal.returns-in-None-clause-rising
+returns-in-None-clause-rising g c before remembers = (outside g c before remembers).rising
 
 pub returns-in-None-clause-once : goal.returns-in-None-clause-once
 returns-in-None-clause-once g c before remembers = (outside g c before remembers).once
