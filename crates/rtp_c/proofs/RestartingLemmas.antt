@@ -30,14 +30,14 @@ holds_some stored = elim (cases_eq stored.started 0) [
 -- the verdict of the receiver that is stored is that by what is stored
 pub answered : (old new : StoredRestarting) (was is : RestartingReceiver 2) (taken : Numbers) (low : ℕ) (verdict : RestartingVerdict) (status : ℤ) (written : ℕ)
     → bounds_of 2 was ≡ bounds_in old → (was.in_row ≡ old.in_row) × (was.next ≡ old.next) → (new.in_row ≡ is.in_row) × (new.next ≡ is.next)
-    → IsRestartingVerdict (bounds_of 2 was) taken (RowLeads 2 was low) low verdict → RowGrows 2 was taken low verdict is
+    → IsRestartingVerdict (bounds_of 2 was) 1 taken (RowLeads 2 was low) low verdict → RowGrows 2 was taken low verdict is
     → IsTold verdict status written → HoldsIn new (epoch_after taken verdict) → IsAnsweredIn old taken low status written new
 answered old new was is taken low verdict status written bounds row-was row-is judged grows told holds = record {
   verdict = verdict;
   judged =
-      subst (λ (b : Bounds). IsRestartingVerdict b taken (Leads old.in_row old.next low) low verdict) bounds
-      (subst (λ (r : ℕ). IsRestartingVerdict (bounds_of 2 was) taken (Leads r old.next low) low verdict) row-was.0
-      (subst (λ (n : ℕ). IsRestartingVerdict (bounds_of 2 was) taken (Leads was.in_row n low) low verdict) row-was.1 judged));
+      subst (λ (b : Bounds). IsRestartingVerdict b 1 taken (Leads old.in_row old.next low) low verdict) bounds
+      (subst (λ (r : ℕ). IsRestartingVerdict (bounds_of 2 was) 1 taken (Leads r old.next low) low verdict) row-was.0
+      (subst (λ (n : ℕ). IsRestartingVerdict (bounds_of 2 was) 1 taken (Leads was.in_row n low) low verdict) row-was.1 judged));
   told = told;
   epoch = holds;
   row =

@@ -1,5 +1,5 @@
 -- A window in words that the caller has: what it accepts, what it keeps once a number is taken, and that it always keeps some set.
-use Rattle.std.proofs.Common.{◌≡◌, ◌≢◌, ℕ, ◌+◌, ◌-◌, ◌*◌, ◌<◌, ◌⊎◌, ◌↔◌, IsTrue, nat_eq, ℤ, to_z, of_z, w32, Bool, true, false, ◌||◌, List, length, get_or, map, inl, inr, refl, sym, ap, ◌∙◌, subst, arith}
+use Rattle.std.proofs.Common.{◌≡◌, ◌≢◌, ℕ, ◌+◌, ◌-◌, ◌*◌, ◌<◌, ◌⊎◌, ◌↔◌, IsTrue, nat_eq, ℤ, to_z, of_z, w32, Bool, true, false, ◌||◌, List, [], ◌∷◌, length, get_or, map, inl, inr, refl, sym, ap, ◌∙◌, subst, arith}
 use Rattle.std.proofs.lemmas.Bool.{eq-eqb, ne_eqb, or_right, false≢true, cases_lt, cases_eq}
 use Rattle.std.proofs.lemmas.List.FromFn.{get_or-map-range_with_len}
 use Rattle.std.specs.List.{range_with_len}
@@ -65,12 +65,21 @@ pub HoldsStored-kept : (words : List ℕ) (highest count : ℕ) (taken : Numbers
     → HoldsStored (ring_size words) highest (ring_bits words highest) 1 count taken
 HoldsStored-kept words highest count taken words-some keeps = inr (omega arith, HoldsWindow-kept words highest taken words-some keeps)
 
--- and has the bit of its highest number set
+-- there are words where the highest number is recorded
+some_words : (words : List ℕ) (highest : ℕ) → get_or (ring_bits words highest) 0 false ≡ true → 0 < length words
+unfolding ring_bits
+some_words [] highest recorded = absurd (false≢true recorded)
+some_words (word ∷ words) highest recorded = omega arith
+
+-- the highest number's bit is set where the window records it
+pub highest_bit : (words : List ℕ) (highest : ℕ) → get_or (ring_bits words highest) 0 false ≡ true → ring_bit words highest ≡ true
+highest_bit words highest recorded =
+    let words-some = some_words words highest recorded in
+    ap (ring_bit words) (let e : highest ≡ highest - 0 = omega arith in e) ∙ sym (ring_bits-near words highest 0 (omega arith) (omega arith)) ∙ recorded
+
+-- a window that keeps a set has it set
 pub first_bit : (words : List ℕ) (highest : ℕ) (taken : Numbers) → 0 < length words → KeepsOf (ring_size words) (ring_window words highest) taken → ring_bit words highest ≡ true
-first_bit words highest taken words-some keeps =
-    ap (ring_bit words) (let e : highest ≡ highest - 0 = omega arith in e)
-    ∙ sym (ring_bits-near words highest 0 (omega arith) (omega arith))
-    ∙ KeepsOf-first (ring_size words) highest (ring_bits words highest) taken (omega arith) keeps
+first_bit words highest taken words-some keeps = highest_bit words highest (KeepsOf-first (ring_size words) highest (ring_bits words highest) taken (omega arith) keeps)
 
 -- each stored window keeps some set
 pub HoldsWindow-some : (size highest : ℕ) (bits : List Bool) → 0 < size → (taken : Numbers) × HoldsWindow size highest bits taken

@@ -9,7 +9,7 @@ use Rattle.rtp_wire.specs.declared.receive.restarting_verdict.RestartingVerdict.
 use Rattle.rtp_wire.specs.declared.receive.restarting_verdict.RestartingVerdict.TheVariants.{Taken, Restarted, Refused}
 use Rattle.rtp_c.specs.declared.restarting.StoredRestarting.{StoredRestarting}
 use Rattle.rtp_c.specs.Status.{ok, refused, restarted}
-use Rattle.rtp_c.specs.StoredWindow.{HoldsWindow}
+use Rattle.rtp_c.specs.StoredWindow.{HoldsWindow, HasStarted}
 
 -- what its caller chose: MAX_DROPOUT is 3,000 where 0 is stored
 abbrev pub bounds_in : StoredRestarting → Bounds
@@ -20,16 +20,20 @@ abbrev pub HoldsIn : StoredRestarting → Numbers → Type 0
 HoldsIn stored taken =
     ((stored.started ≡ 0) × IsNothing taken) ⊎ ((0 < stored.started) × HoldsWindow window_size stored.highest (ring_bits stored.words stored.highest) taken)
 
+-- a receiver that has taken a number
+abbrev pub IsStartedIn : StoredRestarting → Type 0
+IsStartedIn stored = HasStarted stored.started stored.highest stored.words
+
 -- the status and the number that tell a verdict
 abbrev pub IsTold : RestartingVerdict → ℤ → ℕ → Type 0
 IsTold (Taken number) status written = (status ≡ ok) × (written ≡ number)
 IsTold (Restarted number) status written = (status ≡ restarted) × (written ≡ number)
 IsTold Refused status written = status ≡ refused
 
--- the verdict on a packet by what is stored, how it is told, and what is stored then
+-- the verdict on a packet by what is stored, how it is told, and what is stored then; the first epoch starts at the rollover count 1
 pub record IsAnsweredIn (old : StoredRestarting) (taken : Numbers) (low : ℕ) (status : ℤ) (written : ℕ) (new : StoredRestarting) : Type 0 where
   pub verdict : RestartingVerdict
-  pub judged : IsRestartingVerdict (bounds_in old) taken (Leads old.in_row old.next low) low verdict
+  pub judged : IsRestartingVerdict (bounds_in old) 1 taken (Leads old.in_row old.next low) low verdict
   pub told : IsTold verdict status written
   pub epoch : HoldsIn new (epoch_after taken verdict)
   pub row : Grows (bounds_in old) taken low verdict old.in_row old.next new.in_row new.next

@@ -1,11 +1,11 @@
 -- A receiver in the memory of C whose window has another size: its words are the caller's.
-use Rattle.std.specs.Prelude.{◌≡◌, ℕ, ◌*◌, ◌<◌, ◌≤◌, ◌⊎◌, List, true, length, ℤ}
-use Rattle.rtp_base.specs.Ring.{ring_size, ring_bit, ring_bits}
+use Rattle.std.specs.Prelude.{◌≡◌, ℕ, ◌*◌, ◌<◌, ◌≤◌, ◌⊎◌, List, length, ℤ}
+use Rattle.rtp_base.specs.Ring.{ring_size, ring_bits}
 use Rattle.rtp_base.specs.Window.{Numbers, including}
 use Rattle.rtp_wire.specs.Receiver.{IsNumberOf, IsFreshOf}
 use Rattle.rtp_c.specs.declared.wide_receiver.StoredWideReceiver.{StoredWideReceiver}
 use Rattle.rtp_c.specs.Status.{ok, refused}
-use Rattle.rtp_c.specs.StoredWindow.{HoldsStored, MovesBelow}
+use Rattle.rtp_c.specs.StoredWindow.{HoldsStored, HasStarted, MovesBelow}
 
 -- as many words as a window may have: its numbers are then told apart by 16 bits
 abbrev pub IsWindowLen : List ℕ → Type 0
@@ -19,10 +19,9 @@ HoldsIn stored words count taken = HoldsStored (ring_size words) stored.highest 
 abbrev pub unstarted : ℕ → StoredWideReceiver
 unstarted count = record { highest = count * 65536; started = 0 }
 
--- a receiver that has taken a number: `started` is 1, and the bit of the highest number is set
-pub record IsStartedIn (stored : StoredWideReceiver) (words : List ℕ) : Type 0 where
-  pub started_is : stored.started ≡ 1
-  pub highest_bit : ring_bit words stored.highest ≡ true
+-- a receiver that has taken a number
+abbrev pub IsStartedIn : StoredWideReceiver → List ℕ → Type 0
+IsStartedIn stored words = HasStarted stored.started stored.highest words
 
 -- the bits past the highest number, where there is no number left
 abbrev pub MovesBelowZeroIn : StoredWideReceiver → List ℕ → StoredWideReceiver → List ℕ → Type 0

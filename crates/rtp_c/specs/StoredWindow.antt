@@ -1,5 +1,6 @@
 -- A replay window in the memory of C, of any size: its highest number, a bit for that and for each number below it, and whether any number was taken (RFC 3711, 3.3.1 and 3.3.2).
-use Rattle.std.specs.Prelude.{◌≡◌, ℕ, ◌-◌, ◌/◌, ◌<◌, ◌⊎◌, List, Bool, false, ◌||◌, ◌==◌, slice_index_or}
+use Rattle.std.specs.Prelude.{◌≡◌, ℕ, ◌-◌, ◌/◌, ◌<◌, ◌⊎◌, List, Bool, true, false, ◌||◌, ◌==◌, slice_index_or}
+use Rattle.rtp_base.specs.Ring.{ring_bit}
 use Rattle.rtp_base.specs.Window.{Numbers, WindowState, KeepsOf}
 use Rattle.rtp_wire.specs.Receiver.{IsNothing}
 
@@ -18,6 +19,11 @@ pub record HoldsWindow (size highest : ℕ) (bits : List Bool) (taken : Numbers)
 abbrev pub HoldsStored : ℕ → ℕ → List Bool → ℕ → ℕ → Numbers → Type 0
 HoldsStored size highest bits started count taken =
     ((started ≡ 0) × (highest / 65536 ≡ count) × IsNothing taken) ⊎ ((0 < started) × HoldsWindow size highest bits taken)
+
+-- a number was taken: `started` is 1, and the bit of the highest number is set in the words
+pub record HasStarted (started highest : ℕ) (words : List ℕ) : Type 0 where
+  pub started_is : started ≡ 1
+  pub highest_bit : ring_bit words highest ≡ true
 
 -- the bits past the highest number, where there is no number left: clear once the first number is taken, and then they move with the others
 pub record MovesBelow (size started old_highest new_highest : ℕ) (old new : List Bool) : Type 0 where

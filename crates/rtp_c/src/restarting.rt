@@ -1,10 +1,10 @@
 //! The numbers of one stream whose sender may start again.
 
-ghost use Rattle.std.specs.Prelude.{◌≡◌};
+ghost use Rattle.std.specs.Prelude.{◌≡◌, ◌<◌};
 ghost use Rattle.rtp_base.specs.Window.{Numbers};
 ghost use Rattle.rtp_wire.specs.RestartingState.{bounds_of, HoldsEpoch};
 ghost use Rattle.rtp_c.specs.Status.{refused};
-ghost use Rattle.rtp_c.specs.StoredRestarting.{bounds_in, HoldsIn, IsAnsweredIn};
+ghost use Rattle.rtp_c.specs.StoredRestarting.{bounds_in, HoldsIn, IsStartedIn, IsAnsweredIn};
 
 use super::status::{OK, REFUSED, RESTARTED};
 use rtp_base::{SeqNo, WideWindow};
@@ -41,7 +41,7 @@ pub struct StoredRestarting {
 // The receiver that is stored there.
 fn receiver_of(stored: &StoredRestarting) -> RestartingReceiver<2>
     ensures bounds { bounds_of 2 result ≡ bounds_in stored.now }
-    ensures held { (taken : Numbers) → HoldsIn stored.now taken → HoldsEpoch 2 result taken }
+    ensures held { (taken : Numbers) → HoldsIn stored.now taken → HoldsEpoch 2 result 1 taken }
     ensures row { (result.in_row ≡ stored.now.in_row) × (result.next ≡ stored.now.next) }
 {
     let epoch = if stored.started == 0 {
@@ -61,7 +61,8 @@ fn receiver_of(stored: &StoredRestarting) -> RestartingReceiver<2>
 
 // Stores what the receiver holds of the packets that came.
 fn store(receiver: &RestartingReceiver<2>, stored: &mut StoredRestarting)
-    ensures held { (taken : Numbers) → HoldsEpoch 2 receiver.now taken → HoldsIn stored.new taken }
+    ensures held { (taken : Numbers) → HoldsEpoch 2 receiver.now 1 taken → HoldsIn stored.new taken }
+    ensures started { 0 < stored.new.started → IsStartedIn stored.new }
     ensures row { (stored.new.in_row ≡ receiver.now.in_row)
         × (stored.new.next ≡ receiver.now.next) }
     ensures bounds { (stored.new.max_dropout ≡ stored.old.max_dropout)
@@ -95,6 +96,7 @@ pub extern "C" fn rtpw_restarting_receive(
 
     // Each value of the struct holds some set, so the clauses here always speak of something.
     ensures some { (taken : Numbers) × HoldsIn receiver.old taken }
+    ensures started { 0 < receiver.new.started → IsStartedIn receiver.new }
     ensures bounds { bounds_in receiver.new ≡ bounds_in receiver.old }
     ensures unchanged { result ≡ refused → number.new ≡ number.old }
 {

@@ -3,7 +3,7 @@
 
 use crate::checks::{are_values, holds, parsed, same, verdict};
 use crate::fixtures::{WITH_ALLOCATION, is_written, level};
-use crate::refused_samples::{datagrams, have_verdicts, have_verdicts_of_one};
+use crate::refused_samples::{datagrams, have_verdicts};
 use rtp_wire::{Extension, ExtensionMap, ExtensionValues, ExtensionsForm, RtpHeader, Verdict};
 use std::alloc::{AllocError, Global};
 use std::process::Abort;
@@ -148,32 +148,11 @@ fn a_run(rt: HostRuntime) {
     have_verdicts(&rt, rt.alloc(), &datagrams, &map(), &due());
 }
 
-#[test]
-fn a_run_by_one_receiver(rt: HostRuntime) {
-    let datagrams = made(&rt, rt.alloc());
-    have_verdicts_of_one(&rt, rt.alloc(), &datagrams, &map(), &due());
-}
-
-// Two packets of one source, each with an allocation, and what is said of them.
-fn packets(rt: &impl Abort, alloc: Global) -> Vec<Vec<u8>> {
-    datagrams(rt, alloc, &[&WITH_ALLOCATION, &WITH_ALLOCATION])
-}
-
-fn due_of_two() -> [Verdict; 2] {
-    [verdict(Some(47_000)), Verdict::Refused]
-}
-
-// Beside the packets, memory is asked for the list of the verdicts and for the receiver of their
-// source.
+// Two packets of one source, each with an allocation: beside them memory is asked for the list of the
+// verdicts, and in the run by source for the receiver of their source.
 #[test]
 fn a_run_of_two_packets(rt: HostRuntime) {
-    let packets = packets(&rt, rt.alloc());
-    have_verdicts(&rt, rt.alloc(), &packets, &map(), &due_of_two());
-}
-
-// The same by one receiver, for which no memory is asked.
-#[test]
-fn a_run_of_two_packets_by_one(rt: HostRuntime) {
-    let packets = packets(&rt, rt.alloc());
-    have_verdicts_of_one(&rt, rt.alloc(), &packets, &map(), &due_of_two());
+    let packets = datagrams(&rt, rt.alloc(), &[&WITH_ALLOCATION, &WITH_ALLOCATION]);
+    let wanted = [verdict(Some(47_000)), Verdict::Refused];
+    have_verdicts(&rt, rt.alloc(), &packets, &map(), &wanted);
 }

@@ -4,7 +4,7 @@
 use crate::checks::{holds, same, verdict};
 use crate::refused_copies::{allocation, header};
 use crate::refused_samples::{
-    ALLOCATION, PACKET, datagrams, has_whole, have_verdicts, have_verdicts_of_one, is_whole, map,
+    ALLOCATION, PACKET, datagrams, has_whole, have_verdicts, is_whole, map,
 };
 use rtp_base::Mid;
 use rtp_wire::vla::VideoLayersAllocation;
@@ -168,16 +168,9 @@ fn a_run(rt: HostRuntime) {
 }
 
 #[test]
-fn a_run_by_one_receiver(rt: HostRuntime) {
-    let datagrams = made(&rt, rt.alloc());
-    have_verdicts_of_one(&rt, rt.alloc(), &datagrams, &map(), &due());
-}
-
-#[test]
 fn a_run_of_one_datagram(rt: HostRuntime) {
     let datagrams = made(&rt, rt.alloc());
     let packet = datagrams.get(..1).expect(&rt, "the packet");
     let wanted = [verdict(Some(47_000))];
     have_verdicts(&rt, rt.alloc(), packet, &map(), &wanted);
-    have_verdicts_of_one(&rt, rt.alloc(), packet, &map(), &wanted);
 }

@@ -72,7 +72,7 @@ pub(crate) fn datagrams(rt: &impl Abort, alloc: Global, rows: &[&[u8]]) -> Vec<V
 }
 
 // The verdicts are these, with memory at the second try and a receiver for each source.
-pub(crate) fn have_verdicts(
+fn have_verdicts_by_source(
     rt: &impl Abort,
     alloc: Global,
     datagrams: &[Vec<u8>],
@@ -87,7 +87,7 @@ pub(crate) fn have_verdicts(
 }
 
 // The same with one receiver for all.
-pub(crate) fn have_verdicts_of_one(
+fn have_verdicts_by_one(
     rt: &impl Abort,
     alloc: Global,
     datagrams: &[Vec<u8>],
@@ -99,4 +99,16 @@ pub(crate) fn have_verdicts_of_one(
         Err(_) => receive_run_one(alloc, datagrams, exts).expect(rt, "memory"),
     };
     same(rt, "by one", verdicts.as_slice(), wanted);
+}
+
+// The verdicts are these by both runs.
+pub(crate) fn have_verdicts(
+    rt: &impl Abort,
+    alloc: Global,
+    datagrams: &[Vec<u8>],
+    exts: &ExtensionMap,
+    wanted: &[Verdict],
+) {
+    have_verdicts_by_source(rt, alloc, datagrams, exts, wanted);
+    have_verdicts_by_one(rt, alloc, datagrams, exts, wanted);
 }
