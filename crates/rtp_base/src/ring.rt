@@ -1,6 +1,6 @@
 //! A replay window in words that the caller has: a ring of bits, 64 numbers to a word.
 
-ghost use Rattle.std.specs.Prelude.{◌≡◌, ℕ, ◌+◌, ◌-◌, ◌*◌, ◌/◌, ◌%◌, ◌<◌, ◌≤◌, ◌↔◌, ◌⊎◌, Bool, true, false, ◌||◌, ◌==◌, length, slice_index_or, IsTrue};
+ghost use Rattle.std.specs.Prelude.{◌≡◌, ℕ, ◌+◌, ◌-◌, ◌*◌, ◌/◌, ◌%◌, ◌<◌, ◌≤◌, ◌↔◌, ◌⊎◌, Bool, true, false, ◌||◌, ◌==◌, length, max, slice_index_or, IsTrue};
 ghost use Rattle.std.specs.Int.{bit_at};
 ghost use Rattle.rtp_base.specs.Window.{Numbers, only, up_to, including, KeepsOf, ShowsBelowZeroOf, StaysBelowZeroOf, AcceptsOf};
 ghost use Rattle.rtp_base.specs.Ring.{ring_size, ring_bit, ring_bits, ring_window};
@@ -188,6 +188,11 @@ pub fn ring_take(words: &mut [u64], greatest: &mut SeqNo, seq: SeqNo) -> bool
         IsTrue result →
         KeepsOf (ring_size words.old) (ring_window words.new greatest.new) (including taken seq) }
     ensures refused { result ≡ false → (words.new ≡ words.old) × (greatest.new ≡ greatest.old) }
+
+    // The same of any words, whether or not they are a window, by the number's own bit.
+    ensures by_bit { IsTrue result ↔ ((greatest.old < seq)
+        ⊎ ((greatest.old < seq + ring_size words.old) × (ring_bit words.old seq ≡ false))) }
+    ensures greatest { IsTrue result → greatest.new ≡ max greatest.old seq }
     ensures below_zero { StaysBelowZeroOf (ring_size words.old)
         (ring_window words.old greatest.old) (ring_window words.new greatest.new) }
 {
