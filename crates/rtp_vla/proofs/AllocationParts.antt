@@ -1,11 +1,11 @@
 -- Masks, counts, rates and resolutions: what is read is what stands there, and the other way round.
-use Rattle.std.proofs.Common.{◌≡◌, ℕ, zero, suc, ◌+◌, ◌*◌, ◌/◌, ◌%◌, ◌<◌, ◌≤◌, inl, inr, List, [], ◌∷◌, ◌++◌, length, take, get_or, map, None, Some, Option, refl, sym, ap, ◌∙◌, subst, arith}
+use Rattle.std.proofs.Common.{◌≡◌, ℕ, zero, suc, ◌+◌, ◌*◌, ◌/◌, ◌%◌, ◌<◌, ◌≤◌, inl, inr, List, [], ◌∷◌, ◌++◌, length, take, get_or, map, true, None, Some, Option, refl, sym, ap, ◌∙◌, subst, arith}
 use Rattle.std.specs.List.{AllByRecursion, flat_map}
 use Rattle.std.proofs.lemmas.List.{length-take-le}
 use Rattle.rtp_vla.specs.declared.allocation.ResolutionAndFramerate.{ResolutionAndFramerate}
 use Rattle.rtp_vla.specs.LebReading.{leb_rest}
 use Rattle.rtp_vla.specs.Allocation.{Layer, AreHalves, AreMasks, AreQuarters, AreRates, AreResolutions}
-use Rattle.rtp_vla.specs.AllocationReading.{halves, quarters, rates_of, after_rates, resolution_in, after_resolution, FitResolutions, layers_read, HasMasks}
+use Rattle.rtp_vla.specs.AllocationReading.{next_len, halves, quarters, rates_of, after_rates, resolution_in, after_resolution, FitResolutions, layers_read, HasMasks}
 use Rattle.rtp_vla.proofs.LebLemmas.{ReadsLeb-read, read-ReadsLeb}
 
 -- ---- Lists
@@ -160,6 +160,15 @@ rates_in layers = flat_map (λ layer. layer.temporal_layers) layers
 pub length-rates_of : (n : ℕ) (bytes : List ℕ) → length (rates_of n bytes) ≡ n
 length-rates_of zero bytes = refl
 length-rates_of (suc n) bytes = ap suc (length-rates_of n (leb_rest bytes))
+
+-- how many temporal layers the first layer has
+pub next_len-read : (counts rates resolutions : List ℕ) (count : ℕ) (left : List ℕ) → counts ≡ count ∷ left → next_len true (layers_read counts rates resolutions) ≡ suc count
+next_len-read counts rates resolutions count left is = rw is (length-rates_of (suc count) rates)
+
+pub next_len-first : (counts rates resolutions : List ℕ) (first : ℕ) → 1 ≤ length counts → ((count : ℕ) (left : List ℕ) → counts ≡ count ∷ left → first ≡ count)
+    → next_len true (layers_read counts rates resolutions) ≡ suc first
+next_len-first [] rates resolutions first some is = absurd (omega arith)
+next_len-first (count ∷ counts) rates resolutions first some is = length-rates_of (suc count) rates ∙ ap suc (sym (is count counts refl))
 
 pub after_rates-add : (m n : ℕ) (bytes : List ℕ) → after_rates (m + n) bytes ≡ after_rates n (after_rates m bytes)
 after_rates-add zero n bytes = let same : 0 + n ≡ n = omega arith in ap (λ (k : ℕ). after_rates k bytes) same

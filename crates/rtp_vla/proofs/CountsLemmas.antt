@@ -14,6 +14,9 @@ unfolding counts_in
 counts_in-next zero bits some = absurd (omega arith)
 counts_in-next (suc n) bits some = let one : suc n - 1 ≡ n = omega arith in rw one refl
 
+pub first_is : (a b : ℕ) (left others : List ℕ) → a ∷ left ≡ b ∷ others → a ≡ b
+first_is a b left others is = cc
+
 -- the counts of the highest byte, and those after them
 counts_in-byte : (n a rest : ℕ) → a < 256 → rest < 16777216
     → counts_in (suc (suc (suc (suc n)))) (16777216 * a + rest) ≡ a / 64 % 4 ∷ a / 16 % 4 ∷ a / 4 % 4 ∷ a % 4 ∷ counts_in n (256 * rest)

@@ -4,7 +4,7 @@ use Rattle.std.specs.Bool.{Decides}
 use Rattle.std.specs.Option.{option_eq}
 use Rattle.std.specs.Cmp.{IsEquivalence, decided, unsigned_Decides}
 use Rattle.std.specs.Cmp.Lexicographic.{pointwise, pointwise_decides}
-use Rattle.std.proofs.lemmas.Bool.Decides.{Decides-and}
+use Rattle.std.proofs.lemmas.Bool.Decides.{Decides-and, Decides-at}
 use Rattle.rtp_vla.specs.declared.allocation.ResolutionAndFramerate.{ResolutionAndFramerate}
 use Rattle.rtp_vla.specs.Allocation.{Layer, Stream, Allocation}
 
@@ -64,3 +64,13 @@ same_stream-equiv = decided same_stream same_stream-decides
 
 pub same_allocation-equiv : IsEquivalence same_allocation
 same_allocation-equiv = decided same_allocation same_allocation-decides
+
+-- a test that answers as these do decides it too
+pub is_same_layer : (answer : Bool) (l k : Layer) → answer ≡ same_layer l k → Decides answer (l ≡ k)
+is_same_layer answer l k test = Decides-at answer (same_layer l k) test (same_layer-decides l k)
+
+pub is_same_stream : (answer : Bool) (s t : Stream) → answer ≡ same_stream s t → Decides answer (s ≡ t)
+is_same_stream answer s t test = Decides-at answer (same_stream s t) test (same_stream-decides s t)
+
+pub is_same_allocation : (answer : Bool) (a b : Allocation) → answer ≡ same_allocation a b → Decides answer (a ≡ b)
+is_same_allocation answer a b test = Decides-at answer (same_allocation a b) test (same_allocation-decides a b)

@@ -52,6 +52,12 @@ abbrev pub Deals : Bool → List Layer → Layer → List Layer → Type 0
 Deals true old layer new = old ≡ layer ∷ new
 Deals false old layer new = (layer ≡ idle_layer) × (new ≡ old)
 
+-- how many temporal layers that layer has
+abbrev pub next_len : Bool → List Layer → ℕ
+next_len false layers = 0
+next_len true [] = 0
+next_len true (layer ∷ layers) = length layer.temporal_layers
+
 -- the layers that were dealt, and those that the marks still deal, are all of them
 pub record DealsOn (items : List Layer) (marks : List Bool) (layers : List Layer) (all rest : List Layer) : Type 0 where
   pub stream : items ++ dealt marks layers ≡ all

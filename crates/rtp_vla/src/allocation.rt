@@ -34,7 +34,7 @@ pub struct SpatialLayerAllocation {
 }
 
 /// One temporal layer.
-#[derive(Clone, Copy, Debug, PartialEq, Eq)]
+#[derive(Clone, Copy, Debug, Default, PartialEq, Eq)]
 pub struct TemporalLayerAllocation {
     /// The rate of this layer and all below it in their spatial layer, in kilobits per second.
     pub cumulative_kbps: u64,
@@ -89,80 +89,6 @@ impl Model for VideoLayersAllocation {
       current_simulcast_stream_index = allocation.current_simulcast_stream_index;
       simulcast_streams = allocation.simulcast_streams.items;
     } };
-}
-
-impl PartialEq for SpatialLayerAllocation {
-    ghost use Rattle.std.specs.Prelude.{◌≡◌, ◌↔◌, IsTrue};
-    ghost use Rattle.std.specs.Cmp.{partial_equiv_from_equiv};
-    ghost use Rattle.rtp_vla.specs.AllocationEqual.{same_layer, same_layer-equiv};
-
-    ghost eq = { same_layer };
-
-    ghost laws = { partial_equiv_from_equiv same_layer-equiv };
-
-    /// Whether the rates and the resolutions are the same.
-    fn eq(&self, other: &SpatialLayerAllocation) -> bool
-        ensures test { result ≡ same_layer self.now other.now }
-        ensures same { IsTrue result ↔ (self.now ≡ other.now) }
-    {
-        self.temporal_layers == other.temporal_layers
-            && self.resolution_and_framerate == other.resolution_and_framerate
-    }
-}
-
-impl Eq for SpatialLayerAllocation {
-    ghost use Rattle.rtp_vla.specs.AllocationEqual.{same_layer-equiv};
-
-    ghost laws = { same_layer-equiv };
-}
-
-impl PartialEq for SimulcastStreamAllocation {
-    ghost use Rattle.std.specs.Prelude.{◌≡◌, ◌↔◌, IsTrue};
-    ghost use Rattle.std.specs.Cmp.{partial_equiv_from_equiv};
-    ghost use Rattle.rtp_vla.specs.AllocationEqual.{same_stream, same_stream-equiv};
-
-    ghost eq = { same_stream };
-
-    ghost laws = { partial_equiv_from_equiv same_stream-equiv };
-
-    /// Whether the layers are the same.
-    fn eq(&self, other: &SimulcastStreamAllocation) -> bool
-        ensures test { result ≡ same_stream self.now other.now }
-        ensures same { IsTrue result ↔ (self.now ≡ other.now) }
-    {
-        self.spatial_layers == other.spatial_layers
-    }
-}
-
-impl Eq for SimulcastStreamAllocation {
-    ghost use Rattle.rtp_vla.specs.AllocationEqual.{same_stream-equiv};
-
-    ghost laws = { same_stream-equiv };
-}
-
-impl PartialEq for VideoLayersAllocation {
-    ghost use Rattle.std.specs.Prelude.{◌≡◌, ◌↔◌, IsTrue};
-    ghost use Rattle.std.specs.Cmp.{partial_equiv_from_equiv};
-    ghost use Rattle.rtp_vla.specs.AllocationEqual.{same_allocation, same_allocation-equiv};
-
-    ghost eq = { same_allocation };
-
-    ghost laws = { partial_equiv_from_equiv same_allocation-equiv };
-
-    /// Whether the index and the streams are the same.
-    fn eq(&self, other: &VideoLayersAllocation) -> bool
-        ensures test { result ≡ same_allocation self.now other.now }
-        ensures same { IsTrue result ↔ (self.now ≡ other.now) }
-    {
-        self.current_simulcast_stream_index == other.current_simulcast_stream_index
-            && self.simulcast_streams == other.simulcast_streams
-    }
-}
-
-impl Eq for VideoLayersAllocation {
-    ghost use Rattle.rtp_vla.specs.AllocationEqual.{same_allocation-equiv};
-
-    ghost laws = { same_allocation-equiv };
 }
 
 impl SpatialLayerAllocation {

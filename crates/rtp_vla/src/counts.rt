@@ -1,6 +1,6 @@
 //! The counts of temporal layers, four of which stand in each byte.
 
-ghost use Rattle.std.specs.Prelude.{◌≡◌, ℕ, ◌+◌, ◌*◌, ◌≤◌, ◌∷◌, length, take};
+ghost use Rattle.std.specs.Prelude.{◌≡◌, ℕ, ◌+◌, ◌*◌, ◌≤◌, ◌∷◌, List, length, take};
 ghost use Rattle.rtp_vla.specs.AllocationReading as reading;
 
 use std::marker::Model;
@@ -60,12 +60,21 @@ impl Counts {
     }
 
     // The next count, of which there is one.
+    pub(super) fn first(&self) -> u8
+        requires { 1 ≤ length self.now }
+        ensures first { (count : ℕ) (left : List ℕ) → self.now ≡ count ∷ left → result ≡ count }
+        ensures few { result ≤ 3 }
+    {
+        (self.bits >> 30) as u8
+    }
+
+    // Takes the next count, of which there is one.
     pub(super) fn next(&mut self) -> u8
         requires { 1 ≤ length self.old }
         ensures next { self.old ≡ result ∷ self.new }
         ensures few { result ≤ 3 }
     {
-        let count = (self.bits >> 30) as u8;
+        let count = self.first();
         self.bits <<= 2;
         self.left -= 1;
         count

@@ -5,7 +5,9 @@ ghost use Rattle.rtp_base.specs.Overwriting.{overwritten};
 ghost use Rattle.rtp_vla.specs.Leb.{IsShortest, ReadsLeb, shortest_of};
 ghost use Rattle.rtp_vla.specs.LebReading.{leb_number};
 
-// The number at the front, and how many bytes spell it.
+// The number at the front, and how many bytes spell it. It is apart, so that the numbers of one byte
+// are read where they are asked for.
+#[inline(never)]
 fn number_at(buf: &[u8]) -> Option<(u64, usize)>
     ensures read { result ≡ leb_number 9 buf.now }
     ensures within { IfSome result (λ read. read.1 ≤ length buf.now) }
@@ -29,6 +31,7 @@ fn number_at(buf: &[u8]) -> Option<(u64, usize)>
 /// byte gives its low seven bits, the lowest first; a byte below 128 ends the number, and so does
 /// the ninth, whose top bit is ignored. Where no number is spelled there, the result is 0 and all
 /// bytes: `80 01 05` is 128 and the byte 5, `80 80` is 0 and both bytes.
+#[inline]
 pub fn parse_leb_u63(buf: &[u8]) -> (u64, &[u8])
     ensures reads { ReadsLeb buf.now result.0 result.1.now }
     ensures only { (value : ℕ) (rest : List ℕ) → ReadsLeb buf.now value rest →

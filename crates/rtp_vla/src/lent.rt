@@ -32,7 +32,7 @@ impl<'a> Model for LentLayer<'a> {
 impl<'a> LentLayer<'a> {
     // A layer of a list.
     #[inline(always)]
-    fn listed(layer: &'a SpatialLayerAllocation) -> Self
+    pub(super) fn listed(layer: &'a SpatialLayerAllocation) -> Self
         ensures { result ≡ layer.now }
     {
         LentLayer {
@@ -43,7 +43,7 @@ impl<'a> LentLayer<'a> {
 
     // A layer of a value of fixed size.
     #[inline(always)]
-    fn held(layer: &'a VideoLayer) -> Self
+    pub(super) fn held(layer: &'a VideoLayer) -> Self
         ensures { result ≡ layer.now }
     {
         LentLayer {

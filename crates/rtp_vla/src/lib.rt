@@ -3,14 +3,15 @@
 
 mod active;
 mod allocation;
+mod comparing;
 mod counts;
-mod holding;
 mod layers;
 mod leb;
 mod lent;
 mod measuring;
 mod parsing;
 mod parts;
+mod streams;
 mod up_to;
 mod video_layers;
 mod writing;

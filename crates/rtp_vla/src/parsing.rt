@@ -7,9 +7,9 @@ ghost use Rattle.rtp_vla.specs.AllocationReading as reading;
 
 use super::allocation::VideoLayersAllocation;
 use super::counts::Counts;
-use super::holding::put_streams;
-use super::layers::{LayerReader, streams_of};
+use super::layers::LayerReader;
 use super::parts::{active_count, after_rates, half_at, resolutions_fit};
+use super::streams::{put_streams, streams_of};
 use super::video_layers::VideoLayers;
 use std::alloc::{AllocError, Global};
 

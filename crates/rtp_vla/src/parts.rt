@@ -1,47 +1,67 @@
 //! The parts of an allocation, each read by itself.
 
-ghost use Rattle.std.specs.Prelude.{◌≡◌, ◌↔◌, ℕ, ◌+◌, ◌*◌, ◌/◌, ◌<◌, ◌≤◌, length, take, slice_index, Some, IsTrue, IfOk, IfSome, IfNone};
+ghost use Rattle.std.specs.Prelude.{◌≡◌, ◌↔◌, ℕ, ◌+◌, ◌*◌, ◌/◌, ◌<◌, ◌≤◌, [], length, take, slice_index, Some, IsTrue, IfSome, IfNone};
 ghost use Rattle.std.specs.List.{AllByRecursion};
 ghost use Rattle.rtp_vla.specs.AllocationReading as reading;
 
 use super::allocation::{ResolutionAndFramerate, TemporalLayerAllocation};
 use super::leb::parse_leb_u63;
 use super::up_to::UpTo;
-use std::alloc::{AllocError, Global};
 
-// The first `count` rates, and the bytes after them.
-pub(super) fn rates_at(
-    alloc: Global,
-    bytes: &[u8],
-    count: usize,
-) -> Result<(Vec<TemporalLayerAllocation>, &[u8]), AllocError>
-    ensures rates { IfOk result (λ read. read.0.items ≡ reading.rates_of count bytes.now) }
-    ensures after { IfOk result (λ read. read.1.now ≡ reading.after_rates count bytes.now) }
-{
-    let mut rates = Vec::with_capacity(alloc, count)?;
-    let mut after = bytes;
-    for _i in 0..count {
-        let (cumulative_kbps, next) = parse_leb_u63(after);
-        rates.push_reserved(TemporalLayerAllocation { cumulative_kbps });
-        after = next;
-    }
-    Ok((rates, after))
+/// Where the rates of a layer are put, one after the other.
+pub(super) trait Rates {
+    ghost use Rattle.std.specs.Prelude.{ℕ, ◌≡◌, ◌+◌, ◌≤◌, ◌++◌, ◌∷◌, [], List};
+
+    // The rates so far.
+    ghost rates: { Self → List ℕ };
+
+    // How many more there is room for.
+    ghost room: { Self → ℕ };
+
+    fn put(&mut self, rate: TemporalLayerAllocation)
+        requires { 1 ≤ room self.old }
+        ensures rates { rates self.new ≡ rates self.old ++ rate ∷ [] }
+        ensures room { room self.new + 1 ≡ room self.old };
 }
 
-// The same in a value of fixed size.
-pub(super) fn held_rates(bytes: &[u8], count: usize) -> (UpTo<TemporalLayerAllocation, 4>, &[u8])
-    requires few { count ≤ 4 }
-    ensures rates { result.0 ≡ reading.rates_of count bytes.now }
-    ensures after { result.1.now ≡ reading.after_rates count bytes.now }
+impl Rates for Vec<TemporalLayerAllocation> {
+    ghost use Rattle.std.specs.Prelude.{◌-◌, vec_len, vec_capacity};
+
+    ghost rates = { λ list. list.items };
+
+    ghost room = { λ list. vec_capacity list - vec_len list };
+
+    fn put(&mut self, rate: TemporalLayerAllocation) {
+        self.push_reserved(rate);
+    }
+}
+
+impl Rates for UpTo<TemporalLayerAllocation, 4> {
+    ghost use Rattle.std.specs.Prelude.{◌-◌, length};
+
+    ghost rates = { λ list. list };
+
+    ghost room = { λ list. 4 - length list };
+
+    fn put(&mut self, rate: TemporalLayerAllocation) {
+        self.push(rate);
+    }
+}
+
+// Puts the first `count` rates, and returns the bytes after them.
+pub(super) fn put_rates<'a, R: Rates>(bytes: &'a [u8], count: usize, rates: &mut R) -> &'a [u8]
+    requires none { R.rates rates.old ≡ [] }
+    requires room { count ≤ R.room rates.old }
+    ensures rates { R.rates rates.new ≡ reading.rates_of count bytes.now }
+    ensures after { result.now ≡ reading.after_rates count bytes.now }
 {
-    let mut rates = UpTo::new();
     let mut after = bytes;
     for _i in 0..count {
         let (cumulative_kbps, next) = parse_leb_u63(after);
-        rates.push(TemporalLayerAllocation { cumulative_kbps });
+        rates.put(TemporalLayerAllocation { cumulative_kbps });
         after = next;
     }
-    (rates, after)
+    after
 }
 
 // The bytes after the first `count` rates.

@@ -5,12 +5,11 @@ ghost use Rattle.std.specs.Prelude.{◌≡◌, ◌<◌, ◌≤◌, ◌∷◌, �
 use std::alloc::AllocError;
 use std::marker::Model;
 
-/// What stands in the places of an array that aren't used.
-pub(super) trait Unused: Copy {
+/// What stands in the places of an array that aren't used: the default, of which there is one.
+pub(super) trait Unused: Copy + Default {
     ghost UNUSED: { Self };
 
-    fn unused() -> Self
-        ensures { result ≡ UNUSED };
+    ghost only: { (x : Self) → Self.is_default x → x ≡ UNUSED };
 }
 
 /// A list of at most `N` items.
@@ -62,7 +61,7 @@ impl<T: Unused, const N: usize> UpTo<T, N> {
         ensures { result ≡ [] }
     {
         UpTo {
-            items: [T::unused(); N],
+            items: [T::default(); N],
             len: 0,
         }
     }

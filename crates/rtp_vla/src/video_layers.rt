@@ -7,11 +7,11 @@ use super::up_to::{Unused, UpTo};
 use std::marker::Model;
 
 impl Unused for TemporalLayerAllocation {
+    ghost use Rattle.std.proofs.Common.{rules};
+
     ghost UNUSED = { 0 };
 
-    fn unused() -> TemporalLayerAllocation {
-        TemporalLayerAllocation { cumulative_kbps: 0 }
-    }
+    ghost only = { Prim.search rules };
 }
 
 /// What is active of one spatial layer, without memory.
@@ -42,12 +42,7 @@ impl Unused for VideoLayer {
 
     ghost UNUSED = { idle_layer };
 
-    fn unused() -> VideoLayer {
-        VideoLayer {
-            temporal_layers: UpTo::new(),
-            resolution_and_framerate: None,
-        }
-    }
+    ghost only = { λ _ same. same };
 }
 
 impl Default for VideoLayer {
@@ -58,36 +53,8 @@ impl Default for VideoLayer {
 
     /// A layer that isn't active: it has no temporal layers and no resolution.
     fn default() -> Self {
-        VideoLayer {
-            temporal_layers: UpTo::new(),
-            resolution_and_framerate: None,
-        }
+        VideoLayer::new(None)
     }
-}
-
-impl PartialEq for VideoLayer {
-    ghost use Rattle.std.specs.Prelude.{◌≡◌, ◌↔◌, IsTrue};
-    ghost use Rattle.std.specs.Cmp.{partial_equiv_from_equiv};
-    ghost use Rattle.rtp_vla.specs.AllocationEqual.{same_layer, same_layer-equiv};
-
-    ghost eq = { same_layer };
-
-    ghost laws = { partial_equiv_from_equiv same_layer-equiv };
-
-    /// Whether the rates and the resolutions are the same.
-    fn eq(&self, other: &VideoLayer) -> bool
-        ensures test { result ≡ same_layer self.now other.now }
-        ensures same { IsTrue result ↔ (self.now ≡ other.now) }
-    {
-        self.temporal_layers() == other.temporal_layers()
-            && self.resolution_and_framerate == other.resolution_and_framerate
-    }
-}
-
-impl Eq for VideoLayer {
-    ghost use Rattle.rtp_vla.specs.AllocationEqual.{same_layer-equiv};
-
-    ghost laws = { same_layer-equiv };
 }
 
 impl VideoLayer {
@@ -167,11 +134,7 @@ impl Unused for VideoStream {
 
     ghost UNUSED = { [] };
 
-    fn unused() -> VideoStream {
-        VideoStream {
-            spatial_layers: UpTo::new(),
-        }
-    }
+    ghost only = { λ _ same. same };
 }
 
 impl Default for VideoStream {
@@ -183,30 +146,6 @@ impl Default for VideoStream {
     fn default() -> Self {
         VideoStream::new()
     }
-}
-
-impl PartialEq for VideoStream {
-    ghost use Rattle.std.specs.Prelude.{◌≡◌, ◌↔◌, IsTrue};
-    ghost use Rattle.std.specs.Cmp.{partial_equiv_from_equiv};
-    ghost use Rattle.rtp_vla.specs.AllocationEqual.{same_stream, same_stream-equiv};
-
-    ghost eq = { same_stream };
-
-    ghost laws = { partial_equiv_from_equiv same_stream-equiv };
-
-    /// Whether the layers are the same.
-    fn eq(&self, other: &VideoStream) -> bool
-        ensures test { result ≡ same_stream self.now other.now }
-        ensures same { IsTrue result ↔ (self.now ≡ other.now) }
-    {
-        self.spatial_layers() == other.spatial_layers()
-    }
-}
-
-impl Eq for VideoStream {
-    ghost use Rattle.rtp_vla.specs.AllocationEqual.{same_stream-equiv};
-
-    ghost laws = { same_stream-equiv };
 }
 
 impl VideoStream {
@@ -271,31 +210,6 @@ impl Default for VideoLayers {
     fn default() -> Self {
         VideoLayers::new(0)
     }
-}
-
-impl PartialEq for VideoLayers {
-    ghost use Rattle.std.specs.Prelude.{◌≡◌, ◌↔◌, IsTrue};
-    ghost use Rattle.std.specs.Cmp.{partial_equiv_from_equiv};
-    ghost use Rattle.rtp_vla.specs.AllocationEqual.{same_allocation, same_allocation-equiv};
-
-    ghost eq = { same_allocation };
-
-    ghost laws = { partial_equiv_from_equiv same_allocation-equiv };
-
-    /// Whether the index and the streams are the same.
-    fn eq(&self, other: &VideoLayers) -> bool
-        ensures test { result ≡ same_allocation self.now other.now }
-        ensures same { IsTrue result ↔ (self.now ≡ other.now) }
-    {
-        self.current_simulcast_stream_index == other.current_simulcast_stream_index
-            && self.simulcast_streams() == other.simulcast_streams()
-    }
-}
-
-impl Eq for VideoLayers {
-    ghost use Rattle.rtp_vla.specs.AllocationEqual.{same_allocation-equiv};
-
-    ghost laws = { same_allocation-equiv };
 }
 
 impl VideoLayers {

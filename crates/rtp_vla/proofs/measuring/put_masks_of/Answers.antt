@@ -2,7 +2,7 @@ use Rattle.std.proofs.Common.{◌≡◌, ◌∙◌, ◌++◌, ◌∷◌, [], map
 use Rattle.std.specs.List.{list_all}
 use Rattle.std.proofs.lemmas.Bool.{false≢true}
 use Rattle.std.proofs.lemmas.List.{take_more_set, map-append}
-use Rattle.rtp_vla.specs.Allocation.{Stream, mask_of}
+use Rattle.rtp_vla.specs.Allocation.{mask_of}
 use Rattle.rtp_vla.specs.AllocationWritten.{stream_fits}
 use Rattle.rtp_vla.proofs.LentLemmas.{take_with, list_all-with, list_all-up_to}
 use Rattle.rtp_vla.proofs.measuring.put_masks_of.Goals as goal

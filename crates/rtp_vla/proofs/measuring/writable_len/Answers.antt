@@ -1,4 +1,4 @@
-use Rattle.std.proofs.Common.{◌≡◌, ◌∙◌, true, length, ap, sym, arith, List, ◌<◌, ◌≤◌, ◌+◌, subst, map, ℕ}
+use Rattle.std.proofs.Common.{◌≡◌, ◌∙◌, true, length, ap, arith, List, ◌<◌, ◌≤◌, ◌+◌, subst, map, ℕ}
 use Rattle.std.specs.List.{list_all}
 use Rattle.std.proofs.lemmas.Bool.{OnTrue_at}
 use Rattle.std.proofs.lemmas.List.{take_at, length-map}

@@ -1,6 +1,6 @@
-use Rattle.std.proofs.Common.{◌≡◌, ◌≤◌, ◌<◌, ◌++◌, ◌∷◌, [], ◌∙◌, ap, sym, subst, arith, length, drop, List, ℕ, true}
-use Rattle.rtp_vla.specs.Allocation.{Allocation, Stream}
-use Rattle.rtp_vla.specs.AllocationWritten.{can_be_written, written_of, packed_bytes, streams_fit}
+use Rattle.std.proofs.Common.{◌≡◌, ◌≤◌, ◌<◌, ◌++◌, ◌∷◌, [], ◌∙◌, ap, sym, subst, arith, length, drop, List, ℕ}
+use Rattle.rtp_vla.specs.Allocation.{Allocation}
+use Rattle.rtp_vla.specs.AllocationWritten.{written_of, packed_bytes}
 use Rattle.rtp_base.proofs.OverwritingLemmas.{overwritten-front}
 use Rattle.rtp_vla.proofs.AllocationWriting.{written-none, written-some}
 use Rattle.rtp_vla.proofs.writing.put_allocation.Goals as goal

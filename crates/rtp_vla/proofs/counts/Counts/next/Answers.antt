@@ -1,4 +1,5 @@
-use Rattle.std.proofs.Common.{arith, ap, sym, ◌∙◌, length}
+use Rattle.std.proofs.Common.{◌≡◌, ◌-◌, ◌*◌, ◌/◌, ◌%◌, ◌∷◌, ℕ, arith, ap, sym, ◌∙◌, length}
+use Rattle.rtp_vla.specs.AllocationReading.{counts_in}
 use Rattle.rtp_vla.proofs.CountsLemmas.{length-counts_in, counts_in-next}
 use Rattle.rtp_vla.proofs.counts.Counts.next.Goals as goal
 
@@ -7,5 +8,8 @@ overflow_sub-self c = omega (arith, c.requires, ap length c.self.view_is, length
 
 pub returns-clause-next : goal.returns-clause-next
 returns-clause-next c =
+    let left = counts_in (c.self.inside.left - 1) (c.self.inside.bits * 4 % 4294967296) in
+    let all : c.args.self.now ≡ c.self.inside.bits / 1073741824 ∷ left =
     sym c.self.view_is
-    ∙ counts_in-next c.self.inside.left c.self.inside.bits (omega (arith, c.requires, ap length c.self.view_is, length-counts_in c.self.inside.left c.self.inside.bits))
+    ∙ counts_in-next c.self.inside.left c.self.inside.bits (omega (arith, c.requires, ap length c.self.view_is, length-counts_in c.self.inside.left c.self.inside.bits)) in
+    all ∙ ap (λ (n : ℕ). n ∷ left) (sym (c.first-count.ensures.first _ _ all))

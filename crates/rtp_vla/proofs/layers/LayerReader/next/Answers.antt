@@ -1,32 +1,14 @@
-use Rattle.std.proofs.Common.{sym, ◌∙◌, ap, subst, ℕ, List, length, arith, ◌+◌, ◌∷◌, add-one}
-use Rattle.rtp_vla.specs.AllocationReading.{layers_read, rates_of, after_rates, resolution_in, after_resolution, FitResolutions}
-use Rattle.rtp_vla.proofs.AllocationReadingLemmas.{length-layers_read, FitResolutions-next}
+use Rattle.std.proofs.Common.{◌≡◌, Bool, true, ap, ⊎_elim, arith, rules}
+use Rattle.rtp_vla.specs.AllocationReading.{next_len}
+use Rattle.rtp_vla.proofs.AllocationParts.{next_len-read}
 use Rattle.rtp_vla.proofs.layers.LayerReader.next.Goals as goal
 
-pub next-requires : goal.next-requires
-next-requires c =
+pub put_rates-self-inside-requires-clause-room : goal.put_rates-self-inside-requires-clause-room
+put_rates-self-inside-requires-clause-room g c =
     let r = c.self.inside in
-    omega (arith, c.requires, ap length c.self.view_is, length-layers_read r.counts r.rates.now r.resolutions.now)
-
-pub resolution_at-resolution_and_framerate-requires : goal.resolution_at-resolution_and_framerate-requires
-resolution_at-resolution_and_framerate-requires c =
-    (FitResolutions-next (length c.next.new.self) _ (subst (λ (n : ℕ). FitResolutions n c.self.inside.resolutions.now) (ap length c.next.ensures.next) c.self.invariant)).0
-
-pub invariant_of-self : goal.invariant_of-self
-invariant_of-self c =
-    rw c.resolution_at-resolution_and_framerate.ensures.after
-    (FitResolutions-next (length c.next.new.self) _ (subst (λ (n : ℕ). FitResolutions n c.self.inside.resolutions.now) (ap length c.next.ensures.next) c.self.invariant)).1
-
-pub returns : goal.returns
-returns c =
-    let r = c.self.inside in
-    let read = c.held_rates-temporal_layers.ensures in
-    let found = c.resolution_at-resolution_and_framerate.ensures in
-    let left = c.next.new.self in
-    sym c.self.view_is
-    ∙ ap (λ (counts : List ℕ). layers_read counts r.rates.now r.resolutions.now) c.next.ensures.next
-    ∙ ap (λ (n : ℕ). record { temporal_layers = rates_of n r.rates.now; resolution_and_framerate = resolution_in r.resolutions.now }
-    ∷ layers_read left (after_rates n r.rates.now) (after_resolution r.resolutions.now)) (sym (add-one c.next.result) ∙ ap (λ (n : ℕ). n + 1) (sym c.from-rates.ensures))
-    ∙ (λ i. record { temporal_layers = sym read.rates i; resolution_and_framerate = sym found.resolution i }
-    ∷ layers_read left (sym read.after i) (sym found.after i))
-    ∙ (λ i. sym c.of.ensures i ∷ layers_read left c.held_rates-temporal_layers.result.1.now c.resolution_at-resolution_and_framerate.result.1.now)
+    let active : c.args.is_active ≡ true = search rules in
+    let len = next_len-read r.counts r.rates.now r.resolutions.now _ _ c.next.ensures.next in
+    ⊎_elim
+    (λ four. omega (arith, four, c.next.ensures.few, c.from-count.ensures))
+    (λ fits. omega (arith, fits, ap (λ (b : Bool). next_len b c.args.self.now) active, ap (next_len true) c.self.view_is, len, c.from-count.ensures))
+    c.requires.room

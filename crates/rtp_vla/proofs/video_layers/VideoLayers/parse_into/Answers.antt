@@ -1,6 +1,6 @@
 use Rattle.std.proofs.Common.{◌≡◌, ◌∙◌, take, sym, subst, arith, ⊎_elim, inr, refl}
 use Rattle.std.proofs.lemmas.Bool.{false≢true}
-use Rattle.rtp_vla.specs.Allocation.{Allocation, IsPacked}
+use Rattle.rtp_vla.specs.Allocation.{IsPacked}
 use Rattle.rtp_vla.specs.AllocationReading.{dealt_streams}
 use Rattle.rtp_vla.proofs.AllocationParts.{AreBytes, AreBytes-from}
 use Rattle.rtp_vla.proofs.AllocationLayout.{laid_out_layers}
