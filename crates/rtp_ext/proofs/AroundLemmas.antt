@@ -1,13 +1,13 @@
 -- The elements before the last one of an id, and after it, each in a row.
-use Rattle.std.proofs.Common.{◌≡◌, ℕ, ◌+◌, ◌-◌, ◌≤◌, List, [], ◌∷◌, ◌++◌, length, take, drop, replicate, Option, Some, None, IfSome, IfNone, append_assoc, length-append, length-drop, length-take-le, arith, refl, sym, ap, ◌∙◌, subst, inl, inr, ◌⊎◌}
+use Rattle.std.proofs.Common.{◌≡◌, ℕ, ◌+◌, ◌-◌, ◌≤◌, List, [], ◌∷◌, ◌++◌, length, take, drop, Option, Some, None, IfSome, IfNone, append_assoc, length-append, length-drop, length-take-le, arith, refl, sym, ap, ◌∙◌, subst, inl, inr, ◌⊎◌}
 use Rattle.std.specs.Prelude.{slice_range}
-use Rattle.std.proofs.lemmas.List.{take_at, drop_at, take-append-le, take-take, take_all, drop_all, take_rest, append-nil}
+use Rattle.std.proofs.lemmas.List.{take_at, drop_at, take-append-le, take-take, take_all, drop_all, append-nil}
 use Rattle.std.proofs.lemmas.Slice.{drop-append-drop, take-put_mid_below, between-put_mid}
 use borrow.Rule.Slice.PartMut.{put_mid}
 use Rattle.rtp_ext.specs.declared.form.ExtensionsForm.{ExtensionsForm}
 use Rattle.rtp_ext.specs.declared.place.Place.{Place}
 use Rattle.rtp_ext.specs.declared.growing.Survey.{Survey}
-use Rattle.rtp_ext.specs.Elements.{Element, AreElements, element_bytes, elements_bytes, ended}
+use Rattle.rtp_ext.specs.Elements.{Element, AreElements, element_bytes, ended}
 use Rattle.rtp_ext.specs.ElementsInPlace.{HasNone}
 use Rattle.rtp_ext.specs.ElementPlaces.{IsLastPlace, LiesLast, AreWhole}
 use Rattle.rtp_ext.specs.BodySurvey.{IsSurvey, IsGathered, HasRows}

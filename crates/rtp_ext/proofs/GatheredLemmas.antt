@@ -1,20 +1,18 @@
 -- The elements of a body without those of an id, in a row.
-use Rattle.std.proofs.Common.{◌≡◌, ◌≢◌, ℕ, zero, suc, ◌+◌, ◌-◌, ◌≤◌, ◌<◌, ◌==◌, Bool, true, false, not, cond, List, [], ◌∷◌, ◌++◌, length, take, drop, replicate, Option, Some, None, IfSome, IfNone, append_assoc, length-append, length-drop, length-take-le, take-append-drop, arith, refl, sym, ap, ◌∙◌, subst}
-use Rattle.std.specs.List.{AllByRecursion, flat_map, filter_map, filter}
+use Rattle.std.proofs.Common.{◌≡◌, ◌≢◌, ℕ, ◌+◌, ◌-◌, ◌≤◌, Bool, not, cond, List, [], ◌∷◌, ◌++◌, length, take, drop, replicate, append_assoc, length-append, length-drop, take-append-drop, arith, refl, sym, ap, ◌∙◌, subst}
 use Rattle.std.proofs.lemmas.Bool.{eq-eqb, ne_eqb}
 use Rattle.std.proofs.lemmas.List.{append-nil, drop_at, take_at, length-replicate, drop-drop, drop-append-le}
 use Rattle.std.proofs.lemmas.List.Concat.{flat_map-append}
-use Rattle.std.proofs.lemmas.List.Elements.{filter-append, All-head, All-tail}
+use Rattle.std.proofs.lemmas.List.Elements.{filter-append}
 use lib.Seq.{paste}
 use Rattle.rtp_ext.specs.declared.form.ExtensionsForm.{ExtensionsForm}
 use Rattle.rtp_ext.specs.declared.place.Place.{Place}
-use Rattle.rtp_ext.specs.Elements.{Element, IsElement, element_bytes, elements_bytes, IsPiece, piece_bytes, AreElements}
+use Rattle.rtp_ext.specs.Elements.{Element, element_bytes, elements_bytes, AreElements}
 use Rattle.rtp_ext.specs.ElementReading.{BeginsWithNoElement}
-use Rattle.rtp_ext.specs.ElementsInPlace.{HasNone}
-use Rattle.rtp_ext.specs.ElementPlaces.{IsNextPlace, AreWhole, IsPassed}
+use Rattle.rtp_ext.specs.ElementPlaces.{IsNextPlace, AreWhole}
 use Rattle.rtp_ext.specs.BodySurvey.{IsGathered, IsGatheredTo}
 use Rattle.rtp_ext.specs.PutElement.{has_id, without}
-use Rattle.rtp_ext.proofs.PlaceLemmas.{left_next, passed_next, end_next, length-element}
+use Rattle.rtp_ext.proofs.PlaceLemmas.{left_next, length-element}
 use Rattle.rtp_ext.proofs.PieceLemmas.{AreWhole-nil, AreWhole-append, AreWhole-next, AreElements-after, AreElements-none}
 
 -- one more element, of the id or of another

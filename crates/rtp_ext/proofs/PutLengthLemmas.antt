@@ -1,21 +1,20 @@
 -- How long a body's elements are with one put among them, and that they are read.
-use Rattle.std.proofs.Common.{◌≡◌, ◌≢◌, ℕ, ◌+◌, ◌-◌, ◌*◌, ◌≤◌, Bool, true, false, not, cond, List, [], ◌∷◌, ◌++◌, length, take, drop, replicate, Option, append_assoc, length-append, arith, refl, sym, ap, ◌∙◌, subst, inl, inr, ◌⊎◌}
-use Rattle.std.specs.List.{AllByRecursion, list_any, filter}
-use Rattle.std.proofs.lemmas.Bool.{eq-eqb, ne_eqb, false≢true}
+use Rattle.std.proofs.Common.{◌≡◌, ◌≢◌, ℕ, ◌+◌, ◌-◌, ◌*◌, ◌≤◌, Bool, true, false, not, cond, List, [], ◌∷◌, ◌++◌, length, drop, replicate, length-append, arith, refl, sym, ap, ◌∙◌, subst, inl, inr, ◌⊎◌}
+use Rattle.std.specs.List.{AllByRecursion, list_any}
+use Rattle.std.proofs.lemmas.Bool.{eq-eqb, false≢true}
 use Rattle.std.proofs.lemmas.List.{append-nil, drop_at}
 use Rattle.std.proofs.lemmas.List.Elements.{filter-append}
 use Rattle.rtp_ext.specs.declared.form.ExtensionsForm.{ExtensionsForm}
 use Rattle.rtp_ext.specs.declared.form.ExtensionsForm.TheVariants.{OneByte, TwoByte}
 use Rattle.rtp_ext.specs.declared.place.Place.{Place}
-use Rattle.rtp_ext.specs.declared.growing.Survey.{Survey}
 use Rattle.rtp_ext.specs.Elements.{Element, IsElement, element_bytes, elements_bytes, AreElements}
 use Rattle.rtp_ext.specs.ElementReading.{BeginsWithNoElement}
 use Rattle.rtp_ext.specs.ElementsInARow.{IsWritable}
 use Rattle.rtp_ext.specs.ElementsInPlace.{HasNone}
-use Rattle.rtp_ext.specs.ElementPlaces.{IsNextPlace, AreWhole}
-use Rattle.rtp_ext.specs.BodySurvey.{IsSurvey, IsWidthTo}
+use Rattle.rtp_ext.specs.ElementPlaces.{IsNextPlace}
+use Rattle.rtp_ext.specs.BodySurvey.{IsWidthTo}
 use Rattle.rtp_ext.specs.PutElement.{has_id, without, put_element, carried_in, row_to}
-use Rattle.rtp_ext.proofs.PlaceLemmas.{passed_next, end_next, length-element}
+use Rattle.rtp_ext.proofs.PlaceLemmas.{passed_next, end_next}
 use Rattle.rtp_ext.proofs.PieceLemmas.{AreWhole-nil, AreWhole-append, AreWhole-next, AreElements-after, AreElements-none}
 use Rattle.rtp_ext.proofs.LastPlaceLemmas.{AreElements-same}
 use Rattle.rtp_ext.proofs.PutLemmas.{without-none}

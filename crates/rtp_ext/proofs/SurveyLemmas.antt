@@ -1,16 +1,15 @@
 -- What is known of a body's elements from the front up to an offset.
-use Rattle.std.proofs.Common.{◌≡◌, ◌≢◌, ℕ, ◌+◌, ◌-◌, ◌≤◌, Bool, true, false, cond, List, [], ◌∷◌, ◌++◌, length, drop, Option, Some, None, IfSome, IfNone, length-append, arith, refl, sym, ap, ◌∙◌, subst}
+use Rattle.std.proofs.Common.{◌≡◌, ◌≢◌, ℕ, ◌+◌, ◌-◌, Bool, true, false, cond, List, [], ◌∷◌, ◌++◌, length, drop, Option, Some, None, IfSome, IfNone, length-append, arith, refl, sym, ap, ◌∙◌, subst}
 use Rattle.std.specs.List.{filter}
 use Rattle.std.proofs.lemmas.Bool.{eq-eqb, ne_eqb}
 use Rattle.std.proofs.lemmas.List.{append-nil, drop_at}
 use Rattle.std.proofs.lemmas.List.Elements.{filter-append}
 use Rattle.rtp_ext.specs.declared.form.ExtensionsForm.{ExtensionsForm}
 use Rattle.rtp_ext.specs.declared.place.Place.{Place}
-use Rattle.rtp_ext.specs.declared.growing.Survey.{Survey}
 use Rattle.rtp_ext.specs.Elements.{Element, element_bytes, elements_bytes, AreElements}
 use Rattle.rtp_ext.specs.ElementReading.{BeginsWithNoElement}
 use Rattle.rtp_ext.specs.ElementsInPlace.{HasNone}
-use Rattle.rtp_ext.specs.ElementPlaces.{IsNextPlace, IsPassed, IsLastPlace, LiesLast, IsLastOrNone}
+use Rattle.rtp_ext.specs.ElementPlaces.{IsNextPlace, IsLastPlace, LiesLast, IsLastOrNone}
 use Rattle.rtp_ext.specs.BodySurvey.{IsSurvey, IsSurveyedTo}
 use Rattle.rtp_ext.specs.PutElement.{has_id, without}
 use Rattle.rtp_ext.proofs.PlaceLemmas.{length-element, length-header-some}

@@ -1,10 +1,9 @@
 -- Two rows of elements, put in the two-byte form around an element.
-use Rattle.std.proofs.Common.{◌≡◌, ◌≢◌, ℕ, suc, ◌+◌, ◌-◌, ◌*◌, ◌≤◌, Bool, true, false, not, cond, List, [], ◌∷◌, ◌++◌, length, take, drop, append_assoc, length-append, length-drop, length-take-le, arith, refl, sym, ap, ◌∙◌, subst}
+use Rattle.std.proofs.Common.{◌≡◌, ◌≢◌, ℕ, ◌+◌, ◌-◌, ◌≤◌, Bool, true, false, not, cond, List, [], ◌∷◌, ◌++◌, length, take, drop, append_assoc, length-append, length-drop, length-take-le, arith, refl, sym, ap, ◌∙◌, subst}
 use Rattle.std.specs.Prelude.{slice_range}
 use Rattle.std.specs.List.{AllByRecursion}
 use Rattle.std.proofs.lemmas.Bool.{eq-eqb, false≢true}
-use Rattle.std.proofs.lemmas.List.{append-nil, take_at, drop_at, take-append-le, take-take, drop-append-le, drop_all, drop-drop, take_rest, take-append-drop}
-use Rattle.std.proofs.lemmas.Slice.{drop-append-drop}
+use Rattle.std.proofs.lemmas.List.{append-nil, take_at, drop_at, take-append-le, take-take, drop-append-le, drop_all, take_rest, take-append-drop}
 use lib.Seq.{paste}
 use borrow.Rule.Slice.PartMut.{put_mid}
 use Rattle.rtp_base.specs.Overwriting.{overwritten}
@@ -265,11 +264,11 @@ module _ (body body1 body2 body3 : List ℕ) (front at count id r0 r1 : ℕ) (da
         e_is : e ≡ length (elements_bytes TwoByte ys)
         e_is = wide2.end_is ∙ ap (λ es. length (elements_bytes TwoByte es)) wide2_is
 
-        pub all_len : next + e ≡ length (elements_bytes TwoByte (without 0 rows.before ++ (id, data_bytes) ∷ without 0 rows.after))
+        all_len : next + e ≡ length (elements_bytes TwoByte (without 0 rows.before ++ (id, data_bytes) ∷ without 0 rows.after))
         unfolding xs ys
         all_len = omega (arith, e_is, f_is, length-around TwoByte (without 0 rows.before) (without 0 rows.after) (id, data_bytes))
 
-        pub all_row : take (next + e) (put_mid next (length body5 - next) body5 room2) ≡ elements_bytes TwoByte (without 0 rows.before ++ (id, data_bytes) ∷ without 0 rows.after)
+        all_row : take (next + e) (put_mid next (length body5 - next) body5 room2) ≡ elements_bytes TwoByte (without 0 rows.before ++ (id, data_bytes) ∷ without 0 rows.after)
         unfolding xs ys
         all_row =
             let n = next_early in
@@ -288,3 +287,8 @@ module _ (body body1 body2 body3 : List ℕ) (front at count id r0 r1 : ℕ) (da
             ∙ (ap (λ b. take next body5 ++ b) row2 ∙ (ap (λ b. b ++ elements_bytes TwoByte (without 0 rows.after)) head
             ∙ (append_assoc (elements_bytes TwoByte (without 0 rows.before)) (element_bytes TwoByte (id, data_bytes)) (elements_bytes TwoByte (without 0 rows.after))
             ∙ sym (elements_bytes-append TwoByte (without 0 rows.before) ((id, data_bytes) ∷ without 0 rows.after))))))
+
+        -- all of it
+        pub all_wide : (take (next + e) (put_mid next (length body5 - next) body5 room2) ≡ elements_bytes TwoByte (without 0 rows.before ++ (id, data_bytes) ∷ without 0 rows.after))
+            × (next + e ≡ length (elements_bytes TwoByte (without 0 rows.before ++ (id, data_bytes) ∷ without 0 rows.after)))
+        all_wide = (all_row, all_len)

@@ -1,7 +1,7 @@
 -- An element that is put into a block, or taken out of it, and the block that is made anew for it (RFC 8285, 4.1.2, 4.2 and 4.3).
 --
 -- The element takes the place of the last one of its id, and those of the id before that go; where there is none of the id it comes last. All others stay, in order: only the two-byte form can't carry those of the id 0, which is padding's and no extension's. The form stays where it serves; a body that is made anew is its elements in a row, and zeros. What stands where reading ends, an element that is cut short or what follows the id 15, is no element, and goes where the body is made anew.
-use Rattle.std.specs.Prelude.{◌≡◌, ℕ, ◌+◌, ◌-◌, ◌≤◌, ◌<◌, ◌==◌, if◌then◌else◌, List, [], ◌∷◌, ◌++◌, length, replicate, Bool, not, Option, Some, None}
+use Rattle.std.specs.Prelude.{◌≡◌, ℕ, ◌-◌, ◌==◌, if◌then◌else◌, List, [], ◌∷◌, ◌++◌, length, replicate, Bool, not, Option, Some, None}
 use Rattle.std.specs.List.{filter, list_any}
 use Rattle.rtp_ext.specs.declared.form.ExtensionsForm.{ExtensionsForm}
 use Rattle.rtp_ext.specs.declared.form.ExtensionsForm.TheVariants.{OneByte, TwoByte}

@@ -9,6 +9,7 @@ ghost use Rattle.rtp_ext.specs.declared.form.ExtensionsForm.TheVariants.{OneByte
 ghost use Rattle.rtp_base.specs.Overwriting.{overwritten};
 ghost use Rattle.rtp_ext.specs.ElementWriting.{element_header};
 ghost use Rattle.rtp_ext.specs.Elements.{Element, elements_bytes};
+ghost use Rattle.rtp_ext.specs.PutElement.{needed_form, allowed_form};
 ghost use Rattle.rtp_ext.specs.ElementsInARow.{elements_of, serves_one_byte, form_for, IsWritable, IsUnwritable, AreWritableIn, AreNotWritableIn};
 
 /// The greatest id that an element of the one-byte form can have (RFC 8285, 4.2).
@@ -106,6 +107,27 @@ pub(super) fn form_with(form: ExtensionsForm, id: u8, bytes: &[u8]) -> Extension
         form
     } else {
         ExtensionsForm::TwoByte
+    }
+}
+
+/// The form that a block gets with an element put into it, where it has this form or there is none yet
+/// (RFC 8285, 4.1.2): the one that it needs, which is the two-byte form where it has that, or the
+/// one-byte form can't carry the element; or the one form that is allowed, where that serves. `None`
+/// where it doesn't: the block needs the two-byte form, and only the one-byte form is allowed.
+pub fn form_to_put(
+    block: Option<ExtensionsForm>,
+    allowed: Option<ExtensionsForm>,
+    id: u8,
+    data: &[u8],
+) -> Option<ExtensionsForm>
+    ensures { result ≡ allowed_form allowed (needed_form block (id, «data».now)) }
+{
+    let needed = form_with(block.unwrap_or(ExtensionsForm::OneByte), id, data);
+    match (allowed, needed) {
+        (None, needed) => Some(needed),
+        (Some(ExtensionsForm::TwoByte), _) => Some(ExtensionsForm::TwoByte),
+        (Some(ExtensionsForm::OneByte), ExtensionsForm::OneByte) => Some(ExtensionsForm::OneByte),
+        (Some(ExtensionsForm::OneByte), ExtensionsForm::TwoByte) => None,
     }
 }
 

@@ -8,10 +8,10 @@ ghost use Rattle.rtp_ext.specs.Elements.{Element, AreElements, element_bytes, el
 ghost use Rattle.rtp_ext.specs.ElementsInARow.{IsWritable};
 ghost use Rattle.rtp_ext.specs.ElementsInPlace.{SetsLast};
 ghost use Rattle.rtp_ext.specs.BodySurvey.{IsSurvey, IsGathered, HasRows, HasNarrowRows, IsWideRow, IsWidened, IsTakenOut};
-ghost use Rattle.rtp_ext.specs.PutElement.{without, put_element, carried_in, needed_form, allowed_form, row_to, IsSole};
+ghost use Rattle.rtp_ext.specs.PutElement.{without, put_element, carried_in, row_to, IsSole};
 
 use super::ExtensionsForm;
-use super::form::{form_with, header_len, write_header};
+use super::form::{header_len, write_header};
 use super::place::{Place, next_place};
 use super::raw_writing::put_element;
 use rtp_base::{put, put_zeros};
@@ -68,27 +68,6 @@ fn gather(form: ExtensionsForm, body: &mut [u8], id: u8) -> usize
         len += place.end - place.start;
     }
     len
-}
-
-/// The form that a block gets with an element put into it, where it has this form or there is none yet
-/// (RFC 8285, 4.1.2): the one that it needs, which is the two-byte form where it has that, or the
-/// one-byte form can't carry the element; or the one form that is allowed, where that serves. `None`
-/// where it doesn't: the block needs the two-byte form, and only the one-byte form is allowed.
-pub fn form_to_put(
-    block: Option<ExtensionsForm>,
-    allowed: Option<ExtensionsForm>,
-    id: u8,
-    data: &[u8],
-) -> Option<ExtensionsForm>
-    ensures { result ≡ allowed_form allowed (needed_form block (id, «data».now)) }
-{
-    let needed = form_with(block.unwrap_or(ExtensionsForm::OneByte), id, data);
-    match (allowed, needed) {
-        (None, needed) => Some(needed),
-        (Some(ExtensionsForm::TwoByte), _) => Some(ExtensionsForm::TwoByte),
-        (Some(ExtensionsForm::OneByte), ExtensionsForm::OneByte) => Some(ExtensionsForm::OneByte),
-        (Some(ExtensionsForm::OneByte), ExtensionsForm::TwoByte) => None,
-    }
 }
 
 /// Gives the element of the id these data where it lies, where it is the only one and has as many

@@ -36,7 +36,8 @@ pub struct SpatialLayerAllocation {
 /// One temporal layer.
 #[derive(Clone, Copy, Debug, Default, PartialEq, Eq)]
 pub struct TemporalLayerAllocation {
-    /// The rate of this layer and all below it in their spatial layer, in kilobits per second.
+    /// The rate that it takes to receive this layer, in kilobits per second: with all temporal layers
+    /// below it, and with the spatial layers below it where it can't be decoded without them.
     pub cumulative_kbps: u64,
 }
 

@@ -1,6 +1,6 @@
-use Rattle.std.proofs.Common.{◌≡◌, ◌-◌, drop, arith, sym, ap, ◌∙◌}
+use Rattle.std.proofs.Common.{◌≡◌, ◌-◌, drop, ◌∙◌}
 use lib.Seq.{paste}
-use Rattle.rtp_ext.proofs.GatheredLemmas.{IsGatheredTo-start, IsGatheredTo-this, IsGatheredTo-other, IsGathered-end, paste-same, start-same}
+use Rattle.rtp_ext.proofs.GatheredLemmas.{IsGatheredTo-start, IsGatheredTo-this, IsGatheredTo-other, IsGathered-end, start-same}
 use Rattle.rtp_ext.proofs.growing.gather.Goals as goal
 use Rattle.rtp_ext.proofs.growing.gather.Goals.{then-len-place, else-len-place}
 

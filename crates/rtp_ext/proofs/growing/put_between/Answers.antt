@@ -1,4 +1,4 @@
-use Rattle.std.proofs.Common.{◌+◌, length, arith}
+use Rattle.std.proofs.Common.{length, arith}
 use Rattle.rtp_ext.proofs.BetweenLemmas.{between_is}
 use Rattle.rtp_ext.proofs.WrittenBlockLemmas.{length-header}
 use Rattle.rtp_ext.specs.Elements.{element_bytes}

@@ -1,4 +1,3 @@
-use Rattle.std.proofs.Common.{arith}
 use Rattle.rtp_ext.proofs.SurveyLemmas.{IsSurveyedTo-start, IsSurveyedTo-this, IsSurveyedTo-other, IsSurvey-end}
 use Rattle.rtp_ext.proofs.growing.survey_of.Goals as goal
 

@@ -1,4 +1,3 @@
-use Rattle.std.proofs.Common.{arith}
 use Rattle.rtp_ext.proofs.PutLengthLemmas.{IsWidthTo-start, IsWidthTo-this, IsWidthTo-zero, IsWidthTo-other, IsWidthTo-end}
 use Rattle.rtp_ext.proofs.growing.widened_len.Goals as goal
 use Rattle.rtp_ext.proofs.growing.widened_len.Goals.{else-place-id-via-then-place-id+else-place-ne0, else-place-id-via-else-place-id}
