@@ -96,23 +96,6 @@ pub length-layers_read : (counts rates resolutions : List ℕ) → length (layer
 length-layers_read [] rates resolutions = refl
 length-layers_read (count ∷ counts) rates resolutions = ap suc (length-layers_read counts (after_rates (suc count) rates) (after_resolution resolutions))
 
-pub FitResolutions-next : (count : ℕ) (bytes : List ℕ) → FitResolutions (suc count) bytes → FitResolutions 1 bytes × FitResolutions count (after_resolution bytes)
-FitResolutions-next count [] fit = (tt, FitResolutions-short count [] (omega arith))
-FitResolutions-next count (x ∷ []) fit = (tt, FitResolutions-short count (x ∷ []) (omega arith))
-FitResolutions-next count (x ∷ y ∷ []) fit = (tt, FitResolutions-short count (x ∷ y ∷ []) (omega arith))
-FitResolutions-next count (x ∷ y ∷ z ∷ []) fit = (tt, FitResolutions-short count (x ∷ y ∷ z ∷ []) (omega arith))
-FitResolutions-next count (x ∷ y ∷ z ∷ u ∷ []) fit = (tt, FitResolutions-short count (x ∷ y ∷ z ∷ u ∷ []) (omega arith))
-FitResolutions-next count (x ∷ y ∷ z ∷ u ∷ v ∷ bytes) fit = ((fit.0, fit.1, tt), fit.2)
-
-pub FitResolutions-fewer : (count : ℕ) (bytes : List ℕ) → FitResolutions (suc count) bytes → FitResolutions count bytes
-FitResolutions-fewer zero bytes fit = tt
-FitResolutions-fewer (suc count) [] fit = tt
-FitResolutions-fewer (suc count) (x ∷ []) fit = tt
-FitResolutions-fewer (suc count) (x ∷ y ∷ []) fit = tt
-FitResolutions-fewer (suc count) (x ∷ y ∷ z ∷ []) fit = tt
-FitResolutions-fewer (suc count) (x ∷ y ∷ z ∷ u ∷ []) fit = tt
-FitResolutions-fewer (suc count) (x ∷ y ∷ z ∷ u ∷ v ∷ bytes) fit = (fit.0, fit.1, FitResolutions-fewer count bytes fit.2)
-
 -- ---- Layers dealt by a mask
 
 pub zero_or_more : (n : ℕ) → (n ≡ 0) ⊎ (0 < n)

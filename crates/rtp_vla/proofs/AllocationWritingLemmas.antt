@@ -137,9 +137,6 @@ halves_four (a ∷ b ∷ c ∷ d ∷ e ∷ masks) len = absurd (omega arith)
 pub mask_bytes-none : (masks : List ℕ) → (shared_of masks ≡ 0 → ⊥) → mask_bytes masks ≡ []
 mask_bytes-none masks some = rw (ne_eqb (shared_of masks) 0 some) refl
 
-pub mask_bytes-spelled : (masks : List ℕ) → shared_of masks ≡ 0 → mask_bytes masks ≡ halves_of 0 masks
-mask_bytes-spelled masks none = rw (eq-eqb (shared_of masks) 0 none) refl
-
 -- ---- Streams, of which there are some
 
 pub streams_fit-some : (index : ℕ) (streams : List Stream) → 0 < length streams → index ≤ 3 → length streams ≤ 4 → list_all stream_fits streams ≡ true → layers_fit (active_layers streams) ≡ true
