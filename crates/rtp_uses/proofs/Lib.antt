@@ -1,3 +1,4 @@
 mod EqualityLemmas
 mod ReceivingLemmas
 mod NegotiatingLemmas
+mod ArrivingLemmas

@@ -4,3 +4,4 @@ pub mod Forwarding
 pub mod PaddingPackets
 pub mod Retransmission
 pub mod Negotiating
+pub mod Arriving

@@ -12,6 +12,7 @@ pub mod negotiating;
 pub mod numbers;
 pub mod padding;
 pub mod receiving;
+pub mod restarting;
 pub mod retransmission;
 pub mod send_times;
 pub mod sending;

@@ -13,7 +13,7 @@ use Rattle.rtp_wire.specs.Verdicts.{PacketId, IsVerdictOf, IsRunOf, taken_by}
 use Rattle.rtp_wire.specs.Restarting.{Bounds, IsOutside, IsFirst, announced, first_number, in_stream, IsJudgedInStream, IsRestartingRun, Arrival, epoch_after, taken_in, IsNext, IsRestartingVerdict, HasNoPair, IsOneEpoch}
 use Rattle.rtp_wire.specs.declared.receive.restarting.RestartingReceiver.{RestartingReceiver}
 use Rattle.rtp_wire.specs.RestartingState.{bounds_of, HoldsEpoch, RowLeads, RowGrows, Remembers}
-use Rattle.rtp_wire.specs.EpochRun.{AreOfEpoch, packet_id_in, verdict_in_epoch, verdicts_in_epoch, IsRunInEpoch, AreRising}
+use Rattle.rtp_wire.specs.EpochRun.{packet_id_in, verdict_in_epoch, verdicts_in_epoch, IsRunInEpoch, AreRising}
 use Rattle.rtp_wire.specs.EpochRun as epoch
 use Rattle.rtp_wire.proofs.VerdictLemmas.{taken_by-push, or_false, IsRun-more}
 use Rattle.rtp_wire.proofs.EpochOrder.{rising}

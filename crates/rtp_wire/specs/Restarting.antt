@@ -101,7 +101,7 @@ abbrev pub taken_in : List Arrival → Numbers
 taken_in [] = λ n. false
 taken_in (arrival ∷ before) = epoch_after (taken_in before) arrival.verdict
 
--- the latest k packets lead up to this one: each was outside of the stream and was refused, and its number is followed by that of the next
+-- the latest k packets lead up to this one: each was outside of the stream and was refused, and its number is followed by that of the next packet received, as A.1 says in words; its code also lets packets of the stream come between
 abbrev pub LeadUp : Bounds → List Arrival → ℕ → ℕ → Type 0
 LeadUp bounds before low zero = Unit {0}
 LeadUp bounds [] low (suc k) = ⊥
