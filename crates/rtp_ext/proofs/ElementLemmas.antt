@@ -8,7 +8,7 @@ use Rattle.std.proofs.lemmas.List.{length-take-le}
 use Rattle.rtp_ext.specs.declared.form.ExtensionsForm.{ExtensionsForm}
 use Rattle.rtp_ext.specs.declared.form.ExtensionsForm.TheVariants.{OneByte, TwoByte}
 use Rattle.rtp_ext.specs.Elements.{Element}
-use Rattle.rtp_ext.specs.ElementReading.{without_padding, HasNoPadding, element_at, in_front, elements_after, elements_left}
+use Rattle.rtp_ext.specs.ElementReading.{without_padding, element_at, in_front, elements_after, elements_left}
 
 -- the elements after some bytes are those of what is left without them
 elements_after-drop : (form : ExtensionsForm) (passed : ℕ) (bytes : List ℕ) → elements_after form passed bytes ≡ elements_left form (drop passed bytes)
@@ -62,22 +62,17 @@ pub two_byte-cut : (id count : ℕ) (bytes : List ℕ) → length bytes < count 
 two_byte-cut id count bytes cut = rw (lt-leb count (length bytes) cut) refl
 
 -- what follows the padding begins with none
-pub HasNoPadding-after : (bytes : List ℕ) → HasNoPadding (without_padding bytes)
-unfolding without_padding
-HasNoPadding-after [] = refl
-HasNoPadding-after (zero ∷ bytes) = HasNoPadding-after bytes
-HasNoPadding-after (suc byte ∷ bytes) = refl
-
-length-without_padding : (bytes : List ℕ) → length (without_padding bytes) ≤ length bytes
+pub length-without_padding : (bytes : List ℕ) → length (without_padding bytes) ≤ length bytes
 unfolding without_padding
 length-without_padding [] = omega arith
 length-without_padding (zero ∷ bytes) = omega (arith, length-without_padding bytes)
 length-without_padding (suc byte ∷ bytes) = omega arith
 
-pub HasNoPadding-first : (byte : ℕ) (bytes : List ℕ) → HasNoPadding (byte ∷ bytes) → 1 ≤ byte
+pub without_padding-again : (bytes : List ℕ) → without_padding (without_padding bytes) ≡ without_padding bytes
 unfolding without_padding
-HasNoPadding-first zero bytes is = absurd (omega (arith, length-without_padding bytes, ap length is))
-HasNoPadding-first (suc byte) bytes is = omega arith
+without_padding-again [] = refl
+without_padding-again (zero ∷ bytes) = without_padding-again bytes
+without_padding-again (suc byte ∷ bytes) = refl
 
 -- the padding as code passes it
 pub without_padding-none : (bytes : List ℕ) → length bytes ≡ 0 → without_padding bytes ≡ bytes

@@ -5,8 +5,8 @@ use Rattle.std.proofs.lemmas.List.{nil_from_length, replicate-append-replicate}
 use Rattle.rtp_ext.specs.declared.form.ExtensionsForm.{ExtensionsForm}
 use Rattle.rtp_ext.specs.declared.form.ExtensionsForm.TheVariants.{OneByte, TwoByte}
 use Rattle.rtp_ext.specs.Elements.{Element, IsElement, element_bytes, IsTail, ended, stopped}
-use Rattle.rtp_ext.specs.ElementReading.{without_padding, HasNoPadding, elements_left, BeginsWithElement, BeginsWithNoElement, IsFirstElement}
-use Rattle.rtp_ext.proofs.ElementLemmas.{elements_left-padding, HasNoPadding-first}
+use Rattle.rtp_ext.specs.ElementReading.{without_padding, elements_left, BeginsWithElement, BeginsWithNoElement, IsFirstElement}
+use Rattle.rtp_ext.proofs.ElementLemmas.{elements_left-padding}
 use Rattle.rtp_ext.proofs.ElementLemmasOfBodies.{elements_left-element, elements_left-tail, IsTail-one_byte, IsTail-two_byte, IsTail-two_byte_end}
 
 -- bytes without padding at their front
@@ -20,26 +20,24 @@ BeginsWithNoElement-here form bytes tail bytes_are is = record { padding = 0; ta
 pub BeginsWithNoElement-nothing : (form : ExtensionsForm) (bytes : List ℕ) → length bytes ≡ 0 → BeginsWithNoElement form bytes
 BeginsWithNoElement-nothing form bytes none = BeginsWithNoElement-here form bytes [] (nil_from_length bytes none) (ended refl)
 
-pub BeginsWithElement-one_byte : (first : ℕ) (bytes after front back : List ℕ) → HasNoPadding bytes → IsFirstAndRest bytes first after → first < 240 → IsSplitAt after (first % 16 + 1) front back
+pub BeginsWithElement-one_byte : (first : ℕ) (bytes after front back : List ℕ) → 1 ≤ first → IsFirstAndRest bytes first after → first < 240 → IsSplitAt after (first % 16 + 1) front back
     → BeginsWithElement OneByte bytes (first / 16, front) back
-BeginsWithElement-one_byte first bytes after front back unpadded begins low split =
-    let above : 1 ≤ first = HasNoPadding-first first after (subst HasNoPadding begins.0 unpadded) in
+BeginsWithElement-one_byte first bytes after front back above begins low split =
     let count : length front ≡ first % 16 + 1 = split.3 in
     let header : first ≡ first / 16 * 16 + (length front - 1) = omega arith in
     BeginsWithElement-here OneByte bytes (first / 16, front) back (omega arith, omega arith, omega arith, omega arith)
     (begins.0 ∙ (ap (λ b. first ∷ b) (sym (take-append-drop (first % 16 + 1) after) ∙ (ap (λ b. b ++ drop (first % 16 + 1) after) (sym split.1) ∙ ap (λ b. front ++ b) (sym split.2)))
     ∙ ap (λ b. b ∷ (front ++ back)) header))
 
-pub BeginsWithNoElement-one_byte : (first : ℕ) (bytes after : List ℕ) → HasNoPadding bytes → IsFirstAndRest bytes first after → (240 ≤ first) ⊎ ((first < 240) × (length after ≤ first % 16))
+pub BeginsWithNoElement-one_byte : (first : ℕ) (bytes after : List ℕ) → 1 ≤ first → IsFirstAndRest bytes first after → (240 ≤ first) ⊎ ((first < 240) × (length after < first % 16 + 1))
     → BeginsWithNoElement OneByte bytes
-BeginsWithNoElement-one_byte first bytes after unpadded begins (inl high) = BeginsWithNoElement-here OneByte bytes (first ∷ after) begins.0 (stopped first after refl high refl)
-BeginsWithNoElement-one_byte first bytes after unpadded begins (inr cut) =
-    BeginsWithNoElement-here OneByte bytes (first ∷ after) begins.0 (IsTail-one_byte first after (HasNoPadding-first first after (subst HasNoPadding begins.0 unpadded)) cut.0 cut.1)
+BeginsWithNoElement-one_byte first bytes after above begins (inl high) = BeginsWithNoElement-here OneByte bytes (first ∷ after) begins.0 (stopped first after refl high refl)
+BeginsWithNoElement-one_byte first bytes after above begins (inr cut) =
+    BeginsWithNoElement-here OneByte bytes (first ∷ after) begins.0 (IsTail-one_byte first after above cut.0 (omega (arith, cut.1)))
 
-pub BeginsWithElement-two_byte : (id count : ℕ) (bytes second after front back : List ℕ) → ((i : ℕ) → get_or bytes i 0 < 256) → HasNoPadding bytes → IsFirstAndRest bytes id second
+pub BeginsWithElement-two_byte : (id count : ℕ) (bytes second after front back : List ℕ) → ((i : ℕ) → get_or bytes i 0 < 256) → 1 ≤ id → IsFirstAndRest bytes id second
     → IsFirstAndRest second count after → IsSplitAt after count front back → BeginsWithElement TwoByte bytes (id, front) back
-BeginsWithElement-two_byte id count bytes second after front back are unpadded begins next split =
-    let above : 1 ≤ id = HasNoPadding-first id second (subst HasNoPadding begins.0 unpadded) in
+BeginsWithElement-two_byte id count bytes second after front back are above begins next split =
     let whole : bytes ≡ id ∷ count ∷ after = begins.0 ∙ ap (λ b. id ∷ b) next.0 in
     let fits : id < 256 = subst (λ b. get_or b 0 0 < 256) whole (are 0) in
     let small : count < 256 = subst (λ b. get_or b 1 0 < 256) whole (are 1) in
@@ -47,19 +45,17 @@ BeginsWithElement-two_byte id count bytes second after front back are unpadded b
     (whole ∙ (ap (λ b. id ∷ count ∷ b) (sym (take-append-drop count after) ∙ (ap (λ b. b ++ drop count after) (sym split.1) ∙ ap (λ b. front ++ b) (sym split.2)))
     ∙ ap (λ n. id ∷ n ∷ (front ++ back)) (sym split.3)))
 
-pub BeginsWithNoElement-two_byte_cut : (id count : ℕ) (bytes second after : List ℕ) → ((i : ℕ) → get_or bytes i 0 < 256) → HasNoPadding bytes → IsFirstAndRest bytes id second
+pub BeginsWithNoElement-two_byte_cut : (id count : ℕ) (bytes second after : List ℕ) → ((i : ℕ) → get_or bytes i 0 < 256) → 1 ≤ id → IsFirstAndRest bytes id second
     → IsFirstAndRest second count after → length after < count → BeginsWithNoElement TwoByte bytes
-BeginsWithNoElement-two_byte_cut id count bytes second after are unpadded begins next cut =
-    let above : 1 ≤ id = HasNoPadding-first id second (subst HasNoPadding begins.0 unpadded) in
+BeginsWithNoElement-two_byte_cut id count bytes second after are above begins next cut =
     let whole : bytes ≡ id ∷ count ∷ after = begins.0 ∙ ap (λ b. id ∷ b) next.0 in
     let fits : id < 256 = subst (λ b. get_or b 0 0 < 256) whole (are 0) in
     let small : count < 256 = subst (λ b. get_or b 1 0 < 256) whole (are 1) in
     BeginsWithNoElement-here TwoByte bytes (id ∷ count ∷ after) whole (IsTail-two_byte id count after above fits small cut)
 
-pub BeginsWithNoElement-two_byte_end : (id : ℕ) (bytes second : List ℕ) → ((i : ℕ) → get_or bytes i 0 < 256) → HasNoPadding bytes → IsFirstAndRest bytes id second
+pub BeginsWithNoElement-two_byte_end : (id : ℕ) (bytes second : List ℕ) → ((i : ℕ) → get_or bytes i 0 < 256) → 1 ≤ id → IsFirstAndRest bytes id second
     → length second ≡ 0 → BeginsWithNoElement TwoByte bytes
-BeginsWithNoElement-two_byte_end id bytes second are unpadded begins none =
-    let above : 1 ≤ id = HasNoPadding-first id second (subst HasNoPadding begins.0 unpadded) in
+BeginsWithNoElement-two_byte_end id bytes second are above begins none =
     let fits : id < 256 = subst (λ b. get_or b 0 0 < 256) begins.0 (are 0) in
     BeginsWithNoElement-here TwoByte bytes (id ∷ []) (begins.0 ∙ ap (λ b. id ∷ b) (nil_from_length second none)) (IsTail-two_byte_end id above fits)
 
@@ -106,3 +102,9 @@ pub elements_left-no_first : (form : ExtensionsForm) (bytes : List ℕ) → Begi
 elements_left-no_first form bytes none =
     ap (elements_left form) none.bytes_are
     ∙ (elements_left-zeros form none.padding none.tail ∙ elements_left-tail form none.tail none.is_tail)
+
+pub fits_padded : (bytes rest : List ℕ) → rest ≡ without_padding bytes → ((i : ℕ) → get_or bytes i 0 < 256) → (i : ℕ) → get_or rest i 0 < 256
+unfolding without_padding
+fits_padded [] rest is fits i = subst (λ b. get_or b i 0 < 256) (sym is) (omega arith)
+fits_padded (zero ∷ bytes) rest is fits i = fits_padded bytes rest is (λ k. fits (suc k)) i
+fits_padded (suc byte ∷ bytes) rest is fits i = subst (λ b. get_or b i 0 < 256) (sym is) (fits i)

@@ -88,6 +88,10 @@ pub extension_there : (kinds : List (Option KnownKind)) (id : ℕ) (kind : Known
 extension_there kinds zero kind mapped is = let found = mapped.1 in cc
 extension_there kinds (suc k) kind mapped is = ap extension_of (entry_at-kinds kinds k ∙ ap entry_of_kind is)
 
+pub none_there : (kinds : List (Option KnownKind)) (id : ℕ) → get_or kinds id None ≡ None → extension_at (slots_of kinds) id ≡ None
+none_there kinds zero nothing = refl
+none_there kinds (suc k) nothing = ap extension_of (entry_at-kinds kinds k ∙ ap entry_of_kind nothing)
+
 -- ---- the mapped ids, one kind after another
 
 pub mapped-slots : (kinds : List (Option KnownKind)) (ids : List ℕ) → length kinds ≡ 256 → ids ≡ mapped_ids (map entry_of_kind (take 255 (drop 1 kinds)))

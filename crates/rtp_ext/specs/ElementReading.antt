@@ -11,10 +11,6 @@ without_padding [] = []
 without_padding (zero ∷ bytes) = without_padding bytes
 without_padding (suc byte ∷ bytes) = suc byte ∷ bytes
 
--- bytes that do not begin with padding
-abbrev pub HasNoPadding : List ℕ → Type 0
-HasNoPadding bytes = without_padding bytes ≡ bytes
-
 -- the element whose header begins with this byte, which is no padding, and how many of the bytes after it are the element's; none where it ends reading
 abbrev pub element_at : ExtensionsForm → ℕ → List ℕ → Option (Element × ℕ)
 element_at OneByte byte bytes =

@@ -2,9 +2,8 @@
 
 ghost use Rattle.std.specs.Prelude.{◌≡◌, List};
 ghost use Rattle.std.specs.Iterator.{YieldsFirstBy, item_count};
-ghost use Rattle.rtp_ext.specs.declared.form.ExtensionsForm.TheVariants.{OneByte, TwoByte};
 ghost use Rattle.rtp_ext.specs.Elements.{Element, AreElements};
-ghost use Rattle.rtp_ext.specs.ElementReading.{without_padding, HasNoPadding, IsFirstElement};
+ghost use Rattle.rtp_ext.specs.ElementReading.{without_padding, IsFirstElement};
 
 use super::ExtensionsForm;
 use std::marker::Model;
@@ -71,39 +70,37 @@ impl<'a> Iterator for Elements<'a> {
 pub(super) fn first_element(bytes: &[u8], form: ExtensionsForm) -> Option<(u8, &[u8], &[u8])>
     ensures { IsFirstElement form bytes.now result }
 {
-    let bytes = skip_padding(bytes);
-    match form {
-        ExtensionsForm::OneByte => first_of_one_byte(bytes),
-        ExtensionsForm::TwoByte => first_of_two_byte(bytes),
-    }
-}
-
-// The bytes after the padding at their front.
-fn skip_padding(bytes: &[u8]) -> &[u8]
-    ensures { result.now ≡ without_padding bytes.now }
-{
-    let Some((byte, after)) = bytes.split_first() else {
-        return bytes;
+    let mut rest = bytes;
+    let (first, after) = loop {
+        let (first, after) = rest.split_first()?;
+        if *first != 0 {
+            break (*first, after);
+        }
+        rest = skip_zeros(after);
     };
-    if *byte != 0 {
-        return bytes;
+    match form {
+        ExtensionsForm::OneByte => {
+            if first >= 240 {
+                return None;
+            }
+            let (data, left) = after.split_at_checked(usize::from(first % 16) + 1)?;
+            Some((first / 16, data, left))
+        }
+        ExtensionsForm::TwoByte => {
+            let (len, after) = after.split_first()?;
+            let (data, left) = after.split_at_checked(usize::from(*len))?;
+            Some((first, data, left))
+        }
     }
-    skip_far(after)
 }
 
-// The same after a zero. It stays out of line, since few elements have padding before them.
+// The bytes after the zeros at their front. It stays out of line, since few elements have padding
+// before them.
 #[inline(never)]
-fn skip_far(bytes: &[u8]) -> &[u8]
-    ensures { result.now ≡ without_padding bytes.now }
-{
-    skip_zeros(skip_zero_words(bytes))
-}
-
-// The bytes after the zeros at their front.
 fn skip_zeros(bytes: &[u8]) -> &[u8]
     ensures { result.now ≡ without_padding bytes.now }
 {
-    let mut rest = bytes;
+    let mut rest = skip_zero_words(bytes);
     while let Some((byte, after)) = rest.split_first() {
         if *byte != 0 {
             return rest;
@@ -113,7 +110,7 @@ fn skip_zeros(bytes: &[u8]) -> &[u8]
     rest
 }
 
-// The bytes after the zeros at their front, as far as they fill words of 16 bytes.
+// The same, as far as the zeros fill words of 16 bytes.
 fn skip_zero_words(bytes: &[u8]) -> &[u8]
     ensures { without_padding result.now ≡ without_padding bytes.now }
 {
@@ -125,34 +122,4 @@ fn skip_zero_words(bytes: &[u8]) -> &[u8]
         rest = after;
     }
     rest
-}
-
-// The first element of bytes in the one-byte form, and what follows it; None where reading
-// ends.
-fn first_of_one_byte(bytes: &[u8]) -> Option<(u8, &[u8], &[u8])>
-    requires { HasNoPadding bytes.now }
-    ensures { IsFirstElement OneByte bytes.now result }
-{
-    let (header, after) = bytes.split_first()?;
-    if *header >= 240 {
-        return None;
-    }
-    let last = usize::from(*header % 16);
-    if after.len() <= last {
-        return None;
-    }
-    let (data, left) = after.split_at(last + 1);
-    Some((*header / 16, data, left))
-}
-
-// The first element of bytes in the two-byte form, and what follows it; None where reading
-// ends.
-fn first_of_two_byte(bytes: &[u8]) -> Option<(u8, &[u8], &[u8])>
-    requires { HasNoPadding bytes.now }
-    ensures { IsFirstElement TwoByte bytes.now result }
-{
-    let (id, after) = bytes.split_first()?;
-    let (len, after) = after.split_first()?;
-    let (data, left) = after.split_at_checked(usize::from(*len))?;
-    Some((*id, data, left))
 }

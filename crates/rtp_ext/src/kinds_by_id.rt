@@ -95,7 +95,7 @@ impl KindsById {
         ensures count { result ≡ mapped_count (slots_of self.now) }
         ensures few { result ≤ MAX_ID }
     {
-        self.mapped.len()
+        self.mapped.as_slice().len()
     }
 
     // The kind that the id is mapped to, and `None` where there is none, as always for 0.
@@ -134,7 +134,7 @@ impl KindsById {
         ensures within { IfSome result (λ _. place < MAX_ID) }
     {
         let id = self.mapped.at(place)?;
-        Some((id, self.get(id)?))
+        Some((id, self.kinds[usize::from(id)]?))
     }
 
     // Whether the one-byte form can't carry a mapped id or the longest data of a mapped kind.

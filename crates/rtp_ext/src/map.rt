@@ -123,7 +123,7 @@ impl ExtensionMap {
         ensures count { result ≡ spec.mapped_count self.now }
         ensures few { result ≤ MAX_ID }
     {
-        self.mapped.len()
+        self.mapped.as_slice().len()
     }
 
     /// Maps the id to the extension, unlocked, instead of what it was mapped to. The id 0, which a

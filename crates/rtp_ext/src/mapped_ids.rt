@@ -129,14 +129,6 @@ impl MappedIds {
         }
     }
 
-    // How many there are.
-    pub(super) fn len(&self) -> usize
-        ensures length { result ≡ length self.now }
-        ensures few { result ≤ MAX_ID }
-    {
-        usize::from(self.count)
-    }
-
     // Whether an id is above this one, as the last one is then.
     #[tactic(auto, using(crate::proofs::RisingIdLemmas::last_above, crate::proofs::RisingIdLemmas::none_above))]
     pub(super) fn has_above(&self, greatest: u8) -> bool
@@ -162,7 +154,8 @@ impl MappedIds {
     }
 
     pub(super) fn as_slice(&self) -> &[u8]
-        ensures { result.now ≡ self.now }
+        ensures ids { result.now ≡ self.now }
+        ensures few { length result.now ≤ MAX_ID }
     {
         &self.ids[..usize::from(self.count)]
     }

@@ -10,7 +10,7 @@ pub has_long-self-inside-requires-clause-mapped : goal.has_long-self-inside-requ
 has_long-self-inside-requires-clause-mapped c =
     let kinds = c.self.inside.kinds in
     anew-mapped (set kinds c.from-2.result c.args.kind) c.of_kinds-self-inside.result c.as_slice.result.now
-    (set-length kinds c.from-2.result c.args.kind c.self.invariant.0) c.of_kinds-self-inside.ensures c.as_slice.ensures
+    (set-length kinds c.from-2.result c.args.kind c.self.invariant.0) c.of_kinds-self-inside.ensures c.as_slice.ensures.ids
 
 pub invariant_of-self : goal.invariant_of-self
 invariant_of-self c =
@@ -18,7 +18,7 @@ invariant_of-self c =
     anew-table (set kinds c.from-2.result c.args.kind) c.of_kinds-self-inside.result c.as_slice.result.now c.has_long-self-inside.result
     (set-length kinds c.from-2.result c.args.kind c.self.invariant.0)
     (set-padding kinds c.from-2.result c.args.kind (omega (arith, c.from-2.ensures, c.if-id-eq0.false)) c.self.invariant.1)
-    c.of_kinds-self-inside.ensures c.as_slice.ensures c.has_long-self-inside.ensures
+    c.of_kinds-self-inside.ensures c.as_slice.ensures.ids c.has_long-self-inside.ensures
 
 pub insert-requires-clause-room : goal.insert-requires-clause-room
 insert-requires-clause-room c =

@@ -6,4 +6,4 @@ use Rattle.rtp_ext.proofs.map.ExtensionMap.is_empty.Goals as goal
 pub returns : goal.returns
 returns c =
     subst (λ (slots : spec.Slots). IsTrue c.is_empty.result ↔ spec.IsEmpty slots) c.self.view_is
-    (no_ids-tells c.self.inside.slots c.as_slice.result.now c.is_empty.result (c.as_slice.ensures ∙ c.self.invariant.1) c.is_empty.ensures)
+    (no_ids-tells c.self.inside.slots c.as_slice.result.now c.is_empty.result (c.as_slice.ensures.ids ∙ c.self.invariant.1) c.is_empty.ensures)

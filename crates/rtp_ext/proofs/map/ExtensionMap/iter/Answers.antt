@@ -9,11 +9,11 @@ use Rattle.rtp_ext.proofs.map.ExtensionMap.iter.Goals as goal
 
 pub new-requires : goal.new-requires
 new-requires c =
-    subst (AllByRecursion (IsMapped c.self.inside.slots)) (sym (c.as_slice.ensures ∙ c.self.invariant.1)) (all_mapped c.self.inside.slots)
+    subst (AllByRecursion (IsMapped c.self.inside.slots)) (sym (c.as_slice.ensures.ids ∙ c.self.invariant.1)) (all_mapped c.self.inside.slots)
 
 items : (c : goal.After-new) → c.new.result ≡ items_from 0 c.args.self.now
 items c =
-    c.new.ensures ∙ ap (items_at c.self.inside.slots) (c.as_slice.ensures ∙ c.self.invariant.1)
+    c.new.ensures ∙ ap (items_at c.self.inside.slots) (c.as_slice.ensures.ids ∙ c.self.invariant.1)
     ∙ (items_at-mapped c.self.inside.slots ∙ ap (items_from 0) c.self.view_is)
 
 pub returns-clause-items : goal.returns-clause-items
