@@ -1,8 +1,6 @@
 -- A walk over the mapped ids, by a cursor.
-use Rattle.std.proofs.Common.{◌≡◌, ℕ, ◌+◌, suc, zero, List, [], ◌∷◌, drop, get_or, Some, None, arith, ap, refl, sym, ◌∙◌, subst}
-use Rattle.std.specs.Option.{option_map}
-use Rattle.std.specs.List.{AllByRecursion, cons_option}
-use Rattle.rtp_values.specs.declared.kind.Extension.{Extension}
+use Rattle.std.proofs.Common.{◌≡◌, ℕ, suc, zero, List, [], ◌∷◌, drop, get_or, None, ap, refl, ◌∙◌, subst}
+use Rattle.std.specs.List.{AllByRecursion}
 use Rattle.rtp_ext.specs.ExtensionMap.{Slots, extension_at, extension_of, items_from}
 use Rattle.rtp_ext.specs.KindsById.{known_slots}
 use Rattle.rtp_ext.specs.Elements.{Element, elements_bytes}
@@ -18,17 +16,6 @@ use Rattle.rtp_ext.specs.MapSlots.{items_at, IsMapped}
 use Rattle.rtp_ext.proofs.KindsByIdLemmas.{AreValues-known}
 
 -- ---- by a list of the mapped ids
-
--- the next one: the id at a place, or 0 after the last one, which is mapped to nothing
-pub items_at-next : (slots : Slots) (ids : List ℕ) (at : ℕ) (extension : Extension) → extension_at slots (get_or ids at 0) ≡ Some extension
-    → items_at slots (drop at ids) ≡ (get_or ids at 0, extension) ∷ items_at slots (drop (at + 1) ids)
-items_at-next slots [] at extension mapped = cc
-items_at-next slots (first ∷ ids) zero extension mapped =
-    ap (λ found. cons_option (option_map (λ (e : Extension). (first, e)) found) (items_at slots ids)) mapped
-items_at-next slots (first ∷ ids) (suc at) extension mapped =
-    let index : suc at + 1 ≡ suc (at + 1) = omega arith in
-    items_at-next slots ids at extension mapped
-    ∙ ap (λ (n : ℕ). (get_or ids at 0, extension) ∷ items_at slots (drop n (first ∷ ids))) (sym index)
 
 -- none is left
 pub items_at-ended : (slots : Slots) (ids : List ℕ) (at : ℕ) → AllByRecursion (IsMapped slots) ids → extension_at slots (get_or ids at 0) ≡ None

@@ -19,11 +19,6 @@ use Rattle.rtp_ext.proofs.FormLemmas.{Item, element_of, elements_of}
 
 -- ---- whether one of some items passes a test
 
--- the next one decides, or is passed
-pub any-next : (passes : Item → Bool) (items more : List Item) (item : Item) (holds : Bool) → items ≡ item ∷ more → holds ≡ passes item
-    → list_any passes items ≡ (holds || list_any passes more)
-any-next passes items more item holds split is = ap (list_any passes) split ∙ ap (λ (b : Bool). b || list_any passes more) (sym is)
-
 or_in_parts : (a b c x y : Bool) → ((a || (b || c)) || (x || y)) ≡ (((a || b) || x) || (c || y))
 or_in_parts true b c x y = refl
 or_in_parts false true c x y = refl

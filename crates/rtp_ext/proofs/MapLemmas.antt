@@ -44,13 +44,6 @@ pub entry_at-other : (slots new : Slots) (index id : ℕ) → index + 1 ≡ id
 entry_at-other slots new index id is same zero other = refl
 entry_at-other slots new index id is same (suc j) other = same j (λ here. other (omega arith))
 
--- one index is set
-pub Sets-set : (slots : Slots) (k id : ℕ) (entry : Entry) → k + 1 ≡ id → k < length slots → Sets slots (set slots k (Some entry)) id entry
-Sets-set slots k id entry is here = record {
-  this = entry_at-slot _ k id is ∙ get_or-set_same slots k (Some entry) None here;
-  others = entry_at-other slots (set slots k (Some entry)) k id is (λ j other. get_or-set_other slots k j (Some entry) None other);
-}
-
 -- the number with two exchanged
 exchanged : ℕ → ℕ → ℕ → ℕ
 exchanged a b n = if n == a then b else if n == b then a else n
@@ -171,9 +164,6 @@ lock-of (Some entry) extension is = ap (option_map locked) is
 pub record IsStep (old new : Slots) (id : ℕ) (extension : Extension) : Type 0 where
   pub step : Remaps old id extension new
   pub renumbered : IsRenumbered old new
-
-pub IsStep-same : (old : Slots) (id : ℕ) (extension : Extension) → Remaps old id extension old → IsStep old old id extension
-IsStep-same old id extension step = record { step = step; renumbered = IsRenumbered-same old old refl }
 
 -- the entry of the first index is locked, and exchanged with what stands in the index of the id
 pub IsStep-exchanged : (old new : Slots) (from to id : ℕ) (extension : Extension) → length old ≡ MAX_ID → to + 1 ≡ id → to < MAX_ID

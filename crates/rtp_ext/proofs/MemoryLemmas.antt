@@ -31,6 +31,3 @@ IsStopped-at exts all done n element kind old between new done-is within here ma
 pub OnErr-from : {T E : Type 0} (r : Result T E) (P : Type 0) → P → OnErr r P
 OnErr-from (Ok x) P p = tt
 OnErr-from (Err e) P p = p
-
-pub OnErr-at : {T E : Type 0} {r : Result T E} {e : E} {P : Type 0} → r ≡ Err e → OnErr r P → P
-OnErr-at {P = P} is told = subst (λ s. OnErr s P) is told

@@ -1,5 +1,5 @@
 -- Elements that are written one after the other.
-use Rattle.std.proofs.Common.{◌≡◌, ◌↔◌, ℕ, ◌+◌, ◌-◌, ◌≤◌, ◌<◌, Option, Some, None, List, [], ◌∷◌, ◌++◌, length, map, take, drop, replicate, get_or, refl, sym, ap, ◌∙◌, subst, arith, length-append, take_at}
+use Rattle.std.proofs.Common.{◌≡◌, ◌↔◌, ℕ, ◌+◌, ◌-◌, ◌≤◌, ◌<◌, Option, Some, None, List, [], ◌∷◌, ◌++◌, length, map, take, drop, replicate, get_or, sym, ap, ◌∙◌, subst, arith, length-append, take_at}
 use Rattle.std.specs.Prelude.{IfSome, IfNone, SomeIff}
 use Rattle.std.specs.List.{AllByRecursion}
 use Rattle.std.proofs.lemmas.List.{drop_more, drop-map, drop_all}
@@ -17,12 +17,6 @@ use Rattle.rtp_ext.proofs.WrittenElementsLemmas.{AreElements-in_a_row}
 pub IsWritable-short : (form : ExtensionsForm) (element : Element) → IsWritable form element → length element.1 ≤ 255
 IsWritable-short OneByte element is = let few = is.1.2 in omega arith
 IsWritable-short TwoByte element is = is.1.2
-
--- what the header has to say in the one-byte form
-pub IsWritable-header : (form : ExtensionsForm) (element : Element) → IsWritable form element
-    → form ≡ OneByte → (element.0 ≤ 14) × (1 ≤ length element.1) × (length element.1 ≤ 16)
-IsWritable-header OneByte element is one = (is.1.0, is.1.1, is.1.2)
-IsWritable-header TwoByte element is one = cc
 
 all-elements : (form : ExtensionsForm) (elements : List Element) → AllByRecursion (IsWritable form) elements → AllByRecursion (IsElement form) elements
 all-elements form [] all = tt
@@ -75,12 +69,6 @@ AreWritableIn-not form left more element room split none fit =
     ap (λ es. length (elements_bytes form es)) split ∙ length-append (element_bytes form element) (elements_bytes form more) in
     none (subst (AllByRecursion (IsWritable form)) split fit.writable).0 (omega (arith, fit.bytes_fit, long))
 
-pub AreWritableIn-end : (form : ExtensionsForm) (left : List Element) (room : ℕ) → left ≡ [] → AreWritableIn form left room
-AreWritableIn-end form left room none = record {
-  writable = subst (AllByRecursion (IsWritable form)) (sym none) tt;
-  bytes_fit = rw none (omega arith);
-}
-
 -- ---- the bytes
 
 -- the elements before the offset are written, and with those that are left they are all
@@ -90,10 +78,6 @@ pub record AreUnderWay (form : ExtensionsForm) (old buf : List ℕ) (elements le
   pub long : length buf ≡ length old
   pub fit : AreWritableIn form elements (length old)
   pub writable : AllByRecursion (IsWritable form) left
-
-pub AreUnderWay-start : (form : ExtensionsForm) (old : List ℕ) (elements : List Element) → AreWritableIn form elements (length old)
-    → AreUnderWay form old old elements elements 0
-AreUnderWay-start form old elements fit = record { makes = refl; ends = omega arith; long = refl; fit = fit; writable = fit.writable }
 
 -- there is room for the next one
 pub AreUnderWay-room : (form : ExtensionsForm) (old buf : List ℕ) (elements left more : List Element) (element : Element) (at : ℕ)

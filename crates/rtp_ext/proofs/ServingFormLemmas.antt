@@ -95,9 +95,6 @@ pub record AreCounted (elements left : List Element) (form : ExtensionsForm) (ro
   pub writable : AllByRecursion (IsWritable TwoByte) left → AllByRecursion (IsWritable TwoByte) elements
   pub within : rest ≤ room
 
-pub AreCounted-start : (elements : List Element) (room : ℕ) → AreCounted elements elements OneByte room room
-AreCounted-start elements room = record { form_is = refl; bytes = refl; writable = λ all. all; within = omega arith }
-
 pub AreCounted-step : (elements left more : List Element) (element : Element) (form next : ExtensionsForm) (room rest rest' : ℕ) → left ≡ element ∷ more
     → IsWritable TwoByte element → next ≡ (if serves_one_byte element then form else TwoByte) → 1 + length element.1 ≤ rest → rest' ≡ rest - (1 + length element.1)
     → AreCounted elements left form room rest → AreCounted elements more next room rest'
