@@ -62,17 +62,11 @@ pub two_byte-cut : (id count : ℕ) (bytes : List ℕ) → length bytes < count 
 two_byte-cut id count bytes cut = rw (lt-leb count (length bytes) cut) refl
 
 -- what follows the padding begins with none
-pub length-without_padding : (bytes : List ℕ) → length (without_padding bytes) ≤ length bytes
+pub first_unpadded : (first : ℕ) (bytes rest after : List ℕ) → rest ≡ without_padding bytes → IsFirstAndRest rest first after → 1 ≤ first
 unfolding without_padding
-length-without_padding [] = omega arith
-length-without_padding (zero ∷ bytes) = omega (arith, length-without_padding bytes)
-length-without_padding (suc byte ∷ bytes) = omega arith
-
-pub without_padding-again : (bytes : List ℕ) → without_padding (without_padding bytes) ≡ without_padding bytes
-unfolding without_padding
-without_padding-again [] = refl
-without_padding-again (zero ∷ bytes) = without_padding-again bytes
-without_padding-again (suc byte ∷ bytes) = refl
+first_unpadded first [] rest after is begins = cc
+first_unpadded first (zero ∷ bytes) rest after is begins = first_unpadded first bytes rest after is begins
+first_unpadded first (suc byte ∷ bytes) rest after is begins = let same : first ≡ suc byte = cc in omega arith
 
 -- the padding as code passes it
 pub without_padding-none : (bytes : List ℕ) → length bytes ≡ 0 → without_padding bytes ≡ bytes

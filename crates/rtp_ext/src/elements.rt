@@ -70,32 +70,37 @@ impl<'a> Iterator for Elements<'a> {
 pub(super) fn first_element(bytes: &[u8], form: ExtensionsForm) -> Option<(u8, &[u8], &[u8])>
     ensures { IsFirstElement form bytes.now result }
 {
-    let mut rest = bytes;
-    let (first, after) = loop {
-        let (first, after) = rest.split_first()?;
-        if *first != 0 {
-            break (*first, after);
-        }
-        rest = skip_zeros(after);
-    };
+    let (first, after) = skip_padding(bytes).split_first()?;
     match form {
         ExtensionsForm::OneByte => {
-            if first >= 240 {
+            if *first >= 240 {
                 return None;
             }
-            let (data, left) = after.split_at_checked(usize::from(first % 16) + 1)?;
-            Some((first / 16, data, left))
+            let (data, left) = after.split_at_checked(usize::from(*first % 16) + 1)?;
+            Some((*first / 16, data, left))
         }
         ExtensionsForm::TwoByte => {
             let (len, after) = after.split_first()?;
             let (data, left) = after.split_at_checked(usize::from(*len))?;
-            Some((first, data, left))
+            Some((*first, data, left))
         }
     }
 }
 
-// The bytes after the zeros at their front. It stays out of line, since few elements have padding
-// before them.
+// The bytes after the padding at their front.
+fn skip_padding(bytes: &[u8]) -> &[u8]
+    ensures { result.now ≡ without_padding bytes.now }
+{
+    let Some((byte, after)) = bytes.split_first() else {
+        return bytes;
+    };
+    if *byte != 0 {
+        return bytes;
+    }
+    skip_zeros(after)
+}
+
+// The same after a zero. It stays out of line, since few elements have padding before them.
 #[inline(never)]
 fn skip_zeros(bytes: &[u8]) -> &[u8]
     ensures { result.now ≡ without_padding bytes.now }
