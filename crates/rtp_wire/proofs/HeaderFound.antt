@@ -1,15 +1,17 @@
 -- What `parse` finds of a header step by step, and that the bytes then are whole.
-use Rattle.std.proofs.Common.{◌≡◌, ℕ, ◌+◌, ◌*◌, ◌/◌, ◌%◌, ◌≤◌, true, false, List, length, drop, Option, Some, None, bit_and, nat_eq, refl, sym, ap, ◌∙◌, subst, arith, length-drop}
+use Rattle.std.proofs.Common.{◌≡◌, ℕ, ◌+◌, ◌*◌, ◌/◌, ◌%◌, ◌<◌, ◌≤◌, true, false, List, length, take, drop, Option, Some, None, bit_and, nat_eq, refl, sym, ap, ◌∙◌, subst, arith, length-drop}
 use Rattle.std.specs.Prelude.{slice_index, is_some}
 use Rattle.std.proofs.lemmas.Bool.{eq-eqb, ne_eqb}
 use Rattle.std.proofs.lemmas.Nat.Bits.{and_pow}
+use Rattle.rtp_ext.specs.Form.{IsFormWord}
 use Rattle.rtp_ext.specs.declared.form.ExtensionsForm.{ExtensionsForm}
 use Rattle.rtp_wire.specs.declared.packet.rtp_packet.RtpPacket.{RtpPacket}
 use Rattle.rtp_wire.specs.declared.packet.rtp_packet_mut.RtpPacketMut.{RtpPacketMut}
 use Rattle.rtp_wire.specs.Block.{word_at}
 use Rattle.rtp_wire.specs.NotAHeader.{sources_end}
 use Rattle.rtp_wire.specs.PartsAt.{form_of_word, has_block, form_in, header_end}
-use Rattle.rtp_wire.proofs.PacketLemmas.{IsWhole}
+use Rattle.rtp_wire.proofs.BlockLemmas.{header_word}
+use Rattle.rtp_wire.proofs.PacketLemmas.{IsWhole, form_of_word-is}
 
 -- X, by its mask
 x_clear : (byte : ℕ) → bit_and byte 16 ≡ 0 → nat_eq (byte / 16 % 2) 1 ≡ false
@@ -35,6 +37,18 @@ HasHeader-packet packet = record { fixed = packet.fixed; version = packet.versio
 pub HasHeader-packet_mut : (packet : RtpPacketMut) → HasHeader packet.datagram.now packet.header_len packet.form
 HasHeader-packet_mut packet = record { fixed = packet.fixed; version = packet.version; announced = packet.announced; known = packet.known; ends = packet.ends; within = packet.within }
 
+-- the same as a packet keeps it, with the range of its bytes
+pub kept_by_packet : (datagram : List ℕ) (len : ℕ) (form : Option ExtensionsForm) → HasHeader datagram len form → ((i : ℕ) → slice_index datagram i < 256) → record {
+  bytes : (i : ℕ) → slice_index datagram i < 256;
+  fixed : 12 ≤ length datagram;
+  version : slice_index datagram 0 / 64 ≡ 2;
+  announced : form ≡ form_in datagram;
+  known : is_some form ≡ has_block datagram;
+  ends : len ≡ header_end datagram;
+  within : len ≤ length datagram;
+}
+kept_by_packet datagram len form header fits = record { bytes = fits; fixed = header.fixed; version = header.version; announced = header.announced; known = header.known; ends = header.ends; within = header.within }
+
 pub IsWhole-header : (bytes : List ℕ) (len : ℕ) (form : Option ExtensionsForm) → HasHeader bytes len form → IsWhole bytes
 IsWhole-header bytes len form header = record {
   fixed = header.fixed;
@@ -59,16 +73,20 @@ HasHeader-plain bytes start long version start-is room clear =
       within = room;
     }
 
-pub HasHeader-extended : (bytes after : List ℕ) (start n : ℕ) (form : ExtensionsForm) → 12 ≤ length bytes → slice_index bytes 0 / 64 ≡ 2 → start ≡ sources_end bytes
-    → start ≤ length bytes → after ≡ drop start bytes → (bit_and (slice_index bytes 0) 16 ≡ 0 → ⊥) → form_of_word (word_at after 0) ≡ Some form → n ≡ 4 + 4 * word_at after 2
-    → n ≤ length after → HasHeader bytes (start + n) (Some form)
+pub HasHeader-extended : (bytes after header : List ℕ) (start words : ℕ) (form : ExtensionsForm) → 12 ≤ length bytes → slice_index bytes 0 / 64 ≡ 2 → start ≡ sources_end bytes
+    → start ≤ length bytes → after ≡ drop start bytes → (bit_and (slice_index bytes 0) 16 ≡ 0 → ⊥) → header ≡ take 4 after
+    → IsFormWord (slice_index header 0 * 256 + slice_index header 1) form → words ≡ slice_index header 2 * 256 + slice_index header 3 → 4 + 4 * words ≤ length after
+    → HasHeader bytes (start + 4 + 4 * words) (Some form)
 unfolding form_in header_end
-HasHeader-extended bytes after start n form long version start-is room after-is set form-is n-is fits =
+HasHeader-extended bytes after header start words form long version start-is room after-is set header-is form-is words-is fits =
     let x : has_block bytes ≡ true = eq-eqb (slice_index bytes 0 / 16 % 2) 1 (x_set (slice_index bytes 0) set) in
     let same : after ≡ drop (sources_end bytes) bytes = after-is ∙ ap (λ (k : ℕ). drop k bytes) start-is in
-    let announced : form_in bytes ≡ Some form = rw (x, ← same) form-is in
-    let ends : start + n ≡ header_end bytes = rw (x, ← same) (omega arith) in
-    let within : start + n ≤ length bytes = omega (arith, ap length after-is, length-drop start bytes) in
+    let word : form_of_word (word_at after 0) ≡ Some form =
+    form_of_word-is (word_at after 0) form (subst (λ (w : ℕ). IsFormWord w form) (header_word after header 0 header-is (omega arith)) form-is) in
+    let count : words ≡ word_at after 2 = words-is ∙ header_word after header 2 header-is (omega arith) in
+    let announced : form_in bytes ≡ Some form = rw (x, ← same) word in
+    let ends : start + 4 + 4 * words ≡ header_end bytes = rw (x, ← same) (omega arith) in
+    let within : start + 4 + 4 * words ≤ length bytes = omega (arith, ap length after-is, length-drop start bytes) in
     record {
       fixed = long;
       version = version;

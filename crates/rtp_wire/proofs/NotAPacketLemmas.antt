@@ -1,5 +1,5 @@
 -- The causes for which a datagram is no packet, and the first of them.
-use Rattle.std.proofs.Common.{◌≡◌, ℕ, ◌/◌, ◌%◌, ◌<◌, ◌≤◌, List, length, drop, arith}
+use Rattle.std.proofs.Common.{◌≡◌, ℕ, ◌/◌, ◌%◌, ◌<◌, ◌≤◌, true, List, length, drop, bit_and, refl, ap, ◌∙◌, arith}
 use Rattle.std.specs.Prelude.{slice_index}
 use Rattle.rtp_wire.specs.declared.packet.not_a_packet.NotAPacket.{NotAPacket}
 use Rattle.rtp_wire.specs.declared.packet.not_a_packet.NotAPacket.TheVariants.{CutFixedPart, OtherVersion, CutSources, CutBlockHeader, UnknownForm, CutBlock}
@@ -9,6 +9,7 @@ use Rattle.rtp_wire.specs.Block.{word_at}
 use Rattle.rtp_wire.specs.NotAHeader.{cut_header, unknown_form, cut_words, NotAHeader, cut_fixed, other_version, cut_sources, no_block, sources_end}
 use Rattle.rtp_wire.specs.NotAPacket.{AppliesToBlock, Applies, place_of, IsFirstOf, IsFirstCause}
 use Rattle.rtp_wire.specs.Packet.{PacketParts, IsPacket}
+use Rattle.rtp_wire.proofs.HeaderFound.{x_set}
 use Rattle.rtp_wire.proofs.PacketLemmas.{no_packet}
 
 -- bytes to which a cause applies begin with no header
@@ -47,14 +48,28 @@ applied-after bytes CutBlockHeader long version room applies = applies.1
 applied-after bytes UnknownForm long version room applies = applies.1
 applied-after bytes CutBlock long version room applies = applies.1
 
-pub IsFirstCause-block : (bytes : List ℕ) (cause : NotAPacket) → 12 ≤ length bytes → slice_index bytes 0 / 64 ≡ 2 → sources_end bytes ≤ length bytes
-    → slice_index bytes 0 / 16 % 2 ≡ 1 → IsFirstOf (AppliesToBlock (drop (sources_end bytes) bytes)) cause → IsFirstCause bytes cause
-IsFirstCause-block bytes cause long version room set is = record {
-  applies = applies-after bytes cause set is.applies;
-  none_before = λ earlier before applies. is.none_before earlier before (applied-after bytes earlier long version room applies);
-}
+pub IsFirstCause-block : (bytes after : List ℕ) (start : ℕ) (cause : NotAPacket) → 12 ≤ length bytes → slice_index bytes 0 / 64 ≡ 2 → start ≡ sources_end bytes → start ≤ length bytes
+    → after ≡ drop start bytes → (bit_and (slice_index bytes 0) 16 ≡ 0 → ⊥) → IsFirstOf (AppliesToBlock after) cause → IsFirstCause bytes cause
+IsFirstCause-block bytes after start cause long version start-is room after-is set is =
+    let same : after ≡ drop (sources_end bytes) bytes = after-is ∙ ap (λ (k : ℕ). drop k bytes) start-is in
+    let here = rw same at is in
+    record {
+      applies = applies-after bytes cause (x_set _ set) here.applies;
+      none_before = λ earlier before applies. here.none_before earlier before (applied-after bytes earlier long version (omega arith) applies);
+    }
 
--- the first cause in what is to be a block: its form is unknown, or its words are cut short
+-- the first cause in what is to be a block: its first four bytes are cut short, its form is unknown, or its words are cut short
+earlier_none : (bytes : List ℕ) (earlier : NotAPacket) → place_of earlier < 3 → AppliesToBlock bytes earlier → ⊥
+earlier_none bytes CutFixedPart before applies = applies
+earlier_none bytes OtherVersion before applies = applies
+earlier_none bytes CutSources before applies = applies
+earlier_none bytes CutBlockHeader before applies = omega arith
+earlier_none bytes UnknownForm before applies = omega arith
+earlier_none bytes CutBlock before applies = omega arith
+
+pub IsFirstOf-cut_header : (bytes : List ℕ) → length bytes < 4 → IsFirstOf (AppliesToBlock bytes) CutBlockHeader
+IsFirstOf-cut_header bytes short = record { applies = short; none_before = earlier_none bytes }
+
 pub IsFirstOf-unknown_form : (bytes : List ℕ) → 4 ≤ length bytes → AppliesToBlock bytes UnknownForm → IsFirstOf (AppliesToBlock bytes) UnknownForm
 IsFirstOf-unknown_form bytes long unknown = record { applies = unknown; none_before = none_before bytes long }
   where
@@ -76,3 +91,19 @@ IsFirstOf-cut_block bytes form long is short = record { applies = short; none_be
     none_before bytes form long is CutBlockHeader before applies = omega arith
     none_before bytes form long is UnknownForm before applies = applies form is
     none_before bytes form long is CutBlock before applies = omega arith
+
+-- what `parse` promises where it refuses the bytes for their first cause
+pub refusal : (datagram : List ℕ) (first : NotAPacket) → IsFirstCause datagram first → record {
+  found : Unit {0};
+  only : (parts : PacketParts) → IsPacket datagram parts → ⊥;
+  bytes : Unit {0};
+  cause : IsFirstCause datagram first;
+  refused : (true ≡ true → NotAHeader datagram) × (NotAHeader datagram → true ≡ true);
+}
+refusal datagram first is = record {
+  found = tt;
+  only = λ parts. no_packet datagram first parts is.applies;
+  bytes = tt;
+  cause = is;
+  refused = (λ _. NotAHeader-applies datagram first is.applies, λ _. refl);
+}

@@ -1,8 +1,7 @@
 //! From bytes to a header.
 
-ghost use Rattle.std.specs.Prelude.{◌↔◌, ◌≡◌, ◌≤◌, ◌++◌, length, drop, map, true, false, IsOk, IfOk, OnOk, OnErr, IfSome};
+ghost use Rattle.std.specs.Prelude.{◌↔◌, ◌≡◌, ◌≤◌, length, true, false, IsOk, IfOk, OnOk, OnErr, IfSome};
 ghost use Rattle.std.specs.Bool.{OnTrue};
-ghost use Rattle.std.specs.Int.{w32, from_be_bytes};
 ghost use Rattle.rtp_wire.specs.PacketElements.{HasValues};
 ghost use Rattle.rtp_wire.specs.RefusedMemory.{AreValuesStopped, BlockHasAllocation, HeaderHasAllocation, IsWireStopped};
 ghost use Rattle.rtp_wire.specs.NotAHeader.{NotAHeader};
@@ -125,9 +124,12 @@ impl<'a> RtpPacket<'a> {
         header.sequence_number = self.sequence_number();
         header.timestamp = self.timestamp();
         header.ssrc = self.ssrc();
-        header.csrc = [0; 15];
-        put_numbers(groups, &mut header.csrc);
         header.header_len = self.header_len();
+        let slots = &mut header.csrc;
+        *slots = [0; 15];
+        for (slot, group) in groups.iter().enumerate() {
+            slots[slot] = u32::from_be_bytes(*group);
+        }
     }
 
     /// Returns the header, with the values that the elements of the block give under the map. Where
@@ -183,17 +185,6 @@ impl<'a> RtpPacket<'a> {
         let mut values = ExtensionValues::default();
         self.read_values(alloc, exts, &mut values)?;
         Ok(values)
-    }
-}
-
-// Puts the number of each group into the slots from the first one on; those after them stay.
-fn put_numbers(groups: &[[u8; 4]], slots: &mut [u32; 15])
-    requires { length groups.now ≤ 15 }
-    ensures { slots.new
-        ≡ map (from_be_bytes w32) groups.now ++ drop (length groups.now) slots.old }
-{
-    for (slot, group) in groups.iter().enumerate() {
-        slots[slot] = u32::from_be_bytes(*group);
     }
 }
 

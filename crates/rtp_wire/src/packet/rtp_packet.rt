@@ -4,13 +4,12 @@ ghost use Rattle.std.specs.Prelude.{◌≡◌, ◌↔◌, ◌+◌, ◌*◌, ◌/
 ghost use Rattle.std.specs.Int.{w32, from_be_bytes};
 ghost use Rattle.std.specs.Option.{option_map};
 ghost use Rattle.rtp_ext.specs.Elements.{Element};
-ghost use Rattle.rtp_wire.specs.Block.{word_at};
 ghost use Rattle.rtp_wire.specs.NotAHeader.{NotAHeader};
-ghost use Rattle.rtp_wire.specs.NotAPacket.{AppliesToBlock, IsFirstOf, IsFirstCause};
+ghost use Rattle.rtp_wire.specs.NotAPacket.{IsFirstCause};
 ghost use Rattle.rtp_wire.specs.Packet.{PacketParts, IsPacket, IsWithoutPadding, header_len_of};
 ghost use Rattle.rtp_wire.specs.PacketElements.{AreElementsOf, IsLast};
 ghost use Rattle.rtp_wire.specs.Padding.{padding_count};
-ghost use Rattle.rtp_wire.specs.PartsAt.{form_in, form_of_word, has_block, header_end};
+ghost use Rattle.rtp_wire.specs.PartsAt.{form_in, has_block, header_end};
 
 use super::{Csrcs, NotAPacket};
 use crate::payload::unpad_payload;
@@ -68,13 +67,30 @@ impl<'a> RtpPacket<'a> {
             return Err(NotAPacket::CutSources);
         };
         if first & 0x10 == 0 {
-            return Ok(Self::new(datagram, start, None));
+            return Ok(RtpPacket {
+                datagram,
+                header_len: start,
+                form: None,
+            });
         }
-        let (form, block_len) = first_block(after)?;
-        Ok(Self::new(datagram, start + block_len, Some(form)))
+        let Some((header, after)) = after.split_first_chunk::<4>() else {
+            return Err(NotAPacket::CutBlockHeader);
+        };
+        let Some(form) = ExtensionsForm::parse([header[0], header[1]]) else {
+            return Err(NotAPacket::UnknownForm);
+        };
+        let body_len = 4 * usize::from(u16::from_be_bytes([header[2], header[3]]));
+        if after.len() < body_len {
+            return Err(NotAPacket::CutBlock);
+        }
+        Ok(RtpPacket {
+            datagram,
+            header_len: start + 4 + body_len,
+            form: Some(form),
+        })
     }
 
-    // The packet in the datagram, whose header ends here and whose block has this form.
+    // The packet in the bytes of a buffer, whose header ends here and whose block has this form.
     pub(super) fn new(datagram: &'a [u8], header_len: usize, form: Option<ExtensionsForm>) -> Self
         requires fixed { 12 ≤ length datagram.now }
         requires version { slice_index datagram.now 0 / 64 ≡ 2 }
@@ -261,24 +277,4 @@ pub(super) fn body_start(first: u8) -> usize
     ensures { result ≡ 16 + 4 * (first % 16) }
 {
     sources_end(first) + 4
-}
-
-// The form of the block at the front of the bytes, and its length.
-fn first_block(bytes: &[u8]) -> Result<(ExtensionsForm, usize), NotAPacket>
-    ensures form { IfOk result (λ block. form_of_word (word_at bytes.now 0) ≡ Some block.0) }
-    ensures length { IfOk result (λ block. block.1 ≡ 4 + 4 * word_at bytes.now 2) }
-    ensures within { IfOk result (λ block. block.1 ≤ length bytes.now) }
-    ensures cause { IfErr result (IsFirstOf (AppliesToBlock bytes.now)) }
-{
-    let Some((header, after)) = bytes.split_first_chunk::<4>() else {
-        return Err(NotAPacket::CutBlockHeader);
-    };
-    let Some(form) = ExtensionsForm::parse([header[0], header[1]]) else {
-        return Err(NotAPacket::UnknownForm);
-    };
-    let body_len = 4 * usize::from(u16::from_be_bytes([header[2], header[3]]));
-    if after.len() < body_len {
-        return Err(NotAPacket::CutBlock);
-    }
-    Ok((form, 4 + body_len))
 }
