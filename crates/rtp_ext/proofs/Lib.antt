@@ -9,6 +9,7 @@ mod PieceLemmas
 pub mod LastPlaceLemmas
 mod RenumberingLemmas
 pub mod NewIdLemmas
+mod RenamedIdLemmas
 pub mod MemoryLemmas
 mod MemoryFacts
 mod MapLemmas

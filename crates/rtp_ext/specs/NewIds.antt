@@ -1,9 +1,9 @@
 -- The ids that elements have under another map (RFC 8285, 5).
-use Rattle.std.specs.Prelude.{◌≡◌, ℕ, zero, suc, List, [], ◌∷◌, map, Option, Some, None, slice_index_or}
+use Rattle.std.specs.Prelude.{◌≡◌, ◌≢◌, ◌⊎◌, ℕ, zero, suc, List, [], ◌∷◌, map, Option, Some, None, slice_index_or}
 use Rattle.std.specs.Option.{unwrap_or}
 use Rattle.std.proofs.Common.{refl, ap}
 use Rattle.rtp_values.specs.declared.kind.Extension.{Extension}
-use Rattle.rtp_ext.specs.ExtensionMap.{Slots, extension_at, IsUnmapped, IsLowest}
+use Rattle.rtp_ext.specs.ExtensionMap.{Slots, IsId, extension_at, IsUnmapped, IsLowest}
 
 -- the new id that a table has for an id
 abbrev pub new_id : List (Option ℕ) → ℕ → Option ℕ
@@ -23,6 +23,18 @@ pub record CarriesExtensions (from to : Slots) (ids : List (Option ℕ)) : Type 
   pub mapped : (id : ℕ) (extension : Extension) → extension_at from id ≡ Some extension → IsNewId from to id (new_id ids id)
   pub others : (id new : ℕ) (extension : Extension) → new_id ids id ≡ Some new → extension_at to new ≡ Some extension
       → extension_at from id ≡ Some extension
+
+-- the new id of an id where elements of one extension become elements of another, by a map that has both: the lowest id of the other, and none for an id that was the other's; every other id keeps itself, as each does where the map lacks one of the two
+pub record IsRenamedId (map : Slots) (from to : Extension) (id : ℕ) (new : Option ℕ) : Type 0 where
+  pub renamed : (lowest : ℕ) → extension_at map id ≡ Some from → IsLowest map to lowest → new ≡ Some lowest
+  pub gone : (other : ℕ) → extension_at map id ≡ Some to → extension_at map other ≡ Some from → new ≡ None
+  pub others : extension_at map id ≢ Some from → extension_at map id ≢ Some to → new ≡ Some id
+  pub lacking : IsUnmapped map from ⊎ IsUnmapped map to → new ≡ Some id
+
+-- the table has the new id of each id, and none for a number that is none
+pub record AreRenamedIds (map : Slots) (from to : Extension) (ids : List (Option ℕ)) : Type 0 where
+  pub each : (id : ℕ) → IsId id → IsRenamedId map from to id (new_id ids id)
+  pub no_id : (id : ℕ) → (IsId id → ⊥) → new_id ids id ≡ None
 
 -- the new id that a byte of a table says, and none where it is 0, which is the id of no extension
 abbrev pub id_in_byte : ℕ → Option ℕ

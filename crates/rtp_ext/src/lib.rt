@@ -26,7 +26,9 @@ pub use iter::{Iter, IterByMediaType};
 pub use kinds::{Cursor, Kinds, is_long};
 pub use map::{ExtensionMap, MAX_ID};
 pub use new_ids::NewIds;
-pub use place::{Place, element_of, last_place, next_place, remove_element, renumber, set_element};
+pub use place::{
+    Place, can_renumber, element_of, last_place, next_place, remove_element, renumber, set_element,
+};
 pub use raw_writing::{put_elements, write_elements};
 pub use rtp_values::{
     AbsCaptureTime, Extension, ExtensionValues, KnownKind, Uri, VideoOrientation, VideoTiming,

@@ -1,14 +1,18 @@
 //! Which ids elements have under another map.
 
-ghost use Rattle.std.specs.Prelude.{◌≡◌, ◌↔◌, IsTrue, All, slice_index_or};
+ghost use Rattle.std.specs.Prelude.{◌≡◌, ◌≢◌, ◌≤◌, ◌⊎◌, ◌↔◌, ℕ, IsTrue, IfSome, IfNone, Some, All, slice_index_or};
+ghost use Rattle.rtp_values.specs.declared.kind.Extension.TheVariants.{RtpStreamId, RepairedRtpStreamId};
+ghost use Rattle.rtp_values.specs.KnownKind.{extension_of_kind};
 ghost use Rattle.rtp_ext.specs.declared.form.ExtensionsForm.TheVariants.{OneByte};
 ghost use Rattle.rtp_ext.specs.ElementReading.{elements_left};
 ghost use Rattle.rtp_ext.specs.ElementsInPlace.{CanRenumber};
-ghost use Rattle.rtp_ext.specs.NewIds.{new_id, AreNewIds, CarriesExtensions, id_in_byte, ids_in_bytes};
+ghost use Rattle.rtp_ext.specs.ExtensionMap.{IsLowest, IsUnmapped, extension_at};
+ghost use Rattle.rtp_ext.specs.NewIds.{new_id, AreNewIds, CarriesExtensions, AreRenamedIds, id_in_byte, ids_in_bytes};
 ghost use Rattle.rtp_ext.specs.IdChanges.{carries_id};
 
 use super::kinds::Kinds;
 use super::{Elements, ExtensionsForm, MAX_ID, MAX_ID_ONE_BYTE_FORM};
+use rtp_values::KnownKind;
 use std::marker::Model;
 
 // How many ids an element can have, with 0.
@@ -47,6 +51,56 @@ fn fits_one_byte_form(byte: u8) -> bool
     byte <= MAX_ID_ONE_BYTE_FORM
 }
 
+// The lowest id that is mapped to the kind.
+fn lowest_id<K: Kinds>(exts: &K, kind: KnownKind) -> Option<u8>
+    ensures lowest { IfSome result (IsLowest (K.slots exts.now) (extension_of_kind kind)) }
+    ensures some_id { IfSome result (λ id. 1 ≤ id) }
+    ensures none { IfNone result (IsUnmapped (K.slots exts.now) (extension_of_kind kind)) }
+{
+    let mut cursor = exts.start();
+    while let Some((id, found)) = exts.next(&mut cursor) {
+        if found == kind {
+            return Some(id);
+        }
+    }
+    None
+}
+
+// The lowest id of the second kind, where both are mapped.
+fn lowest_beside<K: Kinds>(exts: &K, from: KnownKind, to: KnownKind) -> Option<u8>
+    ensures lowest { IfSome result (IsLowest (K.slots exts.now) (extension_of_kind to)) }
+    ensures some_id { IfSome result (λ id. 1 ≤ id) }
+    ensures beside { IfSome result (λ _. (other : ℕ) ×
+        (extension_at (K.slots exts.now) other ≡ Some (extension_of_kind from))) }
+    ensures none { IfNone result (IsUnmapped (K.slots exts.now) (extension_of_kind from)
+        ⊎ IsUnmapped (K.slots exts.now) (extension_of_kind to)) }
+{
+    lowest_id(exts, from)?;
+    lowest_id(exts, to)
+}
+
+// What stands in the table for an id of this kind, where elements of one kind get the lowest id of
+// another, if both are mapped.
+fn renamed(
+    id: u8,
+    kind: Option<KnownKind>,
+    from: KnownKind,
+    to: KnownKind,
+    lowest: Option<u8>,
+) -> u8
+    requires { from ≢ to }
+    ensures renamed { kind ≡ Some from → IfSome lowest (λ new. result ≡ new) }
+    ensures gone { kind ≡ Some to → IfSome lowest (λ _. result ≡ 0) }
+    ensures others { kind ≢ Some from → kind ≢ Some to → result ≡ id }
+    ensures lacking { IfNone lowest (result ≡ id) }
+{
+    match (lowest, kind) {
+        (Some(lowest), Some(kind)) if kind == from => lowest,
+        (Some(_), Some(kind)) if kind == to => 0,
+        _ => id,
+    }
+}
+
 impl NewIds {
     /// For each id that `from` maps to an extension that `to` maps as well, the lowest id that `to`
     /// has for it (RFC 8285, 5). Every other id has no new one. Takes no memory.
@@ -57,6 +111,43 @@ impl NewIds {
         let mut ids = [0; IDS];
         for (id, new) in ids.iter_mut().enumerate() {
             *new = from.id_under(to, id as u8).unwrap_or(0);
+        }
+        NewIds { ids }
+    }
+
+    /// The ids that elements get where a packet becomes a retransmission (RFC 4588, 4; RFC 8852, 3):
+    /// the element of an RTP stream id becomes that of a repaired RTP stream id, and one that was
+    /// there before goes. So where the map has both, each id of the first becomes the lowest of the
+    /// second, and the ids of the second have no new one. Every other id keeps itself, also one that
+    /// is mapped to nothing; so does each where the map hasn't both. Takes no memory.
+    ///
+    /// With 10 mapped to the RTP stream id and 11 to the repaired one, 10 becomes 11, 11 has no new
+    /// id, and 4 stays 4.
+    pub fn to_retransmission<K: Kinds>(exts: &K) -> Self
+        ensures { AreRenamedIds (K.slots exts.now) RtpStreamId RepairedRtpStreamId result }
+    {
+        Self::renaming(exts, KnownKind::RtpStreamId, KnownKind::RepairedRtpStreamId)
+    }
+
+    /// The ids that elements get on the way back, where a retransmission becomes the packet that it
+    /// repeats: as with [`to_retransmission`](Self::to_retransmission), but the element of a repaired
+    /// RTP stream id becomes that of an RTP stream id.
+    pub fn from_retransmission<K: Kinds>(exts: &K) -> Self
+        ensures { AreRenamedIds (K.slots exts.now) RepairedRtpStreamId RtpStreamId result }
+    {
+        Self::renaming(exts, KnownKind::RepairedRtpStreamId, KnownKind::RtpStreamId)
+    }
+
+    // The table in which the ids of one kind become the lowest id of another, where both are mapped.
+    fn renaming<K: Kinds>(exts: &K, from: KnownKind, to: KnownKind) -> Self
+        requires { from ≢ to }
+        ensures { AreRenamedIds (K.slots exts.now) (extension_of_kind from) (extension_of_kind to) result }
+    {
+        let lowest = lowest_beside(exts, from, to);
+        let mut ids = [0; IDS];
+        for (id, new) in ids.iter_mut().enumerate() {
+            let id = id as u8;
+            *new = renamed(id, exts.get(id), from, to, lowest);
         }
         NewIds { ids }
     }

@@ -204,6 +204,18 @@ pub fn remove_element(form: ExtensionsForm, body: &mut [u8], id: u8) -> bool
     change_ids(form, body, IdChange::AllBut(id))
 }
 
+/// Whether [`renumber`] can give the elements of a block's body their new ids: whether the form can
+/// carry the new id of each that has one (RFC 8285, 4.2 and 4.3).
+///
+/// The one-byte form can't where an element gets an id above
+/// [`MAX_ID_ONE_BYTE_FORM`](super::MAX_ID_ONE_BYTE_FORM), and the two-byte form always can.
+pub fn can_renumber(form: ExtensionsForm, body: &[u8], ids: &NewIds) -> bool
+    ensures { (elements : List Element) → AreElements form body.now elements →
+        IsTrue result ↔ All (CanRenumber form (new_id ids.now)) elements }
+{
+    ids.can_renumber(form, body)
+}
+
 /// Gives each element of a block's body its new id where it lies, and makes an element whose id has
 /// no new one padding; the data of elements and all other bytes stay (RFC 8285, 4.2 and 4.3).
 /// Returns `false`, and nothing changes, where the form can't carry the new id of an element: one

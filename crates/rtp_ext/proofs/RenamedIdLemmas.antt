@@ -1,0 +1,284 @@
+-- The lowest id of a kind, found on a walk, and the ids under which elements of one kind become elements of another.
+use Rattle.std.proofs.Common.{◌≡◌, ◌≢◌, ◌⊎◌, inl, inr, ℕ, zero, suc, ◌+◌, ◌<◌, ◌≤◌, List, [], ◌∷◌, length, get_or, set, map, replicate, Option, Some, None, IfSome, IfNone, All, arith, refl, sym, ap, ◌∙◌, subst, length-set}
+use Rattle.std.specs.Option.{option_map}
+use Rattle.std.specs.List.{Contains}
+use Rattle.std.proofs.lemmas.Bool.{cases_lt, cases_eq}
+use Rattle.std.proofs.lemmas.List.{get_or_past, get_or-set_same, get_or-set_other, length-map}
+use Rattle.std.proofs.lemmas.List.Elements.{All-head, All-tail, All-contains}
+use Rattle.std.proofs.lemmas.Option.{same_Some}
+use Rattle.rtp_values.specs.declared.kind.Extension.{Extension}
+use Rattle.rtp_values.specs.declared.kind.Extension.TheVariants.{AbsoluteSendTime, AbsoluteCaptureTime, AudioLevel, TransmissionTimeOffset, VideoOrientation, TransportSequenceNumber, PlayoutDelay, VideoContentType, VideoTiming, RtpStreamId, RepairedRtpStreamId, RtpMid, FrameMarking, ColorSpace, VideoLayersAllocation, UnknownUri}
+use Rattle.rtp_values.specs.declared.known_kind.KnownKind.{KnownKind}
+use Rattle.rtp_values.specs.declared.known_kind.KnownKind.TheVariants as known
+use Rattle.rtp_values.specs.Kind.{IsKnown}
+use Rattle.rtp_values.specs.KnownKind.{extension_of_kind}
+use Rattle.rtp_values.proofs.KindLemmas.{one_kind}
+use Rattle.rtp_ext.specs.ExtensionMap.{Slots, IsId, IsLowest, IsUnmapped, IsRising, extension_at, items_from}
+use Rattle.rtp_ext.specs.KindsById.{known_slots}
+use Rattle.rtp_ext.specs.NewIds.{new_id, IsRenamedId, AreRenamedIds, id_in_byte}
+use Rattle.rtp_ext.proofs.KindsByIdLemmas.{known_slots-keep, known_slots-back}
+use Rattle.rtp_ext.proofs.ListingLemmas.{IsListing-from_slots, above_passed}
+use Rattle.rtp_ext.proofs.NewIdLemmas.{new_id-byte}
+
+-- ---- the kinds by themselves
+
+back : Extension → Option KnownKind
+back AbsoluteSendTime = Some known.AbsoluteSendTime
+back AbsoluteCaptureTime = Some known.AbsoluteCaptureTime
+back AudioLevel = Some known.AudioLevel
+back TransmissionTimeOffset = Some known.TransmissionTimeOffset
+back VideoOrientation = Some known.VideoOrientation
+back TransportSequenceNumber = Some known.TransportSequenceNumber
+back PlayoutDelay = Some known.PlayoutDelay
+back VideoContentType = Some known.VideoContentType
+back VideoTiming = Some known.VideoTiming
+back RtpStreamId = Some known.RtpStreamId
+back RepairedRtpStreamId = Some known.RepairedRtpStreamId
+back RtpMid = Some known.RtpMid
+back FrameMarking = Some known.FrameMarking
+back ColorSpace = Some known.ColorSpace
+back VideoLayersAllocation = Some known.VideoLayersAllocation
+back (UnknownUri uri) = None
+
+-- the extension of a known kind is known, and tells the kind
+known_back : (kind : KnownKind) → IsKnown (extension_of_kind kind) × (back (extension_of_kind kind) ≡ Some kind)
+unfolding back
+known_back known.AbsoluteSendTime = (tt, refl)
+known_back known.AbsoluteCaptureTime = (tt, refl)
+known_back known.AudioLevel = (tt, refl)
+known_back known.TransmissionTimeOffset = (tt, refl)
+known_back known.VideoOrientation = (tt, refl)
+known_back known.TransportSequenceNumber = (tt, refl)
+known_back known.PlayoutDelay = (tt, refl)
+known_back known.VideoContentType = (tt, refl)
+known_back known.VideoTiming = (tt, refl)
+known_back known.RtpStreamId = (tt, refl)
+known_back known.RepairedRtpStreamId = (tt, refl)
+known_back known.RtpMid = (tt, refl)
+known_back known.FrameMarking = (tt, refl)
+known_back known.ColorSpace = (tt, refl)
+known_back known.VideoLayersAllocation = (tt, refl)
+
+pub same_kind : (a b : KnownKind) → extension_of_kind a ≡ extension_of_kind b → a ≡ b
+same_kind a b same = same_Some _ _ (sym (known_back a).1 ∙ ap back same ∙ (known_back b).1)
+
+kind_found : (found : Option KnownKind) (kind : KnownKind) → option_map extension_of_kind found ≡ Some (extension_of_kind kind) → found ≡ Some kind
+kind_found None kind is = cc
+kind_found (Some found) kind is = ap Some (same_kind found kind (one_kind is))
+
+-- ---- the lowest id
+
+-- the mapped ids that a walk has not passed: each of this kind is among them
+pub record AreLeft (exts : Slots) (kind : Extension) (left : List (ℕ × Extension)) : Type 0 where
+  pub rising : IsRising left
+  pub mapped : All (λ item. extension_at exts item.0 ≡ Some item.1) left
+  pub ids : All (λ item. 0 < item.0) left
+  pub all : (id : ℕ) → extension_at exts id ≡ Some kind → Contains left (id, kind)
+
+pub AreLeft-start : (exts : Slots) (kind : Extension) (left : List (ℕ × Extension)) → left ≡ items_from 0 exts → AreLeft exts kind left
+AreLeft-start exts kind left is =
+    let listing = IsListing-from_slots exts in
+    subst (AreLeft exts kind) (sym is) (record {
+      rising = listing.rising;
+      mapped = λ k d here. (listing.mapped k d here).0;
+      ids = above_passed 0 exts;
+      all = λ id mapped. listing.all id kind mapped refl;
+    })
+
+later : (item : ℕ × Extension) (left : List (ℕ × Extension)) (id : ℕ) (kind : Extension) → Contains (item ∷ left) (id, kind)
+    → (item ≡ (id, kind)) ⊎ Contains left (id, kind)
+later item left id kind (zero, here, is) = inl is
+later item left id kind (suc k, here, is) = inr (k, omega arith, is)
+
+pub AreLeft-next : (exts : Slots) (kind : Extension) (left more : List (ℕ × Extension)) (item : ℕ × Extension) → AreLeft exts kind left → left ≡ item ∷ more
+    → item.1 ≢ kind → AreLeft exts kind more
+AreLeft-next exts kind left more item are is other =
+    let whole = subst (AreLeft exts kind) is are in
+    record {
+      rising = whole.rising.1;
+      mapped = All-tail (λ i. extension_at exts i.0 ≡ Some i.1) item more whole.mapped;
+      ids = All-tail (λ i. 0 < i.0) item more whole.ids;
+      all = λ id mapped. elim (later item more id kind (whole.all id mapped)) [
+        | inl this ↦ absurd (other (ap (λ (i : ℕ × Extension). i.1) this))
+        | inr rest ↦ rest
+      ];
+    }
+
+pub IsLowest-left : (exts : Slots) (kind : Extension) (left more : List (ℕ × Extension)) (item : ℕ × Extension) → AreLeft exts kind left → left ≡ item ∷ more
+    → item.1 ≡ kind → IsLowest exts kind item.0 × (0 < item.0)
+IsLowest-left exts kind left more item are is this =
+    let whole = subst (AreLeft exts kind) is are in (
+      record {
+        mapped = All-head (λ i. extension_at exts i.0 ≡ Some i.1) item more whole.mapped ∙ ap Some this;
+        lowest = λ k below mapped. elim (later item more k kind (whole.all k mapped)) [
+          | inl same ↦ let number = ap (λ (i : ℕ × Extension). i.0) same in omega arith
+          | inr rest ↦ let above = All-contains (λ i. item.0 < i.0) more (k, kind) whole.rising.0 rest in omega arith
+        ];
+      },
+      All-head (λ i. 0 < i.0) item more whole.ids,
+    )
+
+pub IsUnmapped-left : (exts : Slots) (kind : Extension) (left : List (ℕ × Extension)) → AreLeft exts kind left → left ≡ [] → IsUnmapped exts kind
+IsUnmapped-left exts kind left are is = λ id mapped.
+    let found = subst (λ (items : List (ℕ × Extension)). Contains items (id, kind)) is (are.all id mapped) in
+    let within = found.1 in
+    omega arith
+
+-- the same of all extensions of the map
+pub IsLowest-known : (exts slots : Slots) (kind : KnownKind) (id : ℕ) → slots ≡ known_slots exts → IsLowest slots (extension_of_kind kind) id
+    → IsLowest exts (extension_of_kind kind) id
+IsLowest-known exts slots kind id is lowest =
+    let lowest' = subst (λ (s : Slots). IsLowest s (extension_of_kind kind) id) is lowest in
+    record {
+      mapped = known_slots-back exts id (extension_of_kind kind) lowest'.mapped;
+      lowest = λ k below mapped. lowest'.lowest k below (known_slots-keep exts k (extension_of_kind kind) (known_back kind).0 mapped);
+    }
+
+pub IsUnmapped-known : (exts slots : Slots) (kind : KnownKind) → slots ≡ known_slots exts → IsUnmapped slots (extension_of_kind kind) → IsUnmapped exts (extension_of_kind kind)
+IsUnmapped-known exts slots kind is none = λ id mapped.
+    subst (λ (s : Slots). IsUnmapped s (extension_of_kind kind)) is none id (known_slots-keep exts id (extension_of_kind kind) (known_back kind).0 mapped)
+
+-- ---- the table
+
+-- what is known of the lowest id of one kind beside another kind
+pub record IsBeside (exts : Slots) (from to : Extension) (lowest : Option ℕ) : Type 0 where
+  pub found : IfSome lowest (IsLowest exts to)
+  pub some_id : IfSome lowest (λ id. 0 < id)
+  pub beside : IfSome lowest (λ _. (other : ℕ) × (extension_at exts other ≡ Some from))
+  pub none : IfNone lowest (IsUnmapped exts from ⊎ IsUnmapped exts to)
+
+-- what stands in the table for an id of this kind
+pub record IsRenamedByte (from to : KnownKind) (lowest : Option ℕ) (kind : Option KnownKind) (id byte : ℕ) : Type 0 where
+  pub renamed : kind ≡ Some from → IfSome lowest (λ new. byte ≡ new)
+  pub gone : kind ≡ Some to → IfSome lowest (λ _. byte ≡ 0)
+  pub others : kind ≢ Some from → kind ≢ Some to → byte ≡ id
+  pub lacking : IfNone lowest (byte ≡ id)
+
+-- the kind that is read at an id
+abbrev IsRead : Slots → ℕ → Option KnownKind → Type 0
+IsRead slots id kind = option_map extension_of_kind kind ≡ extension_at slots id
+
+kind_here : (exts slots : Slots) (id : ℕ) (found : Option KnownKind) (kind : KnownKind) → slots ≡ known_slots exts → IsRead slots id found
+    → extension_at exts id ≡ Some (extension_of_kind kind) → found ≡ Some kind
+kind_here exts slots id found kind is read mapped =
+    kind_found found kind (read ∙ ap (λ (s : Slots). extension_at s id) is ∙ known_slots-keep exts id (extension_of_kind kind) (known_back kind).0 mapped)
+
+no_kind_here : (exts slots : Slots) (id : ℕ) (found : Option KnownKind) (kind : KnownKind) → slots ≡ known_slots exts → IsRead slots id found
+    → extension_at exts id ≢ Some (extension_of_kind kind) → found ≢ Some kind
+no_kind_here exts slots id found kind is read other = λ same.
+    other (known_slots-back exts id (extension_of_kind kind)
+    (sym (read ∙ ap (λ (s : Slots). extension_at s id) is) ∙ ap (option_map extension_of_kind) same))
+
+in_byte : (byte : ℕ) → 0 < byte → id_in_byte byte ≡ Some byte
+in_byte zero above = absurd (omega arith)
+in_byte (suc k) above = refl
+
+same_lowest : (exts : Slots) (kind : Extension) (a b : ℕ) → IsLowest exts kind a → IsLowest exts kind b → a ≡ b
+same_lowest exts kind a b first second = elim (cases_lt a b) [
+  | inl below ↦ absurd (second.lowest a below first.mapped)
+  | inr above ↦ elim (cases_lt b a) [
+    | inl below ↦ absurd (first.lowest b below second.mapped)
+    | inr equal ↦ omega arith
+  ]
+]
+
+IsRenamedId-byte : (exts slots : Slots) (from to : KnownKind) (lowest : Option ℕ) (kind : Option KnownKind) (id byte : ℕ) → slots ≡ known_slots exts → 0 < id
+    → IsBeside exts (extension_of_kind from) (extension_of_kind to) lowest → IsRead slots id kind → IsRenamedByte from to lowest kind id byte
+    → IsRenamedId exts (extension_of_kind from) (extension_of_kind to) id (id_in_byte byte)
+IsRenamedId-byte exts slots from to None kind id byte is above beside read are =
+    let itself : id_in_byte byte ≡ Some id = ap id_in_byte are.lacking ∙ in_byte id above in
+    record {
+      renamed = λ new mapped lowest. elim beside.none [
+        | inl no_from ↦ absurd (no_from id mapped)
+        | inr no_to ↦ absurd (no_to new lowest.mapped)
+      ];
+      gone = λ other mapped there. elim beside.none [
+        | inl no_from ↦ absurd (no_from other there)
+        | inr no_to ↦ absurd (no_to id mapped)
+      ];
+      others = λ no_from no_to. itself;
+      lacking = λ none. itself;
+    }
+IsRenamedId-byte exts slots from to (Some lowest) kind id byte is above beside read are = record {
+  renamed = λ new mapped is_lowest.
+      ap id_in_byte (are.renamed (kind_here exts slots id kind from is read mapped)) ∙ in_byte lowest beside.some_id
+      ∙ ap Some (same_lowest exts (extension_of_kind to) lowest new beside.found is_lowest);
+  gone = λ other mapped there. ap id_in_byte (are.gone (kind_here exts slots id kind to is read mapped));
+  others = λ no_from no_to.
+      ap id_in_byte (are.others (no_kind_here exts slots id kind from is read no_from) (no_kind_here exts slots id kind to is read no_to)) ∙ in_byte id above;
+  lacking = λ none. elim none [
+    | inl no_from ↦ absurd (no_from beside.beside.0 beside.beside.1)
+    | inr no_to ↦ absurd (no_to lowest beside.found.mapped)
+  ];
+}
+
+-- the ids below an id have their new ids in a table of bytes
+pub record HasRenamedTo (exts : Slots) (from to : Extension) (bytes : List ℕ) (passed : ℕ) : Type 0 where
+  pub long : length bytes ≡ 256
+  pub each : (id : ℕ) → 0 < id → id < passed → IsRenamedId exts from to id (id_in_byte (get_or bytes id 0))
+  pub first : 0 < passed → get_or bytes 0 0 ≡ 0
+  pub bytes_fit : (id : ℕ) → get_or bytes id 0 < 256
+
+pub HasRenamedTo-start : (exts : Slots) (from to : Extension) (bytes : List ℕ) → length bytes ≡ 256 → ((id : ℕ) → get_or bytes id 0 < 256)
+    → HasRenamedTo exts from to bytes 0
+HasRenamedTo-start exts from to bytes long fit = record {
+  long = long;
+  each = λ id above below. absurd (omega arith);
+  first = λ below. absurd (omega arith);
+  bytes_fit = fit;
+}
+
+pub zeros_fit : (n id : ℕ) → get_or (replicate n 0) id 0 < 256
+zeros_fit zero id = omega arith
+zeros_fit (suc n) zero = omega arith
+zeros_fit (suc n) (suc id) = zeros_fit n id
+
+no_kind_at_0 : (slots : Slots) (kind : Option KnownKind) (any : KnownKind) → IsRead slots 0 kind → kind ≢ Some any
+no_kind_at_0 slots kind any read = λ same. let none = sym read ∙ ap (option_map extension_of_kind) same in cc
+
+pub HasRenamedTo-next : (exts slots : Slots) (from to : KnownKind) (lowest : Option ℕ) (kind : Option KnownKind) (bytes : List ℕ) (passed byte : ℕ)
+    → slots ≡ known_slots exts → passed < 256 → byte < 256
+    → IsBeside exts (extension_of_kind from) (extension_of_kind to) lowest → IsRead slots passed kind → IsRenamedByte from to lowest kind passed byte
+    → HasRenamedTo exts (extension_of_kind from) (extension_of_kind to) bytes passed
+    → HasRenamedTo exts (extension_of_kind from) (extension_of_kind to) (set bytes passed byte) (passed + 1)
+HasRenamedTo-next exts slots from to lowest kind bytes passed byte is within fits beside read are was =
+    let long = was.long in
+    let same : get_or (set bytes passed byte) passed 0 ≡ byte = get_or-set_same bytes passed byte 0 (omega arith) in
+    record {
+      long = length-set bytes passed byte ∙ was.long;
+      each = λ id above below. elim (cases_lt id passed) [
+        | inl earlier ↦
+            subst (λ (b : ℕ). IsRenamedId exts (extension_of_kind from) (extension_of_kind to) id (id_in_byte b))
+            (sym (get_or-set_other bytes passed id byte 0 (omega arith))) (was.each id above earlier)
+        | inr later ↦
+            let here : passed ≡ id = omega arith in
+            subst (λ (i : ℕ). IsRenamedId exts (extension_of_kind from) (extension_of_kind to) i (id_in_byte (get_or (set bytes passed byte) i 0))) here
+            (subst (λ (b : ℕ). IsRenamedId exts (extension_of_kind from) (extension_of_kind to) passed (id_in_byte b)) (sym same)
+            (IsRenamedId-byte exts slots from to lowest kind passed byte is (omega arith) beside read are))
+      ];
+      first = λ some. first passed (omega arith) read are same was.first;
+      bytes_fit = λ id. elim (cases_eq id passed) [
+        | inl here ↦ subst (λ (i : ℕ). get_or (set bytes passed byte) i 0 < 256) (sym here) (subst (λ (b : ℕ). b < 256) (sym same) fits)
+        | inr other ↦ subst (λ (b : ℕ). b < 256) (sym (get_or-set_other bytes passed id byte 0 other)) (was.bytes_fit id)
+      ];
+    }
+  where
+    first : (at : ℕ) → at ≡ passed → IsRead slots at kind → IsRenamedByte from to lowest kind at byte → get_or (set bytes passed byte) passed 0 ≡ byte
+        → (0 < at → get_or bytes 0 0 ≡ 0) → get_or (set bytes passed byte) 0 0 ≡ 0
+    first zero here read are same was =
+        ap (λ (i : ℕ). get_or (set bytes passed byte) i 0) here ∙ same ∙ are.others (no_kind_at_0 slots kind from read) (no_kind_at_0 slots kind to read)
+    first (suc k) here read are same was = get_or-set_other bytes passed 0 byte 0 (omega arith) ∙ was (omega arith)
+
+pub AreRenamedIds-table : (exts : Slots) (from to : Extension) (bytes : List ℕ) (passed : ℕ) → 256 ≤ passed → HasRenamedTo exts from to bytes passed
+    → AreRenamedIds exts from to (map id_in_byte bytes)
+AreRenamedIds-table exts from to bytes passed whole are = record {
+  each = λ id is. subst (IsRenamedId exts from to id) (sym (new_id-byte bytes id)) (are.each id (omega (arith, is.0)) (omega (arith, is.1)));
+  no_id = none;
+}
+  where
+    none : (id : ℕ) → (IsId id → ⊥) → new_id (map id_in_byte bytes) id ≡ None
+    none zero never = new_id-byte bytes 0 ∙ ap id_in_byte (are.first (omega arith))
+    none (suc k) never = elim (cases_lt (suc k) 256) [
+      | inl below ↦ absurd (never (omega arith, omega arith))
+      | inr above ↦ get_or_past (map id_in_byte bytes) (suc k) None (omega (arith, above, are.long, length-map bytes id_in_byte))
+    ]

@@ -1,0 +1,10 @@
+use Rattle.std.proofs.Common.{All, IsTrue, ◌↔◌, sym, subst}
+use Rattle.rtp_ext.specs.ElementsInPlace.{CanRenumber}
+use Rattle.rtp_ext.specs.NewIds.{new_id}
+use Rattle.rtp_ext.proofs.ElementLemmasOfBodies.{AreElements-only}
+use Rattle.rtp_ext.proofs.place.can_renumber.Goals as goal
+
+pub returns : goal.returns
+returns c = λ elements are.
+    subst (λ es. IsTrue c.can_renumber.result ↔ All (CanRenumber c.args.form (new_id c.args.ids.now)) es)
+    (sym (AreElements-only c.args.form c.args.body.now elements are)) c.can_renumber.ensures
