@@ -33,3 +33,4 @@ pub mod TrueNumberLemmas
 mod SendingLemmas
 pub mod SourceLemmas
 mod SourceFacts
+pub mod RetransmissionLemmas

@@ -149,7 +149,7 @@ module _ (old new : List ℕ) (flag : ℕ) (padding : Bool) (new-is : new ≡ ov
 -- ---- the packet without its padding
 
 -- the payload is what is before the padding, if there is any
-unpadded_front : (has_padding : Bool) (payload front : List ℕ) → IsWithoutPadding has_padding payload front → (padding : List ℕ) × (payload ≡ front ++ padding)
+pub unpadded_front : (has_padding : Bool) (payload front : List ℕ) → IsWithoutPadding has_padding payload front → (padding : List ℕ) × (payload ≡ front ++ padding)
 unpadded_front false payload front is = ([], sym is ∙ sym (append-nil front))
 unpadded_front true payload front is = (is.padding, is.in_order)
 

@@ -35,6 +35,7 @@ pub mod WrittenWith
 -- What follows the header.
 pub mod Padding
 pub mod OriginalNumber
+pub mod Retransmission
 -- Numbers over time.
 pub mod Widening
 pub mod Receiver
@@ -51,3 +52,4 @@ pub mod PartsAt
 pub mod WideState
 pub mod RestartingState
 pub mod EachSource
+pub mod RetransmissionParts

@@ -8,7 +8,10 @@ mod payload;
 mod receive;
 
 pub use header::RtpHeader;
-pub use packet::{Csrcs, Fields, NotAPacket, RtpPacket, RtpPacketMut, is_rtcp};
+pub use packet::{
+    Csrcs, Fields, NotAPacket, NotRetransmitted, OriginalFields, RetransmissionFields, RtpPacket,
+    RtpPacketMut, from_retransmission, is_rtcp, to_retransmission,
+};
 pub use payload::{
     MAX_BLANK_PADDING_PAYLOAD_SIZE, create_padding_packet, read_original_sequence_number,
     try_create_padding_packet, unpad_payload, write_original_sequence_number,

@@ -72,6 +72,8 @@ mod refused_texts;
 #[cfg(test)]
 mod renegotiations;
 #[cfg(test)]
+mod retransmissions;
+#[cfg(test)]
 mod runs;
 #[cfg(test)]
 mod sent_runs;

@@ -4,7 +4,9 @@ mod csrcs;
 mod fields;
 mod header_bytes;
 mod not_a_packet;
+mod not_retransmitted;
 mod padding;
+mod retransmission;
 mod rtcp;
 mod rtp_packet;
 mod rtp_packet_mut;
@@ -13,6 +15,10 @@ pub use csrcs::Csrcs;
 pub use fields::Fields;
 pub(crate) use fields::flag;
 pub use not_a_packet::NotAPacket;
+pub use not_retransmitted::NotRetransmitted;
+pub use retransmission::{
+    OriginalFields, RetransmissionFields, from_retransmission, to_retransmission,
+};
 pub use rtcp::is_rtcp;
 pub use rtp_packet::RtpPacket;
 pub use rtp_packet_mut::RtpPacketMut;
