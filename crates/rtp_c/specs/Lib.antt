@@ -10,6 +10,7 @@ pub mod StoredRestarting
 pub mod ElementView
 pub mod KindNumbers
 pub mod StoredMap
+pub mod Retransmission
 pub mod Told
 pub mod ValuesView
 pub mod LayersView

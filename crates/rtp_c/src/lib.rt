@@ -18,6 +18,7 @@ mod padding;
 mod payload;
 mod receiver;
 mod restarting;
+mod retransmission;
 mod rtcp;
 mod status;
 mod values;

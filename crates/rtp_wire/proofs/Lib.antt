@@ -33,4 +33,7 @@ pub mod TrueNumberLemmas
 mod SendingLemmas
 pub mod SourceLemmas
 mod SourceFacts
-pub mod RetransmissionLemmas
+mod RetransmissionBytes
+mod RetransmissionCauses
+mod RetransmissionHeaders
+mod RetransmissionLemmas

@@ -1,7 +1,7 @@
 use Rattle.std.proofs.Common.{arith, rules, ap, refl}
 use Rattle.rtp_ext.specs.NewIds.{new_id}
 use Rattle.rtp_wire.specs.Packet.{PacketParts}
-use Rattle.rtp_wire.proofs.RetransmissionLemmas.{parts-of_bytes, IsChangedHeader-made, carried-told, high-told, bytes_before}
+use Rattle.rtp_wire.proofs.RetransmissionHeaders.{parts-of_bytes, IsChangedHeader-made, carried-told, high-told, bytes_before}
 use Rattle.rtp_wire.proofs.packet.retransmission.change_header.Goals as goal
 
 pub returns-then-not-renumber-clause-high : goal.returns-then-not-renumber-clause-high

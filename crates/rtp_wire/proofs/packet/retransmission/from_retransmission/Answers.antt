@@ -1,11 +1,14 @@
-use Rattle.std.proofs.Common.{rules, ◌≡◌, ◌<◌, ◌≤◌, ◌-◌, ℕ, List, length, take, drop, inl, inr, Some, refl, sym, ap, subst, arith, length-take-le}
+use Rattle.std.proofs.Common.{rules, ◌≡◌, ◌≤◌, ◌-◌, ℕ, List, length, take, drop, inl, inr, Some, refl, sym, ap, subst, arith, length-take-le}
 use Rattle.std.proofs.lemmas.Bool.{false≢true, cases_lt}
 use Rattle.std.proofs.lemmas.Result.{err_from_is_err_and}
 use Rattle.rtp_ext.specs.NewIds.{new_id}
 use Rattle.rtp_wire.specs.declared.packet.fields.Fields.{Fields}
-use Rattle.rtp_wire.specs.declared.packet.not_retransmitted.NotRetransmitted.TheVariants.{NoOriginalNumber, NewIdTooHigh}
+use Rattle.rtp_wire.specs.declared.packet.not_retransmitted.NotRetransmitted.TheVariants.{NewIdTooHigh}
 use Rattle.rtp_wire.specs.OriginalNumber.{HasOriginalNumber}
-use Rattle.rtp_wire.proofs.RetransmissionLemmas.{HasHighId-whole, no_high_id-whole, lie_within, HasLayout-front, payload_part, restoring_unread, restoring_no_number, restoring_high, restoring_not_kept, fields-given, IsBack, restored_made, end_of, restored_back}
+use Rattle.rtp_wire.proofs.RetransmissionBytes.{lie_within, HasLayout-front, payload_part}
+use Rattle.rtp_wire.proofs.RetransmissionCauses.{HasHighId-whole, no_high_id-whole, restoring_unread, restoring_no_number, restoring_high, restoring_not_kept}
+use Rattle.rtp_wire.proofs.RetransmissionHeaders.{fields-given}
+use Rattle.rtp_wire.proofs.RetransmissionLemmas.{IsBack, restored_made, end_of, restored_back}
 use Rattle.rtp_wire.proofs.packet.retransmission.from_retransmission.Goals as goal
 use Rattle.rtp_wire.proofs.packet.retransmission.from_retransmission.Goals.{After-read_original_sequence_number, After-copy_within}
 

@@ -1,5 +1,5 @@
 use Rattle.std.proofs.Common.{arith, length-take-le, ◌≤◌, length}
-use Rattle.rtp_wire.proofs.RetransmissionLemmas.{end_fits}
+use Rattle.rtp_wire.proofs.RetransmissionBytes.{end_fits}
 use Rattle.rtp_wire.proofs.packet.retransmission.layout_of.Goals as goal
 
 pub overflow_add-result : goal.overflow_add-result

@@ -4,7 +4,10 @@ use Rattle.std.proofs.lemmas.Result.{err_from_is_err_and}
 use Rattle.rtp_ext.specs.NewIds.{new_id}
 use Rattle.rtp_wire.specs.declared.packet.fields.Fields.{Fields}
 use Rattle.rtp_wire.specs.declared.packet.not_retransmitted.NotRetransmitted.TheVariants.{NewIdTooHigh, NoRoom}
-use Rattle.rtp_wire.proofs.RetransmissionLemmas.{HasHighId-whole, no_high_id-whole, lie_within, HasLayout-front, sending_unread, sending_high, sending_no_room, sending_not_kept, fields-given, IsSent, sent_made, end_of}
+use Rattle.rtp_wire.proofs.RetransmissionBytes.{lie_within, HasLayout-front}
+use Rattle.rtp_wire.proofs.RetransmissionCauses.{HasHighId-whole, no_high_id-whole, sending_unread, sending_high, sending_no_room, sending_not_kept}
+use Rattle.rtp_wire.proofs.RetransmissionHeaders.{fields-given}
+use Rattle.rtp_wire.proofs.RetransmissionLemmas.{IsSent, sent_made, end_of}
 use Rattle.rtp_wire.proofs.packet.retransmission.to_retransmission.Goals as goal
 use Rattle.rtp_wire.proofs.packet.retransmission.to_retransmission.Goals.{After-put}
 
