@@ -17,3 +17,4 @@ mod JudgingLemmas
 mod StoredLemmas
 mod StoredWideLemmas
 mod RestartingLemmas
+mod RetransmissionLemmas

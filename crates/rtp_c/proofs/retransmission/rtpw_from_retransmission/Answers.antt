@@ -1,0 +1,19 @@
+use Rattle.std.proofs.Common.{ℕ, List, Option, refl, subst}
+use Rattle.rtp_ext.specs.NewIds.{new_id}
+use Rattle.rtp_wire.specs.declared.packet.not_retransmitted.NotRetransmitted.{NotRetransmitted}
+use Rattle.rtp_wire.specs.Retransmission.{KeepsFromRestoring}
+use Rattle.rtp_c.proofs.RetransmissionLemmas.{refused_not_ok}
+use Rattle.rtp_c.proofs.retransmission.rtpw_from_retransmission.Goals as goal
+
+pub returns-in-Err-clause-length : goal.returns-in-Err-clause-length
+returns-in-Err-clause-length c sent payload done is without = absurd (refused_not_ok c.in-Err.cause c.refusal.result c.refusal.ensures done)
+
+pub returns-in-Err-clause-within : goal.returns-in-Err-clause-within
+returns-in-Err-clause-within c done = absurd (refused_not_ok c.in-Err.cause c.refusal.result c.refusal.ensures done)
+
+pub returns-in-Err-clause-refused : goal.returns-in-Err-clause-refused
+returns-in-Err-clause-refused c fits = (
+  λ _. subst (λ (ids : List (Option ℕ)). (cause : NotRetransmitted) × KeepsFromRestoring (new_id ids) c.args.buf.now c.args.len.now cause) c.from_ids.ensures
+      (c.in-Err.ensures.refused.0 refl),
+  λ kept done. refused_not_ok c.in-Err.cause c.refusal.result c.refusal.ensures done,
+)
