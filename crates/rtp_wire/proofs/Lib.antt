@@ -20,6 +20,13 @@ mod RoundTrip
 mod WrittenInFormLemmas
 mod WritingWithLemmas
 mod PaddingLemmas
+mod BlockLaidLemmas
+mod ResizedLemmas
+mod GrowthLemmas
+mod PutPlanLemmas
+mod SetInPlaceLemmas
+mod PutElementLemmas
+mod CompactLemmas
 mod StandardFacts
 pub mod WideningLemmas
 pub mod NearestLemmas

@@ -77,7 +77,7 @@ IsUnpadded-cut bytes len enough is = record {
 
 -- ---- the bit
 
-or-zero : (n : ℕ) → bit_or n 0 ≡ n
+pub or-zero : (n : ℕ) → bit_or n 0 ≡ n
 or-zero n = or_disjoint n 0 (omega (arith, and_le_r n 0)) ∙ omega arith
 
 -- the bit is set in its place, and the others stay

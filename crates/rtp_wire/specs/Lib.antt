@@ -4,6 +4,7 @@ pub use Rattle.rtp_values.specs.Kind
 pub use Rattle.rtp_ext.specs.ExtensionMap
 pub use Rattle.rtp_ext.specs.Elements
 pub use Rattle.rtp_ext.specs.ElementsInPlace
+pub use Rattle.rtp_ext.specs.PutElement
 pub use Rattle.rtp_ext.specs.NewIds
 pub use Rattle.rtp_values.specs.HeaderValues
 pub use Rattle.rtp_values.specs.Values
@@ -27,6 +28,7 @@ pub mod PartsOf
 pub mod SourcePlaces
 pub mod ChangedPacket
 pub mod GivenFields
+pub mod PutIntoPacket
 pub mod Header
 pub mod NotAHeader
 pub mod RefusedMemory
@@ -49,6 +51,7 @@ pub mod Sources
 -- What functions inside promise each other.
 pub mod WrittenInForm
 pub mod PartsAt
+pub mod GrowingPacket
 pub mod WideState
 pub mod RestartingState
 pub mod EachSource

@@ -24,6 +24,8 @@ mod fixtures;
 #[cfg(test)]
 mod frequencies;
 #[cfg(test)]
+mod growing_packets;
+#[cfg(test)]
 mod headers_read;
 #[cfg(test)]
 mod headers_with_values;

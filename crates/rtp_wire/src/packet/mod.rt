@@ -2,8 +2,10 @@
 
 mod csrcs;
 mod fields;
+mod growing;
 mod header_bytes;
 mod not_a_packet;
+mod not_put;
 mod not_retransmitted;
 mod padding;
 mod retransmission;
@@ -14,7 +16,9 @@ mod rtp_packet_mut;
 pub use csrcs::Csrcs;
 pub use fields::Fields;
 pub(crate) use fields::flag;
+pub use growing::{compact, put_element};
 pub use not_a_packet::NotAPacket;
+pub use not_put::NotPut;
 pub use not_retransmitted::NotRetransmitted;
 pub use retransmission::{
     OriginalFields, RetransmissionFields, from_retransmission, to_retransmission,

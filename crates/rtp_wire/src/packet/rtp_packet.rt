@@ -266,7 +266,7 @@ impl<'a> RtpPacket<'a> {
 }
 
 // The length of the fixed bytes and the sources, by the first byte.
-fn sources_end(first: u8) -> usize
+pub(super) fn sources_end(first: u8) -> usize
     ensures { result ≡ 12 + 4 * (first % 16) }
 {
     12 + 4 * usize::from(first & 0x0F)

@@ -1,0 +1,125 @@
+-- What an element that is put into a packet makes of the buffer, and why it may not be put.
+use Rattle.std.proofs.Common.{◌≡◌, ℕ, ◌+◌, ◌-◌, ◌<◌, ◌≤◌, true, List, ◌++◌, length, take, max, Option, Some, None, refl, sym, ap, subst, ◌∙◌, arith, length-take-le}
+use Rattle.std.proofs.lemmas.List.{take-append-le, take-take}
+use Rattle.std.proofs.lemmas.Option.{same_Some}
+use Rattle.rtp_ext.specs.declared.form.ExtensionsForm.{ExtensionsForm}
+use Rattle.rtp_ext.specs.Elements.{Element, elements_bytes}
+use Rattle.rtp_ext.specs.ElementsInARow.{IsWritable}
+use Rattle.rtp_ext.specs.PutElement.{needed_form, allowed_form}
+use Rattle.rtp_ext.specs.WrittenBlock.{whole_words}
+use Rattle.rtp_ext.proofs.LastPlaceLemmas.{AreElements-same}
+use Rattle.rtp_wire.specs.declared.packet.growing.Plan.{Plan}
+use Rattle.rtp_wire.specs.declared.packet.not_put.NotPut.{NotPut}
+use Rattle.rtp_wire.specs.declared.packet.not_put.NotPut.TheVariants.{ShortBuffer, NotAPacket, ZeroId, LongData, OneByteOnly, LongBlock, NoRoom}
+use Rattle.rtp_wire.specs.NotAHeader.{sources_end}
+use Rattle.rtp_wire.specs.Packet.{PacketParts, IsPacket, header_len_of}
+use Rattle.rtp_wire.specs.PacketElements.{AreElementsOf}
+use Rattle.rtp_wire.specs.PutIntoPacket.{IsGrowth, PutsElement, IsSetInPlace, anew, form_of_block, body_of_block, elements_with, AppliesToPacket, AppliesToPut, put_place}
+use Rattle.rtp_wire.specs.GrowingPacket.{IsPlan, MakesAnew}
+use Rattle.rtp_wire.proofs.PacketLemmas.{one_packet}
+use Rattle.rtp_wire.proofs.ResizedLemmas.{sources_end-is, len-is}
+use Rattle.rtp_wire.proofs.PutPlanLemmas.{none_of_packet}
+use Rattle.rtp_wire.proofs.SetInPlaceLemmas.{body-ends}
+
+-- ---- a packet becomes one thing
+
+AreElementsOf-same : (block : Option (ExtensionsForm × List ℕ)) (xs ys : List Element) → AreElementsOf block xs → AreElementsOf block ys → xs ≡ ys
+AreElementsOf-same None xs ys are others = are ∙ sym others
+AreElementsOf-same (Some block) xs ys are others = AreElements-same block.0 block.1 xs ys are others
+
+pub same-growth : (bytes : List ℕ) (element : Element) (allowed : Option ExtensionsForm) (g h : IsGrowth bytes element allowed) → (g.body_len ≡ h.body_len) × (g.len ≡ h.len)
+same-growth bytes element allowed g h =
+    let parts : g.parts ≡ h.parts = sym (one_packet bytes g.parts g.is_packet) ∙ one_packet bytes h.parts h.is_packet in
+    let elements : g.elements ≡ h.elements =
+    AreElementsOf-same h.parts.block g.elements h.elements (subst (λ (p : PacketParts). AreElementsOf p.block g.elements) parts g.are_elements) h.are_elements in
+    let form : g.form ≡ h.form =
+    same_Some _ _ (sym g.form_is ∙ ap (λ (p : PacketParts). allowed_form allowed (needed_form (form_of_block p.block) element)) parts ∙ h.form_is) in
+    let size : g.body_len ≡ h.body_len =
+    g.body_len_is
+    ∙ ap (λ (p : PacketParts). max (length (body_of_block p.block)) (whole_words (length (elements_bytes g.form (elements_with g.form element g.elements))))) parts
+    ∙ ap (λ (es : List Element). max (length (body_of_block h.parts.block)) (whole_words (length (elements_bytes g.form (elements_with g.form element es))))) elements
+    ∙ ap (λ (f : ExtensionsForm). max (length (body_of_block h.parts.block)) (whole_words (length (elements_bytes f (elements_with f element h.elements))))) form
+    ∙ sym h.body_len_is in
+    let sources : length g.parts.sources ≡ length h.parts.sources = ap (λ (p : PacketParts). length p.sources) parts in
+    let payload : length g.parts.payload ≡ length h.parts.payload = ap (λ (p : PacketParts). length p.payload) parts in
+    (size, omega (arith, g.len_is, h.len_is, size, sources, payload))
+
+-- ---- the causes
+
+module _ (buf : List ℕ) (len : ℕ) (element : Element) (allowed : Option ExtensionsForm) (growth : IsGrowth (take len buf) element allowed) (writable : IsWritable growth.form element)
+    (within : len ≤ length buf) (few : growth.body_len ≤ 262140) where
+  -- none applies before the room is looked at
+  pub none_before_room : (cause : NotPut) → put_place cause < 6 → AppliesToPut buf len element allowed cause → ⊥
+  none_before_room ShortBuffer before fact = omega arith
+  none_before_room (NotAPacket cause) before fact = none_of_packet (take len buf) element allowed growth writable (NotAPacket cause) (omega arith) fact
+  none_before_room ZeroId before fact = none_of_packet (take len buf) element allowed growth writable ZeroId (omega arith) fact
+  none_before_room LongData before fact = none_of_packet (take len buf) element allowed growth writable LongData (omega arith) fact
+  none_before_room OneByteOnly before fact = none_of_packet (take len buf) element allowed growth writable OneByteOnly (omega arith) fact
+  none_before_room LongBlock before fact = let same = same-growth (take len buf) element allowed growth fact.0 in omega (arith, same.0, fact.1)
+  none_before_room (NoRoom needed) before fact = omega arith
+
+  -- and none at all where there is room
+  pub none_at_all : growth.len ≤ length buf → (cause : NotPut) → AppliesToPut buf len element allowed cause → ⊥
+  none_at_all room ShortBuffer fact = none_before_room ShortBuffer (omega arith) fact
+  none_at_all room (NotAPacket cause) fact = none_before_room (NotAPacket cause) (omega arith) fact
+  none_at_all room ZeroId fact = none_before_room ZeroId (omega arith) fact
+  none_at_all room LongData fact = none_before_room LongData (omega arith) fact
+  none_at_all room OneByteOnly fact = none_before_room OneByteOnly (omega arith) fact
+  none_at_all room LongBlock fact = none_before_room LongBlock (omega arith) fact
+  none_at_all room (NoRoom needed) fact = let same = same-growth (take len buf) element allowed growth fact.0 in omega (arith, same.1, fact.1, fact.2)
+
+pub of_the_packet : (buf : List ℕ) (len : ℕ) (element : Element) (allowed : Option ExtensionsForm) (cause : NotPut) → AppliesToPacket (take len buf) element allowed cause
+    → AppliesToPut buf len element allowed cause
+of_the_packet buf len element allowed ShortBuffer fact = absurd fact
+of_the_packet buf len element allowed (NotAPacket cause) fact = fact
+of_the_packet buf len element allowed ZeroId fact = fact
+of_the_packet buf len element allowed LongData fact = fact
+of_the_packet buf len element allowed OneByteOnly fact = fact
+of_the_packet buf len element allowed LongBlock fact = fact
+of_the_packet buf len element allowed (NoRoom needed) fact = absurd fact
+
+-- ---- the buffer
+
+-- bytes behind the packet
+pub PutsElement-front : (old : List ℕ) (element : Element) (allowed : Option ExtensionsForm) (new rest : List ℕ) (len : ℕ) → len ≡ length new → PutsElement old element allowed new len
+    → PutsElement old element allowed (new ++ rest) len
+PutsElement-front old element allowed new rest len len-is puts =
+    let growth = puts.growth in
+    let long : sources_end old + 2 ≤ length new = omega (arith, sources_end-is old growth.parts growth.is_packet, puts.len_is, growth.len_is) in
+    record {
+      growth = growth;
+      body = puts.body;
+      len_is = puts.len_is;
+      body_is = puts.body_is;
+      is_packet = subst (λ (xs : List ℕ). IsPacket xs (record growth.parts { has_extension = true; block = Some (growth.form, puts.body) })) (sym (take-append-le len new rest (omega arith))) puts.is_packet;
+      are_elements = puts.are_elements;
+      word_is = λ some. take-append-le (sources_end old + 2) new rest long ∙ puts.word_is some;
+    }
+
+-- a block that is made anew
+pub PutsElement-anew : (buf : List ℕ) (old_len : ℕ) (element : Element) (allowed : Option ExtensionsForm) (growth : IsGrowth (take old_len buf) element allowed) (new : List ℕ) (len : ℕ)
+    → old_len ≤ length buf → len ≡ growth.len → (IsSetInPlace growth.parts.block growth.elements element growth.form → ⊥) → MakesAnew (take old_len buf) element allowed growth buf new
+    → PutsElement (take old_len buf) element allowed new len
+PutsElement-anew buf old_len element allowed growth new len within len-is other made =
+    let old : List ℕ = take old_len buf in
+    let long : length old ≡ old_len = length-take-le old_len buf within in
+    record {
+      growth = growth;
+      body = made.body;
+      len_is = len-is;
+      body_is = anew other made.body_is;
+      is_packet = subst (λ (n : ℕ). IsPacket (take n new) (record growth.parts { has_extension = true; block = Some (growth.form, made.body) })) (sym len-is) made.is_packet;
+      are_elements = made.are_elements;
+      word_is = λ some.
+          let ends = body-ends old growth.parts growth.is_packet growth.form some (sources_end old) (header_len_of growth.parts) refl refl in
+          made.word_is some ∙ sym (take-take (sources_end old + 2) old_len buf (omega (arith, ends.0, ends.1, long)));
+    }
+
+-- the new length, as it is reckoned
+pub plan-len : (buf : List ℕ) (len : ℕ) (element : Element) (allowed : Option ExtensionsForm) (plan : Plan) (is : IsPlan (take len buf) element allowed plan) → len ≤ length buf
+    → (plan.payload_at ≤ len) × (plan.block_at + 4 + plan.new_body_len + (len - plan.payload_at) ≡ is.growth.len)
+plan-len buf len element allowed plan is within =
+    let growth = is.growth in
+    let all = len-is buf len growth.parts growth.is_packet within in
+    let start = sources_end-is (take len buf) growth.parts growth.is_packet in
+    (omega (arith, all, is.payload_is), omega (arith, all, start, is.payload_is, is.block_is, is.new_body_is, growth.len_is))

@@ -1,0 +1,180 @@
+-- What is known of a packet into which an element is put, and of what it becomes.
+use Rattle.std.proofs.Common.{◌≡◌, ℕ, ◌+◌, ◌-◌, ◌*◌, ◌%◌, ◌<◌, ◌≤◌, Bool, true, false, List, [], length, drop, max, Option, Some, None, refl, sym, ap, subst, ◌∙◌, arith, length-take}
+use Rattle.std.specs.Prelude.{slice_index, slice_range, option_map, unwrap_or, if◌then◌else◌}
+use Rattle.std.specs.Prelude.{◌↔◌, IsTrue}
+use Rattle.std.specs.Option.{option_eq}
+use Rattle.std.specs.Borrow.{Bor}
+use Rattle.std.proofs.lemmas.Bool.{false≢true}
+use denote.Enum.Bare.{sameb}
+use Rattle.rtp_ext.specs.contracts.form.ExtensionsForm.{the_type}
+use Rattle.std.proofs.lemmas.List.{get_or-drop}
+use Rattle.std.proofs.lemmas.Option.{none-some}
+use Rattle.rtp_ext.specs.declared.form.ExtensionsForm.{ExtensionsForm}
+use Rattle.rtp_ext.specs.declared.form.ExtensionsForm.TheVariants.{OneByte, TwoByte}
+use Rattle.rtp_ext.specs.Elements.{Element, AreElements, elements_bytes, ended}
+use Rattle.rtp_ext.specs.declared.growing.Survey.{Survey}
+use Rattle.rtp_ext.specs.BodySurvey.{IsSurvey}
+use Rattle.rtp_ext.specs.WrittenBlock.{whole_words}
+use Rattle.rtp_ext.specs.ElementsInARow.{IsWritable}
+use Rattle.rtp_ext.specs.PutElement.{needed_form, allowed_form}
+use Rattle.rtp_ext.proofs.RawWritingLemmas.{IsWritable-short}
+use Rattle.rtp_ext.proofs.LastPlaceLemmas.{AreElements-same}
+use Rattle.rtp_wire.specs.declared.packet.rtp_packet.RtpPacket.{RtpPacket}
+use Rattle.rtp_wire.specs.declared.packet.not_put.NotPut.{NotPut}
+use Rattle.rtp_wire.specs.declared.packet.not_put.NotPut.TheVariants.{ShortBuffer, NotAPacket, ZeroId, LongData, OneByteOnly, LongBlock, NoRoom}
+use Rattle.rtp_wire.specs.Block.{word_at}
+use Rattle.rtp_wire.specs.NotAHeader.{sources_end}
+use Rattle.rtp_wire.specs.PartsAt.{has_block, header_end}
+use Rattle.rtp_wire.specs.PartsOf.{parts_of}
+use Rattle.rtp_wire.proofs.BlockLemmas.{word_at-cells}
+use Rattle.rtp_wire.proofs.HeaderFound.{HasHeader-packet}
+use Rattle.rtp_wire.proofs.PacketLemmas.{one_packet, no_packet}
+use Rattle.rtp_wire.proofs.PartsLemmas.{block-header}
+use Rattle.rtp_wire.specs.Packet.{PacketParts, IsPacket}
+use Rattle.rtp_wire.specs.PacketElements.{AreElementsOf}
+use Rattle.rtp_wire.specs.PutIntoPacket.{IsGrowth, form_of_block, body_of_block, elements_with, AppliesToPacket, put_place}
+use Rattle.rtp_wire.specs.GrowingPacket.{IsFormOfBody}
+use Rattle.rtp_wire.proofs.ResizedLemmas.{whole-announced}
+
+-- the elements of a block are those of its body, and there are none without one
+pub body-elements : (block : Option (ExtensionsForm × List ℕ)) (elements : List Element) (new_form form : ExtensionsForm) → IsFormOfBody block new_form form
+    → AreElementsOf block elements → AreElements form (body_of_block block) elements
+body-elements None elements new_form form is are =
+    subst (AreElements form []) (sym are) (record { pieces = []; tail = []; are_pieces = tt; is_tail = ended refl; body_is = refl; elements_are = refl })
+body-elements (Some block) elements new_form form is are = subst (λ (f : ExtensionsForm). AreElements f block.1 elements) (sym is) are
+
+whole-words : (n : ℕ) → (whole_words n % 4 ≡ 0) × (n ≤ whole_words n)
+whole-words n = (omega arith, omega arith)
+
+module _ (bytes : List ℕ) (element : Element) (allowed : Option ExtensionsForm) (growth : IsGrowth bytes element allowed) where
+  pub elements-fit : length (elements_bytes growth.form (elements_with growth.form element growth.elements)) ≤ growth.body_len
+  elements-fit =
+      let n : ℕ = length (elements_bytes growth.form (elements_with growth.form element growth.elements)) in
+      let w = whole-words n in
+      omega (arith, growth.body_len_is, w.1)
+
+  pub body-fits : length (body_of_block growth.parts.block) ≤ growth.body_len
+  body-fits =
+      let n : ℕ = whole_words (length (elements_bytes growth.form (elements_with growth.form element growth.elements))) in
+      let is : growth.body_len ≡ max (length (body_of_block growth.parts.block)) n = growth.body_len_is in
+      omega (arith, is)
+
+  pub body-whole : growth.body_len % 4 ≡ 0
+  body-whole =
+      let n : ℕ = whole_words (length (elements_bytes growth.form (elements_with growth.form element growth.elements))) in
+      let is : growth.body_len ≡ max (length (body_of_block growth.parts.block)) n = growth.body_len_is in
+      let here : n % 4 ≡ 0 = (whole-words (length (elements_bytes growth.form (elements_with growth.form element growth.elements)))).0 in
+      let was : length (body_of_block growth.parts.block) % 4 ≡ 0 = whole-announced growth.parts.has_extension growth.parts.block growth.is_packet.part growth.is_packet.part_is in
+      omega (arith, is, here, was)
+
+  -- the elements of the body, whatever they are called
+  pub same-elements : (new_form form : ExtensionsForm) (elements : List Element) → IsFormOfBody growth.parts.block new_form form → AreElements form (body_of_block growth.parts.block) elements
+      → elements ≡ growth.elements
+  same-elements new_form form elements was are =
+      AreElements-same form (body_of_block growth.parts.block) elements growth.elements are (body-elements growth.parts.block growth.elements new_form form was growth.are_elements)
+
+-- ---- what is found in a packet
+
+elements-nothing : (form : ExtensionsForm) (elements : List Element) → AreElements form [] elements → elements ≡ []
+elements-nothing form elements are =
+    AreElements-same form [] elements [] are (record { pieces = []; tail = []; are_pieces = tt; is_tail = ended refl; body_is = refl; elements_are = refl })
+
+pub block-elements : (block : Option (ExtensionsForm × List ℕ)) (elements : List Element) (new_form form : ExtensionsForm) → IsFormOfBody block new_form form
+    → AreElements form (body_of_block block) elements → AreElementsOf block elements
+block-elements None elements new_form form is are = elements-nothing form elements are
+block-elements (Some block) elements new_form form is are = subst (λ (f : ExtensionsForm). AreElements f block.1 elements) is are
+
+-- the block that a packet lends, or an empty body
+pub block-found : (block : Option (ExtensionsForm × Bor (List ℕ))) (was : Option (ExtensionsForm × List ℕ)) (default found : ExtensionsForm × Bor (List ℕ))
+    → option_map (λ b. (b.0, b.1.now)) block ≡ was → default.1.now ≡ [] → found ≡ unwrap_or block default
+    → (found.1.now ≡ body_of_block was) × IsFormOfBody was default.0 found.0
+block-found None was default found was-is none found-is =
+    let P : Option (ExtensionsForm × List ℕ) → Type 0 = λ w. (found.1.now ≡ body_of_block w) × IsFormOfBody w default.0 found.0 in
+    subst P was-is (ap (λ (b : ExtensionsForm × Bor (List ℕ)). b.1.now) found-is ∙ none, ap (λ (b : ExtensionsForm × Bor (List ℕ)). b.0) found-is)
+block-found (Some block) was default found was-is none found-is =
+    let P : Option (ExtensionsForm × List ℕ) → Type 0 = λ w. (found.1.now ≡ body_of_block w) × IsFormOfBody w default.0 found.0 in
+    subst P was-is (ap (λ (b : ExtensionsForm × Bor (List ℕ)). b.1.now) found-is, ap (λ (b : ExtensionsForm × Bor (List ℕ)). b.0) found-is)
+
+-- a body has at most 65,535 words
+short-part : (form : Option ExtensionsForm) (body : List ℕ) (n : ℕ) → length body ≤ n → length (body_of_block (option_map (λ f. (f, body)) form)) ≤ n
+short-part None body n few = omega arith
+short-part (Some form) body n few = few
+
+short-if : (b : Bool) (k n : ℕ) → k ≤ n → (if b then k else 0) ≤ n
+short-if false k n few = omega arith
+short-if true k n few = few
+
+pub short-body : (packet : RtpPacket) → length (body_of_block (parts_of packet).block) ≤ 262140
+unfolding header_end
+short-body packet =
+    let bytes : List ℕ = packet.datagram.now in
+    let after : List ℕ = drop (sources_end bytes) bytes in
+    let high : slice_index after 2 < 256 = rw (get_or-drop (sources_end bytes) bytes 2 0) (packet.bytes (sources_end bytes + 2)) in
+    let low : slice_index after 3 < 256 = rw (get_or-drop (sources_end bytes) bytes 3 0) (packet.bytes (sources_end bytes + 3)) in
+    let word : word_at after 2 ≡ slice_index after 2 * 256 + slice_index after 3 = word_at-cells after 2 in
+    let end : header_end bytes ≤ sources_end bytes + (4 + 4 * 65535) =
+    let few = short-if (has_block bytes) (4 + 4 * word_at after 2) (4 + 4 * 65535) (omega (arith, word, high, low)) in omega (arith, few) in
+    let long : length (slice_range bytes (sources_end bytes + 4) packet.header_len) ≤ 262140 =
+    omega (arith, length-take (packet.header_len - (sources_end bytes + 4)) (drop (sources_end bytes + 4) bytes), packet.ends, end) in
+    subst (λ (block : Option (ExtensionsForm × List ℕ)). length (body_of_block block) ≤ 262140) (block-header bytes packet.header_len packet.form (HasHeader-packet packet))
+    (short-part packet.form (slice_range bytes (sources_end bytes + 4) packet.header_len) 262140 long)
+
+-- what the packet becomes
+abbrev pub new-growth : (bytes : List ℕ) (element : Element) (allowed : Option ExtensionsForm) (parts : PacketParts) (elements : List Element) (form new_form : ExtensionsForm) (n whole body_len : ℕ)
+    → IsPacket bytes parts → IsFormOfBody parts.block new_form form → AreElements form (body_of_block parts.block) elements
+    → allowed_form allowed (needed_form (form_of_block parts.block) element) ≡ Some new_form → n ≡ length (elements_bytes new_form (elements_with new_form element elements))
+    → n ≤ whole → whole < n + 4 → whole % 4 ≡ 0 → body_len ≡ max whole (length (body_of_block parts.block)) → IsGrowth bytes element allowed
+new-growth bytes element allowed parts elements form new_form n whole body_len is was are form-is n-is low high multiple len-is =
+    let words : whole ≡ whole_words (length (elements_bytes new_form (elements_with new_form element elements))) = omega arith in
+    record {
+      parts = parts;
+      elements = elements;
+      form = new_form;
+      body_len = body_len;
+      len = 12 + 4 * length parts.sources + (4 + body_len) + length parts.payload;
+      is_packet = is;
+      are_elements = block-elements parts.block elements new_form form was are;
+      form_is = form-is;
+      body_len_is = omega (arith, len-is, words);
+      len_is = refl;
+    }
+
+-- the same as it is found step by step
+module _ (bytes : List ℕ) (element : Element) (allowed : Option ExtensionsForm) (packet : RtpPacket) (block : Option (ExtensionsForm × Bor (List ℕ))) (default found : ExtensionsForm × Bor (List ℕ))
+    (survey : Survey) (form : Option ExtensionsForm) (n whole body_len : ℕ)
+    (is : IsPacket bytes (parts_of packet)) (block-is : option_map (λ b. (b.0, b.1.now)) block ≡ (parts_of packet).block) (none : default.1.now ≡ []) (found-is : found ≡ unwrap_or block default)
+    (surveyed : IsSurvey found.0 found.1.now element.0 survey) (form-is : form ≡ option_map (λ b. b.0) (parts_of packet).block) (allows : allowed_form allowed (needed_form form element) ≡ Some default.0)
+    (n-is : (elements : List Element) → AreElements found.0 found.1.now elements → n ≡ length (elements_bytes default.0 (elements_with default.0 element elements)))
+    (low : n ≤ whole) (high : whole < n + 4) (multiple : whole % 4 ≡ 0) (len-is : body_len ≡ max whole (length found.1.now)) where
+  pub here : (found.1.now ≡ body_of_block (parts_of packet).block) × IsFormOfBody (parts_of packet).block default.0 found.0
+  here = block-found block (parts_of packet).block default found block-is none found-is
+
+  abbrev pub found-growth : IsGrowth bytes element allowed
+  found-growth =
+      new-growth bytes element allowed (parts_of packet) surveyed.elements found.0 default.0 n whole body_len is here.1
+      (subst (λ (b : List ℕ). AreElements found.0 b surveyed.elements) here.0 surveyed.are_elements)
+      (ap (λ (f : Option ExtensionsForm). allowed_form allowed (needed_form f element)) (sym form-is) ∙ allows)
+      (n-is surveyed.elements surveyed.are_elements) low high multiple (omega (arith, len-is, ap length here.0))
+
+-- a test whether a form is found
+pub form-tested : (found : Option ExtensionsForm) (form : ExtensionsForm) (test : Bool) → test ≡ option_eq (sameb the_type) found (Some form) → IsTrue test ↔ (found ≡ Some form)
+form-tested None form test is = (λ yes. absurd (false≢true (sym is ∙ yes)), λ some. absurd cc)
+form-tested (Some OneByte) OneByte test is = (λ yes. refl, λ some. is)
+form-tested (Some TwoByte) TwoByte test is = (λ yes. refl, λ some. is)
+form-tested (Some OneByte) TwoByte test is = (λ yes. absurd (false≢true (sym is ∙ yes)), λ some. absurd cc)
+form-tested (Some TwoByte) OneByte test is = (λ yes. absurd (false≢true (sym is ∙ yes)), λ some. absurd cc)
+
+-- ---- the causes
+
+-- of those of a packet none applies before its block is found to be too long
+pub none_of_packet : (bytes : List ℕ) (element : Element) (allowed : Option ExtensionsForm) (growth : IsGrowth bytes element allowed) → IsWritable growth.form element
+    → (cause : NotPut) → put_place cause < 5 → AppliesToPacket bytes element allowed cause → ⊥
+none_of_packet bytes element allowed growth writable ShortBuffer before fact = fact
+none_of_packet bytes element allowed growth writable (NotAPacket cause) before fact = no_packet bytes cause growth.parts fact.applies growth.is_packet
+none_of_packet bytes element allowed growth writable ZeroId before fact = let some = writable.0 in omega arith
+none_of_packet bytes element allowed growth writable LongData before fact = omega (arith, IsWritable-short growth.form element writable)
+none_of_packet bytes element allowed growth writable OneByteOnly before fact =
+    let same : growth.parts ≡ fact.0 = sym (one_packet bytes growth.parts growth.is_packet) ∙ one_packet bytes fact.0 fact.1 in
+    none-some growth.form (sym fact.2 ∙ ap (λ (parts : PacketParts). allowed_form allowed (needed_form (form_of_block parts.block) element)) (sym same) ∙ growth.form_is)
+none_of_packet bytes element allowed growth writable LongBlock before fact = omega arith
+none_of_packet bytes element allowed growth writable (NoRoom needed) before fact = fact

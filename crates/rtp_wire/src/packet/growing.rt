@@ -1,0 +1,283 @@
+//! Elements that are put into a packet, which grows where it lies, and a packet that is made as short as
+//! its elements allow.
+
+ghost use Rattle.std.specs.Prelude.{◌≡◌, ◌↔◌, ℕ, ◌+◌, ◌-◌, ◌*◌, ◌≤◌, ◌∷◌, [], List, length, take, drop, false, IsTrue, IsErr, IfOk, IfErr, OnErr, Option};
+ghost use Rattle.std.specs.Bool.{OnTrue, OnFalse};
+ghost use Rattle.std.specs.Int.{w16, to_be_bytes};
+ghost use Rattle.rtp_base.specs.Overwriting.{overwritten};
+ghost use Rattle.rtp_ext.specs.Form.{form_word};
+ghost use Rattle.rtp_ext.specs.Elements.{Element, IsElement};
+ghost use Rattle.rtp_ext.specs.ElementsInARow.{IsWritable};
+ghost use Rattle.rtp_ext.specs.PutElement.{needed_form, allowed_form};
+ghost use Rattle.rtp_wire.specs.GrowingPacket.{with_extension_bit, resized, IsPlan, MakesAnew};
+ghost use Rattle.rtp_wire.specs.NotAHeader.{NotAHeader, sources_end};
+ghost use Rattle.rtp_wire.specs.NotAPacket.{IsFirstCause};
+ghost use Rattle.rtp_wire.specs.PutIntoPacket.{IsSetInPlace, PutsElement, AppliesToForm, AppliesToPacket, AppliesToPut, IsFirstNotPut, Compacts};
+
+use super::rtp_packet::sources_end;
+use super::{NotAPacket, NotPut, RtpPacket};
+use rtp_base::put;
+use rtp_ext::{
+    ExtensionsForm, Survey, form_to_put, put_anew, put_len, set_sole, survey_of, take_out,
+};
+
+// How many bytes stand before a block's body.
+const HEADER_LEN: usize = 4;
+
+// The most bytes that the body of a block has: 65,535 words.
+const MAX_BODY_LEN: usize = 4 * 65_535;
+
+// What is known of a packet, and of its block once an element is put into it.
+#[derive(Clone, Copy, Drop)]
+struct Plan {
+    // Where the block begins, or is to begin: after the CSRC list.
+    block_at: usize,
+    // Where the payload begins.
+    payload_at: usize,
+    // How many bytes the body has.
+    body_len: usize,
+    // The form of the block; the one that it gets where there is none.
+    form: ExtensionsForm,
+    // What the body has of the element's id.
+    survey: Survey,
+    // Whether there is a block of the form that it is to have.
+    is_announced: bool,
+    // The form that the block gets.
+    new_form: ExtensionsForm,
+    // How many bytes the body gets.
+    new_body_len: usize,
+}
+
+// The form that a block gets with the element put into it, where it has this form or there is none yet.
+fn new_form(
+    block: Option<ExtensionsForm>,
+    allowed: Option<ExtensionsForm>,
+    id: u8,
+    data: &[u8],
+) -> Result<ExtensionsForm, NotPut>
+    ensures found { IfOk result (λ form.
+        allowed_form allowed (needed_form block (id, «data».now)) ≡ Some form) }
+    ensures writable { IfOk result (λ form. IsWritable form (id, «data».now)) }
+    ensures cause { IfErr result (IsFirstNotPut (AppliesToForm block (id, «data».now) allowed)) }
+{
+    if id == 0 {
+        return Err(NotPut::ZeroId);
+    }
+    if data.len() > 255 {
+        return Err(NotPut::LongData);
+    }
+    form_to_put(block, allowed, id, data).ok_or(NotPut::OneByteOnly)
+}
+
+impl Plan {
+    // What becomes of the packet in the datagram.
+    fn new(
+        datagram: &[u8],
+        id: u8,
+        data: &[u8],
+        allowed: Option<ExtensionsForm>,
+    ) -> Result<Self, NotPut>
+        ensures found { IfOk result (IsPlan datagram.now (id, «data».now) allowed) }
+        ensures cause { IfErr result (IsFirstNotPut
+            (AppliesToPacket datagram.now (id, «data».now) allowed)) }
+    {
+        let packet = RtpPacket::parse(datagram)?;
+        let new_form = new_form(packet.form(), allowed, id, data)?;
+        let (form, body) = packet.block().unwrap_or((new_form, &[]));
+        let survey = survey_of(form, body, id);
+        let elements_len = put_len(form, new_form, body, &survey, id, data);
+        let new_body_len = elements_len.next_multiple_of(4).max(body.len());
+        if new_body_len > MAX_BODY_LEN {
+            return Err(NotPut::LongBlock);
+        }
+        Ok(Plan {
+            block_at: sources_end(datagram[0]),
+            payload_at: packet.header_len(),
+            body_len: body.len(),
+            form,
+            survey,
+            is_announced: packet.form() == Some(new_form),
+            new_form,
+            new_body_len,
+        })
+    }
+
+    // Gives the element its data where it lies, where nothing else is to be done, and returns whether that
+    // is so. Else nothing changes.
+    fn set(&self, datagram: &mut [u8], id: u8, data: &[u8]) -> bool
+        requires { (allowed : Option ExtensionsForm)
+            × IsPlan datagram.old (id, «data».now) allowed self.now }
+        ensures set { (allowed : Option ExtensionsForm) →
+            IsPlan datagram.old (id, «data».now) allowed self.now →
+            OnTrue result (PutsElement datagram.old (id, «data».now) allowed datagram.new
+            (length datagram.old)) }
+        ensures answer { (allowed : Option ExtensionsForm)
+            (plan : IsPlan datagram.old (id, «data».now) allowed self.now) → IsTrue result
+            ↔ IsSetInPlace plan.growth.parts.block plan.growth.elements (id, «data».now) plan.growth.form }
+        ensures unchanged { OnFalse result (datagram.new ≡ datagram.old) }
+    {
+        if !self.is_announced {
+            return false;
+        }
+        let body_at = self.block_at + HEADER_LEN;
+        let body = &mut datagram[body_at..self.payload_at];
+        set_sole(body, &self.survey, id, data)
+    }
+
+    // Makes the block of the packet in the first bytes of the buffer anew, with the element in it.
+    fn make_anew(&self, buf: &mut [u8], len: usize, id: u8, data: &[u8])
+        requires within { len ≤ length buf.old }
+        requires plan { (allowed : Option ExtensionsForm)
+            × IsPlan (take len buf.old) (id, «data».now) allowed self.now }
+        requires room { self.now.block_at + 4 + self.now.new_body_len + (len - self.now.payload_at)
+            ≤ length buf.old }
+        ensures { (allowed : Option ExtensionsForm)
+            (plan : IsPlan (take len buf.old) (id, «data».now) allowed self.now) →
+            MakesAnew (take len buf.old) (id, «data».now) allowed plan.growth buf.old buf.new }
+    {
+        resize(buf, len, self.block_at, self.payload_at, self.new_body_len);
+        if !self.is_announced {
+            announce(buf, self.block_at, self.new_form);
+        }
+        let body_at = self.block_at + HEADER_LEN;
+        let body = &mut buf[body_at..body_at + self.new_body_len];
+        put_anew(
+            self.form,
+            self.new_form,
+            body,
+            self.body_len,
+            &self.survey,
+            id,
+            data,
+        );
+    }
+}
+
+// Gives the block that begins at an offset a body of so many bytes, which are those that stand there: moves
+// the payload behind it, and writes the number of its words.
+fn resize(buf: &mut [u8], len: usize, block_at: usize, payload_at: usize, body_len: usize)
+    requires order { payload_at ≤ len }
+    requires within { len ≤ length buf.old }
+    requires room { block_at + 4 + body_len + (len - payload_at) ≤ length buf.old }
+    requires few { body_len ≤ 4 * 65535 }
+    ensures { buf.new ≡ resized buf.old len block_at payload_at body_len }
+{
+    let new_payload_at = block_at + HEADER_LEN + body_len;
+    buf.copy_within(payload_at..len, new_payload_at);
+    let words = (body_len / 4) as u16;
+    put(buf, block_at + 2, &words.to_be_bytes());
+}
+
+// Sets X.
+fn set_extension_bit(buf: &mut [u8])
+    requires { 1 ≤ length buf.old }
+    ensures { buf.new ≡ with_extension_bit buf.old }
+{
+    buf[0] |= 0x10;
+}
+
+// Announces a block of this form at an offset: sets X, and writes the word of the form.
+fn announce(buf: &mut [u8], block_at: usize, form: ExtensionsForm)
+    requires after { 1 ≤ block_at }
+    requires room { block_at + 2 ≤ length buf.old }
+    ensures { buf.new
+        ≡ overwritten (with_extension_bit buf.old) block_at (to_be_bytes w16 (form_word form)) }
+{
+    set_extension_bit(buf);
+    put(buf, block_at, &form.serialize());
+}
+
+/// Puts an element into the packet in the first `len` bytes of the buffer, and returns how many bytes the
+/// packet then has (RFC 3550, 5.3.1; RFC 8285, 4.2 and 4.3). It then has exactly one element of this id, 1
+/// to 255, with these data, of at most 255 bytes: in place of the last one of the id, or as the last of
+/// all. The other elements stay, in order, and so do the other fields, the CSRC list and the payload.
+///
+/// Where the element is the only one of its id and has as many bytes, only these change. Else the block is
+/// made anew where it lies: its padding is used up, and where that isn't enough the payload moves by whole
+/// words. Without X the packet gets a block. The body never becomes shorter: [`compact`] gives bytes back.
+/// What stands where reading ends, an element that is cut short or what follows the id 15, is no element,
+/// and goes where the block is made anew.
+///
+/// A block in the one-byte form that can't carry the element becomes one in the two-byte form, which
+/// carries no element of the id 0, unless only the one-byte form is `allowed`, as for a peer that hasn't
+/// agreed to both forms in one stream (RFC 8285, 4.1.2). Where only the two-byte form is allowed, the block
+/// gets that. Where the call is refused nothing changes.
+///
+/// The packet `90 60 00 05 00 00 00 64 00 00 00 2C BE DE 00 01 10 AA 00 00 01` (hexadecimal), with room
+/// behind it and the data `07 08` of id 2, becomes
+/// `90 60 00 05 00 00 00 64 00 00 00 2C BE DE 00 02 10 AA 21 07 08 00 00 00 01`, and 25 is returned.
+pub fn put_element(
+    buf: &mut [u8],
+    len: usize,
+    id: u8,
+    data: &[u8],
+    allowed: Option<ExtensionsForm>,
+) -> Result<usize, NotPut>
+    ensures put { IfOk result (PutsElement (take len buf.old) (id, «data».now) allowed buf.new) }
+    ensures within { IfOk result (λ new_len. (len ≤ new_len) × (new_len ≤ length buf.old)) }
+    ensures behind { IfOk result (λ new_len. drop new_len buf.new ≡ drop new_len buf.old) }
+
+    // The cause is the first that applies, and there are no others.
+    ensures cause { IfErr result (IsFirstNotPut
+        (AppliesToPut buf.old len (id, «data».now) allowed)) }
+    ensures refused { IsErr result
+        ↔ ((cause : NotPut) × AppliesToPut buf.old len (id, «data».now) allowed cause) }
+    ensures unchanged { OnErr result (buf.new ≡ buf.old) }
+{
+    if len > buf.len() {
+        return Err(NotPut::ShortBuffer);
+    }
+    let plan = Plan::new(&buf[..len], id, data, allowed)?;
+    if plan.set(&mut buf[..len], id, data) {
+        return Ok(len);
+    }
+    let new_len = plan.block_at + HEADER_LEN + plan.new_body_len + (len - plan.payload_at);
+    if new_len > buf.len() {
+        return Err(NotPut::NoRoom { needed: new_len });
+    }
+    plan.make_anew(buf, len, id, data);
+    Ok(new_len)
+}
+
+// An id that no element of the form has.
+fn id_of_none(form: ExtensionsForm) -> u8
+    ensures { (element : Element) → IsElement form element → element.0 ≡ result → ⊥ }
+{
+    match form {
+        ExtensionsForm::OneByte => 15,
+        ExtensionsForm::TwoByte => 0,
+    }
+}
+
+/// Makes the packet in the buffer as short as its elements allow, and returns how many bytes it then has,
+/// which are the first ones of the buffer (RFC 3550, 5.3.1; RFC 8285, 4.2 and 4.3). The elements stand in a
+/// row in the same order, those of one id too, the body is filled up to whole words, and the payload moves
+/// to the front; X and the form stay. What stands where reading ends is no element, and goes. Where the
+/// buffer holds no packet nothing changes.
+///
+/// After [`remove_element`](super::RtpPacketMut::remove_element), which leaves padding, this gives the
+/// bytes back. Before [`put_element`] it isn't needed.
+///
+/// The packet `90 60 00 05 00 00 00 64 00 00 00 2C BE DE 00 02 00 00 21 BB CC 00 00 00 01` (hexadecimal)
+/// becomes `90 60 00 05 00 00 00 64 00 00 00 2C BE DE 00 01 21 BB CC 00 01`, and 21 is returned.
+pub fn compact(datagram: &mut [u8]) -> Result<usize, NotAPacket>
+    ensures compacted { IfOk result (Compacts datagram.old datagram.new) }
+    ensures within { IfOk result (λ len. len ≤ length datagram.old) }
+    ensures cause { IfErr result (IsFirstCause datagram.old) }
+    ensures refused { IsErr result ↔ NotAHeader datagram.old }
+    ensures unchanged { OnErr result (datagram.new ≡ datagram.old) }
+{
+    let packet = RtpPacket::parse(datagram)?;
+    let payload_at = packet.header_len();
+    let form = packet.form();
+    let len = datagram.len();
+    let Some(form) = form else {
+        return Ok(len);
+    };
+    let block_at = sources_end(datagram[0]);
+    let body = &mut datagram[block_at + HEADER_LEN..payload_at];
+    let elements_len = take_out(form, body, id_of_none(form));
+    let body_len = elements_len.next_multiple_of(4);
+    resize(datagram, len, block_at, payload_at, body_len);
+    Ok(block_at + HEADER_LEN + body_len + (len - payload_at))
+}
