@@ -1,6 +1,7 @@
 mod StatusLemmas
 mod PacketLemmas
 mod ChangeLemmas
+mod PutLemmas
 mod ElementLemmas
 mod KindNumberLemmas
 mod StoredMapLemmas

@@ -12,7 +12,7 @@ none≢ok same = cc
 pub bad_field≢ok : bad_field ≡ ok → ⊥
 bad_field≢ok same = cc
 
-ok≢cause : (cause : NotAPacket) → ok ≡ cause_status cause → ⊥
+pub ok≢cause : (cause : NotAPacket) → ok ≡ cause_status cause → ⊥
 ok≢cause CutFixedPart same = cc
 ok≢cause OtherVersion same = cc
 ok≢cause CutSources same = cc

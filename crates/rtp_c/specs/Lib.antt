@@ -2,6 +2,7 @@
 pub mod Status
 pub mod PacketView
 pub mod ChangedElements
+pub mod PutStatus
 pub mod StoredWindow
 pub mod StoredReceiver
 pub mod Judging

@@ -9,6 +9,7 @@ ghost use Rattle.std.specs.Prelude.{◌≡◌};
 mod changing;
 mod data;
 mod given;
+mod growing;
 mod header;
 mod kinds;
 mod layers;

@@ -1,9 +1,9 @@
 -- A packet whose block is made as short as its elements allow.
-use Rattle.std.proofs.Common.{◌≡◌, ℕ, ◌+◌, ◌-◌, ◌*◌, ◌%◌, ◌<◌, ◌≤◌, Bool, true, not, cond, List, [], ◌∷◌, ◌++◌, length, take, drop, replicate, Option, Some, None, refl, sym, ap, subst, ◌∙◌, arith, length-append}
+use Rattle.std.proofs.Common.{◌≡◌, ℕ, ◌+◌, ◌-◌, ◌*◌, ◌%◌, ◌<◌, ◌≤◌, Bool, true, not, cond, List, [], ◌∷◌, ◌++◌, length, take, drop, replicate, Option, Some, None, refl, sym, ap, subst, ◌∙◌, arith, length-append, length-take-le}
 use Rattle.std.specs.Prelude.{slice_range}
 use Rattle.std.specs.List.{AllByRecursion}
 use Rattle.std.proofs.lemmas.Bool.{ne_eqb}
-use Rattle.std.proofs.lemmas.List.{take-append-drop, take-take, take_all, take-replicate, length-replicate}
+use Rattle.std.proofs.lemmas.List.{take-append-drop, take-take, take_all, take-append-le, take-replicate, length-replicate}
 use Rattle.std.proofs.Math.Seq.{take-append-add}
 use borrow.Rule.Slice.PartMut.{put_mid}
 use Rattle.rtp_ext.specs.declared.form.ExtensionsForm.{ExtensionsForm}
@@ -14,7 +14,7 @@ use Rattle.rtp_ext.specs.WrittenBlock.{padding_of, whole_words, filled}
 use Rattle.rtp_ext.proofs.AnewLemmas.{AreElements-each}
 use Rattle.rtp_ext.proofs.WrittenElementsLemmas.{AreElements-in_a_row}
 use Rattle.rtp_wire.specs.NotAHeader.{sources_end}
-use Rattle.rtp_wire.specs.Packet.{PacketParts, IsPacket, header_len_of}
+use Rattle.rtp_wire.specs.Packet.{PacketParts, IsPacket, header_len_of, block_len}
 use Rattle.rtp_wire.specs.PacketElements.{AreElementsOf}
 use Rattle.rtp_wire.specs.PutIntoPacket.{form_of_block, body_of_block, compact_block, Compacts}
 use Rattle.rtp_wire.specs.GrowingPacket.{resized}
@@ -191,7 +191,7 @@ module _ (bytes : List ℕ) (parts : PacketParts) (is : IsPacket bytes parts) (f
           is_packet = subst (IsPacket (take (block_at + 4 + n + (length bytes - payload_at)) laid)) with-x packet;
           are_elements = subst (λ (b : Option (ExtensionsForm × List ℕ)). AreElementsOf b taken.elements) (sym (compact-announced parts.block taken.elements form some))
               (AreElements-in_a_row form taken.elements (padding_of (length (elements_bytes form taken.elements))) (AreElements-each form body taken.elements elements-are));
-          word_is =
+          word_is = λ _ _.
               ap (take (sources_end bytes + 2)) (sym same-laid)
               ∙ subst (λ (k : ℕ). take k (put_mid (block_at + 4) (block_at + 4 + n - (block_at + 4)) laid middle) ≡ take k moved) start word
               ∙ word-set bytes parts is form some block_at payload_at block-is payload-is row length-row;
@@ -214,5 +214,29 @@ Compacts-nothing bytes parts is none =
       is_packet = subst (λ (xs : List ℕ). IsPacket xs (record parts { block = compact_block [] parts.block })) (sym (take_all (length bytes) bytes (omega arith)))
           (subst (λ (b : Option (ExtensionsForm × List ℕ)). IsPacket bytes (record parts { block = b })) (sym same) is);
       are_elements = subst (λ (b : Option (ExtensionsForm × List ℕ)). AreElementsOf b []) (sym (same ∙ block)) refl;
-      word_is = refl;
+      word_is = λ _ _. refl;
+    }
+
+-- ---- bytes behind the packet
+
+compact-some : (block : Option (ExtensionsForm × List ℕ)) (elements : List Element) (form : ExtensionsForm) → form_of_block block ≡ Some form → 4 ≤ block_len (compact_block elements block)
+compact-some None elements form some = absurd cc
+compact-some (Some block) elements form some = omega arith
+
+pub Compacts-front : (old new rest : List ℕ) (len : ℕ) → len ≤ length new → Compacts old new len → Compacts old (new ++ rest) len
+Compacts-front old new rest len within is =
+    let parts : PacketParts = record is.parts { block = compact_block is.elements is.parts.block } in
+    let same : take len (new ++ rest) ≡ take len new = take-append-le len new rest within in
+    record {
+      parts = is.parts;
+      elements = is.elements;
+      was_packet = is.was_packet;
+      were_elements = is.were_elements;
+      is_packet = subst (λ (xs : List ℕ). IsPacket xs parts) (sym same) is.is_packet;
+      are_elements = is.are_elements;
+      word_is = λ form some.
+          let long = length-packet (take len new) parts is.is_packet in
+          let four = compact-some is.parts.block is.elements form some in
+          let start = sources_end-is old is.parts is.was_packet in
+          take-append-le (sources_end old + 2) new rest (omega (arith, long, four, start, length-take-le len new within)) ∙ is.word_is form some;
     }

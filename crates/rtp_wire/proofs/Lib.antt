@@ -26,7 +26,7 @@ mod GrowthLemmas
 mod PutPlanLemmas
 mod SetInPlaceLemmas
 mod PutElementLemmas
-mod CompactLemmas
+pub mod CompactLemmas
 mod StandardFacts
 pub mod WideningLemmas
 pub mod NearestLemmas

@@ -108,7 +108,7 @@ pub record IsFirstNotPut (Fact : NotPut → Type 0) (cause : NotPut) : Type 0 wh
 abbrev pub compact_block : List Element → Option (ExtensionsForm × List ℕ) → Option (ExtensionsForm × List ℕ)
 compact_block elements block = option_map (λ b. (b.0, filled (elements_bytes b.0 elements))) block
 
--- the first bytes, so many of them, are the packet with such a block, and all other parts are as they were; the word of its form stays
+-- the first bytes, so many of them, are the packet with such a block, and all other parts are as they were; the word of its form stays, with the bits that are the application's
 pub record Compacts (old new : List ℕ) (len : ℕ) : Type 0 where
   pub parts : PacketParts
   pub elements : List Element
@@ -116,4 +116,4 @@ pub record Compacts (old new : List ℕ) (len : ℕ) : Type 0 where
   pub were_elements : AreElementsOf parts.block elements
   pub is_packet : IsPacket (take len new) (record parts { block = compact_block elements parts.block })
   pub are_elements : AreElementsOf (compact_block elements parts.block) elements
-  pub word_is : take (sources_end old + 2) new ≡ take (sources_end old + 2) old
+  pub word_is : (form : ExtensionsForm) → form_of_block parts.block ≡ Some form → take (sources_end old + 2) new ≡ take (sources_end old + 2) old

@@ -1,0 +1,24 @@
+-- The statuses of an element that is put into a packet.
+use Rattle.std.specs.Prelude.{◌≡◌, ℕ, List, Option, ℤ}
+use Rattle.rtp_ext.specs.declared.form.ExtensionsForm.{ExtensionsForm}
+use Rattle.rtp_ext.specs.Elements.{Element}
+use Rattle.rtp_wire.specs.declared.packet.not_put.NotPut.{NotPut}
+use Rattle.rtp_wire.specs.declared.packet.not_put.NotPut.TheVariants.{ShortBuffer, NotAPacket, ZeroId, LongData, OneByteOnly, LongBlock, NoRoom}
+use Rattle.rtp_wire.specs.PutIntoPacket.{AppliesToPut, IsFirstNotPut}
+use Rattle.rtp_c.specs.Status.{cause_status, short_buffer, bad_field}
+
+-- the status of each cause for which an element can't be put into a packet
+abbrev pub put_status : NotPut → ℤ
+put_status ShortBuffer = short_buffer
+put_status (NotAPacket cause) = cause_status cause
+put_status ZeroId = bad_field
+put_status LongData = bad_field
+put_status OneByteOnly = bad_field
+put_status LongBlock = bad_field
+put_status (NoRoom needed) = short_buffer
+
+-- the status of the first cause that applies to an element that is put into the packet in so many first bytes of the buffer
+pub record IsPutStatus (buf : List ℕ) (len : ℕ) (element : Element) (allowed : Option ExtensionsForm) (status : ℤ) : Type 0 where
+  pub cause : NotPut
+  pub is_first : IsFirstNotPut (AppliesToPut buf len element allowed) cause
+  pub status_is : status ≡ put_status cause

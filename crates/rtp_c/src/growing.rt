@@ -1,0 +1,108 @@
+//! A packet with room behind it, into which elements are put, and a packet that is made short.
+
+ghost use Rattle.std.specs.Prelude.{◌≡◌, ◌≢◌, ◌↔◌, ◌≤◌, ◌<◌, length, take, drop, Option, IfSome, IfNone};
+ghost use Rattle.rtp_ext.specs.declared.form.ExtensionsForm.{ExtensionsForm};
+ghost use Rattle.rtp_wire.specs.declared.packet.not_put.NotPut.{NotPut};
+ghost use Rattle.rtp_wire.specs.NotAHeader.{NotAHeader};
+ghost use Rattle.rtp_wire.specs.PutIntoPacket.{PutsElement, AppliesToPut, Compacts};
+ghost use Rattle.rtp_c.specs.PacketView.{form_number};
+ghost use Rattle.rtp_c.specs.Status.{ok, short_buffer, bad_field, IsCauseStatus};
+ghost use Rattle.rtp_c.specs.PutStatus.{put_status, IsPutStatus};
+
+use super::packet::form_of;
+use super::status::{BAD_FIELD, OK, SHORT_BUFFER, status_of};
+use rtp_wire::{ExtensionsForm, NotPut, compact, put_element};
+
+// The form that alone is allowed by this number, and none where both are.
+fn allowed_of(number: u8) -> Option<Option<ExtensionsForm>>
+    ensures found { IfSome result (λ allowed. form_number allowed ≡ number) }
+    ensures none { IfNone result ((allowed : Option ExtensionsForm) → form_number allowed ≢ number) }
+{
+    if number == 0 {
+        return Some(None);
+    }
+    let form = form_of(number)?;
+    Some(Some(form))
+}
+
+// The status of this cause.
+fn put_status_of(cause: NotPut) -> i32
+    ensures { result ≡ put_status cause }
+{
+    match cause {
+        NotPut::ShortBuffer | NotPut::NoRoom { needed: _ } => SHORT_BUFFER,
+        NotPut::NotAPacket(cause) => status_of(cause),
+        NotPut::ZeroId | NotPut::LongData | NotPut::OneByteOnly | NotPut::LongBlock => BAD_FIELD,
+    }
+}
+
+/// Puts an element into the packet in the first `len` bytes of the buffer, which grows where it lies: the
+/// packet then has exactly one element of this id, with these data, in place of the last one of the id or
+/// as the last of all, and all else is as it was (RFC 8285, 4.2 and 4.3). `len` becomes its new length. Of
+/// the block's forms the number `allowed` allows both where it is 0, the one-byte form alone where it is 1,
+/// and the two-byte form alone where it is 2.
+///
+/// `OK`; `SHORT_BUFFER` where `len` is past the buffer, or there is no room behind the packet;
+/// `BAD_FIELD` where `allowed` is above 2, the id is 0, there are more than 255 bytes of data, the block
+/// needs the two-byte form and that isn't allowed, or it would have more than 65,535 words; or the status
+/// of the first cause for which the bytes are no packet. Where it isn't `OK` nothing changes.
+#[unsafe(no_mangle)]
+pub extern "C" fn rtpw_put_element(
+    buf: &mut [u8],
+    len: &mut usize,
+    id: u8,
+    data: &[u8],
+    allowed: u8,
+) -> i32
+    ensures put { (form : Option ExtensionsForm) → form_number form ≡ allowed → result ≡ ok →
+        PutsElement (take len.old buf.old) (id, «data».now) form buf.new len.new }
+    ensures within { result ≡ ok → (len.old ≤ len.new) × (len.new ≤ length buf.old) }
+    ensures behind { result ≡ ok → drop len.new buf.new ≡ drop len.new buf.old }
+    ensures bad_form { ((form : Option ExtensionsForm) → form_number form ≢ allowed) →
+        result ≡ bad_field }
+    ensures cause { (form : Option ExtensionsForm) → form_number form ≡ allowed → result ≢ ok →
+        IsPutStatus buf.old len.old (id, «data».now) form result }
+    ensures refused { (form : Option ExtensionsForm) → form_number form ≡ allowed → result ≢ ok
+        ↔ ((cause : NotPut) × AppliesToPut buf.old len.old (id, «data».now) form cause) }
+    ensures unchanged { result ≢ ok → (buf.new ≡ buf.old) × (len.new ≡ len.old) }
+{
+    let Some(allowed) = allowed_of(allowed) else {
+        return BAD_FIELD;
+    };
+    match put_element(buf, *len, id, data, allowed) {
+        Err(cause) => put_status_of(cause),
+        Ok(new_len) => {
+            *len = new_len;
+            OK
+        }
+    }
+}
+
+/// Makes the packet in the first `len` bytes of the buffer as short as its elements allow: they stand in a
+/// row in the same order, the body is filled up to whole words, and the payload moves to the front (RFC
+/// 8285, 4.2 and 4.3). `len` becomes its new length. After `rtpw_remove_element` it gives the bytes back.
+///
+/// `OK`; `SHORT_BUFFER` where `len` is past the buffer; or the status of the first cause for which the
+/// bytes are no packet. Where it isn't `OK` nothing changes.
+#[unsafe(no_mangle)]
+pub extern "C" fn rtpw_compact(buf: &mut [u8], len: &mut usize) -> i32
+    ensures compacted { result ≡ ok → Compacts (take len.old buf.old) buf.new len.new }
+    ensures within { result ≡ ok → len.new ≤ len.old }
+    ensures behind { drop len.old buf.new ≡ drop len.old buf.old }
+    ensures short { (result ≡ short_buffer) ↔ (length buf.old < len.old) }
+    ensures cause { len.old ≤ length buf.old → result ≢ ok →
+        IsCauseStatus (take len.old buf.old) result }
+    ensures refused { len.old ≤ length buf.old → result ≢ ok ↔ NotAHeader (take len.old buf.old) }
+    ensures unchanged { result ≢ ok → (buf.new ≡ buf.old) × (len.new ≡ len.old) }
+{
+    if *len > buf.len() {
+        return SHORT_BUFFER;
+    }
+    match compact(&mut buf[..*len]) {
+        Err(cause) => status_of(cause),
+        Ok(new_len) => {
+            *len = new_len;
+            OK
+        }
+    }
+}
