@@ -4,7 +4,7 @@ use Rattle.rtp_ext.specs.declared.form.ExtensionsForm.{ExtensionsForm}
 use Rattle.rtp_ext.specs.declared.form.ExtensionsForm.TheVariants.{OneByte, TwoByte}
 use Rattle.rtp_wire.specs.declared.packet.not_a_packet.NotAPacket.TheVariants.{CutFixedPart, OtherVersion, CutSources, CutBlockHeader, UnknownForm, CutBlock}
 use Rattle.rtp_wire.specs.declared.packet.not_put.NotPut.{NotPut}
-use Rattle.rtp_wire.specs.declared.packet.not_put.NotPut.TheVariants.{ShortBuffer, NotAPacket, ZeroId, LongData, OneByteOnly, LongBlock, NoRoom}
+use Rattle.rtp_wire.specs.declared.packet.not_put.NotPut.TheVariants.{CutPacket, NotAPacket, ZeroId, LongData, OneByteOnly, LongBlock, NoRoom}
 use Rattle.rtp_c.specs.PacketView.{form_number}
 use Rattle.rtp_c.specs.Status.{ok}
 use Rattle.rtp_c.specs.PutStatus.{put_status}
@@ -12,7 +12,7 @@ use Rattle.rtp_c.proofs.StatusLemmas.{ok≢cause}
 
 -- no cause has the status of success
 pub put_status≢ok : (cause : NotPut) → put_status cause ≡ ok → ⊥
-put_status≢ok ShortBuffer same = cc
+put_status≢ok CutPacket same = cc
 put_status≢ok (NotAPacket cause) same = ok≢cause cause (sym same)
 put_status≢ok ZeroId same = cc
 put_status≢ok LongData same = cc
@@ -22,7 +22,7 @@ put_status≢ok (NoRoom needed) same = cc
 
 -- each fits the 32 bits of a status
 pub put_status-fits : (cause : NotPut) → to_z w32 (of_z w32 (put_status cause)) ≡ put_status cause
-put_status-fits ShortBuffer = refl
+put_status-fits CutPacket = refl
 put_status-fits (NotAPacket CutFixedPart) = refl
 put_status-fits (NotAPacket OtherVersion) = refl
 put_status-fits (NotAPacket CutSources) = refl

@@ -6,7 +6,7 @@ ghost use Rattle.rtp_wire.specs.declared.packet.not_put.NotPut.{NotPut};
 ghost use Rattle.rtp_wire.specs.NotAHeader.{NotAHeader};
 ghost use Rattle.rtp_wire.specs.PutIntoPacket.{PutsElement, AppliesToPut, Compacts};
 ghost use Rattle.rtp_c.specs.PacketView.{form_number};
-ghost use Rattle.rtp_c.specs.Status.{ok, short_buffer, bad_field, IsCauseStatus};
+ghost use Rattle.rtp_c.specs.Status.{ok, bad_field, IsCauseStatus};
 ghost use Rattle.rtp_c.specs.PutStatus.{put_status, IsPutStatus};
 
 use super::packet::form_of;
@@ -30,9 +30,10 @@ fn put_status_of(cause: NotPut) -> i32
     ensures { result ≡ put_status cause }
 {
     match cause {
-        NotPut::ShortBuffer | NotPut::NoRoom { needed: _ } => SHORT_BUFFER,
+        NotPut::CutPacket | NotPut::ZeroId | NotPut::LongData => BAD_FIELD,
         NotPut::NotAPacket(cause) => status_of(cause),
-        NotPut::ZeroId | NotPut::LongData | NotPut::OneByteOnly | NotPut::LongBlock => BAD_FIELD,
+        NotPut::OneByteOnly | NotPut::LongBlock => BAD_FIELD,
+        NotPut::NoRoom { needed: _ } => SHORT_BUFFER,
     }
 }
 
@@ -42,10 +43,10 @@ fn put_status_of(cause: NotPut) -> i32
 /// the block's forms the number `allowed` allows both where it is 0, the one-byte form alone where it is 1,
 /// and the two-byte form alone where it is 2.
 ///
-/// `OK`; `SHORT_BUFFER` where `len` is past the buffer, or there is no room behind the packet;
-/// `BAD_FIELD` where `allowed` is above 2, the id is 0, there are more than 255 bytes of data, the block
-/// needs the two-byte form and that isn't allowed, or it would have more than 65,535 words; or the status
-/// of the first cause for which the bytes are no packet. Where it isn't `OK` nothing changes.
+/// `OK`; `BAD_FIELD` where `allowed` is above 2, `len` is past the buffer, the id is 0, there are more than
+/// 255 bytes of data, the block needs the two-byte form and that isn't allowed, or it would have more than
+/// 65,535 words; the status of the first cause for which the bytes are no packet; or `SHORT_BUFFER` where
+/// there is no room behind the packet. Where it isn't `OK` nothing changes.
 #[unsafe(no_mangle)]
 pub extern "C" fn rtpw_put_element(
     buf: &mut [u8],
@@ -82,21 +83,21 @@ pub extern "C" fn rtpw_put_element(
 /// row in the same order, the body is filled up to whole words, and the payload moves to the front (RFC
 /// 8285, 4.2 and 4.3). `len` becomes its new length. After `rtpw_remove_element` it gives the bytes back.
 ///
-/// `OK`; `SHORT_BUFFER` where `len` is past the buffer; or the status of the first cause for which the
-/// bytes are no packet. Where it isn't `OK` nothing changes.
+/// `OK`; `BAD_FIELD` where `len` is past the buffer; or the status of the first cause for which the bytes
+/// are no packet. Where it isn't `OK` nothing changes.
 #[unsafe(no_mangle)]
 pub extern "C" fn rtpw_compact(buf: &mut [u8], len: &mut usize) -> i32
     ensures compacted { result ≡ ok → Compacts (take len.old buf.old) buf.new len.new }
     ensures within { result ≡ ok → len.new ≤ len.old }
     ensures behind { drop len.old buf.new ≡ drop len.old buf.old }
-    ensures short { (result ≡ short_buffer) ↔ (length buf.old < len.old) }
+    ensures bad_len { (result ≡ bad_field) ↔ (length buf.old < len.old) }
     ensures cause { len.old ≤ length buf.old → result ≢ ok →
         IsCauseStatus (take len.old buf.old) result }
     ensures refused { len.old ≤ length buf.old → result ≢ ok ↔ NotAHeader (take len.old buf.old) }
     ensures unchanged { result ≢ ok → (buf.new ≡ buf.old) × (len.new ≡ len.old) }
 {
     if *len > buf.len() {
-        return SHORT_BUFFER;
+        return BAD_FIELD;
     }
     match compact(&mut buf[..*len]) {
         Err(cause) => status_of(cause),

@@ -10,7 +10,7 @@ use Rattle.rtp_ext.specs.WrittenBlock.{whole_words}
 use Rattle.rtp_ext.proofs.LastPlaceLemmas.{AreElements-same}
 use Rattle.rtp_wire.specs.declared.packet.growing.Plan.{Plan}
 use Rattle.rtp_wire.specs.declared.packet.not_put.NotPut.{NotPut}
-use Rattle.rtp_wire.specs.declared.packet.not_put.NotPut.TheVariants.{ShortBuffer, NotAPacket, ZeroId, LongData, OneByteOnly, LongBlock, NoRoom}
+use Rattle.rtp_wire.specs.declared.packet.not_put.NotPut.TheVariants.{CutPacket, NotAPacket, ZeroId, LongData, OneByteOnly, LongBlock, NoRoom}
 use Rattle.rtp_wire.specs.NotAHeader.{sources_end}
 use Rattle.rtp_wire.specs.Packet.{PacketParts, IsPacket, header_len_of}
 use Rattle.rtp_wire.specs.PacketElements.{AreElementsOf}
@@ -50,7 +50,7 @@ module _ (buf : List ℕ) (len : ℕ) (element : Element) (allowed : Option Exte
     (within : len ≤ length buf) (few : growth.body_len ≤ 262140) where
   -- none applies before the room is looked at
   pub none_before_room : (cause : NotPut) → put_place cause < 6 → AppliesToPut buf len element allowed cause → ⊥
-  none_before_room ShortBuffer before fact = omega arith
+  none_before_room CutPacket before fact = omega arith
   none_before_room (NotAPacket cause) before fact = none_of_packet (take len buf) element allowed growth writable (NotAPacket cause) (omega arith) fact
   none_before_room ZeroId before fact = none_of_packet (take len buf) element allowed growth writable ZeroId (omega arith) fact
   none_before_room LongData before fact = none_of_packet (take len buf) element allowed growth writable LongData (omega arith) fact
@@ -60,7 +60,7 @@ module _ (buf : List ℕ) (len : ℕ) (element : Element) (allowed : Option Exte
 
   -- and none at all where there is room
   pub none_at_all : growth.len ≤ length buf → (cause : NotPut) → AppliesToPut buf len element allowed cause → ⊥
-  none_at_all room ShortBuffer fact = none_before_room ShortBuffer (omega arith) fact
+  none_at_all room CutPacket fact = none_before_room CutPacket (omega arith) fact
   none_at_all room (NotAPacket cause) fact = none_before_room (NotAPacket cause) (omega arith) fact
   none_at_all room ZeroId fact = none_before_room ZeroId (omega arith) fact
   none_at_all room LongData fact = none_before_room LongData (omega arith) fact
@@ -70,7 +70,7 @@ module _ (buf : List ℕ) (len : ℕ) (element : Element) (allowed : Option Exte
 
 pub of_the_packet : (buf : List ℕ) (len : ℕ) (element : Element) (allowed : Option ExtensionsForm) (cause : NotPut) → AppliesToPacket (take len buf) element allowed cause
     → AppliesToPut buf len element allowed cause
-of_the_packet buf len element allowed ShortBuffer fact = absurd fact
+of_the_packet buf len element allowed CutPacket fact = absurd fact
 of_the_packet buf len element allowed (NotAPacket cause) fact = fact
 of_the_packet buf len element allowed ZeroId fact = fact
 of_the_packet buf len element allowed LongData fact = fact

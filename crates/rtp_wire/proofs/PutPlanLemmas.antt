@@ -4,24 +4,25 @@ use Rattle.std.specs.Prelude.{slice_index, slice_range, option_map, unwrap_or, i
 use Rattle.std.specs.Prelude.{◌↔◌, IsTrue}
 use Rattle.std.specs.Option.{option_eq}
 use Rattle.std.specs.Borrow.{Bor}
-use Rattle.std.proofs.lemmas.Bool.{false≢true}
+use Rattle.std.specs.Prelude.{◌&&◌, nat_le}
+use Rattle.std.proofs.lemmas.Bool.{false≢true, leb-true}
 use denote.Enum.Bare.{sameb}
 use Rattle.rtp_ext.specs.contracts.form.ExtensionsForm.{the_type}
 use Rattle.std.proofs.lemmas.List.{get_or-drop}
-use Rattle.std.proofs.lemmas.Option.{none-some}
+use Rattle.std.proofs.lemmas.Option.{none-some, same_Some}
 use Rattle.rtp_ext.specs.declared.form.ExtensionsForm.{ExtensionsForm}
 use Rattle.rtp_ext.specs.declared.form.ExtensionsForm.TheVariants.{OneByte, TwoByte}
 use Rattle.rtp_ext.specs.Elements.{Element, AreElements, elements_bytes, ended}
 use Rattle.rtp_ext.specs.declared.growing.Survey.{Survey}
 use Rattle.rtp_ext.specs.BodySurvey.{IsSurvey}
 use Rattle.rtp_ext.specs.WrittenBlock.{whole_words}
-use Rattle.rtp_ext.specs.ElementsInARow.{IsWritable}
+use Rattle.rtp_ext.specs.ElementsInARow.{IsWritable, serves_one_byte}
 use Rattle.rtp_ext.specs.PutElement.{needed_form, allowed_form}
 use Rattle.rtp_ext.proofs.RawWritingLemmas.{IsWritable-short}
 use Rattle.rtp_ext.proofs.LastPlaceLemmas.{AreElements-same}
 use Rattle.rtp_wire.specs.declared.packet.rtp_packet.RtpPacket.{RtpPacket}
 use Rattle.rtp_wire.specs.declared.packet.not_put.NotPut.{NotPut}
-use Rattle.rtp_wire.specs.declared.packet.not_put.NotPut.TheVariants.{ShortBuffer, NotAPacket, ZeroId, LongData, OneByteOnly, LongBlock, NoRoom}
+use Rattle.rtp_wire.specs.declared.packet.not_put.NotPut.TheVariants.{CutPacket, NotAPacket, ZeroId, LongData, OneByteOnly, LongBlock, NoRoom}
 use Rattle.rtp_wire.specs.Block.{word_at}
 use Rattle.rtp_wire.specs.NotAHeader.{sources_end}
 use Rattle.rtp_wire.specs.PartsAt.{has_block, header_end}
@@ -164,12 +165,52 @@ form-tested (Some TwoByte) TwoByte test is = (λ yes. refl, λ some. is)
 form-tested (Some OneByte) TwoByte test is = (λ yes. absurd (false≢true (sym is ∙ yes)), λ some. absurd cc)
 form-tested (Some TwoByte) OneByte test is = (λ yes. absurd (false≢true (sym is ∙ yes)), λ some. absurd cc)
 
+-- ---- the form
+
+and_parts : (a b : Bool) → (a && b) ≡ true → (a ≡ true) × (b ≡ true)
+and_parts true b e = (refl, e)
+and_parts false b e = absurd cc
+
+-- what serves in the one-byte form may be written in it
+IsWritable-serves : (element : Element) → serves_one_byte element ≡ true → IsWritable OneByte element
+IsWritable-serves element serves =
+    let halves = and_parts (nat_le 1 element.0 && nat_le element.0 14) (nat_le 1 (length element.1) && nat_le (length element.1) 16) serves in
+    let id = and_parts (nat_le 1 element.0) (nat_le element.0 14) halves.0 in
+    let len = and_parts (nat_le 1 (length element.1)) (nat_le (length element.1) 16) halves.1 in
+    let above = leb-true 1 element.0 id.0 in
+    (above, (leb-true element.0 14 id.1, leb-true 1 (length element.1) len.0, leb-true (length element.1) 16 len.1, omega arith))
+
+serves-needed : (block : Option ExtensionsForm) (element : Element) → needed_form block element ≡ OneByte → serves_one_byte element ≡ true
+serves-needed (Some TwoByte) element is = absurd cc
+serves-needed (Some OneByte) element is = by_test (serves_one_byte element) is
+  where
+    by_test : (b : Bool) → (if b then OneByte else TwoByte) ≡ OneByte → b ≡ true
+    by_test true is = refl
+    by_test false is = absurd cc
+serves-needed None element is = by_test (serves_one_byte element) is
+  where
+    by_test : (b : Bool) → (if b then OneByte else TwoByte) ≡ OneByte → b ≡ true
+    by_test true is = refl
+    by_test false is = absurd cc
+
+needed-allowed : (allowed : Option ExtensionsForm) (needed : ExtensionsForm) → allowed_form allowed needed ≡ Some OneByte → needed ≡ OneByte
+needed-allowed None needed is = same_Some _ _ is
+needed-allowed (Some TwoByte) needed is = absurd cc
+needed-allowed (Some OneByte) OneByte is = refl
+needed-allowed (Some OneByte) TwoByte is = absurd cc
+
+-- the form that the block gets can carry the element
+pub IsWritable-allowed : (block allowed : Option ExtensionsForm) (element : Element) (form : ExtensionsForm) → 1 ≤ element.0 → element.0 ≤ 255 → length element.1 ≤ 255
+    → allowed_form allowed (needed_form block element) ≡ Some form → IsWritable form element
+IsWritable-allowed block allowed element TwoByte above below short is = (above, (above, below, short))
+IsWritable-allowed block allowed element OneByte above below short is = IsWritable-serves element (serves-needed block element (needed-allowed allowed (needed_form block element) is))
+
 -- ---- the causes
 
 -- of those of a packet none applies before its block is found to be too long
 pub none_of_packet : (bytes : List ℕ) (element : Element) (allowed : Option ExtensionsForm) (growth : IsGrowth bytes element allowed) → IsWritable growth.form element
     → (cause : NotPut) → put_place cause < 5 → AppliesToPacket bytes element allowed cause → ⊥
-none_of_packet bytes element allowed growth writable ShortBuffer before fact = fact
+none_of_packet bytes element allowed growth writable CutPacket before fact = fact
 none_of_packet bytes element allowed growth writable (NotAPacket cause) before fact = no_packet bytes cause growth.parts fact.applies growth.is_packet
 none_of_packet bytes element allowed growth writable ZeroId before fact = let some = writable.0 in omega arith
 none_of_packet bytes element allowed growth writable LongData before fact = omega (arith, IsWritable-short growth.form element writable)

@@ -8,7 +8,7 @@ use Rattle.rtp_ext.specs.ElementsInPlace.{SetsLast}
 use Rattle.rtp_ext.specs.PutElement.{put_element, carried_in, needed_form, allowed_form, row_to, IsSole}
 use Rattle.rtp_ext.specs.WrittenBlock.{whole_words, filled}
 use Rattle.rtp_wire.specs.declared.packet.not_put.NotPut.{NotPut}
-use Rattle.rtp_wire.specs.declared.packet.not_put.NotPut.TheVariants.{ShortBuffer, NotAPacket, ZeroId, LongData, OneByteOnly, LongBlock, NoRoom}
+use Rattle.rtp_wire.specs.declared.packet.not_put.NotPut.TheVariants.{CutPacket, ZeroId, LongData, NotAPacket, OneByteOnly, LongBlock, NoRoom}
 use Rattle.rtp_wire.specs.NotAHeader.{sources_end}
 use Rattle.rtp_wire.specs.NotAPacket.{IsFirstCause}
 use Rattle.rtp_wire.specs.Packet.{PacketParts, IsPacket}
@@ -59,42 +59,32 @@ pub record PutsElement (old : List ℕ) (element : Element) (allowed : Option Ex
   pub are_elements : AreElements growth.form body (elements_with growth.form element growth.elements)
   pub word_is : form_of_block growth.parts.block ≡ Some growth.form → take (sources_end old + 2) new ≡ take (sources_end old + 2) old
 
--- the cause applies to an element that is put into a block of this form, or none
-abbrev pub AppliesToForm : Option ExtensionsForm → Element → Option ExtensionsForm → NotPut → Type 0
-AppliesToForm block element allowed ShortBuffer = ⊥
-AppliesToForm block element allowed (NotAPacket cause) = ⊥
-AppliesToForm block element allowed ZeroId = element.0 ≡ 0
-AppliesToForm block element allowed LongData = 255 < length element.1
-AppliesToForm block element allowed OneByteOnly = allowed_form allowed (needed_form block element) ≡ None
-AppliesToForm block element allowed LongBlock = ⊥
-AppliesToForm block element allowed (NoRoom needed) = ⊥
-
--- it applies to an element that is put into the packet of these bytes
+-- the cause applies to an element that is put into the packet of these bytes
 abbrev pub AppliesToPacket : List ℕ → Element → Option ExtensionsForm → NotPut → Type 0
-AppliesToPacket bytes element allowed ShortBuffer = ⊥
-AppliesToPacket bytes element allowed (NotAPacket cause) = IsFirstCause bytes cause
+AppliesToPacket bytes element allowed CutPacket = ⊥
 AppliesToPacket bytes element allowed ZeroId = element.0 ≡ 0
 AppliesToPacket bytes element allowed LongData = 255 < length element.1
+AppliesToPacket bytes element allowed (NotAPacket cause) = IsFirstCause bytes cause
 AppliesToPacket bytes element allowed OneByteOnly = (parts : PacketParts) × IsPacket bytes parts × (allowed_form allowed (needed_form (form_of_block parts.block) element) ≡ None)
 AppliesToPacket bytes element allowed LongBlock = (growth : IsGrowth bytes element allowed) × (4 * 65535 < growth.body_len)
 AppliesToPacket bytes element allowed (NoRoom needed) = ⊥
 
 -- it applies to an element that is put into the packet in so many first bytes of the buffer
 abbrev pub AppliesToPut : List ℕ → ℕ → Element → Option ExtensionsForm → NotPut → Type 0
-AppliesToPut buf len element allowed ShortBuffer = length buf < len
-AppliesToPut buf len element allowed (NotAPacket cause) = AppliesToPacket (take len buf) element allowed (NotAPacket cause)
+AppliesToPut buf len element allowed CutPacket = length buf < len
 AppliesToPut buf len element allowed ZeroId = AppliesToPacket (take len buf) element allowed ZeroId
 AppliesToPut buf len element allowed LongData = AppliesToPacket (take len buf) element allowed LongData
+AppliesToPut buf len element allowed (NotAPacket cause) = AppliesToPacket (take len buf) element allowed (NotAPacket cause)
 AppliesToPut buf len element allowed OneByteOnly = AppliesToPacket (take len buf) element allowed OneByteOnly
 AppliesToPut buf len element allowed LongBlock = AppliesToPacket (take len buf) element allowed LongBlock
 AppliesToPut buf len element allowed (NoRoom needed) = (growth : IsGrowth (take len buf) element allowed) × (needed ≡ growth.len) × (length buf < needed)
 
 -- the place of a cause in the order of looking
 abbrev pub put_place : NotPut → ℕ
-put_place ShortBuffer = 0
-put_place (NotAPacket cause) = 1
-put_place ZeroId = 2
-put_place LongData = 3
+put_place CutPacket = 0
+put_place ZeroId = 1
+put_place LongData = 2
+put_place (NotAPacket cause) = 3
 put_place OneByteOnly = 4
 put_place LongBlock = 5
 put_place (NoRoom needed) = 6

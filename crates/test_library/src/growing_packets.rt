@@ -220,21 +220,25 @@ const PLAIN: &str = "80600005000000640000002c";
 
 const ONE_BYTE: &str = "90600005000000640000002cbede000110aa0000";
 
-const REFUSALS: [Refusal; 14] = [
-    (PLAIN, 13, 0, 256, None, NotPut::ShortBuffer),
+const REFUSALS: [Refusal; 16] = [
+    (PLAIN, 13, 0, 256, None, NotPut::CutPacket),
+    (PLAIN, 11, 0, 256, None, NotPut::ZeroId),
+    (ONE_BYTE, 20, 0, 1, Some(OneByte), NotPut::ZeroId),
+    (PLAIN, 11, 1, 256, None, NotPut::LongData),
+    (PLAIN, 12, 15, 256, Some(OneByte), NotPut::LongData),
     (
         PLAIN,
         11,
-        0,
-        256,
-        None,
+        15,
+        255,
+        Some(OneByte),
         NotPut::NotAPacket(NotAPacket::CutFixedPart),
     ),
     (
         "50600005000000640000002c",
         12,
-        0,
-        256,
+        1,
+        1,
         None,
         NotPut::NotAPacket(NotAPacket::OtherVersion),
     ),
@@ -265,14 +269,11 @@ const REFUSALS: [Refusal; 14] = [
     (
         ONE_BYTE,
         19,
+        15,
         1,
-        1,
-        None,
+        Some(OneByte),
         NotPut::NotAPacket(NotAPacket::CutBlock),
     ),
-    (PLAIN, 12, 0, 256, Some(OneByte), NotPut::ZeroId),
-    (ONE_BYTE, 20, 0, 1, None, NotPut::ZeroId),
-    (PLAIN, 12, 15, 256, Some(OneByte), NotPut::LongData),
     (PLAIN, 12, 15, 255, Some(OneByte), NotPut::OneByteOnly),
     (ONE_BYTE, 20, 1, 17, Some(OneByte), NotPut::OneByteOnly),
     (
@@ -284,6 +285,7 @@ const REFUSALS: [Refusal; 14] = [
         NotPut::OneByteOnly,
     ),
     (PLAIN, 12, 15, 255, None, NotPut::NoRoom { needed: 276 }),
+    (ONE_BYTE, 20, 2, 4, None, NotPut::NoRoom { needed: 24 }),
 ];
 
 #[test]

@@ -12,7 +12,7 @@ ghost use Rattle.rtp_ext.specs.PutElement.{needed_form, allowed_form};
 ghost use Rattle.rtp_wire.specs.GrowingPacket.{with_extension_bit, resized, IsPlan, MakesAnew};
 ghost use Rattle.rtp_wire.specs.NotAHeader.{NotAHeader, sources_end};
 ghost use Rattle.rtp_wire.specs.NotAPacket.{IsFirstCause};
-ghost use Rattle.rtp_wire.specs.PutIntoPacket.{IsSetInPlace, PutsElement, AppliesToForm, AppliesToPacket, AppliesToPut, IsFirstNotPut, Compacts};
+ghost use Rattle.rtp_wire.specs.PutIntoPacket.{IsSetInPlace, PutsElement, AppliesToPacket, AppliesToPut, IsFirstNotPut, Compacts};
 
 use super::rtp_packet::sources_end;
 use super::{NotAPacket, NotPut, RtpPacket};
@@ -48,27 +48,6 @@ struct Plan {
     new_body_len: usize,
 }
 
-// The form that a block gets with the element put into it, where it has this form or there is none yet.
-fn new_form(
-    block: Option<ExtensionsForm>,
-    allowed: Option<ExtensionsForm>,
-    id: u8,
-    data: &[u8],
-) -> Result<ExtensionsForm, NotPut>
-    ensures found { IfOk result (λ form.
-        allowed_form allowed (needed_form block (id, «data».now)) ≡ Some form) }
-    ensures writable { IfOk result (λ form. IsWritable form (id, «data».now)) }
-    ensures cause { IfErr result (IsFirstNotPut (AppliesToForm block (id, «data».now) allowed)) }
-{
-    if id == 0 {
-        return Err(NotPut::ZeroId);
-    }
-    if data.len() > 255 {
-        return Err(NotPut::LongData);
-    }
-    form_to_put(block, allowed, id, data).ok_or(NotPut::OneByteOnly)
-}
-
 impl Plan {
     // What becomes of the packet in the datagram.
     fn new(
@@ -81,8 +60,16 @@ impl Plan {
         ensures cause { IfErr result (IsFirstNotPut
             (AppliesToPacket datagram.now (id, «data».now) allowed)) }
     {
+        if id == 0 {
+            return Err(NotPut::ZeroId);
+        }
+        if data.len() > 255 {
+            return Err(NotPut::LongData);
+        }
         let packet = RtpPacket::parse(datagram)?;
-        let new_form = new_form(packet.form(), allowed, id, data)?;
+        let Some(new_form) = form_to_put(packet.form(), allowed, id, data) else {
+            return Err(NotPut::OneByteOnly);
+        };
         let (form, body) = packet.block().unwrap_or((new_form, &[]));
         let survey = survey_of(form, body, id);
         let elements_len = put_len(form, new_form, body, &survey, id, data);
@@ -225,7 +212,7 @@ pub fn put_element(
     ensures unchanged { OnErr result (buf.new ≡ buf.old) }
 {
     if len > buf.len() {
-        return Err(NotPut::ShortBuffer);
+        return Err(NotPut::CutPacket);
     }
     let plan = Plan::new(&buf[..len], id, data, allowed)?;
     if plan.set(&mut buf[..len], id, data) {

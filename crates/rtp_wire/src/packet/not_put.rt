@@ -11,17 +11,17 @@ use thiserror::Error;
 #[derive(Clone, Copy, Debug, PartialEq, Eq, Error)]
 pub enum NotPut {
     /// The buffer has fewer bytes than the packet is said to have.
-    #[error("the packet ends after the buffer")]
-    ShortBuffer,
-    /// The bytes are no packet.
-    #[error("no packet: {0}")]
-    NotAPacket(NotAPacket),
+    #[error("the buffer ends before the packet")]
+    CutPacket,
     /// The id is 0, which is padding's.
     #[error("the id 0")]
     ZeroId,
     /// The data have more than 255 bytes.
     #[error("more than 255 bytes of data")]
     LongData,
+    /// The bytes are no packet.
+    #[error("no packet: {0}")]
+    NotAPacket(NotAPacket),
     /// The block needs the two-byte form, and only the one-byte form is allowed.
     #[error("the two-byte form is needed, and only the one-byte form is allowed")]
     OneByteOnly,

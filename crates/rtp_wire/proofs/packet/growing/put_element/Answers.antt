@@ -2,14 +2,14 @@ use Rattle.std.proofs.Common.{◌≡◌, ℕ, ◌+◌, ◌-◌, ◌≤◌, ◌<�
 use Rattle.std.proofs.lemmas.Bool.{false≢true, OnTrue_at, OnFalse_at}
 use Rattle.std.proofs.lemmas.List.{take-append-drop}
 use Rattle.rtp_ext.specs.declared.form.ExtensionsForm.{ExtensionsForm}
-use Rattle.rtp_wire.specs.declared.packet.not_put.NotPut.TheVariants.{ShortBuffer, NoRoom}
+use Rattle.rtp_wire.specs.declared.packet.not_put.NotPut.TheVariants.{CutPacket, NoRoom}
 use Rattle.rtp_wire.specs.PutIntoPacket.{PutsElement}
 use Rattle.rtp_wire.specs.GrowingPacket.{IsPlan, MakesAnew}
 use Rattle.rtp_wire.proofs.PutElementLemmas.{same-growth, none_before_room, none_at_all, of_the_packet, PutsElement-front, PutsElement-anew, plan-len}
 use Rattle.rtp_wire.proofs.packet.growing.put_element.Goals as goal
 
 pub returns-then-len-buf-clause-refused : goal.returns-then-len-buf-clause-refused
-returns-then-len-buf-clause-refused c = (λ _. (ShortBuffer, c.if-len-buf.true), λ _. refl)
+returns-then-len-buf-clause-refused c = (λ _. (CutPacket, c.if-len-buf.true), λ _. refl)
 
 pub returns-in_err-plan-clause-refused : goal.returns-in_err-plan-clause-refused
 returns-in_err-plan-clause-refused c = (
