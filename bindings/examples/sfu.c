@@ -1,6 +1,5 @@
 /* What sfu.h says. */
 #include "sfu.h"
-#include "sfu_put.h" /* until rtp_wire.h has rtpw_put_element */
 
 #include <string.h>
 
@@ -45,12 +44,13 @@ static size_t stream_of(sfu *sfu, uint32_t ssrc) {
 typedef struct {
     uint8_t *bytes;
     size_t len;
-    bool wide; /* whether it may get the two-byte form */
+    uint8_t allowed; /* the forms that its block may get */
 } header;
 
 /* Gives the packet this element, where the receiver has an id for it. */
 static bool put(header *header, uint8_t id, const uint8_t *data, size_t len) {
-    return id == 0 || rtpw_put_element(header->bytes, &header->len, SFU_HEADER, id, data, len, header->wide) == RTPW_OK;
+    return id == 0 ||
+           rtpw_put_element(header->bytes, SFU_HEADER, &header->len, id, data, len, header->allowed) == RTPW_OK;
 }
 
 /* Gives the packet the ids of the receiver. A one-byte block can't carry ids above 14: so it first gets an
@@ -85,7 +85,8 @@ static bool forward(sfu *sfu, size_t receiver, size_t stream, const uint8_t *dat
                     uint64_t microseconds, sfu_send *send, void *context) {
     uint8_t bytes[SFU_HEADER];
     sfu_route *route = &sfu->routes[receiver];
-    header header = {bytes, packet->payload_at, route->wide};
+    bool wide = route->wide || packet->block_form == RTPW_TWO_BYTE_FORM;
+    header header = {bytes, packet->payload_at, wide ? RTPW_ANY_FORM : RTPW_ONE_BYTE_FORM};
     if (packet->payload_at > sizeof bytes) {
         return false;
     }

@@ -157,6 +157,21 @@ static inline call_len call_remove_padding(uint8_t *datagram, size_t len) {
     return it;
 }
 
+static inline call_len call_put_element(uint8_t *buf, size_t size, size_t len, uint8_t id, const uint8_t *data,
+                                        size_t data_len, uint8_t allowed) {
+    call_len it = {0};
+    it.len = len;
+    it.status = rtpw_put_element(buf, size, &it.len, id, data, data_len, allowed);
+    return it;
+}
+
+static inline call_len call_compact(uint8_t *datagram, size_t len) {
+    call_len it = {0};
+    it.len = len;
+    it.status = rtpw_compact(datagram, len, &it.len);
+    return it;
+}
+
 static inline call_len call_pad(uint8_t *datagram, size_t size, size_t header_len, uint8_t pad_len,
                                 size_t block_size) {
     call_len it = {0};

@@ -86,6 +86,40 @@ func RemovePadding(datagram []byte) ([]byte, error) {
 	return datagram[:length], nil
 }
 
+// PutElement puts an element, of an id from 1 on with at most 255 bytes of data, into the packet, and returns the packet
+// as it then lies in the slice, with the capacity behind it as room. It then has exactly one element of the id, in
+// place of the last one of the id or as the last of all; the other elements stay, in order, and all other parts too.
+// Without a block the packet gets one. Where the element is the only one of its id and has as many bytes, only these
+// change. Else the block is made anew: its padding is used up, and then the payload moves by whole words; a body never
+// becomes shorter ([Compact]). A header alone is enough.
+//
+// A one-byte block that can't carry the element becomes a two-byte one, where the forms that are allowed let it:
+// AnyForm; OneByteForm alone, as for a peer that hasn't agreed to both in one stream (RFC 8285, 4.1.2); or TwoByteForm
+// alone, which the block then gets.
+//
+// It returns ErrBadField where allowed is none of the three, the id is 0, there are more than 255 bytes of data, or the
+// block needs a form that isn't allowed, or more than 65,535 words; and ErrShortBuffer where the capacity is too small.
+// Where it returns an error nothing changes.
+func PutElement(datagram []byte, id uint8, data []byte, allowed Form) ([]byte, error) {
+	buf := datagram[:cap(datagram)]
+	length, err := putElement(buf, len(datagram), id, data, allowed)
+	if err != nil {
+		return nil, err
+	}
+	return buf[:length], nil
+}
+
+// Compact makes the packet as short as its elements allow, and returns the bytes that it then has, the first ones of
+// the datagram: the elements stand in a row, the body is filled up to whole words, and the payload moves to the front.
+// So [RemoveElement] and then this gives bytes back. A header alone is enough.
+func Compact(datagram []byte) ([]byte, error) {
+	length, err := compact(datagram)
+	if err != nil {
+		return nil, err
+	}
+	return datagram[:length], nil
+}
+
 // Pad makes a packet of padding alone after its header: it sets P, and writes the padding from headerLen on, zeros and
 // in the last byte their count, which is returned. It is padLen in whole blocks, but at most 240 bytes; with a padLen
 // of 0 nothing changes, and no room is wanted. To pad a packet with a payload, pass the end of the payload as

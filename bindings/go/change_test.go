@@ -89,6 +89,34 @@ func TestNewIDs(t *testing.T) {
 	same(t, "of no map", *rtpwire.NewIDsBetween(nil, nil), rtpwire.NewIDs{})
 }
 
+func TestPutElement(t *testing.T) {
+	datagram := append(make([]byte, 0, 64), sample()...)
+	put := func(at string, id uint8, data []byte, allowed rtpwire.Form, length int, err error) {
+		t.Helper()
+		grown, found := rtpwire.PutElement(datagram, id, data, allowed)
+		same(t, at, []any{len(grown), found}, []any{length, err})
+		if err == nil {
+			datagram = grown
+		}
+	}
+	put("in place", 2, []byte{1, 2}, rtpwire.AnyForm, 37, nil)
+	same(t, "body", datagram[24:32], []byte{0x10, 0xAA, 0x21, 1, 2, 0x10, 0xDD, 0})
+	put("longer", 2, []byte{3, 3, 3, 3, 3}, rtpwire.OneByteForm, 41, nil)
+	same(t, "body", datagram[22:36], []byte{0, 3, 0x10, 0xAA, 0x24, 3, 3, 3, 3, 3, 0x10, 0xDD, 0, 0})
+	same(t, "payload", datagram[36:], sample()[32:])
+	put("form not allowed", 15, []byte{4}, rtpwire.OneByteForm, 0, rtpwire.ErrBadField)
+	put("no such form", 1, []byte{4}, 3, 0, rtpwire.ErrBadField)
+	put("in the two-byte form", 15, []byte{4}, rtpwire.AnyForm, 45, nil)
+	_, err := rtpwire.PutElement(datagram[:45:48], 16, []byte{4, 5, 6}, rtpwire.AnyForm)
+	same(t, "no room", err, error(rtpwire.ErrShortBuffer))
+	same(t, "removed", rtpwire.RemoveElement(datagram, 2), nil)
+	short, err := rtpwire.Compact(datagram)
+	same(t, "short", []any{len(short), err}, []any{41, nil})
+	same(t, "payload", short[36:], sample()[32:])
+	_, err = rtpwire.Compact(datagram[:11])
+	same(t, "no packet", err, error(rtpwire.CutFixedPart))
+}
+
 func TestPadding(t *testing.T) {
 	datagram := sample()
 	rest, err := rtpwire.RemovePadding(datagram)

@@ -10,6 +10,9 @@ const (
 	TwoByteForm Form = 2 // 0x1000 to 0x100F: ids up to 255, and up to 255 bytes of data
 )
 
+// AnyForm allows both forms ([PutElement]).
+const AnyForm Form = 0
+
 // String names the form.
 func (f Form) String() string {
 	switch f {

@@ -265,6 +265,15 @@ func removePadding(datagram []byte) (int, error) {
 	return lenOr(C.call_remove_padding(first(datagram), size(datagram)))
 }
 
+func putElement(buf []byte, length int, id uint8, data []byte, allowed Form) (int, error) {
+	it := C.call_put_element(first(buf), size(buf), C.size_t(length), C.uint8_t(id), first(data), size(data), C.uint8_t(allowed))
+	return lenOr(it)
+}
+
+func compact(datagram []byte) (int, error) {
+	return lenOr(C.call_compact(first(datagram), size(datagram)))
+}
+
 func (n *NewIDs) between(from, to *Map) {
 	C.rtpw_new_ids_between(from.c(), to.c(), (*C.rtpw_new_ids)(unsafe.Pointer(&n.ids)))
 }

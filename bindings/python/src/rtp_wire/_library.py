@@ -240,6 +240,10 @@ set_element = _declare(_STATUS, "rtpw_set_element", _BYTES, _SIZE, c_uint8, _BYT
 remove_element = _declare(_STATUS, "rtpw_remove_element", _BYTES, _SIZE, c_uint8)
 set_padding = _declare(_STATUS, "rtpw_set_padding", _BYTES, _SIZE, c_bool)
 remove_padding = _declare(_STATUS, "rtpw_remove_padding", _BYTES, _SIZE, POINTER(c_size_t))
+put_element = _declare(
+    _STATUS, "rtpw_put_element", _BYTES, _SIZE, POINTER(c_size_t), c_uint8, _BYTES, _SIZE, c_uint8
+)
+compact = _declare(_STATUS, "rtpw_compact", _BYTES, _SIZE, POINTER(c_size_t))
 
 next_element = _declare(_STATUS, "rtpw_next_element", _BYTES, _SIZE, c_uint8, _SIZE, POINTER(RawElement))
 last_element = _declare(_STATUS, "rtpw_last_element", _BYTES, _SIZE, c_uint8, c_uint8, POINTER(RawElement))

@@ -11,9 +11,9 @@ use std::fmt;
 use std::io::{self, BufRead, Write};
 use std::process::ExitCode;
 
-use rtp_wire::{is_rtcp, Fields, Form, Kind, Map, NewIds, Packet, PacketMut, Receiver};
-
-use put::put_element;
+use rtp_wire::{
+    is_rtcp, put_element, Fields, Form, Kind, Map, NewIds, Packet, PacketMut, Receiver,
+};
 
 /// So many numbers up to the highest one a receiver keeps.
 const WINDOW: u64 = 128;
@@ -89,10 +89,39 @@ impl fmt::Display for Counts {
     }
 }
 
+/// A header that lies in a buffer, with room behind it.
+struct Header {
+    buf: [u8; HEADER],
+    len: usize,
+    /// The form that alone its block may get, or that it may get either.
+    allowed: Option<Form>,
+}
+
+impl Header {
+    /// That of the packet.
+    fn of(packet: &Packet, allowed: Option<Form>) -> Option<Header> {
+        let mut buf = [0; HEADER];
+        let len = packet.header_len();
+        buf.get_mut(..len)?
+            .copy_from_slice(&packet.datagram()[..len]);
+        Some(Header { buf, len, allowed })
+    }
+
+    fn bytes(&mut self) -> &mut [u8] {
+        &mut self.buf[..self.len]
+    }
+
+    /// Gives it this element, where the receiver has an id for it.
+    fn put(&mut self, id: Option<u8>, data: &[u8]) -> Option<()> {
+        if let Some(id) = id {
+            self.len = put_element(&mut self.buf, self.len, id, data, self.allowed).ok()?;
+        }
+        Some(())
+    }
+}
+
 #[derive(Default)]
 struct Sfu {
-    /// The header of the packet that goes.
-    header: Vec<u8>,
     routes: Vec<Route>,
     streams: Vec<Stream>,
     counts: Counts,
@@ -116,51 +145,38 @@ impl Route {
         }
     }
 
-    /// Gives the packet this element, where the receiver has an id for it.
-    fn put(&self, header: &mut Vec<u8>, id: Option<u8>, data: &[u8]) -> Option<()> {
-        match id {
-            Some(id) => put_element(header, HEADER, id, data, self.wide),
-            None => Some(()),
-        }
-    }
-
     /// Gives the packet the ids of the receiver. A one-byte block can't carry ids above 14: so it first gets an
     /// element that makes it a two-byte one, and that becomes padding with all that has no id there.
-    fn renumber(&self, header: &mut Vec<u8>, form: Option<Form>) -> Option<()> {
+    fn renumber(&self, header: &mut Header, form: Option<Form>) -> Option<()> {
         if self.wide && form != Some(Form::TwoByte) {
-            put_element(header, HEADER, self.spare_id, &[], true)?;
+            header.put(Some(self.spare_id), &[])?;
         }
-        PacketMut::parse(header).ok()?.renumber(&self.ids).ok()
+        let mut packet = PacketMut::parse(header.bytes()).ok()?;
+        packet.renumber(&self.ids).ok()
     }
 
-    /// Makes this the header of the packet, which is of this stream, for the receiver; `None` where it has no room.
-    fn change(
-        &mut self,
-        header: &mut Vec<u8>,
-        packet: &Packet,
-        stream: usize,
-        microseconds: u64,
-    ) -> Option<()> {
-        if packet.header_len() > HEADER {
-            return None;
-        }
-        header.clear();
-        header.extend_from_slice(&packet.datagram()[..packet.header_len()]);
-        self.renumber(header, packet.form())?;
+    /// The header of the packet, which is of this stream, for the receiver; `None` where it has no room.
+    fn header(&mut self, packet: &Packet, stream: usize, microseconds: u64) -> Option<Header> {
+        let wide = self.wide || packet.form() == Some(Form::TwoByte);
+        let allowed = if wide { None } else { Some(Form::OneByte) };
+        let mut header = Header::of(packet, allowed)?;
+        self.renumber(&mut header, packet.form())?;
         let number = packet.sequence_number();
         let fields = Fields {
             ssrc: Some(self.peer.first_ssrc.wrapping_add(stream as u32)),
             sequence_number: Some(number.wrapping_add(self.peer.number_offset)),
             ..Fields::default()
         };
-        PacketMut::parse(header).ok()?.set_fields(&fields).ok()?;
+        let mut changed = PacketMut::parse(header.bytes()).ok()?;
+        changed.set_fields(&fields).ok()?;
         *self.mid.last_mut()? = b"0123456789ABCDEF"[stream];
-        self.put(header, self.mid_id, &self.mid)?;
+        header.put(self.mid_id, &self.mid)?;
         let number = self.transport_number;
         self.transport_number = number.wrapping_add(1);
-        self.put(header, self.transport_number_id, &number.to_be_bytes())?;
+        header.put(self.transport_number_id, &number.to_be_bytes())?;
         let time = microseconds % 64_000_000 * 262_144 / 1_000_000; // 24 bits, in units of 2^-18 seconds
-        self.put(header, self.send_time_id, &time.to_be_bytes()[5..])
+        header.put(self.send_time_id, &time.to_be_bytes()[5..])?;
+        Some(header)
     }
 }
 
@@ -208,95 +224,14 @@ impl Sfu {
         receiver.record(number); // with SRTP once it is authentic
         self.counts.taken += 1;
         for (at, route) in self.routes.iter_mut().enumerate() {
-            let header = &mut self.header;
-            match route.change(header, &packet, stream, microseconds) {
-                Some(()) => {
-                    send(at, header, packet.payload());
+            match route.header(&packet, stream, microseconds) {
+                Some(mut header) => {
+                    send(at, header.bytes(), packet.payload());
                     self.counts.sent += 1;
                 }
                 None => self.counts.unsent += 1,
             }
         }
-    }
-}
-
-/// A stand-in for `put_element`, which the crate is getting: this module goes once [`PacketMut`] has it. It takes
-/// no more than the example needs: packets with a header alone, and blocks of at most 63 elements.
-mod put {
-    use rtp_wire::{write_elements, Form, Packet, PacketMut, Place};
-
-    const LONGEST: usize = 2044;
-
-    /// The places of the elements, with the new one in place of the last of its id, or at the end.
-    fn with(packet: &Packet, new: Place) -> Vec<Place> {
-        let places: Vec<Place> = packet.elements().places().collect();
-        let last = places.iter().rposition(|it| it.id() == new.id());
-        let mut all = Vec::new();
-        for (at, place) in places.into_iter().enumerate() {
-            if Some(at) == last {
-                all.push(new);
-            } else if place.id() != new.id() && place.id() != 0 {
-                all.push(place);
-            }
-        }
-        if last.is_none() {
-            all.push(new);
-        }
-        all
-    }
-
-    /// The block with the element in it; `None` where it has no room, or has to have the form that it mustn't get.
-    fn block(packet: &Packet, id: u8, data: &[u8], may_change_form: bool) -> Option<Vec<u8>> {
-        let body = packet.block().map_or(&[][..], |(_, body)| body);
-        let narrow = id <= 14 && (1..=16).contains(&data.len());
-        let form = match packet.form() {
-            Some(Form::OneByte) if !narrow && !may_change_form => return None,
-            Some(Form::OneByte) | None if narrow => Form::OneByte,
-            _ => Form::TwoByte,
-        };
-        let all = [body, data].concat();
-        let places = with(packet, Place::new(id, body.len()..all.len()));
-        if places.len() > 63 {
-            return None;
-        }
-        let mut block = vec![0; 4 + LONGEST];
-        let len = write_elements(&mut block[4..], form, &all, &places).ok()?;
-        let len = len.next_multiple_of(4).max(body.len());
-        let profile: [u8; 2] = if form == Form::OneByte {
-            [0xBE, 0xDE]
-        } else {
-            [0x10, 0x00]
-        };
-        block[..2].copy_from_slice(&profile);
-        block[2..4].copy_from_slice(&((len / 4) as u16).to_be_bytes());
-        block.truncate(4 + len);
-        Some(block)
-    }
-
-    /// Afterwards the packet, a header alone, has exactly one element of this id, with these data, and all else as
-    /// it was.
-    pub fn put_element(
-        header: &mut Vec<u8>,
-        size: usize,
-        id: u8,
-        data: &[u8],
-        may_change_form: bool,
-    ) -> Option<()> {
-        let packet = Packet::parse(header).ok()?;
-        let is_sole = packet.elements().filter(|it| it.id == id).count() == 1;
-        let block_at = 12 + 4 * packet.csrcs().len();
-        let block = block(&packet, id, data, may_change_form);
-        if is_sole && PacketMut::parse(header).ok()?.set_element(id, data).is_ok() {
-            return Some(()); // it has as many bytes
-        }
-        let block = block?;
-        if block_at + block.len() > size {
-            return None;
-        }
-        header.truncate(block_at);
-        header.extend(block);
-        header[0] |= 0x10;
-        Some(())
     }
 }
 

@@ -148,6 +148,41 @@ impl fmt::Display for NotWritten {
 
 impl Error for NotWritten {}
 
+/// Why an element wasn't put into a packet ([`put_element`](crate::put_element)).
+#[derive(Clone, Copy, Debug, PartialEq, Eq, Hash)]
+#[non_exhaustive]
+pub enum NotPut {
+    /// The packet is longer than the buffer, the id is 0, there are more than 255 bytes of data, or the block
+    /// needs a form that isn't allowed, or more than 65,535 words.
+    BadField,
+    /// The bytes are no packet.
+    NotAPacket(NotAPacket),
+    /// The buffer has no room behind the packet.
+    ShortBuffer,
+}
+
+impl NotPut {
+    pub(crate) fn of_status(status: i32) -> Result<(), NotPut> {
+        match status {
+            sys::BAD_FIELD => Err(NotPut::BadField),
+            sys::SHORT_BUFFER => Err(NotPut::ShortBuffer),
+            _ => NotAPacket::of_status(status).map_err(NotPut::NotAPacket),
+        }
+    }
+}
+
+impl fmt::Display for NotPut {
+    fn fmt(&self, f: &mut fmt::Formatter<'_>) -> fmt::Result {
+        match self {
+            NotPut::BadField => f.write_str("an argument is out of its range"),
+            NotPut::NotAPacket(cause) => cause.fmt(f),
+            NotPut::ShortBuffer => f.write_str("a buffer is too short"),
+        }
+    }
+}
+
+impl Error for NotPut {}
+
 /// Why a packet or a header was left as it was.
 #[derive(Clone, Copy, Debug, PartialEq, Eq, Hash)]
 #[non_exhaustive]

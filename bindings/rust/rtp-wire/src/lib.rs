@@ -5,8 +5,8 @@
 //! - To receive: [`is_rtcp`], [`Packet`] and its [`Elements`], [`Header`] and its [`Values`] under a [`Map`],
 //!   [`Receiver`].
 //! - To send: [`Header::write_to`], [`Header::write_with`], [`write_elements`], [`pad`].
-//! - To send on: [`PacketMut`], [`Fields`], [`Values::data_of`], [`NewIds`], [`read_original`], [`write_original`].
-//! - What went wrong: [`NotAPacket`], [`NotAHeader`], [`NotWritten`], [`NotChanged`], [`NotAText`], [`BadId`],
+//! - To send on: [`PacketMut`], [`put_element`], [`compact`], [`Fields`], [`Values::data_of`], [`NewIds`], [`read_original`], [`write_original`].
+//! - What went wrong: [`NotAPacket`], [`NotAHeader`], [`NotWritten`], [`NotChanged`], [`NotPut`], [`NotAText`], [`BadId`],
 //!   [`BadRolloverCount`], [`NoMemory`].
 #![no_std]
 #![deny(unsafe_code)]
@@ -15,6 +15,7 @@
 mod assembly;
 mod elements;
 mod error;
+mod growing;
 mod header;
 mod layers;
 mod map;
@@ -32,8 +33,9 @@ mod wide_receiver;
 
 pub use elements::{write_elements, Element, Elements, Place, Places};
 pub use error::{
-    BadId, BadRolloverCount, NoMemory, NotAHeader, NotAPacket, NotChanged, NotWritten,
+    BadId, BadRolloverCount, NoMemory, NotAHeader, NotAPacket, NotChanged, NotPut, NotWritten,
 };
+pub use growing::{compact, put_element};
 pub use header::Header;
 pub use layers::{Layer, Layers, Resolution, Stream};
 pub use map::{Kind, Map, OwnKind};

@@ -21,6 +21,7 @@ pub const UNKNOWN_FORM: i32 = 5;
 pub const CUT_BLOCK: i32 = 6;
 pub const NO_MEMORY: i32 = 7;
 pub const SHORT_BUFFER: i32 = 8;
+pub const BAD_FIELD: i32 = 9;
 pub const NONE: i32 = 11;
 pub const RESTARTED: i32 = 12;
 
@@ -55,6 +56,16 @@ mod c {
         pub fn rtpw_remove_element(datagram: *mut u8, len: usize, id: u8) -> i32;
         pub fn rtpw_set_padding(datagram: *mut u8, len: usize, has_padding: bool) -> i32;
         pub fn rtpw_remove_padding(datagram: *mut u8, len: usize, new_len: *mut usize) -> i32;
+        pub fn rtpw_put_element(
+            buf: *mut u8,
+            size: usize,
+            len: *mut usize,
+            id: u8,
+            data: *const u8,
+            data_len: usize,
+            allowed: u8,
+        ) -> i32;
+        pub fn rtpw_compact(buf: *mut u8, size: usize, len: *mut usize) -> i32;
         pub fn rtpw_next_element(
             body: *const u8,
             body_len: usize,
@@ -267,6 +278,26 @@ pub fn set_padding(datagram: &mut [u8], has_padding: bool) -> i32 {
 pub fn remove_padding(datagram: &mut [u8], len: &mut usize) -> i32 {
     // SAFETY: an exclusive slice, and an exclusive reference.
     unsafe { c::rtpw_remove_padding(datagram.as_mut_ptr(), datagram.len(), len) }
+}
+
+pub fn put_element(buf: &mut [u8], len: &mut usize, id: u8, data: &[u8], allowed: u8) -> i32 {
+    // SAFETY: an exclusive slice, an exclusive reference, and a slice that is read and so overlaps neither.
+    unsafe {
+        c::rtpw_put_element(
+            buf.as_mut_ptr(),
+            buf.len(),
+            len,
+            id,
+            data.as_ptr(),
+            data.len(),
+            allowed,
+        )
+    }
+}
+
+pub fn compact(buf: &mut [u8], len: &mut usize) -> i32 {
+    // SAFETY: an exclusive slice, and an exclusive reference.
+    unsafe { c::rtpw_compact(buf.as_mut_ptr(), buf.len(), len) }
 }
 
 pub fn next_element(body: &[u8], form: u8, at: usize) -> Option<Place> {

@@ -1,8 +1,8 @@
 //! The types of the crate. Expected values are worked out by hand from RFC 3550, 5.1 and RFC 8285.
 
 use rtp_wire::{
-    extend_u16, is_rtcp, BadRolloverCount, Element, Fields, Form, Kind, Map, NoMemory, NotAPacket,
-    NotChanged, NotWritten, Packet, PacketMut, Receiver, Values,
+    compact, extend_u16, is_rtcp, put_element, BadRolloverCount, Element, Fields, Form, Kind, Map,
+    NoMemory, NotAPacket, NotChanged, NotPut, NotWritten, Packet, PacketMut, Receiver, Values,
 };
 
 /// V=2, P, X, CC=2; M, PT=33; 47,000; 10,000; 44; the sources 1 and 2; a block of two words with the
@@ -246,6 +246,40 @@ fn values_are_read() {
         Ok(Values::default())
     );
     assert_eq!(NoMemory.to_string(), "memory was refused");
+}
+
+#[test]
+fn elements_are_put() {
+    let mut bytes = [0; 64];
+    bytes[..37].copy_from_slice(&SAMPLE);
+    // In place; longer by a word; in the two-byte form; and with too little room.
+    assert_eq!(put_element(&mut bytes, 37, 2, &[1, 2], None), Ok(37));
+    assert_eq!(bytes[24..32], [0x10, 0xAA, 0x21, 1, 2, 0x10, 0xDD, 0]);
+    assert_eq!(put_element(&mut bytes, 37, 2, &[3; 5], None), Ok(41));
+    assert_eq!(
+        bytes[22..36],
+        [0, 3, 0x10, 0xAA, 0x24, 3, 3, 3, 3, 3, 0x10, 0xDD, 0, 0]
+    );
+    assert_eq!(bytes[36..41], SAMPLE[32..]);
+    let one = Some(Form::OneByte);
+    let put = put_element(&mut bytes, 41, 15, &[4], one);
+    assert_eq!(put, Err(NotPut::BadField));
+    let put = put_element(&mut bytes[..44], 41, 15, &[4], None);
+    assert_eq!(put, Err(NotPut::ShortBuffer));
+    assert_eq!(put_element(&mut bytes, 41, 15, &[4], None), Ok(45));
+    let packet = Packet::parse(&bytes[..45]).unwrap();
+    assert_eq!(packet.form(), Some(Form::TwoByte));
+    assert_eq!(packet.element(15), Some(&[4][..]));
+    assert_eq!(packet.element(2), Some(&[3; 5][..]));
+    let put = put_element(&mut bytes, 11, 1, &[], None);
+    assert_eq!(put, Err(NotPut::NotAPacket(NotAPacket::CutFixedPart)));
+    assert!(PacketMut::parse(&mut bytes[..45])
+        .unwrap()
+        .remove_element(2));
+    assert_eq!(compact(&mut bytes[..45]), Ok(41));
+    assert_eq!(bytes[36..41], SAMPLE[32..]);
+    assert_eq!(compact(&mut bytes[..11]), Err(NotAPacket::CutFixedPart));
+    assert_eq!(NotPut::ShortBuffer.to_string(), "a buffer is too short");
 }
 
 #[test]
