@@ -187,4 +187,20 @@ static inline call_number call_read_original(const uint8_t *payload, size_t len)
     return it;
 }
 
+static inline call_len call_to_retransmission(uint8_t *buf, size_t size, size_t len, uint32_t ssrc,
+                                              uint8_t payload_type, uint16_t number, const rtpw_new_ids *ids) {
+    call_len it = {0};
+    it.len = len;
+    it.status = rtpw_to_retransmission(buf, size, &it.len, ssrc, payload_type, number, ids);
+    return it;
+}
+
+static inline call_len call_from_retransmission(uint8_t *buf, size_t size, size_t len, uint32_t ssrc,
+                                                uint8_t payload_type, const rtpw_new_ids *ids) {
+    call_len it = {0};
+    it.len = len;
+    it.status = rtpw_from_retransmission(buf, size, &it.len, ssrc, payload_type, ids);
+    return it;
+}
+
 #endif

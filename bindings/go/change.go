@@ -149,6 +149,45 @@ func WriteOriginal(payload []byte, number uint64) error {
 	return writeOriginal(payload, number)
 }
 
+// ToRetransmission makes the packet in the first length bytes of the buffer a retransmission, in place, and returns its
+// bytes (RFC 4588, 4): it has this SSRC, payload type and number of its own, the elements under their new ids
+// ([NewIDsToRetransmission]), and as payload the original number in two bytes and the original payload without its
+// padding. All else stays, M and the timestamp too, and so do the bytes behind it.
+//
+// It returns ErrBadField where the payload type is above 127, the length isn't one of the buffer, the padding's last
+// byte counts more bytes than the payload has, or the packet's form can't carry a new id; or else ErrShortBuffer where
+// there is no room for the two bytes. Nothing changes then.
+func ToRetransmission(
+	buf []byte, length int, ssrc uint32, payloadType uint8, number uint16, ids *NewIDs,
+) ([]byte, error) {
+	if length < 0 {
+		return nil, ErrBadField
+	}
+	end, err := toRetransmission(buf, length, ssrc, payloadType, number, ids)
+	if err != nil {
+		return nil, err
+	}
+	return buf[:end], nil
+}
+
+// FromRetransmission makes the retransmission in the first length bytes of the buffer the packet that it repeats, in
+// place, and returns its bytes: it has this SSRC and payload type, the original number, the elements under their new
+// ids ([NewIDsFromRetransmission]), and as payload what follows that number, without padding. All else stays, and so
+// do the bytes behind it.
+//
+// It returns ErrBadField as ToRetransmission, and ErrNotFound where the payload has fewer than the two bytes of a
+// number. Nothing changes then.
+func FromRetransmission(buf []byte, length int, ssrc uint32, payloadType uint8, ids *NewIDs) ([]byte, error) {
+	if length < 0 {
+		return nil, ErrBadField
+	}
+	end, err := fromRetransmission(buf, length, ssrc, payloadType, ids)
+	if err != nil {
+		return nil, err
+	}
+	return buf[:end], nil
+}
+
 // LibraryVersion is the version of the library that is linked: 65,536 times its major number, 256 times the minor
 // one, and the patch.
 func LibraryVersion() uint32 {

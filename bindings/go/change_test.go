@@ -170,6 +170,43 @@ func TestOriginals(t *testing.T) {
 	}
 }
 
+func TestRetransmissions(t *testing.T) {
+	there, back := rtpwire.NewIDsToRetransmission(rtpwire.StandardMap()), rtpwire.NewIDsFromRetransmission(rtpwire.StandardMap())
+	packet := []byte{0xB0, 0xE0, 0xFF, 0xFE, 1, 2, 3, 4, 5, 6, 7, 8, 0xBE, 0xDE, 0, 2, 0x40, 0x61,
+		0xA1, 0x68, 0x69, 0xB0, 0x78, 0, 0xCC, 0xDD, 0xEE, 0, 2, 0x77, 0x77}
+	sent := []byte{0x90, 0xE3, 0, 1, 1, 2, 3, 4, 9, 10, 11, 12, 0xBE, 0xDE, 0, 2, 0x40, 0x61,
+		0xB1, 0x68, 0x69, 0, 0, 0, 0xFF, 0xFE, 0xCC, 0xDD, 0xEE}
+	restored := []byte{0x90, 0xE0, 0xFF, 0xFE, 1, 2, 3, 4, 5, 6, 7, 8, 0xBE, 0xDE, 0, 2, 0x40, 0x61,
+		0xA1, 0x68, 0x69, 0, 0, 0, 0xCC, 0xDD, 0xEE}
+	buf := append([]byte(nil), packet...)
+	for _, row := range []struct {
+		size, length int
+		payloadType  uint8
+		err          error
+	}{
+		{31, 29, 128, rtpwire.ErrBadField},
+		{31, 32, 99, rtpwire.ErrBadField},
+		{31, -1, 99, rtpwire.ErrBadField},
+		{31, 11, 99, rtpwire.CutFixedPart},
+		{27, 27, 99, rtpwire.ErrBadField},
+	} {
+		_, err := rtpwire.ToRetransmission(buf[:row.size], row.length, 7, row.payloadType, 1, there)
+		same(t, "refused", err, row.err)
+		_, err = rtpwire.FromRetransmission(buf[:row.size], row.length, 7, row.payloadType, back)
+		same(t, "refused", err, row.err)
+		same(t, "unchanged", buf, packet)
+	}
+	made, err := rtpwire.ToRetransmission(buf, 29, 0x090A0B0C, 99, 1, there)
+	same(t, "sent", []any{made, err}, []any{sent, nil})
+	_, err = rtpwire.ToRetransmission(buf[:30], 29, 7, 98, 2, there)
+	same(t, "no room", err, rtpwire.ErrShortBuffer)
+	same(t, "behind it", buf, append(append([]byte(nil), sent...), 0x77, 0x77))
+	made, err = rtpwire.FromRetransmission(buf, 29, 0x05060708, 96, back)
+	same(t, "restored", []any{made, err}, []any{restored, nil})
+	_, err = rtpwire.FromRetransmission(buf, 25, 1, 2, back)
+	same(t, "no number", err, rtpwire.ErrNotFound)
+}
+
 func TestHeadersAreWritten(t *testing.T) {
 	header := rtpwire.Header{PayloadType: 33, SequenceNumber: 47000, Timestamp: 10000, SSRC: 44, Marker: true}
 	same(t, "sources", header.SetCSRC([]uint32{9}), nil)

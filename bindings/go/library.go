@@ -275,11 +275,11 @@ func compact(datagram []byte) (int, error) {
 }
 
 func (n *NewIDs) between(from, to *Map) {
-	C.rtpw_new_ids_between(from.c(), to.c(), (*C.rtpw_new_ids)(unsafe.Pointer(&n.ids)))
+	C.rtpw_new_ids_between(from.c(), to.c(), n.c())
 }
 
 func renumber(datagram []byte, n *NewIDs) error {
-	return errorOf(int32(C.rtpw_renumber(first(datagram), size(datagram), (*C.rtpw_new_ids)(unsafe.Pointer(&n.ids)))))
+	return errorOf(int32(C.rtpw_renumber(first(datagram), size(datagram), n.c())))
 }
 
 func pad(datagram []byte, headerLen int, padLen uint8, blockSize int) (int, error) {
@@ -293,6 +293,28 @@ func readOriginal(payload []byte) (uint64, error) {
 
 func writeOriginal(payload []byte, number uint64) error {
 	return errorOf(int32(C.rtpw_write_original(first(payload), size(payload), C.uint64_t(number))))
+}
+
+func (n *NewIDs) c() *C.rtpw_new_ids {
+	return (*C.rtpw_new_ids)(unsafe.Pointer(&n.ids))
+}
+
+func (n *NewIDs) toRetransmission(m *Map) {
+	C.rtpw_new_ids_to_retransmission(m.c(), n.c())
+}
+
+func (n *NewIDs) fromRetransmission(m *Map) {
+	C.rtpw_new_ids_from_retransmission(m.c(), n.c())
+}
+
+func toRetransmission(buf []byte, length int, ssrc uint32, payloadType uint8, number uint16, n *NewIDs) (int, error) {
+	return lenOr(C.call_to_retransmission(first(buf), size(buf), C.size_t(length), C.uint32_t(ssrc),
+		C.uint8_t(payloadType), C.uint16_t(number), n.c()))
+}
+
+func fromRetransmission(buf []byte, length int, ssrc uint32, payloadType uint8, n *NewIDs) (int, error) {
+	return lenOr(C.call_from_retransmission(first(buf), size(buf), C.size_t(length), C.uint32_t(ssrc),
+		C.uint8_t(payloadType), n.c()))
 }
 
 func libraryVersion() uint32 {

@@ -116,6 +116,23 @@ func NewIDsBetween(from, to *Map) *NewIDs {
 	return n
 }
 
+// NewIDsToRetransmission has the new ids where packets become retransmissions ([ToRetransmission]; RFC 8852, 3): where
+// the map has both KindRID and KindRepairedRID, an id of the first becomes the lowest id of the second, and the ids of
+// the second get none. Every other id keeps itself, and so does each where the map hasn't both.
+func NewIDsToRetransmission(m *Map) *NewIDs {
+	n := new(NewIDs)
+	n.toRetransmission(m)
+	return n
+}
+
+// NewIDsFromRetransmission has those on the way back ([FromRetransmission]): an id of KindRepairedRID becomes the lowest
+// id of KindRID, and the ids of that get none.
+func NewIDsFromRetransmission(m *Map) *NewIDs {
+	n := new(NewIDs)
+	n.fromRetransmission(m)
+	return n
+}
+
 // Set gives elements of the id this new id, or none with 0: the extensions that have a kind in neither map, not even
 // one of your own, have no new id unless it is set so. The id 0, which is padding, never gets one.
 func (n *NewIDs) Set(id, newID uint8) {

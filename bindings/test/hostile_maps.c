@@ -1,5 +1,6 @@
 /* rtpw_kind_of_uri, rtpw_map_set, rtpw_map_get, rtpw_map_standard, rtpw_id_of, rtpw_new_ids_between,
- * rtpw_renumber */
+ * rtpw_renumber, rtpw_new_ids_to_retransmission, rtpw_new_ids_from_retransmission, rtpw_to_retransmission,
+ * rtpw_from_retransmission */
 #include "hostile.h"
 
 #include "walk_values.h"
@@ -24,7 +25,7 @@ static const char *const URIS[16] = {
     "http://www.webrtc.org/experiments/rtp-hdrext/video-layers-allocation00",
 };
 
-static memory datagrams, uris, maps, other_maps, tables;
+static memory datagrams, uris, maps, other_maps, tables, lengths;
 
 /* A URI, at times with a byte changed, more or fewer, or bytes of any kind. */
 static void uri(void) {
@@ -155,8 +156,102 @@ static void renumber(const rtpw_new_ids *ids) {
     CHECK(memcmp(ids, &same, sizeof same) == 0);
 }
 
+/* The ids of one kind become the lowest of another, whose ids get none, where the map has both. */
+static void renamed_ids(const rtpw_map *map, rtpw_new_ids *ids, unsigned kind, unsigned other) {
+    size_t lowest = 0;
+    bool has_kind = false;
+    for (size_t i = 255; i > 0; i--) {
+        lowest = map->kind[i] == other ? i : lowest;
+        has_kind = has_kind || map->kind[i] == kind;
+    }
+    bool has_both = has_kind && lowest > 0;
+    fill(ids, sizeof *ids);
+    if (kind == RTPW_KIND_RID) {
+        rtpw_new_ids_to_retransmission(map, ids);
+    } else {
+        rtpw_new_ids_from_retransmission(map, ids);
+    }
+    CHECK(ids->id[0] == 0);
+    for (size_t i = 1; i < 256; i++) {
+        bool is_renamed = has_both && map->kind[i] == kind, is_gone = has_both && map->kind[i] == other;
+        CHECK(ids->id[i] == (is_renamed ? lowest : is_gone ? 0 : i));
+    }
+}
+
+/* What a retransmission, or the packet that it repeats, is to be in a buffer: the status, and the length. */
+static int32_t retransmitted(uint8_t *bytes, size_t size, size_t *len, uint32_t ssrc, uint8_t payload_type,
+                             unsigned number, bool is_back, const rtpw_new_ids *ids) {
+    if (payload_type > 127 || *len > size) {
+        return RTPW_BAD_FIELD;
+    }
+    walked it = walk(bytes, *len);
+    if (it.cause != 0) {
+        return it.cause;
+    }
+    size_t at = it.header_len, end = *len;
+    if ((bytes[0] & 0x20) != 0 && end > at) {
+        if (bytes[end - 1] > end - at) {
+            return RTPW_BAD_FIELD;
+        }
+        end -= bytes[end - 1];
+    }
+    if (is_back && end - at < 2) {
+        return RTPW_NONE;
+    }
+    if (it.form != 0 && !is_carried(bytes + it.body_at, &it, ids)) {
+        return RTPW_BAD_FIELD;
+    }
+    if (!is_back && size - end < 2) {
+        return RTPW_SHORT_BUFFER;
+    }
+    if (it.form != 0) {
+        renumber_in(bytes + it.body_at, &it, ids);
+    }
+    uint8_t original[2] = {bytes[2], bytes[3]};
+    bytes[2] = is_back ? bytes[at] : (uint8_t)(number >> 8);
+    bytes[3] = is_back ? bytes[at + 1] : (uint8_t)number;
+    if (is_back) {
+        memmove(bytes + at, bytes + at + 2, end - at - 2);
+    } else {
+        memmove(bytes + at + 2, bytes + at, end - at);
+        memcpy(bytes + at, original, 2);
+    }
+    bytes[0] &= 0xDF;
+    bytes[1] = (uint8_t)((bytes[1] & 0x80) | payload_type);
+    for (int i = 0; i < 4; i++) {
+        bytes[8 + i] = (uint8_t)(ssrc >> (24 - 8 * i));
+    }
+    *len = is_back ? end - 2 : end + 2;
+    return RTPW_OK;
+}
+
+static void retransmission(const rtpw_new_ids *ids) {
+    static uint8_t expected[LONGEST];
+    rtpw_new_ids same;
+    memcpy(&same, ids, sizeof same);
+    size_t size = random_len();
+    uint8_t *buf = block_in(&datagrams, size);
+    random_packet(buf, size);
+    memcpy(expected, buf, size);
+    uint64_t x = random_u64();
+    size_t *len = block_in(&lengths, sizeof *len);
+    *len = x % 16 == 0 ? (size_t)random_u64() : x % 16 < 8 && size > 4 ? size - x / 16 % 4 : size;
+    size_t wanted = *len;
+    uint8_t payload_type = (uint8_t)(x / 64 % (x / 16384 % 8 == 0 ? 256 : 128));
+    uint32_t ssrc = (uint32_t)random_u64();
+    uint16_t number = (uint16_t)random_u64();
+    bool is_back = x / 131072 % 2 == 0;
+    int32_t status = retransmitted(expected, size, &wanted, ssrc, payload_type, number, is_back, &same);
+    CHECK((is_back ? rtpw_from_retransmission(buf, size, len, ssrc, payload_type, ids)
+                   : rtpw_to_retransmission(buf, size, len, ssrc, payload_type, number, ids)) == status);
+    CHECK(*len == wanted);
+    CHECK(memcmp(buf, expected, size) == 0);
+    CHECK(memcmp(ids, &same, sizeof same) == 0);
+}
+
 void maps_round(void) {
     if (maps.size == 0) {
+        lengths = memory_of(sizeof(size_t));
         datagrams = memory_of(LONGEST);
         uris = memory_of(200);
         maps = memory_of(sizeof(rtpw_map));
@@ -178,4 +273,8 @@ void maps_round(void) {
         ids->id[i] %= 15;
     }
     renumber(ids);
+    retransmission(ids);
+    renamed_ids(from, ids, RTPW_KIND_RID, RTPW_KIND_REPAIRED_RID);
+    renamed_ids(from, ids, RTPW_KIND_REPAIRED_RID, RTPW_KIND_RID);
+    retransmission(ids);
 }

@@ -121,6 +121,16 @@ static void renumber(void) { status = rtpw_renumber(datagram, sizeof datagram, &
 static void pad(void) { status = rtpw_pad(datagram, sizeof datagram, 32, 200, 16, &count); }
 static void read_original(void) { status = rtpw_read_original(datagram, sizeof datagram, &original); }
 static void write_original(void) { status = rtpw_write_original(datagram, sizeof datagram, 7); }
+static void new_ids_to_retransmission(void) { rtpw_new_ids_to_retransmission(&map, &ids); }
+static void new_ids_from_retransmission(void) { rtpw_new_ids_from_retransmission(&map, &ids); }
+static void to_retransmission(void) {
+    count = sizeof datagram - 2;
+    status = rtpw_to_retransmission(datagram, sizeof datagram, &count, 7, 8, 9, &ids);
+}
+static void from_retransmission(void) {
+    count = sizeof datagram;
+    status = rtpw_from_retransmission(datagram, sizeof datagram, &count, 7, 8, &ids);
+}
 static void version(void) { number = rtpw_version(); }
 static void extend_u8(void) { number = rtpw_extend_u8(70000, 99); }
 static void extend_u15(void) { number = rtpw_extend_u15(70000, 99); }
@@ -165,6 +175,8 @@ int main(void) {
         CALL(parse),
         CALL(parse_layers), CALL(wire_len), CALL(write), CALL(write_with), CALL(write_elements),
         CALL(new_ids_between), CALL(renumber), CALL(pad), CALL(read_original), CALL(write_original), CALL(version),
+        CALL(new_ids_to_retransmission), CALL(new_ids_from_retransmission), CALL(to_retransmission),
+        CALL(from_retransmission),
     };
     memory stacks = memory_of(ROOM);
     for (int i = 0; i < 256; i++) {

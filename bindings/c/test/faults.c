@@ -38,6 +38,13 @@ static void first_fault_is_told(void) {
     CHECK(rtpw_remove_element(bytes, 31, 9) == RTPW_CUT_BLOCK);
     CHECK(rtpw_renumber(bytes, 31, &TOO_HIGH) == RTPW_CUT_BLOCK);
     CHECK(rtpw_renumber(bytes, LEN, &TOO_HIGH) == RTPW_BAD_FIELD);
+    size_t len = LEN + 1;
+    CHECK(rtpw_to_retransmission(bytes, LEN, &len, 1, 2, 3, &TOO_HIGH) == RTPW_BAD_FIELD && len == LEN + 1);
+    len = 31;
+    CHECK(rtpw_to_retransmission(bytes, LEN, &len, 1, 128, 3, &TOO_HIGH) == RTPW_BAD_FIELD);
+    CHECK(rtpw_to_retransmission(bytes, LEN, &len, 1, 2, 3, &TOO_HIGH) == RTPW_CUT_BLOCK);
+    len = LEN;
+    CHECK(rtpw_to_retransmission(bytes, LEN, &len, 1, 2, 3, &TOO_HIGH) == RTPW_BAD_FIELD && len == LEN);
     CHECK(rtpw_next_element(bytes, 0, 3, 1, &element) == RTPW_BAD_FIELD);
     CHECK(rtpw_next_element(bytes, 0, 1, 1, &element) == RTPW_BAD_FIELD);
     CHECK(rtpw_next_element(bytes, 0, 1, 0, &element) == RTPW_NONE);
@@ -142,6 +149,8 @@ static void null_is_no_bytes(void) {
     CHECK(rtpw_pad(NULL, 0, 0, 0, 1, &len) == RTPW_OK && len == 0);
     CHECK(rtpw_read_original(NULL, 0, &original) == RTPW_SHORT_BUFFER);
     CHECK(rtpw_write_original(NULL, 0, 7) == RTPW_SHORT_BUFFER);
+    CHECK(rtpw_to_retransmission(NULL, 0, &len, 1, 2, 3, &IDS) == RTPW_CUT_FIXED_PART && len == 0);
+    CHECK(rtpw_from_retransmission(NULL, 0, &len, 1, 2, &IDS) == RTPW_CUT_FIXED_PART && len == 0);
 }
 
 int main(void) {

@@ -345,6 +345,40 @@ static void originals_are_passed_on(void) {
     CHECK(bytes[0] == 0x00 && bytes[1] == 0x02 && bytes[2] == 0x03);
 }
 
+/* The stream id 10 becomes the repaired one, 11; one that was there goes. The two bytes of padding are room enough. */
+static void retransmissions_are_made(void) {
+    static const uint8_t PACKET[32] = {0xB0, 0xE0, 0xFF, 0xFE, 1, 2, 3, 4, 5, 6, 7, 8, 0xBE, 0xDE, 0, 2, 0x40, 0x61,
+                                       0xA1, 0x68, 0x69, 0xB0, 0x78, 0, 0xCC, 0xDD, 0xEE, 0, 2, 0x77, 0x77, 0x77};
+    static const uint8_t SENT[32] = {0x90, 0xE3, 0, 1, 1, 2, 3, 4, 9, 10, 11, 12, 0xBE, 0xDE, 0, 2, 0x40, 0x61,
+                                     0xB1, 0x68, 0x69, 0, 0, 0, 0xFF, 0xFE, 0xCC, 0xDD, 0xEE, 0x77, 0x77, 0x77};
+    static const uint8_t BACK[27] = {0x90, 0xE0, 0xFF, 0xFE, 1, 2, 3, 4, 5, 6, 7, 8, 0xBE, 0xDE, 0, 2, 0x40, 0x61,
+                                     0xA1, 0x68, 0x69, 0, 0, 0, 0xCC, 0xDD, 0xEE};
+    uint8_t buf[32];
+    size_t len = 29;
+    rtpw_map map;
+    rtpw_new_ids there, back;
+    rtpw_map_standard(&map);
+    rtpw_new_ids_to_retransmission(&map, &there);
+    rtpw_new_ids_from_retransmission(&map, &back);
+    CHECK(there.id[0] == 0 && there.id[10] == 11 && there.id[11] == 0 && there.id[4] == 4 && there.id[200] == 200);
+    CHECK(back.id[0] == 0 && back.id[10] == 0 && back.id[11] == 10 && back.id[4] == 4 && back.id[200] == 200);
+    memcpy(buf, PACKET, sizeof buf);
+    CHECK(rtpw_to_retransmission(buf, 28, &len, 0x090A0B0C, 99, 1, &there) == RTPW_BAD_FIELD && len == 29);
+    CHECK(rtpw_to_retransmission(buf, 29, &len, 0x090A0B0C, 128, 1, &there) == RTPW_BAD_FIELD && len == 29);
+    CHECK(memcmp(buf, PACKET, sizeof buf) == 0);
+    CHECK(rtpw_to_retransmission(buf, 29, &len, 0x090A0B0C, 99, 1, &there) == RTPW_OK && len == 29);
+    CHECK(memcmp(buf, SENT, sizeof buf) == 0);
+    CHECK(rtpw_to_retransmission(buf, 30, &len, 7, 98, 2, &there) == RTPW_SHORT_BUFFER && len == 29);
+    CHECK(memcmp(buf, SENT, sizeof buf) == 0);
+    CHECK(rtpw_from_retransmission(buf, sizeof buf, &len, 0x05060708, 96, &back) == RTPW_OK && len == 27);
+    CHECK(memcmp(buf, BACK, sizeof BACK) == 0 && memcmp(buf + 29, SENT + 29, 3) == 0);
+    len = 25;
+    CHECK(rtpw_from_retransmission(buf, sizeof buf, &len, 1, 2, &back) == RTPW_NONE && len == 25);
+    len = 11;
+    CHECK(rtpw_from_retransmission(buf, sizeof buf, &len, 1, 2, &back) == RTPW_CUT_FIXED_PART && len == 11);
+    CHECK(memcmp(buf, BACK, sizeof BACK) == 0);
+}
+
 int main(void) {
     is_read();
     padding_is_too_long();
@@ -361,5 +395,6 @@ int main(void) {
     rtcp_is_told_apart();
     header_is_changed_alone();
     originals_are_passed_on();
+    retransmissions_are_made();
     return failed;
 }

@@ -263,6 +263,32 @@ class Payloads(unittest.TestCase):
             with self.assertRaises(ShortBuffer):
                 rtp_wire.write_original(bytearray(short), 1)
 
+    def test_retransmissions_in_place(self) -> None:
+        there = rtp_wire.NewIds.to_retransmission(rtp_wire.Map.standard())
+        back = rtp_wire.NewIds.from_retransmission(rtp_wire.Map.standard())
+        self.assertEqual((there[10], there.get(11), there[4]), (11, None, 4))
+        self.assertEqual((back.get(10), back[11], back[4]), (None, 10, 4))
+        packet = bytes.fromhex("b0e0fffe0102030405060708bede00024061a16869b07800ccddee00027777")
+        buf = bytearray(packet)
+        for length, payload_type in ((32, 99), (29, 128), (29, -1), (-1, 99), (27, 99)):
+            with self.assertRaises(BadField):
+                rtp_wire.to_retransmission(memoryview(buf)[:27], length, 7, payload_type, 1, there)
+            with self.assertRaises(BadField):
+                rtp_wire.from_retransmission(memoryview(buf)[:27], length, 7, payload_type, back)
+        with self.assertRaises(rtp_wire.NotAPacket):
+            rtp_wire.to_retransmission(buf, 11, 7, 99, 1, there)
+        self.assertEqual(buf, packet)
+        self.assertEqual(rtp_wire.to_retransmission(buf, 29, 0x090A0B0C, 99, 1, there), 29)
+        sent = bytes.fromhex("90e3000101020304090a0b0cbede00024061b16869000000fffeccddee7777")
+        self.assertEqual(buf, sent)
+        with self.assertRaises(ShortBuffer):
+            rtp_wire.to_retransmission(memoryview(buf)[:30], 29, 7, 98, 2, there)
+        self.assertEqual(buf, sent)
+        self.assertEqual(rtp_wire.from_retransmission(buf, 29, 0x05060708, 96, back), 27)
+        self.assertEqual(buf[:27], bytes.fromhex("90e0fffe0102030405060708bede00024061a16869000000ccddee"))
+        with self.assertRaises(rtp_wire.NoElement):
+            rtp_wire.from_retransmission(buf, 25, 1, 2, back)
+
 
 if __name__ == "__main__":
     unittest.main()

@@ -11,7 +11,7 @@ from ._header import Header, write_elements
 from ._layers import Layer, Layers, Resolution
 from ._map import Kind, Map, NewIds
 from ._packet import Element, Form, Packet, elements, is_rtcp
-from ._payload import pad, read_original, write_original
+from ._payload import from_retransmission, pad, read_original, to_retransmission, write_original
 from ._receiver import (
     Receiver,
     RestartingReceiver,
@@ -54,9 +54,11 @@ __all__ = [
     "extend_u16",
     "extend_u32",
     "extend_u8",
+    "from_retransmission",
     "is_rtcp",
     "pad",
     "read_original",
+    "to_retransmission",
     "write_elements",
     "write_original",
 ]

@@ -297,6 +297,30 @@ pad = _declare(_STATUS, "rtpw_pad", _BYTES, _SIZE, _SIZE, c_uint8, _SIZE, POINTE
 read_original = _declare(_STATUS, "rtpw_read_original", _BYTES, _SIZE, POINTER(c_uint16))
 write_original = _declare(_STATUS, "rtpw_write_original", _BYTES, _SIZE, c_uint64)
 
+new_ids_to_retransmission = _declare(None, "rtpw_new_ids_to_retransmission", POINTER(RawMap), POINTER(RawNewIds))
+new_ids_from_retransmission = _declare(None, "rtpw_new_ids_from_retransmission", POINTER(RawMap), POINTER(RawNewIds))
+to_retransmission = _declare(
+    _STATUS,
+    "rtpw_to_retransmission",
+    _BYTES,
+    _SIZE,
+    POINTER(c_size_t),
+    c_uint32,
+    c_uint8,
+    c_uint16,
+    POINTER(RawNewIds),
+)
+from_retransmission = _declare(
+    _STATUS,
+    "rtpw_from_retransmission",
+    _BYTES,
+    _SIZE,
+    POINTER(c_size_t),
+    c_uint32,
+    c_uint8,
+    POINTER(RawNewIds),
+)
+
 receiver_start = _declare(_STATUS, "rtpw_receiver_start", POINTER(RawReceiver), c_uint64)
 receiver_number_of = _declare(c_uint64, "rtpw_receiver_number_of", POINTER(RawReceiver), c_uint16)
 receiver_accepts = _declare(c_bool, "rtpw_receiver_accepts", POINTER(RawReceiver), c_uint64)

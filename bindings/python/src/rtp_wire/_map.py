@@ -145,6 +145,23 @@ class NewIds(_Table[int]):
         _library.new_ids_between(sender._raw, receiver._raw, made._raw)
         return made
 
+    @classmethod
+    def to_retransmission(cls, map: Map) -> NewIds:
+        """The new ids where packets become retransmissions (RFC 8852, 3): where the map has both Kind.RID and
+        Kind.REPAIRED_RID, an id of the first becomes the lowest id of the second, and the ids of the second get none.
+        Every other id keeps itself, and so does each where the map hasn't both."""
+        made = cls()
+        _library.new_ids_to_retransmission(map._raw, made._raw)
+        return made
+
+    @classmethod
+    def from_retransmission(cls, map: Map) -> NewIds:
+        """The same on the way back: an id of Kind.REPAIRED_RID becomes the lowest id of Kind.RID, and the ids of that
+        get none."""
+        made = cls()
+        _library.new_ids_from_retransmission(map._raw, made._raw)
+        return made
+
     def __getitem__(self, id: int) -> int:
         new: int = self._raw.id[id] if 0 < id < 256 else 0
         if not new:

@@ -11,6 +11,7 @@ from ._errors import check, unsigned
 
 if TYPE_CHECKING:
     from ._buffers import Buffer, WritableBuffer
+    from ._map import NewIds
 
 
 def pad(datagram: WritableBuffer, header_len: int, pad_len: int, block_size: int = 1) -> int:
@@ -44,3 +45,33 @@ def write_original(payload: WritableBuffer, number: int) -> None:
     fewer than two bytes."""
     view = writable_view_of(payload)
     check(_library.write_original(address_of(view), len(view), unsigned("number", number, 64)))
+
+
+def to_retransmission(buf: WritableBuffer, length: int, ssrc: int, payload_type: int, number: int, ids: NewIds) -> int:
+    """Makes the packet in the first `length` bytes of the buffer a retransmission, in place, and returns its length
+    (RFC 4588, 4): it has this SSRC, payload type and number of its own, the elements under their new ids
+    (`NewIds.to_retransmission`), and as payload the original number in two bytes and the original payload without its
+    padding. All else stays.
+
+    BadField where an argument is out of its range, the length is above that of the buffer, the padding's last byte
+    counts more bytes than the payload has, or the packet's form can't carry a new id; NotAPacket; ShortBuffer where
+    there is no room for the two bytes. Nothing changes then.
+    """
+    view, end = writable_view_of(buf), c_size_t(unsigned("length", length, 64))
+    fields = (unsigned("ssrc", ssrc, 32), unsigned("payload_type", payload_type, 8), unsigned("number", number, 16))
+    check(_library.to_retransmission(address_of(view), len(view), end, *fields, ids._raw))
+    return end.value
+
+
+def from_retransmission(buf: WritableBuffer, length: int, ssrc: int, payload_type: int, ids: NewIds) -> int:
+    """Makes the retransmission in the first `length` bytes of the buffer the packet that it repeats, in place, and
+    returns its length: it has this SSRC and payload type, the original number, the elements under their new ids
+    (`NewIds.from_retransmission`), and as payload what follows that number, without padding. All else stays.
+
+    BadField as `to_retransmission`; NotAPacket; NoElement where the payload has fewer than the two bytes of a number.
+    Nothing changes then.
+    """
+    view, end = writable_view_of(buf), c_size_t(unsigned("length", length, 64))
+    fields = (unsigned("ssrc", ssrc, 32), unsigned("payload_type", payload_type, 8))
+    check(_library.from_retransmission(address_of(view), len(view), end, *fields, ids._raw))
+    return end.value

@@ -226,6 +226,55 @@ impl fmt::Display for NotChanged {
 
 impl Error for NotChanged {}
 
+/// Why a packet didn't become a retransmission, or a retransmission the packet that it repeats.
+#[derive(Clone, Copy, Debug, PartialEq, Eq, Hash)]
+#[non_exhaustive]
+pub enum NotRetransmitted {
+    /// The payload type is above 127.
+    BadPayloadType,
+    /// The packet is said to be longer than the buffer.
+    BadLength,
+    /// The bytes are no packet: [`source`](Error::source) says why.
+    NotAPacket(NotAPacket),
+    /// The padding's last byte counts more bytes than the payload has.
+    BadPadding,
+    /// The payload has fewer than the two bytes of the original number.
+    NoNumber,
+    /// An element would get an id that the packet's form can't carry: one above 14 in the one-byte form.
+    BadNewId,
+    /// The buffer has no room for the original number.
+    ShortBuffer,
+}
+
+impl fmt::Display for NotRetransmitted {
+    fn fmt(&self, f: &mut fmt::Formatter<'_>) -> fmt::Result {
+        f.write_str(match self {
+            NotRetransmitted::BadPayloadType => "the payload type is above 127",
+            NotRetransmitted::BadLength => "the packet is longer than the buffer",
+            NotRetransmitted::NotAPacket(_) => "no RTP packet",
+            NotRetransmitted::BadPadding => "the padding is longer than the payload",
+            NotRetransmitted::NoNumber => "the payload has no original sequence number",
+            NotRetransmitted::BadNewId => "the block's form can't carry a new id",
+            NotRetransmitted::ShortBuffer => "a buffer is too short",
+        })
+    }
+}
+
+impl Error for NotRetransmitted {
+    fn source(&self) -> Option<&(dyn Error + 'static)> {
+        match self {
+            NotRetransmitted::NotAPacket(cause) => Some(cause),
+            _ => None,
+        }
+    }
+}
+
+impl From<NotAPacket> for NotRetransmitted {
+    fn from(cause: NotAPacket) -> NotRetransmitted {
+        NotRetransmitted::NotAPacket(cause)
+    }
+}
+
 /// The rollover count of a stream's first packet was 2^48 or more.
 #[derive(Clone, Copy, Debug, PartialEq, Eq, Hash)]
 pub struct BadRolloverCount;

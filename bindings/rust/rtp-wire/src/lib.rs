@@ -5,9 +5,10 @@
 //! - To receive: [`is_rtcp`], [`Packet`] and its [`Elements`], [`Header`] and its [`Values`] under a [`Map`],
 //!   [`Receiver`].
 //! - To send: [`Header::write_to`], [`Header::write_with`], [`write_elements`], [`pad`].
-//! - To send on: [`PacketMut`], [`put_element`], [`compact`], [`Fields`], [`Values::data_of`], [`NewIds`], [`read_original`], [`write_original`].
-//! - What went wrong: [`NotAPacket`], [`NotAHeader`], [`NotWritten`], [`NotChanged`], [`NotPut`], [`NotAText`], [`BadId`],
-//!   [`BadRolloverCount`], [`NoMemory`].
+//! - To send on: [`PacketMut`], [`put_element`], [`compact`], [`Fields`], [`Values::data_of`], [`NewIds`].
+//! - To send again: [`to_retransmission`], [`from_retransmission`], [`read_original`], [`write_original`].
+//! - What went wrong: [`NotAPacket`], [`NotAHeader`], [`NotWritten`], [`NotChanged`], [`NotPut`],
+//!   [`NotRetransmitted`], [`NotAText`], [`BadId`], [`BadRolloverCount`], [`NoMemory`].
 #![no_std]
 #![deny(unsafe_code)]
 #![warn(missing_docs, missing_debug_implementations)]
@@ -33,7 +34,8 @@ mod wide_receiver;
 
 pub use elements::{write_elements, Element, Elements, Place, Places};
 pub use error::{
-    BadId, BadRolloverCount, NoMemory, NotAHeader, NotAPacket, NotChanged, NotPut, NotWritten,
+    BadId, BadRolloverCount, NoMemory, NotAHeader, NotAPacket, NotChanged, NotPut, NotRetransmitted,
+    NotWritten,
 };
 pub use growing::{compact, put_element};
 pub use header::Header;
@@ -42,7 +44,9 @@ pub use map::{Kind, Map, OwnKind};
 pub use new_ids::NewIds;
 pub use packet::{is_rtcp, Csrcs, Form, Packet};
 pub use packet_mut::{Fields, PacketMut};
-pub use payload::{pad, read_original, version, write_original};
+pub use payload::{
+    from_retransmission, pad, read_original, to_retransmission, version, write_original,
+};
 pub use receiver::{extend_u15, extend_u16, extend_u32, extend_u8, Receiver};
 pub use restarting::{Arrival, RestartingReceiver};
 pub use text::{Mid, NotAText, Rid, Text};

@@ -38,6 +38,33 @@ impl NewIds {
         new
     }
 
+    /// The new ids where packets become retransmissions ([`to_retransmission`](crate::to_retransmission); RFC
+    /// 8852, 3): where the map has both [`Kind::Rid`](crate::Kind::Rid) and
+    /// [`Kind::RepairedRid`](crate::Kind::RepairedRid), an id of the first becomes the lowest id of the second, and
+    /// the ids of the second have no new one. Every other id keeps itself, and so does each where the map hasn't
+    /// both.
+    ///
+    /// ```
+    /// let ids = rtp_wire::NewIds::to_retransmission(&rtp_wire::Map::standard());
+    /// assert_eq!((ids.get(10), ids.get(11), ids.get(4)), (Some(11), None, Some(4)));
+    /// ```
+    #[must_use]
+    pub fn to_retransmission(map: &Map) -> NewIds {
+        let mut new = NewIds::new();
+        sys::new_ids_to_retransmission(&map.kinds, &mut new.ids);
+        new
+    }
+
+    /// The same on the way back ([`from_retransmission`](crate::from_retransmission)): an id of
+    /// [`Kind::RepairedRid`](crate::Kind::RepairedRid) becomes the lowest id of [`Kind::Rid`](crate::Kind::Rid), and
+    /// the ids of that have no new one.
+    #[must_use]
+    pub fn from_retransmission(map: &Map) -> NewIds {
+        let mut new = NewIds::new();
+        sys::new_ids_from_retransmission(&map.kinds, &mut new.ids);
+        new
+    }
+
     /// The ids in which this id has this new one too. The id 0, which is padding, has none, and is none.
     #[must_use]
     pub const fn with(mut self, id: u8, new: u8) -> NewIds {

@@ -1,4 +1,6 @@
-use crate::error::NotWritten;
+use crate::error::{NotAPacket, NotRetransmitted, NotWritten};
+use crate::new_ids::NewIds;
+use crate::packet::Packet;
 use crate::sys;
 
 /// Makes a packet of padding alone after its header: sets P, and writes the padding from `header_len`
@@ -55,6 +57,92 @@ pub fn read_original(payload: &[u8]) -> Option<(u16, &[u8])> {
 /// ```
 pub fn write_original(payload: &mut [u8], number: u64) -> Result<(), NotWritten> {
     NotWritten::of_status(sys::write_original(payload, number))
+}
+
+/// Makes the packet in the first `len` bytes of the buffer a retransmission, in place, and returns the length
+/// of that (RFC 4588, 4): it has this SSRC, payload type and number of its own, the elements under their new ids
+/// ([`NewIds::to_retransmission`]), and as payload the original number in two bytes and the original payload
+/// without its padding. All else stays, M and the timestamp too, and so do the bytes behind it.
+///
+/// # Errors
+///
+/// The first that applies; nothing changes then.
+///
+/// ```
+/// use rtp_wire::{to_retransmission, Map, NewIds};
+///
+/// let ids = NewIds::to_retransmission(&Map::standard());
+/// let mut buf = *b"\x80\x60\0\x05\0\0\0\x0A\0\0\0\x2C\xAA\xBB\0\0";
+/// assert_eq!(to_retransmission(&mut buf, 14, 45, 97, 7, &ids), Ok(16));
+/// assert_eq!(buf, *b"\x80\x61\0\x07\0\0\0\x0A\0\0\0\x2D\0\x05\xAA\xBB");
+/// ```
+pub fn to_retransmission(
+    buf: &mut [u8],
+    len: usize,
+    ssrc: u32,
+    payload_type: u8,
+    number: u16,
+    ids: &NewIds,
+) -> Result<usize, NotRetransmitted> {
+    in_range(buf, len, payload_type)?;
+    let mut end = len;
+    let status = sys::to_retransmission(buf, &mut end, ssrc, payload_type, number, &ids.ids);
+    retransmitted(status, &buf[..len])?;
+    Ok(end)
+}
+
+/// Makes the retransmission in the first `len` bytes of the buffer the packet that it repeats, in place, and
+/// returns the length of that: it has this SSRC and payload type, the original number, the elements under their
+/// new ids ([`NewIds::from_retransmission`]), and as payload what follows that number, without padding. All else
+/// stays, and so do the bytes behind it.
+///
+/// # Errors
+///
+/// The first that applies; nothing changes then.
+///
+/// ```
+/// use rtp_wire::{from_retransmission, NewIds};
+///
+/// let mut buf = *b"\x80\x61\0\x07\0\0\0\x0A\0\0\0\x2D\0\x05\xAA\xBB";
+/// assert_eq!(from_retransmission(&mut buf, 16, 44, 96, &NewIds::new()), Ok(14));
+/// assert_eq!(buf[..14], *b"\x80\x60\0\x05\0\0\0\x0A\0\0\0\x2C\xAA\xBB");
+/// ```
+pub fn from_retransmission(
+    buf: &mut [u8],
+    len: usize,
+    ssrc: u32,
+    payload_type: u8,
+    ids: &NewIds,
+) -> Result<usize, NotRetransmitted> {
+    in_range(buf, len, payload_type)?;
+    let mut end = len;
+    let status = sys::from_retransmission(buf, &mut end, ssrc, payload_type, &ids.ids);
+    retransmitted(status, &buf[..len])?;
+    Ok(end)
+}
+
+/// What is asked of the arguments alone.
+fn in_range(buf: &[u8], len: usize, payload_type: u8) -> Result<(), NotRetransmitted> {
+    if payload_type > 127 {
+        return Err(NotRetransmitted::BadPayloadType);
+    }
+    if len > buf.len() {
+        return Err(NotRetransmitted::BadLength);
+    }
+    Ok(())
+}
+
+/// What the status says. A field that is out of its range is the packet's then: its padding, or a new id.
+fn retransmitted(status: i32, datagram: &[u8]) -> Result<(), NotRetransmitted> {
+    match status {
+        sys::NONE => Err(NotRetransmitted::NoNumber),
+        sys::SHORT_BUFFER => Err(NotRetransmitted::ShortBuffer),
+        sys::BAD_FIELD => match Packet::parse(datagram)?.unpadded_payload() {
+            None => Err(NotRetransmitted::BadPadding),
+            Some(_) => Err(NotRetransmitted::BadNewId),
+        },
+        other => Ok(NotAPacket::of_status(other)?),
+    }
 }
 
 /// The version of the library that is linked: 65,536 times its major number, 256 times the minor one,

@@ -199,6 +199,25 @@ mod c {
         ) -> i32;
         pub fn rtpw_read_original(payload: *const u8, len: usize, number: *mut u16) -> i32;
         pub fn rtpw_write_original(payload: *mut u8, size: usize, number: u64) -> i32;
+        pub fn rtpw_new_ids_to_retransmission(map: *const StoredMap, ids: *mut StoredNewIds);
+        pub fn rtpw_new_ids_from_retransmission(map: *const StoredMap, ids: *mut StoredNewIds);
+        pub fn rtpw_to_retransmission(
+            buf: *mut u8,
+            size: usize,
+            len: *mut usize,
+            ssrc: u32,
+            payload_type: u8,
+            number: u16,
+            ids: *const StoredNewIds,
+        ) -> i32;
+        pub fn rtpw_from_retransmission(
+            buf: *mut u8,
+            size: usize,
+            len: *mut usize,
+            ssrc: u32,
+            payload_type: u8,
+            ids: *const StoredNewIds,
+        ) -> i32;
         pub fn rtpw_version() -> u32;
         pub fn rtpw_extend_u8(previous: u64, number: u8) -> u64;
         pub fn rtpw_extend_u15(previous: u64, number: u16) -> u64;
@@ -458,6 +477,51 @@ pub fn read_original(payload: &[u8]) -> Option<u16> {
 pub fn write_original(payload: &mut [u8], number: u64) -> i32 {
     // SAFETY: an exclusive slice.
     unsafe { c::rtpw_write_original(payload.as_mut_ptr(), payload.len(), number) }
+}
+
+pub fn new_ids_to_retransmission(map: &StoredMap, ids: &mut StoredNewIds) {
+    // SAFETY: a reference that is read, and an exclusive reference.
+    unsafe { c::rtpw_new_ids_to_retransmission(map, ids) }
+}
+
+pub fn new_ids_from_retransmission(map: &StoredMap, ids: &mut StoredNewIds) {
+    // SAFETY: a reference that is read, and an exclusive reference.
+    unsafe { c::rtpw_new_ids_from_retransmission(map, ids) }
+}
+
+pub fn to_retransmission(
+    buf: &mut [u8],
+    len: &mut usize,
+    ssrc: u32,
+    payload_type: u8,
+    number: u16,
+    ids: &StoredNewIds,
+) -> i32 {
+    // SAFETY: an exclusive slice, an exclusive reference, and a reference that is read.
+    unsafe {
+        c::rtpw_to_retransmission(
+            buf.as_mut_ptr(),
+            buf.len(),
+            len,
+            ssrc,
+            payload_type,
+            number,
+            ids,
+        )
+    }
+}
+
+pub fn from_retransmission(
+    buf: &mut [u8],
+    len: &mut usize,
+    ssrc: u32,
+    payload_type: u8,
+    ids: &StoredNewIds,
+) -> i32 {
+    // SAFETY: an exclusive slice, an exclusive reference, and a reference that is read.
+    unsafe {
+        c::rtpw_from_retransmission(buf.as_mut_ptr(), buf.len(), len, ssrc, payload_type, ids)
+    }
 }
 
 pub fn version() -> u32 {

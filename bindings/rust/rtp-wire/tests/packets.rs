@@ -1,8 +1,9 @@
 //! The types of the crate. Expected values are worked out by hand from RFC 3550, 5.1 and RFC 8285.
 
 use rtp_wire::{
-    compact, extend_u16, is_rtcp, put_element, BadRolloverCount, Element, Fields, Form, Kind, Map,
-    NoMemory, NotAPacket, NotChanged, NotPut, NotWritten, Packet, PacketMut, Receiver, Values,
+    compact, extend_u16, from_retransmission, is_rtcp, put_element, to_retransmission,
+    BadRolloverCount, Element, Fields, Form, Kind, Map, NewIds, NoMemory, NotAPacket, NotChanged,
+    NotPut, NotRetransmitted, NotWritten, Packet, PacketMut, Receiver, Values,
 };
 
 /// V=2, P, X, CC=2; M, PT=33; 47,000; 10,000; 44; the sources 1 and 2; a block of two words with the
@@ -354,6 +355,76 @@ fn padding_and_originals_have_limits() {
         Err(NotWritten::ShortBuffer)
     );
     assert_eq!(rtp_wire::version(), 256); // 0.1.0
+}
+
+/// The stream id 10 becomes the repaired one, 11; one that was there goes. The padding is room enough.
+#[test]
+fn retransmissions_are_made_and_come_back() {
+    const PACKET: [u8; 31] = [
+        0xB0, 0xE0, 0xFF, 0xFE, 1, 2, 3, 4, 5, 6, 7, 8, 0xBE, 0xDE, 0, 2, 0x40, 0x61, 0xA1, 0x68,
+        0x69, 0xB0, 0x78, 0, 0xCC, 0xDD, 0xEE, 0, 2, 0x77, 0x77,
+    ];
+    const SENT: [u8; 31] = [
+        0x90, 0xE3, 0, 1, 1, 2, 3, 4, 9, 10, 11, 12, 0xBE, 0xDE, 0, 2, 0x40, 0x61, 0xB1, 0x68,
+        0x69, 0, 0, 0, 0xFF, 0xFE, 0xCC, 0xDD, 0xEE, 0x77, 0x77,
+    ];
+    const BACK: [u8; 27] = [
+        0x90, 0xE0, 0xFF, 0xFE, 1, 2, 3, 4, 5, 6, 7, 8, 0xBE, 0xDE, 0, 2, 0x40, 0x61, 0xA1, 0x68,
+        0x69, 0, 0, 0, 0xCC, 0xDD, 0xEE,
+    ];
+    let there = NewIds::to_retransmission(&Map::standard());
+    let back = NewIds::from_retransmission(&Map::standard());
+    assert_eq!(
+        (there.get(10), there.get(11), there.get(4)),
+        (Some(11), None, Some(4))
+    );
+    assert_eq!(
+        (back.get(10), back.get(11), back.get(4)),
+        (None, Some(10), Some(4))
+    );
+    let mut buf = PACKET;
+    let too_high = there.with(4, 15);
+    for (len, payload_type, ids, cause) in [
+        (32, 99, &there, NotRetransmitted::BadLength),
+        (32, 128, &there, NotRetransmitted::BadPayloadType),
+        (
+            11,
+            99,
+            &there,
+            NotRetransmitted::NotAPacket(NotAPacket::CutFixedPart),
+        ),
+        (27, 99, &there, NotRetransmitted::BadPadding),
+        (29, 99, &too_high, NotRetransmitted::BadNewId),
+    ] {
+        assert_eq!(
+            to_retransmission(&mut buf, len, 7, payload_type, 1, ids),
+            Err(cause)
+        );
+        assert_eq!(
+            from_retransmission(&mut buf, len, 7, payload_type, ids),
+            Err(cause)
+        );
+        assert_eq!(buf, PACKET);
+    }
+    assert_eq!(
+        to_retransmission(&mut buf, 29, 0x090A_0B0C, 99, 1, &there),
+        Ok(29)
+    );
+    assert_eq!(buf, SENT);
+    assert_eq!(
+        to_retransmission(&mut buf[..30], 29, 7, 98, 2, &there),
+        Err(NotRetransmitted::ShortBuffer)
+    );
+    assert_eq!(buf, SENT);
+    assert_eq!(
+        from_retransmission(&mut buf, 29, 0x0506_0708, 96, &back),
+        Ok(27)
+    );
+    assert_eq!(buf[..27], BACK);
+    assert_eq!(
+        from_retransmission(&mut buf, 25, 1, 2, &back),
+        Err(NotRetransmitted::NoNumber)
+    );
 }
 
 #[test]

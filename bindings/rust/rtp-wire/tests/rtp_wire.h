@@ -506,6 +506,42 @@ RTPW_CHECKED int32_t rtpw_pad(uint8_t *datagram, size_t size, size_t header_len,
 RTPW_CHECKED int32_t rtpw_read_original(const uint8_t *payload, size_t len, uint16_t *number);
 RTPW_CHECKED int32_t rtpw_write_original(uint8_t *payload, size_t size, uint64_t number);
 
+/* The new ids of elements where packets become retransmissions, and on the way back (RFC 8852, 3). Where the
+ * map has both RTPW_KIND_RID and RTPW_KIND_REPAIRED_RID, an id of the first becomes the lowest id of the
+ * second, and the ids of the second get none, so that one element tells the stream; back it is the other way
+ * round. Every other id keeps itself, also one that means no kind, and so does each where the map hasn't both;
+ * 0 at index 0. Make them once for a map. */
+void rtpw_new_ids_to_retransmission(const rtpw_map *map, rtpw_new_ids *ids);
+void rtpw_new_ids_from_retransmission(const rtpw_map *map, rtpw_new_ids *ids);
+/* Makes the packet in the first *len bytes of the buffer a retransmission (RFC 4588, 4): with this SSRC, payload
+ * type and number of its own, the elements under their new ids, and as payload the original number in two bytes
+ * and the original payload without its padding. All else stays, M and the timestamp too. *len becomes its
+ * length, two bytes more than the packet has without its padding; bytes behind it stay.
+ *
+ * RTPW_OK; RTPW_BAD_FIELD where payload_type is above 127, *len is above size, padding_fits is 0, or the packet's
+ * form can't carry a new id that an element gets; the first cause for which there is no packet; or
+ * RTPW_SHORT_BUFFER where only room for the two bytes lacks. Where it isn't RTPW_OK nothing changes.
+ *
+ *     uint8_t datagram[1500];
+ *     size_t len = stored_packet(datagram, sizeof datagram - 2);
+ *     status = rtpw_to_retransmission(datagram, sizeof datagram, &len, rtx->ssrc, rtx->payload_type, rtx->next, &ids);
+ *     if (status == RTPW_OK) {
+ *         rtx->next++;
+ *         send_again(datagram, len);
+ *     }
+ */
+RTPW_CHECKED int32_t rtpw_to_retransmission(uint8_t *buf, size_t size, size_t *len, uint32_t ssrc, uint8_t payload_type,
+                                            uint16_t number, const rtpw_new_ids *ids);
+/* Makes the retransmission in the first *len bytes of the buffer the packet that it repeats: with this SSRC and
+ * payload type, the original number, the elements under their new ids, and as payload what follows that number,
+ * without padding. All else stays. *len becomes its length, two bytes less than the retransmission has
+ * without its padding; bytes behind it stay.
+ *
+ * RTPW_OK; RTPW_BAD_FIELD as rtpw_to_retransmission; the first cause for which there is no packet; or RTPW_NONE
+ * where the payload has fewer than the two bytes of a number. Where it isn't RTPW_OK nothing changes. */
+RTPW_CHECKED int32_t rtpw_from_retransmission(uint8_t *buf, size_t size, size_t *len, uint32_t ssrc,
+                                              uint8_t payload_type, const rtpw_new_ids *ids);
+
 /* ---- The numbers of a stream ---- */
 
 /* The receive state of one stream, a replay window of 128 numbers (RFC 3711, 3.3.1 and 3.3.2). 32
