@@ -1,13 +1,14 @@
--- The form that serves for elements, and the room that they take in it.
-use Rattle.std.proofs.Common.{◌≡◌, ℕ, zero, suc, ◌+◌, ◌-◌, ◌≤◌, ◌<◌, Bool, true, false, List, [], ◌∷◌, length, map, get_or, refl, sym, ap, ◌∙◌, subst, arith, inl, inr, length-append}
+-- The form that serves for elements or alone is allowed, and the room that they take in it.
+use Rattle.std.proofs.Common.{◌≡◌, ℕ, zero, suc, ◌+◌, ◌-◌, ◌≤◌, ◌<◌, Bool, true, false, List, [], ◌∷◌, Option, None, Some, length, map, get_or, refl, sym, ap, ◌∙◌, subst, arith, inl, inr, length-append}
 use Rattle.std.specs.Prelude.{Any, ◌&&◌, nat_le, if◌then◌else◌}
 use Rattle.std.specs.List.{AllByRecursion, list_all}
-use Rattle.std.proofs.lemmas.Bool.{leb-true}
+use Rattle.std.specs.Option.{unwrap_or}
+use Rattle.std.proofs.lemmas.Bool.{leb-true, le-leb}
 use Rattle.std.proofs.lemmas.List.{get_or-map, length-map}
 use Rattle.rtp_ext.specs.declared.form.ExtensionsForm.{ExtensionsForm}
 use Rattle.rtp_ext.specs.declared.form.ExtensionsForm.TheVariants.{OneByte, TwoByte}
 use Rattle.rtp_ext.specs.Elements.{Element, element_bytes, elements_bytes}
-use Rattle.rtp_ext.specs.ElementsInARow.{IsWritable, IsUnwritable, AreWritableIn, AreNotWritableIn, unwritable, short_room, serves_one_byte, form_for}
+use Rattle.rtp_ext.specs.ElementsInARow.{IsWritable, IsUnwritable, AreWritableIn, AreNotWritableIn, unwritable, short_room, serves_one_byte, form_for, form_given}
 
 and_parts : (a b : Bool) → (a && b) ≡ true → (a ≡ true) × (b ≡ true)
 and_parts true b e = (refl, e)
@@ -42,20 +43,55 @@ IsWritable-not form element is (inl none) = let above = is.0 in absurd (omega ar
 IsWritable-not OneByte element is (inr long) = let few = is.1.2 in absurd (omega arith)
 IsWritable-not TwoByte element is (inr long) = let few = is.1.2 in absurd (omega arith)
 
-AllByRecursion-not : (form : ExtensionsForm) (elements : List Element) → AllByRecursion (IsWritable form) elements → Any IsUnwritable elements → ⊥
+AllByRecursion-not : (form : ExtensionsForm) (elements : List Element) → AllByRecursion (IsWritable form) elements → Any (λ element. IsWritable form element → ⊥) elements → ⊥
 AllByRecursion-not form [] all (k, x, within, is, bad) = absurd (omega arith)
-AllByRecursion-not form (element ∷ elements) all (zero, x, within, is, bad) = IsWritable-not form x (subst (IsWritable form) is all.0) bad
+AllByRecursion-not form (element ∷ elements) all (zero, x, within, is, bad) = bad (subst (IsWritable form) is all.0)
 AllByRecursion-not form (element ∷ elements) all (suc k, x, within, is, bad) = AllByRecursion-not form elements all.1 (k, x, omega arith, is, bad)
 
 -- that they fit rules out each refusal
-pub AreNotWritableIn-not : (elements : List Element) (room : ℕ) (form : ExtensionsForm) → form ≡ form_for elements → AreWritableIn form elements room → AreNotWritableIn elements room → ⊥
-AreNotWritableIn-not elements room form form-is fit (unwritable any) = AllByRecursion-not form elements fit.writable any
-AreNotWritableIn-not elements room form form-is fit (short_room short) =
-    let fits = fit.bytes_fit in omega (arith, ap (λ (f : ExtensionsForm). length (elements_bytes f elements)) form-is)
+pub AreNotWritableIn-not : (elements : List Element) (room : ℕ) (form : ExtensionsForm) → AreWritableIn form elements room → AreNotWritableIn form elements room → ⊥
+AreNotWritableIn-not elements room form fit (unwritable any) = AllByRecursion-not form elements fit.writable any
+AreNotWritableIn-not elements room form fit (short_room short) = let fits = fit.bytes_fit in omega arith
 
--- an element that is given, where neither form can carry it
-pub Any-given : {X : Type 0} (f : X → Element) (xs : List X) (i : ℕ) (x : X) → i < length xs → IsUnwritable (f (get_or xs i x)) → Any IsUnwritable (map f xs)
-Any-given f xs i x here bad = (i, f (get_or xs i x), omega (arith, length-map xs f), get_or-map f xs i x (f (get_or xs i x)) here, bad)
+-- an element that is given, where the form can't carry it
+Any-given : {X : Type 0} (form : ExtensionsForm) (f : X → Element) (xs : List X) (i : ℕ) (x : X) → i < length xs
+    → (IsWritable form (f (get_or xs i x)) → ⊥) → Any (λ element. IsWritable form element → ⊥) (map f xs)
+Any-given form f xs i x here bad = (i, f (get_or xs i x), omega (arith, length-map xs f), get_or-map f xs i x (f (get_or xs i x)) here, bad)
+
+-- ---- the forms that are allowed
+
+-- the form that elements begin with, and the one that carries the most
+abbrev pub least : Option ExtensionsForm → ExtensionsForm
+least allowed = unwrap_or allowed OneByte
+
+abbrev pub widest : Option ExtensionsForm → ExtensionsForm
+widest allowed = unwrap_or allowed TwoByte
+
+-- what the widest form can't carry isn't carried by the form that is given
+IsWritable-widest : (allowed : Option ExtensionsForm) (form : ExtensionsForm) (elements : List Element) (element : Element) → form ≡ widest allowed
+    → (IsWritable form element → ⊥) → (form ≡ TwoByte → IsUnwritable element) → IsWritable (form_given allowed elements) element → ⊥
+IsWritable-widest None form elements element is bad neither carried = IsWritable-not (form_for elements) element carried (neither is)
+IsWritable-widest (Some only) form elements element is bad neither carried = bad (subst (λ (f : ExtensionsForm). IsWritable f element) (sym is) carried)
+
+-- one of the elements that are given, where the widest form can't carry it
+pub AreNotWritableIn-one : {X : Type 0} (allowed : Option ExtensionsForm) (form : ExtensionsForm) (f : X → Element) (xs : List X) (i : ℕ) (x : X) (room : ℕ) → i < length xs
+    → form ≡ widest allowed → (IsWritable form (f (get_or xs i x)) → ⊥) → (form ≡ TwoByte → IsUnwritable (f (get_or xs i x)))
+    → AreNotWritableIn (form_given allowed (map f xs)) (map f xs) room
+AreNotWritableIn-one allowed form f xs i x room here is bad neither =
+    unwritable (Any-given (form_given allowed (map f xs)) f xs i x here (IsWritable-widest allowed form (map f xs) (f (get_or xs i x)) is bad neither))
+
+AllByRecursion-given : (allowed : Option ExtensionsForm) (elements : List Element) → AllByRecursion (IsWritable (widest allowed)) elements
+    → AllByRecursion (IsWritable (form_given allowed elements)) elements
+AllByRecursion-given None elements all = AllByRecursion-serving elements all
+AllByRecursion-given (Some form) elements all = all
+
+serves-one : (element : Element) → IsWritable OneByte element → serves_one_byte element ≡ true
+serves-one element is =
+    rw (le-leb 1 element.0 is.0, le-leb element.0 14 is.1.0, le-leb 1 (length element.1) is.1.1, le-leb (length element.1) 16 is.1.2) refl
+
+serves-all : (elements : List Element) → AllByRecursion (IsWritable OneByte) elements → list_all serves_one_byte elements ≡ true
+serves-all [] all = refl
+serves-all (element ∷ elements) all = rw (serves-one element all.0, serves-all elements all.1) refl
 
 -- ---- how long they are
 
@@ -88,53 +124,73 @@ serving-more form element more = by_test (serves_one_byte element) (list_all ser
     by_test false true = refl
     by_test false false = refl
 
+-- where the elements begin with the least form, the form that is given serves
+serving-given : (allowed : Option ExtensionsForm) (elements : List Element) → AllByRecursion (IsWritable (widest allowed)) elements
+    → serving (least allowed) elements ≡ form_given allowed elements
+serving-given None elements all = refl
+serving-given (Some OneByte) elements all = ap (λ (serves : Bool). if serves then OneByte else TwoByte) (serves-all elements all)
+serving-given (Some TwoByte) elements all = by_test (list_all serves_one_byte elements)
+  where
+    by_test : (serves : Bool) → (if serves then TwoByte else TwoByte) ≡ TwoByte
+    by_test true = refl
+    by_test false = refl
+
 -- the elements that are passed are counted, and those that are left are still to be
-pub record AreCounted (elements left : List Element) (form : ExtensionsForm) (room rest : ℕ) : Type 0 where
-  pub form_is : form_for elements ≡ serving form left
+pub record AreCounted (allowed : Option ExtensionsForm) (elements left : List Element) (form : ExtensionsForm) (room rest : ℕ) : Type 0 where
+  pub form_is : serving (least allowed) elements ≡ serving form left
   pub bytes : rest + length (elements_bytes OneByte elements) ≡ room + length (elements_bytes OneByte left)
-  pub writable : AllByRecursion (IsWritable TwoByte) left → AllByRecursion (IsWritable TwoByte) elements
+  pub writable : AllByRecursion (IsWritable (widest allowed)) left → AllByRecursion (IsWritable (widest allowed)) elements
   pub within : rest ≤ room
 
-pub AreCounted-step : (elements left more : List Element) (element : Element) (form next : ExtensionsForm) (room rest rest' : ℕ) → left ≡ element ∷ more
-    → IsWritable TwoByte element → next ≡ (if serves_one_byte element then form else TwoByte) → 1 + length element.1 ≤ rest → rest' ≡ rest - (1 + length element.1)
-    → AreCounted elements left form room rest → AreCounted elements more next room rest'
-AreCounted-step elements left more element form next room rest rest' split writable next-is fits rest-is before =
+pub AreCounted-step : (allowed : Option ExtensionsForm) (elements left more : List Element) (element : Element) (form next : ExtensionsForm) (room rest rest' : ℕ) → left ≡ element ∷ more
+    → IsWritable (widest allowed) element → next ≡ (if serves_one_byte element then form else TwoByte) → 1 + length element.1 ≤ rest → rest' ≡ rest - (1 + length element.1)
+    → AreCounted allowed elements left form room rest → AreCounted allowed elements more next room rest'
+AreCounted-step allowed elements left more element form next room rest rest' split writable next-is fits rest-is before =
     let long : length (elements_bytes OneByte left) ≡ length (element_bytes OneByte element) + length (elements_bytes OneByte more) =
     ap (λ es. length (elements_bytes OneByte es)) split ∙ length-append (element_bytes OneByte element) (elements_bytes OneByte more) in
     record {
       form_is = before.form_is ∙ ap (serving form) split ∙ serving-more form element more ∙ ap (λ (f : ExtensionsForm). serving f more) (sym next-is);
       bytes = omega (arith, before.bytes, before.within, long);
-      writable = λ all. before.writable (subst (AllByRecursion (IsWritable TwoByte)) (sym split) (writable, all));
+      writable = λ all. before.writable (subst (AllByRecursion (IsWritable (widest allowed))) (sym split) (writable, all));
       within = omega (arith, before.within);
     }
 
 -- no room for the next one
-pub AreCounted-short : (elements left more : List Element) (element : Element) (form : ExtensionsForm) (room rest : ℕ) → left ≡ element ∷ more
-    → (1 + length element.1 ≤ rest → ⊥) → AreCounted elements left form room rest → AreNotWritableIn elements room
-AreCounted-short elements left more element form room rest split short before =
+pub AreCounted-short : (allowed : Option ExtensionsForm) (elements left more : List Element) (element : Element) (form : ExtensionsForm) (room rest : ℕ) → left ≡ element ∷ more
+    → (1 + length element.1 ≤ rest → ⊥) → AreCounted allowed elements left form room rest → AreNotWritableIn (form_given allowed elements) elements room
+AreCounted-short allowed elements left more element form room rest split short before =
     let long : length (elements_bytes OneByte left) ≡ length (element_bytes OneByte element) + length (elements_bytes OneByte more) =
     ap (λ es. length (elements_bytes OneByte es)) split ∙ length-append (element_bytes OneByte element) (elements_bytes OneByte more) in
-    short_room (omega (arith, before.bytes, before.within, long, length-one-le (form_for elements) elements, short))
+    short_room (omega (arith, before.bytes, before.within, long, length-one-le (form_given allowed elements) elements, short))
 
--- all are counted, and fit where there is room for longer headers too
-pub AreCounted-fit : (elements left : List Element) (form : ExtensionsForm) (room rest more : ℕ) → left ≡ [] → AreCounted elements left form room rest
-    → length (elements_bytes form elements) ≡ length (elements_bytes OneByte elements) + more → more ≤ rest
-    → (form ≡ form_for elements) × AreWritableIn form elements room
-AreCounted-fit elements left form room rest more none counted longer fits =
-    let form_is : form ≡ form_for elements = sym (counted.form_is ∙ ap (serving form) none) in
-    let all : AllByRecursion (IsWritable TwoByte) elements = counted.writable (subst (AllByRecursion (IsWritable TwoByte)) (sym none) tt) in
-    let bytes = counted.bytes ∙ ap (λ (es : List Element). room + length (elements_bytes OneByte es)) none in (
-      form_is,
+-- all are counted: the form is the one that is given, and can carry each
+counted : (allowed : Option ExtensionsForm) (elements left : List Element) (form : ExtensionsForm) (room rest : ℕ) → left ≡ [] → AreCounted allowed elements left form room rest
+    → (form ≡ form_given allowed elements) × AllByRecursion (IsWritable (form_given allowed elements)) elements
+counted allowed elements left form room rest none are =
+    let all : AllByRecursion (IsWritable (widest allowed)) elements = are.writable (subst (AllByRecursion (IsWritable (widest allowed))) (sym none) tt) in (
+      sym (are.form_is ∙ ap (serving form) none) ∙ serving-given allowed elements all,
+      AllByRecursion-given allowed elements all,
+    )
+
+-- they fit where there is room for longer headers too
+pub AreCounted-fit : (allowed : Option ExtensionsForm) (elements left : List Element) (form : ExtensionsForm) (room rest more : ℕ) → left ≡ []
+    → AreCounted allowed elements left form room rest → length (elements_bytes form elements) ≡ length (elements_bytes OneByte elements) + more → more ≤ rest
+    → (form ≡ form_given allowed elements) × AreWritableIn form elements room
+AreCounted-fit allowed elements left form room rest more none are longer fits =
+    let all = counted allowed elements left form room rest none are in
+    let bytes = are.bytes ∙ ap (λ (es : List Element). room + length (elements_bytes OneByte es)) none in (
+      all.0,
       record {
-        writable = subst (λ (f : ExtensionsForm). AllByRecursion (IsWritable f) elements) (sym form_is) (AllByRecursion-serving elements all);
+        writable = subst (λ (f : ExtensionsForm). AllByRecursion (IsWritable f) elements) (sym all.0) all.1;
         bytes_fit = omega (arith, bytes);
       },
     )
 
 -- and not where there is none
-pub AreCounted-longer : (elements left : List Element) (form : ExtensionsForm) (room rest more : ℕ) → left ≡ [] → AreCounted elements left form room rest
-    → length (elements_bytes form elements) ≡ length (elements_bytes OneByte elements) + more → (more ≤ rest → ⊥) → AreNotWritableIn elements room
-AreCounted-longer elements left form room rest more none counted longer short =
-    let form_is : form ≡ form_for elements = sym (counted.form_is ∙ ap (serving form) none) in
-    let bytes = counted.bytes ∙ ap (λ (es : List Element). room + length (elements_bytes OneByte es)) none in
-    short_room (omega (arith, bytes, short, ap (λ (f : ExtensionsForm). length (elements_bytes f elements)) form_is))
+pub AreCounted-longer : (allowed : Option ExtensionsForm) (elements left : List Element) (form : ExtensionsForm) (room rest more : ℕ) → left ≡ []
+    → AreCounted allowed elements left form room rest → length (elements_bytes form elements) ≡ length (elements_bytes OneByte elements) + more → (more ≤ rest → ⊥)
+    → AreNotWritableIn (form_given allowed elements) elements room
+AreCounted-longer allowed elements left form room rest more none are longer short =
+    let all = counted allowed elements left form room rest none are in
+    let bytes = are.bytes ∙ ap (λ (es : List Element). room + length (elements_bytes OneByte es)) none in
+    short_room (omega (arith, bytes, short, ap (λ (f : ExtensionsForm). length (elements_bytes f elements)) all.0))

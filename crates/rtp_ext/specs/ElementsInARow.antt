@@ -1,5 +1,5 @@
 -- Elements that are written one after the other (RFC 8285, 4.2 and 4.3).
-use Rattle.std.specs.Prelude.{◌≡◌, ℕ, ◌≤◌, ◌<◌, ◌⊎◌, List, map, length, Any, Bool, ◌&&◌, nat_le, if◌then◌else◌}
+use Rattle.std.specs.Prelude.{◌≡◌, ℕ, ◌≤◌, ◌<◌, ◌⊎◌, List, map, length, Any, Bool, ◌&&◌, nat_le, if◌then◌else◌, Option, None, Some}
 use Rattle.std.specs.List.{AllByRecursion, list_all}
 use Rattle.std.specs.Borrow.{Bor}
 use Rattle.rtp_ext.specs.declared.form.ExtensionsForm.{ExtensionsForm}
@@ -28,11 +28,16 @@ serves_one_byte element =
 abbrev pub form_for : List Element → ExtensionsForm
 form_for elements = if list_all serves_one_byte elements then OneByte else TwoByte
 
+-- the form that elements are written in: the one that serves for them, or the one that alone is allowed
+abbrev pub form_given : Option ExtensionsForm → List Element → ExtensionsForm
+form_given None elements = form_for elements
+form_given (Some form) elements = form
+
 -- an element that neither form can carry: its id is 0, or it has more than 255 bytes of data
 abbrev pub IsUnwritable : Element → Type 0
 IsUnwritable element = (element.0 ≡ 0) ⊎ (255 < length element.1)
 
--- the elements can't be written in a row in the form that serves for them: there is one that neither form can carry, or they take more than the room
-pub data AreNotWritableIn (elements : List Element) (room : ℕ) : Type 0 where
-  unwritable : Any IsUnwritable elements → AreNotWritableIn elements room
-  short_room : room < length (elements_bytes (form_for elements) elements) → AreNotWritableIn elements room
+-- the elements can't be written in a row in the form: there is one that it can't carry, or they take more than the room
+pub data AreNotWritableIn (form : ExtensionsForm) (elements : List Element) (room : ℕ) : Type 0 where
+  unwritable : Any (λ element. IsWritable form element → ⊥) elements → AreNotWritableIn form elements room
+  short_room : room < length (elements_bytes form elements) → AreNotWritableIn form elements room

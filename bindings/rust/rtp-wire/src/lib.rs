@@ -34,8 +34,8 @@ mod wide_receiver;
 
 pub use elements::{write_elements, Element, Elements, Place, Places};
 pub use error::{
-    BadId, BadRolloverCount, NoMemory, NotAHeader, NotAPacket, NotChanged, NotPut, NotRetransmitted,
-    NotWritten,
+    BadId, BadRolloverCount, NoMemory, NotAHeader, NotAPacket, NotChanged, NotPut,
+    NotRetransmitted, NotWritten,
 };
 pub use growing::{compact, put_element};
 pub use header::Header;

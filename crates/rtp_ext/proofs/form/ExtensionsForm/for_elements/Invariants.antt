@@ -5,4 +5,4 @@ use Rattle.rtp_ext.proofs.form.ExtensionsForm.for_elements.Given as goal
 
 -- the elements that were passed are counted
 abbrev pub invariant-loop-id : goal.invariant-loop-id
-invariant-loop-id l = AreCounted (elements_of l.elements) (drop l.id-index (elements_of l.elements)) l.form l.room l.left
+invariant-loop-id l = AreCounted l.fn.allowed (elements_of l.elements) (drop l.id-index (elements_of l.elements)) l.form l.room l.left
