@@ -63,38 +63,6 @@ pub record KeptSoFar (text old room : List ℕ) (len done : ℕ) : Type 0 where
   pub rest : drop len room ≡ drop len old
   pub within : len ≤ length room
 
-kept-more : (text : List ℕ) (done : ℕ) → done < length text → kept (take (done + 1) text) ≡ kept (take done text) ++ map id_char (cond (begins (get_or text done 0)) (get_or text done 0 ∷ []) [])
-kept-more text done below =
-    ap (map id_char) (filter_more begins text done 0 below)
-    ∙ map-append id_char (filter begins (take done text)) (cond (begins (get_or text done 0)) (get_or text done 0 ∷ []) [])
-
-pub KeptSoFar-none : (text room : List ℕ) → KeptSoFar text room room 0 0
-KeptSoFar-none text room = record { front = refl; rest = refl; within = omega arith }
-
--- a byte that begins no character
-pub KeptSoFar-next : (text old room : List ℕ) (len done : ℕ) → done < length text → begins (get_or text done 0) ≡ false
-    → KeptSoFar text old room len done → KeptSoFar text old room len (done + 1)
-KeptSoFar-next text old room len done below is so_far = record {
-  front = so_far.front ∙ sym (kept-more text done below ∙ rw is (append-nil (kept (take done text))));
-  rest = so_far.rest;
-  within = so_far.within;
-}
-
--- a byte that begins one
-pub KeptSoFar-lead : (text old room : List ℕ) (len done byte : ℕ) → done < length text → len < length room → begins (get_or text done 0) ≡ true → byte ≡ id_char (get_or text done 0)
-    → KeptSoFar text old room len done → KeptSoFar text old (set room len byte) (len + 1) (done + 1)
-KeptSoFar-lead text old room len done byte below free is kept-is so_far = record {
-  front =
-      take_more_set room len byte free
-      ∙ ap (λ (xs : List ℕ). xs ++ byte ∷ []) so_far.front
-      ∙ ap (λ (b : ℕ). kept (take done text) ++ b ∷ []) kept-is
-      ∙ sym (kept-more text done below ∙ rw is refl);
-  rest =
-      drop-set-lt (len + 1) room len byte (omega arith)
-      ∙ sym (drop-drop 1 len room) ∙ ap (drop 1) so_far.rest ∙ drop-drop 1 len old;
-  within = omega (arith, length-set room len byte);
-}
-
 -- the room is full, or the text is at its end
 pub KeptSoFar-all : (text old room : List ℕ) (len done : ℕ) → IsUtf8 text → (len ≡ length room) ⊎ (length text ≤ done)
     → KeptSoFar text old room len done → take len room ≡ id_text (length room) text

@@ -75,39 +75,6 @@ KeepsOf-refused size window taken number keeps refused =
 pub Keeps-refused : (window : WindowState) (taken : Numbers) (number : ℕ) → Keeps window taken → (Accepts taken number → ⊥) → Keeps window (including taken number)
 Keeps-refused = KeepsOf-refused window_size
 
--- a number above the greatest is recorded: what was recorded is as far below it as before, and nothing between
-pub KeepsOf-advanced : (size : ℕ) (old new : WindowState) (taken : Numbers) → KeepsOf size old taken → old.greatest < new.greatest
-    → get_or new.recorded 0 false ≡ true
-    → ((k : ℕ) → 0 < k → k < new.greatest - old.greatest → k < size → get_or new.recorded k false ≡ false)
-    → ((k : ℕ) → new.greatest - old.greatest ≤ k → k < size → get_or new.recorded k false ≡ get_or old.recorded (k - (new.greatest - old.greatest)) false)
-    → KeepsOf size new (including taken new.greatest)
-KeepsOf-advanced size old new taken keeps above first between before = record {
-  top = record {
-    member = or_right (taken new.greatest) (nat_eq new.greatest new.greatest) (eq-eqb new.greatest new.greatest refl);
-    top = λ n is. elim (or_cases (taken n) (nat_eq n new.greatest) is) [
-      | inl member ↦ let low = keeps.top.top n member in omega arith
-      | inr same ↦ let e = eqb-true n new.greatest same in omega arith
-    ];
-  };
-  recorded = λ n low near. elim (cases_eq n new.greatest) [
-    | inl same ↦
-        ap (λ k. get_or new.recorded k false) (let e : new.greatest - n ≡ 0 = omega arith in e)
-        ∙ first ∙ sym (or_right (taken n) (nat_eq n new.greatest) (eq-eqb n new.greatest same))
-    | inr other ↦
-        elim (cases_lt old.greatest n) [
-          | inl more ↦ between (new.greatest - n) (omega arith) (omega arith) (omega arith) ∙ elim (cases_Bool (taken n)) [
-            | inl member ↦ absurd (let bound = keeps.top.top n member in omega arith)
-            | inr none ↦ sym none
-          ]
-          | inr within ↦
-              before (new.greatest - n) (omega arith) (omega arith)
-              ∙ ap (λ k. get_or old.recorded k false) (let e : new.greatest - n - (new.greatest - old.greatest) ≡ old.greatest - n = omega arith in e)
-              ∙ keeps.recorded n within (omega arith)
-        ]
-        ∙ sym (or-none (taken n) (nat_eq n new.greatest) (ne_eqb n new.greatest other))
-  ];
-}
-
 -- a number of the window, at most the greatest, is recorded
 pub KeepsOf-recorded : (size greatest : ℕ) (old new : List Bool) (taken : Numbers) (number : ℕ)
     → KeepsOf size (record { greatest = greatest; recorded = old }) taken → number ≤ greatest

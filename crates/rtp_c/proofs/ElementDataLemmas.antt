@@ -11,16 +11,12 @@ use Rattle.rtp_c.specs.Given.{AreGivenValues}
 use Rattle.rtp_c.specs.KindNumbers.{IsNamed, IsKindNumbered, kind_numbered}
 use Rattle.rtp_c.specs.ElementData.{IsAskedFor, HasNoData, AreDataOf, AreTooLongData, AreWrittenData}
 use Rattle.rtp_c.proofs.KindNumberLemmas.{numbered_is}
+use Rattle.rtp_ext.proofs.WrittenBlockLemmas.{none-from_map}
 
 pub IsAskedFor-found : (number : ℕ) (view : ValuesView) (kind : Option KnownKind) (values : ExtensionValues) → IsNamed number → kind ≡ kind_numbered number
     → AreGivenValues view values → IsAskedFor number view kind values
 IsAskedFor-found number view kind values named is given =
     record { named = named; numbered = subst (IsKindNumbered number) (sym is) (numbered_is number); are_given = given }
-
--- where there is no length there are no data
-no_data : (spelled : Option (List ℕ)) → None ≡ option_map length spelled → spelled ≡ None
-no_data None is = refl
-no_data (Some bytes) is = cc
 
 pub HasNoData-own : (number : ℕ) (view : ValuesView) (values : ExtensionValues) → IsAskedFor number view None values → HasNoData number view
 HasNoData-own number view values asked = record { kind = None; values = values; asked = asked; no_data = refl }
@@ -28,7 +24,7 @@ HasNoData-own number view values asked = record { kind = None; values = values; 
 pub HasNoData-kind : (number : ℕ) (view : ValuesView) (kind : KnownKind) (values : ExtensionValues) → IsAskedFor number view (Some kind) values
     → None ≡ option_map length (spelled_data (extension_of_kind kind) values) → HasNoData number view
 HasNoData-kind number view kind values asked none =
-    record { kind = Some kind; values = values; asked = asked; no_data = no_data (spelled_data (extension_of_kind kind) values) none }
+    record { kind = Some kind; values = values; asked = asked; no_data = none-from_map (spelled_data (extension_of_kind kind) values) none }
 
 -- and where there is one it is theirs
 abbrev HasLength : ℕ → Option (List ℕ) → Type 0

@@ -11,15 +11,11 @@ use Rattle.rtp_c.specs.declared.packet.ElementView.{ElementView}
 use Rattle.rtp_c.specs.PacketView.{slice_at}
 use Rattle.rtp_c.specs.ElementView.{IsNextElement, IsLastElement}
 use Rattle.rtp_c.proofs.PacketLemmas.{middle}
+use Rattle.rtp_ext.proofs.PlaceLemmas.{element_bytes-split}
 
 -- the place as C is told of it
 abbrev pub view_of : Place → ElementView
 view_of place = record { data_at = place.data_start; data_len = place.end - place.data_start; end = place.end; id = place.id }
-
--- the bytes of an element are its header and its data
-element_split : (form : ExtensionsForm) (id : ℕ) (bytes : List ℕ) → element_bytes form (id, bytes) ≡ element_header form id (length bytes) ++ bytes
-element_split OneByte id bytes = refl
-element_split TwoByte id bytes = refl
 
 pub IsNextElement-place : (form : ExtensionsForm) (body : List ℕ) (at : ℕ) (place : Place) → at ≤ length body → IsNextPlace form body at place → IsNextElement form body at (view_of place)
 IsNextElement-place form body at place within is =
@@ -28,7 +24,7 @@ IsNextElement-place form body at place within is =
     let front = take at body ++ (zeros ++ head) in
     let in_order : body ≡ front ++ (is.bytes ++ is.after) =
     sym (take-append-drop at body)
-    ∙ ap (λ (xs : List ℕ). take at body ++ xs) (is.left_is ∙ ap (λ (xs : List ℕ). zeros ++ (xs ++ is.after)) (element_split form place.id is.bytes)
+    ∙ ap (λ (xs : List ℕ). take at body ++ xs) (is.left_is ∙ ap (λ (xs : List ℕ). zeros ++ (xs ++ is.after)) (element_bytes-split form place.id is.bytes)
     ∙ ap (λ (xs : List ℕ). zeros ++ xs) (append_assoc head is.bytes is.after) ∙ sym (append_assoc zeros head (is.bytes ++ is.after)))
     ∙ sym (append_assoc (take at body) (zeros ++ head) (is.bytes ++ is.after)) in
     let front_len : length front ≡ place.data_start =

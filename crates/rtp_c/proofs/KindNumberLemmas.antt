@@ -2,7 +2,7 @@
 use Rattle.std.proofs.Common.{◌≡◌, ◌≢◌, ℕ, zero, suc, ◌+◌, List, [], ◌∷◌, Bool, true, false, ◌&&◌, nat_le, get_or, Option, None, Some, arith, refl, sym, ap, ◌∙◌, subst}
 use Rattle.std.specs.Prelude.{nat_eq}
 use Rattle.std.specs.Str.{IsUtf8, IsAscii}
-use Rattle.std.proofs.lemmas.Bool.{leb-true, false≢true, eqb-true}
+use Rattle.std.proofs.lemmas.Bool.{and_parts, leb-true, false≢true, eqb-true}
 use Rattle.std.proofs.lemmas.Str.{IsUtf8-from_ascii}
 use Rattle.rtp_values.specs.declared.known_kind.KnownKind.{KnownKind}
 use Rattle.rtp_values.specs.declared.known_kind.KnownKind.TheVariants.{AbsoluteSendTime, AbsoluteCaptureTime, AudioLevel, TransmissionTimeOffset, VideoOrientation, TransportSequenceNumber, PlayoutDelay, VideoContentType, VideoTiming, RtpStreamId, RepairedRtpStreamId, RtpMid, FrameMarking, ColorSpace, VideoLayersAllocation}
@@ -38,10 +38,6 @@ one_kind a b same = let found : Some a ≡ Some b = sym (number_of_kind a) ∙ a
 pub number≢0 : (kind : KnownKind) → kind_number kind ≢ 0
 number≢0 kind is = let wrong : None ≡ Some kind = sym number_zero ∙ ap kind_numbered (sym is) ∙ number_of_kind kind in cc
 
-both : (a b : Bool) → (a && b) ≡ true → (a ≡ true) × (b ≡ true)
-both true b is = (refl, is)
-both false b is = absurd (false≢true is)
-
 -- what a test by number and kind says of each of the list, from a number on
 unfoldable pub all_pass : (ℕ → KnownKind → Bool) → ℕ → List (Option KnownKind) → Bool
 all_pass test number [] = true
@@ -56,13 +52,13 @@ passes_at test number (None ∷ kinds) zero kind all is = cc
 passes_at test number (Some first ∷ kinds) zero kind all is =
     let same : first ≡ kind = cc in
     let here : number ≡ number + 0 = omega arith in
-    subst (λ (n : ℕ). test n kind ≡ true) here (subst (λ (k : KnownKind). test number k ≡ true) same (both _ _ all).0)
+    subst (λ (n : ℕ). test n kind ≡ true) here (subst (λ (k : KnownKind). test number k ≡ true) same (and_parts _ _ all).0)
 passes_at test number (None ∷ kinds) (suc index) kind all is =
     let there : suc number + index ≡ number + suc index = omega arith in
     subst (λ (n : ℕ). test n kind ≡ true) there (passes_at test (suc number) kinds index kind all is)
 passes_at test number (Some first ∷ kinds) (suc index) kind all is =
     let there : suc number + index ≡ number + suc index = omega arith in
-    subst (λ (n : ℕ). test n kind ≡ true) there (passes_at test (suc number) kinds index kind (both _ _ all).1 is)
+    subst (λ (n : ℕ). test n kind ≡ true) there (passes_at test (suc number) kinds index kind (and_parts _ _ all).1 is)
 
 -- what each kind passes passes the kind of a number
 pub numbered_passes : (test : ℕ → KnownKind → Bool) → all_pass test 0 numbered_kinds ≡ true → (number : ℕ) (kind : KnownKind) → kind_numbered number ≡ Some kind → test number kind ≡ true
@@ -91,8 +87,8 @@ all_ascii (byte ∷ bytes) = nat_le byte 127 && all_ascii bytes
 IsAscii-all : (bytes : List ℕ) → all_ascii bytes ≡ true → IsAscii bytes
 unfolding all_ascii
 IsAscii-all [] all i = omega arith
-IsAscii-all (byte ∷ bytes) all zero = let low = leb-true byte 127 (both (nat_le byte 127) (all_ascii bytes) all).0 in omega (arith, low)
-IsAscii-all (byte ∷ bytes) all (suc i) = IsAscii-all bytes (both (nat_le byte 127) (all_ascii bytes) all).1 i
+IsAscii-all (byte ∷ bytes) all zero = let low = leb-true byte 127 (and_parts (nat_le byte 127) (all_ascii bytes) all).0 in omega (arith, low)
+IsAscii-all (byte ∷ bytes) all (suc i) = IsAscii-all bytes (and_parts (nat_le byte 127) (all_ascii bytes) all).1 i
 
 all_uris : all_pass (λ _ kind. all_ascii (uri_of kind)) 0 numbered_kinds ≡ true
 unfolding all_pass all_ascii

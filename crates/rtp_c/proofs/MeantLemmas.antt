@@ -20,11 +20,6 @@ not_zero : IsNamed 0 → ⊥
 not_zero (inl kind) = omega (arith, kind.0)
 not_zero (inr own) = omega (arith, own)
 
--- the same id has one number
-pub IsNumberAt-found : (numbers : List ℕ) (id number : ℕ) → 1 ≤ id → number ≡ get_or numbers id 0 → IsNamed number → IsNumberAt numbers id number
-IsNumberAt-found numbers id zero is_id here named = absurd (not_zero named)
-IsNumberAt-found numbers id (suc k) is_id here named = record { is_id = is_id; here = sym here; named = named }
-
 -- the index after the first number is the id
 means_after : (numbers rest : List ℕ) (number id : ℕ) → rest ≡ drop 1 numbers → Means numbers id number → (k : ℕ) × (id ≡ suc k) × (get_or rest k 0 ≡ number)
 means_after numbers rest number zero is means = absurd (omega (arith, means.is_id))

@@ -1,7 +1,7 @@
 -- The ids that elements have under another map, and what a form can carry of them.
 use Rattle.std.proofs.Common.{◌≡◌, ℕ, zero, suc, ◌≤◌, ◌<◌, List, [], ◌∷◌, length, Bool, true, false, ◌&&◌, Option, Some, None, IfSome, All, ◌+◌, get_or, set, map, drop, length-set, nat_le, ◌↔◌, inl, inr, IsTrue, arith, refl, sym, ap, ◌∙◌, subst}
 use Rattle.std.specs.List.{AllByRecursion, filter_map, list_all}
-use Rattle.std.proofs.lemmas.Bool.{leb-true, le-leb, false≢true, cases_lt}
+use Rattle.std.proofs.lemmas.Bool.{and_parts, leb-true, le-leb, false≢true, cases_lt}
 use Rattle.std.proofs.Math.ListN.{get_or-map}
 use Rattle.std.proofs.lemmas.List.{get_or_past, get_or-set_same, get_or-set_other, map-set, length-map}
 use Rattle.std.proofs.lemmas.List.Elements.{All-nil, All-cons, All-head, All-tail}
@@ -38,15 +38,11 @@ carried_one TwoByte element (Some new) valid is =
     let above : IsId new = valid new refl in
     (λ test. (above.0, above.1, is.2), λ can. refl)
 
-both : (a b : Bool) → (a && b) ≡ true → (a ≡ true) × (b ≡ true)
-both true b is = (refl, is)
-both false b is = absurd (false≢true is)
-
 carried_all : (form : ExtensionsForm) (ids : ℕ → Option ℕ) (elements : List Element) → ((id new : ℕ) → ids id ≡ Some new → IsId new) → All (IsElement form) elements
     → list_all (λ (e : Element). carries_id form (ids e.0)) elements ≡ true → All (CanRenumber form ids) elements
 carried_all form ids [] valid are all = All-nil (CanRenumber form ids)
 carried_all form ids (e ∷ elements) valid are all =
-    let parts = both (carries_id form (ids e.0)) (list_all (λ (e : Element). carries_id form (ids e.0)) elements) all in
+    let parts = and_parts (carries_id form (ids e.0)) (list_all (λ (e : Element). carries_id form (ids e.0)) elements) all in
     All-cons (CanRenumber form ids) e elements ((carried_one form e (ids e.0) (valid e.0) (All-head (IsElement form) e elements are)).0 parts.0)
     (carried_all form ids elements valid (All-tail (IsElement form) e elements are) parts.1)
 

@@ -4,7 +4,7 @@ use Rattle.std.specs.List.{AllByRecursion, flat_map, filter_map, list_any, cons_
 use Rattle.std.specs.Option.{option_map}
 use Rattle.std.specs.Bool.{OnFalse}
 use Rattle.std.proofs.Math.Bool.{or-false}
-use Rattle.std.proofs.lemmas.Bool.{eq-eqb, ne_eqb, false≢true}
+use Rattle.std.proofs.lemmas.Bool.{or_parts, eq-eqb, ne_eqb, false≢true}
 use Rattle.std.proofs.lemmas.List.{append-nil, drop_at, take_at, length-replicate}
 use Rattle.std.proofs.lemmas.List.Concat.{flat_map-append}
 use Rattle.std.proofs.lemmas.List.Elements.{All-head, All-tail, filter_map-append}
@@ -278,17 +278,13 @@ lost-all_but id elements false is = (
 )
 
 -- where none does, all bytes stay
-neither : (a b : Bool) → (a || b) ≡ false → (a ≡ false) × (b ≡ false)
-neither true b is = absurd (false≢true (sym is))
-neither false b is = (refl, is)
-
 unchanged_pieces : (form : ExtensionsForm) (id : ℕ) (pieces : List (Option Element))
     → list_any (λ (e : Element). is_none (all_but id e.0)) (filter_map (λ (piece : Option Element). piece) pieces) ≡ false
     → flat_map (renumbered_bytes form (all_but id)) pieces ≡ flat_map (piece_bytes form) pieces
 unchanged_pieces form id [] none = refl
 unchanged_pieces form id (None ∷ pieces) none = ap (λ b. 0 ∷ b) (unchanged_pieces form id pieces none)
 unchanged_pieces form id (Some element ∷ pieces) none =
-    let both = neither (is_none (all_but id element.0)) (list_any (λ (e : Element). is_none (all_but id e.0)) (filter_map (λ (piece : Option Element). piece) pieces)) none in
+    let both = or_parts (is_none (all_but id element.0)) (list_any (λ (e : Element). is_none (all_but id e.0)) (filter_map (λ (piece : Option Element). piece) pieces)) none in
     let kept : all_but id element.0 ≡ Some element.0 = ap (λ b. if b then None else Some element.0) (sym (is_none-all_but id element.0) ∙ both.0) in
     ap (λ i. bytes_under form element i ++ flat_map (renumbered_bytes form (all_but id)) pieces) kept
     ∙ ap (λ b. element_bytes form element ++ b) (unchanged_pieces form id pieces both.1)

@@ -32,25 +32,3 @@ SoFar-more text rest after line bytes datagrams start number first shorter decod
   number_is = omega (arith, so_far.number_is, length_push so_far.done line);
   fits = let fits = so_far.fits in omega arith;
 }
-
-pub AreHex-all : (text rest : List ℕ) (datagrams : List (List ℕ)) (start number : ℕ) → rest ≡ [] → SoFar text rest datagrams start number → AreHex (lines text) datagrams
-AreHex-all text rest datagrams start number end so_far =
-    ap (map decode_of) (so_far.in_order ∙ ap (λ (bytes : List ℕ). so_far.done ++ lines bytes) end ∙ append-nil so_far.done) ∙ so_far.spelled
-
--- what is no Ok is an Err
-pub IsErr-from : (r : Result (List ℕ) FromHexError) → ((bytes : List ℕ) → r ≡ Ok bytes → ⊥) → IsErr r
-IsErr-from (Ok bytes) none = absurd (none bytes refl)
-IsErr-from (Err e) none = refl
-
-pub IsFirstNotHex-here : (text rest after line : List ℕ) (datagrams : List (List ℕ)) (start number : ℕ) → lines rest ≡ line ∷ lines after
-    → IsErr (decode_of line) → SoFar text rest datagrams start number → IsFirstNotHex (lines text) start (number + 1)
-IsFirstNotHex-here text rest after line datagrams start number first bad so_far = record {
-  before = so_far.done;
-  bad = line;
-  after = lines after;
-  in_order = so_far.in_order ∙ ap (λ (ls : List (List ℕ)). so_far.done ++ ls) first;
-  number_is = omega (arith, so_far.number_is);
-  datagrams = datagrams;
-  good_before = so_far.spelled;
-  not_hex = bad;
-}

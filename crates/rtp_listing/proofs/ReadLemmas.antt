@@ -10,11 +10,6 @@ use Rattle.rtp_listing.specs.MapLine.{IsMapLine}
 use Rattle.rtp_listing.specs.Input.{Item, AreMapLines, AreHex, AreLines, AreMapped, IsStandardMap, IsMapOf, Spells, IsFirstBadLine, IsInput, HasBadLine}
 use Rattle.rtp_listing.specs.Front.{IsFront, IsFirstNotHex, MapsNoneFirst}
 
--- a fact on an error, from another on it
-pub if_err : {A E : Type 0} {P : E → Type 0} (r : Result A E) (Q : E → Type 0) → IsErrAnd r P → ((e : E) → P e → Q e) → IfErr r Q
-if_err (Ok x) Q p step = absurd p
-if_err (Err e) Q p step = step e p
-
 -- the first of some lines of hexadecimal, and the others
 hex_first : (line : List ℕ) (others datagrams : List (List ℕ)) → AreHex (line ∷ others) datagrams
     → (bytes : List ℕ) × (more : List (List ℕ)) × (decode_of line ≡ Ok bytes) × AreHex others more

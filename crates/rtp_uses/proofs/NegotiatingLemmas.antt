@@ -6,10 +6,6 @@ use Rattle.std.proofs.lemmas.List.{get_or_append_left, get_or_at, get_or-map, le
 use Rattle.rtp_ext.specs.ExtensionMap.{Slots, IsId, IsEmpty, entry_at}
 use Rattle.rtp_uses.specs.Negotiating.{IsKnownUri, TakesLine, IsMappedTo, line_at, AreKnown, AreNegotiated}
 
--- of no lines
-pub AreNegotiated-none : (map : Slots) → IsEmpty map → AreNegotiated [] map
-AreNegotiated-none map none = record { last = λ i below. absurd (omega arith); others = λ id absent. none id }
-
 -- a number is an id of the map, or isn't
 id_or_not : (id : ℕ) → IsId id ⊎ (IsId id → ⊥)
 id_or_not id = elim (cases_lt 0 id) [

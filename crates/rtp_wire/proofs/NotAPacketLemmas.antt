@@ -59,38 +59,23 @@ IsFirstCause-block bytes after start cause long version start-is room after-is s
     }
 
 -- the first cause in what is to be a block: its first four bytes are cut short, its form is unknown, or its words are cut short
-earlier_none : (bytes : List ℕ) (earlier : NotAPacket) → place_of earlier < 3 → AppliesToBlock bytes earlier → ⊥
-earlier_none bytes CutFixedPart before applies = applies
-earlier_none bytes OtherVersion before applies = applies
-earlier_none bytes CutSources before applies = applies
-earlier_none bytes CutBlockHeader before applies = omega arith
-earlier_none bytes UnknownForm before applies = omega arith
-earlier_none bytes CutBlock before applies = omega arith
+earlier_none : (bytes : List ℕ) (n : ℕ) → n ≤ 5 → (3 < n → 4 ≤ length bytes) → (4 < n → (form : ExtensionsForm) × IsFormWord (word_at bytes 0) form)
+    → (earlier : NotAPacket) → place_of earlier < n → AppliesToBlock bytes earlier → ⊥
+earlier_none bytes n few long known CutFixedPart before applies = applies
+earlier_none bytes n few long known OtherVersion before applies = applies
+earlier_none bytes n few long known CutSources before applies = applies
+earlier_none bytes n few long known CutBlockHeader before applies = let there = long before in omega arith
+earlier_none bytes n few long known UnknownForm before applies = let is = known before in applies is.0 is.1
+earlier_none bytes n few long known CutBlock before applies = omega arith
 
 pub IsFirstOf-cut_header : (bytes : List ℕ) → length bytes < 4 → IsFirstOf (AppliesToBlock bytes) CutBlockHeader
-IsFirstOf-cut_header bytes short = record { applies = short; none_before = earlier_none bytes }
+IsFirstOf-cut_header bytes short = record { applies = short; none_before = earlier_none bytes 3 (omega arith) (λ more. absurd (omega arith)) (λ more. absurd (omega arith)) }
 
 pub IsFirstOf-unknown_form : (bytes : List ℕ) → 4 ≤ length bytes → AppliesToBlock bytes UnknownForm → IsFirstOf (AppliesToBlock bytes) UnknownForm
-IsFirstOf-unknown_form bytes long unknown = record { applies = unknown; none_before = none_before bytes long }
-  where
-    none_before : (bytes : List ℕ) → 4 ≤ length bytes → (earlier : NotAPacket) → place_of earlier < 4 → AppliesToBlock bytes earlier → ⊥
-    none_before bytes long CutFixedPart before applies = applies
-    none_before bytes long OtherVersion before applies = applies
-    none_before bytes long CutSources before applies = applies
-    none_before bytes long CutBlockHeader before applies = omega arith
-    none_before bytes long UnknownForm before applies = omega arith
-    none_before bytes long CutBlock before applies = omega arith
+IsFirstOf-unknown_form bytes long unknown = record { applies = unknown; none_before = earlier_none bytes 4 (omega arith) (λ _. long) (λ more. absurd (omega arith)) }
 
 pub IsFirstOf-cut_block : (bytes : List ℕ) (form : ExtensionsForm) → 4 ≤ length bytes → IsFormWord (word_at bytes 0) form → AppliesToBlock bytes CutBlock → IsFirstOf (AppliesToBlock bytes) CutBlock
-IsFirstOf-cut_block bytes form long is short = record { applies = short; none_before = none_before bytes form long is }
-  where
-    none_before : (bytes : List ℕ) (form : ExtensionsForm) → 4 ≤ length bytes → IsFormWord (word_at bytes 0) form → (earlier : NotAPacket) → place_of earlier < 5 → AppliesToBlock bytes earlier → ⊥
-    none_before bytes form long is CutFixedPart before applies = applies
-    none_before bytes form long is OtherVersion before applies = applies
-    none_before bytes form long is CutSources before applies = applies
-    none_before bytes form long is CutBlockHeader before applies = omega arith
-    none_before bytes form long is UnknownForm before applies = applies form is
-    none_before bytes form long is CutBlock before applies = omega arith
+IsFirstOf-cut_block bytes form long is short = record { applies = short; none_before = earlier_none bytes 5 (omega arith) (λ _. long) (λ _. (form, is)) }
 
 -- what `parse` promises where it refuses the bytes for their first cause
 pub refusal : (datagram : List ℕ) (first : NotAPacket) → IsFirstCause datagram first → record {
