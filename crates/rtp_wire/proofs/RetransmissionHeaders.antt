@@ -127,7 +127,6 @@ high-told ids told block bytes parts all is same tells not_all =
 pub bytes_before : (old new : List ℕ) → ((i : ℕ) → Fits w8 (slice_index new i)) → new ≡ old → AreBytes old
 bytes_before old new fit same = λ i. let below = fit i in subst (λ (xs : List ℕ). slice_index xs i < 256) same (omega arith)
 
-
 -- what is known of a header that was changed where it lay
 pub record IsChangedFront (ids : ℕ → Option ℕ) (buf : List ℕ) (layout : Layout) (fields : Fields) (header : List ℕ) : Type 0 where
   pub changed : (parts : PacketParts) → IsPacket (take layout.header_len buf) parts → IsPacketWith (IsChangedHeader ids fields parts) header

@@ -111,11 +111,13 @@ returns-clause-behind c =
     (made at.After-copy_within (numbered at.After-read_original_sequence_number c.if-read_original_sequence_number-eq0.false)).behind
 
 pub returns-clause-refused : goal.returns-clause-refused
-returns-clause-refused c =
-    (λ wrong. absurd (false≢true wrong), λ kept.
-    absurd (restoring_not_kept (new_id c.args.ids.now) _ _ _ c.in_ok-layout.ensures.found
-    (long (goal.at.returns-clause-refused c).After-read_original_sequence_number c.if-read_original_sequence_number-eq0.false)
-    (no_high_id-whole (new_id c.args.ids.now) _ _ _ c.in_ok-layout.ensures.found c.if-not-change_header.ensures.carried) kept.0 kept.1))
+returns-clause-refused c = (
+  λ wrong. absurd (false≢true wrong),
+  λ kept.
+      absurd (restoring_not_kept (new_id c.args.ids.now) _ _ _ c.in_ok-layout.ensures.found
+      (long (goal.at.returns-clause-refused c).After-read_original_sequence_number c.if-read_original_sequence_number-eq0.false)
+      (no_high_id-whole (new_id c.args.ids.now) _ _ _ c.in_ok-layout.ensures.found c.if-not-change_header.ensures.carried) kept.0 kept.1),
+)
 
 pub returns-clause-undone : goal.returns-clause-undone
 returns-clause-undone c original sent fields there fits went is =

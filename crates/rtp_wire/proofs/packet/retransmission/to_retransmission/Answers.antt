@@ -17,9 +17,10 @@ returns-in_err-layout-clause-cause c =
     rw (p.1, p.2) (sending_unread (new_id c.args.ids.now) c.args.buf.now c.args.len _ c.in_err-layout.ensures.cause)
 
 pub returns-in_err-layout-clause-refused : goal.returns-in_err-layout-clause-refused
-returns-in_err-layout-clause-refused c =
-    (λ _. (c.in_err-layout.field-0.0, (sending_unread (new_id c.args.ids.now) c.args.buf.now c.args.len _ c.in_err-layout.ensures.cause).applies),
-    λ _. c.from_residual.ensures.0)
+returns-in_err-layout-clause-refused c = (
+  λ _. (c.in_err-layout.field-0.0, (sending_unread (new_id c.args.ids.now) c.args.buf.now c.args.len _ c.in_err-layout.ensures.cause).applies),
+  λ _. c.from_residual.ensures.0,
+)
 
 pub overflow_sub-buf : goal.overflow_sub-buf
 overflow_sub-buf c = (lie_within _ _ _ c.in_ok-layout.ensures.found).end_within
@@ -92,7 +93,9 @@ pub returns-clause-behind : goal.returns-clause-behind
 returns-clause-behind c = (made (goal.at.returns-clause-behind c).After-put).behind
 
 pub returns-clause-refused : goal.returns-clause-refused
-returns-clause-refused c =
-    (λ wrong. absurd (false≢true wrong), λ kept.
-    absurd (sending_not_kept (new_id c.args.ids.now) _ _ _ c.in_ok-layout.ensures.found
-    (no_high_id-whole (new_id c.args.ids.now) _ _ _ c.in_ok-layout.ensures.found c.if-not-change_header.ensures.carried) (omega arith) kept.0 kept.1))
+returns-clause-refused c = (
+  λ wrong. absurd (false≢true wrong),
+  λ kept.
+      absurd (sending_not_kept (new_id c.args.ids.now) _ _ _ c.in_ok-layout.ensures.found
+      (no_high_id-whole (new_id c.args.ids.now) _ _ _ c.in_ok-layout.ensures.found c.if-not-change_header.ensures.carried) (omega arith) kept.0 kept.1),
+)
