@@ -10,6 +10,14 @@ use Rattle.rtp_wire.specs.PartsAt.{HasLayout}
 use Rattle.rtp_wire.specs.RetransmissionParts.{IsLaidOut}
 use Rattle.rtp_wire.proofs.PartsLemmas.{length-packet}
 use Rattle.rtp_wire.proofs.PaddingChanges.{IsPacket-front, unpadded_front}
+use Rattle.std.proofs.Common.{◌*◌, ◌%◌, true}
+use Rattle.std.specs.Prelude.{slice_index}
+use Rattle.std.proofs.lemmas.List.{get_or-take}
+use Rattle.rtp_wire.specs.NotAHeader.{sources_end}
+use Rattle.rtp_wire.specs.PartsAt.{is_set, has_block, header_end}
+use Rattle.rtp_wire.specs.Retransmission.{KeepsBlockHeader}
+use Rattle.rtp_wire.proofs.PacketLemmas.{whole_and_parts}
+use Rattle.rtp_wire.proofs.BlockLemmas.{slice_range-take}
 
 -- ---- bytes in a row
 
@@ -140,6 +148,28 @@ payload_part buf len layout is =
     let row = in_row buf len layout is in
     ap (take (layout.end - layout.header_len)) (ap (drop layout.header_len) row.in_order ∙ drop_at row.header (is.payload ++ row.rest) layout.header_len row.header_is)
     ∙ take_at is.payload row.rest (layout.end - layout.header_len) (omega (arith, row.end_is))
+
+-- what stays before the body of a header stays in the buffer that begins with it
+pub KeepsBlockHeader-front : (buf : List ℕ) (len : ℕ) (layout : Layout) (header new : List ℕ) → (is : IsLaidOut buf len layout)
+    → take layout.header_len new ≡ header → KeepsBlockHeader (take layout.header_len buf) header → KeepsBlockHeader buf new
+unfolding header_end
+KeepsBlockHeader-front buf len layout header new is front kept = λ set.
+    let row = in_row buf len layout is in
+    let h = layout.header_len in
+    let bytes = header_front buf layout is.parts is.payload row in
+    let whole = (whole_and_parts row.header (record is.parts { payload = [] }) row.alone).0 in
+    let within = subst (λ (xs : List ℕ). header_end xs ≤ length xs) (sym bytes) whole.within in
+    let fixed = whole.fixed in
+    let first : slice_index (take h buf) 0 ≡ slice_index buf 0 = get_or-take h buf 0 0 (omega (arith, row.header_is)) in
+    let start : sources_end (take h buf) ≡ sources_end buf = ap (λ (byte : ℕ). 12 + 4 * (byte % 16)) first in
+    let set_there : has_block (take h buf) ≡ true = ap (λ (byte : ℕ). is_set byte 16) first ∙ set in
+    let room : sources_end buf + 4 ≤ h = let inner = rw set_there at within in omega (arith, start, ap length bytes, row.header_is) in
+    let there : slice_range header (sources_end buf) (sources_end buf + 4) ≡ slice_range (take h buf) (sources_end buf) (sources_end buf + 4) =
+    subst (λ (a : ℕ). slice_range header a (a + 4) ≡ slice_range (take h buf) a (a + 4)) start (kept set_there) in
+    sym (slice_range-take new (sources_end buf) (sources_end buf + 4) h (omega arith) room)
+    ∙ ap (λ (xs : List ℕ). slice_range xs (sources_end buf) (sources_end buf + 4)) front
+    ∙ there
+    ∙ slice_range-take buf (sources_end buf) (sources_end buf + 4) h (omega arith) room
 
 -- the header's bytes are laid out as a packet without a payload
 pub HasLayout-front : (buf : List ℕ) (len : ℕ) (layout : Layout) → IsLaidOut buf len layout

@@ -24,6 +24,13 @@ use Rattle.rtp_wire.specs.Retransmission.{IsBlockUnder, IsPacketWith, HasHighId}
 use Rattle.rtp_wire.specs.RetransmissionParts.{IsChangedHeader}
 use Rattle.rtp_wire.proofs.HeaderFound.{HasHeader-packet_mut, IsWhole-header}
 use Rattle.rtp_wire.proofs.PacketLemmas.{one_packet, IsPacket-whole}
+use Rattle.std.specs.Prelude.{◌+◌, slice_range}
+use Rattle.rtp_wire.specs.NotAHeader.{sources_end}
+use Rattle.rtp_wire.specs.ChangedPacket.{ChangesOnly, ChangesOnlyBody}
+use Rattle.rtp_wire.specs.GivenFields.{LieBetween}
+use Rattle.rtp_wire.specs.Retransmission.{KeepsBlockHeader}
+use Rattle.rtp_wire.proofs.BytesBetween.{range_after}
+use Rattle.rtp_wire.proofs.BlockLemmas.{slice_range-take}
 
 -- ---- the elements
 
@@ -123,6 +130,34 @@ high-told ids told block bytes parts all is same tells not_all =
       high = λ carried. false≢true (sym not_all ∙ (answer found.1).1 carried);
     }
 
+-- the fields lie in the fixed part, after its first byte
+some_any : {X : Type 0} (o : Option X) (P : Type 0) → P → IfSome o (λ _. P)
+some_any None P holds = tt
+some_any (Some x) P holds = holds
+
+in_fixed_part : (fields : Fields) → LieBetween fields 1 12
+in_fixed_part fields = record {
+  marker_lies = some_any fields.marker _ (omega arith, omega arith);
+  payload_type_lies = some_any fields.payload_type _ (omega arith, omega arith);
+  sequence_number_lies = some_any fields.sequence_number _ (omega arith, omega arith);
+  timestamp_lies = some_any fields.timestamp _ (omega arith, omega arith);
+  ssrc_lies = some_any fields.ssrc _ (omega arith, omega arith);
+}
+
+-- the four bytes before the body stay, call by call
+pub KeepsBlockHeader-made : (fields : Fields) (old first second third last new : List ℕ) → first ≡ old → ChangesOnlyBody first second → ChangesOnly 0 1 second third
+    → ((start end : ℕ) → LieBetween fields start end → ChangesOnly start end third last) → last ≡ new → KeepsBlockHeader old new
+KeepsBlockHeader-made fields old first second third last new start body bit set end = λ _.
+    let at = sources_end old in
+    let same : sources_end first ≡ at = ap sources_end start in
+    ap (λ (xs : List ℕ). slice_range xs at (at + 4)) (sym end)
+    ∙ range_after 1 12 third last (set 1 12 (in_fixed_part fields)) at (at + 4) (omega arith)
+    ∙ range_after 0 1 second third bit at (at + 4) (omega arith)
+    ∙ sym (slice_range-take second at (at + 4) (sources_end first + 4) (omega arith) (omega (arith, same)))
+    ∙ ap (λ (xs : List ℕ). slice_range xs at (at + 4)) body.before_is
+    ∙ slice_range-take first at (at + 4) (sources_end first + 4) (omega arith) (omega (arith, same))
+    ∙ ap (λ (xs : List ℕ). slice_range xs at (at + 4)) start
+
 -- bytes that are as they were
 pub bytes_before : (old new : List ℕ) → ((i : ℕ) → Fits w8 (slice_index new i)) → new ≡ old → AreBytes old
 bytes_before old new fit same = λ i. let below = fit i in subst (λ (xs : List ℕ). slice_index xs i < 256) same (omega arith)
@@ -131,6 +166,7 @@ bytes_before old new fit same = λ i. let below = fit i in subst (λ (xs : List 
 pub record IsChangedFront (ids : ℕ → Option ℕ) (buf : List ℕ) (layout : Layout) (fields : Fields) (header : List ℕ) : Type 0 where
   pub changed : (parts : PacketParts) → IsPacket (take layout.header_len buf) parts → IsPacketWith (IsChangedHeader ids fields parts) header
   pub length_is : length header ≡ length (take layout.header_len buf)
+  pub kept : KeepsBlockHeader (take layout.header_len buf) header
 
 unfoldable all_fields : Option Bool → Option ℕ → Option ℕ → Option ℕ → Option ℕ → Fields
 all_fields marker payload_type number timestamp ssrc = record { marker = marker; payload_type = payload_type; sequence_number = number; timestamp = timestamp; ssrc = ssrc }

@@ -2,7 +2,7 @@
 use Rattle.std.proofs.Common.{◌≡◌, ℕ, ◌+◌, ◌-◌, ◌<◌, ◌≤◌, Bool, true, false, List, [], ◌++◌, length, take, drop, Option, refl, sym, ap, subst, ◌∙◌, arith, append_assoc, length-append, length-take-le, take_at, drop_at}
 use Rattle.std.specs.List.{copy_within}
 use Rattle.std.specs.Int.{w16, to_be_bytes, from_be_bytes}
-use Rattle.std.proofs.lemmas.List.{take-append-drop, drop-drop}
+use Rattle.std.proofs.lemmas.List.{take-take, take-append-drop, drop-drop}
 use Rattle.std.proofs.lemmas.Nat.{from_be_bytes-to_be_bytes_2}
 use Rattle.rtp_base.specs.Overwriting.{overwritten}
 use Rattle.rtp_ext.specs.declared.form.ExtensionsForm.{ExtensionsForm}
@@ -20,6 +20,8 @@ use Rattle.rtp_wire.proofs.PaddingChanges.{IsPacket-behind}
 use Rattle.rtp_wire.proofs.RetransmissionBytes.{moved_on, moved_back, in_row, header_front, header_alone_in}
 use Rattle.rtp_wire.proofs.RetransmissionCauses.{length-unpadded}
 use Rattle.rtp_wire.proofs.RetransmissionHeaders.{IsChangedFront, given_fields}
+use Rattle.rtp_wire.specs.Retransmission.{KeepsBlockHeader}
+use Rattle.rtp_wire.proofs.RetransmissionBytes.{KeepsBlockHeader-front}
 
 module _ (ids : ℕ → Option ℕ) (buf : List ℕ) (len : ℕ) (layout : Layout) (is : IsLaidOut buf len layout) where
   -- the header after the change, with a payload
@@ -49,6 +51,7 @@ module _ (ids : ℕ → Option ℕ) (buf : List ℕ) (len : ℕ) (layout : Layou
   pub record IsSent (stream : RetransmissionFields) (new : List ℕ) : Type 0 where
     pub sent : Becomes (λ original. IsRetransmissionOf original stream ids) (take len buf) (take (layout.end + 2) new)
     pub behind : drop (layout.end + 2) new ≡ drop (layout.end + 2) buf
+    pub kept : KeepsBlockHeader buf new
 
   pub sent_made : (stream : RetransmissionFields) (fields : Fields) (header moved number new : List ℕ) → fields ≡ given_fields stream.payload_type stream.sequence_number stream.ssrc
       → IsChangedFront ids buf layout fields header → layout.end + 2 ≤ length buf
@@ -88,12 +91,16 @@ module _ (ids : ℕ → Option ℕ) (buf : List ℕ) (len : ℕ) (layout : Layou
         behind =
             ap (drop (layout.end + 2)) whole ∙ drop_at (header ++ (to_be_bytes w16 is.parts.sequence_number ++ is.payload)) (drop 2 row.rest) (layout.end + 2) size
             ∙ sym (ap (λ (k : ℕ). drop k buf) (omega arith) ∙ sym (drop-drop 2 layout.end buf) ∙ ap (drop 2) old_rest);
+        kept = KeepsBlockHeader-front buf len layout header new is
+            (ap (take layout.header_len) (whole ∙ append_assoc header (to_be_bytes w16 is.parts.sequence_number ++ is.payload) (drop 2 row.rest))
+            ∙ take_at header ((to_be_bytes w16 is.parts.sequence_number ++ is.payload) ++ drop 2 row.rest) layout.header_len long) front.kept;
       }
 
   -- the buffer with the packet in front
   pub record IsBack (stream : OriginalFields) (new : List ℕ) : Type 0 where
     pub restored : Becomes (λ sent. IsOriginalOf sent stream ids) (take len buf) (take (layout.end - 2) new)
     pub behind : drop (layout.end - 2) new ≡ drop (layout.end - 2) buf
+    pub kept : KeepsBlockHeader buf new
 
   pub restored_made : (stream : OriginalFields) (fields : Fields) (number : ℕ) (header new : List ℕ) → fields ≡ given_fields stream.payload_type number stream.ssrc
       → IsChangedFront ids buf layout fields header → HasOriginalNumber is.payload number
@@ -130,6 +137,9 @@ module _ (ids : ℕ → Option ℕ) (buf : List ℕ) (len : ℕ) (layout : Layou
           };
         };
         behind = ap (drop (layout.end - 2)) whole ∙ moved.behind_is ∙ same_rest;
+        kept = KeepsBlockHeader-front buf len layout header new is
+            (sym (take-take layout.header_len (layout.end - 2) new (omega (arith, end))) ∙ ap (take layout.header_len) (ap (take (layout.end - 2)) whole ∙ moved.front_is)
+            ∙ take_at header rest layout.header_len made.3) front.kept;
       }
 
   -- the length of the packet without its padding

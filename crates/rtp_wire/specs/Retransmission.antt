@@ -3,7 +3,7 @@
 -- |                         RTP header                            |
 -- |            OSN                |                               |
 -- |                     original payload                          |
-use Rattle.std.specs.Prelude.{◌≡◌, ℕ, ◌+◌, ◌<◌, List, ◌++◌, length, take, drop, Option, Some, None, IfSome, true, false, All}
+use Rattle.std.specs.Prelude.{◌≡◌, ℕ, ◌+◌, ◌<◌, List, ◌++◌, length, take, drop, slice_range, Option, Some, None, IfSome, true, false, All}
 use Rattle.std.specs.Int.{w16, to_be_bytes}
 use Rattle.rtp_ext.specs.declared.form.ExtensionsForm.{ExtensionsForm}
 use Rattle.rtp_ext.specs.Elements.{Element}
@@ -12,11 +12,13 @@ use Rattle.rtp_wire.specs.declared.packet.retransmission.RetransmissionFields.{R
 use Rattle.rtp_wire.specs.declared.packet.retransmission.OriginalFields.{OriginalFields}
 use Rattle.rtp_wire.specs.declared.packet.not_retransmitted.NotRetransmitted.{NotRetransmitted}
 use Rattle.rtp_wire.specs.declared.packet.not_retransmitted.NotRetransmitted.TheVariants.{LengthPastBuffer, NoPacket, PaddingTooLong, NoOriginalNumber, NewIdTooHigh, NoRoom}
+use Rattle.rtp_wire.specs.NotAHeader.{sources_end}
 use Rattle.rtp_wire.specs.NotAPacket.{IsFirstCause}
 use Rattle.rtp_wire.specs.OriginalNumber.{HasOriginalNumber}
 use Rattle.rtp_wire.specs.Packet.{PacketParts, IsPacket, IsWithoutPadding, header_len_of}
 use Rattle.rtp_wire.specs.PacketElements.{AreElementsOf}
 use Rattle.rtp_wire.specs.Padding.{padding_count}
+use Rattle.rtp_wire.specs.PartsAt.{has_block}
 
 -- the block with the elements of another one under their new ids, and none without one
 abbrev pub IsBlockUnder : (ℕ → Option ℕ) → Option (ExtensionsForm × List ℕ) → Option (ExtensionsForm × List ℕ) → Type 0
@@ -66,6 +68,10 @@ pub record IsRestored (original : PacketParts) (stream : OriginalFields) (there 
     block = restored.block;
     payload = payload;
   }
+
+-- where there is a block, the four bytes before its body stay
+abbrev pub KeepsBlockHeader : List ℕ → List ℕ → Type 0
+KeepsBlockHeader old new = has_block old ≡ true → slice_range new (sources_end old) (sources_end old + 4) ≡ slice_range old (sources_end old) (sources_end old + 4)
 
 -- the bytes are a packet, of whose parts this holds
 pub record IsPacketWith (Fact : PacketParts → Type 0) (bytes : List ℕ) : Type 0 where

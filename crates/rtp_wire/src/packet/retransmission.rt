@@ -7,7 +7,7 @@ ghost use Rattle.rtp_wire.specs.Packet.{PacketParts, IsPacket, IsWithoutPadding,
 ghost use Rattle.rtp_wire.specs.PartsAt.{HasLayout};
 ghost use Rattle.rtp_wire.specs.declared.packet.not_retransmitted.NotRetransmitted.{NotRetransmitted};
 ghost use Rattle.rtp_wire.specs.declared.packet.retransmission.RetransmissionFields.{RetransmissionFields};
-ghost use Rattle.rtp_wire.specs.Retransmission.{IsRetransmissionOf, IsOriginalOf, IsRestored, IsPacketWith, Becomes, HasHighId, KeepsFromSending, KeepsFromRestoring, IsFirstOf};
+ghost use Rattle.rtp_wire.specs.Retransmission.{IsRetransmissionOf, IsOriginalOf, IsRestored, IsPacketWith, Becomes, HasHighId, KeepsBlockHeader, KeepsFromSending, KeepsFromRestoring, IsFirstOf};
 ghost use Rattle.rtp_wire.specs.RetransmissionParts.{IsLaidOut, HasNoLayout, IsChangedHeader};
 
 use super::{Fields, NotRetransmitted, RtpPacket, RtpPacketMut};
@@ -85,6 +85,7 @@ fn change_header(
     requires payload_type { IfSome fields.now.payload_type (λ pt. pt ≤ 127) }
     ensures changed { (parts : PacketParts) → IsPacket header.old parts → OnTrue result
         (IsPacketWith (IsChangedHeader (new_id ids.now) fields.now parts) header.new) }
+    ensures block_header { OnTrue result (KeepsBlockHeader header.old header.new) }
     ensures unchanged { OnFalse result (header.new ≡ header.old) }
     ensures carried { (parts : PacketParts) → IsPacket header.old parts →
         OnTrue result (HasHighId (new_id ids.now) parts → ⊥) }
@@ -141,6 +142,7 @@ pub fn to_retransmission(
     ensures length { (original : PacketParts) (payload : List ℕ) → IsPacket (take len buf.old) original →
         IsWithoutPadding original.has_padding original.payload payload →
         IfOk result (λ end. end ≡ header_len_of original + 2 + length payload) }
+    ensures block_header { IfOk result (λ _. KeepsBlockHeader buf.old buf.new) }
     ensures within { IfOk result (λ end. end ≤ length buf.old) }
     ensures behind { IfOk result (λ end. drop end buf.new ≡ drop end buf.old) }
     ensures cause { IfErr result (IsFirstOf (KeepsFromSending (new_id ids.now) buf.old len)) }
@@ -199,6 +201,7 @@ pub fn from_retransmission(
     ensures length { (sent : PacketParts) (payload : List ℕ) → IsPacket (take len buf.old) sent →
         IsWithoutPadding sent.has_padding sent.payload payload →
         IfOk result (λ end. end + 2 ≡ header_len_of sent + length payload) }
+    ensures block_header { IfOk result (λ _. KeepsBlockHeader buf.old buf.new) }
     ensures within { IfOk result (λ end. end ≤ length buf.old) }
     ensures behind { IfOk result (λ end. drop end buf.new ≡ drop end buf.old) }
     ensures cause { IfErr result (IsFirstOf (KeepsFromRestoring (new_id ids.now) buf.old len)) }

@@ -1,7 +1,7 @@
 use Rattle.std.proofs.Common.{arith, rules, ap, refl}
 use Rattle.rtp_ext.specs.NewIds.{new_id}
 use Rattle.rtp_wire.specs.Packet.{PacketParts}
-use Rattle.rtp_wire.proofs.RetransmissionHeaders.{parts-of_bytes, IsChangedHeader-made, carried-told, high-told, bytes_before}
+use Rattle.rtp_wire.proofs.RetransmissionHeaders.{parts-of_bytes, IsChangedHeader-made, KeepsBlockHeader-made, carried-told, high-told, bytes_before}
 use Rattle.rtp_wire.proofs.packet.retransmission.change_header.Goals as goal
 
 pub returns-then-not-renumber-clause-high : goal.returns-then-not-renumber-clause-high
@@ -14,6 +14,11 @@ returns-clause-changed c parts is =
     IsChangedHeader-made (new_id c.args.ids.now) c.args.fields.now c.args.header.now parts c.new-packet.result c.renumber.new.self c.set_padding.new.self c.set_fields.new.self _
     is c.new-packet.ensures.same_bytes c.if-not-renumber.ensures.renumbered c.if-not-renumber.ensures.without_block c.set_padding.ensures.parts c.set_fields.ensures.parts
     (omega (arith, c.type_inv.header 1)) (search rules)
+
+pub returns-clause-block_header : goal.returns-clause-block_header
+returns-clause-block_header c =
+    KeepsBlockHeader-made c.args.fields.now c.args.header.now _ _ _ c.set_fields.new.self.datagram.now _ c.new-packet.ensures.same_bytes
+    c.if-not-renumber.ensures.bytes c.set_padding.ensures.bytes c.set_fields.ensures.bytes (search rules)
 
 pub returns-clause-carried : goal.returns-clause-carried
 returns-clause-carried c parts is =

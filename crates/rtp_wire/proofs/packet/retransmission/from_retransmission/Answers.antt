@@ -92,7 +92,7 @@ made c has =
     } in
     restored_made (new_id c.args.ids.now) _ _ _ c.in_ok-layout.ensures.found stream fields number c.change_header.new.header c.copy_within.new.self
     (fields-given fields stream.payload_type number stream.ssrc others.0 refl refl others.1.1.1.0 refl)
-    (record { changed = c.if-not-change_header.ensures.changed; length_is = c.change_header.auto.header }) has c.copy_within.ensures.after
+    (record { changed = c.if-not-change_header.ensures.changed; length_is = c.change_header.auto.header; kept = c.if-not-change_header.ensures.block_header }) has c.copy_within.ensures.after
 
 pub returns-clause-restored : goal.returns-clause-restored
 returns-clause-restored c =
@@ -109,6 +109,11 @@ pub returns-clause-behind : goal.returns-clause-behind
 returns-clause-behind c =
     let at = goal.at.returns-clause-behind c in
     (made at.After-copy_within (numbered at.After-read_original_sequence_number c.if-read_original_sequence_number-eq0.false)).behind
+
+pub returns-clause-block_header : goal.returns-clause-block_header
+returns-clause-block_header c =
+    let at = goal.at.returns-clause-block_header c in
+    (made at.After-copy_within (numbered at.After-read_original_sequence_number c.if-read_original_sequence_number-eq0.false)).kept
 
 pub returns-clause-refused : goal.returns-clause-refused
 returns-clause-refused c = (

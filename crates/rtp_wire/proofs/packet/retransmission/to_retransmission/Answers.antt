@@ -79,7 +79,7 @@ made c =
     } in
     sent_made (new_id c.args.ids.now) _ _ _ c.in_ok-layout.ensures.found stream fields c.change_header.new.header c.copy_within.new.self c.to_be_bytes.result c.put.new.buf
     (fields-given fields stream.payload_type stream.sequence_number stream.ssrc others.0 refl refl others.1.1.1.0 refl)
-    (record { changed = c.if-not-change_header.ensures.changed; length_is = c.change_header.auto.header })
+    (record { changed = c.if-not-change_header.ensures.changed; length_is = c.change_header.auto.header; kept = c.if-not-change_header.ensures.block_header })
     (omega arith) c.copy_within.ensures.after c.put.ensures.written c.to_be_bytes.ensures
 
 pub returns-clause-sent : goal.returns-clause-sent
@@ -91,6 +91,9 @@ returns-clause-length c original payload is without =
 
 pub returns-clause-behind : goal.returns-clause-behind
 returns-clause-behind c = (made (goal.at.returns-clause-behind c).After-put).behind
+
+pub returns-clause-block_header : goal.returns-clause-block_header
+returns-clause-block_header c = (made (goal.at.returns-clause-block_header c).After-put).kept
 
 pub returns-clause-refused : goal.returns-clause-refused
 returns-clause-refused c = (
