@@ -5,7 +5,7 @@ ghost use Rattle.rtp_values.specs.declared.kind.Extension.TheVariants.{RtpStream
 ghost use Rattle.rtp_ext.specs.NewIds.{new_id, ids_in_bytes};
 ghost use Rattle.rtp_wire.specs.declared.packet.not_retransmitted.NotRetransmitted.{NotRetransmitted};
 ghost use Rattle.rtp_wire.specs.Packet.{PacketParts, IsPacket, IsWithoutPadding, header_len_of};
-ghost use Rattle.rtp_wire.specs.Retransmission.{IsRetransmissionOf, IsOriginalOf, Becomes, KeepsFromSending, KeepsFromRestoring};
+ghost use Rattle.rtp_wire.specs.Retransmission.{IsRetransmissionOf, IsOriginalOf, Becomes, KeepsBlockHeader, KeepsFromSending, KeepsFromRestoring};
 ghost use Rattle.rtp_c.specs.Retransmission.{RenameKinds, retransmission_status, IsRefusal};
 ghost use Rattle.rtp_c.specs.Status.{ok, bad_field};
 
@@ -80,6 +80,7 @@ pub extern "C" fn rtpw_to_retransmission(
         IsPacket (take len.old buf.old) original →
         IsWithoutPadding original.has_padding original.payload payload →
         len.new ≡ header_len_of original + 2 + length payload }
+    ensures block_header { result ≡ ok → KeepsBlockHeader buf.old buf.new }
     ensures within { result ≡ ok → len.new ≤ length buf.old }
     ensures behind { result ≡ ok → drop len.new buf.new ≡ drop len.new buf.old }
     ensures too_high { 127 < payload_type → result ≡ bad_field }
@@ -130,6 +131,7 @@ pub extern "C" fn rtpw_from_retransmission(
         IsPacket (take len.old buf.old) sent →
         IsWithoutPadding sent.has_padding sent.payload payload →
         len.new + 2 ≡ header_len_of sent + length payload }
+    ensures block_header { result ≡ ok → KeepsBlockHeader buf.old buf.new }
     ensures within { result ≡ ok → len.new ≤ length buf.old }
     ensures behind { result ≡ ok → drop len.new buf.new ≡ drop len.new buf.old }
     ensures too_high { 127 < payload_type → result ≡ bad_field }

@@ -11,6 +11,9 @@ returns-in-Err-clause-length c original payload done is without = absurd (refuse
 pub returns-in-Err-clause-within : goal.returns-in-Err-clause-within
 returns-in-Err-clause-within c done = absurd (refused_not_ok c.in-Err.cause c.refusal.result c.refusal.ensures done)
 
+pub returns-in-Err-clause-block_header : goal.returns-in-Err-clause-block_header
+returns-in-Err-clause-block_header c done = absurd (refused_not_ok c.in-Err.cause c.refusal.result c.refusal.ensures done)
+
 pub returns-in-Err-clause-refused : goal.returns-in-Err-clause-refused
 returns-in-Err-clause-refused c fits = (
   λ _. subst (λ (ids : List (Option ℕ)). (cause : NotRetransmitted) × KeepsFromSending (new_id ids) c.args.buf.now c.args.len.now cause) c.from_ids.ensures
