@@ -2,7 +2,7 @@
 use Rattle.std.proofs.Common.{◌≡◌, ℕ, ◌+◌, ◌*◌, ◌/◌, ◌^◌, ◌<◌, ◌≤◌, true, false, eqb, List, [], ◌∷◌, refl, sym, ◌∙◌, subst, inl, inr, arith}
 use Rattle.std.specs.Prelude.{Option, Some, None}
 use Rattle.std.proofs.lemmas.Bool.{false≢true, eq-eqb, eqb-true, or_left, or_cases}
-use Rattle.rtp_base.specs.Window.{Numbers, IsGreatest, only, including}
+use Rattle.rtp_base.specs.Window.{Numbers, IsGreatest, including}
 use Rattle.rtp_wire.specs.declared.receive.restarting_verdict.RestartingVerdict.{RestartingVerdict}
 use Rattle.rtp_wire.specs.declared.receive.restarting_verdict.RestartingVerdict.TheVariants.{Taken, Restarted, Refused}
 use Rattle.rtp_wire.specs.Receiver.{IsNothing, IsHighest, IsJudgedOf}

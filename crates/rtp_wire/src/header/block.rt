@@ -6,7 +6,7 @@ ghost use Rattle.std.specs.Int.{w16, to_be_bytes};
 ghost use Rattle.rtp_base.specs.Overwriting.{overwritten};
 ghost use Rattle.rtp_ext.specs.Form.{form_word};
 ghost use Rattle.rtp_ext.specs.Elements.{AreElements, elements_bytes};
-ghost use Rattle.rtp_ext.specs.ElementsInARow.{elements_of, form_for, AreWritableIn, AreNotWritableIn};
+ghost use Rattle.rtp_ext.specs.ElementsInARow.{elements_of, form_given, AreWritableIn, AreNotWritableIn};
 ghost use Rattle.rtp_wire.specs.Header.{IsExtensionPart};
 ghost use Rattle.rtp_wire.specs.WrittenWith.{body_with};
 ghost use Rattle.rtp_ext.specs.WrittenBlock.{TakesAtMost17Each, form_of, block_of, filled, image_values, whole_words};
@@ -151,15 +151,21 @@ pub(super) fn write_block_of(
     close_block(buf, form, elements_len)
 }
 
-// The form of a block of these elements that has room.
-pub(super) fn block_form(room: usize, elements: &[(u8, &[u8])]) -> Option<ExtensionsForm>
-    ensures refused { IfNone result (AreNotWritableIn (elements_of elements.now) 262140
-        ⊎ (room < length (block_of (form_for (elements_of elements.now)) (body_with (elements_of elements.now))))) }
-    ensures form { IfSome result (λ form. form ≡ form_for (elements_of elements.now)) }
+// The form of a block of these elements that has room: the one that serves, or that alone is allowed.
+pub(super) fn block_form(
+    room: usize,
+    elements: &[(u8, &[u8])],
+    allowed: Option<ExtensionsForm>,
+) -> Option<ExtensionsForm>
+    ensures refused { IfNone result (
+        AreNotWritableIn (form_given allowed (elements_of elements.now)) (elements_of elements.now) 262140
+        ⊎ (room < length (block_of (form_given allowed (elements_of elements.now))
+        (body_with allowed (elements_of elements.now))))) }
+    ensures form { IfSome result (λ form. form ≡ form_given allowed (elements_of elements.now)) }
     ensures fit { IfSome result (λ form. AreWritableIn form (elements_of elements.now) 262140) }
     ensures room { IfSome result (λ form.
         length (block_of form (filled (elements_bytes form (elements_of elements.now)))) ≤ room) }
 {
     let words = (room / 4).checked_sub(1)?.min(usize::from(u16::MAX));
-    ExtensionsForm::for_elements(elements, 4 * words)
+    ExtensionsForm::for_elements(elements, allowed, 4 * words)
 }

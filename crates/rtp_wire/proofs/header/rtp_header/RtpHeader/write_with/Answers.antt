@@ -7,13 +7,13 @@ use Rattle.rtp_wire.proofs.header.rtp_header.RtpHeader.write_with.Goals as goal
 
 pub returns-in_err-form-clause-refused : goal.returns-in_err-form-clause-refused
 returns-in_err-form-clause-refused c = (
-  λ _. CannotBeWrittenWith-refused c.args.self.now (elements_of c.args.elements.now) (length c.args.buf.now) c.saturating_sub.result (omega arith)
+  λ _. CannotBeWrittenWith-refused c.args.self.now c.args.allowed (elements_of c.args.elements.now) (length c.args.buf.now) c.saturating_sub.result (omega arith)
       (omega (arith, c.saturating_sub.ensures)) c.in_err-form.ensures.refused,
   λ _. search rules,
 )
 
 -- it can be written, and its pieces were
-can : (c : goal.After-slice_known-4-1) → CanBeWrittenWith c.args.self.now (elements_of c.args.elements.now) (length c.args.buf.now) c.saturating_sub.result c.in_ok-form.form
+can : (c : goal.After-slice_known-4-1) → CanBeWrittenWith c.args.self.now c.args.allowed (elements_of c.args.elements.now) (length c.args.buf.now) c.saturating_sub.result c.in_ok-form.form
 can c = record {
   payload_type = omega arith;
   count = omega arith;
@@ -39,18 +39,18 @@ are c = record {
 pub returns-clause-refused : goal.returns-clause-refused
 returns-clause-refused c = (
   λ some. absurd (false≢true (sym some)),
-  λ cannot. absurd (CannotBeWrittenWith-not c.args.self.now (elements_of c.args.elements.now) (length c.args.buf.now) c.saturating_sub.result c.in_ok-form.form (can c) cannot),
+  λ cannot. absurd (CannotBeWrittenWith-not c.args.self.now c.args.allowed (elements_of c.args.elements.now) (length c.args.buf.now) c.saturating_sub.result c.in_ok-form.form (can c) cannot),
 )
 
 pub returns-clause-written : goal.returns-clause-written
-returns-clause-written c = (wire_bytes_with-from_pieces _ _ _ _ _ _ _ _ _ _ _ _ (can c) (are c)).1
+returns-clause-written c = (wire_bytes_with-from_pieces _ _ _ _ _ _ _ _ _ _ _ _ _ (can c) (are c)).1
 
 pub returns-clause-length : goal.returns-clause-length
-returns-clause-length c = (wire_bytes_with-from_pieces _ _ _ _ _ _ _ _ _ _ _ _ (can c) (are c)).0
+returns-clause-length c = (wire_bytes_with-from_pieces _ _ _ _ _ _ _ _ _ _ _ _ _ (can c) (are c)).0
 
 pub returns-clause-read_back : goal.returns-clause-read_back
 returns-clause-read_back c rest =
-    IsPacket-written_with c.args.self.now (elements_of c.args.elements.now) c.in_ok-form.form rest (record {
+    IsPacket-written_with c.args.self.now c.args.allowed (elements_of c.args.elements.now) c.in_ok-form.form rest (record {
       payload_type = omega arith;
       count = omega arith;
       slots = omega arith;
