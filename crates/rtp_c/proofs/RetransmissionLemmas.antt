@@ -4,20 +4,20 @@ use Rattle.rtp_values.specs.declared.kind.Extension.{Extension}
 use Rattle.rtp_ext.specs.NewIds.{AreRenamedIds, ids_in_bytes}
 use Rattle.rtp_wire.specs.declared.packet.not_a_packet.NotAPacket.TheVariants.{CutFixedPart, OtherVersion, CutSources, CutBlockHeader, UnknownForm, CutBlock}
 use Rattle.rtp_wire.specs.declared.packet.not_retransmitted.NotRetransmitted.{NotRetransmitted}
-use Rattle.rtp_wire.specs.declared.packet.not_retransmitted.NotRetransmitted.TheVariants.{LengthPastBuffer, NoPacket, PaddingTooLong, NoOriginalNumber, NewIdTooHigh, NoRoom}
+use Rattle.rtp_wire.specs.declared.packet.not_retransmitted.NotRetransmitted.TheVariants.{CutPacket, NotAPacket, PaddingTooLong, NoOriginalNumber, NewIdTooHigh, NoRoom}
 use Rattle.rtp_c.specs.Retransmission.{RenameKinds, retransmission_status}
 use Rattle.rtp_c.specs.Status.{ok}
 use Rattle.rtp_c.specs.StoredMap.{numbered_slots}
 use Rattle.rtp_c.proofs.NumberedLemmas.{HasKinds-numbered}
 
 status_is_no_ok : (cause : NotRetransmitted) → to_z w32 (of_z w32 (retransmission_status cause)) ≡ ok → ⊥
-status_is_no_ok LengthPastBuffer same = cc
-status_is_no_ok (NoPacket CutFixedPart) same = cc
-status_is_no_ok (NoPacket OtherVersion) same = cc
-status_is_no_ok (NoPacket CutSources) same = cc
-status_is_no_ok (NoPacket CutBlockHeader) same = cc
-status_is_no_ok (NoPacket UnknownForm) same = cc
-status_is_no_ok (NoPacket CutBlock) same = cc
+status_is_no_ok CutPacket same = cc
+status_is_no_ok (NotAPacket CutFixedPart) same = cc
+status_is_no_ok (NotAPacket OtherVersion) same = cc
+status_is_no_ok (NotAPacket CutSources) same = cc
+status_is_no_ok (NotAPacket CutBlockHeader) same = cc
+status_is_no_ok (NotAPacket UnknownForm) same = cc
+status_is_no_ok (NotAPacket CutBlock) same = cc
 status_is_no_ok PaddingTooLong same = cc
 status_is_no_ok NoOriginalNumber same = cc
 status_is_no_ok NewIdTooHigh same = cc

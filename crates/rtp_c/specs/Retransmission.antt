@@ -4,7 +4,7 @@ use Rattle.rtp_values.specs.declared.kind.Extension.{Extension}
 use Rattle.rtp_ext.specs.ExtensionMap.{Slots}
 use Rattle.rtp_ext.specs.NewIds.{AreRenamedIds, ids_in_bytes}
 use Rattle.rtp_wire.specs.declared.packet.not_retransmitted.NotRetransmitted.{NotRetransmitted}
-use Rattle.rtp_wire.specs.declared.packet.not_retransmitted.NotRetransmitted.TheVariants.{LengthPastBuffer, NoPacket, PaddingTooLong, NoOriginalNumber, NewIdTooHigh, NoRoom}
+use Rattle.rtp_wire.specs.declared.packet.not_retransmitted.NotRetransmitted.TheVariants.{CutPacket, NotAPacket, PaddingTooLong, NoOriginalNumber, NewIdTooHigh, NoRoom}
 use Rattle.rtp_wire.specs.Retransmission.{IsFirstOf}
 use Rattle.rtp_c.specs.Status.{bad_field, none, short_buffer, cause_status}
 use Rattle.rtp_c.specs.StoredMap.{HasKinds}
@@ -17,8 +17,8 @@ pub record RenameKinds (from to : Extension) (numbers bytes : List ℕ) : Type 0
 
 -- the status of each cause for which a packet doesn't become a retransmission, or the packet that it repeats
 abbrev pub retransmission_status : NotRetransmitted → ℤ
-retransmission_status LengthPastBuffer = bad_field
-retransmission_status (NoPacket cause) = cause_status cause
+retransmission_status CutPacket = bad_field
+retransmission_status (NotAPacket cause) = cause_status cause
 retransmission_status PaddingTooLong = bad_field
 retransmission_status NoOriginalNumber = none
 retransmission_status NewIdTooHigh = bad_field

@@ -46,10 +46,10 @@ fn refusal(cause: NotRetransmitted) -> i32
     ensures { result ≡ retransmission_status cause }
 {
     match cause {
-        NotRetransmitted::LengthPastBuffer
+        NotRetransmitted::CutPacket
         | NotRetransmitted::PaddingTooLong
         | NotRetransmitted::NewIdTooHigh => BAD_FIELD,
-        NotRetransmitted::NoPacket(cause) => status_of(cause),
+        NotRetransmitted::NotAPacket(cause) => status_of(cause),
         NotRetransmitted::NoOriginalNumber => NONE,
         NotRetransmitted::NoRoom => SHORT_BUFFER,
     }

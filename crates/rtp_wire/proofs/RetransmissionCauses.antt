@@ -1,8 +1,8 @@
 -- Why a packet in a buffer doesn't become a retransmission, or a retransmission the packet that it repeats.
 use Rattle.std.proofs.Common.{◌≡◌, ℕ, ◌+◌, ◌<◌, ◌≤◌, Bool, true, false, List, [], length, take, Option, sym, ap, subst, ◌∙◌, arith, length-append}
-use Rattle.rtp_wire.specs.declared.packet.not_a_packet.NotAPacket.{NotAPacket}
+use Rattle.rtp_wire.specs.declared.packet.not_a_packet.NotAPacket as not_a_packet
 use Rattle.rtp_wire.specs.declared.packet.not_retransmitted.NotRetransmitted.{NotRetransmitted}
-use Rattle.rtp_wire.specs.declared.packet.not_retransmitted.NotRetransmitted.TheVariants.{LengthPastBuffer, NoPacket, PaddingTooLong, NoOriginalNumber, NewIdTooHigh, NoRoom}
+use Rattle.rtp_wire.specs.declared.packet.not_retransmitted.NotRetransmitted.TheVariants.{CutPacket, NotAPacket, PaddingTooLong, NoOriginalNumber, NewIdTooHigh, NoRoom}
 use Rattle.rtp_wire.specs.declared.packet.retransmission.Layout.{Layout}
 use Rattle.rtp_wire.specs.NotAPacket.{IsFirstCause}
 use Rattle.rtp_wire.specs.Packet.{PacketParts, IsPacket, IsWithoutPadding, header_len_of}
@@ -37,18 +37,18 @@ no_long_padding buf len layout is long =
     let fact = subst HasLongPadding same long.fact in
     unpadded_counted is.parts.has_padding is.parts.payload is.payload is.payload_is fact.0 fact.1
 
-no_cause : (buf : List ℕ) (len : ℕ) (cause : NotAPacket) (parts : PacketParts) → IsPacket (take len buf) parts → IsFirstCause (take len buf) cause → ⊥
+no_cause : (buf : List ℕ) (len : ℕ) (cause : not_a_packet.NotAPacket) (parts : PacketParts) → IsPacket (take len buf) parts → IsFirstCause (take len buf) cause → ⊥
 no_cause buf len cause parts is first = no_packet (take len buf) cause parts first.applies is
 
 -- the causes that come before the others
 pub sending_unread : (ids : ℕ → Option ℕ) (buf : List ℕ) (len : ℕ) (cause : NotRetransmitted) → HasNoLayout buf len cause
     → IsFirstOf (KeepsFromSending ids buf len) cause
-sending_unread ids buf len LengthPastBuffer past = record { applies = past; none_before = λ earlier before applies. omega (arith, before) }
-sending_unread ids buf len (NoPacket cause) none = record { applies = none.1; none_before = none_before }
+sending_unread ids buf len CutPacket past = record { applies = past; none_before = λ earlier before applies. omega (arith, before) }
+sending_unread ids buf len (NotAPacket cause) none = record { applies = none.1; none_before = none_before }
   where
     none_before : (earlier : NotRetransmitted) → place_of earlier < 1 → KeepsFromSending ids buf len earlier → ⊥
-    none_before LengthPastBuffer before past = omega (arith, none.0, past)
-    none_before (NoPacket other) before applies = omega (arith, before)
+    none_before CutPacket before past = omega (arith, none.0, past)
+    none_before (NotAPacket other) before applies = omega (arith, before)
     none_before PaddingTooLong before applies = omega (arith, before)
     none_before NoOriginalNumber before applies = omega (arith, before)
     none_before NewIdTooHigh before applies = omega (arith, before)
@@ -56,8 +56,8 @@ sending_unread ids buf len (NoPacket cause) none = record { applies = none.1; no
 sending_unread ids buf len PaddingTooLong long = record { applies = long.1; none_before = none_before }
   where
     none_before : (earlier : NotRetransmitted) → place_of earlier < 2 → KeepsFromSending ids buf len earlier → ⊥
-    none_before LengthPastBuffer before past = omega (arith, long.0, past)
-    none_before (NoPacket other) before applies = no_cause buf len other long.1.parts long.1.is_packet applies
+    none_before CutPacket before past = omega (arith, long.0, past)
+    none_before (NotAPacket other) before applies = no_cause buf len other long.1.parts long.1.is_packet applies
     none_before PaddingTooLong before applies = omega (arith, before)
     none_before NoOriginalNumber before applies = omega (arith, before)
     none_before NewIdTooHigh before applies = omega (arith, before)
@@ -68,12 +68,12 @@ sending_unread ids buf len NoRoom none = absurd none
 
 pub restoring_unread : (ids : ℕ → Option ℕ) (buf : List ℕ) (len : ℕ) (cause : NotRetransmitted) → HasNoLayout buf len cause
     → IsFirstOf (KeepsFromRestoring ids buf len) cause
-restoring_unread ids buf len LengthPastBuffer past = record { applies = past; none_before = λ earlier before applies. omega (arith, before) }
-restoring_unread ids buf len (NoPacket cause) none = record { applies = none.1; none_before = none_before }
+restoring_unread ids buf len CutPacket past = record { applies = past; none_before = λ earlier before applies. omega (arith, before) }
+restoring_unread ids buf len (NotAPacket cause) none = record { applies = none.1; none_before = none_before }
   where
     none_before : (earlier : NotRetransmitted) → place_of earlier < 1 → KeepsFromRestoring ids buf len earlier → ⊥
-    none_before LengthPastBuffer before past = omega (arith, none.0, past)
-    none_before (NoPacket other) before applies = omega (arith, before)
+    none_before CutPacket before past = omega (arith, none.0, past)
+    none_before (NotAPacket other) before applies = omega (arith, before)
     none_before PaddingTooLong before applies = omega (arith, before)
     none_before NoOriginalNumber before applies = omega (arith, before)
     none_before NewIdTooHigh before applies = omega (arith, before)
@@ -81,8 +81,8 @@ restoring_unread ids buf len (NoPacket cause) none = record { applies = none.1; 
 restoring_unread ids buf len PaddingTooLong long = record { applies = long.1; none_before = none_before }
   where
     none_before : (earlier : NotRetransmitted) → place_of earlier < 2 → KeepsFromRestoring ids buf len earlier → ⊥
-    none_before LengthPastBuffer before past = omega (arith, long.0, past)
-    none_before (NoPacket other) before applies = no_cause buf len other long.1.parts long.1.is_packet applies
+    none_before CutPacket before past = omega (arith, long.0, past)
+    none_before (NotAPacket other) before applies = no_cause buf len other long.1.parts long.1.is_packet applies
     none_before PaddingTooLong before applies = omega (arith, before)
     none_before NoOriginalNumber before applies = omega (arith, before)
     none_before NewIdTooHigh before applies = omega (arith, before)
@@ -111,8 +111,8 @@ module _ (ids : ℕ → Option ℕ) (buf : List ℕ) (len : ℕ) (layout : Layou
   sending_high high = record { applies = of_parts (HasHighId ids) buf len layout is high; none_before = none_before }
     where
       none_before : (earlier : NotRetransmitted) → place_of earlier < 4 → KeepsFromSending ids buf len earlier → ⊥
-      none_before LengthPastBuffer before past = omega (arith, is.fits, past)
-      none_before (NoPacket other) before applies = no_cause buf len other is.parts is.is_packet applies
+      none_before CutPacket before past = omega (arith, is.fits, past)
+      none_before (NotAPacket other) before applies = no_cause buf len other is.parts is.is_packet applies
       none_before PaddingTooLong before applies = no_long_padding buf len layout is applies
       none_before NoOriginalNumber before applies = applies
       none_before NewIdTooHigh before applies = omega (arith, before)
@@ -126,16 +126,16 @@ module _ (ids : ℕ → Option ℕ) (buf : List ℕ) (len : ℕ) (layout : Layou
   }
     where
       none_before : (earlier : NotRetransmitted) → place_of earlier < 5 → KeepsFromSending ids buf len earlier → ⊥
-      none_before LengthPastBuffer before past = omega (arith, is.fits, past)
-      none_before (NoPacket other) before applies = no_cause buf len other is.parts is.is_packet applies
+      none_before CutPacket before past = omega (arith, is.fits, past)
+      none_before (NotAPacket other) before applies = no_cause buf len other is.parts is.is_packet applies
       none_before PaddingTooLong before applies = no_long_padding buf len layout is applies
       none_before NoOriginalNumber before applies = applies
       none_before NewIdTooHigh before applies = carried (at_parts (HasHighId ids) buf len layout is applies)
       none_before NoRoom before applies = omega (arith, before)
 
   pub sending_not_kept : (HasHighId ids is.parts → ⊥) → layout.end + 2 ≤ length buf → (cause : NotRetransmitted) → KeepsFromSending ids buf len cause → ⊥
-  sending_not_kept carried room LengthPastBuffer past = omega (arith, is.fits, past)
-  sending_not_kept carried room (NoPacket other) applies = no_cause buf len other is.parts is.is_packet applies
+  sending_not_kept carried room CutPacket past = omega (arith, is.fits, past)
+  sending_not_kept carried room (NotAPacket other) applies = no_cause buf len other is.parts is.is_packet applies
   sending_not_kept carried room PaddingTooLong applies = no_long_padding buf len layout is applies
   sending_not_kept carried room NoOriginalNumber applies = applies
   sending_not_kept carried room NewIdTooHigh applies = carried (at_parts (HasHighId ids) buf len layout is applies)
@@ -151,8 +151,8 @@ module _ (ids : ℕ → Option ℕ) (buf : List ℕ) (len : ℕ) (layout : Layou
   }
     where
       none_before : (earlier : NotRetransmitted) → place_of earlier < 3 → KeepsFromRestoring ids buf len earlier → ⊥
-      none_before LengthPastBuffer before past = omega (arith, is.fits, past)
-      none_before (NoPacket other) before applies = no_cause buf len other is.parts is.is_packet applies
+      none_before CutPacket before past = omega (arith, is.fits, past)
+      none_before (NotAPacket other) before applies = no_cause buf len other is.parts is.is_packet applies
       none_before PaddingTooLong before applies = no_long_padding buf len layout is applies
       none_before NoOriginalNumber before applies = omega (arith, before)
       none_before NewIdTooHigh before applies = omega (arith, before)
@@ -168,16 +168,16 @@ module _ (ids : ℕ → Option ℕ) (buf : List ℕ) (len : ℕ) (layout : Layou
   restoring_high long high = record { applies = of_parts (HasHighId ids) buf len layout is high; none_before = none_before }
     where
       none_before : (earlier : NotRetransmitted) → place_of earlier < 4 → KeepsFromRestoring ids buf len earlier → ⊥
-      none_before LengthPastBuffer before past = omega (arith, is.fits, past)
-      none_before (NoPacket other) before applies = no_cause buf len other is.parts is.is_packet applies
+      none_before CutPacket before past = omega (arith, is.fits, past)
+      none_before (NotAPacket other) before applies = no_cause buf len other is.parts is.is_packet applies
       none_before PaddingTooLong before applies = no_long_padding buf len layout is applies
       none_before NoOriginalNumber before applies = no_short long applies
       none_before NewIdTooHigh before applies = omega (arith, before)
       none_before NoRoom before applies = omega (arith, before)
 
   pub restoring_not_kept : 2 ≤ length is.payload → (HasHighId ids is.parts → ⊥) → (cause : NotRetransmitted) → KeepsFromRestoring ids buf len cause → ⊥
-  restoring_not_kept long carried LengthPastBuffer past = omega (arith, is.fits, past)
-  restoring_not_kept long carried (NoPacket other) applies = no_cause buf len other is.parts is.is_packet applies
+  restoring_not_kept long carried CutPacket past = omega (arith, is.fits, past)
+  restoring_not_kept long carried (NotAPacket other) applies = no_cause buf len other is.parts is.is_packet applies
   restoring_not_kept long carried PaddingTooLong applies = no_long_padding buf len layout is applies
   restoring_not_kept long carried NoOriginalNumber applies = no_short long applies
   restoring_not_kept long carried NewIdTooHigh applies = carried (at_parts (HasHighId ids) buf len layout is applies)

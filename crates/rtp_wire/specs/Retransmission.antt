@@ -11,7 +11,7 @@ use Rattle.rtp_ext.specs.ElementsInPlace.{ChangesIds, CanRenumber}
 use Rattle.rtp_wire.specs.declared.packet.retransmission.RetransmissionFields.{RetransmissionFields}
 use Rattle.rtp_wire.specs.declared.packet.retransmission.OriginalFields.{OriginalFields}
 use Rattle.rtp_wire.specs.declared.packet.not_retransmitted.NotRetransmitted.{NotRetransmitted}
-use Rattle.rtp_wire.specs.declared.packet.not_retransmitted.NotRetransmitted.TheVariants.{LengthPastBuffer, NoPacket, PaddingTooLong, NoOriginalNumber, NewIdTooHigh, NoRoom}
+use Rattle.rtp_wire.specs.declared.packet.not_retransmitted.NotRetransmitted.TheVariants.{CutPacket, NotAPacket, PaddingTooLong, NoOriginalNumber, NewIdTooHigh, NoRoom}
 use Rattle.rtp_wire.specs.NotAHeader.{sources_end}
 use Rattle.rtp_wire.specs.NotAPacket.{IsFirstCause}
 use Rattle.rtp_wire.specs.OriginalNumber.{HasOriginalNumber}
@@ -101,8 +101,8 @@ pub record HasHighId (ids : ℕ → Option ℕ) (parts : PacketParts) : Type 0 w
 
 -- a cause for which the first bytes of a buffer, so many of them, don't become a retransmission
 abbrev pub KeepsFromSending : (ℕ → Option ℕ) → List ℕ → ℕ → NotRetransmitted → Type 0
-KeepsFromSending ids buf len LengthPastBuffer = length buf < len
-KeepsFromSending ids buf len (NoPacket cause) = IsFirstCause (take len buf) cause
+KeepsFromSending ids buf len CutPacket = length buf < len
+KeepsFromSending ids buf len (NotAPacket cause) = IsFirstCause (take len buf) cause
 KeepsFromSending ids buf len PaddingTooLong = IsPacketWith HasLongPadding (take len buf)
 KeepsFromSending ids buf len NoOriginalNumber = ⊥
 KeepsFromSending ids buf len NewIdTooHigh = IsPacketWith (HasHighId ids) (take len buf)
@@ -111,8 +111,8 @@ KeepsFromSending ids buf len NoRoom =
 
 -- and one for which they don't become the packet that they repeat
 abbrev pub KeepsFromRestoring : (ℕ → Option ℕ) → List ℕ → ℕ → NotRetransmitted → Type 0
-KeepsFromRestoring ids buf len LengthPastBuffer = length buf < len
-KeepsFromRestoring ids buf len (NoPacket cause) = IsFirstCause (take len buf) cause
+KeepsFromRestoring ids buf len CutPacket = length buf < len
+KeepsFromRestoring ids buf len (NotAPacket cause) = IsFirstCause (take len buf) cause
 KeepsFromRestoring ids buf len PaddingTooLong = IsPacketWith HasLongPadding (take len buf)
 KeepsFromRestoring ids buf len NoOriginalNumber = IsPacketWith (HasPayload (λ payload. length payload < 2)) (take len buf)
 KeepsFromRestoring ids buf len NewIdTooHigh = IsPacketWith (HasHighId ids) (take len buf)
@@ -120,8 +120,8 @@ KeepsFromRestoring ids buf len NoRoom = ⊥
 
 -- the place of a cause in the order in which they are looked for
 abbrev pub place_of : NotRetransmitted → ℕ
-place_of LengthPastBuffer = 0
-place_of (NoPacket cause) = 1
+place_of CutPacket = 0
+place_of (NotAPacket cause) = 1
 place_of PaddingTooLong = 2
 place_of NoOriginalNumber = 3
 place_of NewIdTooHigh = 4

@@ -2,7 +2,7 @@
 use Rattle.std.specs.Prelude.{◌≡◌, ℕ, ◌+◌, ◌<◌, ◌≤◌, List, length, take, Option, option_map, false}
 use Rattle.rtp_wire.specs.declared.packet.fields.Fields.{Fields}
 use Rattle.rtp_wire.specs.declared.packet.not_retransmitted.NotRetransmitted.{NotRetransmitted}
-use Rattle.rtp_wire.specs.declared.packet.not_retransmitted.NotRetransmitted.TheVariants.{LengthPastBuffer, NoPacket, PaddingTooLong, NoOriginalNumber, NewIdTooHigh, NoRoom}
+use Rattle.rtp_wire.specs.declared.packet.not_retransmitted.NotRetransmitted.TheVariants.{CutPacket, NotAPacket, PaddingTooLong, NoOriginalNumber, NewIdTooHigh, NoRoom}
 use Rattle.rtp_wire.specs.declared.packet.retransmission.Layout.{Layout}
 use Rattle.rtp_wire.specs.GivenFields.{with_header_fields}
 use Rattle.rtp_wire.specs.NotAPacket.{IsFirstCause}
@@ -23,8 +23,8 @@ pub record IsLaidOut (buf : List ℕ) (len : ℕ) (layout : Layout) : Type 0 whe
 
 -- the first bytes of a buffer aren't a packet whose padding can be taken off
 abbrev pub HasNoLayout : List ℕ → ℕ → NotRetransmitted → Type 0
-HasNoLayout buf len LengthPastBuffer = length buf < len
-HasNoLayout buf len (NoPacket cause) = (len ≤ length buf) × IsFirstCause (take len buf) cause
+HasNoLayout buf len CutPacket = length buf < len
+HasNoLayout buf len (NotAPacket cause) = (len ≤ length buf) × IsFirstCause (take len buf) cause
 HasNoLayout buf len PaddingTooLong = (len ≤ length buf) × IsPacketWith HasLongPadding (take len buf)
 HasNoLayout buf len NoOriginalNumber = ⊥
 HasNoLayout buf len NewIdTooHigh = ⊥

@@ -2,7 +2,7 @@
 
 use crate::checks::{bytes_of, same};
 use NotRetransmitted::{
-    LengthPastBuffer, NewIdTooHigh, NoOriginalNumber, NoPacket, NoRoom, PaddingTooLong,
+    CutPacket, NewIdTooHigh, NoOriginalNumber, NoRoom, NotAPacket, PaddingTooLong,
 };
 use rtp_base::{Pt, Ssrc};
 use rtp_wire::{
@@ -129,18 +129,18 @@ const RESTORED: [(&str, usize, (u32, u8), &str, usize); 6] = [
 // Buffers in which the packet, of this length, doesn't become a retransmission. The stream id is 10, and
 // the repaired one 15, which is too high for the one-byte form.
 const NOT_SENT: [(&str, usize, NotRetransmitted); 13] = [
-    ("", 1, LengthPastBuffer),
-    ("806000050000000a0000002caabb", 15, LengthPastBuffer),
-    ("", 0, NoPacket(NotAPacket::CutFixedPart)),
+    ("", 1, CutPacket),
+    ("806000050000000a0000002caabb", 15, CutPacket),
+    ("", 0, NotAPacket(NotAPacket::CutFixedPart)),
     (
         "406000050000000a0000002caabb0000",
         14,
-        NoPacket(NotAPacket::OtherVersion),
+        NotAPacket(NotAPacket::OtherVersion),
     ),
     (
         "816000050000000a0000002caabb0000",
         14,
-        NoPacket(NotAPacket::CutSources),
+        NotAPacket(NotAPacket::CutSources),
     ),
     ("a06000050000000a0000002caa030000", 14, PaddingTooLong),
     ("806000050000000a0000002caabb00", 14, NoRoom),
@@ -165,17 +165,17 @@ const NOT_SENT: [(&str, usize, NotRetransmitted); 13] = [
 // Buffers in which the retransmission, of this length, doesn't become the packet. The repaired stream id
 // is 10, and the stream id 15.
 const NOT_RESTORED: [(&str, usize, NotRetransmitted); 10] = [
-    ("", 1, LengthPastBuffer),
-    ("806100070000000a0000002d0005aabb", 17, LengthPastBuffer),
+    ("", 1, CutPacket),
+    ("806100070000000a0000002d0005aabb", 17, CutPacket),
     (
         "806100070000000a0000002d",
         11,
-        NoPacket(NotAPacket::CutFixedPart),
+        NotAPacket(NotAPacket::CutFixedPart),
     ),
     (
         "c06100070000000a0000002d0005aabb",
         16,
-        NoPacket(NotAPacket::OtherVersion),
+        NotAPacket(NotAPacket::OtherVersion),
     ),
     ("a06100070000000a0000002d04", 13, PaddingTooLong),
     ("806100070000000a0000002d", 12, NoOriginalNumber),

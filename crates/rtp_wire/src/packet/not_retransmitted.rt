@@ -7,12 +7,12 @@ use thiserror::Error;
 /// 4588, 4): the first cause in this order.
 #[derive(Clone, Copy, Debug, PartialEq, Eq, Error)]
 pub enum NotRetransmitted {
-    /// The packet is said to be longer than the buffer.
-    #[error("the packet's length is past the end of the buffer")]
-    LengthPastBuffer,
-    /// There is no RTP packet, for this cause.
-    #[error("no RTP packet: {0}")]
-    NoPacket(NotAPacket),
+    /// The buffer has fewer bytes than the packet is said to have.
+    #[error("the buffer ends before the packet")]
+    CutPacket,
+    /// The bytes are no packet, for this cause.
+    #[error("no packet: {0}")]
+    NotAPacket(NotAPacket),
     /// The padding's last byte counts more bytes than the payload has (RFC 3550, 5.1).
     #[error("the padding counts more bytes than the payload has")]
     PaddingTooLong,

@@ -55,11 +55,11 @@ fn layout_of(buf: &[u8], len: usize) -> Result<Layout, NotRetransmitted>
     ensures cause { IfErr result (HasNoLayout buf.now len) }
 {
     if buf.len() < len {
-        return Err(NotRetransmitted::LengthPastBuffer);
+        return Err(NotRetransmitted::CutPacket);
     }
     let packet = match RtpPacket::parse(&buf[..len]) {
         Ok(packet) => packet,
-        Err(cause) => return Err(NotRetransmitted::NoPacket(cause)),
+        Err(cause) => return Err(NotRetransmitted::NotAPacket(cause)),
     };
     let Some(payload) = packet.unpadded_payload() else {
         return Err(NotRetransmitted::PaddingTooLong);

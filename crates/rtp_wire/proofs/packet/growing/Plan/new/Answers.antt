@@ -14,7 +14,7 @@ put_len-elements_len-requires-clause-few c =
 pub put_len-elements_len-requires-clause-writable : goal.put_len-elements_len-requires-clause-writable
 put_len-elements_len-requires-clause-writable c =
     (IsWritable-allowed c.form.result c.args.allowed (c.args.id, c.args.data.now) c.in-Some.new_form (let some = c.if-id-eq0.false in omega arith) (let fits = c.ranges.id.fits in omega arith)
-        c.if-data-gt255.false (sym c.form_to_put.ensures ∙ c.in-Some.is))
+    c.if-data-gt255.false (sym c.form_to_put.ensures ∙ c.in-Some.is))
 
 pub next_multiple_of-requires-clause-fits : goal.next_multiple_of-requires-clause-fits
 next_multiple_of-requires-clause-fits c =
@@ -32,7 +32,7 @@ returns-then-new_body_len-gt-MAX_BODY_LEN-clause-cause c =
     record {
       applies = (growth, c.if-new_body_len-gt-MAX_BODY_LEN.true);
       none_before = λ earlier before fact. none_of_packet c.args.datagram.now (c.args.id, c.args.data.now) c.args.allowed growth (IsWritable-allowed c.form.result c.args.allowed (c.args.id, c.args.data.now) c.in-Some.new_form (let some = c.if-id-eq0.false in omega arith) (let fits = c.ranges.id.fits in omega arith)
-        c.if-data-gt255.false (sym c.form_to_put.ensures ∙ c.in-Some.is)) earlier before fact;
+          c.if-data-gt255.false (sym c.form_to_put.ensures ∙ c.in-Some.is)) earlier before fact;
     }
 
 pub returns-clause-found : goal.returns-clause-found
@@ -59,5 +59,5 @@ returns-clause-found c =
       new_body_is = refl;
       few = c.if-new_body_len-gt-MAX_BODY_LEN.false;
       writable = (IsWritable-allowed c.form.result c.args.allowed (c.args.id, c.args.data.now) c.in-Some.new_form (let some = c.if-id-eq0.false in omega arith) (let fits = c.ranges.id.fits in omega arith)
-        c.if-data-gt255.false (sym c.form_to_put.ensures ∙ c.in-Some.is));
+          c.if-data-gt255.false (sym c.form_to_put.ensures ∙ c.in-Some.is));
     }
