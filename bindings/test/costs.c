@@ -57,6 +57,8 @@ enum { BODY_AT = 16, BODY_LEN = 16 };
     X(rtpw_set_fields, rtpw_set_fields(packet, sizeof packet, &fields))                                               \
     X(rtpw_set_element, rtpw_set_element(packet, sizeof packet, 3, rtcp, 2))                                          \
     X(rtpw_remove_element, rtpw_remove_element(packet, sizeof packet, 9))                                             \
+    X(rtpw_put_element, (len = sizeof packet, rtpw_put_element(packet, sizeof packet, &len, 3, rtcp, 2, RTPW_ANY_FORM))) \
+    X(rtpw_compact, (len = sizeof packet, rtpw_compact(packet, sizeof packet, &len)))                                  \
     X(rtpw_set_csrc, rtpw_set_csrc(mixed, sizeof mixed, 1, 7))                                                        \
     X(rtpw_renumber, rtpw_renumber(packet, sizeof packet, &ids))                                                      \
     X(rtpw_set_padding, rtpw_set_padding(packet, sizeof packet, false))                                               \

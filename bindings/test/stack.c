@@ -86,6 +86,14 @@ static void remove_element(void) { status = rtpw_remove_element(datagram, sizeof
 static void is_rtcp(void) { number = rtpw_is_rtcp(datagram, sizeof datagram); }
 static void set_padding(void) { status = rtpw_set_padding(datagram, sizeof datagram, true); }
 static void remove_padding(void) { status = rtpw_remove_padding(datagram, sizeof datagram, &count); }
+static void put_element(void) {
+    count = sizeof datagram;
+    status = rtpw_put_element(datagram, sizeof datagram, &count, 3, data, sizeof data, RTPW_ANY_FORM);
+}
+static void compact(void) {
+    count = sizeof datagram;
+    status = rtpw_compact(datagram, sizeof datagram, &count);
+}
 static void next_element(void) { status = rtpw_next_element(datagram + 76, 262140, RTPW_ONE_BYTE_FORM, 0, &element); }
 static void last_element(void) { status = rtpw_last_element(datagram + 76, 262140, RTPW_ONE_BYTE_FORM, 5, &element); }
 static void receiver_start(void) { status = rtpw_receiver_start(&receiver, 1); }
@@ -165,7 +173,7 @@ int main(void) {
     } calls[] = {
         CALL(packet_parse), CALL(set_marker), CALL(set_payload_type), CALL(set_sequence_number),
         CALL(set_timestamp), CALL(set_ssrc), CALL(set_fields), CALL(set_csrc), CALL(set_element),
-        CALL(remove_element),
+        CALL(remove_element), CALL(put_element), CALL(compact),
         CALL(next_element), CALL(last_element), CALL(receiver_start), CALL(receiver_number_of),
         CALL(receiver_accepts), CALL(receiver_record), CALL(receiver_receive), CALL(wide_receiver_start),
         CALL(wide_receiver_number_of), CALL(wide_receiver_accepts), CALL(wide_receiver_record),

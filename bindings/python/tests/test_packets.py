@@ -7,7 +7,21 @@ from random import Random
 from typing import Any, Callable
 
 import rtp_wire
-from rtp_wire import BadField, Cause, Form, Kind, Map, NewIds, NoElement, NotAPacket, Packet, Values
+from rtp_wire import (
+    BadField,
+    Cause,
+    Form,
+    Kind,
+    Map,
+    NewIds,
+    NoElement,
+    NotAPacket,
+    Packet,
+    ShortBuffer,
+    Values,
+    compact,
+    put_element,
+)
 
 # V=2, P, X, CC=2; M, PT=33; 47,000; 10,000; 44; the sources 1 and 2; a block of two words: 1 (AA), 2 (BB CC),
 # 1 (DD) and a byte of padding; a payload of 3 bytes and 2 of padding.
@@ -254,6 +268,29 @@ class Changing(unittest.TestCase):
         with self.assertRaises(BadField):
             self.packet.renumber(NewIds({5: 15}))
         self.assertEqual(self.datagram[24:32].hex(), "50aa00000050dd00")
+
+    def test_elements_are_put(self) -> None:
+        buffer = bytearray(64)
+        buffer[:37] = SAMPLE
+        self.assertEqual(put_element(buffer, 37, 2, b"\x01\x02"), 37)
+        self.assertEqual(buffer[24:32].hex(), "10aa21010210dd00")
+        self.assertEqual(put_element(buffer, 37, 2, b"\x03" * 5, Form.ONE_BYTE), 41)
+        self.assertEqual(buffer[22:36].hex(), "000310aa24030303030310dd0000")
+        self.assertEqual(buffer[36:41], SAMPLE[32:])
+        for arguments in ((41, 15, b"", Form.ONE_BYTE), (65, 1, b"\x01"), (41, 0, b""), (41, 1, bytes(256))):
+            with self.assertRaises(BadField):
+                put_element(buffer, *arguments)
+        with self.assertRaises(ShortBuffer):
+            put_element(memoryview(buffer)[:44], 41, 15, b"\x04")
+        self.assertEqual(put_element(buffer, 41, 15, b"\x04"), 45)
+        packet = Packet.parse(buffer)
+        self.assertEqual(packet.form, Form.TWO_BYTE)
+        packet.remove_element(2)
+        self.assertEqual(compact(memoryview(buffer)[:45]), 41)
+        self.assertEqual(buffer[36:41], SAMPLE[32:])
+        for call in (lambda: put_element(buffer, 11, 1, b""), lambda: compact(buffer[:11])):
+            with self.assertRaises(NotAPacket):
+                call()
 
     def test_padding_is_taken_off(self) -> None:
         self.assertEqual(self.packet.remove_padding(), 35)

@@ -7,6 +7,7 @@ functions of librtp_wire, each of which is proved.
 
 from . import _library
 from ._errors import BadField, Cause, NoElement, NotAPacket, RtpError, ShortBuffer, Status
+from ._growing import compact, put_element
 from ._header import Header, write_elements
 from ._layers import Layer, Layers, Resolution
 from ._map import Kind, Map, NewIds
@@ -49,6 +50,7 @@ __all__ = [
     "Values",
     "VideoTiming",
     "WideReceiver",
+    "compact",
     "elements",
     "extend_u15",
     "extend_u16",
@@ -57,6 +59,7 @@ __all__ = [
     "from_retransmission",
     "is_rtcp",
     "pad",
+    "put_element",
     "read_original",
     "to_retransmission",
     "write_elements",

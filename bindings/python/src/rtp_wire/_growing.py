@@ -1,0 +1,51 @@
+"""Elements that are put into a packet, which grows where it lies."""
+
+from __future__ import annotations
+
+from ctypes import c_size_t
+from typing import TYPE_CHECKING, Optional
+
+from . import _library
+from ._buffers import address_of, place_of, writable_view_of
+from ._errors import check, unsigned
+from ._packet import Form
+
+if TYPE_CHECKING:
+    from ._buffers import Buffer, WritableBuffer
+
+
+def put_element(
+    buffer: WritableBuffer, length: int, id: int, data: Buffer, allowed: Optional[Form] = None
+) -> int:
+    """Puts an element, of an id from 1 on with at most 255 bytes of data, into the packet in the first `length` bytes
+    of the buffer, and returns how many bytes the packet then has: it has exactly one element of the id, in place of the
+    last one of the id or as the last of all. The other elements stay, in order, and all other parts too; without a
+    block the packet gets one. A body never becomes shorter (`compact`). A header alone is enough.
+
+    A one-byte block that can't carry the element becomes a two-byte one, unless the one-byte form alone is allowed, as
+    for a peer that hasn't agreed to both in one stream (RFC 8285, 4.1.2). Where the two-byte form alone is allowed, the
+    block gets that.
+
+    BadField where `length` is past the buffer, the id is 0, there are more than 255 bytes of data, or the block needs a
+    form that isn't allowed, or more than 65,535 words; NotAPacket; ShortBuffer where there is no room. Nothing changes
+    then.
+    """
+    view, count = writable_view_of(buffer), c_size_t(unsigned("length", length, 64))
+    bytes_of, at = place_of(data)
+    form = Form.NONE if allowed is None else allowed
+    number = unsigned("id", id, 8)
+    check(_library.put_element(address_of(view), len(view), count, number, at, len(bytes_of), form))
+    return count.value
+
+
+def compact(datagram: WritableBuffer) -> int:
+    """Makes the packet in the buffer as short as its elements allow, and returns how many bytes it then has, which are
+    the first ones: the elements stand in a row, the body is filled up to whole words, and the payload moves to the
+    front. So `Packet.remove_element` and then this gives bytes back. A header alone is enough.
+
+    NotAPacket where the buffer holds none, and then nothing changes.
+    """
+    view = writable_view_of(datagram)
+    count = c_size_t(len(view))
+    check(_library.compact(address_of(view), len(view), count))
+    return count.value
