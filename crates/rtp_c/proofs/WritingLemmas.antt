@@ -1,5 +1,5 @@
 -- The elements that C names, as they are written.
-use Rattle.std.proofs.Common.{◌≡◌, ◌↔◌, ℕ, ◌<◌, List, [], ◌∷◌, length, map, refl, subst, All, Bor, arith, lt_of_not-le, take, get_or, Some}
+use Rattle.std.proofs.Common.{◌⊎◌, inl, inr, ℤ, w32, to_z, of_z, ◌≡◌, ◌↔◌, ℕ, ◌<◌, List, [], ◌∷◌, length, map, refl, sym, ap, subst, All, Bor, arith, lt_of_not-le, take, get_or, Option, Some, None}
 use Rattle.std.specs.List.{AllByRecursion}
 use Rattle.std.proofs.lemmas.List.Elements.{All-from_recursion, recursion_from_All}
 use Rattle.rtp_ext.specs.declared.form.ExtensionsForm.{ExtensionsForm}
@@ -8,6 +8,7 @@ use Rattle.rtp_ext.specs.Elements.{Element, elements_bytes}
 use Rattle.rtp_ext.specs.ElementsInARow.{elements_of, IsWritable, AreWritableIn}
 use Rattle.rtp_c.specs.declared.packet.ElementView.{ElementView}
 use Rattle.rtp_c.specs.PacketView.{form_number}
+use Rattle.rtp_c.specs.Status.{ok, no_memory, short_buffer, bad_field}
 use Rattle.rtp_c.specs.WrittenElements.{LiesIn, LieIn, elements_in, AreTooLong}
 
 to_map : {X Y : Type 0} (P : Y → Type 0) (f : X → Y) (xs : List X) → AllByRecursion (λ x. P (f x)) xs → AllByRecursion P (map f xs)
@@ -50,3 +51,25 @@ one_form OneByte OneByte same = refl
 one_form OneByte TwoByte same = absurd (omega (arith, same))
 one_form TwoByte OneByte same = absurd (omega (arith, same))
 one_form TwoByte TwoByte same = refl
+
+pub one_allowed : (a b : Option ExtensionsForm) → form_number a ≡ form_number b → a ≡ b
+one_allowed None None same = refl
+one_allowed None (Some OneByte) same = absurd (omega (arith, same))
+one_allowed None (Some TwoByte) same = absurd (omega (arith, same))
+one_allowed (Some OneByte) None same = absurd (omega (arith, same))
+one_allowed (Some TwoByte) None same = absurd (omega (arith, same))
+one_allowed (Some f) (Some g) same = ap Some (one_form f g same)
+
+-- a number of no form, other than 0
+pub no_allowed : (number : ℕ) → (number ≡ 0 → ⊥) → ((form : ExtensionsForm) → form_number (Some form) ≡ number → ⊥)
+    → (allowed : Option ExtensionsForm) → form_number allowed ≡ number → ⊥
+no_allowed number some none None is = some (sym is)
+no_allowed number some none (Some form) is = none form is
+
+-- a status that is passed on as it is
+pub passed_on : (status : ℤ) → (status ≡ ok) ⊎ ((status ≡ short_buffer) ⊎ ((status ≡ bad_field) ⊎ (status ≡ no_memory)))
+    → status ≡ to_z w32 (of_z w32 status)
+passed_on status (inl is) = subst (λ (z : ℤ). z ≡ to_z w32 (of_z w32 z)) (sym is) refl
+passed_on status (inr (inl is)) = subst (λ (z : ℤ). z ≡ to_z w32 (of_z w32 z)) (sym is) refl
+passed_on status (inr (inr (inl is))) = subst (λ (z : ℤ). z ≡ to_z w32 (of_z w32 z)) (sym is) refl
+passed_on status (inr (inr (inr is))) = subst (λ (z : ℤ). z ≡ to_z w32 (of_z w32 z)) (sym is) refl

@@ -1,8 +1,9 @@
 -- The header that C gives, as it is written.
-use Rattle.std.proofs.Common.{◌≡◌, ℕ, ◌<◌, List, ◌++◌, length, drop, ap, ◌∙◌, subst, arith}
+use Rattle.std.proofs.Common.{◌≡◌, ℕ, ◌<◌, List, ◌++◌, length, drop, Option, ap, ◌∙◌, subst, arith}
+use Rattle.rtp_ext.specs.declared.form.ExtensionsForm.{ExtensionsForm}
 use Rattle.rtp_ext.specs.Elements.{Element}
 use Rattle.rtp_ext.specs.ExtensionMap.{Slots}
-use Rattle.rtp_ext.specs.ElementsInARow.{AreNotWritableIn}
+use Rattle.rtp_ext.specs.ElementsInARow.{form_given, AreNotWritableIn}
 use Rattle.rtp_wire.specs.declared.header.rtp_header.RtpHeader.{RtpHeader}
 use Rattle.rtp_wire.specs.Packet.{IsPacket}
 use Rattle.rtp_wire.specs.Written.{wire_bytes, CannotBeWritten, large_payload_type as large_type, many_sources as many, short_room as short}
@@ -19,40 +20,40 @@ pub record IsPaired (view : HeaderView) (bytes : List ℕ) (views : List Element
   pub within : LieIn bytes views
   pub named : elements ≡ elements_in bytes views
 
-module _ (view : HeaderView) (bytes : List ℕ) (views : List ElementView) (elements : List Element) (header : RtpHeader) (is : IsPaired view bytes views elements header) where
-  pub CanBeWrittenWith-paired : (AreNotWritableIn elements 262140 → ⊥) → CanBeWrittenWith view bytes views header
+module _ (allowed : Option ExtensionsForm) (view : HeaderView) (bytes : List ℕ) (views : List ElementView) (elements : List Element) (header : RtpHeader) (is : IsPaired view bytes views elements header) where
+  pub CanBeWrittenWith-paired : (AreNotWritableIn (form_given allowed elements) elements 262140 → ⊥) → CanBeWrittenWith allowed view bytes views header
   CanBeWrittenWith-paired in_a_row = record {
     fields = is.fields;
     within = is.within;
-    in_a_row = subst (λ (es : List Element). AreNotWritableIn es 262140 → ⊥) is.named in_a_row;
+    in_a_row = subst (λ (es : List Element). AreNotWritableIn (form_given allowed es) es 262140 → ⊥) is.named in_a_row;
   }
 
-  pub IsWrittenWith-paired : (old new : List ℕ) (len : ℕ) → (AreNotWritableIn elements 262140 → ⊥)
-      → len ≡ length (wire_bytes_with header elements) → new ≡ wire_bytes_with header elements ++ drop len old
-      → ((rest : List ℕ) → IsPacket (wire_bytes_with header elements ++ rest) (parts_with header elements rest))
-      → IsWrittenWith view bytes views old new len
+  pub IsWrittenWith-paired : (old new : List ℕ) (len : ℕ) → (AreNotWritableIn (form_given allowed elements) elements 262140 → ⊥)
+      → len ≡ length (wire_bytes_with header allowed elements) → new ≡ wire_bytes_with header allowed elements ++ drop len old
+      → ((rest : List ℕ) → IsPacket (wire_bytes_with header allowed elements ++ rest) (parts_with header allowed elements rest))
+      → IsWrittenWith allowed view bytes views old new len
   IsWrittenWith-paired old new len in_a_row len-is written read_back = record {
     header = header;
     is_given = CanBeWrittenWith-paired in_a_row;
-    len_is = len-is ∙ ap (λ (es : List Element). length (wire_bytes_with header es)) is.named;
-    written = written ∙ ap (λ (es : List Element). wire_bytes_with header es ++ drop len old) is.named;
+    len_is = len-is ∙ ap (λ (es : List Element). length (wire_bytes_with header allowed es)) is.named;
+    written = written ∙ ap (λ (es : List Element). wire_bytes_with header allowed es ++ drop len old) is.named;
     read_back = λ rest.
-        subst (λ (es : List Element). IsPacket (wire_bytes_with header es ++ rest) (parts_with header es rest)) is.named (read_back rest);
+        subst (λ (es : List Element). IsPacket (wire_bytes_with header allowed es ++ rest) (parts_with header allowed es rest)) is.named (read_back rest);
   }
 
-  only_room : (room : ℕ) → (AreNotWritableIn elements 262140 → ⊥) → CannotBeWrittenWith header elements room
-      → room < length (wire_bytes_with header elements)
+  only_room : (room : ℕ) → (AreNotWritableIn (form_given allowed elements) elements 262140 → ⊥) → CannotBeWrittenWith header allowed elements room
+      → room < length (wire_bytes_with header allowed elements)
   only_room room in_a_row (large_payload_type above) = absurd (omega (arith, above, is.fields.payload_type_is, is.fields.payload_type_fits))
   only_room room in_a_row (many_sources above) = absurd (omega (arith, above, is.fields.count_is, is.fields.few_sources))
   only_room room in_a_row (no_block none) = absurd (in_a_row none)
   only_room room in_a_row (short_room lt) = lt
 
-  pub IsTooLongWith-paired : (room : ℕ) → (AreNotWritableIn elements 262140 → ⊥) → CannotBeWrittenWith header elements room
-      → IsTooLongWith view bytes views room
+  pub IsTooLongWith-paired : (room : ℕ) → (AreNotWritableIn (form_given allowed elements) elements 262140 → ⊥) → CannotBeWrittenWith header allowed elements room
+      → IsTooLongWith allowed view bytes views room
   IsTooLongWith-paired room in_a_row refused = record {
     header = header;
     is_given = CanBeWrittenWith-paired in_a_row;
-    too_long = subst (λ (es : List Element). room < length (wire_bytes_with header es)) is.named (only_room room in_a_row refused);
+    too_long = subst (λ (es : List Element). room < length (wire_bytes_with header allowed es)) is.named (only_room room in_a_row refused);
   }
 
 -- a header for which only the room is short

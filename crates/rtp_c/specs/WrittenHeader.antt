@@ -1,7 +1,8 @@
 -- The header that C gives, as it is written (RFC 3550, 5.1; RFC 8285, 4.2 and 4.3).
-use Rattle.std.specs.Prelude.{◌≡◌, ℕ, ◌<◌, List, ◌++◌, length, drop}
+use Rattle.std.specs.Prelude.{◌≡◌, ℕ, ◌<◌, List, ◌++◌, length, drop, Option}
+use Rattle.rtp_ext.specs.declared.form.ExtensionsForm.{ExtensionsForm}
 use Rattle.rtp_ext.specs.ExtensionMap.{Slots}
-use Rattle.rtp_ext.specs.ElementsInARow.{AreNotWritableIn}
+use Rattle.rtp_ext.specs.ElementsInARow.{form_given, AreNotWritableIn}
 use Rattle.rtp_wire.specs.declared.header.rtp_header.RtpHeader.{RtpHeader}
 use Rattle.rtp_wire.specs.Header.{IsWire}
 use Rattle.rtp_wire.specs.Packet.{IsPacket}
@@ -41,23 +42,23 @@ pub record IsTooLong (numbers : List ℕ) (view : HeaderView) (room : ℕ) : Typ
   pub is_given : IsToBeWritten numbers view slots header
   pub too_long : room < length (wire_bytes slots header)
 
--- the fields of the header are given, the data of the elements lie within the bytes, and a block can have them
-pub record CanBeWrittenWith (view : HeaderView) (bytes : List ℕ) (views : List ElementView) (header : RtpHeader) : Type 0 where
+-- the fields of the header are given, the data of the elements lie within the bytes, and a block can have them in the form that serves for them, or that alone is allowed
+pub record CanBeWrittenWith (allowed : Option ExtensionsForm) (view : HeaderView) (bytes : List ℕ) (views : List ElementView) (header : RtpHeader) : Type 0 where
   pub fields : AreGivenFields view header
   pub within : LieIn bytes views
-  pub in_a_row : AreNotWritableIn (elements_in bytes views) 262140 → ⊥
+  pub in_a_row : AreNotWritableIn (form_given allowed (elements_in bytes views)) (elements_in bytes views) 262140 → ⊥
 
 -- the header and a block with the elements stand at the front of the buffer, and its other bytes are as they were; followed by anything they are a packet
-pub record IsWrittenWith (view : HeaderView) (bytes : List ℕ) (views : List ElementView) (old new : List ℕ) (len : ℕ) : Type 0 where
+pub record IsWrittenWith (allowed : Option ExtensionsForm) (view : HeaderView) (bytes : List ℕ) (views : List ElementView) (old new : List ℕ) (len : ℕ) : Type 0 where
   pub header : RtpHeader
-  pub is_given : CanBeWrittenWith view bytes views header
-  pub len_is : len ≡ length (wire_bytes_with header (elements_in bytes views))
-  pub written : new ≡ wire_bytes_with header (elements_in bytes views) ++ drop len old
+  pub is_given : CanBeWrittenWith allowed view bytes views header
+  pub len_is : len ≡ length (wire_bytes_with header allowed (elements_in bytes views))
+  pub written : new ≡ wire_bytes_with header allowed (elements_in bytes views) ++ drop len old
   pub read_back : (rest : List ℕ) →
-      IsPacket (wire_bytes_with header (elements_in bytes views) ++ rest) (parts_with header (elements_in bytes views) rest)
+      IsPacket (wire_bytes_with header allowed (elements_in bytes views) ++ rest) (parts_with header allowed (elements_in bytes views) rest)
 
 -- the header and the block take more than the room
-pub record IsTooLongWith (view : HeaderView) (bytes : List ℕ) (views : List ElementView) (room : ℕ) : Type 0 where
+pub record IsTooLongWith (allowed : Option ExtensionsForm) (view : HeaderView) (bytes : List ℕ) (views : List ElementView) (room : ℕ) : Type 0 where
   pub header : RtpHeader
-  pub is_given : CanBeWrittenWith view bytes views header
-  pub too_long : room < length (wire_bytes_with header (elements_in bytes views))
+  pub is_given : CanBeWrittenWith allowed view bytes views header
+  pub too_long : room < length (wire_bytes_with header allowed (elements_in bytes views))

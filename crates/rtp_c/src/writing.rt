@@ -1,6 +1,6 @@
 //! What C gives to be written, headers and elements, from fields and values to bytes.
 
-ghost use Rattle.std.specs.Prelude.{◌≡◌, ◌≢◌, ◌↔◌, ◌≤◌, ◌<◌, ◌⊎◌, length, IsTrue, IfSome, IfNone, IfOk, IfErr, Some};
+ghost use Rattle.std.specs.Prelude.{◌≡◌, ◌≢◌, ◌↔◌, ◌≤◌, ◌<◌, ◌⊎◌, length, IsTrue, IfSome, IfNone, IfOk, IfErr, Option, Some, None};
 ghost use Rattle.std.specs.List.{All};
 ghost use Rattle.rtp_ext.specs.declared.form.ExtensionsForm.{ExtensionsForm};
 ghost use Rattle.rtp_ext.specs.ElementsInARow.{elements_of, IsWritable};
@@ -59,6 +59,63 @@ fn pairs_in<'a>(
     Ok(pairs)
 }
 
+// The one form that is allowed, by its number: 0 allows any.
+fn allowed_of(number: u8) -> Result<Option<ExtensionsForm>, i32>
+    ensures allowed { IfOk result (λ allowed. form_number allowed ≡ number) }
+    ensures refused { IfErr result (λ status. (status ≡ bad_field)
+        × ((allowed : Option ExtensionsForm) → form_number allowed ≢ number)) }
+{
+    if number == 0 {
+        return Ok(None);
+    }
+    match form_of(number) {
+        Some(form) => Ok(Some(form)),
+        None => Err(BAD_FIELD),
+    }
+}
+
+// Writes the header and a block with these elements as `rtpw_write_with` does, in the form that serves,
+// or that alone is allowed.
+fn write_header_with(
+    alloc: Global,
+    header: &HeaderView,
+    bytes: &[u8],
+    elements: &[ElementView],
+    allowed: Option<ExtensionsForm>,
+    buf: &mut [u8],
+    len: &mut usize,
+) -> i32
+    ensures written { result ≡ ok →
+        IsWrittenWith allowed header.now bytes.now elements.now buf.old buf.new len.new }
+    ensures within { result ≡ ok → len.new ≤ length buf.new }
+    ensures short { result ≡ short_buffer →
+        IsTooLongWith allowed header.now bytes.now elements.now (length buf.old) }
+    ensures bad_field { result ≡ bad_field → (h : Header) →
+        CanBeWrittenWith allowed header.now bytes.now elements.now h → ⊥ }
+    ensures fields { ((h : Header) → AreGivenFields header.now h → ⊥) → result ≡ bad_field }
+    ensures memory { result ≡ no_memory → 1 ≤ length elements.now }
+    ensures statuses { (result ≡ ok) ⊎ ((result ≡ short_buffer) ⊎ ((result ≡ bad_field)
+        ⊎ (result ≡ no_memory))) }
+    ensures unchanged { result ≢ ok → (buf.new ≡ buf.old) × (len.new ≡ len.old) }
+{
+    let mut rtp_header = RtpHeader::default();
+    let Some(()) = put_given_fields(header, &mut rtp_header) else {
+        return BAD_FIELD;
+    };
+    let pairs = match pairs_in(alloc, bytes, elements) {
+        Ok(pairs) => pairs,
+        Err(status) => return status,
+    };
+    if let Some(written) = rtp_header.write_with(buf, &pairs, allowed) {
+        *len = written;
+        return OK;
+    }
+    match ExtensionsForm::for_elements(&pairs, allowed, MAX_BODY_LEN) {
+        None => BAD_FIELD,
+        Some(_) => SHORT_BUFFER,
+    }
+}
+
 /// Writes the fixed part and the CSRC list of the header, and a block with these elements, to the front
 /// of the buffer (RFC 3550, 5.1; RFC 8285, 4.2 and 4.3). X is set whatever `has_extension` holds, and
 /// the values of the header are not looked at. An element has its id and the `data_len` bytes of
@@ -82,33 +139,57 @@ pub extern "C" fn rtpw_write_with(
     len: &mut usize,
 ) -> i32
     ensures written { result ≡ ok →
-        IsWrittenWith header.now bytes.now elements.now buf.old buf.new len.new }
+        IsWrittenWith None header.now bytes.now elements.now buf.old buf.new len.new }
     ensures within { result ≡ ok → len.new ≤ length buf.new }
     ensures short { result ≡ short_buffer →
-        IsTooLongWith header.now bytes.now elements.now (length buf.old) }
+        IsTooLongWith None header.now bytes.now elements.now (length buf.old) }
     ensures bad_field { result ≡ bad_field → (h : Header) →
-        CanBeWrittenWith header.now bytes.now elements.now h → ⊥ }
+        CanBeWrittenWith None header.now bytes.now elements.now h → ⊥ }
     ensures fields { ((h : Header) → AreGivenFields header.now h → ⊥) → result ≡ bad_field }
     ensures memory { result ≡ no_memory → 1 ≤ length elements.now }
     ensures statuses { (result ≡ ok) ⊎ ((result ≡ short_buffer) ⊎ ((result ≡ bad_field)
         ⊎ (result ≡ no_memory))) }
     ensures unchanged { result ≢ ok → (buf.new ≡ buf.old) × (len.new ≡ len.old) }
 {
-    let mut rtp_header = RtpHeader::default();
-    let Some(()) = put_given_fields(header, &mut rtp_header) else {
-        return BAD_FIELD;
-    };
-    let pairs = match pairs_in(alloc, bytes, elements) {
-        Ok(pairs) => pairs,
-        Err(status) => return status,
-    };
-    if let Some(written) = rtp_header.write_with(buf, &pairs) {
-        *len = written;
-        return OK;
-    }
-    match ExtensionsForm::for_elements(&pairs, MAX_BODY_LEN) {
-        None => BAD_FIELD,
-        Some(_) => SHORT_BUFFER,
+    write_header_with(alloc, header, bytes, elements, None, buf, len)
+}
+
+/// Writes as [`rtpw_write_with`] does, in the one form that is allowed: 1 is the one-byte form, 2 the
+/// two-byte form, as for a peer that hasn't agreed to both forms in one stream (RFC 8285, 4.1.2); 0
+/// allows any, and then the two do the same. The one-byte form carries ids 1 to 14 with 1 to 16 bytes of
+/// data, the two-byte form ids 1 to 255 with 0 to 255 bytes.
+///
+/// The same statuses; `BAD_FIELD` also where the form is another number, or can't carry an element.
+#[unsafe(no_mangle)]
+pub extern "C" fn rtpw_write_with_form(
+    alloc: Global,
+    header: &HeaderView,
+    bytes: &[u8],
+    elements: &[ElementView],
+    form: u8,
+    buf: &mut [u8],
+    len: &mut usize,
+) -> i32
+    ensures written { result ≡ ok → (allowed : Option ExtensionsForm) × (form_number allowed ≡ form)
+        × IsWrittenWith allowed header.now bytes.now elements.now buf.old buf.new len.new }
+    ensures within { result ≡ ok → len.new ≤ length buf.new }
+    ensures short { result ≡ short_buffer →
+        (allowed : Option ExtensionsForm) × (form_number allowed ≡ form)
+        × IsTooLongWith allowed header.now bytes.now elements.now (length buf.old) }
+    ensures bad_field { result ≡ bad_field →
+        (allowed : Option ExtensionsForm) → form_number allowed ≡ form → (h : Header) →
+        CanBeWrittenWith allowed header.now bytes.now elements.now h → ⊥ }
+    ensures no_form { ((allowed : Option ExtensionsForm) → form_number allowed ≢ form) →
+        result ≡ bad_field }
+    ensures fields { ((h : Header) → AreGivenFields header.now h → ⊥) → result ≡ bad_field }
+    ensures memory { result ≡ no_memory → 1 ≤ length elements.now }
+    ensures statuses { (result ≡ ok) ⊎ ((result ≡ short_buffer) ⊎ ((result ≡ bad_field)
+        ⊎ (result ≡ no_memory))) }
+    ensures unchanged { result ≢ ok → (buf.new ≡ buf.old) × (len.new ≡ len.old) }
+{
+    match allowed_of(form) {
+        Ok(allowed) => write_header_with(alloc, header, bytes, elements, allowed, buf, len),
+        Err(status) => status,
     }
 }
 
