@@ -492,6 +492,13 @@ RTPW_CHECKED int32_t rtpw_write_with(const rtpw_header *header, const uint8_t *d
                                      const rtpw_element *elements, size_t count, uint8_t *buf, size_t size,
                                      size_t *len);
 
+/* The same in one form alone, for a peer that hasn't agreed to both forms in one stream (RFC 8285, 4.1.2):
+ * RTPW_ONE_BYTE_FORM or RTPW_TWO_BYTE_FORM; with 0, which is RTPW_NO_BLOCK, as rtpw_write_with.
+ * RTPW_BAD_FIELD also where the form is another number or can't carry an element. */
+RTPW_CHECKED int32_t rtpw_write_with_form(const rtpw_header *header, const uint8_t *data, size_t data_len,
+                                          const rtpw_element *elements, size_t count, uint8_t form, uint8_t *buf,
+                                          size_t size, size_t *len);
+
 /* Writes elements, one after the other, as a block's body has them, to the front of the buffer; bytes
  * after them stay. RTPW_OK; RTPW_BAD_FIELD where the form is none of the two or can't carry one of them, or
  * data_at + data_len of one is past the end of the data; RTPW_SHORT_BUFFER where the buffer alone is at fault;

@@ -133,10 +133,11 @@ static inline call_len call_data_of(uint8_t kind, const rtpw_values *values, uin
     return it;
 }
 
-static inline call_len call_write_with(const rtpw_header *header, const uint8_t *data, size_t data_len,
-                                       const rtpw_element *elements, size_t count, uint8_t *buf, size_t size) {
+static inline call_len call_write_with_form(const rtpw_header *header, const uint8_t *data, size_t data_len,
+                                            const rtpw_element *elements, size_t count, uint8_t form, uint8_t *buf,
+                                            size_t size) {
     call_len it = {0};
-    it.status = rtpw_write_with(header, data, data_len, elements, count, buf, size, &it.len);
+    it.status = rtpw_write_with_form(header, data, data_len, elements, count, form, buf, size, &it.len);
     return it;
 }
 

@@ -259,6 +259,22 @@ func TestElementsAreWritten(t *testing.T) {
 		same(t, "a bad place", err, rtpwire.ErrBadField)
 	}
 
+	// One form alone.
+	n, err = header.WriteWithForm(buf[:24], rtpwire.TwoByteForm, data, places)
+	same(t, "two-byte form alone", []any{buf[12:n], err}, []any{[]byte{0x10, 0, 0, 2, 1, 1, 0xAA, 2, 2, 0xBB, 0xCC, 0}, nil})
+	_, err = header.WriteWithForm(buf[:23], rtpwire.TwoByteForm, data, places)
+	same(t, "two-byte form, short", err, rtpwire.ErrShortBuffer)
+	n, err = header.WriteWithForm(buf, rtpwire.OneByteForm, data, places)
+	same(t, "one-byte form alone", []any{buf[12:n], err}, []any{[]byte{0xBE, 0xDE, 0, 2, 0x10, 0xAA, 0x21, 0xBB, 0xCC, 0, 0, 0}, nil})
+	for _, place := range []rtpwire.Place{{ID: 15, Len: 1}, {ID: 1}} {
+		_, err = header.WriteWithForm(buf, rtpwire.OneByteForm, data, []rtpwire.Place{place})
+		same(t, "not in the one-byte form", err, rtpwire.ErrBadField)
+		n, err = header.WriteWithForm(buf, rtpwire.NoBlock, data, []rtpwire.Place{place})
+		same(t, "in any form", []any{n, err}, []any{20, nil})
+	}
+	_, err = header.WriteWithForm(buf, 3, data, places)
+	same(t, "no form", err, rtpwire.ErrBadField)
+
 	// The elements of a packet, under other ids.
 	packet := parsed(t, sample(), nil)
 	read := packet.AppendPlaces(nil)

@@ -63,5 +63,13 @@ func (h *Header) Write(buf []byte, m *Map) (int, error) {
 // bytes past the end of data, or all of them are too long for a block; and else ErrShortBuffer or ErrNoMemory.
 // Nothing is written then.
 func (h *Header) WriteWith(buf, data []byte, places []Place) (int, error) {
-	return h.writeWith(buf, data, places)
+	return h.writeWith(buf, NoBlock, data, places)
+}
+
+// WriteWithForm writes as WriteWith does, in this form alone, for a peer that hasn't agreed to both forms in one
+// stream (RFC 8285, 4.1.2): OneByteForm or TwoByteForm; with NoBlock it does what WriteWith does.
+//
+// It returns ErrBadField also where the form is another number, or can't carry an element.
+func (h *Header) WriteWithForm(buf []byte, form Form, data []byte, places []Place) (int, error) {
+	return h.writeWith(buf, form, data, places)
 }

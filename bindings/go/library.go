@@ -230,9 +230,10 @@ func (h *Header) write(buf []byte, m *Map) (int, error) {
 	return lenOr(C.call_write(m.c(), h.c(), first(buf), size(buf)))
 }
 
-func (h *Header) writeWith(buf, data []byte, places []Place) (int, error) {
-	count := C.size_t(len(places))
-	return lenOr(C.call_write_with(h.c(), first(data), size(data), firstPlace(places), count, first(buf), size(buf)))
+func (h *Header) writeWith(buf []byte, form Form, data []byte, places []Place) (int, error) {
+	count, number := C.size_t(len(places)), C.uint8_t(form)
+	it := C.call_write_with_form(h.c(), first(data), size(data), firstPlace(places), count, number, first(buf), size(buf))
+	return lenOr(it)
 }
 
 func writeElements(buf []byte, form Form, data []byte, places []Place) (int, error) {

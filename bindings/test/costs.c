@@ -66,6 +66,7 @@ enum { BODY_AT = 16, BODY_LEN = 16 };
     X(rtpw_wire_len, rtpw_wire_len(&map, &written, &len))                                                             \
     X(rtpw_write, rtpw_write(&map, &written, buf, sizeof buf, &len))                                                  \
     X(rtpw_write_with, rtpw_write_with(&written, rtcp, sizeof rtcp, &element, 1, buf, sizeof buf, &len))              \
+    X(rtpw_write_with_form, rtpw_write_with_form(&written, rtcp, sizeof rtcp, &element, 1, 2, buf, sizeof buf, &len)) \
     X(rtpw_write_elements, rtpw_write_elements(rtcp, sizeof rtcp, &element, 1, RTPW_ONE_BYTE_FORM, buf, sizeof buf, &len)) \
     X(rtpw_kind_of_uri, rtpw_kind_of_uri((const uint8_t *)uri, sizeof uri - 1))                                       \
     X(rtpw_map_set, rtpw_map_set(&other_map, 3, RTPW_KIND_AUDIO_LEVEL))                                               \

@@ -1,5 +1,5 @@
-/* rtpw_write_elements, rtpw_write_with: against a writer that owes nothing to the library (RFC 8285, 4.2 and
- * 4.3). What was written is read again. */
+/* rtpw_write_elements, rtpw_write_with, rtpw_write_with_form: against a writer that owes nothing to the library
+ * (RFC 8285, 4.2 and 4.3). What was written is read again. */
 #include "hostile.h"
 
 #include "walk_values.h"
@@ -123,8 +123,10 @@ static void write_with(const rtpw_element *elements, size_t count, const uint8_t
     rtpw_header *header = block_in(&headers, sizeof *header), same;
     random_header(header);
     memcpy(&same, header, sizeof same);
-    int form = are_carried(elements, count, data_len, 1) ? 1 : 2;
-    bool is_given = same.payload_type < 128 && same.csrc_count < 16 && are_carried(elements, count, data_len, form);
+    int allowed = (int)random_below(4); /* 0 allows any form, and 3 is none */
+    int form = allowed != 0 ? allowed : are_carried(elements, count, data_len, 1) ? 1 : 2;
+    bool is_given = form < 3 && same.payload_type < 128 && same.csrc_count < 16 &&
+                    are_carried(elements, count, data_len, form);
     size_t wanted = 0, body_at = 0;
     if (is_given) {
         body_at = 4 + write_fixed(&same, true, written);
@@ -139,7 +141,9 @@ static void write_with(const rtpw_element *elements, size_t count, const uint8_t
     }
     size_t size, before, *len = length(&before);
     uint8_t *buf = buffer(wanted, &size);
-    int32_t status = rtpw_write_with(header, data, data_len, elements, count, buf, size, len);
+    int32_t status = allowed == 0 && random_u64() % 2 == 0
+        ? rtpw_write_with(header, data, data_len, elements, count, buf, size, len)
+        : rtpw_write_with_form(header, data, data_len, elements, count, (uint8_t)allowed, buf, size, len);
     expect(status, is_given, wanted, buf, size, *len, before);
     CHECK(memcmp(header, &same, sizeof same) == 0);
     if (status == RTPW_OK) {

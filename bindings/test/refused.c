@@ -62,6 +62,10 @@ static int32_t write_with(void) {
     static rtpw_header header;
     return rtpw_write_with(&header, BODY, 8, ELEMENTS, 2, out.buf, sizeof out.buf, &out.len);
 }
+static int32_t write_with_form(void) {
+    static rtpw_header header;
+    return rtpw_write_with_form(&header, BODY, 8, ELEMENTS, 2, RTPW_ONE_BYTE_FORM, out.buf, sizeof out.buf, &out.len);
+}
 
 static int are_read(void) {
     const rtpw_values *values = &out.header.values;
@@ -101,6 +105,7 @@ int main(void) {
         {"rtpw_parse_layers", parse_layers, layers_are_read},
         {"rtpw_write_elements", write_elements, elements_are_written},
         {"rtpw_write_with", write_with, are_written_with},
+        {"rtpw_write_with_form", write_with_form, are_written_with},
     };
     printf("refused: each growth of memory once,");
     for (size_t i = 0; i < sizeof calls / sizeof *calls; i++) {

@@ -121,6 +121,9 @@ static void write(void) { status = rtpw_write(&map, &given, datagram, sizeof dat
 static void write_with(void) {
     status = rtpw_write_with(&given, data, sizeof data, many, 255, datagram, sizeof datagram, &count);
 }
+static void write_with_form(void) {
+    status = rtpw_write_with_form(&given, data, sizeof data, many, 255, 2, datagram, sizeof datagram, &count);
+}
 static void write_elements(void) {
     status = rtpw_write_elements(data, sizeof data, many, 255, RTPW_TWO_BYTE_FORM, datagram, sizeof datagram, &count);
 }
@@ -181,7 +184,8 @@ int main(void) {
         CALL(extend_u8), CALL(extend_u15), CALL(extend_u32), CALL(is_rtcp), CALL(set_padding), CALL(remove_padding),
         CALL(values_read), CALL(kind_of_uri), CALL(map_set), CALL(map_get), CALL(map_standard), CALL(id_of), CALL(data_of),
         CALL(parse),
-        CALL(parse_layers), CALL(wire_len), CALL(write), CALL(write_with), CALL(write_elements),
+        CALL(parse_layers), CALL(wire_len), CALL(write), CALL(write_with), CALL(write_with_form),
+        CALL(write_elements),
         CALL(new_ids_between), CALL(renumber), CALL(pad), CALL(read_original), CALL(write_original), CALL(version),
         CALL(new_ids_to_retransmission), CALL(new_ids_from_retransmission), CALL(to_retransmission),
         CALL(from_retransmission),

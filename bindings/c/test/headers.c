@@ -168,6 +168,35 @@ static void elements_are_written(void) {
     CHECK(rtpw_write_with(&header, data, 4, elements, 2, buf, 32, &len) == RTPW_BAD_FIELD);
 }
 
+static void elements_are_written_in_one_form(void) {
+    static const uint8_t data[4] = {0xAA, 0xBB, 0xCC, 0xDD};
+    rtpw_element elements[2] = {{0, 1, 0, 14}, {1, 2, 0, 2}};
+    rtpw_header header;
+    uint8_t buf[32];
+    size_t len = 7;
+    memset(&header, 0, sizeof header);
+    memset(buf, 0xEE, sizeof buf);
+    CHECK(rtpw_write_with_form(&header, data, 4, elements, 2, 3, buf, 32, &len) == RTPW_BAD_FIELD);
+    CHECK(rtpw_write_with_form(&header, data, 4, elements, 2, 255, buf, 32, &len) == RTPW_BAD_FIELD);
+    CHECK(rtpw_write_with_form(&header, data, 4, elements, 2, RTPW_TWO_BYTE_FORM, buf, 23, &len) == RTPW_SHORT_BUFFER);
+    CHECK(rtpw_write_with_form(&header, data, 4, elements, 2, RTPW_ONE_BYTE_FORM, buf, 23, &len) == RTPW_SHORT_BUFFER);
+    CHECK(len == 7 && buf[0] == 0xEE);
+    CHECK(rtpw_write_with_form(&header, data, 4, elements, 2, RTPW_TWO_BYTE_FORM, buf, 24, &len) == RTPW_OK && len == 24);
+    CHECK(memcmp(buf, "\x90\0\0\0\0\0\0\0\0\0\0\0\x10\0\0\x02\x0E\x01\xAA\x02\x02\xBB\xCC\0\xEE", 25) == 0);
+    CHECK(rtpw_write_with_form(&header, data, 4, elements, 2, RTPW_ONE_BYTE_FORM, buf, 24, &len) == RTPW_OK && len == 24);
+    CHECK(memcmp(buf + 12, "\xBE\xDE\0\x02\xE0\xAA\x21\xBB\xCC\0\0\0\xEE", 13) == 0);
+    elements[0].id = 15;
+    CHECK(rtpw_write_with_form(&header, data, 4, elements, 2, RTPW_ONE_BYTE_FORM, buf, 32, &len) == RTPW_BAD_FIELD);
+    CHECK(rtpw_write_with_form(&header, data, 4, elements, 2, RTPW_ONE_BYTE_FORM, buf, 0, &len) == RTPW_BAD_FIELD);
+    CHECK(rtpw_write_with_form(&header, data, 4, elements, 2, 0, buf, 32, &len) == RTPW_OK && len == 24);
+    CHECK(memcmp(buf + 12, "\x10\0\0\x02\x0F\x01\xAA\x02\x02\xBB\xCC\0", 12) == 0);
+    elements[0].id = 14;
+    elements[0].data_len = 0;
+    CHECK(rtpw_write_with_form(&header, data, 4, elements, 2, RTPW_ONE_BYTE_FORM, buf, 32, &len) == RTPW_BAD_FIELD);
+    CHECK(rtpw_write_with_form(&header, data, 4, elements, 2, RTPW_TWO_BYTE_FORM, buf, 32, &len) == RTPW_OK);
+    CHECK(len == 24 && memcmp(buf + 12, "\x10\0\0\x02\x0E\0\x02\x02\xBB\xCC\0\0", 12) == 0);
+}
+
 static uint8_t kind_of(const char *uri) {
     return rtpw_kind_of_uri((const uint8_t *)uri, strlen(uri));
 }
@@ -298,6 +327,7 @@ int main(void) {
     is_written();
     layers_are_read();
     elements_are_written();
+    elements_are_written_in_one_form();
     maps_are_filled();
     is_renumbered();
     own_kinds_are_kept();

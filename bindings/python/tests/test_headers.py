@@ -64,6 +64,13 @@ class Headers(unittest.TestCase):
             Header().write_with([(15, b"\xAA"), *elements[1:]]),
             fixed + bytes.fromhex("10000002 0F01AA02 02BBCC00"),
         )
+        for form, wanted in (
+            (Form.ONE_BYTE, "BEDE0002 10AA21BB CC000000"),
+            (Form.TWO_BYTE, "10000002 0101AA02 02BBCC00"),
+            (Form.NONE, "BEDE0002 10AA21BB CC000000"),
+            (None, "BEDE0002 10AA21BB CC000000"),
+        ):
+            self.assertEqual(Header().write_with(elements, form), fixed + bytes.fromhex(wanted))
         # its elements are those that are given, whatever the values are
         self.assertEqual(Header(values=Values(mid="-")).write_with([]), fixed + bytes.fromhex("BEDE0000"))
         with_sources = Header(csrc=tuple(range(15))).write_with([(255, bytes(255))])
@@ -91,6 +98,9 @@ class Headers(unittest.TestCase):
         ):
             with self.assertRaises(BadField):
                 write_elements([(id, data)], form)
+            if form != Form.NONE:
+                with self.assertRaises(BadField):
+                    Header().write_with([(id, data)], form)
 
 
 class Maps(unittest.TestCase):

@@ -120,21 +120,24 @@ class Header:
         check(_library.write(map._raw, self._raw(), address_of(view), len(view), length))
         return length.value
 
-    def write_with(self, elements: Iterable[Tuple[int, Buffer]]) -> bytes:
+    def write_with(self, elements: Iterable[Tuple[int, Buffer]], form: Optional[int] = None) -> bytes:
         """The bytes of the header with a block of these elements, pairs of an id and its data, whatever has_extension
-        and the values hold: in the one-byte form where that can carry each of them. BadField where a field is out of
-        its range, an id isn't 1 to 255, data have more than 255 bytes, or a block can't have as many bytes.
+        and the values hold: in the one-byte form where that can carry each of them, or in the form that is given alone,
+        for a peer that hasn't agreed to both in one stream. BadField where a field is out of its range, an id isn't 1
+        to 255, data have more than 255 bytes, a block can't have as many bytes, or the form can't carry an element.
         """
         data, places = _gather(elements)
+        number = 0 if form is None else unsigned("a form", form, 8)
         room = _room(data, places) + BLOCK_HEADER + 12 + 4 * len(self.csrc)
         buf, length = bytearray(room), c_size_t()
         check(
-            _library.write_with(
+            _library.write_with_form(
                 self._raw(with_values=False),
                 data,
                 len(data),
                 places,
                 len(places),
+                number,
                 address_of(memoryview(buf)),
                 len(buf),
                 length,

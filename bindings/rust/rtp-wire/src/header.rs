@@ -2,6 +2,7 @@ use crate::elements::Place;
 use crate::error::{NotAHeader, NotChanged, NotWritten};
 use crate::layers::Layers;
 use crate::map::Map;
+use crate::packet::Form;
 use crate::sys;
 use crate::values::Values;
 use crate::views::HeaderView;
@@ -135,14 +136,17 @@ impl Header {
     }
 
     /// Writes the header with a block of these elements, whatever `has_extension` and `values` hold, and
-    /// returns how many bytes it took; those after them stay. Each place is one in `data`. The block is in
-    /// the one-byte form where that can carry each element: ids 1 to 14, 1 to 16 bytes.
+    /// returns how many bytes it took; those after them stay. Each place is one in `data`. Where `allowed`
+    /// is `None` the block is in the one-byte form where that can carry each element: ids 1 to 14, 1 to 16
+    /// bytes. `Some` is the one form that it may have, as for a peer that hasn't agreed to both forms in one
+    /// stream (RFC 8285, 4.1.2).
     ///
     /// # Errors
     ///
     /// [`NotWritten::BadField`] where the payload type is above 127, or an element has the id 0, more than
-    /// 255 bytes or bytes past the end of `data`, or all of them are too long for a block;
-    /// [`NotWritten::ShortBuffer`]; [`NotWritten::NoMemory`]. Nothing is written then.
+    /// 255 bytes or bytes past the end of `data`, or the form that is allowed can't carry it, or all of them
+    /// are too long for a block; [`NotWritten::ShortBuffer`]; [`NotWritten::NoMemory`]. Nothing is written
+    /// then.
     ///
     /// ```
     /// use rtp_wire::{Header, Packet, Place};
@@ -152,7 +156,7 @@ impl Header {
     /// let (_, body) = packet.block().expect("X is set");
     /// let places: Vec<Place> = packet.elements().places().map(|it| it.with_id(20)).collect();
     /// let mut buf = [0; 100];
-    /// let len = Header::default().write_with(&mut buf, body, &places)?;
+    /// let len = Header::default().write_with(&mut buf, body, &places, None)?;
     /// assert_eq!(buf[12..len], [0x10, 0, 0, 1, 20, 1, 0x8A, 0]);
     /// # Ok::<(), Box<dyn std::error::Error>>(())
     /// ```
@@ -161,9 +165,11 @@ impl Header {
         buf: &mut [u8],
         data: &[u8],
         elements: &[Place],
+        allowed: Option<Form>,
     ) -> Result<usize, NotWritten> {
         let mut len = 0;
-        let status = sys::write_with(&self.view(), data, elements, buf, &mut len);
+        let form = allowed.map_or(sys::NO_BLOCK, Form::number);
+        let status = sys::write_with_form(&self.view(), data, elements, form, buf, &mut len);
         NotWritten::of_status(status)?;
         Ok(len)
     }

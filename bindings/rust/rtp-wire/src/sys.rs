@@ -25,6 +25,7 @@ pub const BAD_FIELD: i32 = 9;
 pub const NONE: i32 = 11;
 pub const RESTARTED: i32 = 12;
 
+pub const NO_BLOCK: u8 = 0;
 pub const ONE_BYTE_FORM: u8 = 1;
 pub const TWO_BYTE_FORM: u8 = 2;
 pub const CSRC_AT: usize = 12;
@@ -163,12 +164,13 @@ mod c {
             size: usize,
             len: *mut usize,
         ) -> i32;
-        pub fn rtpw_write_with(
+        pub fn rtpw_write_with_form(
             header: *const HeaderView,
             data: *const u8,
             data_len: usize,
             elements: *const Place,
             count: usize,
+            form: u8,
             buf: *mut u8,
             size: usize,
             len: *mut usize,
@@ -393,21 +395,23 @@ pub fn write(map: &StoredMap, header: &HeaderView, buf: &mut [u8], len: &mut usi
     unsafe { c::rtpw_write(map, header, buf.as_mut_ptr(), buf.len(), len) }
 }
 
-pub fn write_with(
+pub fn write_with_form(
     header: &HeaderView,
     data: &[u8],
     elements: &[Place],
+    form: u8,
     buf: &mut [u8],
     len: &mut usize,
 ) -> i32 {
     // SAFETY: a reference and two slices that are read, an exclusive slice, and an exclusive reference.
     unsafe {
-        c::rtpw_write_with(
+        c::rtpw_write_with_form(
             header,
             data.as_ptr(),
             data.len(),
             elements.as_ptr(),
             elements.len(),
+            form,
             buf.as_mut_ptr(),
             buf.len(),
             len,

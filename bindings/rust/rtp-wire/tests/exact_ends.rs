@@ -172,7 +172,7 @@ fn a_header_is_written_up_to_the_end() {
             }
         );
         let with = at_end(&[0xEE; 24][..room]);
-        assert_eq!(header.write_with(with, data, places), written);
+        assert_eq!(header.write_with(with, data, places, None), written);
         assert_eq!(all, with);
         match written {
             Ok(_) => assert_eq!(all[12..], block),
@@ -217,7 +217,7 @@ fn what_is_written_lies_in_the_data() {
     for bytes in outside {
         let places = at_end(&[Place::new(1, bytes.clone())]);
         let mut buf = [0xEE; 40];
-        let written = Header::default().write_with(&mut buf, data, places);
+        let written = Header::default().write_with(&mut buf, data, places, None);
         assert_eq!(written, Err(NotWritten::BadField), "{bytes:?}");
         for form in [Form::OneByte, Form::TwoByte] {
             assert_eq!(
@@ -230,7 +230,7 @@ fn what_is_written_lies_in_the_data() {
     }
     let mut buf = [0xEE; 24];
     assert_eq!(
-        Header::default().write_with(&mut buf, data, at_end(&[Place::new(1, 2..3)])),
+        Header::default().write_with(&mut buf, data, at_end(&[Place::new(1, 2..3)]), None),
         Ok(20)
     );
     assert_eq!(
@@ -238,7 +238,7 @@ fn what_is_written_lies_in_the_data() {
         [0xBE, 0xDE, 0, 1, 0x10, 0xA3, 0, 0, 0xEE, 0xEE, 0xEE, 0xEE]
     );
     assert_eq!(
-        Header::default().write_with(&mut buf, at_end(&[]), at_end(&[])),
+        Header::default().write_with(&mut buf, at_end(&[]), at_end(&[]), None),
         Ok(16)
     );
     assert_eq!(buf[12..16], [0xBE, 0xDE, 0, 0]);

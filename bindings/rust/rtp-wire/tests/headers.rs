@@ -196,6 +196,38 @@ fn packets_are_renumbered() {
 }
 
 #[test]
+fn elements_are_written_in_one_form() {
+    let data = [0xAA, 0xBB, 0xCC];
+    let places = [Place::new(1, 0..1), Place::new(14, 1..3)];
+    let mut buf = [0xEE; 25];
+    let mut write = |room, places: &[Place], allowed| {
+        let written = Header::default().write_with(&mut buf[..room], &data, places, allowed);
+        (written, buf)
+    };
+    let short = (Err(NotWritten::ShortBuffer), [0xEE; 25]);
+    for form in [Form::OneByte, Form::TwoByte] {
+        assert_eq!(write(23, &places, Some(form)), short);
+    }
+    let above = [places[0], places[1].with_id(15)];
+    let empty = [places[0], Place::new(14, 1..1)];
+    for places in [above, empty] {
+        let refused = (Err(NotWritten::BadField), [0xEE; 25]);
+        assert_eq!(write(25, &places, Some(Form::OneByte)), refused);
+    }
+    let (written, bytes) = write(24, &places, Some(Form::TwoByte));
+    assert_eq!(written, Ok(24));
+    let block = [0x10, 0, 0, 2, 1, 1, 0xAA, 14, 2, 0xBB, 0xCC, 0, 0xEE];
+    assert_eq!(bytes[12..], block);
+    let (written, bytes) = write(24, &places, Some(Form::OneByte));
+    assert_eq!(written, Ok(24));
+    let block = [
+        0xBE, 0xDE, 0, 2, 0x10, 0xAA, 0xE1, 0xBB, 0xCC, 0, 0, 0, 0xEE,
+    ];
+    assert_eq!(bytes[12..], block);
+    assert_eq!(write(25, &above, None).0, Ok(24));
+}
+
+#[test]
 fn elements_are_written() {
     let packet = Packet::parse(&SAMPLE).unwrap();
     let (_, body) = packet.block().unwrap();

@@ -92,11 +92,11 @@ fn all_elements_are_written() {
     let header = Header::parse(&datagram, &Map::new()).unwrap();
     let mut buf = vec![0xEE; LEN];
     assert_eq!(
-        header.write_with(&mut buf[1..], body, &places),
+        header.write_with(&mut buf[1..], body, &places, None),
         Err(NotWritten::ShortBuffer)
     );
     assert!(buf.iter().all(|byte| *byte == 0xEE));
-    assert_eq!(header.write_with(&mut buf, body, &places), Ok(LEN));
+    assert_eq!(header.write_with(&mut buf, body, &places, None), Ok(LEN));
     buf[73] = 0x0F; // the application bits, which are written as 0
     assert_eq!(buf, datagram[..LEN]);
     let mut block = vec![0xEE; 262_140];
@@ -107,7 +107,7 @@ fn all_elements_are_written() {
     assert_eq!(block, body);
     places.push(Place::new(1, 0..0));
     assert_eq!(
-        header.write_with(&mut buf, body, &places),
+        header.write_with(&mut buf, body, &places, None),
         Err(NotWritten::BadField)
     );
 }
@@ -174,7 +174,7 @@ fn long_buffers_are_used_whole() {
         assert_eq!(buf[..13], [0x80, 0, 0, 0, 0, 0, 0, 0, 0, 0, 0, 0, buf[12]]);
         assert_eq!(Packet::parse(&buf).unwrap().payload(), &buf[12..]);
         assert_eq!(
-            Header::default().write_with(&mut buf, &[7; 300], &[Place::new(1, 0..1)]),
+            Header::default().write_with(&mut buf, &[7; 300], &[Place::new(1, 0..1)], None),
             Ok(20)
         );
         assert_eq!(

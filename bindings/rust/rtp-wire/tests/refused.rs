@@ -101,7 +101,7 @@ fn writing_elements_takes_memory() {
     let write = || {
         let mut buf = [0; 64];
         (
-            Header::default().write_with(&mut buf, &[7, 8, 9], &places),
+            Header::default().write_with(&mut buf, &[7, 8, 9], &places, None),
             buf,
         )
     };

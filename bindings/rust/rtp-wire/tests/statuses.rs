@@ -234,9 +234,17 @@ fn what_is_not_written_has_its_cause() {
         } else {
             refused
         };
+        let header = Header::default();
+        for allowed in [None, Some(Form::TwoByte)] {
+            assert_eq!(
+                header.write_with(&mut buf, &data, &[it], allowed),
+                written,
+                "{it:?}"
+            );
+        }
         assert_eq!(
-            Header::default().write_with(&mut buf, &data, &[it]),
-            written,
+            header.write_with(&mut buf, &data, &[it], Some(Form::OneByte)),
+            refused,
             "{it:?}"
         );
     }
@@ -252,7 +260,7 @@ fn what_is_not_written_has_its_cause() {
             Err(cause)
         );
         assert_eq!(
-            Header::default().write_with(&mut buf, &data, &places),
+            Header::default().write_with(&mut buf, &data, &places, None),
             Err(cause)
         );
     }
@@ -264,7 +272,7 @@ fn what_is_not_written_has_its_cause() {
             Err(NotWritten::BadField)
         );
         assert_eq!(
-            header.write_with(&mut buf[..room], &[], &[]),
+            header.write_with(&mut buf[..room], &[], &[], None),
             Err(NotWritten::BadField)
         );
     }
