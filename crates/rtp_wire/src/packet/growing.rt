@@ -50,6 +50,7 @@ struct Plan {
 
 impl Plan {
     // What becomes of the packet in the datagram.
+    #[inline(always)]
     fn new(
         datagram: &[u8],
         id: u8,
@@ -91,6 +92,7 @@ impl Plan {
 
     // Gives the element its data where it lies, where nothing else is to be done, and returns whether that
     // is so. Else nothing changes.
+    #[inline(always)]
     fn set(&self, datagram: &mut [u8], id: u8, data: &[u8]) -> bool
         requires { (allowed : Option ExtensionsForm)
             × IsPlan datagram.old (id, «data».now) allowed self.now }
