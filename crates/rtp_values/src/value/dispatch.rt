@@ -60,6 +60,7 @@ impl KnownKind {
     /// or returns `None` and changes nothing where a value that the kind needs is absent, or is an
     /// allocation that can't be written in 255 bytes. The bytes after the data stay as they were.
     /// It requires room for the data; 255 bytes always suffice.
+    #[inline(always)]
     pub fn write_to(self, buf: &mut [u8], ev: &ExtensionValues) -> Option<usize>
         requires room { HasRoom (extension_of_kind self) ev.now buf.old }
         ensures length { result ≡ option_map length (spelled_data (extension_of_kind self) ev.now) }
