@@ -167,9 +167,11 @@ impl Header {
         elements: &[Place],
         allowed: Option<Form>,
     ) -> Result<usize, NotWritten> {
-        let mut len = 0;
-        let form = allowed.map_or(sys::NO_BLOCK, Form::number);
-        let status = sys::write_with_form(&self.view(), data, elements, form, buf, &mut len);
+        let (view, mut len) = (self.view(), 0);
+        let status = match allowed {
+            None => sys::write_with(&view, data, elements, buf, &mut len),
+            Some(form) => sys::write_with_form(&view, data, elements, form.number(), buf, &mut len),
+        };
         NotWritten::of_status(status)?;
         Ok(len)
     }

@@ -25,7 +25,6 @@ pub const BAD_FIELD: i32 = 9;
 pub const NONE: i32 = 11;
 pub const RESTARTED: i32 = 12;
 
-pub const NO_BLOCK: u8 = 0;
 pub const ONE_BYTE_FORM: u8 = 1;
 pub const TWO_BYTE_FORM: u8 = 2;
 pub const CSRC_AT: usize = 12;
@@ -160,6 +159,16 @@ mod c {
         pub fn rtpw_write(
             map: *const StoredMap,
             header: *const HeaderView,
+            buf: *mut u8,
+            size: usize,
+            len: *mut usize,
+        ) -> i32;
+        pub fn rtpw_write_with(
+            header: *const HeaderView,
+            data: *const u8,
+            data_len: usize,
+            elements: *const Place,
+            count: usize,
             buf: *mut u8,
             size: usize,
             len: *mut usize,
@@ -393,6 +402,28 @@ pub fn wire_len(map: &StoredMap, header: &HeaderView, len: &mut usize) -> i32 {
 pub fn write(map: &StoredMap, header: &HeaderView, buf: &mut [u8], len: &mut usize) -> i32 {
     // SAFETY: two references that are read, an exclusive slice, and an exclusive reference.
     unsafe { c::rtpw_write(map, header, buf.as_mut_ptr(), buf.len(), len) }
+}
+
+pub fn write_with(
+    header: &HeaderView,
+    data: &[u8],
+    elements: &[Place],
+    buf: &mut [u8],
+    len: &mut usize,
+) -> i32 {
+    // SAFETY: a reference and two slices that are read, an exclusive slice, and an exclusive reference.
+    unsafe {
+        c::rtpw_write_with(
+            header,
+            data.as_ptr(),
+            data.len(),
+            elements.as_ptr(),
+            elements.len(),
+            buf.as_mut_ptr(),
+            buf.len(),
+            len,
+        )
+    }
 }
 
 pub fn write_with_form(
