@@ -127,22 +127,14 @@ class Header:
         to 255, data have more than 255 bytes, a block can't have as many bytes, or the form can't carry an element.
         """
         data, places = _gather(elements)
-        number = 0 if form is None else unsigned("a form", form, 8)
         room = _room(data, places) + BLOCK_HEADER + 12 + 4 * len(self.csrc)
         buf, length = bytearray(room), c_size_t()
-        check(
-            _library.write_with_form(
-                self._raw(with_values=False),
-                data,
-                len(data),
-                places,
-                len(places),
-                number,
-                address_of(memoryview(buf)),
-                len(buf),
-                length,
-            )
-        )
+        given = (self._raw(with_values=False), data, len(data), places, len(places))
+        into = (address_of(memoryview(buf)), len(buf), length)
+        if form is None:
+            check(_library.write_with(*given, *into))
+        else:
+            check(_library.write_with_form(*given, unsigned("a form", form, 8), *into))
         return bytes(memoryview(buf)[: length.value])
 
 

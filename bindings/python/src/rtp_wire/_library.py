@@ -265,6 +265,18 @@ parse_layers = _declare(
 )
 wire_len = _declare(_STATUS, "rtpw_wire_len", POINTER(RawMap), POINTER(RawHeader), POINTER(c_size_t))
 write = _declare(_STATUS, "rtpw_write", POINTER(RawMap), POINTER(RawHeader), _BYTES, _SIZE, POINTER(c_size_t))
+write_with = _declare(
+    _STATUS,
+    "rtpw_write_with",
+    POINTER(RawHeader),
+    _BYTES,
+    _SIZE,
+    POINTER(RawElement),
+    _SIZE,
+    _BYTES,
+    _SIZE,
+    POINTER(c_size_t),
+)
 write_with_form = _declare(
     _STATUS,
     "rtpw_write_with_form",
