@@ -60,12 +60,6 @@ one_allowed (Some OneByte) None same = absurd (omega (arith, same))
 one_allowed (Some TwoByte) None same = absurd (omega (arith, same))
 one_allowed (Some f) (Some g) same = ap Some (one_form f g same)
 
--- a number of no form, other than 0
-pub no_allowed : (number : ℕ) → (number ≡ 0 → ⊥) → ((form : ExtensionsForm) → form_number (Some form) ≡ number → ⊥)
-    → (allowed : Option ExtensionsForm) → form_number allowed ≡ number → ⊥
-no_allowed number some none None is = some (sym is)
-no_allowed number some none (Some form) is = none form is
-
 -- a status that is passed on as it is
 pub passed_on : (status : ℤ) → (status ≡ ok) ⊎ ((status ≡ short_buffer) ⊎ ((status ≡ bad_field) ⊎ (status ≡ no_memory)))
     → status ≡ to_z w32 (of_z w32 status)

@@ -1,10 +1,11 @@
 -- What C is told of a packet where it lies (RFC 3550, 5.1; RFC 8285, 4).
-use Rattle.std.specs.Prelude.{◌≡◌, ℕ, ◌+◌, ◌<◌, ◌⊎◌, List, [], length, slice_range, Option, Some, None, option_map, true}
+use Rattle.std.specs.Prelude.{◌≡◌, ℕ, ◌+◌, ◌<◌, ◌⊎◌, List, length, slice_range, Option, Some, None, option_map, true}
 use Rattle.rtp_ext.specs.declared.form.ExtensionsForm.{ExtensionsForm}
 use Rattle.rtp_ext.specs.declared.form.ExtensionsForm.TheVariants.{OneByte, TwoByte}
 use Rattle.rtp_base.specs.Flag.{bit}
 use Rattle.rtp_wire.specs.Packet.{PacketParts, IsWithoutPadding}
 use Rattle.rtp_wire.specs.Padding.{padding_count}
+use Rattle.rtp_wire.specs.PutIntoPacket.{body_of_block}
 use Rattle.rtp_c.specs.declared.packet.PacketView.{PacketView}
 
 -- the number of a block's form, and of none
@@ -12,11 +13,6 @@ abbrev pub form_number : Option ExtensionsForm → ℕ
 form_number None = 0
 form_number (Some OneByte) = 1
 form_number (Some TwoByte) = 2
-
--- the body of a block, and no bytes without one
-abbrev pub body_of : Option (ExtensionsForm × List ℕ) → List ℕ
-body_of None = []
-body_of (Some block) = block.1
 
 -- the bytes of this length at this offset
 abbrev pub slice_at : List ℕ → ℕ → ℕ → List ℕ
@@ -38,7 +34,7 @@ pub record IsViewOf (bytes : List ℕ) (parts : PacketParts) (view : PacketView)
   pub ssrc_is : view.ssrc ≡ parts.ssrc
   pub sources_are : view.csrc_count ≡ length parts.sources
   pub form_is : view.block_form ≡ form_number (option_map (λ block. block.0) parts.block)
-  pub body_is : slice_at bytes view.body_at view.body_len ≡ body_of parts.block
+  pub body_is : slice_at bytes view.body_at view.body_len ≡ body_of_block parts.block
   pub body_ends : view.body_at + view.body_len ≡ view.payload_at
   pub payload_is : slice_at bytes view.payload_at view.payload_len ≡ parts.payload
   pub payload_ends : view.payload_at + view.payload_len ≡ length bytes

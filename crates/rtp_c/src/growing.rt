@@ -9,21 +9,9 @@ ghost use Rattle.rtp_c.specs.PacketView.{form_number};
 ghost use Rattle.rtp_c.specs.Status.{ok, bad_field, IsCauseStatus};
 ghost use Rattle.rtp_c.specs.PutStatus.{put_status, IsPutStatus};
 
-use super::packet::form_of;
+use super::packet::allowed_of;
 use super::status::{BAD_FIELD, OK, SHORT_BUFFER, status_of};
-use rtp_wire::{ExtensionsForm, NotPut, compact, put_element};
-
-// The form that alone is allowed by this number, and none where both are.
-fn allowed_of(number: u8) -> Option<Option<ExtensionsForm>>
-    ensures found { IfSome result (λ allowed. form_number allowed ≡ number) }
-    ensures none { IfNone result ((allowed : Option ExtensionsForm) → form_number allowed ≢ number) }
-{
-    if number == 0 {
-        return Some(None);
-    }
-    let form = form_of(number)?;
-    Some(Some(form))
-}
+use rtp_wire::{NotPut, compact, put_element};
 
 // The status of this cause.
 fn put_status_of(cause: NotPut) -> i32

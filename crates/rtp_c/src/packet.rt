@@ -1,6 +1,6 @@
 //! A packet where it lies: its fields, and where its parts and its elements begin.
 
-ghost use Rattle.std.specs.Prelude.{◌≡◌, ◌≢◌, ◌↔◌, ◌<◌, ◌≤◌, ◌⊎◌, List, length, drop, Some, IfSome, IfNone};
+ghost use Rattle.std.specs.Prelude.{◌≡◌, ◌≢◌, ◌↔◌, ◌<◌, ◌≤◌, ◌⊎◌, List, length, drop, Option, Some, IfSome, IfNone};
 ghost use Rattle.std.specs.Option.{option_map};
 ghost use Rattle.rtp_ext.specs.declared.form.ExtensionsForm.{ExtensionsForm};
 ghost use Rattle.rtp_ext.specs.Elements.{Element, AreElements};
@@ -9,8 +9,9 @@ ghost use Rattle.rtp_ext.specs.ElementsInPlace.{HasNone};
 ghost use Rattle.rtp_wire.specs.Packet.{PacketParts, IsPacket, header_len_of};
 ghost use Rattle.rtp_wire.specs.NotAHeader.{NotAHeader};
 ghost use Rattle.rtp_wire.specs.PartsOf.{parts_of, datagram_of};
+ghost use Rattle.rtp_wire.specs.PutIntoPacket.{body_of_block};
 ghost use Rattle.rtp_c.specs.ElementView.{IsNextElement, IsLastElement, LiesAsLast};
-ghost use Rattle.rtp_c.specs.PacketView.{IsViewOf, IsUnpaddedLen, body_of, form_number};
+ghost use Rattle.rtp_c.specs.PacketView.{IsViewOf, IsUnpaddedLen, form_number};
 ghost use Rattle.rtp_c.specs.Status.{ok, none, bad_field, IsCauseStatus};
 
 use super::status::{BAD_FIELD, NONE, OK, status_of};
@@ -82,6 +83,18 @@ pub fn form_of(number: u8) -> Option<ExtensionsForm>
     }
 }
 
+// The form that alone is allowed by this number, and none where both are.
+pub fn allowed_of(number: u8) -> Option<Option<ExtensionsForm>>
+    ensures found { IfSome result (λ allowed. form_number allowed ≡ number) }
+    ensures none { IfNone result ((allowed : Option ExtensionsForm) → form_number allowed ≢ number) }
+{
+    if number == 0 {
+        return Some(None);
+    }
+    let form = form_of(number)?;
+    Some(Some(form))
+}
+
 // How many contributing sources the packet has.
 fn csrc_count_of(packet: &RtpPacket<'_>) -> u8
     requires { length (parts_of packet.now).sources ≤ 15 }
@@ -93,7 +106,7 @@ fn csrc_count_of(packet: &RtpPacket<'_>) -> u8
 // The number of the block's form, and how many bytes its body has.
 fn block_numbers(packet: &RtpPacket<'_>) -> (u8, usize)
     ensures form { result.0 ≡ form_number (option_map (λ block. block.0) (parts_of packet.now).block) }
-    ensures body { result.1 ≡ length (body_of (parts_of packet.now).block) }
+    ensures body { result.1 ≡ length (body_of_block (parts_of packet.now).block) }
 {
     match packet.block() {
         None => (0, 0),

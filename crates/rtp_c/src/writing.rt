@@ -15,7 +15,7 @@ ghost use Rattle.rtp_c.specs.WrittenHeader.{IsLengthOf, IsWrittenHeader, IsTooLo
 use super::given::{put_given_fields, put_given_header};
 use super::header::HeaderView;
 use super::kinds::StoredMap;
-use super::packet::{ElementView, form_of};
+use super::packet::{ElementView, allowed_of, form_of};
 use super::status::{BAD_FIELD, NO_MEMORY, OK, SHORT_BUFFER};
 use rtp_ext::{ExtensionsForm, write_elements};
 use rtp_wire::RtpHeader;
@@ -57,21 +57,6 @@ fn pairs_in<'a>(
         pairs.push_reserved(pair);
     }
     Ok(pairs)
-}
-
-// The one form that is allowed, by its number: 0 allows any.
-fn allowed_of(number: u8) -> Result<Option<ExtensionsForm>, i32>
-    ensures allowed { IfOk result (λ allowed. form_number allowed ≡ number) }
-    ensures refused { IfErr result (λ status. (status ≡ bad_field)
-        × ((allowed : Option ExtensionsForm) → form_number allowed ≢ number)) }
-{
-    if number == 0 {
-        return Ok(None);
-    }
-    match form_of(number) {
-        Some(form) => Ok(Some(form)),
-        None => Err(BAD_FIELD),
-    }
 }
 
 // Writes the header and a block with these elements as `rtpw_write_with` does, in the form that serves,
@@ -188,8 +173,8 @@ pub extern "C" fn rtpw_write_with_form(
     ensures unchanged { result ≢ ok → (buf.new ≡ buf.old) × (len.new ≡ len.old) }
 {
     match allowed_of(form) {
-        Ok(allowed) => write_header_with(alloc, header, bytes, elements, allowed, buf, len),
-        Err(status) => status,
+        Some(allowed) => write_header_with(alloc, header, bytes, elements, allowed, buf, len),
+        None => BAD_FIELD,
     }
 }
 

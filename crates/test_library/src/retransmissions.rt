@@ -1,9 +1,7 @@
 //! Packets that become retransmissions where they lie, and come back.
 
 use crate::checks::{bytes_of, same};
-use NotRetransmitted::{
-    CutPacket, NewIdTooHigh, NoOriginalNumber, NoRoom, NotAPacket, PaddingTooLong,
-};
+use NotRetransmitted::{CutPacket, NewIdTooHigh, NoOriginalNumber, NoRoom, PaddingTooLong};
 use rtp_base::{Pt, Ssrc};
 use rtp_wire::{
     Extension, ExtensionMap, NewIds, NotAPacket, NotRetransmitted, OriginalFields,
@@ -131,16 +129,20 @@ const RESTORED: [(&str, usize, (u32, u8), &str, usize); 6] = [
 const NOT_SENT: [(&str, usize, NotRetransmitted); 13] = [
     ("", 1, CutPacket),
     ("806000050000000a0000002caabb", 15, CutPacket),
-    ("", 0, NotAPacket(NotAPacket::CutFixedPart)),
+    (
+        "",
+        0,
+        NotRetransmitted::NotAPacket(NotAPacket::CutFixedPart),
+    ),
     (
         "406000050000000a0000002caabb0000",
         14,
-        NotAPacket(NotAPacket::OtherVersion),
+        NotRetransmitted::NotAPacket(NotAPacket::OtherVersion),
     ),
     (
         "816000050000000a0000002caabb0000",
         14,
-        NotAPacket(NotAPacket::CutSources),
+        NotRetransmitted::NotAPacket(NotAPacket::CutSources),
     ),
     ("a06000050000000a0000002caa030000", 14, PaddingTooLong),
     ("806000050000000a0000002caabb00", 14, NoRoom),
@@ -170,12 +172,12 @@ const NOT_RESTORED: [(&str, usize, NotRetransmitted); 10] = [
     (
         "806100070000000a0000002d",
         11,
-        NotAPacket(NotAPacket::CutFixedPart),
+        NotRetransmitted::NotAPacket(NotAPacket::CutFixedPart),
     ),
     (
         "c06100070000000a0000002d0005aabb",
         16,
-        NotAPacket(NotAPacket::OtherVersion),
+        NotRetransmitted::NotAPacket(NotAPacket::OtherVersion),
     ),
     ("a06100070000000a0000002d04", 13, PaddingTooLong),
     ("806100070000000a0000002d", 12, NoOriginalNumber),

@@ -2,7 +2,8 @@ use Rattle.std.proofs.Common.{◌≡◌, ◌+◌, ◌-◌, ap, ◌∙◌, arith,
 use Rattle.rtp_wire.specs.Packet.{header_len_of}
 use Rattle.rtp_wire.specs.PartsOf.{parts_of, datagram_of}
 use Rattle.rtp_wire.proofs.PartsLemmas.{length-packet}
-use Rattle.rtp_c.specs.PacketView.{slice_at, body_of}
+use Rattle.rtp_c.specs.PacketView.{slice_at}
+use Rattle.rtp_wire.specs.PutIntoPacket.{body_of_block}
 use Rattle.rtp_c.proofs.PacketLemmas.{body-at, payload-at, body-within}
 use Rattle.rtp_c.proofs.packet.view_of.Goals as goal
 
@@ -13,7 +14,7 @@ returns c =
     let header = c.header_len-payload_at.result in
     let body = c.block_numbers-block_form.result.1 in
     let header_is : header ≡ header_len_of parts = c.header_len-payload_at.ensures in
-    let body_is : body ≡ length (body_of parts.block) = c.block_numbers-block_form.ensures.body in
+    let body_is : body ≡ length (body_of_block parts.block) = c.block_numbers-block_form.ensures.body in
     let payload_is = c.payload.ensures in
     let ends : header - body + body ≡ header = omega (arith, header_is, body_is, body-within parts) in
     record {
