@@ -201,6 +201,39 @@ RTPW_CHECKED int32_t rtpw_set_padding(uint8_t *datagram, size_t len, bool has_pa
  * where P is clear, all of them. RTPW_BAD_FIELD where padding_fits is 0. With SRTP decrypt first. */
 RTPW_CHECKED int32_t rtpw_remove_padding(uint8_t *datagram, size_t len, size_t *new_len);
 
+/* ---- A packet that grows where it lies, and one that is made short ---- */
+
+/* Both take a buffer of `size` bytes, at whose front a packet of *len bytes lies, and write its new length
+ * there. A header alone is enough, as above. Where the status isn't RTPW_OK nothing changes. */
+
+/* Where it is said which forms are allowed: both. */
+enum { RTPW_ANY_FORM = 0 };
+
+/* Puts an element, of an id from 1 on with at most 255 bytes of data, into the packet: it then has exactly one
+ * of this id, in place of the last one of the id or as the last of all. The other elements stay, in order,
+ * and all other parts too; without a block the packet gets one. Where the element is the only one of its id
+ * and has as many bytes, only these change. Else the block is made anew: its padding is used up, and then the
+ * payload moves by whole words; a body never becomes shorter (rtpw_compact).
+ *
+ * A one-byte block that can't carry the element becomes a two-byte one, where the forms that are allowed let
+ * it: RTPW_ANY_FORM; RTPW_ONE_BYTE_FORM alone, as for a peer that hasn't agreed to both in one stream (RFC 8285,
+ * 4.1.2); or RTPW_TWO_BYTE_FORM alone, which the block then gets.
+ *
+ *     uint8_t bytes[1500];
+ *     memcpy(bytes, datagram, len);
+ *     int32_t status = rtpw_put_element(bytes, sizeof bytes, &len, id, mid, strlen(mid), RTPW_ANY_FORM);
+ *
+ * RTPW_OK; RTPW_BAD_FIELD, before all else, where `allowed` is none of the three, *len is past the buffer, the
+ * id is 0 or there are more than 255 bytes of data; the first cause for which the bytes are no packet;
+ * RTPW_BAD_FIELD where the block needs a form that isn't allowed, or more than 65,535 words; RTPW_SHORT_BUFFER. */
+RTPW_CHECKED int32_t rtpw_put_element(uint8_t *buf, size_t size, size_t *len, uint8_t id, const uint8_t *data,
+                                      size_t data_len, uint8_t allowed);
+
+/* Makes the packet as short as its elements allow: these stand in a row, the body is filled up to whole words,
+ * and the payload moves to the front. So rtpw_remove_element and then this gives bytes back. RTPW_OK;
+ * RTPW_BAD_FIELD where *len is past the buffer; or the first cause for which the bytes are no packet. */
+RTPW_CHECKED int32_t rtpw_compact(uint8_t *buf, size_t size, size_t *len);
+
 /* ---- The elements of a block ---- */
 
 /* Where an element lies, in bytes from the first one of the block's body. 32 bytes. */
