@@ -18,6 +18,8 @@ static uint8_t packet[1200] = {0x90, 111,  0xB7, 0x98, 0,    0,    0x27, 0x10, 0
 static uint8_t mixed[32] = {0x82, 111, 0xB7, 0x98, 0, 0, 0x27, 0x10, 0, 0, 0, 0x2C};
 static const uint8_t rtcp[8] = {0x80, 201, 0, 1};
 static const char uri[] = "urn:ietf:params:rtp-hdrext:sdes:mid";
+/* The first one, with room to become a retransmission. */
+static uint8_t kept[sizeof packet + 2];
 static uint8_t buf[1500];
 static size_t len, count;
 static uint64_t number;
@@ -27,7 +29,7 @@ static rtpw_values values;
 static rtpw_element element;
 static rtpw_layers layers;
 static rtpw_map map, other_map;
-static rtpw_new_ids ids;
+static rtpw_new_ids ids, repaired_ids;
 static rtpw_receiver receiver;
 static rtpw_wide_receiver wide;
 static uint64_t words[16], wide_number;
@@ -75,6 +77,12 @@ enum { BODY_AT = 16, BODY_LEN = 16 };
     X(rtpw_id_of, rtpw_id_of(&map, RTPW_KIND_VIDEO_ORIENTATION))                                                      \
     X(rtpw_data_of, rtpw_data_of(RTPW_KIND_AUDIO_LEVEL, &written.values, buf, sizeof buf, &len))                      \
     X(rtpw_new_ids_between, (rtpw_new_ids_between(&map, &map, &ids), 0))                                              \
+    X(rtpw_new_ids_to_retransmission, (rtpw_new_ids_to_retransmission(&map, &repaired_ids), 0))                       \
+    X(rtpw_new_ids_from_retransmission, (rtpw_new_ids_from_retransmission(&map, &repaired_ids), 0))                   \
+    X(rtpw_to_retransmission,                                                                                         \
+      (len = sizeof packet, rtpw_to_retransmission(kept, sizeof kept, &len, 45, 97, 7, &repaired_ids)))               \
+    X(rtpw_from_retransmission,                                                                                       \
+      (len = sizeof kept, rtpw_from_retransmission(kept, sizeof kept, &len, 44, 96, &repaired_ids)))                  \
     X(rtpw_pad, rtpw_pad(buf, sizeof buf, 32, 100, 16, &count))                                                       \
     X(rtpw_read_original, rtpw_read_original(packet + 32, sizeof packet - 32, &parts.sequence_number))                \
     X(rtpw_write_original, rtpw_write_original(buf, sizeof buf, 47000))                                               \
@@ -127,6 +135,7 @@ int main(int argc, char **argv) {
         return 2;
     }
     rtpw_map_standard(&map);
+    memcpy(kept, packet, sizeof packet);
     memset(&fields, 1, sizeof fields);
     if (rtpw_parse(packet, sizeof packet, &map, &written) != RTPW_OK || rtpw_receiver_start(&receiver, 1) != RTPW_OK) return 1;
     element.id = 3;

@@ -29,6 +29,7 @@ size_t write_fixed(const rtpw_header *header, bool has_extension, uint8_t *bytes
 
 void packets_round(void);
 void changes_round(void);
+void growing_round(void);
 void elements_round(void);
 void receivers_round(void);
 void wide_receivers_round(void);
@@ -43,6 +44,7 @@ void payload_round(void);
 static inline void every_round(void) {
     packets_round();
     changes_round();
+    growing_round();
     elements_round();
     receivers_round();
     wide_receivers_round();

@@ -3,6 +3,7 @@
 
 ghost use Rattle.std.specs.Prelude.{◌≡◌, ◌↔◌, ℕ, ◌+◌, ◌-◌, ◌*◌, ◌≤◌, ◌∷◌, [], List, length, take, drop, false, IsTrue, IsErr, IfOk, IfErr, OnErr, Option};
 ghost use Rattle.std.specs.Bool.{OnTrue, OnFalse};
+ghost use Rattle.std.specs.List.{copy_within};
 ghost use Rattle.std.specs.Int.{w16, to_be_bytes};
 ghost use Rattle.rtp_base.specs.Overwriting.{overwritten};
 ghost use Rattle.rtp_ext.specs.Form.{form_word};
@@ -142,6 +143,18 @@ impl Plan {
     }
 }
 
+// Moves the bytes between two offsets to another one, where they don't stand there already.
+fn move_bytes(buf: &mut [u8], start: usize, end: usize, to: usize)
+    requires order { start ≤ end }
+    requires within { end ≤ length buf.old }
+    requires room { to + (end - start) ≤ length buf.old }
+    ensures { buf.new ≡ copy_within buf.old start end to }
+{
+    if start != to {
+        buf.copy_within(start..end, to);
+    }
+}
+
 // Gives the block that begins at an offset a body of so many bytes, which are those that stand there: moves
 // the payload behind it, and writes the number of its words.
 fn resize(buf: &mut [u8], len: usize, block_at: usize, payload_at: usize, body_len: usize)
@@ -152,7 +165,7 @@ fn resize(buf: &mut [u8], len: usize, block_at: usize, payload_at: usize, body_l
     ensures { buf.new ≡ resized buf.old len block_at payload_at body_len }
 {
     let new_payload_at = block_at + HEADER_LEN + body_len;
-    buf.copy_within(payload_at..len, new_payload_at);
+    move_bytes(buf, payload_at, len, new_payload_at);
     let words = (body_len / 4) as u16;
     put(buf, block_at + 2, &words.to_be_bytes());
 }
