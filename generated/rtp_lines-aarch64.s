@@ -2,8 +2,8 @@
  * rtp_lines for Linux on aarch64: the assembly text that Rattle's compiler makes of the program, each function of which is proved.
  * Made anew by: generated/make
  * kit: rattle-kit-13f logic dac8208d650f15bf
- * sources: acf3ef7b8ebd1fa039e9ce20ef6b3a2eb029ebe3fe80dc2fc06b4edba7190672
- * text: 69b385e3e7901f127a4ebdbf667545e892bdc2d7499d405afa91800639d76382
+ * sources: 40ca590e5ba6eb313c4ff8a62ad8cd6de5cf0fc11ee72fc257bd24fbc53d5c6e
+ * text: 358192fe97041ee31f07b695408de066605d0db574070a89b6ce25ae18cd4f26
  * SPDX-License-Identifier: MIT OR Apache-2.0
  * Copyright (c) 2026 The rtp-wire developers (NOTICE)
  */

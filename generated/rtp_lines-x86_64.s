@@ -2,8 +2,8 @@
  * rtp_lines for Linux on x86_64: the assembly text that Rattle's compiler makes of the program, each function of which is proved.
  * Made anew by: generated/make
  * kit: rattle-kit-13f logic dac8208d650f15bf
- * sources: acf3ef7b8ebd1fa039e9ce20ef6b3a2eb029ebe3fe80dc2fc06b4edba7190672
- * text: 7e1d03fd9abf3f9b9a54eaac8ade27858e58aa7655e5626bfdc2415049d17e7c
+ * sources: 40ca590e5ba6eb313c4ff8a62ad8cd6de5cf0fc11ee72fc257bd24fbc53d5c6e
+ * text: 8f07990cb90a4266a42f40f954a08938bd533faa3fa4c23386b32ce16f4c455c
  * SPDX-License-Identifier: MIT OR Apache-2.0
  * Copyright (c) 2026 The rtp-wire developers (NOTICE)
  */
