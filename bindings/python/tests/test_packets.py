@@ -277,9 +277,11 @@ class Changing(unittest.TestCase):
         self.assertEqual(put_element(buffer, 37, 2, b"\x03" * 5, Form.ONE_BYTE), 41)
         self.assertEqual(buffer[22:36].hex(), "000310aa24030303030310dd0000")
         self.assertEqual(buffer[36:41], SAMPLE[32:])
-        for arguments in ((41, 15, b"", Form.ONE_BYTE), (65, 1, b"\x01"), (41, 0, b""), (41, 1, bytes(256))):
+        with self.assertRaises(BadField):
+            put_element(buffer, 41, 15, b"", Form.ONE_BYTE)
+        for length, element_id, data in ((65, 1, b"\x01"), (41, 0, b""), (41, 1, bytes(256))):
             with self.assertRaises(BadField):
-                put_element(buffer, *arguments)
+                put_element(buffer, length, element_id, data)
         with self.assertRaises(ShortBuffer):
             put_element(memoryview(buffer)[:44], 41, 15, b"\x04")
         self.assertEqual(put_element(buffer, 41, 15, b"\x04"), 45)
@@ -288,9 +290,10 @@ class Changing(unittest.TestCase):
         packet.remove_element(2)
         self.assertEqual(compact(memoryview(buffer)[:45]), 41)
         self.assertEqual(buffer[36:41], SAMPLE[32:])
-        for call in (lambda: put_element(buffer, 11, 1, b""), lambda: compact(buffer[:11])):
-            with self.assertRaises(NotAPacket):
-                call()
+        with self.assertRaises(NotAPacket):
+            put_element(buffer, 11, 1, b"")
+        with self.assertRaises(NotAPacket):
+            compact(buffer[:11])
 
     def test_padding_is_taken_off(self) -> None:
         self.assertEqual(self.packet.remove_padding(), 35)
