@@ -213,11 +213,12 @@ enum { RTPW_ANY_FORM = 0 };
  * of this id, in place of the last one of the id or as the last of all. The other elements stay, in order,
  * and all other parts too; without a block the packet gets one. Where the element is the only one of its id
  * and has as many bytes, only these change. Else the block is made anew: its padding is used up, and then the
- * payload moves by whole words; a body never becomes shorter (rtpw_compact).
+ * payload moves by whole words; a body never becomes shorter (rtpw_compact). What stands where reading ends, an
+ * element that is cut short or what follows the id 15, is no element, and goes where the block is made anew.
  *
  * A one-byte block that can't carry the element becomes a two-byte one, where the forms that are allowed let
  * it: RTPW_ANY_FORM; RTPW_ONE_BYTE_FORM alone, as for a peer that hasn't agreed to both in one stream (RFC 8285,
- * 4.1.2); or RTPW_TWO_BYTE_FORM alone, which the block then gets.
+ * 4.1.2); or RTPW_TWO_BYTE_FORM alone, which the block then gets. It carries no element of the id 0, so these go.
  *
  *     uint8_t bytes[1500];
  *     memcpy(bytes, datagram, len);
@@ -230,7 +231,8 @@ RTPW_CHECKED int32_t rtpw_put_element(uint8_t *buf, size_t size, size_t *len, ui
                                       size_t data_len, uint8_t allowed);
 
 /* Makes the packet as short as its elements allow: these stand in a row, the body is filled up to whole words,
- * and the payload moves to the front. So rtpw_remove_element and then this gives bytes back. RTPW_OK;
+ * and the payload moves to the front; what stands where reading ends goes. So rtpw_remove_element and then this gives
+ * bytes back; what is then behind the packet, up to its old end, may be anything. RTPW_OK;
  * RTPW_BAD_FIELD where *len is past the buffer; or the first cause for which the bytes are no packet. */
 RTPW_CHECKED int32_t rtpw_compact(uint8_t *buf, size_t size, size_t *len);
 

@@ -20,11 +20,12 @@ def put_element(
     """Puts an element, of an id from 1 on with at most 255 bytes of data, into the packet in the first `length` bytes
     of the buffer, and returns how many bytes the packet then has: it has exactly one element of the id, in place of the
     last one of the id or as the last of all. The other elements stay, in order, and all other parts too; without a
-    block the packet gets one. A body never becomes shorter (`compact`). A header alone is enough.
+    block the packet gets one. A body never becomes shorter (`compact`). What stands where reading ends, an element that
+    is cut short or what follows the id 15, goes where the block is made anew. A header alone is enough.
 
-    A one-byte block that can't carry the element becomes a two-byte one, unless the one-byte form alone is allowed, as
-    for a peer that hasn't agreed to both in one stream (RFC 8285, 4.1.2). Where the two-byte form alone is allowed, the
-    block gets that.
+    A one-byte block that can't carry the element becomes a two-byte one, which carries no element of the id 0, unless
+    the one-byte form alone is allowed, as for a peer that hasn't agreed to both in one stream (RFC 8285, 4.1.2). Where
+    the two-byte form alone is allowed, the block gets that.
 
     BadField where `length` is past the buffer, the id is 0, there are more than 255 bytes of data, or the block needs a
     form that isn't allowed, or more than 65,535 words; NotAPacket; ShortBuffer where there is no room. Nothing changes
@@ -41,7 +42,7 @@ def put_element(
 def compact(datagram: WritableBuffer) -> int:
     """Makes the packet in the buffer as short as its elements allow, and returns how many bytes it then has, which are
     the first ones: the elements stand in a row, the body is filled up to whole words, and the payload moves to the
-    front. So `Packet.remove_element` and then this gives bytes back. A header alone is enough.
+    front; what stands where reading ends goes. So `Packet.remove_element` and then this gives bytes back. A header alone is enough.
 
     NotAPacket where the buffer holds none, and then nothing changes.
     """

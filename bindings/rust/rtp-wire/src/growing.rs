@@ -7,11 +7,12 @@ use crate::sys;
 /// place of the last one of the id or as the last of all. The other elements stay, in order, and all other
 /// parts too; without a block the packet gets one. Where the element is the only one of its id and has as many
 /// bytes, only these change. Else the block is made anew: its padding is used up, and then the payload moves by
-/// whole words; a body never becomes shorter ([`compact`]). A header alone is enough.
+/// whole words; a body never becomes shorter ([`compact`]). What stands where reading ends, an element that is
+/// cut short or what follows the id 15, goes where the block is made anew. A header alone is enough.
 ///
-/// A one-byte block that can't carry the element becomes a two-byte one, unless the one-byte form alone is
-/// `allowed`, as for a peer that hasn't agreed to both in one stream (RFC 8285, 4.1.2). Where the two-byte form
-/// alone is allowed, the block gets that.
+/// A one-byte block that can't carry the element becomes a two-byte one, which carries no element of the id 0,
+/// unless the one-byte form alone is `allowed`, as for a peer that hasn't agreed to both in one stream (RFC 8285,
+/// 4.1.2). Where the two-byte form alone is allowed, the block gets that.
 ///
 /// # Errors
 ///
@@ -41,7 +42,7 @@ pub fn put_element(
 
 /// Makes the packet in the buffer as short as its elements allow, and returns how many bytes it then has, which
 /// are the first ones of the buffer: the elements stand in a row, the body is filled up to whole words, and the
-/// payload moves to the front. So [`remove_element`](crate::PacketMut::remove_element) and then this gives bytes
+/// payload moves to the front; what stands where reading ends goes. So [`remove_element`](crate::PacketMut::remove_element) and then this gives bytes
 /// back. A header alone is enough.
 ///
 /// # Errors
