@@ -63,7 +63,11 @@ length-announced false (Some block) part is = absurd is
 length-announced true None part is = absurd is
 length-announced true (Some block) part is = let words = is.words in omega (arith, ap length is.body_is, length-drop 4 part)
 
--- what there is where nothing is
+-- an `Option` by its test
+pub some_there : {A : Type 0} (o : Option A) → is_some o ≡ true → (x : A) × (o ≡ Some x)
+some_there None some = absurd cc
+some_there (Some x) some = (x, refl)
+
 pub none_there : {A : Type 0} (o : Option A) → is_some o ≡ false → o ≡ None
 none_there None none = refl
 none_there (Some x) none = absurd cc
