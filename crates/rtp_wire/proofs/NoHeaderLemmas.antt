@@ -16,7 +16,7 @@ use Rattle.rtp_wire.specs.NoHeaderCause.{AppliesToHeader, header_place_of, IsFir
 use Rattle.rtp_wire.specs.Packet.{PacketParts, IsPacket, HasOtherForm}
 use Rattle.rtp_wire.specs.PartsAt.{has_block, form_of_word, form_in, profile_in, other_in, header_end, parts_at}
 use Rattle.rtp_wire.proofs.NotAPacketLemmas.{no_packet-refused}
-use Rattle.rtp_wire.proofs.PartsLemmas.{some_there, none_there}
+use Rattle.rtp_wire.proofs.PartsLemmas.{some_there, none_there, no_other_form}
 use Rattle.rtp_wire.proofs.PacketLemmas.{bit-is_set, no_form_of_word, IsNoFormWord-form_of_word, one_packet, no_packet as not_a_packet}
 
 -- ---- the block
@@ -55,7 +55,7 @@ module _ (bytes : List ℕ) (parts : PacketParts) (is : IsPacket bytes parts) (n
 
   pub packet_there : IsNoPacket bytes ⊎ HasOtherForm bytes → ⊥
   packet_there (inl refused) = no_packet-refused bytes parts refused is
-  packet_there (inr other) = known_form (HasUnknownForm-packet bytes other.parts other.other other.is_packet other.other_is)
+  packet_there (inr other) = no_other_form bytes parts is none other
 
 -- ---- the first cause
 

@@ -1,10 +1,9 @@
 use Rattle.std.proofs.Common.{◌≡◌, true, refl, sym, ap, ◌∙◌}
 use Rattle.std.proofs.lemmas.Bool.{false≢true}
-use Rattle.std.proofs.lemmas.Option.{none-some}
 use Rattle.rtp_wire.specs.NotAHeader.{unknown_form}
 use Rattle.rtp_wire.specs.Packet.{PacketParts, HasOtherForm}
 use Rattle.rtp_wire.specs.PartsOf.{parts_of}
-use Rattle.rtp_wire.proofs.PartsLemmas.{some_there, none_there}
+use Rattle.rtp_wire.proofs.PartsLemmas.{some_there, none_there, no_other_form}
 use Rattle.rtp_wire.proofs.NoHeaderLemmas.{HasUnknownForm-packet, header_there, packet_there}
 use Rattle.rtp_wire.proofs.packet.rtp_packet.RtpPacket.of_header.Goals as goal
 
@@ -18,9 +17,7 @@ other c =
     record { parts = parts_of c.in-Ok.packet; is_packet = c.in-Ok.ensures.found; other = found.0; other_is = found.1 }
 
 pub returns-then-has_other_form-clause-only : goal.returns-then-has_other_form-clause-only
-unfolding other
-returns-then-has_other_form-clause-only c parts is known =
-    none-some (other c).other (sym known ∙ ap (λ (p : PacketParts). p.other_block) (sym (c.in-Ok.ensures.only parts is)) ∙ (other c).other_is)
+returns-then-has_other_form-clause-only c parts is known = no_other_form c.args.datagram.now parts is known (other c)
 
 pub returns-then-has_other_form-clause-refused : goal.returns-then-has_other_form-clause-refused
 returns-then-has_other_form-clause-refused c =
