@@ -1,5 +1,5 @@
 -- Bytes that begin with no header: they are no packet, or a packet whose block is of another form.
-use Rattle.std.proofs.Common.{◌≡◌, ℕ, ◌+◌, ◌*◌, ◌/◌, ◌%◌, ◌<◌, ◌≤◌, Bool, true, false, List, length, drop, Option, Some, None, refl, sym, ap, ◌∙◌, arith, inl, inr, length-drop}
+use Rattle.std.proofs.Common.{◌≡◌, ℕ, ◌+◌, ◌/◌, ◌%◌, ◌<◌, ◌≤◌, Bool, true, false, List, length, drop, Option, Some, None, refl, sym, ap, ◌∙◌, arith, inl, inr, length-drop}
 use Rattle.std.specs.Prelude.{◌⊎◌, ◌↔◌, IfSome, IsSome, slice_index, slice_range, is_some, option_map, if◌then◌else◌}
 use Rattle.std.specs.Bool.{then_some}
 use Rattle.std.proofs.lemmas.Bool.{false≢true, eq-eqb, cases_lt}
@@ -11,7 +11,7 @@ use Rattle.rtp_wire.specs.declared.packet.not_a_packet.NotAPacket.{NotAPacket}
 use Rattle.rtp_wire.specs.declared.packet.not_a_packet.NotAPacket.TheVariants.{CutFixedPart, OtherVersion, CutSources, CutBlockHeader, CutBlock}
 use Rattle.rtp_wire.specs.Block.{word_at}
 use Rattle.rtp_wire.specs.NotAHeader.{IsNoPacket, HasUnknownForm, NotAHeader, no_packet, unknown_form, sources_end}
-use Rattle.rtp_wire.specs.NotAPacket.{Applies, place_of, IsFirstCause}
+use Rattle.rtp_wire.specs.NotAPacket.{place_of, IsFirstCause}
 use Rattle.rtp_wire.specs.NoHeaderCause.{AppliesToHeader, header_place_of, IsFirstHeaderCause}
 use Rattle.rtp_wire.specs.Packet.{PacketParts, IsPacket, HasOtherForm}
 use Rattle.rtp_wire.specs.PartsAt.{has_block, form_of_word, form_in, profile_in, other_in, header_end, parts_at}

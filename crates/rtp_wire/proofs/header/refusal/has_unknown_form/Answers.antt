@@ -1,13 +1,12 @@
-use Rattle.std.proofs.Common.{◌≡◌, ◌+◌, ◌*◌, ℕ, Bool, true, false, not, Option, Some, None, is_some, drop, refl, sym, ap, ◌∙◌}
+use Rattle.std.proofs.Common.{◌≡◌, ℕ, Bool, true, false, not, Option, Some, None, is_some, drop, refl, sym, ap, ◌∙◌}
 use Rattle.std.proofs.lemmas.Bool.{false≢true}
 use Rattle.rtp_ext.specs.declared.form.ExtensionsForm.{ExtensionsForm}
-use Rattle.rtp_wire.specs.Block.{word_at, IsNoFormWord}
+use Rattle.rtp_wire.specs.Block.{word_at}
 use Rattle.rtp_wire.specs.NotAHeader.{sources_end}
 use Rattle.rtp_wire.specs.PartsAt.{form_of_word}
 use Rattle.rtp_wire.proofs.AnyBlockLemmas.{word-after}
 use Rattle.rtp_wire.proofs.HeaderFound.{found-form_of_word}
 use Rattle.rtp_wire.proofs.PacketLemmas.{no_form_of_word, IsNoFormWord-form_of_word}
-use Rattle.rtp_wire.proofs.PartsLemmas.{none_there}
 use Rattle.rtp_wire.proofs.header.refusal.has_unknown_form.Goals as goal
 use Rattle.rtp_wire.proofs.header.refusal.has_unknown_form.Goals.{After-is_none}
 
@@ -29,6 +28,7 @@ tells found false is none = absurd (false≢true (sym (ap is_some none) ∙ is))
 
 pub returns : goal.returns
 returns c =
-    let word = word_at (drop (sources_end c.args.datagram.now) c.args.datagram.now) 0 in
-    (λ set. (c.requires.block, IsNoFormWord-form_of_word word (sym (found_is c) ∙ told c.parse.result c.is_none.result c.is_none.ensures set)),
-    λ unknown. tells c.parse.result c.is_none.result c.is_none.ensures (found_is c ∙ no_form_of_word word unknown.1))
+    let word = word_at (drop (sources_end c.args.datagram.now) c.args.datagram.now) 0 in (
+      λ set. (c.requires.block, IsNoFormWord-form_of_word word (sym (found_is c) ∙ told c.parse.result c.is_none.result c.is_none.ensures set)),
+      λ unknown. tells c.parse.result c.is_none.result c.is_none.ensures (found_is c ∙ no_form_of_word word unknown.1),
+    )

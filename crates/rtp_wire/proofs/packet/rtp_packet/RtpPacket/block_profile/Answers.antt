@@ -1,8 +1,7 @@
-use Rattle.std.proofs.Common.{◌≡◌, ◌+◌, ◌*◌, ◌<◌, ◌≤◌, ℕ, true, false, length, drop, arith, sym, ap, ◌∙◌}
-use Rattle.std.specs.Prelude.{slice_index}
+use Rattle.std.proofs.Common.{◌≡◌, ◌+◌, ◌≤◌, ℕ, length, drop, arith, sym, ap, ◌∙◌}
 use Rattle.rtp_wire.specs.Block.{word_at}
 use Rattle.rtp_wire.specs.NotAHeader.{sources_end}
-use Rattle.rtp_wire.specs.PartsAt.{has_block, parts_at}
+use Rattle.rtp_wire.specs.PartsAt.{parts_at}
 use Rattle.rtp_wire.proofs.HeaderFound.{HasHeader-packet}
 use Rattle.rtp_wire.proofs.PartsLemmas.{body_within}
 use Rattle.rtp_wire.proofs.ChangedPackets.{if_none}

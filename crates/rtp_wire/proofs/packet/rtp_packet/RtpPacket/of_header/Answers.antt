@@ -1,7 +1,7 @@
-use Rattle.std.proofs.Common.{◌≡◌, true, refl, sym, ap, ◌∙◌}
+use Rattle.std.proofs.Common.{refl, sym, ◌∙◌}
 use Rattle.std.proofs.lemmas.Bool.{false≢true}
 use Rattle.rtp_wire.specs.NotAHeader.{unknown_form}
-use Rattle.rtp_wire.specs.Packet.{PacketParts, HasOtherForm}
+use Rattle.rtp_wire.specs.Packet.{HasOtherForm}
 use Rattle.rtp_wire.specs.PartsOf.{parts_of}
 use Rattle.rtp_wire.proofs.PartsLemmas.{some_there, none_there, no_other_form}
 use Rattle.rtp_wire.proofs.NoHeaderLemmas.{HasUnknownForm-packet, header_there, packet_there}
