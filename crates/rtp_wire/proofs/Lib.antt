@@ -11,7 +11,9 @@ mod PacketChanges
 mod PacketParts
 mod PaddingChanges
 mod ChangedPackets
+mod AnyBlockLemmas
 pub mod NotAPacketLemmas
+pub mod NoHeaderLemmas
 pub mod ValuesLemmas
 mod HeaderLemmas
 mod HeaderUnderEachMap
