@@ -84,7 +84,7 @@ func (p *Packet) Element(id uint8) (data []byte, ok bool) {
 // returns how many bytes they took; those after them stay. Each place is one in data.
 //
 // It returns ErrBadField where the form is none of the two or can't carry one of them, or one has bytes past the end
-// of data; and else ErrShortBuffer or ErrNoMemory. Nothing is written then.
+// of data; and else ErrShortBuffer. Nothing is written then.
 func WriteElements(buf []byte, form Form, data []byte, places []Place) (int, error) {
 	return writeElements(buf, form, data, places)
 }

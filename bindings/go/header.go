@@ -60,8 +60,8 @@ func (h *Header) Write(buf []byte, m *Map) (int, error) {
 // can carry each element: ids 1 to 14, 1 to 16 bytes.
 //
 // It returns ErrBadField where the payload type is above 127, or an element has the id 0, more than 255 bytes or
-// bytes past the end of data, or all of them are too long for a block; and else ErrShortBuffer or ErrNoMemory.
-// Nothing is written then.
+// bytes past the end of data, or all of them are too long for a block; and else ErrShortBuffer. Nothing is written
+// then.
 func (h *Header) WriteWith(buf, data []byte, places []Place) (int, error) {
 	return h.writeWith(buf, NoBlock, data, places)
 }

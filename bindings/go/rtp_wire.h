@@ -487,9 +487,7 @@ RTPW_CHECKED int32_t rtpw_write(const rtpw_map *map, const rtpw_header *header, 
  *
  * RTPW_OK; RTPW_BAD_FIELD where payload_type is above 127, csrc_count above 15, or an element has the id
  * 0, more than 255 bytes, or its data_at + data_len is past the end of the data, or all of them take more
- * than the 262,140 bytes of a block; RTPW_SHORT_BUFFER where the buffer alone is at fault;
- * RTPW_NO_MEMORY. Memory is taken for a list of the elements, where there are any, and given back before
- * the call returns. */
+ * than the 262,140 bytes of a block; RTPW_SHORT_BUFFER where the buffer alone is at fault. */
 RTPW_CHECKED int32_t rtpw_write_with(const rtpw_header *header, const uint8_t *data, size_t data_len,
                                      const rtpw_element *elements, size_t count, uint8_t *buf, size_t size,
                                      size_t *len);
@@ -503,8 +501,7 @@ RTPW_CHECKED int32_t rtpw_write_with_form(const rtpw_header *header, const uint8
 
 /* Writes elements, one after the other, as a block's body has them, to the front of the buffer; bytes
  * after them stay. RTPW_OK; RTPW_BAD_FIELD where the form is none of the two or can't carry one of them, or
- * data_at + data_len of one is past the end of the data; RTPW_SHORT_BUFFER where the buffer alone is at fault;
- * RTPW_NO_MEMORY, as rtpw_write_with. */
+ * data_at + data_len of one is past the end of the data; RTPW_SHORT_BUFFER where the buffer alone is at fault. */
 RTPW_CHECKED int32_t rtpw_write_elements(const uint8_t *data, size_t data_len, const rtpw_element *elements, size_t count,
                                          uint8_t form, uint8_t *buf, size_t size, size_t *len);
 

@@ -1,6 +1,7 @@
 /*
  * Each growth of memory is refused in turn to each function that takes memory. What stands then:
- * RTPW_NO_MEMORY, nothing is written, and no memory is lost. Linked with --wrap for malloc, realloc and free.
+ * RTPW_NO_MEMORY, nothing is written, and no memory is lost. Those that write elements take none. Linked with
+ * --wrap for malloc, realloc and free.
  */
 #include "../c/rtp_wire.h"
 
@@ -94,6 +95,14 @@ static long refuse_each(int32_t (*call)(void), int (*is_done)(void)) {
     }
 }
 
+/* Whether the call does what it is for, and asks for no memory. */
+static int takes_none(int32_t (*call)(void), int (*is_done)(void)) {
+    memset(&out, 0, sizeof out);
+    growths = 0;
+    refused_growth = 1;
+    return call() == RTPW_OK && is_done() && growths == 0;
+}
+
 int main(void) {
     static const struct {
         const char *name;
@@ -103,9 +112,6 @@ int main(void) {
         {"rtpw_values_read", values_read, are_read},
         {"rtpw_parse", parse, are_read},
         {"rtpw_parse_layers", parse_layers, layers_are_read},
-        {"rtpw_write_elements", write_elements, elements_are_written},
-        {"rtpw_write_with", write_with, are_written_with},
-        {"rtpw_write_with_form", write_with_form, are_written_with},
     };
     printf("refused: each growth of memory once,");
     for (size_t i = 0; i < sizeof calls / sizeof *calls; i++) {
@@ -115,5 +121,6 @@ int main(void) {
             return 1;
         }
     }
-    return 0;
+    return !(takes_none(write_elements, elements_are_written) && takes_none(write_with, are_written_with)
+             && takes_none(write_with_form, are_written_with));
 }

@@ -1,5 +1,5 @@
 -- The header that C gives, as it is written.
-use Rattle.std.proofs.Common.{◌≡◌, ℕ, ◌<◌, List, ◌++◌, length, drop, Option, ap, ◌∙◌, subst, arith}
+use Rattle.std.proofs.Common.{◌≡◌, ℕ, ◌<◌, List, ◌++◌, length, drop, Option, refl, sym, ap, ◌∙◌, subst, arith}
 use Rattle.rtp_ext.specs.declared.form.ExtensionsForm.{ExtensionsForm}
 use Rattle.rtp_ext.specs.Elements.{Element}
 use Rattle.rtp_ext.specs.ExtensionMap.{Slots}
@@ -14,27 +14,51 @@ use Rattle.rtp_c.specs.Given.{AreGivenFields}
 use Rattle.rtp_c.specs.WrittenElements.{LieIn, elements_in}
 use Rattle.rtp_c.specs.WrittenHeader.{IsToBeWritten, IsTooLong, CanBeWrittenWith, IsWrittenWith, IsTooLongWith}
 
--- the header and the elements of the pairs
-pub record IsPaired (view : HeaderView) (bytes : List ℕ) (views : List ElementView) (elements : List Element) (header : RtpHeader) : Type 0 where
+-- headers of the same fields are written as the same bytes
+wire_bytes_with-given : (allowed : Option ExtensionsForm) (view : HeaderView) (elements : List Element) (h k : RtpHeader)
+    → AreGivenFields view h → AreGivenFields view k → wire_bytes_with h allowed elements ≡ wire_bytes_with k allowed elements
+unfolding wire_bytes_with
+wire_bytes_with-given allowed view elements h k a b =
+    rw (
+      a.padding_is,
+      a.count_is,
+      a.marker_is,
+      a.payload_type_is,
+      a.number_is,
+      a.timestamp_is,
+      a.ssrc_is,
+      a.sources_are,
+      b.padding_is,
+      b.count_is,
+      b.marker_is,
+      b.payload_type_is,
+      b.number_is,
+      b.timestamp_is,
+      b.ssrc_is,
+      b.sources_are,
+    ) refl
+
+-- the header that is given, and the elements that are named
+pub record AreNamed (view : HeaderView) (bytes : List ℕ) (views : List ElementView) (elements : List Element) (header : RtpHeader) : Type 0 where
   pub fields : AreGivenFields view header
   pub within : LieIn bytes views
   pub named : elements ≡ elements_in bytes views
 
-module _ (allowed : Option ExtensionsForm) (view : HeaderView) (bytes : List ℕ) (views : List ElementView) (elements : List Element) (header : RtpHeader) (is : IsPaired view bytes views elements header) where
-  pub CanBeWrittenWith-paired : (AreNotWritableIn (form_given allowed elements) elements 262140 → ⊥) → CanBeWrittenWith allowed view bytes views header
-  CanBeWrittenWith-paired in_a_row = record {
+module _ (allowed : Option ExtensionsForm) (view : HeaderView) (bytes : List ℕ) (views : List ElementView) (elements : List Element) (header : RtpHeader) (is : AreNamed view bytes views elements header) where
+  pub CanBeWrittenWith-named : (AreNotWritableIn (form_given allowed elements) elements 262140 → ⊥) → CanBeWrittenWith allowed view bytes views header
+  CanBeWrittenWith-named in_a_row = record {
     fields = is.fields;
     within = is.within;
     in_a_row = subst (λ (es : List Element). AreNotWritableIn (form_given allowed es) es 262140 → ⊥) is.named in_a_row;
   }
 
-  pub IsWrittenWith-paired : (old new : List ℕ) (len : ℕ) → (AreNotWritableIn (form_given allowed elements) elements 262140 → ⊥)
+  pub IsWrittenWith-named : (old new : List ℕ) (len : ℕ) → (AreNotWritableIn (form_given allowed elements) elements 262140 → ⊥)
       → len ≡ length (wire_bytes_with header allowed elements) → new ≡ wire_bytes_with header allowed elements ++ drop len old
       → ((rest : List ℕ) → IsPacket (wire_bytes_with header allowed elements ++ rest) (parts_with header allowed elements rest))
       → IsWrittenWith allowed view bytes views old new len
-  IsWrittenWith-paired old new len in_a_row len-is written read_back = record {
+  IsWrittenWith-named old new len in_a_row len-is written read_back = record {
     header = header;
-    is_given = CanBeWrittenWith-paired in_a_row;
+    is_given = CanBeWrittenWith-named in_a_row;
     len_is = len-is ∙ ap (λ (es : List Element). length (wire_bytes_with header allowed es)) is.named;
     written = written ∙ ap (λ (es : List Element). wire_bytes_with header allowed es ++ drop len old) is.named;
     read_back = λ rest.
@@ -48,13 +72,18 @@ module _ (allowed : Option ExtensionsForm) (view : HeaderView) (bytes : List ℕ
   only_room room in_a_row (no_block none) = absurd (in_a_row none)
   only_room room in_a_row (short_room lt) = lt
 
-  pub IsTooLongWith-paired : (room : ℕ) → (AreNotWritableIn (form_given allowed elements) elements 262140 → ⊥) → CannotBeWrittenWith header allowed elements room
+  pub IsTooLongWith-named : (room : ℕ) → (AreNotWritableIn (form_given allowed elements) elements 262140 → ⊥) → CannotBeWrittenWith header allowed elements room
       → IsTooLongWith allowed view bytes views room
-  IsTooLongWith-paired room in_a_row refused = record {
+  IsTooLongWith-named room in_a_row refused = record {
     header = header;
-    is_given = CanBeWrittenWith-paired in_a_row;
+    is_given = CanBeWrittenWith-named in_a_row;
     too_long = subst (λ (es : List Element). room < length (wire_bytes_with header allowed es)) is.named (only_room room in_a_row refused);
   }
+
+  pub IsTooLongWith-not : (room : ℕ) → (CannotBeWrittenWith header allowed elements room → ⊥) → IsTooLongWith allowed view bytes views room → ⊥
+  IsTooLongWith-not room can too =
+      can (short_room (subst (λ (es : List Element). room < length (wire_bytes_with header allowed es)) (sym is.named)
+      (subst (λ (b : List ℕ). room < length b) (wire_bytes_with-given allowed view (elements_in bytes views) too.header header too.is_given.fields is.fields) too.too_long)))
 
 -- a header for which only the room is short
 pub IsTooLong-refused : (numbers : List ℕ) (view : HeaderView) (slots : Slots) (header : RtpHeader) (room : ℕ) → IsToBeWritten numbers view slots header

@@ -14,6 +14,7 @@ mod header;
 mod kinds;
 mod layers;
 mod map;
+mod named_elements;
 mod packet;
 mod padding;
 mod payload;

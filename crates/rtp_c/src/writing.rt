@@ -1,68 +1,31 @@
 //! What C gives to be written, headers and elements, from fields and values to bytes.
 
-ghost use Rattle.std.specs.Prelude.{◌≡◌, ◌≢◌, ◌↔◌, ◌≤◌, ◌<◌, ◌⊎◌, length, IsTrue, IfSome, IfNone, IfOk, IfErr, Option, Some, None};
+ghost use Rattle.std.specs.Prelude.{◌≡◌, ◌≢◌, ◌↔◌, ◌≤◌, ◌<◌, ◌⊎◌, length, IsTrue, Option, Some, None};
 ghost use Rattle.std.specs.List.{All};
 ghost use Rattle.rtp_ext.specs.declared.form.ExtensionsForm.{ExtensionsForm};
-ghost use Rattle.rtp_ext.specs.ElementsInARow.{elements_of, IsWritable};
+ghost use Rattle.rtp_ext.specs.ElementsInARow.{IsWritable};
 ghost use Rattle.rtp_wire.specs.declared.header.rtp_header.RtpHeader.{RtpHeader as Header};
-ghost use Rattle.rtp_c.specs.Status.{ok, no_memory, short_buffer, bad_field};
-ghost use Rattle.rtp_c.specs.Given.{AreGivenFields, IsGivenHeader};
+ghost use Rattle.rtp_c.specs.Status.{ok, short_buffer, bad_field};
+ghost use Rattle.rtp_c.specs.Given.{IsGivenHeader};
 ghost use Rattle.rtp_c.specs.PacketView.{form_number};
-ghost use Rattle.rtp_c.specs.ElementView.{element_in};
-ghost use Rattle.rtp_c.specs.WrittenElements.{LiesIn, LieIn, elements_in, AreWritable, AreWrittenElements, AreTooLong};
+ghost use Rattle.rtp_c.specs.WrittenElements.{AreWritable, AreWrittenElements, AreTooLong};
 ghost use Rattle.rtp_c.specs.WrittenHeader.{IsLengthOf, IsWrittenHeader, IsTooLong, CanBeWrittenWith, IsWrittenWith, IsTooLongWith};
 
 use super::given::{put_given_fields, put_given_header};
 use super::header::HeaderView;
 use super::kinds::StoredMap;
+use super::named_elements::NamedElements;
 use super::packet::{ElementView, allowed_of, form_of};
-use super::status::{BAD_FIELD, NO_MEMORY, OK, SHORT_BUFFER};
-use rtp_ext::{ExtensionsForm, write_elements};
+use super::status::{BAD_FIELD, OK, SHORT_BUFFER};
+use rtp_ext::{ElementList, ExtensionsForm, write_elements};
 use rtp_wire::RtpHeader;
-use std::alloc::Global;
 
 // The most bytes that the body of a block has: 65,535 words (RFC 3550, 5.3.1).
 const MAX_BODY_LEN: usize = 4 * 65_535;
 
-// The id and the data of the element.
-fn pair_in<'a>(bytes: &'a [u8], view: &ElementView) -> Option<(u8, &'a [u8])>
-    ensures found { IfSome result (λ pair. LiesIn bytes.now view.now
-        × ((pair.0, pair.1.now) ≡ element_in bytes.now view.now)) }
-    ensures none { IfNone result (LiesIn bytes.now view.now → ⊥) }
-{
-    let end = view.data_at.checked_add(view.data_len)?;
-    Some((view.id, bytes.get(view.data_at..end)?))
-}
-
-// The ids and the data of the elements; the status where memory is refused, or the data of one reach
-// past the bytes.
-fn pairs_in<'a>(
-    alloc: Global,
-    bytes: &'a [u8],
-    elements: &[ElementView],
-) -> Result<Vec<(u8, &'a [u8])>, i32>
-    ensures found { IfOk result (λ pairs. LieIn bytes.now elements.now
-        × (elements_of pairs.items ≡ elements_in bytes.now elements.now)) }
-    ensures refused { IfErr result (λ status.
-        ((status ≡ no_memory) × (1 ≤ length elements.now))
-        ⊎ ((status ≡ bad_field) × (LieIn bytes.now elements.now → ⊥))) }
-{
-    let Ok(mut pairs) = Vec::with_capacity(alloc, elements.len()) else {
-        return Err(NO_MEMORY);
-    };
-    for view in elements {
-        let Some(pair) = pair_in(bytes, view) else {
-            return Err(BAD_FIELD);
-        };
-        pairs.push_reserved(pair);
-    }
-    Ok(pairs)
-}
-
 // Writes the header and a block with these elements as `rtpw_write_with` does, in the form that serves,
 // or that alone is allowed.
 fn write_header_with(
-    alloc: Global,
     header: &HeaderView,
     bytes: &[u8],
     elements: &[ElementView],
@@ -73,29 +36,25 @@ fn write_header_with(
     ensures written { result ≡ ok →
         IsWrittenWith allowed header.now bytes.now elements.now buf.old buf.new len.new }
     ensures within { result ≡ ok → len.new ≤ length buf.new }
-    ensures short { result ≡ short_buffer →
-        IsTooLongWith allowed header.now bytes.now elements.now (length buf.old) }
-    ensures bad_field { result ≡ bad_field → (h : Header) →
-        CanBeWrittenWith allowed header.now bytes.now elements.now h → ⊥ }
-    ensures fields { ((h : Header) → AreGivenFields header.now h → ⊥) → result ≡ bad_field }
-    ensures memory { result ≡ no_memory → 1 ≤ length elements.now }
-    ensures statuses { (result ≡ ok) ⊎ ((result ≡ short_buffer) ⊎ ((result ≡ bad_field)
-        ⊎ (result ≡ no_memory))) }
+    ensures short { (result ≡ short_buffer)
+        ↔ IsTooLongWith allowed header.now bytes.now elements.now (length buf.old) }
+    ensures bad_field { (result ≡ bad_field) ↔ ((h : Header) →
+        CanBeWrittenWith allowed header.now bytes.now elements.now h → ⊥) }
+    ensures statuses { (result ≡ ok) ⊎ ((result ≡ short_buffer) ⊎ (result ≡ bad_field)) }
     ensures unchanged { result ≢ ok → (buf.new ≡ buf.old) × (len.new ≡ len.old) }
 {
     let mut rtp_header = RtpHeader::default();
     let Some(()) = put_given_fields(header, &mut rtp_header) else {
         return BAD_FIELD;
     };
-    let pairs = match pairs_in(alloc, bytes, elements) {
-        Ok(pairs) => pairs,
-        Err(status) => return status,
+    let Some(named) = NamedElements::new(bytes, elements) else {
+        return BAD_FIELD;
     };
-    if let Some(written) = rtp_header.write_with(buf, &pairs, allowed) {
+    if let Some(written) = rtp_header.write_with(buf, named, allowed) {
         *len = written;
         return OK;
     }
-    match ExtensionsForm::for_elements(&pairs, allowed, MAX_BODY_LEN) {
+    match ExtensionsForm::for_elements(named, allowed, MAX_BODY_LEN) {
         None => BAD_FIELD,
         Some(_) => SHORT_BUFFER,
     }
@@ -111,12 +70,9 @@ fn write_header_with(
 /// `OK`, and how many bytes they take is written too. `BAD_FIELD` where the payload type is above 127,
 /// there are more than 15 contributing sources, `data_at + data_len` of an element is past `bytes`, it
 /// has the id 0 or more than 255 bytes of data, or the elements take more than the 65,535 words that a
-/// block can have; `SHORT_BUFFER` where only the room is short; `NO_MEMORY` where memory is refused,
-/// which is taken for the call where there are elements, once the header's fields are found good.
-/// Where it isn't `OK` nothing is written.
+/// block can have; `SHORT_BUFFER` where only the room is short. Where it isn't `OK` nothing is written.
 #[unsafe(no_mangle)]
 pub extern "C" fn rtpw_write_with(
-    alloc: Global,
     header: &HeaderView,
     bytes: &[u8],
     elements: &[ElementView],
@@ -126,17 +82,14 @@ pub extern "C" fn rtpw_write_with(
     ensures written { result ≡ ok →
         IsWrittenWith None header.now bytes.now elements.now buf.old buf.new len.new }
     ensures within { result ≡ ok → len.new ≤ length buf.new }
-    ensures short { result ≡ short_buffer →
-        IsTooLongWith None header.now bytes.now elements.now (length buf.old) }
-    ensures bad_field { result ≡ bad_field → (h : Header) →
-        CanBeWrittenWith None header.now bytes.now elements.now h → ⊥ }
-    ensures fields { ((h : Header) → AreGivenFields header.now h → ⊥) → result ≡ bad_field }
-    ensures memory { result ≡ no_memory → 1 ≤ length elements.now }
-    ensures statuses { (result ≡ ok) ⊎ ((result ≡ short_buffer) ⊎ ((result ≡ bad_field)
-        ⊎ (result ≡ no_memory))) }
+    ensures short { (result ≡ short_buffer)
+        ↔ IsTooLongWith None header.now bytes.now elements.now (length buf.old) }
+    ensures bad_field { (result ≡ bad_field) ↔ ((h : Header) →
+        CanBeWrittenWith None header.now bytes.now elements.now h → ⊥) }
+    ensures statuses { (result ≡ ok) ⊎ ((result ≡ short_buffer) ⊎ (result ≡ bad_field)) }
     ensures unchanged { result ≢ ok → (buf.new ≡ buf.old) × (len.new ≡ len.old) }
 {
-    write_header_with(alloc, header, bytes, elements, None, buf, len)
+    write_header_with(header, bytes, elements, None, buf, len)
 }
 
 /// Writes as [`rtpw_write_with`] does, in the one form that is allowed: 1 is the one-byte form, 2 the
@@ -147,7 +100,6 @@ pub extern "C" fn rtpw_write_with(
 /// The same statuses; `BAD_FIELD` also where the form is another number, or can't carry an element.
 #[unsafe(no_mangle)]
 pub extern "C" fn rtpw_write_with_form(
-    alloc: Global,
     header: &HeaderView,
     bytes: &[u8],
     elements: &[ElementView],
@@ -158,22 +110,17 @@ pub extern "C" fn rtpw_write_with_form(
     ensures written { result ≡ ok → (allowed : Option ExtensionsForm) × (form_number allowed ≡ form)
         × IsWrittenWith allowed header.now bytes.now elements.now buf.old buf.new len.new }
     ensures within { result ≡ ok → len.new ≤ length buf.new }
-    ensures short { result ≡ short_buffer →
-        (allowed : Option ExtensionsForm) × (form_number allowed ≡ form)
-        × IsTooLongWith allowed header.now bytes.now elements.now (length buf.old) }
-    ensures bad_field { result ≡ bad_field →
-        (allowed : Option ExtensionsForm) → form_number allowed ≡ form → (h : Header) →
-        CanBeWrittenWith allowed header.now bytes.now elements.now h → ⊥ }
-    ensures no_form { ((allowed : Option ExtensionsForm) → form_number allowed ≢ form) →
-        result ≡ bad_field }
-    ensures fields { ((h : Header) → AreGivenFields header.now h → ⊥) → result ≡ bad_field }
-    ensures memory { result ≡ no_memory → 1 ≤ length elements.now }
-    ensures statuses { (result ≡ ok) ⊎ ((result ≡ short_buffer) ⊎ ((result ≡ bad_field)
-        ⊎ (result ≡ no_memory))) }
+    ensures short { (result ≡ short_buffer)
+        ↔ ((allowed : Option ExtensionsForm) × (form_number allowed ≡ form)
+        × IsTooLongWith allowed header.now bytes.now elements.now (length buf.old)) }
+    ensures bad_field { (result ≡ bad_field) ↔ ((allowed : Option ExtensionsForm) →
+        form_number allowed ≡ form → (h : Header) →
+        CanBeWrittenWith allowed header.now bytes.now elements.now h → ⊥) }
+    ensures statuses { (result ≡ ok) ⊎ ((result ≡ short_buffer) ⊎ (result ≡ bad_field)) }
     ensures unchanged { result ≢ ok → (buf.new ≡ buf.old) × (len.new ≡ len.old) }
 {
     match allowed_of(form) {
-        Some(allowed) => write_header_with(alloc, header, bytes, elements, allowed, buf, len),
+        Some(allowed) => write_header_with(header, bytes, elements, allowed, buf, len),
         None => BAD_FIELD,
     }
 }
@@ -235,10 +182,16 @@ pub extern "C" fn rtpw_write(
 }
 
 // Whether the form can carry each of the elements.
-fn can_carry_all(form: ExtensionsForm, pairs: &[(u8, &[u8])]) -> bool
-    ensures { IsTrue result ↔ All (λ pair. IsWritable form (pair.0, pair.1.now)) pairs.now }
+fn can_carry_all<L: ElementList>(form: ExtensionsForm, elements: L) -> bool
+    ensures { IsTrue result ↔ All (IsWritable form) (L.elements elements) }
 {
-    pairs.iter().all(|(id, bytes)| form.can_carry(*id, bytes))
+    for index in 0..elements.count() {
+        let (id, bytes) = elements.at(index);
+        if !form.can_carry(id, bytes) {
+            return false;
+        }
+    }
+    true
 }
 
 /// Writes the elements to the front of the buffer, as they stand in the body of a block of this form
@@ -249,11 +202,9 @@ fn can_carry_all(form: ExtensionsForm, pairs: &[(u8, &[u8])]) -> bool
 ///
 /// `OK`, and how many bytes they take is written too. `BAD_FIELD` where the form is neither of the two
 /// or can't carry one of them, or where `data_at + data_len` of one is past `bytes`; `SHORT_BUFFER` where only
-/// the room is short; `NO_MEMORY` where memory is refused, which is taken for the call where there are
-/// elements. Where it isn't `OK` nothing is written.
+/// the room is short. Where it isn't `OK` nothing is written.
 #[unsafe(no_mangle)]
 pub extern "C" fn rtpw_write_elements(
-    alloc: Global,
     bytes: &[u8],
     elements: &[ElementView],
     form: u8,
@@ -263,28 +214,24 @@ pub extern "C" fn rtpw_write_elements(
     ensures written { result ≡ ok → (f : ExtensionsForm) × (form_number (Some f) ≡ form)
         × AreWrittenElements f bytes.now elements.now buf.old buf.new len.new }
     ensures within { result ≡ ok → len.new ≤ length buf.new }
-    ensures short { result ≡ short_buffer → (f : ExtensionsForm) × (form_number (Some f) ≡ form)
-        × AreTooLong f bytes.now elements.now (length buf.old) }
-    ensures bad_field { result ≡ bad_field → (f : ExtensionsForm) → form_number (Some f) ≡ form →
-        AreWritable f bytes.now elements.now → ⊥ }
-    ensures no_form { ((f : ExtensionsForm) → form_number (Some f) ≢ form) → result ≡ bad_field }
-    ensures memory { result ≡ no_memory → 1 ≤ length elements.now }
-    ensures statuses { (result ≡ ok) ⊎ ((result ≡ short_buffer) ⊎ ((result ≡ bad_field)
-        ⊎ (result ≡ no_memory))) }
+    ensures short { (result ≡ short_buffer) ↔ ((f : ExtensionsForm) × (form_number (Some f) ≡ form)
+        × AreTooLong f bytes.now elements.now (length buf.old)) }
+    ensures bad_field { (result ≡ bad_field) ↔ ((f : ExtensionsForm) →
+        form_number (Some f) ≡ form → AreWritable f bytes.now elements.now → ⊥) }
+    ensures statuses { (result ≡ ok) ⊎ ((result ≡ short_buffer) ⊎ (result ≡ bad_field)) }
     ensures unchanged { result ≢ ok → (buf.new ≡ buf.old) × (len.new ≡ len.old) }
 {
     let Some(form) = form_of(form) else {
         return BAD_FIELD;
     };
-    let pairs = match pairs_in(alloc, bytes, elements) {
-        Ok(pairs) => pairs,
-        Err(status) => return status,
+    let Some(named) = NamedElements::new(bytes, elements) else {
+        return BAD_FIELD;
     };
-    if let Some(written) = write_elements(buf, form, &pairs) {
+    if let Some(written) = write_elements(buf, form, named) {
         *len = written;
         return OK;
     }
-    if can_carry_all(form, &pairs) {
+    if can_carry_all(form, named) {
         SHORT_BUFFER
     } else {
         BAD_FIELD

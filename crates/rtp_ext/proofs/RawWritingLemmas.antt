@@ -1,8 +1,9 @@
 -- Elements that are written one after the other.
-use Rattle.std.proofs.Common.{◌≡◌, ◌↔◌, ℕ, ◌+◌, ◌-◌, ◌≤◌, ◌<◌, Option, Some, None, List, [], ◌∷◌, ◌++◌, length, map, take, drop, replicate, get_or, sym, ap, ◌∙◌, subst, arith, length-append, take_at}
-use Rattle.std.specs.Prelude.{IfSome, IfNone, SomeIff}
+use Rattle.std.proofs.Common.{◌≡◌, ◌↔◌, ℕ, ◌+◌, ◌-◌, ◌≤◌, Option, Some, None, List, [], ◌∷◌, ◌++◌, length, take, drop, replicate, sym, ap, ◌∙◌, subst, arith, length-append, take_at}
+use Rattle.std.specs.Prelude.{slice_get, IfSome, IfNone, SomeIff}
 use Rattle.std.specs.List.{AllByRecursion}
-use Rattle.std.proofs.lemmas.List.{drop_more, drop-map, drop_all}
+use Rattle.std.proofs.lemmas.List.{drop_more}
+use Rattle.std.proofs.lemmas.Option.{slice_get_within, get_or_from_slice_get}
 use Rattle.rtp_ext.specs.declared.form.ExtensionsForm.{ExtensionsForm}
 use Rattle.rtp_ext.specs.declared.form.ExtensionsForm.TheVariants.{OneByte, TwoByte}
 use Rattle.rtp_ext.specs.Elements.{Element, IsElement, AreElements, element_bytes, elements_bytes}
@@ -23,13 +24,11 @@ all-elements form [] all = tt
 all-elements form (element ∷ elements) all = (all.0.1, all-elements form elements all.1)
 
 -- the elements that are left, where there is one more
-pub left-more : {X : Type 0} (f : X → Element) (xs : List X) (i : ℕ) (x : X) → i < length xs
-    → drop i (map f xs) ≡ f (get_or xs i x) ∷ drop (i + 1) (map f xs)
-left-more f xs i x here =
-    drop-map f i xs ∙ (ap (map f) (drop_more xs i x here) ∙ ap (λ (es : List Element). f (get_or xs i x) ∷ es) (sym (drop-map f (i + 1) xs)))
-
-pub left-none : {X : Type 0} (f : X → Element) (xs : List X) (i : ℕ) → length xs ≤ i → drop i (map f xs) ≡ []
-left-none f xs i past = drop-map f i xs ∙ ap (map f) (drop_all i xs past)
+pub left-more : (elements : List Element) (i : ℕ) (element : Element) → slice_get elements i ≡ Some element
+    → drop i elements ≡ element ∷ drop (i + 1) elements
+left-more elements i element is =
+    drop_more elements i element (slice_get_within elements i element is)
+    ∙ ap (λ (e : Element). e ∷ drop (i + 1) elements) (get_or_from_slice_get elements i element element is)
 
 -- ---- the room
 

@@ -1,10 +1,10 @@
 -- The form that serves for elements or alone is allowed, and the room that they take in it.
-use Rattle.std.proofs.Common.{◌≡◌, ℕ, zero, suc, ◌+◌, ◌-◌, ◌≤◌, ◌<◌, Bool, true, false, List, [], ◌∷◌, Option, None, Some, length, map, get_or, refl, sym, ap, ◌∙◌, subst, arith, inl, inr, length-append}
-use Rattle.std.specs.Prelude.{Any, ◌&&◌, nat_le, if◌then◌else◌}
+use Rattle.std.proofs.Common.{◌≡◌, ℕ, zero, suc, ◌+◌, ◌-◌, ◌≤◌, Bool, true, false, List, [], ◌∷◌, Option, None, Some, length, refl, sym, ap, ◌∙◌, subst, arith, inl, inr, length-append}
+use Rattle.std.specs.Prelude.{Any, ◌&&◌, nat_le, if◌then◌else◌, slice_get}
 use Rattle.std.specs.List.{AllByRecursion, list_all}
 use Rattle.std.specs.Option.{unwrap_or}
 use Rattle.std.proofs.lemmas.Bool.{and_parts, leb-true, le-leb}
-use Rattle.std.proofs.lemmas.List.{get_or-map, length-map}
+use Rattle.std.proofs.lemmas.Option.{slice_get_within, get_or_from_slice_get}
 use Rattle.rtp_ext.specs.declared.form.ExtensionsForm.{ExtensionsForm}
 use Rattle.rtp_ext.specs.declared.form.ExtensionsForm.TheVariants.{OneByte, TwoByte}
 use Rattle.rtp_ext.specs.Elements.{Element, element_bytes, elements_bytes}
@@ -49,11 +49,6 @@ pub AreNotWritableIn-not : (elements : List Element) (room : ℕ) (form : Extens
 AreNotWritableIn-not elements room form fit (unwritable any) = AllByRecursion-not form elements fit.writable any
 AreNotWritableIn-not elements room form fit (short_room short) = let fits = fit.bytes_fit in omega arith
 
--- an element that is given, where the form can't carry it
-Any-given : {X : Type 0} (form : ExtensionsForm) (f : X → Element) (xs : List X) (i : ℕ) (x : X) → i < length xs
-    → (IsWritable form (f (get_or xs i x)) → ⊥) → Any (λ element. IsWritable form element → ⊥) (map f xs)
-Any-given form f xs i x here bad = (i, f (get_or xs i x), omega (arith, length-map xs f), get_or-map f xs i x (f (get_or xs i x)) here, bad)
-
 -- ---- the forms that are allowed
 
 -- the form that elements begin with, and the one that carries the most
@@ -69,12 +64,18 @@ IsWritable-widest : (allowed : Option ExtensionsForm) (form : ExtensionsForm) (e
 IsWritable-widest None form elements element is bad neither carried = IsWritable-not (form_for elements) element carried (neither is)
 IsWritable-widest (Some only) form elements element is bad neither carried = bad (subst (λ (f : ExtensionsForm). IsWritable f element) (sym is) carried)
 
--- one of the elements that are given, where the widest form can't carry it
-pub AreNotWritableIn-one : {X : Type 0} (allowed : Option ExtensionsForm) (form : ExtensionsForm) (f : X → Element) (xs : List X) (i : ℕ) (x : X) (room : ℕ) → i < length xs
-    → form ≡ widest allowed → (IsWritable form (f (get_or xs i x)) → ⊥) → (form ≡ TwoByte → IsUnwritable (f (get_or xs i x)))
-    → AreNotWritableIn (form_given allowed (map f xs)) (map f xs) room
-AreNotWritableIn-one allowed form f xs i x room here is bad neither =
-    unwritable (Any-given (form_given allowed (map f xs)) f xs i x here (IsWritable-widest allowed form (map f xs) (f (get_or xs i x)) is bad neither))
+-- one of the elements, where the widest form can't carry it
+pub AreNotWritableIn-one : (allowed : Option ExtensionsForm) (form : ExtensionsForm) (elements : List Element) (i : ℕ) (element : Element) (room : ℕ)
+    → slice_get elements i ≡ Some element → form ≡ widest allowed → (IsWritable form element → ⊥) → (form ≡ TwoByte → IsUnwritable element)
+    → AreNotWritableIn (form_given allowed elements) elements room
+AreNotWritableIn-one allowed form elements i element room here is bad neither =
+    unwritable (
+      i,
+      element,
+      slice_get_within elements i element here,
+      get_or_from_slice_get elements i element element here,
+      IsWritable-widest allowed form elements element is bad neither,
+    )
 
 AllByRecursion-given : (allowed : Option ExtensionsForm) (elements : List Element) → AllByRecursion (IsWritable (widest allowed)) elements
     → AllByRecursion (IsWritable (form_given allowed elements)) elements

@@ -10,7 +10,9 @@ ghost use Rattle.rtp_base.specs.Overwriting.{overwritten};
 ghost use Rattle.rtp_ext.specs.ElementWriting.{element_header};
 ghost use Rattle.rtp_ext.specs.Elements.{Element, elements_bytes};
 ghost use Rattle.rtp_ext.specs.PutElement.{needed_form, allowed_form};
-ghost use Rattle.rtp_ext.specs.ElementsInARow.{elements_of, serves_one_byte, form_given, IsWritable, IsUnwritable, AreWritableIn, AreNotWritableIn};
+ghost use Rattle.rtp_ext.specs.ElementsInARow.{serves_one_byte, form_given, IsWritable, IsUnwritable, AreWritableIn, AreNotWritableIn};
+
+use super::ElementList;
 
 /// The greatest id that an element of the one-byte form can have (RFC 8285, 4.2).
 pub const MAX_ID_ONE_BYTE_FORM: u8 = 14;
@@ -144,36 +146,35 @@ fn longer_by(form: ExtensionsForm, count: usize) -> usize
 }
 
 impl ExtensionsForm {
-    /// The form that these elements, pairs of an id and its data, are written in (RFC 8285, 4.1.2,
-    /// 4.2 and 4.3): the one that is allowed, where one alone is; else the one that serves, which is
-    /// the one-byte form exactly where that can carry every element, ids 1 to 14 with 1 to 16 bytes
-    /// of data.
+    /// The form that these elements are written in (RFC 8285, 4.1.2, 4.2 and 4.3): the one that is
+    /// allowed, where one alone is; else the one that serves, which is the one-byte form exactly where
+    /// that can carry every element, ids 1 to 14 with 1 to 16 bytes of data.
     ///
     /// `None` where the form can't carry one of them, or where they take more than `room` bytes in
     /// it. Neither form carries the id 0 or more than 255 bytes of data.
-    pub fn for_elements(
-        elements: &[(u8, &[u8])],
+    pub fn for_elements<L: ElementList>(
+        elements: L,
         allowed: Option<ExtensionsForm>,
         room: usize,
     ) -> Option<Self>
         ensures refused { IsNone result
-            ↔ AreNotWritableIn (form_given allowed (elements_of elements.now))
-            (elements_of elements.now) room }
-        ensures form { IfSome result (λ form.
-            form ≡ form_given allowed (elements_of elements.now)) }
-        ensures fit { IfSome result (λ form. AreWritableIn form (elements_of elements.now) room) }
+            ↔ AreNotWritableIn (form_given allowed (L.elements elements)) (L.elements elements) room }
+        ensures form { IfSome result (λ form. form ≡ form_given allowed (L.elements elements)) }
+        ensures fit { IfSome result (λ form. AreWritableIn form (L.elements elements) room) }
     {
         let widest = allowed.unwrap_or(ExtensionsForm::TwoByte);
         let mut form = allowed.unwrap_or(ExtensionsForm::OneByte);
         let mut left = room;
-        for (id, bytes) in elements {
-            if !widest.can_carry(*id, bytes) {
+        let count = elements.count();
+        for index in 0..count {
+            let (id, bytes) = elements.at(index);
+            if !widest.can_carry(id, bytes) {
                 return None;
             }
-            form = form_with(form, *id, bytes);
+            form = form_with(form, id, bytes);
             left = left.checked_sub(1 + bytes.len())?;
         }
-        if left < longer_by(form, elements.len()) {
+        if left < longer_by(form, count) {
             return None;
         }
         Some(form)

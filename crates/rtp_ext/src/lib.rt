@@ -4,6 +4,7 @@
 
 mod block_elements;
 mod block_values;
+mod element_list;
 mod elements;
 mod form;
 mod growing;
@@ -19,6 +20,7 @@ mod slots;
 
 pub use block_elements::{values_form, values_len, write_values};
 pub use block_values::read_values;
+pub use element_list::ElementList;
 pub use elements::Elements;
 pub use form::{ExtensionsForm, MAX_ID_ONE_BYTE_FORM, form_to_put};
 pub use growing::{Survey, put_anew, put_len, set_sole, survey_of, take_out};

@@ -3,10 +3,10 @@
 ghost use Rattle.std.specs.Prelude.{◌≡◌, ◌↔◌, ◌≤◌, ◌+◌, ℕ, ◌++◌, length, take, drop, replicate, IsTrue, IsSome, IfSome, IfNone};
 ghost use Rattle.rtp_base.specs.Overwriting.{overwritten};
 ghost use Rattle.rtp_ext.specs.Elements.{AreElements, element_bytes, elements_bytes};
-ghost use Rattle.rtp_ext.specs.ElementsInARow.{elements_of, IsWritable, AreWritableIn};
+ghost use Rattle.rtp_ext.specs.ElementsInARow.{IsWritable, AreWritableIn};
 
-use super::ExtensionsForm;
 use super::form::{header_len, write_header};
+use super::{ElementList, ExtensionsForm};
 use rtp_base::put;
 
 // How many bytes of the room are left after an element; `None` where it can't be written there.
@@ -23,12 +23,13 @@ fn room_after(room: usize, form: ExtensionsForm, id: u8, bytes: &[u8]) -> Option
 }
 
 // Whether the elements can be written in the form, and in the room.
-fn fit(room: usize, form: ExtensionsForm, elements: &[(u8, &[u8])]) -> bool
-    ensures { IsTrue result ↔ AreWritableIn form (elements_of elements.now) room }
+fn fit<L: ElementList>(room: usize, form: ExtensionsForm, elements: L) -> bool
+    ensures { IsTrue result ↔ AreWritableIn form (L.elements elements) room }
 {
     let mut left = room;
-    for (id, bytes) in elements {
-        let Some(rest) = room_after(left, form, *id, bytes) else {
+    for index in 0..elements.count() {
+        let (id, bytes) = elements.at(index);
+        let Some(rest) = room_after(left, form, id, bytes) else {
             return false;
         };
         left = rest;
@@ -53,32 +54,32 @@ pub(super) fn put_element(
     put(buf, at + header_len(form), bytes)
 }
 
-/// Writes the elements, pairs of an id and its data, to the front of the buffer and returns the
-/// length that they take; the bytes after them stay as they were (RFC 8285, 4.2 and 4.3).
+/// Writes the elements to the front of the buffer and returns the length that they take; the bytes
+/// after them stay as they were (RFC 8285, 4.2 and 4.3).
 /// [`Elements`](super::Elements) reads what was written, and any zeros after it, as these elements.
 ///
 /// Requires a form that can carry every one of them, and a buffer of at least the length that they
 /// take in it: [`ExtensionsForm::for_elements`] returns such a form.
-pub fn put_elements(buf: &mut [u8], form: ExtensionsForm, elements: &[(u8, &[u8])]) -> usize
-    requires { AreWritableIn form (elements_of elements.now) (length buf.old) }
-    ensures written { buf.new
-        ≡ elements_bytes form (elements_of elements.now) ++ drop result buf.old }
-    ensures length { result ≡ length (elements_bytes form (elements_of elements.now)) }
+pub fn put_elements<L: ElementList>(buf: &mut [u8], form: ExtensionsForm, elements: L) -> usize
+    requires { AreWritableIn form (L.elements elements) (length buf.old) }
+    ensures written { buf.new ≡ elements_bytes form (L.elements elements) ++ drop result buf.old }
+    ensures length { result ≡ length (elements_bytes form (L.elements elements)) }
 
     // What was written, and any zeros that follow it, are a block's body with these elements.
     ensures elements { (zeros : ℕ) → AreElements form
-        (elements_bytes form (elements_of elements.now) ++ replicate zeros 0)
-        (elements_of elements.now) }
+        (elements_bytes form (L.elements elements) ++ replicate zeros 0)
+        (L.elements elements) }
 {
     let mut at = 0;
-    for (id, bytes) in elements {
-        at = put_element(buf, at, form, *id, bytes);
+    for index in 0..elements.count() {
+        let (id, bytes) = elements.at(index);
+        at = put_element(buf, at, form, id, bytes);
     }
     at
 }
 
-/// Writes the elements, pairs of an id and its data, to the front of the buffer and returns the
-/// length that they take; the bytes after them stay as they were (RFC 8285, 4.2 and 4.3).
+/// Writes the elements to the front of the buffer and returns the length that they take; the bytes
+/// after them stay as they were (RFC 8285, 4.2 and 4.3).
 /// [`Elements`](super::Elements) reads what was written, and any zeros after it, as these elements.
 ///
 /// `None` where the buffer is too short or the form can't carry one of them, and then nothing is
@@ -87,23 +88,22 @@ pub fn put_elements(buf: &mut [u8], form: ExtensionsForm, elements: &[(u8, &[u8]
 ///
 /// The elements 1 with `AA` and 2 with `BB CC` are `10 AA 21 BB CC` (hexadecimal) in the one-byte
 /// form, and `01 01 AA 02 02 BB CC` in the two-byte form.
-pub fn write_elements(
+pub fn write_elements<L: ElementList>(
     buf: &mut [u8],
     form: ExtensionsForm,
-    elements: &[(u8, &[u8])],
+    elements: L,
 ) -> Option<usize>
-    ensures fits { IsSome result
-        ↔ AreWritableIn form (elements_of elements.now) (length buf.old) }
+    ensures fits { IsSome result ↔ AreWritableIn form (L.elements elements) (length buf.old) }
     ensures unchanged { IfNone result (buf.new ≡ buf.old) }
     ensures written { IfSome result (λ len. buf.new
-        ≡ elements_bytes form (elements_of elements.now) ++ drop len buf.old) }
+        ≡ elements_bytes form (L.elements elements) ++ drop len buf.old) }
     ensures length { IfSome result (λ len.
-        len ≡ length (elements_bytes form (elements_of elements.now))) }
+        len ≡ length (elements_bytes form (L.elements elements))) }
 
     // What was written, and any zeros that follow it, are a block's body with these elements.
     ensures elements { IfSome result (λ len. (zeros : ℕ) →
         AreElements form (take len buf.new ++ replicate zeros 0)
-        (elements_of elements.now)) }
+        (L.elements elements)) }
 {
     if !fit(buf.len(), form, elements) {
         return None;

@@ -122,7 +122,7 @@ impl FusedIterator for Places<'_> {}
 /// # Errors
 ///
 /// [`NotWritten::BadField`] where the form can't carry one of them, or one has bytes past the end of
-/// `data`; [`NotWritten::ShortBuffer`]; [`NotWritten::NoMemory`]. Nothing is written then.
+/// `data`; [`NotWritten::ShortBuffer`]. Nothing is written then.
 ///
 /// ```
 /// use rtp_wire::{write_elements, Form, Place};

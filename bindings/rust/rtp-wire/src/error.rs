@@ -121,8 +121,6 @@ pub enum NotWritten {
     BadField,
     /// The buffer has too few bytes, and nothing else is amiss.
     ShortBuffer,
-    /// Memory was refused.
-    NoMemory,
 }
 
 impl NotWritten {
@@ -130,7 +128,6 @@ impl NotWritten {
         match status {
             sys::OK => Ok(()),
             sys::SHORT_BUFFER => Err(NotWritten::ShortBuffer),
-            sys::NO_MEMORY => Err(NotWritten::NoMemory),
             _ => Err(NotWritten::BadField),
         }
     }
@@ -141,7 +138,6 @@ impl fmt::Display for NotWritten {
         f.write_str(match self {
             NotWritten::BadField => "an argument is out of its range",
             NotWritten::ShortBuffer => "a buffer is too short",
-            NotWritten::NoMemory => "memory was refused",
         })
     }
 }

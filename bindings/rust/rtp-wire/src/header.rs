@@ -145,8 +145,7 @@ impl Header {
     ///
     /// [`NotWritten::BadField`] where the payload type is above 127, or an element has the id 0, more than
     /// 255 bytes or bytes past the end of `data`, or the form that is allowed can't carry it, or all of them
-    /// are too long for a block; [`NotWritten::ShortBuffer`]; [`NotWritten::NoMemory`]. Nothing is written
-    /// then.
+    /// are too long for a block; [`NotWritten::ShortBuffer`]. Nothing is written then.
     ///
     /// ```
     /// use rtp_wire::{Header, Packet, Place};

@@ -46,7 +46,7 @@ fn types_cross_threads() {
     crosses_threads(&Header::default());
     crosses_threads(&NewIds::new());
     crosses_threads(&NotAHeader::NoMemory);
-    crosses_threads(&NotWritten::NoMemory);
+    crosses_threads(&NotWritten::BadField);
     crosses_threads(&Place::new(1, 0..0));
 }
 

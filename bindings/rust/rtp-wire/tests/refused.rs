@@ -6,7 +6,7 @@ use std::ffi::c_void;
 use std::ptr::null_mut;
 
 use rtp_wire::{
-    write_elements, Form, Header, Kind, Map, NoMemory, NotAHeader, NotWritten, Packet, Place,
+    write_elements, Form, Header, Kind, Map, NoMemory, NotAHeader, Packet, Place,
 };
 
 extern "C" {
@@ -88,27 +88,6 @@ fn reading_an_allocation_takes_memory() {
 }
 
 #[test]
-fn writing_elements_takes_memory() {
-    let places = [Place::new(1, 0..1), Place::new(6, 1..3)];
-    let write = || {
-        let mut buf = [0; 64];
-        (
-            write_elements(&mut buf, Form::OneByte, &[7, 8, 9], &places),
-            buf,
-        )
-    };
-    is_refused_first(&(Err(NotWritten::NoMemory), [0; 64]), write);
-    let write = || {
-        let mut buf = [0; 64];
-        (
-            Header::default().write_with(&mut buf, &[7, 8, 9], &places, None),
-            buf,
-        )
-    };
-    is_refused_first(&(Err(NotWritten::NoMemory), [0; 64]), write);
-}
-
-#[test]
 fn nothing_else_takes_memory() {
     let packet = Packet::parse(&DATAGRAM).unwrap();
     let mut buf = [0; 64];
@@ -121,7 +100,11 @@ fn nothing_else_takes_memory() {
         assert_eq!(packet.values(&LEVEL), Ok(header.values));
         assert_eq!(header.values.audio_level, Some(-10));
         assert_eq!(header.write_to(&mut buf, &LAYERS), Ok(20));
-        assert_eq!(write_elements(&mut buf, Form::OneByte, &[], &[]), Ok(0));
+        let data = [7, 8, 9];
+        let places = [Place::new(1, 0..1), Place::new(6, 1..3)];
+        let len = write_elements(&mut buf, Form::OneByte, &data, &places);
+        assert_eq!(len, Ok(5));
+        assert_eq!(header.write_with(&mut buf, &data, &places, None), Ok(24));
         assert_eq!(
             Kind::from_uri("urn:3gpp:video-orientation"),
             Some(Kind::VideoOrientation)

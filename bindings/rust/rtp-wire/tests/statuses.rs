@@ -136,11 +136,7 @@ fn texts_are_those_of_the_header_file() {
     has("NO_MEMORY", 7, "memory was refused");
     has("SHORT_BUFFER", 8, "a buffer is too short");
     has("BAD_FIELD", 9, "an argument is out of its range");
-    for cause in [
-        &NoMemory as &dyn Error,
-        &NotAHeader::NoMemory,
-        &NotWritten::NoMemory,
-    ] {
+    for cause in [&NoMemory as &dyn Error, &NotAHeader::NoMemory] {
         assert_eq!(told(cause), "memory was refused");
     }
     assert_eq!(told(&NotWritten::ShortBuffer), "a buffer is too short");

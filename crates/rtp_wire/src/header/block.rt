@@ -6,7 +6,7 @@ ghost use Rattle.std.specs.Int.{w16, to_be_bytes};
 ghost use Rattle.rtp_base.specs.Overwriting.{overwritten};
 ghost use Rattle.rtp_ext.specs.Form.{form_word};
 ghost use Rattle.rtp_ext.specs.Elements.{AreElements, elements_bytes};
-ghost use Rattle.rtp_ext.specs.ElementsInARow.{elements_of, form_given, AreWritableIn, AreNotWritableIn};
+ghost use Rattle.rtp_ext.specs.ElementsInARow.{form_given, AreWritableIn, AreNotWritableIn};
 ghost use Rattle.rtp_wire.specs.Header.{IsExtensionPart};
 ghost use Rattle.rtp_wire.specs.WrittenWith.{body_with};
 ghost use Rattle.rtp_ext.specs.WrittenBlock.{TakesAtMost17Each, form_of, block_of, filled, image_values, whole_words};
@@ -16,7 +16,8 @@ ghost use Rattle.rtp_ext.specs.declared.form.ExtensionsForm.TheVariants.{OneByte
 
 use rtp_base::put;
 use rtp_ext::{
-    Cursor, ExtensionValues, ExtensionsForm, Kinds, put_elements, values_len, write_values,
+    Cursor, ElementList, ExtensionValues, ExtensionsForm, Kinds, put_elements, values_len,
+    write_values,
 };
 
 // How many bytes stand before a block's body.
@@ -131,40 +132,40 @@ pub(super) fn write_block<K: Kinds>(
 }
 
 // Writes the block of these elements in the form to the front of the buffer, and returns its length.
-pub(super) fn write_block_of(
+pub(super) fn write_block_of<L: ElementList>(
     buf: &mut [u8],
     form: ExtensionsForm,
-    elements: &[(u8, &[u8])],
+    elements: L,
 ) -> usize
-    requires fit { AreWritableIn form (elements_of elements.now) 262140 }
-    requires room { length (block_of form (filled (elements_bytes form (elements_of elements.now))))
+    requires fit { AreWritableIn form (L.elements elements) 262140 }
+    requires room { length (block_of form (filled (elements_bytes form (L.elements elements))))
         ≤ length buf.old }
     ensures written { buf.new
-        ≡ block_of form (filled (elements_bytes form (elements_of elements.now)))
+        ≡ block_of form (filled (elements_bytes form (L.elements elements)))
         ++ drop result buf.old }
     ensures length { result
-        ≡ length (block_of form (filled (elements_bytes form (elements_of elements.now)))) }
-    ensures elements { AreElements form (filled (elements_bytes form (elements_of elements.now)))
-        (elements_of elements.now) }
+        ≡ length (block_of form (filled (elements_bytes form (L.elements elements)))) }
+    ensures elements { AreElements form (filled (elements_bytes form (L.elements elements)))
+        (L.elements elements) }
 {
     let elements_len = put_elements(&mut buf[HEADER_LEN..], form, elements);
     close_block(buf, form, elements_len)
 }
 
 // The form of a block of these elements that has room: the one that serves, or that alone is allowed.
-pub(super) fn block_form(
+pub(super) fn block_form<L: ElementList>(
     room: usize,
-    elements: &[(u8, &[u8])],
+    elements: L,
     allowed: Option<ExtensionsForm>,
 ) -> Option<ExtensionsForm>
     ensures refused { IfNone result (
-        AreNotWritableIn (form_given allowed (elements_of elements.now)) (elements_of elements.now) 262140
-        ⊎ (room < length (block_of (form_given allowed (elements_of elements.now))
-        (body_with allowed (elements_of elements.now))))) }
-    ensures form { IfSome result (λ form. form ≡ form_given allowed (elements_of elements.now)) }
-    ensures fit { IfSome result (λ form. AreWritableIn form (elements_of elements.now) 262140) }
+        AreNotWritableIn (form_given allowed (L.elements elements)) (L.elements elements) 262140
+        ⊎ (room < length (block_of (form_given allowed (L.elements elements))
+        (body_with allowed (L.elements elements))))) }
+    ensures form { IfSome result (λ form. form ≡ form_given allowed (L.elements elements)) }
+    ensures fit { IfSome result (λ form. AreWritableIn form (L.elements elements) 262140) }
     ensures room { IfSome result (λ form.
-        length (block_of form (filled (elements_bytes form (elements_of elements.now)))) ≤ room) }
+        length (block_of form (filled (elements_bytes form (L.elements elements)))) ≤ room) }
 {
     let words = (room / 4).checked_sub(1)?.min(usize::from(u16::MAX));
     ExtensionsForm::for_elements(elements, allowed, 4 * words)

@@ -6,7 +6,7 @@ ghost use Rattle.std.specs.Int.{w32, to_be_bytes};
 ghost use Rattle.rtp_base.specs.Overwriting.{overwritten};
 ghost use Rattle.rtp_ext.specs.declared.form.ExtensionsForm.TheVariants.{OneByte};
 ghost use Rattle.rtp_ext.specs.Elements.{AreElements};
-ghost use Rattle.rtp_ext.specs.ElementsInARow.{elements_of, form_given};
+ghost use Rattle.rtp_ext.specs.ElementsInARow.{form_given};
 ghost use Rattle.rtp_ext.specs.ExtensionMap.{items_from, mapped_count, HasNoIdAbove};
 ghost use Rattle.rtp_ext.specs.WrittenBlock.{TakesAtMost17Each, whole_words};
 ghost use Rattle.rtp_wire.specs.Header.{IsWire};
@@ -19,7 +19,7 @@ use super::RtpHeader;
 use super::block::{block_fits, block_form, block_len, write_block, write_block_of};
 use crate::packet::flag;
 use rtp_base::put;
-use rtp_ext::{Cursor, ExtensionsForm, Kinds, values_form};
+use rtp_ext::{Cursor, ElementList, ExtensionsForm, Kinds, values_form};
 
 impl RtpHeader {
     /// Returns how many bytes [`write_to`](Self::write_to) writes under the map: a multiple of
@@ -105,11 +105,10 @@ impl RtpHeader {
         Some(self.write_in(buf, exts, start, form))
     }
 
-    /// Writes the fixed part and the CSRC list of this header, and a block with these elements, pairs
-    /// of an id and its data, to the front of the buffer and returns how many bytes they take; the
-    /// bytes after them stay as they were (RFC 3550, 5.1; RFC 8285, 4.2 and 4.3). X is set whatever
-    /// `has_extension` holds, and nothing is written of `ext_vals`. Zeros fill the last word of the
-    /// block. Nothing is allocated.
+    /// Writes the fixed part and the CSRC list of this header, and a block with these elements, to the
+    /// front of the buffer and returns how many bytes they take; the bytes after them stay as they were
+    /// (RFC 3550, 5.1; RFC 8285, 4.2 and 4.3). X is set whatever `has_extension` holds, and nothing is
+    /// written of `ext_vals`. Zeros fill the last word of the block. Nothing is allocated.
     ///
     /// Where `allowed` is `None` the block is in the one-byte form exactly where that can carry every
     /// element, ids 1 to 14 with 1 to 16 bytes of data. `Some` is the one form that it may have, as for
@@ -124,28 +123,28 @@ impl RtpHeader {
     /// the timestamp 10,000 and the SSRC 44, the 24 bytes are
     /// `90 21 B7 98 00 00 27 10 00 00 00 2C BE DE 00 02 10 AA 21 BB CC 00 00 00`. Where the two-byte
     /// form alone is allowed the last twelve are `10 00 00 02 01 01 AA 02 02 BB CC 00`.
-    pub fn write_with(
+    pub fn write_with<L: ElementList>(
         &self,
         buf: &mut [u8],
-        elements: &[(u8, &[u8])],
+        elements: L,
         allowed: Option<ExtensionsForm>,
     ) -> Option<usize>
         ensures refused { IsNone result
-            ↔ CannotBeWrittenWith self.now allowed (elements_of elements.now) (length buf.old) }
+            ↔ CannotBeWrittenWith self.now allowed (L.elements elements) (length buf.old) }
         ensures unchanged { IfNone result (buf.new ≡ buf.old) }
         ensures written { IfSome result (λ len.
-            buf.new ≡ wire_bytes_with self.now allowed (elements_of elements.now) ++ drop len buf.old) }
+            buf.new ≡ wire_bytes_with self.now allowed (L.elements elements) ++ drop len buf.old) }
         ensures length { IfSome result (λ len.
-            len ≡ length (wire_bytes_with self.now allowed (elements_of elements.now))) }
+            len ≡ length (wire_bytes_with self.now allowed (L.elements elements))) }
 
         // What was written, followed by anything, is a packet of the header's fields and this block.
         ensures read_back { IfSome result (λ _. (rest : List ℕ) →
-            IsPacket (wire_bytes_with self.now allowed (elements_of elements.now) ++ rest)
-            (parts_with self.now allowed (elements_of elements.now) rest)) }
+            IsPacket (wire_bytes_with self.now allowed (L.elements elements) ++ rest)
+            (parts_with self.now allowed (L.elements elements) rest)) }
 
         // The block has these elements.
-        ensures elements { IfSome result (λ _. AreElements (form_given allowed (elements_of elements.now))
-            (body_with allowed (elements_of elements.now)) (elements_of elements.now)) }
+        ensures elements { IfSome result (λ _. AreElements (form_given allowed (L.elements elements))
+            (body_with allowed (L.elements elements)) (L.elements elements)) }
     {
         if self.payload_type.get() > 127 || self.csrc_count > 15 {
             return None;

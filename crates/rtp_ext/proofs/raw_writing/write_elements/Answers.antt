@@ -1,9 +1,8 @@
 use Rattle.std.proofs.Common.{drop}
-use Rattle.rtp_ext.specs.ElementsInARow.{elements_of}
 use Rattle.rtp_ext.proofs.RawWritingLemmas.{AreElements-front}
 use Rattle.rtp_ext.proofs.raw_writing.write_elements.Goals as goal
 
 pub returns-clause-elements : goal.returns-clause-elements
-returns-clause-elements c zeros =
-    AreElements-front c.args.form (elements_of c.args.elements.now) c.put_elements.new.buf (drop c.put_elements.result c.args.buf.now) c.put_elements.result zeros
+returns-clause-elements g c zeros =
+    AreElements-front c.args.form (g.L.ElementList.elements c.args.elements) c.put_elements.new.buf (drop c.put_elements.result c.args.buf.now) c.put_elements.result zeros
     c.put_elements.ensures.length c.put_elements.ensures.written (c.put_elements.ensures.elements zeros)

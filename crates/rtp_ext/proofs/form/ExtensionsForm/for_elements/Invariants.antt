@@ -1,8 +1,8 @@
 use Rattle.std.proofs.Common.{drop}
-use Rattle.rtp_ext.specs.ElementsInARow.{elements_of}
 use Rattle.rtp_ext.proofs.ServingFormLemmas.{AreCounted}
 use Rattle.rtp_ext.proofs.form.ExtensionsForm.for_elements.Given as goal
 
 -- the elements that were passed are counted
-abbrev pub invariant-loop-id : goal.invariant-loop-id
-invariant-loop-id l = AreCounted l.fn.allowed (elements_of l.elements) (drop l.id-index (elements_of l.elements)) l.form l.room l.left
+abbrev pub invariant-loop-index : goal.invariant-loop-index
+invariant-loop-index g l =
+    AreCounted l.fn.allowed (g.L.ElementList.elements l.elements) (drop l.index (g.L.ElementList.elements l.elements)) l.form l.room l.left

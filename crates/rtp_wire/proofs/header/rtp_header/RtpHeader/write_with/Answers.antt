@@ -1,20 +1,19 @@
 use Rattle.std.proofs.Common.{rules, length, take, sym, arith}
 use Rattle.std.proofs.lemmas.Bool.{false≢true}
-use Rattle.rtp_ext.specs.ElementsInARow.{elements_of}
 use Rattle.rtp_wire.proofs.RoundTrip.{AllByRecursion-from_each}
 use Rattle.rtp_wire.proofs.WritingWithLemmas.{CanBeWrittenWith, ArePut, CannotBeWrittenWith-refused, CannotBeWrittenWith-not, wire_bytes_with-from_pieces, IsPacket-written_with}
 use Rattle.rtp_wire.proofs.header.rtp_header.RtpHeader.write_with.Goals as goal
 
 pub returns-in_err-form-clause-refused : goal.returns-in_err-form-clause-refused
-returns-in_err-form-clause-refused c = (
-  λ _. CannotBeWrittenWith-refused c.args.self.now c.args.allowed (elements_of c.args.elements.now) (length c.args.buf.now) c.saturating_sub.result (omega arith)
+returns-in_err-form-clause-refused g c = (
+  λ _. CannotBeWrittenWith-refused c.args.self.now c.args.allowed (g.L.ElementList.elements c.args.elements) (length c.args.buf.now) c.saturating_sub.result (omega arith)
       (omega (arith, c.saturating_sub.ensures)) c.in_err-form.ensures.refused,
   λ _. search rules,
 )
 
 -- it can be written, and its pieces were
-can : (c : goal.After-slice_known-4-1) → CanBeWrittenWith c.args.self.now c.args.allowed (elements_of c.args.elements.now) (length c.args.buf.now) c.saturating_sub.result c.in_ok-form.form
-can c = record {
+can : (g : _) (c : goal.After-slice_known-4-1 g) → CanBeWrittenWith c.args.self.now c.args.allowed (g.L.ElementList.elements c.args.elements) (length c.args.buf.now) c.saturating_sub.result c.in_ok-form.form
+can g c = record {
   payload_type = omega arith;
   count = omega arith;
   slots = omega arith;
@@ -24,9 +23,9 @@ can c = record {
   block_fits = c.in_ok-form.ensures.room;
 }
 
-are : (c : goal.After-slice_known-4-1) → ArePut c.args.self.now (elements_of c.args.elements.now) c.in_ok-form.form c.args.buf.now c.put-end.new.buf c.put_sources-end.new.buf c.write_block_of.new.buf
+are : (g : _) (c : goal.After-slice_known-4-1 g) → ArePut c.args.self.now (g.L.ElementList.elements c.args.elements) c.in_ok-form.form c.args.buf.now c.put-end.new.buf c.put_sources-end.new.buf c.write_block_of.new.buf
     c.fixed_bytes.result c.put-end.result c.put_sources-end.result c.write_block_of.result
-are c = record {
+are g c = record {
   fixed_is = c.fixed_bytes.ensures.bytes;
   one_is = c.put-end.ensures.written;
   first_is = c.put-end.ensures.end;
@@ -37,20 +36,20 @@ are c = record {
 }
 
 pub returns-clause-refused : goal.returns-clause-refused
-returns-clause-refused c = (
+returns-clause-refused g c = (
   λ some. absurd (false≢true (sym some)),
-  λ cannot. absurd (CannotBeWrittenWith-not c.args.self.now c.args.allowed (elements_of c.args.elements.now) (length c.args.buf.now) c.saturating_sub.result c.in_ok-form.form (can c) cannot),
+  λ cannot. absurd (CannotBeWrittenWith-not c.args.self.now c.args.allowed (g.L.ElementList.elements c.args.elements) (length c.args.buf.now) c.saturating_sub.result c.in_ok-form.form (can g c) cannot),
 )
 
 pub returns-clause-written : goal.returns-clause-written
-returns-clause-written c = (wire_bytes_with-from_pieces _ _ _ _ _ _ _ _ _ _ _ _ _ (can c) (are c)).1
+returns-clause-written g c = (wire_bytes_with-from_pieces _ _ _ _ _ _ _ _ _ _ _ _ _ (can g c) (are g c)).1
 
 pub returns-clause-length : goal.returns-clause-length
-returns-clause-length c = (wire_bytes_with-from_pieces _ _ _ _ _ _ _ _ _ _ _ _ _ (can c) (are c)).0
+returns-clause-length g c = (wire_bytes_with-from_pieces _ _ _ _ _ _ _ _ _ _ _ _ _ (can g c) (are g c)).0
 
 pub returns-clause-read_back : goal.returns-clause-read_back
-returns-clause-read_back c rest =
-    IsPacket-written_with c.args.self.now c.args.allowed (elements_of c.args.elements.now) c.in_ok-form.form rest (record {
+returns-clause-read_back g c rest =
+    IsPacket-written_with c.args.self.now c.args.allowed (g.L.ElementList.elements c.args.elements) c.in_ok-form.form rest (record {
       payload_type = omega arith;
       count = omega arith;
       slots = omega arith;
