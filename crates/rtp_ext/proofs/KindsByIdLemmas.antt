@@ -1,8 +1,7 @@
 -- The known extensions by their ids: what a table of kinds shows, and what the known extensions of a map read.
-use Rattle.std.proofs.Common.{◌≡◌, ℕ, ◌+◌, ◌-◌, ◌<◌, suc, zero, List, [], ◌∷◌, ◌++◌, length, map, take, drop, replicate, set, get_or, true, false, Option, Some, None, All, arith, ap, refl, sym, ◌∙◌, subst, append_assoc, length-drop}
-use Rattle.std.specs.Option.{is_some}
+use Rattle.std.proofs.Common.{◌≡◌, ℕ, ◌+◌, ◌-◌, suc, zero, List, [], ◌∷◌, length, map, take, drop, replicate, set, get_or, Option, Some, None, All, arith, ap, refl, sym, ◌∙◌, subst, length-drop}
 use Rattle.std.proofs.Math.ListN.{get_or-map}
-use Rattle.std.proofs.lemmas.List.{get_or_default, map-set, take_all}
+use Rattle.std.proofs.lemmas.List.{map-set, take_all}
 use Rattle.rtp_values.specs.declared.kind.Extension.{Extension}
 use Rattle.rtp_values.specs.declared.kind.Extension.TheVariants.{UnknownUri}
 use Rattle.rtp_values.specs.declared.known_kind.KnownKind.{KnownKind}
@@ -11,7 +10,7 @@ use Rattle.rtp_values.specs.Kind.{IsKnown}
 use Rattle.rtp_values.specs.Values.{IsWellFormed}
 use Rattle.rtp_values.proofs.KindLemmas.{one_kind}
 use Rattle.rtp_ext.specs.Elements.{Element}
-use Rattle.rtp_ext.specs.ExtensionMap.{Entry, Slots, IsEmpty, IsId, entry_at, extension_at, extension_of, items_from}
+use Rattle.rtp_ext.specs.ExtensionMap.{Entry, Slots, IsEmpty, IsId, entry_at, extension_at, extension_of}
 use Rattle.rtp_ext.specs.KindsById.{entry_of_kind, slots_of, known_alone, known_entry, known_slots}
 use Rattle.rtp_ext.specs.MapSlots.{mapped_ids, IsMapped}
 use Rattle.rtp_values.specs.KnownKind.{extension_of_kind}
@@ -19,7 +18,6 @@ use Rattle.rtp_ext.specs.BlockValues.{Carries, AreFields, last, none, AreValues}
 use Rattle.rtp_ext.specs.Memory.{HasAllocation, IsStopped}
 use Rattle.rtp_ext.proofs.ListingLemmas.{All-weaker}
 use Rattle.rtp_ext.proofs.MapLemmas.{entry_at-map}
-use Rattle.rtp_ext.proofs.MappedIdLemmas.{ids_from}
 
 -- ---- the table
 
@@ -92,56 +90,11 @@ pub none_there : (kinds : List (Option KnownKind)) (id : ℕ) → get_or kinds i
 none_there kinds zero nothing = refl
 none_there kinds (suc k) nothing = ap extension_of (entry_at-kinds kinds k ∙ ap entry_of_kind nothing)
 
--- ---- the mapped ids, one kind after another
-
+-- the mapped ids of the kinds after the first
 pub mapped-slots : (kinds : List (Option KnownKind)) (ids : List ℕ) → length kinds ≡ 256 → ids ≡ mapped_ids (map entry_of_kind (take 255 (drop 1 kinds)))
     → ids ≡ mapped_ids (slots_of kinds)
 mapped-slots kinds ids long is =
     is ∙ ap (λ (left : List (Option KnownKind)). mapped_ids (map entry_of_kind left)) (take_all 255 (drop 1 kinds) (omega (arith, long, length-drop 1 kinds)))
-
-left_at : (kinds : List (Option KnownKind)) (index : ℕ) → index < length kinds
-    → drop index (map entry_of_kind kinds) ≡ entry_of_kind (get_or kinds index None) ∷ drop (suc index) (map entry_of_kind kinds)
-left_at [] index here = absurd (omega (arith, here))
-left_at (kind ∷ kinds) zero here = refl
-left_at (kind ∷ kinds) (suc index) here = left_at kinds index (omega (arith, here))
-
--- the ids from an index on, where a kind stands there and where none does
-ids_with : (index : ℕ) (kind : Option KnownKind) (left : Slots) → is_some kind ≡ true
-    → map (λ item. item.0) (items_from index (entry_of_kind kind ∷ left)) ≡ (index + 1) ∷ map (λ item. item.0) (items_from (index + 1) left)
-ids_with index None left some = cc
-ids_with index (Some kind) left some = refl
-
-ids_without : (index : ℕ) (kind : Option KnownKind) (left : Slots) → is_some kind ≡ false
-    → map (λ item. item.0) (items_from index (entry_of_kind kind ∷ left)) ≡ map (λ item. item.0) (items_from (index + 1) left)
-ids_without index None left missing = refl
-ids_without index (Some kind) left missing = cc
-
-ids_from-step : (kinds : List (Option KnownKind)) (index : ℕ) → index < length kinds
-    → ids_from (map entry_of_kind kinds) index
-    ≡ map (λ item. item.0) (items_from index (entry_of_kind (get_or kinds index None) ∷ drop (index + 1) (map entry_of_kind kinds)))
-ids_from-step kinds index here =
-    let next : suc index ≡ index + 1 = omega arith in
-    ap (λ (left : Slots). map (λ item. item.0) (items_from index left))
-    (left_at kinds index here ∙ ap (λ (n : ℕ). entry_of_kind (get_or kinds index None) ∷ drop n (map entry_of_kind kinds)) next)
-
-pub ids-pushed : (kinds : List (Option KnownKind)) (index : ℕ) (d : Option KnownKind) (mapped after all : List ℕ) → index < length kinds → is_some (get_or kinds index d) ≡ true
-    → mapped ++ ids_from (map entry_of_kind kinds) index ≡ all → after ≡ mapped ++ (index + 1) ∷ []
-    → after ++ ids_from (map entry_of_kind kinds) (index + 1) ≡ all
-ids-pushed kinds index d mapped after all here some so_far pushed =
-    let left = drop (index + 1) (map entry_of_kind kinds) in
-    ap (λ (ids : List ℕ). ids ++ ids_from (map entry_of_kind kinds) (index + 1)) pushed
-    ∙ append_assoc mapped ((index + 1) ∷ []) (ids_from (map entry_of_kind kinds) (index + 1))
-    ∙ ap (λ (ids : List ℕ). mapped ++ ids) (sym (ids_from-step kinds index here ∙ ids_with index (get_or kinds index None) left (ap is_some (get_or_default kinds index None d here) ∙ some)))
-    ∙ so_far
-
-pub ids-passed : (kinds : List (Option KnownKind)) (index : ℕ) (d : Option KnownKind) (mapped after all : List ℕ) → index < length kinds → is_some (get_or kinds index d) ≡ false
-    → mapped ++ ids_from (map entry_of_kind kinds) index ≡ all → after ≡ mapped → after ++ ids_from (map entry_of_kind kinds) (index + 1) ≡ all
-ids-passed kinds index d mapped after all here missing so_far same =
-    let left = drop (index + 1) (map entry_of_kind kinds) in
-    let step = ids_without index (get_or kinds index None) left (ap is_some (get_or_default kinds index None d here) ∙ missing) in
-    ap (λ (ids : List ℕ). ids ++ ids_from (map entry_of_kind kinds) (index + 1)) same
-    ∙ ap (λ (ids : List ℕ). mapped ++ ids) (sym (ids_from-step kinds index here ∙ step))
-    ∙ so_far
 
 -- ---- the known extensions of a map
 

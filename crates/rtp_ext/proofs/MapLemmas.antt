@@ -1,6 +1,6 @@
 -- The map of extension ids: what an id stands for once slots have changed.
-use Rattle.std.proofs.Common.{◌≡◌, ◌≢◌, ℕ, ◌+◌, ◌-◌, ◌<◌, ◌⊎◌, inl, inr, suc, zero, List, ◌∷◌, length, map, drop, get_or, set, Option, Some, None, arith, ap, refl, sym, ◌∙◌, subst, get_or-set_same, get_or-set_other, ◌==◌, if◌then◌else◌}
-use Rattle.std.proofs.lemmas.List.{get_or_past, get_or_default, length-map, length-set}
+use Rattle.std.proofs.Common.{◌≡◌, ◌≢◌, ℕ, ◌+◌, ◌<◌, ◌⊎◌, inl, inr, suc, zero, List, ◌∷◌, length, map, drop, get_or, set, Option, Some, None, arith, ap, refl, sym, ◌∙◌, subst, get_or-set_same, get_or-set_other, ◌==◌, if◌then◌else◌}
+use Rattle.std.proofs.lemmas.List.{get_or_past, length-map, length-set}
 use Rattle.std.proofs.Math.ListN.{get_or-map}
 use Rattle.std.proofs.Math.Seq.{drop-cons}
 use Rattle.std.proofs.lemmas.List.Edits.{Swapped, swapped_from_swap}
@@ -10,7 +10,6 @@ use Rattle.std.proofs.lemmas.Bool.{cases_lt, eq-eqb, ne_eqb}
 use Rattle.std.proofs.lemmas.Bool.Decides.{eqb_tells}
 use Rattle.rtp_values.specs.declared.kind.Extension.{Extension}
 use Rattle.rtp_ext.specs.declared.map.TheConstants.{MAX_ID}
-use Rattle.rtp_ext.specs.MapSlots.{IsFirstSlot, IsMapped}
 use Rattle.rtp_ext.specs.ExtensionMap.{Entry, Slots, IsEmpty, IsId, entry_at, extension_at, extension_of, Sets, Exchanges, IsRenumbered, IsLocked, IsLockedAt, locked, IsLowest, Remaps, AreRemapped, same_slot, moved}
 
 -- nothing stands in a index where nothing does in any
@@ -25,17 +24,6 @@ IsEmpty-from_each slots each (suc k) = elim (cases_lt k (length slots)) [
 pub entry_at-slot : (slots : Slots) (k id : ℕ) → k + 1 ≡ id → entry_at slots id ≡ get_or slots k None
 entry_at-slot slots k zero is = absurd (omega arith)
 entry_at-slot slots k (suc j) is = ap (λ (index : ℕ). get_or slots index None) (omega arith)
-
--- the slot of a mapped id, as it is read
-pub entry_at-mapped : (slots : Slots) (id index : ℕ) (slot : Option Entry) → IsMapped slots id → index ≡ id - 1 → slot ≡ get_or slots index slot
-    → entry_at slots id ≡ slot
-entry_at-mapped slots zero index slot mapped at is = let found = mapped.1 in cc
-entry_at-mapped slots (suc k) index slot mapped at is = elim (cases_lt k (length slots)) [
-  | inl here ↦
-      let same : k ≡ index = omega arith in
-      get_or_default slots k None slot here ∙ (ap (λ (i : ℕ). get_or slots i slot) same ∙ sym is)
-  | inr past ↦ let found = sym (get_or_past slots k None past) ∙ mapped.1 in cc
-]
 
 -- two lists that differ in one index
 pub entry_at-other : (slots new : Slots) (index id : ℕ) → index + 1 ≡ id
@@ -143,16 +131,17 @@ IsRenumbered-exchanged old new from to extension apart was change = record {
 }
 
 -- the first index in which an extension stands has its lowest id
-pub IsLowest-from_first : (slots : Slots) (extension : Extension) (index : ℕ) → IsFirstSlot slots extension index
+pub IsLowest-from_first : (slots : Slots) (extension : Extension) (index : ℕ)
+    → extension_of (get_or slots index None) ≡ Some extension → ((k : ℕ) → k < index → extension_of (get_or slots k None) ≢ Some extension)
     → IsLowest slots extension (index + 1)
-IsLowest-from_first slots extension index first = record {
-  mapped = ap extension_of (entry_at-slot slots index (index + 1) refl) ∙ first.here;
+IsLowest-from_first slots extension index here earlier = record {
+  mapped = ap extension_of (entry_at-slot slots index (index + 1) refl) ∙ here;
   lowest = before;
 }
   where
     before : (k : ℕ) → k < index + 1 → extension_at slots k ≢ Some extension
     before zero below is = cc
-    before (suc k) below is = first.before k (omega arith) is
+    before (suc k) below is = earlier k (omega arith) is
 
 -- an extension with its entry locked
 lock-of : (slot : Option Entry) (extension : Extension) → extension_of slot ≡ Some extension
@@ -165,12 +154,12 @@ pub record IsStep (old new : Slots) (id : ℕ) (extension : Extension) : Type 0 
   pub step : Remaps old id extension new
   pub renumbered : IsRenumbered old new
 
--- the entry of the first index is locked, and exchanged with what stands in the index of the id
-pub IsStep-exchanged : (old new : Slots) (from to id : ℕ) (extension : Extension) → length old ≡ MAX_ID → to + 1 ≡ id → to < MAX_ID
-    → IsFirstSlot old extension from → ((from ≡ to) ⊎ ((from ≢ to) × (IsLocked (get_or old from None) → ⊥)))
+-- the entry of the lowest id is locked, and exchanged with what stands in the index of the id
+pub IsStep-exchanged : (old new : Slots) (from to id : ℕ) (extension : Extension) → length old ≡ MAX_ID → to + 1 ≡ id → (to < MAX_ID) × (from < MAX_ID)
+    → IsLowest old extension (from + 1) → ((from ≡ to) ⊎ ((from ≢ to) × (IsLocked (get_or old from None) → ⊥)))
     → new ≡ swap (set old from (option_map (λ entry. locked entry.extension) (get_or old from None))) from to
     → IsStep old new id extension
-IsStep-exchanged old new from to id extension long index within first free is =
+IsStep-exchanged old new from to id extension long index within lowest free is =
     elim free [
       | inl same ↦
           let sets : Sets old new id (locked extension) = record {
@@ -198,22 +187,25 @@ IsStep-exchanged old new from to id extension long index within first free is =
     ]
   where
     is_id : IsId id
-    is_id = (omega (arith, index), omega (arith, index, within))
+    is_id = (omega (arith, index), omega (arith, index, within.0))
 
-    lowest : IsLowest old extension (from + 1)
-    lowest = IsLowest-from_first old extension from first
+    inside : from < length old
+    inside = omega (arith, long, within.1)
+
+    here : extension_of (get_or old from None) ≡ Some extension
+    here = ap extension_of (sym (entry_at-slot old from (from + 1) refl)) ∙ lowest.mapped
 
     middle : Slots
     middle = set old from (Some (locked extension))
 
     swapped : Swapped (λ k. get_or middle k None) (λ k. get_or new k None) from to
     swapped = swapped_from_swap middle new from to None
-        (omega (arith, first.within, length-set old from (Some (locked extension))))
-        (omega (arith, long, within, length-set old from (Some (locked extension))))
-        (is ∙ ap (λ entry. swap (set old from entry) from to) (lock-of (get_or old from None) extension first.here))
+        (omega (arith, inside, length-set old from (Some (locked extension))))
+        (omega (arith, long, within.0, length-set old from (Some (locked extension))))
+        (is ∙ ap (λ entry. swap (set old from entry) from to) (lock-of (get_or old from None) extension here))
 
     at_to : get_or new to None ≡ Some (locked extension)
-    at_to = swapped.1 ∙ get_or-set_same old from (Some (locked extension)) None first.within
+    at_to = swapped.1 ∙ get_or-set_same old from (Some (locked extension)) None inside
 
     at_from : from ≢ to → get_or new from None ≡ get_or old to None
     at_from apart = swapped.0 ∙ get_or-set_other old from to (Some (locked extension)) None (λ same. apart (sym same))
@@ -225,17 +217,21 @@ IsStep-exchanged old new from to id extension long index within first free is =
     others zero not_from not_id = refl
     others (suc k) not_from not_id = elsewhere k (λ same. not_from (omega arith)) (λ same. not_id (omega arith))
 
+-- what the items from an index on give
+pub left_from : {X Y : Type 0} (f : X → Y) (items : List X) (i : ℕ) (item : X) → i < length items → item ≡ get_or items i item
+    → drop i (map f items) ≡ f item ∷ drop (i + 1) (map f items)
+left_from f items i item here is =
+    let first : get_or (map f items) i (f item) ≡ f item = get_or-map f items i item ∙ ap f (sym is) in
+    let next : suc i ≡ i + 1 = omega arith in
+    drop-cons (map f items) i (f item) (omega (arith, here, length-map items f))
+    ∙ (ap (λ s. s ∷ drop (suc i) (map f items)) first ∙ ap (λ (k : ℕ). f item ∷ drop k (map f items)) next)
+
 -- a step more at the front of those that are left
 pub AreRemapped-more : {X : Type 0} (f : X → ℕ × Extension) (steps : List X) (i : ℕ) (step : X) (old between new : Slots)
     → i < length steps → step ≡ get_or steps i step → Remaps old (f step).0 (f step).1 between
     → AreRemapped between (drop (i + 1) (map f steps)) new → AreRemapped old (drop i (map f steps)) new
 AreRemapped-more f steps i step old between new here is one rest =
-    let first : get_or (map f steps) i (f step) ≡ f step = get_or-map f steps i step ∙ ap f (sym is) in
-    let next : suc i ≡ i + 1 = omega arith in
-    let split : drop i (map f steps) ≡ f step ∷ drop (i + 1) (map f steps) =
-    drop-cons (map f steps) i (f step) (omega (arith, here, length-map steps f))
-    ∙ (ap (λ s. s ∷ drop (suc i) (map f steps)) first ∙ ap (λ (k : ℕ). f step ∷ drop k (map f steps)) next) in
-    subst (λ ss. AreRemapped old ss new) (sym split) (between, one, rest)
+    subst (λ ss. AreRemapped old ss new) (sym (left_from f steps i step here is)) (between, one, rest)
 
 -- what an id stands for, once each index has been changed alike and an empty one stays so
 pub entry_at-map : (f : Option Entry → Option Entry) (slots : Slots) (id : ℕ) → f None ≡ None

@@ -1,5 +1,5 @@
 -- The list of the mapped ids, and one more id in it.
-use Rattle.std.proofs.Common.{◌≡◌, ℕ, ◌+◌, ◌-◌, ◌<◌, ◌≤◌, suc, zero, List, [], ◌∷◌, ◌++◌, length, map, take, drop, set, get_or, Bool, true, false, Option, Some, None, All, arith, ap, refl, sym, ◌∙◌, le-ltb, lt-ltb, length-take-le, length-append, length-drop}
+use Rattle.std.proofs.Common.{◌≡◌, ℕ, ◌+◌, ◌-◌, ◌<◌, ◌≤◌, suc, zero, List, [], ◌∷◌, ◌++◌, length, map, take, drop, set, get_or, Bool, true, false, Option, Some, None, All, arith, ap, refl, sym, ◌∙◌, le-ltb, lt-ltb, length-take-le, length-append, length-drop, append_assoc}
 use Rattle.std.specs.List.{copy_within}
 use Rattle.std.proofs.Math.Seq.{take-set-lt, drop-append_seam}
 use Rattle.std.specs.Option.{is_some}
@@ -10,7 +10,7 @@ use Rattle.rtp_ext.specs.ExtensionMap.{items_from}
 use Rattle.rtp_ext.specs.MapSlots.{mapped_ids, items_at, inserted, IsMapped}
 use Rattle.rtp_ext.specs.ExtensionMap.{Entry, Slots, IsEmpty, entry_at, extension_of}
 use Rattle.rtp_ext.proofs.ListingLemmas.{All-head, above_passed, items_from-empty, IsListing-from_slots}
-use Rattle.rtp_ext.proofs.MapLemmas.{entry_at-slot}
+use Rattle.rtp_ext.proofs.MapLemmas.{entry_at-slot, left_from}
 use Rattle.std.specs.Prelude.{◌↔◌, ◌==◌, IsTrue}
 use Rattle.std.specs.Option.{option_map}
 use Rattle.std.specs.List.{cons_option, AllByRecursion}
@@ -87,6 +87,43 @@ ids_from slots index = map (λ item. item.0) (items_from index (drop index slots
 -- the ids of some entries
 abbrev ids_of : List (ℕ × Extension) → List ℕ
 ids_of items = map (λ item. item.0) items
+
+-- the ids from an index on, where an entry stands there and where none does
+ids_with : (index : ℕ) (slot : Option Entry) (left : Slots) → is_some slot ≡ true
+    → ids_of (items_from index (slot ∷ left)) ≡ (index + 1) ∷ ids_of (items_from (index + 1) left)
+ids_with index None left some = cc
+ids_with index (Some entry) left some = refl
+
+ids_without : (index : ℕ) (slot : Option Entry) (left : Slots) → is_some slot ≡ false
+    → ids_of (items_from index (slot ∷ left)) ≡ ids_of (items_from (index + 1) left)
+ids_without index None left missing = refl
+ids_without index (Some entry) left missing = cc
+
+-- an id more is listed, and one is passed over
+pub ids-pushed : {X : Type 0} (entry : X → Option Entry) (items : List X) (index : ℕ) (item : X) (mapped after all : List ℕ)
+    → index < length items → item ≡ get_or items index item → is_some (entry item) ≡ true
+    → mapped ++ ids_from (map entry items) index ≡ all → after ≡ mapped ++ (index + 1) ∷ [] → after ++ ids_from (map entry items) (index + 1) ≡ all
+ids-pushed entry items index item mapped after all here is some so_far pushed =
+    let later = ids_from (map entry items) (index + 1) in
+    let step : ids_from (map entry items) index ≡ (index + 1) ∷ later =
+    ap (λ (left : Slots). ids_of (items_from index left)) (left_from entry items index item here is)
+    ∙ ids_with index (entry item) (drop (index + 1) (map entry items)) some in
+    ap (λ (ids : List ℕ). ids ++ later) pushed
+    ∙ append_assoc mapped ((index + 1) ∷ []) later
+    ∙ ap (λ (ids : List ℕ). mapped ++ ids) (sym step)
+    ∙ so_far
+
+pub ids-passed : {X : Type 0} (entry : X → Option Entry) (items : List X) (index : ℕ) (item : X) (mapped after all : List ℕ)
+    → index < length items → item ≡ get_or items index item → is_some (entry item) ≡ false
+    → mapped ++ ids_from (map entry items) index ≡ all → after ≡ mapped → after ++ ids_from (map entry items) (index + 1) ≡ all
+ids-passed entry items index item mapped after all here is missing so_far same =
+    let later = ids_from (map entry items) (index + 1) in
+    let step : ids_from (map entry items) index ≡ later =
+    ap (λ (left : Slots). ids_of (items_from index left)) (left_from entry items index item here is)
+    ∙ ids_without index (entry item) (drop (index + 1) (map entry items)) missing in
+    ap (λ (ids : List ℕ). ids ++ later) same
+    ∙ ap (λ (ids : List ℕ). mapped ++ ids) (sym step)
+    ∙ so_far
 
 -- an id below all others stands first
 inserted-first : (id : ℕ) (items : List (ℕ × Extension)) → All (λ item. id < item.0) items → inserted id (ids_of items) ≡ id ∷ ids_of items

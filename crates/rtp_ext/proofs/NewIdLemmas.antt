@@ -1,7 +1,7 @@
 -- The ids that elements have under another map, and what a form can carry of them.
-use Rattle.std.proofs.Common.{◌≡◌, ℕ, zero, suc, ◌≤◌, ◌<◌, List, [], ◌∷◌, length, Bool, true, false, ◌&&◌, Option, Some, None, IfSome, All, ◌+◌, get_or, set, map, drop, length-set, nat_le, ◌↔◌, inl, inr, IsTrue, arith, refl, sym, ap, ◌∙◌, subst}
+use Rattle.std.proofs.Common.{◌≡◌, ℕ, zero, suc, ◌≤◌, ◌<◌, List, [], ◌∷◌, length, Bool, true, ◌&&◌, Option, Some, None, IfSome, All, ◌+◌, get_or, set, map, drop, length-set, nat_le, ◌↔◌, inl, inr, IsTrue, arith, refl, sym, ap, ◌∙◌, subst}
 use Rattle.std.specs.List.{AllByRecursion, filter_map, list_all}
-use Rattle.std.proofs.lemmas.Bool.{and_parts, leb-true, le-leb, false≢true, cases_lt}
+use Rattle.std.proofs.lemmas.Bool.{and_parts, leb-true, le-leb, cases_lt}
 use Rattle.std.proofs.Math.ListN.{get_or-map}
 use Rattle.std.proofs.lemmas.List.{get_or_past, get_or-set_same, get_or-set_other, map-set, length-map}
 use Rattle.std.proofs.lemmas.List.Elements.{All-nil, All-cons, All-head, All-tail}

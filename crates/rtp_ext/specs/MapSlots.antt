@@ -1,24 +1,18 @@
 -- The slots of a map as the code goes through them: that of id 1 is index 0.
-use Rattle.std.specs.Prelude.{◌≡◌, ◌≢◌, ℕ, ◌-◌, ◌<◌, ◌≤◌, nat_lt, if◌then◌else◌, List, [], ◌∷◌, ◌++◌, length, map, take, drop, replicate, Option, Some, None, slice_index_or}
+use Rattle.std.specs.Prelude.{◌≡◌, ℕ, ◌-◌, ◌<◌, ◌≤◌, nat_lt, if◌then◌else◌, List, [], ◌∷◌, ◌++◌, length, map, take, drop, replicate, Option, Some, None}
 use Rattle.std.specs.Option.{option_map}
 use Rattle.std.specs.List.{filter_map}
 use Rattle.std.proofs.Common.{sym, ap, ◌∙◌, length-take-le, take-append-drop}
 use Rattle.rtp_values.specs.declared.kind.Extension.{Extension}
 use Rattle.rtp_ext.specs.declared.slots.Mapping.{Mapping}
 use Rattle.rtp_ext.specs.declared.slots.Mapping.TheVariants as mapping
-use Rattle.rtp_ext.specs.ExtensionMap.{Entry, Slots, entry_at, extension_of, extension_at, unlocked, locked, items_from}
+use Rattle.rtp_ext.specs.ExtensionMap.{Entry, Slots, entry_at, extension_at, unlocked, locked, items_from}
 
 -- the entry in a slot
 abbrev pub entry_of : Mapping → Option Entry
 entry_of mapping.Unmapped = None
 entry_of (mapping.Free extension) = Some (unlocked extension)
 entry_of (mapping.Locked extension) = Some (locked extension)
-
--- the first index whose slot has the extension
-pub record IsFirstSlot (map : Slots) (extension : Extension) (index : ℕ) : Type 0 where
-  pub within : index < length map
-  pub here : extension_of (slice_index_or map index None) ≡ Some extension
-  pub before : (k : ℕ) → k < index → extension_of (slice_index_or map k None) ≢ Some extension
 
 -- the id has an entry
 abbrev pub IsMapped : Slots → ℕ → Type 0

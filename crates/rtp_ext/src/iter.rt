@@ -55,7 +55,7 @@ impl<'a> Iterator for Iter<'a> {
     fn next(&mut self) -> Option<(u8, &'a Extension)> {
         let (id, left) = self.left.split_first()?;
         self.left = left;
-        Some((*id, slots::mapped_extension(self.slots, *id)))
+        Some((*id, slots::extension(self.slots, *id).unwrap()))
     }
 }
 

@@ -10,7 +10,7 @@ ghost use Rattle.rtp_ext.specs.MapSlots.{items_at, mapped_ids, IsMapped};
 
 use super::kinds::is_long;
 use super::map::MAX_ID;
-use super::mapped_ids::MappedIds;
+use super::mapped_ids::{Mapped, MappedIds};
 use super::slots::Slot;
 use rtp_values::KnownKind;
 use std::marker::Model;
@@ -62,6 +62,16 @@ impl Model for KindsById {
     } };
 }
 
+impl Mapped for Option<KnownKind> {
+    ghost use Rattle.rtp_ext.specs.KindsById.{entry_of_kind};
+
+    ghost entry = { entry_of_kind };
+
+    fn is_mapped(&self) -> bool {
+        self.is_some()
+    }
+}
+
 impl KindsById {
     // A table in which no id is mapped.
     pub(super) fn empty() -> Self
@@ -81,7 +91,7 @@ impl KindsById {
     {
         let mut kinds = [None; IDS];
         copy_known(slots, &mut kinds[1..]);
-        let mapped = MappedIds::of_kinds(&kinds[1..]);
+        let mapped = MappedIds::of(&kinds[1..]);
         let is_long = has_long(&kinds, mapped.as_slice());
         KindsById {
             kinds,
@@ -117,7 +127,7 @@ impl KindsById {
         let old = self.kinds[usize::from(id)];
         self.kinds[usize::from(id)] = kind;
         if old.is_some() {
-            self.mapped = MappedIds::of_kinds(&self.kinds[1..]);
+            self.mapped = MappedIds::of(&self.kinds[1..]);
             self.is_long = has_long(&self.kinds, self.mapped.as_slice());
         } else if let Some(kind) = kind {
             self.mapped.insert(id);
@@ -145,24 +155,15 @@ impl KindsById {
     }
 }
 
-// The kind of a mapped id.
-#[tactic(auto, using(crate::proofs::KindsByIdLemmas::kind_there, crate::proofs::KindsByIdLemmas::extension_there))]
-fn mapped_kind(kinds: &[Option<KnownKind>], id: u8) -> KnownKind
-    requires length { length kinds.now ≡ IDS }
-    requires mapped { IsMapped (slots_of kinds.now) id }
-    ensures { extension_at (slots_of kinds.now) id ≡ Some (extension_of_kind result) }
-{
-    kinds[usize::from(id)].unwrap()
-}
-
 // Whether the one-byte form can't carry one of the elements of these ids, all of which are mapped.
+#[tactic(auto, using(crate::proofs::KindsByIdLemmas::kind_there, crate::proofs::KindsByIdLemmas::extension_there))]
 fn has_long(kinds: &[Option<KnownKind>], ids: &[u8]) -> bool
     requires length { length kinds.now ≡ IDS }
     requires mapped { AllByRecursion (IsMapped (slots_of kinds.now)) ids.now }
     ensures { result ≡ list_any is_long_item (items_at (slots_of kinds.now) ids.now) }
 {
     for id in ids {
-        if is_long(*id, mapped_kind(kinds, *id)) {
+        if is_long(*id, kinds[usize::from(*id)].unwrap()) {
             return true;
         }
     }

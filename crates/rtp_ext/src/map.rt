@@ -9,7 +9,7 @@ ghost use Rattle.rtp_ext.specs.EqualMaps.{same_slots, same_slots-equiv};
 use super::iter::write_entries;
 use super::kinds::{Cursor, Kinds};
 use super::kinds_by_id::KindsById;
-use super::mapped_ids::MappedIds;
+use super::mapped_ids::{Mapped, MappedIds};
 use super::slots::Slot;
 use super::{Iter, IterByMediaType, MAX_ID_ONE_BYTE_FORM, slots};
 use rtp_values::{Extension, KnownKind};

@@ -2,13 +2,24 @@
 
 ghost use Rattle.std.specs.Prelude.{◌≡◌, ◌<◌, ◌≤◌, ◌∷◌, ◌++◌, [], length, take, drop, map, nat_lt, slice_index, IfSome, IfNone};
 ghost use Rattle.std.specs.List.{list_any};
-ghost use Rattle.rtp_ext.specs.KindsById.{entry_of_kind};
 ghost use Rattle.rtp_ext.specs.MapSlots.{mapped_ids, inserted, RiseAbove};
 
 use super::map::MAX_ID;
-use super::slots::Slot;
-use rtp_values::KnownKind;
 use std::marker::Model;
+
+// What an id is mapped to, if to anything.
+pub(super) trait Mapped {
+    ghost use Rattle.std.specs.Prelude.{◌≡◌, Option};
+    ghost use Rattle.std.specs.Option.{is_some};
+    ghost use Rattle.rtp_ext.specs.ExtensionMap.{Entry};
+
+    // The entry that this is in a map.
+    ghost entry: { Self → Option Entry };
+
+    // Whether the id is mapped.
+    fn is_mapped(&self) -> bool
+        ensures { result ≡ is_some (entry self.now) };
+}
 
 // The mapped ids, rising.
 #[derive(Clone, Copy)]
@@ -60,28 +71,14 @@ impl MappedIds {
         self.count += 1;
     }
 
-    // The ids that have an entry.
-    pub(super) fn of(slots: &[Slot]) -> Self
+    // The ids that are mapped, where this is what the ids from 1 on are mapped to.
+    pub(super) fn of<T: Mapped>(slots: &[T]) -> Self
         requires { length slots.now ≡ MAX_ID }
-        ensures { result ≡ mapped_ids slots.now }
+        ensures { result ≡ mapped_ids (map T.entry slots.now) }
     {
         let mut mapped = Self::none();
         for (index, slot) in slots.iter().enumerate() {
             if slot.is_mapped() {
-                mapped.push(index as u8 + 1);
-            }
-        }
-        mapped
-    }
-
-    // The ids that have a kind.
-    pub(super) fn of_kinds(kinds: &[Option<KnownKind>]) -> Self
-        requires { length kinds.now ≡ MAX_ID }
-        ensures { result ≡ mapped_ids (map entry_of_kind kinds.now) }
-    {
-        let mut mapped = Self::none();
-        for (index, kind) in kinds.iter().enumerate() {
-            if kind.is_some() {
                 mapped.push(index as u8 + 1);
             }
         }

@@ -2,14 +2,14 @@
 
 ghost use Rattle.std.specs.Prelude.{◌≡◌, ◌≢◌, ◌↔◌, ℕ, ◌+◌, ◌<◌, ◌≤◌, length, slice_index_or, map, IsTrue, IsOk, IfOk, Some, None, IfSome, IfNone, All};
 ghost use Rattle.std.specs.Cmp.{partial_equiv_from_equiv};
-ghost use Rattle.std.specs.Option.{is_some, option_copied, option_map};
+ghost use Rattle.std.specs.Option.{option_copied, option_map};
 ghost use Rattle.rtp_values.specs.Kind.{IsKnown};
 ghost use Rattle.rtp_ext.specs.EqualMaps.{same_slot, same_slot-equiv};
 ghost use Rattle.rtp_ext.specs.KindsById.{entry_of_kind, known_entry};
-ghost use Rattle.rtp_ext.specs.MapSlots.{IsFirstSlot, IsMapped};
 ghost use Rattle.rtp_ext.specs.ExtensionMap as spec;
 
 use super::map::MAX_ID;
+use super::mapped_ids::Mapped;
 use rtp_values::{Extension, KnownKind};
 use std::alloc::{AllocError, Global};
 use std::marker::Model;
@@ -78,6 +78,14 @@ impl From<Extension> for Slot {
     }
 }
 
+impl Mapped for Slot {
+    ghost entry = { λ slot. slot };
+
+    fn is_mapped(&self) -> bool {
+        self.extension().is_some()
+    }
+}
+
 impl Slot {
     // Of an id that isn't mapped.
     pub(super) fn unmapped() -> Self
@@ -103,13 +111,6 @@ impl Slot {
         ensures { entry_of_kind result ≡ known_entry self.now }
     {
         self.extension()?.known_kind()
-    }
-
-    // Whether the id is mapped.
-    pub(super) fn is_mapped(&self) -> bool
-        ensures { result ≡ is_some self.now }
-    {
-        self.extension().is_some()
     }
 
     // Whether the id is mapped to this extension.
@@ -181,35 +182,19 @@ pub(super) fn slot_of(id: u8) -> Option<usize>
 
 // The extension of an id.
 pub(super) fn extension(slots: &[Slot], id: u8) -> Option<&Extension>
-    requires { length slots.now ≡ MAX_ID }
     ensures { option_copied result ≡ spec.extension_at slots.now id }
 {
     slots.get(usize::from(id).checked_sub(1)?)?.extension()
-}
-
-// The extension of a mapped id.
-pub(super) fn mapped_extension(slots: &[Slot], id: u8) -> &Extension
-    requires { IsMapped slots.now id }
-    ensures { spec.extension_at slots.now id ≡ Some result.now }
-{
-    slots[usize::from(id) - 1].extension().unwrap()
-}
-
-// The first index whose slot holds the extension.
-fn slot_with(slots: &[Slot], ext: &Extension) -> Option<usize>
-    ensures found { IfSome result (IsFirstSlot slots.now ext.now) }
-    ensures none { IfNone result (spec.IsUnmapped slots.now ext.now) }
-{
-    slots.iter().position(|slot| slot.holds(ext))
 }
 
 // The lowest id that is mapped to the extension.
 pub(super) fn id_of(slots: &[Slot], ext: &Extension) -> Option<u8>
     requires { length slots.now ≡ MAX_ID }
     ensures found { IfSome result (spec.IsLowest slots.now ext.now) }
+    ensures valid { IfSome result spec.IsId }
     ensures none { IfNone result (spec.IsUnmapped slots.now ext.now) }
 {
-    let index = slot_with(slots, ext)?;
+    let index = slots.iter().position(|slot| slot.holds(ext))?;
     Some(index as u8 + 1)
 }
 
@@ -230,9 +215,10 @@ fn remap_one(slots: &mut [Slot], id: u8, ext: &Extension)
     ensures renumbered { spec.IsRenumbered slots.old slots.new }
 {
     let Some(to) = slot_of(id) else { return };
-    let Some(from) = slot_with(slots, ext) else {
+    let Some(lowest) = id_of(slots, ext) else {
         return
     };
+    let from = usize::from(lowest) - 1;
     if from != to && slots[from].is_locked() {
         return;
     }

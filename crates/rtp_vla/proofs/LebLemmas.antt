@@ -259,6 +259,11 @@ reads_only bytes o value rest is reads =
     let same = read-ReadsLeb bytes value rest reads in
     (sym at.0 ∙ same.0, sym at.1 ∙ same.1)
 
+-- no byte spells none
+pub empty_read : (bytes : List ℕ) → length bytes ≡ 0 → None ≡ leb_number 9 bytes
+empty_read [] none = sym (leb_number-nil 8)
+empty_read (byte ∷ bytes) none = absurd (omega (arith, none))
+
 -- a byte below 128 is a number by itself
 pub first_read : (bytes : List ℕ) (byte : ℕ) (rest : List ℕ) → bytes ≡ byte ∷ rest → byte < 128 → read_as byte 1 ≡ leb_number 9 bytes
 first_read bytes byte rest is low = sym (ap (leb_number 9) is ∙ leb_number-low 8 byte rest low)

@@ -6,7 +6,7 @@ ghost use Rattle.rtp_vla.specs.Leb.{IsShortest, ReadsLeb, shortest_of};
 ghost use Rattle.rtp_vla.specs.LebReading.{leb_number};
 
 // The number at the front, and how many bytes spell it. It is apart, so that the numbers of one byte
-// are read where they are asked for.
+// are read where they are asked for, and no call is made where no byte is left.
 #[inline(never)]
 fn number_at(buf: &[u8]) -> Option<(u64, usize)>
     ensures read { result ≡ leb_number 9 buf.now }
@@ -42,11 +42,11 @@ pub fn parse_leb_u63(buf: &[u8]) -> (u64, &[u8])
         if *first < 0x80 {
             return (u64::from(*first), after);
         }
+        if let Some((value, len)) = number_at(buf) {
+            return (value, &buf[len..]);
+        }
     }
-    match number_at(buf) {
-        Some((value, len)) => (value, &buf[len..]),
-        None => (0, buf),
-    }
+    (0, buf)
 }
 
 // How many bytes the shortest spelling has.

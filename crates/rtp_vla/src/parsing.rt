@@ -13,12 +13,10 @@ use super::streams::{put_streams, streams_of};
 use super::video_layers::VideoLayers;
 use std::alloc::{AllocError, Global};
 
-// What the bytes have before any layer is made of them.
+// What the bytes have before any layer is made of them, besides the masks of the streams.
 #[derive(Drop)]
 struct Layout<'a> {
     index: u8,
-    // The masks of the streams; what stands after them is of no stream.
-    masks: [u8; 4],
     streams: usize,
     layers: LayerReader<'a>,
 }
@@ -54,16 +52,16 @@ fn read_masks<'a>(head: u8, bytes: &'a [u8], masks: &mut [u8; 4]) -> Option<(usi
     Some((streams, after))
 }
 
-// Where the parts are, if all of them are there.
-fn layout_of(buf: &[u8]) -> Option<Layout<'_>>
+// Where the parts are, if all of them are there. It reads the masks of the streams; what stands after
+// them is of no stream.
+fn layout_of<'a>(buf: &'a [u8], masks: &mut [u8; 4]) -> Option<Layout<'a>>
     ensures found { IfSome result (λ layout.
-        reading.IsLaidOut buf.now layout.index (take layout.streams layout.masks) layout.layers) }
+        reading.IsLaidOut buf.now layout.index (take layout.streams masks.new) layout.layers) }
     ensures streams { IfSome result (λ layout. layout.streams ≤ 4) }
     ensures refused { IfNone result (reading.IsCutShort buf.now) }
 {
     let (head, after) = buf.split_first()?;
-    let mut masks = [0; 4];
-    let (streams, after) = read_masks(*head, after, &mut masks)?;
+    let (streams, after) = read_masks(*head, after, masks)?;
     let active = active_count(&masks[..streams]);
     let (counts, rates) = after.split_at_checked((active + 3) / 4)?;
     let layer_counts = Counts::new(counts, active);
@@ -73,7 +71,6 @@ fn layout_of(buf: &[u8]) -> Option<Layout<'_>>
     }
     Some(Layout {
         index: *head >> 6,
-        masks,
         streams,
         layers: LayerReader::new(layer_counts, rates, resolutions),
     })
@@ -114,12 +111,12 @@ impl VideoLayers {
             *self = VideoLayers::default();
             return true;
         }
-        let Some(layout) = layout_of(buf) else {
+        let mut masks = [0; 4];
+        let Some(layout) = layout_of(buf, &mut masks) else {
             return false;
         };
         let Layout {
             index,
-            masks,
             streams,
             layers,
         } = layout;
@@ -153,12 +150,12 @@ pub fn parse(alloc: Global, buf: &[u8]) -> Result<Option<VideoLayersAllocation>,
             simulcast_streams: Vec::new(alloc),
         }));
     }
-    let Some(layout) = layout_of(buf) else {
+    let mut masks = [0; 4];
+    let Some(layout) = layout_of(buf, &mut masks) else {
         return Ok(None);
     };
     let Layout {
         index,
-        masks,
         streams,
         layers,
     } = layout;

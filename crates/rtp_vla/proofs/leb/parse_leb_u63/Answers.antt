@@ -1,7 +1,9 @@
-use Rattle.std.proofs.Common.{sym, ◌∙◌, None}
+use Rattle.std.proofs.Common.{◌≡◌, sym, ◌∙◌, None}
 use Rattle.std.proofs.lemmas.List.{take_rest}
-use Rattle.rtp_vla.proofs.LebLemmas.{ReadsLeb-value, ReadsLeb-first, reads_only, only_first, read_below}
+use Rattle.rtp_vla.specs.LebReading.{leb_number}
+use Rattle.rtp_vla.proofs.LebLemmas.{ReadsLeb-value, ReadsLeb-first, empty_read, reads_only, only_first, read_below}
 use Rattle.rtp_vla.proofs.leb.parse_leb_u63.Goals as goal
+use Rattle.rtp_vla.proofs.leb.parse_leb_u63.Goals.{in-Some+else-first-lt128+in_default-number_at, in_default}
 
 pub returns-then-first-lt128-clause-reads : goal.returns-then-first-lt128-clause-reads
 returns-then-first-lt128-clause-reads c = rw c.from.ensures (ReadsLeb-first c.args.buf.now c.in-Some.first.now c.in-Some.after.now c.in-Some.ensures.cases.0 c.if-first-lt128.true)
@@ -18,8 +20,14 @@ returns-in-Some-number_at-clause-only c value rest reads = rw (take_rest c.args.
 pub returns-in-Some-number_at-clause-in_range : goal.returns-in-Some-number_at-clause-in_range
 returns-in-Some-number_at-clause-in_range c = read_below c.args.buf.now _ _ (ReadsLeb-value c.args.buf.now _ (sym c.in-Some-number_at.is ∙ c.number_at.ensures.read))
 
-pub returns-in-None-clause-reads : goal.returns-in-None-clause-reads
-returns-in-None-clause-reads c = ReadsLeb-value c.args.buf.now None (sym c.in-None.is ∙ c.number_at.ensures.read)
+unspelled : (c : goal.Joined-split_first) → None ≡ leb_number 9 c.args.buf.now
+unspelled c = elim c.match-split_first.branch [
+  | in-Some+else-first-lt128+in_default-number_at w ↦ w.in_default-number_at.ensures.read
+  | in_default w ↦ empty_read c.args.buf.now w.in_default.ensures.cases
+]
 
-pub returns-in-None-clause-only : goal.returns-in-None-clause-only
-returns-in-None-clause-only c value rest reads = reads_only c.args.buf.now None value rest (sym c.in-None.is ∙ c.number_at.ensures.read) reads
+pub returns-clause-reads : goal.returns-clause-reads
+returns-clause-reads c = ReadsLeb-value c.args.buf.now None (unspelled c)
+
+pub returns-clause-only : goal.returns-clause-only
+returns-clause-only c value rest reads = reads_only c.args.buf.now None value rest (unspelled c) reads

@@ -9,16 +9,16 @@ use Rattle.rtp_ext.proofs.kinds_by_id.KindsById.set.Goals as goal
 pub has_long-self-inside-requires-clause-mapped : goal.has_long-self-inside-requires-clause-mapped
 has_long-self-inside-requires-clause-mapped c =
     let kinds = c.self.inside.kinds in
-    anew-mapped (set kinds c.from-2.result c.args.kind) c.of_kinds-self-inside.result c.as_slice.result.now
-    (set-length kinds c.from-2.result c.args.kind c.self.invariant.0) c.of_kinds-self-inside.ensures c.as_slice.ensures.ids
+    anew-mapped (set kinds c.from-2.result c.args.kind) c.of-self-inside.result c.as_slice.result.now
+    (set-length kinds c.from-2.result c.args.kind c.self.invariant.0) c.of-self-inside.ensures c.as_slice.ensures.ids
 
 pub invariant_of-self : goal.invariant_of-self
 invariant_of-self c =
     let kinds = c.self.inside.kinds in
-    anew-table (set kinds c.from-2.result c.args.kind) c.of_kinds-self-inside.result c.as_slice.result.now c.has_long-self-inside.result
+    anew-table (set kinds c.from-2.result c.args.kind) c.of-self-inside.result c.as_slice.result.now c.has_long-self-inside.result
     (set-length kinds c.from-2.result c.args.kind c.self.invariant.0)
     (set-padding kinds c.from-2.result c.args.kind (omega (arith, c.from-2.ensures, c.if-id-eq0.false)) c.self.invariant.1)
-    c.of_kinds-self-inside.ensures c.as_slice.ensures.ids c.has_long-self-inside.ensures
+    c.of-self-inside.ensures c.as_slice.ensures.ids c.has_long-self-inside.ensures
 
 pub insert-requires-clause-room : goal.insert-requires-clause-room
 insert-requires-clause-room c =

@@ -20,11 +20,11 @@ put_streams-requires-clause-enough c = omega (arith, laid_out_layers _ _ _ _ c.i
 -- the allocation of the parts that were found
 is_read : (c : After-put_streams) → c.put_streams.new.layers ≡ record {
   current_simulcast_stream_index = c.in-Some.layout.index;
-  simulcast_streams = dealt_streams (take c.in-Some.layout.streams c.in-Some.layout.masks) c.in-Some.layout.layers;
+  simulcast_streams = dealt_streams (take c.in-Some.layout.streams c.layout_of.new.masks) c.in-Some.layout.layers;
 }
 is_read c = c.put_streams.ensures ∙ (λ i. record {
   current_simulcast_stream_index = (c.new.ensures i).current_simulcast_stream_index;
-  simulcast_streams = dealt_streams (take c.in-Some.layout.streams c.in-Some.layout.masks) c.in-Some.layout.layers;
+  simulcast_streams = dealt_streams (take c.in-Some.layout.streams c.layout_of.new.masks) c.in-Some.layout.layers;
 })
 
 pub returns-clause-found : goal.returns-clause-found
