@@ -18,3 +18,14 @@ pub record IsBlock (block : List ℕ) (form : ExtensionsForm) (body : List ℕ) 
   pub form_is : IsFormWord (word_at block 0) form
   pub words : length block ≡ 4 + 4 * word_at block 2
   pub body_is : body ≡ drop 4 block
+
+-- the word is that of neither form
+abbrev pub IsNoFormWord : ℕ → Type 0
+IsNoFormWord word = (form : ExtensionsForm) → IsFormWord word form → ⊥
+
+-- a block of another form: the 16 bits that the profile defines, which are no form's word, the number of 32-bit words after these four bytes, and those words, the body
+pub record IsOtherBlock (block : List ℕ) (profile : ℕ) (body : List ℕ) : Type 0 where
+  pub profile_is : profile ≡ word_at block 0
+  pub no_form : IsNoFormWord profile
+  pub words : length block ≡ 4 + 4 * word_at block 2
+  pub body_is : body ≡ drop 4 block

@@ -1,5 +1,5 @@
 -- The RTP header as it is read (RFC 3550, 5.1): the parts of a packet before its payload, with the values of the block.
-use Rattle.std.specs.Prelude.{ℕ, ◌≡◌, ◌-◌, List, ◌++◌, length, replicate, Bool, true, false, Option}
+use Rattle.std.specs.Prelude.{ℕ, ◌≡◌, ◌-◌, List, ◌++◌, length, replicate, Bool, true, false, Option, None}
 use Rattle.rtp_ext.specs.declared.form.ExtensionsForm.{ExtensionsForm}
 use Rattle.rtp_ext.specs.declared.map.ExtensionMap.{ExtensionMap}
 use Rattle.rtp_values.specs.declared.value.values.ExtensionValues.{ExtensionValues}
@@ -8,7 +8,7 @@ use Rattle.rtp_values.specs.Values.{no_values}
 use Rattle.rtp_wire.specs.Packet.{PacketParts, IsAnnounced, IsPacket, header_len_of}
 use Rattle.rtp_wire.specs.PacketElements.{HasValues}
 
--- what stands between the CSRC list and the payload, and the values in it: nothing where X is clear, a block where it is set
+-- what stands between the CSRC list and the payload, and the values in it: nothing where X is clear, a block of one of the two forms where it is set
 pub record IsExtensionPart (exts : ExtensionMap) (extension : Bool) (part : List ℕ) (values : ExtensionValues) : Type 0 where
   pub block : Option (ExtensionsForm × List ℕ)
   pub is_part : IsAnnounced extension block part
@@ -36,10 +36,11 @@ pub record IsHeaderOf (exts : ExtensionMap) (parts : PacketParts) (h : RtpHeader
   pub fields_are : h ≡ header_of parts h.ext_vals
   pub values_are : HasValues exts parts.block h.ext_vals
 
--- the bytes begin with this header: they are a packet, and it is the header of its parts
+-- the bytes begin with this header: they are a packet without a block of another form, and it is the header of its parts
 pub record IsWire (exts : ExtensionMap) (bytes : List ℕ) (h : RtpHeader) : Type 0 where
   pub parts : PacketParts
   pub is_packet : IsPacket bytes parts
+  pub no_other : parts.other_block ≡ None
   pub is_header : IsHeaderOf exts parts h
 
 -- version 2, payload type 1 and a block without words; all else is 0, false or absent

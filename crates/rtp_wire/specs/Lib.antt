@@ -31,6 +31,7 @@ pub mod GivenFields
 pub mod PutIntoPacket
 pub mod Header
 pub mod NotAHeader
+pub mod NoHeaderCause
 pub mod RefusedMemory
 pub mod Written
 pub mod WrittenWith

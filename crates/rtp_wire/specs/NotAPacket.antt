@@ -1,9 +1,7 @@
--- Why a datagram is no packet, in the order of its bytes (RFC 3550, 5.1 and A.1; RFC 8285, 4).
+-- Why a datagram is no packet, in the order of its bytes (RFC 3550, 5.1, 5.3.1 and A.1).
 use Rattle.std.specs.Prelude.{◌≡◌, ◌≢◌, ℕ, ◌+◌, ◌*◌, ◌/◌, ◌%◌, ◌<◌, List, length, drop, slice_index}
-use Rattle.rtp_ext.specs.declared.form.ExtensionsForm.{ExtensionsForm}
-use Rattle.rtp_ext.specs.Form.{IsFormWord}
 use Rattle.rtp_wire.specs.declared.packet.not_a_packet.NotAPacket.{NotAPacket}
-use Rattle.rtp_wire.specs.declared.packet.not_a_packet.NotAPacket.TheVariants.{CutFixedPart, OtherVersion, CutSources, CutBlockHeader, UnknownForm, CutBlock}
+use Rattle.rtp_wire.specs.declared.packet.not_a_packet.NotAPacket.TheVariants.{CutFixedPart, OtherVersion, CutSources, CutBlockHeader, CutBlock}
 use Rattle.rtp_wire.specs.Block.{word_at}
 use Rattle.rtp_wire.specs.NotAHeader.{sources_end}
 
@@ -13,7 +11,6 @@ AppliesToBlock bytes CutFixedPart = ⊥
 AppliesToBlock bytes OtherVersion = ⊥
 AppliesToBlock bytes CutSources = ⊥
 AppliesToBlock bytes CutBlockHeader = length bytes < 4
-AppliesToBlock bytes UnknownForm = (form : ExtensionsForm) → IsFormWord (word_at bytes 0) form → ⊥
 AppliesToBlock bytes CutBlock = length bytes < 4 + 4 * word_at bytes 2
 
 -- X is set, and the cause applies to what follows the sources
@@ -26,22 +23,24 @@ Applies bytes CutFixedPart = length bytes < 12
 Applies bytes OtherVersion = slice_index bytes 0 / 64 ≢ 2
 Applies bytes CutSources = length bytes < sources_end bytes
 Applies bytes CutBlockHeader = AppliesAfterSources bytes CutBlockHeader
-Applies bytes UnknownForm = AppliesAfterSources bytes UnknownForm
 Applies bytes CutBlock = AppliesAfterSources bytes CutBlock
 
--- the place of a cause in the order of reading
+-- the place of a cause in the order of reading; the place 4 is that of an unknown form, which is no cause against a packet
 abbrev pub place_of : NotAPacket → ℕ
 place_of CutFixedPart = 0
 place_of OtherVersion = 1
 place_of CutSources = 2
 place_of CutBlockHeader = 3
-place_of UnknownForm = 4
 place_of CutBlock = 5
 
--- of the causes that apply, this one is the first
-pub record IsFirstOf (Fact : NotAPacket → Type 0) (cause : NotAPacket) : Type 0 where
+-- of the causes that apply, this one has the first place
+pub record IsFirstBy {Cause : Type 0} (place : Cause → ℕ) (Fact : Cause → Type 0) (cause : Cause) : Type 0 where
   pub applies : Fact cause
-  pub none_before : (earlier : NotAPacket) → place_of earlier < place_of cause → Fact earlier → ⊥
+  pub none_before : (earlier : Cause) → place earlier < place cause → Fact earlier → ⊥
+
+-- the same of the causes against a packet
+abbrev pub IsFirstOf : (NotAPacket → Type 0) → NotAPacket → Type 0
+IsFirstOf Fact cause = IsFirstBy place_of Fact cause
 
 -- the cause for which the bytes of a datagram are no packet: it applies, and none before it does
 abbrev pub IsFirstCause : List ℕ → NotAPacket → Type 0

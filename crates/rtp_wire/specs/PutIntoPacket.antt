@@ -8,10 +8,10 @@ use Rattle.rtp_ext.specs.ElementsInPlace.{SetsLast}
 use Rattle.rtp_ext.specs.PutElement.{put_element, carried_in, needed_form, allowed_form, row_to, IsSole}
 use Rattle.rtp_ext.specs.WrittenBlock.{whole_words, filled}
 use Rattle.rtp_wire.specs.declared.packet.not_put.NotPut.{NotPut}
-use Rattle.rtp_wire.specs.declared.packet.not_put.NotPut.TheVariants.{CutPacket, ZeroId, LongData, NotAPacket, OneByteOnly, LongBlock, NoRoom}
+use Rattle.rtp_wire.specs.declared.packet.not_put.NotPut.TheVariants.{CutPacket, ZeroId, LongData, NotAPacket, OtherForm, OneByteOnly, LongBlock, NoRoom}
 use Rattle.rtp_wire.specs.NotAHeader.{sources_end}
 use Rattle.rtp_wire.specs.NotAPacket.{IsFirstCause}
-use Rattle.rtp_wire.specs.Packet.{PacketParts, IsPacket}
+use Rattle.rtp_wire.specs.Packet.{PacketParts, IsPacket, HasOtherForm}
 use Rattle.rtp_wire.specs.PacketElements.{AreElementsOf}
 
 -- the form of a block, and none without one
@@ -35,6 +35,7 @@ pub record IsGrowth (bytes : List ℕ) (element : Element) (allowed : Option Ext
   pub body_len : ℕ
   pub len : ℕ
   pub is_packet : IsPacket bytes parts
+  pub no_other : parts.other_block ≡ None
   pub are_elements : AreElementsOf parts.block elements
   pub form_is : allowed_form allowed (needed_form (form_of_block parts.block) element) ≡ Some form
   pub body_len_is : body_len ≡ max (length (body_of_block parts.block)) (whole_words (length (elements_bytes form (elements_with form element elements))))
@@ -65,6 +66,7 @@ AppliesToPacket bytes element allowed CutPacket = ⊥
 AppliesToPacket bytes element allowed ZeroId = element.0 ≡ 0
 AppliesToPacket bytes element allowed LongData = 255 < length element.1
 AppliesToPacket bytes element allowed (NotAPacket cause) = IsFirstCause bytes cause
+AppliesToPacket bytes element allowed OtherForm = HasOtherForm bytes
 AppliesToPacket bytes element allowed OneByteOnly = (parts : PacketParts) × IsPacket bytes parts × (allowed_form allowed (needed_form (form_of_block parts.block) element) ≡ None)
 AppliesToPacket bytes element allowed LongBlock = (growth : IsGrowth bytes element allowed) × (4 * 65535 < growth.body_len)
 AppliesToPacket bytes element allowed (NoRoom needed) = ⊥
@@ -75,6 +77,7 @@ AppliesToPut buf len element allowed CutPacket = length buf < len
 AppliesToPut buf len element allowed ZeroId = AppliesToPacket (take len buf) element allowed ZeroId
 AppliesToPut buf len element allowed LongData = AppliesToPacket (take len buf) element allowed LongData
 AppliesToPut buf len element allowed (NotAPacket cause) = AppliesToPacket (take len buf) element allowed (NotAPacket cause)
+AppliesToPut buf len element allowed OtherForm = AppliesToPacket (take len buf) element allowed OtherForm
 AppliesToPut buf len element allowed OneByteOnly = AppliesToPacket (take len buf) element allowed OneByteOnly
 AppliesToPut buf len element allowed LongBlock = AppliesToPacket (take len buf) element allowed LongBlock
 AppliesToPut buf len element allowed (NoRoom needed) = (growth : IsGrowth (take len buf) element allowed) × (needed ≡ growth.len) × (length buf < needed)
@@ -85,9 +88,10 @@ put_place CutPacket = 0
 put_place ZeroId = 1
 put_place LongData = 2
 put_place (NotAPacket cause) = 3
-put_place OneByteOnly = 4
-put_place LongBlock = 5
-put_place (NoRoom needed) = 6
+put_place OtherForm = 4
+put_place OneByteOnly = 5
+put_place LongBlock = 6
+put_place (NoRoom needed) = 7
 
 -- of the causes that apply, this one is the first
 pub record IsFirstNotPut (Fact : NotPut → Type 0) (cause : NotPut) : Type 0 where

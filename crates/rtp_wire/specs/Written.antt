@@ -1,5 +1,5 @@
 -- The RTP header as it is written (RFC 3550, 5.1), and the header that the written bytes are read as.
-use Rattle.std.specs.Prelude.{ℕ, ◌+◌, ◌-◌, ◌*◌, ◌<◌, List, [], ◌∷◌, ◌++◌, length, take, replicate, Bool, true, false, Option}
+use Rattle.std.specs.Prelude.{ℕ, ◌+◌, ◌-◌, ◌*◌, ◌<◌, List, [], ◌∷◌, ◌++◌, length, take, replicate, Bool, true, false, Option, None}
 use Rattle.std.specs.List.{flat_map}
 use Rattle.std.specs.Int.{w16, w32, to_be_bytes}
 use Rattle.rtp_ext.specs.declared.form.ExtensionsForm.{ExtensionsForm}
@@ -38,6 +38,7 @@ parts_written h block payload = record {
   ssrc = h.ssrc;
   sources = take h.csrc_count h.csrc;
   block = block;
+  other_block = None;
   payload = payload;
 }
 

@@ -7,7 +7,7 @@ mod packet;
 mod payload;
 mod receive;
 
-pub use header::RtpHeader;
+pub use header::{NotAHeader, RtpHeader};
 pub use packet::{
     Csrcs, Fields, NotAPacket, NotPut, NotRetransmitted, OriginalFields, RetransmissionFields,
     RtpPacket, RtpPacketMut, compact, from_retransmission, is_rtcp, put_element, to_retransmission,

@@ -1,8 +1,11 @@
 //! The header of an RTP packet.
 
 mod block;
+mod not_a_header;
 mod parsing;
+mod refusal;
 mod rtp_header;
 mod writing;
 
+pub use not_a_header::NotAHeader;
 pub use rtp_header::RtpHeader;

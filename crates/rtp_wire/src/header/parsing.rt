@@ -1,10 +1,11 @@
 //! From bytes to a header.
 
-ghost use Rattle.std.specs.Prelude.{◌↔◌, ◌≡◌, ◌≤◌, length, true, false, IsOk, IfOk, OnOk, OnErr, IfSome};
+ghost use Rattle.std.specs.Prelude.{◌↔◌, ◌⊎◌, ◌≡◌, ◌≤◌, length, true, false, None, IsNone, IsOk, IfOk, OnOk, OnErr, IfSome};
 ghost use Rattle.std.specs.Bool.{OnTrue};
 ghost use Rattle.rtp_wire.specs.PacketElements.{HasValues};
 ghost use Rattle.rtp_wire.specs.RefusedMemory.{AreValuesStopped, BlockHasAllocation, HeaderHasAllocation, IsWireStopped};
-ghost use Rattle.rtp_wire.specs.NotAHeader.{NotAHeader};
+ghost use Rattle.rtp_wire.specs.NotAHeader.{IsNoPacket, NotAHeader};
+ghost use Rattle.rtp_wire.specs.Packet.{IsPacket, HasOtherForm};
 ghost use Rattle.rtp_wire.specs.Header.{header_of, IsHeaderOf, IsWire};
 ghost use Rattle.rtp_values.specs.declared.value.values.ExtensionValues.{ExtensionValues};
 ghost use Rattle.rtp_values.specs.Values.{no_values};
@@ -25,8 +26,8 @@ impl RtpHeader {
     /// Returns `None` exactly when no header begins there: under 12 bytes, a version other than 2, a
     /// CSRC list that is cut short, or a set X bit that no block follows, since the block's first
     /// four bytes are cut short, its form is neither 0xBEDE nor 0x1000 to 0x100F, or it is longer
-    /// than what is left. No element refuses a header: one that is malformed, cut short or unknown
-    /// is passed over.
+    /// than what is left; [`refusal`](Self::refusal) tells which. No element refuses a header: one
+    /// that is malformed, cut short or unknown is passed over.
     ///
     /// The twenty bytes `90 21 B7 98 00 00 27 10 00 00 00 2C BE DE 00 01 30 2A 00 00`, under a map of
     /// 3 to the audio level, are a header of payload type 33, sequence number 47,000, timestamp
@@ -52,8 +53,11 @@ impl RtpHeader {
 
         // The causes for which no header is returned, and there are no others.
         ensures refused { (result ≡ Ok None) ↔ NotAHeader buf.now }
+
+        // So none begins exactly where the bytes are no packet, or one whose form is another.
+        ensures no_packet { (result ≡ Ok None) ↔ (IsNoPacket buf.now ⊎ HasOtherForm buf.now) }
     {
-        let Ok(packet) = RtpPacket::parse(buf) else {
+        let Some(packet) = RtpPacket::of_header(buf) else {
             return Ok(None);
         };
         let header = packet.header(alloc, exts)?;
@@ -93,9 +97,12 @@ impl RtpHeader {
 
         // The causes for which no header is read, and there are no others.
         ensures refused { (result ≡ Ok false) ↔ NotAHeader buf.now }
+
+        // So none begins exactly where the bytes are no packet, or one whose form is another.
+        ensures no_packet { (result ≡ Ok false) ↔ (IsNoPacket buf.now ⊎ HasOtherForm buf.now) }
         ensures same { NotAHeader buf.now → self.new ≡ self.old }
     {
-        let Ok(packet) = RtpPacket::parse(buf) else {
+        let Some(packet) = RtpPacket::of_header(buf) else {
             return Ok(false);
         };
         packet.put_fields(self);
@@ -108,6 +115,21 @@ impl RtpHeader {
 impl<'a> RtpPacket<'a> {
     ghost use Rattle.rtp_wire.specs.declared.header.rtp_header.RtpHeader.{RtpHeader};
     ghost use Rattle.rtp_wire.specs.PartsOf.{parts_of};
+
+    // The packet in the datagram, where a header begins it: not where the form of its block is another.
+    #[inline(always)]
+    pub(crate) fn of_header(datagram: &'a [u8]) -> Option<Self>
+        ensures found { IfSome result (λ packet. IsPacket datagram.now (parts_of packet)) }
+        ensures known { IfSome result (λ packet. (parts_of packet).other_block ≡ None) }
+        ensures refused { IsNone result ↔ NotAHeader datagram.now }
+        ensures no_packet { IsNone result ↔ (IsNoPacket datagram.now ⊎ HasOtherForm datagram.now) }
+    {
+        let packet = RtpPacket::parse(datagram).ok()?;
+        if packet.has_other_form() {
+            return None;
+        }
+        Some(packet)
+    }
 
     // Gives the header the fields of the packet. Its values stay.
     #[inline(always)]
@@ -132,8 +154,9 @@ impl<'a> RtpPacket<'a> {
         }
     }
 
-    /// Returns the header, with the values that the elements of the block give under the map. Where
-    /// memory is refused to a layer allocation nothing is returned.
+    /// Returns the header, with the values that the elements of the block give under the map; where the
+    /// form of the block is another there are none. Where memory is refused to a layer allocation nothing
+    /// is returned.
     #[inline(always)]
     pub fn header<K: Kinds>(&self, alloc: Global, exts: &K) -> Result<RtpHeader, AllocError>
         ensures found { IfOk result (IsHeaderOf (K.slots exts.now) (parts_of self.now)) }
@@ -171,7 +194,7 @@ impl<'a> RtpPacket<'a> {
     }
 
     /// Returns the values that the elements of the block give under the map, and none where X is
-    /// clear. Nothing is allocated except the lists of a layer allocation: an element of two bytes or
+    /// clear or the form of the block is another. Nothing is allocated except the lists of a layer allocation: an element of two bytes or
     /// more whose id is mapped to it. Where that memory is refused nothing is returned.
     pub fn values<K: Kinds>(&self, alloc: Global, exts: &K) -> Result<ExtensionValues, AllocError>
         ensures found { IfOk result (HasValues (K.slots exts.now) (parts_of self.now).block) }

@@ -11,7 +11,7 @@ ghost use Rattle.rtp_ext.specs.Elements.{Element, IsElement};
 ghost use Rattle.rtp_ext.specs.ElementsInARow.{IsWritable};
 ghost use Rattle.rtp_ext.specs.PutElement.{needed_form, allowed_form};
 ghost use Rattle.rtp_wire.specs.GrowingPacket.{with_extension_bit, resized, IsPlan, MakesAnew};
-ghost use Rattle.rtp_wire.specs.NotAHeader.{NotAHeader, sources_end};
+ghost use Rattle.rtp_wire.specs.NotAHeader.{IsNoPacket, sources_end};
 ghost use Rattle.rtp_wire.specs.NotAPacket.{IsFirstCause};
 ghost use Rattle.rtp_wire.specs.PutIntoPacket.{IsSetInPlace, PutsElement, AppliesToPacket, AppliesToPut, IsFirstNotPut, Compacts};
 
@@ -69,6 +69,9 @@ impl Plan {
             return Err(NotPut::LongData);
         }
         let packet = RtpPacket::parse(datagram)?;
+        if packet.has_other_form() {
+            return Err(NotPut::OtherForm);
+        }
         let Some(new_form) = form_to_put(packet.form(), allowed, id, data) else {
             return Err(NotPut::OneByteOnly);
         };
@@ -203,7 +206,8 @@ fn announce(buf: &mut [u8], block_at: usize, form: ExtensionsForm)
 /// A block in the one-byte form that can't carry the element becomes one in the two-byte form, which
 /// carries no element of the id 0, unless only the one-byte form is `allowed`, as for a peer that hasn't
 /// agreed to both forms in one stream (RFC 8285, 4.1.2). Where only the two-byte form is allowed, the block
-/// gets that. Where the call is refused nothing changes.
+/// gets that. A block of another form than 0xBEDE and 0x1000 to 0x100F carries no elements, and gets none.
+/// Where the call is refused nothing changes.
 ///
 /// The packet `90 60 00 05 00 00 00 64 00 00 00 2C BE DE 00 01 10 AA 00 00 01` (hexadecimal), with room
 /// behind it and the data `07 08` of id 2, becomes
@@ -255,7 +259,8 @@ fn id_of_none(form: ExtensionsForm) -> u8
 /// which are the first ones of the buffer (RFC 3550, 5.3.1; RFC 8285, 4.2 and 4.3). The elements stand in a
 /// row in the same order, those of one id too, the body is filled up to whole words, and the payload moves
 /// to the front; X and the form stay. What stands where reading ends is no element, and goes. Where the
-/// buffer holds no packet nothing changes.
+/// buffer holds no packet nothing changes, and neither does a packet whose block has another form than
+/// 0xBEDE and 0x1000 to 0x100F.
 ///
 /// After [`remove_element`](super::RtpPacketMut::remove_element), which leaves padding, this gives the
 /// bytes back. Before [`put_element`] it isn't needed.
@@ -266,7 +271,7 @@ pub fn compact(datagram: &mut [u8]) -> Result<usize, NotAPacket>
     ensures compacted { IfOk result (Compacts datagram.old datagram.new) }
     ensures within { IfOk result (λ len. len ≤ length datagram.old) }
     ensures cause { IfErr result (IsFirstCause datagram.old) }
-    ensures refused { IsErr result ↔ NotAHeader datagram.old }
+    ensures refused { IsErr result ↔ IsNoPacket datagram.old }
     ensures unchanged { OnErr result (datagram.new ≡ datagram.old) }
 {
     let packet = RtpPacket::parse(datagram)?;

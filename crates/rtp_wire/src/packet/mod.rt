@@ -1,5 +1,6 @@
 //! An RTP packet where it lies in the bytes of a datagram.
 
+mod any_block;
 mod csrcs;
 mod fields;
 mod growing;
@@ -25,4 +26,5 @@ pub use retransmission::{
 };
 pub use rtcp::is_rtcp;
 pub use rtp_packet::RtpPacket;
+pub(crate) use rtp_packet::sources_end;
 pub use rtp_packet_mut::RtpPacketMut;

@@ -22,6 +22,9 @@ pub enum NotPut {
     /// The bytes are no packet.
     #[error("no packet: {0}")]
     NotAPacket(NotAPacket),
+    /// The block has another form than the two, and carries no elements.
+    #[error("an extension block of another form, which carries no elements")]
+    OtherForm,
     /// The block needs the two-byte form, and only the one-byte form is allowed.
     #[error("the two-byte form is needed, and only the one-byte form is allowed")]
     OneByteOnly,

@@ -41,7 +41,7 @@ pub struct OriginalFields {
 struct Layout {
     // How many bytes the header takes.
     header_len: usize,
-    // The form of the block, where X is set.
+    // The form of the block, where it is one of the two.
     form: Option<ExtensionsForm>,
     // Where the payload ends, without its padding.
     end: usize,

@@ -1,15 +1,15 @@
 //! The packet as a value.
 
-ghost use Rattle.std.specs.Prelude.{◌≡◌, ◌↔◌, ◌+◌, ◌*◌, ◌/◌, ◌%◌, ◌<◌, ◌≤◌, ℕ, List, Some, length, map, slice_index, is_some, true, IsNone, IsErr, IfOk, IfErr, IfSome, IsOkAnd, IsSomeAnd};
+ghost use Rattle.std.specs.Prelude.{◌≡◌, ◌↔◌, ◌+◌, ◌*◌, ◌/◌, ◌%◌, ◌<◌, ◌≤◌, ℕ, List, Some, length, map, slice_index, slice_range, is_some, true, IsNone, IsErr, IfOk, IfErr, IfSome, IsOkAnd, IsSomeAnd};
 ghost use Rattle.std.specs.Int.{w32, from_be_bytes};
 ghost use Rattle.std.specs.Option.{option_map};
 ghost use Rattle.rtp_ext.specs.Elements.{Element};
-ghost use Rattle.rtp_wire.specs.NotAHeader.{NotAHeader};
+ghost use Rattle.rtp_wire.specs.NotAHeader.{IsNoPacket, sources_end};
 ghost use Rattle.rtp_wire.specs.NotAPacket.{IsFirstCause};
 ghost use Rattle.rtp_wire.specs.Packet.{PacketParts, IsPacket, IsWithoutPadding, header_len_of};
 ghost use Rattle.rtp_wire.specs.PacketElements.{AreElementsOf, IsLast};
 ghost use Rattle.rtp_wire.specs.Padding.{padding_count};
-ghost use Rattle.rtp_wire.specs.PartsAt.{form_in, has_block, header_end};
+ghost use Rattle.rtp_wire.specs.PartsAt.{form_in, header_end};
 
 use super::{Csrcs, NotAPacket};
 use crate::payload::unpad_payload;
@@ -23,13 +23,12 @@ pub struct RtpPacket<'a> {
     pub(super) datagram: &'a [u8],
     // How many bytes the header takes.
     pub(super) header_len: usize,
-    // The form of the block, where X is set.
+    // The form of the block, where it is one of the two.
     pub(super) form: Option<ExtensionsForm>,
     ghost bytes: { (i : ℕ) → slice_index datagram.now i < 256 },
     ghost fixed: { 12 ≤ length datagram.now },
     ghost version: { slice_index datagram.now 0 / 64 ≡ 2 },
     ghost announced: { form ≡ form_in datagram.now },
-    ghost known: { is_some form ≡ has_block datagram.now },
     ghost ends: { header_len ≡ header_end datagram.now },
     ghost within: { header_len ≤ length datagram.now },
 }
@@ -39,6 +38,10 @@ impl<'a> RtpPacket<'a> {
 
     /// Returns the packet that the datagram is (RFC 3550, 5.1 and 5.3.1; RFC 8285, 4), or the first
     /// cause for which it is none. Only the header is looked at, and nothing is allocated.
+    ///
+    /// A block may have any form (RFC 3550, 5.3.1): one of another form than 0xBEDE and 0x1000 to
+    /// 0x100F, as a profile's own or that of encrypted extensions (RFC 9335), is passed over, and
+    /// [`body`](Self::body) returns what it holds.
     ///
     /// The twenty bytes `90 21 B7 98 00 00 27 10 00 00 00 2C BE DE 00 01 30 2A 00 00` are a packet of
     /// payload type 33, sequence number 47,000, timestamp 10,000 and SSRC 44, with a block in the
@@ -53,7 +56,7 @@ impl<'a> RtpPacket<'a> {
 
         // The cause is the first that applies, and there are no others.
         ensures cause { IfErr result (IsFirstCause datagram.now) }
-        ensures refused { IsErr result ↔ NotAHeader datagram.now }
+        ensures refused { IsErr result ↔ IsNoPacket datagram.now }
     {
         if datagram.len() < 12 {
             return Err(NotAPacket::CutFixedPart);
@@ -76,9 +79,6 @@ impl<'a> RtpPacket<'a> {
         let Some((header, after)) = after.split_first_chunk::<4>() else {
             return Err(NotAPacket::CutBlockHeader);
         };
-        let Some(form) = ExtensionsForm::parse([header[0], header[1]]) else {
-            return Err(NotAPacket::UnknownForm);
-        };
         let body_len = 4 * usize::from(u16::from_be_bytes([header[2], header[3]]));
         if after.len() < body_len {
             return Err(NotAPacket::CutBlock);
@@ -86,16 +86,15 @@ impl<'a> RtpPacket<'a> {
         Ok(RtpPacket {
             datagram,
             header_len: start + 4 + body_len,
-            form: Some(form),
+            form: ExtensionsForm::parse([header[0], header[1]]),
         })
     }
 
-    // The packet in the bytes of a buffer, whose header ends here and whose block has this form.
+    // The packet in the bytes of a buffer, whose header ends here and whose block has this form, if any.
     pub(super) fn new(datagram: &'a [u8], header_len: usize, form: Option<ExtensionsForm>) -> Self
         requires fixed { 12 ≤ length datagram.now }
         requires version { slice_index datagram.now 0 / 64 ≡ 2 }
         requires announced { form ≡ form_in datagram.now }
-        requires known { is_some form ≡ has_block datagram.now }
         requires ends { header_len ≡ header_end datagram.now }
         requires within { header_len ≤ length datagram.now }
         ensures { datagram_of result ≡ datagram.now }
@@ -144,8 +143,8 @@ impl<'a> RtpPacket<'a> {
         }
     }
 
-    /// The form of the block and its body, and `None` exactly where X is clear (RFC 3550, 5.3.1; RFC
-    /// 8285, 4). It is for callers that pass the elements on, or read them in a way of their own:
+    /// The form of the block and its body, and `None` exactly where X is clear or the form is another
+    /// than the two (RFC 3550, 5.3.1; RFC 8285, 4). It is for callers that pass the elements on, or read them in a way of their own:
     /// [`elements`](Self::elements), [`element`](Self::element) and [`values`](Self::values) read them.
     ///
     /// The body is as long as the four bytes before it say, with all padding. It begins after these
@@ -158,11 +157,20 @@ impl<'a> RtpPacket<'a> {
         let Some(form) = self.form else {
             return None;
         };
-        let start = sources_end(self.datagram[0]) + 4;
-        Some((form, &self.datagram[start..self.header_len]))
+        Some((form, self.announced_body()))
     }
 
-    /// The elements of the block in order, and none where X is clear.
+    // The body of the block that X announces, whatever its form.
+    pub(super) fn announced_body(&self) -> &'a [u8]
+        requires { (parts_of self.now).has_extension ≡ true }
+        ensures body { result.now ≡ slice_range (datagram_of self.now)
+            (sources_end (datagram_of self.now) + 4) (header_end (datagram_of self.now)) }
+        ensures bytes { (i : ℕ) → slice_index result.now i < 256 }
+    {
+        &self.datagram[body_start(self.datagram[0])..self.header_len]
+    }
+
+    /// The elements of the block in order, and none where X is clear or the form is another.
     pub fn elements(&self) -> Elements<'a>
         ensures found { AreElementsOf (parts_of self.now).block result }
 
@@ -203,7 +211,7 @@ impl<'a> RtpPacket<'a> {
     pub fn has_extension(&self) -> bool
         ensures { result ≡ (parts_of self.now).has_extension }
     {
-        self.form.is_some()
+        self.datagram[0] & 0x10 != 0
     }
 
     /// A mark whose meaning the payload's profile gives.
@@ -250,7 +258,7 @@ impl<'a> RtpPacket<'a> {
         self.header_len
     }
 
-    /// The form of the block, and `None` where X is clear.
+    /// The form of the block, and `None` where X is clear or the form is another than the two.
     pub fn form(&self) -> Option<ExtensionsForm>
         ensures { result ≡ option_map (λ block. block.0) (parts_of self.now).block }
     {
@@ -266,7 +274,7 @@ impl<'a> RtpPacket<'a> {
 }
 
 // The length of the fixed bytes and the sources, by the first byte.
-pub(super) fn sources_end(first: u8) -> usize
+pub(crate) fn sources_end(first: u8) -> usize
     ensures { result ≡ 12 + 4 * (first % 16) }
 {
     12 + 4 * usize::from(first & 0x0F)

@@ -1,6 +1,6 @@
 //! The packet as a buffer that can be changed.
 
-ghost use Rattle.std.specs.Prelude.{◌≡◌, ◌↔◌, ℕ, ◌+◌, ◌*◌, ◌/◌, ◌<◌, ◌≤◌, List, length, slice_index, slice_set, is_some, false, All, IsTrue, IsErr, IfOk, IfErr, IfSome, IfNone, IsOkAnd, Some};
+ghost use Rattle.std.specs.Prelude.{◌≡◌, ◌↔◌, ℕ, ◌+◌, ◌*◌, ◌/◌, ◌<◌, ◌≤◌, List, length, slice_index, slice_set, false, All, IsTrue, IsErr, IfOk, IfErr, IfSome, IfNone, IsOkAnd, Some};
 ghost use Rattle.std.specs.Bool.{OnTrue, OnFalse};
 ghost use Rattle.std.specs.List.{filter_map};
 ghost use Rattle.rtp_base.specs.Overwriting.{overwritten};
@@ -15,11 +15,11 @@ ghost use Rattle.rtp_ext.specs.ElementPlaces.{WritesLast};
 ghost use Rattle.rtp_ext.specs.WrittenBlock.{mapped_fields};
 ghost use Rattle.rtp_wire.specs.ChangedPacket.{ChangesBlock, ChangesOnly, ChangesOnlyBody};
 ghost use Rattle.rtp_wire.specs.GivenFields.{with_header_fields, LieBetween};
-ghost use Rattle.rtp_wire.specs.NotAHeader.{NotAHeader};
+ghost use Rattle.rtp_wire.specs.NotAHeader.{IsNoPacket};
 ghost use Rattle.rtp_wire.specs.NotAPacket.{IsFirstCause};
 ghost use Rattle.rtp_wire.specs.Packet.{PacketParts, IsPacket};
 ghost use Rattle.rtp_wire.specs.PacketElements.{AreElementsOf, HasValues};
-ghost use Rattle.rtp_wire.specs.PartsAt.{form_in, has_block, header_end, HasLayout};
+ghost use Rattle.rtp_wire.specs.PartsAt.{form_in, header_end, HasLayout};
 
 use super::rtp_packet::body_start;
 use super::{Fields, NotAPacket, RtpPacket, flag};
@@ -27,18 +27,18 @@ use rtp_base::{Pt, Ssrc, put};
 use rtp_ext::{ExtensionsForm, NewIds, remove_element, renumber, set_element};
 
 /// An RTP packet in a buffer, whose fields can be changed where they lie (RFC 3550, 5.1; RFC 8285,
-/// 4). Its length and that of its header stay.
+/// 4). Its length and that of its header stay, and so does a block of another form than 0xBEDE and
+/// 0x1000 to 0x100F, in which no element is found.
 #[derive(Debug, Drop)]
 pub struct RtpPacketMut<'a> {
     pub(super) datagram: &'a mut [u8],
     // How many bytes the header takes.
     pub(super) header_len: usize,
-    // The form of the block, where X is set.
+    // The form of the block, where it is one of the two.
     pub(super) form: Option<ExtensionsForm>,
     ghost fixed: { 12 ≤ length datagram.now },
     ghost version: { slice_index datagram.now 0 / 64 ≡ 2 },
     ghost announced: { form ≡ form_in datagram.now },
-    ghost known: { is_some form ≡ has_block datagram.now },
     ghost ends: { header_len ≡ header_end datagram.now },
     ghost within: { header_len ≤ length datagram.now },
 }
@@ -47,7 +47,7 @@ impl<'a> RtpPacketMut<'a> {
     ghost use Rattle.rtp_wire.specs.PartsOf.{parts_of, datagram_of, parts_in, buffer_of};
 
     /// The packet in the buffer, whose header was found by [`RtpPacket::parse`]: it has this length
-    /// and a block of this form.
+    /// and a block of this form, if of one of the two.
     ///
     /// It is for callers that have to prove that a buffer without a packet stays as it was:
     /// [`parse`](Self::parse) takes the buffer, and what is left of it where it is refused can't be
@@ -73,7 +73,7 @@ impl<'a> RtpPacketMut<'a> {
             (buffer_of packet).ghost_name ≡ datagram.entry.ghost_name) }
         ensures same_bytes { IfOk result (λ packet. (buffer_of packet).now ≡ datagram.old) }
         ensures cause { IfErr result (IsFirstCause datagram.old) }
-        ensures refused { IsErr result ↔ NotAHeader datagram.old }
+        ensures refused { IsErr result ↔ IsNoPacket datagram.old }
     {
         let packet = RtpPacket::parse(datagram)?;
         let header_len = packet.header_len;
@@ -269,7 +269,8 @@ impl<'a> RtpPacketMut<'a> {
     /// Gives each element its new id where it lies, and makes an element whose id has no new one
     /// zeros, which are padding; all other bytes stay (RFC 8285, 4.2 and 4.3). Returns `false`, and
     /// nothing changes, where the form of the block can't carry the new id of an element: one above
-    /// 14 in the one-byte form. Where X is clear there is nothing to change, and it returns `true`.
+    /// 14 in the one-byte form. Where X is clear or the form is another there is nothing to change, and it
+    /// returns `true`.
     ///
     /// The packet then says under the second map what it said under the first, of the kinds that the
     /// second maps and no other.

@@ -255,9 +255,9 @@ impl Receiver {
         ensures after { (count : ℕ) → (taken : Numbers) → Holds self.old count taken →
             Holds self.new count (taken_after taken result) }
     {
-        match RtpPacket::parse(datagram) {
-            Err(_) => Verdict::Unreadable,
-            Ok(packet) => self.receive(packet.sequence_number()),
+        match RtpPacket::of_header(datagram) {
+            None => Verdict::Unreadable,
+            Some(packet) => self.receive(packet.sequence_number()),
         }
     }
 }

@@ -275,9 +275,9 @@ impl Receivers {
         ensures same { (exts : ExtensionMap) → IsPacketId exts datagram.now None →
             self.new ≡ self.old }
     {
-        match RtpPacket::parse(datagram) {
-            Err(_) => Ok(Verdict::Unreadable),
-            Ok(packet) => self.receive(packet.ssrc(), packet.sequence_number()),
+        match RtpPacket::of_header(datagram) {
+            None => Ok(Verdict::Unreadable),
+            Some(packet) => self.receive(packet.ssrc(), packet.sequence_number()),
         }
     }
 }
