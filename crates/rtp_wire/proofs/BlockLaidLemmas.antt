@@ -1,5 +1,5 @@
 -- X is set, and a packet has another block.
-use Rattle.std.proofs.Common.{◌≡◌, ℕ, ◌+◌, ◌*◌, ◌/◌, ◌%◌, ◌≤◌, Bool, true, false, List, [], ◌∷◌, ◌++◌, length, take, drop, max, set, get_or, bit_or, Option, Some, refl, sym, ap, subst, ◌∙◌, arith, append_assoc, length-append, take_at, drop_at}
+use Rattle.std.proofs.Common.{◌≡◌, ℕ, ◌+◌, ◌*◌, ◌/◌, ◌%◌, ◌≤◌, Bool, true, false, List, [], ◌∷◌, ◌++◌, length, take, drop, max, set, get_or, bit_or, Option, Some, None, refl, sym, ap, subst, ◌∙◌, arith, append_assoc, length-append, take_at, drop_at}
 use Rattle.std.specs.Prelude.{slice_index}
 use Rattle.std.specs.List.{concat}
 use Rattle.std.specs.Int.{w16, w32, from_be_bytes, to_be_bytes}
@@ -10,7 +10,7 @@ use Rattle.rtp_ext.specs.declared.form.ExtensionsForm.{ExtensionsForm}
 use Rattle.rtp_ext.specs.declared.form.ExtensionsForm.TheVariants.{OneByte, TwoByte}
 use Rattle.rtp_ext.specs.Form.{IsFormWord, form_word}
 use Rattle.rtp_wire.specs.Block.{IsBlock, word_at}
-use Rattle.rtp_wire.specs.Packet.{PacketParts, IsFirstByte, IsFixedPart, IsPacket}
+use Rattle.rtp_wire.specs.Packet.{PacketParts, IsFirstByte, IsFixedPart, IsAnnouncedBlock, IsPacket}
 use Rattle.rtp_wire.specs.GrowingPacket.{with_extension_bit}
 use Rattle.rtp_wire.proofs.GroupLemmas.{length-concat}
 use Rattle.rtp_wire.proofs.PaddingLemmas.{or-zero}
@@ -88,11 +88,11 @@ IsBlock-laid form word body two is whole few =
 
 -- the packet with another block
 pub IsPacket-laid : (bytes new rest : List ℕ) (parts : PacketParts) (is : IsPacket bytes parts) (form : ExtensionsForm) (word body : List ℕ) (n : ℕ)
-    → length word ≡ 2 → IsFormWord (from_be_bytes w16 word) form → length body % 4 ≡ 0 → length body ≤ 262140
+    → parts.other_block ≡ None → length word ≡ 2 → IsFormWord (from_be_bytes w16 word) form → length body % 4 ≡ 0 → length body ≤ 262140
     → new ≡ with_extension_bit (is.fixed ++ concat is.groups) ++ (word ++ (to_be_bytes w16 (length body / 4) ++ (body ++ (parts.payload ++ rest))))
     → n ≡ 12 + 4 * length parts.sources + (4 + length body) + length parts.payload
     → IsPacket (take n new) (record parts { has_extension = true; block = Some (form, body) })
-IsPacket-laid bytes new rest parts is form word body n two is_word whole few new-is n-is =
+IsPacket-laid bytes new rest parts is form word body n none two is_word whole few new-is n-is =
     let words : List ℕ = to_be_bytes w16 (length body / 4) in
     let groups : List ℕ = concat is.groups in
     let fixed : List ℕ = with_extension_bit is.fixed in
@@ -123,5 +123,5 @@ IsPacket-laid bytes new rest parts is form word body n two is_word whole few new
       in_order = ap (take n) split ∙ take_at front rest n all;
       fixed_is = IsFixedPart-extended is.fixed parts (Some (form, body)) is.fixed_is;
       sources_are = is.sources_are;
-      part_is = IsBlock-laid form word body two is_word whole few;
+      part_is = subst (λ (other : Option (ℕ × List ℕ)). IsAnnouncedBlock true (Some (form, body)) other part) (sym none) (IsBlock-laid form word body two is_word whole few);
     }

@@ -1,6 +1,6 @@
 -- A packet that is changed in its buffer: what is known of its header stays, and what becomes of the body of its block.
 use Rattle.std.proofs.Common.{◌≡◌, ℕ, ◌+◌, ◌-◌, ◌≤◌, List, [], length, drop, Option, Some, None, refl, sym, ap, subst, ◌∙◌, arith, length-drop, length-take-le}
-use Rattle.std.specs.Prelude.{is_some, option_map, slice_range}
+use Rattle.std.specs.Prelude.{is_some, option_map, slice_range, if◌then◌else◌}
 use Rattle.std.specs.Option.{IfSome, IfNone}
 use Rattle.std.proofs.lemmas.Slice.{between-put_mid}
 use borrow.Rule.Slice.PartMut.{put_mid}
@@ -12,15 +12,15 @@ use Rattle.rtp_ext.specs.BlockValues.{SaysValues}
 use Rattle.rtp_wire.specs.declared.packet.rtp_packet_mut.RtpPacketMut.{RtpPacketMut}
 use Rattle.rtp_wire.specs.NotAHeader.{sources_end}
 use Rattle.rtp_wire.specs.Packet.{PacketParts, IsPacket}
-use Rattle.rtp_wire.specs.PartsAt.{HasLayout, form_in, header_end, parts_at}
+use Rattle.rtp_wire.specs.PartsAt.{HasLayout, form_in, profile_in, other_in, header_end, parts_at}
 use Rattle.rtp_wire.specs.PartsOf.{parts_in}
 use Rattle.rtp_wire.specs.PacketElements.{AreElementsOf, HasValues}
 use Rattle.rtp_wire.specs.ChangedPacket.{ChangesBlock, ChangesOnly, ChangesOnlyBody}
 use Rattle.rtp_wire.proofs.PacketLemmas.{whole_and_parts}
 use Rattle.rtp_wire.proofs.HeaderFound.{HasHeader, HasHeader-packet_mut}
-use Rattle.rtp_wire.proofs.PartsLemmas.{body_within, block-header}
+use Rattle.rtp_wire.proofs.PartsLemmas.{has_block-form, body_within, block-header}
 use Rattle.rtp_wire.proofs.BytesBetween.{ChangesOnly-part}
-use Rattle.rtp_wire.proofs.PacketChanges.{HasHeader-stays, stays-in_body}
+use Rattle.rtp_wire.proofs.PacketChanges.{block_by, HasHeader-stays, stays-in_body}
 use Rattle.rtp_wire.proofs.PacketParts.{parts-in_body}
 
 -- the form of a block with a body
@@ -42,7 +42,6 @@ HasHeader-laid_out bytes header_len form is =
       fixed = p.0.fixed;
       version = p.0.version;
       announced = is.form_is ∙ block;
-      known = ap is_some (is.form_is ∙ block) ∙ p.0.known;
       ends = end;
       within = subst (λ (k : ℕ). k ≤ length bytes) (sym end) p.0.within;
     }
@@ -84,7 +83,8 @@ no_elements packet elements none are = subst (λ (block : Option (ExtensionsForm
 -- a packet with a block of this form, whose body begins here
 module _ (packet : RtpPacketMut) (form : ExtensionsForm) (start : ℕ) (is : packet.form ≡ Some form) (start-is : start ≡ sources_end packet.datagram.now + 4) where
   pub body_in : start ≤ packet.header_len
-  body_in = subst (λ (k : ℕ). k ≤ packet.header_len) (sym start-is) (body_within packet.datagram.now packet.header_len packet.form (HasHeader-packet_mut packet) (ap is_some is))
+  body_in = subst (λ (k : ℕ). k ≤ packet.header_len) (sym start-is) (body_within packet.datagram.now packet.header_len packet.form (HasHeader-packet_mut packet)
+      (has_block-form packet.datagram.now packet.header_len packet.form form (HasHeader-packet_mut packet) is))
 
   block-is : (bytes : List ℕ) → option_map {U = ExtensionsForm × List ℕ} (λ f. (f, slice_range bytes (sources_end packet.datagram.now + 4) (header_end packet.datagram.now))) (form_in packet.datagram.now)
       ≡ Some (form, slice_range bytes start packet.header_len)
@@ -93,6 +93,15 @@ module _ (packet : RtpPacketMut) (form : ExtensionsForm) (start : ℕ) (is : pac
       ap (option_map {U = ExtensionsForm × List ℕ} (λ f. (f, body))) (sym packet.announced ∙ is)
       ∙ ap (λ (k : ℕ). Some (form, slice_range bytes k (header_end packet.datagram.now))) (sym start-is)
       ∙ ap (λ (k : ℕ). Some (form, slice_range bytes start k)) (sym packet.ends)
+
+  -- there is no block of another form
+  no_other : (body : List ℕ) → block_by (other_in packet.datagram.now) body ≡ None
+  unfolding other_in block_by
+  no_other body = ap (λ (f : Option ExtensionsForm). option_map {U = ℕ × List ℕ} (λ profile. (profile, body)) (if is_some f then None else profile_in packet.datagram.now)) (sym packet.announced ∙ is)
+
+  other_in-none : (parts_in packet).other_block ≡ None
+  unfolding parts_at block_by
+  other_in-none = no_other (slice_range packet.datagram.now (sources_end packet.datagram.now + 4) (header_end packet.datagram.now))
 
   pub block_in : (parts_in packet).block ≡ Some (form, slice_range packet.datagram.now start packet.header_len)
   unfolding parts_at
@@ -130,8 +139,12 @@ module _ (packet : RtpPacketMut) (form : ExtensionsForm) (start : ℕ) (is : pac
         ∙ ap (λ (b : List ℕ). Some (form, b)) (between-put_mid start (packet.header_len - start) packet.datagram.now body packet.header_len (let within = packet.within in let long = body_in in omega arith) length-body)
 
     parts_of_new : parts_at new ≡ record (parts_in packet) { block = Some (form, body) }
+    unfolding block_by
     parts_of_new =
-        parts-in_body packet.datagram.now new between ∙ ap (λ (block : Option (ExtensionsForm × List ℕ)). record (parts_in packet) { block = block }) block_of_new
+        parts-in_body packet.datagram.now new between
+        ∙ ap (λ (other : Option (ℕ × List ℕ)). record (parts_in packet) { block = block_by (form_in packet.datagram.now) (slice_range new (sources_end packet.datagram.now + 4) (header_end packet.datagram.now)); other_block = other })
+        (no_other (slice_range new (sources_end packet.datagram.now + 4) (header_end packet.datagram.now)) ∙ sym other_in-none)
+        ∙ ap (λ (block : Option (ExtensionsForm × List ℕ)). record (parts_in packet) { block = block }) block_of_new
 
     pub ChangesBlock-body : (Change : ExtensionsForm → List ℕ → List ℕ → Type 0) → Change form (slice_range packet.datagram.now start packet.header_len) body
         → ChangesBlock Change (parts_in packet) (parts_at new)

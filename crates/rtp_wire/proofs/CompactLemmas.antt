@@ -19,7 +19,7 @@ use Rattle.rtp_wire.specs.PacketElements.{AreElementsOf}
 use Rattle.rtp_wire.specs.PutIntoPacket.{form_of_block, body_of_block, compact_block, Compacts}
 use Rattle.rtp_wire.specs.GrowingPacket.{resized}
 use Rattle.rtp_wire.proofs.PartsLemmas.{length-packet}
-use Rattle.rtp_wire.proofs.ResizedLemmas.{sources_end-is, extension-announced, whole-announced}
+use Rattle.rtp_wire.proofs.ResizedLemmas.{sources_end-is, no_other-announced, extension-announced, whole-announced}
 use Rattle.rtp_wire.proofs.GrowthLemmas.{IsLaid, IsLaid-announced, middle-laid, length-middle, word-new as word-laid, IsPacket-new as IsPacket-laid}
 use Rattle.rtp_wire.proofs.SetInPlaceLemmas.{block_len-announced, body-ends, body-here, length-new, IsPacket-new, word-set}
 
@@ -88,7 +88,7 @@ module _ (bytes : List ℕ) (parts : PacketParts) (is : IsPacket bytes parts) (f
   n-is = omega (arith, count-is)
 
   body-whole : length body % 4 ≡ 0
-  body-whole = whole-announced parts.has_extension parts.block is.part is.part_is
+  body-whole = whole-announced parts.has_extension parts.block parts.other_block is.part is.part_is
 
   pub n-within : n ≤ length body
   n-within = omega (arith, taken.within, length-body, body-whole)
@@ -170,7 +170,7 @@ module _ (bytes : List ℕ) (parts : PacketParts) (is : IsPacket bytes parts) (f
     Compacts-made =
         let size : block_at + 4 + n + (length bytes - payload_at) ≡ 12 + 4 * length parts.sources + (4 + n) + length parts.payload =
         omega (arith, block-is, sources_end-is bytes parts is, length-packet bytes parts is, payload-is) in
-        let x : parts.has_extension ≡ true = extension-announced parts.has_extension parts.block is.part form is.part_is some in
+        let x : parts.has_extension ≡ true = extension-announced parts.has_extension parts.block parts.other_block is.part form is.part_is some in
         let block : compact_block taken.elements parts.block ≡ Some (form, middle) =
         compact-announced parts.block taken.elements form some ∙ ap (λ (b : List ℕ). Some (form, b)) (sym middle-is) in
         let with-x : record parts { has_extension = true; block = Some (form, middle) } ≡ record parts { block = compact_block taken.elements parts.block } =
@@ -179,7 +179,7 @@ module _ (bytes : List ℕ) (parts : PacketParts) (is : IsPacket bytes parts) (f
         let packet : IsPacket (take (block_at + 4 + n + (length bytes - payload_at)) laid) (record parts { has_extension = true; block = Some (form, middle) }) =
         subst (λ (xs : List ℕ). IsPacket (take (block_at + 4 + n + (length bytes - payload_at)) xs) (record parts { has_extension = true; block = Some (form, middle) })) same-laid
         (IsPacket-laid moved (length bytes) between is-front (omega (arith, length-moved)) block_at start-front payload_at payload-front n room form laid is-laid middle long
-        (block_at + 4 + n + (length bytes - payload_at)) size multiple few) in
+        (block_at + 4 + n + (length bytes - payload_at)) (no_other-announced parts.has_extension parts.block parts.other_block is.part form is.part_is some) size multiple few) in
         let start : sources_end (take (length bytes) moved) + 2 ≡ sources_end bytes + 2 = omega (arith, start-front, block-is) in
         let word : take (sources_end (take (length bytes) moved) + 2) (put_mid (block_at + 4) (block_at + 4 + n - (block_at + 4)) laid middle) ≡ take (sources_end (take (length bytes) moved) + 2) moved =
         word-laid moved (length bytes) between is-front (omega (arith, length-moved)) block_at start-front payload_at payload-front n room form laid is-laid middle long refl in

@@ -42,7 +42,7 @@ module _ (buf : List ℕ) (len : ℕ) (parts : PacketParts) (is : IsPacket (take
   -- X of a packet with a block is set already
   head-same : (form : ExtensionsForm) → form_of_block parts.block ≡ Some form → with_extension_bit head ≡ head
   head-same form some =
-      let x : parts.has_extension ≡ true = extension-announced parts.has_extension parts.block is.part form is.part_is some in
+      let x : parts.has_extension ≡ true = extension-announced parts.has_extension parts.block parts.other_block is.part form is.part_is some in
       with_extension_bit-append is.fixed (concat is.groups) (let t = is.fixed_is.twelve in omega arith)
       ∙ ap (λ (xs : List ℕ). xs ++ concat is.groups)
       (with_extension_bit-same is.fixed parts.has_padding (length parts.sources)
@@ -156,10 +156,10 @@ module _ (buf : List ℕ) (len : ℕ) (parts : PacketParts) (is : IsPacket (take
             ∙ drop_at middle (parts.payload ++ is_laid.rest) n length-middle in
             ap (λ (xs : List ℕ). xs ++ (body ++ drop (end - (block_at + 4)) (drop (block_at + 4) laid))) kept ∙ ap (λ (xs : List ℕ). front ++ (body ++ xs)) left
 
-        pub IsPacket-new : (size : ℕ) → size ≡ 12 + 4 * length parts.sources + (4 + n) + length parts.payload → n % 4 ≡ 0 → n ≤ 262140
+        pub IsPacket-new : (size : ℕ) → parts.other_block ≡ None → size ≡ 12 + 4 * length parts.sources + (4 + n) + length parts.payload → n % 4 ≡ 0 → n ≤ 262140
             → IsPacket (take size new) (record parts { has_extension = true; block = Some (form, body) })
-        IsPacket-new size size-is whole few =
-            IsPacket-laid bytes new is_laid.rest parts is form is_laid.word body size is_laid.two is_laid.is_word (omega (arith, as_long)) (omega (arith, as_long))
+        IsPacket-new size none size-is whole few =
+            IsPacket-laid bytes new is_laid.rest parts is form is_laid.word body size none is_laid.two is_laid.is_word (omega (arith, as_long)) (omega (arith, as_long))
             (new-is ∙ ap (λ (k : ℕ). (with_extension_bit head ++ (is_laid.word ++ to_be_bytes w16 (k / 4))) ++ (body ++ (parts.payload ++ is_laid.rest))) (sym as_long) ∙ simp append_assoc)
             (omega (arith, as_long, size-is))
 

@@ -1,7 +1,8 @@
 -- What `parse` finds of a header step by step, and that the bytes then are whole.
 use Rattle.std.proofs.Common.{◌≡◌, ℕ, ◌+◌, ◌*◌, ◌/◌, ◌%◌, ◌<◌, ◌≤◌, true, false, List, length, take, drop, Option, Some, None, bit_and, nat_eq, refl, sym, ap, ◌∙◌, subst, arith, length-drop}
-use Rattle.std.specs.Prelude.{slice_index, is_some}
+use Rattle.std.specs.Prelude.{slice_index, IfSome}
 use Rattle.std.proofs.lemmas.Bool.{eq-eqb, ne_eqb}
+use Rattle.std.proofs.lemmas.Option.{none-some}
 use Rattle.std.proofs.lemmas.Nat.Bits.{and_pow}
 use Rattle.rtp_ext.specs.Form.{IsFormWord}
 use Rattle.rtp_ext.specs.declared.form.ExtensionsForm.{ExtensionsForm}
@@ -11,7 +12,7 @@ use Rattle.rtp_wire.specs.Block.{word_at}
 use Rattle.rtp_wire.specs.NotAHeader.{sources_end}
 use Rattle.rtp_wire.specs.PartsAt.{form_of_word, has_block, form_in, header_end}
 use Rattle.rtp_wire.proofs.BlockLemmas.{header_word}
-use Rattle.rtp_wire.proofs.PacketLemmas.{IsWhole, form_of_word-is}
+use Rattle.rtp_wire.proofs.PacketLemmas.{IsWhole, form_of_word-is, no_form_of_word}
 
 -- X, by its mask
 x_clear : (byte : ℕ) → bit_and byte 16 ≡ 0 → nat_eq (byte / 16 % 2) 1 ≡ false
@@ -26,16 +27,15 @@ HasHeader bytes len form = record {
   fixed : 12 ≤ length bytes;
   version : slice_index bytes 0 / 64 ≡ 2;
   announced : form ≡ form_in bytes;
-  known : is_some form ≡ has_block bytes;
   ends : len ≡ header_end bytes;
   within : len ≤ length bytes;
 }
 
 pub HasHeader-packet : (packet : RtpPacket) → HasHeader packet.datagram.now packet.header_len packet.form
-HasHeader-packet packet = record { fixed = packet.fixed; version = packet.version; announced = packet.announced; known = packet.known; ends = packet.ends; within = packet.within }
+HasHeader-packet packet = record { fixed = packet.fixed; version = packet.version; announced = packet.announced; ends = packet.ends; within = packet.within }
 
 pub HasHeader-packet_mut : (packet : RtpPacketMut) → HasHeader packet.datagram.now packet.header_len packet.form
-HasHeader-packet_mut packet = record { fixed = packet.fixed; version = packet.version; announced = packet.announced; known = packet.known; ends = packet.ends; within = packet.within }
+HasHeader-packet_mut packet = record { fixed = packet.fixed; version = packet.version; announced = packet.announced; ends = packet.ends; within = packet.within }
 
 -- the same as a packet keeps it, with the range of its bytes
 pub kept_by_packet : (datagram : List ℕ) (len : ℕ) (form : Option ExtensionsForm) → HasHeader datagram len form → ((i : ℕ) → slice_index datagram i < 256) → record {
@@ -43,17 +43,15 @@ pub kept_by_packet : (datagram : List ℕ) (len : ℕ) (form : Option Extensions
   fixed : 12 ≤ length datagram;
   version : slice_index datagram 0 / 64 ≡ 2;
   announced : form ≡ form_in datagram;
-  known : is_some form ≡ has_block datagram;
   ends : len ≡ header_end datagram;
   within : len ≤ length datagram;
 }
-kept_by_packet datagram len form header fits = record { bytes = fits; fixed = header.fixed; version = header.version; announced = header.announced; known = header.known; ends = header.ends; within = header.within }
+kept_by_packet datagram len form header fits = record { bytes = fits; fixed = header.fixed; version = header.version; announced = header.announced; ends = header.ends; within = header.within }
 
 pub IsWhole-header : (bytes : List ℕ) (len : ℕ) (form : Option ExtensionsForm) → HasHeader bytes len form → IsWhole bytes
 IsWhole-header bytes len form header = record {
   fixed = header.fixed;
   version = header.version;
-  known = ap is_some (sym header.announced) ∙ header.known;
   within = subst (λ (k : ℕ). k ≤ length bytes) header.ends header.within;
 }
 
@@ -68,30 +66,32 @@ HasHeader-plain bytes start long version start-is room clear =
       fixed = long;
       version = version;
       announced = announced;
-      known = sym x;
       ends = ends;
       within = room;
     }
 
-pub HasHeader-extended : (bytes after header : List ℕ) (start words : ℕ) (form : ExtensionsForm) → 12 ≤ length bytes → slice_index bytes 0 / 64 ≡ 2 → start ≡ sources_end bytes
+-- the form that is found of a word
+pub found-form_of_word : (word : ℕ) (found : Option ExtensionsForm) → IfSome found (IsFormWord word) → ((form : ExtensionsForm) → IsFormWord word form → found ≡ Some form) → found ≡ form_of_word word
+found-form_of_word word None is only = sym (no_form_of_word word (λ form here. none-some form (only form here)))
+found-form_of_word word (Some form) is only = sym (form_of_word-is word form is)
+
+pub HasHeader-extended : (bytes after header : List ℕ) (start words : ℕ) (form : Option ExtensionsForm) → 12 ≤ length bytes → slice_index bytes 0 / 64 ≡ 2 → start ≡ sources_end bytes
     → start ≤ length bytes → after ≡ drop start bytes → (bit_and (slice_index bytes 0) 16 ≡ 0 → ⊥) → header ≡ take 4 after
-    → IsFormWord (slice_index header 0 * 256 + slice_index header 1) form → words ≡ slice_index header 2 * 256 + slice_index header 3 → 4 + 4 * words ≤ length after
-    → HasHeader bytes (start + 4 + 4 * words) (Some form)
+    → form ≡ form_of_word (slice_index header 0 * 256 + slice_index header 1) → words ≡ slice_index header 2 * 256 + slice_index header 3 → 4 + 4 * words ≤ length after
+    → HasHeader bytes (start + 4 + 4 * words) form
 unfolding form_in header_end
 HasHeader-extended bytes after header start words form long version start-is room after-is set header-is form-is words-is fits =
     let x : has_block bytes ≡ true = eq-eqb (slice_index bytes 0 / 16 % 2) 1 (x_set (slice_index bytes 0) set) in
     let same : after ≡ drop (sources_end bytes) bytes = after-is ∙ ap (λ (k : ℕ). drop k bytes) start-is in
-    let word : form_of_word (word_at after 0) ≡ Some form =
-    form_of_word-is (word_at after 0) form (subst (λ (w : ℕ). IsFormWord w form) (header_word after header 0 header-is (omega arith)) form-is) in
+    let word : form_of_word (word_at after 0) ≡ form = ap form_of_word (sym (header_word after header 0 header-is (omega arith))) ∙ sym form-is in
     let count : words ≡ word_at after 2 = words-is ∙ header_word after header 2 header-is (omega arith) in
-    let announced : form_in bytes ≡ Some form = rw (x, ← same) word in
+    let announced : form_in bytes ≡ form = rw (x, ← same) word in
     let ends : start + 4 + 4 * words ≡ header_end bytes = rw (x, ← same) (omega arith) in
     let within : start + 4 + 4 * words ≤ length bytes = omega (arith, ap length after-is, length-drop start bytes) in
     record {
       fixed = long;
       version = version;
       announced = sym announced;
-      known = sym x;
       ends = ends;
       within = within;
     }

@@ -13,7 +13,7 @@ use Rattle.rtp_wire.specs.PacketElements.{AreElementsOf, HasValues}
 use Rattle.rtp_wire.specs.Header.{header_of, IsHeaderOf, IsWire}
 use Rattle.rtp_ext.proofs.ElementLemmasOfBodies.{AreElements-only}
 use Rattle.rtp_ext.proofs.ValuesLaws.{one_values}
-use Rattle.rtp_wire.proofs.NotAPacketLemmas.{no_packet-refused}
+use Rattle.rtp_wire.proofs.NoHeaderLemmas.{header_there}
 use Rattle.rtp_wire.proofs.PacketLemmas.{one_packet}
 
 -- a block has one list of elements
@@ -41,7 +41,7 @@ one_header exts bytes h g wire-h wire-g =
 
 -- bytes that are refused begin with no header
 pub no_header : (exts : ExtensionMap) (bytes : List ℕ) (h : RtpHeader) → NotAHeader bytes → IsWire exts bytes h → ⊥
-no_header exts bytes h none wire = no_packet-refused bytes wire.parts none wire.is_packet
+no_header exts bytes h none wire = header_there bytes wire.parts wire.is_packet wire.no_other none
 
 -- a header with the fields of a packet, given the values of its block
 pub IsHeaderOf-read : (exts : ExtensionMap) (parts : PacketParts) (old values : ExtensionValues) (h : RtpHeader) → h ≡ header_of parts old

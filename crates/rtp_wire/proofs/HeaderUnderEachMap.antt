@@ -1,5 +1,5 @@
 -- A packet begins with a header under each map.
-use Rattle.std.proofs.Common.{ℕ, Bool, true, false, List, ◌++◌, take, drop, Option, Some, None, refl, sym, subst, take-append-drop}
+use Rattle.std.proofs.Common.{◌≡◌, ℕ, Bool, true, false, List, ◌++◌, take, drop, Option, Some, None, refl, sym, subst, take-append-drop}
 use Rattle.std.specs.List.{concat}
 use Rattle.rtp_ext.specs.declared.form.ExtensionsForm.{ExtensionsForm}
 use Rattle.rtp_ext.specs.declared.map.ExtensionMap.{ExtensionMap}
@@ -10,6 +10,7 @@ use Rattle.rtp_values.specs.Values.{no_values}
 use Rattle.rtp_wire.specs.Packet.{PacketParts, IsAnnounced, IsPacket}
 use Rattle.rtp_wire.specs.PacketElements.{HasValues}
 use Rattle.rtp_wire.specs.Header.{header_of, IsWire}
+use Rattle.rtp_wire.proofs.PartsLemmas.{announced}
 use Rattle.rtp_wire.proofs.ValuesLemmas.{HasValues-none}
 
 -- what X announces gives some values
@@ -23,9 +24,9 @@ values_announced exts true (Some block) part all is =
     let found = values_found exts block.0 block.1 body in
     (found.0, record { elements = found.1.elements; are_elements = found.1.are_elements; are_values = found.1.are_values })
 
-pub header_found : (exts : ExtensionMap) (bytes : List ℕ) (parts : PacketParts) → AreBytes bytes → IsPacket bytes parts → (values : ExtensionValues) × IsWire exts bytes (header_of parts values)
-header_found exts bytes parts all is =
+pub header_found : (exts : ExtensionMap) (bytes : List ℕ) (parts : PacketParts) → AreBytes bytes → IsPacket bytes parts → parts.other_block ≡ None → (values : ExtensionValues) × IsWire exts bytes (header_of parts values)
+header_found exts bytes parts all is none =
     let after_fixed : AreBytes (concat is.groups ++ (is.part ++ parts.payload)) = AreBytes-back is.fixed (concat is.groups ++ (is.part ++ parts.payload)) (subst AreBytes is.in_order all) in
     let part : AreBytes is.part = AreBytes-front is.part parts.payload (AreBytes-back (concat is.groups) (is.part ++ parts.payload) after_fixed) in
-    let found = values_announced exts parts.has_extension parts.block is.part part is.part_is in
-    (found.0, record { parts = parts; is_packet = is; is_header = record { fields_are = refl; values_are = found.1 } })
+    let found = values_announced exts parts.has_extension parts.block is.part part (announced parts.has_extension parts.block parts.other_block is.part none is.part_is) in
+    (found.0, record { parts = parts; is_packet = is; no_other = none; is_header = record { fields_are = refl; values_are = found.1 } })

@@ -12,6 +12,7 @@ mod PacketParts
 mod PaddingChanges
 mod ChangedPackets
 pub mod NotAPacketLemmas
+pub mod NoHeaderLemmas
 pub mod ValuesLemmas
 mod HeaderLemmas
 mod HeaderUnderEachMap

@@ -2,33 +2,27 @@
 use Rattle.std.proofs.Common.{◌≡◌, ℕ, ◌/◌, ◌%◌, ◌<◌, ◌≤◌, true, List, length, drop, bit_and, refl, ap, ◌∙◌, arith}
 use Rattle.std.specs.Prelude.{slice_index}
 use Rattle.rtp_wire.specs.declared.packet.not_a_packet.NotAPacket.{NotAPacket}
-use Rattle.rtp_wire.specs.declared.packet.not_a_packet.NotAPacket.TheVariants.{CutFixedPart, OtherVersion, CutSources, CutBlockHeader, UnknownForm, CutBlock}
-use Rattle.rtp_ext.specs.declared.form.ExtensionsForm.{ExtensionsForm}
-use Rattle.rtp_ext.specs.Form.{IsFormWord}
-use Rattle.rtp_wire.specs.Block.{word_at}
-use Rattle.rtp_wire.specs.NotAHeader.{cut_header, unknown_form, cut_words, NotAHeader, cut_fixed, other_version, cut_sources, no_block, sources_end}
+use Rattle.rtp_wire.specs.declared.packet.not_a_packet.NotAPacket.TheVariants.{CutFixedPart, OtherVersion, CutSources, CutBlockHeader, CutBlock}
+use Rattle.rtp_wire.specs.NotAHeader.{cut_header, cut_words, IsNoPacket, cut_fixed, other_version, cut_sources, cut_block, sources_end}
 use Rattle.rtp_wire.specs.NotAPacket.{AppliesToBlock, Applies, place_of, IsFirstOf, IsFirstCause}
 use Rattle.rtp_wire.specs.Packet.{PacketParts, IsPacket}
 use Rattle.rtp_wire.proofs.HeaderFound.{x_set}
 use Rattle.rtp_wire.proofs.PacketLemmas.{no_packet}
 
--- bytes to which a cause applies begin with no header
-pub NotAHeader-applies : (bytes : List ℕ) (cause : NotAPacket) → Applies bytes cause → NotAHeader bytes
-NotAHeader-applies bytes CutFixedPart short = cut_fixed short
-NotAHeader-applies bytes OtherVersion other = other_version other
-NotAHeader-applies bytes CutSources short = cut_sources short
-NotAHeader-applies bytes CutBlockHeader short = no_block short.0 (cut_header short.1)
-NotAHeader-applies bytes UnknownForm unknown = no_block unknown.0 (unknown_form unknown.1)
-NotAHeader-applies bytes CutBlock short = no_block short.0 (cut_words short.1)
+-- bytes to which a cause applies are no packet
+pub IsNoPacket-applies : (bytes : List ℕ) (cause : NotAPacket) → Applies bytes cause → IsNoPacket bytes
+IsNoPacket-applies bytes CutFixedPart short = cut_fixed short
+IsNoPacket-applies bytes OtherVersion other = other_version other
+IsNoPacket-applies bytes CutSources short = cut_sources short
+IsNoPacket-applies bytes CutBlockHeader short = cut_block short.0 (cut_header short.1)
+IsNoPacket-applies bytes CutBlock short = cut_block short.0 (cut_words short.1)
 
--- and bytes that begin with no header are no packet
-pub no_packet-refused : (bytes : List ℕ) (parts : PacketParts) → NotAHeader bytes → IsPacket bytes parts → ⊥
+pub no_packet-refused : (bytes : List ℕ) (parts : PacketParts) → IsNoPacket bytes → IsPacket bytes parts → ⊥
 no_packet-refused bytes parts (cut_fixed short) = no_packet bytes CutFixedPart parts short
 no_packet-refused bytes parts (other_version other) = no_packet bytes OtherVersion parts other
 no_packet-refused bytes parts (cut_sources short) = no_packet bytes CutSources parts short
-no_packet-refused bytes parts (no_block set (cut_header short)) = no_packet bytes CutBlockHeader parts (set, short)
-no_packet-refused bytes parts (no_block set (unknown_form unknown)) = no_packet bytes UnknownForm parts (set, unknown)
-no_packet-refused bytes parts (no_block set (cut_words short)) = no_packet bytes CutBlock parts (set, short)
+no_packet-refused bytes parts (cut_block set (cut_header short)) = no_packet bytes CutBlockHeader parts (set, short)
+no_packet-refused bytes parts (cut_block set (cut_words short)) = no_packet bytes CutBlock parts (set, short)
 
 -- what applies to the block where no earlier cause does
 applies-after : (bytes : List ℕ) (cause : NotAPacket) → slice_index bytes 0 / 16 % 2 ≡ 1 → AppliesToBlock (drop (sources_end bytes) bytes) cause → Applies bytes cause
@@ -36,7 +30,6 @@ applies-after bytes CutFixedPart set applies = absurd applies
 applies-after bytes OtherVersion set applies = absurd applies
 applies-after bytes CutSources set applies = absurd applies
 applies-after bytes CutBlockHeader set applies = (set, applies)
-applies-after bytes UnknownForm set applies = (set, applies)
 applies-after bytes CutBlock set applies = (set, applies)
 
 applied-after : (bytes : List ℕ) (cause : NotAPacket) → 12 ≤ length bytes → slice_index bytes 0 / 64 ≡ 2 → sources_end bytes ≤ length bytes
@@ -45,7 +38,6 @@ applied-after bytes CutFixedPart long version room short = omega arith
 applied-after bytes OtherVersion long version room other = other version
 applied-after bytes CutSources long version room short = omega arith
 applied-after bytes CutBlockHeader long version room applies = applies.1
-applied-after bytes UnknownForm long version room applies = applies.1
 applied-after bytes CutBlock long version room applies = applies.1
 
 pub IsFirstCause-block : (bytes after : List ℕ) (start : ℕ) (cause : NotAPacket) → 12 ≤ length bytes → slice_index bytes 0 / 64 ≡ 2 → start ≡ sources_end bytes → start ≤ length bytes
@@ -58,24 +50,19 @@ IsFirstCause-block bytes after start cause long version start-is room after-is s
       none_before = λ earlier before applies. here.none_before earlier before (applied-after bytes earlier long version (omega arith) applies);
     }
 
--- the first cause in what is to be a block: its first four bytes are cut short, its form is unknown, or its words are cut short
-earlier_none : (bytes : List ℕ) (n : ℕ) → n ≤ 5 → (3 < n → 4 ≤ length bytes) → (4 < n → (form : ExtensionsForm) × IsFormWord (word_at bytes 0) form)
-    → (earlier : NotAPacket) → place_of earlier < n → AppliesToBlock bytes earlier → ⊥
-earlier_none bytes n few long known CutFixedPart before applies = applies
-earlier_none bytes n few long known OtherVersion before applies = applies
-earlier_none bytes n few long known CutSources before applies = applies
-earlier_none bytes n few long known CutBlockHeader before applies = let there = long before in omega arith
-earlier_none bytes n few long known UnknownForm before applies = let is = known before in applies is.0 is.1
-earlier_none bytes n few long known CutBlock before applies = omega arith
+-- the first cause in what is to be a block: its first four bytes are cut short, or its words are
+earlier_none : (bytes : List ℕ) (n : ℕ) → n ≤ 5 → (3 < n → 4 ≤ length bytes) → (earlier : NotAPacket) → place_of earlier < n → AppliesToBlock bytes earlier → ⊥
+earlier_none bytes n few long CutFixedPart before applies = applies
+earlier_none bytes n few long OtherVersion before applies = applies
+earlier_none bytes n few long CutSources before applies = applies
+earlier_none bytes n few long CutBlockHeader before applies = let there = long before in omega arith
+earlier_none bytes n few long CutBlock before applies = omega arith
 
 pub IsFirstOf-cut_header : (bytes : List ℕ) → length bytes < 4 → IsFirstOf (AppliesToBlock bytes) CutBlockHeader
-IsFirstOf-cut_header bytes short = record { applies = short; none_before = earlier_none bytes 3 (omega arith) (λ more. absurd (omega arith)) (λ more. absurd (omega arith)) }
+IsFirstOf-cut_header bytes short = record { applies = short; none_before = earlier_none bytes 3 (omega arith) (λ more. absurd (omega arith)) }
 
-pub IsFirstOf-unknown_form : (bytes : List ℕ) → 4 ≤ length bytes → AppliesToBlock bytes UnknownForm → IsFirstOf (AppliesToBlock bytes) UnknownForm
-IsFirstOf-unknown_form bytes long unknown = record { applies = unknown; none_before = earlier_none bytes 4 (omega arith) (λ _. long) (λ more. absurd (omega arith)) }
-
-pub IsFirstOf-cut_block : (bytes : List ℕ) (form : ExtensionsForm) → 4 ≤ length bytes → IsFormWord (word_at bytes 0) form → AppliesToBlock bytes CutBlock → IsFirstOf (AppliesToBlock bytes) CutBlock
-IsFirstOf-cut_block bytes form long is short = record { applies = short; none_before = earlier_none bytes 5 (omega arith) (λ _. long) (λ _. (form, is)) }
+pub IsFirstOf-cut_block : (bytes : List ℕ) → 4 ≤ length bytes → AppliesToBlock bytes CutBlock → IsFirstOf (AppliesToBlock bytes) CutBlock
+IsFirstOf-cut_block bytes long short = record { applies = short; none_before = earlier_none bytes 5 (omega arith) (λ _. long) }
 
 -- what `parse` promises where it refuses the bytes for their first cause
 pub refusal : (datagram : List ℕ) (first : NotAPacket) → IsFirstCause datagram first → record {
@@ -83,12 +70,12 @@ pub refusal : (datagram : List ℕ) (first : NotAPacket) → IsFirstCause datagr
   only : (parts : PacketParts) → IsPacket datagram parts → ⊥;
   bytes : Unit {0};
   cause : IsFirstCause datagram first;
-  refused : (true ≡ true → NotAHeader datagram) × (NotAHeader datagram → true ≡ true);
+  refused : (true ≡ true → IsNoPacket datagram) × (IsNoPacket datagram → true ≡ true);
 }
 refusal datagram first is = record {
   found = tt;
   only = λ parts. no_packet datagram first parts is.applies;
   bytes = tt;
   cause = is;
-  refused = (λ _. NotAHeader-applies datagram first is.applies, λ _. refl);
+  refused = (λ _. IsNoPacket-applies datagram first is.applies, λ _. refl);
 }

@@ -13,7 +13,7 @@ use Rattle.rtp_ext.specs.declared.form.ExtensionsForm.{ExtensionsForm}
 use Rattle.rtp_wire.specs.Block.{word_at}
 use Rattle.rtp_wire.specs.NotAHeader.{sources_end}
 use Rattle.rtp_wire.specs.Packet.{IsSecondByte}
-use Rattle.rtp_wire.specs.PartsAt.{is_set, form_of_word, form_in, header_end, parts_at}
+use Rattle.rtp_wire.specs.PartsAt.{is_set, form_of_word, form_in, profile_in, other_in, header_end, parts_at}
 use Rattle.rtp_wire.proofs.BlockLemmas.{word_at-take}
 use Rattle.rtp_wire.proofs.FlagLemmas.{fields_from_second}
 use Rattle.rtp_wire.proofs.PacketLemmas.{bit-is_set, same_parts}
@@ -28,24 +28,33 @@ end_by first words = 12 + 4 * (first % 16) + (if is_set first 16 then 4 + 4 * wo
 form_by : ℕ → ℕ → Option ExtensionsForm
 form_by first word = if is_set first 16 then form_of_word word else None
 
+profile_by : ℕ → ℕ → Option ℕ
+profile_by first word = if is_set first 16 then Some word else None
+
+other_by : ℕ → ℕ → Option ℕ
+other_by first word = if is_some (form_by first word) then None else profile_by first word
+
 -- the first byte stays, and what says where the header ends and which form its block has
 pub record StaysLaidOut (old new : List ℕ) : Type 0 where
   pub length_is : length new ≡ length old
   pub first_is : slice_index new 0 ≡ slice_index old 0
   pub sources_end_is : sources_end new ≡ sources_end old
   pub form_is : form_in new ≡ form_in old
+  pub other_is : other_in new ≡ other_in old
   pub end_is : header_end new ≡ header_end old
 
 stays_by : (old new : List ℕ) → length new ≡ length old → slice_index new 0 ≡ slice_index old 0
     → word_at (drop (sources_end new) new) 0 ≡ word_at (drop (sources_end old) old) 0
     → word_at (drop (sources_end new) new) 2 ≡ word_at (drop (sources_end old) old) 2 → StaysLaidOut old new
-unfolding form_in header_end end_by form_by
+unfolding form_in profile_in other_in header_end end_by form_by profile_by other_by
 stays_by old new length_is first form words =
     let form_is : form_by (slice_index new 0) (word_at (drop (sources_end new) new) 0) ≡ form_by (slice_index old 0) (word_at (drop (sources_end old) old) 0) =
     ap (λ (byte : ℕ). form_by byte (word_at (drop (sources_end new) new) 0)) first ∙ ap (form_by (slice_index old 0)) form in
+    let other_is : other_by (slice_index new 0) (word_at (drop (sources_end new) new) 0) ≡ other_by (slice_index old 0) (word_at (drop (sources_end old) old) 0) =
+    ap (λ (byte : ℕ). other_by byte (word_at (drop (sources_end new) new) 0)) first ∙ ap (other_by (slice_index old 0)) form in
     let end_is : end_by (slice_index new 0) (word_at (drop (sources_end new) new) 2) ≡ end_by (slice_index old 0) (word_at (drop (sources_end old) old) 2) =
     ap (λ (byte : ℕ). end_by byte (word_at (drop (sources_end new) new) 2)) first ∙ ap (end_by (slice_index old 0)) words in
-    record { length_is = length_is; first_is = first; sources_end_is = ap (λ (byte : ℕ). 12 + 4 * (byte % 16)) first; form_is = form_is; end_is = end_is }
+    record { length_is = length_is; first_is = first; sources_end_is = ap (λ (byte : ℕ). 12 + 4 * (byte % 16)) first; form_is = form_is; other_is = other_is; end_is = end_is }
 
 pub HasHeader-stays : (old new : List ℕ) (len : ℕ) (form : Option ExtensionsForm) → StaysLaidOut old new → HasHeader old len form → HasHeader new len form
 HasHeader-stays old new len form stays header =
@@ -56,13 +65,13 @@ HasHeader-stays old new len form stays header =
       fixed = omega arith;
       version = ap (λ (byte : ℕ). byte / 64) stays.first_is ∙ header.version;
       announced = header.announced ∙ sym stays.form_is;
-      known = header.known ∙ sym (ap (λ (byte : ℕ). is_set byte 16) stays.first_is);
       ends = header.ends ∙ sym stays.end_is;
       within = omega arith;
     }
 
-block_by : Option ExtensionsForm → List ℕ → Option (ExtensionsForm × List ℕ)
-block_by form body = option_map (λ f. (f, body)) form
+-- a block of one kind of word, with its body
+unfoldable pub block_by : {A : Type 0} → Option A → List ℕ → Option (A × List ℕ)
+block_by word body = option_map (λ w. (w, body)) word
 
 past_sources : (bytes : List ℕ) → sources_end bytes ≤ header_end bytes
 unfolding header_end
@@ -77,16 +86,23 @@ module _ (start end : ℕ) (old new : List ℕ) (is : ChangesOnly start end old 
       ap (λ (byte : ℕ). drop (12 + 4 * (byte % 16)) new) first ∙ drop_after start end old new is (sources_end old) within in
       stays_by old new is.length_is first (ap (λ (xs : List ℕ). word_at xs 0) after) (ap (λ (xs : List ℕ). word_at xs 2) after)
 
+  body-stays : slice_range new (sources_end new + 4) (header_end new) ≡ slice_range old (sources_end old + 4) (header_end old)
+  body-stays =
+      let stays = stays-before_block in
+      ap (λ (k : ℕ). slice_range new (k + 4) (header_end new)) stays.sources_end_is ∙ ap (slice_range new (sources_end old + 4)) stays.end_is
+      ∙ range_after start end old new is (sources_end old + 4) (header_end old) (omega arith)
+
+  by-stays : {A : Type 0} (word was : Option A) → word ≡ was
+      → block_by word (slice_range new (sources_end new + 4) (header_end new)) ≡ block_by was (slice_range old (sources_end old + 4) (header_end old))
+  by-stays {A} word was same = ap (λ (w : Option A). block_by w (slice_range new (sources_end new + 4) (header_end new))) same ∙ ap (block_by was) body-stays
+
   pub block-stays : (parts_at new).block ≡ (parts_at old).block
   unfolding parts_at block_by
-  block-stays =
-      let stays = stays-before_block in
-      let body : slice_range new (sources_end new + 4) (header_end new) ≡ slice_range old (sources_end old + 4) (header_end old) =
-      ap (λ (k : ℕ). slice_range new (k + 4) (header_end new)) stays.sources_end_is ∙ ap (slice_range new (sources_end old + 4)) stays.end_is
-      ∙ range_after start end old new is (sources_end old + 4) (header_end old) (omega arith) in
-      let block : block_by (form_in new) (slice_range new (sources_end new + 4) (header_end new)) ≡ block_by (form_in old) (slice_range old (sources_end old + 4) (header_end old)) =
-      ap (λ (form : Option ExtensionsForm). block_by form (slice_range new (sources_end new + 4) (header_end new))) stays.form_is ∙ ap (block_by (form_in old)) body in
-      block
+  block-stays = by-stays (form_in new) (form_in old) stays-before_block.form_is
+
+  pub other_block-stays : (parts_at new).other_block ≡ (parts_at old).other_block
+  unfolding parts_at block_by
+  other_block-stays = by-stays (other_in new) (other_in old) stays-before_block.other_is
 
   pub payload-stays : (parts_at new).payload ≡ (parts_at old).payload
   unfolding parts_at
@@ -129,7 +145,7 @@ parts-fixed start end old new marker payload_type number timestamp ssrc is past 
     (ap (λ (byte : ℕ). is_set byte 32) first) (ap (λ (byte : ℕ). is_set byte 16) first) marker-is type-is number-is timestamp-is ssrc-is
     (ap (λ (byte : ℕ). map (from_be_bytes w32) (first_chunks 4 (byte % 16) (drop 12 new))) first
     ∙ ap (λ (rest : List ℕ). map (from_be_bytes w32) (first_chunks 4 (slice_index old 0 % 16) rest)) (drop_after start end old new is 12 within))
-    (block-stays start end old new is past (omega arith)) (payload-stays start end old new is past (omega arith))
+    (block-stays start end old new is past (omega arith)) (other_block-stays start end old new is past (omega arith)) (payload-stays start end old new is past (omega arith))
 
 marker_is_set : (byte : ℕ) (marker : Bool) (payload_type : ℕ) → IsSecondByte byte marker payload_type → is_set byte 128 ≡ marker
 marker_is_set byte true payload_type is = let sum = is.sum in let few = is.few in eq-eqb (byte / 128 % 2) 1 (omega arith)

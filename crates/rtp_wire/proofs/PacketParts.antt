@@ -9,37 +9,37 @@ use Rattle.rtp_ext.specs.declared.form.ExtensionsForm.{ExtensionsForm}
 use Rattle.rtp_base.specs.Overwriting.{overwritten}
 use Rattle.rtp_base.proofs.OverwritingLemmas.{overwritten-front}
 use Rattle.rtp_wire.specs.NotAHeader.{sources_end}
-use Rattle.rtp_wire.specs.PartsAt.{is_set, form_in, header_end, parts_at}
+use Rattle.rtp_wire.specs.PartsAt.{is_set, form_in, other_in, header_end, parts_at}
 use Rattle.rtp_wire.proofs.GroupLemmas.{length-first_chunks, first_chunks-take}
 use Rattle.rtp_wire.proofs.PacketLemmas.{same_parts}
 use Rattle.rtp_wire.specs.ChangedPacket.{ChangesOnly}
 use Rattle.rtp_wire.proofs.BytesBetween.{ChangesOnly-put, index_before, take_before, range_before, take-overwritten}
-use Rattle.rtp_wire.proofs.PacketChanges.{block-stays, payload-stays, stays-in_body}
+use Rattle.rtp_wire.proofs.PacketChanges.{block_by, block-stays, other_block-stays, payload-stays, stays-in_body}
 
 -- the fields of the fixed part stay, and so does what the first byte says
-fixed_stays : (start end : ℕ) (old new : List ℕ) → 12 ≤ start → ChangesOnly start end old new → (sources : List ℕ) (block : Option (ExtensionsForm × List ℕ)) (payload : List ℕ)
-    → (parts_at new).sources ≡ sources → (parts_at new).block ≡ block → (parts_at new).payload ≡ payload
-    → parts_at new ≡ record (parts_at old) { sources = sources; block = block; payload = payload }
+fixed_stays : (start end : ℕ) (old new : List ℕ) → 12 ≤ start → ChangesOnly start end old new → (sources : List ℕ) (block : Option (ExtensionsForm × List ℕ)) (other : Option (ℕ × List ℕ)) (payload : List ℕ)
+    → (parts_at new).sources ≡ sources → (parts_at new).block ≡ block → (parts_at new).other_block ≡ other → (parts_at new).payload ≡ payload
+    → parts_at new ≡ record (parts_at old) { sources = sources; block = block; other_block = other; payload = payload }
 unfolding parts_at
-fixed_stays start end old new past is sources block payload sources-is block-is payload-is =
+fixed_stays start end old new past is sources block other payload sources-is block-is other-is payload-is =
     let first = index_before start end old new is 0 (omega arith) in
     let second = index_before start end old new is 1 (omega arith) in
-    same_parts (parts_at new) (record (parts_at old) { sources = sources; block = block; payload = payload })
+    same_parts (parts_at new) (record (parts_at old) { sources = sources; block = block; other_block = other; payload = payload })
     (ap (λ (byte : ℕ). is_set byte 32) first) (ap (λ (byte : ℕ). is_set byte 16) first)
     (ap (λ (byte : ℕ). is_set byte 128) second) (ap (λ (byte : ℕ). byte % 128) second)
     (ap (from_be_bytes w16) (range_before start end old new is 2 4 (omega arith) (omega arith)))
     (ap (from_be_bytes w32) (range_before start end old new is 4 8 (omega arith) (omega arith)))
     (ap (from_be_bytes w32) (range_before start end old new is 8 12 (omega arith) (omega arith)))
-    sources-is block-is payload-is
+    sources-is block-is other-is payload-is
 
 -- a change in the CSRC list
 parts-in_sources : (old new : List ℕ) → ChangesOnly 12 (sources_end old) old new
     → parts_at new ≡ record (parts_at old) { sources = map (from_be_bytes w32) (first_chunks 4 (slice_index old 0 % 16) (drop 12 new)) }
 unfolding parts_at
 parts-in_sources old new is =
-    fixed_stays 12 (sources_end old) old new (omega arith) is (map (from_be_bytes w32) (first_chunks 4 (slice_index old 0 % 16) (drop 12 new))) _ _
+    fixed_stays 12 (sources_end old) old new (omega arith) is (map (from_be_bytes w32) (first_chunks 4 (slice_index old 0 % 16) (drop 12 new))) _ _ _
     (ap (λ (byte : ℕ). map (from_be_bytes w32) (first_chunks 4 (byte % 16) (drop 12 new))) (index_before 12 (sources_end old) old new is 0 (omega arith)))
-    (block-stays 12 (sources_end old) old new is (omega arith) (omega arith)) (payload-stays 12 (sources_end old) old new is (omega arith) (omega arith))
+    (block-stays 12 (sources_end old) old new is (omega arith) (omega arith)) (other_block-stays 12 (sources_end old) old new is (omega arith) (omega arith)) (payload-stays 12 (sources_end old) old new is (omega arith) (omega arith))
 
 -- bytes that are put after the first ones
 drop-overwritten_after : (xs ys : List ℕ) (k at : ℕ) → k + at ≤ length xs → drop k (overwritten xs (k + at) ys) ≡ overwritten (drop k xs) at ys
@@ -91,8 +91,8 @@ sources_len bytes = length-map (first_chunks 4 (slice_index bytes 0 % 16) (drop 
 
 -- a change in the body of the block
 pub parts-in_body : (old new : List ℕ) → ChangesOnly (sources_end old + 4) (header_end old) old new
-    → parts_at new ≡ record (parts_at old) { block = option_map (λ f. (f, slice_range new (sources_end old + 4) (header_end old))) (form_in old) }
-unfolding parts_at
+    → parts_at new ≡ record (parts_at old) { block = block_by (form_in old) (slice_range new (sources_end old + 4) (header_end old)); other_block = block_by (other_in old) (slice_range new (sources_end old + 4) (header_end old)) }
+unfolding parts_at block_by
 parts-in_body old new is =
     let start = sources_end old + 4 in
     let stays = stays-in_body old new is in
@@ -102,10 +102,10 @@ parts-in_body old new is =
     let groups : first_chunks 4 (slice_index new 0 % 16) (drop 12 new) ≡ first_chunks 4 count (drop 12 old) =
     ap (λ (byte : ℕ). first_chunks 4 (byte % 16) (drop 12 new)) stays.first_is
     ∙ sym (first_chunks-take count (drop 12 new)) ∙ ap (first_chunks 4 count) front ∙ first_chunks-take count (drop 12 old) in
-    let block_by : Option ExtensionsForm → List ℕ → Option (ExtensionsForm × List ℕ) = λ form body. option_map (λ f. (f, body)) form in
-    fixed_stays start (header_end old) old new (omega arith) is (parts_at old).sources _ (parts_at old).payload
+    let body : (A : Type 0) (word : Option A) → block_by word (slice_range new (sources_end new + 4) (header_end new)) ≡ block_by word (slice_range new start (header_end old)) =
+    λ A word. ap (λ (k : ℕ). block_by word (slice_range new (k + 4) (header_end new))) stays.sources_end_is ∙ ap (λ (k : ℕ). block_by word (slice_range new start k)) stays.end_is in
+    fixed_stays start (header_end old) old new (omega arith) is (parts_at old).sources _ _ (parts_at old).payload
     (ap (map (from_be_bytes w32)) groups)
-    (ap (λ (form : Option ExtensionsForm). block_by form (slice_range new (sources_end new + 4) (header_end new))) stays.form_is
-    ∙ ap (λ (k : ℕ). block_by (form_in old) (slice_range new (k + 4) (header_end new))) stays.sources_end_is
-    ∙ ap (λ (k : ℕ). block_by (form_in old) (slice_range new start k)) stays.end_is)
+    (ap (λ (form : Option ExtensionsForm). block_by form (slice_range new (sources_end new + 4) (header_end new))) stays.form_is ∙ body ExtensionsForm (form_in old))
+    (ap (λ (other : Option ℕ). block_by other (slice_range new (sources_end new + 4) (header_end new))) stays.other_is ∙ body ℕ (other_in old))
     (ap (λ (k : ℕ). drop k new) stays.end_is ∙ is.after_is)

@@ -1,6 +1,6 @@
 -- A packet whose padding bit is set or cleared, and the packet without its padding.
 use Rattle.std.proofs.Common.{◌≡◌, ℕ, ◌+◌, ◌*◌, ◌/◌, ◌%◌, ◌<◌, ◌≤◌, Bool, true, false, List, [], ◌∷◌, ◌++◌, length, map, take, drop, Option, None, refl, sym, ap, subst, ◌∙◌, arith, bit_and, append_assoc, length-append, length-drop, take_at}
-use Rattle.std.specs.Prelude.{slice_index, slice_range, option_map, if◌then◌else◌}
+use Rattle.std.specs.Prelude.{slice_index, slice_range, Some, is_some, if◌then◌else◌}
 use Rattle.std.specs.List.{concat}
 use Rattle.std.specs.Int.{w16, w32, from_be_bytes}
 use Rattle.std.specs.Simd.{first_chunks}
@@ -14,14 +14,14 @@ use Rattle.rtp_wire.specs.Block.{word_at}
 use Rattle.rtp_wire.specs.NotAHeader.{sources_end}
 use Rattle.rtp_wire.specs.declared.packet.rtp_packet_mut.RtpPacketMut.{RtpPacketMut}
 use Rattle.rtp_wire.specs.Packet.{PacketParts, IsPacket, IsSecondByte, IsWithoutPadding}
-use Rattle.rtp_wire.specs.PartsAt.{is_set, has_block, form_of_word, form_in, header_end, parts_at}
+use Rattle.rtp_wire.specs.PartsAt.{is_set, has_block, form_of_word, form_in, profile_in, other_in, header_end, parts_at}
 use Rattle.rtp_wire.specs.PartsOf.{parts_in}
 use Rattle.rtp_wire.specs.ChangedPacket.{ChangesOnly, HasUnpadded}
 use Rattle.rtp_wire.proofs.FlagLemmas.{bit-once}
 use Rattle.rtp_wire.proofs.PacketLemmas.{bit-is_set, same_parts, IsPacket-whole}
 use Rattle.rtp_wire.proofs.HeaderFound.{HasHeader, HasHeader-packet_mut, IsWhole-header}
 use Rattle.rtp_wire.proofs.BytesBetween.{index-put, drop_after, range_after}
-use Rattle.rtp_wire.proofs.PacketChanges.{only-put}
+use Rattle.rtp_wire.proofs.PacketChanges.{block_by, only-put}
 
 -- ---- the bit
 
@@ -72,6 +72,13 @@ module _ (old new : List ℕ) (padding : Bool) (only : ChangesOnly 0 1 old new) 
       ap (λ (x : Bool). if x then form_of_word (word_at (drop (sources_end new) new) 0) else None) is.extension_is
       ∙ ap (λ (xs : List ℕ). if is_set (slice_index old 0) 16 then form_of_word (word_at xs 0) else None) after-stays
 
+  other-stays : other_in new ≡ other_in old
+  unfolding other_in profile_in
+  other-stays =
+      ap (λ (form : Option ExtensionsForm). if is_some form then None else profile_in new) form-stays
+      ∙ ap (λ (x : Bool). if is_some (form_in old) then None else (if x then Some (word_at (drop (sources_end new) new) 0) else None)) is.extension_is
+      ∙ ap (λ (xs : List ℕ). if is_some (form_in old) then None else (if is_set (slice_index old 0) 16 then Some (word_at xs 0) else None)) after-stays
+
   end-stays : header_end new ≡ header_end old
   unfolding header_end
   end-stays =
@@ -83,8 +90,13 @@ module _ (old new : List ℕ) (padding : Bool) (only : ChangesOnly 0 1 old new) 
   unfolding header_end
   past_first = omega arith
 
-  block_by : Option ExtensionsForm → List ℕ → Option (ExtensionsForm × List ℕ)
-  block_by form body = option_map (λ f. (f, body)) form
+  by-stays : {A : Type 0} (word was : Option A) → word ≡ was
+      → block_by word (slice_range new (sources_end new + 4) (header_end new)) ≡ block_by was (slice_range old (sources_end old + 4) (header_end old))
+  by-stays {A} word was same =
+      ap (λ (k : ℕ). block_by word (slice_range new (k + 4) (header_end new))) sources_end-stays
+      ∙ ap (λ (k : ℕ). block_by word (slice_range new (sources_end old + 4) k)) end-stays
+      ∙ ap (block_by word) (range_after 0 1 old new only (sources_end old + 4) (header_end old) (omega arith))
+      ∙ ap (λ (w : Option A). block_by w (slice_range old (sources_end old + 4) (header_end old))) same
 
   pub parts-padding : parts_at new ≡ record (parts_at old) { has_padding = padding }
   unfolding parts_at block_by
@@ -98,10 +110,7 @@ module _ (old new : List ℕ) (padding : Bool) (only : ChangesOnly 0 1 old new) 
       (ap (from_be_bytes w32) (range_after 0 1 old new only 8 12 (omega arith)))
       (ap (λ (count : ℕ). map (from_be_bytes w32) (first_chunks 4 count (drop 12 new))) is.count_is
       ∙ ap (λ (rest : List ℕ). map (from_be_bytes w32) (first_chunks 4 (slice_index old 0 % 16) rest)) (drop_after 0 1 old new only 12 (omega arith)))
-      (ap (λ (k : ℕ). block_by (form_in new) (slice_range new (k + 4) (header_end new))) sources_end-stays
-      ∙ ap (λ (k : ℕ). block_by (form_in new) (slice_range new (sources_end old + 4) k)) end-stays
-      ∙ ap (block_by (form_in new)) (range_after 0 1 old new only (sources_end old + 4) (header_end old) (omega arith))
-      ∙ ap (λ (form : Option ExtensionsForm). block_by form (slice_range old (sources_end old + 4) (header_end old))) form-stays)
+      (by-stays (form_in new) (form_in old) form-stays) (by-stays (other_in new) (other_in old) other-stays)
       (ap (λ (k : ℕ). drop k new) end-stays ∙ drop_after 0 1 old new only (header_end old) (omega (arith, past_first)))
 
   pub HasHeader-padding : (len : ℕ) (form : Option ExtensionsForm) → HasHeader old len form → HasHeader new len form
@@ -113,7 +122,6 @@ module _ (old new : List ℕ) (padding : Bool) (only : ChangesOnly 0 1 old new) 
         fixed = omega arith;
         version = is.version_is;
         announced = header.announced ∙ sym form-stays;
-        known = header.known ∙ sym is.extension_is;
         ends = header.ends ∙ sym end-stays;
         within = omega arith;
       }

@@ -1,14 +1,15 @@
 -- The parts of a packet, as the calls on it find them.
-use Rattle.std.proofs.Common.{◌≡◌, ℕ, ◌+◌, ◌-◌, ◌*◌, ◌/◌, ◌%◌, ◌≤◌, Bool, true, false, List, length, take, drop, Option, Some, None, sym, ap, ◌∙◌, arith, ◌++◌, length-append, length-drop, length-take-le}
-use Rattle.std.specs.Prelude.{slice_index, slice_range, is_some, option_map}
+use Rattle.std.proofs.Common.{◌≡◌, ℕ, ◌+◌, ◌-◌, ◌*◌, ◌/◌, ◌%◌, ◌≤◌, Bool, true, false, List, length, take, drop, Option, Some, None, refl, sym, ap, subst, ◌∙◌, arith, ◌++◌, length-append, length-drop, length-take-le}
+use Rattle.std.specs.Prelude.{slice_index, slice_range, is_some, option_map, if◌then◌else◌}
 use Rattle.std.specs.Int.{w32, from_be_bytes}
 use Rattle.std.specs.List.{concat}
 use Rattle.std.specs.Simd.{first_chunks}
 use Rattle.std.proofs.lemmas.List.{length-map}
+use Rattle.std.proofs.lemmas.Option.{none-some}
 use Rattle.rtp_ext.specs.declared.form.ExtensionsForm.{ExtensionsForm}
 use Rattle.rtp_wire.specs.declared.packet.rtp_packet.RtpPacket.{RtpPacket}
 use Rattle.rtp_wire.specs.NotAHeader.{sources_end}
-use Rattle.rtp_wire.specs.Packet.{PacketParts, IsAnnounced, IsPacket, block_len, header_len_of}
+use Rattle.rtp_wire.specs.Packet.{PacketParts, IsAnnounced, IsAnnouncedBlock, IsPacket, block_len, header_len_of}
 use Rattle.rtp_wire.specs.PartsOf.{parts_of}
 use Rattle.rtp_wire.specs.PartsAt.{has_block, form_in, header_end, parts_at}
 use Rattle.rtp_wire.proofs.GroupLemmas.{length-concat, first_chunks-take}
@@ -39,11 +40,19 @@ block-header bytes len form header =
     ap (option_map {U = ExtensionsForm × List ℕ} (λ f. (f, slice_range bytes (sources_end bytes + 4) len))) header.announced
     ∙ ap (λ (end : ℕ). option_map {U = ExtensionsForm × List ℕ} (λ f. (f, slice_range bytes (sources_end bytes + 4) end)) (form_in bytes)) header.ends
 
+-- X is set where there is a form
+form_announced : (x : Bool) (found : Option ExtensionsForm) (form : ExtensionsForm) → (if x then found else None) ≡ Some form → x ≡ true
+form_announced false found form is = absurd (none-some form is)
+form_announced true found form is = refl
+
+pub has_block-form : (bytes : List ℕ) (len : ℕ) (found : Option ExtensionsForm) (form : ExtensionsForm) → HasHeader bytes len found → found ≡ Some form → has_block bytes ≡ true
+unfolding form_in
+has_block-form bytes len found form header is = form_announced (has_block bytes) _ form (sym header.announced ∙ is)
+
 -- the body begins within the header
-pub body_within : (bytes : List ℕ) (len : ℕ) (form : Option ExtensionsForm) → HasHeader bytes len form → is_some form ≡ true → sources_end bytes + 4 ≤ len
+pub body_within : (bytes : List ℕ) (len : ℕ) (form : Option ExtensionsForm) → HasHeader bytes len form → has_block bytes ≡ true → sources_end bytes + 4 ≤ len
 unfolding header_end
-body_within bytes len form header some =
-    let x : has_block bytes ≡ true = sym header.known ∙ some in
+body_within bytes len form header x =
     let ends = rw x at header.ends in
     omega arith
 
@@ -53,6 +62,21 @@ length-announced false None part is = ap length is
 length-announced false (Some block) part is = absurd is
 length-announced true None part is = absurd is
 length-announced true (Some block) part is = let words = is.words in omega (arith, ap length is.body_is, length-drop 4 part)
+
+-- what there is where nothing is
+pub none_there : {A : Type 0} (o : Option A) → is_some o ≡ false → o ≡ None
+none_there None none = refl
+none_there (Some x) none = absurd cc
+
+-- a block of one of the two forms is the only one
+pub announced : (x : Bool) (block : Option (ExtensionsForm × List ℕ)) (other : Option (ℕ × List ℕ)) (part : List ℕ) → other ≡ None → IsAnnouncedBlock x block other part → IsAnnounced x block part
+announced x block other part none is = subst (λ (o : Option (ℕ × List ℕ)). IsAnnouncedBlock x block o part) none is
+
+pub length-announced_block : (x : Bool) (block : Option (ExtensionsForm × List ℕ)) (other : Option (ℕ × List ℕ)) (part : List ℕ) → IsAnnouncedBlock x block other part
+    → length part ≡ block_len block + block_len other
+length-announced_block x block None part is = omega (arith, length-announced x block part is)
+length-announced_block x None (Some other) part is = let words = is.2.words in omega (arith, ap length is.2.body_is, length-drop 4 part)
+length-announced_block x (Some block) (Some other) part is = absurd (none-some block (sym is.1))
 
 -- the header and the payload are the whole packet
 pub length-packet : (bytes : List ℕ) (parts : PacketParts) → IsPacket bytes parts → header_len_of parts + length parts.payload ≡ length bytes
@@ -68,7 +92,7 @@ length-packet bytes parts is =
       length-concat is.groups is.sources_are.of_four,
       is.fixed_is.twelve,
       number,
-      length-announced parts.has_extension parts.block is.part is.part_is,
+      length-announced_block parts.has_extension parts.block parts.other_block is.part is.part_is,
     )
 
 -- the bytes of a packet are a packet with its parts

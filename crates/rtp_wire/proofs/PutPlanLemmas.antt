@@ -22,7 +22,7 @@ use Rattle.rtp_ext.proofs.RawWritingLemmas.{IsWritable-short}
 use Rattle.rtp_ext.proofs.LastPlaceLemmas.{AreElements-same}
 use Rattle.rtp_wire.specs.declared.packet.rtp_packet.RtpPacket.{RtpPacket}
 use Rattle.rtp_wire.specs.declared.packet.not_put.NotPut.{NotPut}
-use Rattle.rtp_wire.specs.declared.packet.not_put.NotPut.TheVariants.{CutPacket, NotAPacket, ZeroId, LongData, OneByteOnly, LongBlock, NoRoom}
+use Rattle.rtp_wire.specs.declared.packet.not_put.NotPut.TheVariants.{CutPacket, NotAPacket, ZeroId, LongData, OtherForm, OneByteOnly, LongBlock, NoRoom}
 use Rattle.rtp_wire.specs.Block.{word_at}
 use Rattle.rtp_wire.specs.NotAHeader.{sources_end}
 use Rattle.rtp_wire.specs.PartsAt.{has_block, header_end}
@@ -65,7 +65,7 @@ module _ (bytes : List ℕ) (element : Element) (allowed : Option ExtensionsForm
       let n : ℕ = whole_words (length (elements_bytes growth.form (elements_with growth.form element growth.elements))) in
       let is : growth.body_len ≡ max (length (body_of_block growth.parts.block)) n = growth.body_len_is in
       let here : n % 4 ≡ 0 = (whole-words (length (elements_bytes growth.form (elements_with growth.form element growth.elements)))).0 in
-      let was : length (body_of_block growth.parts.block) % 4 ≡ 0 = whole-announced growth.parts.has_extension growth.parts.block growth.is_packet.part growth.is_packet.part_is in
+      let was : length (body_of_block growth.parts.block) % 4 ≡ 0 = whole-announced growth.parts.has_extension growth.parts.block growth.parts.other_block growth.is_packet.part growth.is_packet.part_is in
       omega (arith, is, here, was)
 
   -- the elements of the body, whatever they are called
@@ -122,10 +122,10 @@ short-body packet =
 
 -- what the packet becomes
 abbrev pub new-growth : (bytes : List ℕ) (element : Element) (allowed : Option ExtensionsForm) (parts : PacketParts) (elements : List Element) (form new_form : ExtensionsForm) (n whole body_len : ℕ)
-    → IsPacket bytes parts → IsFormOfBody parts.block new_form form → AreElements form (body_of_block parts.block) elements
+    → IsPacket bytes parts → parts.other_block ≡ None → IsFormOfBody parts.block new_form form → AreElements form (body_of_block parts.block) elements
     → allowed_form allowed (needed_form (form_of_block parts.block) element) ≡ Some new_form → n ≡ length (elements_bytes new_form (elements_with new_form element elements))
     → n ≤ whole → whole < n + 4 → whole % 4 ≡ 0 → body_len ≡ max whole (length (body_of_block parts.block)) → IsGrowth bytes element allowed
-new-growth bytes element allowed parts elements form new_form n whole body_len is was are form-is n-is low high multiple len-is =
+new-growth bytes element allowed parts elements form new_form n whole body_len is no_other was are form-is n-is low high multiple len-is =
     let words : whole ≡ whole_words (length (elements_bytes new_form (elements_with new_form element elements))) = omega arith in
     record {
       parts = parts;
@@ -134,6 +134,7 @@ new-growth bytes element allowed parts elements form new_form n whole body_len i
       body_len = body_len;
       len = 12 + 4 * length parts.sources + (4 + body_len) + length parts.payload;
       is_packet = is;
+      no_other = no_other;
       are_elements = block-elements parts.block elements new_form form was are;
       form_is = form-is;
       body_len_is = omega (arith, len-is, words);
@@ -143,7 +144,7 @@ new-growth bytes element allowed parts elements form new_form n whole body_len i
 -- the same as it is found step by step
 module _ (bytes : List ℕ) (element : Element) (allowed : Option ExtensionsForm) (packet : RtpPacket) (block : Option (ExtensionsForm × Bor (List ℕ))) (default found : ExtensionsForm × Bor (List ℕ))
     (survey : Survey) (form : Option ExtensionsForm) (n whole body_len : ℕ)
-    (is : IsPacket bytes (parts_of packet)) (block-is : option_map (λ b. (b.0, b.1.now)) block ≡ (parts_of packet).block) (none : default.1.now ≡ []) (found-is : found ≡ unwrap_or block default)
+    (is : IsPacket bytes (parts_of packet)) (no_other : (parts_of packet).other_block ≡ None) (block-is : option_map (λ b. (b.0, b.1.now)) block ≡ (parts_of packet).block) (none : default.1.now ≡ []) (found-is : found ≡ unwrap_or block default)
     (surveyed : IsSurvey found.0 found.1.now element.0 survey) (form-is : form ≡ option_map (λ b. b.0) (parts_of packet).block) (allows : allowed_form allowed (needed_form form element) ≡ Some default.0)
     (n-is : (elements : List Element) → AreElements found.0 found.1.now elements → n ≡ length (elements_bytes default.0 (elements_with default.0 element elements)))
     (low : n ≤ whole) (high : whole < n + 4) (multiple : whole % 4 ≡ 0) (len-is : body_len ≡ max whole (length found.1.now)) where
@@ -152,7 +153,7 @@ module _ (bytes : List ℕ) (element : Element) (allowed : Option ExtensionsForm
 
   abbrev pub found-growth : IsGrowth bytes element allowed
   found-growth =
-      new-growth bytes element allowed (parts_of packet) surveyed.elements found.0 default.0 n whole body_len is here.1
+      new-growth bytes element allowed (parts_of packet) surveyed.elements found.0 default.0 n whole body_len is no_other here.1
       (subst (λ (b : List ℕ). AreElements found.0 b surveyed.elements) here.0 surveyed.are_elements)
       (ap (λ (f : Option ExtensionsForm). allowed_form allowed (needed_form f element)) (sym form-is) ∙ allows)
       (n-is surveyed.elements surveyed.are_elements) low high multiple (omega (arith, len-is, ap length here.0))
@@ -209,11 +210,14 @@ IsWritable-allowed block allowed element OneByte above below short is = IsWritab
 
 -- of those of a packet none applies before its block is found to be too long
 pub none_of_packet : (bytes : List ℕ) (element : Element) (allowed : Option ExtensionsForm) (growth : IsGrowth bytes element allowed) → IsWritable growth.form element
-    → (cause : NotPut) → put_place cause < 5 → AppliesToPacket bytes element allowed cause → ⊥
+    → (cause : NotPut) → put_place cause < 6 → AppliesToPacket bytes element allowed cause → ⊥
 none_of_packet bytes element allowed growth writable CutPacket before fact = fact
 none_of_packet bytes element allowed growth writable (NotAPacket cause) before fact = no_packet bytes cause growth.parts fact.applies growth.is_packet
 none_of_packet bytes element allowed growth writable ZeroId before fact = let some = writable.0 in omega arith
 none_of_packet bytes element allowed growth writable LongData before fact = omega (arith, IsWritable-short growth.form element writable)
+none_of_packet bytes element allowed growth writable OtherForm before fact =
+    let same : growth.parts ≡ fact.parts = sym (one_packet bytes growth.parts growth.is_packet) ∙ one_packet bytes fact.parts fact.is_packet in
+    none-some fact.other (sym growth.no_other ∙ ap (λ (parts : PacketParts). parts.other_block) same ∙ fact.other_is)
 none_of_packet bytes element allowed growth writable OneByteOnly before fact =
     let same : growth.parts ≡ fact.0 = sym (one_packet bytes growth.parts growth.is_packet) ∙ one_packet bytes fact.0 fact.1 in
     none-some growth.form (sym fact.2 ∙ ap (λ (parts : PacketParts). allowed_form allowed (needed_form (form_of_block parts.block) element)) (sym same) ∙ growth.form_is)

@@ -4,19 +4,20 @@ use Rattle.std.specs.Prelude.{slice_range}
 use Rattle.std.specs.List.{concat}
 use Rattle.std.specs.Int.{w16, w32, from_be_bytes, to_be_bytes}
 use Rattle.std.proofs.lemmas.List.{length-map, take-append-drop, drop-drop, take-take, take-append-le, drop-append-le}
+use Rattle.std.proofs.lemmas.Option.{none-some}
 use Rattle.std.proofs.Math.Seq.{take-add}
 use lib.Seq.{paste}
 use Rattle.rtp_base.specs.Overwriting.{overwritten}
 use Rattle.rtp_ext.specs.declared.form.ExtensionsForm.{ExtensionsForm}
 use Rattle.rtp_ext.specs.Form.{IsFormWord}
 use Rattle.rtp_wire.specs.NotAHeader.{sources_end}
-use Rattle.rtp_wire.specs.Packet.{PacketParts, IsAnnounced, IsPacket, header_len_of, block_len}
+use Rattle.rtp_wire.specs.Packet.{PacketParts, IsAnnouncedBlock, IsPacket, header_len_of, block_len}
 use Rattle.rtp_wire.specs.PutIntoPacket.{form_of_block, body_of_block}
 use Rattle.rtp_wire.specs.GrowingPacket.{resized}
 use Rattle.rtp_wire.proofs.GroupLemmas.{length-concat}
 use Rattle.rtp_wire.proofs.PacketLemmas.{one_packet}
 use Rattle.rtp_wire.proofs.PacketParts.{sources_len}
-use Rattle.rtp_wire.proofs.PartsLemmas.{length-announced, length-packet}
+use Rattle.rtp_wire.proofs.PartsLemmas.{length-announced_block, length-packet}
 
 -- what `copy_within` of the payload leaves, with the number of words
 pub resized-put : (buf moved new words : List ℕ) (len block_at payload_at body_len new_at : ℕ) → payload_at ≤ len → len ≤ length buf → block_at + 4 + body_len + (len - payload_at) ≤ length buf
@@ -63,32 +64,41 @@ length-head bytes parts is =
     omega (arith, length-append is.fixed (concat is.groups), length-concat is.groups is.sources_are.of_four, is.fixed_is.twelve, number, sources_end-is bytes parts is)
 
 -- what X announces is in the block
-body-announced : (x : Bool) (block : Option (ExtensionsForm × List ℕ)) (part after : List ℕ) → IsAnnounced x block part
+body-announced : (x : Bool) (block : Option (ExtensionsForm × List ℕ)) (other : Option (ℕ × List ℕ)) (part after : List ℕ) → IsAnnouncedBlock x block other part
     → take (length (body_of_block block)) (drop 4 (part ++ after)) ≡ body_of_block block
-body-announced false None part after is = refl
-body-announced false (Some block) part after is = absurd is
-body-announced true None part after is = absurd is
-body-announced true (Some (form, body)) part after is =
+body-announced x None other part after is = refl
+body-announced x (Some block) (Some other) part after is = absurd (none-some block (sym is.1))
+body-announced false (Some block) None part after is = absurd is
+body-announced true (Some (form, body)) None part after is =
     let words = is.words in
     ap (take (length body)) (drop-append-le 4 part after (omega arith) ∙ ap (λ (xs : List ℕ). xs ++ after) (sym is.body_is)) ∙ take_at body after (length body) refl
 
-pub whole-announced : (x : Bool) (block : Option (ExtensionsForm × List ℕ)) (part : List ℕ) → IsAnnounced x block part → length (body_of_block block) % 4 ≡ 0
-whole-announced false None part is = refl
-whole-announced false (Some block) part is = absurd is
-whole-announced true None part is = absurd is
-whole-announced true (Some (form, body)) part is = let words = is.words in omega (arith, ap length is.body_is, length-drop 4 part)
+pub whole-announced : (x : Bool) (block : Option (ExtensionsForm × List ℕ)) (other : Option (ℕ × List ℕ)) (part : List ℕ) → IsAnnouncedBlock x block other part → length (body_of_block block) % 4 ≡ 0
+whole-announced x None other part is = refl
+whole-announced x (Some block) (Some other) part is = absurd (none-some block (sym is.1))
+whole-announced false (Some block) None part is = absurd is
+whole-announced true (Some (form, body)) None part is = let words = is.words in omega (arith, ap length is.body_is, length-drop 4 part)
 
-pub extension-announced : (x : Bool) (block : Option (ExtensionsForm × List ℕ)) (part : List ℕ) (form : ExtensionsForm) → IsAnnounced x block part → form_of_block block ≡ Some form → x ≡ true
-extension-announced false None part form is some = absurd cc
-extension-announced false (Some block) part form is some = absurd is
-extension-announced true block part form is some = refl
+-- a block of one of the two forms is the only one
+pub no_other-announced : (x : Bool) (block : Option (ExtensionsForm × List ℕ)) (other : Option (ℕ × List ℕ)) (part : List ℕ) (form : ExtensionsForm) → IsAnnouncedBlock x block other part
+    → form_of_block block ≡ Some form → other ≡ None
+no_other-announced x block None part form is some = refl
+no_other-announced x None (Some other) part form is some = absurd cc
+no_other-announced x (Some block) (Some other) part form is some = absurd (none-some block (sym is.1))
 
-word-announced : (x : Bool) (block : Option (ExtensionsForm × List ℕ)) (part after : List ℕ) (form : ExtensionsForm) → IsAnnounced x block part → form_of_block block ≡ Some form
-    → IsFormWord (from_be_bytes w16 (take 2 (part ++ after))) form
-word-announced false None part after form is some = absurd cc
-word-announced false (Some block) part after form is some = absurd is
-word-announced true None part after form is some = absurd is
-word-announced true (Some (was, body)) part after form is some =
+pub extension-announced : (x : Bool) (block : Option (ExtensionsForm × List ℕ)) (other : Option (ℕ × List ℕ)) (part : List ℕ) (form : ExtensionsForm) → IsAnnouncedBlock x block other part
+    → form_of_block block ≡ Some form → x ≡ true
+extension-announced x None other part form is some = absurd cc
+extension-announced x (Some block) (Some other) part form is some = is.0
+extension-announced false (Some block) None part form is some = absurd is
+extension-announced true (Some block) None part form is some = refl
+
+word-announced : (x : Bool) (block : Option (ExtensionsForm × List ℕ)) (other : Option (ℕ × List ℕ)) (part after : List ℕ) (form : ExtensionsForm) → IsAnnouncedBlock x block other part
+    → form_of_block block ≡ Some form → IsFormWord (from_be_bytes w16 (take 2 (part ++ after))) form
+word-announced x None other part after form is some = absurd cc
+word-announced x (Some block) (Some other) part after form is some = absurd (none-some block (sym is.1))
+word-announced false (Some block) None part after form is some = absurd is
+word-announced true (Some (was, body)) None part after form is some =
     let words = is.words in
     let same : was ≡ form = cc in
     subst (λ (f : ExtensionsForm). IsFormWord (from_be_bytes w16 (take 2 (part ++ after))) f) same
@@ -124,19 +134,19 @@ module _ (buf : List ℕ) (len : ℕ) (parts : PacketParts) (is : IsPacket (take
         ap (λ (k : ℕ). take count (take k (drop (block_at + 4) buf))) cut
         ∙ take-take count n (drop (block_at + 4) buf) fits
         ∙ ap (take count) (sym (drop-drop 4 block_at buf) ∙ ap (drop 4) after_head)
-        ∙ body-announced parts.has_extension parts.block is.part (parts.payload ++ drop len buf) is.part_is
+        ∙ body-announced parts.has_extension parts.block parts.other_block is.part (parts.payload ++ drop len buf) is.part_is
 
     pub IsFormWord-here : (form : ExtensionsForm) → form_of_block parts.block ≡ Some form → IsFormWord (from_be_bytes w16 (take 2 (drop block_at buf))) form
     IsFormWord-here form some =
         subst (λ (xs : List ℕ). IsFormWord (from_be_bytes w16 (take 2 xs)) form) (sym after_head)
-        (word-announced parts.has_extension parts.block is.part (parts.payload ++ drop len buf) form is.part_is some)
+        (word-announced parts.has_extension parts.block parts.other_block is.part (parts.payload ++ drop len buf) form is.part_is some)
 
     module _ (payload_at : ℕ) (payload-is : payload_at ≡ header_len_of parts) where
       pub payload-here : slice_range buf payload_at len ≡ parts.payload
       payload-here =
           let head : List ℕ = head_of (take len buf) parts is in
           let split : buf ≡ (head ++ is.part) ++ (parts.payload ++ drop len buf) = pieces ∙ sym (append_assoc head is.part (parts.payload ++ drop len buf)) in
-          let part : length is.part ≡ block_len parts.block = length-announced parts.has_extension parts.block is.part is.part_is in
+          let part : length is.part ≡ block_len parts.block + block_len parts.other_block = length-announced_block parts.has_extension parts.block parts.other_block is.part is.part_is in
           let end : length (head ++ is.part) ≡ payload_at = omega (arith, length-append head is.part, length-head (take len buf) parts is, sources_end-is (take len buf) parts is, part, payload-is) in
           let count : length parts.payload ≡ len - payload_at = omega (arith, len-is, payload-is) in
           ap (take (len - payload_at)) (ap (drop payload_at) split ∙ drop_at (head ++ is.part) (parts.payload ++ drop len buf) payload_at end)

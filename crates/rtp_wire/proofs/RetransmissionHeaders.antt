@@ -5,6 +5,7 @@ use Rattle.std.specs.Option.{IfNone}
 use Rattle.std.specs.List.{concat}
 use Rattle.std.proofs.lemmas.List.{take-append-drop}
 use Rattle.std.proofs.lemmas.Bool.{false≢true}
+use Rattle.std.proofs.lemmas.Option.{none-some}
 use Rattle.rtp_ext.specs.declared.form.ExtensionsForm.{ExtensionsForm}
 use Rattle.rtp_ext.specs.Elements.{Element}
 use Rattle.rtp_ext.specs.ElementsInPlace.{CanRenumber, ChangesIds}
@@ -16,7 +17,7 @@ use Rattle.rtp_wire.specs.declared.packet.retransmission.Layout.{Layout}
 use Rattle.rtp_wire.specs.declared.packet.rtp_packet_mut.RtpPacketMut.{RtpPacketMut}
 use Rattle.rtp_wire.specs.ChangedPacket.{ChangesBlock}
 use Rattle.rtp_wire.specs.GivenFields.{with_header_fields}
-use Rattle.rtp_wire.specs.Packet.{PacketParts, IsAnnounced, IsPacket}
+use Rattle.rtp_wire.specs.Packet.{PacketParts, IsAnnouncedBlock, IsPacket}
 use Rattle.rtp_wire.specs.PacketElements.{AreElementsOf}
 use Rattle.rtp_wire.specs.PartsAt.{parts_at}
 use Rattle.rtp_wire.specs.PartsOf.{parts_in}
@@ -35,12 +36,12 @@ use Rattle.rtp_wire.proofs.BlockLemmas.{slice_range-take}
 -- ---- the elements
 
 -- what X announces has some elements
-elements_announced : (extension : Bool) (block : Option (ExtensionsForm × List ℕ)) (part : List ℕ) → AreBytes part → IsAnnounced extension block part
+elements_announced : (extension : Bool) (block : Option (ExtensionsForm × List ℕ)) (other : Option (ℕ × List ℕ)) (part : List ℕ) → AreBytes part → IsAnnouncedBlock extension block other part
     → (elements : List Element) × AreElementsOf block elements
-elements_announced false None part all is = ([], refl)
-elements_announced false (Some block) part all is = absurd is
-elements_announced true None part all is = absurd is
-elements_announced true (Some block) part all is =
+elements_announced extension None other part all is = ([], refl)
+elements_announced extension (Some block) (Some other) part all is = absurd (none-some block (sym is.1))
+elements_announced false (Some block) None part all is = absurd is
+elements_announced true (Some block) None part all is =
     let body : AreBytes block.1 = subst AreBytes (sym is.body_is) (AreBytes-back (take 4 part) (drop 4 part) (subst AreBytes (sym (take-append-drop 4 part)) all)) in
     (elements_left block.0 block.1, AreElements-found block.0 block.1 body)
 
@@ -48,7 +49,7 @@ elements_there : (bytes : List ℕ) (parts : PacketParts) → AreBytes bytes →
 elements_there bytes parts all is =
     let after_fixed : AreBytes (concat is.groups ++ (is.part ++ parts.payload)) = AreBytes-back is.fixed (concat is.groups ++ (is.part ++ parts.payload)) (subst AreBytes is.in_order all) in
     let part : AreBytes is.part = AreBytes-front is.part parts.payload (AreBytes-back (concat is.groups) (is.part ++ parts.payload) after_fixed) in
-    elements_announced parts.has_extension parts.block is.part part is.part_is
+    elements_announced parts.has_extension parts.block parts.other_block is.part part is.part_is
 
 -- ---- the header
 

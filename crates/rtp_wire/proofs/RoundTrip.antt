@@ -116,6 +116,7 @@ IsWire-written h exts rest fits part =
     record {
       parts = parts_written h part.block rest;
       is_packet = packet-written h (extension_bytes exts h.has_extension h.ext_vals) part.block rest fits part.is_part;
+      no_other = refl;
       is_header = IsHeaderOf-read exts (parts_written h part.block rest) values values (image_of exts h) (image-parts h exts part.block rest fits part.is_part) part.has_values;
     }
 

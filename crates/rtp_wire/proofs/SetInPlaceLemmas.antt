@@ -13,12 +13,12 @@ use Rattle.rtp_ext.specs.PutElement.{put_element, IsSole}
 use Rattle.rtp_ext.proofs.AnewLemmas.{AreElements-each, carried_all}
 use Rattle.rtp_wire.specs.Block.{IsBlock, word_at}
 use Rattle.rtp_wire.specs.NotAHeader.{sources_end}
-use Rattle.rtp_wire.specs.Packet.{PacketParts, IsFirstByte, IsFixedPart, IsAnnounced, IsPacket, block_len, header_len_of}
+use Rattle.rtp_wire.specs.Packet.{PacketParts, IsFirstByte, IsFixedPart, IsAnnounced, IsAnnouncedBlock, IsPacket, block_len, header_len_of}
 use Rattle.rtp_wire.specs.PutIntoPacket.{IsGrowth, PutsElement, in_place, form_of_block, body_of_block, elements_with}
 use Rattle.rtp_wire.specs.GrowingPacket.{IsFormOfBody}
 use Rattle.rtp_wire.proofs.BlockLemmas.{word_at-take}
-use Rattle.rtp_wire.proofs.PartsLemmas.{length-announced, length-packet}
-use Rattle.rtp_wire.proofs.ResizedLemmas.{head_of, length-head, sources_end-is, extension-announced, whole-announced}
+use Rattle.rtp_wire.proofs.PartsLemmas.{announced, length-announced, length-packet}
+use Rattle.rtp_wire.proofs.ResizedLemmas.{head_of, length-head, sources_end-is, no_other-announced, extension-announced, whole-announced}
 use Rattle.rtp_wire.proofs.PutPlanLemmas.{body-elements}
 
 -- the elements of a body take no more than it
@@ -93,24 +93,33 @@ module _ (bytes : List ℕ) (parts : PacketParts) (is : IsPacket bytes parts) (f
   abbrev front : List ℕ
   front = head_of bytes parts is ++ take 4 is.part
 
+  no_other : parts.other_block ≡ None
+  no_other = no_other-announced parts.has_extension parts.block parts.other_block is.part form is.part_is some
+
+  no_bytes : block_len parts.other_block ≡ 0
+  no_bytes = ap (λ (other : Option (ℕ × List ℕ)). block_len other) no_other
+
+  part_is : IsAnnounced parts.has_extension parts.block is.part
+  part_is = announced parts.has_extension parts.block parts.other_block is.part no_other is.part_is
+
   long-part : length is.part ≡ 4 + length (body_of_block parts.block)
-  long-part = length-announced parts.has_extension parts.block is.part is.part_is ∙ block_len-announced parts.block form some
+  long-part = length-announced parts.has_extension parts.block is.part part_is ∙ block_len-announced parts.block form some
 
   length-front : length front ≡ block_at + 4
   length-front = omega (arith, length-append (head_of bytes parts is) (take 4 is.part), length-head bytes parts is, length-take-le 4 is.part (omega (arith, long-part)), block-is)
 
   pub body-ends : (block_at + 4 ≤ payload_at) × (payload_at ≤ length bytes) × (payload_at - (block_at + 4) ≡ length (body_of_block parts.block))
   body-ends = (
-    omega (arith, block-is, payload-is, sources_end-is bytes parts is, block_len-announced parts.block form some),
+    omega (arith, block-is, payload-is, sources_end-is bytes parts is, block_len-announced parts.block form some, no_bytes),
     omega (arith, payload-is, length-packet bytes parts is),
-    omega (arith, block-is, payload-is, sources_end-is bytes parts is, block_len-announced parts.block form some),
+    omega (arith, block-is, payload-is, sources_end-is bytes parts is, block_len-announced parts.block form some, no_bytes),
   )
 
   bytes-split : bytes ≡ front ++ (body_of_block parts.block ++ parts.payload)
   bytes-split =
       is.in_order
       ∙ ap (λ (xs : List ℕ). is.fixed ++ (concat is.groups ++ (xs ++ parts.payload))) (sym (take-append-drop 4 is.part))
-      ∙ ap (λ (xs : List ℕ). is.fixed ++ (concat is.groups ++ ((take 4 is.part ++ xs) ++ parts.payload))) (body-announced_is parts.has_extension parts.block is.part form is.part_is some)
+      ∙ ap (λ (xs : List ℕ). is.fixed ++ (concat is.groups ++ ((take 4 is.part ++ xs) ++ parts.payload))) (body-announced_is parts.has_extension parts.block is.part form part_is some)
       ∙ simp append_assoc
 
   pub body-here : take (payload_at - (block_at + 4)) (drop (block_at + 4) bytes) ≡ body_of_block parts.block
@@ -157,9 +166,10 @@ module _ (bytes : List ℕ) (parts : PacketParts) (is : IsPacket bytes parts) (f
       groups = is.groups;
       part = take 4 is.part ++ body;
       in_order = new-split ∙ simp append_assoc;
-      fixed_is = IsFixedPart-same is.fixed parts (Some (form, body)) (extension-announced parts.has_extension parts.block is.part form is.part_is some) is.fixed_is;
+      fixed_is = IsFixedPart-same is.fixed parts (Some (form, body)) (extension-announced parts.has_extension parts.block parts.other_block is.part form is.part_is some) is.fixed_is;
       sources_are = is.sources_are;
-      part_is = IsBlock-set parts.has_extension parts.block is.part body form is.part_is some as_long;
+      part_is = subst (λ (other : Option (ℕ × List ℕ)). IsAnnouncedBlock true (Some (form, body)) other (take 4 is.part ++ body)) (sym no_other)
+          (IsBlock-set parts.has_extension parts.block is.part body form part_is some as_long);
     }
 
     pub IsPacket-set : (n : ℕ) → n ≡ length bytes → IsPacket (take n new) (record parts { has_extension = true; block = Some (form, body) })
@@ -186,12 +196,12 @@ PutsElement-set bytes element allowed growth form block_at payload_at some block
     subst (λ (f : ExtensionsForm). AreElements f body (elements_with growth.form element growth.elements)) form-is
     (subst (AreElements form body) (sym with-is) are) in
     let few = elements-within growth.form body (elements_with growth.form element growth.elements) here in
-    let whole = whole-announced parts.has_extension parts.block growth.is_packet.part growth.is_packet.part_is in
+    let whole = whole-announced parts.has_extension parts.block parts.other_block growth.is_packet.part growth.is_packet.part_is in
     let size : growth.body_len ≡ length body = omega (arith, growth.body_len_is, few, whole, as_long) in
     record {
       growth = growth;
       body = body;
-      len_is = omega (arith, growth.len_is, size, as_long, length-packet bytes parts growth.is_packet, block_len-announced parts.block form some);
+      len_is = omega (arith, growth.len_is, size, as_long, length-packet bytes parts growth.is_packet, block_len-announced parts.block form some, ap (λ (other : Option (ℕ × List ℕ)). block_len other) growth.no_other);
       body_is = in_place (some ∙ ap (λ (f : ExtensionsForm). Some f) form-is, sole) (subst (λ (f : ExtensionsForm). SetsLast f element.0 element.1 (body_of_block parts.block) body) form-is sets);
       is_packet = subst (λ (f : ExtensionsForm). IsPacket (take (length bytes) (put_mid (block_at + 4) (payload_at - (block_at + 4)) bytes body)) (record parts { has_extension = true; block = Some (f, body) })) form-is
           (IsPacket-set bytes parts growth.is_packet form some block_at payload_at block-is payload-is body as_long (length bytes) refl);

@@ -5,7 +5,8 @@ use Rattle.rtp_ext.specs.declared.form.ExtensionsForm.TheVariants.{OneByte, TwoB
 use Rattle.rtp_ext.specs.declared.map.ExtensionMap.{ExtensionMap}
 use Rattle.rtp_ext.specs.Form.{IsFormWord}
 use Rattle.rtp_wire.specs.Header.{IsWire, default_header}
-use Rattle.rtp_wire.specs.NotAHeader.{cut_header, unknown_form, cut_words, NotAHeader, cut_fixed, other_version, cut_sources, no_block}
+use Rattle.rtp_wire.specs.Packet.{IsPacket}
+use Rattle.rtp_wire.specs.NotAHeader.{cut_header, cut_words, IsNoPacket, cut_fixed, other_version, cut_sources, cut_block, NotAHeader, unknown_form}
 use Rattle.rtp_ext.specs.ExtensionMap.{Slots}
 use Rattle.rtp_values.specs.Spelling.{carried_values}
 use Rattle.rtp_ext.specs.WrittenBlock.{block_bytes, image_values}
@@ -23,7 +24,7 @@ zeros n = replicate n 0
 plain_row : (exts : ExtensionMap) → IsWire exts (128 ∷ 33 ∷ 183 ∷ 152 ∷ 0 ∷ 0 ∷ 39 ∷ 16 ∷ 0 ∷ 0 ∷ 0 ∷ 44 ∷ 7 ∷ 7 ∷ [])
     (record { version = 2; has_padding = false; has_extension = false; csrc_count = 0; marker = false; payload_type = 33; sequence_number = 47000; timestamp = 10000; ssrc = 44; csrc = zeros 15; ext_vals = no_values; header_len = 12 })
 plain_row exts = record {
-  parts = record { has_padding = false; has_extension = false; marker = false; payload_type = 33; sequence_number = 47000; timestamp = 10000; ssrc = 44; sources = []; block = None; payload = 7 ∷ 7 ∷ [] };
+  parts = record { has_padding = false; has_extension = false; marker = false; payload_type = 33; sequence_number = 47000; timestamp = 10000; ssrc = 44; sources = []; block = None; other_block = None; payload = 7 ∷ 7 ∷ [] };
   is_packet = record {
     fixed = 128 ∷ 33 ∷ 183 ∷ 152 ∷ 0 ∷ 0 ∷ 39 ∷ 16 ∷ 0 ∷ 0 ∷ 0 ∷ 44 ∷ [];
     groups = [];
@@ -40,6 +41,7 @@ plain_row exts = record {
     sources_are = record { of_four = tt; numbers_are = refl };
     part_is = refl;
   };
+  no_other = refl;
   is_header = record {
     fields_are = refl;
     values_are = record { elements = []; are_elements = refl; are_values = AreValues-none exts no_values };
@@ -50,7 +52,7 @@ plain_row exts = record {
 full_row : (exts : ExtensionMap) → IsWire exts (178 ∷ 225 ∷ 255 ∷ 255 ∷ 1 ∷ 2 ∷ 3 ∷ 4 ∷ 0 ∷ 0 ∷ 0 ∷ 0 ∷ 0 ∷ 0 ∷ 0 ∷ 100 ∷ 0 ∷ 0 ∷ 0 ∷ 101 ∷ 16 ∷ 5 ∷ 0 ∷ 1 ∷ 0 ∷ 0 ∷ 0 ∷ 0 ∷ [])
     (record { version = 2; has_padding = true; has_extension = true; csrc_count = 2; marker = true; payload_type = 97; sequence_number = 65535; timestamp = 16909060; ssrc = 0; csrc = 100 ∷ 101 ∷ zeros 13; ext_vals = no_values; header_len = 28 })
 full_row exts = record {
-  parts = record { has_padding = true; has_extension = true; marker = true; payload_type = 97; sequence_number = 65535; timestamp = 16909060; ssrc = 0; sources = 100 ∷ 101 ∷ []; block = Some (TwoByte, 0 ∷ 0 ∷ 0 ∷ 0 ∷ []); payload = [] };
+  parts = record { has_padding = true; has_extension = true; marker = true; payload_type = 97; sequence_number = 65535; timestamp = 16909060; ssrc = 0; sources = 100 ∷ 101 ∷ []; block = Some (TwoByte, 0 ∷ 0 ∷ 0 ∷ 0 ∷ []); other_block = None; payload = [] };
   is_packet = record {
     fixed = 178 ∷ 225 ∷ 255 ∷ 255 ∷ 1 ∷ 2 ∷ 3 ∷ 4 ∷ 0 ∷ 0 ∷ 0 ∷ 0 ∷ [];
     groups = (0 ∷ 0 ∷ 0 ∷ 100 ∷ []) ∷ (0 ∷ 0 ∷ 0 ∷ 101 ∷ []) ∷ [];
@@ -67,6 +69,7 @@ full_row exts = record {
     sources_are = record { of_four = (refl, (refl, tt)); numbers_are = refl };
     part_is = record { form_is = (omega arith, omega arith); words = refl; body_is = refl };
   };
+  no_other = refl;
   is_header = record {
     fields_are = refl;
     values_are = record {
@@ -99,28 +102,48 @@ sources_row : length (wire_bytes nothing_mapped (record default_header { csrc_co
 unfolding wire_bytes block_bytes
 sources_row = refl
 
--- a row for each cause of a refusal
-cut_fixed_row : NotAHeader (zeros 11)
+-- a row for each cause of a refusal, of packets and of headers
+cut_fixed_row : IsNoPacket (zeros 11)
 cut_fixed_row = cut_fixed (omega arith)
 
-other_version_row : NotAHeader (64 ∷ zeros 11)
+other_version_row : IsNoPacket (64 ∷ zeros 11)
 other_version_row = other_version (λ e. absurd (omega arith))
 
-cut_sources_row : NotAHeader (129 ∷ zeros 11)
+cut_sources_row : IsNoPacket (129 ∷ zeros 11)
 cut_sources_row = cut_sources (omega arith)
 
-cut_header_row : NotAHeader (144 ∷ zeros 11 ++ 190 ∷ 222 ∷ 0 ∷ [])
-cut_header_row = no_block refl (cut_header (omega arith))
+cut_header_row : IsNoPacket (144 ∷ zeros 11 ++ 190 ∷ 222 ∷ 0 ∷ [])
+cut_header_row = cut_block refl (cut_header (omega arith))
 
 no_form : (form : ExtensionsForm) → IsFormWord 8192 form → ⊥
 no_form OneByte is = omega arith
 no_form TwoByte is = omega arith
 
 unknown_form_row : NotAHeader (144 ∷ zeros 11 ++ 32 ∷ 0 ∷ 0 ∷ 0 ∷ [])
-unknown_form_row = no_block refl (unknown_form no_form)
+unknown_form_row = unknown_form (refl, no_form)
 
-cut_words_row : NotAHeader (144 ∷ zeros 11 ++ 190 ∷ 222 ∷ 0 ∷ 1 ∷ 16 ∷ 170 ∷ 0 ∷ [])
-cut_words_row = no_block refl (cut_words (omega arith))
+-- the packet of these bytes, whose block is of a form of the profile's own
+other_form_row : IsPacket (144 ∷ 33 ∷ zeros 10 ++ 32 ∷ 0 ∷ 0 ∷ 1 ∷ 1 ∷ 2 ∷ 3 ∷ 4 ∷ 7 ∷ [])
+    (record { has_padding = false; has_extension = true; marker = false; payload_type = 33; sequence_number = 0; timestamp = 0; ssrc = 0; sources = []; block = None; other_block = Some (8192, 1 ∷ 2 ∷ 3 ∷ 4 ∷ []); payload = 7 ∷ [] })
+other_form_row = record {
+  fixed = 144 ∷ 33 ∷ zeros 10;
+  groups = [];
+  part = 32 ∷ 0 ∷ 0 ∷ 1 ∷ 1 ∷ 2 ∷ 3 ∷ 4 ∷ [];
+  in_order = refl;
+  fixed_is = record {
+    twelve = refl;
+    first_is = record { sum = refl; few = omega arith };
+    second_is = record { sum = refl; few = omega arith };
+    number_is = refl;
+    timestamp_is = refl;
+    ssrc_is = refl;
+  };
+  sources_are = record { of_four = tt; numbers_are = refl };
+  part_is = (refl, refl, record { profile_is = refl; no_form = no_form; words = refl; body_is = refl });
+}
+
+cut_words_row : IsNoPacket (144 ∷ zeros 11 ++ 190 ∷ 222 ∷ 0 ∷ 1 ∷ 16 ∷ 170 ∷ 0 ∷ [])
+cut_words_row = cut_block refl (cut_words (omega arith))
 
 -- ---- the ends of a packet
 

@@ -137,15 +137,15 @@ TakesOnce-run count packet_ids verdicts run i j number before within first secon
 -- ---- the packet ids of datagrams
 
 -- a packet's source and number are its packet id under each map
-pub IsPacketId-packet : (datagram : List ℕ) (parts : PacketParts) (source low : ℕ) → AreBytes datagram → IsPacket datagram parts → source ≡ parts.ssrc → low ≡ parts.sequence_number
+pub IsPacketId-packet : (datagram : List ℕ) (parts : PacketParts) (source low : ℕ) → AreBytes datagram → IsPacket datagram parts → parts.other_block ≡ None → source ≡ parts.ssrc → low ≡ parts.sequence_number
     → (exts : ExtensionMap) → IsPacketId exts datagram (Some (record { source = source; low = low }))
-IsPacketId-packet datagram parts source low all is source_is low_is exts =
-    let found = header_found exts datagram parts all is in
+IsPacketId-packet datagram parts source low all is none source_is low_is exts =
+    let found = header_found exts datagram parts all is none in
     record { header = header_of parts found.0; wire = found.1; packet_id_is = cc }
 
--- and what is no packet has none
-pub IsPacketId-none : (datagram : List ℕ) → ((parts : PacketParts) → IsPacket datagram parts → ⊥) → (exts : ExtensionMap) → IsPacketId exts datagram None
-IsPacketId-none datagram none exts header wire = none wire.parts wire.is_packet
+-- and what begins with no header has none
+pub IsPacketId-none : (datagram : List ℕ) → ((parts : PacketParts) → IsPacket datagram parts → parts.other_block ≡ None → ⊥) → (exts : ExtensionMap) → IsPacketId exts datagram None
+IsPacketId-none datagram none exts header wire = none wire.parts wire.is_packet wire.no_other
 
 -- the headers of a datagram have one packet id
 one_id : (exts : ExtensionMap) (datagram : List ℕ) (a b : RtpHeader) → IsWire exts datagram a → IsWire exts datagram b → packet_id_of a ≡ packet_id_of b

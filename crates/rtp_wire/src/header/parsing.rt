@@ -1,11 +1,11 @@
 //! From bytes to a header.
 
-ghost use Rattle.std.specs.Prelude.{◌↔◌, ◌⊎◌, ◌≡◌, ◌≤◌, length, true, false, None, IsNone, IsOk, IfOk, OnOk, OnErr, IfSome};
+ghost use Rattle.std.specs.Prelude.{◌↔◌, ◌⊎◌, ◌≡◌, ◌≤◌, length, true, false, None, IsNone, IsOk, IfOk, OnOk, OnErr, IfSome, IsSomeAnd};
 ghost use Rattle.std.specs.Bool.{OnTrue};
 ghost use Rattle.rtp_wire.specs.PacketElements.{HasValues};
 ghost use Rattle.rtp_wire.specs.RefusedMemory.{AreValuesStopped, BlockHasAllocation, HeaderHasAllocation, IsWireStopped};
 ghost use Rattle.rtp_wire.specs.NotAHeader.{IsNoPacket, NotAHeader};
-ghost use Rattle.rtp_wire.specs.Packet.{IsPacket, HasOtherForm};
+ghost use Rattle.rtp_wire.specs.Packet.{PacketParts, IsPacket, HasOtherForm};
 ghost use Rattle.rtp_wire.specs.Header.{header_of, IsHeaderOf, IsWire};
 ghost use Rattle.rtp_values.specs.declared.value.values.ExtensionValues.{ExtensionValues};
 ghost use Rattle.rtp_values.specs.Values.{no_values};
@@ -121,10 +121,14 @@ impl<'a> RtpPacket<'a> {
     pub(crate) fn of_header(datagram: &'a [u8]) -> Option<Self>
         ensures found { IfSome result (λ packet. IsPacket datagram.now (parts_of packet)) }
         ensures known { IfSome result (λ packet. (parts_of packet).other_block ≡ None) }
+        ensures only { (parts : PacketParts) → IsPacket datagram.now parts → parts.other_block ≡ None →
+            IsSomeAnd result (λ packet. parts_of packet ≡ parts) }
         ensures refused { IsNone result ↔ NotAHeader datagram.now }
         ensures no_packet { IsNone result ↔ (IsNoPacket datagram.now ⊎ HasOtherForm datagram.now) }
     {
-        let packet = RtpPacket::parse(datagram).ok()?;
+        let Ok(packet) = RtpPacket::parse(datagram) else {
+            return None;
+        };
         if packet.has_other_form() {
             return None;
         }

@@ -5,7 +5,7 @@ use Rattle.rtp_wire.specs.PartsOf.{parts_of}
 use Rattle.rtp_wire.specs.Header.{IsWire}
 use Rattle.rtp_ext.proofs.MemoryLemmas.{OnErr-from}
 use Rattle.rtp_wire.proofs.HeaderLemmas.{no_header, one_header, IsHeaderOf-read}
-use Rattle.rtp_wire.proofs.NotAPacketLemmas.{no_packet-refused}
+use Rattle.rtp_wire.proofs.NoHeaderLemmas.{header_there, packet_there}
 use Rattle.rtp_wire.proofs.PartsLemmas.{length-packet}
 use Rattle.rtp_wire.proofs.header.rtp_header.RtpHeader.parse_into.Goals as goal
 
@@ -14,22 +14,22 @@ returns-in_default-clause-only g c header wire = absurd (no_header (g.K.Kinds.sl
 
 pub returns-in_err-read_values-clause-memory : goal.returns-in_err-read_values-clause-memory
 returns-in_err-read_values-clause-memory g c = OnErr-from c.from_residual.result _ (record {
-  parts = parts_of c.in-Ok.packet;
-  is_packet = c.in-Ok.ensures.found;
+  parts = parts_of c.in-Some.packet;
+  is_packet = c.in-Some.ensures.found;
   has_allocation = c.in_err-read_values.ensures.memory;
 })
 
 pub returns-in_err-read_values-clause-succeeds : goal.returns-in_err-read_values-clause-succeeds
 returns-in_err-read_values-clause-succeeds g c none = absurd (none (record {
-  parts = parts_of c.in-Ok.packet;
-  is_packet = c.in-Ok.ensures.found;
+  parts = parts_of c.in-Some.packet;
+  is_packet = c.in-Some.ensures.found;
   has_allocation = c.in_err-read_values.ensures.memory;
 }))
 
 pub returns-in_err-read_values-clause-stopped : goal.returns-in_err-read_values-clause-stopped
 returns-in_err-read_values-clause-stopped g c = OnErr-from c.from_residual.result _ (record {
-  parts = parts_of c.in-Ok.packet;
-  is_packet = c.in-Ok.ensures.found;
+  parts = parts_of c.in-Some.packet;
+  is_packet = c.in-Some.ensures.found;
   fields_are = ap (λ (h : RtpHeader). record h { ext_vals = c.read_values.new.values }) c.put_fields.ensures;
   values_are = c.in_err-read_values.ensures.stopped;
 })
@@ -37,17 +37,24 @@ returns-in_err-read_values-clause-stopped g c = OnErr-from c.from_residual.resul
 pub returns-in_err-read_values-clause-refused : goal.returns-in_err-read_values-clause-refused
 returns-in_err-read_values-clause-refused g c = (
   λ e. absurd (false≢true (subst IsErr e c.from_residual.ensures.0)),
-  λ none. absurd (no_packet-refused c.args.buf.now (parts_of c.in-Ok.packet) none c.in-Ok.ensures.found),
+  λ none. absurd (header_there c.args.buf.now (parts_of c.in-Some.packet) c.in-Some.ensures.found c.in-Some.ensures.known none),
+)
+
+pub returns-in_err-read_values-clause-no_packet : goal.returns-in_err-read_values-clause-no_packet
+returns-in_err-read_values-clause-no_packet g c = (
+  λ e. absurd (false≢true (subst IsErr e c.from_residual.ensures.0)),
+  λ none. absurd (packet_there c.args.buf.now (parts_of c.in-Some.packet) c.in-Some.ensures.found c.in-Some.ensures.known none),
 )
 
 -- the header is that of the bytes
 wire : (g : _) (c : goal.In_ok-read_values g) → IsWire (g.K.Kinds.slots c.args.exts.now) c.args.buf.now (record c.put_fields.new.header { ext_vals = c.read_values.new.values })
 wire g c =
     let exts = (g.K.Kinds.slots c.args.exts.now) in
-    let parts = parts_of c.in-Ok.packet in
+    let parts = parts_of c.in-Some.packet in
     record {
       parts = parts;
-      is_packet = c.in-Ok.ensures.found;
+      is_packet = c.in-Some.ensures.found;
+      no_other = c.in-Some.ensures.known;
       is_header = IsHeaderOf-read exts parts _ c.read_values.new.values _ c.put_fields.ensures c.in_ok-read_values.ensures.found;
     }
 
@@ -59,4 +66,4 @@ returns-clause-only g c header is = (refl, one_header (g.K.Kinds.slots c.args.ex
 
 pub returns-clause-within : goal.returns-clause-within
 returns-clause-within g c =
-    omega (arith, ap (λ (h : RtpHeader). h.header_len) c.put_fields.ensures, length-packet c.args.buf.now (parts_of c.in-Ok.packet) c.in-Ok.ensures.found)
+    omega (arith, ap (λ (h : RtpHeader). h.header_len) c.put_fields.ensures, length-packet c.args.buf.now (parts_of c.in-Some.packet) c.in-Some.ensures.found)

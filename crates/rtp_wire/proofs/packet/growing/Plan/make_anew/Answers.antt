@@ -109,7 +109,7 @@ returns c = λ allowed plan.
           ∙ ap (λ (f : ExtensionsForm). row_to f (elements_with f (c.args.id, c.args.data.now) growth.elements) growth.body_len) plan.form_is;
       is_packet = subst (λ (f : ExtensionsForm). IsPacket (take growth.len (put_mid (self.block_at + 4) (self.block_at + 4 + self.new_body_len - (self.block_at + 4)) c.if-not-self.buf body)) (record growth.parts { has_extension = true; block = Some (f, body) })) plan.form_is
           (IsPacket-new c.args.buf.now c.args.len growth.parts growth.is_packet c.requires.within self.block_at plan.block_is self.payload_at plan.payload_is self.new_body_len c.requires.room
-          self.new_form c.if-not-self.buf (laid joined allowed plan) body as_long growth.len size
+          self.new_form c.if-not-self.buf (laid joined allowed plan) body as_long growth.len growth.no_other size
           (omega (arith, body-whole (take c.args.len c.args.buf.now) (c.args.id, c.args.data.now) allowed growth, plan.new_body_is)) (omega (arith, plan.few, plan.new_body_is)));
       are_elements = subst (λ (f : ExtensionsForm). AreElements f body (elements_with f (c.args.id, c.args.data.now) growth.elements)) plan.form_is
           (c.put_anew.ensures.elements growth.elements (elements-here joined allowed plan));

@@ -3,6 +3,7 @@ use Rattle.std.specs.Prelude.{◌↔◌, IsTrue}
 use Rattle.rtp_ext.specs.declared.form.ExtensionsForm.{ExtensionsForm}
 use Rattle.rtp_ext.specs.BodySurvey.{IsSurvey}
 use Rattle.rtp_wire.specs.PartsOf.{parts_of}
+use Rattle.rtp_wire.proofs.PartsLemmas.{none_there}
 use Rattle.rtp_wire.proofs.PutPlanLemmas.{block-found, short-body, here, found-growth, form-tested, IsWritable-allowed, none_of_packet}
 use Rattle.rtp_wire.proofs.packet.growing.Plan.new.Goals as goal
 
@@ -27,7 +28,7 @@ pub returns-then-new_body_len-gt-MAX_BODY_LEN-clause-cause : goal.returns-then-n
 returns-then-new_body_len-gt-MAX_BODY_LEN-clause-cause c =
     let growth =
     found-growth c.args.datagram.now (c.args.id, c.args.data.now) c.args.allowed c.in_ok-packet.packet c.block.result _ c.unwrap_or-form.result c.survey_of-survey.result c.form.result
-    c.put_len-elements_len.result c.next_multiple_of.result c.max-new_body_len.result c.in_ok-packet.ensures.found c.block.ensures.parts refl c.unwrap_or-form.ensures c.survey_of-survey.ensures c.form.ensures
+    c.put_len-elements_len.result c.next_multiple_of.result c.max-new_body_len.result c.in_ok-packet.ensures.found (none_there _ (sym c.has_other_form.ensures ∙ c.if-has_other_form.false)) c.block.ensures.parts refl c.unwrap_or-form.ensures c.survey_of-survey.ensures c.form.ensures
     (sym c.form_to_put.ensures ∙ c.in-Some.is) c.put_len-elements_len.ensures.length c.next_multiple_of.ensures.lower_bound c.next_multiple_of.ensures.upper_bound c.next_multiple_of.ensures.multiple c.max-new_body_len.ensures in
     record {
       applies = (growth, c.if-new_body_len-gt-MAX_BODY_LEN.true);
@@ -39,11 +40,11 @@ pub returns-clause-found : goal.returns-clause-found
 returns-clause-found c =
     let growth =
     found-growth c.args.datagram.now (c.args.id, c.args.data.now) c.args.allowed c.in_ok-packet.packet c.block.result _ c.unwrap_or-form.result c.survey_of-survey.result c.form.result
-    c.put_len-elements_len.result c.next_multiple_of.result c.max-new_body_len.result c.in_ok-packet.ensures.found c.block.ensures.parts refl c.unwrap_or-form.ensures c.survey_of-survey.ensures c.form.ensures
+    c.put_len-elements_len.result c.next_multiple_of.result c.max-new_body_len.result c.in_ok-packet.ensures.found (none_there _ (sym c.has_other_form.ensures ∙ c.if-has_other_form.false)) c.block.ensures.parts refl c.unwrap_or-form.ensures c.survey_of-survey.ensures c.form.ensures
     (sym c.form_to_put.ensures ∙ c.in-Some.is) c.put_len-elements_len.ensures.length c.next_multiple_of.ensures.lower_bound c.next_multiple_of.ensures.upper_bound c.next_multiple_of.ensures.multiple c.max-new_body_len.ensures in
     let here =
     here c.args.datagram.now (c.args.id, c.args.data.now) c.args.allowed c.in_ok-packet.packet c.block.result _ c.unwrap_or-form.result c.survey_of-survey.result c.form.result
-    c.put_len-elements_len.result c.next_multiple_of.result c.max-new_body_len.result c.in_ok-packet.ensures.found c.block.ensures.parts refl c.unwrap_or-form.ensures c.survey_of-survey.ensures c.form.ensures
+    c.put_len-elements_len.result c.next_multiple_of.result c.max-new_body_len.result c.in_ok-packet.ensures.found (none_there _ (sym c.has_other_form.ensures ∙ c.if-has_other_form.false)) c.block.ensures.parts refl c.unwrap_or-form.ensures c.survey_of-survey.ensures c.form.ensures
     (sym c.form_to_put.ensures ∙ c.in-Some.is) c.put_len-elements_len.ensures.length c.next_multiple_of.ensures.lower_bound c.next_multiple_of.ensures.upper_bound c.next_multiple_of.ensures.multiple c.max-new_body_len.ensures in
     let parts = parts_of c.in_ok-packet.packet in
     record {

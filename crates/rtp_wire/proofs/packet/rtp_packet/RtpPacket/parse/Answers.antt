@@ -1,14 +1,12 @@
-use Rattle.std.proofs.Common.{arith, sym, subst, ◌∙◌, ℕ}
+use Rattle.std.proofs.Common.{arith, ◌∙◌}
 use Rattle.std.proofs.lemmas.Bool.{false≢true}
-use Rattle.std.proofs.lemmas.Option.{none-some}
-use Rattle.rtp_ext.specs.Form.{IsFormWord}
-use Rattle.rtp_wire.specs.declared.packet.not_a_packet.NotAPacket.TheVariants.{CutSources, CutBlockHeader, UnknownForm, CutBlock}
+use Rattle.rtp_wire.specs.declared.packet.not_a_packet.NotAPacket.TheVariants.{CutSources, CutBlockHeader, CutBlock}
 use Rattle.rtp_wire.specs.Packet.{IsPacket}
 use Rattle.rtp_wire.specs.PartsAt.{parts_at}
 use Rattle.rtp_wire.proofs.BlockLemmas.{header_word}
-use Rattle.rtp_wire.proofs.HeaderFound.{kept_by_packet, IsWhole-header, HasHeader-plain, HasHeader-extended}
+use Rattle.rtp_wire.proofs.HeaderFound.{kept_by_packet, IsWhole-header, found-form_of_word, HasHeader-plain, HasHeader-extended}
 use Rattle.rtp_wire.proofs.PacketLemmas.{one_packet, IsPacket-whole, no_packet}
-use Rattle.rtp_wire.proofs.NotAPacketLemmas.{no_packet-refused, IsFirstCause-block, IsFirstOf-cut_header, IsFirstOf-unknown_form, IsFirstOf-cut_block, refusal}
+use Rattle.rtp_wire.proofs.NotAPacketLemmas.{no_packet-refused, IsFirstCause-block, IsFirstOf-cut_header, IsFirstOf-cut_block, refusal}
 use Rattle.rtp_wire.proofs.packet.rtp_packet.RtpPacket.parse.Goals as goal
 
 pub returns-in_default-clause-only : goal.returns-in_default-clause-only
@@ -43,31 +41,20 @@ returns-in_default-split_first_chunk c =
     (IsFirstCause-block _ _ _ _ c.if-datagram-lt12.false c.if-first-ne2.false c.sources_end-start.ensures c.in-Some.ensures.cases.0 c.in-Some.ensures.cases.2 c.if-first-eq0.false
     (IsFirstOf-cut_header c.in-Some.after.now c.in_default-split_first_chunk.ensures.cases))
 
-pub returns-in_default-parse : goal.returns-in_default-parse
-returns-in_default-parse c =
-    let split = c.in-Some-split_first_chunk.ensures.cases in
-    let word = header_word c.in-Some.after.now c.in-Some-split_first_chunk.header.now 0 split.0 (omega arith) in
-    refusal c.args.datagram.now UnknownForm
-    (IsFirstCause-block _ _ _ _ c.if-datagram-lt12.false c.if-first-ne2.false c.sources_end-start.ensures c.in-Some.ensures.cases.0 c.in-Some.ensures.cases.2 c.if-first-eq0.false
-    (IsFirstOf-unknown_form c.in-Some.after.now (omega (arith, split.2)) (λ form is.
-    none-some form (sym c.in_default-parse.is ∙ c.parse.ensures.only form (subst (λ (w : ℕ). IsFormWord w form) (sym word) is)))))
-
 pub returns-then-after-body_len : goal.returns-then-after-body_len
 returns-then-after-body_len c =
     let split = c.in-Some-split_first_chunk.ensures.cases in
-    let word = header_word c.in-Some.after.now c.in-Some-split_first_chunk.header.now 0 split.0 (omega arith) in
     let words = c.from-body_len.ensures ∙ c.from_be_bytes.ensures ∙ header_word c.in-Some.after.now c.in-Some-split_first_chunk.header.now 2 split.0 (omega arith) in
     refusal c.args.datagram.now CutBlock
     (IsFirstCause-block _ _ _ _ c.if-datagram-lt12.false c.if-first-ne2.false c.sources_end-start.ensures c.in-Some.ensures.cases.0 c.in-Some.ensures.cases.2 c.if-first-eq0.false
-    (IsFirstOf-cut_block c.in-Some.after.now c.in-Some-parse.form (omega (arith, split.2)) (subst (λ (w : ℕ). IsFormWord w c.in-Some-parse.form) word c.in-Some-parse.ensures.found)
-    (omega (arith, split.2, words, c.if-after-body_len.true))))
+    (IsFirstOf-cut_block c.in-Some.after.now (omega (arith, split.2)) (omega (arith, split.2, words, c.if-after-body_len.true))))
 
 pub invariant_of-result-2 : goal.invariant_of-result-2
 invariant_of-result-2 c =
     kept_by_packet _ _ _
-    (HasHeader-extended c.args.datagram.now c.in-Some.after.now c.in-Some-split_first_chunk.header.now c.sources_end-start.result c.from-body_len.result c.in-Some-parse.form
+    (HasHeader-extended c.args.datagram.now c.in-Some.after.now c.in-Some-split_first_chunk.header.now c.sources_end-start.result c.from-body_len.result c.parse.result
     c.if-datagram-lt12.false c.if-first-ne2.false c.sources_end-start.ensures c.in-Some.ensures.cases.0 c.in-Some.ensures.cases.2 c.if-first-eq0.false
-    c.in-Some-split_first_chunk.ensures.cases.0 c.in-Some-parse.ensures.found (c.from-body_len.ensures ∙ c.from_be_bytes.ensures)
+    c.in-Some-split_first_chunk.ensures.cases.0 (found-form_of_word _ c.parse.result c.parse.ensures.found c.parse.ensures.only) (c.from-body_len.ensures ∙ c.from_be_bytes.ensures)
     (omega (arith, c.in-Some-split_first_chunk.ensures.cases.2)))
     (λ i. omega (arith, c.type_inv.datagram i))
 
@@ -76,9 +63,9 @@ extended : (c : goal.After-result-2-1) → IsPacket c.args.datagram.now (parts_a
 extended c =
     IsPacket-whole c.args.datagram.now (omega (arith, c.type_inv.datagram 1))
     (IsWhole-header _ _ _
-    (HasHeader-extended c.args.datagram.now c.in-Some.after.now c.in-Some-split_first_chunk.header.now c.sources_end-start.result c.from-body_len.result c.in-Some-parse.form
+    (HasHeader-extended c.args.datagram.now c.in-Some.after.now c.in-Some-split_first_chunk.header.now c.sources_end-start.result c.from-body_len.result c.parse.result
     c.if-datagram-lt12.false c.if-first-ne2.false c.sources_end-start.ensures c.in-Some.ensures.cases.0 c.in-Some.ensures.cases.2 c.if-first-eq0.false
-    c.in-Some-split_first_chunk.ensures.cases.0 c.in-Some-parse.ensures.found (c.from-body_len.ensures ∙ c.from_be_bytes.ensures)
+    c.in-Some-split_first_chunk.ensures.cases.0 (found-form_of_word _ c.parse.result c.parse.ensures.found c.parse.ensures.only) (c.from-body_len.ensures ∙ c.from_be_bytes.ensures)
     (omega (arith, c.in-Some-split_first_chunk.ensures.cases.2))))
 
 pub returns-clause-found : goal.returns-clause-found

@@ -1,0 +1,98 @@
+-- Bytes that begin with no header: they are no packet, or a packet whose block is of another form.
+use Rattle.std.proofs.Common.{◌≡◌, ℕ, ◌+◌, ◌*◌, ◌/◌, ◌%◌, ◌<◌, ◌≤◌, Bool, true, false, List, length, drop, Option, Some, None, refl, sym, ap, ◌∙◌, arith, inl, inr, length-drop}
+use Rattle.std.specs.Prelude.{◌⊎◌, slice_index, slice_range, is_some, option_map, if◌then◌else◌}
+use Rattle.std.proofs.lemmas.Bool.{eq-eqb, cases_lt}
+use Rattle.std.proofs.lemmas.Option.{none-some}
+use Rattle.rtp_base.specs.Flag.{bit}
+use Rattle.rtp_ext.specs.declared.form.ExtensionsForm.{ExtensionsForm}
+use Rattle.rtp_wire.specs.declared.header.not_a_header.NotAHeader as not_a_header
+use Rattle.rtp_wire.specs.declared.packet.not_a_packet.NotAPacket.{NotAPacket}
+use Rattle.rtp_wire.specs.declared.packet.not_a_packet.NotAPacket.TheVariants.{CutFixedPart, OtherVersion, CutSources, CutBlockHeader, CutBlock}
+use Rattle.rtp_wire.specs.Block.{word_at}
+use Rattle.rtp_wire.specs.NotAHeader.{IsNoPacket, HasUnknownForm, NotAHeader, no_packet, unknown_form, sources_end}
+use Rattle.rtp_wire.specs.NotAPacket.{Applies, place_of, IsFirstCause}
+use Rattle.rtp_wire.specs.NoHeaderCause.{AppliesToHeader, header_place_of, IsFirstHeaderCause}
+use Rattle.rtp_wire.specs.Packet.{PacketParts, IsPacket, HasOtherForm}
+use Rattle.rtp_wire.specs.PartsAt.{has_block, form_of_word, form_in, profile_in, other_in, header_end, parts_at}
+use Rattle.rtp_wire.proofs.NotAPacketLemmas.{no_packet-refused}
+use Rattle.rtp_wire.proofs.PacketLemmas.{bit-is_set, no_form_of_word, IsNoFormWord-form_of_word, one_packet, no_packet as not_a_packet}
+
+-- ---- the block
+
+-- a block of another form is there exactly where X is set and the word is that of neither form
+other_is : (x : Bool) (form : Option ExtensionsForm) (word : ℕ) (body : List ℕ) (other : ℕ × List ℕ)
+    → option_map (λ profile. (profile, body)) (if is_some (if x then form else None) then None else (if x then Some word else None)) ≡ Some other → (x ≡ true) × (form ≡ None)
+other_is false form word body other is = absurd (none-some other is)
+other_is true (Some form) word body other is = absurd (none-some other is)
+other_is true None word body other is = (refl, refl)
+
+pub HasUnknownForm-packet : (bytes : List ℕ) (parts : PacketParts) (other : ℕ × List ℕ) → IsPacket bytes parts → parts.other_block ≡ Some other → HasUnknownForm bytes
+unfolding parts_at form_in profile_in other_in
+HasUnknownForm-packet bytes parts other is some =
+    let after = drop (sources_end bytes) bytes in
+    let here = other_is (has_block bytes) (form_of_word (word_at after 0)) (word_at after 0) (slice_range bytes (sources_end bytes + 4) (header_end bytes)) other
+    (ap (λ (p : PacketParts). p.other_block) (one_packet bytes parts is) ∙ some) in
+    (sym (bit-is_set (slice_index bytes 0) 16) ∙ ap bit here.0, IsNoFormWord-form_of_word (word_at after 0) here.1)
+
+other_block-unknown : (bytes : List ℕ) → HasUnknownForm bytes → (parts_at bytes).other_block ≡ Some (word_at (drop (sources_end bytes) bytes) 0, slice_range bytes (sources_end bytes + 4) (header_end bytes))
+unfolding parts_at form_in profile_in other_in
+other_block-unknown bytes unknown =
+    let word = word_at (drop (sources_end bytes) bytes) 0 in
+    let x : has_block bytes ≡ true = eq-eqb (slice_index bytes 0 / 16 % 2) 1 unknown.0 in
+    rw (x, no_form_of_word word unknown.1) refl
+
+-- ---- what is no header
+
+module _ (bytes : List ℕ) (parts : PacketParts) (is : IsPacket bytes parts) (none : parts.other_block ≡ None) where
+  known_form : HasUnknownForm bytes → ⊥
+  known_form unknown = none-some _ (sym none ∙ ap (λ (p : PacketParts). p.other_block) (sym (one_packet bytes parts is)) ∙ other_block-unknown bytes unknown)
+
+  pub header_there : NotAHeader bytes → ⊥
+  header_there (no_packet refused) = no_packet-refused bytes parts refused is
+  header_there (unknown_form unknown) = known_form unknown
+
+  pub packet_there : IsNoPacket bytes ⊎ HasOtherForm bytes → ⊥
+  packet_there (inl refused) = no_packet-refused bytes parts refused is
+  packet_there (inr other) = known_form (HasUnknownForm-packet bytes other.parts other.other other.is_packet other.other_is)
+
+-- ---- the first cause
+
+pub IsFirstHeaderCause-other_form : (bytes : List ℕ) (parts : PacketParts) (other : ℕ × List ℕ) → IsPacket bytes parts → parts.other_block ≡ Some other
+    → IsFirstHeaderCause bytes not_a_header.TheVariants.UnknownForm
+IsFirstHeaderCause-other_form bytes parts other is some = record { applies = HasUnknownForm-packet bytes parts other is some; none_before = none_before }
+  where
+    none_before : (earlier : not_a_header.NotAHeader) → header_place_of earlier < 4 → AppliesToHeader bytes earlier → ⊥
+    none_before (not_a_header.TheVariants.NotAPacket cause) before applies = not_a_packet bytes cause parts applies is
+    none_before not_a_header.TheVariants.UnknownForm before applies = omega arith
+
+-- the form is looked at before the words of the block are counted
+pub IsFirstHeaderCause-unknown_form : (bytes : List ℕ) → IsFirstCause bytes CutBlock → HasUnknownForm bytes → IsFirstHeaderCause bytes not_a_header.TheVariants.UnknownForm
+IsFirstHeaderCause-unknown_form bytes first unknown = record { applies = unknown; none_before = none_before }
+  where
+    none_before : (earlier : not_a_header.NotAHeader) → header_place_of earlier < 4 → AppliesToHeader bytes earlier → ⊥
+    none_before (not_a_header.TheVariants.NotAPacket cause) before applies = first.none_before cause (omega arith) applies
+    none_before not_a_header.TheVariants.UnknownForm before applies = omega arith
+
+pub IsFirstHeaderCause-packet : (bytes : List ℕ) (cause : NotAPacket) → IsFirstCause bytes cause → (cause ≡ CutBlock → HasUnknownForm bytes → ⊥) → IsFirstHeaderCause bytes (not_a_header.TheVariants.NotAPacket cause)
+IsFirstHeaderCause-packet bytes cause first known = record { applies = first.applies; none_before = none_before }
+  where
+    none_before : (earlier : not_a_header.NotAHeader) → header_place_of earlier < place_of cause → AppliesToHeader bytes earlier → ⊥
+    none_before (not_a_header.TheVariants.NotAPacket earlier) before applies = first.none_before earlier before applies
+    none_before not_a_header.TheVariants.UnknownForm before applies = known (last cause before) applies
+      where
+        last : (cause : NotAPacket) → 4 < place_of cause → cause ≡ CutBlock
+        last CutFixedPart before = absurd (omega arith)
+        last OtherVersion before = absurd (omega arith)
+        last CutSources before = absurd (omega arith)
+        last CutBlockHeader before = absurd (omega arith)
+        last CutBlock before = refl
+
+-- the first four bytes of a block whose words are cut short are there
+pub block_header-there : (bytes : List ℕ) → IsFirstCause bytes CutBlock → sources_end bytes + 4 ≤ length bytes
+block_header-there bytes first = elim (cases_lt (length bytes) (sources_end bytes)) [
+  | inl short ↦ absurd (first.none_before CutSources (omega arith) short)
+  | inr room ↦ elim (cases_lt (length (drop (sources_end bytes) bytes)) 4) [
+    | inl short ↦ absurd (first.none_before CutBlockHeader (omega arith) (first.applies.0, short))
+    | inr long ↦ omega (arith, long, room, length-drop (sources_end bytes) bytes)
+  ]
+]
