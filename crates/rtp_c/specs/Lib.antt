@@ -1,5 +1,6 @@
 -- What the exports' contracts cite.
 pub mod Status
+pub mod HeaderStatus
 pub mod PacketView
 pub mod ChangedElements
 pub mod PutStatus

@@ -1,7 +1,7 @@
 -- The statuses that the functions for C return.
 use Rattle.std.specs.Prelude.{◌≡◌, ℕ, List, ℤ, pos}
 use Rattle.rtp_wire.specs.declared.packet.not_a_packet.NotAPacket.{NotAPacket}
-use Rattle.rtp_wire.specs.declared.packet.not_a_packet.NotAPacket.TheVariants.{CutFixedPart, OtherVersion, CutSources, CutBlockHeader, UnknownForm, CutBlock}
+use Rattle.rtp_wire.specs.declared.packet.not_a_packet.NotAPacket.TheVariants.{CutFixedPart, OtherVersion, CutSources, CutBlockHeader, CutBlock}
 use Rattle.rtp_wire.specs.NotAPacket.{IsFirstCause}
 
 -- the call did what it is for
@@ -14,8 +14,11 @@ cause_status CutFixedPart = pos 1
 cause_status OtherVersion = pos 2
 cause_status CutSources = pos 3
 cause_status CutBlockHeader = pos 4
-cause_status UnknownForm = pos 5
 cause_status CutBlock = pos 6
+
+-- a block whose form is neither of the two, where one of these is owed
+abbrev pub unknown_form : ℤ
+unknown_form = pos 5
 
 -- memory was refused
 abbrev pub no_memory : ℤ
