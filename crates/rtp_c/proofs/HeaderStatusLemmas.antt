@@ -2,10 +2,12 @@
 use Rattle.std.proofs.Common.{◌≡◌, ◌⊎◌, ℕ, List, ℤ, inl, inr, sym, ◌∙◌}
 use Rattle.rtp_wire.specs.declared.header.not_a_header.NotAHeader.{NotAHeader as Cause}
 use Rattle.rtp_wire.specs.declared.header.not_a_header.NotAHeader.TheVariants.{NotAPacket, UnknownForm}
-use Rattle.rtp_wire.specs.NotAHeader.{NotAHeader}
+use Rattle.rtp_wire.specs.declared.packet.not_a_packet.NotAPacket.TheVariants.{CutFixedPart, OtherVersion, CutSources, CutBlockHeader, CutBlock}
+use Rattle.rtp_wire.specs.NoHeaderCause.{AppliesToHeader}
+use Rattle.rtp_wire.specs.NotAHeader.{NotAHeader, no_packet, unknown_form}
 use Rattle.rtp_c.specs.HeaderStatus.{header_status, IsHeaderStatus}
 use Rattle.rtp_c.specs.Status.{ok, no_memory}
-use Rattle.rtp_wire.proofs.NoHeaderLemmas.{NotAHeader-applies}
+use Rattle.rtp_wire.proofs.NotAPacketLemmas.{IsNoPacket-applies}
 use Rattle.rtp_c.proofs.StatusLemmas.{ok≢cause}
 
 ok≢header : (cause : Cause) → ok ≡ header_status cause → ⊥
@@ -17,6 +19,22 @@ pub not_ok : (bytes : List ℕ) (status : ℤ) → (status ≡ no_memory) ⊎ Is
 not_ok bytes status (inl memory) same = cc
 not_ok bytes status (inr is) same = ok≢header is.cause (sym same ∙ is.status_is)
 
+no_memory≢header : (cause : Cause) → no_memory ≡ header_status cause → ⊥
+no_memory≢header (NotAPacket CutFixedPart) same = cc
+no_memory≢header (NotAPacket OtherVersion) same = cc
+no_memory≢header (NotAPacket CutSources) same = cc
+no_memory≢header (NotAPacket CutBlockHeader) same = cc
+no_memory≢header (NotAPacket CutBlock) same = cc
+no_memory≢header UnknownForm same = cc
+
+-- nor that of refused memory
+pub not_no_memory : (bytes : List ℕ) (status : ℤ) → IsHeaderStatus bytes status → status ≡ no_memory → ⊥
+not_no_memory bytes status is same = no_memory≢header is.cause (sym same ∙ is.status_is)
+
 -- bytes to which a cause applies begin with no header
 pub NotAHeader-status : (bytes : List ℕ) (status : ℤ) → IsHeaderStatus bytes status → NotAHeader bytes
-NotAHeader-status bytes status is = NotAHeader-applies bytes is.cause is.is_first.applies
+NotAHeader-status bytes status is = begins_none is.cause is.is_first.applies
+  where
+    begins_none : (cause : Cause) → AppliesToHeader bytes cause → NotAHeader bytes
+    begins_none (NotAPacket cause) applies = no_packet (IsNoPacket-applies bytes cause applies)
+    begins_none UnknownForm applies = unknown_form applies

@@ -12,7 +12,7 @@ ghost use Rattle.rtp_c.specs.Status.{ok, no_memory};
 
 use super::kinds::StoredMap;
 use super::layers::{Layers, put_layers};
-use super::status::{NO_MEMORY, OK, header_status_of};
+use super::status::{NO_MEMORY, OK, UNKNOWN_FORM, header_status_of};
 use super::values::{ValuesView, flag_number, put_no_values, put_values};
 use rtp_ext::read_values;
 use rtp_values::ExtensionValues;
@@ -105,10 +105,13 @@ fn packet_in(buf: &[u8]) -> Result<RtpPacket<'_>, i32>
     ensures cause { IfErr result (IsHeaderStatus buf.now) }
     ensures refused { NotAHeader buf.now → IsErr result }
 {
-    match RtpPacket::parse(buf) {
-        Ok(packet) if !packet.has_other_form() => Ok(packet),
-        _ => Err(refusal_of(buf)),
+    let Ok(packet) = RtpPacket::parse(buf) else {
+        return Err(refusal_of(buf));
+    };
+    if packet.has_other_form() {
+        return Err(UNKNOWN_FORM);
     }
+    Ok(packet)
 }
 
 // The packet whose header the bytes begin with, the values of which are read under the map, or the

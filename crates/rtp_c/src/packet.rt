@@ -114,15 +114,15 @@ fn block_numbers(packet: &RtpPacket<'_>) -> (u8, u16, usize)
     ensures body { result.2
         ≡ length (body_of_any (parts_of packet.now).block (parts_of packet.now).other_block) }
 {
+    let profile = packet.block_profile().unwrap_or(0);
     let Some(body) = packet.body() else {
-        return (0, 0, 0);
+        return (0, profile, 0);
     };
-    let form = match packet.form() {
-        Some(ExtensionsForm::OneByte) => 1,
-        Some(ExtensionsForm::TwoByte) => 2,
-        None => 3,
-    };
-    (form, packet.block_profile().unwrap_or(0), body.len())
+    match packet.form() {
+        Some(ExtensionsForm::OneByte) => (1, profile, body.len()),
+        Some(ExtensionsForm::TwoByte) => (2, profile, body.len()),
+        None => (3, profile, body.len()),
+    }
 }
 
 // How many bytes the payload has without its padding, and whether the padding fits.
