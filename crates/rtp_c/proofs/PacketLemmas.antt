@@ -1,14 +1,11 @@
 -- Where the parts of a packet lie in its bytes.
-use Rattle.std.proofs.Common.{◌≡◌, ℕ, ◌+◌, ◌-◌, ◌*◌, ◌≤◌, List, [], ◌++◌, length, take, drop, Bool, true, false, Option, Some, None, IfSome, refl, sym, ap, ◌∙◌, append_assoc, append-nil, length-append, take_at, drop_at, arith}
+use Rattle.std.proofs.Common.{◌≡◌, ℕ, ◌+◌, ◌-◌, ◌*◌, ◌≤◌, List, [], ◌++◌, length, take, drop, Bool, true, false, Option, Some, None, refl, sym, ap, ◌∙◌, append_assoc, append-nil, length-append, take_at, drop_at, arith}
 use Rattle.std.specs.List.{concat}
-use Rattle.std.proofs.lemmas.Bool.{false≢true}
 use Rattle.std.proofs.lemmas.List.{take-append-drop}
-use Rattle.std.proofs.lemmas.Option.{none-some, same_Some}
 use Rattle.rtp_ext.specs.declared.form.ExtensionsForm.{ExtensionsForm}
 use Rattle.rtp_wire.specs.Packet.{PacketParts, IsPacket, IsAnnouncedBlock, block_len, header_len_of}
 use Rattle.rtp_wire.proofs.PartsLemmas.{length-packet}
-use Rattle.rtp_wire.specs.PutIntoPacket.{form_of_block}
-use Rattle.rtp_c.specs.PacketView.{slice_at, form_number, block_number, body_of_any}
+use Rattle.rtp_c.specs.PacketView.{slice_at, body_of_any}
 
 -- bytes between others
 pub middle : (bytes before it after : List ℕ) (offset len : ℕ) → bytes ≡ before ++ (it ++ after) → length before ≡ offset → length it ≡ len → slice_at bytes offset len ≡ it
@@ -84,28 +81,3 @@ body-within parts = within parts.block parts.other_block (length parts.sources)
     within None None n = omega arith
     within (Some block) None n = omega arith
     within block (Some other) n = omega arith
-
--- what is told of the block, where X is clear
-pub block-clear : (block : Option (ExtensionsForm × List ℕ)) (other : Option (ℕ × List ℕ)) (part : List ℕ) → IsAnnouncedBlock false block other part
-    → (block_number block other ≡ 0) × (body_of_any block other ≡ [])
-block-clear None None part is = (refl, refl)
-block-clear (Some block) None part is = absurd is
-block-clear block (Some other) part is = absurd (false≢true is.0)
-
--- and where it is set: of a form, and of another one
-pub block_number-form : (x : Bool) (block : Option (ExtensionsForm × List ℕ)) (other : Option (ℕ × List ℕ)) (part : List ℕ) (form : ExtensionsForm) → IsAnnouncedBlock x block other part
-    → Some form ≡ form_of_block block → form_number (Some form) ≡ block_number block other
-block_number-form x block None part form is form-is = ap form_number form-is
-block_number-form x block (Some other) part form is form-is = absurd (none-some form (sym (form-is ∙ ap form_of_block is.1)))
-
-pub block_number-other : (block : Option (ExtensionsForm × List ℕ)) (other : Option (ℕ × List ℕ)) (part : List ℕ) → IsAnnouncedBlock true block other part
-    → None ≡ form_of_block block → 3 ≡ block_number block other
-block_number-other None None part is none = absurd is
-block_number-other (Some block) None part is none = absurd (none-some block.0 none)
-block_number-other block (Some other) part is none = refl
-
-pub body_of_any-set : (block : Option (ExtensionsForm × List ℕ)) (other : Option (ℕ × List ℕ)) (part body : List ℕ) → IsAnnouncedBlock true block other part
-    → IfSome block (λ b. Some body ≡ Some b.1) → IfSome other (λ o. Some body ≡ Some o.1) → body ≡ body_of_any block other
-body_of_any-set None None part body is of_block of_other = absurd is
-body_of_any-set (Some block) None part body is of_block of_other = same_Some _ _ of_block
-body_of_any-set block (Some other) part body is of_block of_other = same_Some _ _ of_other

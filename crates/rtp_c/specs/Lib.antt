@@ -1,6 +1,5 @@
 -- What the exports' contracts cite.
 pub mod Status
-pub mod HeaderStatus
 pub mod PacketView
 pub mod ChangedElements
 pub mod PutStatus

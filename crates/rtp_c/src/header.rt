@@ -7,8 +7,7 @@ ghost use Rattle.rtp_wire.specs.NotAHeader.{NotAHeader};
 ghost use Rattle.rtp_wire.specs.Packet.{IsPacket};
 ghost use Rattle.rtp_wire.specs.PartsOf.{parts_of};
 ghost use Rattle.rtp_c.specs.HeaderView.{IsViewOfHeader, BeginsWithHeader, IsParsedAs, IsParsedWithLayersAs, TakesMemoryFrom};
-ghost use Rattle.rtp_c.specs.HeaderStatus.{IsHeaderStatus};
-ghost use Rattle.rtp_c.specs.Status.{ok, no_memory};
+ghost use Rattle.rtp_c.specs.Status.{ok, no_memory, IsHeaderStatus};
 
 use super::kinds::StoredMap;
 use super::layers::{Layers, put_layers};

@@ -1,8 +1,7 @@
 //! What a call returns where it is refused.
 
 ghost use Rattle.std.specs.Prelude.{◌≡◌};
-ghost use Rattle.rtp_c.specs.Status.{cause_status};
-ghost use Rattle.rtp_c.specs.HeaderStatus.{header_status};
+ghost use Rattle.rtp_c.specs.Status.{cause_status, header_status};
 
 use rtp_wire::{NotAHeader, NotAPacket};
 
