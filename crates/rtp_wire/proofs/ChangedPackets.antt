@@ -69,7 +69,7 @@ pub if_some : (block : Option (ExtensionsForm × List ℕ)) (P : Type 0) → P �
 if_some None P holds = tt
 if_some (Some block) P holds = holds
 
-pub if_none : (block : Option (ExtensionsForm × List ℕ)) (P : ExtensionsForm × List ℕ → Type 0) → block ≡ None → IfSome block P
+pub if_none : {X : Type 0} (block : Option X) (P : X → Type 0) → block ≡ None → IfSome block P
 if_none None P none = tt
 if_none (Some block) P none = absurd cc
 

@@ -11,6 +11,7 @@ mod PacketChanges
 mod PacketParts
 mod PaddingChanges
 mod ChangedPackets
+mod AnyBlockLemmas
 pub mod NotAPacketLemmas
 pub mod NoHeaderLemmas
 pub mod ValuesLemmas

@@ -1,7 +1,8 @@
 -- Bytes that begin with no header: they are no packet, or a packet whose block is of another form.
-use Rattle.std.proofs.Common.{◌≡◌, ℕ, ◌+◌, ◌*◌, ◌/◌, ◌%◌, ◌<◌, ◌≤◌, Bool, true, false, List, length, drop, Option, Some, None, refl, sym, ap, ◌∙◌, arith, inl, inr, length-drop}
-use Rattle.std.specs.Prelude.{◌⊎◌, slice_index, slice_range, is_some, option_map, if◌then◌else◌}
-use Rattle.std.proofs.lemmas.Bool.{eq-eqb, cases_lt}
+use Rattle.std.proofs.Common.{◌≡◌, ℕ, ◌+◌, ◌/◌, ◌%◌, ◌<◌, ◌≤◌, Bool, true, false, List, length, drop, Option, Some, None, refl, sym, ap, ◌∙◌, arith, inl, inr, length-drop}
+use Rattle.std.specs.Prelude.{◌⊎◌, ◌↔◌, IfSome, IsSome, slice_index, slice_range, is_some, option_map, if◌then◌else◌}
+use Rattle.std.specs.Bool.{then_some}
+use Rattle.std.proofs.lemmas.Bool.{false≢true, eq-eqb, cases_lt}
 use Rattle.std.proofs.lemmas.Option.{none-some}
 use Rattle.rtp_base.specs.Flag.{bit}
 use Rattle.rtp_ext.specs.declared.form.ExtensionsForm.{ExtensionsForm}
@@ -10,11 +11,12 @@ use Rattle.rtp_wire.specs.declared.packet.not_a_packet.NotAPacket.{NotAPacket}
 use Rattle.rtp_wire.specs.declared.packet.not_a_packet.NotAPacket.TheVariants.{CutFixedPart, OtherVersion, CutSources, CutBlockHeader, CutBlock}
 use Rattle.rtp_wire.specs.Block.{word_at}
 use Rattle.rtp_wire.specs.NotAHeader.{IsNoPacket, HasUnknownForm, NotAHeader, no_packet, unknown_form, sources_end}
-use Rattle.rtp_wire.specs.NotAPacket.{Applies, place_of, IsFirstCause}
+use Rattle.rtp_wire.specs.NotAPacket.{place_of, IsFirstCause}
 use Rattle.rtp_wire.specs.NoHeaderCause.{AppliesToHeader, header_place_of, IsFirstHeaderCause}
 use Rattle.rtp_wire.specs.Packet.{PacketParts, IsPacket, HasOtherForm}
 use Rattle.rtp_wire.specs.PartsAt.{has_block, form_of_word, form_in, profile_in, other_in, header_end, parts_at}
 use Rattle.rtp_wire.proofs.NotAPacketLemmas.{no_packet-refused}
+use Rattle.rtp_wire.proofs.PartsLemmas.{some_there, none_there, no_other_form}
 use Rattle.rtp_wire.proofs.PacketLemmas.{bit-is_set, no_form_of_word, IsNoFormWord-form_of_word, one_packet, no_packet as not_a_packet}
 
 -- ---- the block
@@ -53,7 +55,7 @@ module _ (bytes : List ℕ) (parts : PacketParts) (is : IsPacket bytes parts) (n
 
   pub packet_there : IsNoPacket bytes ⊎ HasOtherForm bytes → ⊥
   packet_there (inl refused) = no_packet-refused bytes parts refused is
-  packet_there (inr other) = known_form (HasUnknownForm-packet bytes other.parts other.other other.is_packet other.other_is)
+  packet_there (inr other) = no_other_form bytes parts is none other
 
 -- ---- the first cause
 
@@ -96,3 +98,12 @@ block_header-there bytes first = elim (cases_lt (length bytes) (sources_end byte
     | inr long ↦ omega (arith, long, room, length-drop (sources_end bytes) bytes)
   ]
 ]
+
+-- what is told of a packet: nothing, or that its form is unknown
+pub told_of_packet : (bytes : List ℕ) (parts : PacketParts) (test : Bool) (told : Option not_a_header.NotAHeader) → IsPacket bytes parts → test ≡ is_some parts.other_block
+    → told ≡ then_some test not_a_header.TheVariants.UnknownForm → IfSome told (IsFirstHeaderCause bytes) × (IsSome told ↔ NotAHeader bytes)
+told_of_packet bytes parts false told is test-is told-is =
+    rw told-is (tt, (λ some. absurd (false≢true some), λ none. absurd (header_there bytes parts is (none_there parts.other_block (sym test-is)) none)))
+told_of_packet bytes parts true told is test-is told-is =
+    let other = some_there parts.other_block (sym test-is) in
+    rw told-is (IsFirstHeaderCause-other_form bytes parts other.0 is other.1, (λ _. unknown_form (HasUnknownForm-packet bytes parts other.0 is other.1), λ _. refl))

@@ -52,11 +52,11 @@ IsFormWord-form_of_word word form is = elim (cases_eq word 0xBEDE) [
 
 -- a word of neither form announces none
 form_of_word-none : (word : ℕ) (found : Option ExtensionsForm) → form_of_word word ≡ found → IsNoFormWord word → form_of_word word ≡ None
-form_of_word-none word None is no = is
-form_of_word-none word (Some form) is no = absurd (no form (IsFormWord-form_of_word word form is))
+form_of_word-none word None is other = is
+form_of_word-none word (Some form) is other = absurd (other form (IsFormWord-form_of_word word form is))
 
 pub no_form_of_word : (word : ℕ) → IsNoFormWord word → form_of_word word ≡ None
-no_form_of_word word no = form_of_word-none word (form_of_word word) refl no
+no_form_of_word word other = form_of_word-none word (form_of_word word) refl other
 
 pub IsNoFormWord-form_of_word : (word : ℕ) → form_of_word word ≡ None → IsNoFormWord word
 IsNoFormWord-form_of_word word none = λ form is. none-some form (sym none ∙ form_of_word-is word form is)

@@ -1,6 +1,6 @@
 -- A packet that is changed after the fixed part: in its CSRC list, or in the body of its block.
 use Rattle.std.proofs.Common.{◌≡◌, ℕ, zero, suc, ◌+◌, ◌*◌, ◌%◌, ◌<◌, ◌≤◌, List, [], ◌∷◌, ◌++◌, ◌^◌, length, map, take, drop, Option, refl, sym, ap, ◌∙◌, arith, set, length-drop, length-take-le, take_at, drop_at}
-use Rattle.std.specs.Prelude.{slice_index, slice_range, option_map}
+use Rattle.std.specs.Prelude.{slice_index, slice_range}
 use Rattle.std.specs.Int.{w16, w32, from_be_bytes, to_be_bytes}
 use Rattle.std.specs.Simd.{first_chunks}
 use Rattle.std.proofs.lemmas.List.{drop-drop, drop-take, drop-append-le, length-map}

@@ -9,11 +9,11 @@ use Rattle.std.proofs.lemmas.Option.{none-some}
 use Rattle.rtp_ext.specs.declared.form.ExtensionsForm.{ExtensionsForm}
 use Rattle.rtp_wire.specs.declared.packet.rtp_packet.RtpPacket.{RtpPacket}
 use Rattle.rtp_wire.specs.NotAHeader.{sources_end}
-use Rattle.rtp_wire.specs.Packet.{PacketParts, IsAnnounced, IsAnnouncedBlock, IsPacket, block_len, header_len_of}
+use Rattle.rtp_wire.specs.Packet.{PacketParts, IsAnnounced, IsAnnouncedBlock, IsPacket, HasOtherForm, block_len, header_len_of}
 use Rattle.rtp_wire.specs.PartsOf.{parts_of}
 use Rattle.rtp_wire.specs.PartsAt.{has_block, form_in, header_end, parts_at}
 use Rattle.rtp_wire.proofs.GroupLemmas.{length-concat, first_chunks-take}
-use Rattle.rtp_wire.proofs.PacketLemmas.{IsPacket-whole}
+use Rattle.rtp_wire.proofs.PacketLemmas.{one_packet, IsPacket-whole}
 use Rattle.rtp_wire.proofs.HeaderFound.{HasHeader, HasHeader-packet, IsWhole-header}
 
 -- the sources are within the datagram
@@ -63,10 +63,20 @@ length-announced false (Some block) part is = absurd is
 length-announced true None part is = absurd is
 length-announced true (Some block) part is = let words = is.words in omega (arith, ap length is.body_is, length-drop 4 part)
 
--- what there is where nothing is
+-- an `Option` by its test
+pub some_there : {A : Type 0} (o : Option A) → is_some o ≡ true → (x : A) × (o ≡ Some x)
+some_there None some = absurd cc
+some_there (Some x) some = (x, refl)
+
 pub none_there : {A : Type 0} (o : Option A) → is_some o ≡ false → o ≡ None
 none_there None none = refl
 none_there (Some x) none = absurd cc
+
+-- a packet without such a block has no other form
+pub no_other_form : (bytes : List ℕ) (parts : PacketParts) → IsPacket bytes parts → parts.other_block ≡ None → HasOtherForm bytes → ⊥
+no_other_form bytes parts is none found =
+    let same : parts ≡ found.parts = sym (one_packet bytes parts is) ∙ one_packet bytes found.parts found.is_packet in
+    none-some found.other (sym none ∙ ap (λ (p : PacketParts). p.other_block) same ∙ found.other_is)
 
 -- a block of one of the two forms is the only one
 pub announced : (x : Bool) (block : Option (ExtensionsForm × List ℕ)) (other : Option (ℕ × List ℕ)) (part : List ℕ) → other ≡ None → IsAnnouncedBlock x block other part → IsAnnounced x block part

@@ -30,7 +30,7 @@ use Rattle.rtp_wire.specs.PartsOf.{parts_of}
 use Rattle.rtp_wire.proofs.BlockLemmas.{word_at-cells}
 use Rattle.rtp_wire.proofs.HeaderFound.{HasHeader-packet}
 use Rattle.rtp_wire.proofs.PacketLemmas.{one_packet, no_packet}
-use Rattle.rtp_wire.proofs.PartsLemmas.{block-header}
+use Rattle.rtp_wire.proofs.PartsLemmas.{block-header, no_other_form}
 use Rattle.rtp_wire.specs.Packet.{PacketParts, IsPacket}
 use Rattle.rtp_wire.specs.PacketElements.{AreElementsOf}
 use Rattle.rtp_wire.specs.PutIntoPacket.{IsGrowth, form_of_block, body_of_block, elements_with, AppliesToPacket, put_place}
@@ -208,18 +208,33 @@ IsWritable-allowed block allowed element OneByte above below short is = IsWritab
 
 -- ---- the causes
 
--- of those of a packet none applies before its block is found to be too long
+-- of those of a packet none applies before the form that is allowed is looked at
+pub none_before_form : (bytes : List ℕ) (element : Element) (allowed : Option ExtensionsForm) (parts : PacketParts) → IsPacket bytes parts → parts.other_block ≡ None → 1 ≤ element.0
+    → length element.1 ≤ 255 → (cause : NotPut) → put_place cause < 5 → AppliesToPacket bytes element allowed cause → ⊥
+none_before_form bytes element allowed parts is none some short CutPacket before fact = fact
+none_before_form bytes element allowed parts is none some short (NotAPacket cause) before fact = no_packet bytes cause parts fact.applies is
+none_before_form bytes element allowed parts is none some short ZeroId before fact = omega arith
+none_before_form bytes element allowed parts is none some short LongData before fact = omega arith
+none_before_form bytes element allowed parts is none some short OtherForm before fact = no_other_form bytes parts is none fact
+none_before_form bytes element allowed parts is none some short OneByteOnly before fact = omega arith
+none_before_form bytes element allowed parts is none some short LongBlock before fact = omega arith
+none_before_form bytes element allowed parts is none some short (NoRoom needed) before fact = fact
+
+none_earlier : (bytes : List ℕ) (element : Element) (allowed : Option ExtensionsForm) (growth : IsGrowth bytes element allowed) → IsWritable growth.form element
+    → (cause : NotPut) → put_place cause < 5 → AppliesToPacket bytes element allowed cause → ⊥
+none_earlier bytes element allowed growth writable cause before fact =
+    none_before_form bytes element allowed growth.parts growth.is_packet growth.no_other writable.0 (IsWritable-short growth.form element writable) cause before fact
+
+-- nor before its block is found to be too long
 pub none_of_packet : (bytes : List ℕ) (element : Element) (allowed : Option ExtensionsForm) (growth : IsGrowth bytes element allowed) → IsWritable growth.form element
     → (cause : NotPut) → put_place cause < 6 → AppliesToPacket bytes element allowed cause → ⊥
-none_of_packet bytes element allowed growth writable CutPacket before fact = fact
-none_of_packet bytes element allowed growth writable (NotAPacket cause) before fact = no_packet bytes cause growth.parts fact.applies growth.is_packet
-none_of_packet bytes element allowed growth writable ZeroId before fact = let some = writable.0 in omega arith
-none_of_packet bytes element allowed growth writable LongData before fact = omega (arith, IsWritable-short growth.form element writable)
-none_of_packet bytes element allowed growth writable OtherForm before fact =
-    let same : growth.parts ≡ fact.parts = sym (one_packet bytes growth.parts growth.is_packet) ∙ one_packet bytes fact.parts fact.is_packet in
-    none-some fact.other (sym growth.no_other ∙ ap (λ (parts : PacketParts). parts.other_block) same ∙ fact.other_is)
 none_of_packet bytes element allowed growth writable OneByteOnly before fact =
     let same : growth.parts ≡ fact.0 = sym (one_packet bytes growth.parts growth.is_packet) ∙ one_packet bytes fact.0 fact.1 in
     none-some growth.form (sym fact.2 ∙ ap (λ (parts : PacketParts). allowed_form allowed (needed_form (form_of_block parts.block) element)) (sym same) ∙ growth.form_is)
 none_of_packet bytes element allowed growth writable LongBlock before fact = omega arith
 none_of_packet bytes element allowed growth writable (NoRoom needed) before fact = fact
+none_of_packet bytes element allowed growth writable CutPacket before fact = fact
+none_of_packet bytes element allowed growth writable (NotAPacket cause) before fact = none_earlier bytes element allowed growth writable (NotAPacket cause) (omega arith) fact
+none_of_packet bytes element allowed growth writable ZeroId before fact = none_earlier bytes element allowed growth writable ZeroId (omega arith) fact
+none_of_packet bytes element allowed growth writable LongData before fact = none_earlier bytes element allowed growth writable LongData (omega arith) fact
+none_of_packet bytes element allowed growth writable OtherForm before fact = none_earlier bytes element allowed growth writable OtherForm (omega arith) fact

@@ -189,6 +189,7 @@ IsRestored-back original sent restored fields stream there back fits went came =
           (ap (λ (p : PacketParts). p.ssrc) c)
           (ap (λ (p : PacketParts). p.sources) c ∙ ap (λ (p : PacketParts). p.sources) w)
           refl
+          (ap (λ (p : PacketParts). p.other_block) c ∙ ap (λ (p : PacketParts). p.other_block) w)
           (ap (λ (p : PacketParts). p.payload) c ∙ payload);
     }
 

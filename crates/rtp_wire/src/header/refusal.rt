@@ -1,6 +1,6 @@
 //! Why no header begins a datagram, for callers that were told that none does.
 
-ghost use Rattle.std.specs.Prelude.{◌≡◌, ◌↔◌, ◌≤◌, ◌/◌, length, slice_index, IfSome, IsSome, IsTrue};
+ghost use Rattle.std.specs.Prelude.{◌≡◌, ◌↔◌, ◌+◌, ◌≤◌, ◌/◌, ◌%◌, length, slice_index, IfSome, IsSome, IsTrue};
 ghost use Rattle.rtp_wire.specs.NoHeaderCause.{IsFirstHeaderCause};
 ghost use Rattle.rtp_wire.specs.NotAHeader.{sources_end, HasUnknownForm, NotAHeader as BeginsWithNone};
 

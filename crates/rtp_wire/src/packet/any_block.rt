@@ -34,10 +34,7 @@ impl<'a> RtpPacket<'a> {
             return None;
         }
         let start = sources_end(self.datagram[0]);
-        Some(u16::from_be_bytes([
-            self.datagram[start],
-            self.datagram[start + 1],
-        ]))
+        Some(u16::from_be_bytes([self.datagram[start], self.datagram[start + 1]]))
     }
 
     /// The body of the block, whatever its form, and `None` exactly where X is clear (RFC 3550, 5.3.1).

@@ -11,6 +11,9 @@ use Rattle.rtp_wire.proofs.header.rtp_header.RtpHeader.parse.Goals as goal
 pub returns-in_default-clause-only : goal.returns-in_default-clause-only
 returns-in_default-clause-only g c header wire = absurd (no_header (g.K.Kinds.slots c.args.exts.now) c.args.buf.now header (c.in_default.ensures.refused.0 refl) wire)
 
+pub returns-in_default-clause-refused : goal.returns-in_default-clause-refused
+returns-in_default-clause-refused g c = (λ _. c.in_default.ensures.refused.0 refl, λ _. refl)
+
 pub returns-in_err-header-clause-refused : goal.returns-in_err-header-clause-refused
 returns-in_err-header-clause-refused g c = (
   λ e. absurd (false≢true (subst IsErr e c.from_residual.ensures.0)),

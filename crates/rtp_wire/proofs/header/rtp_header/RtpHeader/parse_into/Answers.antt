@@ -12,6 +12,9 @@ use Rattle.rtp_wire.proofs.header.rtp_header.RtpHeader.parse_into.Goals as goal
 pub returns-in_default-clause-only : goal.returns-in_default-clause-only
 returns-in_default-clause-only g c header wire = absurd (no_header (g.K.Kinds.slots c.args.exts.now) c.args.buf.now header (c.in_default.ensures.refused.0 refl) wire)
 
+pub returns-in_default-clause-refused : goal.returns-in_default-clause-refused
+returns-in_default-clause-refused g c = (λ _. c.in_default.ensures.refused.0 refl, λ _. refl)
+
 pub returns-in_err-read_values-clause-memory : goal.returns-in_err-read_values-clause-memory
 returns-in_err-read_values-clause-memory g c = OnErr-from c.from_residual.result _ (record {
   parts = parts_of c.in-Some.packet;
@@ -67,3 +70,14 @@ returns-clause-only g c header is = (refl, one_header (g.K.Kinds.slots c.args.ex
 pub returns-clause-within : goal.returns-clause-within
 returns-clause-within g c =
     omega (arith, ap (λ (h : RtpHeader). h.header_len) c.put_fields.ensures, length-packet c.args.buf.now (parts_of c.in-Some.packet) c.in-Some.ensures.found)
+
+pub returns-clause-refused : goal.returns-clause-refused
+returns-clause-refused g c =
+    (λ e. absurd cc, λ none. absurd (header_there c.args.buf.now (parts_of c.in-Some.packet) c.in-Some.ensures.found c.in-Some.ensures.known none))
+
+pub returns-clause-no_packet : goal.returns-clause-no_packet
+returns-clause-no_packet g c =
+    (λ e. absurd cc, λ none. absurd (packet_there c.args.buf.now (parts_of c.in-Some.packet) c.in-Some.ensures.found c.in-Some.ensures.known none))
+
+pub returns-clause-same : goal.returns-clause-same
+returns-clause-same g c none = absurd (header_there c.args.buf.now (parts_of c.in-Some.packet) c.in-Some.ensures.found c.in-Some.ensures.known none)

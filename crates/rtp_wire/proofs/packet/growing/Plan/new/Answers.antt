@@ -1,11 +1,28 @@
 use Rattle.std.proofs.Common.{◌≡◌, ℕ, ◌≤◌, List, length, Option, Some, arith, refl, sym, ap, ◌∙◌, subst}
 use Rattle.std.specs.Prelude.{◌↔◌, IsTrue}
 use Rattle.rtp_ext.specs.declared.form.ExtensionsForm.{ExtensionsForm}
+use Rattle.rtp_ext.specs.Elements.{Element}
 use Rattle.rtp_ext.specs.BodySurvey.{IsSurvey}
+use Rattle.rtp_ext.specs.PutElement.{needed_form, allowed_form}
 use Rattle.rtp_wire.specs.PartsOf.{parts_of}
 use Rattle.rtp_wire.proofs.PartsLemmas.{none_there}
-use Rattle.rtp_wire.proofs.PutPlanLemmas.{block-found, short-body, here, found-growth, form-tested, IsWritable-allowed, none_of_packet}
+use Rattle.rtp_wire.proofs.PutPlanLemmas.{block-found, short-body, here, found-growth, form-tested, IsWritable-allowed, none_before_form, none_of_packet}
 use Rattle.rtp_wire.proofs.packet.growing.Plan.new.Goals as goal
+
+pub returns-in_default-clause-cause : goal.returns-in_default-clause-cause
+returns-in_default-clause-cause c =
+    let bytes = c.args.datagram.now in
+    let element : Element = (c.args.id, c.args.data.now) in
+    let parts = parts_of c.in_ok-packet.packet in
+    record {
+      applies = (
+        parts,
+        c.in_ok-packet.ensures.found,
+        ap (λ (form : Option ExtensionsForm). allowed_form c.args.allowed (needed_form form element)) (sym c.form.ensures) ∙ sym c.form_to_put.ensures ∙ c.in_default.is,
+      );
+      none_before = none_before_form bytes element c.args.allowed parts c.in_ok-packet.ensures.found (none_there _ (sym c.has_other_form.ensures ∙ c.if-has_other_form.false))
+          (let some = c.if-id-eq0.false in omega arith) c.if-data-gt255.false;
+    }
 
 pub put_len-elements_len-requires-clause-few : goal.put_len-elements_len-requires-clause-few
 put_len-elements_len-requires-clause-few c =

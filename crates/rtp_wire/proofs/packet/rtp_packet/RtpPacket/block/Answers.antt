@@ -1,4 +1,6 @@
-use Rattle.std.proofs.Common.{Some, List, ℕ, ap, ◌∙◌}
+use Rattle.std.proofs.Common.{◌+◌, Some, List, ℕ, sym, ap, ◌∙◌}
+use Rattle.std.specs.Prelude.{slice_range}
+use Rattle.rtp_wire.specs.NotAHeader.{sources_end}
 use Rattle.rtp_wire.specs.PartsAt.{parts_at}
 use Rattle.rtp_wire.proofs.PartsLemmas.{block-header, has_block-form}
 use Rattle.rtp_wire.proofs.HeaderFound.{HasHeader-packet}
@@ -14,5 +16,5 @@ announced_body-requires c = has_block-form _ _ _ c.in-Some.form (HasHeader-packe
 pub returns-clause-parts : goal.returns-clause-parts
 returns-clause-parts c =
     let packet = c.args.self.now in
-    ap (λ (body : List ℕ). Some (c.in-Some.form, body)) (c.announced_body.ensures.body ∙ ap (λ (end : ℕ). slice_range packet.datagram.now (sources_end packet.datagram.now + 4) end) (sym packet.ends))
+    ap (λ (body : List ℕ). Some (c.in-Some.form, body)) (c.announced_body.ensures.body ∙ ap (slice_range packet.datagram.now (sources_end packet.datagram.now + 4)) (sym packet.ends))
     ∙ (rw c.in-Some.is at (block-header _ _ _ (HasHeader-packet packet)))

@@ -1,0 +1,12 @@
+use Rattle.std.proofs.Common.{sym, ◌∙◌}
+use Rattle.std.specs.Prelude.{slice_index}
+use Rattle.rtp_wire.specs.PartsAt.{parts_at}
+use Rattle.rtp_wire.proofs.FlagLemmas.{bit-once, bit-mask}
+use Rattle.rtp_wire.proofs.PacketLemmas.{bit-is_set}
+use Rattle.rtp_wire.proofs.packet.rtp_packet.RtpPacket.has_extension.Goals as goal
+
+pub returns : goal.returns
+unfolding parts_at
+returns c =
+    let first = slice_index c.args.self.now.datagram.now 0 in
+    bit-once _ _ (bit-mask first 4 ∙ sym (bit-is_set first 16))
