@@ -197,10 +197,11 @@ status=0
 said 'the forwarder in C'
 
 # The SFU, in C and in Rust: what three receivers get of a packet with a mid of one character, a transport number and
-# a level (ids 1 to 3), which comes twice; of one with P, a contributing source and no block; and of one that jumps
-# ahead, after which another comes too late. Between them a receiver report, and a datagram that is no packet. The
-# first receiver gets the numbers as they are, the second one plus 40,000, the third one less 1; the datagrams come
-# 20 ms apart, so that the send times are 0, 60 ms (15,728 = 0x3D70) and 100 ms (26,214 = 0x6666).
+# a level (ids 1 to 3), which comes twice; of one with P, a contributing source and no block; of one that jumps
+# ahead, after which another comes too late; and of a camera's, whose block of another form stays. Between them a
+# receiver report, and a datagram that is no packet. The first receiver gets the numbers as they are, the second one
+# plus 40,000, the third one less 1; the datagrams come 20 ms apart, so that the send times are 0, 60 ms (15,728 =
+# 0x3D70) and 100 ms (26,214 = 0x6666).
 cc -std=c99 "${strict[@]}" "${include[@]}" bindings/examples/sfu{,_lines}.c "$library" -o "$scratch/sfu_c"
 cc -std=c99 "${strict[@]}" "${include[@]}" bindings/examples/sfu{,_sockets}.c "$library" -o "$scratch/sfu_sockets"
 second=7365636F6E645F666C6F6F725F63616D6572615F # second_floor_camera_
@@ -209,7 +210,8 @@ printf '%s\n' 'map 1 urn:ietf:params:rtp-hdrext:sdes:mid' \
     'map 2 http://www.ietf.org/id/draft-holmer-rmcat-transport-wide-cc-extensions-01' \
     'map 3 urn:ietf:params:rtp-hdrext:ssrc-audio-level' 906F0005000000A00000002CBEDE00021061210007308A000102 \
     906F0005000000A00000002CBEDE00021061210007308A000102 80C900010000002C \
-    A1EFFFFF000000010000002D00000009AABB0002 80 806F00CD000000A00000002C 806F0006000000A00000002C >"$scratch/sfu.lines"
+    A1EFFFFF000000010000002D00000009AABB0002 80 806F00CD000000A00000002C 806F0006000000A00000002C \
+    90E000CE00015F900000002CABAC0003E58B3C4080000000E0070000414243 >"$scratch/sfu.lines"
 cat >"$scratch/expected" <<END
 1 906F0005000000A0000003E8BEDE0003216D30510000908A720000000102
 2 906F9C45000000A0000007D0100000091415${second}30C802000001018AFF03000000000102
@@ -220,7 +222,10 @@ cat >"$scratch/expected" <<END
 1 906F00CD000000A0000003E8BEDE0003216D30510002720066660000
 2 906F9D0D000000A0000007D0100000081415${second}30C8020002FF03006666
 3 906F00CC000000A000000BB8BEDE0006EF${alice}3011000232006666
-taken 3 replays 1 late 1 rtcp 1 unreadable 1 strangers 0 sent 9 unsent 0
+1 90E000CE00015F90000003E8ABAC0003E58B3C4080000000E0070000414243
+2 90E09D0E00015F90000007D0ABAC0003E58B3C4080000000E0070000414243
+3 90E000CD00015F9000000BB8ABAC0003E58B3C4080000000E0070000414243
+taken 4 replays 1 late 1 rtcp 1 unreadable 1 strangers 0 sent 12 unsent 0
 END
 "$scratch/sfu_c" <"$scratch/sfu.lines" | diff "$scratch/expected" - >&2 || fail 'the SFU in C'
 alike='in C'

@@ -80,6 +80,12 @@ static bool put_transport(header *header, sfu_route *route, uint64_t microsecond
            put(header, route->send_time_id, times, sizeof times);
 }
 
+/* Gives the packet the elements that the receiver agreed to. A block of another form has none, and stays. */
+static bool put_elements(header *header, sfu_route *route, size_t stream, uint8_t form, uint64_t microseconds) {
+    return form == RTPW_OTHER_FORM || (renumber(header, route, form) && put_mid(header, route, stream) &&
+                                       put_transport(header, route, microseconds));
+}
+
 /* Sends the packet, which is of this stream, to a receiver; false where its header has no room. */
 static bool forward(sfu *sfu, size_t receiver, size_t stream, const uint8_t *datagram, const rtpw_packet *packet,
                     uint64_t microseconds, sfu_send *send, void *context) {
@@ -94,8 +100,8 @@ static bool forward(sfu *sfu, size_t receiver, size_t stream, const uint8_t *dat
     rtpw_fields fields = {.has_ssrc = 1, .has_sequence_number = 1};
     fields.ssrc = route->peer.first_ssrc + (uint32_t)stream;
     fields.sequence_number = (uint16_t)(packet->sequence_number + route->peer.number_offset);
-    if (!renumber(&header, route, packet->block_form) || rtpw_set_fields(bytes, header.len, &fields) != RTPW_OK ||
-        !put_mid(&header, route, stream) || !put_transport(&header, route, microseconds)) {
+    if (rtpw_set_fields(bytes, header.len, &fields) != RTPW_OK ||
+        !put_elements(&header, route, stream, packet->block_form, microseconds)) {
         return false;
     }
     send(context, receiver, bytes, header.len, datagram + packet->payload_at, packet->payload_len);

@@ -7,6 +7,8 @@
 
 #include "rtp_wire.h"
 
+#include <string.h>
+
 typedef struct {
     uint64_t number;
     int32_t status;
@@ -22,10 +24,37 @@ typedef struct {
     int32_t status;
 } call_place;
 
+/* The header of a packet whose block has another form: without values. */
+static inline void call_fields(const uint8_t *datagram, const rtpw_packet *packet, rtpw_header *header) {
+    memset(header, 0, sizeof *header);
+    header->header_len = packet->payload_at;
+    header->timestamp = packet->timestamp;
+    header->ssrc = packet->ssrc;
+    for (int i = 0; i < packet->csrc_count; i++) {
+        const uint8_t *it = datagram + RTPW_CSRC_AT + 4 * i;
+        header->csrc[i] = (uint32_t)it[0] << 24 | (uint32_t)it[1] << 16 | (uint32_t)it[2] << 8 | it[3];
+    }
+    header->sequence_number = packet->sequence_number;
+    header->payload_type = packet->payload_type;
+    header->csrc_count = packet->csrc_count;
+    header->marker = packet->marker;
+    header->has_padding = packet->has_padding;
+    header->has_extension = 1;
+}
+
 static inline int32_t call_parse(const uint8_t *datagram, size_t len, const rtpw_map *map, rtpw_header *header,
                                  rtpw_packet *packet) {
     int32_t status = rtpw_parse(datagram, len, map, header);
-    return status != RTPW_OK ? status : rtpw_packet_parse(datagram, len, packet);
+    if (status == RTPW_OK) {
+        return rtpw_packet_parse(datagram, len, packet);
+    }
+    if (status == RTPW_UNKNOWN_FORM) {
+        status = rtpw_packet_parse(datagram, len, packet);
+        if (status == RTPW_OK) {
+            call_fields(datagram, packet, header);
+        }
+    }
+    return status;
 }
 
 static inline call_number call_receive(rtpw_receiver *receiver, uint16_t sequence_number) {
@@ -96,7 +125,15 @@ static inline call_number call_restarting_receive_packet(rtpw_restarting_receive
 static inline int32_t call_parse_layers(const uint8_t *datagram, size_t len, const rtpw_map *map,
                                         rtpw_layers *layers) {
     rtpw_header header;
-    return rtpw_parse_layers(datagram, len, map, &header, layers);
+    int32_t status = rtpw_parse_layers(datagram, len, map, &header, layers);
+    if (status == RTPW_UNKNOWN_FORM) {
+        rtpw_packet packet;
+        status = rtpw_packet_parse(datagram, len, &packet);
+        if (status == RTPW_OK) {
+            memset(layers, 0, sizeof *layers);
+        }
+    }
+    return status;
 }
 
 static inline call_place call_last_element(const uint8_t *body, size_t len, uint8_t form, uint8_t id) {

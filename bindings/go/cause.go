@@ -16,8 +16,7 @@ const (
 	CutSources
 	// CutBlockHeader: X is set, and the first four bytes of the block are cut short.
 	CutBlockHeader
-	// UnknownForm: the block's form is neither 0xBEDE nor 0x1000 to 0x100F.
-	UnknownForm
+	_
 	// CutBlock: the block is longer than what is left.
 	CutBlock
 )
@@ -26,6 +25,8 @@ const (
 var (
 	// ErrNotAPacket is what every Cause is, by errors.Is.
 	ErrNotAPacket = errors.New("rtpwire: no RTP packet")
+	// ErrOtherForm: the block's form is neither 0xBEDE nor 0x1000 to 0x100F, and so has no elements.
+	ErrOtherForm = errors.New("rtpwire: a header extension of an unknown form")
 	// ErrNoMemory: memory was refused.
 	ErrNoMemory = errors.New("rtpwire: memory was refused")
 	// ErrShortBuffer: the buffer has too few bytes, and nothing else is amiss.
@@ -43,13 +44,12 @@ var causes = [...]string{
 	OtherVersion:   "rtpwire: another version than 2",
 	CutSources:     "rtpwire: the CSRC list is cut short",
 	CutBlockHeader: "rtpwire: the header of the extension block is cut short",
-	UnknownForm:    "rtpwire: a header extension of an unknown form",
 	CutBlock:       "rtpwire: the extension block is cut short",
 }
 
 // Error says the cause in words.
 func (c Cause) Error() string {
-	if c == 0 || int(c) >= len(causes) {
+	if int(c) >= len(causes) || causes[c] == "" {
 		return "rtpwire: no cause"
 	}
 	return causes[c]
@@ -65,6 +65,8 @@ func errorOf(status int32) error {
 	switch status {
 	case 0:
 		return nil
+	case 5:
+		return ErrOtherForm
 	case 7:
 		return ErrNoMemory
 	case 8:

@@ -99,8 +99,8 @@ func RemovePadding(datagram []byte) ([]byte, error) {
 // alone, which the block then gets. It carries no element of the id 0, so these go.
 //
 // It returns ErrBadField where allowed is none of the three, the id is 0, there are more than 255 bytes of data, or the
-// block needs a form that isn't allowed, or more than 65,535 words; and ErrShortBuffer where the capacity is too small.
-// Where it returns an error nothing changes.
+// block needs a form that isn't allowed, or more than 65,535 words; ErrOtherForm where the block has another form, and so
+// carries no elements; and ErrShortBuffer where the capacity is too small. Where it returns an error nothing changes.
 func PutElement(datagram []byte, id uint8, data []byte, allowed Form) ([]byte, error) {
 	buf := datagram[:cap(datagram)]
 	length, err := putElement(buf, len(datagram), id, data, allowed)
@@ -112,8 +112,8 @@ func PutElement(datagram []byte, id uint8, data []byte, allowed Form) ([]byte, e
 
 // Compact makes the packet as short as its elements allow, and returns the bytes that it then has, the first ones of
 // the datagram: the elements stand in a row, the body is filled up to whole words, and the payload moves to the front.
-// What stands where reading ends goes.
-// So [RemoveElement] and then this gives bytes back. A header alone is enough.
+// What stands where reading ends goes, and a block of another form stays. So [RemoveElement] and then this gives bytes
+// back. A header alone is enough.
 func Compact(datagram []byte) ([]byte, error) {
 	length, err := compact(datagram)
 	if err != nil {

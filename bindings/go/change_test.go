@@ -207,6 +207,42 @@ func TestRetransmissions(t *testing.T) {
 	same(t, "no number", err, rtpwire.ErrNotFound)
 }
 
+// A block of another form stays.
+func TestOtherFormsAreChanged(t *testing.T) {
+	datagram := append(make([]byte, 0, 64), camera()...)
+	var fields rtpwire.Fields
+	fields.SetPayloadType(97)
+	fields.SetSequenceNumber(0x0102)
+	fields.SetTimestamp(0x03040506)
+	fields.SetSSRC(0x0708090A)
+	fields.SetMarker(false)
+	same(t, "fields", fields.Apply(datagram), nil)
+	same(t, "header", datagram[:12], []byte{0x90, 97, 1, 2, 3, 4, 5, 6, 7, 8, 9, 10})
+	same(t, "behind it", datagram[12:], camera()[12:])
+	for _, refused := range []struct{ got, wanted error }{
+		{rtpwire.SetElement(datagram, 14, []byte{7}), rtpwire.ErrNotFound},
+		{rtpwire.RemoveElement(datagram, 14), rtpwire.ErrNotFound},
+		{rtpwire.SetCSRC(datagram, 0, 1), rtpwire.ErrNotFound},
+		{rtpwire.Renumber(datagram, new(rtpwire.NewIDs)), nil},
+	} {
+		same(t, "no elements", refused.got, refused.wanted)
+	}
+	_, err := rtpwire.PutElement(datagram, 1, []byte{7}, rtpwire.AnyForm)
+	same(t, "put", err, rtpwire.ErrOtherForm)
+	same(t, "a packet", errors.Is(err, rtpwire.ErrNotAPacket), false)
+	_, err = rtpwire.PutElement(datagram, 1, []byte{7}, rtpwire.OtherForm)
+	same(t, "no form to put", err, rtpwire.ErrBadField)
+	short, err := rtpwire.Compact(datagram)
+	same(t, "compact", []any{len(short), err}, []any{31, nil})
+	sent, err := rtpwire.ToRetransmission(datagram[:33], 31, 45, 99, 9, new(rtpwire.NewIDs))
+	same(t, "sent", []any{len(sent), err}, []any{33, nil})
+	same(t, "block", sent[12:28], camera()[12:28])
+	same(t, "payload", sent[28:], []byte{1, 2, 0x41, 0x42, 0x43})
+	back, err := rtpwire.FromRetransmission(datagram[:33], 33, 44, 96, new(rtpwire.NewIDs))
+	same(t, "back", []any{len(back), err}, []any{31, nil})
+	same(t, "behind the header", back[12:], camera()[12:])
+}
+
 func TestHeadersAreWritten(t *testing.T) {
 	header := rtpwire.Header{PayloadType: 33, SequenceNumber: 47000, Timestamp: 10000, SSRC: 44, Marker: true}
 	same(t, "sources", header.SetCSRC([]uint32{9}), nil)

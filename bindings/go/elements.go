@@ -8,6 +8,7 @@ const (
 	NoBlock     Form = 0 // X is clear
 	OneByteForm Form = 1 // 0xBEDE: ids up to 14, and 1 to 16 bytes of data
 	TwoByteForm Form = 2 // 0x1000 to 0x100F: ids up to 255, and up to 255 bytes of data
+	OtherForm   Form = 3 // another one ([Packet.BlockProfile]), in which no elements are read
 )
 
 // AnyForm allows both forms ([PutElement]).
@@ -22,9 +23,16 @@ func (f Form) String() string {
 		return "one-byte form"
 	case TwoByteForm:
 		return "two-byte form"
+	case OtherForm:
+		return "other form"
 	default:
 		return "unknown form"
 	}
+}
+
+// hasElements is whether a block of the form has elements.
+func (f Form) hasElements() bool {
+	return f == OneByteForm || f == TwoByteForm
 }
 
 // A Place says where the data of an element lie: in the body of a packet's block ([Packet.AppendPlaces]), or in the
@@ -45,7 +53,7 @@ type Place struct {
 func (p *Packet) AppendPlaces(places []Place) []Place {
 	form, body := p.Block()
 	at := 0
-	for form != NoBlock {
+	for form.hasElements() {
 		if len(places) == cap(places) {
 			places = append(places, make([]Place, 8)...)[:len(places)]
 		}
@@ -70,7 +78,7 @@ func (p *Packet) Data(place Place) []byte {
 // no element of the id.
 func (p *Packet) Element(id uint8) (data []byte, ok bool) {
 	form, body := p.Block()
-	if form == NoBlock {
+	if !form.hasElements() {
 		return nil, false
 	}
 	place, err := lastElement(body, form, id)

@@ -25,7 +25,7 @@ func TestStructsLieAsThoseOfC(t *testing.T) {
 		name        string
 		got, wanted uintptr
 	}{
-		{"packet", unsafe.Sizeof(p), 56},
+		{"packet", unsafe.Sizeof(p), 64},
 		{"packet.payload_len", unsafe.Offsetof(p.payloadLen), 8},
 		{"packet.unpadded_len", unsafe.Offsetof(p.unpaddedLen), 16},
 		{"packet.body_at", unsafe.Offsetof(p.bodyAt), 24},
@@ -39,6 +39,7 @@ func TestStructsLieAsThoseOfC(t *testing.T) {
 		{"packet.has_padding", unsafe.Offsetof(p.hasPadding), 53},
 		{"packet.padding_fits", unsafe.Offsetof(p.paddingFits), 54},
 		{"packet.block_form", unsafe.Offsetof(p.form), 55},
+		{"packet.block_profile", unsafe.Offsetof(p.profile), 56},
 		{"fields", unsafe.Sizeof(f), 20},
 		{"fields.ssrc", unsafe.Offsetof(f.ssrc), 4},
 		{"fields.sequence_number", unsafe.Offsetof(f.sequenceNumber), 8},

@@ -18,10 +18,12 @@ type parts struct {
 	payloadType, csrcCount             uint8
 	marker, hasPadding, paddingFits    bool
 	form                               Form
+	profile                            uint16
 }
 
 // Parse reads the packet that the datagram is, in one call of the library: the fields, the values of its block under
-// the map, and where its parts lie. On a port that RTP and RTCP share [IsRTCP] comes first.
+// the map, and where its parts lie. A block of another form gives no values. On a port that RTP and RTCP share
+// [IsRTCP] comes first.
 //
 // It returns the first Cause for which the datagram is no packet; or ErrNoMemory, which only a layer allocation takes
 // ([KindLayers]). Nothing changes then.
@@ -58,9 +60,16 @@ func (p *Packet) UnpaddedPayload() (payload []byte, ok bool) {
 }
 
 // Block is the form and the body of the extension block, after the four bytes of its header. Where there is none (X is
-// clear) the form is NoBlock.
+// clear) the form is NoBlock. Of a block of OtherForm [Packet.BlockProfile] says more.
 func (p *Packet) Block() (Form, []byte) {
 	return p.parts.form, p.datagram[p.parts.bodyAt:p.parts.payloadAt]
+}
+
+// BlockProfile is the 16 bits that the extension block begins with, those of a form or others, which the block's
+// profile defines (RFC 3550, 5.3.1): 0xABAC of ONVIF's cameras, say, and 0xC0DE and 0xC2DE of Cryptex (RFC 9335).
+// It is 0 where there is no block.
+func (p *Packet) BlockProfile() uint16 {
+	return p.parts.profile
 }
 
 // PeekSSRC is where a packet has its SSRC, to find the Receiver of a datagram before [Receiver.ReceivePacket] reads

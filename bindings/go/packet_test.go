@@ -98,7 +98,6 @@ func TestCauses(t *testing.T) {
 		{rtpwire.OtherVersion, append([]byte{0x72}, sample()[1:]...), "OTHER_VERSION"},
 		{rtpwire.CutSources, sample()[:19], "CUT_SOURCES"},
 		{rtpwire.CutBlockHeader, sample()[:23], "CUT_BLOCK_HEADER"},
-		{rtpwire.UnknownForm, append(append(sample()[:20], 0x10, 0x10, 0, 2), sample()[24:]...), "UNKNOWN_FORM"},
 		{rtpwire.CutBlock, sample()[:31], "CUT_BLOCK"},
 	}
 	header, err := os.ReadFile("rtp_wire.h")
@@ -168,6 +167,69 @@ func TestElements(t *testing.T) {
 			}
 		}
 	}
+}
+
+// camera is what a camera sends of a recording (ONVIF, streaming specification): after 0xABAC and the length 3 the
+// seconds and the fraction of an NTP time, C, E and D in the top bits of a byte, CSeq, and two bytes of padding.
+func camera() []byte {
+	return []byte{
+		0x90, 0xE0, 0, 5, 0, 1, 0x5F, 0x90, 0, 0, 0, 0x2C, 0xAB, 0xAC, 0, 3, 0xE5, 0x8B, 0x3C, 0x40,
+		0x80, 0, 0, 0, 0xE0, 7, 0, 0, 0x41, 0x42, 0x43,
+	}
+}
+
+func TestOtherForms(t *testing.T) {
+	for _, profile := range []uint16{0xABAC, 0xC0DE, 0xC2DE, 0, 0x0FFF, 0x1010, 0xBEDF, 0xFFFF} {
+		datagram := camera()
+		datagram[12], datagram[13] = byte(profile>>8), byte(profile)
+		packet := parsed(t, datagram, rtpwire.StandardMap())
+		form, body := packet.Block()
+		same(t, "form", form, rtpwire.OtherForm)
+		same(t, "body", body, datagram[16:28])
+		same(t, "profile", packet.BlockProfile(), profile)
+		same(t, "values", packet.Values, rtpwire.Values{})
+		same(t, "places", packet.AppendPlaces(nil), []rtpwire.Place(nil))
+		_, ok := packet.Element(14)
+		same(t, "an element", ok, false)
+		same(t, "marker", packet.Marker, true)
+		same(t, "payload type", packet.PayloadType, uint8(96))
+		same(t, "sequence number", packet.SequenceNumber, uint16(5))
+		same(t, "timestamp", packet.Timestamp, uint32(90000))
+		same(t, "SSRC", packet.SSRC, uint32(44))
+		same(t, "X", packet.HasExtension, true)
+		same(t, "header", packet.HeaderLen(), 28)
+		same(t, "payload", packet.Payload(), []byte{0x41, 0x42, 0x43})
+		for length, cause := range map[int]rtpwire.Cause{15: rtpwire.CutBlockHeader, 27: rtpwire.CutBlock} {
+			before := *packet
+			if err := packet.Parse(datagram[:length], nil); !errors.Is(err, cause) {
+				t.Errorf("%04X, %d bytes: %v", profile, length, err)
+			}
+			same(t, "the packet after that", *packet, before)
+		}
+	}
+	same(t, "profile of a form", parsed(t, sample(), nil).BlockProfile(), uint16(0xBEDE))
+	same(t, "form", rtpwire.OtherForm.String(), "other form")
+
+	// With sources, and where X is clear.
+	datagram := append([]byte{0xB2}, camera()[1:12]...)
+	datagram = append(append(datagram, 0, 0, 0, 1, 0, 0, 0, 2), camera()[12:]...)
+	packet := parsed(t, datagram, nil)
+	same(t, "CSRC", packet.CSRC(), []uint32{1, 2})
+	same(t, "P", packet.HasPadding, true)
+	same(t, "header", packet.HeaderLen(), 36)
+	datagram[0] = 0x82
+	same(t, "no profile", parsed(t, datagram, nil).BlockProfile(), uint16(0))
+
+	// A receiver takes them.
+	var receiver rtpwire.Receiver
+	number, err := receiver.ReceivePacket(camera(), nil, packet)
+	same(t, "number", number, uint64(5))
+	same(t, "error", err, nil)
+	_, err = receiver.ReceivePacket(camera(), nil, packet)
+	same(t, "a replay", err, rtpwire.ErrRefused)
+	layers := rtpwire.Layers{}
+	same(t, "no layers", layers.Parse(camera(), rtpwire.StandardMap()), nil)
+	same(t, "streams", len(layers.Streams()), 0)
 }
 
 func TestRTCP(t *testing.T) {

@@ -29,7 +29,7 @@
  *
  * Where a call has several faults, the status is that of the first of these:
  *   1. an argument is out of its range whatever the buffers hold: RTPW_BAD_FIELD;
- *   2. the buffer holds no packet: the first of the causes 1 to 6;
+ *   2. the buffer holds no packet, or one whose form has to be known: the first of the causes 1 to 6;
  *   3. memory is refused: RTPW_NO_MEMORY;
  *   4. what is named isn't there, or the packet or an element doesn't allow it: RTPW_NONE, or RTPW_BAD_FIELD;
  *   5. there is no room: RTPW_SHORT_BUFFER.
@@ -66,8 +66,9 @@ uint32_t rtpw_version(void);
 
 /* ---- Statuses ---- */
 
-/* What a function returns as an int32_t. Those from 1 to 6 are the causes for which bytes are no RTP
- * packet, in the order in which they are looked for: the first that applies is returned. */
+/* What a function returns as an int32_t. Those from 1 to 6 are the causes for which bytes are no RTP packet, in
+ * the order in which they are looked for: the first that applies is returned. RTPW_UNKNOWN_FORM is one for
+ * rtpw_parse, rtpw_parse_layers and rtpw_put_element alone, which have to know the form. */
 enum {
     RTPW_OK = 0,               /* the call did what it is for */
     RTPW_CUT_FIXED_PART = 1,   /* fewer than the twelve bytes that every header has */
@@ -109,14 +110,15 @@ static inline const char *rtpw_status_text(int32_t status) {
 enum {
     RTPW_NO_BLOCK = 0,      /* X is clear */
     RTPW_ONE_BYTE_FORM = 1, /* 0xBEDE */
-    RTPW_TWO_BYTE_FORM = 2  /* 0x1000 to 0x100F */
+    RTPW_TWO_BYTE_FORM = 2, /* 0x1000 to 0x100F */
+    RTPW_OTHER_FORM = 3     /* any other 16 bits, as ONVIF's 0xABAC, and 0xC0DE and 0xC2DE of Cryptex (RFC 9335) */
 };
 
 /* Where the CSRC list begins in each packet: four bytes for each source, the high one first. */
 #define RTPW_CSRC_AT 12
 
 /* What the header says, and where the parts of the packet lie, in bytes from the packet's first one.
- * 56 bytes. */
+ * 64 bytes. */
 typedef struct {
     size_t payload_at;        /* where the payload begins: the length of the header, 12 to 262,216 */
     size_t payload_len;       /* of the payload with any padding: payload_at + payload_len is the packet's length */
@@ -132,7 +134,8 @@ typedef struct {
     uint8_t has_padding;      /* P: 0 or 1 */
     uint8_t padding_fits;     /* 0 where P is set and the payload's last byte counts more bytes than there are, and else 1: a
                                * last byte of 0 takes nothing away, and neither does P of an empty payload */
-    uint8_t block_form;       /* RTPW_ONE_BYTE_FORM or RTPW_TWO_BYTE_FORM; RTPW_NO_BLOCK where X is clear */
+    uint8_t block_form;       /* RTPW_ONE_BYTE_FORM, RTPW_TWO_BYTE_FORM or RTPW_OTHER_FORM; RTPW_NO_BLOCK where X is clear */
+    uint16_t block_profile;   /* the 16 bits that the block begins with; 0 without one */
 } rtpw_packet;
 
 /* Whether a datagram on a port that RTP and RTCP share is RTCP (RFC 5761, 4): it has version 2, and its
@@ -141,7 +144,8 @@ typedef struct {
  * on such a port must not have. False of fewer than two bytes. */
 bool rtpw_is_rtcp(const uint8_t *datagram, size_t len);
 
-/* Reads the header of the packet in the buffer. RTPW_OK, or the first cause for which it holds none. */
+/* Reads the header of the packet in the buffer. RTPW_OK, or the first cause for which it holds none. A block of
+ * another form than the two has a body, and no elements: the calls for these are as for a packet without any. */
 RTPW_CHECKED int32_t rtpw_packet_parse(const uint8_t *datagram, size_t len, rtpw_packet *packet);
 
 /* ---- A packet, changed where it lies ---- */
@@ -226,14 +230,16 @@ enum { RTPW_ANY_FORM = 0 };
  *
  * RTPW_OK; RTPW_BAD_FIELD, before all else, where `allowed` is none of the three, *len is past the buffer, the
  * id is 0 or there are more than 255 bytes of data; the first cause for which the bytes are no packet;
- * RTPW_BAD_FIELD where the block needs a form that isn't allowed, or more than 65,535 words; RTPW_SHORT_BUFFER. */
+ * RTPW_UNKNOWN_FORM where the block is of RTPW_OTHER_FORM; RTPW_BAD_FIELD where it needs a form that isn't
+ * allowed, or more than 65,535 words; RTPW_SHORT_BUFFER. */
 RTPW_CHECKED int32_t rtpw_put_element(uint8_t *buf, size_t size, size_t *len, uint8_t id, const uint8_t *data,
                                       size_t data_len, uint8_t allowed);
 
 /* Makes the packet as short as its elements allow: these stand in a row, the body is filled up to whole words,
  * and the payload moves to the front; what stands where reading ends goes. So rtpw_remove_element and then this gives
- * bytes back; what is then behind the packet, up to its old end, may be anything. RTPW_OK;
- * RTPW_BAD_FIELD where *len is past the buffer; or the first cause for which the bytes are no packet. */
+ * bytes back; what is then behind the packet, up to its old end, may be anything. A block of RTPW_OTHER_FORM
+ * stays. RTPW_OK; RTPW_BAD_FIELD where *len is past the buffer; or the first cause for which the bytes are no
+ * packet. */
 RTPW_CHECKED int32_t rtpw_compact(uint8_t *buf, size_t size, size_t *len);
 
 /* ---- The elements of a block ---- */
@@ -410,8 +416,9 @@ typedef struct {
 
 /* Reads the header that the bytes begin with, and the values of its block under the map: in one call
  * what rtpw_packet_parse and rtpw_values_read tell, and on a port with RTCP after rtpw_is_rtcp. Nothing
- * after the header is looked at. RTPW_OK; the first cause for which there is none; or RTPW_NO_MEMORY, as
- * rtpw_values_read.
+ * after the header is looked at. RTPW_OK; the first cause for which there is none, where RTPW_UNKNOWN_FORM
+ * comes before RTPW_CUT_BLOCK: a receiver that takes such packets calls rtpw_packet_parse; or RTPW_NO_MEMORY,
+ * as rtpw_values_read.
  *
  *     rtpw_header header;
  *     if (rtpw_parse(datagram, len, &map, &header) == RTPW_OK && header.values.has_mid) {
@@ -523,7 +530,7 @@ typedef struct {
  */
 void rtpw_new_ids_between(const rtpw_map *from, const rtpw_map *to, rtpw_new_ids *ids);
 /* Gives each element of the packet in the buffer its new id, and makes one that gets none padding; no
- * other byte changes. A packet without a block stays as it is. RTPW_OK; RTPW_BAD_FIELD where the packet's
+ * other byte changes. A packet without elements stays as it is. RTPW_OK; RTPW_BAD_FIELD where the packet's
  * form can't carry a new id that an element gets (one above 14 in the one-byte form); or the first cause
  * for which the buffer holds no packet. Where it isn't RTPW_OK nothing changes. */
 RTPW_CHECKED int32_t rtpw_renumber(uint8_t *datagram, size_t len, const rtpw_new_ids *ids);

@@ -68,8 +68,9 @@ void random_body(uint8_t *body, size_t len, int form) {
     }
 }
 
-/* A block at the end of the bytes, mostly one that fits. */
+/* A block at the end of the bytes, mostly one that fits, and mostly of one of the two forms. */
 static void random_block(uint8_t *bytes, size_t len) {
+    static const unsigned others[] = {0xABAC, 0xC0DE, 0xC2DE, 0xBEDF, 0x0FFF, 0x1010, 0, 0xFFFF};
     size_t at = 12 + bytes[0] % 16 * 4u;
     if (len < at + 4) {
         return;
@@ -79,6 +80,9 @@ static void random_block(uint8_t *bytes, size_t len) {
     unsigned profile = form == 1 ? 0xBEDE : 0x1000 + (unsigned)(x / 8 % 16);
     size_t words = (len - at - 4) / 4;
     words = x / 128 % 16 == 0 ? words + 1 : random_below(words + 1);
+    if (x / 131072 % 16 == 0) {
+        profile = others[x / 2097152 % 8];
+    }
     if (x / 4096 % 32 != 0) {
         bytes[at] = (uint8_t)(profile / 256);
         bytes[at + 1] = (uint8_t)profile;

@@ -26,7 +26,7 @@ static size_t count_of(const walked *it, unsigned id) {
     found element;
     size_t count = 0;
     const uint8_t *body = before + it->body_at;
-    for (size_t at = 0; it->form != 0 && walk_on(body, it->body_len, it->form, at, &element);) {
+    for (size_t at = 0; walk_on(body, it->body_len, it->form, at, &element);) {
         at = element.data_at + element.data_len;
         count += element.id == id;
     }
@@ -41,7 +41,7 @@ static void make_row(const walked *it, int form, unsigned id, const uint8_t *dat
     const uint8_t *body = before + it->body_at;
     bool is_put = id == 256;
     row_len = 0;
-    for (size_t at = 0; it->form != 0 && walk_on(body, it->body_len, it->form, at, &element);) {
+    for (size_t at = 0; walk_on(body, it->body_len, it->form, at, &element);) {
         at = element.data_at + element.data_len;
         if (element.id == id) {
             left--;
@@ -83,6 +83,9 @@ static int32_t put(size_t size, size_t *len, unsigned id, const uint8_t *data, s
     if (it.cause != 0) {
         return it.cause;
     }
+    if (it.form == 3) {
+        return RTPW_UNKNOWN_FORM;
+    }
     int needed = it.form != 2 && id <= 14 && data_len >= 1 && data_len <= 16 ? 1 : 2;
     int form = allowed == 2 ? 2 : needed;
     if (allowed == 1 && needed == 2) {
@@ -114,7 +117,7 @@ static int32_t compact(size_t size, size_t *len) {
         return RTPW_BAD_FIELD;
     }
     walked it = walk(before, *len);
-    if (it.cause == 0 && it.form != 0) {
+    if (it.cause == 0 && (it.form == 1 || it.form == 2)) {
         make_row(&it, it.form, 256, NULL, 0);
         *len = lay_out(&it, *len, it.form, (row_len + 3) / 4 * 4);
     }
@@ -153,7 +156,7 @@ void growing_round(void) {
     size_t data_len = x / 65536 % 16 == 0 ? random_below(300) : random_below(20);
     found last;
     walked it = walk(before, packet_len);
-    if (it.cause == 0 && it.form != 0 && x / 1048576 % 2 == 0 &&
+    if (it.cause == 0 && x / 1048576 % 2 == 0 &&
         walk_last(before + it.body_at, it.body_len, it.form, id, &last)) {
         data_len = last.data_len; /* as many as it has */
     }

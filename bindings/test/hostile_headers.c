@@ -28,10 +28,10 @@ void headers_round(void) {
     memcpy(&layers_before, layers, sizeof layers_before);
     walked it = walk(copy, len);
 
-    CHECK(rtpw_parse(bytes, len, map, header) == it.cause);
-    if (it.cause != 0) {
+    CHECK(rtpw_parse(bytes, len, map, header) == it.header_cause);
+    if (it.header_cause != 0) {
         CHECK(memcmp(header, &before, sizeof before) == 0);
-        CHECK(rtpw_parse_layers(bytes, len, map, header, layers) == it.cause);
+        CHECK(rtpw_parse_layers(bytes, len, map, header, layers) == it.header_cause);
         CHECK(memcmp(header, &before, sizeof before) == 0);
         CHECK(memcmp(layers, &layers_before, sizeof layers_before) == 0);
     } else {

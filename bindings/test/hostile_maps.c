@@ -144,7 +144,7 @@ static void renumber(const rtpw_new_ids *ids) {
     memcpy(expected, bytes, len);
     walked it = walk(expected, len);
     int32_t status = it.cause;
-    if (it.cause == 0 && it.form != 0) {
+    if (it.cause == 0) {
         bool is_renumbered = is_carried(expected + it.body_at, &it, &same);
         status = is_renumbered ? RTPW_OK : RTPW_BAD_FIELD;
         if (is_renumbered) {
@@ -198,15 +198,13 @@ static int32_t retransmitted(uint8_t *bytes, size_t size, size_t *len, uint32_t 
     if (is_back && end - at < 2) {
         return RTPW_NONE;
     }
-    if (it.form != 0 && !is_carried(bytes + it.body_at, &it, ids)) {
+    if (!is_carried(bytes + it.body_at, &it, ids)) {
         return RTPW_BAD_FIELD;
     }
     if (!is_back && size - end < 2) {
         return RTPW_SHORT_BUFFER;
     }
-    if (it.form != 0) {
-        renumber_in(bytes + it.body_at, &it, ids);
-    }
+    renumber_in(bytes + it.body_at, &it, ids);
     uint8_t original[2] = {bytes[2], bytes[3]};
     bytes[2] = is_back ? bytes[at] : (uint8_t)(number >> 8);
     bytes[3] = is_back ? bytes[at + 1] : (uint8_t)number;

@@ -20,6 +20,7 @@ static void expected_of(const uint8_t *bytes, size_t len, const walked *it, rtpw
     packet->body_at = it->body_at;
     packet->body_len = it->body_len;
     packet->block_form = (uint8_t)it->form;
+    packet->block_profile = (uint16_t)it->profile;
     packet->csrc_count = (uint8_t)it->csrc_count;
     packet->marker = bytes[1] / 128;
     packet->payload_type = bytes[1] % 128;
@@ -49,6 +50,7 @@ void packets_round(void) {
     }
     CHECK(rtpw_is_rtcp(bytes, len) == (len >= 2 && copy[0] / 64 == 2 && copy[1] >= 192 && copy[1] < 224));
     CHECK(rtpw_packet_parse(bytes, len, packet) == it.cause);
-    CHECK(memcmp(packet, &expected, sizeof expected) == 0);
+    /* the bytes after the last field of a packet that is told may be anything */
+    CHECK(memcmp(packet, &expected, it.cause == 0 ? offsetof(rtpw_packet, block_profile) + 2 : sizeof expected) == 0);
     CHECK(memcmp(bytes, copy, len) == 0);
 }

@@ -7,7 +7,7 @@
 #define HOLDS(fact) _Static_assert(fact, #fact)
 #endif
 
-HOLDS(sizeof(rtpw_packet) == 56);
+HOLDS(sizeof(rtpw_packet) == 64);
 HOLDS(offsetof(rtpw_packet, payload_at) == 0);
 HOLDS(offsetof(rtpw_packet, payload_len) == 8);
 HOLDS(offsetof(rtpw_packet, unpadded_len) == 16);
@@ -22,6 +22,7 @@ HOLDS(offsetof(rtpw_packet, marker) == 52);
 HOLDS(offsetof(rtpw_packet, has_padding) == 53);
 HOLDS(offsetof(rtpw_packet, padding_fits) == 54);
 HOLDS(offsetof(rtpw_packet, block_form) == 55);
+HOLDS(offsetof(rtpw_packet, block_profile) == 56);
 
 HOLDS(sizeof(rtpw_fields) == 20);
 HOLDS(offsetof(rtpw_fields, timestamp) == 0);
@@ -156,6 +157,7 @@ HOLDS(RTPW_RESTARTED == 12);
 HOLDS(RTPW_NO_BLOCK == 0);
 HOLDS(RTPW_ONE_BYTE_FORM == 1);
 HOLDS(RTPW_TWO_BYTE_FORM == 2);
+HOLDS(RTPW_OTHER_FORM == 3);
 HOLDS(RTPW_CSRC_AT == 12);
 HOLDS(RTPW_KIND_NONE == 0);
 HOLDS(RTPW_KIND_ABS_SEND_TIME == 1);

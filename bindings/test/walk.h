@@ -7,42 +7,43 @@
 #include <stdint.h>
 
 typedef struct {
-    int cause; /* 0, or the first of the six causes for which it is no packet */
-    int form;  /* 0, 1 or 2 */
+    int cause;        /* 0, or the first of the causes for which it is no packet: 1 to 4, and 6 */
+    int header_cause; /* the same of those for which no header is read: 1 to 6 */
+    int form;         /* 0, 1 or 2; 3 of a block of another form */
+    unsigned profile; /* the 16 bits at the front of a block */
     size_t csrc_count, body_at, body_len, header_len;
 } walked;
 
+static inline walked no_packet(int cause) {
+    walked it = {0, 0, 0, 0, 0, 0, 0, 0};
+    it.cause = it.header_cause = cause;
+    return it;
+}
+
 static inline walked walk(const uint8_t *bytes, size_t len) {
-    walked it = {0, 0, 0, 0, 0, 0};
+    walked it = no_packet(0);
     if (len < 12) {
-        it.cause = 1;
-        return it;
+        return no_packet(1);
     }
     if (bytes[0] / 64 != 2) {
-        it.cause = 2;
-        return it;
+        return no_packet(2);
     }
     it.csrc_count = bytes[0] % 16;
     size_t at = 12 + it.csrc_count * 4;
     if (at > len) {
-        it.cause = 3;
-        return it;
+        return no_packet(3);
     }
     if ((bytes[0] & 0x10) != 0) {
         if (len - at < 4) {
-            it.cause = 4;
-            return it;
+            return no_packet(4);
         }
-        unsigned profile = bytes[at] * 256u + bytes[at + 1];
-        it.form = profile == 0xBEDE ? 1 : profile / 16 == 0x100 ? 2 : 0;
-        if (it.form == 0) {
-            it.cause = 5;
-            return it;
-        }
+        it.profile = bytes[at] * 256u + bytes[at + 1];
+        it.form = it.profile == 0xBEDE ? 1 : it.profile / 16 == 0x100 ? 2 : 3;
         it.body_len = (bytes[at + 2] * 256u + bytes[at + 3]) * 4u;
         at += 4;
-        if (len - at < it.body_len) {
-            it.cause = 6;
+        it.cause = len - at < it.body_len ? 6 : 0;
+        it.header_cause = it.form == 3 ? 5 : it.cause;
+        if (it.cause != 0) {
             return it;
         }
     }
@@ -56,8 +57,11 @@ typedef struct {
     unsigned id;
 } found;
 
-/* The first element from the offset on: 1, or 0 where there is none. */
+/* The first element from the offset on: 1, or 0 where there is none, as in a block of another form. */
 static inline int walk_on(const uint8_t *body, size_t len, int form, size_t at, found *element) {
+    if (form != 1 && form != 2) {
+        return 0;
+    }
     while (at < len && body[at] == 0) {
         at++;
     }

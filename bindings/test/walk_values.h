@@ -236,7 +236,7 @@ static inline void walk_values(const uint8_t *body, size_t len, int form, const 
 static inline void walk_header(const uint8_t *bytes, const walked *it, const rtpw_map *map, rtpw_header *header,
                                rtpw_layers *layers) {
     memset(header, 0, sizeof *header);
-    walk_values(bytes + it->body_at, it->form == 0 ? 0 : it->body_len, it->form, map, &header->values, layers);
+    walk_values(bytes + it->body_at, it->body_len, it->form, map, &header->values, layers);
     header->header_len = it->header_len;
     header->has_padding = bytes[0] / 32 % 2;
     header->has_extension = bytes[0] / 16 % 2;

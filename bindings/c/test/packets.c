@@ -26,7 +26,7 @@ static const size_t LEN = 37;
 static void is_read(void) {
     rtpw_packet packet;
     memset(&packet, 0xA5, sizeof packet);
-    CHECK(sizeof packet == 56);
+    CHECK(sizeof packet == 64);
     CHECK(rtpw_packet_parse(SAMPLE, LEN, &packet) == RTPW_OK);
     CHECK(packet.payload_at == 32);
     CHECK(packet.payload_len == 5);
@@ -42,6 +42,7 @@ static void is_read(void) {
     CHECK(packet.has_padding == 1);
     CHECK(packet.padding_fits == 1);
     CHECK(packet.block_form == RTPW_ONE_BYTE_FORM);
+    CHECK(packet.block_profile == 0xBEDE);
 }
 
 static void padding_is_too_long(void) {
@@ -66,8 +67,8 @@ static void is_refused(void) {
     CHECK(rtpw_packet_parse(bytes, 19, &packet) == RTPW_CUT_SOURCES);
     CHECK(rtpw_packet_parse(bytes, 23, &packet) == RTPW_CUT_BLOCK_HEADER);
     CHECK(rtpw_packet_parse(bytes, 31, &packet) == RTPW_CUT_BLOCK);
-    bytes[21] = 0xDF;
-    CHECK(rtpw_packet_parse(bytes, LEN, &packet) == RTPW_UNKNOWN_FORM);
+    bytes[21] = 0xDF; /* of another form */
+    CHECK(rtpw_packet_parse(bytes, 31, &packet) == RTPW_CUT_BLOCK);
     bytes[0] = 0x72;
     CHECK(rtpw_packet_parse(bytes, LEN, &packet) == RTPW_OTHER_VERSION);
     CHECK(memcmp(&packet, &same, sizeof packet) == 0);
@@ -379,6 +380,94 @@ static void retransmissions_are_made(void) {
     CHECK(memcmp(buf, BACK, sizeof BACK) == 0);
 }
 
+/* What a camera sends of a recording (ONVIF, streaming specification): after 0xABAC and the length 3 the seconds
+ * and the fraction of an NTP time, C, E and D in the top bits of a byte, CSeq, and two bytes of padding. */
+static const uint8_t CAMERA[31] = {0x90, 0xE0, 0x00, 0x05, 0x00, 0x01, 0x5F, 0x90, 0x00, 0x00, 0x00, 0x2C,
+                                   0xAB, 0xAC, 0x00, 0x03, 0xE5, 0x8B, 0x3C, 0x40, 0x80, 0x00, 0x00, 0x00,
+                                   0xE0, 0x07, 0x00, 0x00, 0x41, 0x42, 0x43};
+
+static void other_forms_are_read(void) {
+    static const uint16_t PROFILES[] = {0xABAC, 0xC0DE, 0xC2DE, 0x0000, 0x0FFF, 0x1010, 0xBEDF, 0xFFFF};
+    const rtpw_map map = {{0}};
+    uint8_t bytes[31];
+    rtpw_packet packet;
+    rtpw_header header;
+    rtpw_layers layers;
+    size_t i;
+    memcpy(bytes, CAMERA, sizeof bytes);
+    for (i = 0; i < sizeof PROFILES / sizeof *PROFILES; i++) {
+        bytes[12] = (uint8_t)(PROFILES[i] >> 8);
+        bytes[13] = (uint8_t)PROFILES[i];
+        CHECK(rtpw_packet_parse(bytes, sizeof bytes, &packet) == RTPW_OK);
+        CHECK(packet.block_form == RTPW_OTHER_FORM && packet.block_profile == PROFILES[i]);
+        CHECK(packet.body_at == 16 && packet.body_len == 12);
+        CHECK(packet.payload_at == 28 && packet.payload_len == 3 && packet.unpadded_len == 3);
+        CHECK(packet.sequence_number == 5 && packet.timestamp == 90000 && packet.ssrc == 44 && packet.payload_type == 96);
+        CHECK(rtpw_packet_parse(bytes, 28, &packet) == RTPW_OK && packet.payload_len == 0);
+        CHECK(rtpw_packet_parse(bytes, 27, &packet) == RTPW_CUT_BLOCK);
+        CHECK(rtpw_packet_parse(bytes, 15, &packet) == RTPW_CUT_BLOCK_HEADER);
+        /* no header is read; the form comes before the block's end */
+        CHECK(rtpw_parse(bytes, sizeof bytes, &map, &header) == RTPW_UNKNOWN_FORM);
+        CHECK(rtpw_parse(bytes, 27, &map, &header) == RTPW_UNKNOWN_FORM);
+        CHECK(rtpw_parse(bytes, 15, &map, &header) == RTPW_CUT_BLOCK_HEADER);
+        CHECK(rtpw_parse_layers(bytes, sizeof bytes, &map, &header, &layers) == RTPW_UNKNOWN_FORM);
+    }
+    /* the empty block that Cryptex adds where there are sources alone */
+    bytes[12] = 0xC0;
+    bytes[13] = 0xDE;
+    bytes[15] = 0;
+    CHECK(rtpw_packet_parse(bytes, sizeof bytes, &packet) == RTPW_OK);
+    CHECK(packet.block_form == RTPW_OTHER_FORM && packet.body_at == 16 && packet.body_len == 0 && packet.payload_at == 16);
+    /* without a block there is no profile */
+    bytes[0] = 0x80;
+    CHECK(rtpw_packet_parse(bytes, sizeof bytes, &packet) == RTPW_OK);
+    CHECK(packet.block_form == RTPW_NO_BLOCK && packet.block_profile == 0);
+}
+
+static void other_forms_have_no_elements(void) {
+    static const rtpw_new_ids NONE_LEFT = {{0}};
+    const rtpw_map map = {{0}};
+    uint8_t bytes[40] = {0};
+    size_t len = sizeof CAMERA;
+    rtpw_element element;
+    rtpw_values values;
+    memcpy(bytes, CAMERA, sizeof CAMERA);
+    CHECK(rtpw_next_element(CAMERA + 16, 12, RTPW_OTHER_FORM, 0, &element) == RTPW_BAD_FIELD);
+    CHECK(rtpw_last_element(CAMERA + 16, 12, RTPW_OTHER_FORM, 14, &element) == RTPW_BAD_FIELD);
+    CHECK(rtpw_values_read(CAMERA + 16, 12, RTPW_OTHER_FORM, &map, &values) == RTPW_BAD_FIELD);
+    CHECK(rtpw_set_element(bytes, len, 14, CAMERA, 6) == RTPW_NONE);
+    CHECK(rtpw_remove_element(bytes, len, 14) == RTPW_NONE);
+    CHECK(rtpw_renumber(bytes, len, &NONE_LEFT) == RTPW_OK);
+    CHECK(rtpw_put_element(bytes, sizeof bytes, &len, 1, CAMERA, 1, RTPW_ANY_FORM) == RTPW_UNKNOWN_FORM);
+    CHECK(rtpw_put_element(bytes, sizeof bytes, &len, 20, CAMERA, 1, RTPW_ONE_BYTE_FORM) == RTPW_UNKNOWN_FORM);
+    CHECK(rtpw_put_element(bytes, sizeof bytes, &len, 1, CAMERA, 1, RTPW_OTHER_FORM) == RTPW_BAD_FIELD);
+    CHECK(rtpw_compact(bytes, sizeof bytes, &len) == RTPW_OK);
+    CHECK(len == sizeof CAMERA && memcmp(bytes, CAMERA, len) == 0);
+}
+
+/* Fields change, and the block stays, also in a retransmission and back. */
+static void other_forms_are_changed(void) {
+    static const rtpw_new_ids NONE_LEFT = {{0}};
+    uint8_t bytes[33];
+    size_t len = sizeof CAMERA;
+    memcpy(bytes, CAMERA, sizeof CAMERA);
+    CHECK(rtpw_set_marker(bytes, len, false) == RTPW_OK && bytes[1] == 0x60);
+    CHECK(rtpw_set_payload_type(bytes, len, 97) == RTPW_OK && bytes[1] == 0x61);
+    CHECK(rtpw_set_sequence_number(bytes, len, 0x0102) == RTPW_OK && bytes[2] == 1 && bytes[3] == 2);
+    CHECK(rtpw_set_timestamp(bytes, len, 0x03040506) == RTPW_OK && bytes[4] == 3 && bytes[7] == 6);
+    CHECK(rtpw_set_ssrc(bytes, len, 0x0708090A) == RTPW_OK && bytes[8] == 7 && bytes[11] == 10);
+    CHECK(rtpw_set_csrc(bytes, len, 0, 1) == RTPW_NONE);
+    CHECK(rtpw_set_padding(bytes, len, true) == RTPW_OK && bytes[0] == 0xB0);
+    bytes[30] = 1;
+    CHECK(rtpw_remove_padding(bytes, len, &len) == RTPW_OK && len == 30 && bytes[0] == 0x90);
+    CHECK(memcmp(bytes + 12, CAMERA + 12, 18) == 0);
+    CHECK(rtpw_to_retransmission(bytes, sizeof bytes, &len, 77, 99, 7, &NONE_LEFT) == RTPW_OK && len == 32);
+    CHECK(memcmp(bytes + 12, CAMERA + 12, 16) == 0);
+    CHECK(bytes[28] == 1 && bytes[29] == 2 && bytes[30] == 0x41 && bytes[31] == 0x42);
+    CHECK(rtpw_from_retransmission(bytes, sizeof bytes, &len, 0x0708090A, 97, &NONE_LEFT) == RTPW_OK && len == 30);
+    CHECK(bytes[1] == 0x61 && bytes[3] == 2 && memcmp(bytes + 12, CAMERA + 12, 18) == 0);
+}
+
 int main(void) {
     is_read();
     padding_is_too_long();
@@ -396,5 +485,8 @@ int main(void) {
     header_is_changed_alone();
     originals_are_passed_on();
     retransmissions_are_made();
+    other_forms_are_read();
+    other_forms_have_no_elements();
+    other_forms_are_changed();
     return failed;
 }

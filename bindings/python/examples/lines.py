@@ -5,9 +5,9 @@ datagram say which extension an id means."""
 import re
 import sys
 from collections import defaultdict
-from typing import DefaultDict, Iterable, Iterator
+from typing import DefaultDict, Iterable, Iterator, Optional
 
-from rtp_wire import Kind, Map, NotAPacket, Packet, Receiver, Values
+from rtp_wire import Form, Kind, Map, NotAPacket, Packet, Receiver, Values
 
 
 def is_map_line(line: str, map: Map) -> bool:
@@ -44,11 +44,19 @@ def told_of(values: Values) -> Iterator[str]:
     return (f" {name} {value}" for name, value in told.items() if value is not None)
 
 
-def lines_of(datagram: bytes, map: Map, receivers: DefaultDict[int, Receiver], count: int) -> Iterator[str]:
-    """The two lines of a datagram."""
+def packet_of(datagram: bytes, map: Map) -> Optional[Packet]:
+    """The packet, where the datagram is one with a header that is read."""
     try:
         packet = Packet.parse(datagram, map)
     except NotAPacket:
+        return None
+    return None if packet.form == Form.OTHER else packet
+
+
+def lines_of(datagram: bytes, map: Map, receivers: DefaultDict[int, Receiver], count: int) -> Iterator[str]:
+    """The two lines of a datagram."""
+    packet = packet_of(datagram, map)
+    if packet is None:
         yield f"packet {count}: unreadable"
         yield f"verdict {count}: unreadable"
         return

@@ -7,11 +7,12 @@ typedef struct {
     uint8_t has_layers; /* that of the values */
 } whole_packet;
 
-/* As rtpw_packet_parse, and where there is a block and a map also rtpw_values_read; all zeros before. */
+/* As rtpw_packet_parse, and where there are elements and a map also rtpw_values_read; all zeros before. */
 int32_t whole_packet_parse(const uint8_t *datagram, size_t len, const rtpw_map *map, whole_packet *whole) {
     rtpw_packet *packet = &whole->packet;
     int32_t status = rtpw_packet_parse(datagram, len, packet);
-    if (status != RTPW_OK || packet->block_form == RTPW_NO_BLOCK || map == NULL) {
+    bool has_elements = packet->block_form == RTPW_ONE_BYTE_FORM || packet->block_form == RTPW_TWO_BYTE_FORM;
+    if (status != RTPW_OK || !has_elements || map == NULL) {
         return status;
     }
     const uint8_t *body = datagram + packet->body_at;

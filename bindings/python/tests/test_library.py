@@ -126,17 +126,18 @@ class Library(unittest.TestCase):
         everything = names_in("")
         self.assertEqual({name: everything[name] for name in statuses}, statuses)
         self.assertEqual(
-            {it.name: it.value for it in Cause}, {it.name: it.value for it in Status if 0 < it < 7}
+            {it.name: it.value for it in Cause},
+            {it.name: it.value for it in Status if 0 < it < 7 and it != Status.UNKNOWN_FORM},
         )
         self.assertEqual(names_in("KIND_"), {it.name: it.value for it in Kind})
-        self.assertEqual(
-            (everything["NO_BLOCK"], everything["ONE_BYTE_FORM"], everything["TWO_BYTE_FORM"]), tuple(Form)
-        )
+        forms = ("NO_BLOCK", "ONE_BYTE_FORM", "TWO_BYTE_FORM", "OTHER_FORM")
+        self.assertEqual(tuple(everything[name] for name in forms), tuple(Form))
         texts = dict(re.findall(r'case RTPW_(\w+): return "(.*)";', TEXT))
         self.assertEqual({it.name: it.text for it in Status}, texts)
 
     def test_exceptions(self) -> None:
         kinds: Dict[Status, Type[Exception]] = {
+            Status.UNKNOWN_FORM: rtp_wire.OtherForm,
             Status.SHORT_BUFFER: rtp_wire.ShortBuffer,
             Status.BAD_FIELD: rtp_wire.BadField,
             Status.NONE: rtp_wire.NoElement,

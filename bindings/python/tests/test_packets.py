@@ -16,11 +16,14 @@ from rtp_wire import (
     NewIds,
     NoElement,
     NotAPacket,
+    OtherForm,
     Packet,
     ShortBuffer,
     Values,
     compact,
+    from_retransmission,
     put_element,
+    to_retransmission,
 )
 
 # V=2, P, X, CC=2; M, PT=33; 47,000; 10,000; 44; the sources 1 and 2; a block of two words: 1 (AA), 2 (BB CC),
@@ -91,7 +94,6 @@ class Reading(unittest.TestCase):
             (b"\x72" + SAMPLE[1:], Cause.OTHER_VERSION),
             (SAMPLE[:19], Cause.CUT_SOURCES),
             (SAMPLE[:23], Cause.CUT_BLOCK_HEADER),
-            (SAMPLE[:21] + b"\xDF" + SAMPLE[22:], Cause.UNKNOWN_FORM),
             (SAMPLE[:31], Cause.CUT_BLOCK),
         ]
         for data, cause in rows:
@@ -168,10 +170,15 @@ class Reading(unittest.TestCase):
         elements = [(id, bytes(data)) for id, data in packet.elements()]
         last = dict(elements)
         self.assertEqual({id: packet.element(id) for id in last}, last)
-        self.assertEqual(packet.values, rtp_wire.Header.parse(datagram, Map.standard()).values)
-        self.assertEqual(
-            packet.values, Values.read(packet.body, packet.form, Map.standard()) if packet.form else Values()
-        )
+        if packet.form == Form.OTHER:
+            with self.assertRaises(OtherForm):
+                rtp_wire.Header.parse(datagram, Map.standard())
+            self.assertEqual((elements, packet.values), ([], Values()))
+        else:
+            self.assertEqual(packet.values, rtp_wire.Header.parse(datagram, Map.standard()).values)
+            self.assertEqual(
+                packet.values, Values.read(packet.body, packet.form, Map.standard()) if packet.form else Values()
+            )
         self.assertEqual(len(packet), packet.header_len + len(packet.payload))
         unpadded = packet.unpadded_payload
         return f"{packet!r}{elements}{None if unpadded is None else bytes(unpadded)!r}"
@@ -186,6 +193,58 @@ class Reading(unittest.TestCase):
             " form=<Form.ONE_BYTE: 1>, header_len=20, payload=<2 bytes>,"
             " values=Values(audio_level=-10, voice_activity=True))",
         )
+
+
+class OtherForms(unittest.TestCase):
+    """Blocks of another form than the two (RFC 3550, 5.3.1)."""
+
+    # What a camera sends of a recording (ONVIF, streaming specification): after 0xABAC and the length 3 the seconds and
+    # the fraction of an NTP time, C, E and D in the top bits of a byte, CSeq, and two bytes of padding.
+    CAMERA = bytes.fromhex("90E00005 00015F90 0000002C ABAC0003 E58B3C40 80000000 E0070000 414243")
+
+    def test_they_are_read(self) -> None:
+        for profile in (0xABAC, 0xC0DE, 0xC2DE, 0, 0x0FFF, 0x1010, 0xBEDF, 0xFFFF):
+            data = self.CAMERA[:12] + profile.to_bytes(2, "big") + self.CAMERA[14:]
+            packet = Packet.parse(data, Map.standard())
+            self.assertEqual((packet.form, packet.block_profile), (Form.OTHER, profile))
+            self.assertEqual((packet.body, packet.header_len, packet.payload), (data[16:28], 28, b"ABC"))
+            self.assertEqual((packet.payload_type, packet.sequence_number, packet.ssrc), (96, 5, 44))
+            self.assertEqual((list(packet.elements()), packet.element(14)), ([], None))
+            self.assertEqual(packet.values, Values())
+            for length, cause in ((15, Cause.CUT_BLOCK_HEADER), (27, Cause.CUT_BLOCK)):
+                with self.assertRaises(NotAPacket) as raised:
+                    Packet.parse(data[:length])
+                self.assertEqual(raised.exception.cause, cause)
+            for length in (27, 31):
+                with self.assertRaises(OtherForm):
+                    rtp_wire.Header.parse(data[:length], Map.standard())
+        self.assertEqual(Packet.parse(SAMPLE).block_profile, 0xBEDE)
+        self.assertIsNone(Packet.parse(b"\x80" + self.CAMERA[1:]).block_profile)
+
+    def test_they_are_changed(self) -> None:
+        data = bytearray(self.CAMERA)
+        packet = Packet.parse(data)
+        packet.set_fields(
+            payload_type=97, sequence_number=0x0102, timestamp=0x03040506, ssrc=0x0708090A, marker=False
+        )
+        packet.renumber(NewIds())
+        packet.has_padding = True
+        for change in (lambda: packet.set_element(14, b"7"), lambda: packet.remove_element(14)):
+            self.assertRaises(NoElement, change)
+        self.assertEqual(bytes(data), bytes.fromhex("B0610102030405060708090A") + self.CAMERA[12:])
+
+    def test_they_get_no_elements(self) -> None:
+        data = bytearray(self.CAMERA + bytes(40))
+        for allowed in (None, Form.ONE_BYTE, Form.TWO_BYTE):
+            with self.assertRaises(OtherForm):
+                put_element(data, 31, 1, b"7", allowed)
+        with self.assertRaises(BadField):
+            put_element(data, 31, 1, b"7", Form.OTHER)
+        self.assertEqual(compact(memoryview(data)[:31]), 31)
+        self.assertEqual(to_retransmission(data, 31, 45, 97, 9, NewIds()), 33)
+        self.assertEqual(data[:33], b"\x90\xE1\0\x09" + self.CAMERA[4:11] + b"\x2D" + self.CAMERA[12:28] + b"\0\5ABC")
+        self.assertEqual(from_retransmission(data, 33, 44, 96, NewIds()), 31)
+        self.assertEqual(data[:31], self.CAMERA)
 
 
 class Changing(unittest.TestCase):

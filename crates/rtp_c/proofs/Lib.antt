@@ -1,4 +1,5 @@
 mod StatusLemmas
+mod HeaderStatusLemmas
 mod PacketLemmas
 mod ChangeLemmas
 mod PutLemmas

@@ -3,10 +3,9 @@ use Rattle.std.proofs.Common.{◌≡◌, ℕ, ◌+◌, ◌-◌, ◌*◌, ◌≤�
 use Rattle.std.specs.List.{concat}
 use Rattle.std.proofs.lemmas.List.{take-append-drop}
 use Rattle.rtp_ext.specs.declared.form.ExtensionsForm.{ExtensionsForm}
-use Rattle.rtp_wire.specs.Packet.{PacketParts, IsPacket, IsAnnounced, block_len, header_len_of}
+use Rattle.rtp_wire.specs.Packet.{PacketParts, IsPacket, IsAnnouncedBlock, block_len, header_len_of}
 use Rattle.rtp_wire.proofs.PartsLemmas.{length-packet}
-use Rattle.rtp_c.specs.PacketView.{slice_at}
-use Rattle.rtp_wire.specs.PutIntoPacket.{body_of_block}
+use Rattle.rtp_c.specs.PacketView.{slice_at, body_of_any}
 
 -- bytes between others
 pub middle : (bytes before it after : List ℕ) (offset len : ℕ) → bytes ≡ before ++ (it ++ after) → length before ≡ offset → length it ≡ len → slice_at bytes offset len ≡ it
@@ -18,22 +17,24 @@ middle bytes before it after offset len in_order offset-is len-is =
     ∙ take_at it after len len-is
 
 -- what X announces ends in the body of the block
-body_ends : (x : Bool) (block : Option (ExtensionsForm × List ℕ)) (part : List ℕ) → IsAnnounced x block part → (head : List ℕ) × (part ≡ head ++ body_of_block block)
-body_ends false None part is = ([], is)
-body_ends false (Some block) part is = absurd is
-body_ends true None part is = absurd is
-body_ends true (Some block) part is = (take 4 part, sym (ap (λ (xs : List ℕ). take 4 part ++ xs) is.body_is ∙ take-append-drop 4 part))
+body_ends : (x : Bool) (block : Option (ExtensionsForm × List ℕ)) (other : Option (ℕ × List ℕ)) (part : List ℕ) → IsAnnouncedBlock x block other part
+    → (head : List ℕ) × (part ≡ head ++ body_of_any block other)
+body_ends false None None part is = ([], is)
+body_ends false (Some block) None part is = absurd is
+body_ends true None None part is = absurd is
+body_ends true (Some block) None part is = (take 4 part, sym (ap (λ (xs : List ℕ). take 4 part ++ xs) is.body_is ∙ take-append-drop 4 part))
+body_ends x block (Some other) part is = (take 4 part, sym (ap (λ (xs : List ℕ). take 4 part ++ xs) is.2.body_is ∙ take-append-drop 4 part))
 
 -- all before the body of the block, the body, and the payload
 pub record LiesInOrder (bytes : List ℕ) (parts : PacketParts) : Type 0 where
   pub front : List ℕ
-  pub in_order : bytes ≡ front ++ (body_of_block parts.block ++ parts.payload)
+  pub in_order : bytes ≡ front ++ (body_of_any parts.block parts.other_block ++ parts.payload)
 
 pub LiesInOrder-packet : (bytes : List ℕ) (parts : PacketParts) → IsPacket bytes parts → LiesInOrder bytes parts
 LiesInOrder-packet bytes parts is =
-    let cut = body_ends parts.has_extension parts.block is.part is.part_is in
+    let cut = body_ends parts.has_extension parts.block parts.other_block is.part is.part_is in
     let head = cut.0 in
-    let body = body_of_block parts.block in
+    let body = body_of_any parts.block parts.other_block in
     let groups = concat is.groups in
     record {
       front = is.fixed ++ (groups ++ head);
@@ -46,35 +47,37 @@ LiesInOrder-packet bytes parts is =
     }
 
 -- how long all of it is
-pub lengths : (bytes : List ℕ) (parts : PacketParts) (is : LiesInOrder bytes parts) → length bytes ≡ length is.front + length (body_of_block parts.block) + length parts.payload
+pub lengths : (bytes : List ℕ) (parts : PacketParts) (is : LiesInOrder bytes parts) → length bytes ≡ length is.front + length (body_of_any parts.block parts.other_block) + length parts.payload
 lengths bytes parts is =
-    let body = body_of_block parts.block in
+    let body = body_of_any parts.block parts.other_block in
     omega (arith, ap length is.in_order, length-append is.front (body ++ parts.payload), length-append body parts.payload)
 
 pub front_len : (bytes : List ℕ) (parts : PacketParts) → IsPacket bytes parts → (is : LiesInOrder bytes parts)
-    → length is.front + length (body_of_block parts.block) ≡ header_len_of parts
+    → length is.front + length (body_of_any parts.block parts.other_block) ≡ header_len_of parts
 front_len bytes parts packet is = omega (arith, lengths bytes parts is, length-packet bytes parts packet)
 
 -- the body of the block ends where the header does
-pub body-at : (bytes : List ℕ) (parts : PacketParts) → IsPacket bytes parts → (offset : ℕ) → offset + length (body_of_block parts.block) ≡ header_len_of parts
-    → slice_at bytes offset (length (body_of_block parts.block)) ≡ body_of_block parts.block
+pub body-at : (bytes : List ℕ) (parts : PacketParts) → IsPacket bytes parts → (offset : ℕ) → offset + length (body_of_any parts.block parts.other_block) ≡ header_len_of parts
+    → slice_at bytes offset (length (body_of_any parts.block parts.other_block)) ≡ body_of_any parts.block parts.other_block
 body-at bytes parts packet offset ends =
     let is = LiesInOrder-packet bytes parts packet in
-    middle bytes is.front (body_of_block parts.block) parts.payload offset _ is.in_order (omega (arith, front_len bytes parts packet is, ends)) refl
+    middle bytes is.front (body_of_any parts.block parts.other_block) parts.payload offset _ is.in_order (omega (arith, front_len bytes parts packet is, ends)) refl
 
 -- the payload begins there
 pub payload-at : (bytes : List ℕ) (parts : PacketParts) → IsPacket bytes parts → slice_at bytes (header_len_of parts) (length parts.payload) ≡ parts.payload
 payload-at bytes parts packet =
     let is = LiesInOrder-packet bytes parts packet in
-    let body = body_of_block parts.block in
+    let body = body_of_any parts.block parts.other_block in
     let in_order : bytes ≡ (is.front ++ body) ++ (parts.payload ++ []) =
     is.in_order ∙ sym (append_assoc is.front body parts.payload) ∙ ap (λ (xs : List ℕ). is.front ++ body ++ xs) (sym (append-nil parts.payload)) in
     middle bytes (is.front ++ body) parts.payload [] (header_len_of parts) _ in_order (omega (arith, front_len bytes parts packet is, length-append is.front body)) refl
 
 -- the body is within the header
-pub body-within : (parts : PacketParts) → length (body_of_block parts.block) ≤ header_len_of parts
-body-within parts = within parts.block (length parts.sources)
+pub body-within : (parts : PacketParts) → length (body_of_any parts.block parts.other_block) ≤ header_len_of parts
+body-within parts = within parts.block parts.other_block (length parts.sources)
   where
-    within : (block : Option (ExtensionsForm × List ℕ)) (n : ℕ) → length (body_of_block block) ≤ 12 + 4 * n + block_len block
-    within None n = omega arith
-    within (Some block) n = omega arith
+    within : (block : Option (ExtensionsForm × List ℕ)) (other : Option (ℕ × List ℕ)) (n : ℕ)
+        → length (body_of_any block other) ≤ 12 + 4 * n + block_len block + block_len other
+    within None None n = omega arith
+    within (Some block) None n = omega arith
+    within block (Some other) n = omega arith

@@ -1,8 +1,8 @@
 -- The statuses of an element that is put into a packet.
 use Rattle.std.proofs.Common.{◌≡◌, w32, to_z, of_z, refl, sym}
-use Rattle.rtp_wire.specs.declared.packet.not_a_packet.NotAPacket.TheVariants.{CutFixedPart, OtherVersion, CutSources, CutBlockHeader, UnknownForm, CutBlock}
+use Rattle.rtp_wire.specs.declared.packet.not_a_packet.NotAPacket.TheVariants.{CutFixedPart, OtherVersion, CutSources, CutBlockHeader, CutBlock}
 use Rattle.rtp_wire.specs.declared.packet.not_put.NotPut.{NotPut}
-use Rattle.rtp_wire.specs.declared.packet.not_put.NotPut.TheVariants.{CutPacket, NotAPacket, ZeroId, LongData, OneByteOnly, LongBlock, NoRoom}
+use Rattle.rtp_wire.specs.declared.packet.not_put.NotPut.TheVariants.{CutPacket, NotAPacket, ZeroId, LongData, OtherForm, OneByteOnly, LongBlock, NoRoom}
 use Rattle.rtp_c.specs.Status.{ok}
 use Rattle.rtp_c.specs.PutStatus.{put_status}
 use Rattle.rtp_c.proofs.StatusLemmas.{ok≢cause}
@@ -13,6 +13,7 @@ put_status≢ok CutPacket same = cc
 put_status≢ok (NotAPacket cause) same = ok≢cause cause (sym same)
 put_status≢ok ZeroId same = cc
 put_status≢ok LongData same = cc
+put_status≢ok OtherForm same = cc
 put_status≢ok OneByteOnly same = cc
 put_status≢ok LongBlock same = cc
 put_status≢ok (NoRoom needed) same = cc
@@ -24,10 +25,10 @@ put_status-fits (NotAPacket CutFixedPart) = refl
 put_status-fits (NotAPacket OtherVersion) = refl
 put_status-fits (NotAPacket CutSources) = refl
 put_status-fits (NotAPacket CutBlockHeader) = refl
-put_status-fits (NotAPacket UnknownForm) = refl
 put_status-fits (NotAPacket CutBlock) = refl
 put_status-fits ZeroId = refl
 put_status-fits LongData = refl
+put_status-fits OtherForm = refl
 put_status-fits OneByteOnly = refl
 put_status-fits LongBlock = refl
 put_status-fits (NoRoom needed) = refl

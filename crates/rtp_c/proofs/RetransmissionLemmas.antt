@@ -2,7 +2,7 @@
 use Rattle.std.proofs.Common.{◌≡◌, ℕ, List, Option, ℤ, w32, to_z, of_z, ap, sym, subst, ◌∙◌}
 use Rattle.rtp_values.specs.declared.kind.Extension.{Extension}
 use Rattle.rtp_ext.specs.NewIds.{AreRenamedIds, ids_in_bytes}
-use Rattle.rtp_wire.specs.declared.packet.not_a_packet.NotAPacket.TheVariants.{CutFixedPart, OtherVersion, CutSources, CutBlockHeader, UnknownForm, CutBlock}
+use Rattle.rtp_wire.specs.declared.packet.not_a_packet.NotAPacket.TheVariants.{CutFixedPart, OtherVersion, CutSources, CutBlockHeader, CutBlock}
 use Rattle.rtp_wire.specs.declared.packet.not_retransmitted.NotRetransmitted.{NotRetransmitted}
 use Rattle.rtp_wire.specs.declared.packet.not_retransmitted.NotRetransmitted.TheVariants.{CutPacket, NotAPacket, PaddingTooLong, NoOriginalNumber, NewIdTooHigh, NoRoom}
 use Rattle.rtp_c.specs.Retransmission.{RenameKinds, retransmission_status}
@@ -16,7 +16,6 @@ status_is_no_ok (NotAPacket CutFixedPart) same = cc
 status_is_no_ok (NotAPacket OtherVersion) same = cc
 status_is_no_ok (NotAPacket CutSources) same = cc
 status_is_no_ok (NotAPacket CutBlockHeader) same = cc
-status_is_no_ok (NotAPacket UnknownForm) same = cc
 status_is_no_ok (NotAPacket CutBlock) same = cc
 status_is_no_ok PaddingTooLong same = cc
 status_is_no_ok NoOriginalNumber same = cc

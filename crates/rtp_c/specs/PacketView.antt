@@ -1,11 +1,12 @@
 -- What C is told of a packet where it lies (RFC 3550, 5.1; RFC 8285, 4).
-use Rattle.std.specs.Prelude.{◌≡◌, ℕ, ◌+◌, ◌<◌, ◌⊎◌, List, length, slice_range, Option, Some, None, option_map, true}
+use Rattle.std.specs.Prelude.{◌≡◌, ℕ, ◌+◌, ◌<◌, ◌⊎◌, List, length, slice_range, Option, Some, None, unwrap_or, true}
 use Rattle.rtp_ext.specs.declared.form.ExtensionsForm.{ExtensionsForm}
 use Rattle.rtp_ext.specs.declared.form.ExtensionsForm.TheVariants.{OneByte, TwoByte}
 use Rattle.rtp_base.specs.Flag.{bit}
 use Rattle.rtp_wire.specs.Packet.{PacketParts, IsWithoutPadding}
 use Rattle.rtp_wire.specs.Padding.{padding_count}
-use Rattle.rtp_wire.specs.PutIntoPacket.{body_of_block}
+use Rattle.rtp_wire.specs.PartsAt.{profile_in}
+use Rattle.rtp_wire.specs.PutIntoPacket.{form_of_block, body_of_block}
 use Rattle.rtp_c.specs.declared.packet.PacketView.{PacketView}
 
 -- the number of a block's form, and of none
@@ -13,6 +14,16 @@ abbrev pub form_number : Option ExtensionsForm → ℕ
 form_number None = 0
 form_number (Some OneByte) = 1
 form_number (Some TwoByte) = 2
+
+-- the number of a packet's block: that of its form, and 3 where the form is neither of the two
+abbrev pub block_number : Option (ExtensionsForm × List ℕ) → Option (ℕ × List ℕ) → ℕ
+block_number block None = form_number (form_of_block block)
+block_number block (Some other) = 3
+
+-- the body of a packet's block, of whatever form, and no bytes without one
+abbrev pub body_of_any : Option (ExtensionsForm × List ℕ) → Option (ℕ × List ℕ) → List ℕ
+body_of_any block None = body_of_block block
+body_of_any block (Some other) = other.1
 
 -- the bytes of this length at this offset
 abbrev pub slice_at : List ℕ → ℕ → ℕ → List ℕ
@@ -33,8 +44,10 @@ pub record IsViewOf (bytes : List ℕ) (parts : PacketParts) (view : PacketView)
   pub timestamp_is : view.timestamp ≡ parts.timestamp
   pub ssrc_is : view.ssrc ≡ parts.ssrc
   pub sources_are : view.csrc_count ≡ length parts.sources
-  pub form_is : view.block_form ≡ form_number (option_map (λ block. block.0) parts.block)
-  pub body_is : slice_at bytes view.body_at view.body_len ≡ body_of_block parts.block
+  pub form_is : view.block_form ≡ block_number parts.block parts.other_block
+  -- the 16 bits that the block begins with, and 0 without one
+  pub profile_is : view.block_profile ≡ unwrap_or (profile_in bytes) 0
+  pub body_is : slice_at bytes view.body_at view.body_len ≡ body_of_any parts.block parts.other_block
   pub body_ends : view.body_at + view.body_len ≡ view.payload_at
   pub payload_is : slice_at bytes view.payload_at view.payload_len ≡ parts.payload
   pub payload_ends : view.payload_at + view.payload_len ≡ length bytes

@@ -3,9 +3,9 @@ use Rattle.std.specs.Prelude.{◌≡◌, ℕ, List, Option, ℤ}
 use Rattle.rtp_ext.specs.declared.form.ExtensionsForm.{ExtensionsForm}
 use Rattle.rtp_ext.specs.Elements.{Element}
 use Rattle.rtp_wire.specs.declared.packet.not_put.NotPut.{NotPut}
-use Rattle.rtp_wire.specs.declared.packet.not_put.NotPut.TheVariants.{CutPacket, ZeroId, LongData, NotAPacket, OneByteOnly, LongBlock, NoRoom}
+use Rattle.rtp_wire.specs.declared.packet.not_put.NotPut.TheVariants.{CutPacket, ZeroId, LongData, NotAPacket, OtherForm, OneByteOnly, LongBlock, NoRoom}
 use Rattle.rtp_wire.specs.PutIntoPacket.{AppliesToPut, IsFirstNotPut}
-use Rattle.rtp_c.specs.Status.{cause_status, short_buffer, bad_field}
+use Rattle.rtp_c.specs.Status.{cause_status, unknown_form, short_buffer, bad_field}
 
 -- the status of each cause for which an element can't be put into a packet
 abbrev pub put_status : NotPut → ℤ
@@ -13,6 +13,7 @@ put_status CutPacket = bad_field
 put_status ZeroId = bad_field
 put_status LongData = bad_field
 put_status (NotAPacket cause) = cause_status cause
+put_status OtherForm = unknown_form
 put_status OneByteOnly = bad_field
 put_status LongBlock = bad_field
 put_status (NoRoom needed) = short_buffer

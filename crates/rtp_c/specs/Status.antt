@@ -1,7 +1,9 @@
 -- The statuses that the functions for C return.
 use Rattle.std.specs.Prelude.{◌≡◌, ℕ, List, ℤ, pos}
+use Rattle.rtp_wire.specs.declared.header.not_a_header.NotAHeader as not_a_header
 use Rattle.rtp_wire.specs.declared.packet.not_a_packet.NotAPacket.{NotAPacket}
-use Rattle.rtp_wire.specs.declared.packet.not_a_packet.NotAPacket.TheVariants.{CutFixedPart, OtherVersion, CutSources, CutBlockHeader, UnknownForm, CutBlock}
+use Rattle.rtp_wire.specs.declared.packet.not_a_packet.NotAPacket.TheVariants.{CutFixedPart, OtherVersion, CutSources, CutBlockHeader, CutBlock}
+use Rattle.rtp_wire.specs.NoHeaderCause.{IsFirstHeaderCause}
 use Rattle.rtp_wire.specs.NotAPacket.{IsFirstCause}
 
 -- the call did what it is for
@@ -14,8 +16,16 @@ cause_status CutFixedPart = pos 1
 cause_status OtherVersion = pos 2
 cause_status CutSources = pos 3
 cause_status CutBlockHeader = pos 4
-cause_status UnknownForm = pos 5
 cause_status CutBlock = pos 6
+
+-- a block whose form is neither of the two, where one of these is owed
+abbrev pub unknown_form : ℤ
+unknown_form = pos 5
+
+-- the status of each cause for which bytes begin with no header
+abbrev pub header_status : not_a_header.NotAHeader → ℤ
+header_status (not_a_header.TheVariants.NotAPacket cause) = cause_status cause
+header_status not_a_header.TheVariants.UnknownForm = unknown_form
 
 -- memory was refused
 abbrev pub no_memory : ℤ
@@ -46,3 +56,9 @@ pub record IsCauseStatus (bytes : List ℕ) (status : ℤ) : Type 0 where
   pub cause : NotAPacket
   pub is_first : IsFirstCause bytes cause
   pub status_is : status ≡ cause_status cause
+
+-- the status of the first cause for which these bytes begin with no header
+pub record IsHeaderStatus (bytes : List ℕ) (status : ℤ) : Type 0 where
+  pub cause : not_a_header.NotAHeader
+  pub is_first : IsFirstHeaderCause bytes cause
+  pub status_is : status ≡ header_status cause

@@ -7,7 +7,7 @@ ghost use Rattle.rtp_ext.specs.ElementPlaces.{WritesLast};
 ghost use Rattle.rtp_wire.specs.Packet.{PacketParts, IsPacket, header_len_of};
 ghost use Rattle.rtp_wire.specs.ChangedPacket.{ChangesOnly, ChangesOnlyBody};
 ghost use Rattle.rtp_wire.specs.GivenFields.{with_header_fields, LieBetween};
-ghost use Rattle.rtp_wire.specs.NotAHeader.{NotAHeader};
+ghost use Rattle.rtp_wire.specs.NotAHeader.{IsNoPacket};
 ghost use Rattle.rtp_wire.specs.PacketElements.{AreElementsOf};
 ghost use Rattle.rtp_wire.specs.PartsAt.{HasLayout};
 ghost use Rattle.rtp_c.specs.Status.{ok, none, bad_field, IsCauseStatus};
@@ -62,7 +62,7 @@ pub fn layout_of(datagram: &[u8]) -> Result<(usize, Option<ExtensionsForm>), i32
     ensures only { (parts : PacketParts) → IsPacket datagram.now parts →
         IsOkAnd result (λ layout. layout.0 ≡ header_len_of parts) }
     ensures cause { IfErr result (IsCauseStatus datagram.now) }
-    ensures refused { IsErr result ↔ NotAHeader datagram.now }
+    ensures refused { IsErr result ↔ IsNoPacket datagram.now }
 {
     match RtpPacket::parse(datagram) {
         Ok(packet) => Ok((packet.header_len(), packet.form())),
@@ -78,7 +78,7 @@ fn set(datagram: &mut [u8], fields: &Fields) -> i32
     ensures set { (parts : PacketParts) → IsPacket datagram.old parts →
         (result ≡ ok) × IsPacket datagram.new (with_header_fields fields.now parts) }
     ensures cause { result ≢ ok → IsCauseStatus datagram.old result }
-    ensures refused { result ≢ ok ↔ NotAHeader datagram.old }
+    ensures refused { result ≢ ok ↔ IsNoPacket datagram.old }
     ensures bytes { (start end : ℕ) → LieBetween fields.now start end →
         ChangesOnly start end datagram.old datagram.new }
     ensures unchanged { result ≢ ok → datagram.new ≡ datagram.old }
@@ -99,7 +99,7 @@ pub extern "C" fn rtpw_set_marker(datagram: &mut [u8], marker: bool) -> i32
     ensures set { (parts : PacketParts) → IsPacket datagram.old parts →
         (result ≡ ok) × IsPacket datagram.new (record parts { marker = marker }) }
     ensures cause { result ≢ ok → IsCauseStatus datagram.old result }
-    ensures refused { result ≢ ok ↔ NotAHeader datagram.old }
+    ensures refused { result ≢ ok ↔ IsNoPacket datagram.old }
     ensures bytes { ChangesOnly 1 2 datagram.old datagram.new }
     ensures unchanged { result ≢ ok → datagram.new ≡ datagram.old }
 {
@@ -119,7 +119,7 @@ pub extern "C" fn rtpw_set_payload_type(datagram: &mut [u8], payload_type: u8) -
         (result ≡ ok) × IsPacket datagram.new (record parts { payload_type = payload_type }) }
     ensures too_high { 127 < payload_type → result ≡ bad_field }
     ensures cause { payload_type ≤ 127 → result ≢ ok → IsCauseStatus datagram.old result }
-    ensures refused { payload_type ≤ 127 → result ≢ ok ↔ NotAHeader datagram.old }
+    ensures refused { payload_type ≤ 127 → result ≢ ok ↔ IsNoPacket datagram.old }
     ensures bytes { ChangesOnly 1 2 datagram.old datagram.new }
     ensures unchanged { result ≢ ok → datagram.new ≡ datagram.old }
 {
@@ -140,7 +140,7 @@ pub extern "C" fn rtpw_set_sequence_number(datagram: &mut [u8], number: u16) -> 
     ensures set { (parts : PacketParts) → IsPacket datagram.old parts →
         (result ≡ ok) × IsPacket datagram.new (record parts { sequence_number = number }) }
     ensures cause { result ≢ ok → IsCauseStatus datagram.old result }
-    ensures refused { result ≢ ok ↔ NotAHeader datagram.old }
+    ensures refused { result ≢ ok ↔ IsNoPacket datagram.old }
     ensures bytes { ChangesOnly 2 4 datagram.old datagram.new }
     ensures unchanged { result ≢ ok → datagram.new ≡ datagram.old }
 {
@@ -158,7 +158,7 @@ pub extern "C" fn rtpw_set_timestamp(datagram: &mut [u8], timestamp: u32) -> i32
     ensures set { (parts : PacketParts) → IsPacket datagram.old parts →
         (result ≡ ok) × IsPacket datagram.new (record parts { timestamp = timestamp }) }
     ensures cause { result ≢ ok → IsCauseStatus datagram.old result }
-    ensures refused { result ≢ ok ↔ NotAHeader datagram.old }
+    ensures refused { result ≢ ok ↔ IsNoPacket datagram.old }
     ensures bytes { ChangesOnly 4 8 datagram.old datagram.new }
     ensures unchanged { result ≢ ok → datagram.new ≡ datagram.old }
 {
@@ -176,7 +176,7 @@ pub extern "C" fn rtpw_set_ssrc(datagram: &mut [u8], ssrc: u32) -> i32
     ensures set { (parts : PacketParts) → IsPacket datagram.old parts →
         (result ≡ ok) × IsPacket datagram.new (record parts { ssrc = ssrc }) }
     ensures cause { result ≢ ok → IsCauseStatus datagram.old result }
-    ensures refused { result ≢ ok ↔ NotAHeader datagram.old }
+    ensures refused { result ≢ ok ↔ IsNoPacket datagram.old }
     ensures bytes { ChangesOnly 8 12 datagram.old datagram.new }
     ensures unchanged { result ≢ ok → datagram.new ≡ datagram.old }
 {
@@ -197,7 +197,7 @@ pub extern "C" fn rtpw_set_fields(datagram: &mut [u8], fields: &FieldsView) -> i
     ensures too_high { 0 < fields.now.has_payload_type → 127 < fields.now.payload_type →
         result ≡ bad_field }
     ensures cause { CanBeSet fields.now → result ≢ ok → IsCauseStatus datagram.old result }
-    ensures refused { CanBeSet fields.now → result ≢ ok ↔ NotAHeader datagram.old }
+    ensures refused { CanBeSet fields.now → result ≢ ok ↔ IsNoPacket datagram.old }
     ensures bytes { (start end : ℕ) → LieBetween (fields_given fields.now) start end →
         ChangesOnly start end datagram.old datagram.new }
     ensures unchanged { result ≢ ok → datagram.new ≡ datagram.old }
@@ -219,7 +219,7 @@ pub extern "C" fn rtpw_set_csrc(datagram: &mut [u8], index: usize, source: u32) 
         IsPacket datagram.new (record parts { sources = slice_set parts.sources index source }) }
     ensures otherwise { (parts : PacketParts) → IsPacket datagram.old parts →
         length parts.sources ≤ index → result ≡ none }
-    ensures cause { NotAHeader datagram.old → IsCauseStatus datagram.old result }
+    ensures cause { IsNoPacket datagram.old → IsCauseStatus datagram.old result }
     ensures bytes { ChangesOnly (12 + 4 * index) (16 + 4 * index) datagram.old datagram.new }
     ensures unchanged { result ≢ ok → datagram.new ≡ datagram.old }
 {
@@ -250,7 +250,7 @@ pub extern "C" fn rtpw_set_element(datagram: &mut [u8], id: u8, data: &[u8]) -> 
         (result ≡ ok) ↔ HasLastOf elements id (length «data».now) }
     ensures otherwise { (parts : PacketParts) → IsPacket datagram.old parts → result ≢ ok →
         result ≡ none }
-    ensures cause { NotAHeader datagram.old → IsCauseStatus datagram.old result }
+    ensures cause { IsNoPacket datagram.old → IsCauseStatus datagram.old result }
     ensures bytes { ChangesOnlyBody datagram.old datagram.new }
     ensures unchanged { result ≢ ok → datagram.new ≡ datagram.old }
 {
@@ -279,7 +279,7 @@ pub extern "C" fn rtpw_remove_element(datagram: &mut [u8], id: u8) -> i32
         (result ≡ ok) ↔ (HasNone elements id → ⊥) }
     ensures otherwise { (parts : PacketParts) → IsPacket datagram.old parts → result ≢ ok →
         result ≡ none }
-    ensures cause { NotAHeader datagram.old → IsCauseStatus datagram.old result }
+    ensures cause { IsNoPacket datagram.old → IsCauseStatus datagram.old result }
     ensures bytes { ChangesOnlyBody datagram.old datagram.new }
     ensures unchanged { result ≢ ok → datagram.new ≡ datagram.old }
 {

@@ -3,14 +3,14 @@
 ghost use Rattle.std.specs.Prelude.{◌≡◌, ◌≢◌, ◌↔◌, ◌≤◌, ◌<◌, length, take, drop, Option, IfSome, IfNone};
 ghost use Rattle.rtp_ext.specs.declared.form.ExtensionsForm.{ExtensionsForm};
 ghost use Rattle.rtp_wire.specs.declared.packet.not_put.NotPut.{NotPut};
-ghost use Rattle.rtp_wire.specs.NotAHeader.{NotAHeader};
+ghost use Rattle.rtp_wire.specs.NotAHeader.{IsNoPacket};
 ghost use Rattle.rtp_wire.specs.PutIntoPacket.{PutsElement, AppliesToPut, Compacts};
 ghost use Rattle.rtp_c.specs.PacketView.{form_number};
 ghost use Rattle.rtp_c.specs.Status.{ok, bad_field, IsCauseStatus};
 ghost use Rattle.rtp_c.specs.PutStatus.{put_status, IsPutStatus};
 
 use super::packet::allowed_of;
-use super::status::{BAD_FIELD, OK, SHORT_BUFFER, status_of};
+use super::status::{BAD_FIELD, OK, SHORT_BUFFER, UNKNOWN_FORM, status_of};
 use rtp_wire::{NotPut, compact, put_element};
 
 // The status of this cause.
@@ -20,6 +20,7 @@ fn put_status_of(cause: NotPut) -> i32
     match cause {
         NotPut::CutPacket | NotPut::ZeroId | NotPut::LongData => BAD_FIELD,
         NotPut::NotAPacket(cause) => status_of(cause),
+        NotPut::OtherForm => UNKNOWN_FORM,
         NotPut::OneByteOnly | NotPut::LongBlock => BAD_FIELD,
         NotPut::NoRoom { needed: _ } => SHORT_BUFFER,
     }
@@ -33,8 +34,9 @@ fn put_status_of(cause: NotPut) -> i32
 ///
 /// `OK`; `BAD_FIELD` where `allowed` is above 2, `len` is past the buffer, the id is 0, there are more than
 /// 255 bytes of data, the block needs the two-byte form and that isn't allowed, or it would have more than
-/// 65,535 words; the status of the first cause for which the bytes are no packet; or `SHORT_BUFFER` where
-/// there is no room behind the packet. Where it isn't `OK` nothing changes.
+/// 65,535 words; the status of the first cause for which the bytes are no packet; `UNKNOWN_FORM` where the
+/// block's form is another, which carries no elements; or `SHORT_BUFFER` where there is no room behind the
+/// packet. Where it isn't `OK` nothing changes.
 #[unsafe(no_mangle)]
 pub extern "C" fn rtpw_put_element(
     buf: &mut [u8],
@@ -69,7 +71,8 @@ pub extern "C" fn rtpw_put_element(
 
 /// Makes the packet in the first `len` bytes of the buffer as short as its elements allow: they stand in a
 /// row in the same order, the body is filled up to whole words, and the payload moves to the front (RFC
-/// 8285, 4.2 and 4.3). `len` becomes its new length. After `rtpw_remove_element` it gives the bytes back.
+/// 8285, 4.2 and 4.3). `len` becomes its new length. After `rtpw_remove_element` it gives the bytes back. A
+/// block of another form stays.
 ///
 /// `OK`; `BAD_FIELD` where `len` is past the buffer; or the status of the first cause for which the bytes
 /// are no packet. Where it isn't `OK` nothing changes.
@@ -81,7 +84,7 @@ pub extern "C" fn rtpw_compact(buf: &mut [u8], len: &mut usize) -> i32
     ensures bad_len { (result ≡ bad_field) ↔ (length buf.old < len.old) }
     ensures cause { len.old ≤ length buf.old → result ≢ ok →
         IsCauseStatus (take len.old buf.old) result }
-    ensures refused { len.old ≤ length buf.old → result ≢ ok ↔ NotAHeader (take len.old buf.old) }
+    ensures refused { len.old ≤ length buf.old → result ≢ ok ↔ IsNoPacket (take len.old buf.old) }
     ensures unchanged { result ≢ ok → (buf.new ≡ buf.old) × (len.new ≡ len.old) }
 {
     if *len > buf.len() {

@@ -1,20 +1,21 @@
 //! A whole header, and how it is read from bytes.
 
-ghost use Rattle.std.specs.Prelude.{◌≡◌, ◌≢◌, ◌⊎◌, ◌↔◌, ◌≤◌, ◌-◌, ◌++◌, length, replicate, IfNone, IfOk, IfErr};
+ghost use Rattle.std.specs.Prelude.{◌≡◌, ◌≢◌, ◌⊎◌, ◌↔◌, ◌≤◌, ◌-◌, ◌++◌, length, replicate, None, IfNone, IfOk, IfErr, IsErr};
 ghost use Rattle.rtp_values.specs.Values.{no_values};
 ghost use Rattle.rtp_wire.specs.Header.{header_of};
 ghost use Rattle.rtp_wire.specs.NotAHeader.{NotAHeader};
+ghost use Rattle.rtp_wire.specs.Packet.{IsPacket};
 ghost use Rattle.rtp_wire.specs.PartsOf.{parts_of};
 ghost use Rattle.rtp_c.specs.HeaderView.{IsViewOfHeader, BeginsWithHeader, IsParsedAs, IsParsedWithLayersAs, TakesMemoryFrom};
-ghost use Rattle.rtp_c.specs.Status.{ok, no_memory, IsCauseStatus};
+ghost use Rattle.rtp_c.specs.Status.{ok, no_memory, IsHeaderStatus};
 
 use super::kinds::StoredMap;
 use super::layers::{Layers, put_layers};
-use super::status::{NO_MEMORY, OK, status_of};
+use super::status::{NO_MEMORY, OK, UNKNOWN_FORM, header_status_of};
 use super::values::{ValuesView, flag_number, put_no_values, put_values};
 use rtp_ext::read_values;
 use rtp_values::ExtensionValues;
-use rtp_wire::{Csrcs, RtpPacket};
+use rtp_wire::{Csrcs, RtpHeader, RtpPacket};
 use std::alloc::Global;
 
 /// The header of a packet (RFC 3550, 5.1), with the values of its block: `rtpw_header` in C, 224
@@ -85,6 +86,33 @@ fn put_header(packet: &RtpPacket<'_>, values: &ExtensionValues, view: &mut Heade
     }
 }
 
+// The status of the first cause for which no header begins the bytes, and `OK` where one does.
+fn refusal_of(buf: &[u8]) -> i32
+    ensures { NotAHeader buf.now → IsHeaderStatus buf.now result }
+{
+    match RtpHeader::refusal(buf) {
+        Some(cause) => header_status_of(cause),
+        None => OK,
+    }
+}
+
+// The packet whose header the bytes begin with, or the status of the first cause for which none does.
+#[inline(always)]
+fn packet_in(buf: &[u8]) -> Result<RtpPacket<'_>, i32>
+    ensures found { IfOk result (λ packet. IsPacket buf.now (parts_of packet)) }
+    ensures known { IfOk result (λ packet. (parts_of packet).other_block ≡ None) }
+    ensures cause { IfErr result (IsHeaderStatus buf.now) }
+    ensures refused { NotAHeader buf.now → IsErr result }
+{
+    let Ok(packet) = RtpPacket::parse(buf) else {
+        return Err(refusal_of(buf));
+    };
+    if packet.has_other_form() {
+        return Err(UNKNOWN_FORM);
+    }
+    Ok(packet)
+}
+
 // The packet whose header the bytes begin with, the values of which are read under the map, or the
 // status of what stands against it.
 #[inline(always)]
@@ -102,13 +130,10 @@ fn read_packet<'a>(
     ensures memory { IfErr result (λ status.
         status ≡ no_memory → TakesMemoryFrom map.now.kind buf.now) }
     ensures statuses { IfErr result (λ status.
-        (status ≡ no_memory) ⊎ IsCauseStatus buf.now status) }
-    ensures refused { NotAHeader buf.now → IfErr result (IsCauseStatus buf.now) }
+        (status ≡ no_memory) ⊎ IsHeaderStatus buf.now status) }
+    ensures refused { NotAHeader buf.now → IfErr result (IsHeaderStatus buf.now) }
 {
-    let packet = match RtpPacket::parse(buf) {
-        Ok(packet) => packet,
-        Err(cause) => return Err(status_of(cause)),
-    };
+    let packet = packet_in(buf)?;
     let Some((form, body)) = packet.block() else {
         return Ok(packet);
     };
@@ -134,8 +159,8 @@ pub extern "C" fn rtpw_parse(
     ensures memory { result ≡ no_memory → TakesMemoryFrom map.now.kind buf.now }
 
     // The causes for which no header is read, and there are no others.
-    ensures refused { IsCauseStatus buf.now result ↔ NotAHeader buf.now }
-    ensures statuses { (result ≡ ok) ⊎ ((result ≡ no_memory) ⊎ IsCauseStatus buf.now result) }
+    ensures refused { IsHeaderStatus buf.now result ↔ NotAHeader buf.now }
+    ensures statuses { (result ≡ ok) ⊎ ((result ≡ no_memory) ⊎ IsHeaderStatus buf.now result) }
     ensures unchanged { result ≢ ok → header.new ≡ header.old }
 {
     let mut values = ExtensionValues::default();
@@ -164,8 +189,8 @@ pub extern "C" fn rtpw_parse_layers(
     ensures memory { result ≡ no_memory → TakesMemoryFrom map.now.kind buf.now }
 
     // The causes for which no header is read, and there are no others.
-    ensures refused { IsCauseStatus buf.now result ↔ NotAHeader buf.now }
-    ensures statuses { (result ≡ ok) ⊎ ((result ≡ no_memory) ⊎ IsCauseStatus buf.now result) }
+    ensures refused { IsHeaderStatus buf.now result ↔ NotAHeader buf.now }
+    ensures statuses { (result ≡ ok) ⊎ ((result ≡ no_memory) ⊎ IsHeaderStatus buf.now result) }
     ensures unchanged { result ≢ ok → (header.new ≡ header.old) × (layers.new ≡ layers.old) }
 {
     let mut values = ExtensionValues::default();

@@ -10,7 +10,7 @@ ghost use Rattle.rtp_ext.specs.NewIds.{new_id, CarriesExtensions, ids_in_bytes};
 ghost use Rattle.rtp_ext.specs.WrittenBlock.{mapped_fields};
 ghost use Rattle.rtp_wire.specs.Packet.{PacketParts, IsPacket};
 ghost use Rattle.rtp_wire.specs.ChangedPacket.{ChangesOnlyBody};
-ghost use Rattle.rtp_wire.specs.NotAHeader.{NotAHeader};
+ghost use Rattle.rtp_wire.specs.NotAHeader.{IsNoPacket};
 ghost use Rattle.rtp_wire.specs.PacketElements.{AreElementsOf, HasValues};
 ghost use Rattle.rtp_c.specs.ChangedElements.{BecomesPacket, GivesValues};
 ghost use Rattle.rtp_c.specs.KindNumbers.{kind_number, last_number, first_own, IsNamed, uri_of};
@@ -124,9 +124,9 @@ pub extern "C" fn rtpw_new_ids_between(from: &StoredMap, to: &StoredMap, ids: &m
 
 /// Gives each element of the packet in the buffer its new id where it lies, and makes an element
 /// whose id has no new one zeros, which are padding; all other bytes stay (RFC 8285, 4.2 and 4.3).
-/// `OK`, also where X is clear; `BAD_FIELD` where the form of the block can't carry the new id of an
-/// element: one above 14 in the one-byte form; or the status of the first cause for which the buffer
-/// holds no packet. Where it isn't `OK` nothing changes.
+/// `OK`, also where X is clear or the form of the block is another; `BAD_FIELD` where the form can't carry
+/// the new id of an element: one above 14 in the one-byte form; or the status of the first cause for which
+/// the buffer holds no packet. Where it isn't `OK` nothing changes.
 ///
 /// The packet then says under the second map what it said under the first, of the kinds that the
 /// second maps and no other.
@@ -147,7 +147,7 @@ pub extern "C" fn rtpw_renumber(datagram: &mut [u8], ids: &StoredNewIds) -> i32
         IsPacket datagram.old parts → CarriesExtensions from to (ids_in_bytes ids.now.id) →
         HasValues from parts.block values → result ≡ ok →
         GivesValues to (mapped_fields to values) datagram.new }
-    ensures cause { NotAHeader datagram.old → IsCauseStatus datagram.old result }
+    ensures cause { IsNoPacket datagram.old → IsCauseStatus datagram.old result }
     ensures bytes { ChangesOnlyBody datagram.old datagram.new }
     ensures unchanged { result ≢ ok → datagram.new ≡ datagram.old }
 {

@@ -1,17 +1,16 @@
 //! A packet where it lies: its fields, and where its parts and its elements begin.
 
-ghost use Rattle.std.specs.Prelude.{◌≡◌, ◌≢◌, ◌↔◌, ◌<◌, ◌≤◌, ◌⊎◌, List, length, drop, Option, Some, IfSome, IfNone};
-ghost use Rattle.std.specs.Option.{option_map};
+ghost use Rattle.std.specs.Prelude.{◌≡◌, ◌≢◌, ◌↔◌, ◌<◌, ◌≤◌, ◌⊎◌, List, length, drop, unwrap_or, Option, Some, IfSome, IfNone};
 ghost use Rattle.rtp_ext.specs.declared.form.ExtensionsForm.{ExtensionsForm};
 ghost use Rattle.rtp_ext.specs.Elements.{Element, AreElements};
 ghost use Rattle.rtp_ext.specs.ElementReading.{BeginsWithNoElement};
 ghost use Rattle.rtp_ext.specs.ElementsInPlace.{HasNone};
 ghost use Rattle.rtp_wire.specs.Packet.{PacketParts, IsPacket, header_len_of};
-ghost use Rattle.rtp_wire.specs.NotAHeader.{NotAHeader};
+ghost use Rattle.rtp_wire.specs.NotAHeader.{IsNoPacket};
+ghost use Rattle.rtp_wire.specs.PartsAt.{profile_in};
 ghost use Rattle.rtp_wire.specs.PartsOf.{parts_of, datagram_of};
-ghost use Rattle.rtp_wire.specs.PutIntoPacket.{body_of_block};
 ghost use Rattle.rtp_c.specs.ElementView.{IsNextElement, IsLastElement, LiesAsLast};
-ghost use Rattle.rtp_c.specs.PacketView.{IsViewOf, IsUnpaddedLen, form_number};
+ghost use Rattle.rtp_c.specs.PacketView.{IsViewOf, IsUnpaddedLen, form_number, block_number, body_of_any};
 ghost use Rattle.rtp_c.specs.Status.{ok, none, bad_field, IsCauseStatus};
 
 use super::status::{BAD_FIELD, NONE, OK, status_of};
@@ -20,7 +19,7 @@ use rtp_ext::{ExtensionsForm, Place, last_place, next_place};
 use rtp_wire::RtpPacket;
 
 /// What the header of a packet says, and where the parts of the packet lie, as offsets in the bytes
-/// of its datagram: `rtpw_packet` in C, 56 bytes. The CSRC list begins at 12.
+/// of its datagram: `rtpw_packet` in C, 64 bytes. The CSRC list begins at 12.
 #[repr(C)]
 #[derive(Clone, Copy)]
 pub struct PacketView {
@@ -52,8 +51,11 @@ pub struct PacketView {
     /// 1, and 0 where P is set and the payload's last byte counts more bytes than the payload has. A last
     /// byte of 0 takes nothing away, and neither does P of an empty payload.
     pub padding_fits: u8,
-    /// The form of the block: 1 the one-byte form, 2 the two-byte form, and 0 where X is clear.
+    /// The form of the block: 1 the one-byte form, 2 the two-byte form, 3 another one, and 0 where X is
+    /// clear.
     pub block_form: u8,
+    /// The 16 bits that the block begins with, and 0 where X is clear.
+    pub block_profile: u16,
 }
 
 /// Where an element lies in the body of a block, as offsets from the body's first byte:
@@ -103,15 +105,23 @@ fn csrc_count_of(packet: &RtpPacket<'_>) -> u8
     packet.csrc().len() as u8
 }
 
-// The number of the block's form, and how many bytes its body has.
-fn block_numbers(packet: &RtpPacket<'_>) -> (u8, usize)
-    ensures form { result.0 ≡ form_number (option_map (λ block. block.0) (parts_of packet.now).block) }
-    ensures body { result.1 ≡ length (body_of_block (parts_of packet.now).block) }
+// The number of the block's form, the 16 bits that it begins with, and how many bytes its body has.
+fn block_numbers(packet: &RtpPacket<'_>) -> (u8, u16, usize)
+    requires { IsPacket (datagram_of packet.now) (parts_of packet.now) }
+    ensures form { result.0
+        ≡ block_number (parts_of packet.now).block (parts_of packet.now).other_block }
+    ensures profile { result.1 ≡ unwrap_or (profile_in (datagram_of packet.now)) 0 }
+    ensures body { result.2
+        ≡ length (body_of_any (parts_of packet.now).block (parts_of packet.now).other_block) }
 {
-    match packet.block() {
-        None => (0, 0),
-        Some((ExtensionsForm::OneByte, body)) => (1, body.len()),
-        Some((ExtensionsForm::TwoByte, body)) => (2, body.len()),
+    let profile = packet.block_profile().unwrap_or(0);
+    let Some(body) = packet.body() else {
+        return (0, profile, 0);
+    };
+    match packet.form() {
+        Some(ExtensionsForm::OneByte) => (1, profile, body.len()),
+        Some(ExtensionsForm::TwoByte) => (2, profile, body.len()),
+        None => (3, profile, body.len()),
     }
 }
 
@@ -131,7 +141,7 @@ fn view_of(packet: &RtpPacket<'_>) -> PacketView
     ensures { IsViewOf (datagram_of packet.now) (parts_of packet.now) result }
 {
     let payload_at = packet.header_len();
-    let (block_form, body_len) = block_numbers(packet);
+    let (block_form, block_profile, body_len) = block_numbers(packet);
     let (unpadded_len, padding_fits) = unpadded_len_of(packet);
     PacketView {
         payload_at,
@@ -148,12 +158,13 @@ fn view_of(packet: &RtpPacket<'_>) -> PacketView
         has_padding: flag_number(packet.has_padding()),
         padding_fits,
         block_form,
+        block_profile,
     }
 }
 
-/// Reads the header of the packet that the datagram is; where RTCP comes to the same port, after
-/// `rtpw_is_rtcp`. `OK`, or the status of the first cause for
-/// which it is none, and then nothing is written.
+/// Reads the header of the packet that the datagram is, with a block of any form; where RTCP comes to the
+/// same port, after `rtpw_is_rtcp`. `OK`, or the status of the first cause for which it is none, and then
+/// nothing is written.
 #[unsafe(no_mangle)]
 pub extern "C" fn rtpw_packet_parse(datagram: &[u8], packet: &mut PacketView) -> i32
     // Of a packet of these parts all of them are told, and bytes are a packet of such parts where
@@ -162,7 +173,7 @@ pub extern "C" fn rtpw_packet_parse(datagram: &[u8], packet: &mut PacketView) ->
         (result ≡ ok) × IsViewOf datagram.now parts packet.new }
     ensures found { result ≡ ok → (parts : PacketParts) × IsPacket datagram.now parts }
     ensures cause { result ≢ ok → IsCauseStatus datagram.now result }
-    ensures refused { result ≢ ok ↔ NotAHeader datagram.now }
+    ensures refused { result ≢ ok ↔ IsNoPacket datagram.now }
     ensures unchanged { result ≢ ok → packet.new ≡ packet.old }
 {
     match RtpPacket::parse(datagram) {

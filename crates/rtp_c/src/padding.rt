@@ -2,7 +2,7 @@
 
 ghost use Rattle.std.specs.Prelude.{◌≡◌, ◌≢◌, ◌↔◌, ◌≤◌, ◌<◌, length, true};
 ghost use Rattle.rtp_wire.specs.ChangedPacket.{ChangesOnly, HasUnpadded};
-ghost use Rattle.rtp_wire.specs.NotAHeader.{NotAHeader};
+ghost use Rattle.rtp_wire.specs.NotAHeader.{IsNoPacket};
 ghost use Rattle.rtp_wire.specs.Packet.{PacketParts, IsPacket};
 ghost use Rattle.rtp_wire.specs.Padding.{padding_count};
 ghost use Rattle.rtp_c.specs.Status.{ok, bad_field, IsCauseStatus};
@@ -19,7 +19,7 @@ pub extern "C" fn rtpw_set_padding(datagram: &mut [u8], has_padding: bool) -> i3
     ensures set { (parts : PacketParts) → IsPacket datagram.old parts →
         (result ≡ ok) × IsPacket datagram.new (record parts { has_padding = has_padding }) }
     ensures cause { result ≢ ok → IsCauseStatus datagram.old result }
-    ensures refused { result ≢ ok ↔ NotAHeader datagram.old }
+    ensures refused { result ≢ ok ↔ IsNoPacket datagram.old }
     ensures bytes { ChangesOnly 0 1 datagram.old datagram.new }
     ensures unchanged { result ≢ ok → datagram.new ≡ datagram.old }
 {
@@ -47,7 +47,7 @@ pub extern "C" fn rtpw_remove_padding(datagram: &mut [u8], len: &mut usize) -> i
         × (length parts.payload < padding_count parts.payload)) }
     ensures otherwise { (parts : PacketParts) → IsPacket datagram.old parts → result ≢ ok →
         result ≡ bad_field }
-    ensures cause { NotAHeader datagram.old → IsCauseStatus datagram.old result }
+    ensures cause { IsNoPacket datagram.old → IsCauseStatus datagram.old result }
     ensures bytes { ChangesOnly 0 1 datagram.old datagram.new }
     ensures unchanged { result ≢ ok → (datagram.new ≡ datagram.old) × (len.new ≡ len.old) }
 {

@@ -1,9 +1,9 @@
 //! What a call returns where it is refused.
 
 ghost use Rattle.std.specs.Prelude.{◌≡◌};
-ghost use Rattle.rtp_c.specs.Status.{cause_status};
+ghost use Rattle.rtp_c.specs.Status.{cause_status, header_status};
 
-use rtp_wire::NotAPacket;
+use rtp_wire::{NotAHeader, NotAPacket};
 
 /// The call did what it is for.
 pub const OK: i32 = 0;
@@ -15,7 +15,7 @@ pub const OTHER_VERSION: i32 = 2;
 pub const CUT_SOURCES: i32 = 3;
 /// X is set, and the first four bytes of the block are cut short.
 pub const CUT_BLOCK_HEADER: i32 = 4;
-/// The block's form is neither 0xBEDE nor 0x1000 to 0x100F.
+/// The block's form is neither 0xBEDE nor 0x1000 to 0x100F, where one of these is owed.
 pub const UNKNOWN_FORM: i32 = 5;
 /// The block is longer than what is left.
 pub const CUT_BLOCK: i32 = 6;
@@ -41,7 +41,16 @@ pub fn status_of(cause: NotAPacket) -> i32
         NotAPacket::OtherVersion => OTHER_VERSION,
         NotAPacket::CutSources => CUT_SOURCES,
         NotAPacket::CutBlockHeader => CUT_BLOCK_HEADER,
-        NotAPacket::UnknownForm => UNKNOWN_FORM,
         NotAPacket::CutBlock => CUT_BLOCK,
+    }
+}
+
+// The status of this cause against a header.
+pub fn header_status_of(cause: NotAHeader) -> i32
+    ensures { result ≡ header_status cause }
+{
+    match cause {
+        NotAHeader::NotAPacket(cause) => status_of(cause),
+        NotAHeader::UnknownForm => UNKNOWN_FORM,
     }
 }

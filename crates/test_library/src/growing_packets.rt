@@ -264,7 +264,7 @@ const REFUSALS: [Refusal; 16] = [
         1,
         1,
         None,
-        NotPut::NotAPacket(NotAPacket::UnknownForm),
+        NotPut::OtherForm,
     ),
     (
         ONE_BYTE,

@@ -73,25 +73,26 @@ func isMapped(m *rtpwire.Map, line string) bool {
 }
 
 func printPacket(out io.Writer, count int, datagram []byte, m *rtpwire.Map, receivers map[uint32]*rtpwire.Receiver) error {
-	ssrc, _ := rtpwire.PeekSSRC(datagram)
-	receiver, isKnown := receivers[ssrc]
+	var packet rtpwire.Packet
+	err := packet.Parse(datagram, m)
+	form, _ := packet.Block()
+	if errors.Is(err, rtpwire.ErrNotAPacket) || form == rtpwire.OtherForm {
+		fmt.Fprintf(out, "packet %d: unreadable\nverdict %d: unreadable\n", count, count)
+		return nil
+	}
+	if err != nil {
+		return err
+	}
+	printHeader(out, count, &packet)
+	receiver, isKnown := receivers[packet.SSRC]
 	if !isKnown {
 		receiver = new(rtpwire.Receiver)
+		receivers[packet.SSRC] = receiver
 	}
-	var packet rtpwire.Packet
-	number, err := receiver.ReceivePacket(datagram, m, &packet)
-	switch {
-	case errors.Is(err, rtpwire.ErrNotAPacket):
-		fmt.Fprintf(out, "packet %d: unreadable\nverdict %d: unreadable\n", count, count)
-	case errors.Is(err, rtpwire.ErrRefused):
-		printHeader(out, count, &packet)
-		fmt.Fprintf(out, "verdict %d: refused\n", count)
-	case err != nil:
-		return err
-	default:
-		receivers[ssrc] = receiver
-		printHeader(out, count, &packet)
+	if number, ok := receiver.Receive(packet.SequenceNumber); ok {
 		fmt.Fprintf(out, "verdict %d: taken %d\n", count, number)
+	} else {
+		fmt.Fprintf(out, "verdict %d: refused\n", count)
 	}
 	return nil
 }

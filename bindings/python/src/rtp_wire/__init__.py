@@ -6,7 +6,7 @@ functions of librtp_wire, each of which is proved.
 """
 
 from . import _library
-from ._errors import BadField, Cause, NoElement, NotAPacket, RtpError, ShortBuffer, Status
+from ._errors import BadField, Cause, NoElement, NotAPacket, OtherForm, RtpError, ShortBuffer, Status
 from ._growing import compact, put_element
 from ._header import Header, write_elements
 from ._layers import Layer, Layers, Resolution
@@ -38,6 +38,7 @@ __all__ = [
     "NewIds",
     "NoElement",
     "NotAPacket",
+    "OtherForm",
     "Packet",
     "Receiver",
     "Resolution",

@@ -8,7 +8,8 @@ from typing import Optional, Union
 
 
 class Status(IntEnum):
-    """What a function of the library returns. Those from 1 to 6 are the causes for which bytes are no packet."""
+    """What a function of the library returns. Those from 1 to 6 are the causes for which bytes are no packet, and
+    UNKNOWN_FORM, for which no header is read."""
 
     OK = 0
     CUT_FIXED_PART = 1
@@ -54,7 +55,6 @@ class Cause(IntEnum):
     OTHER_VERSION = 2
     CUT_SOURCES = 3
     CUT_BLOCK_HEADER = 4
-    UNKNOWN_FORM = 5
     CUT_BLOCK = 6
 
 
@@ -80,6 +80,10 @@ class NotAPacket(RtpError):
         return Cause(self.status)
 
 
+class OtherForm(RtpError):
+    """The block has another form than the two: so no header is read, and no element put into it."""
+
+
 class BadField(RtpError):
     """An argument or a field is out of its range."""
 
@@ -93,7 +97,12 @@ class NoElement(RtpError, LookupError):
     element needs isn't there."""
 
 
-_KINDS = {Status.SHORT_BUFFER: ShortBuffer, Status.BAD_FIELD: BadField, Status.NONE: NoElement}
+_KINDS = {
+    Status.UNKNOWN_FORM: OtherForm,
+    Status.SHORT_BUFFER: ShortBuffer,
+    Status.BAD_FIELD: BadField,
+    Status.NONE: NoElement,
+}
 
 
 def error_of(status: int) -> Union[RtpError, MemoryError]:
@@ -101,9 +110,8 @@ def error_of(status: int) -> Union[RtpError, MemoryError]:
     status = Status(status)
     if status == Status.NO_MEMORY:
         return MemoryError(status.text)
-    if status <= Status.CUT_BLOCK:
-        return NotAPacket(status)
-    return _KINDS.get(status, RtpError)(status)
+    kind = NotAPacket if status <= Status.CUT_BLOCK else RtpError
+    return _KINDS.get(status, kind)(status)
 
 
 def check(status: int) -> None:

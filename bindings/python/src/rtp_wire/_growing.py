@@ -28,8 +28,8 @@ def put_element(
     the two-byte form alone is allowed, the block gets that.
 
     BadField where `length` is past the buffer, the id is 0, there are more than 255 bytes of data, or the block needs a
-    form that isn't allowed, or more than 65,535 words; NotAPacket; ShortBuffer where there is no room. Nothing changes
-    then.
+    form that isn't allowed, or more than 65,535 words; NotAPacket; OtherForm; ShortBuffer where there is no room.
+    Nothing changes then.
     """
     view, count = writable_view_of(buffer), c_size_t(unsigned("length", length, 64))
     bytes_of, at = place_of(data)
@@ -42,7 +42,8 @@ def put_element(
 def compact(datagram: WritableBuffer) -> int:
     """Makes the packet in the buffer as short as its elements allow, and returns how many bytes it then has, which are
     the first ones: the elements stand in a row, the body is filled up to whole words, and the payload moves to the
-    front; what stands where reading ends goes. So `Packet.remove_element` and then this gives bytes back. A header alone is enough.
+    front; what stands where reading ends goes, and a block of another form stays. So `Packet.remove_element` and then
+    this gives bytes back. A header alone is enough.
 
     NotAPacket where the buffer holds none, and then nothing changes.
     """

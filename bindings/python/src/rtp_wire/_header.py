@@ -62,7 +62,7 @@ class Header:
     @classmethod
     def parse(cls, datagram: Buffer, map: Optional[Map] = None) -> Header:
         """Reads the header that the bytes begin with, and what its elements say under the map; nothing after it is
-        looked at. NotAPacket and MemoryError as Packet.parse."""
+        looked at. NotAPacket and MemoryError as Packet.parse, and OtherForm, before a block is found cut short."""
         data, at = place_of(datagram)
         map, raw = Map() if map is None else map, _library.RawHeader()
         check(_library.parse(at, len(data), map._raw, raw))

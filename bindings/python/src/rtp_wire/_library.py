@@ -37,6 +37,7 @@ class RawPacket(Structure):
     has_padding: int
     padding_fits: int
     block_form: int
+    block_profile: int
     _fields_ = [
         ("payload_at", c_size_t),
         ("payload_len", c_size_t),
@@ -52,6 +53,7 @@ class RawPacket(Structure):
         ("has_padding", c_uint8),
         ("padding_fits", c_uint8),
         ("block_form", c_uint8),
+        ("block_profile", c_uint16),
     ]
 
 

@@ -22,11 +22,12 @@ CSRC_AT = 12
 
 
 class Form(IntEnum):
-    """The form of a block of elements (RFC 8285, 4)."""
+    """The form of a block of elements (RFC 8285, 4); a block of another form has none."""
 
     NONE = 0
     ONE_BYTE = 1
     TWO_BYTE = 2
+    OTHER = 3
 
 
 class Element(NamedTuple):
@@ -256,6 +257,12 @@ class Packet:
         return Form(self._raw.block_form)
 
     @property
+    def block_profile(self) -> Optional[int]:
+        """The 16 bits that the block begins with, those of a form or others, which its profile defines (RFC 3550,
+        5.3.1): 0xABAC of ONVIF's cameras, say, and 0xC0DE and 0xC2DE of Cryptex (RFC 9335). None where X is clear."""
+        return self._raw.block_profile if self._raw.block_form else None
+
+    @property
     def body(self) -> memoryview:
         """The body of the block where it lies; no bytes where there is no block."""
         return self._view()[self._raw.body_at : self._raw.payload_at]
@@ -269,7 +276,8 @@ class Packet:
 
     def elements(self) -> Iterator[Element]:
         """The elements of the block in order, up to one that is cut short, or in the one-byte form has the id 15."""
-        return elements(self.body, self._raw.block_form) if self._raw.block_form else iter(())
+        form = self._raw.block_form
+        return elements(self.body, form) if form in (Form.ONE_BYTE, Form.TWO_BYTE) else iter(())
 
     def element(self, id: int) -> Optional[memoryview]:
         """The data of the last element of this id, which is the one that counts; None where there is none."""

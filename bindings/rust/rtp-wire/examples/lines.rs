@@ -95,7 +95,7 @@ fn main() -> io::Result<ExitCode> {
         };
         count += 1;
         match Header::parse(&datagram, &map) {
-            Err(NotAHeader::NotAPacket(_)) => writeln!(
+            Err(NotAHeader::NotAPacket(_) | NotAHeader::UnknownForm) => writeln!(
                 out,
                 "packet {count}: unreadable\nverdict {count}: unreadable"
             )?,

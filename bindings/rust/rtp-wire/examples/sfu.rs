@@ -160,7 +160,6 @@ impl Route {
         let wide = self.wide || packet.form() == Some(Form::TwoByte);
         let allowed = if wide { None } else { Some(Form::OneByte) };
         let mut header = Header::of(packet, allowed)?;
-        self.renumber(&mut header, packet.form())?;
         let number = packet.sequence_number();
         let fields = Fields {
             ssrc: Some(self.peer.first_ssrc.wrapping_add(stream as u32)),
@@ -169,14 +168,28 @@ impl Route {
         };
         let mut changed = PacketMut::parse(header.bytes()).ok()?;
         changed.set_fields(&fields).ok()?;
+        if packet.form().is_some() || packet.block_profile().is_none() {
+            self.put_elements(&mut header, packet.form(), stream, microseconds)?;
+        } // a block of another form has no elements, and stays
+        Some(header)
+    }
+
+    /// Gives the packet the elements that the receiver agreed to.
+    fn put_elements(
+        &mut self,
+        header: &mut Header,
+        form: Option<Form>,
+        stream: usize,
+        microseconds: u64,
+    ) -> Option<()> {
+        self.renumber(header, form)?;
         *self.mid.last_mut()? = b"0123456789ABCDEF"[stream];
         header.put(self.mid_id, &self.mid)?;
         let number = self.transport_number;
         self.transport_number = number.wrapping_add(1);
         header.put(self.transport_number_id, &number.to_be_bytes())?;
         let time = microseconds % 64_000_000 * 262_144 / 1_000_000; // 24 bits, in units of 2^-18 seconds
-        header.put(self.send_time_id, &time.to_be_bytes()[5..])?;
-        Some(header)
+        header.put(self.send_time_id, &time.to_be_bytes()[5..])
     }
 }
 

@@ -15,8 +15,6 @@ pub enum NotAPacket {
     CutSources,
     /// X is set, and the first four bytes of the block are cut short.
     CutBlockHeader,
-    /// The block's form is neither 0xBEDE nor 0x1000 to 0x100F.
-    UnknownForm,
     /// The block is longer than what is left.
     CutBlock,
 }
@@ -30,7 +28,6 @@ impl NotAPacket {
             sys::OTHER_VERSION => Err(NotAPacket::OtherVersion),
             sys::CUT_SOURCES => Err(NotAPacket::CutSources),
             sys::CUT_BLOCK_HEADER => Err(NotAPacket::CutBlockHeader),
-            sys::UNKNOWN_FORM => Err(NotAPacket::UnknownForm),
             sys::CUT_BLOCK => Err(NotAPacket::CutBlock),
             _ => unreachable!("status {status} of bytes that are no packet"),
         }
@@ -44,7 +41,6 @@ impl fmt::Display for NotAPacket {
             NotAPacket::OtherVersion => "another version than 2",
             NotAPacket::CutSources => "the CSRC list is cut short",
             NotAPacket::CutBlockHeader => "the header of the extension block is cut short",
-            NotAPacket::UnknownForm => "a header extension of an unknown form",
             NotAPacket::CutBlock => "the extension block is cut short",
         })
     }
@@ -64,12 +60,18 @@ impl fmt::Display for NoMemory {
 
 impl Error for NoMemory {}
 
+/// What is said where the form of a block has to be known.
+const UNKNOWN_FORM: &str = "a header extension of an unknown form";
+
 /// Why a header wasn't read.
 #[derive(Clone, Copy, Debug, PartialEq, Eq, Hash)]
 #[non_exhaustive]
 pub enum NotAHeader {
     /// The bytes are no packet: [`source`](Error::source) says why.
     NotAPacket(NotAPacket),
+    /// The block's form is neither 0xBEDE nor 0x1000 to 0x100F: [`Packet`](crate::Packet) reads all else. It comes
+    /// before [`NotAPacket::CutBlock`].
+    UnknownForm,
     /// Memory was refused.
     NoMemory,
 }
@@ -78,6 +80,7 @@ impl NotAHeader {
     pub(crate) fn of_status(status: i32) -> Result<(), NotAHeader> {
         match status {
             sys::NO_MEMORY => Err(NotAHeader::NoMemory),
+            sys::UNKNOWN_FORM => Err(NotAHeader::UnknownForm),
             other => NotAPacket::of_status(other).map_err(NotAHeader::NotAPacket),
         }
     }
@@ -87,6 +90,7 @@ impl fmt::Display for NotAHeader {
     fn fmt(&self, f: &mut fmt::Formatter<'_>) -> fmt::Result {
         match self {
             NotAHeader::NotAPacket(_) => f.write_str("no RTP packet"),
+            NotAHeader::UnknownForm => f.write_str(UNKNOWN_FORM),
             NotAHeader::NoMemory => NoMemory.fmt(f),
         }
     }
@@ -96,7 +100,7 @@ impl Error for NotAHeader {
     fn source(&self) -> Option<&(dyn Error + 'static)> {
         match self {
             NotAHeader::NotAPacket(cause) => Some(cause),
-            NotAHeader::NoMemory => None,
+            NotAHeader::UnknownForm | NotAHeader::NoMemory => None,
         }
     }
 }
@@ -153,6 +157,8 @@ pub enum NotPut {
     BadField,
     /// The bytes are no packet.
     NotAPacket(NotAPacket),
+    /// The block's form is neither 0xBEDE nor 0x1000 to 0x100F.
+    OtherForm,
     /// The buffer has no room behind the packet.
     ShortBuffer,
 }
@@ -161,6 +167,7 @@ impl NotPut {
     pub(crate) fn of_status(status: i32) -> Result<(), NotPut> {
         match status {
             sys::BAD_FIELD => Err(NotPut::BadField),
+            sys::UNKNOWN_FORM => Err(NotPut::OtherForm),
             sys::SHORT_BUFFER => Err(NotPut::ShortBuffer),
             _ => NotAPacket::of_status(status).map_err(NotPut::NotAPacket),
         }
@@ -172,6 +179,7 @@ impl fmt::Display for NotPut {
         match self {
             NotPut::BadField => f.write_str("an argument is out of its range"),
             NotPut::NotAPacket(cause) => cause.fmt(f),
+            NotPut::OtherForm => f.write_str(UNKNOWN_FORM),
             NotPut::ShortBuffer => f.write_str("a buffer is too short"),
         }
     }

@@ -37,7 +37,7 @@ impl<'a> Packet<'a> {
     ///
     /// # Errors
     ///
-    /// The first cause for which it is none.
+    /// The first cause for which it is none. A block of any form may follow the sources.
     pub fn parse(datagram: &'a [u8]) -> Result<Packet<'a>, NotAPacket> {
         let mut parts = PacketParts::default();
         NotAPacket::of_status(sys::packet_parse(datagram, &mut parts))?;
@@ -117,7 +117,7 @@ impl<'a> Packet<'a> {
         Some(&self.payload()[..self.parts.unpadded_len])
     }
 
-    /// The form of the block; `None` where the packet has none (X is clear).
+    /// The form of the block; `None` where the packet has none (X is clear), or one of another form.
     #[must_use]
     pub fn form(&self) -> Option<Form> {
         match self.parts.block_form {
@@ -127,14 +127,39 @@ impl<'a> Packet<'a> {
         }
     }
 
-    /// The form and the body of the block, after the four bytes of its header.
+    /// The form and the body of the block, after the four bytes of its header; `None` as [`form`](Packet::form).
     #[must_use]
     pub fn block(&self) -> Option<(Form, &'a [u8])> {
-        let body = &self.datagram[self.parts.body_at..self.parts.payload_at];
-        Some((self.form()?, body))
+        Some((self.form()?, self.body()?))
     }
 
-    /// The elements of the block, in order: none where there is no block.
+    /// The 16 bits that the block begins with, those of a form or others, which its profile defines (RFC 3550,
+    /// 5.3.1): 0xABAC of ONVIF's cameras, say, and 0xC0DE and 0xC2DE of Cryptex (RFC 9335). `None` where X is clear.
+    ///
+    /// ```
+    /// let datagram = [
+    ///     0x90, 0x60, 0, 5, 0, 0, 0, 100, 0, 0, 0, 44, 0xAB, 0xAC, 0, 3, 0xE5, 0x8B, 0x3C, 0x40, 0x80, 0, 0, 0,
+    ///     0xE0, 7, 0, 0, 1, 2,
+    /// ];
+    /// let packet = rtp_wire::Packet::parse(&datagram)?;
+    /// assert_eq!((packet.block_profile(), packet.form()), (Some(0xABAC), None));
+    /// let seconds = packet.body().and_then(|body| body.first_chunk::<4>());
+    /// assert_eq!(seconds.map(|it| u32::from_be_bytes(*it)), Some(0xE58B_3C40));
+    /// # Ok::<(), rtp_wire::NotAPacket>(())
+    /// ```
+    #[must_use]
+    pub fn block_profile(&self) -> Option<u16> {
+        (self.parts.block_form != sys::NO_BLOCK).then_some(self.parts.block_profile)
+    }
+
+    /// The body of the block, of any form, after the four bytes of its header; `None` where X is clear.
+    #[must_use]
+    pub fn body(&self) -> Option<&'a [u8]> {
+        let body = &self.datagram[self.parts.body_at..self.parts.payload_at];
+        (self.parts.block_form != sys::NO_BLOCK).then_some(body)
+    }
+
+    /// The elements of the block, in order: none where there is no block, or one of another form.
     #[must_use]
     pub fn elements(&self) -> Elements<'a> {
         Elements::of(self.block())
@@ -158,6 +183,7 @@ impl fmt::Debug for Packet<'_> {
             .field("timestamp", &self.timestamp())
             .field("ssrc", &self.ssrc())
             .field("form", &self.form())
+            .field("block_profile", &self.block_profile())
             .field("header_len", &self.header_len())
             .field("payload_len", &self.payload().len())
             .finish_non_exhaustive()

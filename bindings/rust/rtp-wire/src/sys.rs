@@ -25,6 +25,7 @@ pub const BAD_FIELD: i32 = 9;
 pub const NONE: i32 = 11;
 pub const RESTARTED: i32 = 12;
 
+pub const NO_BLOCK: u8 = 0;
 pub const ONE_BYTE_FORM: u8 = 1;
 pub const TWO_BYTE_FORM: u8 = 2;
 pub const CSRC_AT: usize = 12;

@@ -18,6 +18,7 @@ pub struct PacketParts {
     pub has_padding: u8,
     pub padding_fits: u8,
     pub block_form: u8,
+    pub block_profile: u16,
 }
 
 /// `rtpw_fields`
@@ -206,9 +207,9 @@ mod tests {
 
     #[test]
     fn structs_are_those_of_the_header_file() {
-        lies!(PacketParts, 56, payload_at 0, payload_len 8, unpadded_len 16, body_at 24, body_len 32,
+        lies!(PacketParts, 64, payload_at 0, payload_len 8, unpadded_len 16, body_at 24, body_len 32,
             timestamp 40, ssrc 44, sequence_number 48, payload_type 50, csrc_count 51, marker 52,
-            has_padding 53, padding_fits 54, block_form 55);
+            has_padding 53, padding_fits 54, block_form 55, block_profile 56);
         lies!(Place, 32, data_at 0, data_len 8, end 16, id 24);
         lies!(ReceiverState, 32, highest 0, recorded_low 8, recorded_high 16, started 24);
         lies!(WideState, 16, highest 0, started 8);

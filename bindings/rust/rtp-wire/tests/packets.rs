@@ -114,9 +114,9 @@ fn other_bytes_are_refused() {
             "another version than 2",
         ),
         (
-            &[0x90; 16],
-            NotAPacket::UnknownForm,
-            "a header extension of an unknown form",
+            &[0x90; 16], // a block of another form, and of 0x9090 words
+            NotAPacket::CutBlock,
+            "the extension block is cut short",
         ),
     ];
     for (bytes, cause, text) in cases {

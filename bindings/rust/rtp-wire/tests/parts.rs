@@ -177,15 +177,16 @@ fn padding_is_at_the_end_where_p_is_set() {
 fn a_packet_is_told() {
     let text =
         "Packet { marker: true, payload_type: 34, sequence_number: 258, timestamp: 50595078, \
-                ssrc: 117967114, form: Some(OneByte), header_len: 40, payload_len: 1, .. }";
+                ssrc: 117967114, form: Some(OneByte), block_profile: Some(48862), header_len: 40, payload_len: 1, .. }";
     let mut bytes = SAMPLE;
     assert_eq!(format!("{:?}", Packet::parse(&bytes).unwrap()), text);
     assert_eq!(format!("{:?}", PacketMut::parse(&mut bytes).unwrap()), text);
     let text =
         "Packet { marker: false, payload_type: 34, sequence_number: 0, timestamp: 0, ssrc: 0, \
-                form: Some(TwoByte), header_len: 24, payload_len: 0, .. }";
+                form: Some(TwoByte), block_profile: Some(4096), header_len: 24, payload_len: 0, .. }";
     assert_eq!(format!("{:?}", Packet::parse(&EMPTY).unwrap()), text);
-    assert!(format!("{:#?}", Packet::parse(&PLAIN).unwrap()).contains("\n    form: None,\n"));
+    assert!(format!("{:#?}", Packet::parse(&PLAIN).unwrap())
+        .contains("\n    form: None,\n    block_profile: None,\n"));
 }
 
 #[test]

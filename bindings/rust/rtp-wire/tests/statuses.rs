@@ -5,7 +5,7 @@ use std::error::Error;
 
 use rtp_wire::{
     write_elements, BadId, BadRolloverCount, Form, Header, Map, NoMemory, NotAHeader, NotAPacket,
-    NotAText, NotChanged, NotWritten, Packet, PacketMut, Place,
+    NotAText, NotChanged, NotPut, NotWritten, Packet, PacketMut, Place,
 };
 
 /// V=2, X, CC=1; the source 9; a block of one word: 1 (AA).
@@ -14,7 +14,7 @@ const SAMPLE: [u8; 24] = [
 ];
 
 /// The cause, its number and its name in the header file, and its text.
-const CAUSES: [(NotAPacket, i32, &str, &str); 6] = [
+const CAUSES: [(NotAPacket, i32, &str, &str); 5] = [
     (
         NotAPacket::CutFixedPart,
         1,
@@ -40,12 +40,6 @@ const CAUSES: [(NotAPacket, i32, &str, &str); 6] = [
         "the header of the extension block is cut short",
     ),
     (
-        NotAPacket::UnknownForm,
-        5,
-        "UNKNOWN_FORM",
-        "a header extension of an unknown form",
-    ),
-    (
         NotAPacket::CutBlock,
         6,
         "CUT_BLOCK",
@@ -68,7 +62,6 @@ fn each_cause_is_found_by_each_call() {
         (NotAPacket::OtherVersion, with(0, 0x51, 12)), // also without its source
         (NotAPacket::CutSources, with(0, 0x92, 19)),
         (NotAPacket::CutBlockHeader, with(16, 0xBF, 19)), // also of an unknown form
-        (NotAPacket::UnknownForm, with(17, 0xDF, 23)),    // also cut short
         (NotAPacket::CutBlock, with(19, 2, 24)),
     ];
     for ((cause, bytes), known) in rows.into_iter().zip(CAUSES) {
@@ -99,17 +92,33 @@ fn forms_are_seventeen() {
     for form in 0..=u16::MAX {
         let mut bytes = SAMPLE;
         bytes[16..18].copy_from_slice(&form.to_be_bytes());
-        let read = match form {
-            0xBEDE => Ok(Some(Form::OneByte)),
-            0x1000..=0x100F => Ok(Some(Form::TwoByte)),
-            _ => Err(NotAPacket::UnknownForm),
+        let known = match form {
+            0xBEDE => Some(Form::OneByte),
+            0x1000..=0x100F => Some(Form::TwoByte),
+            _ => None,
         };
-        assert_eq!(
-            Packet::parse(&bytes).map(|packet| packet.form()),
-            read,
-            "{form:X}"
-        );
+        let packet = Packet::parse(&bytes).unwrap();
+        assert_eq!(packet.form(), known, "{form:X}");
+        assert_eq!(packet.block_profile(), Some(form));
+        assert_eq!(packet.body(), Some(&bytes[20..]));
+        assert_eq!(packet.block().is_some(), known.is_some());
+        let read = Header::parse(&bytes, &Map::new()).map(|header| header.header_len());
+        let due = known.map_or(Err(NotAHeader::UnknownForm), |_| Ok(24));
+        assert_eq!(read, due, "{form:X}");
     }
+}
+
+#[test]
+fn an_unknown_form_comes_before_a_block_that_is_cut_short() {
+    let bytes = with(17, 0xDF, 23);
+    let unknown = NotAHeader::UnknownForm;
+    assert_eq!(Header::parse(&bytes, &Map::new()), Err(unknown));
+    assert_eq!(Header::parse_with_layers(&bytes, &Map::new()), Err(unknown));
+    assert_eq!(Packet::parse(&bytes), Err(NotAPacket::CutBlock));
+    let bytes = with(17, 0xDF, 19);
+    let cut = NotAPacket::CutBlockHeader;
+    assert_eq!(Header::parse(&bytes, &Map::new()), Err(cut.into()));
+    assert_eq!(Packet::parse(&bytes), Err(cut));
 }
 
 #[test]
@@ -132,6 +141,12 @@ fn texts_are_those_of_the_header_file() {
         let not_a_header = NotAHeader::from(cause);
         assert_eq!(told(&not_a_header), "no RTP packet");
         assert_eq!(not_a_header.source().map(told), Some(text.to_string()));
+    }
+    let text = "a header extension of an unknown form";
+    has("UNKNOWN_FORM", 5, text);
+    for cause in [&NotAHeader::UnknownForm as &dyn Error, &NotPut::OtherForm] {
+        assert_eq!(told(cause), text);
+        assert!(cause.source().is_none());
     }
     has("NO_MEMORY", 7, "memory was refused");
     has("SHORT_BUFFER", 8, "a buffer is too short");

@@ -1,7 +1,7 @@
 use Rattle.std.proofs.Common.{rules}
-use Rattle.rtp_wire.proofs.NotAPacketLemmas.{no_packet-refused}
+use Rattle.rtp_wire.proofs.NoHeaderLemmas.{header_there}
 use Rattle.rtp_c.proofs.HeaderViewLemmas.{few_sources}
-use Rattle.rtp_c.proofs.StatusLemmas.{NotAHeader-cause}
+use Rattle.rtp_c.proofs.HeaderStatusLemmas.{NotAHeader-status}
 use Rattle.rtp_c.proofs.header.rtpw_parse.Goals as goal
 
 pub put_header-requires : goal.put_header-requires
@@ -10,7 +10,7 @@ put_header-requires c = record { sources = few_sources c.args.map.now.kind c.arg
 pub returns-in-Ok-clause-refused : goal.returns-in-Ok-clause-refused
 returns-in-Ok-clause-refused c =
     let wire = c.in-Ok.ensures.found.is_wire in
-    (λ is. NotAHeader-cause c.args.buf.now _ is, λ none. absurd (no_packet-refused c.args.buf.now wire.parts none wire.is_packet))
+    (λ is. NotAHeader-status c.args.buf.now _ is, λ none. absurd (header_there c.args.buf.now wire.parts wire.is_packet wire.no_other none))
 
 pub returns-clause-refused : goal.returns-clause-refused
-returns-clause-refused c = (λ is. NotAHeader-cause c.args.buf.now _ is, λ none. search (rules, c.in-Err.ensures.refused none))
+returns-clause-refused c = (λ is. NotAHeader-status c.args.buf.now _ is, λ none. search (rules, c.in-Err.ensures.refused none))

@@ -2,8 +2,7 @@ use Rattle.std.proofs.Common.{◌≡◌, ◌+◌, ◌-◌, ap, ◌∙◌, arith,
 use Rattle.rtp_wire.specs.Packet.{header_len_of}
 use Rattle.rtp_wire.specs.PartsOf.{parts_of, datagram_of}
 use Rattle.rtp_wire.proofs.PartsLemmas.{length-packet}
-use Rattle.rtp_c.specs.PacketView.{slice_at}
-use Rattle.rtp_wire.specs.PutIntoPacket.{body_of_block}
+use Rattle.rtp_c.specs.PacketView.{slice_at, body_of_any}
 use Rattle.rtp_c.proofs.PacketLemmas.{body-at, payload-at, body-within}
 use Rattle.rtp_c.proofs.packet.view_of.Goals as goal
 
@@ -12,9 +11,9 @@ returns c =
     let parts = parts_of c.args.packet.now in
     let bytes = datagram_of c.args.packet.now in
     let header = c.header_len-payload_at.result in
-    let body = c.block_numbers-block_form.result.1 in
+    let body = c.block_numbers-block_form.result.2 in
     let header_is : header ≡ header_len_of parts = c.header_len-payload_at.ensures in
-    let body_is : body ≡ length (body_of_block parts.block) = c.block_numbers-block_form.ensures.body in
+    let body_is : body ≡ length (body_of_any parts.block parts.other_block) = c.block_numbers-block_form.ensures.body in
     let payload_is = c.payload.ensures in
     let ends : header - body + body ≡ header = omega (arith, header_is, body_is, body-within parts) in
     record {
@@ -26,6 +25,7 @@ returns c =
       ssrc_is = search rules;
       sources_are = search rules;
       form_is = search rules;
+      profile_is = search rules;
       body_is = ap (slice_at bytes (header - body)) body_is ∙ body-at bytes parts c.requires (header - body) (omega (arith, ends, body_is, header_is));
       body_ends = ends;
       payload_is = ap (λ (n : ℕ). slice_at bytes header n) (ap length payload_is)
