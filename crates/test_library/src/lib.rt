@@ -24,8 +24,6 @@ mod fixtures;
 #[cfg(test)]
 mod frequencies;
 #[cfg(test)]
-mod growing_packets;
-#[cfg(test)]
 mod headers_read;
 #[cfg(test)]
 mod headers_with_values;
@@ -73,8 +71,6 @@ mod refused_sources;
 mod refused_texts;
 #[cfg(test)]
 mod renegotiations;
-#[cfg(test)]
-mod retransmissions;
 #[cfg(test)]
 mod runs;
 #[cfg(test)]
