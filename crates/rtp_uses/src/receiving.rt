@@ -2,7 +2,7 @@
 
 ghost use Rattle.std.specs.Prelude.{◌≡◌, ◌≢◌, ◌+◌, ◌^◌, ◌<◌, ◌≤◌, ◌⊎◌, ◌*◌, ◌%◌, ℕ, length, true, false, Ok, None, IsSome, IfSome, IfNone, IsOk, IfOk, OnErr, List};
 ghost use Rattle.rtp_base.specs.Window.{Numbers, IsGreatest, including};
-ghost use Rattle.rtp_wire.specs.NotAHeader.{NotAHeader};
+ghost use Rattle.rtp_wire.specs.NotAHeader.{IsNoPacket};
 ghost use Rattle.rtp_wire.specs.Packet.{PacketParts, IsPacket};
 ghost use Rattle.rtp_wire.specs.PartsOf.{parts_of};
 ghost use Rattle.rtp_wire.specs.Receiver.{Holds, IsNumberOf, IsFresh, IsJudged, taken_after};
@@ -72,15 +72,15 @@ pub fn receive_each(alloc: Global, headers: &[RtpHeader]) -> Result<Vec<Verdict>
 }
 
 /// The verdict on a datagram of a transport that many sources share. A packet's header extensions
-/// aren't looked at: memory is taken for a source without a receiver alone, so a packet of any other
-/// is judged whatever memory is left.
+/// aren't looked at, of whatever form their block is: memory is taken for a source without a receiver
+/// alone, so a packet of any other is judged whatever memory is left.
 pub fn receive_datagram(receivers: &mut Receivers, datagram: &[u8]) -> Result<Verdict, AllocError>
     ensures verdict { (parts : PacketParts) → IsPacket datagram.now parts →
         (count : ℕ) → (taken : Numbers) → Holds (state_of receivers.old parts.ssrc) count taken →
         IfOk result (λ verdict. (number : ℕ)
         × IsNumberOf count taken parts.sequence_number number × IsJudged taken number verdict) }
-    ensures unreadable { NotAHeader datagram.now → result ≡ Ok Unreadable }
-    ensures same { NotAHeader datagram.now → receivers.new ≡ receivers.old }
+    ensures unreadable { IsNoPacket datagram.now → result ≡ Ok Unreadable }
+    ensures same { IsNoPacket datagram.now → receivers.new ≡ receivers.old }
     ensures refused { OnErr result (receivers.new ≡ receivers.old) }
     ensures succeeds { (parts : PacketParts) → IsPacket datagram.now parts →
         IsSome (receiver_of receivers.old parts.ssrc) → IsOk result }
