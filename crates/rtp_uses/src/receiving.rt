@@ -72,8 +72,8 @@ pub fn receive_each(alloc: Global, headers: &[RtpHeader]) -> Result<Vec<Verdict>
 }
 
 /// The verdict on a datagram of a transport that many sources share. A packet's header extensions
-/// aren't looked at, nor is the form of its block: memory is taken for a source without a receiver alone,
-/// so a packet of any other is judged whatever memory is left.
+/// aren't looked at, of whatever form their block is: memory is taken for a source without a receiver
+/// alone, so a packet of any other is judged whatever memory is left.
 pub fn receive_datagram(receivers: &mut Receivers, datagram: &[u8]) -> Result<Verdict, AllocError>
     ensures verdict { (parts : PacketParts) → IsPacket datagram.now parts →
         (count : ℕ) → (taken : Numbers) → Holds (state_of receivers.old parts.ssrc) count taken →
