@@ -22,7 +22,7 @@ fn lies_in(bytes: &[u8], view: &ElementView) -> bool
 }
 
 impl<'a> NamedElements<'a> {
-    /// The elements that these are; `None` where the data of one reach past the bytes.
+    /// The elements that are named; `None` where the data of one reach past the bytes.
     pub fn new(bytes: &'a [u8], views: &'a [ElementView]) -> Option<Self>
         ensures within { IfSome result (λ _. LieIn bytes.now views.now) }
         ensures elements { IfSome result (λ named.

@@ -5,9 +5,7 @@ use std::cell::Cell;
 use std::ffi::c_void;
 use std::ptr::null_mut;
 
-use rtp_wire::{
-    write_elements, Form, Header, Kind, Map, NoMemory, NotAHeader, Packet, Place,
-};
+use rtp_wire::{write_elements, Form, Header, Kind, Map, NoMemory, NotAHeader, Packet, Place};
 
 extern "C" {
     fn __libc_malloc(size: usize) -> *mut c_void;
