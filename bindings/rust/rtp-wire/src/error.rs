@@ -155,7 +155,7 @@ pub enum NotPut {
     /// The packet is longer than the buffer, the id is 0, there are more than 255 bytes of data, or the block
     /// needs a form that isn't allowed, or more than 65,535 words.
     BadField,
-    /// The bytes are no packet.
+    /// The bytes are no packet: [`source`](Error::source) says why.
     NotAPacket(NotAPacket),
     /// The block's form is neither 0xBEDE nor 0x1000 to 0x100F.
     OtherForm,
@@ -176,16 +176,29 @@ impl NotPut {
 
 impl fmt::Display for NotPut {
     fn fmt(&self, f: &mut fmt::Formatter<'_>) -> fmt::Result {
+        f.write_str(match self {
+            NotPut::BadField => "an argument is out of its range",
+            NotPut::NotAPacket(_) => "no RTP packet",
+            NotPut::OtherForm => UNKNOWN_FORM,
+            NotPut::ShortBuffer => "a buffer is too short",
+        })
+    }
+}
+
+impl Error for NotPut {
+    fn source(&self) -> Option<&(dyn Error + 'static)> {
         match self {
-            NotPut::BadField => f.write_str("an argument is out of its range"),
-            NotPut::NotAPacket(cause) => cause.fmt(f),
-            NotPut::OtherForm => f.write_str(UNKNOWN_FORM),
-            NotPut::ShortBuffer => f.write_str("a buffer is too short"),
+            NotPut::NotAPacket(cause) => Some(cause),
+            _ => None,
         }
     }
 }
 
-impl Error for NotPut {}
+impl From<NotAPacket> for NotPut {
+    fn from(cause: NotAPacket) -> NotPut {
+        NotPut::NotAPacket(cause)
+    }
+}
 
 /// Why a packet or a header was left as it was.
 #[derive(Clone, Copy, Debug, PartialEq, Eq, Hash)]
