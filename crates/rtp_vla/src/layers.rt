@@ -57,7 +57,7 @@ impl<'a> LayerReader<'a> {
 
     // Takes the next layer where it is active, and an idle one where it isn't: puts its rates, and
     // returns its resolution.
-    #[inline(always)]
+    #[inline]
     pub(super) fn next<R: Rates>(
         &mut self,
         is_active: bool,
