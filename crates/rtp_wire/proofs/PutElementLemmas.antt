@@ -140,9 +140,13 @@ block_len-within : (block : Option (ExtensionsForm × List ℕ)) → block_len b
 block_len-within None = omega arith
 block_len-within (Some block) = omega arith
 
+-- it has no block of another form
+no_other_bytes : (bytes : List ℕ) (element : Element) (allowed : Option ExtensionsForm) (growth : IsGrowth bytes element allowed) → block_len growth.parts.other_block ≡ 0
+no_other_bytes bytes element allowed growth = ap (λ (other : Option (ℕ × List ℕ)). block_len other) growth.no_other
+
 pub no_shorter : (bytes : List ℕ) (element : Element) (allowed : Option ExtensionsForm) (growth : IsGrowth bytes element allowed) → length bytes ≤ growth.len
 no_shorter bytes element allowed growth =
-    omega (arith, length-packet bytes growth.parts growth.is_packet, growth.len_is, body-fits bytes element allowed growth, block_len-within growth.parts.block)
+    omega (arith, length-packet bytes growth.parts growth.is_packet, growth.len_is, body-fits bytes element allowed growth, block_len-within growth.parts.block, no_other_bytes bytes element allowed growth)
 
 -- the new length, as it is reckoned
 pub plan-len : (buf : List ℕ) (len : ℕ) (element : Element) (allowed : Option ExtensionsForm) (plan : Plan) (is : IsPlan (take len buf) element allowed plan) (body_len : ℕ) → len ≤ length buf
@@ -158,4 +162,4 @@ pub short-set : (bytes : List ℕ) (element : Element) (allowed : Option Extensi
     → IsSetInPlace is.growth.parts.block is.growth.elements element is.growth.form → is.growth.len ≡ length bytes → is.growth.body_len ≤ 262140
 short-set bytes element allowed plan is in_place as_long =
     let growth = is.growth in
-    omega (arith, as_long, growth.len_is, length-packet bytes growth.parts growth.is_packet, block_len-announced growth.parts.block growth.form in_place.0, is.body_is, is.few)
+    omega (arith, as_long, growth.len_is, length-packet bytes growth.parts growth.is_packet, block_len-announced growth.parts.block growth.form in_place.0, is.body_is, is.few, no_other_bytes bytes element allowed growth)
