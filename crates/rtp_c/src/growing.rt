@@ -69,7 +69,8 @@ pub extern "C" fn rtpw_put_element(
 
 /// Makes the packet in the first `len` bytes of the buffer as short as its elements allow: they stand in a
 /// row in the same order, the body is filled up to whole words, and the payload moves to the front (RFC
-/// 8285, 4.2 and 4.3). `len` becomes its new length. After `rtpw_remove_element` it gives the bytes back.
+/// 8285, 4.2 and 4.3). `len` becomes its new length, and between that and the old one any bytes may stand.
+/// After `rtpw_remove_element` it gives the bytes back.
 ///
 /// `OK`; `BAD_FIELD` where `len` is past the buffer; or the status of the first cause for which the bytes
 /// are no packet. Where it isn't `OK` nothing changes.

@@ -27,6 +27,7 @@ pub record IsLaid (buf : List ℕ) (len : ℕ) (parts : PacketParts) (is : IsPac
   pub laid_is : laid ≡ with_extension_bit (head_of (take len buf) parts is) ++ (word ++ (to_be_bytes w16 (n / 4) ++ (slice_range buf (block_at + 4) (block_at + 4 + n) ++ (parts.payload ++ rest))))
   pub rest_is : rest ≡ drop (block_at + 4 + n + length parts.payload) buf
   pub word_stays : form_of_block parts.block ≡ Some form → with_extension_bit (head_of (take len buf) parts is) ++ word ≡ take (block_at + 2) buf
+  pub new_word : (form_of_block parts.block ≡ Some form → ⊥) → word ≡ to_be_bytes w16 (form_word form)
 
 module _ (buf : List ℕ) (len : ℕ) (parts : PacketParts) (is : IsPacket (take len buf) parts) (within : len ≤ length buf)
     (block_at : ℕ) (block-is : block_at ≡ sources_end (take len buf)) (payload_at : ℕ) (payload-is : payload_at ≡ header_len_of parts) where
@@ -77,6 +78,7 @@ module _ (buf : List ℕ) (len : ℕ) (parts : PacketParts) (is : IsPacket (take
       word_stays = λ same.
           ap (λ (xs : List ℕ). xs ++ take 2 (drop block_at buf)) (head-same form some ∙ sym (take-head buf len parts is within block_at block-is))
           ∙ sym (take-add block_at 2 buf);
+      new_word = λ other. absurd (other some);
     }
 
     pub IsLaid-new : (form : ExtensionsForm) (laid : List ℕ) → (form_of_block parts.block ≡ Some form → ⊥)
@@ -103,6 +105,7 @@ module _ (buf : List ℕ) (len : ℕ) (parts : PacketParts) (is : IsPacket (take
               ∙ ap (λ (xs : List ℕ). with_extension_bit head ++ (word ++ xs)) left;
           rest_is = rest-is;
           word_stays = λ same. absurd (other same);
+          new_word = λ _. refl;
         }
 
     -- ---- the body in its place
@@ -179,3 +182,11 @@ module _ (buf : List ℕ) (len : ℕ) (parts : PacketParts) (is : IsPacket (take
             let long : length first ≡ sources_end bytes + 2 = omega (arith, length-append (with_extension_bit head) is_laid.word, length-with_extension_bit head, length-head bytes parts is, is_laid.two) in
             let here : block_at + 2 ≡ sources_end bytes + 2 = omega arith in
             ap (take (sources_end bytes + 2)) split ∙ take_at first second (sources_end bytes + 2) long ∙ is_laid.word_stays some ∙ ap (λ (k : ℕ). take k buf) here
+
+        pub written-new : (form_of_block parts.block ≡ Some form → ⊥) → take 2 (drop (sources_end bytes) new) ≡ to_be_bytes w16 (form_word form)
+        written-new other =
+            let second : List ℕ = to_be_bytes w16 (n / 4) ++ (body ++ (parts.payload ++ is_laid.rest)) in
+            let split : new ≡ with_extension_bit head ++ (is_laid.word ++ second) = new-is ∙ simp append_assoc in
+            let long : length (with_extension_bit head) ≡ sources_end bytes = length-with_extension_bit head ∙ length-head bytes parts is in
+            ap (take 2) (ap (drop (sources_end bytes)) split ∙ drop_at (with_extension_bit head) (is_laid.word ++ second) (sources_end bytes) long)
+            ∙ take_at is_laid.word second 2 is_laid.two ∙ is_laid.new_word other

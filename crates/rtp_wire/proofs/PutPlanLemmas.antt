@@ -68,6 +68,13 @@ module _ (bytes : List ℕ) (element : Element) (allowed : Option ExtensionsForm
       let was : length (body_of_block growth.parts.block) % 4 ≡ 0 = whole-announced growth.parts.has_extension growth.parts.block growth.is_packet.part growth.is_packet.part_is in
       omega (arith, is, here, was)
 
+  -- how many bytes the body gets, as it is reckoned
+  pub body_len-reckoned : (n whole : ℕ) → n ≡ length (elements_bytes growth.form (elements_with growth.form element growth.elements)) → n ≤ whole → whole < n + 4 → whole % 4 ≡ 0
+      → max whole (length (body_of_block growth.parts.block)) ≡ growth.body_len
+  body_len-reckoned n whole n-is low high multiple =
+      let words : whole ≡ whole_words (length (elements_bytes growth.form (elements_with growth.form element growth.elements))) = omega arith in
+      omega (arith, growth.body_len_is, words)
+
   -- the elements of the body, whatever they are called
   pub same-elements : (new_form form : ExtensionsForm) (elements : List Element) → IsFormOfBody growth.parts.block new_form form → AreElements form (body_of_block growth.parts.block) elements
       → elements ≡ growth.elements
@@ -121,12 +128,11 @@ short-body packet =
     (short-part packet.form (slice_range bytes (sources_end bytes + 4) packet.header_len) 262140 long)
 
 -- what the packet becomes
-abbrev pub new-growth : (bytes : List ℕ) (element : Element) (allowed : Option ExtensionsForm) (parts : PacketParts) (elements : List Element) (form new_form : ExtensionsForm) (n whole body_len : ℕ)
+abbrev pub new-growth : (bytes : List ℕ) (element : Element) (allowed : Option ExtensionsForm) (parts : PacketParts) (elements : List Element) (form new_form : ExtensionsForm)
     → IsPacket bytes parts → IsFormOfBody parts.block new_form form → AreElements form (body_of_block parts.block) elements
-    → allowed_form allowed (needed_form (form_of_block parts.block) element) ≡ Some new_form → n ≡ length (elements_bytes new_form (elements_with new_form element elements))
-    → n ≤ whole → whole < n + 4 → whole % 4 ≡ 0 → body_len ≡ max whole (length (body_of_block parts.block)) → IsGrowth bytes element allowed
-new-growth bytes element allowed parts elements form new_form n whole body_len is was are form-is n-is low high multiple len-is =
-    let words : whole ≡ whole_words (length (elements_bytes new_form (elements_with new_form element elements))) = omega arith in
+    → allowed_form allowed (needed_form (form_of_block parts.block) element) ≡ Some new_form → IsGrowth bytes element allowed
+new-growth bytes element allowed parts elements form new_form is was are form-is =
+    let body_len : ℕ = max (length (body_of_block parts.block)) (whole_words (length (elements_bytes new_form (elements_with new_form element elements)))) in
     record {
       parts = parts;
       elements = elements;
@@ -136,26 +142,23 @@ new-growth bytes element allowed parts elements form new_form n whole body_len i
       is_packet = is;
       are_elements = block-elements parts.block elements new_form form was are;
       form_is = form-is;
-      body_len_is = omega (arith, len-is, words);
+      body_len_is = refl;
       len_is = refl;
     }
 
 -- the same as it is found step by step
 module _ (bytes : List ℕ) (element : Element) (allowed : Option ExtensionsForm) (packet : RtpPacket) (block : Option (ExtensionsForm × Bor (List ℕ))) (default found : ExtensionsForm × Bor (List ℕ))
-    (survey : Survey) (form : Option ExtensionsForm) (n whole body_len : ℕ)
+    (survey : Survey) (form : Option ExtensionsForm)
     (is : IsPacket bytes (parts_of packet)) (block-is : option_map (λ b. (b.0, b.1.now)) block ≡ (parts_of packet).block) (none : default.1.now ≡ []) (found-is : found ≡ unwrap_or block default)
-    (surveyed : IsSurvey found.0 found.1.now element.0 survey) (form-is : form ≡ option_map (λ b. b.0) (parts_of packet).block) (allows : allowed_form allowed (needed_form form element) ≡ Some default.0)
-    (n-is : (elements : List Element) → AreElements found.0 found.1.now elements → n ≡ length (elements_bytes default.0 (elements_with default.0 element elements)))
-    (low : n ≤ whole) (high : whole < n + 4) (multiple : whole % 4 ≡ 0) (len-is : body_len ≡ max whole (length found.1.now)) where
+    (surveyed : IsSurvey found.0 found.1.now element.0 survey) (form-is : form ≡ option_map (λ b. b.0) (parts_of packet).block) (allows : allowed_form allowed (needed_form form element) ≡ Some default.0) where
   pub here : (found.1.now ≡ body_of_block (parts_of packet).block) × IsFormOfBody (parts_of packet).block default.0 found.0
   here = block-found block (parts_of packet).block default found block-is none found-is
 
   abbrev pub found-growth : IsGrowth bytes element allowed
   found-growth =
-      new-growth bytes element allowed (parts_of packet) surveyed.elements found.0 default.0 n whole body_len is here.1
+      new-growth bytes element allowed (parts_of packet) surveyed.elements found.0 default.0 is here.1
       (subst (λ (b : List ℕ). AreElements found.0 b surveyed.elements) here.0 surveyed.are_elements)
       (ap (λ (f : Option ExtensionsForm). allowed_form allowed (needed_form f element)) (sym form-is) ∙ allows)
-      (n-is surveyed.elements surveyed.are_elements) low high multiple (omega (arith, len-is, ap length here.0))
 
 -- a test whether a form is found
 pub form-tested : (found : Option ExtensionsForm) (form : ExtensionsForm) (test : Bool) → test ≡ option_eq (sameb the_type) found (Some form) → IsTrue test ↔ (found ≡ Some form)

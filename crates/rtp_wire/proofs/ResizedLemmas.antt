@@ -95,7 +95,7 @@ word-announced true (Some (was, body)) part after form is some =
     (subst (λ (xs : List ℕ). IsFormWord (from_be_bytes w16 xs) was) (sym (take-append-le 2 part after (omega arith))) is.form_is)
 
 -- how many bytes the block takes
-block_len-body : (block : Option (ExtensionsForm × List ℕ)) → length (body_of_block block) ≤ block_len block
+pub block_len-body : (block : Option (ExtensionsForm × List ℕ)) → length (body_of_block block) ≤ block_len block
 block_len-body None = omega arith
 block_len-body (Some block) = omega arith
 

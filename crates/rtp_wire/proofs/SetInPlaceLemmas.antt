@@ -169,6 +169,19 @@ module _ (bytes : List ℕ) (parts : PacketParts) (is : IsPacket bytes parts) (f
     pub word-set : take (sources_end bytes + 2) new ≡ take (sources_end bytes + 2) bytes
     word-set = take-put_mid_below (block_at + 4) (payload_at - (block_at + 4)) bytes body (sources_end bytes + 2) (omega arith) (omega (arith, body-ends.0, body-ends.1))
 
+-- the body ends where the payload begins
+pub body-before : (bytes : List ℕ) (parts : PacketParts) (is : IsPacket bytes parts) (block : Option (ExtensionsForm × List ℕ)) (payload_at n : ℕ) → parts.block ≡ block
+    → payload_at ≡ header_len_of parts → n ≡ length (body_of_block parts.block) → take (payload_at - (payload_at - n)) (drop (payload_at - n) bytes) ≡ body_of_block parts.block
+body-before bytes parts is None payload_at n none payload-is n-is =
+    let nothing : n ≡ 0 = n-is ∙ ap (λ (b : Option (ExtensionsForm × List ℕ)). length (body_of_block b)) none in
+    let cut : payload_at - (payload_at - n) ≡ 0 = omega arith in
+    ap (λ (k : ℕ). take k (drop (payload_at - n) bytes)) cut ∙ sym (ap body_of_block none)
+body-before bytes parts is (Some block) payload_at n some payload-is n-is =
+    let form : form_of_block parts.block ≡ Some block.0 = ap form_of_block some in
+    let ends = body-ends bytes parts is block.0 form (sources_end bytes) payload_at refl payload-is in
+    let start : payload_at - n ≡ sources_end bytes + 4 = omega (arith, ends.0, ends.2, n-is) in
+    ap (λ (k : ℕ). take (payload_at - k) (drop k bytes)) start ∙ body-here bytes parts is block.0 form (sources_end bytes) payload_at refl payload-is
+
 -- what the packet then is
 pub PutsElement-set : (bytes : List ℕ) (element : Element) (allowed : Option ExtensionsForm) (growth : IsGrowth bytes element allowed) (form : ExtensionsForm) (block_at payload_at : ℕ)
     → (some : form_of_block growth.parts.block ≡ Some form) → block_at ≡ sources_end bytes → payload_at ≡ header_len_of growth.parts → form ≡ growth.form
@@ -197,6 +210,7 @@ PutsElement-set bytes element allowed growth form block_at payload_at some block
           (IsPacket-set bytes parts growth.is_packet form some block_at payload_at block-is payload-is body as_long (length bytes) refl);
       are_elements = here;
       word_is = λ _. word-set bytes parts growth.is_packet form some block_at payload_at block-is payload-is body as_long;
+      new_word_is = λ other. absurd (other (some ∙ ap (λ (f : ExtensionsForm). Some f) form-is));
     }
   where
     was-form : (block : Option (ExtensionsForm × List ℕ)) (form : ExtensionsForm) → form_of_block block ≡ Some form → IsFormOfBody block form form

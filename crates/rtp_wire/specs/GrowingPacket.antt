@@ -2,6 +2,7 @@
 use Rattle.std.specs.Prelude.{◌≡◌, ℕ, ◌+◌, ◌-◌, ◌*◌, ◌/◌, ◌%◌, ◌≤◌, ◌↔◌, List, [], ◌∷◌, ◌++◌, length, drop, take, slice_range, true, IsTrue, Option, Some, None}
 use Rattle.std.specs.Int.{w16, to_be_bytes}
 use Rattle.rtp_ext.specs.declared.form.ExtensionsForm.{ExtensionsForm}
+use Rattle.rtp_ext.specs.Form.{form_word}
 use Rattle.rtp_ext.specs.Elements.{Element, AreElements}
 use Rattle.rtp_ext.specs.ElementsInARow.{IsWritable}
 use Rattle.rtp_ext.specs.PutElement.{row_to}
@@ -36,19 +37,19 @@ pub record IsPlan (bytes : List ℕ) (element : Element) (allowed : Option Exten
   pub block_is : plan.block_at ≡ sources_end bytes
   pub payload_is : plan.payload_at ≡ header_len_of growth.parts
   pub body_is : plan.body_len ≡ length (body_of_block growth.parts.block)
+  pub few : plan.body_len ≤ 4 * 65535
   pub was_form : IsFormOfBody growth.parts.block plan.new_form plan.form
   pub survey_is : IsSurvey plan.form (body_of_block growth.parts.block) element.0 plan.survey
   pub announced : IsTrue plan.is_announced ↔ (form_of_block growth.parts.block ≡ Some plan.new_form)
   pub form_is : plan.new_form ≡ growth.form
-  pub new_body_is : plan.new_body_len ≡ growth.body_len
-  pub few : growth.body_len ≤ 4 * 65535
   pub writable : IsWritable growth.form element
 
--- the first bytes are what the packet becomes, with the elements in a row; where the form stays, its word stays too; and what is behind the packet stays
+-- the first bytes are what the packet becomes, with the elements in a row; where the form stays, its word stays too, and else it is written; and what is behind the packet stays
 pub record MakesAnew (bytes : List ℕ) (element : Element) (allowed : Option ExtensionsForm) (growth : IsGrowth bytes element allowed) (old new : List ℕ) : Type 0 where
   pub body : List ℕ
   pub body_is : body ≡ row_to growth.form (elements_with growth.form element growth.elements) growth.body_len
   pub is_packet : IsPacket (take growth.len new) (record growth.parts { has_extension = true; block = Some (growth.form, body) })
   pub are_elements : AreElements growth.form body (elements_with growth.form element growth.elements)
   pub word_is : form_of_block growth.parts.block ≡ Some growth.form → take (sources_end bytes + 2) new ≡ take (sources_end bytes + 2) old
+  pub new_word_is : (form_of_block growth.parts.block ≡ Some growth.form → ⊥) → take 2 (drop (sources_end bytes) new) ≡ to_be_bytes w16 (form_word growth.form)
   pub behind_is : drop growth.len new ≡ drop growth.len old

@@ -1,8 +1,10 @@
 -- An element that is put into a packet, which grows where it lies, and a packet that is made as short as its elements allow (RFC 3550, 5.3.1; RFC 8285, 4.1.2, 4.2 and 4.3).
 --
 -- The fixed fields but X, the CSRC list and the payload stay. The block gets the form that `allowed_form` says, and the elements that `put_element` says; its body never becomes shorter.
-use Rattle.std.specs.Prelude.{◌≡◌, ℕ, ◌+◌, ◌*◌, ◌<◌, List, [], length, take, max, true, Option, Some, None, option_map}
+use Rattle.std.specs.Prelude.{◌≡◌, ℕ, ◌+◌, ◌*◌, ◌<◌, List, [], length, take, drop, max, true, Option, Some, None, option_map}
+use Rattle.std.specs.Int.{w16, to_be_bytes}
 use Rattle.rtp_ext.specs.declared.form.ExtensionsForm.{ExtensionsForm}
+use Rattle.rtp_ext.specs.Form.{form_word}
 use Rattle.rtp_ext.specs.Elements.{Element, AreElements, elements_bytes}
 use Rattle.rtp_ext.specs.ElementsInPlace.{SetsLast}
 use Rattle.rtp_ext.specs.PutElement.{put_element, carried_in, needed_form, allowed_form, row_to, IsSole}
@@ -49,7 +51,7 @@ pub data IsBodyWith (block : Option (ExtensionsForm × List ℕ)) (elements : Li
   in_place : IsSetInPlace block elements element form → SetsLast form element.0 element.1 (body_of_block block) body → IsBodyWith block elements element form len body
   anew : (IsSetInPlace block elements element form → ⊥) → body ≡ row_to form (elements_with form element elements) len → IsBodyWith block elements element form len body
 
--- the first bytes, so many of them, are the packet with the element in it: X is set, the block has this form and body, and all other parts are as they were; where the form stays, its word stays too, with the bits that are the application's
+-- the first bytes, so many of them, are the packet with the element in it: X is set, the block has this form and body, and all other parts are as they were; where the form stays, its word stays too, with the bits that are the application's, and else the word is written, with these bits 0
 pub record PutsElement (old : List ℕ) (element : Element) (allowed : Option ExtensionsForm) (new : List ℕ) (len : ℕ) : Type 0 where
   pub growth : IsGrowth old element allowed
   pub body : List ℕ
@@ -58,6 +60,7 @@ pub record PutsElement (old : List ℕ) (element : Element) (allowed : Option Ex
   pub is_packet : IsPacket (take len new) (record growth.parts { has_extension = true; block = Some (growth.form, body) })
   pub are_elements : AreElements growth.form body (elements_with growth.form element growth.elements)
   pub word_is : form_of_block growth.parts.block ≡ Some growth.form → take (sources_end old + 2) new ≡ take (sources_end old + 2) old
+  pub new_word_is : (form_of_block growth.parts.block ≡ Some growth.form → ⊥) → take 2 (drop (sources_end old) new) ≡ to_be_bytes w16 (form_word growth.form)
 
 -- the cause applies to an element that is put into the packet of these bytes
 abbrev pub AppliesToPacket : List ℕ → Element → Option ExtensionsForm → NotPut → Type 0

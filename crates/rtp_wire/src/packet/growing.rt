@@ -45,8 +45,6 @@ struct Plan {
     is_announced: bool,
     // The form that the block gets.
     new_form: ExtensionsForm,
-    // How many bytes the body gets.
-    new_body_len: usize,
 }
 
 impl Plan {
@@ -73,21 +71,14 @@ impl Plan {
             return Err(NotPut::OneByteOnly);
         };
         let (form, body) = packet.block().unwrap_or((new_form, &[]));
-        let survey = survey_of(form, body, id);
-        let elements_len = put_len(form, new_form, body, &survey, id, data);
-        let new_body_len = elements_len.next_multiple_of(4).max(body.len());
-        if new_body_len > MAX_BODY_LEN {
-            return Err(NotPut::LongBlock);
-        }
         Ok(Plan {
             block_at: sources_end(datagram[0]),
             payload_at: packet.header_len(),
             body_len: body.len(),
             form,
-            survey,
+            survey: survey_of(form, body, id),
             is_announced: packet.form() == Some(new_form),
             new_form,
-            new_body_len,
         })
     }
 
@@ -114,23 +105,41 @@ impl Plan {
         set_sole(body, &self.survey, id, data)
     }
 
-    // Makes the block of the packet in the first bytes of the buffer anew, with the element in it.
-    fn make_anew(&self, buf: &mut [u8], len: usize, id: u8, data: &[u8])
+    // How many bytes the body gets.
+    fn new_body_len(&self, datagram: &[u8], id: u8, data: &[u8]) -> usize
+        requires { (allowed : Option ExtensionsForm)
+            × IsPlan datagram.now (id, «data».now) allowed self.now }
+        ensures { (allowed : Option ExtensionsForm)
+            (plan : IsPlan datagram.now (id, «data».now) allowed self.now) →
+            result ≡ plan.growth.body_len }
+    {
+        let body = &datagram[self.payload_at - self.body_len..self.payload_at];
+        let elements_len = put_len(self.form, self.new_form, body, &self.survey, id, data);
+        elements_len.next_multiple_of(4).max(self.body_len)
+    }
+
+    // Makes the block of the packet in the first bytes of the buffer anew, with the element in it, and a body
+    // of so many bytes.
+    fn make_anew(&self, buf: &mut [u8], len: usize, new_body_len: usize, id: u8, data: &[u8])
         requires within { len ≤ length buf.old }
         requires plan { (allowed : Option ExtensionsForm)
             × IsPlan (take len buf.old) (id, «data».now) allowed self.now }
-        requires room { self.now.block_at + 4 + self.now.new_body_len + (len - self.now.payload_at)
+        requires body_len { (allowed : Option ExtensionsForm)
+            (plan : IsPlan (take len buf.old) (id, «data».now) allowed self.now) →
+            new_body_len ≡ plan.growth.body_len }
+        requires few { new_body_len ≤ 4 * 65535 }
+        requires room { self.now.block_at + 4 + new_body_len + (len - self.now.payload_at)
             ≤ length buf.old }
         ensures { (allowed : Option ExtensionsForm)
             (plan : IsPlan (take len buf.old) (id, «data».now) allowed self.now) →
             MakesAnew (take len buf.old) (id, «data».now) allowed plan.growth buf.old buf.new }
     {
-        resize(buf, len, self.block_at, self.payload_at, self.new_body_len);
+        resize(buf, len, self.block_at, self.payload_at, new_body_len);
         if !self.is_announced {
             announce(buf, self.block_at, self.new_form);
         }
         let body_at = self.block_at + HEADER_LEN;
-        let body = &mut buf[body_at..body_at + self.new_body_len];
+        let body = &mut buf[body_at..body_at + new_body_len];
         put_anew(
             self.form,
             self.new_form,
@@ -203,7 +212,8 @@ fn announce(buf: &mut [u8], block_at: usize, form: ExtensionsForm)
 /// A block in the one-byte form that can't carry the element becomes one in the two-byte form, which
 /// carries no element of the id 0, unless only the one-byte form is `allowed`, as for a peer that hasn't
 /// agreed to both forms in one stream (RFC 8285, 4.1.2). Where only the two-byte form is allowed, the block
-/// gets that. Where the call is refused nothing changes.
+/// gets that. The application bits of a block that gets the two-byte form are 0, and those of one that has
+/// it stay. Where the call is refused nothing changes.
 ///
 /// The packet `90 60 00 05 00 00 00 64 00 00 00 2C BE DE 00 01 10 AA 00 00 01` (hexadecimal), with room
 /// behind it and the data `07 08` of id 2, becomes
@@ -233,11 +243,15 @@ pub fn put_element(
     if plan.set(&mut buf[..len], id, data) {
         return Ok(len);
     }
-    let new_len = plan.block_at + HEADER_LEN + plan.new_body_len + (len - plan.payload_at);
+    let new_body_len = plan.new_body_len(&buf[..len], id, data);
+    if new_body_len > MAX_BODY_LEN {
+        return Err(NotPut::LongBlock);
+    }
+    let new_len = plan.block_at + HEADER_LEN + new_body_len + (len - plan.payload_at);
     if new_len > buf.len() {
         return Err(NotPut::NoRoom { needed: new_len });
     }
-    plan.make_anew(buf, len, id, data);
+    plan.make_anew(buf, len, new_body_len, id, data);
     Ok(new_len)
 }
 
@@ -254,8 +268,8 @@ fn id_of_none(form: ExtensionsForm) -> u8
 /// Makes the packet in the buffer as short as its elements allow, and returns how many bytes it then has,
 /// which are the first ones of the buffer (RFC 3550, 5.3.1; RFC 8285, 4.2 and 4.3). The elements stand in a
 /// row in the same order, those of one id too, the body is filled up to whole words, and the payload moves
-/// to the front; X and the form stay. What stands where reading ends is no element, and goes. Where the
-/// buffer holds no packet nothing changes.
+/// to the front; X and the form stay. What stands where reading ends is no element, and goes. Behind the
+/// new end any bytes may stand. Where the buffer holds no packet nothing changes.
 ///
 /// After [`remove_element`](super::RtpPacketMut::remove_element), which leaves padding, this gives the
 /// bytes back. Before [`put_element`] it isn't needed.
