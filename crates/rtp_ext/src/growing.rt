@@ -171,7 +171,8 @@ fn widen(room: &mut [u8], len: usize) -> usize
 }
 
 // The same as `put_between` of elements in the one-byte form, which are put in the two-byte form, except for
-// those of the id 0.
+// those of the id 0. It stays out of line, since few blocks change their form.
+#[inline(never)]
 fn put_widened(body: &mut [u8], front: usize, at: usize, count: usize, id: u8, data: &[u8]) -> usize
     requires writable { IsWritable TwoByte (id, «data».now) }
     requires rows { HasNarrowRows body.old front at count (id, «data».now) }

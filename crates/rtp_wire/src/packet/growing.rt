@@ -152,7 +152,9 @@ impl Plan {
     }
 }
 
-// Moves the bytes between two offsets to another one, where they don't stand there already.
+// Moves the bytes between two offsets to another one, where they don't stand there already. It stays out of
+// line, so that the move has the registers for itself.
+#[inline(never)]
 fn move_bytes(buf: &mut [u8], start: usize, end: usize, to: usize)
     requires order { start ≤ end }
     requires within { end ≤ length buf.old }
