@@ -1,6 +1,6 @@
 -- The map of extension ids: what an id stands for once slots have changed.
-use Rattle.std.proofs.Common.{◌≡◌, ◌≢◌, ℕ, ◌+◌, ◌<◌, ◌⊎◌, inl, inr, suc, zero, List, ◌∷◌, length, map, drop, get_or, set, Option, Some, None, arith, ap, refl, sym, ◌∙◌, subst, get_or-set_same, get_or-set_other, ◌==◌, if◌then◌else◌}
-use Rattle.std.proofs.lemmas.List.{get_or_past, length-map, length-set}
+use Rattle.std.proofs.Common.{◌≡◌, ◌≢◌, ℕ, ◌+◌, ◌-◌, ◌<◌, ◌⊎◌, inl, inr, suc, zero, List, ◌∷◌, length, map, drop, get_or, set, Option, Some, None, arith, ap, refl, sym, ◌∙◌, subst, get_or-set_same, get_or-set_other, ◌==◌, if◌then◌else◌}
+use Rattle.std.proofs.lemmas.List.{get_or_past, get_or_default, length-map, length-set}
 use Rattle.std.proofs.Math.ListN.{get_or-map}
 use Rattle.std.proofs.Math.Seq.{drop-cons}
 use Rattle.std.proofs.lemmas.List.Edits.{Swapped, swapped_from_swap}
@@ -10,6 +10,7 @@ use Rattle.std.proofs.lemmas.Bool.{cases_lt, eq-eqb, ne_eqb}
 use Rattle.std.proofs.lemmas.Bool.Decides.{eqb_tells}
 use Rattle.rtp_values.specs.declared.kind.Extension.{Extension}
 use Rattle.rtp_ext.specs.declared.map.TheConstants.{MAX_ID}
+use Rattle.rtp_ext.specs.MapSlots.{IsMapped}
 use Rattle.rtp_ext.specs.ExtensionMap.{Entry, Slots, IsEmpty, IsId, entry_at, extension_at, extension_of, Sets, Exchanges, IsRenumbered, IsLocked, IsLockedAt, locked, IsLowest, Remaps, AreRemapped, same_slot, moved}
 
 -- nothing stands in a index where nothing does in any
@@ -24,6 +25,17 @@ IsEmpty-from_each slots each (suc k) = elim (cases_lt k (length slots)) [
 pub entry_at-slot : (slots : Slots) (k id : ℕ) → k + 1 ≡ id → entry_at slots id ≡ get_or slots k None
 entry_at-slot slots k zero is = absurd (omega arith)
 entry_at-slot slots k (suc j) is = ap (λ (index : ℕ). get_or slots index None) (omega arith)
+
+-- the slot of a mapped id, as it is read
+pub entry_at-mapped : (slots : Slots) (id index : ℕ) (slot : Option Entry) → IsMapped slots id → index ≡ id - 1 → slot ≡ get_or slots index slot
+    → entry_at slots id ≡ slot
+entry_at-mapped slots zero index slot mapped at is = let found = mapped.1 in cc
+entry_at-mapped slots (suc k) index slot mapped at is = elim (cases_lt k (length slots)) [
+  | inl here ↦
+      let same : k ≡ index = omega arith in
+      get_or_default slots k None slot here ∙ (ap (λ (i : ℕ). get_or slots i slot) same ∙ sym is)
+  | inr past ↦ let found = sym (get_or_past slots k None past) ∙ mapped.1 in cc
+]
 
 -- two lists that differ in one index
 pub entry_at-other : (slots new : Slots) (index id : ℕ) → index + 1 ≡ id

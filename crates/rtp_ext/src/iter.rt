@@ -55,7 +55,7 @@ impl<'a> Iterator for Iter<'a> {
     fn next(&mut self) -> Option<(u8, &'a Extension)> {
         let (id, left) = self.left.split_first()?;
         self.left = left;
-        Some((*id, slots::extension(self.slots, *id).unwrap()))
+        Some((*id, slots::extension_of_mapped(self.slots, *id)))
     }
 }
 

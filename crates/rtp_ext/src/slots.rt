@@ -6,6 +6,7 @@ ghost use Rattle.std.specs.Option.{option_copied, option_map};
 ghost use Rattle.rtp_values.specs.Kind.{IsKnown};
 ghost use Rattle.rtp_ext.specs.EqualMaps.{same_slot, same_slot-equiv};
 ghost use Rattle.rtp_ext.specs.KindsById.{entry_of_kind, known_entry};
+ghost use Rattle.rtp_ext.specs.MapSlots.{IsMapped};
 ghost use Rattle.rtp_ext.specs.ExtensionMap as spec;
 
 use super::map::MAX_ID;
@@ -185,6 +186,14 @@ pub(super) fn extension(slots: &[Slot], id: u8) -> Option<&Extension>
     ensures { option_copied result ≡ spec.extension_at slots.now id }
 {
     slots.get(usize::from(id).checked_sub(1)?)?.extension()
+}
+
+// The extension of an id that is mapped to one.
+pub(super) fn extension_of_mapped(slots: &[Slot], id: u8) -> &Extension
+    requires { IsMapped slots.now id }
+    ensures { spec.extension_at slots.now id ≡ Some result.now }
+{
+    slots[usize::from(id) - 1].extension().unwrap()
 }
 
 // The lowest id that is mapped to the extension.
