@@ -300,7 +300,7 @@ fn what_cannot_be_put(rt: HostRuntime) {
 }
 
 // A packet, and the same without padding between its elements.
-const COMPACTED: [(&str, &str); 7] = [
+const COMPACTED: [(&str, &str); 8] = [
     (
         "90600005000000640000002cbede0003000010aa0021bbcc00000000010203",
         "90600005000000640000002cbede000210aa21bbcc000000010203",
@@ -327,6 +327,11 @@ const COMPACTED: [(&str, &str); 7] = [
     (
         "90600005000000640000002cbede000110aa20bb01",
         "90600005000000640000002cbede000110aa20bb01",
+    ),
+    // A block of another form, of bytes that would be elements and padding.
+    (
+        "90600005000000640000002cc0de000210aa000020bb000001",
+        "90600005000000640000002cc0de000210aa000020bb000001",
     ),
 ];
 

@@ -13,7 +13,7 @@ use std::process::Abort;
 // A buffer and the length of the packet in it; the SSRC, the payload type and the number of the
 // retransmission; and the buffer afterwards, with the length of the retransmission. The ids are those of
 // the standard map: 10 is the stream id, 11 the repaired one.
-const SENT: [(&str, usize, (u32, u8, u16), &str, usize); 7] = [
+const SENT: [(&str, usize, (u32, u8, u16), &str, usize); 8] = [
     // Exactly enough room.
     (
         "806000050000000a0000002caabb0000",
@@ -70,11 +70,19 @@ const SENT: [(&str, usize, (u32, u8, u16), &str, usize); 7] = [
         "80010002010203070000000212359900",
         16,
     ),
+    // A camera's block (ONVIF, 0xABAC), of another form, stays.
+    (
+        "90e0000500015f900000002cabac0003e58b3c4080000000e00700004142430000",
+        31,
+        (45, 99, 7),
+        "90e3000700015f900000002dabac0003e58b3c4080000000e00700000005414243",
+        33,
+    ),
 ];
 
 // A buffer and the length of the retransmission in it; the SSRC and the payload type of the packet; and
 // the buffer afterwards, with the length of the packet.
-const RESTORED: [(&str, usize, (u32, u8), &str, usize); 6] = [
+const RESTORED: [(&str, usize, (u32, u8), &str, usize); 7] = [
     (
         "806100070000000a0000002d0005aabb",
         16,
@@ -121,6 +129,14 @@ const RESTORED: [(&str, usize, (u32, u8), &str, usize); 6] = [
         (48, 94),
         "805e02050000000d00000030dd00dd00",
         14,
+    ),
+    // The camera's block stays.
+    (
+        "90e3000700015f900000002dabac0003e58b3c4080000000e00700000005414243",
+        33,
+        (44, 96),
+        "90e0000500015f900000002cabac0003e58b3c4080000000e00700004142434243",
+        31,
     ),
 ];
 
