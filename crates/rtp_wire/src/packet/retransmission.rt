@@ -121,7 +121,8 @@ fn carries_ids(header: &[u8], form: Option<ExtensionsForm>, ids: &NewIds) -> boo
 /// the retransmission stream, the elements have their new ids, as those of
 /// [`NewIds::to_retransmission`], and the payload is the original sequence number in two bytes, the
 /// high one first, and the original payload without its padding. M, the timestamp, the contributing
-/// sources and the data of the elements stay. Requires a payload type of at most 127.
+/// sources and the data of the elements stay, and so does a block of another form than 0xBEDE and
+/// 0x1000 to 0x100F. Requires a payload type of at most 127.
 ///
 /// Returns the first cause for which it can't, and then nothing changes. The retransmission is two
 /// bytes longer than the packet without its padding; the bytes of the buffer behind it stay.
@@ -180,8 +181,8 @@ pub fn to_retransmission(
 /// place, and returns the length of that (RFC 4588, 4): it has the SSRC and the payload type of the
 /// original stream and the original sequence number, the elements have their new ids, as those of
 /// [`NewIds::from_retransmission`], and the payload is what follows that number, without any
-/// padding. M, the timestamp, the contributing sources and the data of the elements stay. Requires a
-/// payload type of at most 127.
+/// padding. M, the timestamp, the contributing sources and the data of the elements stay, and so does a
+/// block of another form. Requires a payload type of at most 127.
 ///
 /// Returns the first cause for which it can't, and then nothing changes. The packet is two bytes
 /// shorter than the retransmission without its padding; the bytes of the buffer behind it stay.

@@ -207,7 +207,7 @@ impl<'a> RtpPacket<'a> {
         self.datagram[0] & 0x20 != 0
     }
 
-    /// Whether a block of header extensions follows the CSRC list.
+    /// Whether a block of header extensions follows the CSRC list, whatever its form.
     pub fn has_extension(&self) -> bool
         ensures { result ≡ (parts_of self.now).has_extension }
     {
