@@ -145,7 +145,8 @@ typedef struct {
 bool rtpw_is_rtcp(const uint8_t *datagram, size_t len);
 
 /* Reads the header of the packet in the buffer. RTPW_OK, or the first cause for which it holds none. A block of
- * another form than the two has a body, and no elements: the calls for these are as for a packet without any. */
+ * another form than the two has a body, and no elements: none are found in it, and none can be put into it. With
+ * Cryptex decrypt first: the contributing sources are encrypted too. */
 RTPW_CHECKED int32_t rtpw_packet_parse(const uint8_t *datagram, size_t len, rtpw_packet *packet);
 
 /* ---- A packet, changed where it lies ---- */

@@ -156,8 +156,7 @@ void growing_round(void) {
     size_t data_len = x / 65536 % 16 == 0 ? random_below(300) : random_below(20);
     found last;
     walked it = walk(before, packet_len);
-    if (it.cause == 0 && x / 1048576 % 2 == 0 &&
-        walk_last(before + it.body_at, it.body_len, it.form, id, &last)) {
+    if (it.cause == 0 && x / 1048576 % 2 == 0 && walk_last(before + it.body_at, it.body_len, it.form, id, &last)) {
         data_len = last.data_len; /* as many as it has */
     }
     uint8_t *data = block_in(&data_memory, data_len);

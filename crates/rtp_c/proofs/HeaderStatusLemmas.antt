@@ -1,38 +1,15 @@
 -- The statuses of a header that isn't read.
-use Rattle.std.proofs.Common.{◌≡◌, ◌⊎◌, ℕ, List, ℤ, Option, Some, None, true, inl, inr, refl, sym, ◌∙◌}
+use Rattle.std.proofs.Common.{◌≡◌, ℕ, List, ℤ, Option, Some, None, true, refl}
 use Rattle.std.specs.Prelude.{is_some}
 use Rattle.std.proofs.lemmas.Bool.{false≢true}
 use Rattle.rtp_wire.specs.declared.header.not_a_header.NotAHeader.{NotAHeader as Cause}
 use Rattle.rtp_wire.specs.declared.header.not_a_header.NotAHeader.TheVariants.{NotAPacket, UnknownForm}
-use Rattle.rtp_wire.specs.declared.packet.not_a_packet.NotAPacket.TheVariants.{CutFixedPart, OtherVersion, CutSources, CutBlockHeader, CutBlock}
 use Rattle.rtp_wire.specs.NoHeaderCause.{AppliesToHeader}
 use Rattle.rtp_wire.specs.NotAHeader.{NotAHeader, no_packet, unknown_form}
 use Rattle.rtp_wire.specs.Packet.{PacketParts, IsPacket}
-use Rattle.rtp_c.specs.Status.{ok, no_memory, unknown_form as unknown_form_status, header_status, IsHeaderStatus}
+use Rattle.rtp_c.specs.Status.{unknown_form as unknown_form_status, IsHeaderStatus}
 use Rattle.rtp_wire.proofs.NotAPacketLemmas.{IsNoPacket-applies}
 use Rattle.rtp_wire.proofs.NoHeaderLemmas.{IsFirstHeaderCause-other_form}
-use Rattle.rtp_c.proofs.StatusLemmas.{ok≢cause}
-
-ok≢header : (cause : Cause) → ok ≡ header_status cause → ⊥
-ok≢header (NotAPacket cause) same = ok≢cause cause same
-ok≢header UnknownForm same = cc
-
--- the status of a cause is not `OK`
-pub not_ok : (bytes : List ℕ) (status : ℤ) → (status ≡ no_memory) ⊎ IsHeaderStatus bytes status → status ≡ ok → ⊥
-not_ok bytes status (inl memory) same = cc
-not_ok bytes status (inr is) same = ok≢header is.cause (sym same ∙ is.status_is)
-
-no_memory≢header : (cause : Cause) → no_memory ≡ header_status cause → ⊥
-no_memory≢header (NotAPacket CutFixedPart) same = cc
-no_memory≢header (NotAPacket OtherVersion) same = cc
-no_memory≢header (NotAPacket CutSources) same = cc
-no_memory≢header (NotAPacket CutBlockHeader) same = cc
-no_memory≢header (NotAPacket CutBlock) same = cc
-no_memory≢header UnknownForm same = cc
-
--- nor that of refused memory
-pub not_no_memory : (bytes : List ℕ) (status : ℤ) → IsHeaderStatus bytes status → status ≡ no_memory → ⊥
-not_no_memory bytes status is same = no_memory≢header is.cause (sym same ∙ is.status_is)
 
 -- bytes to which a cause applies begin with no header
 pub NotAHeader-status : (bytes : List ℕ) (status : ℤ) → IsHeaderStatus bytes status → NotAHeader bytes
