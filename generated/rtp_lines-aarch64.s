@@ -2,8 +2,8 @@
  * rtp_lines for Linux on aarch64: the assembly text that Rattle's compiler makes of the program, each function of which is proved.
  * Made anew by: generated/make
  * kit: rattle-kit-13f logic dac8208d650f15bf
- * sources: b7c52403ccc2483e980c9fad0521b67eda4905129a42dde77a02f4199a117449
- * text: 257740f6a2613be1402c4ce06c11de03ca8592eeab60e86a7b299fbcd35e317f
+ * sources: d68bb268777882e49c3ce9dcb36426a408481c17b8be004dac3f2397ac970a4d
+ * text: 8bd0b81bd1d862f456035239c714d574312be99ef9fc27b6ebac76e6b834b32b
  * SPDX-License-Identifier: MIT OR Apache-2.0
  * Copyright (c) 2026 The rtp-wire developers (NOTICE)
  */

@@ -2,8 +2,8 @@
  * rtp_lines for Linux on x86_64: the assembly text that Rattle's compiler makes of the program, each function of which is proved.
  * Made anew by: generated/make
  * kit: rattle-kit-13f logic dac8208d650f15bf
- * sources: b7c52403ccc2483e980c9fad0521b67eda4905129a42dde77a02f4199a117449
- * text: 4166d54a74f8f13fbd1498bbfca100a5525421e7d5ce2d177aea02a46ab833c3
+ * sources: d68bb268777882e49c3ce9dcb36426a408481c17b8be004dac3f2397ac970a4d
+ * text: deffa58e7d487fa30aae11a20fca71c91f2a35c7e461c67025f3f2216e87aea5
  * SPDX-License-Identifier: MIT OR Apache-2.0
  * Copyright (c) 2026 The rtp-wire developers (NOTICE)
  */

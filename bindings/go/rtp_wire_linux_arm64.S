@@ -2,8 +2,8 @@
  * rtp_wire for Linux on aarch64: the assembly text that Rattle's compiler makes of the library for C, each function of which is proved.
  * Made anew by: generated/make
  * kit: rattle-kit-13f logic dac8208d650f15bf
- * sources: 7d268ed3b4f747884a4055cf71b595579f8d9e346c65dc6aa88d262e68f2cbc3
- * text: 26cc65a21eccd81e8a16ce6c1e1c055022ab500a251fd5143306dc4d289d2feb
+ * sources: d6e40fdab7f6362c78de2ec06034486ce8d4bbcc0de9003fa8c567ca0895239e
+ * text: a2fe86df4a3ddf355c95ccbcf0c6be7aff3eea577ed953e8b251cdede63f1941
  * SPDX-License-Identifier: MIT OR Apache-2.0
  * Copyright (c) 2026 The rtp-wire developers (NOTICE)
  */

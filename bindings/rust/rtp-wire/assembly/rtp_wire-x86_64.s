@@ -2,8 +2,8 @@
  * rtp_wire for Linux on x86_64: the assembly text that Rattle's compiler makes of the library for C, each function of which is proved.
  * Made anew by: generated/make
  * kit: rattle-kit-13f logic dac8208d650f15bf
- * sources: 7d268ed3b4f747884a4055cf71b595579f8d9e346c65dc6aa88d262e68f2cbc3
- * text: b4ef0c9f71ab08a4bb347c2202e6a7767cb553fbece24072a61b74d6bc24dca7
+ * sources: d6e40fdab7f6362c78de2ec06034486ce8d4bbcc0de9003fa8c567ca0895239e
+ * text: 92a491894071f1972428250fea58dd0667a94d59653a0c676a0383b817d654a1
  * SPDX-License-Identifier: MIT OR Apache-2.0
  * Copyright (c) 2026 The rtp-wire developers (NOTICE)
  */
