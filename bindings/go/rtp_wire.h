@@ -29,7 +29,7 @@
  *
  * Where a call has several faults, the status is that of the first of these:
  *   1. an argument is out of its range whatever the buffers hold: RTPW_BAD_FIELD;
- *   2. the buffer holds no packet, or one whose form has to be known: the first of the causes 1 to 6;
+ *   2. the buffer holds no packet, or the form of its block has to be known and isn't: one of the causes 1 to 6;
  *   3. memory is refused: RTPW_NO_MEMORY;
  *   4. what is named isn't there, or the packet or an element doesn't allow it: RTPW_NONE, or RTPW_BAD_FIELD;
  *   5. there is no room: RTPW_SHORT_BUFFER.
@@ -68,7 +68,8 @@ uint32_t rtpw_version(void);
 
 /* What a function returns as an int32_t. Those from 1 to 6 are the causes for which bytes are no RTP packet, in
  * the order in which they are looked for: the first that applies is returned. RTPW_UNKNOWN_FORM is one for
- * rtpw_parse, rtpw_parse_layers and rtpw_put_element alone, which have to know the form. */
+ * rtpw_parse and rtpw_parse_layers alone, which have to know the form; rtpw_put_element returns it after the
+ * others, for a packet whose block has another form. */
 enum {
     RTPW_OK = 0,               /* the call did what it is for */
     RTPW_CUT_FIXED_PART = 1,   /* fewer than the twelve bytes that every header has */

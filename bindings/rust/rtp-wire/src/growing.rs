@@ -42,8 +42,8 @@ pub fn put_element(
 
 /// Makes the packet in the buffer as short as its elements allow, and returns how many bytes it then has, which
 /// are the first ones of the buffer: the elements stand in a row, the body is filled up to whole words, and the
-/// payload moves to the front; what stands where reading ends goes. So [`remove_element`](crate::PacketMut::remove_element) and then this gives bytes
-/// back. A header alone is enough.
+/// payload moves to the front; what stands where reading ends goes, and a block of another form stays. So
+/// [`remove_element`](crate::PacketMut::remove_element) and then this gives bytes back. A header alone is enough.
 ///
 /// # Errors
 ///
