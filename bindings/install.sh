@@ -95,14 +95,6 @@ else
 fi
 fault=$(fault_of rtp_wire "$processor")
 
-compile() { # files
-    local file
-    for file; do
-        # shellcheck disable=SC2086
-        $cc -std=c99 -O2 -fPIC -Wall -Wextra -c "$file" -o "$work/$(basename -- "${file%.*}").o"
-    done
-}
-
 # Proves and builds the library, and tells whether it is the text.
 take_what_is_proved() {
     log=$work/rt.log times=$work/times
@@ -127,14 +119,7 @@ take_what_is_proved() {
         give_up "the text $text isn't what was proved: generated/make writes it anew"
     fi
     cp -- "$top/crates/rtp_c/out/librtp_c.a" "$work"
-    # The kit has the functions that take memory for x86-64 alone. They are linked where they are called.
     parts=(--whole-archive "$work/librtp_c.a" --no-whole-archive)
-    if [ "$processor" = x86_64 ]; then
-        parts+=("$lent/c/liblibc_c.a")
-    else
-        compile "$top/generated/heap.c"
-        parts+=("$work/heap.o")
-    fi
 }
 
 if [ -n "$proves" ]; then
@@ -142,8 +127,9 @@ if [ -n "$proves" ]; then
 elif [ -n "$fault" ]; then
     give_up "$text $fault: bindings/install.sh --prove, or else generated/make, proves and builds the sources as they are, and takes rt"
 else
-    compile "$text" "$top/generated/heap.c"
-    parts=("$work/rtp_wire-$processor.o" "$work/heap.o")
+    # shellcheck disable=SC2086
+    $cc -c "$text" -o "$work/rtp_wire-$processor.o"
+    parts=("$work/rtp_wire-$processor.o")
     what="the text $text"
 fi
 

@@ -34,7 +34,7 @@ pack_sources() {
     cp -r --parents -t "$scratch/$name" CHANGELOG.md LICENSE-APACHE LICENSE-MIT NOTICE SECURITY.md captures \
         bindings/{CMakeLists.txt,README.md,fill_in,install.sh,rtp_wire.pc.in,c/rtp_wire.h} bindings/cmake \
         bindings/examples/{*.c,*.cpp,*.h,call*} bindings/test/{fuzz.c,hostile_*.c,*.h,inputs.sh} \
-        generated/{heads.sh,heap.c,rtp_wire-*.s}
+        generated/{heads.sh,rtp_wire-*.s}
     ln -s bindings/README.md "$scratch/$name/README.md"
     tar --format=ustar --sort=name --owner=0 --group=0 --numeric-owner --mode=u+rw,go+r-w,a+X \
         --mtime="@$SOURCE_DATE_EPOCH" -C "$scratch" -c "$name" | gzip -9n >"$to/$name.tar.gz"

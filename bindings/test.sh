@@ -58,13 +58,11 @@ nm -g --defined-only "$library" | awk 'NF == 3 { print $3 }' | sort >"$scratch/e
 nm -D --defined-only "$prefix/lib/librtp_wire.so" | awk '{ print $3 }' | sort >"$scratch/shared"
 diff "$scratch/declared" "$scratch/exported" >&2 || fail 'the list and the library differ'
 diff "$scratch/declared" "$scratch/shared" >&2 || fail 'the list and the shared library differ'
-wanted=$(nm -u "$library" | awk '$1 == "U" { print $2 }' | sort -u | tr '\n' ' ')
-for name in $wanted; do
-    case $name in
-    malloc | realloc | free | memcpy | memmove | memset) ;;
-    *) fail "the library wants $name" ;;
-    esac
-done
+wants_as_said() { # nm, library
+    "$1" -u "$2" | awk '$1 == "U" { print $2 }' | sort -u | diff <(printf '%s\n' memcpy memmove memset) - >&2 ||
+        fail "what $2 wants"
+}
+wants_as_said nm "$library"
 for name in $(cat "$scratch/exported"); do
     for callers in 'bindings/test/hostile_*.c' bindings/test/stack.c bindings/rust/rtp-wire/src/sys.rs; do
         case $callers in *stack.c) word=${name#rtpw_} ;; *) word=$name ;; esac
@@ -72,7 +70,7 @@ for name in $(cat "$scratch/exported"); do
         grep -qw -- "$word" $callers || fail "$name is not called in $callers"
     done
 done
-said "symbols: $(wc -l <"$scratch/exported") functions, all named rtpw_*, as declared and each tested; wanted: $wanted"
+said "symbols: $(wc -l <"$scratch/exported") functions, all named rtpw_*, as declared and each tested; they want memcpy, memmove and memset alone"
 
 echo '#include <rtp_wire.h>' >"$scratch/header.c"
 for standard in c99 c11 c17; do
@@ -323,12 +321,7 @@ cc -std=c99 "${strict[@]}" bindings/test/threads.c "$library" -lpthread -o "$scr
 "$scratch/threads"
 cc -std=c99 -D_GNU_SOURCE "${strict[@]}" bindings/test/stack.c "$library" -Wl,-z,now -o "$scratch/stack"
 "$scratch/stack"
-said 'four threads that share what is const, and the stack, at most 4,096 bytes'
-
-wrap=-Wl,--wrap=malloc,--wrap=realloc,--wrap=free
-cc -std=c99 "${strict[@]}" bindings/test/refused.c "$library" "$wrap" -o "$scratch/refused"
-"$scratch/refused" || fail 'refused memory'
-said 'each growth of memory refused: what stands then, and no memory lost'
+said 'four threads that share what is const, and the stack, at most 4,096 bytes, or 6,144 where layers are written'
 
 if has aarch64-linux-gnu-gcc && has qemu-aarch64; then
     # shellcheck disable=SC2086
@@ -338,6 +331,7 @@ if has aarch64-linux-gnu-gcc && has qemu-aarch64; then
     CC='aarch64-linux-gnu-gcc -static' RUN=qemu-aarch64 bindings/test/abi.sh || fail 'the ABI on ARM'
     aarch64-linux-gnu-nm -g --defined-only "$arm" | awk 'NF == 3 { print $3 }' | sort | diff "$scratch/declared" - >&2 ||
         fail 'the list and the library for ARM differ'
+    wants_as_said aarch64-linux-gnu-nm "$arm"
     aarch64-linux-gnu-gcc -std=c99 "${strict[@]}" "${include[@]}" -static bindings/examples/lines.c "$arm" -o "$scratch/arm"
     compare qemu-aarch64 "$scratch/arm"
     for it in packets padding faults headers statuses receivers; do
@@ -346,11 +340,9 @@ if has aarch64-linux-gnu-gcc && has qemu-aarch64; then
     done
     aarch64-linux-gnu-gcc -std=c99 -D_GNU_SOURCE "${strict[@]}" -static bindings/test/stack.c "$arm" -o "$scratch/arm"
     qemu-aarch64 "$scratch/arm"
-    aarch64-linux-gnu-gcc -std=c99 "${strict[@]}" -static bindings/test/refused.c "$arm" "$wrap" -o "$scratch/arm"
-    qemu-aarch64 "$scratch/arm" || fail 'refused memory, on ARM'
     aarch64-linux-gnu-gcc -std=c99 -D_GNU_SOURCE "${strict[@]}" -static bindings/test/hostile*.c "$arm" -o "$scratch/arm"
     qemu-aarch64 "$scratch/arm" 4 20000
-    said 'on ARM, emulated: the ABI, layouts, the example, the values worked out by hand, the stack, refused memory, and random bytes 20,000 times'
+    said 'on ARM, emulated: the ABI, symbols, layouts, the example, the values worked out by hand, the stack, and random bytes 20,000 times'
 else
     said 'ARM was left out: there is no aarch64-linux-gnu-gcc or no qemu-aarch64'
 fi

@@ -10,7 +10,6 @@ bindings/c/rtp_wire.h bindings/rust/rtp-wire/tests/rtp_wire.h
 bindings/c/rtp_wire.h bindings/go/rtp_wire.h
 generated/rtp_wire-x86_64.s bindings/go/rtp_wire_linux_amd64.S
 generated/rtp_wire-aarch64.s bindings/go/rtp_wire_linux_arm64.S
-generated/heap.c bindings/go/heap.c
 LICENSE-APACHE bindings/rust/rtp-wire/LICENSE-APACHE
 LICENSE-MIT bindings/rust/rtp-wire/LICENSE-MIT
 NOTICE bindings/rust/rtp-wire/NOTICE

@@ -1,6 +1,6 @@
 /*
- * What the library calls where it takes memory, for a target for which the toolchain brings no such
- * object. malloc aligns for every type that the library has, and answers NULL where it has no memory.
+ * What the program calls where it takes memory, for a target for which the toolchain brings no such
+ * object. malloc aligns for every type that the program has, and answers NULL where it has no memory.
  */
 #include <stddef.h>
 #include <stdint.h>

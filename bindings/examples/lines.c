@@ -104,9 +104,6 @@ static int print_packet(unsigned long count, const uint8_t *datagram, size_t len
     rtpw_header header;
     uint64_t number;
     int32_t status = rtpw_parse(datagram, len, &map, &header);
-    if (status == RTPW_NO_MEMORY) {
-        return 3;
-    }
     if (status != RTPW_OK) {
         printf("packet %lu: unreadable\nverdict %lu: unreadable\n", count, count);
         return 0;

@@ -105,11 +105,7 @@ int main() {
         }
         packets++;
         rtpw_header header;
-        const std::int32_t status = rtpw_parse(datagram.data(), datagram.size(), &map, &header);
-        if (status == RTPW_NO_MEMORY) {
-            return 3;
-        }
-        if (status != RTPW_OK) {
+        if (rtpw_parse(datagram.data(), datagram.size(), &map, &header) != RTPW_OK) {
             std::cout << "packet " << packets << ": unreadable\nverdict " << packets << ": unreadable\n";
             continue;
         }

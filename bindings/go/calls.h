@@ -164,6 +164,20 @@ static inline call_len call_write(const rtpw_map *map, const rtpw_header *header
     return it;
 }
 
+static inline call_len call_wire_len_layers(const rtpw_map *map, const rtpw_header *header,
+                                            const rtpw_layers *layers) {
+    call_len it = {0};
+    it.status = rtpw_wire_len_layers(map, header, layers, &it.len);
+    return it;
+}
+
+static inline call_len call_write_layers(const rtpw_map *map, const rtpw_header *header, const rtpw_layers *layers,
+                                         uint8_t *buf, size_t size) {
+    call_len it = {0};
+    it.status = rtpw_write_layers(map, header, layers, buf, size, &it.len);
+    return it;
+}
+
 static inline call_len call_data_of(uint8_t kind, const rtpw_values *values, uint8_t *buf, size_t size) {
     call_len it = {0};
     it.status = rtpw_data_of(kind, values, buf, size, &it.len);

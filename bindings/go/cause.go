@@ -27,8 +27,6 @@ var (
 	ErrNotAPacket = errors.New("rtpwire: no RTP packet")
 	// ErrOtherForm: the block's form is neither 0xBEDE nor 0x1000 to 0x100F, and so has no elements.
 	ErrOtherForm = errors.New("rtpwire: a header extension of an unknown form")
-	// ErrNoMemory: memory was refused.
-	ErrNoMemory = errors.New("rtpwire: memory was refused")
 	// ErrShortBuffer: the buffer has too few bytes, and nothing else is amiss.
 	ErrShortBuffer = errors.New("rtpwire: a buffer is too short")
 	// ErrBadField: what was given is out of its range, or no packet can carry it.
@@ -67,8 +65,6 @@ func errorOf(status int32) error {
 		return nil
 	case 5:
 		return ErrOtherForm
-	case 7:
-		return ErrNoMemory
 	case 8:
 		return ErrShortBuffer
 	case 9:

@@ -63,6 +63,10 @@ func TestNothingPastTheEndIsTouched(t *testing.T) {
 			if err != rtpwire.ErrShortBuffer || n != 0 {
 				t.Fatal(n, err)
 			}
+			n, err = packet.Header.WriteLayers(buf, m, &layers)
+			if err != rtpwire.ErrShortBuffer || n != 0 {
+				t.Fatal(n, err)
+			}
 			packet.UnpaddedPayload()
 		}
 	}

@@ -47,12 +47,27 @@ func (h *Header) WireLen(m *Map) (int, error) {
 // Write writes the header to the front of the buffer, and returns how many bytes it took: the payload follows there.
 // Those after them stay. Where there is a block it has an element for each mapped id whose value is there, by rising
 // id, in the one-byte form where no id above 14 and no KindLayers is mapped, and no text that is written is empty. A
-// layer allocation is not written.
+// layer allocation isn't written ([Header.WriteLayers]).
 //
 // It returns ErrBadField where the payload type is above 127, or the orientation none of the four, and else
 // ErrShortBuffer where the buffer has too few bytes; nothing is written then.
 func (h *Header) Write(buf []byte, m *Map) (int, error) {
 	return h.write(buf, m)
+}
+
+// WireLenLayers is how many bytes WriteLayers writes: a multiple of 4. It returns ErrBadField as WriteLayers does.
+func (h *Header) WireLenLayers(m *Map, layers *Layers) (int, error) {
+	return h.wireLenLayers(m, layers)
+}
+
+// WriteLayers writes the header as Write does, and these layers, in an element for each id that means KindLayers: so
+// what [Layers.Parse] read is written again. A stream is written without the layers at its end that aren't active.
+//
+// It returns ErrBadField also where no element can carry the layers, mapped or not: the packet's stream is above 3, or
+// above 0 without a stream; a rate is 2^63 or more; a width or height is 0; there is a resolution of a layer that isn't
+// active, or behind an active layer without one; or they take more than 255 bytes.
+func (h *Header) WriteLayers(buf []byte, m *Map, layers *Layers) (int, error) {
+	return h.writeLayers(buf, m, layers)
 }
 
 // WriteWith writes the header with a block of these elements, whatever HasExtension and Values hold, and returns how

@@ -1,6 +1,7 @@
 package rtpwire
 
-// Layers says which simulcast streams and layers a sender of video keeps active (video-layers-allocation00).
+// Layers says which simulcast streams and layers a sender of video keeps active (video-layers-allocation00). It is
+// read by [Layers.Parse], or filled and written by [Header.WriteLayers].
 type Layers struct {
 	streams [4]Stream
 	count   uint8
@@ -39,14 +40,40 @@ func (l *Layers) Current() int {
 	return int(l.current)
 }
 
+// SetCurrent sets which of the streams the packet is of, from 0.
+func (l *Layers) SetCurrent(current uint8) {
+	l.current = current
+}
+
 // Streams is the streams, at most 4: none where nothing is sent.
 func (l *Layers) Streams() []Stream {
 	return l.streams[:l.count]
 }
 
+// SetStreams sets the streams. It returns ErrBadField, and changes nothing, where there are more than 4.
+func (l *Layers) SetStreams(streams ...Stream) error {
+	if len(streams) > len(l.streams) {
+		return ErrBadField
+	}
+	l.streams = [4]Stream{}
+	l.count = uint8(copy(l.streams[:], streams))
+	return nil
+}
+
 // Layers is the spatial layers by rising resolution, at most 4.
 func (s *Stream) Layers() []Layer {
 	return s.layers[:s.count]
+}
+
+// SetLayers sets the spatial layers, by rising resolution. It returns ErrBadField, and changes nothing, where there are
+// more than 4.
+func (s *Stream) SetLayers(layers ...Layer) error {
+	if len(layers) > len(s.layers) {
+		return ErrBadField
+	}
+	s.layers = [4]Layer{}
+	s.count = uint8(copy(s.layers[:], layers))
+	return nil
 }
 
 // Kbps is the rate of each temporal layer with those below it, in kilobits per second, at most 4: none where the
@@ -55,7 +82,24 @@ func (l *Layer) Kbps() []uint64 {
 	return l.kbps[:l.rates]
 }
 
+// SetKbps sets the rates: none where the layer isn't active. It returns ErrBadField, and changes nothing, where there
+// are more than 4.
+func (l *Layer) SetKbps(kbps ...uint64) error {
+	if len(kbps) > len(l.kbps) {
+		return ErrBadField
+	}
+	l.kbps = [4]uint64{}
+	l.rates = uint8(copy(l.kbps[:], kbps))
+	return nil
+}
+
 // Resolution is the resolution, where the sender tells it.
 func (l *Layer) Resolution() (resolution Resolution, ok bool) {
 	return Resolution{l.width, l.height, l.framerate}, l.hasResolution
+}
+
+// SetResolution sets the resolution.
+func (l *Layer) SetResolution(resolution Resolution) {
+	l.width, l.height, l.framerate = resolution.Width, resolution.Height, resolution.Framerate
+	l.hasResolution = true
 }

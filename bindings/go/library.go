@@ -185,9 +185,12 @@ func extend32(previous uint64, number uint32) uint64 {
 	return uint64(C.rtpw_extend_u32(C.uint64_t(previous), C.uint32_t(number)))
 }
 
+func (l *Layers) c() *C.rtpw_layers {
+	return (*C.rtpw_layers)(unsafe.Pointer(&l.streams))
+}
+
 func (l *Layers) parse(datagram []byte, m *Map) error {
-	layers := (*C.rtpw_layers)(unsafe.Pointer(&l.streams))
-	return errorOf(int32(C.call_parse_layers(first(datagram), size(datagram), m.c(), layers)))
+	return errorOf(int32(C.call_parse_layers(first(datagram), size(datagram), m.c(), l.c())))
 }
 
 // lastElement is the place of the last element of the id.
@@ -228,6 +231,14 @@ func (h *Header) wireLen(m *Map) (int, error) {
 
 func (h *Header) write(buf []byte, m *Map) (int, error) {
 	return lenOr(C.call_write(m.c(), h.c(), first(buf), size(buf)))
+}
+
+func (h *Header) wireLenLayers(m *Map, l *Layers) (int, error) {
+	return lenOr(C.call_wire_len_layers(m.c(), h.c(), l.c()))
+}
+
+func (h *Header) writeLayers(buf []byte, m *Map, l *Layers) (int, error) {
+	return lenOr(C.call_write_layers(m.c(), h.c(), l.c(), first(buf), size(buf)))
 }
 
 func (h *Header) writeWith(buf []byte, form Form, data []byte, places []Place) (int, error) {

@@ -25,8 +25,7 @@ type parts struct {
 // the map, and where its parts lie. A block of another form gives no values. On a port that RTP and RTCP share
 // [IsRTCP] comes first.
 //
-// It returns the first Cause for which the datagram is no packet; or ErrNoMemory, which only a layer allocation takes
-// ([KindLayers]). Nothing changes then.
+// It returns the first Cause for which the datagram is no packet; nothing changes then.
 func (p *Packet) Parse(datagram []byte, m *Map) error {
 	err := p.parse(datagram, m)
 	if err == nil {

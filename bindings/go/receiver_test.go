@@ -127,6 +127,7 @@ func TestNoMemoryIsTaken(t *testing.T) {
 	wideReceiver := wide(t, 16, 1)
 	var restarting rtpwire.RestartingReceiver
 	var elementData [rtpwire.MostData]byte
+	var layers rtpwire.Layers
 	number := uint16(0)
 	taken := testing.AllocsPerRun(100, func() {
 		number++
@@ -150,6 +151,12 @@ func TestNoMemoryIsTaken(t *testing.T) {
 		}
 		if err == nil {
 			_, err = packet.Header.Write(buf, m)
+		}
+		if err == nil {
+			err = layers.Parse(datagram, m)
+		}
+		if err == nil {
+			_, err = packet.Header.WriteLayers(buf, m, &layers)
 		}
 		places = packet.AppendPlaces(places[:0])
 		_, isThere := packet.Element(1)

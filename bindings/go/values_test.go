@@ -201,6 +201,52 @@ func TestLayers(t *testing.T) {
 	}
 }
 
+func TestLayersAreWritten(t *testing.T) {
+	// in the two-byte form, 5: two streams, of which the second is the packet's own; 5 kbit/s at 640 by 360, and 300
+	datagram := []byte{0x90, 0, 0, 1, 0, 0, 0, 2, 0, 0, 0, 3, 0x10, 0, 0, 3,
+		5, 10, 0x51, 0, 5, 0xAC, 2, 2, 127, 1, 103, 30}
+	m := new(rtpwire.Map)
+	same(t, "map", m.Set(5, rtpwire.KindLayers), nil)
+	packet := parsed(t, datagram, m)
+	var read, made rtpwire.Layers
+	same(t, "read", read.Parse(datagram, m), nil)
+
+	var small, large rtpwire.Layer
+	var streams [2]rtpwire.Stream
+	small.SetResolution(rtpwire.Resolution{Width: 640, Height: 360, Framerate: 30})
+	same(t, "rates", []error{small.SetKbps(5), large.SetKbps(300)}, []error{nil, nil})
+	same(t, "layers", []error{streams[0].SetLayers(small), streams[1].SetLayers(large)}, []error{nil, nil})
+	same(t, "streams", made.SetStreams(streams[:]...), nil)
+	made.SetCurrent(1)
+	same(t, "made", made, read)
+
+	buf := atEnd(t, make([]byte, 28))
+	n, err := packet.Header.WriteLayers(buf[:27], m, &made)
+	same(t, "no room", []any{n, err, buf[0]}, []any{0, rtpwire.ErrShortBuffer, uint8(0)})
+	n, err = packet.Header.WireLenLayers(m, &made)
+	same(t, "length", []any{n, err}, []any{28, nil})
+	n, err = packet.Header.WriteLayers(buf, m, &made)
+	same(t, "written", []any{n, err, buf}, []any{28, nil, datagram})
+	n, err = packet.Header.WriteLayers(buf, nil, &made)
+	same(t, "not mapped", []any{n, err, buf[12:16]}, []any{16, nil, []byte{0xBE, 0xDE, 0, 0}})
+
+	same(t, "five", []error{made.SetStreams(make([]rtpwire.Stream, 5)...), streams[0].SetLayers(make([]rtpwire.Layer, 5)...),
+		small.SetKbps(1, 2, 3, 4, 5)}, []error{rtpwire.ErrBadField, rtpwire.ErrBadField, rtpwire.ErrBadField})
+	same(t, "unchanged", []any{made, streams[0].Layers()[0], small.Kbps()}, []any{read, small, []uint64{5}})
+	made.SetCurrent(4)
+	for _, m := range []*rtpwire.Map{m, nil} {
+		n, err = packet.Header.WireLenLayers(m, &made)
+		same(t, "length of none", []any{n, err}, []any{0, rtpwire.ErrBadField})
+		n, err = packet.Header.WriteLayers(nil, m, &made)
+		same(t, "none", []any{n, err}, []any{0, rtpwire.ErrBadField})
+	}
+	same(t, "nothing sent", made.SetStreams(), nil)
+	made.SetCurrent(0)
+	same(t, "zero", made, rtpwire.Layers{})
+	n, err = packet.Header.WriteLayers(buf, m, &made)
+	same(t, "nothing is sent", []any{n, err, buf[12:20]}, []any{20, nil, []byte{0x10, 0, 0, 1, 5, 1, 0, 0}})
+}
+
 func TestMaps(t *testing.T) {
 	m := new(rtpwire.Map)
 	same(t, "the id 0", m.Set(0, rtpwire.KindMID), rtpwire.ErrBadField)

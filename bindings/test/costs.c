@@ -27,8 +27,8 @@ static rtpw_packet parts;
 static rtpw_header header, written;
 static rtpw_values values;
 static rtpw_element element;
-static rtpw_layers layers;
-static rtpw_map map, other_map;
+static rtpw_layers layers, given_layers;
+static rtpw_map map, other_map, layers_map;
 static rtpw_new_ids ids, repaired_ids;
 static rtpw_receiver receiver;
 static rtpw_wide_receiver wide;
@@ -67,6 +67,8 @@ enum { BODY_AT = 16, BODY_LEN = 16 };
     X(rtpw_remove_padding, rtpw_remove_padding(packet, sizeof packet, &len))                                          \
     X(rtpw_wire_len, rtpw_wire_len(&map, &written, &len))                                                             \
     X(rtpw_write, rtpw_write(&map, &written, buf, sizeof buf, &len))                                                  \
+    X(rtpw_wire_len_layers, rtpw_wire_len_layers(&layers_map, &written, &given_layers, &len))                         \
+    X(rtpw_write_layers, rtpw_write_layers(&layers_map, &written, &given_layers, buf, sizeof buf, &len))              \
     X(rtpw_write_with, rtpw_write_with(&written, rtcp, sizeof rtcp, &element, 1, buf, sizeof buf, &len))              \
     X(rtpw_write_with_form, rtpw_write_with_form(&written, rtcp, sizeof rtcp, &element, 1, 2, buf, sizeof buf, &len)) \
     X(rtpw_write_elements, rtpw_write_elements(rtcp, sizeof rtcp, &element, 1, RTPW_ONE_BYTE_FORM, buf, sizeof buf, &len)) \
@@ -130,6 +132,7 @@ static double nanoseconds(void (*run)(long), long calls) {
 int main(int argc, char **argv) {
     long calls = argc == 2 ? atol(argv[1]) : 0;
     double nothing;
+    int stream;
     if (calls < 1) {
         fputs("usage: costs CALLS\n", stderr);
         return 2;
@@ -138,6 +141,18 @@ int main(int argc, char **argv) {
     memcpy(kept, packet, sizeof packet);
     memset(&fields, 1, sizeof fields);
     if (rtpw_parse(packet, sizeof packet, &map, &written) != RTPW_OK || rtpw_receiver_start(&receiver, 1) != RTPW_OK) return 1;
+    /* three streams of a layer of three rates, which the map has beside the usual kinds */
+    layers_map = map;
+    layers_map.kind[5] = RTPW_KIND_LAYERS;
+    given_layers.count = 3;
+    for (stream = 0; stream < 3; stream++) {
+        rtpw_layer *layer = &given_layers.streams[stream].layers[0];
+        given_layers.streams[stream].count = 1;
+        layer->rates = 3;
+        layer->kbps[0] = 300;
+        layer->kbps[1] = 500;
+        layer->kbps[2] = 700;
+    }
     element.id = 3;
     element.data_len = 2;
     nothing = nanoseconds(run_nothing, calls);

@@ -8,7 +8,7 @@ cd -- "$(dirname -- "$0")/../.."
 scratch=$(mktemp -d)
 trap 'rm -rf -- "$scratch"' EXIT
 cc -std=c99 -O2 -Wall -Wextra -Wno-unused-result -I bindings/c bindings/test/costs.c "generated/rtp_wire-$(uname -m).s" \
-    generated/heap.c -o "$scratch/costs"
+    -o "$scratch/costs"
 "$scratch/costs" "${1:-1000000}" >"$scratch/nanoseconds"
 valgrind --tool=callgrind --callgrind-out-file="$scratch/counted" "$scratch/costs" 100 >/dev/null 2>&1
 callgrind_annotate --inclusive=yes --threshold=100 "$scratch/counted" | tr -d , |

@@ -22,10 +22,16 @@ uint8_t random_id(void);
 
 /* A map in which most numbers are those of kinds. */
 void random_map(rtpw_map *map);
-/* A header, most of which can be written. */
+/* A map of few ids, mostly; at times of ids up to 14 alone, and without a layer allocation. */
+void sparse_map(rtpw_map *map);
+/* A header, most of which can be written, and whether it can. */
 void random_header(rtpw_header *header);
+bool is_given(const rtpw_header *header);
 /* Writes the fixed part and the CSRC list of a header that has at most 15 sources: how many bytes they take. */
 size_t write_fixed(const rtpw_header *header, bool has_extension, uint8_t *bytes);
+/* Writes the block of a header that can be written, with these bytes as its layer allocation where there are any. */
+size_t write_block(const rtpw_map *map, const rtpw_values *values, const uint8_t *allocation, size_t len,
+                   uint8_t *bytes);
 
 void packets_round(void);
 void changes_round(void);
@@ -38,6 +44,7 @@ void values_round(void);
 void headers_round(void);
 void maps_round(void);
 void writing_round(void);
+void layers_round(void);
 void written_elements_round(void);
 void payload_round(void);
 
@@ -53,6 +60,7 @@ static inline void every_round(void) {
     headers_round();
     maps_round();
     writing_round();
+    layers_round();
     written_elements_round();
     payload_round();
 }

@@ -73,8 +73,7 @@ void random_header(rtpw_header *header) {
     random_values(&header->values);
 }
 
-/* A map of few ids, mostly; at times of ids up to 14 alone, and without a layer allocation. */
-static void sparse_map(rtpw_map *map) {
+void sparse_map(rtpw_map *map) {
     uint64_t x = random_u64();
     if (x % 8 == 0) {
         random_map(map);
@@ -108,7 +107,7 @@ static bool are_given(const rtpw_values *it) {
            (it->has_repaired_rid == 0 || is_text(it->repaired_rid, sizeof it->repaired_rid));
 }
 
-static bool is_given(const rtpw_header *header) {
+bool is_given(const rtpw_header *header) {
     return header->payload_type < 128 && header->csrc_count < 16 && are_given(&header->values);
 }
 
@@ -203,12 +202,18 @@ static int form_for(const rtpw_map *map, const rtpw_values *values) {
     return 1;
 }
 
-static size_t write_block(const rtpw_map *map, const rtpw_values *values, uint8_t *bytes) {
+size_t write_block(const rtpw_map *map, const rtpw_values *values, const uint8_t *allocation, size_t allocation_len,
+                   uint8_t *bytes) {
     int form = form_for(map, values);
     size_t at = 4;
     for (size_t id = 1; id < 256; id++) {
-        uint8_t data[17];
-        int len = data_of(map->kind[id], values, data);
+        uint8_t own[17];
+        const uint8_t *data = own;
+        int len = data_of(map->kind[id], values, own);
+        if (map->kind[id] == RTPW_KIND_LAYERS && allocation_len != 0) {
+            data = allocation;
+            len = (int)allocation_len;
+        }
         if (len < 0) {
             continue;
         }
@@ -374,7 +379,7 @@ void writing_round(void) {
     size_t wanted = 0;
     if (is_writable) {
         wanted = write_fixed(&same, same.has_extension != 0, written);
-        wanted += same.has_extension ? write_block(&same_map, &same.values, written + wanted) : 0;
+        wanted += same.has_extension ? write_block(&same_map, &same.values, NULL, 0, written + wanted) : 0;
     }
 
     size_t before, *len = length(&before);

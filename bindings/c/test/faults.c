@@ -121,6 +121,8 @@ static void null_is_no_bytes(void) {
     CHECK(rtpw_packet_parse(NULL, 0, &packet) == RTPW_CUT_FIXED_PART);
     CHECK(rtpw_parse(NULL, 0, &MAP, &header) == RTPW_CUT_FIXED_PART);
     CHECK(rtpw_parse_layers(NULL, 0, &MAP, &header, &layers) == RTPW_CUT_FIXED_PART);
+    memset(&layers, 0, sizeof layers);
+    CHECK(rtpw_write_layers(&MAP, &HEADER, &layers, NULL, 0, &len) == RTPW_SHORT_BUFFER && len == 9);
     CHECK(rtpw_set_marker(NULL, 0, true) == RTPW_CUT_FIXED_PART);
     CHECK(rtpw_set_payload_type(NULL, 0, 1) == RTPW_CUT_FIXED_PART);
     CHECK(rtpw_set_sequence_number(NULL, 0, 1) == RTPW_CUT_FIXED_PART);

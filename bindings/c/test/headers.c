@@ -142,6 +142,160 @@ static void layers_are_read(void) {
     CHECK(header.values.has_layers == 0 && layers.count == 0 && layers.streams[0].layers[0].kbps[0] == 0);
 }
 
+/* In the two-byte form, in which layers are written: the bytes that were read are written again. */
+static void layers_are_written(void) {
+    static const uint8_t datagram[28] = {0x90, 0, 0, 1,  0,    0, 0, 2,    0, 0, 0,   3, 0x10, 0,
+                                         0,    3, 5, 10, 0x51, 0, 5, 0xAC, 2, 2, 127, 1, 103,  30};
+    rtpw_map map = sample_map();
+    rtpw_header header;
+    rtpw_layers layers;
+    uint8_t buf[48];
+    size_t len = 0;
+    memset(buf, 0xEE, sizeof buf);
+    map.kind[5] = RTPW_KIND_LAYERS;
+    CHECK(rtpw_parse_layers(datagram, sizeof datagram, &map, &header, &layers) == RTPW_OK);
+    CHECK(rtpw_wire_len_layers(&map, &header, &layers, &len) == RTPW_OK && len == 28);
+    len = 7;
+    CHECK(rtpw_write_layers(&map, &header, &layers, buf, 27, &len) == RTPW_SHORT_BUFFER);
+    CHECK(len == 7 && buf[0] == 0xEE);
+    CHECK(rtpw_write_layers(&map, &header, &layers, buf, sizeof buf, &len) == RTPW_OK);
+    CHECK(len == 28 && memcmp(buf, datagram, 28) == 0 && buf[28] == 0xEE);
+
+    /* What doesn't count isn't looked at, and layers at the end of a stream that aren't active go. */
+    header.values.has_layers = 0;
+    layers.streams[0].count = 4;
+    memset(&layers.streams[2], 0xFF, sizeof layers.streams[2]);
+    layers.streams[1].layers[0].kbps[1] = UINT64_MAX;
+    layers.streams[1].layers[0].framerate = 7;
+    layers.streams[0].layers[0].has_resolution = 9;
+    memset(buf, 0, sizeof buf);
+    CHECK(rtpw_write_layers(&map, &header, &layers, buf, sizeof buf, &len) == RTPW_OK);
+    CHECK(len == 28 && memcmp(buf, datagram, 28) == 0);
+
+    /* Under two ids; and without an id, or a block, none. */
+    map.kind[200] = RTPW_KIND_LAYERS;
+    CHECK(rtpw_write_layers(&map, &header, &layers, buf, sizeof buf, &len) == RTPW_OK && len == 40);
+    CHECK(memcmp(buf + 12, "\x10\0\0\x06\x05\x0A", 6) == 0 && memcmp(buf + 18, datagram + 18, 10) == 0);
+    CHECK(memcmp(buf + 28, "\xC8\x0A", 2) == 0 && memcmp(buf + 30, datagram + 18, 10) == 0);
+    map.kind[5] = map.kind[200] = RTPW_KIND_NONE;
+    CHECK(rtpw_write_layers(&map, &header, &layers, buf, sizeof buf, &len) == RTPW_OK && len == 16);
+    CHECK(memcmp(buf + 12, "\xBE\xDE\0", 4) == 0);
+    map.kind[5] = RTPW_KIND_LAYERS;
+    header.has_extension = 0;
+    CHECK(rtpw_wire_len_layers(&map, &header, &layers, &len) == RTPW_OK && len == 12);
+    CHECK(rtpw_write_layers(&map, &header, &layers, buf, sizeof buf, &len) == RTPW_OK && len == 12 && buf[0] == 0x80);
+
+    /* Nothing is sent. */
+    header.has_extension = 1;
+    memset(&layers, 0, sizeof layers);
+    CHECK(rtpw_write_layers(&map, &header, &layers, buf, sizeof buf, &len) == RTPW_OK && len == 20);
+    CHECK(memcmp(buf + 12, "\x10\0\0\x01\x05\x01\0", 8) == 0);
+    header.payload_type = 128;
+    CHECK(rtpw_wire_len_layers(&map, &header, &layers, &len) == RTPW_BAD_FIELD && len == 20);
+}
+
+/* Four streams of four layers of four rates, whose first layer has a resolution of 1 * 1: 1 byte, 4 of counts, 64
+ * rates and 5 bytes. */
+static rtpw_layers many_layers(uint64_t kbps) {
+    rtpw_layers layers;
+    int s, l, i;
+    memset(&layers, 0, sizeof layers);
+    layers.count = 4;
+    for (s = 0; s < 4; s++) {
+        layers.streams[s].count = 4;
+        for (l = 0; l < 4; l++) {
+            layers.streams[s].layers[l].rates = 4;
+            for (i = 0; i < 4; i++) {
+                layers.streams[s].layers[l].kbps[i] = kbps;
+            }
+        }
+    }
+    layers.streams[0].layers[0].has_resolution = 1;
+    layers.streams[0].layers[0].width = layers.streams[0].layers[0].height = 1;
+    return layers;
+}
+
+/* That no element can carry them, mapped or not. */
+static int are_refused(const rtpw_layers *layers) {
+    rtpw_map map = sample_map(), none;
+    rtpw_header header;
+    uint8_t buf[300];
+    size_t len = 7;
+    memset(&none, 0, sizeof none);
+    memset(&header, 0, sizeof header);
+    memset(buf, 0xEE, sizeof buf);
+    map.kind[5] = RTPW_KIND_LAYERS;
+    return rtpw_wire_len_layers(&map, &header, layers, &len) == RTPW_BAD_FIELD &&
+           rtpw_write_layers(&map, &header, layers, buf, sizeof buf, &len) == RTPW_BAD_FIELD &&
+           rtpw_write_layers(&none, &header, layers, buf, 0, &len) == RTPW_BAD_FIELD && len == 7 && buf[0] == 0xEE;
+}
+
+static void layers_are_refused(void) {
+    rtpw_map map = sample_map();
+    rtpw_header header;
+    rtpw_layers layers = many_layers(0), changed;
+    rtpw_layer *last = &changed.streams[3].layers[3];
+    uint8_t buf[300];
+    size_t len = 0;
+    int i;
+    map.kind[5] = RTPW_KIND_LAYERS;
+    memset(&header, 0, sizeof header);
+    header.has_extension = 1;
+    /* 74 bytes, and with the header and the end of a word 92 */
+    CHECK(rtpw_wire_len_layers(&map, &header, &layers, &len) == RTPW_OK && len == 92);
+    CHECK(!are_refused(&layers));
+    changed = layers;
+    changed.count = 5;
+    CHECK(are_refused(&changed));
+    changed = layers;
+    changed.streams[3].count = 5;
+    CHECK(are_refused(&changed));
+    changed = layers;
+    last->rates = 5;
+    CHECK(are_refused(&changed));
+    changed = layers;
+    changed.current = 4;
+    CHECK(are_refused(&changed));
+    memset(&changed, 0, sizeof changed);
+    changed.current = 1;
+    CHECK(are_refused(&changed));
+    changed = layers;
+    last->kbps[3] = (uint64_t)1 << 63;
+    CHECK(are_refused(&changed));
+    last->kbps[3]--;
+    CHECK(!are_refused(&changed));
+    changed = layers;
+    changed.streams[0].layers[0].width = 0;
+    CHECK(are_refused(&changed));
+    changed = layers;
+    changed.streams[0].layers[0].height = 0;
+    CHECK(are_refused(&changed));
+    changed = layers;
+    changed.streams[0].layers[0].rates = 0;
+    CHECK(are_refused(&changed));
+    changed = layers;
+    changed.streams[0].layers[2] = changed.streams[0].layers[0];
+    CHECK(are_refused(&changed));
+    changed.streams[0].layers[1].rates = 0;
+    CHECK(!are_refused(&changed));
+
+    /* 10 bytes, 61 rates of four bytes and one of one are 255; two rates are none. */
+    layers = many_layers(0x200000);
+    last = &layers.streams[3].layers[3];
+    last->rates = 2;
+    last->kbps[1] = 127;
+    CHECK(!are_refused(&layers));
+    CHECK(rtpw_write_layers(&map, &header, &layers, buf, sizeof buf, &len) == RTPW_OK && len == 276);
+    CHECK(memcmp(buf + 12, "\x10\0\0\x41\x05\xFF\x3F\xFF\xFF\xFF\xFD\x80\x80\x80\x01", 15) == 0);
+    CHECK(memcmp(buf + 267, "\x7F\0\0\0\0\0\0\0\0", 9) == 0);
+    last->kbps[1] = 128;
+    CHECK(are_refused(&layers));
+    for (i = 0; i < 2; i++) {
+        last->kbps[i] = 127;
+    }
+    CHECK(!are_refused(&layers));
+}
+
 static void elements_are_written(void) {
     static const uint8_t data[4] = {0xAA, 0xBB, 0xCC, 0xDD};
     rtpw_element elements[2] = {{0, 1, 0, 1}, {1, 2, 0, 2}};
@@ -326,6 +480,8 @@ int main(void) {
     is_not_parsed();
     is_written();
     layers_are_read();
+    layers_are_written();
+    layers_are_refused();
     elements_are_written();
     elements_are_written_in_one_form();
     maps_are_filled();

@@ -27,7 +27,7 @@ static void statuses_are_told(void) {
         {4, "the header of the extension block is cut short"},
         {5, "a header extension of an unknown form"},
         {6, "the extension block is cut short"},
-        {7, "memory was refused"},
+        {7, "no status of this library"},
         {8, "a buffer is too short"},
         {9, "an argument is out of its range"},
         {10, "a replay, or too old to tell"},

@@ -25,17 +25,15 @@ from typing import Any, Dict, List, Optional, Tuple
 
 HERE = Path(__file__).resolve().parent.parent
 REPOSITORY = HERE.parent.parent
-# Where each text lies in the repository. Those in OPTIONAL are taken where they are there.
+# Where each text lies in the repository.
 TEXTS = {
     "rtp_wire.h": "bindings/c",
     "rtp_wire-x86_64.s": "generated",
     "rtp_wire-aarch64.s": "generated",
-    "heap.c": "generated",
     "LICENSE-APACHE": ".",
     "LICENSE-MIT": ".",
     "NOTICE": ".",
 }
-OPTIONAL = {"heap.c"}
 LICENCES = ("LICENSE-APACHE", "LICENSE-MIT", "NOTICE")
 MACHINES = {"x86_64": "x86_64", "amd64": "x86_64", "aarch64": "aarch64", "arm64": "aarch64"}
 METADATA = """\
@@ -69,7 +67,7 @@ def texts() -> Dict[str, Path]:
         for place in (HERE / "texts" / name, REPOSITORY / folder / name):
             if place.is_file():
                 found.setdefault(name, place)
-    missing = ", ".join(TEXTS.keys() - found.keys() - OPTIONAL)
+    missing = ", ".join(TEXTS.keys() - found.keys())
     if missing:
         raise SystemExit(
             f"rtp_wire: missing: {missing}. Build in a clone of the repository, with pip 21.3 or later, or from the"
@@ -118,9 +116,9 @@ def library(machine: str) -> bytes:
         names, made = Path(folder, "names"), Path(folder, "librtp_wire.so")
         names.write_text("{ global: rtpw_*; whole_packet_parse; local: *; };", "utf-8")
         found = texts()
-        sources = [found[name] for name in (f"rtp_wire-{machine}.s", "heap.c") if name in found]
         command = [*compiler(), "-shared", "-fPIC", "-std=c99", "-O2", "-s", "-o", str(made)]
-        command += [f"-I{found['rtp_wire.h'].parent}", str(HERE / "src/whole_packet.c"), *map(str, sources)]
+        command += [f"-I{found['rtp_wire.h'].parent}", str(HERE / "src/whole_packet.c")]
+        command += [str(found[f"rtp_wire-{machine}.s"])]
         command += [f"-Wl,--version-script={names}", "-Wl,-soname,librtp_wire.so", "-Wl,--no-undefined"]
         command += ["-Wl,-z,noexecstack", "-Wl,-z,relro", "-Wl,-z,now"]
         if subprocess.run(command, check=False).returncode != 0:

@@ -17,6 +17,7 @@ from rtp_wire import (
     NoElement,
     Packet,
     Resolution,
+    ShortBuffer,
     Time,
     Values,
     VideoTiming,
@@ -213,10 +214,51 @@ class LayerAllocations(unittest.TestCase):
             self.assertEqual(packet.values, Values(layers=self.SAID))
         self.assertEqual(Header.parse(self.DATAGRAM, Map({5: Kind.LAYERS})).values.layers, self.SAID)
 
-    def test_layers_are_not_written(self) -> None:
-        header = Header.parse(self.DATAGRAM, Map({5: Kind.LAYERS}))
-        # an empty block, in the two-byte form
-        self.assertEqual(header.write(Map({5: Kind.LAYERS})), self.DATAGRAM[:12] + bytes.fromhex("10000000"))
+    def test_layers_are_written(self) -> None:
+        map = Map({5: Kind.LAYERS})
+        header = Header.parse(self.DATAGRAM, map)
+        # in the two-byte form
+        written = self.DATAGRAM[:12] + bytes.fromhex("10000003 050A5100 05AC0202 7F01671E")
+        self.assertEqual((header.write(map), header.wire_len(map)), (written, 28))
+        self.assertEqual(Header.parse(written, map), header)
+        self.assertEqual(Header.parse(written, map).write(map), written)
+        buf = bytearray(b"\xEE" * 30)
+        self.assertEqual((header.write_to(buf, map), bytes(buf)), (28, written + b"\xEE\xEE"))
+        with self.assertRaises(ShortBuffer):
+            header.write_to(bytearray(27), map)
+        self.assertEqual(header.write(Map())[12:], bytes.fromhex("BEDE0000"))
+        # a layer at the end that isn't active goes; nothing is sent
+        off = Layer((), None)
+        header.values.layers = Layers(((Layer((5,), None), off, off),), 0)
+        self.assertEqual(header.write(map)[12:], bytes.fromhex("10000002 05030100 05000000"))
+        header.values.layers = Layers((), 0)
+        self.assertEqual(header.write(map)[12:], bytes.fromhex("10000001 05010000"))
+
+    def test_layers_that_no_element_can_carry(self) -> None:
+        one, size = Layer((5,), None), Resolution(1, 1, 0)
+        most = Layer(((1 << 63) - 1,) * 4, None)
+        rows = [
+            Layers((), 1),
+            Layers(((one,),), 4),
+            Layers(((one,),), -1),
+            Layers(((one,),) * 5, 0),
+            Layers(((one,) * 5,), 0),
+            Layers(((Layer((5,) * 5, None),),), 0),
+            Layers(((Layer((1 << 63,), None),),), 0),
+            Layers(((Layer((5,), Resolution(0, 1, 30)),),), 0),
+            Layers(((Layer((5,), Resolution(1, 0, 30)),),), 0),
+            Layers(((Layer((5,), Resolution(65536, 1, 30)),),), 0),
+            Layers(((Layer((5,), Resolution(1, 1, 256)),),), 0),
+            Layers(((Layer((), size),),), 0),
+            Layers(((one, Layer((5,), size)),), 0),
+            Layers(((most,) * 4,) * 4, 0),
+        ]
+        for layers in rows:
+            header = Header(has_extension=True, values=Values(layers=layers))
+            for map in (Map({5: Kind.LAYERS}), Map()):
+                for call in (header.wire_len, header.write):
+                    with self.assertRaises(BadField):
+                        call(map)
 
 
 if __name__ == "__main__":

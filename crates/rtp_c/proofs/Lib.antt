@@ -9,8 +9,9 @@ mod StoredMapLemmas
 mod NumberedLemmas
 mod MeantLemmas
 mod FewSlotsLemmas
-mod LayersLemmas
+mod PlacesLemmas
 mod HeaderViewLemmas
+mod GivenLayersLemmas
 mod GivenLemmas
 mod ElementDataLemmas
 mod WritingLemmas

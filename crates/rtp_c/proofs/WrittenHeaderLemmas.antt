@@ -1,5 +1,5 @@
 -- The header that C gives, as it is written.
-use Rattle.std.proofs.Common.{◌≡◌, ℕ, ◌<◌, List, ◌++◌, length, drop, Option, refl, sym, ap, ◌∙◌, subst, arith}
+use Rattle.std.proofs.Common.{◌≡◌, ℕ, ◌<◌, ◌≤◌, List, ◌++◌, length, drop, Option, refl, sym, ap, ◌∙◌, subst, arith}
 use Rattle.rtp_ext.specs.declared.form.ExtensionsForm.{ExtensionsForm}
 use Rattle.rtp_ext.specs.Elements.{Element}
 use Rattle.rtp_ext.specs.ExtensionMap.{Slots}
@@ -86,12 +86,19 @@ module _ (allowed : Option ExtensionsForm) (view : HeaderView) (bytes : List ℕ
       (subst (λ (b : List ℕ). room < length b) (wire_bytes_with-given allowed view (elements_in bytes views) too.header header too.is_given.fields is.fields) too.too_long)))
 
 -- a header for which only the room is short
-pub IsTooLong-refused : (numbers : List ℕ) (view : HeaderView) (slots : Slots) (header : RtpHeader) (room : ℕ) → IsToBeWritten numbers view slots header
-    → CannotBeWritten slots header room → IsTooLong numbers view room
-IsTooLong-refused numbers view slots header room is refused =
+pub IsTooLong-refused : (numbers : List ℕ) (IsGiven : RtpHeader → Type 0) (slots : Slots) (header : RtpHeader) (room : ℕ) → IsToBeWritten numbers IsGiven slots header
+    → header.payload_type ≤ 127 → header.csrc_count ≤ 15 → CannotBeWritten slots header room → IsTooLong numbers IsGiven room
+IsTooLong-refused numbers IsGiven slots header room is type_fits few_sources refused =
     record { slots = slots; header = header; is_given = is; too_long = only refused }
   where
     only : CannotBeWritten slots header room → room < length (wire_bytes slots header)
-    only (large_type above) = absurd (omega (arith, above, is.is_given.fields.payload_type_is, is.is_given.fields.payload_type_fits))
-    only (many above) = absurd (omega (arith, above, is.is_given.fields.count_is, is.is_given.fields.few_sources))
+    only (large_type above) = absurd (omega (arith, above, type_fits))
+    only (many above) = absurd (omega (arith, above, few_sources))
     only (short lt) = lt
+
+-- the given fields are those that a header can have
+pub type_fits : (view : HeaderView) (header : RtpHeader) → AreGivenFields view header → header.payload_type ≤ 127
+type_fits view header fields = omega (arith, fields.payload_type_is, fields.payload_type_fits)
+
+pub few_sources : (view : HeaderView) (header : RtpHeader) → AreGivenFields view header → header.csrc_count ≤ 15
+few_sources view header fields = omega (arith, fields.count_is, fields.few_sources)

@@ -5,7 +5,6 @@ use Rattle.rtp_vla.specs.Allocation.{nothing_sent}
 use Rattle.rtp_ext.specs.ExtensionMap.{Slots}
 use Rattle.rtp_wire.specs.declared.header.rtp_header.RtpHeader.{RtpHeader}
 use Rattle.rtp_wire.specs.Header.{IsWire}
-use Rattle.rtp_wire.specs.RefusedMemory.{HeaderHasAllocation}
 use Rattle.rtp_c.specs.declared.header.HeaderView.{HeaderView}
 use Rattle.rtp_c.specs.declared.layers.Layers.{Layers}
 use Rattle.rtp_c.specs.StoredMap.{HasKinds}
@@ -44,9 +43,3 @@ pub record IsParsedWithLayersAs (numbers bytes : List ℕ) (view : HeaderView) (
   pub begins : BeginsWithHeader numbers bytes header
   pub is_view : IsViewOfHeader header view
   pub layers_are : IsViewOfLayers (unwrap_or header.ext_vals.video_layers_allocation nothing_sent) layers
-
--- one of the elements of the bytes' block is mapped to the layer allocation and takes memory
-pub record TakesMemoryFrom (numbers bytes : List ℕ) : Type 0 where
-  pub slots : Slots
-  pub has_kinds : HasKinds numbers slots
-  pub has_allocation : HeaderHasAllocation slots bytes

@@ -1,5 +1,5 @@
 -- What C is told of a layer allocation (video-layers-allocation00).
-use Rattle.std.specs.Prelude.{◌≡◌, ◌≤◌, List, [], ◌∷◌, length, None, All}
+use Rattle.std.specs.Prelude.{◌≡◌, List, [], ◌∷◌, length, None}
 use Rattle.std.specs.Option.{option_map}
 use Rattle.rtp_vla.specs.Allocation as vla
 use Rattle.rtp_c.specs.declared.layers.Layer.{Layer}
@@ -36,17 +36,3 @@ pub record IsViewOfLayers (allocation : vla.Allocation) (view : Layers) : Type 0
   pub streams_are : AreInPlaces IsViewOfStream [] allocation.simulcast_streams view.streams
   pub count_is : view.count ≡ length allocation.simulcast_streams
   pub current_is : view.current ≡ allocation.current_simulcast_stream_index
-
--- ---- What has a place for each of its parts
-
--- what C's struct has a place for: at most four rates of each layer, four layers of each stream, and four streams
-abbrev pub HasFewRates : vla.Layer → Type 0
-HasFewRates layer = length layer.temporal_layers ≤ 4
-
-pub record HasFewLayers (stream : vla.Stream) : Type 0 where
-  pub few : length stream ≤ 4
-  pub each : All HasFewRates stream
-
-pub record HasFewStreams (allocation : vla.Allocation) : Type 0 where
-  pub few : length allocation.simulcast_streams ≤ 4
-  pub each : All HasFewLayers allocation.simulcast_streams

@@ -17,6 +17,7 @@ pub mod ValuesView
 pub mod LayersView
 pub mod HeaderView
 pub mod Given
+pub mod GivenLayers
 pub mod ElementData
 pub mod SetFields
 pub mod WrittenElements

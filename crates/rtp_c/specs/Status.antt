@@ -27,10 +27,6 @@ abbrev pub header_status : not_a_header.NotAHeader → ℤ
 header_status (not_a_header.TheVariants.NotAPacket cause) = cause_status cause
 header_status not_a_header.TheVariants.UnknownForm = unknown_form
 
--- memory was refused
-abbrev pub no_memory : ℤ
-no_memory = pos 7
-
 -- a buffer is too short
 abbrev pub short_buffer : ℤ
 short_buffer = pos 8

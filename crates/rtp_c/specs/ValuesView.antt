@@ -4,9 +4,7 @@ use Rattle.std.specs.Option.{option_map, option_and_then, is_some}
 use Rattle.rtp_base.specs.Flag.{bit}
 use Rattle.rtp_ext.specs.declared.form.ExtensionsForm.{ExtensionsForm}
 use Rattle.rtp_ext.specs.BlockValues.{SaysValues}
-use Rattle.rtp_ext.specs.Elements.{Element, AreElements}
 use Rattle.rtp_ext.specs.ExtensionMap.{Slots}
-use Rattle.rtp_ext.specs.Memory.{HasAllocation}
 use Rattle.rtp_values.specs.declared.value.values.ExtensionValues.{ExtensionValues}
 use Rattle.rtp_values.specs.declared.value.video_timing.VideoTiming.{VideoTiming}
 use Rattle.rtp_c.specs.declared.values.ValuesView.{ValuesView}
@@ -50,11 +48,3 @@ pub record IsReadAs (form : ExtensionsForm) (numbers body : List ℕ) (view : Va
   pub values : ExtensionValues
   pub says_values : SaysValues form slots body values
   pub is_view : IsViewOfValues values view
-
--- one of the body's elements is mapped to the layer allocation and takes memory
-pub record TakesMemoryIn (form : ExtensionsForm) (numbers body : List ℕ) : Type 0 where
-  pub slots : Slots
-  pub has_kinds : HasKinds numbers slots
-  pub elements : List Element
-  pub are_elements : AreElements form body elements
-  pub has_allocation : HasAllocation slots elements

@@ -11,35 +11,35 @@ use Rattle.rtp_wire.specs.WrittenWith.{wire_bytes_with, parts_with}
 use Rattle.rtp_c.specs.declared.header.HeaderView.{HeaderView}
 use Rattle.rtp_c.specs.declared.packet.ElementView.{ElementView}
 use Rattle.rtp_c.specs.StoredMap.{HasKinds}
-use Rattle.rtp_c.specs.Given.{IsGivenHeader, AreGivenFields}
+use Rattle.rtp_c.specs.Given.{AreGivenFields}
 use Rattle.rtp_c.specs.WrittenElements.{LieIn, elements_in}
 
--- the slots of the map of these numbers, and the header that is given
-pub record IsToBeWritten (numbers : List ℕ) (view : HeaderView) (slots : Slots) (header : RtpHeader) : Type 0 where
+-- the slots of the map of these numbers, and a header that is given
+pub record IsToBeWritten (numbers : List ℕ) (IsGiven : RtpHeader → Type 0) (slots : Slots) (header : RtpHeader) : Type 0 where
   pub has_kinds : HasKinds numbers slots
-  pub is_given : IsGivenHeader view header
+  pub is_given : IsGiven header
 
 -- as many bytes as the header takes under the map
-pub record IsLengthOf (numbers : List ℕ) (view : HeaderView) (len : ℕ) : Type 0 where
+pub record IsLengthOf (numbers : List ℕ) (IsGiven : RtpHeader → Type 0) (len : ℕ) : Type 0 where
   pub slots : Slots
   pub header : RtpHeader
-  pub is_given : IsToBeWritten numbers view slots header
+  pub is_given : IsToBeWritten numbers IsGiven slots header
   pub len_is : len ≡ length (wire_bytes slots header)
 
 -- the header stands at the front of the buffer, and its other bytes are as they were; followed by anything it is read as its image
-pub record IsWrittenHeader (numbers : List ℕ) (view : HeaderView) (old new : List ℕ) (len : ℕ) : Type 0 where
+pub record IsWrittenHeader (numbers : List ℕ) (IsGiven : RtpHeader → Type 0) (old new : List ℕ) (len : ℕ) : Type 0 where
   pub slots : Slots
   pub header : RtpHeader
-  pub is_given : IsToBeWritten numbers view slots header
+  pub is_given : IsToBeWritten numbers IsGiven slots header
   pub len_is : len ≡ length (wire_bytes slots header)
   pub written : new ≡ wire_bytes slots header ++ drop len old
   pub read_back : (rest : List ℕ) → IsWire slots (wire_bytes slots header ++ rest) (image_of slots header)
 
 -- the header takes more than the room
-pub record IsTooLong (numbers : List ℕ) (view : HeaderView) (room : ℕ) : Type 0 where
+pub record IsTooLong (numbers : List ℕ) (IsGiven : RtpHeader → Type 0) (room : ℕ) : Type 0 where
   pub slots : Slots
   pub header : RtpHeader
-  pub is_given : IsToBeWritten numbers view slots header
+  pub is_given : IsToBeWritten numbers IsGiven slots header
   pub too_long : room < length (wire_bytes slots header)
 
 -- the fields of the header are given, the data of the elements lie within the bytes, and a block can have them in the form that serves for them, or that alone is allowed

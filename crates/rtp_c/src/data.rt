@@ -9,6 +9,7 @@ use super::kinds::{is_named, kind_numbered};
 use super::status::{BAD_FIELD, NONE, OK, SHORT_BUFFER};
 use super::values::ValuesView;
 use rtp_values::ExtensionValues;
+use std::mem::ManuallyDrop;
 
 /// Writes the data that an element of this kind has for these values to the front of the buffer, as
 /// `rtpw_write` would (RFC 8285, 4.2 and 4.3): for an element that is set where it lies, or written with
@@ -37,20 +38,21 @@ pub extern "C" fn rtpw_data_of(
     if !is_named(kind) {
         return BAD_FIELD;
     }
-    let mut given = ExtensionValues::default();
-    let Some(()) = put_given_values(values, &mut given) else {
+    let mut unfreed = ManuallyDrop::new(ExtensionValues::default());
+    let given = &mut *unfreed;
+    let Some(()) = put_given_values(values, given) else {
         return BAD_FIELD;
     };
     let Some(kind) = kind_numbered(kind) else {
         return NONE;
     };
-    let Some(data_len) = kind.data_len(&given) else {
+    let Some(data_len) = kind.data_len(given) else {
         return NONE;
     };
     if buf.len() < data_len {
         return SHORT_BUFFER;
     }
-    kind.write_to(buf, &given);
+    kind.write_to(buf, given);
     *len = data_len;
     OK
 }

@@ -1,22 +1,25 @@
 //! A whole header, and how it is read from bytes.
 
-ghost use Rattle.std.specs.Prelude.{◌≡◌, ◌≢◌, ◌⊎◌, ◌↔◌, ◌≤◌, ◌-◌, ◌++◌, length, replicate, None, IfNone, IfOk, IfErr, IsErr};
-ghost use Rattle.rtp_values.specs.Values.{no_values};
+ghost use Rattle.std.specs.Prelude.{◌≡◌, ◌≢◌, ◌⊎◌, ◌↔◌, ◌≤◌, ◌-◌, ◌++◌, length, replicate, unwrap_or, None, IfNone, IfOk, IfErr, IsErr};
+ghost use Rattle.rtp_values.specs.declared.value.values.ExtensionValues.{ExtensionValues};
+ghost use Rattle.rtp_wire.specs.PacketElements.{HasValues};
+ghost use Rattle.rtp_c.specs.StoredMap.{numbered_slots};
 ghost use Rattle.rtp_wire.specs.Header.{header_of};
 ghost use Rattle.rtp_wire.specs.NotAHeader.{NotAHeader};
 ghost use Rattle.rtp_wire.specs.Packet.{IsPacket};
 ghost use Rattle.rtp_wire.specs.PartsOf.{parts_of};
-ghost use Rattle.rtp_c.specs.HeaderView.{IsViewOfHeader, BeginsWithHeader, IsParsedAs, IsParsedWithLayersAs, TakesMemoryFrom};
-ghost use Rattle.rtp_c.specs.Status.{ok, no_memory, IsHeaderStatus};
+ghost use Rattle.rtp_vla.specs.Allocation.{nothing_sent};
+ghost use Rattle.rtp_c.specs.LayersView.{IsViewOfLayers};
+ghost use Rattle.rtp_c.specs.HeaderView.{IsViewOfHeader, IsParsedAs, IsParsedWithLayersAs};
+ghost use Rattle.rtp_c.specs.Status.{ok, IsHeaderStatus};
 
 use super::kinds::StoredMap;
-use super::layers::{Layers, put_layers};
-use super::status::{NO_MEMORY, OK, UNKNOWN_FORM, header_status_of};
+use super::layers::{Layers, put_layers, put_no_layers};
+use super::status::{OK, UNKNOWN_FORM, header_status_of};
 use super::values::{ValuesView, flag_number, put_no_values, put_values};
-use rtp_ext::read_values;
-use rtp_values::ExtensionValues;
+use rtp_ext::read_layers;
+use rtp_vla::vla::VideoLayers;
 use rtp_wire::{Csrcs, RtpHeader, RtpPacket};
-use std::alloc::Global;
 
 /// The header of a packet (RFC 3550, 5.1), with the values of its block: `rtpw_header` in C, 224
 /// bytes.
@@ -64,12 +67,13 @@ fn put_sources(sources: Csrcs<'_>, slots: &mut [u32; 15]) -> u8
     count
 }
 
-// Puts what C is told of the packet's header, whose block gives these values.
+// Puts what C is told of the packet's header, with the values that its block gives under the map.
 #[inline(always)]
-fn put_header(packet: &RtpPacket<'_>, values: &ExtensionValues, view: &mut HeaderView)
+fn put_header(packet: &RtpPacket<'_>, map: &StoredMap, view: &mut HeaderView)
     requires sources { length (parts_of packet.now).sources ≤ 15 }
-    requires values { IfNone (parts_of packet.now).block (values.now ≡ no_values) }
-    ensures { IsViewOfHeader (header_of (parts_of packet.now) values.now) view.new }
+    ensures { (values : ExtensionValues)
+        × HasValues (numbered_slots map.now.kind) (parts_of packet.now).block values
+        × IsViewOfHeader (header_of (parts_of packet.now) values) view.new }
 {
     view.header_len = packet.header_len();
     view.timestamp = packet.timestamp();
@@ -80,10 +84,27 @@ fn put_header(packet: &RtpPacket<'_>, values: &ExtensionValues, view: &mut Heade
     view.marker = flag_number(packet.marker());
     view.has_padding = flag_number(packet.has_padding());
     view.has_extension = flag_number(packet.has_extension());
-    match packet.form() {
-        Some(_) => put_values(values, &mut view.values),
+    match packet.block() {
+        Some((form, body)) => put_values(body, form, map, &mut view.values),
         None => put_no_values(&mut view.values),
     }
+}
+
+// Puts what C is told of the layers that the packet's block gives under the map. It stays out of line,
+// so that the layers aren't on the stack while the header is read.
+#[inline(never)]
+fn put_layers_of(packet: &RtpPacket<'_>, map: &StoredMap, view: &mut Layers)
+    ensures { (values : ExtensionValues)
+        → HasValues (numbered_slots map.now.kind) (parts_of packet.now).block values
+        → IsViewOfLayers (unwrap_or values.video_layers_allocation nothing_sent) view.new }
+{
+    let Some((form, body)) = packet.block() else {
+        put_no_layers(view);
+        return;
+    };
+    let mut layers = VideoLayers::default();
+    read_layers(map, body, form, &mut layers);
+    put_layers(&layers, view);
 }
 
 // The status of the first cause for which no header begins the bytes, and `OK` where one does.
@@ -113,60 +134,21 @@ fn packet_in(buf: &[u8]) -> Result<RtpPacket<'_>, i32>
     Ok(packet)
 }
 
-// The packet whose header the bytes begin with, the values of which are read under the map, or the
-// status of what stands against it.
-#[inline(always)]
-fn read_packet<'a>(
-    alloc: Global,
-    buf: &'a [u8],
-    map: &StoredMap,
-    values: &mut ExtensionValues,
-) -> Result<RtpPacket<'a>, i32>
-    requires { values.old ≡ no_values }
-    ensures found { IfOk result (λ packet.
-        BeginsWithHeader map.now.kind buf.now (header_of (parts_of packet) values.new)) }
-    ensures without_block { IfOk result (λ packet.
-        IfNone (parts_of packet).block (values.new ≡ no_values)) }
-    ensures memory { IfErr result (λ status.
-        status ≡ no_memory → TakesMemoryFrom map.now.kind buf.now) }
-    ensures statuses { IfErr result (λ status.
-        (status ≡ no_memory) ⊎ IsHeaderStatus buf.now status) }
-    ensures refused { NotAHeader buf.now → IfErr result (IsHeaderStatus buf.now) }
-{
-    let packet = packet_in(buf)?;
-    let Some((form, body)) = packet.block() else {
-        return Ok(packet);
-    };
-    match read_values(map, alloc, body, form, values) {
-        Ok(()) => Ok(packet),
-        Err(_) => Err(NO_MEMORY),
-    }
-}
-
 /// Reads the header that the bytes begin with, with the values that its block gives under the map
 /// (RFC 3550, 5.1 and 5.3.1; RFC 8285, 4.2 and 4.3). Whatever follows the header isn't looked at. `OK`,
-/// or the status of the first cause for which no header begins there; `NO_MEMORY` where memory is
-/// refused to a layer allocation, which takes it only while it is read: an element of two bytes or
-/// more whose id is mapped to it. Where it isn't `OK` nothing is written.
+/// or the status of the first cause for which no header begins there, and then nothing is written.
 #[unsafe(no_mangle)]
-pub extern "C" fn rtpw_parse(
-    alloc: Global,
-    buf: &[u8],
-    map: &StoredMap,
-    header: &mut HeaderView,
-) -> i32
+pub extern "C" fn rtpw_parse(buf: &[u8], map: &StoredMap, header: &mut HeaderView) -> i32
     ensures found { result ≡ ok → IsParsedAs map.now.kind buf.now header.new }
-    ensures memory { result ≡ no_memory → TakesMemoryFrom map.now.kind buf.now }
 
     // The causes for which no header is read, and there are no others.
     ensures refused { IsHeaderStatus buf.now result ↔ NotAHeader buf.now }
-    ensures statuses { (result ≡ ok) ⊎ ((result ≡ no_memory) ⊎ IsHeaderStatus buf.now result) }
+    ensures statuses { (result ≡ ok) ⊎ IsHeaderStatus buf.now result }
     ensures unchanged { result ≢ ok → header.new ≡ header.old }
 {
-    let mut values = ExtensionValues::default();
-    match read_packet(alloc, buf, map, &mut values) {
+    match packet_in(buf) {
         Ok(packet) => {
-            put_header(&packet, &values, header);
+            put_header(&packet, map, header);
             OK
         }
         Err(status) => status,
@@ -178,7 +160,6 @@ pub extern "C" fn rtpw_parse(
 /// that sends nothing: each number is 0. Where it isn't `OK` nothing is written.
 #[unsafe(no_mangle)]
 pub extern "C" fn rtpw_parse_layers(
-    alloc: Global,
     buf: &[u8],
     map: &StoredMap,
     header: &mut HeaderView,
@@ -186,18 +167,20 @@ pub extern "C" fn rtpw_parse_layers(
 ) -> i32
     ensures found { result ≡ ok →
         IsParsedWithLayersAs map.now.kind buf.now header.new layers.new }
-    ensures memory { result ≡ no_memory → TakesMemoryFrom map.now.kind buf.now }
 
     // The causes for which no header is read, and there are no others.
     ensures refused { IsHeaderStatus buf.now result ↔ NotAHeader buf.now }
-    ensures statuses { (result ≡ ok) ⊎ ((result ≡ no_memory) ⊎ IsHeaderStatus buf.now result) }
+    ensures statuses { (result ≡ ok) ⊎ IsHeaderStatus buf.now result }
     ensures unchanged { result ≢ ok → (header.new ≡ header.old) × (layers.new ≡ layers.old) }
 {
-    let mut values = ExtensionValues::default();
-    match read_packet(alloc, buf, map, &mut values) {
+    match packet_in(buf) {
         Ok(packet) => {
-            put_header(&packet, &values, header);
-            put_layers(&values, layers);
+            put_header(&packet, map, header);
+            if header.values.has_layers == 0 {
+                put_no_layers(layers);
+                return OK;
+            }
+            put_layers_of(&packet, map, layers);
             OK
         }
         Err(status) => status,

@@ -1,14 +1,10 @@
 //! The layer allocation of a sender of video.
 
-ghost use Rattle.std.specs.Prelude.{◌≡◌, slice_index, slice_index_or, [], All, unwrap_or, IfSome};
+ghost use Rattle.std.specs.Prelude.{◌≡◌, slice_index, slice_index_or, []};
 ghost use Rattle.rtp_vla.specs.Allocation.{nothing_sent};
 ghost use Rattle.rtp_c.specs.LayersView as spec;
 
-use rtp_values::ExtensionValues;
-use rtp_vla::vla::{
-    SimulcastStreamAllocation, SpatialLayerAllocation, TemporalLayerAllocation,
-    VideoLayersAllocation,
-};
+use rtp_vla::vla::{TemporalLayerAllocation, VideoLayer, VideoLayers, VideoStream};
 
 /// What is active of one spatial layer: `rtpw_layer` in C, 40 bytes.
 #[repr(C)]
@@ -91,11 +87,10 @@ fn rate_at(rates: &[TemporalLayerAllocation], index: usize) -> u64
 }
 
 // What C is told of a layer.
-fn view_of_layer(layer: &SpatialLayerAllocation) -> Layer
-    requires { spec.HasFewRates layer.now }
+fn view_of_layer(layer: &VideoLayer) -> Layer
     ensures { spec.IsViewOfLayer layer.now result }
 {
-    let rates = &layer.temporal_layers;
+    let rates = layer.temporal_layers();
     let mut view = Layer {
         kbps: [
             rate_at(rates, 0),
@@ -109,7 +104,7 @@ fn view_of_layer(layer: &SpatialLayerAllocation) -> Layer
         has_resolution: 0,
         rates: rates.len() as u8,
     };
-    if let Some(known) = layer.resolution_and_framerate {
+    if let Some(known) = layer.resolution_and_framerate() {
         view.width = known.width;
         view.height = known.height;
         view.framerate = known.framerate;
@@ -119,8 +114,7 @@ fn view_of_layer(layer: &SpatialLayerAllocation) -> Layer
 }
 
 // What C is told of the layer at this index.
-fn layer_at(layers: &[SpatialLayerAllocation], index: usize) -> Layer
-    requires { All spec.HasFewRates layers.now }
+fn layer_at(layers: &[VideoLayer], index: usize) -> Layer
     ensures { spec.IsViewOfLayer (slice_index_or layers.now index spec.bare_layer) result }
 {
     match layers.get(index) {
@@ -130,11 +124,10 @@ fn layer_at(layers: &[SpatialLayerAllocation], index: usize) -> Layer
 }
 
 // What C is told of a stream.
-fn view_of_stream(stream: &SimulcastStreamAllocation) -> Stream
-    requires { spec.HasFewLayers stream.now }
+fn view_of_stream(stream: &VideoStream) -> Stream
     ensures { spec.IsViewOfStream stream.now result }
 {
-    let layers = &stream.spatial_layers;
+    let layers = stream.spatial_layers();
     Stream {
         layers: [
             layer_at(layers, 0),
@@ -147,8 +140,7 @@ fn view_of_stream(stream: &SimulcastStreamAllocation) -> Stream
 }
 
 // What C is told of the stream at this index.
-fn stream_at(streams: &[SimulcastStreamAllocation], index: usize) -> Stream
-    requires { All spec.HasFewLayers streams.now }
+fn stream_at(streams: &[VideoStream], index: usize) -> Stream
     ensures { spec.IsViewOfStream (slice_index_or streams.now index []) result }
 {
     match streams.get(index) {
@@ -158,11 +150,10 @@ fn stream_at(streams: &[SimulcastStreamAllocation], index: usize) -> Stream
 }
 
 // Puts what C is told of an allocation.
-fn put_allocation(allocation: &VideoLayersAllocation, view: &mut Layers)
-    requires { spec.HasFewStreams allocation.now }
+pub fn put_layers(allocation: &VideoLayers, view: &mut Layers)
     ensures { spec.IsViewOfLayers allocation.now view.new }
 {
-    let streams = &allocation.simulcast_streams;
+    let streams = allocation.simulcast_streams();
     view.streams = [
         stream_at(streams, 0),
         stream_at(streams, 1),
@@ -170,19 +161,12 @@ fn put_allocation(allocation: &VideoLayersAllocation, view: &mut Layers)
         stream_at(streams, 3),
     ];
     view.count = streams.len() as u8;
-    view.current = allocation.current_simulcast_stream_index;
+    view.current = allocation.current_simulcast_stream_index();
 }
 
-// Puts what C is told of the values' allocation, and of nothing that is sent where there is none. It
-// stays out of line, so that the layers that it makes aren't on the stack while the header is read.
-#[inline(never)]
-pub fn put_layers(values: &ExtensionValues, view: &mut Layers)
-    requires { IfSome values.now.video_layers_allocation spec.HasFewStreams }
-    ensures { spec.IsViewOfLayers
-        (unwrap_or values.now.video_layers_allocation nothing_sent) view.new }
+// Puts what C is told where nothing is sent.
+pub fn put_no_layers(view: &mut Layers)
+    ensures { spec.IsViewOfLayers nothing_sent view.new }
 {
-    match &values.video_layers_allocation {
-        Some(allocation) => put_allocation(allocation, view),
-        None => *view = Layers::NONE,
-    }
+    *view = Layers::NONE;
 }

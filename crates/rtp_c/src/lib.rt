@@ -9,6 +9,7 @@ ghost use Rattle.std.specs.Prelude.{◌≡◌};
 mod changing;
 mod data;
 mod given;
+mod given_layers;
 mod growing;
 mod header;
 mod kinds;
@@ -22,10 +23,12 @@ mod receiver;
 mod restarting;
 mod retransmission;
 mod rtcp;
+mod set_values;
 mod status;
 mod values;
 mod wide_receiver;
 mod writing;
+mod writing_layers;
 
 /// The version of the library: 65,536 times its major number, 256 times the minor one, and the patch.
 /// That of the header file is `RTPW_VERSION`.

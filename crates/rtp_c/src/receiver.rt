@@ -63,21 +63,19 @@ fn store(receiver: &Receiver, stored: &mut StoredReceiver)
         IsStored window stored.new }
 {
     let Some(window) = receiver.window() else {
-        *stored = StoredReceiver {
-            highest: receiver.rollover_count() * 65_536,
-            recorded_low: 0,
-            recorded_high: 0,
-            started: 0,
-        };
+        stored.highest = receiver.rollover_count() * 65_536;
+        stored.recorded_low = 0;
+        stored.recorded_high = 0;
+        stored.started = 0;
         return;
     };
     let (highest, recorded) = window.parts();
-    *stored = StoredReceiver {
-        highest: highest.get(),
-        recorded_low: (recorded % HALF) as u64,
-        recorded_high: (recorded / HALF) as u64,
-        started: 1,
-    };
+    stored.highest = highest.get();
+    stored.recorded_low = (recorded % HALF) as u64;
+    stored.recorded_high = (recorded / HALF) as u64;
+    if stored.started != 1 {
+        stored.started = 1;
+    }
 }
 
 // Takes the number where it may be taken, and then writes it.
@@ -90,24 +88,24 @@ fn take(receiver: &mut StoredReceiver, number: u64, written: &mut u64) -> i32
 {
     let seq_no = SeqNo::from(number);
     let mut changed = receiver_of(receiver);
-    if !changed.accepts(seq_no) {
+    if !changed.take(seq_no) {
         return REFUSED;
     }
-    changed.record(seq_no);
     store(&changed, receiver);
     *written = number;
     OK
 }
 
-// The same, out of line: what calls it stays short for packets above the highest number, as most are.
+// Takes a packet of any sequence number. It stays out of line, since mostly the next one comes.
 #[inline(never)]
-fn take_below_highest(receiver: &mut StoredReceiver, number: u64, written: &mut u64) -> i32
+fn receive_any(receiver: &mut StoredReceiver, sequence_number: u16, number: &mut u64) -> i32
     ensures judged { (count : ℕ) (taken : Numbers) → HoldsNumbers receiver.old count taken →
-        IsJudgedAs count taken number result written.new receiver.new }
+        IsJudgedBy count taken sequence_number result number.new receiver.new }
     ensures below_zero { MovesBelowZero receiver.old receiver.new }
-    ensures unchanged { result ≢ ok → (receiver.new ≡ receiver.old) × (written.new ≡ written.old) }
+    ensures unchanged { result ≢ ok → (receiver.new ≡ receiver.old) × (number.new ≡ number.old) }
 {
-    take(receiver, number, written)
+    let extended = rtpw_receiver_number_of(receiver, sequence_number);
+    take(receiver, extended, number)
 }
 
 /// Makes the receiver one that has taken nothing yet, whose first packet has this rollover count:
@@ -189,12 +187,15 @@ pub extern "C" fn rtpw_receiver_receive(
     ensures below_zero { MovesBelowZero receiver.old receiver.new }
     ensures unchanged { result ≢ ok → (receiver.new ≡ receiver.old) × (number.new ≡ number.old) }
 {
-    let extended = rtpw_receiver_number_of(receiver, sequence_number);
-    if extended > receiver.highest {
-        take(receiver, extended, number)
-    } else {
-        take_below_highest(receiver, extended, number)
+    // The number after the highest one is also the nearest to it.
+    let highest = receiver.highest;
+    if receiver.started == 1
+        && highest < u64::MAX
+        && (highest + 1) % 65_536 == u64::from(sequence_number)
+    {
+        return take(receiver, highest + 1, number);
     }
+    receive_any(receiver, sequence_number, number)
 }
 
 /// Extends a number of 16 bits to 64 bits: the number nearest to `previous`, modulo 2^64, that ends

@@ -19,8 +19,6 @@ pub const CUT_BLOCK_HEADER: i32 = 4;
 pub const UNKNOWN_FORM: i32 = 5;
 /// The block is longer than what is left.
 pub const CUT_BLOCK: i32 = 6;
-/// Memory was refused.
-pub const NO_MEMORY: i32 = 7;
 /// A buffer is too short.
 pub const SHORT_BUFFER: i32 = 8;
 /// A value is one that no packet can carry.

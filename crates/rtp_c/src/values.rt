@@ -1,22 +1,23 @@
 //! The values of a block's elements.
 
-ghost use Rattle.std.specs.Prelude.{◌≡◌, ◌≢◌, ◌↔◌, ◌⊎◌, ◌-◌, ◌<◌, ◌++◌, length, replicate, Some};
-ghost use Rattle.std.specs.Option.{option_map, option_and_then};
+ghost use Rattle.std.specs.Prelude.{◌≡◌, ◌≢◌, ◌↔◌, ◌⊎◌, ◌-◌, ◌<◌, ◌++◌, List, length, replicate, Some};
 ghost use Rattle.rtp_base.specs.Flag.{bit};
 ghost use Rattle.rtp_ext.specs.declared.form.ExtensionsForm.{ExtensionsForm};
+ghost use Rattle.rtp_ext.specs.BlockValues.{AreValues};
+ghost use Rattle.rtp_ext.specs.Elements.{Element, AreElements};
+ghost use Rattle.rtp_values.specs.declared.value.values.ExtensionValues.{ExtensionValues};
 ghost use Rattle.rtp_values.specs.Values.{no_values};
-ghost use Rattle.rtp_c.specs.Status.{ok, bad_field, no_memory};
-ghost use Rattle.rtp_c.specs.Told.{IsToldOr, IsTold, IsToldTime, IsToldText, no_timing, degrees_of};
+ghost use Rattle.rtp_c.specs.Status.{ok, bad_field};
+ghost use Rattle.rtp_c.specs.Told.{IsToldOr};
 ghost use Rattle.rtp_c.specs.PacketView.{form_number};
-ghost use Rattle.rtp_c.specs.ValuesView.{IsViewOfValues, IsReadAs, TakesMemoryIn};
+ghost use Rattle.rtp_c.specs.ValuesView.{IsViewOfValues, IsReadAs};
+ghost use Rattle.rtp_c.specs.StoredMap.{numbered_slots};
 
 use super::kinds::StoredMap;
 use super::packet::form_of;
-use super::status::{BAD_FIELD, NO_MEMORY, OK};
-use rtp_base::{MediaTime, Mid, Rid, put};
-use rtp_ext::read_values;
-use rtp_values::{AbsCaptureTime, ExtensionValues, VideoOrientation, VideoTiming};
-use std::alloc::Global;
+use super::status::{BAD_FIELD, OK};
+use rtp_base::put;
+use rtp_ext::{ExtensionsForm, read_values};
 
 /// A time as a number of ticks of a clock: `rtpw_time` in C, 16 bytes. It is `ticks / hertz` seconds.
 #[repr(C)]
@@ -103,7 +104,7 @@ pub fn flag_number(is_set: bool) -> u8
 }
 
 // The bytes of a text, and then zeros.
-fn ended_text<const N: usize>(text: &str) -> [u8; N]
+pub fn ended_text<const N: usize>(text: &str) -> [u8; N]
     requires room { length text.now < N }
     ensures { result ≡ text.now ++ replicate (N - length text.now) 0 }
 {
@@ -113,7 +114,7 @@ fn ended_text<const N: usize>(text: &str) -> [u8; N]
 }
 
 // Whether the value is there, as 1 or 0, and the value: of one that is absent the default.
-fn told<T: Copy + Default>(value: Option<T>) -> (u8, T)
+pub fn told<T: Copy + Default>(value: Option<T>) -> (u8, T)
     ensures { IsToldOr T.is_default result.0 result.1 value }
 {
     match value {
@@ -122,133 +123,15 @@ fn told<T: Copy + Default>(value: Option<T>) -> (u8, T)
     }
 }
 
-// The same of a flag, which is 1 or 0 too.
-fn told_flag(value: Option<bool>) -> (u8, u8)
-    ensures { IsTold result.0 result.1 (option_map bit value) }
+// Puts what C is told of the values that the elements of a block's body give under the map.
+pub fn put_values(body: &[u8], form: ExtensionsForm, map: &StoredMap, view: &mut ValuesView)
+    ensures { (elements : List Element) → AreElements form body.now elements →
+        (values : ExtensionValues) × AreValues (numbered_slots map.now.kind) elements no_values values
+        × IsViewOfValues values view.new }
 {
-    match value {
-        Some(value) => (1, flag_number(value)),
-        None => (0, 0),
-    }
-}
-
-// The same of an orientation, in degrees.
-fn told_orientation(value: Option<VideoOrientation>) -> (u8, u16)
-    ensures { IsTold result.0 result.1 (option_map degrees_of value) }
-{
-    match value {
-        Some(VideoOrientation::Deg0) => (1, 0),
-        Some(VideoOrientation::Deg90) => (1, 90),
-        Some(VideoOrientation::Deg180) => (1, 180),
-        Some(VideoOrientation::Deg270) => (1, 270),
-        None => (0, 0),
-    }
-}
-
-// The same of a time: one that is absent is 0 ticks of 0 hertz.
-fn told_time(value: Option<MediaTime>) -> (u8, Time)
-    ensures { IsToldTime result.0 result.1 value }
-{
-    match value {
-        Some(time) => (
-            1,
-            Time {
-                ticks: time.numer(),
-                hertz: time.denom(),
-            },
-        ),
-        None => (0, Time { ticks: 0, hertz: 0 }),
-    }
-}
-
-// The same of a tag, as a text that zeros end.
-fn told_mid(value: Option<Mid>) -> (u8, [u8; 17])
-    ensures { IsToldText 16 result.0 result.1 value }
-{
-    match value {
-        Some(mid) => (1, ended_text(mid.as_str())),
-        None => (0, [0; 17]),
-    }
-}
-
-// The same of a stream id.
-fn told_rid(value: Option<Rid>) -> (u8, [u8; 9])
-    ensures { IsToldText 8 result.0 result.1 value }
-{
-    match value {
-        Some(rid) => (1, ended_text(rid.as_str())),
-        None => (0, [0; 9]),
-    }
-}
-
-// The same of a video timing: one that is absent is zeros alone.
-fn told_timing(value: Option<VideoTiming>) -> (u8, VideoTiming)
-    ensures { IsToldOr (λ timing. timing ≡ no_timing) result.0 result.1 value }
-{
-    match value {
-        Some(timing) => (1, timing),
-        None => (
-            0,
-            VideoTiming {
-                flags: 0,
-                encode_start: 0,
-                encode_finish: 0,
-                packetize_complete: 0,
-                last_left_pacer: 0,
-            },
-        ),
-    }
-}
-
-// The capture time alone.
-fn capture_time(value: Option<AbsCaptureTime>) -> Option<u64>
-    ensures { result ≡ option_map (λ time. time.capture_time) value }
-{
-    match value {
-        Some(time) => Some(time.capture_time),
-        None => None,
-    }
-}
-
-// The offset of the capturer's clock, which a capture time need not have.
-fn capture_offset(value: Option<AbsCaptureTime>) -> Option<i64>
-    ensures { result ≡ option_and_then (λ time. time.clock_offset) value }
-{
-    match value {
-        Some(time) => time.clock_offset,
-        None => None,
-    }
-}
-
-// Puts what C is told of the values.
-pub fn put_values(values: &ExtensionValues, view: &mut ValuesView)
-    ensures { IsViewOfValues values.now view.new }
-{
-    (view.has_send_time, view.send_time) = told(values.abs_send_time);
-    (view.has_capture_time, view.capture_time) = told(capture_time(values.abs_capture_time));
-    (view.has_capture_offset, view.capture_offset) = told(capture_offset(values.abs_capture_time));
-    (view.has_playout_delay_min, view.playout_delay_min) = told_time(values.play_delay_min);
-    (view.has_playout_delay_max, view.playout_delay_max) = told_time(values.play_delay_max);
-    (view.has_transmission_offset, view.transmission_offset) = told(values.tx_time_offs);
-    (view.has_frame_marking, view.frame_marking) = told(values.frame_mark);
-    (view.has_transport_number, view.transport_number) = told(values.transport_cc);
-    (view.has_video_orientation, view.video_orientation) = told_orientation(
-        values.video_orientation,
-    );
-    (view.has_video_content_type, view.video_content_type) = told(values.video_content_type);
-    (view.has_audio_level, view.audio_level) = told(values.audio_level);
-    (view.has_voice_activity, view.voice_activity) = told_flag(values.voice_activity);
-    (view.has_mid, view.mid) = told_mid(values.mid);
-    (view.has_rid, view.rid) = told_rid(values.rid);
-    (view.has_repaired_rid, view.repaired_rid) = told_rid(values.rid_repair);
-    view.has_layers = flag_number(values.video_layers_allocation.is_some());
-    let (has_video_timing, timing) = told_timing(values.video_timing);
-    view.has_video_timing = has_video_timing;
-    view.timing_flags = timing.flags;
-    view.encode_start = timing.encode_start;
-    view.encode_finish = timing.encode_finish;
-    view.packetize_complete = timing.packetize_complete;
-    view.last_left_pacer = timing.last_left_pacer;
+    put_no_values(view);
+    // Nothing is refused to values that take no memory.
+    let _ = read_values(map, (), body, form, view);
 }
 
 // Puts that no value is there.
@@ -259,12 +142,9 @@ pub fn put_no_values(view: &mut ValuesView)
 }
 
 /// Reads the values that the elements of a block's body give under the map (RFC 8285, 4.2 and 4.3).
-/// `OK`; `BAD_FIELD` where the form is neither of the two; `NO_MEMORY` where memory is refused to a
-/// layer allocation, which takes it only while it is read: an element of two bytes or more whose id
-/// is mapped to it. Where it isn't `OK` nothing is written.
+/// `OK`; `BAD_FIELD` where the form is neither of the two, and then nothing is written.
 #[unsafe(no_mangle)]
 pub extern "C" fn rtpw_values_read(
-    alloc: Global,
     body: &[u8],
     form: u8,
     map: &StoredMap,
@@ -272,22 +152,14 @@ pub extern "C" fn rtpw_values_read(
 ) -> i32
     ensures read { result ≡ ok → (f : ExtensionsForm) × (form_number (Some f) ≡ form)
         × IsReadAs f map.now.kind body.now values.new }
-    ensures memory { result ≡ no_memory → (f : ExtensionsForm) × (form_number (Some f) ≡ form)
-        × TakesMemoryIn f map.now.kind body.now }
     ensures bad_field { (result ≡ bad_field) ↔
         ((f : ExtensionsForm) → form_number (Some f) ≢ form) }
-    ensures statuses { (result ≡ ok) ⊎ ((result ≡ no_memory) ⊎ (result ≡ bad_field)) }
+    ensures statuses { (result ≡ ok) ⊎ (result ≡ bad_field) }
     ensures unchanged { result ≢ ok → values.new ≡ values.old }
 {
     let Some(form) = form_of(form) else {
         return BAD_FIELD;
     };
-    let mut read = ExtensionValues::default();
-    match read_values(map, alloc, body, form, &mut read) {
-        Ok(_) => {
-            put_values(&read, values);
-            OK
-        }
-        Err(_) => NO_MEMORY,
-    }
+    put_values(body, form, map, values);
+    OK
 }

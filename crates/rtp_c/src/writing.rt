@@ -19,6 +19,7 @@ use super::packet::{ElementView, allowed_of, form_of};
 use super::status::{BAD_FIELD, OK, SHORT_BUFFER};
 use rtp_ext::{ElementList, ExtensionsForm, write_elements};
 use rtp_wire::RtpHeader;
+use std::mem::ManuallyDrop;
 
 // The most bytes that the body of a block has: 65,535 words (RFC 3550, 5.3.1).
 const MAX_BODY_LEN: usize = 4 * 65_535;
@@ -43,8 +44,9 @@ fn write_header_with(
     ensures statuses { (result ≡ ok) ⊎ ((result ≡ short_buffer) ⊎ (result ≡ bad_field)) }
     ensures unchanged { result ≢ ok → (buf.new ≡ buf.old) × (len.new ≡ len.old) }
 {
-    let mut rtp_header = RtpHeader::default();
-    let Some(()) = put_given_fields(header, &mut rtp_header) else {
+    let mut unfreed = ManuallyDrop::new(RtpHeader::default());
+    let rtp_header = &mut *unfreed;
+    let Some(()) = put_given_fields(header, rtp_header) else {
         return BAD_FIELD;
     };
     let Some(named) = NamedElements::new(bytes, elements) else {
@@ -130,13 +132,14 @@ pub extern "C" fn rtpw_write_with_form(
 /// is written.
 #[unsafe(no_mangle)]
 pub extern "C" fn rtpw_wire_len(map: &StoredMap, header: &HeaderView, len: &mut usize) -> i32
-    ensures length { result ≡ ok → IsLengthOf map.now.kind header.now len.new }
+    ensures length { result ≡ ok → IsLengthOf map.now.kind (IsGivenHeader header.now) len.new }
     ensures bad_field { (result ≡ bad_field) ↔ ((h : Header) → IsGivenHeader header.now h → ⊥) }
     ensures statuses { (result ≡ ok) ⊎ (result ≡ bad_field) }
     ensures unchanged { result ≢ ok → len.new ≡ len.old }
 {
-    let mut rtp_header = RtpHeader::default();
-    let Some(()) = put_given_header(header, &mut rtp_header) else {
+    let mut unfreed = ManuallyDrop::new(RtpHeader::default());
+    let rtp_header = &mut *unfreed;
+    let Some(()) = put_given_header(header, rtp_header) else {
         return BAD_FIELD;
     };
     *len = rtp_header.wire_len(map);
@@ -163,15 +166,17 @@ pub extern "C" fn rtpw_write(
     len: &mut usize,
 ) -> i32
     ensures written { result ≡ ok →
-        IsWrittenHeader map.now.kind header.now buf.old buf.new len.new }
+        IsWrittenHeader map.now.kind (IsGivenHeader header.now) buf.old buf.new len.new }
     ensures within { result ≡ ok → len.new ≤ length buf.new }
-    ensures short { result ≡ short_buffer → IsTooLong map.now.kind header.now (length buf.old) }
+    ensures short { result ≡ short_buffer →
+        IsTooLong map.now.kind (IsGivenHeader header.now) (length buf.old) }
     ensures bad_field { (result ≡ bad_field) ↔ ((h : Header) → IsGivenHeader header.now h → ⊥) }
     ensures statuses { (result ≡ ok) ⊎ ((result ≡ short_buffer) ⊎ (result ≡ bad_field)) }
     ensures unchanged { result ≢ ok → (buf.new ≡ buf.old) × (len.new ≡ len.old) }
 {
-    let mut rtp_header = RtpHeader::default();
-    let Some(()) = put_given_header(header, &mut rtp_header) else {
+    let mut unfreed = ManuallyDrop::new(RtpHeader::default());
+    let rtp_header = &mut *unfreed;
+    let Some(()) = put_given_header(header, rtp_header) else {
         return BAD_FIELD;
     };
     let Some(written) = rtp_header.try_write_to(buf, map) else {

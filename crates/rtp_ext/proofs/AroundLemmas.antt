@@ -1,7 +1,7 @@
 -- The elements before the last one of an id, and after it, each in a row.
 use Rattle.std.proofs.Common.{◌≡◌, ℕ, ◌+◌, ◌-◌, ◌≤◌, List, [], ◌∷◌, ◌++◌, length, take, drop, Option, Some, None, IfSome, IfNone, append_assoc, length-append, length-drop, length-take-le, arith, refl, sym, ap, ◌∙◌, subst, inl, inr, ◌⊎◌}
 use Rattle.std.specs.Prelude.{slice_range}
-use Rattle.std.proofs.lemmas.List.{take_at, drop_at, take-append-le, take-take, take_all, drop_all, append-nil}
+use Rattle.std.proofs.lemmas.List.{take_at, drop_at, take-append-le, take-take, append-nil}
 use Rattle.std.proofs.lemmas.Slice.{drop-append-drop, take-put_mid_below, between-put_mid}
 use borrow.Rule.Slice.PartMut.{put_mid}
 use Rattle.rtp_ext.specs.declared.form.ExtensionsForm.{ExtensionsForm}
@@ -69,7 +69,7 @@ pub record IsSplit (form : ExtensionsForm) (id : ℕ) (body : List ℕ) (start e
 AreElements-nothing : (form : ExtensionsForm) → AreElements form [] []
 AreElements-nothing form = record { pieces = []; tail = []; are_pieces = tt; is_tail = ended refl; body_is = refl; elements_are = refl }
 
-AreElements-whole : (form : ExtensionsForm) (bytes : List ℕ) (elements : List Element) → AreWhole form bytes elements → AreElements form bytes elements
+pub AreElements-whole : (form : ExtensionsForm) (bytes : List ℕ) (elements : List Element) → AreWhole form bytes elements → AreElements form bytes elements
 AreElements-whole form bytes elements whole =
     subst (λ b. AreElements form b elements) (append-nil bytes)
     (subst (AreElements form (bytes ++ [])) (append-nil elements) (AreElements-after form bytes [] elements [] whole (AreElements-nothing form)))
@@ -106,15 +106,17 @@ split_at form body id place is id_is =
       );
     }
 
-split_none : (form : ExtensionsForm) (body : List ℕ) (id : ℕ) (elements : List Element) → AreElements form body elements → HasNone elements id → IsSplit form id body (length body) (length body)
-split_none form body id elements are none = record {
+-- where none has the id, by where reading ends
+split_none : (form : ExtensionsForm) (body : List ℕ) (id end : ℕ) (elements : List Element) → AreElements form body elements → AreElements form (take end body) elements
+    → AreElements form (drop end body) [] → end ≤ length body → HasNone elements id → IsSplit form id body end end
+split_none form body id end elements are front rest within none = record {
   before = elements;
   after = [];
-  front_has = subst (λ b. AreElements form b elements) (sym (take_all (length body) body (omega arith))) are;
-  rest_has = subst (λ b. AreElements form b []) (sym (drop_all (length body) body (omega arith))) (AreElements-nothing form);
+  front_has = front;
+  rest_has = rest;
   none_after = λ k d here. absurd (omega arith);
   order = omega arith;
-  within = omega arith;
+  within = within;
   put_is = λ others bytes are_others.
       let same : others ≡ elements = AreElements-same form body others elements are_others are in
       ap (put_element (id, bytes)) same ∙ (put_element-none (id, bytes) elements none ∙ ap (λ es. es ++ (id, bytes) ∷ []) (sym (without-none id elements none)));
@@ -123,25 +125,38 @@ split_none form body id elements are none = record {
       inr (subst (λ es. HasNone es id) (sym same) none, sym same, refl);
 }
 
+-- up to where reading ends, and from there on
+module _ (form : ExtensionsForm) (body : List ℕ) (id : ℕ) (survey : Survey) (is : IsSurvey form body id survey) where
+  pub read_front : take survey.end body ≡ is.read.passed
+  read_front = ap (take survey.end) is.read.body_is ∙ take_at is.read.passed is.read.left survey.end (sym is.read.at_is)
+
+  pub read_rest : drop survey.end body ≡ is.read.left
+  read_rest = ap (drop survey.end) is.read.body_is ∙ drop_at is.read.passed is.read.left survey.end (sym is.read.at_is)
+
+  pub read_whole : AreWhole form is.read.passed is.elements
+  read_whole = subst (AreWhole form is.read.passed) is.all_read is.read.are_whole
+
+  pub read_within : survey.end ≤ length body
+  read_within = omega (arith, is.read.at_is, ap length is.read.body_is, length-append is.read.passed is.read.left)
+
+  split_read : HasNone is.elements id → IsSplit form id body survey.end survey.end
+  split_read none =
+      split_none form body id survey.end is.elements is.are_elements
+      (subst (λ b. AreElements form b is.elements) (sym read_front) (AreElements-whole form is.read.passed is.elements read_whole))
+      (subst (λ b. AreElements form b []) (sym read_rest) is.none_left) read_within none
+
 -- by a survey
 pub IsSplit-surveyed : (form : ExtensionsForm) (body : List ℕ) (id : ℕ) (survey : Survey) (start end : ℕ) → IsSurvey form body id survey
-    → IfSome survey.last (λ place. (start ≡ place.start) × (end ≡ place.end)) → IfNone survey.last ((start ≡ length body) × (end ≡ length body)) → IsSplit form id body start end
+    → IfSome survey.last (λ place. (start ≡ place.start) × (end ≡ place.end)) → IfNone survey.last ((start ≡ survey.end) × (end ≡ survey.end)) → IsSplit form id body start end
 IsSplit-surveyed form body id survey start end is some none = by_last survey.last is.last_is is.none_is some none
   where
     by_last : (last : Option Place) → IfSome last (λ place. (place.id ≡ id) × IsLastPlace (AreElements form) id body place × LiesLast form (AreElements form) id body place)
         → IfNone last (HasNone is.elements id)
-        → IfSome last (λ place. (start ≡ place.start) × (end ≡ place.end)) → IfNone last ((start ≡ length body) × (end ≡ length body)) → IsSplit form id body start end
+        → IfSome last (λ place. (start ≡ place.start) × (end ≡ place.end)) → IfNone last ((start ≡ survey.end) × (end ≡ survey.end)) → IsSplit form id body start end
     by_last None known has_none some none =
-        subst (λ (s : ℕ). IsSplit form id body s end) (sym none.0) (subst (λ (e : ℕ). IsSplit form id body (length body) e) (sym none.1) (split_none form body id is.elements is.are_elements has_none))
+        subst (λ (s : ℕ). IsSplit form id body s end) (sym none.0) (subst (λ (e : ℕ). IsSplit form id body survey.end e) (sym none.1) (split_read form body id survey is has_none))
     by_last (Some place) known has_none some none =
         subst (λ (s : ℕ). IsSplit form id body s end) (sym some.0) (subst (λ (e : ℕ). IsSplit form id body place.start e) (sym some.1) (split_at form body id place known.2 known.0))
-
--- of a body at the front of a slice
-pub IsSplit-by : (form : ExtensionsForm) (body : List ℕ) (body_len id : ℕ) (survey : Survey) (start end : ℕ) → body_len ≤ length body → IsSurvey form (take body_len body) id survey
-    → IfSome survey.last (λ place. (start ≡ place.start) × (end ≡ place.end)) → IfNone survey.last ((start ≡ body_len) × (end ≡ body_len)) → IsSplit form id (take body_len body) start end
-IsSplit-by form body body_len id survey start end within is some none =
-    IsSplit-surveyed form (take body_len body) id survey start end is some
-    (subst (λ (n : ℕ). IfNone survey.last ((start ≡ n) × (end ≡ n))) (sym (length-take-le body_len body within)) none)
 
 -- at some offsets
 pub some_split : (form : ExtensionsForm) (body : List ℕ) (id : ℕ) (survey : Survey) → IsSurvey form body id survey → (start : ℕ) × ((end : ℕ) × IsSplit form id body start end)
@@ -149,5 +164,5 @@ some_split form body id survey is = by_last survey.last is.last_is is.none_is
   where
     by_last : (last : Option Place) → IfSome last (λ place. (place.id ≡ id) × IsLastPlace (AreElements form) id body place × LiesLast form (AreElements form) id body place)
         → IfNone last (HasNone is.elements id) → (start : ℕ) × ((end : ℕ) × IsSplit form id body start end)
-    by_last None known has_none = (length body, (length body, split_none form body id is.elements is.are_elements has_none))
+    by_last None known has_none = (survey.end, (survey.end, split_read form body id survey is has_none))
     by_last (Some place) known has_none = (place.start, (place.end, split_at form body id place known.2 known.0))

@@ -14,8 +14,8 @@ use Rattle.rtp_ext.specs.ExtensionMap.{Entry, Slots, IsEmpty, IsId, entry_at, ex
 use Rattle.rtp_ext.specs.KindsById.{entry_of_kind, slots_of, known_alone, known_entry, known_slots}
 use Rattle.rtp_ext.specs.MapSlots.{mapped_ids, IsMapped}
 use Rattle.rtp_values.specs.KnownKind.{extension_of_kind}
-use Rattle.rtp_ext.specs.BlockValues.{Carries, AreFields, last, none, AreValues}
-use Rattle.rtp_ext.specs.Memory.{HasAllocation, IsStopped}
+use Rattle.rtp_ext.specs.BlockValues.{Carries, AreFields, last, none, AreValues, ReadElements}
+use Rattle.rtp_ext.specs.Memory.{HasAllocation, ReadUntilRefused}
 use Rattle.rtp_ext.proofs.ListingLemmas.{All-weaker}
 use Rattle.rtp_ext.proofs.MapLemmas.{entry_at-map}
 
@@ -145,7 +145,7 @@ none-known exts kind elements all =
     All-weaker (λ e. Carries (known_slots exts) kind e → ⊥) (λ e. Carries exts kind e → ⊥) elements
     (λ element not_carried carries. not_carried (Carries-known exts kind element carries)) all
 
-AreFields-known : (exts : Slots) (elements : List Element) (kind : Extension) (old new : ExtensionValues) → AreFields (known_slots exts) elements kind old new
+pub AreFields-known : (exts : Slots) (elements : List Element) (kind : Extension) (old new : ExtensionValues) → AreFields (known_slots exts) elements kind old new
     → AreFields exts elements kind old new
 AreFields-known exts elements kind old new (last before after element is mapped reads later) =
     last before after element is (known_slots-back exts element.0 kind mapped) reads (none-known exts kind after later)
@@ -168,10 +168,16 @@ HasAllocation-known exts known elements is has = record {
   );
 }
 
-pub IsStopped-known : (exts known : Slots) (elements : List Element) (old new : ExtensionValues) → known ≡ known_slots exts
-    → IsStopped known elements old new → IsStopped exts elements old new
+pub ReadElements-known : {V : Type 0} (Shows : V → ExtensionValues → Type 0) (exts known : Slots) (elements : List Element) (old new : V)
+    → known ≡ known_slots exts → ReadElements Shows known elements old new → ReadElements Shows exts elements old new
+ReadElements-known Shows exts known elements old new is values before shows =
+    let read = values before shows in
+    (read.0, read.1, AreValues-known exts known elements before read.0 is read.2)
+
+pub ReadUntilRefused-known : {V : Type 0} (Shows : V → ExtensionValues → Type 0) (exts known : Slots) (elements : List Element) (old new : V)
+    → known ≡ known_slots exts → ReadUntilRefused Shows known elements old new → ReadUntilRefused Shows exts elements old new
 unfolding HasAllocation-known
-IsStopped-known exts known elements old new is stopped = record {
+ReadUntilRefused-known Shows exts known elements old new is stopped = record {
   at = HasAllocation-known exts known elements is stopped.at;
-  values_are = AreValues-known exts known stopped.at.before old new is stopped.values_are;
+  values_are = ReadElements-known Shows exts known stopped.at.before old new is stopped.values_are;
 }

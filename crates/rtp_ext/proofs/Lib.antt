@@ -35,6 +35,8 @@ mod SurveyLemmas
 pub mod PutLemmas
 mod BetweenLemmas
 mod AroundLemmas
+mod RowLemmas
+mod LeftLemmas
 mod WidenLemmas
 mod WidenAroundLemmas
 pub mod AnewLemmas

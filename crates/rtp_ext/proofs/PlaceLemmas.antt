@@ -1,11 +1,11 @@
 -- Places of elements by offsets, and what is written there.
-use Rattle.std.proofs.Common.{◌≡◌, ℕ, ◌+◌, ◌-◌, ◌≤◌, List, ◌++◌, length, take, drop, replicate, Option, append_assoc, length-append, length-drop, length-take-le, take-append-drop, arith, refl, sym, ap, ◌∙◌}
-use Rattle.std.proofs.lemmas.List.{length-replicate, take_at, drop_at, take_rest}
+use Rattle.std.proofs.Common.{◌≡◌, ℕ, ◌+◌, ◌≤◌, List, ◌++◌, length, take, drop, replicate, Option, append_assoc, length-append, length-drop, length-take-le, take-append-drop, arith, refl, sym, ap, ◌∙◌, subst}
+use Rattle.std.proofs.lemmas.List.{length-replicate, take_at, drop_at}
 use Rattle.rtp_base.specs.Overwriting.{overwritten}
 use Rattle.rtp_ext.specs.declared.form.ExtensionsForm.{ExtensionsForm}
 use Rattle.rtp_ext.specs.declared.form.ExtensionsForm.TheVariants.{OneByte, TwoByte}
 use Rattle.rtp_ext.specs.declared.place.Place.{Place}
-use Rattle.rtp_ext.specs.Elements.{element_bytes}
+use Rattle.rtp_ext.specs.Elements.{IsElement, element_bytes}
 use Rattle.rtp_ext.specs.ElementReading.{BeginsWithElement}
 use Rattle.rtp_ext.specs.ElementWriting.{element_header}
 use Rattle.rtp_ext.specs.ElementsInPlace.{bytes_under}
@@ -60,42 +60,33 @@ pub length-lies : (form : ExtensionsForm) (body : List ℕ) (place : Place) (lie
 length-lies form body place lies = omega (arith, lies.data_is, lies.end_is, length-element form place.id lies.bytes)
 
 -- the first element from an offset on
-pub length-begins : (form : ExtensionsForm) (body : List ℕ) (at id : ℕ) (bytes after : List ℕ) → at ≤ length body
-    → (begins : BeginsWithElement form (take (length body - at) (drop at body)) (id, bytes) after)
-    → at + begins.padding + length (element_header form id (length bytes)) + length bytes + length after ≡ length body
-length-begins form body at id bytes after within begins =
-    let whole : drop at body ≡ replicate begins.padding 0 ++ (element_bytes form (id, bytes) ++ after) = sym (take_rest body at) ∙ begins.bytes_are in
-    omega (
-      arith,
-      ap length whole,
-      length-drop at body,
-      length-append (replicate begins.padding 0) (element_bytes form (id, bytes) ++ after),
-      length-replicate {A = ℕ} begins.padding 0,
-      length-append (element_bytes form (id, bytes)) after,
-      length-element form id bytes,
-    )
+module _ (form : ExtensionsForm) (body left : List ℕ) (at id : ℕ) (bytes after : List ℕ) (within : at ≤ length body) (left_is : left ≡ drop at body)
+    (begins : BeginsWithElement form left (id, bytes) after) where
+  pub length-begins : at + begins.padding + length (element_header form id (length bytes)) + length bytes + length after ≡ length body
+  length-begins =
+      omega (
+        arith,
+        ap length (sym left_is ∙ begins.bytes_are),
+        length-drop at body,
+        length-append (replicate begins.padding 0) (element_bytes form (id, bytes) ++ after),
+        length-replicate {A = ℕ} begins.padding 0,
+        length-append (element_bytes form (id, bytes)) after,
+        length-element form id bytes,
+      )
 
-pub IsNextPlace-begins : (form : ExtensionsForm) (body : List ℕ) (at id header : ℕ) (bytes after : List ℕ) → at ≤ length body
-    → BeginsWithElement form (take (length body - at) (drop at body)) (id, bytes) after → header ≡ length (element_header form id (length bytes))
-    → IsNextPlace form body at (record {
-      id = id;
-      start = length body - length after - length bytes - header;
-      data_start = length body - length after - length bytes;
-      end = length body - length after;
-    })
-IsNextPlace-begins form body at id header bytes after within begins header_is =
-    let total : at + begins.padding + length (element_header form id (length bytes)) + length bytes + length after ≡ length body = length-begins form body at id bytes after within begins in
-    record {
-      padding = begins.padding;
-      bytes = bytes;
-      after = after;
-      is_element = begins.is_element;
-      left_is = sym (take_rest body at) ∙ begins.bytes_are;
-      start_is = omega arith;
-      data_is = omega arith;
-      end_is = omega arith;
-      within = omega arith;
-    }
+  pub IsNextPlace-begins : (place : Place) → place.id ≡ id → place.start + length (element_header form id (length bytes)) ≡ place.data_start
+      → place.data_start + length bytes ≡ place.end → place.end + length after ≡ length body → IsNextPlace form body at place
+  IsNextPlace-begins place id_is start_at data_at end_at = record {
+    padding = begins.padding;
+    bytes = bytes;
+    after = after;
+    is_element = subst (λ (i : ℕ). IsElement form (i, bytes)) (sym id_is) begins.is_element;
+    left_is = sym left_is ∙ (begins.bytes_are ∙ ap (λ (i : ℕ). replicate begins.padding 0 ++ (element_bytes form (i, bytes) ++ after)) (sym id_is));
+    start_is = omega (arith, length-begins);
+    data_is = omega (arith, length-header form place.id id (length bytes));
+    end_is = omega arith;
+    within = end_at;
+  }
 
 pub LiesAt-next : (form : ExtensionsForm) (body : List ℕ) (at : ℕ) (place : Place) → at ≤ length body → IsNextPlace form body at place → LiesAt form body place
 LiesAt-next form body at place within next = record {

@@ -86,18 +86,22 @@ none_known form id bytes elements (Some place) is = tt
 
 -- where reading ends
 pub IsSurvey-end : (form : ExtensionsForm) (body : List ℕ) (at id : ℕ) (last : Option Place) (count others_len : ℕ) → IsSurveyedTo form body at id last count others_len
-    → BeginsWithNoElement form (drop at body) → IsSurvey form body id (record { last = last; count = count; others_len = others_len })
+    → BeginsWithNoElement form (drop at body) → IsSurvey form body id (record { last = last; count = count; others_len = others_len; end = at })
 IsSurvey-end form body at id last count others_len was none =
     let p = was.passed in
+    let left : AreElements form p.left [] =
+    subst (λ b. AreElements form b []) (ap (drop at) p.body_is ∙ drop_at p.passed p.left at (sym p.at_is)) (AreElements-none form (drop at body) none) in
     record {
       elements = p.elements;
       are_elements = subst (λ b. AreElements form b p.elements) (sym p.body_is)
           (subst (AreElements form (p.passed ++ p.left)) (append-nil p.elements)
-          (AreElements-after form p.passed p.left p.elements [] p.are_whole
-          (subst (λ b. AreElements form b []) (ap (drop at) p.body_is ∙ drop_at p.passed p.left at (sym p.at_is)) (AreElements-none form (drop at body) none))));
+          (AreElements-after form p.passed p.left p.elements [] p.are_whole left));
       last_is = last_known form body id last (IsPassed-id form body at id last p) (IsPassed-found form body at id last p none) (IsPassed-lies form body at id last p none);
       none_is = none_known form id p.passed p.elements last p.last_is;
       count_is = was.count_is;
       others_are = was.others_are;
       others_within = omega (arith, was.others_small, p.at_is, ap length p.body_is, length-append p.passed p.left);
+      read = p;
+      all_read = refl;
+      none_left = left;
     }

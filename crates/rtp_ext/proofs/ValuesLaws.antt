@@ -7,17 +7,19 @@ use Rattle.rtp_values.specs.declared.kind.Extension.{Extension}
 use Rattle.rtp_values.specs.declared.value.values.ExtensionValues.{ExtensionValues}
 use Rattle.rtp_ext.specs.Elements.{Element}
 use Rattle.rtp_ext.specs.ExtensionMap.{Slots, extension_at}
-use Rattle.rtp_values.specs.Values.{Reads, with_fields, SameFields, IsWellFormed}
+use Rattle.rtp_values.specs.Values.{Reads, SameFields, IsWellFormed}
+use Rattle.rtp_values.specs.KindBytes.{ReadsInto}
 use Rattle.rtp_values.proofs.FieldLemmas.{Reads-one, Reads-same, SameFields-joined, SameFields-refl, SameFields-trans, SameFields-others, same_values}
 use Rattle.rtp_values.proofs.KindLemmas.{same_or_not, one_kind}
-use Rattle.rtp_ext.specs.BlockValues.{Carries, AreFields, last, none, AreValues}
+use Rattle.rtp_ext.specs.BlockValues.{Carries, AreFields, last, none, AreValues, ReadElements}
+use Rattle.rtp_ext.specs.Memory.{IsStopped, ReadUntilRefused}
 
 -- before any element the values are the old ones
 pub AreValues-none : (exts : Slots) (old : ExtensionValues) → AreValues exts [] old old
 AreValues-none exts old kind = none (All-nil (λ element. Carries exts kind element → ⊥)) (SameFields-refl kind old)
 
 -- one more element, which doesn't carry the kind
-AreFields-passed : (exts : Slots) (done : List Element) (element : Element) (kind : Extension) (old between new : ExtensionValues)
+pub AreFields-passed : (exts : Slots) (done : List Element) (element : Element) (kind : Extension) (old between new : ExtensionValues)
     → (Carries exts kind element → ⊥) → SameFields kind between new → AreFields exts done kind old between
     → AreFields exts (done ++ element ∷ []) kind old new
 AreFields-passed exts done element kind old between new not_carried same (last before after found is mapped reads later) =
@@ -90,19 +92,38 @@ AreFields-one exts elements kind old v w (none not_carried same) (none also w_sa
 pub one_values : (exts : Slots) (elements : List Element) (old v w : ExtensionValues) → AreValues exts elements old v → AreValues exts elements old w → v ≡ w
 one_values exts elements old v w v_values w_values = same_values v w (λ kind. AreFields-one exts elements kind old v w (v_values kind) (w_values kind))
 
+-- ---- What shows values
+
+-- before any element it shows what it showed
+pub ReadElements-none : {V : Type 0} (Shows : V → ExtensionValues → Type 0) (exts : Slots) (old : V) → ReadElements Shows exts [] old old
+ReadElements-none Shows exts old before shows = (before, shows, AreValues-none exts before)
+
+-- one more element, which carries no kind
+pub ReadElements-passed : {V : Type 0} (Shows : V → ExtensionValues → Type 0) (exts : Slots) (done : List Element) (element : Element) (old new : V)
+    → ((kind : Extension) → Carries exts kind element → ⊥) → ReadElements Shows exts done old new
+    → ReadElements Shows exts (done ++ element ∷ []) old new
+ReadElements-passed Shows exts done element old new not_carried values before shows =
+    let now = values before shows in
+    (now.0, now.1, AreValues-passed exts done element before now.0 not_carried now.2)
+
 -- one more element is read, well-formed or not, by a reader that says which
-pub AreValues-parsed : (exts : Slots) (done : List Element) (element : Element) (kind : Extension) (old between new : ExtensionValues)
-    (result : Result (Option (Unit {0})) AllocError) → extension_at exts element.0 ≡ Some kind → IsOk result
-    → (result ≡ Ok (Some (record {})) → Reads kind element.1 new) → new ≡ with_fields kind between new
+pub ReadElements-parsed : {V : Type 0} (Shows : V → ExtensionValues → Type 0) (exts : Slots) (done : List Element) (element : Element) (kind : Extension)
+    (old between new : V) (result : Result (Option (Unit {0})) AllocError) → extension_at exts element.0 ≡ Some kind → IsOk result
+    → (result ≡ Ok (Some (record {})) → ReadsInto Shows kind element.1 between new)
     → (IsWellFormed kind element.1 → IfOk result (λ answer. answer ≡ Some (record {}))) → (result ≢ Ok (Some (record {})) → new ≡ between)
-    → AreValues exts done old between → AreValues exts (done ++ element ∷ []) old new
-AreValues-parsed exts done element kind old between new (Err e) mapped ok found others only unchanged values = cc
-AreValues-parsed exts done element kind old between new (Ok (Some read)) mapped ok found others only unchanged values =
-    AreValues-read exts done element kind old between new mapped (found refl)
-    (λ any differs. subst (SameFields any between) (sym others) (SameFields-others kind any between new differs)) values
-AreValues-parsed exts done element kind old between new (Ok None) mapped ok found others only unchanged values =
-    subst (λ v. AreValues exts (done ++ element ∷ []) old v) (sym (unchanged (λ same. cc)))
-    (AreValues-passed exts done element old between not_carried values)
+    → ReadElements Shows exts done old between → ReadElements Shows exts (done ++ element ∷ []) old new
+ReadElements-parsed Shows exts done element kind old between new (Err e) mapped ok found only unchanged values before shows = cc
+ReadElements-parsed Shows exts done element kind old between new (Ok (Some read)) mapped ok found only unchanged values before shows =
+    let now = values before shows in
+    let next = found refl now.0 now.1 in (
+      next.0,
+      next.1,
+      AreValues-read exts done element kind before now.0 next.0 mapped next.2
+          (λ any differs. subst (SameFields any now.0) (sym next.3) (SameFields-others kind any now.0 next.0 differs)) now.2,
+    )
+ReadElements-parsed Shows exts done element kind old between new (Ok None) mapped ok found only unchanged values before shows =
+    subst (λ v. ReadElements Shows exts (done ++ element ∷ []) old v) (sym (unchanged (λ same. cc)))
+    (ReadElements-passed Shows exts done element old between not_carried values) before shows
   where
     not_carried : (any : Extension) → Carries exts any element → ⊥
     not_carried any carries =
@@ -110,3 +131,17 @@ AreValues-parsed exts done element kind old between new (Ok None) mapped ok foun
         let well_formed = subst (λ k. IsWellFormed k element.1) same carries.1 in
         let contradiction = only well_formed in
         cc
+
+-- values that show themselves are those that the elements make of them
+pub ReadElements-itself : (exts : Slots) (elements : List Element) (old new : ExtensionValues)
+    → ReadElements (λ values shown. values ≡ shown) exts elements old new → AreValues exts elements old new
+ReadElements-itself exts elements old new into =
+    let read = into old refl in
+    subst (λ v. AreValues exts elements old v) (sym read.1) read.2
+
+pub ReadUntilRefused-itself : (exts : Slots) (elements : List Element) (old new : ExtensionValues)
+    → ReadUntilRefused (λ values shown. values ≡ shown) exts elements old new → IsStopped exts elements old new
+ReadUntilRefused-itself exts elements old new stopped = record {
+  at = stopped.at;
+  values_are = ReadElements-itself exts stopped.at.before old new stopped.values_are;
+}

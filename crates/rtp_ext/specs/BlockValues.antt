@@ -24,6 +24,11 @@ pub data AreFields (exts : Slots) (elements : List Element) (kind : Extension) (
 abbrev pub AreValues : Slots → List Element → ExtensionValues → ExtensionValues → Type 0
 AreValues exts elements old new = (kind : Extension) → AreFields exts elements kind old new
 
+-- what shows some values shows, once the elements were read into it, those that the elements make of them
+abbrev pub ReadElements : {V : Type 0} → (V → ExtensionValues → Type 0) → Slots → List Element → V → V → Type 0
+ReadElements Shows exts elements old new =
+    (before : ExtensionValues) → Shows old before → (after : ExtensionValues) × Shows new after × AreValues exts elements before after
+
 -- the body of a block says these values under a map
 pub record SaysValues (form : ExtensionsForm) (exts : Slots) (body : List ℕ) (values : ExtensionValues) : Type 0 where
   pub elements : List Element

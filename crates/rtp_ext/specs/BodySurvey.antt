@@ -1,5 +1,5 @@
 -- What a body has of an id, and its elements in a row: what the functions that make a body anew promise each other.
-use Rattle.std.specs.Prelude.{◌≡◌, ℕ, ◌+◌, ◌-◌, ◌*◌, ◌≤◌, List, ◌∷◌, ◌++◌, length, take, drop, slice_range, Option, IfSome, IfNone}
+use Rattle.std.specs.Prelude.{◌≡◌, ℕ, ◌+◌, ◌-◌, ◌*◌, ◌≤◌, List, [], ◌∷◌, ◌++◌, length, take, drop, slice_range, Option, IfSome, IfNone}
 use Rattle.std.specs.List.{filter, AllByRecursion}
 use Rattle.rtp_ext.specs.declared.form.ExtensionsForm.{ExtensionsForm}
 use Rattle.rtp_ext.specs.declared.form.ExtensionsForm.TheVariants.{OneByte, TwoByte}
@@ -11,7 +11,7 @@ use Rattle.rtp_ext.specs.ElementPlaces.{IsLastPlace, LiesLast, IsPassed, AreWhol
 use Rattle.rtp_ext.specs.ElementsInARow.{IsWritable}
 use Rattle.rtp_ext.specs.PutElement.{has_id, without, row_to}
 
--- the place of the last element of the id, how many elements have it, and how many bytes the others take
+-- the place of the last element of the id, how many elements have it, how many bytes the others take, and where the last of all ends
 pub record IsSurvey (form : ExtensionsForm) (body : List ℕ) (id : ℕ) (survey : Survey) : Type 0 where
   pub elements : List Element
   pub are_elements : AreElements form body elements
@@ -20,6 +20,9 @@ pub record IsSurvey (form : ExtensionsForm) (body : List ℕ) (id : ℕ) (survey
   pub count_is : survey.count ≡ length (filter (has_id id) elements)
   pub others_are : survey.others_len ≡ length (elements_bytes form (without id elements))
   pub others_within : survey.others_len ≤ length body
+  pub read : IsPassed form body survey.end id survey.last
+  pub all_read : read.elements ≡ elements
+  pub none_left : AreElements form read.left []
 
 -- the same of the body up to an offset
 pub record IsSurveyedTo (form : ExtensionsForm) (body : List ℕ) (at id : ℕ) (last : Option Place) (count others_len : ℕ) : Type 0 where

@@ -1,5 +1,5 @@
 -- Where elements lie in a body, by offsets: what the functions that change elements in place promise each other.
-use Rattle.std.specs.Prelude.{◌≡◌, ℕ, ◌+◌, List, ◌∷◌, ◌++◌, length, drop, replicate, Option, Some, None}
+use Rattle.std.specs.Prelude.{◌≡◌, ℕ, ◌+◌, ◌-◌, ◌≤◌, List, ◌∷◌, ◌++◌, length, drop, replicate, Option, Some, None}
 use Rattle.std.specs.List.{AllByRecursion, flat_map, filter_map}
 use Rattle.rtp_ext.specs.declared.form.ExtensionsForm.{ExtensionsForm}
 use Rattle.rtp_ext.specs.declared.place.Place.{Place}
@@ -83,3 +83,8 @@ pub record IsPassed (form : ExtensionsForm) (body : List ℕ) (at id : ℕ) (las
   pub at_is : at ≡ length passed
   pub are_whole : AreWhole form passed elements
   pub last_is : IsLastOrNone form id passed elements last
+
+-- these bytes of the body are left, up to its end
+pub record IsLeft (body left : List ℕ) : Type 0 where
+  pub few : length left ≤ length body
+  pub left_is : left ≡ drop (length body - length left) body

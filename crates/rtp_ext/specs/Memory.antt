@@ -5,7 +5,7 @@ use Rattle.rtp_values.specs.declared.value.values.ExtensionValues.{ExtensionValu
 use Rattle.rtp_ext.specs.Elements.{Element}
 use Rattle.rtp_ext.specs.ExtensionMap.{Slots, extension_at}
 use Rattle.rtp_values.specs.Values.{TakesMemory}
-use Rattle.rtp_ext.specs.BlockValues.{AreValues}
+use Rattle.rtp_ext.specs.BlockValues.{AreValues, ReadElements}
 
 -- the element's id is mapped to the layer allocation, and reading its data takes memory
 abbrev pub IsAllocation : Slots → Element → Type 0
@@ -24,3 +24,8 @@ pub record HasAllocation (exts : Slots) (elements : List Element) : Type 0 where
 pub record IsStopped (exts : Slots) (elements : List Element) (old new : ExtensionValues) : Type 0 where
   pub at : HasAllocation exts elements
   pub values_are : AreValues exts at.before old new
+
+-- the same of what shows values: it shows those of the elements before that one
+pub record ReadUntilRefused {V : Type 0} (Shows : V → ExtensionValues → Type 0) (exts : Slots) (elements : List Element) (old new : V) : Type 0 where
+  pub at : HasAllocation exts elements
+  pub values_are : ReadElements Shows exts at.before old new

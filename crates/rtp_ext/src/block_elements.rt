@@ -17,14 +17,15 @@ ghost use Rattle.rtp_ext.specs.WrittenBlock.{written_elements, form_of, needs_tw
 use super::form::{header_len, write_header};
 use super::kinds::{Cursor, Kinds};
 use super::{ExtensionMap, ExtensionsForm};
-use rtp_values::{ExtensionValues, KnownKind};
+use rtp_values::{ElementValues, ExtensionValues, KnownKind};
 
 // How many bytes the element of a kind takes, 0 where a value that it needs is absent.
-fn element_len(form: ExtensionsForm, kind: KnownKind, ev: &ExtensionValues) -> usize
-    ensures length { (id : ℕ) → result ≡ length (element_or_nothing form id (spelled_data (extension_of_kind kind) ev.now)) }
+fn element_len<V: ElementValues>(form: ExtensionsForm, kind: KnownKind, ev: &V) -> usize
+    ensures length { (id : ℕ) → result ≡ length
+        (element_or_nothing form id (spelled_data (extension_of_kind kind) (V.values ev.now))) }
     ensures few { result ≤ 257 }
 {
-    match kind.data_len(ev) {
+    match ev.data_len(kind) {
         Some(len) => header_len(form) + len,
         None => 0,
     }
@@ -33,27 +34,31 @@ fn element_len(form: ExtensionsForm, kind: KnownKind, ev: &ExtensionValues) -> u
 // Writes the element of a mapped id at the offset, where the values that its kind needs are there,
 // and returns the offset after it.
 #[inline(always)]
-fn write_element(
+fn write_element<V: ElementValues>(
     buf: &mut [u8],
     at: usize,
     form: ExtensionsForm,
     id: u8,
     kind: KnownKind,
-    ev: &ExtensionValues,
+    ev: &V,
 ) -> usize
-    requires room { at + length (element_or_nothing form id (spelled_data (extension_of_kind kind) ev.now)) ≤ length buf.old }
+    requires room { at + length
+        (element_or_nothing form id (spelled_data (extension_of_kind kind) (V.values ev.now)))
+        ≤ length buf.old }
     requires id { 1 ≤ id }
-    requires fits { CanCarry form (id, (extension_of_kind kind)) (spelled_data (extension_of_kind kind) ev.now) }
-    ensures written { buf.new
-        ≡ overwritten buf.old at (element_or_nothing form id (spelled_data (extension_of_kind kind) ev.now)) }
-    ensures end { result ≡ at + length (element_or_nothing form id (spelled_data (extension_of_kind kind) ev.now)) }
-    ensures carried { IsCarried form ev.now (id, (extension_of_kind kind)) }
+    requires fits { CanCarry form (id, extension_of_kind kind)
+        (spelled_data (extension_of_kind kind) (V.values ev.now)) }
+    ensures written { buf.new ≡ overwritten buf.old at
+        (element_or_nothing form id (spelled_data (extension_of_kind kind) (V.values ev.now))) }
+    ensures end { result ≡ at + length
+        (element_or_nothing form id (spelled_data (extension_of_kind kind) (V.values ev.now))) }
+    ensures carried { IsCarried form (V.values ev.now) (id, extension_of_kind kind) }
 {
     let start = at + header_len(form);
     if start > buf.len() {
         return at;
     }
-    let Some(len) = kind.write_to(&mut buf[start..], ev) else {
+    let Some(len) = ev.write_data(kind, &mut buf[start..]) else {
         return at;
     };
     write_header(buf, at, form, id, len as u8);
@@ -63,13 +68,13 @@ fn write_element(
 // Whether a text is written that is empty. It stays out of line, since few values have an empty text
 // and its loop would make every other call save registers.
 #[inline(never)]
-fn has_empty_data<K: Kinds>(kinds: &K, start: Cursor, ev: &ExtensionValues) -> bool
+fn has_empty_data<K: Kinds, V: ElementValues>(kinds: &K, start: Cursor, ev: &V) -> bool
     requires { K.left kinds.now start ≡ items_from 0 (K.known kinds.now) }
-    ensures { result ≡ has_empty (items_from 0 (K.known kinds.now)) ev.now }
+    ensures { result ≡ has_empty (items_from 0 (K.known kinds.now)) (V.values ev.now) }
 {
     let mut cursor = start;
     while let Some((_, kind)) = kinds.next(&mut cursor) {
-        if kind.has_empty_data(ev) {
+        if ev.has_empty_data(kind) {
             return true;
         }
     }
@@ -78,10 +83,11 @@ fn has_empty_data<K: Kinds>(kinds: &K, start: Cursor, ev: &ExtensionValues) -> b
 
 // Whether the one-byte form doesn't serve.
 #[inline(always)]
-fn needs_two_bytes<K: Kinds>(kinds: &K, start: Cursor, ev: &ExtensionValues) -> bool
+fn needs_two_bytes<K: Kinds, V: ElementValues>(kinds: &K, start: Cursor, ev: &V) -> bool
     requires { K.left kinds.now start ≡ items_from 0 (K.known kinds.now) }
-    ensures needed { result ≡ list_any (needs_two ev.now) (items_from 0 (K.slots kinds.now)) }
-    ensures short { result ≡ false → TakesAtMost17Each (K.known kinds.now) ev.now }
+    ensures needed { result
+        ≡ list_any (needs_two (V.values ev.now)) (items_from 0 (K.slots kinds.now)) }
+    ensures short { result ≡ false → TakesAtMost17Each (K.known kinds.now) (V.values ev.now) }
 {
     if kinds.has_long(start) {
         return true;
@@ -92,10 +98,10 @@ fn needs_two_bytes<K: Kinds>(kinds: &K, start: Cursor, ev: &ExtensionValues) -> 
 /// The form that a block of these values needs under any map, as [`ExtensionMap::form`] has it. The
 /// walk is one that [`Kinds::start`] returned.
 #[inline(always)]
-pub fn values_form<K: Kinds>(kinds: &K, start: Cursor, ev: &ExtensionValues) -> ExtensionsForm
+pub fn values_form<K: Kinds, V: ElementValues>(kinds: &K, start: Cursor, ev: &V) -> ExtensionsForm
     requires { K.left kinds.now start ≡ items_from 0 (K.known kinds.now) }
-    ensures form { result ≡ form_of (K.slots kinds.now) ev.now }
-    ensures short { result ≡ OneByte → TakesAtMost17Each (K.known kinds.now) ev.now }
+    ensures form { result ≡ form_of (K.slots kinds.now) (V.values ev.now) }
+    ensures short { result ≡ OneByte → TakesAtMost17Each (K.known kinds.now) (V.values ev.now) }
 {
     if needs_two_bytes(kinds, start, ev) {
         ExtensionsForm::TwoByte
@@ -106,15 +112,16 @@ pub fn values_form<K: Kinds>(kinds: &K, start: Cursor, ev: &ExtensionValues) -> 
 
 /// How many bytes [`write_values`] writes in the form, as [`ExtensionMap::wire_len`] has it. The walk
 /// is one that [`Kinds::start`] returned.
-pub fn values_len<K: Kinds>(
+pub fn values_len<K: Kinds, V: ElementValues>(
     kinds: &K,
     start: Cursor,
-    ev: &ExtensionValues,
+    ev: &V,
     form: ExtensionsForm,
 ) -> usize
     requires start { K.left kinds.now start ≡ items_from 0 (K.known kinds.now) }
     requires few { length (items_from 0 (K.known kinds.now)) ≤ 255 }
-    ensures length { result ≡ length (elements_bytes form (written_elements (K.slots kinds.now) ev.now)) }
+    ensures length { result
+        ≡ length (elements_bytes form (written_elements (K.slots kinds.now) (V.values ev.now))) }
     ensures by_map { result ≤ 257 * mapped_count (K.slots kinds.now) }
     ensures bound { result ≤ 65535 }
 {
@@ -128,32 +135,37 @@ pub fn values_len<K: Kinds>(
 
 /// Writes an element for each mapped id whose kind has its values, under any map, as
 /// [`ExtensionMap::write_to`] does. The walk is one that [`Kinds::start`] returned.
-pub fn write_values<K: Kinds>(
+pub fn write_values<K: Kinds, V: ElementValues>(
     kinds: &K,
     start: Cursor,
     buf: &mut [u8],
-    ev: &ExtensionValues,
+    ev: &V,
     form: ExtensionsForm,
 ) -> usize
     requires start { K.left kinds.now start ≡ items_from 0 (K.known kinds.now) }
     requires few { length (items_from 0 (K.known kinds.now)) ≤ 255 }
-    requires form { (form ≡ form_of (K.slots kinds.now) ev.now) ⊎ (form ≡ TwoByte) }
-    requires room { length (elements_bytes form (written_elements (K.slots kinds.now) ev.now))
+    requires form { (form ≡ form_of (K.slots kinds.now) (V.values ev.now)) ⊎ (form ≡ TwoByte) }
+    requires room { length
+        (elements_bytes form (written_elements (K.slots kinds.now) (V.values ev.now)))
         ≤ length buf.old }
-    ensures length { result ≡ length (elements_bytes form (written_elements (K.slots kinds.now) ev.now)) }
+    ensures length { result
+        ≡ length (elements_bytes form (written_elements (K.slots kinds.now) (V.values ev.now))) }
     ensures written { buf.new
-        ≡ elements_bytes form (written_elements (K.slots kinds.now) ev.now) ++ drop result buf.old }
+        ≡ elements_bytes form (written_elements (K.slots kinds.now) (V.values ev.now))
+        ++ drop result buf.old }
     ensures by_map { result ≤ 257 * mapped_count (K.slots kinds.now) }
     ensures bound { result ≤ 65535 }
 
     // What was written, and any zeros that follow it, are a block's body with these elements.
     ensures elements { (zeros : ℕ) → AreElements form
-        (elements_bytes form (written_elements (K.slots kinds.now) ev.now) ++ replicate zeros 0)
-        (written_elements (K.slots kinds.now) ev.now) }
+        (elements_bytes form (written_elements (K.slots kinds.now) (V.values ev.now))
+        ++ replicate zeros 0)
+        (written_elements (K.slots kinds.now) (V.values ev.now)) }
 
     // These elements are read as the image of the values.
-    ensures values { AreValues (K.slots kinds.now) (written_elements (K.slots kinds.now) ev.now) no_values
-        (image_values (K.slots kinds.now) ev.now) }
+    ensures values { AreValues (K.slots kinds.now)
+        (written_elements (K.slots kinds.now) (V.values ev.now)) no_values
+        (image_values (K.slots kinds.now) (V.values ev.now)) }
 {
     let mut cursor = start;
     let mut at = 0;

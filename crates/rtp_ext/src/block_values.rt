@@ -1,60 +1,85 @@
 //! The values of a block of header extensions, as the map's kinds read them.
 
-ghost use Rattle.std.specs.Prelude.{List, IsOk, OnOk, OnErr};
+ghost use Rattle.std.specs.Prelude.{◌≡◌, List, false, IsOk, OnOk, OnErr};
+ghost use Rattle.std.specs.Bool.{then_some};
 ghost use Rattle.rtp_ext.specs.Elements.{Element, AreElements};
-ghost use Rattle.rtp_ext.specs.Memory.{HasAllocation, IsStopped};
-ghost use Rattle.rtp_ext.specs.BlockValues.{AreValues};
+ghost use Rattle.rtp_ext.specs.Memory.{HasAllocation, IsStopped, ReadUntilRefused};
+ghost use Rattle.rtp_values.specs.declared.value.values.ExtensionValues.{ExtensionValues};
+ghost use Rattle.rtp_ext.specs.BlockValues.{AreValues, ReadElements, SaysValues};
 
 use super::kinds::Kinds;
 use super::{Elements, ExtensionMap, ExtensionsForm};
-use rtp_values::ExtensionValues;
+use rtp_values::{ExtensionValues, KnownKind, SetValues};
+use rtp_vla::vla::VideoLayers;
 use std::alloc::{AllocError, Global};
 
 /// Reads the elements of a block's body into the values, under any map, as [`ExtensionMap::parse`]
-/// does.
+/// does; into values that take no memory nothing is refused.
 #[inline(never)]
-pub fn read_values<K: Kinds>(
+pub fn read_values<K: Kinds, V: SetValues>(
     kinds: &K,
-    alloc: Global,
+    memory: V::Memory,
     buf: &[u8],
     form: ExtensionsForm,
-    ev: &mut ExtensionValues,
+    ev: &mut V,
 ) -> Result<(), AllocError>
-    ensures values { OnOk result ((elements : List Element) →
-        AreElements form buf.now elements → AreValues (K.slots kinds.now) elements ev.old ev.new) }
-    ensures refused { OnErr result ((elements : List Element) →
-        AreElements form buf.now elements → IsStopped (K.slots kinds.now) elements ev.old ev.new) }
+    ensures values { OnOk result ((elements : List Element) → AreElements form buf.now elements →
+        ReadElements V.shows (K.slots kinds.now) elements ev.old ev.new) }
+    ensures refused { OnErr result ((elements : List Element) → AreElements form buf.now elements →
+        V.may_be_refused × ReadUntilRefused V.shows (K.slots kinds.now) elements ev.old ev.new) }
     ensures succeeds { (elements : List Element) → AreElements form buf.now elements →
-        (HasAllocation (K.slots kinds.now) elements → ⊥) → IsOk result }
+        (V.may_be_refused → HasAllocation (K.slots kinds.now) elements → ⊥) → IsOk result }
 {
     match form {
-        ExtensionsForm::OneByte => read_in(kinds, alloc, buf, ExtensionsForm::OneByte, ev),
-        ExtensionsForm::TwoByte => read_in(kinds, alloc, buf, ExtensionsForm::TwoByte, ev),
+        ExtensionsForm::OneByte => read_in(kinds, memory, buf, ExtensionsForm::OneByte, ev),
+        ExtensionsForm::TwoByte => read_in(kinds, memory, buf, ExtensionsForm::TwoByte, ev),
     }
 }
 
 // The same. It is inlined, so that each form has a loop of its own.
 #[inline(always)]
-fn read_in<K: Kinds>(
+fn read_in<K: Kinds, V: SetValues>(
     kinds: &K,
-    alloc: Global,
+    memory: V::Memory,
     buf: &[u8],
     form: ExtensionsForm,
-    ev: &mut ExtensionValues,
+    ev: &mut V,
 ) -> Result<(), AllocError>
-    ensures values { OnOk result ((elements : List Element) →
-        AreElements form buf.now elements → AreValues (K.slots kinds.now) elements ev.old ev.new) }
-    ensures refused { OnErr result ((elements : List Element) →
-        AreElements form buf.now elements → IsStopped (K.slots kinds.now) elements ev.old ev.new) }
+    ensures values { OnOk result ((elements : List Element) → AreElements form buf.now elements →
+        ReadElements V.shows (K.slots kinds.now) elements ev.old ev.new) }
+    ensures refused { OnErr result ((elements : List Element) → AreElements form buf.now elements →
+        V.may_be_refused × ReadUntilRefused V.shows (K.slots kinds.now) elements ev.old ev.new) }
     ensures succeeds { (elements : List Element) → AreElements form buf.now elements →
-        (HasAllocation (K.slots kinds.now) elements → ⊥) → IsOk result }
+        (V.may_be_refused → HasAllocation (K.slots kinds.now) elements → ⊥) → IsOk result }
 {
     for (id, bytes) in Elements::new(buf, form) {
         if let Some(kind) = kinds.get(id) {
-            kind.parse_value(alloc, bytes, ev)?;
+            kind.parse_value(memory, bytes, ev)?;
         }
     }
     Ok(())
+}
+
+/// Reads the layer allocation among the values that the elements of a block's body give into a value
+/// of fixed size, which takes no memory: that of the last element whose id is mapped to it and whose
+/// data mean one. `false` exactly where the elements give none, and then nothing is changed.
+pub fn read_layers<K: Kinds>(
+    kinds: &K,
+    buf: &[u8],
+    form: ExtensionsForm,
+    layers: &mut VideoLayers,
+) -> bool
+    ensures found { (values : ExtensionValues) → SaysValues form (K.slots kinds.now) buf.now values →
+        then_some result layers.new ≡ values.video_layers_allocation }
+    ensures unchanged { result ≡ false → layers.new ≡ layers.old }
+{
+    let mut found = false;
+    for (id, element) in Elements::new(buf, form) {
+        if kinds.get(id) == Some(KnownKind::VideoLayersAllocation) && layers.parse_into(element) {
+            found = true;
+        }
+    }
+    found
 }
 
 impl ExtensionMap {

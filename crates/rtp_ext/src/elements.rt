@@ -1,6 +1,7 @@
 //! The elements of a block, one after another.
 
-ghost use Rattle.std.specs.Prelude.{◌≡◌, List};
+ghost use Rattle.std.specs.Prelude.{◌≡◌, List, length, MatchOption};
+ghost use Rattle.std.specs.List.{IsFirstAndRest};
 ghost use Rattle.std.specs.Iterator.{YieldsFirstBy, item_count};
 ghost use Rattle.rtp_ext.specs.Elements.{Element, AreElements};
 ghost use Rattle.rtp_ext.specs.ElementReading.{without_padding, IsFirstElement};
@@ -70,7 +71,7 @@ impl<'a> Iterator for Elements<'a> {
 pub(super) fn first_element(bytes: &[u8], form: ExtensionsForm) -> Option<(u8, &[u8], &[u8])>
     ensures { IsFirstElement form bytes.now result }
 {
-    let (first, after) = skip_padding(bytes).split_first()?;
+    let (first, after) = first_unpadded(bytes)?;
     match form {
         ExtensionsForm::OneByte => {
             if *first >= 240 {
@@ -87,20 +88,20 @@ pub(super) fn first_element(bytes: &[u8], form: ExtensionsForm) -> Option<(u8, &
     }
 }
 
-// The bytes after the padding at their front.
-fn skip_padding(bytes: &[u8]) -> &[u8]
-    ensures { result.now ≡ without_padding bytes.now }
+// The first byte after the padding at the front of bytes, and what follows it.
+fn first_unpadded(bytes: &[u8]) -> Option<(&u8, &[u8])>
+    ensures { MatchOption result (length (without_padding bytes.now) ≡ 0)
+        (λ split. IsFirstAndRest (without_padding bytes.now) split.0.now split.1.now) }
 {
-    let Some((byte, after)) = bytes.split_first() else {
-        return bytes;
-    };
-    if *byte != 0 {
-        return bytes;
+    let (first, after) = bytes.split_first()?;
+    if *first != 0 {
+        return Some((first, after));
     }
-    skip_zeros(after)
+    skip_zeros(after).split_first()
 }
 
-// The same after a zero. It stays out of line, since few elements have padding before them.
+// The bytes after the padding at their front. It stays out of line, since few elements have padding
+// before them.
 #[inline(never)]
 fn skip_zeros(bytes: &[u8]) -> &[u8]
     ensures { result.now ≡ without_padding bytes.now }

@@ -11,9 +11,11 @@ ghost use Rattle.rtp_ext.specs.BodySurvey.{IsSurvey, IsGathered, HasRows, HasNar
 ghost use Rattle.rtp_ext.specs.PutElement.{without, put_element, carried_in, row_to, IsSole};
 
 use super::ExtensionsForm;
-use super::form::{header_len, write_header};
-use super::place::{Place, next_place};
+use super::elements::first_element;
+use super::form::header_len;
+use super::place::{Place, next_place, place_before};
 use super::raw_writing::put_element;
+use super::widening::{put_widened, widened_len};
 use rtp_base::{put, put_zeros};
 
 /// What a body has of an id, and how much besides.
@@ -25,29 +27,44 @@ pub struct Survey {
     pub count: usize,
     /// How many bytes the elements of other ids take.
     pub others_len: usize,
+    /// Where the last element of any id ends, and 0 where there is none.
+    pub end: usize,
 }
 
 /// What a block's body has of an id (RFC 8285, 4.2 and 4.3), found in one walk.
+#[inline(always)]
 pub fn survey_of(form: ExtensionsForm, body: &[u8], id: u8) -> Survey
+    ensures { IsSurvey form body.now id result }
+{
+    match form {
+        ExtensionsForm::OneByte => survey_in(ExtensionsForm::OneByte, body, id),
+        ExtensionsForm::TwoByte => survey_in(ExtensionsForm::TwoByte, body, id),
+    }
+}
+
+// The same. It is inlined, so that each form has a loop of its own.
+#[inline(always)]
+fn survey_in(form: ExtensionsForm, body: &[u8], id: u8) -> Survey
     ensures { IsSurvey form body.now id result }
 {
     let mut last = None;
     let mut count = 0;
     let mut others_len = 0;
-    let mut at = 0;
-    while let Some(place) = next_place(form, body, at) {
-        at = place.end;
-        if place.id == id {
-            last = Some(place);
+    let mut left = body;
+    while let Some((other, data, after)) = first_element(left, form) {
+        left = after;
+        if other == id {
+            last = Some(place_before(form, body.len(), after.len(), id, data.len()));
             count += 1;
         } else {
-            others_len += place.end - place.start;
+            others_len += header_len(form) + data.len();
         }
     }
     Survey {
         last,
         count,
         others_len,
+        end: body.len() - left.len(),
     }
 }
 
@@ -119,22 +136,25 @@ fn put_between(
 }
 
 impl Survey {
-    // Where the bytes before the last element of the id end, and those after it begin. Without one all of
-    // the body is before it.
-    fn around(&self, body_len: usize) -> (usize, usize)
-        ensures some { IfSome self.now.last (λ place. (result.0 ≡ place.start) × (result.1 ≡ place.end)) }
-        ensures none { IfNone self.now.last ((result.0 ≡ body_len) × (result.1 ≡ body_len)) }
+    // Where the bytes before the last element of the id end, and those after it begin. Without one
+    // all elements are before it.
+    fn around(&self) -> (usize, usize)
+        ensures some { IfSome self.now.last
+            (λ place. (result.0 ≡ place.start) × (result.1 ≡ place.end)) }
+        ensures none { IfNone self.now.last ((result.0 ≡ self.now.end) × (result.1 ≡ self.now.end)) }
     {
         match self.last {
             Some(place) => (place.start, place.end),
-            None => (body_len, body_len),
+            None => (self.end, self.end),
         }
     }
 }
 
-// Puts the elements of other ids before an offset in a row at the front, and those between two further
-// offsets in a row from the first of these on. Returns how many bytes they take, there and there.
-fn gather_around(
+// Puts the elements of other ids before an offset in a row at the front, and those between two
+// further offsets in a row from the first of these on. Returns how many bytes they take, there and
+// there. It stays out of line, since the elements of most blocks stand in a row.
+#[inline(never)]
+pub(super) fn gather_around(
     form: ExtensionsForm,
     body: &mut [u8],
     start: usize,
@@ -152,45 +172,28 @@ fn gather_around(
     (front, count)
 }
 
-// Puts elements of the one-byte form, which are the last `len` bytes of the room, to its front in the
-// two-byte form. Returns how many bytes they then take.
-fn widen(room: &mut [u8], len: usize) -> usize
-    requires { IsWideRow room.old len }
-    ensures { IsWidened room.old room.new len result }
+// The same around the last element of the id. Where the elements stand in rows already nothing is
+// moved.
+#[inline(always)]
+fn put_in_rows(
+    form: ExtensionsForm,
+    body: &mut [u8],
+    body_len: usize,
+    survey: &Survey,
+    id: u8,
+    start: usize,
+    end: usize,
+) -> (usize, usize)
+    requires within { body_len ≤ length body.old }
+    requires survey { IsSurvey form (take body_len body.old) id survey.now }
+    requires some { IfSome survey.now.last (λ place. (start ≡ place.start) × (end ≡ place.end)) }
+    requires none { IfNone survey.now.last ((start ≡ survey.now.end) × (end ≡ survey.now.end)) }
+    ensures { HasRows form id body.old body.new start end body_len result.0 result.1 }
 {
-    let mut end = 0;
-    let mut at = room.len() - len;
-    while let Some(place) = next_place(ExtensionsForm::OneByte, room, at) {
-        at = place.end;
-        let data_len = place.end - place.data_start;
-        room.copy_within(place.data_start..place.end, end + 2);
-        write_header(room, end, ExtensionsForm::TwoByte, place.id, data_len as u8);
-        end += 2 + data_len;
+    if survey.others_len + (end - start) == survey.end {
+        return (start, survey.end - end);
     }
-    end
-}
-
-// The same as `put_between` of elements in the one-byte form, which are put in the two-byte form, except for
-// those of the id 0. It stays out of line, since few blocks change their form.
-#[inline(never)]
-fn put_widened(body: &mut [u8], front: usize, at: usize, count: usize, id: u8, data: &[u8]) -> usize
-    requires writable { IsWritable TwoByte (id, «data».now) }
-    requires rows { HasNarrowRows body.old front at count (id, «data».now) }
-    ensures row { (rows : HasNarrowRows body.old front at count (id, «data».now)) →
-        take result body.new ≡ elements_bytes TwoByte
-        (without 0 rows.before ++ (id, «data».now) ∷ without 0 rows.after) }
-    ensures end { (rows : HasNarrowRows body.old front at count (id, «data».now)) →
-        result ≡ length (elements_bytes TwoByte
-        (without 0 rows.before ++ (id, «data».now) ∷ without 0 rows.after)) }
-{
-    let form = ExtensionsForm::OneByte;
-    let (front, count) = gather_around(form, body, front, at, at + count, 0);
-    let rest = body.len() - count;
-    body.copy_within(at..at + count, rest);
-    body.copy_within(..front, rest - front);
-    let front = widen(&mut body[..rest], front);
-    let at = put_element(body, front, ExtensionsForm::TwoByte, id, data);
-    at + widen(&mut body[at..], count)
+    gather_around(form, body, start, end, body_len, id)
 }
 
 /// Makes a body anew with the element in it, in this form or the two-byte form (RFC 8285, 4.2 and 4.3):
@@ -217,8 +220,8 @@ pub fn put_anew(
     ensures elements { (elements : List Element) → AreElements form (take body_len body.old) elements →
         AreElements new_form body.new (put_element (id, «data».now) (carried_in new_form elements)) }
 {
-    let (start, end) = survey.around(body_len);
-    let (front, count) = gather_around(form, body, start, end, body_len, id);
+    let (start, end) = survey.around();
+    let (front, count) = put_in_rows(form, body, body_len, survey, id, start, end);
     let len = if new_form == form {
         put_between(form, body, front, end, count, id, data)
     } else {
@@ -226,24 +229,6 @@ pub fn put_anew(
     };
     let left = body.len() - len;
     put_zeros(body, len, left);
-}
-
-// How many bytes the elements of other ids take in the two-byte form, without those of the id 0.
-fn widened_len(body: &[u8], id: u8) -> usize
-    requires { length body.now ≤ 262140 }
-    ensures length { (elements : List Element) → AreElements OneByte body.now elements →
-        result ≡ length (elements_bytes TwoByte (without 0 (without id elements))) }
-    ensures few { result ≤ 2 * length body.now }
-{
-    let mut len = 0;
-    let mut at = 0;
-    while let Some(place) = next_place(ExtensionsForm::OneByte, body, at) {
-        at = place.end;
-        if place.id != id && place.id != 0 {
-            len += 2 + (place.end - place.data_start);
-        }
-    }
-    len
 }
 
 /// How many bytes the elements of a body take with this one put among them, in this form or the

@@ -17,9 +17,10 @@ mod new_ids;
 mod place;
 mod raw_writing;
 mod slots;
+mod widening;
 
 pub use block_elements::{values_form, values_len, write_values};
-pub use block_values::read_values;
+pub use block_values::{read_layers, read_values};
 pub use element_list::ElementList;
 pub use elements::Elements;
 pub use form::{ExtensionsForm, MAX_ID_ONE_BYTE_FORM, form_to_put};
@@ -33,6 +34,6 @@ pub use place::{
 };
 pub use raw_writing::{put_elements, write_elements};
 pub use rtp_values::{
-    AbsCaptureTime, Extension, ExtensionValues, KnownKind, Uri, VideoOrientation, VideoTiming,
-    standard,
+    AbsCaptureTime, ElementValues, Extension, ExtensionValues, KnownKind, Uri, VideoOrientation,
+    VideoTiming, WithLayers, standard,
 };

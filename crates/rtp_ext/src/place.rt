@@ -1,9 +1,10 @@
 //! Where the elements of a body lie, and elements that are changed there, without memory.
 
-ghost use Rattle.std.specs.Prelude.{◌≡◌, ◌↔◌, ◌<◌, ◌≤◌, ◌++◌, List, length, drop, IsTrue, Some, IfSome, IfNone, All, is_none};
+ghost use Rattle.std.specs.Prelude.{◌≡◌, ◌↔◌, ◌+◌, ◌<◌, ◌≤◌, ◌++◌, List, length, drop, IsTrue, Some, IfSome, IfNone, All, is_none};
 ghost use Rattle.rtp_ext.specs.declared.form.ExtensionsForm.TheVariants.{OneByte};
 ghost use Rattle.rtp_ext.specs.Elements.{Element, AreElements, IsElement};
 ghost use Rattle.rtp_ext.specs.ElementReading.{BeginsWithNoElement, elements_left};
+ghost use Rattle.rtp_ext.specs.ElementWriting.{element_header};
 ghost use Rattle.rtp_ext.specs.ElementsInPlace.{HasNone, bytes_under, HasLast, HasLastOf, SetsLast, ChangesIds, CanRenumber, renumbered, all_but};
 ghost use Rattle.rtp_ext.specs.ElementPlaces.{LiesAt, IsNextPlace, IsLastPlace, LiesLast, WritesLast};
 ghost use Rattle.std.specs.Bool.{OnTrue, OnFalse};
@@ -35,6 +36,33 @@ pub struct Place {
     pub end: usize,
 }
 
+// The place of an element with so many bytes of data, behind which so many bytes of the body are
+// left.
+#[inline(always)]
+pub(super) fn place_before(
+    form: ExtensionsForm,
+    body_len: usize,
+    left: usize,
+    id: u8,
+    data_len: usize,
+) -> Place
+    requires { length (element_header form id data_len) + data_len + left ≤ body_len }
+    ensures id { result.id ≡ id }
+    ensures start { result.start + length (element_header form id data_len) ≡ result.data_start }
+    ensures data_start { result.data_start + data_len ≡ result.end }
+    ensures end { result.end + left ≡ body_len }
+{
+    let end = body_len - left;
+    let data_start = end - data_len;
+    let start = data_start - header_len(form);
+    Place {
+        id,
+        start,
+        data_start,
+        end,
+    }
+}
+
 /// The place of the first element of a block's body from the offset on, and `None` where reading ends
 /// before one (RFC 8285, 4.2 and 4.3). The elements of the body are found one after another from the
 /// offset 0 on, each from the end of the one before it.
@@ -47,15 +75,7 @@ pub fn next_place(form: ExtensionsForm, body: &[u8], at: usize) -> Option<Place>
     ensures none { IfNone result (BeginsWithNoElement form (drop at body.now)) }
 {
     let (id, data, after) = first_element(&body[at..], form)?;
-    let end = body.len() - after.len();
-    let data_start = end - data.len();
-    let start = data_start - header_len(form);
-    Some(Place {
-        id,
-        start,
-        data_start,
-        end,
-    })
+    Some(place_before(form, body.len(), after.len(), id, data.len()))
 }
 
 /// The place of the last element of the id in a block's body, and `None` where no element has it.
@@ -68,11 +88,11 @@ pub fn last_place(form: ExtensionsForm, body: &[u8], id: u8) -> Option<Place>
         IfNone result (HasNone elements id) }
 {
     let mut last = None;
-    let mut at = 0;
-    while let Some(place) = next_place(form, body, at) {
-        at = place.end;
-        if place.id == id {
-            last = Some(place);
+    let mut left = body;
+    while let Some((other, data, after)) = first_element(left, form) {
+        left = after;
+        if other == id {
+            last = Some(place_before(form, body.len(), after.len(), id, data.len()));
         }
     }
     last

@@ -7,6 +7,7 @@ use Rattle.rtp_values.specs.declared.kind.Extension.{Extension}
 use Rattle.rtp_values.specs.declared.kind.Extension.TheVariants.{AbsoluteSendTime, AbsoluteCaptureTime, AudioLevel, TransmissionTimeOffset, VideoOrientation, TransportSequenceNumber, PlayoutDelay, VideoContentType, VideoTiming, RtpStreamId, RepairedRtpStreamId, RtpMid, FrameMarking, ColorSpace, VideoLayersAllocation, UnknownUri}
 use Rattle.rtp_values.specs.declared.value.values.ExtensionValues.{ExtensionValues}
 use Rattle.rtp_values.specs.Values.{Reads, with_fields, SameFields}
+use Rattle.rtp_values.specs.KindBytes.{ReadsInto}
 
 -- ---- the fields of a kind, one by one
 
@@ -174,3 +175,12 @@ SameFields-others VideoLayersAllocation VideoLayersAllocation old new other = ab
 SameFields-others ColorSpace any old new other = SameFields-refl any old
 SameFields-others (UnknownUri uri) any old new other = SameFields-refl any old
 SameFields-others _ _ old new other = refl
+
+-- ---- what values read into themselves
+
+-- values that show themselves are what the data say of the kind's fields, and no other is changed
+pub ReadsInto-itself : (kind : Extension) (bytes : List ℕ) (old new : ExtensionValues) → ReadsInto (λ values shown. values ≡ shown) kind bytes old new
+    → Reads kind bytes new × (new ≡ with_fields kind old new)
+ReadsInto-itself kind bytes old new into =
+    let read = into old refl in
+    subst (λ v. Reads kind bytes v × (v ≡ with_fields kind old v)) (sym read.1) (read.2, read.3)

@@ -4,6 +4,7 @@ pub mod KnownKind
 pub mod HeaderValues
 pub mod Values
 pub mod Spelling
+pub mod WithLayers
 -- A send time over time.
 pub mod SendTime
 -- The data of elements as their standards have them.

@@ -62,7 +62,7 @@ impl Extension {
         ensures back { IfOk result (λ found. (kind_of found).uri ≡ uri.now) }
     {
         match known_by_uri(uri) {
-            Some(kind) => Ok(kind),
+            Some(kind) => Ok(Extension::from(kind)),
             None => {
                 let text = String::from_str(alloc, uri)?;
                 Ok(Extension::UnknownUri(Uri::from(text)))

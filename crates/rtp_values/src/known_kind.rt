@@ -55,7 +55,7 @@ impl KnownKind {
         ensures known { (kind : KnownKind) → (kind_of (extension_of_kind kind)).uri ≡ uri.now →
             result ≡ Some kind }
     {
-        known_by_uri(uri)?.known_kind()
+        known_by_uri(uri)
     }
 }
 

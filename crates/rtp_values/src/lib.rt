@@ -12,4 +12,7 @@ mod value;
 pub use kind::Extension;
 pub use known_kind::KnownKind;
 pub use uri::Uri;
-pub use value::{AbsCaptureTime, ExtensionValues, VideoOrientation, VideoTiming};
+pub use value::{
+    AbsCaptureTime, ElementValues, ExtensionValues, SetValues, VideoOrientation, VideoTiming,
+    WithLayers,
+};

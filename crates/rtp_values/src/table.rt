@@ -1,11 +1,13 @@
 //! The table of the kinds: what is fixed for each.
 
-ghost use Rattle.std.specs.Prelude.{◌≡◌, ◌≢◌, IfSome, IfNone};
+ghost use Rattle.std.specs.Prelude.{◌≡◌, ◌≢◌, map, IfSome, IfNone};
+ghost use Rattle.rtp_values.specs.KnownKind.{extension_of_kind};
 ghost use Rattle.rtp_values.specs.Kind.{audio_and_video, audio_only, video_only, kind_of, known_kinds, IsKnown};
 ghost use Rattle.rtp_values.specs.KindTable.{kind_in};
 
-use super::Extension;
+use super::{Extension, KnownKind};
 use rtp_vla::vla;
+use std::mem::ManuallyDrop;
 
 // What is fixed for a kind.
 #[derive(Clone, Copy)]
@@ -118,35 +120,37 @@ pub(super) fn kind_of(kind: &Extension) -> Kind<'_>
 }
 
 // The known kinds, each once.
-fn known() -> [Extension; 15]
-    ensures { result ≡ known_kinds }
+fn known() -> [KnownKind; 15]
+    ensures { map extension_of_kind result ≡ known_kinds }
 {
     [
-        Extension::AbsoluteSendTime,
-        Extension::AbsoluteCaptureTime,
-        Extension::AudioLevel,
-        Extension::TransmissionTimeOffset,
-        Extension::VideoOrientation,
-        Extension::TransportSequenceNumber,
-        Extension::PlayoutDelay,
-        Extension::VideoContentType,
-        Extension::VideoTiming,
-        Extension::RtpStreamId,
-        Extension::RepairedRtpStreamId,
-        Extension::RtpMid,
-        Extension::FrameMarking,
-        Extension::ColorSpace,
-        Extension::VideoLayersAllocation,
+        KnownKind::AbsoluteSendTime,
+        KnownKind::AbsoluteCaptureTime,
+        KnownKind::AudioLevel,
+        KnownKind::TransmissionTimeOffset,
+        KnownKind::VideoOrientation,
+        KnownKind::TransportSequenceNumber,
+        KnownKind::PlayoutDelay,
+        KnownKind::VideoContentType,
+        KnownKind::VideoTiming,
+        KnownKind::RtpStreamId,
+        KnownKind::RepairedRtpStreamId,
+        KnownKind::RtpMid,
+        KnownKind::FrameMarking,
+        KnownKind::ColorSpace,
+        KnownKind::VideoLayersAllocation,
     ]
 }
 
 // The known kind whose URI this is.
-pub(super) fn known_by_uri(uri: &str) -> Option<Extension>
-    ensures found { IfSome result (λ kind. IsKnown kind × ((kind_of kind).uri ≡ uri.now)) }
+pub(super) fn known_by_uri(uri: &str) -> Option<KnownKind>
+    ensures found { IfSome result (λ kind. (kind_of (extension_of_kind kind)).uri ≡ uri.now) }
     ensures none { IfNone result ((kind : Extension) → IsKnown kind → (kind_of kind).uri ≢ uri.now) }
 {
     for kind in known() {
-        if kind.as_uri() == uri {
+        // A known kind has no text of its own, and so nothing to free.
+        let extension = ManuallyDrop::new(Extension::from(kind));
+        if extension.as_uri() == uri {
             return Some(kind);
         }
     }

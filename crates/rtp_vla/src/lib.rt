@@ -24,7 +24,7 @@ pub mod vla {
         TemporalLayerAllocation, URI, VideoLayersAllocation,
     };
     pub use crate::leb::{encode_leb_u63, parse_leb_u63};
-    pub use crate::parsing::parse;
+    pub use crate::parsing::{is_allocation, parse};
     pub use crate::video_layers::{VideoLayer, VideoLayers, VideoStream};
     pub use crate::writing::{checked_wire_len, is_writable, wire_len, write_to};
 }

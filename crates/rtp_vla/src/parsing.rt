@@ -83,6 +83,17 @@ fn says_nothing(buf: &[u8]) -> bool
     buf.len() == 1 && buf[0] == 0
 }
 
+/// Whether the bytes mean an allocation, which [`parse`] and [`VideoLayers::parse`] return then. Nothing
+/// of it is made.
+pub fn is_allocation(buf: &[u8]) -> bool
+    ensures { IsTrue result ↔ ((a : Allocation) × Means buf.now a) }
+{
+    if says_nothing(buf) {
+        return true;
+    }
+    layout_of(buf, &mut [0; 4]).is_some()
+}
+
 impl VideoLayers {
     /// Reads an allocation, as [`parse`] reads it, and takes no memory.
     #[inline(always)]

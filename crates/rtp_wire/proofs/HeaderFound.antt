@@ -15,7 +15,7 @@ use Rattle.rtp_wire.proofs.BlockLemmas.{header_word}
 use Rattle.rtp_wire.proofs.PacketLemmas.{IsWhole, form_of_word-is, no_form_of_word}
 
 -- X, by its mask
-x_clear : (byte : ℕ) → bit_and byte 16 ≡ 0 → nat_eq (byte / 16 % 2) 1 ≡ false
+pub x_clear : (byte : ℕ) → bit_and byte 16 ≡ 0 → nat_eq (byte / 16 % 2) 1 ≡ false
 x_clear byte none = ne_eqb (byte / 16 % 2) 1 (λ e. absurd (omega (arith, and_pow byte 4)))
 
 pub x_set : (byte : ℕ) → (bit_and byte 16 ≡ 0 → ⊥) → byte / 16 % 2 ≡ 1

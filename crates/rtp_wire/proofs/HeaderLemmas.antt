@@ -1,5 +1,5 @@
 -- The header of a packet is one, bytes that are refused begin with none, and its values are one.
-use Rattle.std.proofs.Common.{◌≡◌, ℕ, List, Option, Some, None, sym, ap, ◌∙◌, subst}
+use Rattle.std.proofs.Common.{◌≡◌, ◌≤◌, ℕ, List, length, Option, Some, None, arith, sym, ap, ◌∙◌, subst}
 use Rattle.rtp_ext.specs.declared.form.ExtensionsForm.{ExtensionsForm}
 use Rattle.rtp_ext.specs.declared.map.ExtensionMap.{ExtensionMap}
 use Rattle.rtp_values.specs.declared.value.values.ExtensionValues.{ExtensionValues}
@@ -8,13 +8,14 @@ use Rattle.rtp_ext.specs.Elements.{Element}
 use Rattle.rtp_ext.specs.BlockValues.{AreValues}
 use Rattle.rtp_values.specs.Values.{no_values}
 use Rattle.rtp_wire.specs.NotAHeader.{NotAHeader}
-use Rattle.rtp_wire.specs.Packet.{PacketParts}
+use Rattle.rtp_wire.specs.Packet.{PacketParts, IsPacket}
 use Rattle.rtp_wire.specs.PacketElements.{AreElementsOf, HasValues}
 use Rattle.rtp_wire.specs.Header.{header_of, IsHeaderOf, IsWire}
 use Rattle.rtp_ext.proofs.ElementLemmasOfBodies.{AreElements-only}
 use Rattle.rtp_ext.proofs.ValuesLaws.{one_values}
 use Rattle.rtp_wire.proofs.NoHeaderLemmas.{header_there}
 use Rattle.rtp_wire.proofs.PacketLemmas.{one_packet}
+use Rattle.rtp_wire.proofs.PartsLemmas.{length-packet}
 
 -- a block has one list of elements
 one_list : (block : Option (ExtensionsForm × List ℕ)) (a b : List Element) → AreElementsOf block a → AreElementsOf block b → a ≡ b
@@ -42,6 +43,22 @@ one_header exts bytes h g wire-h wire-g =
 -- bytes that are refused begin with no header
 pub no_header : (exts : ExtensionMap) (bytes : List ℕ) (h : RtpHeader) → NotAHeader bytes → IsWire exts bytes h → ⊥
 no_header exts bytes h none wire = header_there bytes wire.parts wire.is_packet wire.no_other none
+
+-- what `parse` and `parse_into` promise of the header of a packet without a block of another form
+pub record IsRead (exts : ExtensionMap) (bytes : List ℕ) (h : RtpHeader) : Type 0 where
+  pub wire : IsWire exts bytes h
+  pub only : (header : RtpHeader) → IsWire exts bytes header → h ≡ header
+  pub within : h.header_len ≤ length bytes
+
+pub IsRead-packet : (exts : ExtensionMap) (bytes : List ℕ) (parts : PacketParts) (h : RtpHeader) → IsPacket bytes parts → parts.other_block ≡ None → IsHeaderOf exts parts h
+    → IsRead exts bytes h
+IsRead-packet exts bytes parts h is known of-parts =
+    let wire : IsWire exts bytes h = record { parts = parts; is_packet = is; no_other = known; is_header = of-parts } in
+    record {
+      wire = wire;
+      only = λ header other. one_header exts bytes h header wire other;
+      within = omega (arith, ap (λ (g : RtpHeader). g.header_len) of-parts.fields_are, length-packet bytes parts is);
+    }
 
 -- a header with the fields of a packet, given the values of its block
 pub IsHeaderOf-read : (exts : ExtensionMap) (parts : PacketParts) (old values : ExtensionValues) (h : RtpHeader) → h ≡ header_of parts old

@@ -1,8 +1,8 @@
 -- Bytes that begin with no header: they are no packet, or a packet whose block is of another form.
-use Rattle.std.proofs.Common.{◌≡◌, ℕ, ◌+◌, ◌/◌, ◌%◌, ◌<◌, ◌≤◌, Bool, true, false, List, length, drop, Option, Some, None, refl, sym, ap, ◌∙◌, arith, inl, inr, length-drop}
-use Rattle.std.specs.Prelude.{◌⊎◌, ◌↔◌, IfSome, IsSome, slice_index, slice_range, is_some, option_map, if◌then◌else◌}
+use Rattle.std.proofs.Common.{◌≡◌, ℕ, ◌+◌, ◌*◌, ◌/◌, ◌%◌, ◌<◌, ◌≤◌, Bool, true, false, List, length, drop, Option, Some, None, refl, sym, ap, ◌∙◌, arith, inl, inr, length-drop}
+use Rattle.std.specs.Prelude.{◌⊎◌, ◌↔◌, IfSome, IsSome, slice_index, slice_range, is_some, option_map, not, ◌&&◌, if◌then◌else◌}
 use Rattle.std.specs.Bool.{then_some}
-use Rattle.std.proofs.lemmas.Bool.{false≢true, eq-eqb, cases_lt}
+use Rattle.std.proofs.lemmas.Bool.{false≢true, eq-eqb, cases_eq, cases_lt}
 use Rattle.std.proofs.lemmas.Option.{none-some}
 use Rattle.rtp_base.specs.Flag.{bit}
 use Rattle.rtp_ext.specs.declared.form.ExtensionsForm.{ExtensionsForm}
@@ -10,14 +10,16 @@ use Rattle.rtp_wire.specs.declared.header.not_a_header.NotAHeader as not_a_heade
 use Rattle.rtp_wire.specs.declared.packet.not_a_packet.NotAPacket.{NotAPacket}
 use Rattle.rtp_wire.specs.declared.packet.not_a_packet.NotAPacket.TheVariants.{CutFixedPart, OtherVersion, CutSources, CutBlockHeader, CutBlock}
 use Rattle.rtp_wire.specs.Block.{word_at}
-use Rattle.rtp_wire.specs.NotAHeader.{IsNoPacket, HasUnknownForm, NotAHeader, no_packet, unknown_form, sources_end}
+use Rattle.rtp_wire.specs.NotAHeader.{IsNoPacket, cut_fixed, other_version, cut_sources, cut_block, cut_words, HasUnknownForm, NotAHeader, no_packet, unknown_form, sources_end}
 use Rattle.rtp_wire.specs.NotAPacket.{place_of, IsFirstCause}
 use Rattle.rtp_wire.specs.NoHeaderCause.{AppliesToHeader, header_place_of, IsFirstHeaderCause}
 use Rattle.rtp_wire.specs.Packet.{PacketParts, IsPacket, HasOtherForm}
 use Rattle.rtp_wire.specs.PartsAt.{has_block, form_of_word, form_in, profile_in, other_in, header_end, parts_at}
-use Rattle.rtp_wire.proofs.NotAPacketLemmas.{no_packet-refused}
-use Rattle.rtp_wire.proofs.PartsLemmas.{some_there, none_there, no_other_form}
-use Rattle.rtp_wire.proofs.PacketLemmas.{bit-is_set, no_form_of_word, IsNoFormWord-form_of_word, one_packet, no_packet as not_a_packet}
+use Rattle.rtp_wire.proofs.AnyBlockLemmas.{is_some-other}
+use Rattle.rtp_wire.proofs.HeaderFound.{HasHeader, IsWhole-header}
+use Rattle.rtp_wire.proofs.NotAPacketLemmas.{IsNoPacket-applies, no_packet-refused}
+use Rattle.rtp_wire.proofs.PartsLemmas.{some_there, none_there}
+use Rattle.rtp_wire.proofs.PacketLemmas.{bit-is_set, no_form_of_word, IsNoFormWord-form_of_word, one_packet, IsWhole, IsPacket-whole, no_packet as not_a_packet}
 
 -- ---- the block
 
@@ -53,11 +55,111 @@ module _ (bytes : List ℕ) (parts : PacketParts) (is : IsPacket bytes parts) (n
   header_there (no_packet refused) = no_packet-refused bytes parts refused is
   header_there (unknown_form unknown) = known_form unknown
 
-  pub packet_there : IsNoPacket bytes ⊎ HasOtherForm bytes → ⊥
-  packet_there (inl refused) = no_packet-refused bytes parts refused is
-  packet_there (inr other) = no_other_form bytes parts is none other
+-- bytes that begin with an unknown form are a packet, unless they are cut short or of another version
+unknown_form-parted : (bytes : List ℕ) → slice_index bytes 1 < 256 → HasUnknownForm bytes → IsNoPacket bytes ⊎ HasOtherForm bytes
+unfolding header_end
+unknown_form-parted bytes small unknown =
+    let after = drop (sources_end bytes) bytes in
+    let x : has_block bytes ≡ true = eq-eqb (slice_index bytes 0 / 16 % 2) 1 unknown.0 in
+    elim (cases_lt (length bytes) 12) [
+      | inl short ↦ inl (cut_fixed short)
+      | inr long ↦ elim (cases_eq (slice_index bytes 0 / 64) 2) [
+        | inr other ↦ inl (other_version other)
+        | inl version ↦ elim (cases_lt (length bytes) (sources_end bytes)) [
+          | inl short ↦ inl (cut_sources short)
+          | inr room ↦ elim (cases_lt (length after) (4 + 4 * word_at after 2)) [
+            | inl short ↦ inl (cut_block unknown.0 (cut_words short))
+            | inr there ↦
+                let ends : header_end bytes ≡ sources_end bytes + (4 + 4 * word_at after 2) = rw x refl in
+                let whole : IsWhole bytes = record { fixed = long; version = version; within = omega (arith, ends, there, room, length-drop (sources_end bytes) bytes) } in
+                inr (record { parts = parts_at bytes; is_packet = IsPacket-whole bytes small whole; other = (word_at after 0, slice_range bytes (sources_end bytes + 4) (header_end bytes)); other_is = other_block-unknown bytes unknown })
+          ]
+        ]
+      ]
+    ]
+
+-- no header begins exactly where the bytes are no packet, or one whose block is of another form
+pub NotAHeader-parted : (bytes : List ℕ) → slice_index bytes 1 < 256 → NotAHeader bytes ↔ (IsNoPacket bytes ⊎ HasOtherForm bytes)
+NotAHeader-parted bytes small = (parted, joined)
+  where
+    parted : NotAHeader bytes → IsNoPacket bytes ⊎ HasOtherForm bytes
+    parted (no_packet refused) = inl refused
+    parted (unknown_form unknown) = unknown_form-parted bytes small unknown
+
+    joined : IsNoPacket bytes ⊎ HasOtherForm bytes → NotAHeader bytes
+    joined (inl refused) = no_packet refused
+    joined (inr found) = unknown_form (HasUnknownForm-packet bytes found.parts found.other found.is_packet found.other_is)
+
+-- what `read` promises where the bytes are no packet, for their first cause
+pub not_a_packet-read : (datagram : List ℕ) (first : NotAPacket) → IsFirstCause datagram first → record {
+  found : Unit {0};
+  only : (parts : PacketParts) → IsPacket datagram parts → ⊥;
+  bytes : Unit {0};
+  cause : IsFirstCause datagram first;
+  refused : (true ≡ true → IsNoPacket datagram) × (IsNoPacket datagram → true ≡ true);
+  header : Unit {0};
+  none : (Unit {0} → NotAHeader datagram) × (NotAHeader datagram → Unit {0});
+}
+not_a_packet-read datagram first is = record {
+  found = tt;
+  only = λ parts. not_a_packet datagram first parts is.applies;
+  bytes = tt;
+  cause = is;
+  refused = (λ _. IsNoPacket-applies datagram first is.applies, λ _. refl);
+  header = tt;
+  none = (λ _. no_packet (IsNoPacket-applies datagram first is.applies), λ _. tt);
+}
+
+-- what it promises of a packet, and whether a header begins it
+module _ (datagram : List ℕ) (len : ℕ) (form : Option ExtensionsForm) (header : HasHeader datagram len form) (small : slice_index datagram 1 < 256) where
+  packet_is : IsPacket datagram (parts_at datagram)
+  packet_is = IsPacket-whole datagram small (IsWhole-header datagram len form header)
+
+  -- where X is set there is another form exactly where none is known
+  other_there : (known : Bool) → is_some form ≡ known → is_some (parts_at datagram).other_block ≡ (not known && has_block datagram)
+  other_there known is = is_some-other datagram ∙ ap (λ (b : Bool). not b && has_block datagram) (ap is_some (sym header.announced) ∙ is)
+
+  pub no_other : (known : Bool) → is_some form ≡ known → known ≡ true → (parts_at datagram).other_block ≡ None
+  no_other known is set = none_there (parts_at datagram).other_block (other_there known is ∙ ap (λ (b : Bool). not b && has_block datagram) set)
+
+  pub other : slice_index datagram 0 / 16 % 2 ≡ 1 → (known : Bool) → is_some form ≡ known → known ≡ false → is_some (parts_at datagram).other_block ≡ true
+  other x known is unknown = other_there known is ∙ ap (λ (b : Bool). not b && has_block datagram) unknown ∙ eq-eqb (slice_index datagram 0 / 16 % 2) 1 x
+
+  begins : (known : Bool) → (known ≡ true → (parts_at datagram).other_block ≡ None) → (known ≡ false → is_some (parts_at datagram).other_block ≡ true)
+      → (known ≡ false → NotAHeader datagram) × (NotAHeader datagram → known ≡ false)
+  begins true none some = (λ wrong. absurd (false≢true (sym wrong)), λ not. absurd (header_there datagram (parts_at datagram) packet_is (none refl) not))
+  begins false none some =
+      let other = some_there (parts_at datagram).other_block (some refl) in
+      (λ _. unknown_form (HasUnknownForm-packet datagram (parts_at datagram) other.0 packet_is other.1), λ _. refl)
+
+  pub packet-read : (known : Bool) → (known ≡ true → (parts_at datagram).other_block ≡ None) → (known ≡ false → is_some (parts_at datagram).other_block ≡ true) → record {
+    found : IsPacket datagram (parts_at datagram);
+    only : (parts : PacketParts) → IsPacket datagram parts → parts_at datagram ≡ parts;
+    bytes : datagram ≡ datagram;
+    cause : Unit {0};
+    refused : (false ≡ true → IsNoPacket datagram) × (IsNoPacket datagram → false ≡ true);
+    header : known ≡ true → (parts_at datagram).other_block ≡ None;
+    none : (known ≡ false → NotAHeader datagram) × (NotAHeader datagram → known ≡ false);
+  }
+  packet-read known none some = record {
+    found = packet_is;
+    only = λ parts is. one_packet datagram parts is;
+    bytes = refl;
+    cause = tt;
+    refused = (λ wrong. absurd (false≢true wrong), λ no. absurd (no_packet-refused datagram (parts_at datagram) no packet_is));
+    header = none;
+    none = begins known none some;
+  }
 
 -- ---- the first cause
+
+-- an unknown form makes room for itself before a block that is cut short
+header_place : (cause : NotAPacket) → header_place_of (not_a_header.TheVariants.NotAPacket cause) ≡ place_of cause + place_of cause / 4
+header_place CutFixedPart = refl
+header_place OtherVersion = refl
+header_place CutSources = refl
+header_place CutBlockHeader = refl
+header_place CutBlock = refl
 
 pub IsFirstHeaderCause-other_form : (bytes : List ℕ) (parts : PacketParts) (other : ℕ × List ℕ) → IsPacket bytes parts → parts.other_block ≡ Some other
     → IsFirstHeaderCause bytes not_a_header.TheVariants.UnknownForm
@@ -72,17 +174,17 @@ pub IsFirstHeaderCause-unknown_form : (bytes : List ℕ) → IsFirstCause bytes 
 IsFirstHeaderCause-unknown_form bytes first unknown = record { applies = unknown; none_before = none_before }
   where
     none_before : (earlier : not_a_header.NotAHeader) → header_place_of earlier < 4 → AppliesToHeader bytes earlier → ⊥
-    none_before (not_a_header.TheVariants.NotAPacket cause) before applies = first.none_before cause (omega arith) applies
+    none_before (not_a_header.TheVariants.NotAPacket cause) before applies = first.none_before cause (omega (arith, before, header_place cause)) applies
     none_before not_a_header.TheVariants.UnknownForm before applies = omega arith
 
 pub IsFirstHeaderCause-packet : (bytes : List ℕ) (cause : NotAPacket) → IsFirstCause bytes cause → (cause ≡ CutBlock → HasUnknownForm bytes → ⊥) → IsFirstHeaderCause bytes (not_a_header.TheVariants.NotAPacket cause)
 IsFirstHeaderCause-packet bytes cause first known = record { applies = first.applies; none_before = none_before }
   where
-    none_before : (earlier : not_a_header.NotAHeader) → header_place_of earlier < place_of cause → AppliesToHeader bytes earlier → ⊥
-    none_before (not_a_header.TheVariants.NotAPacket earlier) before applies = first.none_before earlier before applies
+    none_before : (earlier : not_a_header.NotAHeader) → header_place_of earlier < header_place_of (not_a_header.TheVariants.NotAPacket cause) → AppliesToHeader bytes earlier → ⊥
+    none_before (not_a_header.TheVariants.NotAPacket earlier) before applies = first.none_before earlier (omega (arith, before, header_place earlier, header_place cause)) applies
     none_before not_a_header.TheVariants.UnknownForm before applies = known (last cause before) applies
       where
-        last : (cause : NotAPacket) → 4 < place_of cause → cause ≡ CutBlock
+        last : (cause : NotAPacket) → 4 < header_place_of (not_a_header.TheVariants.NotAPacket cause) → cause ≡ CutBlock
         last CutFixedPart before = absurd (omega arith)
         last OtherVersion before = absurd (omega arith)
         last CutSources before = absurd (omega arith)

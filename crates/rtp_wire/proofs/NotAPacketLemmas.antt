@@ -1,5 +1,5 @@
 -- The causes for which a datagram is no packet, and the first of them.
-use Rattle.std.proofs.Common.{◌≡◌, ℕ, ◌/◌, ◌%◌, ◌<◌, ◌≤◌, true, List, length, drop, bit_and, refl, ap, ◌∙◌, arith}
+use Rattle.std.proofs.Common.{◌≡◌, ℕ, ◌/◌, ◌%◌, ◌<◌, ◌≤◌, List, length, drop, bit_and, ap, ◌∙◌, arith}
 use Rattle.std.specs.Prelude.{slice_index}
 use Rattle.rtp_wire.specs.declared.packet.not_a_packet.NotAPacket.{NotAPacket}
 use Rattle.rtp_wire.specs.declared.packet.not_a_packet.NotAPacket.TheVariants.{CutFixedPart, OtherVersion, CutSources, CutBlockHeader, CutBlock}
@@ -51,7 +51,7 @@ IsFirstCause-block bytes after start cause long version start-is room after-is s
     }
 
 -- the first cause in what is to be a block: its first four bytes are cut short, or its words are
-earlier_none : (bytes : List ℕ) (n : ℕ) → n ≤ 5 → (3 < n → 4 ≤ length bytes) → (earlier : NotAPacket) → place_of earlier < n → AppliesToBlock bytes earlier → ⊥
+earlier_none : (bytes : List ℕ) (n : ℕ) → n ≤ 4 → (3 < n → 4 ≤ length bytes) → (earlier : NotAPacket) → place_of earlier < n → AppliesToBlock bytes earlier → ⊥
 earlier_none bytes n few long CutFixedPart before applies = applies
 earlier_none bytes n few long OtherVersion before applies = applies
 earlier_none bytes n few long CutSources before applies = applies
@@ -62,20 +62,4 @@ pub IsFirstOf-cut_header : (bytes : List ℕ) → length bytes < 4 → IsFirstOf
 IsFirstOf-cut_header bytes short = record { applies = short; none_before = earlier_none bytes 3 (omega arith) (λ more. absurd (omega arith)) }
 
 pub IsFirstOf-cut_block : (bytes : List ℕ) → 4 ≤ length bytes → AppliesToBlock bytes CutBlock → IsFirstOf (AppliesToBlock bytes) CutBlock
-IsFirstOf-cut_block bytes long short = record { applies = short; none_before = earlier_none bytes 5 (omega arith) (λ _. long) }
-
--- what `parse` promises where it refuses the bytes for their first cause
-pub refusal : (datagram : List ℕ) (first : NotAPacket) → IsFirstCause datagram first → record {
-  found : Unit {0};
-  only : (parts : PacketParts) → IsPacket datagram parts → ⊥;
-  bytes : Unit {0};
-  cause : IsFirstCause datagram first;
-  refused : (true ≡ true → IsNoPacket datagram) × (IsNoPacket datagram → true ≡ true);
-}
-refusal datagram first is = record {
-  found = tt;
-  only = λ parts. no_packet datagram first parts is.applies;
-  bytes = tt;
-  cause = is;
-  refused = (λ _. IsNoPacket-applies datagram first is.applies, λ _. refl);
-}
+IsFirstOf-cut_block bytes long short = record { applies = short; none_before = earlier_none bytes 4 (omega arith) (λ _. long) }

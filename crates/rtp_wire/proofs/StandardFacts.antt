@@ -1,5 +1,5 @@
 -- Worked rows, computed from the definitions.
-use Rattle.std.proofs.Common.{◌≡◌, ℕ, None, Some, true, false, List, [], ◌∷◌, ◌++◌, length, replicate, refl, arith}
+use Rattle.std.proofs.Common.{◌≡◌, ℕ, None, Some, true, false, List, [], ◌∷◌, ◌++◌, length, replicate, refl, rules, arith}
 use Rattle.rtp_ext.specs.declared.form.ExtensionsForm.{ExtensionsForm}
 use Rattle.rtp_ext.specs.declared.form.ExtensionsForm.TheVariants.{OneByte, TwoByte}
 use Rattle.rtp_ext.specs.declared.map.ExtensionMap.{ExtensionMap}
@@ -30,14 +30,7 @@ plain_row exts = record {
     groups = [];
     part = [];
     in_order = refl;
-    fixed_is = record {
-      twelve = refl;
-      first_is = record { sum = refl; few = omega arith };
-      second_is = record { sum = refl; few = omega arith };
-      number_is = refl;
-      timestamp_is = refl;
-      ssrc_is = refl;
-    };
+    fixed_is = search rules;
     sources_are = record { of_four = tt; numbers_are = refl };
     part_is = refl;
   };
@@ -58,14 +51,7 @@ full_row exts = record {
     groups = (0 ∷ 0 ∷ 0 ∷ 100 ∷ []) ∷ (0 ∷ 0 ∷ 0 ∷ 101 ∷ []) ∷ [];
     part = 16 ∷ 5 ∷ 0 ∷ 1 ∷ 0 ∷ 0 ∷ 0 ∷ 0 ∷ [];
     in_order = refl;
-    fixed_is = record {
-      twelve = refl;
-      first_is = record { sum = refl; few = omega arith };
-      second_is = record { sum = refl; few = omega arith };
-      number_is = refl;
-      timestamp_is = refl;
-      ssrc_is = refl;
-    };
+    fixed_is = search rules;
     sources_are = record { of_four = (refl, (refl, tt)); numbers_are = refl };
     part_is = record { form_is = (omega arith, omega arith); words = refl; body_is = refl };
   };
@@ -130,14 +116,7 @@ other_form_row = record {
   groups = [];
   part = 32 ∷ 0 ∷ 0 ∷ 1 ∷ 1 ∷ 2 ∷ 3 ∷ 4 ∷ [];
   in_order = refl;
-  fixed_is = record {
-    twelve = refl;
-    first_is = record { sum = refl; few = omega arith };
-    second_is = record { sum = refl; few = omega arith };
-    number_is = refl;
-    timestamp_is = refl;
-    ssrc_is = refl;
-  };
+  fixed_is = search rules;
   sources_are = record { of_four = tt; numbers_are = refl };
   part_is = (refl, refl, record { profile_is = refl; no_form = no_form; words = refl; body_is = refl });
 }

@@ -25,13 +25,13 @@ Applies bytes CutSources = length bytes < sources_end bytes
 Applies bytes CutBlockHeader = AppliesAfterSources bytes CutBlockHeader
 Applies bytes CutBlock = AppliesAfterSources bytes CutBlock
 
--- the place of a cause in the order of reading; the place 4 is that of an unknown form, which is no cause against a packet
+-- the place of a cause in the order of reading
 abbrev pub place_of : NotAPacket → ℕ
 place_of CutFixedPart = 0
 place_of OtherVersion = 1
 place_of CutSources = 2
 place_of CutBlockHeader = 3
-place_of CutBlock = 5
+place_of CutBlock = 4
 
 -- of the causes that apply, this one has the first place
 pub record IsFirstBy {Cause : Type 0} (place : Cause → ℕ) (Fact : Cause → Type 0) (cause : Cause) : Type 0 where

@@ -12,7 +12,7 @@ use Rattle.rtp_ext.specs.WrittenBlock.{whole_words, filled}
 use Rattle.rtp_wire.specs.declared.packet.not_put.NotPut.{NotPut}
 use Rattle.rtp_wire.specs.declared.packet.not_put.NotPut.TheVariants.{CutPacket, ZeroId, LongData, NotAPacket, OtherForm, OneByteOnly, LongBlock, NoRoom}
 use Rattle.rtp_wire.specs.NotAHeader.{sources_end}
-use Rattle.rtp_wire.specs.NotAPacket.{IsFirstCause}
+use Rattle.rtp_wire.specs.NotAPacket.{IsFirstBy, IsFirstCause}
 use Rattle.rtp_wire.specs.Packet.{PacketParts, IsPacket, HasOtherForm}
 use Rattle.rtp_wire.specs.PacketElements.{AreElementsOf}
 
@@ -97,9 +97,8 @@ put_place LongBlock = 6
 put_place (NoRoom needed) = 7
 
 -- of the causes that apply, this one is the first
-pub record IsFirstNotPut (Fact : NotPut → Type 0) (cause : NotPut) : Type 0 where
-  pub applies : Fact cause
-  pub none_before : (earlier : NotPut) → put_place earlier < put_place cause → Fact earlier → ⊥
+abbrev pub IsFirstNotPut : (NotPut → Type 0) → NotPut → Type 0
+IsFirstNotPut Fact cause = IsFirstBy put_place Fact cause
 
 -- a block with the same elements in a row, and zeros that fill their last word
 abbrev pub compact_block : List Element → Option (ExtensionsForm × List ℕ) → Option (ExtensionsForm × List ℕ)

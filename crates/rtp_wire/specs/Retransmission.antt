@@ -13,7 +13,7 @@ use Rattle.rtp_wire.specs.declared.packet.retransmission.OriginalFields.{Origina
 use Rattle.rtp_wire.specs.declared.packet.not_retransmitted.NotRetransmitted.{NotRetransmitted}
 use Rattle.rtp_wire.specs.declared.packet.not_retransmitted.NotRetransmitted.TheVariants.{CutPacket, NotAPacket, PaddingTooLong, NoOriginalNumber, NewIdTooHigh, NoRoom}
 use Rattle.rtp_wire.specs.NotAHeader.{sources_end}
-use Rattle.rtp_wire.specs.NotAPacket.{IsFirstCause}
+use Rattle.rtp_wire.specs.NotAPacket.{IsFirstBy, IsFirstCause}
 use Rattle.rtp_wire.specs.OriginalNumber.{HasOriginalNumber}
 use Rattle.rtp_wire.specs.Packet.{PacketParts, IsPacket, IsWithoutPadding, header_len_of}
 use Rattle.rtp_wire.specs.PacketElements.{AreElementsOf}
@@ -128,6 +128,5 @@ place_of NewIdTooHigh = 4
 place_of NoRoom = 5
 
 -- of the causes that apply, this one is the first
-pub record IsFirstOf (Applies : NotRetransmitted → Type 0) (cause : NotRetransmitted) : Type 0 where
-  pub applies : Applies cause
-  pub none_before : (earlier : NotRetransmitted) → place_of earlier < place_of cause → Applies earlier → ⊥
+abbrev pub IsFirstOf : (NotRetransmitted → Type 0) → NotRetransmitted → Type 0
+IsFirstOf Fact cause = IsFirstBy place_of Fact cause

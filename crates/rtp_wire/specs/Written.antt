@@ -65,6 +65,10 @@ image_of exts h = record h {
   header_len = length (wire_bytes exts h);
 }
 
+-- the header with these values in place of its own
+abbrev pub with_values : RtpHeader → ExtensionValues → RtpHeader
+with_values h values = record h { ext_vals = values }
+
 -- the header can't be written to a buffer of this room: its payload type has more than seven bits, it counts more than fifteen sources, or the room is short
 pub data CannotBeWritten (exts : ExtensionMap) (h : RtpHeader) (room : ℕ) : Type 0 where
   large_payload_type : 127 < h.payload_type → CannotBeWritten exts h room

@@ -1,5 +1,5 @@
-//! RTP packet headers: from bytes to a header and back (RFC 3550, 5.1; RFC 8285), and the numbers of
-//! the packets that a stream brings.
+//! RTP packet headers: from bytes to a header and back (RFC 3550, 5.1; RFC 8285), and the numbers
+//! of the packets that a stream brings.
 #![tactic(auto)]
 
 mod header;
@@ -21,8 +21,9 @@ pub use receive::{
     extend_u8, extend_u15, extend_u16, extend_u32, receive_run, receive_run_one,
 };
 pub use rtp_ext::{
-    AbsCaptureTime, Cursor, ElementList, Elements, Extension, ExtensionMap, ExtensionValues,
-    ExtensionsForm, Iter, IterByMediaType, Kinds, KnownKind, MAX_ID, MAX_ID_ONE_BYTE_FORM, NewIds,
-    Uri, VideoOrientation, VideoTiming, standard, write_elements,
+    AbsCaptureTime, Cursor, ElementList, ElementValues, Elements, Extension, ExtensionMap,
+    ExtensionValues, ExtensionsForm, Iter, IterByMediaType, Kinds, KnownKind, MAX_ID,
+    MAX_ID_ONE_BYTE_FORM, NewIds, Uri, VideoOrientation, VideoTiming, WithLayers, standard,
+    write_elements,
 };
 pub use rtp_vla::vla;

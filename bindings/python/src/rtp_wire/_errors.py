@@ -4,7 +4,7 @@ from __future__ import annotations
 
 from enum import IntEnum
 from operator import index
-from typing import Optional, Union
+from typing import Optional
 
 
 class Status(IntEnum):
@@ -18,7 +18,6 @@ class Status(IntEnum):
     CUT_BLOCK_HEADER = 4
     UNKNOWN_FORM = 5
     CUT_BLOCK = 6
-    NO_MEMORY = 7
     SHORT_BUFFER = 8
     BAD_FIELD = 9
     REFUSED = 10
@@ -31,21 +30,20 @@ class Status(IntEnum):
         return _TEXTS[self]
 
 
-_TEXTS = (
-    "done",
-    "fewer than twelve bytes",
-    "another version than 2",
-    "the CSRC list is cut short",
-    "the header of the extension block is cut short",
-    "a header extension of an unknown form",
-    "the extension block is cut short",
-    "memory was refused",
-    "a buffer is too short",
-    "an argument is out of its range",
-    "a replay, or too old to tell",
-    "no such element",
-    "taken, and the sender has started again",
-)
+_TEXTS = {
+    Status.OK: "done",
+    Status.CUT_FIXED_PART: "fewer than twelve bytes",
+    Status.OTHER_VERSION: "another version than 2",
+    Status.CUT_SOURCES: "the CSRC list is cut short",
+    Status.CUT_BLOCK_HEADER: "the header of the extension block is cut short",
+    Status.UNKNOWN_FORM: "a header extension of an unknown form",
+    Status.CUT_BLOCK: "the extension block is cut short",
+    Status.SHORT_BUFFER: "a buffer is too short",
+    Status.BAD_FIELD: "an argument is out of its range",
+    Status.REFUSED: "a replay, or too old to tell",
+    Status.NONE: "no such element",
+    Status.RESTARTED: "taken, and the sender has started again",
+}
 
 
 class Cause(IntEnum):
@@ -105,11 +103,9 @@ _KINDS = {
 }
 
 
-def error_of(status: int) -> Union[RtpError, MemoryError]:
+def error_of(status: int) -> RtpError:
     """The exception for a status that isn't OK."""
     status = Status(status)
-    if status == Status.NO_MEMORY:
-        return MemoryError(status.text)
     kind = NotAPacket if status <= Status.CUT_BLOCK else RtpError
     return _KINDS.get(status, kind)(status)
 

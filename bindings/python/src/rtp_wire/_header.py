@@ -9,7 +9,7 @@ from typing import TYPE_CHECKING, Iterable, Optional, Tuple
 from . import _library
 from ._buffers import address_of, place_of, view_of, writable_view_of
 from ._errors import BadField, Status, check, unsigned
-from ._layers import Layers, layers_of
+from ._layers import Layers, layers_of, raw_layers_of
 from ._map import Map
 from ._values import Values, put_values, values_of
 
@@ -62,7 +62,7 @@ class Header:
     @classmethod
     def parse(cls, datagram: Buffer, map: Optional[Map] = None) -> Header:
         """Reads the header that the bytes begin with, and what its elements say under the map; nothing after it is
-        looked at. NotAPacket and MemoryError as Packet.parse, and OtherForm, before a block is found cut short."""
+        looked at. NotAPacket as Packet.parse, and OtherForm, before a block is found cut short."""
         data, at = place_of(datagram)
         map, raw = Map() if map is None else map, _library.RawHeader()
         check(_library.parse(at, len(data), map._raw, raw))
@@ -97,27 +97,39 @@ class Header:
             put_values(raw.values, self.values)
         return raw
 
+    def _calls(self, map: Map) -> Tuple[_library.Function, _library.Function, Tuple[object, ...]]:
+        """The calls that tell the length and write, and what both are given."""
+        given = (map._raw, self._raw())
+        if self.values.layers is None:
+            return _library.wire_len, _library.write, given
+        return _library.wire_len_layers, _library.write_layers, (*given, raw_layers_of(self.values.layers))
+
     def wire_len(self, map: Map) -> int:
         """How many bytes `write` writes: a multiple of 4. BadField as `write`."""
+        wire_len, _, given = self._calls(map)
         length = c_size_t()
-        check(_library.wire_len(map._raw, self._raw(), length))
+        check(wire_len(*given, length))
         return length.value
 
     def write(self, map: Map) -> bytes:
         """The bytes of the header. Where has_extension is set there is a block, by rising id an element for each
         mapped id whose value is there: in the one-byte form unless an id above 14 or Kind.LAYERS is mapped or a text
-        that is written is empty. BadField where a field or a value is out of its range."""
-        raw, length = self._raw(), c_size_t()
-        check(_library.wire_len(map._raw, raw, length))
+        that is written is empty. Spatial layers at the end of a stream that aren't active are left out. BadField where
+        a field or a value is out of its range, or no element can carry the layers, as those of more than 255 bytes.
+        """
+        wire_len, write, given = self._calls(map)
+        length = c_size_t()
+        check(wire_len(*given, length))
         buf = bytearray(length.value)
-        check(_library.write(map._raw, raw, address_of(memoryview(buf)), len(buf), length))
+        check(write(*given, address_of(memoryview(buf)), len(buf), length))
         return bytes(buf)
 
     def write_to(self, buf: WritableBuffer, map: Map) -> int:
         """Writes the header to the front of the buffer, and returns how many bytes it took; those after it stay.
         BadField as `write`, and else ShortBuffer; nothing is written then."""
         view, length = writable_view_of(buf), c_size_t()
-        check(_library.write(map._raw, self._raw(), address_of(view), len(view), length))
+        _, write, given = self._calls(map)
+        check(write(*given, address_of(view), len(view), length))
         return length.value
 
     def write_with(self, elements: Iterable[Tuple[int, Buffer]], form: Optional[int] = None) -> bytes:

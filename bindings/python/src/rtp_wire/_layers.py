@@ -3,9 +3,10 @@
 from __future__ import annotations
 
 from dataclasses import dataclass
-from typing import NamedTuple, Optional, Tuple
+from typing import NamedTuple, Optional, Sized, Tuple
 
 from . import _library
+from ._errors import BadField, Status, unsigned
 
 
 class Resolution(NamedTuple):
@@ -43,3 +44,31 @@ def _layer_of(raw: _library.RawLayer) -> Layer:
 def layers_of(raw: _library.RawLayers) -> Layers:
     streams = (stream.layers[: stream.count] for stream in raw.streams[: raw.count])
     return Layers(tuple(tuple(map(_layer_of, layers)) for layers in streams), raw.current)
+
+
+def _few(name: str, items: Sized) -> int:
+    """How many items there are: at most four."""
+    if len(items) > 4:
+        raise BadField(Status.BAD_FIELD, f"{name} are {len(items)}, and not up to 4")
+    return len(items)
+
+
+def _put_layer(raw: _library.RawLayer, layer: Layer) -> None:
+    raw.rates = _few("rates", layer.kbps)
+    raw.kbps[: raw.rates] = [unsigned("a rate", rate, 63) for rate in layer.kbps]
+    if layer.resolution is not None:
+        raw.has_resolution = 1
+        raw.width = unsigned("width", layer.resolution.width, 16)
+        raw.height = unsigned("height", layer.resolution.height, 16)
+        raw.framerate = unsigned("framerate", layer.resolution.framerate, 8)
+
+
+def raw_layers_of(layers: Layers) -> _library.RawLayers:
+    """The layers for the library. BadField where one is out of the range that the struct can hold."""
+    raw = _library.RawLayers()
+    raw.count, raw.current = _few("streams", layers.streams), unsigned("current", layers.current, 2)
+    for raw_stream, stream in zip(raw.streams, layers.streams):
+        raw_stream.count = _few("layers", stream)
+        for raw_layer, layer in zip(raw_stream.layers, stream):
+            _put_layer(raw_layer, layer)
+    return raw

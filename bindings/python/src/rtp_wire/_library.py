@@ -267,6 +267,24 @@ parse_layers = _declare(
 )
 wire_len = _declare(_STATUS, "rtpw_wire_len", POINTER(RawMap), POINTER(RawHeader), POINTER(c_size_t))
 write = _declare(_STATUS, "rtpw_write", POINTER(RawMap), POINTER(RawHeader), _BYTES, _SIZE, POINTER(c_size_t))
+wire_len_layers = _declare(
+    _STATUS,
+    "rtpw_wire_len_layers",
+    POINTER(RawMap),
+    POINTER(RawHeader),
+    POINTER(RawLayers),
+    POINTER(c_size_t),
+)
+write_layers = _declare(
+    _STATUS,
+    "rtpw_write_layers",
+    POINTER(RawMap),
+    POINTER(RawHeader),
+    POINTER(RawLayers),
+    _BYTES,
+    _SIZE,
+    POINTER(c_size_t),
+)
 write_with = _declare(
     _STATUS,
     "rtpw_write_with",

@@ -80,7 +80,7 @@ class Values:
     frame_marking: Optional[int] = None
     """The first four bytes of the frame marking."""
     layers: Optional[Layers] = None
-    """Which simulcast streams and layers the sender keeps active. It is not written."""
+    """Which simulcast streams and layers the sender keeps active."""
 
     @classmethod
     def read(cls, body: Buffer, form: int, map: Map) -> Values:

@@ -48,18 +48,6 @@ impl fmt::Display for NotAPacket {
 
 impl Error for NotAPacket {}
 
-/// Memory was refused, which only a layer allocation takes ([`Kind::Layers`](crate::Kind::Layers)).
-#[derive(Clone, Copy, Debug, PartialEq, Eq, Hash)]
-pub struct NoMemory;
-
-impl fmt::Display for NoMemory {
-    fn fmt(&self, f: &mut fmt::Formatter<'_>) -> fmt::Result {
-        f.write_str("memory was refused")
-    }
-}
-
-impl Error for NoMemory {}
-
 /// What is said where the form of a block has to be known.
 const UNKNOWN_FORM: &str = "a header extension of an unknown form";
 
@@ -72,14 +60,11 @@ pub enum NotAHeader {
     /// The block's form is neither 0xBEDE nor 0x1000 to 0x100F: [`Packet`](crate::Packet) reads all else. It comes
     /// before [`NotAPacket::CutBlock`].
     UnknownForm,
-    /// Memory was refused.
-    NoMemory,
 }
 
 impl NotAHeader {
     pub(crate) fn of_status(status: i32) -> Result<(), NotAHeader> {
         match status {
-            sys::NO_MEMORY => Err(NotAHeader::NoMemory),
             sys::UNKNOWN_FORM => Err(NotAHeader::UnknownForm),
             other => NotAPacket::of_status(other).map_err(NotAHeader::NotAPacket),
         }
@@ -91,7 +76,6 @@ impl fmt::Display for NotAHeader {
         match self {
             NotAHeader::NotAPacket(_) => f.write_str("no RTP packet"),
             NotAHeader::UnknownForm => f.write_str(UNKNOWN_FORM),
-            NotAHeader::NoMemory => NoMemory.fmt(f),
         }
     }
 }
@@ -100,7 +84,7 @@ impl Error for NotAHeader {
     fn source(&self) -> Option<&(dyn Error + 'static)> {
         match self {
             NotAHeader::NotAPacket(cause) => Some(cause),
-            NotAHeader::UnknownForm | NotAHeader::NoMemory => None,
+            NotAHeader::UnknownForm => None,
         }
     }
 }
@@ -108,12 +92,6 @@ impl Error for NotAHeader {
 impl From<NotAPacket> for NotAHeader {
     fn from(cause: NotAPacket) -> NotAHeader {
         NotAHeader::NotAPacket(cause)
-    }
-}
-
-impl From<NoMemory> for NotAHeader {
-    fn from(_: NoMemory) -> NotAHeader {
-        NotAHeader::NoMemory
     }
 }
 
@@ -147,6 +125,18 @@ impl fmt::Display for NotWritten {
 }
 
 impl Error for NotWritten {}
+
+/// More than four streams, layers or temporal layers were given.
+#[derive(Clone, Copy, Debug, PartialEq, Eq, Hash)]
+pub struct TooManyLayers;
+
+impl fmt::Display for TooManyLayers {
+    fn fmt(&self, f: &mut fmt::Formatter<'_>) -> fmt::Result {
+        f.write_str("more than four streams, layers or temporal layers")
+    }
+}
+
+impl Error for TooManyLayers {}
 
 /// Why an element wasn't put into a packet ([`put_element`](crate::put_element)).
 #[derive(Clone, Copy, Debug, PartialEq, Eq, Hash)]

@@ -57,8 +57,7 @@ impl Header {
     ///
     /// # Errors
     ///
-    /// The first cause for which there is none, or that memory was refused, which only a layer allocation
-    /// takes ([`Kind::Layers`](crate::Kind::Layers)).
+    /// The first cause for which there is none.
     pub fn parse(datagram: &[u8], map: &Map) -> Result<Header, NotAHeader> {
         let mut view = HeaderView::default();
         NotAHeader::of_status(sys::parse(datagram, &map.kinds, &mut view))?;
@@ -109,7 +108,7 @@ impl Header {
         Ok(())
     }
 
-    /// How many bytes [`write_to`](Header::write_to) writes: a multiple of 4, 12 to 65,612.
+    /// How many bytes [`write_to`](Header::write_to) writes: a multiple of 4, 12 to 4,668.
     ///
     /// # Errors
     ///
@@ -123,7 +122,8 @@ impl Header {
     /// Writes the header to the front of the buffer, and returns how many bytes it took; those after
     /// them stay. Where there is a block it has an element for each mapped id whose value is there, by
     /// rising id, in the one-byte form where no id above 14 and no [`Kind::Layers`](crate::Kind::Layers)
-    /// is mapped, and no text of a mapped kind is empty. A layer allocation is not written.
+    /// is mapped, and no text of a mapped kind is empty. A layer allocation isn't written
+    /// ([`write_with_layers`](Header::write_with_layers)).
     ///
     /// # Errors
     ///
@@ -132,6 +132,55 @@ impl Header {
     pub fn write_to(&self, buf: &mut [u8], map: &Map) -> Result<usize, NotWritten> {
         let mut len = 0;
         NotWritten::of_status(sys::write(&map.kinds, &self.view(), buf, &mut len))?;
+        Ok(len)
+    }
+
+    /// How many bytes [`write_with_layers`](Header::write_with_layers) writes: a multiple of 4, 12 to 65,612.
+    ///
+    /// # Errors
+    ///
+    /// [`NotWritten::BadField`], as `write_with_layers`.
+    pub fn wire_len_with_layers(&self, map: &Map, layers: &Layers) -> Result<usize, NotWritten> {
+        let mut len = 0;
+        let status = sys::wire_len_layers(&map.kinds, &self.view(), layers, &mut len);
+        NotWritten::of_status(status)?;
+        Ok(len)
+    }
+
+    /// Writes the header as [`write_to`](Header::write_to) does, and these layers, in an element for each id
+    /// that the map has for [`Kind::Layers`](crate::Kind::Layers): so what
+    /// [`parse_with_layers`](Header::parse_with_layers) read is written again. A stream is written without
+    /// the layers at its end that aren't active.
+    ///
+    /// # Errors
+    ///
+    /// Those of `write_to`; and [`NotWritten::BadField`] where no element can carry the layers, mapped or not:
+    /// the packet's stream is above 3, or above 0 without a stream; a rate is 2^63 or more; a width or height is
+    /// 0; there is a resolution of a layer that isn't active, or behind an active layer without one; or they
+    /// take more than 255 bytes.
+    ///
+    /// ```
+    /// use rtp_wire::{Header, Kind, Layer, Layers, Map, Resolution, Stream};
+    ///
+    /// const MAP: Map = Map::new().with(5, Kind::Layers);
+    /// let hd = Resolution { width: 1280, height: 720, framerate: 30 };
+    /// let stream = Stream::new(&[Layer::new(&[300, 500], Some(hd))?])?;
+    /// let mut header = Header::default();
+    /// header.has_extension = true;
+    /// let mut buf = [0; 100];
+    /// let len = header.write_with_layers(&mut buf, &MAP, &Layers::new(0, &[stream])?)?;
+    /// assert_eq!(buf[16..len], [5, 11, 1, 0x40, 0xAC, 2, 0xF4, 3, 0x04, 0xFF, 0x02, 0xCF, 30, 0, 0, 0]);
+    /// # Ok::<(), Box<dyn std::error::Error>>(())
+    /// ```
+    pub fn write_with_layers(
+        &self,
+        buf: &mut [u8],
+        map: &Map,
+        layers: &Layers,
+    ) -> Result<usize, NotWritten> {
+        let mut len = 0;
+        let status = sys::write_layers(&map.kinds, &self.view(), layers, buf, &mut len);
+        NotWritten::of_status(status)?;
         Ok(len)
     }
 

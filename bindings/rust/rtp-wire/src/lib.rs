@@ -4,11 +4,11 @@
 //!
 //! - To receive: [`is_rtcp`], [`Packet`] and its [`Elements`], [`Header`] and its [`Values`] under a [`Map`],
 //!   [`Receiver`].
-//! - To send: [`Header::write_to`], [`Header::write_with`], [`write_elements`], [`pad`].
+//! - To send: [`Header::write_to`], [`Header::write_with`], [`Header::write_with_layers`], [`write_elements`], [`pad`].
 //! - To send on: [`PacketMut`], [`put_element`], [`compact`], [`Fields`], [`Values::data_of`], [`NewIds`].
 //! - To send again: [`to_retransmission`], [`from_retransmission`], [`read_original`], [`write_original`].
 //! - What went wrong: [`NotAPacket`], [`NotAHeader`], [`NotWritten`], [`NotChanged`], [`NotPut`],
-//!   [`NotRetransmitted`], [`NotAText`], [`BadId`], [`BadRolloverCount`], [`NoMemory`].
+//!   [`NotRetransmitted`], [`NotAText`], [`BadId`], [`BadRolloverCount`], [`TooManyLayers`].
 #![no_std]
 #![deny(unsafe_code)]
 #![warn(missing_docs, missing_debug_implementations)]
@@ -34,8 +34,8 @@ mod wide_receiver;
 
 pub use elements::{write_elements, Element, Elements, Place, Places};
 pub use error::{
-    BadId, BadRolloverCount, NoMemory, NotAHeader, NotAPacket, NotChanged, NotPut,
-    NotRetransmitted, NotWritten,
+    BadId, BadRolloverCount, NotAHeader, NotAPacket, NotChanged, NotPut, NotRetransmitted,
+    NotWritten, TooManyLayers,
 };
 pub use growing::{compact, put_element};
 pub use header::Header;

@@ -1,5 +1,5 @@
-//! The functions of `rtp_wire.h`, called with the types of Rust. Beside `assembly` this is the one
-//! module with `unsafe`.
+//! The functions of `rtp_wire.h`, called with the types of Rust. This is the one module with `unsafe`; what it
+//! calls is the text in `assembly`.
 //!
 //! Each of them may be called with any values: it asks only that a pointer is aligned and is to as many
 //! bytes as is said, and that what it writes overlaps nothing else that it is given. A reference of Rust
@@ -19,7 +19,6 @@ pub const CUT_SOURCES: i32 = 3;
 pub const CUT_BLOCK_HEADER: i32 = 4;
 pub const UNKNOWN_FORM: i32 = 5;
 pub const CUT_BLOCK: i32 = 6;
-pub const NO_MEMORY: i32 = 7;
 pub const SHORT_BUFFER: i32 = 8;
 pub const BAD_FIELD: i32 = 9;
 pub const NONE: i32 = 11;
@@ -160,6 +159,20 @@ mod c {
         pub fn rtpw_write(
             map: *const StoredMap,
             header: *const HeaderView,
+            buf: *mut u8,
+            size: usize,
+            len: *mut usize,
+        ) -> i32;
+        pub fn rtpw_wire_len_layers(
+            map: *const StoredMap,
+            header: *const HeaderView,
+            layers: *const Layers,
+            len: *mut usize,
+        ) -> i32;
+        pub fn rtpw_write_layers(
+            map: *const StoredMap,
+            header: *const HeaderView,
+            layers: *const Layers,
             buf: *mut u8,
             size: usize,
             len: *mut usize,
@@ -403,6 +416,27 @@ pub fn wire_len(map: &StoredMap, header: &HeaderView, len: &mut usize) -> i32 {
 pub fn write(map: &StoredMap, header: &HeaderView, buf: &mut [u8], len: &mut usize) -> i32 {
     // SAFETY: two references that are read, an exclusive slice, and an exclusive reference.
     unsafe { c::rtpw_write(map, header, buf.as_mut_ptr(), buf.len(), len) }
+}
+
+pub fn wire_len_layers(
+    map: &StoredMap,
+    header: &HeaderView,
+    layers: &Layers,
+    len: &mut usize,
+) -> i32 {
+    // SAFETY: three references that are read, and an exclusive reference.
+    unsafe { c::rtpw_wire_len_layers(map, header, layers, len) }
+}
+
+pub fn write_layers(
+    map: &StoredMap,
+    header: &HeaderView,
+    layers: &Layers,
+    buf: &mut [u8],
+    len: &mut usize,
+) -> i32 {
+    // SAFETY: three references that are read, an exclusive slice, and an exclusive reference.
+    unsafe { c::rtpw_write_layers(map, header, layers, buf.as_mut_ptr(), buf.len(), len) }
 }
 
 pub fn write_with(

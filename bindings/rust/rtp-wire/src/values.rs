@@ -1,6 +1,6 @@
 use core::time::Duration;
 
-use crate::error::{NoMemory, NotWritten};
+use crate::error::NotWritten;
 use crate::map::{Kind, Map};
 use crate::packet::Packet;
 use crate::sys;
@@ -213,29 +213,22 @@ impl Packet<'_> {
     /// What the elements say under the map: for each kind the last one whose id means it and whose data
     /// are well-formed for it.
     ///
-    /// # Errors
-    ///
-    /// [`NoMemory`], only where the map has [`Kind::Layers`](crate::Kind::Layers) and the packet such an
-    /// element.
-    ///
     /// ```
     /// use rtp_wire::{Kind, Map, Packet};
     ///
     /// const MAP: Map = Map::new().with(3, Kind::AudioLevel);
     /// let datagram = [0x90, 0, 0, 1, 0, 0, 0, 2, 0, 0, 0, 3, 0xBE, 0xDE, 0, 1, 0x30, 0x8A, 0, 0];
-    /// let values = Packet::parse(&datagram)?.values(&MAP)?;
+    /// let values = Packet::parse(&datagram)?.values(&MAP);
     /// assert_eq!(values.audio_level, Some(-10));
     /// assert_eq!(values.voice_activity, Some(true));
     /// # Ok::<(), Box<dyn std::error::Error>>(())
     /// ```
-    pub fn values(&self, map: &Map) -> Result<Values, NoMemory> {
-        let Some((form, body)) = self.block() else {
-            return Ok(Values::default());
-        };
+    #[must_use]
+    pub fn values(&self, map: &Map) -> Values {
         let mut view = ValuesView::default();
-        match sys::values_read(body, form.number(), &map.kinds, &mut view) {
-            sys::OK => Ok(Values::of(&view)),
-            _ => Err(NoMemory),
+        if let Some((form, body)) = self.block() {
+            sys::values_read(body, form.number(), &map.kinds, &mut view);
         }
+        Values::of(&view)
     }
 }

@@ -5,7 +5,7 @@ mod guarded;
 
 use guarded::at_end;
 use rtp_wire::{
-    pad, read_original, write_elements, write_original, Form, Header, Kind, Map, NewIds,
+    pad, read_original, write_elements, write_original, Form, Header, Kind, Layers, Map, NewIds,
     NotAHeader, NotAPacket, NotChanged, NotWritten, Packet, PacketMut, Place,
 };
 
@@ -39,7 +39,7 @@ fn a_packet_ends_with_its_datagram() {
         assert_eq!(packet.payload().len(), len - LEAST);
         assert_eq!(packet.elements().count(), 3);
         assert_eq!(packet.element(3), Some(&b"xy"[..]));
-        assert_eq!(packet.values(&MAP).unwrap().rid.unwrap(), "xy");
+        assert_eq!(packet.values(&MAP).rid.unwrap(), "xy");
         let header = Header::parse(at_end(&SAMPLE[..len]), &MAP).unwrap();
         assert_eq!(
             Header::parse_with_layers(at_end(&SAMPLE[..len]), &MAP),
@@ -89,7 +89,7 @@ fn an_element_ends_with_its_block() {
             [1, 2]
         );
         assert_eq!(packet.element(3), None);
-        assert_eq!(packet.values(&MAP).unwrap().rid, None);
+        assert_eq!(packet.values(&MAP).rid, None);
         assert_eq!(Header::parse(bytes, &MAP).unwrap().values.rid, None);
         let mut packet = PacketMut::parse(bytes).unwrap();
         assert_eq!(
@@ -173,6 +173,10 @@ fn a_header_is_written_up_to_the_end() {
         );
         let with = at_end(&[0xEE; 24][..room]);
         assert_eq!(header.write_with(with, data, places, None), written);
+        assert_eq!(all, with);
+        let layers = at_end(&[Layers::default()]);
+        let with = at_end(&[0xEE; 24][..room]);
+        assert_eq!(header.write_with_layers(with, &map, &layers[0]), written);
         assert_eq!(all, with);
         match written {
             Ok(_) => assert_eq!(all[12..], block),

@@ -45,7 +45,7 @@ fn crosses_threads<T: Send + Sync + 'static>(_: &T) {}
 fn types_cross_threads() {
     crosses_threads(&Header::default());
     crosses_threads(&NewIds::new());
-    crosses_threads(&NotAHeader::NoMemory);
+    crosses_threads(&NotAHeader::UnknownForm);
     crosses_threads(&NotWritten::BadField);
     crosses_threads(&Place::new(1, 0..0));
 }
@@ -63,12 +63,11 @@ fn a_header_is_read() {
     assert_eq!(header.csrcs(), [9]);
     assert_eq!(header.header_len(), 56);
     assert_eq!(header.values, values());
-    assert_eq!(Packet::parse(&SAMPLE).unwrap().values(&MAP), Ok(values()));
+    assert_eq!(Packet::parse(&SAMPLE).unwrap().values(&MAP), values());
 
     let cause = Header::parse(&SAMPLE[..55], &MAP).unwrap_err();
     assert_eq!(cause, NotAHeader::NotAPacket(NotAPacket::CutBlock));
     assert_eq!(cause.to_string(), "no RTP packet");
-    assert_eq!(NotAHeader::NoMemory.to_string(), "memory was refused");
 }
 
 #[test]

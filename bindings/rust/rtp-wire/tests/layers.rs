@@ -1,7 +1,9 @@
 //! Layer allocations of four streams, each with four layers. They are written here by the document of the
 //! extension (video-layers-allocation00), and read by the library.
 
-use rtp_wire::{Header, Kind, Layer, Layers, Map, Packet, Resolution, Values};
+use rtp_wire::{
+    Header, Kind, Layer, Layers, Map, NotWritten, Packet, Resolution, Stream, TooManyLayers, Values,
+};
 
 /// A layer: the rates of its temporal layers, and its resolution. One without rates isn't active.
 type Given = (Vec<u64>, Option<(u16, u16, u8)>);
@@ -84,7 +86,7 @@ fn read(allocation: &[u8]) -> Option<Layers> {
     values.video_content_type = Some(1);
     assert_eq!((header.values, header.header_len()), (values, 280));
     assert_eq!(Header::parse(&datagram, &MAP), Ok(header));
-    assert_eq!(Packet::parse(&datagram).unwrap().values(&MAP), Ok(values));
+    assert_eq!(Packet::parse(&datagram).unwrap().values(&MAP), values);
     layers
 }
 
@@ -218,4 +220,109 @@ fn allocations_differ_in_each_number() {
         let differs = pairs().any(|(one, other)| one.resolution() != other.resolution());
         assert_eq!(differs, index > 1);
     }
+}
+
+/// The layers that are given, made anew.
+fn made(current: u8, streams: &[Vec<Given>]) -> Layers {
+    let layer = |(rates, resolution): &Given| {
+        let resolution = resolution.map(|(width, height, framerate)| Resolution {
+            width,
+            height,
+            framerate,
+        });
+        Layer::new(rates, resolution).unwrap()
+    };
+    let stream = |layers: &Vec<Given>| {
+        let layers: Vec<Layer> = layers.iter().map(layer).collect();
+        Stream::new(&layers).unwrap()
+    };
+    let streams: Vec<Stream> = streams.iter().map(stream).collect();
+    Layers::new(current, &streams).unwrap()
+}
+
+/// The block that is written with them.
+fn written(layers: &Layers, map: &Map) -> Result<Vec<u8>, NotWritten> {
+    let mut header = Header::default();
+    header.has_extension = true;
+    let mut buf = [0xEE; 700];
+    let written = header.write_with_layers(&mut buf, map, layers);
+    assert_eq!(header.wire_len_with_layers(map, layers), written);
+    let len = written?;
+    assert!(buf[len..].iter().all(|byte| *byte == 0xEE));
+    let short = header.write_with_layers(&mut buf[..len - 1], map, layers);
+    assert_eq!(short, Err(NotWritten::ShortBuffer));
+    Ok(buf[12..len].to_vec())
+}
+
+/// The block with these bytes as the element 77.
+fn block(allocation: &[u8]) -> Vec<u8> {
+    let words = (allocation.len() + 2).div_ceil(4);
+    let mut bytes = vec![0x10, 0, 0, words as u8, 77, allocation.len() as u8];
+    bytes.extend_from_slice(allocation);
+    bytes.resize(4 + 4 * words, 0);
+    bytes
+}
+
+#[test]
+fn what_was_read_is_written_again() {
+    let rows: [&[u8]; 4] = [
+        &[0x51, 0, 5, 0xAC, 2, 2, 127, 1, 103, 30], // two streams, whose mask is shared
+        &[0x20, 0x12, 0x4F, 0, 5, 6, 7],            // three of other masks: the spare half is 15
+        &[0x01, 0, 5],
+        &[0],
+    ];
+    for row in rows {
+        assert_eq!(written(&read(row).unwrap(), &MAP), Ok(block(row)));
+    }
+    // a mask that needn't stand by itself
+    let layers = read(&[0x00, 0x60, 0x40, 5, 6, 7]).unwrap();
+    assert_eq!(written(&layers, &MAP), Ok(block(&[0x06, 0x40, 5, 6, 7])));
+    let empty = vec![0xBE, 0xDE, 0, 0];
+    assert_eq!(written(&layers, &Map::standard()), Ok(empty));
+}
+
+#[test]
+fn layers_are_made_and_written() {
+    for count in 1..=4 {
+        for depth in 1..=4 {
+            let streams: Vec<Vec<Given>> = full()[..count]
+                .iter()
+                .map(|layers| layers[..depth].to_vec())
+                .collect();
+            let current = depth as u8 - 1;
+            let layers = made(current, &streams);
+            assert_eq!(read(&bytes_of(current, &streams)), Some(layers));
+            let again = written(&layers, &MAP).unwrap();
+            assert_eq!(read(&again[6..][..usize::from(again[5])]), Some(layers));
+        }
+    }
+    // layers at the end of a stream that aren't active go
+    let off = (vec![], None);
+    let layers = made(0, &[vec![off.clone(), (vec![5], None), off.clone(), off]]);
+    assert_eq!(written(&layers, &MAP), Ok(block(&[0x02, 0, 5])));
+    assert_eq!(made(0, &[]), Layers::default());
+}
+
+#[test]
+fn what_no_element_can_carry_is_refused() {
+    let refused = |current, streams: &[Vec<Given>]| {
+        let layers = made(current, streams);
+        for map in [MAP, Map::new()] {
+            assert_eq!(written(&layers, &map), Err(NotWritten::BadField));
+        }
+    };
+    let size = |width, height| Some((width, height, 30));
+    refused(1, &[]);
+    refused(4, &[vec![(vec![5], None)]]);
+    refused(0, &[vec![(vec![1 << 63], None)]]);
+    refused(0, &[vec![(vec![5], size(0, 1))]]);
+    refused(0, &[vec![(vec![5], size(1, 0))]]);
+    refused(0, &[vec![(vec![], size(1, 1))]]);
+    refused(0, &[vec![(vec![5], None), (vec![5], size(1, 1))]]);
+    let rates = vec![u64::MAX >> 1; 4]; // nine bytes each: 16 layers have 576
+    refused(0, &vec![vec![(rates, None); 4]; 4]);
+
+    assert_eq!(Layer::new(&[0; 5], None), Err(TooManyLayers));
+    assert_eq!(Stream::new(&[Layer::default(); 5]), Err(TooManyLayers));
+    assert_eq!(Layers::new(0, &[Stream::default(); 5]), Err(TooManyLayers));
 }

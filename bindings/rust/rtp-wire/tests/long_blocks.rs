@@ -75,7 +75,7 @@ fn all_elements_are_read() {
         ),
         (Some(0xA3), Some(0xA307))
     );
-    assert_eq!(packet.values(&map), Ok(header.values));
+    assert_eq!(packet.values(&map), header.values);
     assert_eq!(
         Header::parse_with_layers(&datagram, &map),
         Ok((header, None))

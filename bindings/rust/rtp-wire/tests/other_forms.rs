@@ -35,7 +35,7 @@ fn they_are_read() {
         assert_eq!(packet.elements().next(), None);
         assert_eq!(packet.elements().places().next(), None);
         assert_eq!(packet.element(1), None);
-        assert_eq!(packet.values(&Map::standard()), Ok(Values::default()));
+        assert_eq!(packet.values(&Map::standard()), Values::default());
         assert_eq!((packet.header_len(), packet.ssrc()), (28, 44));
         assert_eq!(packet.payload(), [0x41, 0x42, 0x43]);
         let cut = Packet::parse(&bytes[..27]);

@@ -225,5 +225,5 @@ fn an_absent_element_stays_absent() {
         }
     }
     let values = Packet::parse(&EMPTY).unwrap().values(&Map::standard());
-    assert_eq!(values.unwrap().mid.unwrap(), ""); // 4 is the mid
+    assert_eq!(values.mid.unwrap(), ""); // 4 is the mid
 }

@@ -15,7 +15,7 @@
  *     deliver(packet.ssrc, packet.timestamp, datagram + packet.payload_at, packet.unpadded_len);
  *
  * Each function may be called with any values, and returns. It keeps no pointer, has no state of its
- * own and takes no memory but where it says so. Calls on several threads at once are safe as long as
+ * own and takes no memory but that of the stack. Calls on several threads at once are safe as long as
  * nothing that one of them writes is read or written by another.
  *
  * The caller owes what C asks anyway:
@@ -30,9 +30,8 @@
  * Where a call has several faults, the status is that of the first of these:
  *   1. an argument is out of its range whatever the buffers hold: RTPW_BAD_FIELD;
  *   2. the buffer holds no packet, or the form of its block has to be known and isn't: one of the causes 1 to 6;
- *   3. memory is refused: RTPW_NO_MEMORY;
- *   4. what is named isn't there, or the packet or an element doesn't allow it: RTPW_NONE, or RTPW_BAD_FIELD;
- *   5. there is no room: RTPW_SHORT_BUFFER.
+ *   3. what is named isn't there, or the packet or an element doesn't allow it: RTPW_NONE, or RTPW_BAD_FIELD;
+ *   4. there is no room: RTPW_SHORT_BUFFER.
  */
 #ifndef RTPW_H
 #define RTPW_H
@@ -78,7 +77,6 @@ enum {
     RTPW_CUT_BLOCK_HEADER = 4, /* X is set, and the first four bytes of the block are cut short */
     RTPW_UNKNOWN_FORM = 5,     /* the block's form is neither 0xBEDE nor 0x1000 to 0x100F */
     RTPW_CUT_BLOCK = 6,        /* the block is longer than what is left */
-    RTPW_NO_MEMORY = 7,        /* memory was refused */
     RTPW_SHORT_BUFFER = 8,     /* a buffer is too short */
     RTPW_BAD_FIELD = 9,        /* an argument is out of its range */
     RTPW_REFUSED = 10,         /* a replay, or too old to tell */
@@ -96,7 +94,6 @@ static inline const char *rtpw_status_text(int32_t status) {
     case RTPW_CUT_BLOCK_HEADER: return "the header of the extension block is cut short";
     case RTPW_UNKNOWN_FORM: return "a header extension of an unknown form";
     case RTPW_CUT_BLOCK: return "the extension block is cut short";
-    case RTPW_NO_MEMORY: return "memory was refused";
     case RTPW_SHORT_BUFFER: return "a buffer is too short";
     case RTPW_BAD_FIELD: return "an argument is out of its range";
     case RTPW_REFUSED: return "a replay, or too old to tell";
@@ -373,13 +370,12 @@ typedef struct {
     uint8_t has_mid;
     uint8_t has_rid;
     uint8_t has_repaired_rid;
-    uint8_t has_layers; /* a layer allocation: rtpw_parse_layers tells it */
+    uint8_t has_layers; /* a layer allocation: rtpw_parse_layers tells it, and rtpw_write_layers writes it */
 } rtpw_values;
 
 /* The values that the elements of a body give under the map: for each kind those of the last element
  * whose id means it and whose data are well-formed for it. RTPW_OK; RTPW_BAD_FIELD where the form is none
- * of the two; RTPW_NO_MEMORY. Memory is taken for a layer allocation alone (RTPW_KIND_LAYERS mapped to the
- * id of an element of two bytes or more), and given back before the call returns. */
+ * of the two. */
 RTPW_CHECKED int32_t rtpw_values_read(const uint8_t *body, size_t body_len, uint8_t form, const rtpw_map *map,
                                       rtpw_values *values);
 
@@ -418,9 +414,8 @@ typedef struct {
 
 /* Reads the header that the bytes begin with, and the values of its block under the map: in one call
  * what rtpw_packet_parse and rtpw_values_read tell, and on a port with RTCP after rtpw_is_rtcp. Nothing
- * after the header is looked at. RTPW_OK; the first cause for which there is none, where RTPW_UNKNOWN_FORM
- * comes before RTPW_CUT_BLOCK: a receiver that takes such packets calls rtpw_packet_parse; or RTPW_NO_MEMORY,
- * as rtpw_values_read.
+ * after the header is looked at. RTPW_OK, or the first cause for which there is none, where RTPW_UNKNOWN_FORM
+ * comes before RTPW_CUT_BLOCK: a receiver that takes such packets calls rtpw_packet_parse.
  *
  *     rtpw_header header;
  *     if (rtpw_parse(datagram, len, &map, &header) == RTPW_OK && header.values.has_mid) {
@@ -445,8 +440,8 @@ typedef struct {
     uint8_t count; /* 0 to 4 */
 } rtpw_stream;
 
-/* Which simulcast streams and layers a sender of video keeps active (video-layers-allocation00); all
- * zeros after the last stream. 680 bytes. */
+/* Which simulcast streams and layers a sender of video keeps active (video-layers-allocation00): as read all
+ * zeros after the last stream, and as written not looked at there. 680 bytes. */
 typedef struct {
     rtpw_stream streams[4];
     uint8_t count;   /* 0 to 4; 0 where nothing is sent */
@@ -464,7 +459,7 @@ RTPW_CHECKED int32_t rtpw_wire_len(const rtpw_map *map, const rtpw_header *heade
  * a block: by rising id an element for each mapped id whose value is there (its has_ isn't 0), in the
  * one-byte form unless an id above 14 or RTPW_KIND_LAYERS is mapped or a text that it writes is empty.
  * An audio level takes has_voice_activity too, a playout delay both its times, and a capture offset
- * a capture time; a layer allocation is not written. Of a time the whole ticks are written of 2^-18
+ * a capture time; a layer allocation isn't written (rtpw_write_layers). Of a time the whole ticks are written of 2^-18
  * seconds (send time, modulo 64 seconds) or of 1/100 second (playout delay, modulo 4,096); of a level
  * its magnitude modulo 128. Flags count as set where they aren't 0.
  *
@@ -488,7 +483,27 @@ RTPW_CHECKED int32_t rtpw_wire_len(const rtpw_map *map, const rtpw_header *heade
  */
 RTPW_CHECKED int32_t rtpw_write(const rtpw_map *map, const rtpw_header *header, uint8_t *buf, size_t size, size_t *len);
 
-/* The same with a block of these elements, whatever has_extension and the values hold. The data of each
+/* As rtpw_wire_len and rtpw_write, with these layers, whatever has_layers holds: an element of them for each id
+ * that means RTPW_KIND_LAYERS. So what rtpw_parse_layers read is written again. A stream is written without the
+ * layers at its end that aren't active. At most 65,612 bytes.
+ *
+ * RTPW_BAD_FIELD also where no element can carry the layers, mapped or not: a count or `rates` is above 4;
+ * `current` is above 3, or above 0 without a stream; a rate is 2^63 or more; a width or height that is there is 0;
+ * there is a resolution of a layer that isn't active, or behind an active layer without one; or they take more
+ * than 255 bytes.
+ *
+ *     rtpw_layers layers = {0};
+ *     layers.count = layers.streams[0].count = 1;
+ *     layers.streams[0].layers[0].rates = 1;
+ *     layers.streams[0].layers[0].kbps[0] = 300;
+ *     status = rtpw_write_layers(&map, &header, &layers, packet, sizeof packet, &header_len);
+ */
+RTPW_CHECKED int32_t rtpw_wire_len_layers(const rtpw_map *map, const rtpw_header *header, const rtpw_layers *layers,
+                                          size_t *len);
+RTPW_CHECKED int32_t rtpw_write_layers(const rtpw_map *map, const rtpw_header *header, const rtpw_layers *layers,
+                                       uint8_t *buf, size_t size, size_t *len);
+
+/* As rtpw_write, with a block of these elements, whatever has_extension and the values hold. The data of each
  * are the data_len bytes at data_at of `data`: those that rtpw_next_element told of a body, say. What
  * `end` holds isn't looked at; data_at is, also of an element of no bytes. The block is in the one-byte
  * form where that can carry each element (ids 1 to 14, 1 to 16 bytes), and else in the two-byte form (ids

@@ -4,8 +4,8 @@
 use std::error::Error;
 
 use rtp_wire::{
-    write_elements, BadId, BadRolloverCount, Form, Header, Map, NoMemory, NotAHeader, NotAPacket,
-    NotAText, NotChanged, NotPut, NotWritten, Packet, PacketMut, Place,
+    write_elements, BadId, BadRolloverCount, Form, Header, Map, NotAHeader, NotAPacket, NotAText,
+    NotChanged, NotPut, NotWritten, Packet, PacketMut, Place, TooManyLayers,
 };
 
 /// V=2, X, CC=1; the source 9; a block of one word: 1 (AA).
@@ -148,12 +148,8 @@ fn texts_are_those_of_the_header_file() {
         assert_eq!(told(cause), text);
         assert!(cause.source().is_none());
     }
-    has("NO_MEMORY", 7, "memory was refused");
     has("SHORT_BUFFER", 8, "a buffer is too short");
     has("BAD_FIELD", 9, "an argument is out of its range");
-    for cause in [&NoMemory as &dyn Error, &NotAHeader::NoMemory] {
-        assert_eq!(told(cause), "memory was refused");
-    }
     assert_eq!(told(&NotWritten::ShortBuffer), "a buffer is too short");
     assert_eq!(
         told(&NotWritten::BadField),
@@ -163,6 +159,8 @@ fn texts_are_those_of_the_header_file() {
     let text = "another character than a letter, a digit or an underscore, or too many";
     assert_eq!(told(&NotAText), text);
     assert_eq!(told(&BadRolloverCount), "a rollover count of 2^48 or more");
+    let text = "more than four streams, layers or temporal layers";
+    assert_eq!(told(&TooManyLayers), text);
     for (cause, text) in [
         (NotChanged::BadPayloadType, "the payload type is above 127"),
         (
@@ -185,7 +183,6 @@ fn texts_are_those_of_the_header_file() {
     ] {
         assert_eq!(told(&cause), text);
     }
-    assert!(NotAHeader::NoMemory.source().is_none());
 
     let version = env!("CARGO_PKG_VERSION");
     assert!(header_file.contains(&format!("\n#define RTPW_VERSION \"{version}\"\n")));
@@ -203,15 +200,13 @@ fn texts_are_those_of_the_header_file() {
 #[test]
 fn causes_become_causes() {
     fn both(bytes: &[u8]) -> Result<u16, NotAHeader> {
-        let packet = Packet::parse(bytes)?;
-        packet.values(&Map::new())?;
-        Ok(packet.sequence_number())
+        let header = Header::parse(bytes, &Map::new())?;
+        Ok(Packet::parse(bytes)?.sequence_number() + header.sequence_number)
     }
-    assert_eq!(NotAHeader::from(NoMemory), NotAHeader::NoMemory);
     for (cause, ..) in CAUSES {
         assert_eq!(NotAHeader::from(cause), NotAHeader::NotAPacket(cause));
     }
-    assert_eq!(both(&SAMPLE), Ok(1));
+    assert_eq!(both(&SAMPLE), Ok(2));
     assert_eq!(
         both(&SAMPLE[..23]),
         Err(NotAHeader::NotAPacket(NotAPacket::CutBlock))

@@ -7,8 +7,8 @@ ghost use Rattle.rtp_values.specs.KindBytes.{SetsFields, WritesData};
 ghost use Rattle.rtp_values.specs.Values.{offset_of};
 ghost use Rattle.rtp_values.specs.Spelling.{HasRoom, offset_bytes};
 
-use super::ExtensionValues;
 use super::front::{first_u64, put_u64};
+use super::{ExtensionValues, SetValues};
 
 /// When a frame was captured, by the clock of its capturer.
 #[derive(Clone, Copy, Debug, PartialEq, Eq)]
@@ -28,12 +28,12 @@ fn first_offset(bytes: &[u8]) -> Option<i64>
     Some(number.cast_signed())
 }
 
-pub(super) fn read(buf: &[u8], ev: &mut ExtensionValues) -> Option<()>
-    ensures { SetsFields AbsoluteCaptureTime buf.now ev.old ev.new result }
+pub(super) fn read<V: SetValues>(buf: &[u8], ev: &mut V) -> Option<()>
+    ensures { SetsFields V.shows AbsoluteCaptureTime buf.now ev.old ev.new result }
 {
     let capture_time = first_u64(buf)?;
     let clock_offset = first_offset(&buf[8..]);
-    ev.abs_capture_time = Some(AbsCaptureTime {
+    ev.set_capture_time(AbsCaptureTime {
         capture_time,
         clock_offset,
     });

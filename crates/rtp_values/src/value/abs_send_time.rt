@@ -6,8 +6,8 @@ ghost use Rattle.rtp_values.specs.SendTime.{IsPossible, IsLatest, IsRecovered};
 ghost use Rattle.rtp_values.specs.declared.kind.Extension.TheVariants.{AbsoluteSendTime};
 ghost use Rattle.rtp_values.specs.KindBytes.{SetsFields, WritesData};
 
-use super::ExtensionValues;
 use super::front::{first_u24, put_u24};
+use super::{ExtensionValues, SetValues};
 
 const MICROS_PER_SECOND: u64 = 1_000_000;
 
@@ -23,11 +23,11 @@ fn ticks_of(micros: u64) -> u32
     (micros % PERIOD * TICKS_PER_SECOND / MICROS_PER_SECOND) as u32
 }
 
-pub(super) fn read(buf: &[u8], ev: &mut ExtensionValues) -> Option<()>
-    ensures { SetsFields AbsoluteSendTime buf.now ev.old ev.new result }
+pub(super) fn read<V: SetValues>(buf: &[u8], ev: &mut V) -> Option<()>
+    ensures { SetsFields V.shows AbsoluteSendTime buf.now ev.old ev.new result }
 {
     let ticks = first_u24(buf)?;
-    ev.abs_send_time = Some(u64::from(ticks) * MICROS_PER_SECOND / TICKS_PER_SECOND);
+    ev.set_send_time(u64::from(ticks) * MICROS_PER_SECOND / TICKS_PER_SECOND);
     Some(())
 }
 

@@ -6,7 +6,7 @@ ghost use Rattle.rtp_values.specs.declared.kind.Extension.TheVariants.{AudioLeve
 ghost use Rattle.rtp_values.specs.Spelling.{HasRoom};
 ghost use Rattle.rtp_values.specs.KindBytes.{SetsFields, WritesData};
 
-use super::ExtensionValues;
+use super::{ExtensionValues, SetValues};
 use rtp_base::put;
 
 // The magnitude of the level modulo 128, below a bit that is set for voice.
@@ -17,12 +17,11 @@ fn level_byte(level: i8, voice: bool) -> u8
     if voice { 0x80 | magnitude } else { magnitude }
 }
 
-pub(super) fn read(buf: &[u8], ev: &mut ExtensionValues) -> Option<()>
-    ensures { SetsFields AudioLevel buf.now ev.old ev.new result }
+pub(super) fn read<V: SetValues>(buf: &[u8], ev: &mut V) -> Option<()>
+    ensures { SetsFields V.shows AudioLevel buf.now ev.old ev.new result }
 {
     let byte = *buf.first()?;
-    ev.audio_level = Some(-((byte & 0x7F) as i8));
-    ev.voice_activity = Some(byte & 0x80 != 0);
+    ev.set_audio_level(-((byte & 0x7F) as i8), byte & 0x80 != 0);
     Some(())
 }
 

@@ -3,37 +3,39 @@
 ghost use Rattle.std.specs.Prelude.{◌≡◌, ◌≢◌, ◌≤◌, [], ◌++◌, drop, length, unwrap_or, Some, IfOk, IfSome, IsErr};
 ghost use Rattle.std.specs.Option.{option_map};
 ghost use Rattle.rtp_values.specs.KnownKind.{extension_of_kind};
-ghost use Rattle.rtp_values.specs.Values.{Reads, with_fields, IsWellFormed, TakesMemory};
+ghost use Rattle.rtp_values.specs.Values.{Reads, IsWellFormed, TakesMemory};
+ghost use Rattle.rtp_values.specs.KindBytes.{ReadsInto};
 ghost use Rattle.rtp_values.specs.Spelling.{spelled_data, carried_values, longest, HasRoom};
 
 use super::{
-    ExtensionValues, abs_capture_time, abs_send_time, audio_level, frame_marking, mid,
+    ExtensionValues, SetValues, abs_capture_time, abs_send_time, audio_level, frame_marking, mid,
     playout_delay, stream_id, transmission_offset, transport_sequence_number, video_content_type,
     video_layers_allocation, video_orientation, video_timing,
 };
 use crate::KnownKind;
-use std::alloc::{AllocError, Global};
+use std::alloc::AllocError;
 
 impl KnownKind {
     /// Reads the data of an element of this kind into the values: `Some` exactly when the data are
     /// well-formed for the kind, and then the kind's fields are what they say, and all other fields
     /// are as before. `None` changes nothing.
     ///
-    /// Only a layer allocation of two bytes or more takes memory. Where that is refused no field is
-    /// changed.
+    /// Only a layer allocation of two bytes or more takes memory, and only where the values hold it in
+    /// memory. Where that is refused nothing is changed.
     #[inline(always)]
-    pub fn parse_value(
+    pub fn parse_value<V: SetValues>(
         self,
-        alloc: Global,
+        memory: V::Memory,
         buf: &[u8],
-        ev: &mut ExtensionValues,
+        ev: &mut V,
     ) -> Result<Option<()>, AllocError>
-        ensures found { result ≡ Ok (Some (record {})) → Reads (extension_of_kind self) buf.now ev.new }
-        ensures others { ev.new ≡ with_fields (extension_of_kind self) ev.old ev.new }
+        ensures found { result ≡ Ok (Some (record {})) →
+            ReadsInto V.shows (extension_of_kind self) buf.now ev.old ev.new }
         ensures only { IsWellFormed (extension_of_kind self) buf.now → IfOk result (λ answer.
             answer ≡ Some (record {})) }
         ensures unchanged { result ≢ Ok (Some (record {})) → ev.new ≡ ev.old }
-        ensures refused { IsErr result → TakesMemory (extension_of_kind self) buf.now }
+        ensures refused { IsErr result →
+            V.may_be_refused × TakesMemory (extension_of_kind self) buf.now }
     {
         Ok(match self {
             KnownKind::AbsoluteSendTime => abs_send_time::read(buf, ev),
@@ -50,7 +52,7 @@ impl KnownKind {
             KnownKind::RtpMid => mid::read(buf, ev),
             KnownKind::FrameMarking => frame_marking::read(buf, ev),
             KnownKind::VideoLayersAllocation => {
-                return video_layers_allocation::read(alloc, buf, ev);
+                return video_layers_allocation::read(memory, buf, ev);
             }
             KnownKind::ColorSpace => None,
         })

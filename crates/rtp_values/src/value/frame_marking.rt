@@ -5,13 +5,13 @@ ghost use Rattle.rtp_values.specs.declared.kind.Extension.TheVariants.{FrameMark
 ghost use Rattle.rtp_values.specs.Spelling.{HasRoom};
 ghost use Rattle.rtp_values.specs.KindBytes.{SetsFields, WritesData};
 
-use super::ExtensionValues;
 use super::front::{first_u32, put_u32};
+use super::{ExtensionValues, SetValues};
 
-pub(super) fn read(buf: &[u8], ev: &mut ExtensionValues) -> Option<()>
-    ensures { SetsFields FrameMarking buf.now ev.old ev.new result }
+pub(super) fn read<V: SetValues>(buf: &[u8], ev: &mut V) -> Option<()>
+    ensures { SetsFields V.shows FrameMarking buf.now ev.old ev.new result }
 {
-    ev.frame_mark = Some(first_u32(buf)?);
+    ev.set_frame_marking(first_u32(buf)?);
     Some(())
 }
 

@@ -4,15 +4,15 @@ ghost use Rattle.rtp_values.specs.declared.kind.Extension.TheVariants.{RtpMid};
 ghost use Rattle.rtp_values.specs.Spelling.{HasRoom};
 ghost use Rattle.rtp_values.specs.KindBytes.{SetsFields, WritesData};
 
-use super::ExtensionValues;
 use super::front::put_text;
+use super::{ExtensionValues, SetValues};
 use rtp_base::Mid;
 
 #[inline(always)]
-pub(super) fn read(buf: &[u8], ev: &mut ExtensionValues) -> Option<()>
-    ensures { SetsFields RtpMid buf.now ev.old ev.new result }
+pub(super) fn read<V: SetValues>(buf: &[u8], ev: &mut V) -> Option<()>
+    ensures { SetsFields V.shows RtpMid buf.now ev.old ev.new result }
 {
-    ev.mid = Some(Mid::from_utf8(buf)?);
+    ev.set_mid(Mid::from_utf8(buf)?);
     Some(())
 }
 

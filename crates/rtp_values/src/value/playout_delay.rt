@@ -5,8 +5,8 @@ ghost use Rattle.rtp_values.specs.Spelling.{HasRoom, delay_of};
 ghost use Rattle.rtp_values.specs.declared.kind.Extension.TheVariants.{PlayoutDelay};
 ghost use Rattle.rtp_values.specs.KindBytes.{SetsFields, WritesData};
 
-use super::ExtensionValues;
 use super::front::{first_u24, put_u24};
+use super::{ExtensionValues, SetValues};
 use rtp_base::MediaTime;
 
 // The whole hundredths of a second in a time, modulo 4096: those of its whole seconds, and those of
@@ -20,12 +20,14 @@ fn delay_of(time: MediaTime) -> u32
     ((seconds * 100 + left) % 4096) as u32
 }
 
-pub(super) fn read(buf: &[u8], ev: &mut ExtensionValues) -> Option<()>
-    ensures { SetsFields PlayoutDelay buf.now ev.old ev.new result }
+pub(super) fn read<V: SetValues>(buf: &[u8], ev: &mut V) -> Option<()>
+    ensures { SetsFields V.shows PlayoutDelay buf.now ev.old ev.new result }
 {
     let delays = first_u24(buf)?;
-    ev.play_delay_min = Some(MediaTime::from_hundredths(u64::from(delays >> 12)));
-    ev.play_delay_max = Some(MediaTime::from_hundredths(u64::from(delays & 0xFFF)));
+    ev.set_playout_delay(
+        MediaTime::from_hundredths(u64::from(delays >> 12)),
+        MediaTime::from_hundredths(u64::from(delays & 0xFFF)),
+    );
     Some(())
 }
 

@@ -4,14 +4,14 @@ ghost use Rattle.rtp_values.specs.declared.kind.Extension.TheVariants.{RtpStream
 ghost use Rattle.rtp_values.specs.Spelling.{HasRoom};
 ghost use Rattle.rtp_values.specs.KindBytes.{SetsFields, WritesData};
 
-use super::ExtensionValues;
 use super::front::put_text;
+use super::{ExtensionValues, SetValues};
 use rtp_base::Rid;
 
-pub(super) fn read(buf: &[u8], ev: &mut ExtensionValues) -> Option<()>
-    ensures { SetsFields RtpStreamId buf.now ev.old ev.new result }
+pub(super) fn read<V: SetValues>(buf: &[u8], ev: &mut V) -> Option<()>
+    ensures { SetsFields V.shows RtpStreamId buf.now ev.old ev.new result }
 {
-    ev.rid = Some(Rid::from_utf8(buf)?);
+    ev.set_rid(Rid::from_utf8(buf)?);
     Some(())
 }
 
@@ -25,10 +25,10 @@ pub(super) fn write(buf: &mut [u8], ev: &ExtensionValues) -> Option<usize>
     Some(put_text(buf, rid.as_str().as_bytes()))
 }
 
-pub(super) fn read_repaired(buf: &[u8], ev: &mut ExtensionValues) -> Option<()>
-    ensures { SetsFields RepairedRtpStreamId buf.now ev.old ev.new result }
+pub(super) fn read_repaired<V: SetValues>(buf: &[u8], ev: &mut V) -> Option<()>
+    ensures { SetsFields V.shows RepairedRtpStreamId buf.now ev.old ev.new result }
 {
-    ev.rid_repair = Some(Rid::from_utf8(buf)?);
+    ev.set_repaired_rid(Rid::from_utf8(buf)?);
     Some(())
 }
 

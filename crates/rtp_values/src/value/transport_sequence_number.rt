@@ -4,13 +4,13 @@ ghost use Rattle.rtp_values.specs.declared.kind.Extension.TheVariants.{Transport
 ghost use Rattle.rtp_values.specs.Spelling.{HasRoom};
 ghost use Rattle.rtp_values.specs.KindBytes.{SetsFields, WritesData};
 
-use super::ExtensionValues;
 use super::front::{first_u16, put_u16};
+use super::{ExtensionValues, SetValues};
 
-pub(super) fn read(buf: &[u8], ev: &mut ExtensionValues) -> Option<()>
-    ensures { SetsFields TransportSequenceNumber buf.now ev.old ev.new result }
+pub(super) fn read<V: SetValues>(buf: &[u8], ev: &mut V) -> Option<()>
+    ensures { SetsFields V.shows TransportSequenceNumber buf.now ev.old ev.new result }
 {
-    ev.transport_cc = Some(first_u16(buf)?);
+    ev.set_transport_number(first_u16(buf)?);
     Some(())
 }
 

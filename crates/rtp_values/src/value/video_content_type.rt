@@ -4,13 +4,13 @@ ghost use Rattle.rtp_values.specs.declared.kind.Extension.TheVariants.{VideoCont
 ghost use Rattle.rtp_values.specs.Spelling.{HasRoom};
 ghost use Rattle.rtp_values.specs.KindBytes.{SetsFields, WritesData};
 
-use super::ExtensionValues;
+use super::{ExtensionValues, SetValues};
 use rtp_base::put;
 
-pub(super) fn read(buf: &[u8], ev: &mut ExtensionValues) -> Option<()>
-    ensures { SetsFields VideoContentType buf.now ev.old ev.new result }
+pub(super) fn read<V: SetValues>(buf: &[u8], ev: &mut V) -> Option<()>
+    ensures { SetsFields V.shows VideoContentType buf.now ev.old ev.new result }
 {
-    ev.video_content_type = Some(*buf.first()?);
+    ev.set_video_content_type(*buf.first()?);
     Some(())
 }
 

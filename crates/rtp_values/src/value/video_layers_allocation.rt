@@ -1,44 +1,48 @@
 //! Video layers allocation (`video-layers-allocation00`): what the module `vla` reads and writes.
 
-ghost use Rattle.std.specs.Prelude.{◌≡◌, ◌≤◌, length, IsOk, IfOk, IfErr};
+ghost use Rattle.std.specs.Prelude.{◌≡◌, ◌≤◌, length, Some, IfOk, IsErr};
 ghost use Rattle.std.specs.Option.{option_map};
 ghost use Rattle.rtp_values.specs.declared.kind.Extension.TheVariants as kind;
-ghost use Rattle.rtp_values.specs.Spelling.{HasRoom, spelled_data};
-ghost use Rattle.rtp_values.specs.KindBytes.{SetsFields, WritesData};
+ghost use Rattle.rtp_vla.specs.Allocation.{Allocation};
+ghost use Rattle.rtp_vla.specs.AllocationWritten.{written_of};
+ghost use Rattle.rtp_values.specs.Spelling.{HasRoom, spelled_data, element_allocation};
+ghost use Rattle.rtp_values.specs.WithLayers.{values_with_layers};
+ghost use Rattle.rtp_values.specs.KindBytes.{SetsFields, WritesData, IsWireLen};
 
-use super::ExtensionValues;
+use super::{ExtensionValues, SetValues, WithLayers};
 use rtp_vla::vla;
-use std::alloc::{AllocError, Global};
+use std::alloc::AllocError;
 
 // The longest data that an element can have (RFC 8285, 4.3).
 const MAX_LEN: usize = 255;
 
-// It stays out of line, since the calls in it would otherwise make every
-// other kind save registers.
-#[inline(never)]
-pub(super) fn read(
-    alloc: Global,
+pub(super) fn read<V: SetValues>(
+    memory: V::Memory,
     buf: &[u8],
-    ev: &mut ExtensionValues,
+    ev: &mut V,
 ) -> Result<Option<()>, AllocError>
-    ensures read { IfOk result (SetsFields kind.VideoLayersAllocation buf.now ev.old ev.new) }
-    ensures refused { IfErr result (λ _. ev.new ≡ ev.old) }
-    ensures succeeds { length buf.now ≤ 1 → IsOk result }
+    ensures read { IfOk result (SetsFields V.shows kind.VideoLayersAllocation buf.now ev.old ev.new) }
+    ensures unchanged { IsErr result → ev.new ≡ ev.old }
+    ensures refused { IsErr result → V.may_be_refused × (2 ≤ length buf.now) }
 {
-    let Some(allocation) = vla::parse(alloc, buf)? else {
-        return Ok(None);
-    };
-    ev.video_layers_allocation = Some(allocation);
-    Ok(Some(()))
+    ev.read_layers(memory, buf)
+}
+
+// How many bytes of data an element has that carries an allocation of this length: `None` where the
+// allocation can't be written, or where no element can carry it.
+fn carried_len(len: Option<usize>) -> Option<usize>
+    ensures { (a : Allocation) → IsWireLen a len → result
+        ≡ option_map length (option_map written_of (element_allocation (Some a))) }
+{
+    let len = len?;
+    (len <= MAX_LEN).then_some(len)
 }
 
 // How many bytes the data have, where an element can carry the allocation.
 pub(super) fn data_len(ev: &ExtensionValues) -> Option<usize>
     ensures { result ≡ option_map length (spelled_data kind.VideoLayersAllocation ev.now) }
 {
-    let allocation = ev.video_layers_allocation.as_ref()?;
-    let len = vla::checked_wire_len(allocation)?;
-    (len <= MAX_LEN).then_some(len)
+    carried_len(vla::checked_wire_len(ev.video_layers_allocation.as_ref()?))
 }
 
 // It stays out of line for the same reason.
@@ -50,4 +54,24 @@ pub(super) fn write(buf: &mut [u8], ev: &ExtensionValues) -> Option<usize>
     let allocation = ev.video_layers_allocation.as_ref()?;
     data_len(ev)?;
     Some(vla::write_to(allocation, buf))
+}
+
+// How many bytes the data have, where an element can carry the layers.
+pub(super) fn held_len(ev: &WithLayers) -> Option<usize>
+    ensures { result ≡ option_map length
+        (spelled_data kind.VideoLayersAllocation (values_with_layers ev.now)) }
+{
+    carried_len(ev.layers?.checked_wire_len())
+}
+
+// It stays out of line for the same reason.
+#[inline(never)]
+pub(super) fn write_held(buf: &mut [u8], ev: &WithLayers) -> Option<usize>
+    requires room { HasRoom kind.VideoLayersAllocation (values_with_layers ev.now) buf.old }
+    ensures { WritesData kind.VideoLayersAllocation (values_with_layers ev.now)
+        buf.old buf.new result }
+{
+    let layers = ev.layers?;
+    held_len(ev)?;
+    Some(layers.write_to(buf))
 }

@@ -6,7 +6,7 @@ ghost use Rattle.rtp_values.specs.KindBytes.{SetsFields, WritesData};
 ghost use Rattle.rtp_values.specs.Values.{orientation_of};
 ghost use Rattle.rtp_values.specs.Spelling.{HasRoom, orientation_bits};
 
-use super::ExtensionValues;
+use super::{ExtensionValues, SetValues};
 use rtp_base::put;
 
 /// How the receiver has to turn the picture, in degrees counter-clockwise (3GPP TS 26.114, 7.4.5).
@@ -47,11 +47,11 @@ fn orientation_bits(orientation: VideoOrientation) -> u8
     orientation as u8
 }
 
-pub(super) fn read(buf: &[u8], ev: &mut ExtensionValues) -> Option<()>
-    ensures { SetsFields OrientationKind buf.now ev.old ev.new result }
+pub(super) fn read<V: SetValues>(buf: &[u8], ev: &mut V) -> Option<()>
+    ensures { SetsFields V.shows OrientationKind buf.now ev.old ev.new result }
 {
     let byte = *buf.first()?;
-    ev.video_orientation = Some(VideoOrientation::from(byte & 0b11));
+    ev.set_video_orientation(VideoOrientation::from(byte & 0b11));
     Some(())
 }
 

@@ -4,8 +4,8 @@ ghost use Rattle.rtp_values.specs.declared.kind.Extension.TheVariants.{VideoTimi
 ghost use Rattle.rtp_values.specs.KindBytes.{SetsFields, WritesData};
 ghost use Rattle.rtp_values.specs.Spelling.{HasRoom};
 
-use super::ExtensionValues;
 use super::front::{u16_at, u16_bytes};
+use super::{ExtensionValues, SetValues};
 use rtp_base::put;
 
 /// When a frame passed each step on its way out, in milliseconds after its capture.
@@ -23,13 +23,13 @@ pub struct VideoTiming {
     pub last_left_pacer: u16,
 }
 
-pub(super) fn read(buf: &[u8], ev: &mut ExtensionValues) -> Option<()>
-    ensures { SetsFields TimingKind buf.now ev.old ev.new result }
+pub(super) fn read<V: SetValues>(buf: &[u8], ev: &mut V) -> Option<()>
+    ensures { SetsFields V.shows TimingKind buf.now ev.old ev.new result }
 {
     if buf.len() < 9 {
         return None;
     }
-    ev.video_timing = Some(VideoTiming {
+    ev.set_video_timing(VideoTiming {
         flags: buf[0],
         encode_start: u16_at(buf, 1),
         encode_finish: u16_at(buf, 3),

@@ -16,7 +16,7 @@ ghost use Rattle.rtp_ext.specs.declared.form.ExtensionsForm.TheVariants.{OneByte
 
 use rtp_base::put;
 use rtp_ext::{
-    Cursor, ElementList, ExtensionValues, ExtensionsForm, Kinds, put_elements, values_len,
+    Cursor, ElementList, ElementValues, ExtensionsForm, Kinds, put_elements, values_len,
     write_values,
 };
 
@@ -51,15 +51,15 @@ fn fill_word(buf: &mut [u8], at: usize, count: usize) -> usize
 }
 
 // The length of the block that `write_block` writes.
-pub(super) fn block_len<K: Kinds>(
+pub(super) fn block_len<K: Kinds, V: ElementValues>(
     kinds: &K,
     start: Cursor,
     form: ExtensionsForm,
-    ev: &ExtensionValues,
+    ev: &V,
 ) -> usize
     requires start { K.left kinds.now start ≡ items_from 0 (K.known kinds.now) }
     requires few_ids { length (items_from 0 (K.known kinds.now)) ≤ 255 }
-    ensures length { result ≡ length (block_bytes_in form (K.slots kinds.now) ev.now) }
+    ensures length { result ≡ length (block_bytes_in form (K.slots kinds.now) (V.values ev.now)) }
     ensures few { IsWithinMap (K.slots kinds.now) result }
 {
     let elements_len = values_len(kinds, start, ev, form);
@@ -69,17 +69,18 @@ pub(super) fn block_len<K: Kinds>(
 // Whether the block that `write_block` writes has room. In the one-byte form most buffers have it
 // whatever the values are, so that no length is asked for.
 #[inline(always)]
-pub(super) fn block_fits<K: Kinds>(
+pub(super) fn block_fits<K: Kinds, V: ElementValues>(
     kinds: &K,
     start: Cursor,
     form: ExtensionsForm,
-    ev: &ExtensionValues,
+    ev: &V,
     room: usize,
 ) -> bool
     requires start { K.left kinds.now start ≡ items_from 0 (K.known kinds.now) }
     requires few_ids { length (items_from 0 (K.known kinds.now)) ≤ 255 }
-    requires short { form ≡ OneByte → TakesAtMost17Each (K.known kinds.now) ev.now }
-    ensures { IsTrue result ↔ (length (block_bytes_in form (K.slots kinds.now) ev.now) ≤ room) }
+    requires short { form ≡ OneByte → TakesAtMost17Each (K.known kinds.now) (V.values ev.now) }
+    ensures { IsTrue result
+        ↔ (length (block_bytes_in form (K.slots kinds.now) (V.values ev.now)) ≤ room) }
 {
     let most = MAX_LEN_ONE_BYTE_FORM * kinds.at_most(start);
     if form == ExtensionsForm::OneByte && HEADER_LEN + most + 3 <= room {
@@ -106,26 +107,27 @@ fn close_block(buf: &mut [u8], form: ExtensionsForm, elements_len: usize) -> usi
 
 // Writes the block of these values in the form to the front of the buffer, and returns its length.
 #[inline(always)]
-pub(super) fn write_block<K: Kinds>(
+pub(super) fn write_block<K: Kinds, V: ElementValues>(
     kinds: &K,
     start: Cursor,
     form: ExtensionsForm,
     buf: &mut [u8],
-    ev: &ExtensionValues,
+    ev: &V,
 ) -> usize
     requires start { K.left kinds.now start ≡ items_from 0 (K.known kinds.now) }
     requires few_ids { length (items_from 0 (K.known kinds.now)) ≤ 255 }
-    requires form { form ≡ form_of (K.slots kinds.now) ev.now }
-    requires room { length (block_bytes_in form (K.slots kinds.now) ev.now) ≤ length buf.old }
+    requires form { form ≡ form_of (K.slots kinds.now) (V.values ev.now) }
+    requires room { length (block_bytes_in form (K.slots kinds.now) (V.values ev.now))
+        ≤ length buf.old }
     ensures written { buf.new
-        ≡ block_bytes_in form (K.slots kinds.now) ev.now ++ drop result buf.old }
-    ensures length { result ≡ length (block_bytes_in form (K.slots kinds.now) ev.now) }
+        ≡ block_bytes_in form (K.slots kinds.now) (V.values ev.now) ++ drop result buf.old }
+    ensures length { result ≡ length (block_bytes_in form (K.slots kinds.now) (V.values ev.now)) }
     ensures few { IsWithinMap (K.slots kinds.now) result }
 
     // What was written is read as the image of the values.
     ensures read_back { IsExtensionPart (K.slots kinds.now) true
-        (block_bytes_in form (K.slots kinds.now) ev.now)
-        (image_values (K.slots kinds.now) ev.now) }
+        (block_bytes_in form (K.slots kinds.now) (V.values ev.now))
+        (image_values (K.slots kinds.now) (V.values ev.now)) }
 {
     let elements_len = write_values(kinds, start, &mut buf[HEADER_LEN..], ev, form);
     close_block(buf, form, elements_len)

@@ -6,6 +6,7 @@ mod parsing;
 mod refusal;
 mod rtp_header;
 mod writing;
+mod writing_values;
 
 pub use not_a_header::NotAHeader;
 pub use rtp_header::RtpHeader;

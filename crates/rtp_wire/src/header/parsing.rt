@@ -1,11 +1,10 @@
 //! From bytes to a header.
 
-ghost use Rattle.std.specs.Prelude.{◌↔◌, ◌⊎◌, ◌≡◌, ◌≤◌, length, true, false, None, IsNone, IsOk, IfOk, OnOk, OnErr, IfSome, IsSomeAnd};
+ghost use Rattle.std.specs.Prelude.{◌↔◌, ◌≡◌, ◌≤◌, length, true, false, None, IsOk, IfOk, OnOk, OnErr, IfSome};
 ghost use Rattle.std.specs.Bool.{OnTrue};
 ghost use Rattle.rtp_wire.specs.PacketElements.{HasValues};
 ghost use Rattle.rtp_wire.specs.RefusedMemory.{AreValuesStopped, BlockHasAllocation, HeaderHasAllocation, IsWireStopped};
-ghost use Rattle.rtp_wire.specs.NotAHeader.{IsNoPacket, NotAHeader};
-ghost use Rattle.rtp_wire.specs.Packet.{PacketParts, IsPacket, HasOtherForm};
+ghost use Rattle.rtp_wire.specs.NotAHeader.{NotAHeader};
 ghost use Rattle.rtp_wire.specs.Header.{header_of, IsHeaderOf, IsWire};
 ghost use Rattle.rtp_values.specs.declared.value.values.ExtensionValues.{ExtensionValues};
 ghost use Rattle.rtp_values.specs.Values.{no_values};
@@ -23,14 +22,14 @@ impl RtpHeader {
     /// Nothing is allocated except the lists of a layer allocation: an element of two bytes or
     /// more whose id is mapped to it. Where that memory is refused nothing is returned.
     ///
-    /// Returns `None` exactly when no header begins there: under 12 bytes, a version other than 2, a
-    /// CSRC list that is cut short, or a set X bit that no block follows, since the block's first
+    /// Returns `None` exactly when no header begins there: under 12 bytes, a version other than 2,
+    /// a CSRC list that is cut short, or a set X bit that no block follows, since the block's first
     /// four bytes are cut short, its form is neither 0xBEDE nor 0x1000 to 0x100F, or it is longer
     /// than what is left; [`refusal`](Self::refusal) tells which. No element refuses a header: one
     /// that is malformed, cut short or unknown is passed over.
     ///
-    /// The twenty bytes `90 21 B7 98 00 00 27 10 00 00 00 2C BE DE 00 01 30 2A 00 00`, under a map of
-    /// 3 to the audio level, are a header of payload type 33, sequence number 47,000, timestamp
+    /// The twenty bytes `90 21 B7 98 00 00 27 10 00 00 00 2C BE DE 00 01 30 2A 00 00`, under a map
+    /// of 3 to the audio level, are a header of payload type 33, sequence number 47,000, timestamp
     /// 10,000 and SSRC 44, with an audio level of -42 without voice, and `header_len` is 20.
     #[inline(always)]
     pub fn parse<K: Kinds>(
@@ -51,22 +50,20 @@ impl RtpHeader {
         ensures within { IfOk result (λ answer. IfSome answer (λ header.
             header.header_len ≤ length buf.now)) }
 
-        // The causes for which no header is returned, and there are no others.
+        // The causes for which no header is returned, and there are no others. That they are those
+        // of a packet, and another form of its block, is `either` of `refusal`.
         ensures refused { (result ≡ Ok None) ↔ NotAHeader buf.now }
-
-        // So none begins exactly where the bytes are no packet, or one whose form is another.
-        ensures no_packet { (result ≡ Ok None) ↔ (IsNoPacket buf.now ⊎ HasOtherForm buf.now) }
     {
-        let Some(packet) = RtpPacket::of_header(buf) else {
+        let Ok((packet, true)) = RtpPacket::read(buf) else {
             return Ok(None);
         };
         let header = packet.header(alloc, exts)?;
         Ok(Some(header))
     }
 
-    /// Reads the header that the bytes begin with into this one, as [`parse`](Self::parse) reads it.
-    /// Nothing of the header as it was stays. A header that is used again for packet after packet
-    /// saves a value of its own for each.
+    /// Reads the header that the bytes begin with into this one, as [`parse`](Self::parse) reads
+    /// it. Nothing of the header as it was stays. A header that is used again for packet after
+    /// packet saves a value of its own for each.
     ///
     /// Returns `false` exactly when no header begins there, for the causes of `parse`, and then
     /// nothing changes.
@@ -88,21 +85,20 @@ impl RtpHeader {
         ensures succeeds { (HeaderHasAllocation (K.slots exts.now) buf.now → ⊥) → IsOk result }
 
         // What is read is a header of these bytes, and each header of these bytes is read.
-        ensures found { IfOk result (λ found. OnTrue found (IsWire (K.slots exts.now) buf.now self.new)) }
+        ensures found { IfOk result (λ found.
+            OnTrue found (IsWire (K.slots exts.now) buf.now self.new)) }
         ensures only { (header : RtpHeader) → IsWire (K.slots exts.now) buf.now header →
             IfOk result (λ found. (found ≡ true) × (self.new ≡ header)) }
 
         // So the payload is the bytes from `header_len` on.
-        ensures within { IfOk result (λ found. OnTrue found (self.new.header_len ≤ length buf.now)) }
+        ensures within { IfOk result (λ found.
+            OnTrue found (self.new.header_len ≤ length buf.now)) }
 
-        // The causes for which no header is read, and there are no others.
+        // The causes for which no header is read, and there are no others: see `refusal`.
         ensures refused { (result ≡ Ok false) ↔ NotAHeader buf.now }
-
-        // So none begins exactly where the bytes are no packet, or one whose form is another.
-        ensures no_packet { (result ≡ Ok false) ↔ (IsNoPacket buf.now ⊎ HasOtherForm buf.now) }
         ensures same { NotAHeader buf.now → self.new ≡ self.old }
     {
-        let Some(packet) = RtpPacket::of_header(buf) else {
+        let Ok((packet, true)) = RtpPacket::read(buf) else {
             return Ok(false);
         };
         packet.put_fields(self);
@@ -115,25 +111,6 @@ impl RtpHeader {
 impl<'a> RtpPacket<'a> {
     ghost use Rattle.rtp_wire.specs.declared.header.rtp_header.RtpHeader.{RtpHeader};
     ghost use Rattle.rtp_wire.specs.PartsOf.{parts_of};
-
-    // The packet in the datagram, where a header begins it: not where the form of its block is another.
-    #[inline(always)]
-    pub(crate) fn of_header(datagram: &'a [u8]) -> Option<Self>
-        ensures found { IfSome result (λ packet. IsPacket datagram.now (parts_of packet)) }
-        ensures known { IfSome result (λ packet. (parts_of packet).other_block ≡ None) }
-        ensures only { (parts : PacketParts) → IsPacket datagram.now parts → parts.other_block ≡ None →
-            IsSomeAnd result (λ packet. parts_of packet ≡ parts) }
-        ensures refused { IsNone result ↔ NotAHeader datagram.now }
-        ensures no_packet { IsNone result ↔ (IsNoPacket datagram.now ⊎ HasOtherForm datagram.now) }
-    {
-        let Ok(packet) = RtpPacket::parse(datagram) else {
-            return None;
-        };
-        if packet.has_other_form() {
-            return None;
-        }
-        Some(packet)
-    }
 
     // Gives the header the fields of the packet. Its values stay.
     #[inline(always)]
@@ -158,18 +135,24 @@ impl<'a> RtpPacket<'a> {
         }
     }
 
-    /// Returns the header, with the values that the elements of the block give under the map; where the
-    /// form of the block is another there are none. Where memory is refused to a layer allocation nothing
-    /// is returned.
+    /// Returns the header, with the values that the elements of the block give under the map. Where
+    /// memory is refused to a layer allocation nothing is returned.
+    ///
+    /// Where the form of the block is another ([`has_other_form`](Self::has_other_form)), the
+    /// header has X set and no values, and [`RtpHeader::write_to`] writes an empty block for it, of
+    /// the one-byte or the two-byte form: what the other block held is lost.
     #[inline(always)]
     pub fn header<K: Kinds>(&self, alloc: Global, exts: &K) -> Result<RtpHeader, AllocError>
         ensures found { IfOk result (IsHeaderOf (K.slots exts.now) (parts_of self.now)) }
 
         // The packet has no other header.
-        ensures only { (header : RtpHeader) → IsHeaderOf (K.slots exts.now) (parts_of self.now) header →
+        ensures only { (header : RtpHeader) →
+            IsHeaderOf (K.slots exts.now) (parts_of self.now) header →
             IfOk result (λ found. found ≡ header) }
-        ensures memory { OnErr result (BlockHasAllocation (K.slots exts.now) (parts_of self.now).block) }
-        ensures succeeds { (BlockHasAllocation (K.slots exts.now) (parts_of self.now).block → ⊥) → IsOk result }
+        ensures memory { OnErr result
+            (BlockHasAllocation (K.slots exts.now) (parts_of self.now).block) }
+        ensures succeeds { (BlockHasAllocation (K.slots exts.now) (parts_of self.now).block → ⊥) →
+            IsOk result }
     {
         let mut header = RtpHeader::default();
         self.put_fields(&mut header);
@@ -186,10 +169,14 @@ impl<'a> RtpPacket<'a> {
         values: &mut ExtensionValues,
     ) -> Result<(), AllocError>
         requires { values.old ≡ no_values }
-        ensures found { OnOk result (HasValues (K.slots exts.now) (parts_of self.now).block values.new) }
-        ensures memory { OnErr result (BlockHasAllocation (K.slots exts.now) (parts_of self.now).block) }
-        ensures stopped { OnErr result (AreValuesStopped (K.slots exts.now) (parts_of self.now).block values.new) }
-        ensures succeeds { (BlockHasAllocation (K.slots exts.now) (parts_of self.now).block → ⊥) → IsOk result }
+        ensures found { OnOk result
+            (HasValues (K.slots exts.now) (parts_of self.now).block values.new) }
+        ensures memory { OnErr result
+            (BlockHasAllocation (K.slots exts.now) (parts_of self.now).block) }
+        ensures stopped { OnErr result
+            (AreValuesStopped (K.slots exts.now) (parts_of self.now).block values.new) }
+        ensures succeeds { (BlockHasAllocation (K.slots exts.now) (parts_of self.now).block → ⊥) →
+            IsOk result }
     {
         let Some((form, body)) = self.block() else {
             return Ok(());
@@ -198,16 +185,20 @@ impl<'a> RtpPacket<'a> {
     }
 
     /// Returns the values that the elements of the block give under the map, and none where X is
-    /// clear or the form of the block is another. Nothing is allocated except the lists of a layer allocation: an element of two bytes or
-    /// more whose id is mapped to it. Where that memory is refused nothing is returned.
+    /// clear or the form of the block is another. Nothing is allocated except the lists of a layer
+    /// allocation: an element of two bytes or more whose id is mapped to it. Where that memory is
+    /// refused nothing is returned.
     pub fn values<K: Kinds>(&self, alloc: Global, exts: &K) -> Result<ExtensionValues, AllocError>
         ensures found { IfOk result (HasValues (K.slots exts.now) (parts_of self.now).block) }
 
         // The block gives no other values.
-        ensures only { (values : ExtensionValues) → HasValues (K.slots exts.now) (parts_of self.now).block values →
+        ensures only { (values : ExtensionValues) →
+            HasValues (K.slots exts.now) (parts_of self.now).block values →
             IfOk result (λ found. found ≡ values) }
-        ensures memory { OnErr result (BlockHasAllocation (K.slots exts.now) (parts_of self.now).block) }
-        ensures succeeds { (BlockHasAllocation (K.slots exts.now) (parts_of self.now).block → ⊥) → IsOk result }
+        ensures memory { OnErr result
+            (BlockHasAllocation (K.slots exts.now) (parts_of self.now).block) }
+        ensures succeeds { (BlockHasAllocation (K.slots exts.now) (parts_of self.now).block → ⊥) →
+            IsOk result }
     {
         let mut values = ExtensionValues::default();
         self.read_values(alloc, exts, &mut values)?;

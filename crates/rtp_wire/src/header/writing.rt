@@ -4,22 +4,20 @@ ghost use Rattle.std.specs.Prelude.{◌≡◌, ℕ, ◌+◌, ◌*◌, ◌%◌, �
 ghost use Rattle.std.specs.List.{flat_map};
 ghost use Rattle.std.specs.Int.{w32, to_be_bytes};
 ghost use Rattle.rtp_base.specs.Overwriting.{overwritten};
-ghost use Rattle.rtp_ext.specs.declared.form.ExtensionsForm.TheVariants.{OneByte};
 ghost use Rattle.rtp_ext.specs.Elements.{AreElements};
 ghost use Rattle.rtp_ext.specs.ElementsInARow.{form_given};
-ghost use Rattle.rtp_ext.specs.ExtensionMap.{items_from, mapped_count, HasNoIdAbove};
-ghost use Rattle.rtp_ext.specs.WrittenBlock.{TakesAtMost17Each, whole_words};
+ghost use Rattle.rtp_ext.specs.ExtensionMap.{mapped_count, HasNoIdAbove};
+ghost use Rattle.rtp_ext.specs.WrittenBlock.{whole_words};
 ghost use Rattle.rtp_wire.specs.Header.{IsWire};
 ghost use Rattle.rtp_wire.specs.Packet.{IsFirstByte, IsPacket};
-ghost use Rattle.rtp_wire.specs.Written.{fixed_bytes, extension_bytes, wire_bytes, image_of, CannotBeWritten};
-ghost use Rattle.rtp_wire.specs.WrittenInForm.{announced_form, IsWithinMap};
+ghost use Rattle.rtp_wire.specs.Written.{fixed_bytes, wire_bytes, image_of, CannotBeWritten};
 ghost use Rattle.rtp_wire.specs.WrittenWith.{body_with, wire_bytes_with, parts_with, CannotBeWrittenWith};
 
 use super::RtpHeader;
-use super::block::{block_fits, block_form, block_len, write_block, write_block_of};
+use super::block::{block_form, write_block_of};
 use crate::packet::flag;
 use rtp_base::put;
-use rtp_ext::{Cursor, ElementList, ExtensionsForm, Kinds, values_form};
+use rtp_ext::{ElementList, ExtensionsForm, Kinds};
 
 impl RtpHeader {
     /// Returns how many bytes [`write_to`](Self::write_to) writes under the map: a multiple of
@@ -35,12 +33,7 @@ impl RtpHeader {
         ensures small { HasNoIdAbove 16 (K.slots exts.now) → result ≤ 4188 }
         ensures bound { result ≤ 65612 }
     {
-        let before = 12 + 4 * self.csrc_count;
-        let start = exts.start();
-        match self.form(exts, start) {
-            Some(form) => before + block_len(exts, start, form, &self.ext_vals),
-            None => before,
-        }
+        self.values_wire_len(&self.ext_vals, exts)
     }
 
     /// Writes the header to the front of the buffer and returns how many bytes it took; the bytes
@@ -76,7 +69,8 @@ impl RtpHeader {
             IsWire (K.slots exts.now) (wire_bytes (K.slots exts.now) self.now ++ rest) (image_of (K.slots exts.now) self.now) }
     {
         let start = exts.start();
-        self.write_in(buf, exts, start, self.form(exts, start))
+        let form = self.form(&self.ext_vals, exts, start);
+        self.write_in(buf, &self.ext_vals, exts, start, form)
     }
 
     /// Writes the header as [`write_to`](Self::write_to) does, whatever it holds and however long the
@@ -94,15 +88,7 @@ impl RtpHeader {
         ensures read_back { IfSome result (λ _. (rest : List ℕ) →
             IsWire (K.slots exts.now) (wire_bytes (K.slots exts.now) self.now ++ rest) (image_of (K.slots exts.now) self.now)) }
     {
-        if self.csrc_count > 15 || self.payload_type.get() > 127 {
-            return None;
-        }
-        let start = exts.start();
-        let form = self.form(exts, start);
-        if !self.fits(buf.len(), exts, start, form) {
-            return None;
-        }
-        Some(self.write_in(buf, exts, start, form))
+        self.try_write_values(buf, &self.ext_vals, exts)
     }
 
     /// Writes the fixed part and the CSRC list of this header, and a block with these elements, to the
@@ -156,82 +142,9 @@ impl RtpHeader {
         Some(end + write_block_of(&mut buf[end..], form, elements))
     }
 
-    // The form of the block that X announces, and `None` where X is clear.
-    #[inline(always)]
-    fn form<K: Kinds>(&self, kinds: &K, start: Cursor) -> Option<ExtensionsForm>
-        requires { K.left kinds.now start ≡ items_from 0 (K.known kinds.now) }
-        ensures form { result
-            ≡ announced_form (K.slots kinds.now) self.now.has_extension self.now.ext_vals }
-        ensures short { result ≡ Some OneByte → TakesAtMost17Each (K.known kinds.now) self.now.ext_vals }
-    {
-        if !self.has_extension {
-            return None;
-        }
-        Some(values_form(kinds, start, &self.ext_vals))
-    }
-
-    // Whether the header has room, with its block in this form.
-    #[inline(always)]
-    fn fits<K: Kinds>(
-        &self,
-        room: usize,
-        kinds: &K,
-        start: Cursor,
-        form: Option<ExtensionsForm>,
-    ) -> bool
-        requires start { K.left kinds.now start ≡ items_from 0 (K.known kinds.now) }
-        requires few_ids { length (items_from 0 (K.known kinds.now)) ≤ 255 }
-        requires sources { self.now.csrc_count ≤ 15 }
-        requires form { form
-            ≡ announced_form (K.slots kinds.now) self.now.has_extension self.now.ext_vals }
-        requires short { form ≡ Some OneByte → TakesAtMost17Each (K.known kinds.now) self.now.ext_vals }
-        ensures { IsTrue result ↔ (length (wire_bytes (K.slots kinds.now) self.now) ≤ room) }
-    {
-        let Some(left) = room.checked_sub(12 + 4 * self.csrc_count) else {
-            return false;
-        };
-        match form {
-            Some(form) => block_fits(kinds, start, form, &self.ext_vals, left),
-            None => true,
-        }
-    }
-
-    // Writes the header, with its block in this form, to the front of the buffer, and returns its
-    // length.
-    #[inline(always)]
-    fn write_in<K: Kinds>(
-        &self,
-        buf: &mut [u8],
-        kinds: &K,
-        start: Cursor,
-        form: Option<ExtensionsForm>,
-    ) -> usize
-        requires start { K.left kinds.now start ≡ items_from 0 (K.known kinds.now) }
-        requires few_ids { length (items_from 0 (K.known kinds.now)) ≤ 255 }
-        requires payload_type { self.now.payload_type ≤ 127 }
-        requires sources { self.now.csrc_count ≤ 15 }
-        requires form { form
-            ≡ announced_form (K.slots kinds.now) self.now.has_extension self.now.ext_vals }
-        requires room { length (wire_bytes (K.slots kinds.now) self.now) ≤ length buf.old }
-        ensures written { buf.new ≡ wire_bytes (K.slots kinds.now) self.now ++ drop result buf.old }
-        ensures length { result ≡ length (wire_bytes (K.slots kinds.now) self.now) }
-        ensures few { IsWithinMap (K.slots kinds.now)
-            (length (extension_bytes (K.slots kinds.now) self.now.has_extension self.now.ext_vals)) }
-        ensures read_back { (rest : List ℕ) → IsWire (K.slots kinds.now)
-            (wire_bytes (K.slots kinds.now) self.now ++ rest) (image_of (K.slots kinds.now) self.now) }
-    {
-        let sources = &self.csrc[..self.csrc_count];
-        let end = put(buf, 0, &self.fixed_bytes(self.has_extension));
-        let end = put_sources(buf, end, sources);
-        let Some(form) = form else {
-            return end;
-        };
-        end + write_block(kinds, start, form, &mut buf[end..], &self.ext_vals)
-    }
-
     // The twelve bytes that every header begins with, with this X. The ranges are those of the types,
     // of which a caller is told that doesn't read the fields itself.
-    fn fixed_bytes(&self, has_extension: bool) -> [u8; 12]
+    pub(super) fn fixed_bytes(&self, has_extension: bool) -> [u8; 12]
         requires payload_type { self.now.payload_type ≤ 127 }
         requires sources { self.now.csrc_count ≤ 15 }
         ensures bytes { result ≡ fixed_bytes (record self.now { has_extension = has_extension }) }
@@ -256,7 +169,7 @@ impl RtpHeader {
 }
 
 // Puts four bytes for each source, and returns the offset after them.
-fn put_sources(buf: &mut [u8], at: usize, sources: &[u32]) -> usize
+pub(super) fn put_sources(buf: &mut [u8], at: usize, sources: &[u32]) -> usize
     requires { at + 4 * length sources.now ≤ length buf.old }
     ensures written { buf.new ≡ overwritten buf.old at (flat_map (to_be_bytes w32) sources.now) }
     ensures end { result ≡ at + 4 * length sources.now }

@@ -6,7 +6,7 @@ ghost use Rattle.rtp_ext.specs.Form.{IsFormWord};
 ghost use Rattle.rtp_wire.specs.PartsAt.{profile_in};
 
 use super::RtpPacket;
-use super::rtp_packet::sources_end;
+use super::rtp_packet::{body_start, sources_end};
 
 impl<'a> RtpPacket<'a> {
     ghost use Rattle.rtp_wire.specs.PartsOf.{parts_of, datagram_of};
@@ -20,9 +20,10 @@ impl<'a> RtpPacket<'a> {
         self.form.is_none() && self.has_extension()
     }
 
-    /// The 16 bits that the block begins with, which the profile defines (RFC 3550, 5.3.1), whatever
-    /// its form, and `None` exactly where X is clear. In the one-byte form they are 0xBEDE, in the
-    /// two-byte form 0x1000 to 0x100F, whose low four are the application's (RFC 8285, 4.3).
+    /// The 16 bits that the block begins with, which the profile defines (RFC 3550, 5.3.1),
+    /// whatever its form, and `None` exactly where X is clear. In the one-byte form they are
+    /// 0xBEDE, in the two-byte form 0x1000 to 0x100F, whose low four are the application's (RFC
+    /// 8285, 4.3).
     pub fn block_profile(&self) -> Option<u16>
         ensures bits { result ≡ profile_in (datagram_of self.now) }
         ensures announced { is_some result ≡ (parts_of self.now).has_extension }
@@ -37,8 +38,8 @@ impl<'a> RtpPacket<'a> {
         Some(u16::from_be_bytes([self.datagram[start], self.datagram[start + 1]]))
     }
 
-    /// The body of the block, whatever its form, and `None` exactly where X is clear (RFC 3550, 5.3.1).
-    /// It is as long as the four bytes before it say.
+    /// The body of the block, whatever its form, and `None` exactly where X is clear (RFC 3550,
+    /// 5.3.1). It is as long as the four bytes before it say.
     pub fn body(&self) -> Option<&'a [u8]>
         ensures announced { is_some result ≡ (parts_of self.now).has_extension }
         ensures block { IfSome (parts_of self.now).block (λ block.
@@ -50,6 +51,7 @@ impl<'a> RtpPacket<'a> {
         if !self.has_extension() {
             return None;
         }
-        Some(self.announced_body())
+        let start = body_start(self.datagram[0]);
+        Some(&self.datagram[start..self.header_len])
     }
 }

@@ -1,29 +1,23 @@
-//! Elements that are put into a packet, which grows where it lies, and a packet that is made as short as
-//! its elements allow.
+//! Elements that are put into a packet, which grows where it lies.
 
-ghost use Rattle.std.specs.Prelude.{◌≡◌, ◌↔◌, ℕ, ◌+◌, ◌-◌, ◌*◌, ◌≤◌, ◌∷◌, [], List, length, take, drop, false, IsTrue, IsErr, IfOk, IfErr, OnErr, Option};
+ghost use Rattle.std.specs.Prelude.{◌≡◌, ◌↔◌, ◌+◌, ◌-◌, ◌*◌, ◌≤◌, length, take, drop, IsTrue, IsErr, IfOk, IfErr, OnErr, Option};
 ghost use Rattle.std.specs.Bool.{OnTrue, OnFalse};
 ghost use Rattle.std.specs.List.{copy_within};
 ghost use Rattle.std.specs.Int.{w16, to_be_bytes};
 ghost use Rattle.rtp_base.specs.Overwriting.{overwritten};
 ghost use Rattle.rtp_ext.specs.Form.{form_word};
-ghost use Rattle.rtp_ext.specs.Elements.{Element, IsElement};
 ghost use Rattle.rtp_ext.specs.ElementsInARow.{IsWritable};
 ghost use Rattle.rtp_ext.specs.PutElement.{needed_form, allowed_form};
 ghost use Rattle.rtp_wire.specs.GrowingPacket.{with_extension_bit, resized, IsPlan, MakesAnew};
-ghost use Rattle.rtp_wire.specs.NotAHeader.{IsNoPacket, sources_end};
-ghost use Rattle.rtp_wire.specs.NotAPacket.{IsFirstCause};
-ghost use Rattle.rtp_wire.specs.PutIntoPacket.{IsSetInPlace, PutsElement, AppliesToPacket, AppliesToPut, IsFirstNotPut, Compacts};
+ghost use Rattle.rtp_wire.specs.PutIntoPacket.{IsSetInPlace, PutsElement, AppliesToPacket, AppliesToPut, IsFirstNotPut};
 
 use super::rtp_packet::sources_end;
-use super::{NotAPacket, NotPut, RtpPacket};
+use super::{NotPut, RtpPacket};
 use rtp_base::put;
-use rtp_ext::{
-    ExtensionsForm, Survey, form_to_put, put_anew, put_len, set_sole, survey_of, take_out,
-};
+use rtp_ext::{ExtensionsForm, Survey, form_to_put, put_anew, put_len, set_sole, survey_of};
 
 // How many bytes stand before a block's body.
-const HEADER_LEN: usize = 4;
+pub(super) const HEADER_LEN: usize = 4;
 
 // The most bytes that the body of a block has: 65,535 words.
 const MAX_BODY_LEN: usize = 4 * 65_535;
@@ -171,7 +165,13 @@ fn move_bytes(buf: &mut [u8], start: usize, end: usize, to: usize)
 
 // Gives the block that begins at an offset a body of so many bytes, which are those that stand there: moves
 // the payload behind it, and writes the number of its words.
-fn resize(buf: &mut [u8], len: usize, block_at: usize, payload_at: usize, body_len: usize)
+pub(super) fn resize(
+    buf: &mut [u8],
+    len: usize,
+    block_at: usize,
+    payload_at: usize,
+    body_len: usize,
+)
     requires order { payload_at ≤ len }
     requires within { len ≤ length buf.old }
     requires room { block_at + 4 + body_len + (len - payload_at) ≤ length buf.old }
@@ -210,7 +210,8 @@ fn announce(buf: &mut [u8], block_at: usize, form: ExtensionsForm)
 ///
 /// Where the element is the only one of its id and has as many bytes, only these change. Else the block is
 /// made anew where it lies: its padding is used up, and where that isn't enough the payload moves by whole
-/// words. Without X the packet gets a block. The body never becomes shorter: [`compact`] gives bytes back.
+/// words. Without X the packet gets a block. The body never becomes shorter: [`compact`](super::compact)
+/// gives bytes back.
 /// What stands where reading ends, an element that is cut short or what follows the id 15, is no element,
 /// and goes where the block is made anew.
 ///
@@ -259,48 +260,4 @@ pub fn put_element(
     }
     plan.make_anew(buf, len, new_body_len, id, data);
     Ok(new_len)
-}
-
-// An id that no element of the form has.
-fn id_of_none(form: ExtensionsForm) -> u8
-    ensures { (element : Element) → IsElement form element → element.0 ≡ result → ⊥ }
-{
-    match form {
-        ExtensionsForm::OneByte => 15,
-        ExtensionsForm::TwoByte => 0,
-    }
-}
-
-/// Makes the packet in the buffer as short as its elements allow, and returns how many bytes it then has,
-/// which are the first ones of the buffer (RFC 3550, 5.3.1; RFC 8285, 4.2 and 4.3). The elements stand in a
-/// row in the same order, those of one id too, the body is filled up to whole words, and the payload moves
-/// to the front; X and the form stay. What stands where reading ends is no element, and goes. Behind the
-/// new end any bytes may stand. Where the buffer holds no packet nothing changes, and neither does a packet
-/// whose block has another form than 0xBEDE and 0x1000 to 0x100F.
-///
-/// After [`remove_element`](super::RtpPacketMut::remove_element), which leaves padding, this gives the
-/// bytes back. Before [`put_element`] it isn't needed.
-///
-/// The packet `90 60 00 05 00 00 00 64 00 00 00 2C BE DE 00 02 00 00 21 BB CC 00 00 00 01` (hexadecimal)
-/// becomes `90 60 00 05 00 00 00 64 00 00 00 2C BE DE 00 01 21 BB CC 00 01`, and 21 is returned.
-pub fn compact(datagram: &mut [u8]) -> Result<usize, NotAPacket>
-    ensures compacted { IfOk result (Compacts datagram.old datagram.new) }
-    ensures within { IfOk result (λ len. len ≤ length datagram.old) }
-    ensures cause { IfErr result (IsFirstCause datagram.old) }
-    ensures refused { IsErr result ↔ IsNoPacket datagram.old }
-    ensures unchanged { OnErr result (datagram.new ≡ datagram.old) }
-{
-    let packet = RtpPacket::parse(datagram)?;
-    let payload_at = packet.header_len();
-    let form = packet.form();
-    let len = datagram.len();
-    let Some(form) = form else {
-        return Ok(len);
-    };
-    let block_at = sources_end(datagram[0]);
-    let body = &mut datagram[block_at + HEADER_LEN..payload_at];
-    let elements_len = take_out(form, body, id_of_none(form));
-    let body_len = elements_len.next_multiple_of(4);
-    resize(datagram, len, block_at, payload_at, body_len);
-    Ok(block_at + HEADER_LEN + body_len + (len - payload_at))
 }

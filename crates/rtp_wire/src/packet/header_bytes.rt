@@ -8,9 +8,10 @@ use super::RtpPacket;
 impl<'a> RtpPacket<'a> {
     ghost use Rattle.rtp_wire.specs.PartsOf.{parts_of, datagram_of};
 
-    /// The bytes of the header alone, which are a packet without a payload. Whatever changes no length
-    /// needs no more: a copy of them is changed as a packet, and with the payload behind it it is the
-    /// packet with that change. So one payload goes to many receivers, each with a header of its own.
+    /// The bytes of the header alone, which are a packet without a payload. Whatever changes no
+    /// length needs no more: a copy of them is changed as a packet, and with the payload behind it
+    /// it is the packet with that change. So one payload goes to many receivers, each with a header
+    /// of its own.
     pub fn header_bytes(&self) -> &'a [u8]
         ensures front { datagram_of self.now ≡ result.now ++ (parts_of self.now).payload }
         ensures alone { IsPacket result.now (record (parts_of self.now) { payload = [] }) }

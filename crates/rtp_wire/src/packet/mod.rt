@@ -1,6 +1,7 @@
 //! An RTP packet where it lies in the bytes of a datagram.
 
 mod any_block;
+mod compacting;
 mod csrcs;
 mod fields;
 mod growing;
@@ -14,10 +15,11 @@ mod rtcp;
 mod rtp_packet;
 mod rtp_packet_mut;
 
+pub use compacting::compact;
 pub use csrcs::Csrcs;
 pub use fields::Fields;
 pub(crate) use fields::flag;
-pub use growing::{compact, put_element};
+pub use growing::put_element;
 pub use not_a_packet::NotAPacket;
 pub use not_put::NotPut;
 pub use not_retransmitted::NotRetransmitted;

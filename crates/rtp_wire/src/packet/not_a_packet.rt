@@ -3,8 +3,9 @@
 use thiserror::Error;
 
 /// Why a datagram is no RTP packet (RFC 3550, 5.1 and 5.3.1): the first cause in the order of its
-/// bytes. The form of the block is no cause: a receiver may ignore a block of a form that it doesn't
-/// know. Against a header it is one, [`NotAHeader::UnknownForm`](crate::NotAHeader::UnknownForm).
+/// bytes. The form of the block is no cause: a receiver may ignore a block of a form that it
+/// doesn't know. Against a header it is one,
+/// [`NotAHeader::UnknownForm`](crate::NotAHeader::UnknownForm).
 #[derive(Clone, Copy, Debug, PartialEq, Eq, Error)]
 pub enum NotAPacket {
     /// It has fewer than the twelve bytes that every header has.

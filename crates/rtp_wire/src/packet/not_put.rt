@@ -6,8 +6,8 @@ ghost use Rattle.rtp_wire.specs.declared.packet.not_put.NotPut.TheVariants.{NotA
 use super::NotAPacket;
 use thiserror::Error;
 
-/// Why an element can't be put into a packet where it lies (RFC 3550, 5.3.1; RFC 8285, 4.1.2 to 4.3): the
-/// first cause in this order.
+/// Why an element can't be put into a packet where it lies (RFC 3550, 5.3.1; RFC 8285, 4.1.2 to
+/// 4.3): the first cause in this order.
 #[derive(Clone, Copy, Debug, PartialEq, Eq, Error)]
 pub enum NotPut {
     /// The buffer has fewer bytes than the packet is said to have.

@@ -3,8 +3,8 @@
 use super::NotAPacket;
 use thiserror::Error;
 
-/// Why a packet doesn't become a retransmission, or a retransmission the packet that it repeats (RFC
-/// 4588, 4): the first cause in this order.
+/// Why a packet doesn't become a retransmission, or a retransmission the packet that it repeats
+/// (RFC 4588, 4): the first cause in this order.
 #[derive(Clone, Copy, Debug, PartialEq, Eq, Error)]
 pub enum NotRetransmitted {
     /// The buffer has fewer bytes than the packet is said to have.

@@ -73,8 +73,8 @@ fn layout_of(buf: &[u8], len: usize) -> Result<Layout, NotRetransmitted>
     })
 }
 
-// Gives the elements of a header their new ids, clears P and sets the fields that are given. Returns
-// `false`, and changes nothing, where the form of the block can't carry a new id.
+// Gives the elements of a header their new ids, clears P and sets the fields that are given.
+// Returns `false`, and changes nothing, where the form of the block can't carry a new id.
 fn change_header(
     header: &mut [u8],
     form: Option<ExtensionsForm>,
@@ -140,7 +140,8 @@ pub fn to_retransmission(
     ensures sent { IfOk result (λ end. Becomes
         (λ original. IsRetransmissionOf original stream.now (new_id ids.now))
         (take len buf.old) (take end buf.new)) }
-    ensures length { (original : PacketParts) (payload : List ℕ) → IsPacket (take len buf.old) original →
+    ensures length { (original : PacketParts) (payload : List ℕ) →
+        IsPacket (take len buf.old) original →
         IsWithoutPadding original.has_padding original.payload payload →
         IfOk result (λ end. end ≡ header_len_of original + 2 + length payload) }
     ensures block_header { IfOk result (λ _. KeepsBlockHeader buf.old buf.new) }
@@ -181,14 +182,14 @@ pub fn to_retransmission(
 /// place, and returns the length of that (RFC 4588, 4): it has the SSRC and the payload type of the
 /// original stream and the original sequence number, the elements have their new ids, as those of
 /// [`NewIds::from_retransmission`], and the payload is what follows that number, without any
-/// padding. M, the timestamp, the contributing sources and the data of the elements stay, and so does a
-/// block of another form. Requires a payload type of at most 127.
+/// padding. M, the timestamp, the contributing sources and the data of the elements stay, and so
+/// does a block of another form. Requires a payload type of at most 127.
 ///
 /// Returns the first cause for which it can't, and then nothing changes. The packet is two bytes
 /// shorter than the retransmission without its padding; the bytes of the buffer behind it stay.
 ///
-/// Of the retransmission in the example of [`to_retransmission`] the SSRC 44 and the payload type 96
-/// make `80 60 00 05 00 00 00 01 00 00 00 2C AA BB` again, and this returns 14.
+/// Of the retransmission in the example of [`to_retransmission`] the SSRC 44 and the payload type
+/// 96 make `80 60 00 05 00 00 00 01 00 00 00 2C AA BB` again, and this returns 14.
 pub fn from_retransmission(
     buf: &mut [u8],
     len: usize,
@@ -211,8 +212,9 @@ pub fn from_retransmission(
     ensures unchanged { OnErr result (buf.new ≡ buf.old) }
 
     // What `to_retransmission` made of a packet is that packet again, without its padding.
-    ensures undone { (original sent : PacketParts) (fields : RetransmissionFields) (there : ℕ → Option ℕ) →
-        original.sequence_number < 65536 → IsRetransmissionOf original fields there sent →
+    ensures undone { (original sent : PacketParts) (fields : RetransmissionFields)
+        (there : ℕ → Option ℕ) → original.sequence_number < 65536 →
+        IsRetransmissionOf original fields there sent →
         IsPacket (take len buf.old) sent → IfOk result (λ end.
         IsPacketWith (IsRestored original stream.now there (new_id ids.now)) (take end buf.new)) }
 {

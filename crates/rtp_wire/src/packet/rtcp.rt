@@ -4,11 +4,11 @@ ghost use Rattle.std.specs.Prelude.{◌≡◌, ◌↔◌, ◌≤◌, true, IsTru
 ghost use Rattle.rtp_wire.specs.Packet.{PacketParts, IsPacket};
 ghost use Rattle.rtp_wire.specs.Rtcp.{IsRtcp};
 
-/// Whether a datagram on a port that carries both RTP and RTCP is RTCP (RFC 5761, 4): it has version 2,
-/// and its second byte, the RTCP packet type, is 192 to 223. It comes before
-/// [`RtpPacket::parse`](crate::RtpPacket::parse), which a receiver report passes too: to RTP that byte
-/// is M and a payload type of 64 to 95, which a stream on such a port must not have. A datagram of
-/// fewer than two bytes isn't RTCP; how long it is doesn't matter otherwise.
+/// Whether a datagram on a port that carries both RTP and RTCP is RTCP (RFC 5761, 4): it has
+/// version 2, and its second byte, the RTCP packet type, is 192 to 223. It comes before
+/// [`RtpPacket::parse`](crate::RtpPacket::parse), which a receiver report passes too: to RTP that
+/// byte is M and a payload type of 64 to 95, which a stream on such a port must not have. A
+/// datagram of fewer than two bytes isn't RTCP; how long it is doesn't matter otherwise.
 ///
 /// `80 C9 00 01 00 00 00 2C`, a receiver report without a block, is RTCP (201), and a datagram that
 /// begins with `80 60` or `80 E0`, payload type 96 without M and with it, is not.

@@ -1,18 +1,16 @@
 //! The packet as a value.
 
-ghost use Rattle.std.specs.Prelude.{◌≡◌, ◌↔◌, ◌+◌, ◌*◌, ◌/◌, ◌%◌, ◌<◌, ◌≤◌, ℕ, List, Some, length, map, slice_index, slice_range, is_some, true, IsNone, IsErr, IfOk, IfErr, IfSome, IsOkAnd, IsSomeAnd};
+ghost use Rattle.std.specs.Prelude.{◌≡◌, ◌↔◌, ◌+◌, ◌*◌, ◌/◌, ◌%◌, ◌<◌, ◌≤◌, ℕ, List, None, Some, length, map, slice_index, true, false, IsErr, IfOk, IfErr, IfSome, IsOkAnd};
 ghost use Rattle.std.specs.Int.{w32, from_be_bytes};
 ghost use Rattle.std.specs.Option.{option_map};
 ghost use Rattle.rtp_ext.specs.Elements.{Element};
-ghost use Rattle.rtp_wire.specs.NotAHeader.{IsNoPacket, sources_end};
+ghost use Rattle.rtp_wire.specs.NotAHeader.{IsNoPacket, NotAHeader};
 ghost use Rattle.rtp_wire.specs.NotAPacket.{IsFirstCause};
-ghost use Rattle.rtp_wire.specs.Packet.{PacketParts, IsPacket, IsWithoutPadding, header_len_of};
+ghost use Rattle.rtp_wire.specs.Packet.{PacketParts, IsPacket, header_len_of};
 ghost use Rattle.rtp_wire.specs.PacketElements.{AreElementsOf, IsLast};
-ghost use Rattle.rtp_wire.specs.Padding.{padding_count};
 ghost use Rattle.rtp_wire.specs.PartsAt.{form_in, header_end};
 
 use super::{Csrcs, NotAPacket};
-use crate::payload::unpad_payload;
 use rtp_base::{Pt, Ssrc};
 use rtp_ext::{Elements, ExtensionsForm, element_of};
 
@@ -43,9 +41,9 @@ impl<'a> RtpPacket<'a> {
     /// 0x100F, as a profile's own or that of encrypted extensions (RFC 9335), is passed over, and
     /// [`body`](Self::body) returns what it holds.
     ///
-    /// The twenty bytes `90 21 B7 98 00 00 27 10 00 00 00 2C BE DE 00 01 30 2A 00 00` are a packet of
-    /// payload type 33, sequence number 47,000, timestamp 10,000 and SSRC 44, with a block in the
-    /// one-byte form and no payload.
+    /// The twenty bytes `90 21 B7 98 00 00 27 10 00 00 00 2C BE DE 00 01 30 2A 00 00` are a packet
+    /// of payload type 33, sequence number 47,000, timestamp 10,000 and SSRC 44, with a block in
+    /// the one-byte form and no payload.
     pub fn parse(datagram: &'a [u8]) -> Result<Self, NotAPacket>
         // The packet has the parts of these bytes, and bytes that have such parts are a packet.
         ensures found { IfOk result (λ packet. IsPacket datagram.now (parts_of packet)) }
@@ -57,6 +55,24 @@ impl<'a> RtpPacket<'a> {
         // The cause is the first that applies, and there are no others.
         ensures cause { IfErr result (IsFirstCause datagram.now) }
         ensures refused { IsErr result ↔ IsNoPacket datagram.now }
+    {
+        let (packet, _) = Self::read(datagram)?;
+        Ok(packet)
+    }
+
+    // The packet that the datagram is, and whether a header begins it: whether its block, if X
+    // announces one, is of one of the two forms.
+    #[inline(always)]
+    pub(crate) fn read(datagram: &'a [u8]) -> Result<(Self, bool), NotAPacket>
+        ensures found { IfOk result (λ read. IsPacket datagram.now (parts_of read.0)) }
+        ensures only { (parts : PacketParts) → IsPacket datagram.now parts →
+            IsOkAnd result (λ read. parts_of read.0 ≡ parts) }
+        ensures bytes { IfOk result (λ read. datagram_of read.0 ≡ datagram.now) }
+        ensures cause { IfErr result (IsFirstCause datagram.now) }
+        ensures refused { IsErr result ↔ IsNoPacket datagram.now }
+        ensures header { IfOk result (λ read.
+            read.1 ≡ true → (parts_of read.0).other_block ≡ None) }
+        ensures none { IfOk result (λ read. read.1 ≡ false) ↔ NotAHeader datagram.now }
     {
         if datagram.len() < 12 {
             return Err(NotAPacket::CutFixedPart);
@@ -70,11 +86,12 @@ impl<'a> RtpPacket<'a> {
             return Err(NotAPacket::CutSources);
         };
         if first & 0x10 == 0 {
-            return Ok(RtpPacket {
+            let packet = RtpPacket {
                 datagram,
                 header_len: start,
                 form: None,
-            });
+            };
+            return Ok((packet, true));
         }
         let Some((header, after)) = after.split_first_chunk::<4>() else {
             return Err(NotAPacket::CutBlockHeader);
@@ -83,14 +100,17 @@ impl<'a> RtpPacket<'a> {
         if after.len() < body_len {
             return Err(NotAPacket::CutBlock);
         }
-        Ok(RtpPacket {
+        let form = ExtensionsForm::parse([header[0], header[1]]);
+        let packet = RtpPacket {
             datagram,
             header_len: start + 4 + body_len,
-            form: ExtensionsForm::parse([header[0], header[1]]),
-        })
+            form,
+        };
+        Ok((packet, form.is_some()))
     }
 
-    // The packet in the bytes of a buffer, whose header ends here and whose block has this form, if any.
+    // The packet in the bytes of a buffer, whose header ends here and whose block has this form, if
+    // any.
     pub(super) fn new(datagram: &'a [u8], header_len: usize, form: Option<ExtensionsForm>) -> Self
         requires fixed { 12 ≤ length datagram.now }
         requires version { slice_index datagram.now 0 / 64 ≡ 2 }
@@ -124,28 +144,10 @@ impl<'a> RtpPacket<'a> {
         }
     }
 
-    /// The payload: where P is set, the bytes before the padding, whose last byte counts it, itself
-    /// included (RFC 3550, 5.1). Returns `None` where that count is greater than the number of bytes.
-    /// A last byte of 0 takes nothing away, and without any byte the payload is empty.
-    pub fn unpadded_payload(&self) -> Option<&'a [u8]>
-        ensures found { IfSome result (λ payload.
-            IsWithoutPadding (parts_of self.now).has_padding (parts_of self.now).payload payload.now) }
-        ensures only { (payload : List ℕ) →
-            IsWithoutPadding (parts_of self.now).has_padding (parts_of self.now).payload payload →
-            IsSomeAnd result (λ found. found.now ≡ payload) }
-        ensures refused { IsNone result ↔ ((parts_of self.now).has_padding ≡ true)
-            × (length (parts_of self.now).payload < padding_count (parts_of self.now).payload) }
-    {
-        if self.has_padding() {
-            unpad_payload(self.payload())
-        } else {
-            Some(self.payload())
-        }
-    }
-
-    /// The form of the block and its body, and `None` exactly where X is clear or the form is another
-    /// than the two (RFC 3550, 5.3.1; RFC 8285, 4). It is for callers that pass the elements on, or read them in a way of their own:
-    /// [`elements`](Self::elements), [`element`](Self::element) and [`values`](Self::values) read them.
+    /// The form of the block and its body, and `None` exactly where X is clear or the form is
+    /// another than the two (RFC 3550, 5.3.1; RFC 8285, 4). It is for callers that pass the
+    /// elements on, or read them in a way of their own: [`elements`](Self::elements),
+    /// [`element`](Self::element) and [`values`](Self::values) read them.
     ///
     /// The body is as long as the four bytes before it say, with all padding. It begins after these
     /// four, and ends where the payload begins.
@@ -157,17 +159,8 @@ impl<'a> RtpPacket<'a> {
         let Some(form) = self.form else {
             return None;
         };
-        Some((form, self.announced_body()))
-    }
-
-    // The body of the block that X announces, whatever its form.
-    pub(super) fn announced_body(&self) -> &'a [u8]
-        requires { (parts_of self.now).has_extension ≡ true }
-        ensures body { result.now ≡ slice_range (datagram_of self.now)
-            (sources_end (datagram_of self.now) + 4) (header_end (datagram_of self.now)) }
-        ensures bytes { (i : ℕ) → slice_index result.now i < 256 }
-    {
-        &self.datagram[body_start(self.datagram[0])..self.header_len]
+        let start = body_start(self.datagram[0]);
+        Some((form, &self.datagram[start..self.header_len]))
     }
 
     /// The elements of the block in order, and none where X is clear or the form is another.
@@ -175,8 +168,8 @@ impl<'a> RtpPacket<'a> {
         ensures found { AreElementsOf (parts_of self.now).block result }
 
         // The block has no other elements.
-        ensures only { (elements : List Element) → AreElementsOf (parts_of self.now).block elements →
-            elements ≡ result }
+        ensures only { (elements : List Element) →
+            AreElementsOf (parts_of self.now).block elements → elements ≡ result }
     {
         match self.block() {
             Some((form, body)) => Elements::new(body, form),

@@ -14,7 +14,6 @@ ghost use Rattle.rtp_ext.specs.NewIds.{new_id, CarriesExtensions};
 ghost use Rattle.rtp_ext.specs.ElementPlaces.{WritesLast};
 ghost use Rattle.rtp_ext.specs.WrittenBlock.{mapped_fields};
 ghost use Rattle.rtp_wire.specs.ChangedPacket.{ChangesBlock, ChangesOnly, ChangesOnlyBody};
-ghost use Rattle.rtp_wire.specs.GivenFields.{with_header_fields, LieBetween};
 ghost use Rattle.rtp_wire.specs.NotAHeader.{IsNoPacket};
 ghost use Rattle.rtp_wire.specs.NotAPacket.{IsFirstCause};
 ghost use Rattle.rtp_wire.specs.Packet.{PacketParts, IsPacket};
@@ -22,7 +21,7 @@ ghost use Rattle.rtp_wire.specs.PacketElements.{AreElementsOf, HasValues};
 ghost use Rattle.rtp_wire.specs.PartsAt.{form_in, header_end, HasLayout};
 
 use super::rtp_packet::body_start;
-use super::{Fields, NotAPacket, RtpPacket, flag};
+use super::{NotAPacket, RtpPacket, flag};
 use rtp_base::{Pt, Ssrc, put};
 use rtp_ext::{ExtensionsForm, NewIds, remove_element, renumber, set_element};
 
@@ -81,7 +80,8 @@ impl<'a> RtpPacketMut<'a> {
         Ok(RtpPacketMut::new(datagram, header_len, form))
     }
 
-    /// The packet as it stands in the buffer: its bytes are read as these parts, whatever was changed.
+    /// The packet as it stands in the buffer: its bytes are read as these parts, whatever was
+    /// changed.
     pub fn as_packet(&self) -> RtpPacket<'_>
         ensures parts { parts_of result ≡ parts_in self.now }
         ensures bytes { datagram_of result ≡ (buffer_of self.now).now }
@@ -137,7 +137,8 @@ impl<'a> RtpPacketMut<'a> {
 
     /// Sets the sequence number.
     pub fn set_sequence_number(&mut self, number: u16)
-        ensures parts { parts_in self.new ≡ record (parts_in self.old) { sequence_number = number } }
+        ensures parts { parts_in self.new
+            ≡ record (parts_in self.old) { sequence_number = number } }
         ensures bytes { ChangesOnly 2 4 (buffer_of self.old).now (buffer_of self.new).now }
         ensures same_buffer { (buffer_of self.new).ghost_name ≡ (buffer_of self.old).ghost_name }
     {
@@ -162,42 +163,13 @@ impl<'a> RtpPacketMut<'a> {
         self.put_fixed(8, &ssrc.get().to_be_bytes());
     }
 
-    /// Sets the fields that are given, and leaves the others, after one look at the packet (RFC 3550,
-    /// 5.1). Requires that a payload type is at most 127.
-    ///
-    /// In a packet that begins with `80 E0 00 05` (hexadecimal) the payload type 8 and the number 6
-    /// make these bytes `80 88 00 06`: M stays.
-    #[inline(always)]
-    pub fn set_fields(&mut self, fields: &Fields)
-        requires { IfSome fields.now.payload_type (λ pt. pt ≤ 127) }
-        ensures parts { parts_in self.new ≡ with_header_fields fields.now (parts_in self.old) }
-        ensures bytes { (start end : ℕ) → LieBetween fields.now start end →
-            ChangesOnly start end (buffer_of self.old).now (buffer_of self.new).now }
-        ensures same_buffer { (buffer_of self.new).ghost_name ≡ (buffer_of self.old).ghost_name }
-    {
-        if let Some(marker) = fields.marker {
-            self.set_marker(marker);
-        }
-        if let Some(pt) = fields.payload_type {
-            self.set_payload_type(pt);
-        }
-        if let Some(number) = fields.sequence_number {
-            self.set_sequence_number(number);
-        }
-        if let Some(timestamp) = fields.timestamp {
-            self.set_timestamp(timestamp);
-        }
-        if let Some(ssrc) = fields.ssrc {
-            self.set_ssrc(ssrc);
-        }
-    }
-
-    /// Sets the contributing source at this place of the CSRC list, counted from 0. Returns `false`,
-    /// and changes nothing, where the list has no such place.
+    /// Sets the contributing source at this place of the CSRC list, counted from 0. Returns
+    /// `false`, and changes nothing, where the list has no such place.
     pub fn set_csrc(&mut self, index: usize, source: u32) -> bool
         ensures found { IsTrue result ↔ (index < length (parts_in self.old).sources) }
-        ensures parts { IsTrue result → parts_in self.new
-            ≡ record (parts_in self.old) { sources = slice_set (parts_in self.old).sources index source } }
+        ensures parts { IsTrue result → parts_in self.new ≡ record (parts_in self.old) {
+          sources = slice_set (parts_in self.old).sources index source;
+        } }
         ensures bytes { ChangesOnly (12 + 4 * index) (16 + 4 * index)
             (buffer_of self.old).now (buffer_of self.new).now }
         ensures unchanged { result ≡ false → self.new ≡ self.old }
@@ -210,8 +182,8 @@ impl<'a> RtpPacketMut<'a> {
         true
     }
 
-    /// Gives the last element of this id these data, where it has as many bytes of them, and returns
-    /// whether it has (RFC 8285, 4.2 and 4.3). Else nothing changes.
+    /// Gives the last element of this id these data, where it has as many bytes of them, and
+    /// returns whether it has (RFC 8285, 4.2 and 4.3). Else nothing changes.
     ///
     /// Under a map in which a kind has this id and no other, the packet then says what it said,
     /// except for the fields of that kind; these are what the data say, where they are well-formed
@@ -220,19 +192,22 @@ impl<'a> RtpPacketMut<'a> {
     /// In a packet whose block has the body `10 AA 21 BB CC 10 DD 00` (hexadecimal) of the one-byte
     /// form, the data `EE` of id 1 take the place of `DD`.
     pub fn set_element(&mut self, id: u8, data: &[u8]) -> bool
-        ensures set { OnTrue result
-            (ChangesBlock (λ form. SetsLast form id «data».now) (parts_in self.old) (parts_in self.new)) }
-        ensures written { OnTrue result
-            (ChangesBlock (λ form. WritesLast form id «data».now) (parts_in self.old) (parts_in self.new)) }
+        ensures set { OnTrue result (ChangesBlock (λ form. SetsLast form id «data».now)
+            (parts_in self.old) (parts_in self.new)) }
+        ensures written { OnTrue result (ChangesBlock (λ form. WritesLast form id «data».now)
+            (parts_in self.old) (parts_in self.new)) }
         ensures unchanged { OnFalse result ((buffer_of self.new).now ≡ (buffer_of self.old).now) }
         ensures bytes { ChangesOnlyBody (buffer_of self.old).now (buffer_of self.new).now }
-        ensures answer { (elements : List Element) → AreElementsOf (parts_in self.old).block elements →
+        ensures answer { (elements : List Element) →
+            AreElementsOf (parts_in self.old).block elements →
             IsTrue result ↔ HasLastOf elements id (length «data».now) }
         ensures other_values { (exts : Slots) (kind : Extension) (old new : ExtensionValues) →
             extension_at exts id ≡ Some kind → HasValues exts (parts_in self.old).block old →
-            HasValues exts (parts_in self.new).block new → OnTrue result (new ≡ with_fields kind old new) }
-        ensures values { (exts : Slots) (kind : Extension) (new : ExtensionValues) → IsOnlyId exts kind id →
-            IsWellFormed kind «data».now → HasValues exts (parts_in self.new).block new →
+            HasValues exts (parts_in self.new).block new →
+            OnTrue result (new ≡ with_fields kind old new) }
+        ensures values { (exts : Slots) (kind : Extension) (new : ExtensionValues) →
+            IsOnlyId exts kind id → IsWellFormed kind «data».now →
+            HasValues exts (parts_in self.new).block new →
             OnTrue result (Reads kind «data».now new) }
         ensures same_buffer { (buffer_of self.new).ghost_name ≡ (buffer_of self.old).ghost_name }
     {
@@ -243,20 +218,23 @@ impl<'a> RtpPacketMut<'a> {
         set_element(form, &mut self.datagram[start..self.header_len], id, data)
     }
 
-    /// Makes each element of this id zeros, which are padding, and returns whether there is one (RFC
-    /// 8285, 4.2 and 4.3). All other bytes stay.
+    /// Makes each element of this id zeros, which are padding, and returns whether there is one
+    /// (RFC 8285, 4.2 and 4.3). All other bytes stay.
     ///
     /// In a packet whose block has the body `10 AA 21 BB CC 10 DD 00` (hexadecimal) of the one-byte
     /// form, the removal of id 1 leaves the body `00 00 21 BB CC 00 00 00`.
     pub fn remove_element(&mut self, id: u8) -> bool
-        ensures removed { OnTrue result
-            (ChangesBlock (λ form. ChangesIds form (all_but id)) (parts_in self.old) (parts_in self.new)) }
+        ensures removed { OnTrue result (ChangesBlock (λ form. ChangesIds form (all_but id))
+            (parts_in self.old) (parts_in self.new)) }
         ensures unchanged { OnFalse result ((buffer_of self.new).now ≡ (buffer_of self.old).now) }
         ensures bytes { ChangesOnlyBody (buffer_of self.old).now (buffer_of self.new).now }
-        ensures answer { (elements : List Element) → AreElementsOf (parts_in self.old).block elements →
+        ensures answer { (elements : List Element) →
+            AreElementsOf (parts_in self.old).block elements →
             IsTrue result ↔ (HasNone elements id → ⊥) }
-        ensures elements { (elements : List Element) → AreElementsOf (parts_in self.old).block elements →
-            AreElementsOf (parts_in self.new).block (filter_map (renumbered (all_but id)) elements) }
+        ensures elements { (elements : List Element) →
+            AreElementsOf (parts_in self.old).block elements →
+            AreElementsOf (parts_in self.new).block
+            (filter_map (renumbered (all_but id)) elements) }
         ensures same_buffer { (buffer_of self.new).ghost_name ≡ (buffer_of self.old).ghost_name }
     {
         let Some(form) = self.form else {
@@ -269,11 +247,11 @@ impl<'a> RtpPacketMut<'a> {
     /// Gives each element its new id where it lies, and makes an element whose id has no new one
     /// zeros, which are padding; all other bytes stay (RFC 8285, 4.2 and 4.3). Returns `false`, and
     /// nothing changes, where the form of the block can't carry the new id of an element: one above
-    /// 14 in the one-byte form. Where X is clear or the form is another there is nothing to change, and it
-    /// returns `true`.
+    /// 14 in the one-byte form. Where X is clear or the form is another there is nothing to change,
+    /// and it returns `true`.
     ///
-    /// The packet then says under the second map what it said under the first, of the kinds that the
-    /// second maps and no other.
+    /// The packet then says under the second map what it said under the first, of the kinds that
+    /// the second maps and no other.
     pub fn renumber(&mut self, ids: &NewIds) -> bool
         ensures renumbered { OnTrue result (IfSome (parts_in self.old).block (λ _. ChangesBlock
             (λ form. ChangesIds form (new_id ids.now)) (parts_in self.old) (parts_in self.new))) }
@@ -281,10 +259,12 @@ impl<'a> RtpPacketMut<'a> {
         ensures bytes { ChangesOnlyBody (buffer_of self.old).now (buffer_of self.new).now }
         ensures without_block { IfNone (parts_in self.old).block
             ((buffer_of self.new).now ≡ (buffer_of self.old).now) }
-        ensures answer { (elements : List Element) → AreElementsOf (parts_in self.old).block elements →
+        ensures answer { (elements : List Element) →
+            AreElementsOf (parts_in self.old).block elements →
             IsTrue result ↔ IfSome (parts_in self.old).block (λ block.
             All (CanRenumber block.0 (new_id ids.now)) elements) }
-        ensures elements { (elements : List Element) → AreElementsOf (parts_in self.old).block elements →
+        ensures elements { (elements : List Element) →
+            AreElementsOf (parts_in self.old).block elements →
             OnTrue result (AreElementsOf (parts_in self.new).block
             (filter_map (renumbered (new_id ids.now)) elements)) }
         ensures values { (from to : Slots) (values : ExtensionValues) →

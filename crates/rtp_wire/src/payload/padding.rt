@@ -99,9 +99,9 @@ pub fn create_padding_packet(
     count
 }
 
-/// [`create_padding_packet`] where it isn't known whether there is room: returns `None`, and changes
-/// nothing, where the buffer ends before the padding would, or `block_size` is 0. It wants room for
-/// what it writes, and with a `pad_len` of 0 for nothing.
+/// [`create_padding_packet`] where it isn't known whether there is room: returns `None`, and
+/// changes nothing, where the buffer ends before the padding would, or `block_size` is 0. It wants
+/// room for what it writes, and with a `pad_len` of 0 for nothing.
 ///
 /// With a `pad_len` of 3 and a `block_size` of 4 a header of 12 bytes wants a buffer of 16.
 pub fn try_create_padding_packet(
@@ -112,7 +112,8 @@ pub fn try_create_padding_packet(
 ) -> Option<usize>
     ensures nothing { pad_len ≡ 0 → result ≡ Some 0 }
     ensures same { pad_len ≡ 0 → buf.new ≡ buf.old }
-    ensures length { IfSome result (λ count. 0 < pad_len → IsPaddingLength pad_len block_size count) }
+    ensures length { IfSome result (λ count.
+        0 < pad_len → IsPaddingLength pad_len block_size count) }
     ensures written { IfSome result (λ count. 0 < pad_len →
         buf.new ≡ overwritten (with_padding_bit buf.old) header_len (padding_bytes count)) }
     ensures only { IfSome result (λ count. 0 < pad_len → (n : ℕ) →

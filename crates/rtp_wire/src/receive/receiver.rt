@@ -29,8 +29,8 @@ pub enum Verdict {
 // What a receiver holds.
 #[derive(Debug, Drop)]
 enum ReceiverState {
-    // Nothing is taken yet, and this is the first packet's rollover count: the 48 bits of its number
-    // above the 16 of its header.
+    // Nothing is taken yet, and this is the first packet's rollover count: the 48 bits of its
+    // number above the 16 of its header.
     Start(u64),
     // The numbers taken are those of the replay window.
     Window(SeqNoWindow),
@@ -226,8 +226,10 @@ impl Receiver {
         }
     }
 
-    // Records the number where it may be taken, and returns whether it may.
-    fn take(&mut self, number: SeqNo) -> bool
+    /// Records the number where it may be taken, and returns whether it may: what
+    /// [`accepts`](Self::accepts) returns for it. It is for a number whose packet is known to be
+    /// authentic.
+    pub fn take(&mut self, number: SeqNo) -> bool
         ensures accepts { (count : ℕ) → (taken : Numbers) → Holds self.old count taken →
             (IsTrue result ↔ IsFresh taken number) }
         ensures taken { (count : ℕ) → (taken : Numbers) → Holds self.old count taken →
@@ -255,9 +257,9 @@ impl Receiver {
         ensures after { (count : ℕ) → (taken : Numbers) → Holds self.old count taken →
             Holds self.new count (taken_after taken result) }
     {
-        match RtpPacket::of_header(datagram) {
-            None => Verdict::Unreadable,
-            Some(packet) => self.receive(packet.sequence_number()),
+        match RtpPacket::read(datagram) {
+            Ok((packet, true)) => self.receive(packet.sequence_number()),
+            _ => Verdict::Unreadable,
         }
     }
 }

@@ -185,9 +185,9 @@ impl Receivers {
         Ok(())
     }
 
-    /// The verdict on a packet of this source and sequence number: taken, and then recorded, exactly
-    /// when its extended sequence number may be taken of the source; refused, and then the source's
-    /// receiver holds what it held, where not. It is [`number_of`](Self::number_of),
+    /// The verdict on a packet of this source and sequence number: taken, and then recorded,
+    /// exactly when its extended sequence number may be taken of the source; refused, and then the
+    /// source's receiver holds what it held, where not. It is [`number_of`](Self::number_of),
     /// [`accepts`](Self::accepts) and [`record`](Self::record) in one, where nothing is
     /// authenticated.
     ///
@@ -275,9 +275,9 @@ impl Receivers {
         ensures same { (exts : ExtensionMap) → IsPacketId exts datagram.now None →
             self.new ≡ self.old }
     {
-        match RtpPacket::of_header(datagram) {
-            None => Ok(Verdict::Unreadable),
-            Some(packet) => self.receive(packet.ssrc(), packet.sequence_number()),
+        match RtpPacket::read(datagram) {
+            Ok((packet, true)) => self.receive(packet.ssrc(), packet.sequence_number()),
+            _ => Ok(Verdict::Unreadable),
         }
     }
 }

@@ -24,12 +24,12 @@ use rtp_base::SeqNo;
 /// has started again. That second packet is then taken as the first one of a new epoch, with a new
 /// window.
 ///
-/// Don't use it for SRTP: there a packet that isn't authentic must change nothing, and a sender that
-/// starts again would use the numbers of its key anew.
+/// Don't use it for SRTP: there a packet that isn't authentic must change nothing, and a sender
+/// that starts again would use the numbers of its key anew.
 ///
 /// The first epoch has the rollover count 1 at its first packet, and each later one 2 more than the
-/// highest number before it: so a packet from before the first one of an epoch has a number, and each
-/// number of an epoch is above all of those before it.
+/// highest number before it: so a packet from before the first one of an epoch has a number, and
+/// each number of an epoch is above all of those before it.
 ///
 /// ```
 /// let mut receiver = RestartingReceiver::<2>::new();
@@ -43,8 +43,8 @@ pub struct RestartingReceiver<const N: usize> {
     pub(super) receiver: WideReceiver<N>,
     max_dropout: u16,
     pub(super) min_sequential: u8,
-    // How many packets outside of the stream came last in a row, at most 255, and the 16 bits of the
-    // number after the last of them.
+    // How many packets outside of the stream came last in a row, at most 255, and the 16 bits of
+    // the number after the last of them.
     pub(super) in_row: u8,
     pub(super) next: u16,
 }
@@ -53,8 +53,8 @@ pub struct RestartingReceiver<const N: usize> {
 const WORD: u64 = 64;
 
 impl<const N: usize> RestartingReceiver<N> {
-    /// A receiver that has taken nothing yet, with RFC 3550's `MAX_DROPOUT` of 3,000, that takes the
-    /// first packet of a source. Precondition: N is at least 1.
+    /// A receiver that has taken nothing yet, with RFC 3550's `MAX_DROPOUT` of 3,000, that takes
+    /// the first packet of a source. Precondition: N is at least 1.
     pub fn new() -> Self
         requires { 0 < N }
         ensures bounds { bounds_of N result
@@ -86,9 +86,9 @@ impl<const N: usize> RestartingReceiver<N> {
         }
     }
 
-    /// The receiver that goes on from these parts: with the same bounds, what [`epoch`](Self::epoch)
-    /// lent, and what [`row`](Self::row) returned. An epoch that has taken nothing yet may start at any
-    /// rollover count.
+    /// The receiver that goes on from these parts: with the same bounds, what
+    /// [`epoch`](Self::epoch) lent, and what [`row`](Self::row) returned. An epoch that has taken
+    /// nothing yet may start at any rollover count.
     pub fn from_parts(
         epoch: WideReceiver<N>,
         max_dropout: u16,
@@ -112,16 +112,16 @@ impl<const N: usize> RestartingReceiver<N> {
         }
     }
 
-    /// What is taken in the epoch. Where nothing is taken yet it starts at the rollover count 1, or at
-    /// the one that [`from_parts`](Self::from_parts) was given.
+    /// What is taken in the epoch. Where nothing is taken yet it starts at the rollover count 1, or
+    /// at the one that [`from_parts`](Self::from_parts) was given.
     pub fn epoch(&self) -> &WideReceiver<N>
         ensures { result.now ≡ self.now.receiver }
     {
         &self.receiver
     }
 
-    /// How many packets outside of the stream came last in a row, at most 255, and the 16 bits of the
-    /// number after the last of them.
+    /// How many packets outside of the stream came last in a row, at most 255, and the 16 bits of
+    /// the number after the last of them.
     pub fn row(&self) -> (u8, u16)
         ensures { (result.0 ≡ self.now.in_row) × (result.1 ≡ self.now.next) }
     {
@@ -157,8 +157,8 @@ impl<const N: usize> RestartingReceiver<N> {
         ensures restarted { (number : ℕ) → result ≡ Restarted number →
             StaysBelowZeroInOf (64 * N) (Start 0) self.new.receiver }
 
-        // The same by all packets that came before, where the first epoch starts at the rollover count
-        // 1, as in `new`.
+        // The same by all packets that came before, where the first epoch starts at the rollover
+        // count 1, as in `new`.
         ensures next { (before : List Arrival) → Remembers N self.old before →
             IsNext (bounds_of N self.old) before
             (record { low = sequence_number; verdict = result }) }
@@ -171,7 +171,8 @@ impl<const N: usize> RestartingReceiver<N> {
             (record { low = sequence_number; verdict = result } ∷ before) →
             IsOneEpoch (record { low = sequence_number; verdict = result } ∷ before) }
 
-        // Within an epoch the packets of the stream are judged as if the sender never started again.
+        // Within an epoch the packets of the stream are judged as if the sender never started
+        // again.
         ensures in_epoch { (before : List Arrival) → Remembers N self.old before →
             IsRunInEpoch (bounds_of N self.old)
             (record { low = sequence_number; verdict = result } ∷ before) }

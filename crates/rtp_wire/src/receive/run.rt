@@ -19,9 +19,9 @@ use std::alloc::{AllocError, Global};
 /// The map isn't looked at, since under each map the same datagrams begin with a header, and with
 /// one of the same SSRC and sequence number.
 ///
-/// Memory is taken for the list of the verdicts, made at once, and for the receiver of each SSRC, at
-/// its first packet; where it is refused nothing is returned. The values of header extensions take
-/// none, and aren't looked at.
+/// Memory is taken for the list of the verdicts, made at once, and for the receiver of each SSRC,
+/// at its first packet; where it is refused nothing is returned. The values of header extensions
+/// take none, and aren't looked at.
 pub fn receive_run(
     alloc: Global,
     datagrams: &[Vec<u8>],
@@ -52,7 +52,8 @@ pub fn receive_run(
     // of other sources, and alone.
     ensures sent_among { (senders : ExtensionMap) → (headers : List RtpHeader) →
         (numbers : List ℕ) → IfOk result (λ found. OfEachSource exts.now
-        (map (λ d. d.items) datagrams.now) found.items (IsDecidedBySender senders headers numbers)) }
+        (map (λ d. d.items) datagrams.now) found.items
+        (IsDecidedBySender senders headers numbers)) }
     ensures sent { (senders : ExtensionMap) → (headers : List RtpHeader) → (numbers : List ℕ) →
         AreSent senders headers numbers (map (λ d. d.items) datagrams.now) →
         IfOk result (λ found. AreTrueVerdicts (packet_ids_of headers) numbers found.items) }

@@ -6,7 +6,8 @@ ghost use Rattle.rtp_wire.specs.Widening.{Extends, IsWithinHalf};
 use crate::header::RtpHeader;
 use rtp_base::SeqNo;
 
-// The number nearest to the previous one that ends in these low bits; with none, the low bits alone.
+// The number nearest to the previous one that ends in these low bits; with none, the low bits
+// alone.
 fn widened(previous: Option<u64>, number: u64, bits: u32) -> u64
     requires some { 0 < bits }
     requires few { bits ≤ 32 }
@@ -44,7 +45,8 @@ fn widened(previous: Option<u64>, number: u64, bits: u32) -> u64
 pub fn extend_u16(previous: Option<u64>, number: u16) -> u64
     ensures near { Extends 16 previous number result }
 
-    // No other number meets `near`, and one that ends in these bits and is less than 32,768 away does.
+    // No other number meets `near`, and one that ends in these bits and is less than 32,768 away
+    // does.
     ensures only { (n : ℕ) → Extends 16 previous number n → result ≡ n }
     ensures close { (n : ℕ) → IsWithinHalf 16 previous number n → result ≡ n }
 {

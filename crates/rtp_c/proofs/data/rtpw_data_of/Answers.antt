@@ -3,6 +3,7 @@ use Rattle.rtp_c.specs.ElementData.{IsAskedFor}
 use Rattle.rtp_c.specs.Status.{ok, short_buffer, bad_field, none}
 use Rattle.rtp_c.proofs.ElementDataLemmas.{IsAskedFor-found, HasNoData-own, HasNoData-kind, AreTooLongData-short, AreWrittenData-written}
 use Rattle.rtp_c.proofs.data.rtpw_data_of.Goals as goal
+use Rattle.rtp_c.proofs.data.rtpw_data_of.Goals.{In_default-kind_numbered, In-Some-kind_numbered}
 
 pub returns-in_default-clause-bad_field : goal.returns-in_default-clause-bad_field
 returns-in_default-clause-bad_field c = (λ _ kind values asked. c.in_default.ensures.none values asked.are_given, λ _. refl)
@@ -16,57 +17,47 @@ short_is_not same = cc
 ok_is_not : ok ≡ bad_field → ⊥
 ok_is_not same = cc
 
-own_asked : (c : goal.Joined-given-2) → IsAskedFor c.args.kind c.args.values.now None c.put_given_values.new.values
+own_asked : (c : In_default-kind_numbered) → IsAskedFor c.args.kind c.args.values.now None c.put_given_values.new.values
 own_asked c =
     IsAskedFor-found c.args.kind c.args.values.now None c.put_given_values.new.values (c.is_named.ensures.0 c.if-not-is_named.false)
     (sym c.in_default-kind_numbered.is ∙ c.kind_numbered.ensures) c.in-Some.ensures.found
 
 pub returns-in_default-kind_numbered-clause-none : goal.returns-in_default-kind_numbered-clause-none
-returns-in_default-kind_numbered-clause-none c _ = HasNoData-own c.args.kind c.args.values.now c.put_given_values.new.values (own_asked c)
+returns-in_default-kind_numbered-clause-none c _ = HasNoData-own c.args.kind c.args.values.now c.put_given_values.new.values (own_asked (goal.at.returns-in_default-kind_numbered-clause-none c).In_default-kind_numbered)
 
 pub returns-in_default-kind_numbered-clause-bad_field : goal.returns-in_default-kind_numbered-clause-bad_field
 returns-in_default-kind_numbered-clause-bad_field c =
-    (λ is. absurd (none_is_not is), λ nothing. absurd (nothing None c.put_given_values.new.values (own_asked c)))
+    (λ is. absurd (none_is_not is), λ nothing. absurd (nothing None c.put_given_values.new.values (own_asked (goal.at.returns-in_default-kind_numbered-clause-bad_field c).In_default-kind_numbered)))
 
-no_data_asked : (c : goal.Joined-given-3) → IsAskedFor c.args.kind c.args.values.now (Some c.in-Some-kind_numbered.kind) c.put_given_values.new.values
-no_data_asked c =
+kind_asked : (c : In-Some-kind_numbered) → IsAskedFor c.args.kind c.args.values.now (Some c.in-Some-kind_numbered.kind) c.put_given_values.new.values
+kind_asked c =
     IsAskedFor-found c.args.kind c.args.values.now (Some c.in-Some-kind_numbered.kind) c.put_given_values.new.values (c.is_named.ensures.0 c.if-not-is_named.false)
     (sym c.in-Some-kind_numbered.is ∙ c.kind_numbered.ensures) c.in-Some.ensures.found
 
 pub returns-in_default-data_len-clause-none : goal.returns-in_default-data_len-clause-none
 returns-in_default-data_len-clause-none c _ =
-    HasNoData-kind c.args.kind c.args.values.now c.in-Some-kind_numbered.kind c.put_given_values.new.values (no_data_asked c)
+    HasNoData-kind c.args.kind c.args.values.now c.in-Some-kind_numbered.kind c.put_given_values.new.values (kind_asked (goal.at.returns-in_default-data_len-clause-none c).In-Some-kind_numbered)
     (sym c.in_default-data_len.is ∙ c.data_len.ensures.length)
 
 pub returns-in_default-data_len-clause-bad_field : goal.returns-in_default-data_len-clause-bad_field
 returns-in_default-data_len-clause-bad_field c =
-    (λ is. absurd (none_is_not is), λ nothing. absurd (nothing (Some c.in-Some-kind_numbered.kind) c.put_given_values.new.values (no_data_asked c)))
-
-short_asked : (c : goal.Joined-given-4) → IsAskedFor c.args.kind c.args.values.now (Some c.in-Some-kind_numbered.kind) c.put_given_values.new.values
-short_asked c =
-    IsAskedFor-found c.args.kind c.args.values.now (Some c.in-Some-kind_numbered.kind) c.put_given_values.new.values (c.is_named.ensures.0 c.if-not-is_named.false)
-    (sym c.in-Some-kind_numbered.is ∙ c.kind_numbered.ensures) c.in-Some.ensures.found
+    (λ is. absurd (none_is_not is), λ nothing. absurd (nothing (Some c.in-Some-kind_numbered.kind) c.put_given_values.new.values (kind_asked (goal.at.returns-in_default-data_len-clause-bad_field c).In-Some-kind_numbered)))
 
 pub returns-then-buf-data_len-clause-short : goal.returns-then-buf-data_len-clause-short
 returns-then-buf-data_len-clause-short c _ =
-    AreTooLongData-short c.args.kind c.args.values.now c.in-Some-kind_numbered.kind c.put_given_values.new.values (short_asked c)
+    AreTooLongData-short c.args.kind c.args.values.now c.in-Some-kind_numbered.kind c.put_given_values.new.values (kind_asked (goal.at.returns-then-buf-data_len-clause-short c).In-Some-kind_numbered)
     c.in-Some-data_len.data_len (sym c.in-Some-data_len.is ∙ c.data_len.ensures.length) (length c.args.buf.now) c.if-buf-data_len.true
 
 pub returns-then-buf-data_len-clause-bad_field : goal.returns-then-buf-data_len-clause-bad_field
 returns-then-buf-data_len-clause-bad_field c =
-    (λ is. absurd (short_is_not is), λ nothing. absurd (nothing (Some c.in-Some-kind_numbered.kind) c.put_given_values.new.values (short_asked c)))
-
-written_asked : (c : goal.Joined-given-5) → IsAskedFor c.args.kind c.args.values.now (Some c.in-Some-kind_numbered.kind) c.put_given_values.new.values
-written_asked c =
-    IsAskedFor-found c.args.kind c.args.values.now (Some c.in-Some-kind_numbered.kind) c.put_given_values.new.values (c.is_named.ensures.0 c.if-not-is_named.false)
-    (sym c.in-Some-kind_numbered.is ∙ c.kind_numbered.ensures) c.in-Some.ensures.found
+    (λ is. absurd (short_is_not is), λ nothing. absurd (nothing (Some c.in-Some-kind_numbered.kind) c.put_given_values.new.values (kind_asked (goal.at.returns-then-buf-data_len-clause-bad_field c).In-Some-kind_numbered)))
 
 pub returns-clause-written : goal.returns-clause-written
 returns-clause-written c _ =
-    AreWrittenData-written c.args.kind c.args.values.now c.in-Some-kind_numbered.kind c.put_given_values.new.values (written_asked c)
+    AreWrittenData-written c.args.kind c.args.values.now c.in-Some-kind_numbered.kind c.put_given_values.new.values (kind_asked (goal.at.returns-clause-written c).In-Some-kind_numbered)
     c.in-Some-data_len.data_len (sym c.in-Some-data_len.is ∙ c.data_len.ensures.length) c.args.buf.now c.write_to.new.buf
     c.write_to.ensures.read_back c.write_to.ensures.written
 
 pub returns-clause-bad_field : goal.returns-clause-bad_field
 returns-clause-bad_field c =
-    (λ is. absurd (ok_is_not is), λ nothing. absurd (nothing (Some c.in-Some-kind_numbered.kind) c.put_given_values.new.values (written_asked c)))
+    (λ is. absurd (ok_is_not is), λ nothing. absurd (nothing (Some c.in-Some-kind_numbered.kind) c.put_given_values.new.values (kind_asked (goal.at.returns-clause-bad_field c).In-Some-kind_numbered)))

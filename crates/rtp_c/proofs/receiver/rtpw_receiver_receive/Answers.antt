@@ -1,22 +1,17 @@
-use Rattle.rtp_c.proofs.JudgingLemmas.{IsJudgedAs-passed_on}
+use Rattle.std.proofs.Common.{◌+◌, arith, ◌∙◌}
+use Rattle.rtp_c.proofs.JudgingLemmas.{IsJudgedAs-passed_on, IsJudgedBy-passed_on, next_number}
 use Rattle.rtp_c.proofs.receiver.rtpw_receiver_receive.Goals as goal
 
-pub returns-then-extended-receiver-clause-judged : goal.returns-then-extended-receiver-clause-judged
-returns-then-extended-receiver-clause-judged c count taken holds =
-    let number = c.rtpw_receiver_number_of-extended.result in
+pub returns-then-highest-from-clause-judged : goal.returns-then-highest-from-clause-judged
+returns-then-highest-from-clause-judged c count taken holds =
+    let next = c.args.receiver.now.highest + 1 in
     record {
-      number = number;
-      is_number = c.rtpw_receiver_number_of-extended.ensures.nearest count taken holds;
-      judged = IsJudgedAs-passed_on count taken number c.take.result c.take.new.written c.take.new.receiver (c.take.ensures.judged count taken holds);
+      number = next;
+      is_number = next_number c.args.receiver.now count taken c.args.sequence_number holds c.if-receiver-eq1.true (let few = c.if-highest-lt18446744073709551615.true in omega arith)
+          (let low = c.ranges.sequence_number in omega arith) (c.if-highest-from.true ∙ c.from.ensures);
+      judged = IsJudgedAs-passed_on count taken next c.take.result c.take.new.written c.take.new.receiver (c.take.ensures.judged count taken holds);
     }
 
-pub returns-else-extended-receiver-clause-judged : goal.returns-else-extended-receiver-clause-judged
-returns-else-extended-receiver-clause-judged c count taken holds =
-    let number = c.rtpw_receiver_number_of-extended.result in
-    record {
-      number = number;
-      is_number = c.rtpw_receiver_number_of-extended.ensures.nearest count taken holds;
-      judged =
-          IsJudgedAs-passed_on count taken number c.take_below_highest.result c.take_below_highest.new.written c.take_below_highest.new.receiver
-          (c.take_below_highest.ensures.judged count taken holds);
-    }
+pub returns-clause-judged : goal.returns-clause-judged
+returns-clause-judged c count taken holds =
+    IsJudgedBy-passed_on count taken c.args.sequence_number c.receive_any.result c.receive_any.new.number c.receive_any.new.receiver (c.receive_any.ensures.judged count taken holds)

@@ -1,28 +1,46 @@
-use Rattle.std.proofs.Common.{ℕ, refl, sym, ◌∙◌, subst, inl, inr}
+use Rattle.std.proofs.Common.{◌≡◌, ℕ, Bool, true, cond, refl, sym, ap, ◌∙◌, subst, inl, inr, arith}
 use Rattle.std.proofs.lemmas.Bool.{false≢true}
-use Rattle.rtp_base.specs.Window.{including}
-use Rattle.rtp_wire.specs.Receiver.{IsFresh}
-use Rattle.rtp_c.specs.StoredReceiver.{HoldsNumbers}
-use Rattle.rtp_c.proofs.StoredLemmas.{IsStarted-held, MovesBelowZero-stored}
+use Rattle.rtp_base.specs.Window.{Numbers, including}
+use Rattle.rtp_wire.specs.declared.receive.receiver.ReceiverState.{ReceiverState}
+use Rattle.rtp_wire.specs.Receiver.{Holds, IsFresh}
+use Rattle.rtp_c.specs.StoredReceiver.{HoldsNumbers, bit_of}
+use Rattle.rtp_c.proofs.StoredLemmas.{started-refused, IsStarted-held, MovesBelowZero-stored}
 use Rattle.rtp_c.proofs.receiver.take.Goals as goal
 
-pub returns-then-not-accepts-clause-judged : goal.returns-then-not-accepts-clause-judged
-returns-then-not-accepts-clause-judged c count taken holds =
-    let accepts = c.accepts.ensures count taken (c.receiver_of-changed.ensures.held count taken holds) in
-    inr (refl, λ fresh. absurd (false≢true (sym c.if-not-accepts.true ∙ accepts.1 (subst (λ (n : ℕ). IsFresh taken n) (sym c.from-seq_no.ensures) fresh))))
+-- what is taken once the number is
+taken_now : (takes : Bool) (state : ReceiverState) (count : ℕ) (taken : Numbers) (number : ℕ) → takes ≡ true → Holds state count (cond takes (including taken number) taken)
+    → Holds state count (including taken number)
+taken_now takes state count taken number is holds = subst (λ (b : Bool). Holds state count (cond b (including taken number) taken)) is holds
+
+pub returns-then-not-take-clause-judged : goal.returns-then-not-take-clause-judged
+returns-then-not-take-clause-judged c count taken holds =
+    let accepts = c.take.ensures.accepts count taken (c.receiver_of-changed.ensures.held count taken holds) in
+    inr (refl, λ fresh. absurd (false≢true (sym c.if-not-take.true ∙ accepts.1 (subst (λ (n : ℕ). IsFresh taken n) (sym c.from-seq_no.ensures) fresh))))
+
+-- a receiver that refuses a number has started
+pub returns-then-not-take-clause-below_zero : goal.returns-then-not-take-clause-below_zero
+returns-then-not-take-clause-below_zero c =
+    let some = c.receiver_of-changed.ensures.some in
+    let started =
+    started-refused c.args.receiver.now some.0 some.1 c.from-seq_no.result (c.receiver_of-changed.ensures.only some.0 some.1 some.2)
+    (λ fresh. false≢true (sym c.if-not-take.true ∙ (c.take.ensures.accepts some.0 some.1 some.2).1 fresh)) in
+    record {
+      first = λ empty. absurd (omega (arith, started, empty));
+      later = λ _ index past below. ap (λ (k : ℕ). bit_of c.args.receiver.now k) (omega arith);
+    }
 
 pub returns-clause-judged : goal.returns-clause-judged
 returns-clause-judged c count taken holds =
     let held = c.receiver_of-changed.ensures.held count taken holds in
-    let accepts = c.accepts.ensures count taken held in
+    let accepts = c.take.ensures.accepts count taken held in
     inl (
       refl,
       record {
-        fresh = subst (λ (n : ℕ). IsFresh taken n) c.from-seq_no.ensures (accepts.0 c.if-not-accepts.false);
+        fresh = subst (λ (n : ℕ). IsFresh taken n) c.from-seq_no.ensures (accepts.0 c.if-not-take.false);
         written_is = refl;
         recorded = subst (λ (n : ℕ). HoldsNumbers c.store.new.stored count (including taken n)) c.from-seq_no.ensures
-            (c.store.ensures.held count (including taken c.from-seq_no.result) (c.record.ensures.recorded count taken held));
-        started = IsStarted-held c.record.new.self c.store.new.stored count taken c.from-seq_no.result (c.record.ensures.recorded count taken held) c.store.ensures.window;
+            (c.store.ensures.held count (including taken c.from-seq_no.result) (taken_now c.take.result c.take.new.self count taken c.from-seq_no.result c.if-not-take.false (c.take.ensures.taken count taken held)));
+        started = IsStarted-held c.take.new.self c.store.new.stored count taken c.from-seq_no.result (taken_now c.take.result c.take.new.self count taken c.from-seq_no.result c.if-not-take.false (c.take.ensures.taken count taken held)) c.store.ensures.window;
       },
     )
 
@@ -30,5 +48,5 @@ pub returns-clause-below_zero : goal.returns-clause-below_zero
 returns-clause-below_zero c =
     let was = c.receiver_of-changed.ensures in
     let some = was.some in
-    MovesBelowZero-stored c.args.receiver.now c.store.new.stored c.receiver_of-changed.result c.record.new.self some.0 some.1 c.from-seq_no.result some.2
-    (c.record.ensures.recorded some.0 some.1 some.2) c.record.ensures.below_zero c.store.ensures.window was.start was.window
+    MovesBelowZero-stored c.args.receiver.now c.store.new.stored c.receiver_of-changed.result c.take.new.self some.0 some.1 c.from-seq_no.result some.2
+    (taken_now c.take.result c.take.new.self some.0 some.1 c.from-seq_no.result c.if-not-take.false (c.take.ensures.taken some.0 some.1 some.2)) c.take.ensures.below_zero c.store.ensures.window was.start was.window

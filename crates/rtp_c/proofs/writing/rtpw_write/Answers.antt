@@ -1,7 +1,8 @@
 use Rattle.std.proofs.Common.{refl, length}
+use Rattle.rtp_c.specs.Given.{IsGivenHeader}
 use Rattle.rtp_c.specs.StoredMap.{numbered_slots}
 use Rattle.rtp_c.proofs.NumberedLemmas.{HasKinds-numbered}
-use Rattle.rtp_c.proofs.WrittenHeaderLemmas.{IsTooLong-refused}
+use Rattle.rtp_c.proofs.WrittenHeaderLemmas.{IsTooLong-refused, type_fits, few_sources}
 use Rattle.rtp_c.proofs.writing.rtpw_write.Goals as goal
 
 pub returns-clause-written : goal.returns-clause-written
@@ -16,6 +17,8 @@ returns-clause-written c is_ok = record {
 
 pub returns-in_default-try_write_to-clause-short : goal.returns-in_default-try_write_to-clause-short
 returns-in_default-try_write_to-clause-short c is_short =
-    IsTooLong-refused c.args.map.now.kind c.args.header.now (numbered_slots c.args.map.now.kind) c.put_given_header.new.header (length c.args.buf.now)
+    let fields = c.in-Some.ensures.found.fields in
+    IsTooLong-refused c.args.map.now.kind (IsGivenHeader c.args.header.now) (numbered_slots c.args.map.now.kind) c.put_given_header.new.header (length c.args.buf.now)
     (record { has_kinds = HasKinds-numbered c.args.map.now.kind; is_given = c.in-Some.ensures.found })
+    (type_fits c.args.header.now c.put_given_header.new.header fields) (few_sources c.args.header.now c.put_given_header.new.header fields)
     (c.in_default-try_write_to.ensures.refused.0 refl)

@@ -37,17 +37,17 @@ returns-in-Some-write_with-clause-bad_field c = (
       (λ none. true≢false (c.in-Some-write_with.ensures.refused.1 (no_block none))))),
 )
 
-pub returns-clause-short : goal.returns-clause-short
-returns-clause-short c = (
-  λ _. IsTooLongWith-named c.args.allowed c.args.header.now c.args.bytes.now c.args.elements.now _ c.put_given_fields.new.header (given (goal.at.returns-clause-short c).In-Some-new)
+pub returns-in-Some-for_elements-clause-short : goal.returns-in-Some-for_elements-clause-short
+returns-in-Some-for_elements-clause-short c = (
+  λ _. IsTooLongWith-named c.args.allowed c.args.header.now c.args.bytes.now c.args.elements.now _ c.put_given_fields.new.header (given (goal.at.returns-in-Some-for_elements-clause-short c).In-Some-new)
       (length c.args.buf.now) (λ none. true≢false (c.in-Some-for_elements.ensures.refused.1 none)) (c.in_default-write_with.ensures.refused.0 refl),
   λ _. refl,
 )
 
-pub returns-clause-bad_field : goal.returns-clause-bad_field
-returns-clause-bad_field c = (
+pub returns-in-Some-for_elements-clause-bad_field : goal.returns-in-Some-for_elements-clause-bad_field
+returns-in-Some-for_elements-clause-bad_field c = (
   λ is. search rules,
   λ none. absurd (none c.put_given_fields.new.header
-      (CanBeWrittenWith-named c.args.allowed c.args.header.now c.args.bytes.now c.args.elements.now _ c.put_given_fields.new.header (given (goal.at.returns-clause-bad_field c).In-Some-new)
+      (CanBeWrittenWith-named c.args.allowed c.args.header.now c.args.bytes.now c.args.elements.now _ c.put_given_fields.new.header (given (goal.at.returns-in-Some-for_elements-clause-bad_field c).In-Some-new)
       (λ none. true≢false (c.in-Some-for_elements.ensures.refused.1 none)))),
 )

@@ -11,10 +11,10 @@ pub loop-kind-preserved : goal.loop-kind-preserved
 loop-kind-preserved g c =
     let id = c.in-Some.field-0-0 in
     let more = g.K.Kinds.left c.args.kinds.now c.next.new.cursor in
-    let data_is = spelled_data (extension_of_kind c.in-Some.kind) c.args.ev.now in
-    let split = ap length (ap (items_bytes c.args.form c.args.ev.now) c.in-Some.ensures.some
-    ∙ items_bytes-cons c.args.form c.args.ev.now (id, (extension_of_kind c.in-Some.kind)) more) in
-    let long = length-append (element_or_nothing c.args.form id data_is) (items_bytes c.args.form c.args.ev.now more) in (
+    let data_is = spelled_data (extension_of_kind c.in-Some.kind) (g.V.ElementValues.values c.args.ev.now) in
+    let split = ap length (ap (items_bytes c.args.form (g.V.ElementValues.values c.args.ev.now)) c.in-Some.ensures.some
+    ∙ items_bytes-cons c.args.form (g.V.ElementValues.values c.args.ev.now) (id, (extension_of_kind c.in-Some.kind)) more) in
+    let long = length-append (element_or_nothing c.args.form id data_is) (items_bytes c.args.form (g.V.ElementValues.values c.args.ev.now) more) in (
       omega (arith, c.loop-kind.invariant.0, split, long, c.element_len-len.ensures.length id),
       omega (arith, ap length c.in-Some.ensures.some, c.loop-kind.invariant.1, c.element_len-len.ensures.few),
       c.loop-kind.invariant.2,
@@ -22,8 +22,8 @@ loop-kind-preserved g c =
 
 pub returns-clause-length : goal.returns-clause-length
 returns-clause-length g c =
-    let none = ap length (ap (items_bytes c.args.form c.args.ev.now) c.in_default.ensures.none ∙ items_bytes-nil c.args.form c.args.ev.now) in
-    let whole = ap length (known_bytes c.args.form (g.K.Kinds.slots c.args.kinds.now) (g.K.Kinds.known c.args.kinds.now) c.args.ev.now (g.met.K.Kinds.known_is c.args.kinds.now)) in
+    let none = ap length (ap (items_bytes c.args.form (g.V.ElementValues.values c.args.ev.now)) c.in_default.ensures.none ∙ items_bytes-nil c.args.form (g.V.ElementValues.values c.args.ev.now)) in
+    let whole = ap length (known_bytes c.args.form (g.K.Kinds.slots c.args.kinds.now) (g.K.Kinds.known c.args.kinds.now) (g.V.ElementValues.values c.args.ev.now) (g.met.K.Kinds.known_is c.args.kinds.now)) in
     omega (arith, c.loop-kind.invariant.0, none, whole)
 
 pub returns-clause-by_map : goal.returns-clause-by_map

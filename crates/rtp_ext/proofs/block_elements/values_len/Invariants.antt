@@ -6,7 +6,7 @@ use Rattle.rtp_ext.proofs.block_elements.values_len.Given as goal
 -- the elements so far are counted, and those that are left stay within the bounds
 abbrev pub invariant-loop-kind : goal.invariant-loop-kind
 invariant-loop-kind g l =
-    (l.len + length (items_bytes l.form l.ev (g.K.Kinds.left l.kinds l.cursor)) ≡ length (items_bytes l.form l.ev (items_from 0 (g.K.Kinds.known l.kinds))))
+    (l.len + length (items_bytes l.form (g.V.ElementValues.values l.ev) (g.K.Kinds.left l.kinds l.cursor)) ≡ length (items_bytes l.form (g.V.ElementValues.values l.ev) (items_from 0 (g.K.Kinds.known l.kinds))))
     × (l.len + 257 * length (g.K.Kinds.left l.kinds l.cursor) ≤ 257 * mapped_count (g.K.Kinds.known l.kinds))
     × (mapped_count (g.K.Kinds.known l.kinds) ≤ 255)
 

@@ -12,69 +12,69 @@ use Rattle.rtp_ext.proofs.WrittenBlockLemmas.{HasNone, HasNone-from_none, none-w
 use Rattle.rtp_ext.proofs.block_elements.write_element.Goals as goal
 
 -- there are no data
-without_room : (c : goal.Then-start-buf) → HasNone c.args.form c.args.ev.now c.args.buf.now c.args.at (c.args.id, (extension_of_kind c.args.kind))
-without_room c =
-    HasNone-from_none _ _ _ _ _ _ (none-without_room c.args.form c.args.id (spelled_data (extension_of_kind c.args.kind) c.args.ev.now) c.header_len.result
+without_room : (g : _) (c : goal.Then-start-buf g) → HasNone c.args.form (g.V.ElementValues.values c.args.ev.now) c.args.buf.now c.args.at (c.args.id, (extension_of_kind c.args.kind))
+without_room g c =
+    HasNone-from_none _ _ _ _ _ _ (none-without_room c.args.form c.args.id (spelled_data (extension_of_kind c.args.kind) (g.V.ElementValues.values c.args.ev.now)) c.header_len.result
     (length c.args.buf.now - c.args.at) c.header_len.ensures (omega (arith, c.requires.room)) (omega (arith, c.requires.room, c.if-start-buf.true)))
 
 pub returns-then-start-buf-clause-written : goal.returns-then-start-buf-clause-written
-returns-then-start-buf-clause-written c = (without_room c).written
+returns-then-start-buf-clause-written g c = (without_room g c).written
 
 pub returns-then-start-buf-clause-end : goal.returns-then-start-buf-clause-end
-returns-then-start-buf-clause-end c = (without_room c).end
+returns-then-start-buf-clause-end g c = (without_room g c).end
 
 pub returns-then-start-buf-clause-carried : goal.returns-then-start-buf-clause-carried
-returns-then-start-buf-clause-carried c = (without_room c).carried
+returns-then-start-buf-clause-carried g c = (without_room g c).carried
 
-pub write_to-requires : goal.write_to-requires
-write_to-requires c = record {
+pub write_data-requires : goal.write_data-requires
+write_data-requires g c = record {
   room = λ short bytes is.
       let start = c.args.at + c.header_len.result in
-      let room = room-for_data c.args.form c.args.id (spelled_data (extension_of_kind c.args.kind) c.args.ev.now) c.header_len.result
+      let room = room-for_data c.args.form c.args.id (spelled_data (extension_of_kind c.args.kind) (g.V.ElementValues.values c.args.ev.now)) c.header_len.result
       (length c.args.buf.now - c.args.at) c.header_len.ensures (omega (arith, c.requires.room)) (omega (arith, c.if-start-buf.false)) in
       let long = rw is at room in
       rw (take_rest c.args.buf.now start) (omega (arith, length-drop start c.args.buf.now, long, c.if-start-buf.false));
 }
 
 pub returns-in_default-clause-written : goal.returns-in_default-clause-written
-returns-in_default-clause-written c =
+returns-in_default-clause-written g c =
     let start = c.args.at + c.header_len.result in
-    let none = none-from_map (spelled_data (extension_of_kind c.args.kind) c.args.ev.now) (sym c.in_default.is ∙ c.write_to.ensures.length) in
-    let back = HasNone-from_none c.args.form c.args.ev.now c.args.buf.now c.args.at c.args.id (extension_of_kind c.args.kind) none in
-    let data_put = overwritten-rest c.args.buf.now c.write_to.new.buf (unwrap_or (spelled_data (extension_of_kind c.args.kind) c.args.ev.now) [])
+    let none = none-from_map (spelled_data (extension_of_kind c.args.kind) (g.V.ElementValues.values c.args.ev.now)) (sym c.in_default.is ∙ c.write_data.ensures.length) in
+    let back = HasNone-from_none c.args.form (g.V.ElementValues.values c.args.ev.now) c.args.buf.now c.args.at c.args.id (extension_of_kind c.args.kind) none in
+    let data_put = overwritten-rest c.args.buf.now c.write_data.new.buf (unwrap_or (spelled_data (extension_of_kind c.args.kind) (g.V.ElementValues.values c.args.ev.now)) [])
     start (omega (
       arith,
-      room-for_data c.args.form c.args.id (spelled_data (extension_of_kind c.args.kind) c.args.ev.now) c.header_len.result
+      room-for_data c.args.form c.args.id (spelled_data (extension_of_kind c.args.kind) (g.V.ElementValues.values c.args.ev.now)) c.header_len.result
           (length c.args.buf.now - c.args.at) c.header_len.ensures (omega (arith, c.requires.room)) (omega (arith, c.if-start-buf.false)),
-    )) c.write_to.ensures.written in
+    )) c.write_data.ensures.written in
     data_put ∙ (ap (λ bytes. overwritten c.args.buf.now start (unwrap_or bytes [])) none
     ∙ (overwritten-nil c.args.buf.now start ∙ back.written))
 
 -- the data are put after the header, and it in front of them
-element_put : (c : goal.After-slice_known-3-1) →
-    (c.write_header.new.buf ≡ overwritten c.args.buf.now c.args.at (element_or_nothing c.args.form c.args.id (spelled_data (extension_of_kind c.args.kind) c.args.ev.now)))
-    × (c.args.at + c.header_len.result + c.in-Some.len ≡ c.args.at + length (element_or_nothing c.args.form c.args.id (spelled_data (extension_of_kind c.args.kind) c.args.ev.now)))
-element_put c =
-    let bytes = spelled_data (extension_of_kind c.args.kind) c.args.ev.now in
+element_put : (g : _) (c : goal.After-slice_known-3-1 g) →
+    (c.write_header.new.buf ≡ overwritten c.args.buf.now c.args.at (element_or_nothing c.args.form c.args.id (spelled_data (extension_of_kind c.args.kind) (g.V.ElementValues.values c.args.ev.now))))
+    × (c.args.at + c.header_len.result + c.in-Some.len ≡ c.args.at + length (element_or_nothing c.args.form c.args.id (spelled_data (extension_of_kind c.args.kind) (g.V.ElementValues.values c.args.ev.now))))
+element_put g c =
+    let bytes = spelled_data (extension_of_kind c.args.kind) (g.V.ElementValues.values c.args.ev.now) in
     let start = c.args.at + c.header_len.result in
     let room : c.header_len.result + length (unwrap_or bytes []) ≤ length c.args.buf.now - c.args.at =
     room-for_data c.args.form c.args.id bytes c.header_len.result
     (length c.args.buf.now - c.args.at) c.header_len.ensures (omega (arith, c.requires.room)) (omega (arith, c.if-start-buf.false)) in
     element_or_nothing-put c.args.form c.args.id c.in-Some.len c.args.at start c.args.buf.now _ c.write_header.new.buf bytes
-    (sym c.in-Some.is ∙ c.write_to.ensures.length) (ap (λ (h : ℕ). c.args.at + h) (c.header_len.ensures c.args.id c.in-Some.len)) c.requires.room
-    (overwritten-rest c.args.buf.now c.write_to.new.buf (unwrap_or bytes []) start (omega (arith, room, c.if-start-buf.false)) c.write_to.ensures.written)
+    (sym c.in-Some.is ∙ c.write_data.ensures.length) (ap (λ (h : ℕ). c.args.at + h) (c.header_len.ensures c.args.id c.in-Some.len)) c.requires.room
+    (overwritten-rest c.args.buf.now c.write_data.new.buf (unwrap_or bytes []) start (omega (arith, room, c.if-start-buf.false)) c.write_data.ensures.written)
     c.write_header.ensures
 
 pub returns-clause-written : goal.returns-clause-written
-returns-clause-written c = (element_put c).0
+returns-clause-written g c = (element_put g c).0
 
 pub returns-clause-end : goal.returns-clause-end
-returns-clause-end c = (element_put c).1
+returns-clause-end g c = (element_put g c).1
 
 pub returns-clause-carried : goal.returns-clause-carried
-returns-clause-carried c =
-    IsCarried-from c.args.form c.args.ev.now c.args.id (extension_of_kind c.args.kind) (spelled_data (extension_of_kind c.args.kind) c.args.ev.now) refl
-    c.requires.id (omega arith) c.requires.fits c.write_to.ensures.read_back c.write_to.ensures.few
+returns-clause-carried g c =
+    IsCarried-from c.args.form (g.V.ElementValues.values c.args.ev.now) c.args.id (extension_of_kind c.args.kind) (spelled_data (extension_of_kind c.args.kind) (g.V.ElementValues.values c.args.ev.now)) refl
+    c.requires.id (omega arith) c.requires.fits c.write_data.ensures.read_back c.write_data.ensures.few
 
 -- a header has at most two bytes
 few : (form : ExtensionsForm) (header : ℕ) → ((id len : ℕ) → header ≡ length (element_header form id len)) → header ≤ 2
@@ -82,4 +82,4 @@ few OneByte header is = omega (arith, is 0 0)
 few TwoByte header is = omega (arith, is 0 0)
 
 pub overflow_add-start : goal.overflow_add-start
-overflow_add-start c = omega (arith, few c.args.form c.header_len.result c.header_len.ensures, c.requires.room)
+overflow_add-start g c = omega (arith, few c.args.form c.header_len.result c.header_len.ensures, c.requires.room)

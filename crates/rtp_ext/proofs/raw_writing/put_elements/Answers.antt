@@ -4,21 +4,14 @@ use Rattle.rtp_ext.specs.Elements.{Element, elements_bytes}
 use Rattle.rtp_ext.proofs.RawWritingLemmas.{left-more, AreUnderWay-room, AreUnderWay-step, AreUnderWay-end, AreWritableIn-read}
 use Rattle.rtp_ext.proofs.raw_writing.put_elements.Goals as goal
 
-pub put_element-at-requires-clause-room : goal.put_element-at-requires-clause-room
-put_element-at-requires-clause-room g c =
+pub put_element-at-requires : goal.put_element-at-requires
+put_element-at-requires g c =
     let elements = g.L.ElementList.elements c.args.elements in
     let i = c.loop-index.index in
     let element : Element = (c.at-id.result.0, c.at-id.result.1.now) in
-    (AreUnderWay-room c.args.form c.args.buf.now c.loop-index.buf elements _ (drop (i + 1) elements) element c.loop-index.at
-    c.loop-index.invariant (left-more elements i element c.at-id.ensures)).0
-
-pub put_element-at-requires-clause-writable : goal.put_element-at-requires-clause-writable
-put_element-at-requires-clause-writable g c =
-    let elements = g.L.ElementList.elements c.args.elements in
-    let i = c.loop-index.index in
-    let element : Element = (c.at-id.result.0, c.at-id.result.1.now) in
-    (AreUnderWay-room c.args.form c.args.buf.now c.loop-index.buf elements _ (drop (i + 1) elements) element c.loop-index.at
-    c.loop-index.invariant (left-more elements i element c.at-id.ensures)).1
+    let fits = AreUnderWay-room c.args.form c.args.buf.now c.loop-index.buf elements _ (drop (i + 1) elements) element c.loop-index.at
+    c.loop-index.invariant (left-more elements i element c.at-id.ensures) in
+    record { room = fits.0; writable = fits.1 }
 
 pub loop-index-preserved : goal.loop-index-preserved
 loop-index-preserved g c =

@@ -15,7 +15,7 @@ one_byte TwoByte same = cc
 pub returns-then-most-room : goal.returns-then-most-room
 returns-then-most-room g c =
     let exts = g.K.Kinds.slots c.args.kinds.now in
-    let ev = c.args.ev.now in
+    let ev = (g.V.ElementValues.values c.args.ev.now) in
     let form : c.args.form ≡ OneByte = one_byte c.args.form (sym c.eq.ensures ∙ c.if-eq.true) in
     let len = length (elements_bytes c.args.form (written_elements exts ev)) in
     let same : len ≡ length (elements_bytes OneByte (written_elements exts ev)) =

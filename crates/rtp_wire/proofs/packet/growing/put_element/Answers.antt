@@ -84,6 +84,13 @@ returns-then-new_len-buf-clause-refused c =
     let size = plan-len c.args.buf.now c.args.len (c.args.id, c.args.data.now) c.args.allowed c.in_ok-plan.plan plan c.new_body_len-new_body_len.result c.if-len-buf.false (reckoned (goal.at.returns-then-new_len-buf-clause-refused c).After-new_body_len-new_body_len) in
     (λ _. (NoRoom (c.in_ok-plan.plan.block_at + 4 + c.new_body_len-new_body_len.result + (c.args.len - c.in_ok-plan.plan.payload_at)), (plan.growth, size.1, subst (λ (xs : List ℕ). length xs < c.in_ok-plan.plan.block_at + 4 + c.new_body_len-new_body_len.result + (c.args.len - c.in_ok-plan.plan.payload_at)) (same-buffer c.args.buf.now c.set.new.datagram c.args.len (OnFalse_at c.if-set.false c.set.ensures.unchanged)) c.if-new_len-buf.true)), λ _. refl)
 
+pub make_anew-requires-clause-plan : goal.make_anew-requires-clause-plan
+make_anew-requires-clause-plan c = (
+  c.args.allowed,
+  subst (λ (buf : List ℕ). IsPlan (take c.args.len buf) (c.args.id, c.args.data.now) c.args.allowed c.in_ok-plan.plan)
+      (sym (same-buffer c.args.buf.now c.set.new.datagram c.args.len (OnFalse_at c.if-set.false c.set.ensures.unchanged))) c.in_ok-plan.ensures.found,
+)
+
 made : (c : goal.After-slice_known-3-1) → MakesAnew (take c.args.len c.args.buf.now) (c.args.id, c.args.data.now) c.args.allowed c.in_ok-plan.ensures.found.growth c.args.buf.now c.make_anew.new.buf
 made c =
     let P : List ℕ → Type 0 = λ buf.

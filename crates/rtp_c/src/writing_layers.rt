@@ -1,0 +1,101 @@
+//! What C gives to be written with its layer allocation, a header, from fields, values and layers to
+//! bytes.
+
+ghost use Rattle.std.specs.Prelude.{◌≡◌, ◌≢◌, ◌↔◌, ◌≤◌, ◌⊎◌, length, Some};
+ghost use Rattle.rtp_values.specs.WithLayers.{values_with_layers};
+ghost use Rattle.rtp_wire.specs.declared.header.rtp_header.RtpHeader.{RtpHeader as Header};
+ghost use Rattle.rtp_c.specs.Status.{ok, short_buffer, bad_field};
+ghost use Rattle.rtp_c.specs.GivenLayers.{IsGivenWithLayers};
+ghost use Rattle.rtp_c.specs.WrittenHeader.{IsLengthOf, IsWrittenHeader, IsTooLong};
+
+use super::given::put_given_header;
+use super::given_layers::carried_layers;
+use super::header::HeaderView;
+use super::kinds::StoredMap;
+use super::layers::Layers;
+use super::status::{BAD_FIELD, OK, SHORT_BUFFER};
+use rtp_values::WithLayers;
+use rtp_vla::vla::VideoLayers;
+use rtp_wire::RtpHeader;
+use std::mem::ManuallyDrop;
+
+// The values of the header, with these layers as their allocation.
+fn with_layers<'a>(header: &'a RtpHeader, layers: &'a VideoLayers) -> WithLayers<'a>
+    ensures { values_with_layers result
+        ≡ record header.now.ext_vals { video_layers_allocation = Some layers.now } }
+{
+    WithLayers {
+        values: &header.ext_vals,
+        layers: Some(layers),
+    }
+}
+
+/// How many bytes [`rtpw_write_layers`] writes: a multiple of four. `OK`, and the number is written;
+/// `BAD_FIELD` for the causes of [`rtpw_write_layers`], and then nothing is written.
+#[unsafe(no_mangle)]
+pub extern "C" fn rtpw_wire_len_layers(
+    map: &StoredMap,
+    header: &HeaderView,
+    layers: &Layers,
+    len: &mut usize,
+) -> i32
+    ensures length { result ≡ ok →
+        IsLengthOf map.now.kind (IsGivenWithLayers header.now layers.now) len.new }
+    ensures bad_field { (result ≡ bad_field) ↔
+        ((h : Header) → IsGivenWithLayers header.now layers.now h → ⊥) }
+    ensures statuses { (result ≡ ok) ⊎ (result ≡ bad_field) }
+    ensures unchanged { result ≢ ok → len.new ≡ len.old }
+{
+    let mut unfreed = ManuallyDrop::new(RtpHeader::default());
+    let rtp_header = &mut *unfreed;
+    let Some(()) = put_given_header(header, rtp_header) else {
+        return BAD_FIELD;
+    };
+    let Some(layers) = carried_layers(layers) else {
+        return BAD_FIELD;
+    };
+    let given: &RtpHeader = rtp_header;
+    *len = given.values_wire_len(&with_layers(given, &layers), map);
+    OK
+}
+
+/// Writes the header as [`rtpw_write`](crate::writing::rtpw_write) does, and these layers as its layer
+/// allocation (`video-layers-allocation00`): an element for each id that the map has for it. So what
+/// `rtpw_parse_layers` read is written again. `has_layers` isn't looked at, and of the layers those
+/// that count alone.
+///
+/// The same statuses; `BAD_FIELD` also where a count of the layers is above 4, or no element can carry
+/// them: they can't be written, or take more than 255 bytes.
+#[unsafe(no_mangle)]
+pub extern "C" fn rtpw_write_layers(
+    map: &StoredMap,
+    header: &HeaderView,
+    layers: &Layers,
+    buf: &mut [u8],
+    len: &mut usize,
+) -> i32
+    ensures written { result ≡ ok → IsWrittenHeader map.now.kind
+        (IsGivenWithLayers header.now layers.now) buf.old buf.new len.new }
+    ensures within { result ≡ ok → len.new ≤ length buf.new }
+    ensures short { result ≡ short_buffer → IsTooLong map.now.kind
+        (IsGivenWithLayers header.now layers.now) (length buf.old) }
+    ensures bad_field { (result ≡ bad_field) ↔
+        ((h : Header) → IsGivenWithLayers header.now layers.now h → ⊥) }
+    ensures statuses { (result ≡ ok) ⊎ ((result ≡ short_buffer) ⊎ (result ≡ bad_field)) }
+    ensures unchanged { result ≢ ok → (buf.new ≡ buf.old) × (len.new ≡ len.old) }
+{
+    let mut unfreed = ManuallyDrop::new(RtpHeader::default());
+    let rtp_header = &mut *unfreed;
+    let Some(()) = put_given_header(header, rtp_header) else {
+        return BAD_FIELD;
+    };
+    let Some(layers) = carried_layers(layers) else {
+        return BAD_FIELD;
+    };
+    let given: &RtpHeader = rtp_header;
+    let Some(written) = given.try_write_values(buf, &with_layers(given, &layers), map) else {
+        return SHORT_BUFFER;
+    };
+    *len = written;
+    OK
+}

@@ -1,0 +1,203 @@
+-- Elements that stand in a row already, before the last one of an id and after it.
+use Rattle.std.proofs.Common.{◌≡◌, ℕ, ◌+◌, ◌-◌, ◌≤◌, Bool, true, false, not, cond, List, [], ◌∷◌, ◌++◌, length, take, drop, Option, Some, None, IfSome, IfNone, append_assoc, length-append, length-drop, length-take-le, arith, refl, sym, ap, ◌∙◌, subst}
+use Rattle.std.specs.Prelude.{slice_range}
+use Rattle.std.specs.List.{flat_map, filter_map}
+use Rattle.std.proofs.lemmas.List.{take_at, drop_at, take-append-le, drop-append-le, take-take, drop-take, take_all, drop_all, append-nil}
+use Rattle.std.proofs.lemmas.List.Elements.{filter-append}
+use Rattle.rtp_ext.specs.declared.form.ExtensionsForm.{ExtensionsForm}
+use Rattle.rtp_ext.specs.declared.place.Place.{Place}
+use Rattle.rtp_ext.specs.declared.growing.Survey.{Survey}
+use Rattle.rtp_ext.specs.Elements.{Element, AreElements, element_bytes, elements_bytes, piece_bytes}
+use Rattle.rtp_ext.specs.ElementPlaces.{LiesLast, AreWhole, IsLastOrNone}
+use Rattle.rtp_ext.specs.BodySurvey.{IsSurvey, HasRows}
+use Rattle.rtp_ext.specs.PutElement.{has_id, without}
+use Rattle.rtp_ext.proofs.PlaceLemmas.{length-element, length-header-some, length-lies}
+use Rattle.rtp_ext.proofs.PieceLemmas.{AreWhole-nil, AreWhole-append, AreWhole-element, AreElements-after}
+use Rattle.rtp_ext.proofs.LastPlaceLemmas.{AreElements-same}
+use Rattle.rtp_ext.proofs.GatheredLemmas.{elements_bytes-append, without-this}
+use Rattle.rtp_ext.proofs.AroundLemmas.{AreElements-whole, read_front, read_whole, read_within}
+
+-- ---- pieces that are as long as their elements of other ids
+
+some_bytes : (form : ExtensionsForm) (element : Element) → 1 ≤ length (element_bytes form element)
+some_bytes form element = let h = length-header-some form element.0 (length element.1) in omega (arith, length-element form element.0 element.1)
+
+-- the elements of other ids of these pieces, in a row
+row_of : ExtensionsForm → ℕ → List (Option Element) → List ℕ
+row_of form id pieces = elements_bytes form (without id (filter_map (λ piece. piece) pieces))
+
+row_within : (form : ExtensionsForm) (id : ℕ) (pieces : List (Option Element)) → length (row_of form id pieces) ≤ length (flat_map (piece_bytes form) pieces)
+unfolding row_of
+row_within form id [] = omega arith
+row_within form id (None ∷ pieces) = let w = row_within form id pieces in omega arith
+row_within form id (Some element ∷ pieces) = by_test (has_id id element) (row_within form id pieces)
+  where
+    by_test : (b : Bool) → length (row_of form id pieces) ≤ length (flat_map (piece_bytes form) pieces)
+        → length (elements_bytes form (cond (not b) (element ∷ without id (filter_map (λ piece. piece) pieces)) (without id (filter_map (λ piece. piece) pieces))))
+        ≤ length (element_bytes form element ++ flat_map (piece_bytes form) pieces)
+    by_test true rest = omega (arith, length-append (element_bytes form element) (flat_map (piece_bytes form) pieces))
+    by_test false rest =
+        omega (
+          arith,
+          length-append (element_bytes form element) (flat_map (piece_bytes form) pieces),
+          length-append (element_bytes form element) (elements_bytes form (without id (filter_map (λ piece. piece) pieces))),
+        )
+
+row_is : (form : ExtensionsForm) (id : ℕ) (pieces : List (Option Element)) → length (flat_map (piece_bytes form) pieces) ≤ length (row_of form id pieces)
+    → flat_map (piece_bytes form) pieces ≡ row_of form id pieces
+unfolding row_of
+row_is form id [] long = refl
+row_is form id (None ∷ pieces) long = let w = row_within form id pieces in absurd (omega arith)
+row_is form id (Some element ∷ pieces) long = by_test (has_id id element) long (λ enough. row_is form id pieces enough) (row_within form id pieces)
+  where
+    by_test : (b : Bool) → length (element_bytes form element ++ flat_map (piece_bytes form) pieces)
+        ≤ length (elements_bytes form (cond (not b) (element ∷ without id (filter_map (λ piece. piece) pieces)) (without id (filter_map (λ piece. piece) pieces))))
+        → (length (flat_map (piece_bytes form) pieces) ≤ length (row_of form id pieces) → flat_map (piece_bytes form) pieces ≡ row_of form id pieces)
+        → length (row_of form id pieces) ≤ length (flat_map (piece_bytes form) pieces)
+        → element_bytes form element ++ flat_map (piece_bytes form) pieces
+        ≡ elements_bytes form (cond (not b) (element ∷ without id (filter_map (λ piece. piece) pieces)) (without id (filter_map (λ piece. piece) pieces)))
+    by_test true long others within =
+        let some = some_bytes form element in
+        absurd (omega (arith, length-append (element_bytes form element) (flat_map (piece_bytes form) pieces)))
+    by_test false long others within =
+        ap (λ b. element_bytes form element ++ b) (others (omega (
+          arith,
+          length-append (element_bytes form element) (flat_map (piece_bytes form) pieces),
+          length-append (element_bytes form element) (elements_bytes form (without id (filter_map (λ piece. piece) pieces))),
+        )))
+
+module _ (form : ExtensionsForm) (id : ℕ) (bytes : List ℕ) (elements : List Element) (whole : AreWhole form bytes elements) where
+  whole_within : length (elements_bytes form (without id elements)) ≤ length bytes
+  unfolding row_of
+  whole_within =
+      let w = row_within form id whole.pieces in
+      omega (arith, ap length whole.bytes_are, ap (λ es. length (elements_bytes form (without id es))) whole.elements_are)
+
+  whole_is : length bytes ≤ length (elements_bytes form (without id elements)) → bytes ≡ elements_bytes form (without id elements)
+  unfolding row_of
+  whole_is long =
+      whole.bytes_are
+      ∙ (row_is form id whole.pieces (omega (arith, ap length whole.bytes_are, ap (λ es. length (elements_bytes form (without id es))) whole.elements_are))
+      ∙ ap (λ es. elements_bytes form (without id es)) (sym whole.elements_are))
+
+-- ---- the bytes that were read
+
+record AreRows (form : ExtensionsForm) (id : ℕ) (bytes : List ℕ) (start end : ℕ) : Type 0 where
+  pub before : List Element
+  pub after : List Element
+  pub front_whole : AreWhole form (take start bytes) before
+  pub rest_whole : AreWhole form (drop end bytes) after
+  pub front_is : take start bytes ≡ elements_bytes form (without id before)
+  pub rest_is : drop end bytes ≡ elements_bytes form (without id after)
+  pub order : start ≤ end
+  pub within : end ≤ length bytes
+
+rows_of_none : (form : ExtensionsForm) (id : ℕ) (bytes : List ℕ) (elements : List Element) → AreWhole form bytes elements
+    → length (elements_bytes form (without id elements)) ≡ length bytes → AreRows form id bytes (length bytes) (length bytes)
+rows_of_none form id bytes elements whole row =
+    let all : take (length bytes) bytes ≡ bytes = take_all (length bytes) bytes (omega arith) in
+    let nothing : drop (length bytes) bytes ≡ [] = drop_all (length bytes) bytes (omega arith) in
+    record {
+      before = elements;
+      after = [];
+      front_whole = subst (λ b. AreWhole form b elements) (sym all) whole;
+      rest_whole = subst (λ b. AreWhole form b []) (sym nothing) (AreWhole-nil form);
+      front_is = all ∙ whole_is form id bytes elements whole (omega arith);
+      rest_is = nothing;
+      order = omega arith;
+      within = omega arith;
+    }
+
+rows_of_last : (form : ExtensionsForm) (id : ℕ) (bytes : List ℕ) (elements : List Element) (place : Place) → AreWhole form bytes elements → place.id ≡ id
+    → LiesLast form (AreWhole form) id bytes place → length (elements_bytes form (without id elements)) + (place.end - place.start) ≡ length bytes
+    → AreRows form id bytes place.start place.end
+rows_of_last form id bytes elements place whole id_is is row =
+    let element : Element = (place.id, is.lies.bytes) in
+    let here : List ℕ = element_bytes form (place.id, is.lies.bytes) in
+    let split : bytes ≡ (is.lies.front ++ here) ++ is.lies.after = is.lies.body_is ∙ sym (append_assoc is.lies.front here is.lies.after) in
+    let front : take place.start bytes ≡ is.lies.front = ap (take place.start) is.lies.body_is ∙ take_at is.lies.front (here ++ is.lies.after) place.start (sym is.lies.start_is) in
+    let here_len = length-lies form bytes place is.lies in
+    let end : length (is.lies.front ++ here) ≡ place.end = omega (arith, is.lies.start_is, length-append is.lies.front here) in
+    let rest : drop place.end bytes ≡ is.lies.after = ap (drop place.end) split ∙ drop_at (is.lies.front ++ here) is.lies.after place.end end in
+    let parts : AreWhole form bytes ((is.before ++ (place.id, is.lies.bytes) ∷ []) ++ is.after) =
+    subst (λ b. AreWhole form b ((is.before ++ (place.id, is.lies.bytes) ∷ []) ++ is.after)) (sym split)
+    (AreWhole-append form (is.lies.front ++ here) is.lies.after (is.before ++ (place.id, is.lies.bytes) ∷ []) is.after
+    (AreWhole-append form is.lies.front here is.before ((place.id, is.lies.bytes) ∷ []) is.whole (AreWhole-element form (place.id, is.lies.bytes) is.lies.is_element)) is.left) in
+    let same : elements ≡ (is.before ++ (place.id, is.lies.bytes) ∷ []) ++ is.after =
+    AreElements-same form bytes elements ((is.before ++ (place.id, is.lies.bytes) ∷ []) ++ is.after)
+    (AreElements-whole form bytes elements whole) (AreElements-whole form bytes ((is.before ++ (place.id, is.lies.bytes) ∷ []) ++ is.after) parts) in
+    let others : without id elements ≡ without id is.before ++ without id is.after =
+    ap (without id) same ∙ (filter-append (λ (e : Element). not (has_id id e)) (is.before ++ (place.id, is.lies.bytes) ∷ []) is.after
+    ∙ ap (λ es. es ++ without id is.after) (without-this id is.before (place.id, is.lies.bytes) id_is)) in
+    let long : length (elements_bytes form (without id elements)) ≡ length (elements_bytes form (without id is.before)) + length (elements_bytes form (without id is.after)) =
+    ap (λ es. length (elements_bytes form es)) others ∙ (ap length (elements_bytes-append form (without id is.before) (without id is.after))
+    ∙ length-append (elements_bytes form (without id is.before)) (elements_bytes form (without id is.after))) in
+    let total = length-append (is.lies.front ++ here) is.lies.after in
+    let few_before = whole_within form id is.lies.front is.before is.whole in
+    let few_after = whole_within form id is.lies.after is.after is.left in
+    let start_is = is.lies.start_is in
+    record {
+      before = is.before;
+      after = is.after;
+      front_whole = subst (λ b. AreWhole form b is.before) (sym front) is.whole;
+      rest_whole = subst (λ b. AreWhole form b is.after) (sym rest) is.left;
+      front_is = front ∙ whole_is form id is.lies.front is.before is.whole (omega (arith, ap length split));
+      rest_is = rest ∙ whole_is form id is.lies.after is.after is.left (omega (arith, ap length split));
+      order = omega arith;
+      within = omega (arith, ap length split);
+    }
+
+rows_read : (form : ExtensionsForm) (id : ℕ) (bytes : List ℕ) (elements : List Element) (last : Option Place) (start end : ℕ) → AreWhole form bytes elements
+    → IsLastOrNone form id bytes elements last → IfSome last (λ place. (start ≡ place.start) × (end ≡ place.end))
+    → IfNone last ((start ≡ length bytes) × (end ≡ length bytes)) → length (elements_bytes form (without id elements)) + (end - start) ≡ length bytes
+    → AreRows form id bytes start end
+rows_read form id bytes elements None start end whole is some none row =
+    let none_has : length (elements_bytes form (without id elements)) ≡ length bytes = let a = none.0 in let b = none.1 in omega arith in
+    subst (λ (s : ℕ). AreRows form id bytes s end) (sym none.0) (subst (λ (e : ℕ). AreRows form id bytes (length bytes) e) (sym none.1)
+    (rows_of_none form id bytes elements whole none_has))
+rows_read form id bytes elements (Some place) start end whole is some none row =
+    subst (λ (s : ℕ). AreRows form id bytes s end) (sym some.0) (subst (λ (e : ℕ). AreRows form id bytes place.start e) (sym some.1)
+    (rows_of_last form id bytes elements place whole is.1 is.2 (let a = some.0 in let b = some.1 in omega arith)))
+
+-- ---- a body at the front of a slice
+
+pub HasRows-already : (form : ExtensionsForm) (id : ℕ) (body : List ℕ) (body_len : ℕ) (survey : Survey) (start end : ℕ) → body_len ≤ length body
+    → IsSurvey form (take body_len body) id survey → IfSome survey.last (λ place. (start ≡ place.start) × (end ≡ place.end))
+    → IfNone survey.last ((start ≡ survey.end) × (end ≡ survey.end)) → survey.others_len + (end - start) ≡ survey.end
+    → HasRows form id body body start end body_len start (survey.end - end)
+HasRows-already form id body body_len survey start end within is some none row =
+    let read : List ℕ = is.read.passed in
+    let long : survey.end ≡ length is.read.passed = is.read.at_is in
+    let rows = rows_read form id is.read.passed is.elements survey.last start end (read_whole form (take body_len body) id survey is)
+    (subst (λ es. IsLastOrNone form id is.read.passed es survey.last) is.all_read is.read.last_is) some
+    (subst (λ (n : ℕ). IfNone survey.last ((start ≡ n) × (end ≡ n))) long none) (omega (arith, is.others_are)) in
+    let order = rows.order in
+    let end_within = rows.within in
+    let read_few = read_within form (take body_len body) id survey is in
+    let few : survey.end ≤ body_len = omega (arith, length-take-le body_len body within) in
+    let front : take start body ≡ take start is.read.passed =
+    sym (take-take start body_len body (omega arith)) ∙ (ap (take start) is.read.body_is ∙ take-append-le start is.read.passed is.read.left (omega arith)) in
+    let k : body_len ≡ end + (body_len - end) = omega arith in
+    let rest : slice_range body end body_len ≡ drop end is.read.passed ++ is.read.left =
+    sym (ap (λ (n : ℕ). drop end (take n body)) k ∙ drop-take end (body_len - end) body)
+    ∙ (ap (drop end) is.read.body_is ∙ drop-append-le end is.read.passed is.read.left end_within) in
+    let all : take survey.end body ≡ is.read.passed = sym (take-take survey.end body_len body few) ∙ read_front form (take body_len body) id survey is in
+    let m : survey.end ≡ end + (survey.end - end) = omega arith in
+    let part : slice_range body end (end + (survey.end - end)) ≡ drop end is.read.passed =
+    ap (λ (n : ℕ). take n (drop end body)) (omega arith)
+    ∙ (sym (drop-take end (survey.end - end) body) ∙ (ap (λ (n : ℕ). drop end (take n body)) (sym m) ∙ ap (drop end) all)) in
+    record {
+      before = rows.before;
+      after = rows.after;
+      are_before = subst (λ b. AreElements form b rows.before) (sym front) (AreElements-whole form (take start is.read.passed) rows.before rows.front_whole);
+      are_after = subst (λ b. AreElements form b rows.after) (sym rest)
+          (subst (AreElements form (drop end is.read.passed ++ is.read.left)) (append-nil rows.after)
+          (AreElements-after form (drop end is.read.passed) is.read.left rows.after [] rows.rest_whole is.none_left));
+      front_is = front ∙ rows.front_is;
+      after_is = part ∙ rows.rest_is;
+      front_len = omega (arith, ap length rows.front_is, length-take-le start is.read.passed (omega arith));
+      count_is = omega (arith, ap length rows.rest_is, ap length part, length-drop end is.read.passed);
+      length_is = refl;
+      front_within = omega arith;
+      after_within = omega arith;
+    }

@@ -1,0 +1,82 @@
+//! What the elements of a block are written from.
+
+ghost use Rattle.std.specs.Prelude.{◌≡◌, ◌≤◌, [], ◌++◌, drop, length, unwrap_or, IfSome};
+ghost use Rattle.std.specs.Option.{option_map};
+ghost use Rattle.rtp_values.specs.declared.kind.Extension.{Extension};
+ghost use Rattle.rtp_values.specs.KnownKind.{extension_of_kind};
+ghost use Rattle.rtp_values.specs.Values.{Reads};
+ghost use Rattle.rtp_values.specs.Spelling.{has_no_data, has_empty_text, spelled_data, carried_values, longest, HasRoom};
+
+use super::ExtensionValues;
+use crate::KnownKind;
+
+/// The values that the elements of a block are written from: [`ExtensionValues`] are such, and
+/// [`WithLayers`](super::WithLayers) are for a sender that keeps its layers without memory.
+pub trait ElementValues {
+    ghost use Rattle.rtp_values.specs.HeaderValues.{HeaderValues};
+
+    // What they are, as one value.
+    ghost values: { Self → HeaderValues };
+
+    /// Whether a mid, a stream id or a repaired stream id is there and has no characters, as
+    /// [`ExtensionValues::has_empty_text`] says.
+    fn has_empty_text(&self) -> bool
+        ensures empty { result ≡ has_empty_text (values self.now) }
+
+        // Only a layer allocation has data of more than 16 bytes.
+        ensures few { (kind : Extension) → IfSome (spelled_data kind (values self.now)) (λ bytes.
+            length bytes ≤ longest kind) };
+
+    /// Whether [`write_data`](Self::write_data) writes data of no bytes, which only a text can
+    /// have.
+    fn has_empty_data(&self, kind: KnownKind) -> bool
+        ensures { result ≡ has_no_data (spelled_data (extension_of_kind kind) (values self.now)) };
+
+    /// How many bytes [`write_data`](Self::write_data) writes, and `None` where it writes no
+    /// element.
+    fn data_len(&self, kind: KnownKind) -> Option<usize>
+        ensures length { result
+            ≡ option_map length (spelled_data (extension_of_kind kind) (values self.now)) }
+        ensures few { IfSome result (λ len. len ≤ 255) };
+
+    /// Writes the data of the kind's element to the front of the buffer, as
+    /// [`KnownKind::write_to`] does.
+    fn write_data(&self, kind: KnownKind, buf: &mut [u8]) -> Option<usize>
+        requires room { HasRoom (extension_of_kind kind) (values self.now) buf.old }
+        ensures length { result
+            ≡ option_map length (spelled_data (extension_of_kind kind) (values self.now)) }
+        ensures written { buf.new
+            ≡ unwrap_or (spelled_data (extension_of_kind kind) (values self.now)) []
+            ++ drop (length
+            (unwrap_or (spelled_data (extension_of_kind kind) (values self.now)) [])) buf.old }
+
+        // What was written is read as the value that these bytes carry.
+        ensures read_back { IfSome (spelled_data (extension_of_kind kind) (values self.now))
+            (λ bytes. Reads (extension_of_kind kind) bytes (carried_values (values self.now))) }
+        ensures few { IfSome (spelled_data (extension_of_kind kind) (values self.now))
+            (λ bytes. length bytes ≤ longest (extension_of_kind kind)) };
+}
+
+impl ElementValues for ExtensionValues {
+    ghost values = { λ values. values };
+
+    #[inline(always)]
+    fn has_empty_text(&self) -> bool {
+        ExtensionValues::has_empty_text(self)
+    }
+
+    #[inline(always)]
+    fn has_empty_data(&self, kind: KnownKind) -> bool {
+        kind.has_empty_data(self)
+    }
+
+    #[inline(always)]
+    fn data_len(&self, kind: KnownKind) -> Option<usize> {
+        kind.data_len(self)
+    }
+
+    #[inline(always)]
+    fn write_data(&self, kind: KnownKind, buf: &mut [u8]) -> Option<usize> {
+        kind.write_to(buf, self)
+    }
+}

@@ -1,0 +1,81 @@
+use Rattle.std.proofs.Common.{◌+◌, ◌≤◌, length, arith, rules, sym, ◌∙◌}
+use Rattle.rtp_wire.specs.PartsOf.{parts_of}
+use Rattle.rtp_wire.proofs.PutPlanLemmas.{short-body}
+use Rattle.rtp_wire.proofs.SetInPlaceLemmas.{body-ends}
+use Rattle.rtp_wire.proofs.CompactLemmas.{n-within, room, length-moved, Compacts-made, Compacts-nothing}
+use Rattle.rtp_wire.proofs.packet.compacting.compact.Goals as goal
+
+pub returns-in_default-clause-compacted : goal.returns-in_default-clause-compacted
+returns-in_default-clause-compacted c =
+    Compacts-nothing c.args.datagram.now (parts_of c.in_ok-packet.packet) c.in_ok-packet.ensures.found (sym c.form-form.ensures ∙ c.in_default.is)
+
+pub slice_bounds-body-end : goal.slice_bounds-body-end
+slice_bounds-body-end c =
+    let ends =
+    body-ends c.args.datagram.now (parts_of c.in_ok-packet.packet) c.in_ok-packet.ensures.found c.in-Some.form (sym c.form-form.ensures ∙ c.in-Some.is)
+    c.sources_end-block_at.result c.header_len-payload_at.result c.sources_end-block_at.ensures c.header_len-payload_at.ensures in
+    let first : c.sources_end-block_at.result + 4 ≤ c.header_len-payload_at.result = ends.0 in
+    let second : c.header_len-payload_at.result ≤ length c.args.datagram.now = ends.1 in
+    search rules
+
+pub resize-requires-clause-order : goal.resize-requires-clause-order
+resize-requires-clause-order c =
+    (body-ends c.args.datagram.now (parts_of c.in_ok-packet.packet) c.in_ok-packet.ensures.found c.in-Some.form (sym c.form-form.ensures ∙ c.in-Some.is)
+    c.sources_end-block_at.result c.header_len-payload_at.result c.sources_end-block_at.ensures c.header_len-payload_at.ensures).1
+
+pub resize-requires-clause-room : goal.resize-requires-clause-room
+resize-requires-clause-room c =
+    room c.args.datagram.now (parts_of c.in_ok-packet.packet) c.in_ok-packet.ensures.found c.in-Some.form (sym c.form-form.ensures ∙ c.in-Some.is)
+    c.sources_end-block_at.result c.header_len-payload_at.result c.sources_end-block_at.ensures c.header_len-payload_at.ensures c.id_of_none.result c.take_out-elements_len.result c.next_multiple_of-body_len.result
+    c.id_of_none.ensures c.take_out-elements_len.new.body c.take_out-elements_len.ensures c.next_multiple_of-body_len.ensures.lower_bound c.next_multiple_of-body_len.ensures.upper_bound c.next_multiple_of-body_len.ensures.multiple
+
+pub resize-requires-clause-few : goal.resize-requires-clause-few
+resize-requires-clause-few c =
+    omega (
+      arith,
+      short-body c.in_ok-packet.packet,
+      n-within c.args.datagram.now (parts_of c.in_ok-packet.packet) c.in_ok-packet.ensures.found c.in-Some.form (sym c.form-form.ensures ∙ c.in-Some.is)
+          c.sources_end-block_at.result c.header_len-payload_at.result c.sources_end-block_at.ensures c.header_len-payload_at.ensures c.id_of_none.result c.take_out-elements_len.result c.next_multiple_of-body_len.result
+          c.id_of_none.ensures c.take_out-elements_len.new.body c.take_out-elements_len.ensures c.next_multiple_of-body_len.ensures.lower_bound c.next_multiple_of-body_len.ensures.upper_bound c.next_multiple_of-body_len.ensures.multiple,
+    )
+
+pub overflow_add-result-2 : goal.overflow_add-result-2
+overflow_add-result-2 c =
+    let ends =
+    body-ends c.args.datagram.now (parts_of c.in_ok-packet.packet) c.in_ok-packet.ensures.found c.in-Some.form (sym c.form-form.ensures ∙ c.in-Some.is)
+    c.sources_end-block_at.result c.header_len-payload_at.result c.sources_end-block_at.ensures c.header_len-payload_at.ensures in
+    let within =
+    n-within c.args.datagram.now (parts_of c.in_ok-packet.packet) c.in_ok-packet.ensures.found c.in-Some.form (sym c.form-form.ensures ∙ c.in-Some.is)
+    c.sources_end-block_at.result c.header_len-payload_at.result c.sources_end-block_at.ensures c.header_len-payload_at.ensures c.id_of_none.result c.take_out-elements_len.result c.next_multiple_of-body_len.result
+    c.id_of_none.ensures c.take_out-elements_len.new.body c.take_out-elements_len.ensures c.next_multiple_of-body_len.ensures.lower_bound c.next_multiple_of-body_len.ensures.upper_bound c.next_multiple_of-body_len.ensures.multiple in
+    omega (arith, ends.0, ends.2, within, c.header_len-payload_at.type_inv)
+
+pub overflow_sub-result : goal.overflow_sub-result
+overflow_sub-result c =
+    (body-ends c.args.datagram.now (parts_of c.in_ok-packet.packet) c.in_ok-packet.ensures.found c.in-Some.form (sym c.form-form.ensures ∙ c.in-Some.is)
+    c.sources_end-block_at.result c.header_len-payload_at.result c.sources_end-block_at.ensures c.header_len-payload_at.ensures).1
+
+pub returns-clause-compacted : goal.returns-clause-compacted
+returns-clause-compacted c =
+    Compacts-made c.args.datagram.now (parts_of c.in_ok-packet.packet) c.in_ok-packet.ensures.found c.in-Some.form (sym c.form-form.ensures ∙ c.in-Some.is)
+    c.sources_end-block_at.result c.header_len-payload_at.result c.sources_end-block_at.ensures c.header_len-payload_at.ensures c.id_of_none.result c.take_out-elements_len.result c.next_multiple_of-body_len.result
+    c.id_of_none.ensures c.take_out-elements_len.new.body c.take_out-elements_len.ensures c.next_multiple_of-body_len.ensures.lower_bound c.next_multiple_of-body_len.ensures.upper_bound c.next_multiple_of-body_len.ensures.multiple
+    c.resize.new.buf c.resize.ensures (omega (
+      arith,
+      short-body c.in_ok-packet.packet,
+      n-within c.args.datagram.now (parts_of c.in_ok-packet.packet) c.in_ok-packet.ensures.found c.in-Some.form (sym c.form-form.ensures ∙ c.in-Some.is)
+          c.sources_end-block_at.result c.header_len-payload_at.result c.sources_end-block_at.ensures c.header_len-payload_at.ensures c.id_of_none.result c.take_out-elements_len.result c.next_multiple_of-body_len.result
+          c.id_of_none.ensures c.take_out-elements_len.new.body c.take_out-elements_len.ensures c.next_multiple_of-body_len.ensures.lower_bound c.next_multiple_of-body_len.ensures.upper_bound c.next_multiple_of-body_len.ensures.multiple,
+    ))
+
+pub returns-clause-within : goal.returns-clause-within
+returns-clause-within c =
+    omega (
+      arith,
+      room c.args.datagram.now (parts_of c.in_ok-packet.packet) c.in_ok-packet.ensures.found c.in-Some.form (sym c.form-form.ensures ∙ c.in-Some.is)
+          c.sources_end-block_at.result c.header_len-payload_at.result c.sources_end-block_at.ensures c.header_len-payload_at.ensures c.id_of_none.result c.take_out-elements_len.result c.next_multiple_of-body_len.result
+          c.id_of_none.ensures c.take_out-elements_len.new.body c.take_out-elements_len.ensures c.next_multiple_of-body_len.ensures.lower_bound c.next_multiple_of-body_len.ensures.upper_bound c.next_multiple_of-body_len.ensures.multiple,
+      length-moved c.args.datagram.now (parts_of c.in_ok-packet.packet) c.in_ok-packet.ensures.found c.in-Some.form (sym c.form-form.ensures ∙ c.in-Some.is)
+          c.sources_end-block_at.result c.header_len-payload_at.result c.sources_end-block_at.ensures c.header_len-payload_at.ensures c.id_of_none.result c.take_out-elements_len.result c.next_multiple_of-body_len.result
+          c.id_of_none.ensures c.take_out-elements_len.new.body c.take_out-elements_len.ensures c.next_multiple_of-body_len.ensures.lower_bound c.next_multiple_of-body_len.ensures.upper_bound c.next_multiple_of-body_len.ensures.multiple,
+    )

@@ -1,0 +1,162 @@
+//! From a header to bytes, with its own values or others.
+
+ghost use Rattle.std.specs.Prelude.{◌≡◌, ℕ, ◌+◌, ◌*◌, ◌%◌, ◌<◌, ◌≤◌, ◌↔◌, ◌++◌, List, length, drop, Some, IsTrue, IsNone, IfSome, IfNone};
+ghost use Rattle.rtp_ext.specs.declared.form.ExtensionsForm.TheVariants.{OneByte};
+ghost use Rattle.rtp_ext.specs.ExtensionMap.{items_from, mapped_count, HasNoIdAbove};
+ghost use Rattle.rtp_ext.specs.WrittenBlock.{TakesAtMost17Each, whole_words};
+ghost use Rattle.rtp_wire.specs.Header.{IsWire};
+ghost use Rattle.rtp_wire.specs.Written.{extension_bytes, wire_bytes, image_of, with_values, CannotBeWritten};
+ghost use Rattle.rtp_wire.specs.WrittenInForm.{announced_form, IsWithinMap};
+
+use super::RtpHeader;
+use super::block::{block_fits, block_len, write_block};
+use super::writing::put_sources;
+use rtp_base::put;
+use rtp_ext::{Cursor, ElementValues, ExtensionsForm, Kinds, values_form};
+
+impl RtpHeader {
+    /// Returns how many bytes [`try_write_values`](Self::try_write_values) writes, within the
+    /// bounds of [`wire_len`](Self::wire_len). Requires at most 15 contributing sources.
+    pub fn values_wire_len<K: Kinds, V: ElementValues>(&self, values: &V, exts: &K) -> usize
+        requires sources { self.now.csrc_count ≤ 15 }
+        ensures length { result ≡ length
+            (wire_bytes (K.slots exts.now) (with_values self.now (V.values values.now))) }
+        ensures words { result % 4 ≡ 0 }
+        ensures by_map { result ≤ 76 + whole_words (257 * mapped_count (K.slots exts.now)) }
+        ensures small { HasNoIdAbove 16 (K.slots exts.now) → result ≤ 4188 }
+        ensures bound { result ≤ 65612 }
+    {
+        let before = 12 + 4 * self.csrc_count;
+        let start = exts.start();
+        match self.form(values, exts, start) {
+            Some(form) => before + block_len(exts, start, form, values),
+            None => before,
+        }
+    }
+
+    /// Writes the header as [`try_write_to`](Self::try_write_to) does, with these values in place
+    /// of `ext_vals`: those of [`WithLayers`](crate::WithLayers) have a layer allocation that took
+    /// no memory. `None` where the payload type is above 127, there are more than 15 contributing
+    /// sources, or the buffer has fewer than [`values_wire_len`](Self::values_wire_len) bytes, and
+    /// then nothing is written.
+    pub fn try_write_values<K: Kinds, V: ElementValues>(
+        &self,
+        buf: &mut [u8],
+        values: &V,
+        exts: &K,
+    ) -> Option<usize>
+        ensures refused { IsNone result ↔ CannotBeWritten (K.slots exts.now)
+            (with_values self.now (V.values values.now)) (length buf.old) }
+        ensures unchanged { IfNone result (buf.new ≡ buf.old) }
+        ensures written { IfSome result (λ len. buf.new
+            ≡ wire_bytes (K.slots exts.now) (with_values self.now (V.values values.now))
+            ++ drop len buf.old) }
+        ensures length { IfSome result (λ len. len ≡ length
+            (wire_bytes (K.slots exts.now) (with_values self.now (V.values values.now)))) }
+
+        // What was written, followed by anything, is read as the image of the header with them.
+        ensures read_back { IfSome result (λ _. (rest : List ℕ) → IsWire (K.slots exts.now)
+            (wire_bytes (K.slots exts.now) (with_values self.now (V.values values.now)) ++ rest)
+            (image_of (K.slots exts.now) (with_values self.now (V.values values.now)))) }
+    {
+        if self.csrc_count > 15 || self.payload_type.get() > 127 {
+            return None;
+        }
+        let start = exts.start();
+        let form = self.form(values, exts, start);
+        if !self.fits(buf.len(), values, exts, start, form) {
+            return None;
+        }
+        Some(self.write_in(buf, values, exts, start, form))
+    }
+
+    // The form of the block that X announces, and `None` where X is clear.
+    #[inline(always)]
+    pub(super) fn form<K: Kinds, V: ElementValues>(
+        &self,
+        values: &V,
+        kinds: &K,
+        start: Cursor,
+    ) -> Option<ExtensionsForm>
+        requires { K.left kinds.now start ≡ items_from 0 (K.known kinds.now) }
+        ensures form { result
+            ≡ announced_form (K.slots kinds.now) self.now.has_extension (V.values values.now) }
+        ensures short { result ≡ Some OneByte
+            → TakesAtMost17Each (K.known kinds.now) (V.values values.now) }
+    {
+        if !self.has_extension {
+            return None;
+        }
+        Some(values_form(kinds, start, values))
+    }
+
+    // Whether the header has room, with its block in this form.
+    #[inline(always)]
+    fn fits<K: Kinds, V: ElementValues>(
+        &self,
+        room: usize,
+        values: &V,
+        kinds: &K,
+        start: Cursor,
+        form: Option<ExtensionsForm>,
+    ) -> bool
+        requires start { K.left kinds.now start ≡ items_from 0 (K.known kinds.now) }
+        requires few_ids { length (items_from 0 (K.known kinds.now)) ≤ 255 }
+        requires sources { self.now.csrc_count ≤ 15 }
+        requires form { form
+            ≡ announced_form (K.slots kinds.now) self.now.has_extension (V.values values.now) }
+        requires short { form ≡ Some OneByte
+            → TakesAtMost17Each (K.known kinds.now) (V.values values.now) }
+        ensures { IsTrue result ↔ (length
+            (wire_bytes (K.slots kinds.now) (with_values self.now (V.values values.now))) ≤ room) }
+    {
+        let Some(left) = room.checked_sub(12 + 4 * self.csrc_count) else {
+            return false;
+        };
+        match form {
+            Some(form) => block_fits(kinds, start, form, values, left),
+            None => true,
+        }
+    }
+
+    // Writes the header, with its block in this form, to the front of the buffer, and returns its
+    // length.
+    #[inline(always)]
+    pub(super) fn write_in<K: Kinds, V: ElementValues>(
+        &self,
+        buf: &mut [u8],
+        values: &V,
+        kinds: &K,
+        start: Cursor,
+        form: Option<ExtensionsForm>,
+    ) -> usize
+        requires start { K.left kinds.now start ≡ items_from 0 (K.known kinds.now) }
+        requires few_ids { length (items_from 0 (K.known kinds.now)) ≤ 255 }
+        requires payload_type { self.now.payload_type ≤ 127 }
+        requires sources { self.now.csrc_count ≤ 15 }
+        requires form { form
+            ≡ announced_form (K.slots kinds.now) self.now.has_extension (V.values values.now) }
+        requires room { length
+            (wire_bytes (K.slots kinds.now) (with_values self.now (V.values values.now)))
+            ≤ length buf.old }
+        ensures written { buf.new
+            ≡ wire_bytes (K.slots kinds.now) (with_values self.now (V.values values.now))
+            ++ drop result buf.old }
+        ensures length { result ≡ length
+            (wire_bytes (K.slots kinds.now) (with_values self.now (V.values values.now))) }
+        ensures few { IsWithinMap (K.slots kinds.now)
+            (length (extension_bytes (K.slots kinds.now)
+            self.now.has_extension (V.values values.now))) }
+        ensures read_back { (rest : List ℕ) → IsWire (K.slots kinds.now)
+            (wire_bytes (K.slots kinds.now) (with_values self.now (V.values values.now)) ++ rest)
+            (image_of (K.slots kinds.now) (with_values self.now (V.values values.now))) }
+    {
+        let sources = &self.csrc[..self.csrc_count];
+        let end = put(buf, 0, &self.fixed_bytes(self.has_extension));
+        let end = put_sources(buf, end, sources);
+        let Some(form) = form else {
+            return end;
+        };
+        end + write_block(kinds, start, form, &mut buf[end..], values)
+    }
+}
