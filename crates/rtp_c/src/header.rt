@@ -10,6 +10,7 @@ ghost use Rattle.rtp_wire.specs.Packet.{IsPacket};
 ghost use Rattle.rtp_wire.specs.PartsOf.{parts_of};
 ghost use Rattle.rtp_vla.specs.Allocation.{nothing_sent};
 ghost use Rattle.rtp_c.specs.LayersView.{IsViewOfLayers};
+ghost use Rattle.rtp_c.specs.ValuesView.{IsViewOfValues};
 ghost use Rattle.rtp_c.specs.HeaderView.{IsViewOfHeader, IsParsedAs, IsParsedWithLayersAs};
 ghost use Rattle.rtp_c.specs.Status.{ok, IsHeaderStatus};
 
@@ -67,6 +68,19 @@ fn put_sources(sources: Csrcs<'_>, slots: &mut [u32; 15]) -> u8
     count
 }
 
+// Puts what C is told of the values that the packet's block gives under the map.
+#[inline(always)]
+fn put_values_of(packet: &RtpPacket<'_>, map: &StoredMap, view: &mut ValuesView)
+    ensures { (values : ExtensionValues)
+        × HasValues (numbered_slots map.now.kind) (parts_of packet.now).block values
+        × IsViewOfValues values view.new }
+{
+    match packet.block() {
+        Some((form, body)) => put_values(body, form, map, view),
+        None => put_no_values(view),
+    }
+}
+
 // Puts what C is told of the packet's header, with the values that its block gives under the map.
 #[inline(always)]
 fn put_header(packet: &RtpPacket<'_>, map: &StoredMap, view: &mut HeaderView)
@@ -84,10 +98,7 @@ fn put_header(packet: &RtpPacket<'_>, map: &StoredMap, view: &mut HeaderView)
     view.marker = flag_number(packet.marker());
     view.has_padding = flag_number(packet.has_padding());
     view.has_extension = flag_number(packet.has_extension());
-    match packet.block() {
-        Some((form, body)) => put_values(body, form, map, &mut view.values),
-        None => put_no_values(&mut view.values),
-    }
+    put_values_of(packet, map, &mut view.values);
 }
 
 // Puts what C is told of the layers that the packet's block gives under the map. It stays out of line,
