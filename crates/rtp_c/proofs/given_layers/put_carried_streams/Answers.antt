@@ -1,4 +1,4 @@
-use Rattle.std.proofs.Common.{ℕ, ◌≤◌, length, subst, ap, sym, arith}
+use Rattle.std.proofs.Common.{length, subst, ap, arith}
 use Rattle.rtp_vla.specs.Allocation.{Allocation}
 use Rattle.rtp_vla.specs.AllocationWritten.{Writable, written_of}
 use Rattle.rtp_c.specs.GivenLayers.{AreCarriedLayers}
