@@ -321,7 +321,7 @@ cc -std=c99 "${strict[@]}" bindings/test/threads.c "$library" -lpthread -o "$scr
 "$scratch/threads"
 cc -std=c99 -D_GNU_SOURCE "${strict[@]}" bindings/test/stack.c "$library" -Wl,-z,now -o "$scratch/stack"
 "$scratch/stack"
-said 'four threads that share what is const, and the stack, at most 4,096 bytes, or 6,144 where layers are written'
+said 'four threads that share what is const, and the stack, at most 4,096 bytes'
 
 if has aarch64-linux-gnu-gcc && has qemu-aarch64; then
     # shellcheck disable=SC2086

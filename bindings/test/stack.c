@@ -1,7 +1,7 @@
 /*
  * How much of the stack each function takes: it is called on a stack that is filled with one byte, and
  * what is another byte afterwards was written. What the empty call takes is left out. At most 4,096
- * bytes are allowed, and 6,144 where layers are written. Prints the function that takes most.
+ * bytes are allowed. Prints the function that takes most.
  */
 #include "memory.h"
 
@@ -215,8 +215,7 @@ int main(void) {
         if (getenv("SHOW_ALL") != NULL) {
             printf("%s %zu\n", calls[i].name, taken);
         }
-        int writes_layers = strcmp(calls[i].name, "rtpw_write_layers") == 0 || strcmp(calls[i].name, "rtpw_wire_len_layers") == 0;
-        CHECK(taken <= (writes_layers ? 6144 : 4096));
+        CHECK(taken <= 4096);
         if (taken > most) {
             most = taken;
             name = calls[i].name;

@@ -1,5 +1,5 @@
 -- Items that are given place by place.
-use Rattle.std.proofs.Common.{◌≡◌, ℕ, zero, suc, ◌+◌, ◌<◌, List, [], ◌∷◌, ◌++◌, length, get_or, take, slice_range, ◌-◌, ap, ◌∙◌, arith, subst, sym, refl, Some}
+use Rattle.std.proofs.Common.{◌≡◌, ℕ, zero, suc, ◌+◌, ◌<◌, ◌≤◌, List, [], ◌∷◌, ◌++◌, length, get_or, take, slice_range, ◌-◌, ap, ◌∙◌, arith, subst, sym, refl, Some}
 use Rattle.std.specs.List.{AllZip}
 use Rattle.rtp_vla.specs.Allocation as vla
 use Rattle.rtp_c.specs.declared.layers.Layer.{Layer}
@@ -11,6 +11,7 @@ use Rattle.rtp_wire.specs.Written.{with_values}
 use Rattle.rtp_c.specs.declared.header.HeaderView.{HeaderView}
 use Rattle.rtp_c.specs.Given.{IsGivenHeader}
 use Rattle.rtp_c.specs.GivenLayers.{IsGivenLayer, IsGivenStream, IsGivenLayers, AreCarriedLayers, IsGivenWithLayers}
+use Rattle.rtp_c.proofs.WrittenHeaderLemmas.{type_fits, few_sources}
 use Rattle.std.proofs.lemmas.List.{take_more}
 use Rattle.std.proofs.lemmas.Slice.Zip.{all_zipped_more}
 
@@ -61,14 +62,27 @@ one_given view a b a_is b_is = λ i. record {
   simulcast_streams = AllZip-one IsGivenStream one_stream (take view.count view.streams) a.simulcast_streams b.simulcast_streams a_is.streams_are b_is.streams_are i;
 }
 
--- the header with the values that its layers are among
-pub given_with : (view : HeaderView) (layers : Layers) (header : RtpHeader) (allocation : vla.Allocation) (values : ExtensionValues)
-    → IsGivenHeader view header → AreCarriedLayers layers allocation → values ≡ record header.ext_vals { video_layers_allocation = Some allocation }
-    → IsGivenWithLayers view layers (with_values header values)
-given_with view layers header allocation values is_given carried values-are = record {
+-- the header with the layers among its values
+pub given_with : (view : HeaderView) (layers : Layers) (header : RtpHeader) (allocation : vla.Allocation)
+    → IsGivenHeader view header → AreCarriedLayers layers allocation
+    → IsGivenWithLayers view layers (with_values header (record header.ext_vals { video_layers_allocation = Some allocation }))
+given_with view layers header allocation is_given carried = record {
   without = header;
   is_given = is_given;
   allocation = allocation;
   are_carried = carried;
-  header_is = ap (with_values header) values-are;
+  header_is = refl;
 }
+
+-- the same with values that are equal
+pub with_these_values : (view : HeaderView) (layers : Layers) (header : RtpHeader) (values given : ExtensionValues) → values ≡ given
+    → IsGivenWithLayers view layers (with_values header given) → IsGivenWithLayers view layers (with_values header values)
+with_these_values view layers header values given values_are is =
+    subst (λ (v : ExtensionValues). IsGivenWithLayers view layers (with_values header v)) (sym values_are) is
+
+-- its fields are those that a header can have
+pub with_layers-type_fits : (view : HeaderView) (layers : Layers) (header : RtpHeader) → IsGivenWithLayers view layers header → header.payload_type ≤ 127
+with_layers-type_fits view layers header is = rw is.header_is (type_fits view is.without is.is_given.fields)
+
+pub with_layers-few_sources : (view : HeaderView) (layers : Layers) (header : RtpHeader) → IsGivenWithLayers view layers header → header.csrc_count ≤ 15
+with_layers-few_sources view layers header is = rw is.header_is (few_sources view is.without is.is_given.fields)

@@ -1,6 +1,6 @@
 //! The layer allocation that C gives to be written.
 
-ghost use Rattle.std.specs.Prelude.{◌≡◌, ◌↔◌, None, IfSome, IfNone};
+ghost use Rattle.std.specs.Prelude.{◌≡◌, ◌↔◌, [], None, IfSome, IfNone};
 ghost use Rattle.rtp_vla.specs.Allocation as vla;
 ghost use Rattle.rtp_c.specs.Given.{given};
 ghost use Rattle.rtp_c.specs.GivenLayers.{IsGivenLayer, IsGivenStream, IsGivenLayers, AreCarriedLayers};
@@ -60,29 +60,32 @@ fn stream_of(view: &Stream) -> Option<VideoStream>
     Some(stream)
 }
 
-// The allocation that is given; `None` exactly where it, one of its streams or one of their layers
-// counts more than four.
-pub fn layers_of(view: &Layers) -> Option<VideoLayers>
-    ensures found { IfSome result (IsGivenLayers view.now) }
+// Puts the streams that are given to an allocation of this index that has none; `None` exactly where it,
+// one of its streams or one of their layers counts more than four.
+fn put_streams(view: &Layers, layers: &mut VideoLayers) -> Option<()>
+    requires current { layers.old.current_simulcast_stream_index ≡ view.now.current }
+    requires streams { layers.old.simulcast_streams ≡ [] }
+    ensures found { IfSome result (λ _. IsGivenLayers view.now layers.new) }
     ensures refused { (result ≡ None)
         ↔ ((a : vla.Allocation) → IsGivenLayers view.now a → ⊥) }
 {
     let streams = view.streams.get(..usize::from(view.count))?;
-    let mut layers = VideoLayers::new(view.current);
     for stream in streams {
         layers.push(stream_of(stream)?);
     }
-    Some(layers)
+    Some(())
 }
 
 // The same where an element can carry it.
-pub fn carried_layers(view: &Layers) -> Option<VideoLayers>
-    ensures found { IfSome result (AreCarriedLayers view.now) }
+pub fn put_carried_streams(view: &Layers, layers: &mut VideoLayers) -> Option<()>
+    requires current { layers.old.current_simulcast_stream_index ≡ view.now.current }
+    requires streams { layers.old.simulcast_streams ≡ [] }
+    ensures found { IfSome result (λ _. AreCarriedLayers view.now layers.new) }
     ensures none { IfNone result ((a : vla.Allocation) → AreCarriedLayers view.now a → ⊥) }
 {
-    let layers = layers_of(view)?;
+    put_streams(view, layers)?;
     if layers.checked_wire_len()? > MAX_LEN {
         return None;
     }
-    Some(layers)
+    Some(())
 }

@@ -73,6 +73,8 @@ fn store(receiver: &Receiver, stored: &mut StoredReceiver)
     stored.highest = highest.get();
     stored.recorded_low = (recorded % HALF) as u64;
     stored.recorded_high = (recorded / HALF) as u64;
+    // `rtpw_receiver_receive` has seen that it is 1 where the next number comes, and by this test stores
+    // nothing there.
     if stored.started != 1 {
         stored.started = 1;
     }

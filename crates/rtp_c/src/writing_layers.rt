@@ -1,15 +1,17 @@
 //! What C gives to be written with its layer allocation, a header, from fields, values and layers to
 //! bytes.
 
-ghost use Rattle.std.specs.Prelude.{◌≡◌, ◌≢◌, ◌↔◌, ◌≤◌, ◌⊎◌, length, Some};
+ghost use Rattle.std.specs.Prelude.{◌≡◌, ◌≢◌, ◌↔◌, ◌≤◌, ◌⊎◌, [], length, Some, IfSome, IfNone};
+ghost use Rattle.rtp_values.specs.Values.{no_values};
 ghost use Rattle.rtp_values.specs.WithLayers.{values_with_layers};
 ghost use Rattle.rtp_wire.specs.declared.header.rtp_header.RtpHeader.{RtpHeader as Header};
+ghost use Rattle.rtp_wire.specs.Written.{with_values};
 ghost use Rattle.rtp_c.specs.Status.{ok, short_buffer, bad_field};
 ghost use Rattle.rtp_c.specs.GivenLayers.{IsGivenWithLayers};
 ghost use Rattle.rtp_c.specs.WrittenHeader.{IsLengthOf, IsWrittenHeader, IsTooLong};
 
 use super::given::put_given_header;
-use super::given_layers::carried_layers;
+use super::given_layers::put_carried_streams;
 use super::header::HeaderView;
 use super::kinds::StoredMap;
 use super::layers::Layers;
@@ -30,6 +32,28 @@ fn with_layers<'a>(header: &'a RtpHeader, layers: &'a VideoLayers) -> WithLayers
     }
 }
 
+// Puts what is given to a header without values, and to layers of this index without streams; `None`
+// where there is no such header.
+fn put_given_with_layers(
+    view: &HeaderView,
+    layers_view: &Layers,
+    header: &mut RtpHeader,
+    layers: &mut VideoLayers,
+) -> Option<()>
+    requires values { header.old.ext_vals ≡ no_values }
+    requires current { layers.old.current_simulcast_stream_index ≡ layers_view.now.current }
+    requires streams { layers.old.simulcast_streams ≡ [] }
+    ensures found { IfSome result (λ _. IsGivenWithLayers view.now layers_view.now
+        (with_values header.new (record header.new.ext_vals {
+          video_layers_allocation = Some layers.new;
+        }))) }
+    ensures none { IfNone result ((h : Header) →
+        IsGivenWithLayers view.now layers_view.now h → ⊥) }
+{
+    put_given_header(view, header)?;
+    put_carried_streams(layers_view, layers)
+}
+
 /// How many bytes [`rtpw_write_layers`] writes: a multiple of four. `OK`, and the number is written;
 /// `BAD_FIELD` for the causes of [`rtpw_write_layers`], and then nothing is written.
 #[unsafe(no_mangle)]
@@ -48,14 +72,12 @@ pub extern "C" fn rtpw_wire_len_layers(
 {
     let mut unfreed = ManuallyDrop::new(RtpHeader::default());
     let rtp_header = &mut *unfreed;
-    let Some(()) = put_given_header(header, rtp_header) else {
-        return BAD_FIELD;
-    };
-    let Some(layers) = carried_layers(layers) else {
+    let mut allocation = VideoLayers::new(layers.current);
+    let Some(()) = put_given_with_layers(header, layers, rtp_header, &mut allocation) else {
         return BAD_FIELD;
     };
     let given: &RtpHeader = rtp_header;
-    *len = given.values_wire_len(&with_layers(given, &layers), map);
+    *len = given.values_wire_len(&with_layers(given, &allocation), map);
     OK
 }
 
@@ -86,14 +108,12 @@ pub extern "C" fn rtpw_write_layers(
 {
     let mut unfreed = ManuallyDrop::new(RtpHeader::default());
     let rtp_header = &mut *unfreed;
-    let Some(()) = put_given_header(header, rtp_header) else {
-        return BAD_FIELD;
-    };
-    let Some(layers) = carried_layers(layers) else {
+    let mut allocation = VideoLayers::new(layers.current);
+    let Some(()) = put_given_with_layers(header, layers, rtp_header, &mut allocation) else {
         return BAD_FIELD;
     };
     let given: &RtpHeader = rtp_header;
-    let Some(written) = given.try_write_values(buf, &with_layers(given, &layers), map) else {
+    let Some(written) = given.try_write_values(buf, &with_layers(given, &allocation), map) else {
         return SHORT_BUFFER;
     };
     *len = written;

@@ -3,7 +3,7 @@ use Rattle.std.proofs.lemmas.Grind.{common_steps}
 use Rattle.rtp_vla.specs.Allocation.{Allocation}
 use Rattle.rtp_c.specs.GivenLayers.{IsGivenStream, IsGivenLayers}
 use Rattle.rtp_c.proofs.GivenLayersLemmas.{AllZip-more, none_in_front}
-use Rattle.rtp_c.proofs.given_layers.layers_of.Goals as goal
+use Rattle.rtp_c.proofs.given_layers.put_streams.Goals as goal
 
 pub returns-in_err-stream_of-clause-refused : goal.returns-in_err-stream_of-clause-refused
 returns-in_err-stream_of-clause-refused c =

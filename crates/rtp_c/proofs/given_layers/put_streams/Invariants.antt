@@ -1,7 +1,7 @@
 use Rattle.std.proofs.Common.{◌≡◌, length, take}
 use Rattle.std.specs.List.{AllZip}
 use Rattle.rtp_c.specs.GivenLayers.{IsGivenStream}
-use Rattle.rtp_c.proofs.given_layers.layers_of.Given as goal
+use Rattle.rtp_c.proofs.given_layers.put_streams.Given as goal
 
 abbrev pub invariant-loop-stream : goal.invariant-loop-stream
 invariant-loop-stream l = record {
