@@ -102,6 +102,7 @@ fn first_unpadded(bytes: &[u8]) -> Option<(&u8, &[u8])>
 
 // The bytes after the padding at their front. It stays out of line, since few elements have padding
 // before them.
+#[cold]
 #[inline(never)]
 fn skip_zeros(bytes: &[u8]) -> &[u8]
     ensures { result.now ≡ without_padding bytes.now }

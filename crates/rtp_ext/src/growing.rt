@@ -11,12 +11,11 @@ ghost use Rattle.rtp_ext.specs.BodySurvey.{IsSurvey, IsGathered, HasRows, HasNar
 ghost use Rattle.rtp_ext.specs.PutElement.{without, put_element, carried_in, row_to, IsSole};
 
 use super::ExtensionsForm;
-use super::elements::first_element;
 use super::form::header_len;
-use super::place::{Place, next_place, place_before};
-use super::raw_writing::put_element;
+use super::place::{Place, next_place, place_in_left};
+use super::raw_writing::{put_data, put_element};
 use super::widening::{put_widened, widened_len};
-use rtp_base::{put, put_zeros};
+use rtp_base::put_zeros;
 
 /// What a body has of an id, and how much besides.
 #[derive(Clone, Copy, Drop)]
@@ -51,13 +50,13 @@ fn survey_in(form: ExtensionsForm, body: &[u8], id: u8) -> Survey
     let mut count = 0;
     let mut others_len = 0;
     let mut left = body;
-    while let Some((other, data, after)) = first_element(left, form) {
+    while let Some((place, after)) = place_in_left(form, body, left) {
         left = after;
-        if other == id {
-            last = Some(place_before(form, body.len(), after.len(), id, data.len()));
+        if place.id == id {
+            last = Some(place);
             count += 1;
         } else {
-            others_len += header_len(form) + data.len();
+            others_len += place.end - place.start;
         }
     }
     Survey {
@@ -106,7 +105,7 @@ pub fn set_sole(body: &mut [u8], survey: &Survey, id: u8, data: &[u8]) -> bool
     if survey.count != 1 || place.end - place.data_start != data.len() {
         return false;
     }
-    put(body, place.data_start, data);
+    put_data(body, place.data_start, data);
     true
 }
 

@@ -37,6 +37,25 @@ fn fit<L: ElementList>(room: usize, form: ExtensionsForm, elements: L) -> bool
     true
 }
 
+// Puts the data of an element at the offset. One byte or two, as many elements have, are put one by one,
+// since a copy of so few takes longer.
+#[inline(always)]
+pub(super) fn put_data(buf: &mut [u8], at: usize, data: &[u8])
+    requires { at + length «data».now ≤ length buf.old }
+    ensures { buf.new ≡ overwritten buf.old at «data».now }
+{
+    match data {
+        [first] => buf[at] = *first,
+        [first, second] => {
+            buf[at] = *first;
+            buf[at + 1] = *second;
+        }
+        _ => {
+            put(buf, at, data);
+        }
+    }
+}
+
 // Puts an element at the offset, and returns the offset after it.
 pub(super) fn put_element(
     buf: &mut [u8],
