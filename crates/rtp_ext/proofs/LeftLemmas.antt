@@ -1,5 +1,5 @@
 -- Elements found one after another in what is left of a body.
-use Rattle.std.proofs.Common.{◌≡◌, ℕ, ◌+◌, ◌-◌, ◌<◌, ◌≤◌, List, ◌++◌, length, take, drop, replicate, append_assoc, length-append, take-append-drop, arith, refl, sym, ap, ◌∙◌, subst}
+use Rattle.std.proofs.Common.{◌≡◌, ℕ, ◌+◌, ◌-◌, ◌≤◌, List, ◌++◌, length, take, drop, replicate, append_assoc, length-append, take-append-drop, arith, refl, sym, ap, ◌∙◌, subst}
 use Rattle.std.proofs.lemmas.List.{drop_at}
 use Rattle.rtp_ext.specs.declared.form.ExtensionsForm.{ExtensionsForm}
 use Rattle.rtp_ext.specs.declared.place.Place.{Place}
@@ -7,7 +7,7 @@ use Rattle.rtp_ext.specs.Elements.{element_bytes}
 use Rattle.rtp_ext.specs.ElementReading.{BeginsWithElement, BeginsWithNoElement}
 use Rattle.rtp_ext.specs.ElementWriting.{element_header}
 use Rattle.rtp_ext.specs.ElementPlaces.{IsNextPlace, IsLeft}
-use Rattle.rtp_ext.proofs.PlaceLemmas.{length-begins, length-header-some, IsNextPlace-begins}
+use Rattle.rtp_ext.proofs.PlaceLemmas.{length-begins, IsNextPlace-begins}
 
 -- nothing is passed over yet
 pub none_passed : (body : List ℕ) → 0 ≡ length body - length body
@@ -36,12 +36,38 @@ module _ (form : ExtensionsForm) (body left : List ℕ) (id : ℕ) (bytes after 
             ∙ drop_at (passed ++ front) after (length body - length after) (omega (arith, ap length split, length-append (passed ++ front) after)));
       }
 
+  -- by the place that was made of it
   pub next_left : (place : Place) → place.id ≡ id → place.start + length (element_header form id (length bytes)) ≡ place.data_start
       → place.data_start + length bytes ≡ place.end → place.end + length after ≡ length body → IsNextPlace form body (length body - length left) place
   next_left place = IsNextPlace-begins form body left (length body - length left) id bytes after left_within was.left_is begins place
 
-  pub fewer_left : length after < length left
-  fewer_left = let some = length-header-some form id (length bytes) in omega (arith, total, some)
+  -- by the place that it has
+  pub place_left : Place
+  place_left = record {
+    id = id;
+    start = length body - length after - length bytes - length (element_header form id (length bytes));
+    data_start = length body - length after - length bytes;
+    end = length body - length after;
+  }
+
+  pub next_other : IsNextPlace form body (length body - length left) place_left
+  unfolding place_left
+  next_other = next_left place_left refl (omega (arith, total)) (omega (arith, total)) (omega (arith, total))
+
+  pub end_other : place_left.end ≡ length body - length after
+  unfolding place_left
+  end_other = refl
+
+  pub id_other : place_left.id ≡ id
+  unfolding place_left
+  id_other = refl
+
+  pub len_other : place_left.end - place_left.start ≡ length (element_header form id (length bytes)) + length bytes
+  unfolding place_left
+  len_other = omega (arith, total)
+
+  pub fits_all : length body - length left + (length (element_header form id (length bytes)) + length bytes) + length after ≤ length body
+  fits_all = omega (arith, total)
 
 -- where no element is left
 pub none_left : (form : ExtensionsForm) (body left : List ℕ) → IsLeft body left → BeginsWithNoElement form left → BeginsWithNoElement form (drop (length body - length left) body)

@@ -1,12 +1,12 @@
 //! Where the elements of a body lie, and elements that are changed there, without memory.
 
-ghost use Rattle.std.specs.Prelude.{◌≡◌, ◌↔◌, ◌+◌, ◌-◌, ◌<◌, ◌≤◌, ◌++◌, List, length, drop, IsTrue, Some, IfSome, IfNone, All, is_none};
+ghost use Rattle.std.specs.Prelude.{◌≡◌, ◌↔◌, ◌+◌, ◌<◌, ◌≤◌, ◌++◌, List, length, drop, IsTrue, Some, IfSome, IfNone, All, is_none};
 ghost use Rattle.rtp_ext.specs.declared.form.ExtensionsForm.TheVariants.{OneByte};
 ghost use Rattle.rtp_ext.specs.Elements.{Element, AreElements, IsElement};
 ghost use Rattle.rtp_ext.specs.ElementReading.{BeginsWithNoElement, elements_left};
 ghost use Rattle.rtp_ext.specs.ElementWriting.{element_header};
 ghost use Rattle.rtp_ext.specs.ElementsInPlace.{HasNone, bytes_under, HasLast, HasLastOf, SetsLast, ChangesIds, CanRenumber, renumbered, all_but};
-ghost use Rattle.rtp_ext.specs.ElementPlaces.{LiesAt, IsNextPlace, IsLastPlace, LiesLast, WritesLast, IsLeft};
+ghost use Rattle.rtp_ext.specs.ElementPlaces.{LiesAt, IsNextPlace, IsLastPlace, LiesLast, WritesLast};
 ghost use Rattle.std.specs.Bool.{OnTrue, OnFalse};
 ghost use Rattle.rtp_ext.specs.ExtensionMap.{Slots, extension_at, IsOnlyId};
 ghost use Rattle.rtp_ext.specs.BlockValues.{SaysValues};
@@ -20,6 +20,7 @@ ghost use Rattle.rtp_ext.specs.WrittenBlock.{mapped_fields};
 
 use super::elements::first_element;
 use super::form::{header_len, write_header};
+use super::growing::survey_of;
 use super::raw_writing::put_data;
 use super::{ExtensionsForm, NewIds};
 use rtp_base::put_zeros;
@@ -40,7 +41,7 @@ pub struct Place {
 // The place of an element with so many bytes of data, behind which so many bytes of the body are
 // left.
 #[inline(always)]
-fn place_before(
+pub(super) fn place_before(
     form: ExtensionsForm,
     body_len: usize,
     left: usize,
@@ -79,28 +80,6 @@ pub fn next_place(form: ExtensionsForm, body: &[u8], at: usize) -> Option<Place>
     Some(place_before(form, body.len(), after.len(), id, data.len()))
 }
 
-// The place of the first element of the bytes that are left of a body, and the bytes after it; `None`
-// where reading ends before one. A walk goes on in the bytes after it.
-#[inline(always)]
-pub(super) fn place_in_left<'a>(
-    form: ExtensionsForm,
-    body: &[u8],
-    left: &'a [u8],
-) -> Option<(Place, &'a [u8])>
-    requires { IsLeft body.now left.now }
-    ensures found { IfSome result (λ next.
-        IsNextPlace form body.now (length body.now - length left.now) next.0) }
-    ensures left { IfSome result (λ next. IsLeft body.now next.1.now) }
-    ensures end { IfSome result (λ next. next.0.end ≡ length body.now - length next.1.now) }
-    ensures fewer { IfSome result (λ next. length next.1.now < length left.now) }
-    ensures none { IfNone result
-        (BeginsWithNoElement form (drop (length body.now - length left.now) body.now)) }
-{
-    let (id, data, after) = first_element(left, form)?;
-    let place = place_before(form, body.len(), after.len(), id, data.len());
-    Some((place, after))
-}
-
 /// The place of the last element of the id in a block's body, and `None` where no element has it.
 #[inline(always)]
 pub fn last_place(form: ExtensionsForm, body: &[u8], id: u8) -> Option<Place>
@@ -111,15 +90,7 @@ pub fn last_place(form: ExtensionsForm, body: &[u8], id: u8) -> Option<Place>
     ensures none { (elements : List Element) → AreElements form body.now elements →
         IfNone result (HasNone elements id) }
 {
-    let mut last = None;
-    let mut left = body;
-    while let Some((place, after)) = place_in_left(form, body, left) {
-        left = after;
-        if place.id == id {
-            last = Some(place);
-        }
-    }
-    last
+    survey_of(form, body, id).last
 }
 
 // Gives the element at the place another id, or makes it padding.

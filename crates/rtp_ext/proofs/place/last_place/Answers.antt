@@ -1,47 +1,42 @@
-use Rattle.std.proofs.Common.{ℕ, ◌-◌, length, Some, None, subst}
-use Rattle.rtp_ext.specs.ElementPlaces.{IsPassed}
-use Rattle.rtp_ext.proofs.LastPlaceLemmas.{IsPassed-start, IsPassed-this, IsPassed-other, IsPassed-found, IsPassed-id, IsPassed-lies, lies-within, IsPassed-none}
-use Rattle.rtp_ext.proofs.LeftLemmas.{none_passed, IsLeft-all}
+use Rattle.std.proofs.Common.{◌≡◌, ℕ, List, Option, Some, None, IfSome, IfNone, subst}
+use Rattle.rtp_ext.specs.declared.form.ExtensionsForm.{ExtensionsForm}
+use Rattle.rtp_ext.specs.declared.place.Place.{Place}
+use Rattle.rtp_ext.specs.Elements.{AreElements}
+use Rattle.rtp_ext.specs.ElementsInPlace.{HasNone}
+use Rattle.rtp_ext.specs.ElementPlaces.{IsLastPlace, LiesLast}
+use Rattle.rtp_ext.proofs.LastPlaceLemmas.{AreElements-same, lies-within}
 use Rattle.rtp_ext.proofs.place.last_place.Goals as goal
 
-pub loop-place-init : goal.loop-place-init
-loop-place-init c = (
-  IsLeft-all c.args.body.now,
-  subst (λ (at : ℕ). IsPassed c.args.form c.args.body.now at c.args.id None) (none_passed c.args.body.now) (IsPassed-start c.args.form c.args.body.now c.args.id),
-)
+module _ (form : ExtensionsForm) (body : List ℕ) (id : ℕ) where
+  found : (last : Option Place) → IfSome last (λ place. (place.id ≡ id) × IsLastPlace (AreElements form) id body place × LiesLast form (AreElements form) id body place)
+      → IfSome last (IsLastPlace (AreElements form) id body)
+  found None is = tt
+  found (Some place) is = is.1
 
-pub loop-place-preserved-then-place-id : goal.loop-place-preserved-then-place-id
-loop-place-preserved-then-place-id c = (
-  c.in-Some.ensures.left,
-  subst (λ (at : ℕ). IsPassed c.args.form c.args.body.now at c.args.id (Some c.in-Some.place)) c.in-Some.ensures.end
-      (IsPassed-this c.args.form c.args.body.now (length c.args.body.now - length c.loop-place.left.now) c.args.id c.loop-place.last c.in-Some.place
-      c.loop-place.invariant.1 c.in-Some.ensures.found c.if-place-id.true),
-)
+  has_id : (last : Option Place) → IfSome last (λ place. (place.id ≡ id) × IsLastPlace (AreElements form) id body place × LiesLast form (AreElements form) id body place)
+      → IfSome last (λ place. place.id ≡ id)
+  has_id None is = tt
+  has_id (Some place) is = is.0
 
-pub loop-place-preserved : goal.loop-place-preserved
-loop-place-preserved c = (
-  c.in-Some.ensures.left,
-  subst (λ (at : ℕ). IsPassed c.args.form c.args.body.now at c.args.id c.loop-place.last) c.in-Some.ensures.end
-      (IsPassed-other c.args.form c.args.body.now (length c.args.body.now - length c.loop-place.left.now) c.args.id c.loop-place.last c.in-Some.place
-      c.loop-place.invariant.1 c.in-Some.ensures.found c.if-place-id.false),
-)
+  lies : (last : Option Place) → IfSome last (λ place. (place.id ≡ id) × IsLastPlace (AreElements form) id body place × LiesLast form (AreElements form) id body place)
+      → IfSome last (LiesLast form (AreElements form) id body)
+  lies None is = tt
+  lies (Some place) is = is.2
 
 pub returns-clause-found : goal.returns-clause-found
-returns-clause-found c =
-    IsPassed-found c.args.form c.args.body.now _ c.args.id c.loop-place.last c.loop-place.invariant.1 c.in_default.ensures.none
+returns-clause-found c = found c.args.form c.args.body.now c.args.id c.survey_of.result.last c.survey_of.ensures.last_is
 
 pub returns-clause-id : goal.returns-clause-id
-returns-clause-id c = IsPassed-id c.args.form c.args.body.now _ c.args.id c.loop-place.last c.loop-place.invariant.1
+returns-clause-id c = has_id c.args.form c.args.body.now c.args.id c.survey_of.result.last c.survey_of.ensures.last_is
 
 pub returns-clause-lies : goal.returns-clause-lies
-returns-clause-lies c =
-    IsPassed-lies c.args.form c.args.body.now _ c.args.id c.loop-place.last c.loop-place.invariant.1 c.in_default.ensures.none
+returns-clause-lies c = lies c.args.form c.args.body.now c.args.id c.survey_of.result.last c.survey_of.ensures.last_is
 
 pub returns-clause-within : goal.returns-clause-within
 returns-clause-within c =
-    lies-within c.args.form c.args.id c.args.body.now c.loop-place.last
-    (IsPassed-lies c.args.form c.args.body.now _ c.args.id c.loop-place.last c.loop-place.invariant.1 c.in_default.ensures.none)
+    lies-within c.args.form c.args.id c.args.body.now c.survey_of.result.last (lies c.args.form c.args.body.now c.args.id c.survey_of.result.last c.survey_of.ensures.last_is)
 
 pub returns-clause-none : goal.returns-clause-none
-returns-clause-none c =
-    IsPassed-none c.args.form c.args.body.now _ c.args.id c.loop-place.last c.loop-place.invariant.1 c.in_default.ensures.none
+returns-clause-none c = λ elements are.
+    subst (λ es. IfNone c.survey_of.result.last (HasNone es c.args.id))
+    (AreElements-same c.args.form c.args.body.now c.survey_of.ensures.elements elements c.survey_of.ensures.are_elements are) c.survey_of.ensures.none_is
