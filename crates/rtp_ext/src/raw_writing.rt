@@ -37,8 +37,8 @@ fn fit<L: ElementList>(room: usize, form: ExtensionsForm, elements: L) -> bool
     true
 }
 
-// Puts the data of an element at the offset. One byte or two, as many elements have, are put one by one,
-// since a copy of so few takes longer.
+// Puts the data of an element at the offset. Up to three bytes, as most elements have, are put one by
+// one, since a copy of so few takes longer.
 #[inline(always)]
 pub(super) fn put_data(buf: &mut [u8], at: usize, data: &[u8])
     requires { at + length «data».now ≤ length buf.old }
@@ -49,6 +49,11 @@ pub(super) fn put_data(buf: &mut [u8], at: usize, data: &[u8])
         [first, second] => {
             buf[at] = *first;
             buf[at + 1] = *second;
+        }
+        [first, second, third] => {
+            buf[at] = *first;
+            buf[at + 1] = *second;
+            buf[at + 2] = *third;
         }
         _ => {
             put(buf, at, data);
