@@ -68,7 +68,9 @@ impl<'a> Iterator for Elements<'a> {
     }
 }
 
-// The first element of bytes, and what follows it; None where reading ends before one.
+// The first element of bytes, and what follows it; None where reading ends before one. It is inlined,
+// since each walk calls it for every element.
+#[inline(always)]
 pub(super) fn first_element(bytes: &[u8], form: ExtensionsForm) -> Option<(u8, &[u8], &[u8])>
     ensures { IsFirstElement form bytes.now result }
 {
