@@ -75,7 +75,9 @@ pub(super) fn put_element(
     ensures end { result ≡ at + length (element_bytes form (id, bytes.now)) }
 {
     write_header(buf, at, form, id, bytes.len() as u8);
-    put(buf, at + header_len(form), bytes)
+    let data_at = at + header_len(form);
+    put_data(buf, data_at, bytes);
+    data_at + bytes.len()
 }
 
 /// Writes the elements to the front of the buffer and returns the length that they take; the bytes
