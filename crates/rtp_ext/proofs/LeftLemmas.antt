@@ -66,8 +66,8 @@ module _ (form : ExtensionsForm) (body left : List ℕ) (id : ℕ) (bytes after 
   unfolding place_left
   len_other = omega (arith, total)
 
-  pub fits_other : length body - length left + (length (element_header form id (length bytes)) + length bytes) ≤ length body
-  fits_other = omega (arith, total)
+  pub fits_all : length body - length left + (length (element_header form id (length bytes)) + length bytes) + length after ≤ length body
+  fits_all = omega (arith, total)
 
 -- where no element is left
 pub none_left : (form : ExtensionsForm) (body left : List ℕ) → IsLeft body left → BeginsWithNoElement form left → BeginsWithNoElement form (drop (length body - length left) body)

@@ -1,6 +1,7 @@
 //! The elements of a block, one after another.
 
 ghost use Rattle.std.specs.Prelude.{◌≡◌, List, length, MatchOption};
+ghost use Rattle.std.specs.Bool.{OnTrue};
 ghost use Rattle.std.specs.List.{IsFirstAndRest};
 ghost use Rattle.std.specs.Iterator.{YieldsFirstBy, item_count};
 ghost use Rattle.rtp_ext.specs.Elements.{Element, AreElements};
@@ -67,7 +68,9 @@ impl<'a> Iterator for Elements<'a> {
     }
 }
 
-// The first element of bytes, and what follows it; None where reading ends before one.
+// The first element of bytes, and what follows it; None where reading ends before one. It is inlined,
+// since each walk calls it for every element.
+#[inline(always)]
 pub(super) fn first_element(bytes: &[u8], form: ExtensionsForm) -> Option<(u8, &[u8], &[u8])>
     ensures { IsFirstElement form bytes.now result }
 {
@@ -97,11 +100,29 @@ fn first_unpadded(bytes: &[u8]) -> Option<(&u8, &[u8])>
     if *first != 0 {
         return Some((first, after));
     }
+    if ends_in_zeros(after) {
+        return None;
+    }
     skip_zeros(after).split_first()
+}
+
+// Whether these bytes are at most two zeros: with one before them they are the padding of most blocks, which
+// ends in a whole word.
+#[inline(always)]
+fn ends_in_zeros(bytes: &[u8]) -> bool
+    ensures { OnTrue result (length (without_padding bytes.now) ≡ 0) }
+{
+    match bytes {
+        [] => true,
+        [second] => *second == 0,
+        [second, third] => *second == 0 && *third == 0,
+        _ => false,
+    }
 }
 
 // The bytes after the padding at their front. It stays out of line, since few elements have padding
 // before them.
+#[cold]
 #[inline(never)]
 fn skip_zeros(bytes: &[u8]) -> &[u8]
     ensures { result.now ≡ without_padding bytes.now }

@@ -1,22 +1,24 @@
 //! A body that is made anew where it lies, with an element put into it or taken out of it, without
 //! memory.
 
-ghost use Rattle.std.specs.Prelude.{◌≡◌, ◌↔◌, ℕ, ◌+◌, ◌-◌, ◌*◌, ◌≤◌, ◌∷◌, ◌++◌, ◌⊎◌, List, length, take, drop, slice_range, IsTrue, IfSome, IfNone};
+ghost use Rattle.std.specs.Prelude.{◌≡◌, ◌↔◌, ℕ, ◌+◌, ◌-◌, ◌*◌, ◌<◌, ◌≤◌, ◌∷◌, ◌++◌, ◌⊎◌, List, length, take, drop, slice_range, IsTrue, Option, Some, IfSome, IfNone};
 ghost use Rattle.std.specs.Bool.{OnTrue, OnFalse};
 ghost use Rattle.rtp_ext.specs.declared.form.ExtensionsForm.TheVariants.{OneByte, TwoByte};
 ghost use Rattle.rtp_ext.specs.Elements.{Element, AreElements, element_bytes, elements_bytes};
 ghost use Rattle.rtp_ext.specs.ElementsInARow.{IsWritable};
 ghost use Rattle.rtp_ext.specs.ElementsInPlace.{SetsLast};
-ghost use Rattle.rtp_ext.specs.BodySurvey.{IsSurvey, IsGathered, HasRows, HasNarrowRows, IsWideRow, IsWidened, IsTakenOut};
+ghost use Rattle.rtp_ext.specs.ElementReading.{BeginsWithNoElement};
+ghost use Rattle.rtp_ext.specs.ElementPlaces.{IsLeft};
+ghost use Rattle.rtp_ext.specs.BodySurvey.{IsSurvey, IsSurveyedTo, IsGathered, HasRows, HasNarrowRows, IsWideRow, IsWidened, IsTakenOut};
 ghost use Rattle.rtp_ext.specs.PutElement.{without, put_element, carried_in, row_to, IsSole};
 
 use super::ExtensionsForm;
 use super::elements::first_element;
 use super::form::header_len;
 use super::place::{Place, next_place, place_before};
-use super::raw_writing::put_element;
+use super::raw_writing::{put_data, put_element};
 use super::widening::{put_widened, widened_len};
-use rtp_base::{put, put_zeros};
+use rtp_base::put_zeros;
 
 /// What a body has of an id, and how much besides.
 #[derive(Clone, Copy, Drop)]
@@ -42,29 +44,67 @@ pub fn survey_of(form: ExtensionsForm, body: &[u8], id: u8) -> Survey
     }
 }
 
-// The same. It is inlined, so that each form has a loop of its own.
+// How far a walk over a body has come.
+#[derive(Drop)]
+struct Walk<'a> {
+    // The bytes that are left of the body.
+    left: &'a [u8],
+    // How many bytes the elements of other ids before them take.
+    others_len: usize,
+}
+
+impl Walk<'_> {
+    // Goes on after the next element of the id, and returns its place; where none is left, to the end of
+    // reading. It has a loop of its own, so that less is kept from one element of another id to the next.
+    #[inline(always)]
+    fn next_of(&mut self, form: ExtensionsForm, body: &[u8], id: u8) -> Option<Place>
+        requires left { IsLeft body.now self.old.left.now }
+        requires few { self.old.others_len ≤ length body.now - length self.old.left.now }
+        ensures left { IsLeft body.now self.new.left.now }
+        ensures few { self.new.others_len ≤ length body.now - length self.new.left.now }
+        ensures fewer { IfSome result (λ _. length self.new.left.now < length self.old.left.now) }
+        ensures some { (last : Option Place) (count : ℕ) → IsSurveyedTo form body.now
+            (length body.now - length self.old.left.now) id last count self.old.others_len →
+            IfSome result (λ place. IsSurveyedTo form body.now
+            (length body.now - length self.new.left.now) id (Some place) (count + 1) self.new.others_len) }
+        ensures none { (last : Option Place) (count : ℕ) → IsSurveyedTo form body.now
+            (length body.now - length self.old.left.now) id last count self.old.others_len →
+            IfNone result (IsSurveyedTo form body.now
+            (length body.now - length self.new.left.now) id last count self.new.others_len) }
+        ensures end { IfNone result
+            (BeginsWithNoElement form (drop (length body.now - length self.new.left.now) body.now)) }
+    {
+        while let Some((other, data, after)) = first_element(self.left, form) {
+            self.left = after;
+            if other == id {
+                return Some(place_before(form, body.len(), after.len(), id, data.len()));
+            }
+            self.others_len += header_len(form) + data.len();
+        }
+        None
+    }
+}
+
+// The same. It is inlined, so that each form has loops of its own.
 #[inline(always)]
 fn survey_in(form: ExtensionsForm, body: &[u8], id: u8) -> Survey
     ensures { IsSurvey form body.now id result }
 {
     let mut last = None;
     let mut count = 0;
-    let mut others_len = 0;
-    let mut left = body;
-    while let Some((other, data, after)) = first_element(left, form) {
-        left = after;
-        if other == id {
-            last = Some(place_before(form, body.len(), after.len(), id, data.len()));
-            count += 1;
-        } else {
-            others_len += header_len(form) + data.len();
-        }
+    let mut walk = Walk {
+        left: body,
+        others_len: 0,
+    };
+    while let Some(place) = walk.next_of(form, body, id) {
+        last = Some(place);
+        count += 1;
     }
     Survey {
         last,
         count,
-        others_len,
-        end: body.len() - left.len(),
+        others_len: walk.others_len,
+        end: body.len() - walk.left.len(),
     }
 }
 
@@ -106,7 +146,7 @@ pub fn set_sole(body: &mut [u8], survey: &Survey, id: u8, data: &[u8]) -> bool
     if survey.count != 1 || place.end - place.data_start != data.len() {
         return false;
     }
-    put(body, place.data_start, data);
+    put_data(body, place.data_start, data);
     true
 }
 

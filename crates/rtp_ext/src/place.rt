@@ -20,8 +20,10 @@ ghost use Rattle.rtp_ext.specs.WrittenBlock.{mapped_fields};
 
 use super::elements::first_element;
 use super::form::{header_len, write_header};
+use super::growing::survey_of;
+use super::raw_writing::put_data;
 use super::{ExtensionsForm, NewIds};
-use rtp_base::{put, put_zeros};
+use rtp_base::put_zeros;
 
 /// Where an element lies in the body of a block, as offsets from the body's first byte.
 #[derive(Clone, Copy, Drop)]
@@ -79,6 +81,7 @@ pub fn next_place(form: ExtensionsForm, body: &[u8], at: usize) -> Option<Place>
 }
 
 /// The place of the last element of the id in a block's body, and `None` where no element has it.
+#[inline(always)]
 pub fn last_place(form: ExtensionsForm, body: &[u8], id: u8) -> Option<Place>
     ensures found { IfSome result (IsLastPlace (AreElements form) id body.now) }
     ensures id { IfSome result (λ place. place.id ≡ id) }
@@ -87,15 +90,7 @@ pub fn last_place(form: ExtensionsForm, body: &[u8], id: u8) -> Option<Place>
     ensures none { (elements : List Element) → AreElements form body.now elements →
         IfNone result (HasNone elements id) }
 {
-    let mut last = None;
-    let mut left = body;
-    while let Some((other, data, after)) = first_element(left, form) {
-        left = after;
-        if other == id {
-            last = Some(place_before(form, body.len(), after.len(), id, data.len()));
-        }
-    }
-    last
+    survey_of(form, body, id).last
 }
 
 // Gives the element at the place another id, or makes it padding.
@@ -162,7 +157,7 @@ pub fn set_element(form: ExtensionsForm, body: &mut [u8], id: u8, data: &[u8]) -
     if place.end - place.data_start != data.len() {
         return false;
     }
-    put(body, place.data_start, data);
+    put_data(body, place.data_start, data);
     true
 }
 

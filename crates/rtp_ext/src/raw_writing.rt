@@ -37,6 +37,30 @@ fn fit<L: ElementList>(room: usize, form: ExtensionsForm, elements: L) -> bool
     true
 }
 
+// Puts the data of an element at the offset. Up to three bytes, as most elements have, are put one by
+// one, since a copy of so few takes longer.
+#[inline(always)]
+pub(super) fn put_data(buf: &mut [u8], at: usize, data: &[u8])
+    requires { at + length «data».now ≤ length buf.old }
+    ensures { buf.new ≡ overwritten buf.old at «data».now }
+{
+    match data {
+        [first] => buf[at] = *first,
+        [first, second] => {
+            buf[at] = *first;
+            buf[at + 1] = *second;
+        }
+        [first, second, third] => {
+            buf[at] = *first;
+            buf[at + 1] = *second;
+            buf[at + 2] = *third;
+        }
+        _ => {
+            put(buf, at, data);
+        }
+    }
+}
+
 // Puts an element at the offset, and returns the offset after it.
 pub(super) fn put_element(
     buf: &mut [u8],
@@ -51,7 +75,9 @@ pub(super) fn put_element(
     ensures end { result ≡ at + length (element_bytes form (id, bytes.now)) }
 {
     write_header(buf, at, form, id, bytes.len() as u8);
-    put(buf, at + header_len(form), bytes)
+    let data_at = at + header_len(form);
+    put_data(buf, data_at, bytes);
+    data_at + bytes.len()
 }
 
 /// Writes the elements to the front of the buffer and returns the length that they take; the bytes

@@ -16,3 +16,6 @@ pub returns : goal.returns
 returns c =
     subst (λ (bytes : List ℕ). MatchOption c.split_first-2.result (length bytes ≡ 0) (λ split. IsFirstAndRest bytes split.0.now split.1.now))
     (c.skip_zeros.ensures ∙ sym (without_padding-zero _ _ _ c.in_ok-first.ensures.cases c.if-first-ne0.false)) c.split_first-2.ensures.cases
+
+pub returns-then-ends_in_zeros : goal.returns-then-ends_in_zeros
+returns-then-ends_in_zeros c = ap length (without_padding-zero _ _ _ c.in_ok-first.ensures.cases c.if-first-ne0.false) ∙ c.if-ends_in_zeros.ensures

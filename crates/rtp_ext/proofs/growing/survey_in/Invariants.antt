@@ -4,8 +4,9 @@ use Rattle.rtp_ext.specs.BodySurvey.{IsSurveyedTo}
 use Rattle.rtp_ext.proofs.growing.survey_in.Given as goal
 
 -- what is known of the elements up to the bytes that are left
-abbrev pub invariant-loop-other : goal.invariant-loop-other
-invariant-loop-other l = IsLeft l.body l.left × IsSurveyedTo l.form l.body (length l.body - length l.left) l.id l.last l.count l.others_len
+abbrev pub invariant-loop-place : goal.invariant-loop-place
+invariant-loop-place l =
+    IsLeft l.body l.walk.left.now × IsSurveyedTo l.form l.body (length l.body - length l.walk.left.now) l.id l.last l.count l.walk.others_len
 
-abbrev pub decreases-loop-other : goal.decreases-loop-other
-decreases-loop-other l = length l.left
+abbrev pub decreases-loop-place : goal.decreases-loop-place
+decreases-loop-place l = length l.walk.left.now

@@ -1,60 +1,42 @@
-use Rattle.std.proofs.Common.{ℕ, ◌-◌, length, Some, None, arith, sym, ◌∙◌, subst}
-use Rattle.rtp_ext.specs.ElementReading.{BeginsWithElement}
-use Rattle.rtp_ext.specs.ElementPlaces.{IsPassed}
-use Rattle.rtp_ext.proofs.LastPlaceLemmas.{IsPassed-start, IsPassed-this, IsPassed-other, IsPassed-found, IsPassed-id, IsPassed-lies, lies-within, IsPassed-none}
-use Rattle.rtp_ext.proofs.LeftLemmas.{none_passed, IsLeft-all, IsLeft-next, next_left, place_left, next_other, end_other, id_other, none_left}
+use Rattle.std.proofs.Common.{◌≡◌, ℕ, List, Option, Some, None, IfSome, IfNone, subst}
+use Rattle.rtp_ext.specs.declared.form.ExtensionsForm.{ExtensionsForm}
+use Rattle.rtp_ext.specs.declared.place.Place.{Place}
+use Rattle.rtp_ext.specs.Elements.{AreElements}
+use Rattle.rtp_ext.specs.ElementsInPlace.{HasNone}
+use Rattle.rtp_ext.specs.ElementPlaces.{IsLastPlace, LiesLast}
+use Rattle.rtp_ext.proofs.LastPlaceLemmas.{AreElements-same, lies-within}
 use Rattle.rtp_ext.proofs.place.last_place.Goals as goal
 
-pub loop-other-init : goal.loop-other-init
-loop-other-init c = (
-  IsLeft-all c.args.body.now,
-  subst (λ (at : ℕ). IsPassed c.args.form c.args.body.now at c.args.id None) (none_passed c.args.body.now) (IsPassed-start c.args.form c.args.body.now c.args.id),
-)
+module _ (form : ExtensionsForm) (body : List ℕ) (id : ℕ) where
+  found : (last : Option Place) → IfSome last (λ place. (place.id ≡ id) × IsLastPlace (AreElements form) id body place × LiesLast form (AreElements form) id body place)
+      → IfSome last (IsLastPlace (AreElements form) id body)
+  found None is = tt
+  found (Some place) is = is.1
 
-pub loop-other-preserved-then-other-id : goal.loop-other-preserved-then-other-id
-loop-other-preserved-then-other-id c =
-    let was = c.loop-other.invariant in
-    let next = next_left c.args.form c.args.body.now c.loop-other.left.now c.args.id c.in-Some.data.now c.in-Some.after.now was.0
-    (subst (λ (i : ℕ). BeginsWithElement c.args.form c.loop-other.left.now (i, c.in-Some.data.now) c.in-Some.after.now) c.if-other-id.true c.in-Some.ensures)
-    c.place_before.result c.place_before.ensures.id c.place_before.ensures.start c.place_before.ensures.data_start c.place_before.ensures.end in (
-      IsLeft-next c.args.form c.args.body.now c.loop-other.left.now c.in-Some.other c.in-Some.data.now c.in-Some.after.now was.0 c.in-Some.ensures,
-      subst (λ (at : ℕ). IsPassed c.args.form c.args.body.now at c.args.id (Some c.place_before.result)) (omega (arith, c.place_before.ensures.end))
-          (IsPassed-this c.args.form c.args.body.now (length c.args.body.now - length c.loop-other.left.now) c.args.id c.loop-other.last c.place_before.result was.1 next c.place_before.ensures.id),
-    )
+  has_id : (last : Option Place) → IfSome last (λ place. (place.id ≡ id) × IsLastPlace (AreElements form) id body place × LiesLast form (AreElements form) id body place)
+      → IfSome last (λ place. place.id ≡ id)
+  has_id None is = tt
+  has_id (Some place) is = is.0
 
-pub loop-other-preserved : goal.loop-other-preserved
-loop-other-preserved c =
-    let was = c.loop-other.invariant in
-    let place = place_left c.args.form c.args.body.now c.loop-other.left.now c.in-Some.other c.in-Some.data.now c.in-Some.after.now was.0 c.in-Some.ensures in
-    let end = end_other c.args.form c.args.body.now c.loop-other.left.now c.in-Some.other c.in-Some.data.now c.in-Some.after.now was.0 c.in-Some.ensures in
-    let id = id_other c.args.form c.args.body.now c.loop-other.left.now c.in-Some.other c.in-Some.data.now c.in-Some.after.now was.0 c.in-Some.ensures in (
-      IsLeft-next c.args.form c.args.body.now c.loop-other.left.now c.in-Some.other c.in-Some.data.now c.in-Some.after.now was.0 c.in-Some.ensures,
-      subst (λ (at : ℕ). IsPassed c.args.form c.args.body.now at c.args.id c.loop-other.last) end
-          (IsPassed-other c.args.form c.args.body.now (length c.args.body.now - length c.loop-other.left.now) c.args.id c.loop-other.last place was.1
-          (next_other c.args.form c.args.body.now c.loop-other.left.now c.in-Some.other c.in-Some.data.now c.in-Some.after.now was.0 c.in-Some.ensures)
-          (λ same. c.if-other-id.false (sym id ∙ same))),
-    )
+  lies : (last : Option Place) → IfSome last (λ place. (place.id ≡ id) × IsLastPlace (AreElements form) id body place × LiesLast form (AreElements form) id body place)
+      → IfSome last (LiesLast form (AreElements form) id body)
+  lies None is = tt
+  lies (Some place) is = is.2
 
 pub returns-clause-found : goal.returns-clause-found
-returns-clause-found c =
-    IsPassed-found c.args.form c.args.body.now _ c.args.id c.loop-other.last c.loop-other.invariant.1
-    (none_left c.args.form c.args.body.now c.loop-other.left.now c.loop-other.invariant.0 c.in_default.ensures)
+returns-clause-found c = found c.args.form c.args.body.now c.args.id c.survey_of.result.last c.survey_of.ensures.last_is
 
 pub returns-clause-id : goal.returns-clause-id
-returns-clause-id c = IsPassed-id c.args.form c.args.body.now _ c.args.id c.loop-other.last c.loop-other.invariant.1
+returns-clause-id c = has_id c.args.form c.args.body.now c.args.id c.survey_of.result.last c.survey_of.ensures.last_is
 
 pub returns-clause-lies : goal.returns-clause-lies
-returns-clause-lies c =
-    IsPassed-lies c.args.form c.args.body.now _ c.args.id c.loop-other.last c.loop-other.invariant.1
-    (none_left c.args.form c.args.body.now c.loop-other.left.now c.loop-other.invariant.0 c.in_default.ensures)
+returns-clause-lies c = lies c.args.form c.args.body.now c.args.id c.survey_of.result.last c.survey_of.ensures.last_is
 
 pub returns-clause-within : goal.returns-clause-within
 returns-clause-within c =
-    lies-within c.args.form c.args.id c.args.body.now c.loop-other.last
-    (IsPassed-lies c.args.form c.args.body.now _ c.args.id c.loop-other.last c.loop-other.invariant.1
-    (none_left c.args.form c.args.body.now c.loop-other.left.now c.loop-other.invariant.0 c.in_default.ensures))
+    lies-within c.args.form c.args.id c.args.body.now c.survey_of.result.last (lies c.args.form c.args.body.now c.args.id c.survey_of.result.last c.survey_of.ensures.last_is)
 
 pub returns-clause-none : goal.returns-clause-none
-returns-clause-none c =
-    IsPassed-none c.args.form c.args.body.now _ c.args.id c.loop-other.last c.loop-other.invariant.1
-    (none_left c.args.form c.args.body.now c.loop-other.left.now c.loop-other.invariant.0 c.in_default.ensures)
+returns-clause-none c = λ elements are.
+    subst (λ es. IfNone c.survey_of.result.last (HasNone es c.args.id))
+    (AreElements-same c.args.form c.args.body.now c.survey_of.ensures.elements elements c.survey_of.ensures.are_elements are) c.survey_of.ensures.none_is

@@ -10,7 +10,7 @@ returns-clause-written c =
     let bytes = c.args.bytes.now in
     let start = c.args.at + c.header_len.result in
     let header_len = c.header_len.ensures c.args.id (length bytes) in
-    c.put.ensures.written
+    c.put_data.ensures
     ∙ (ap (λ (b : List ℕ). overwritten b start bytes) c.write_header.ensures
     ∙ (overwritten-overwritten c.args.buf.now (element_header c.args.form c.args.id (length bytes)) bytes c.args.at start
     (ap (λ (n : ℕ). c.args.at + n) header_len) (omega (arith, c.requires.room, header_len, length-header c.args.form c.args.id bytes))
