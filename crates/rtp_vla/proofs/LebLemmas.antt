@@ -83,6 +83,15 @@ read_none buf value weight i so_far past few =
     sym (so_far
     ∙ ap (weighed value weight i) (ap (λ (k : ℕ). leb_number k (drop i buf)) room ∙ ap (leb_number (suc (8 - i))) (drop_all i buf past) ∙ leb_number-nil (8 - i)))
 
+-- a number of two bytes
+pub read_two : (buf : List ℕ) (low : ℕ) → 2 ≤ length buf → low ≡ bit_and (get_or buf 0 0) 127 → 128 ≤ get_or buf 0 0 → get_or buf 1 0 < 128 → read_as (low + 128 * get_or buf 1 0) 2 ≡ leb_number 9 buf
+read_two [] low some low-is high below = absurd (omega arith)
+read_two (a ∷ []) low some low-is high below = absurd (omega arith)
+read_two (a ∷ b ∷ bytes) low some low-is high below =
+    sym (leb_number-high 7 a (b ∷ bytes) high
+    ∙ ap (option_map (λ (read : ℕ × ℕ). (a % 128 + 128 * read.0, suc read.1))) (leb_number-low 7 b bytes below)
+    ∙ same_read _ _ _ _ (omega (arith, low_bits a low low-is)) refl)
+
 pub weight_fits : (i weight : ℕ) → weight ≡ 128 ^ i → i < 8 → weight * 128 < 2 ^ 64
 weight_fits i weight is few =
     let small : 128 ^ i ≤ 128 ^ 7 = pow-le-pow_right {n = 128} (omega arith) {i = i} {j = 7} (omega arith) in

@@ -5,10 +5,10 @@ ghost use Rattle.rtp_base.specs.Overwriting.{overwritten};
 ghost use Rattle.rtp_vla.specs.Leb.{IsShortest, ReadsLeb, shortest_of};
 ghost use Rattle.rtp_vla.specs.LebReading.{leb_number};
 
-// The number at the front, and how many bytes spell it. It is apart, so that the numbers of one byte
-// are read where they are asked for, and no call is made where no byte is left.
+// The number at the front, and how many bytes spell it. It is apart, so that the numbers of one and
+// two bytes are read where they are asked for.
 #[inline(never)]
-fn number_at(buf: &[u8]) -> Option<(u64, usize)>
+fn long_number_at(buf: &[u8]) -> Option<(u64, usize)>
     ensures read { result ≡ leb_number 9 buf.now }
     ensures within { IfSome result (λ read. read.1 ≤ length buf.now) }
 {
@@ -25,6 +25,21 @@ fn number_at(buf: &[u8]) -> Option<(u64, usize)>
         weight *= 128;
     }
     None
+}
+
+// The same. Most rates in use have two bytes.
+#[inline(always)]
+fn number_at(buf: &[u8]) -> Option<(u64, usize)>
+    ensures read { result ≡ leb_number 9 buf.now }
+    ensures within { IfSome result (λ read. read.1 ≤ length buf.now) }
+{
+    if let [first, second, ..] = buf {
+        if *first >= 0x80 && *second < 0x80 {
+            let value = u64::from(*first & 0x7F) + 128 * u64::from(*second);
+            return Some((value, 2));
+        }
+    }
+    long_number_at(buf)
 }
 
 /// Reads the number at the front of the bytes, and returns it with the bytes that follow it. Each

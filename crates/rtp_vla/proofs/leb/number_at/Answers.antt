@@ -1,25 +1,7 @@
-use Rattle.std.proofs.Common.{arith, ◌∙◌}
-use Rattle.std.proofs.lemmas.Grind.{pow_more}
-use Rattle.std.proofs.Common.{ap, sym, ◌*◌, ℕ}
-use Rattle.rtp_vla.proofs.LebLemmas.{read_low, read_ninth, read_more, read_none, weight_fits, value_below}
+use Rattle.std.proofs.Common.{◌+◌, ◌*◌, ◌∙◌, arith, Some}
+use Rattle.rtp_vla.proofs.LebLemmas.{read_two}
 use Rattle.rtp_vla.proofs.leb.number_at.Goals as goal
 
-pub returns-then-byte-lt128-clause-read : goal.returns-then-byte-lt128-clause-read
-returns-then-byte-lt128-clause-read c = read_low _ _ _ _ _ c.loop-i.invariant.read c.loop-i-test.true c.loop-i.invariant.few c.from.ensures c.if-byte-lt128.true
-
-pub returns-then-i-eq8-clause-read : goal.returns-then-i-eq8-clause-read
-returns-then-i-eq8-clause-read c = read_ninth _ _ _ _ _ c.loop-i.invariant.read c.loop-i-test.true c.if-i-eq8.true c.from.ensures
-
-pub overflow_mul-weight : goal.overflow_mul-weight
-overflow_mul-weight c = omega (arith, weight_fits _ _ c.loop-i.invariant.weight_is (omega arith))
-
-pub loop-i-preserved : goal.loop-i-preserved
-loop-i-preserved c = record {
-  read = read_more _ _ _ _ _ c.loop-i.invariant.read c.loop-i-test.true (omega arith) c.from.ensures c.if-byte-lt128.false;
-  weight_is = ap (λ (n : ℕ). n * 128) c.loop-i.invariant.weight_is ∙ sym (pow_more 128 c.loop-i.i);
-  below = value_below _ _ _ _ c.loop-i.invariant.below c.from.ensures;
-  few = omega arith;
-}
-
-pub returns-clause-read : goal.returns-clause-read
-returns-clause-read c = read_none _ _ _ _ c.loop-i.invariant.read c.loop-i-test.false c.loop-i.invariant.few
+pub returns-then-second-lt128-clause-read : goal.returns-then-second-lt128-clause-read
+returns-then-second-lt128-clause-read c =
+    (λ j. Some (c.from.result + 128 * c.from-then-second-lt128.ensures j, 2)) ∙ read_two c.args.buf.now c.from.result (omega arith) c.from.ensures c.if-first-ge128.true c.if-second-lt128.true
