@@ -1,7 +1,8 @@
 -- What stands at an index, behind what stands before it, and in front of what stands after it.
-use Rattle.std.proofs.Common.{◌≡◌, ℕ, ◌+◌, List, [], ◌∷◌, ◌++◌, take, drop, Bool, true, false, Some, ap, ◌∙◌}
+use Rattle.std.proofs.Common.{◌≡◌, ℕ, zero, suc, ◌+◌, List, [], ◌∷◌, ◌++◌, length, take, drop, Bool, true, false, Some, ap, sym, ◌∙◌, append_assoc, arith}
 use Rattle.std.specs.List.{slice_get, list_all}
-use Rattle.std.proofs.lemmas.Bool.{and_from}
+use Rattle.std.proofs.Math.Seq.{drop-append_seam}
+use Rattle.std.proofs.lemmas.Bool.{and_from, and_left, and_right}
 use Rattle.std.proofs.lemmas.List.{take_more, drop_more}
 use Rattle.std.proofs.lemmas.List.Folds.{list_all_more, list_all_at}
 use Rattle.std.proofs.lemmas.Option.{slice_get_within, get_or_from_slice_get}
@@ -20,3 +21,23 @@ list_all-with p xs i x is fails = list_all_at p xs i x (slice_get_within xs i x 
 pub list_all-up_to : {A : Type 0} (p : A → Bool) (xs : List A) (i : ℕ) (x : A) → slice_get xs i ≡ Some x → list_all p (take i xs) ≡ true → p x ≡ true → list_all p (take (i + 1) xs) ≡ true
 list_all-up_to p xs i x is before at =
     list_all_more p xs i x (slice_get_within xs i x is) ∙ and_from _ _ before (ap p (get_or_from_slice_get xs i x x is) ∙ at)
+
+-- the first of what is left at an index
+pub front_at : {A : Type 0} (xs rest : List A) (i : ℕ) (x : A) → drop i xs ≡ x ∷ rest → (slice_get xs i ≡ Some x) × (rest ≡ drop (i + 1) xs)
+front_at [] rest zero x is = absurd (cc)
+front_at [] rest (suc i) x is = absurd (cc)
+front_at (y ∷ xs) rest zero x is = (cc, cc)
+front_at {A} (y ∷ xs) rest (suc i) x is =
+    let more = front_at xs rest i x is in
+    let next : suc (i + 1) ≡ suc i + 1 = omega arith in
+    (more.0, more.1 ∙ ap (λ (k : ℕ). drop k (y ∷ xs)) next)
+
+-- the last of what is left before those that were taken from the end
+pub back_at : {A : Type 0} (xs left rest : List A) (x : A) → left ++ drop (length left) xs ≡ xs → left ≡ rest ++ x ∷ [] → (rest ++ (x ∷ drop (length left) xs) ≡ xs) × (drop (length rest) xs ≡ x ∷ drop (length left) xs)
+back_at {A} xs left rest x joined is =
+    let all : rest ++ (x ∷ drop (length left) xs) ≡ xs = sym (append_assoc rest (x ∷ []) (drop (length left) xs)) ∙ ap (λ (ys : List A). ys ++ drop (length left) xs) (sym is) ∙ joined in
+    (all, ap (drop (length rest)) (sym all) ∙ drop-append_seam rest (x ∷ drop (length left) xs))
+
+pub list_all-amid : {A : Type 0} (p : A → Bool) (rest after : List A) (x : A) → p x ≡ false → list_all p (rest ++ (x ∷ after)) ≡ false
+list_all-amid p [] after x fails = and_left (p x) (list_all p after) fails
+list_all-amid p (y ∷ rest) after x fails = and_right (p y) (list_all p (rest ++ (x ∷ after))) (list_all-amid p rest after x fails)

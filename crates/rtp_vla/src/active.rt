@@ -3,17 +3,17 @@
 ghost use Rattle.std.specs.Prelude.{◌≡◌};
 ghost use Rattle.rtp_vla.specs.Allocation.{active_layers};
 
-use super::lent::{LentLayer, LentLayers, LentStreams};
+use super::lent::{Layered, LentLayer, LentLayers, LentStreams};
 use std::marker::Model;
 
 /// The active layers, in order of the streams and then of the layers.
 #[derive(Drop)]
-pub(super) struct ActiveLayers<'a> {
-    layers: LentLayers<'a>,
-    streams: LentStreams<'a>,
+pub(super) struct ActiveLayers<'a, S: Layered> {
+    layers: LentLayers<'a, S::Layer>,
+    streams: LentStreams<'a, S>,
 }
 
-impl<'a> Model for ActiveLayers<'a> {
+impl<'a, S: Layered> Model for ActiveLayers<'a, S> {
     ghost use Rattle.std.specs.Prelude.{◌++◌, List};
     ghost use Rattle.std.specs.List.{filter};
     ghost use Rattle.rtp_vla.specs.Allocation.{Layer, is_active, active_layers};
@@ -23,9 +23,9 @@ impl<'a> Model for ActiveLayers<'a> {
     ghost view = { λ active. filter is_active active.layers ++ active_layers active.streams };
 }
 
-impl<'a> ActiveLayers<'a> {
+impl<'a, S: Layered> ActiveLayers<'a, S> {
     // Those of the streams.
-    pub(super) fn new(streams: LentStreams<'a>) -> Self
+    pub(super) fn new(streams: LentStreams<'a, S>) -> Self
         ensures { result ≡ active_layers streams.entry }
     {
         ActiveLayers {
@@ -35,7 +35,7 @@ impl<'a> ActiveLayers<'a> {
     }
 }
 
-impl<'a> Iterator for ActiveLayers<'a> {
+impl<'a, S: Layered> Iterator for ActiveLayers<'a, S> {
     ghost use Rattle.std.specs.Iterator.{YieldsFirst, item_count};
 
     type Item = LentLayer<'a>;
@@ -44,6 +44,7 @@ impl<'a> Iterator for ActiveLayers<'a> {
 
     ghost remaining = { item_count (λ left. left) };
 
+    #[inline(always)]
     fn next(&mut self) -> Option<LentLayer<'a>> {
         loop {
             if let Some(layer) = self.layers.next_active() {

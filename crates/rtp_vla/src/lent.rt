@@ -1,6 +1,6 @@
 //! An allocation that is lent, whose streams and layers are those of lists, or of values of fixed size.
 
-ghost use Rattle.std.specs.Prelude.{◌≡◌, ◌<◌, ◌∷◌, [], length, slice_get, Some, IfSome, IfNone};
+ghost use Rattle.std.specs.Prelude.{◌≡◌, ◌∷◌, ◌++◌, [], length, map, IfSome, IfNone};
 ghost use Rattle.std.specs.List.{filter};
 ghost use Rattle.rtp_vla.specs.Allocation.{is_active};
 
@@ -53,90 +53,93 @@ impl<'a> LentLayer<'a> {
     }
 }
 
-/// The layers of a stream: those of a list, and then those of a value of fixed size. One of the two
-/// has none.
-#[derive(Drop)]
-pub(super) struct LentLayers<'a> {
-    listed: &'a [SpatialLayerAllocation],
-    held: &'a [VideoLayer],
+/// A layer that can be lent: one of a list, or one in a value of fixed size.
+pub(super) trait Lendable {
+    ghost use Rattle.std.specs.Prelude.{◌≡◌};
+    ghost use Rattle.rtp_vla.specs.Allocation.{Layer};
+
+    // What it is.
+    ghost layer: { Self → Layer };
+
+    // It, lent.
+    fn lend(&self) -> LentLayer<'_>
+        ensures { result ≡ layer self.now };
 }
 
-impl<'a> Model for LentLayers<'a> {
-    ghost use Rattle.std.specs.Prelude.{◌++◌};
+impl Lendable for SpatialLayerAllocation {
+    ghost layer = { λ layer. layer };
+
+    #[inline(always)]
+    fn lend(&self) -> LentLayer<'_> {
+        LentLayer::listed(self)
+    }
+}
+
+impl Lendable for VideoLayer {
+    ghost layer = { λ layer. layer };
+
+    #[inline(always)]
+    fn lend(&self) -> LentLayer<'_> {
+        LentLayer::held(self)
+    }
+}
+
+/// The layers of a stream.
+#[derive(Drop)]
+pub(super) struct LentLayers<'a, L: Lendable> {
+    left: &'a [L],
+}
+
+impl<'a, L: Lendable> Model for LentLayers<'a, L> {
+    ghost use Rattle.std.specs.Prelude.{map};
     ghost use Rattle.rtp_vla.specs.Allocation.{Stream};
 
     ghost Value = { Stream };
 
-    ghost view = { λ layers. layers.listed.now ++ layers.held.now };
+    ghost view = { λ layers. map L.layer layers.left.now };
 }
 
-impl<'a> LentLayers<'a> {
-    // Those of a stream of a list.
+impl<'a, L: Lendable> LentLayers<'a, L> {
+    // These layers.
     #[inline(always)]
-    fn listed(stream: &'a SimulcastStreamAllocation) -> Self
-        ensures { result ≡ stream.now }
+    fn of(left: &'a [L]) -> Self
+        ensures { result ≡ map L.layer left.now }
     {
-        LentLayers {
-            listed: &stream.spatial_layers,
-            held: &[],
-        }
-    }
-
-    // Those of a stream of fixed size.
-    #[inline(always)]
-    fn held(stream: &'a VideoStream) -> Self
-        ensures { result ≡ stream.now }
-    {
-        LentLayers {
-            listed: &[],
-            held: stream.spatial_layers(),
-        }
+        LentLayers { left }
     }
 
     // No layers.
+    #[inline(always)]
     pub(super) fn new() -> Self
         ensures { result ≡ [] }
     {
-        LentLayers {
-            listed: &[],
-            held: &[],
-        }
+        LentLayers { left: &[] }
     }
 
-    // How many layers there are.
-    pub(super) fn len(&self) -> usize
-        ensures { result ≡ length self.now }
+    // Takes the last layer.
+    #[inline(always)]
+    pub(super) fn next_back(&mut self) -> Option<LentLayer<'a>>
+        ensures found { IfSome result (λ layer. self.old ≡ self.new ++ layer ∷ []) }
+        ensures none { IfNone result ((self.old ≡ []) × (self.new ≡ [])) }
     {
-        self.listed.len() + self.held.len()
-    }
-
-    // The layer at an index.
-    pub(super) fn at(&self, index: usize) -> LentLayer<'a>
-        requires { index < length self.now }
-        ensures { slice_get self.now index ≡ Some result }
-    {
-        if index < self.listed.len() {
-            LentLayer::listed(&self.listed[index])
-        } else {
-            LentLayer::held(&self.held[index - self.listed.len()])
-        }
+        let (layer, before) = self.left.split_last()?;
+        self.left = before;
+        Some(layer.lend())
     }
 
     // Takes the first layer.
+    #[inline(always)]
     fn next(&mut self) -> Option<LentLayer<'a>>
         ensures found { IfSome result (λ layer. self.old ≡ layer ∷ self.new) }
         ensures none { IfNone result ((self.old ≡ []) × (self.new ≡ [])) }
     {
-        if let Some((layer, after)) = self.listed.split_first() {
-            self.listed = after;
-            return Some(LentLayer::listed(layer));
-        }
-        let (layer, after) = self.held.split_first()?;
-        self.held = after;
-        Some(LentLayer::held(layer))
+        let (layer, after) = self.left.split_first()?;
+        self.left = after;
+        Some(layer.lend())
     }
 
     // Takes the first active layer, and the layers before it.
+    #[inline(always)]
     pub(super) fn next_active(&mut self) -> Option<LentLayer<'a>>
         ensures found { IfSome result (λ layer.
             filter is_active self.old ≡ layer ∷ filter is_active self.new) }
@@ -152,75 +155,95 @@ impl<'a> LentLayers<'a> {
     }
 }
 
-/// Streams: those of a list, and then those of a value of fixed size. One of the two has none.
-#[derive(Drop)]
-pub(super) struct LentStreams<'a> {
-    listed: &'a [SimulcastStreamAllocation],
-    held: &'a [VideoStream],
+/// A stream whose layers can be lent.
+pub(super) trait Layered {
+    ghost use Rattle.std.specs.Prelude.{◌≡◌};
+    ghost use Rattle.rtp_vla.specs.Allocation.{Stream};
+
+    type Layer: Lendable;
+
+    // What it is.
+    ghost stream: { Self → Stream };
+
+    // Its layers, lent.
+    fn layers(&self) -> LentLayers<'_, Self::Layer>
+        ensures { result ≡ stream self.now };
 }
 
-impl<'a> Model for LentStreams<'a> {
-    ghost use Rattle.std.specs.Prelude.{◌++◌, List};
+impl Layered for SimulcastStreamAllocation {
+    type Layer = SpatialLayerAllocation;
+
+    ghost stream = { λ stream. stream };
+
+    #[inline(always)]
+    fn layers(&self) -> LentLayers<'_, SpatialLayerAllocation> {
+        LentLayers::of(&self.spatial_layers)
+    }
+}
+
+impl Layered for VideoStream {
+    type Layer = VideoLayer;
+
+    ghost stream = { λ stream. stream };
+
+    #[inline(always)]
+    fn layers(&self) -> LentLayers<'_, VideoLayer> {
+        LentLayers::of(self.spatial_layers())
+    }
+}
+
+/// Streams.
+#[derive(Drop)]
+pub(super) struct LentStreams<'a, S: Layered> {
+    left: &'a [S],
+}
+
+impl<'a, S: Layered> Model for LentStreams<'a, S> {
+    ghost use Rattle.std.specs.Prelude.{map, List};
     ghost use Rattle.rtp_vla.specs.Allocation.{Stream};
 
     ghost Value = { List Stream };
 
-    ghost view = { λ streams. streams.listed.now ++ streams.held.now };
+    ghost view = { λ streams. map S.stream streams.left.now };
 }
 
-impl<'a> LentStreams<'a> {
+impl<'a, S: Layered> LentStreams<'a, S> {
     // The same streams.
+    #[inline(always)]
     pub(super) fn again(&self) -> Self
         ensures { result ≡ self.now }
     {
-        LentStreams {
-            listed: self.listed,
-            held: self.held,
-        }
+        LentStreams { left: self.left }
     }
 
     // How many streams there are.
+    #[inline(always)]
     pub(super) fn len(&self) -> usize
         ensures { result ≡ length self.now }
     {
-        self.listed.len() + self.held.len()
-    }
-
-    // The stream at an index.
-    pub(super) fn at(&self, index: usize) -> LentLayers<'a>
-        requires { index < length self.now }
-        ensures { slice_get self.now index ≡ Some result }
-    {
-        if index < self.listed.len() {
-            LentLayers::listed(&self.listed[index])
-        } else {
-            LentLayers::held(&self.held[index - self.listed.len()])
-        }
+        self.left.len()
     }
 
     // Takes the first stream.
-    pub(super) fn next(&mut self) -> Option<LentLayers<'a>>
+    #[inline(always)]
+    pub(super) fn next(&mut self) -> Option<LentLayers<'a, S::Layer>>
         ensures found { IfSome result (λ stream. self.old ≡ stream ∷ self.new) }
         ensures none { IfNone result ((self.old ≡ []) × (self.new ≡ [])) }
     {
-        if let Some((stream, after)) = self.listed.split_first() {
-            self.listed = after;
-            return Some(LentLayers::listed(stream));
-        }
-        let (stream, after) = self.held.split_first()?;
-        self.held = after;
-        Some(LentLayers::held(stream))
+        let (stream, after) = self.left.split_first()?;
+        self.left = after;
+        Some(stream.layers())
     }
 }
 
 /// An allocation.
 #[derive(Drop)]
-pub(super) struct LentAllocation<'a> {
+pub(super) struct LentAllocation<'a, S: Layered> {
     pub(super) index: u8,
-    pub(super) streams: LentStreams<'a>,
+    pub(super) streams: LentStreams<'a, S>,
 }
 
-impl<'a> Model for LentAllocation<'a> {
+impl<'a, S: Layered> Model for LentAllocation<'a, S> {
     ghost use Rattle.rtp_vla.specs.Allocation.{Allocation};
 
     ghost Value = { Allocation };
@@ -231,7 +254,7 @@ impl<'a> Model for LentAllocation<'a> {
     } };
 }
 
-impl<'a> LentAllocation<'a> {
+impl<'a> LentAllocation<'a, SimulcastStreamAllocation> {
     // One in lists.
     #[inline(always)]
     pub(super) fn listed(v: &'a VideoLayersAllocation) -> Self
@@ -240,12 +263,13 @@ impl<'a> LentAllocation<'a> {
         LentAllocation {
             index: v.current_simulcast_stream_index,
             streams: LentStreams {
-                listed: &v.simulcast_streams,
-                held: &[],
+                left: &v.simulcast_streams,
             },
         }
     }
+}
 
+impl<'a> LentAllocation<'a, VideoStream> {
     // One in a value of fixed size.
     #[inline(always)]
     pub(super) fn held(v: &'a VideoLayers) -> Self
@@ -254,8 +278,7 @@ impl<'a> LentAllocation<'a> {
         LentAllocation {
             index: v.current_simulcast_stream_index(),
             streams: LentStreams {
-                listed: &[],
-                held: v.simulcast_streams(),
+                left: v.simulcast_streams(),
             },
         }
     }

@@ -10,19 +10,17 @@ ghost use Rattle.rtp_vla.specs.Leb.{shortest_of};
 use super::active::ActiveLayers;
 use super::allocation::{ResolutionAndFramerate, TemporalLayerAllocation};
 use super::leb::leb_len;
-use super::lent::{LentAllocation, LentLayers, LentStreams};
+use super::lent::{Layered, Lendable, LentAllocation, LentLayers, LentStreams};
 
 // The mask of a stream that can be written.
-#[tactic(auto, using(crate::proofs::LentLemmas::drop_with))]
-fn mask_of(layers: LentLayers) -> Option<u8>
+fn mask_of<L: Lendable>(mut layers: LentLayers<L>) -> Option<u8>
     ensures fits { IfSome result (λ mask. (written.stream_fits layers.entry ≡ true)
         × (mask ≡ mask_of layers.entry)) }
     ensures unfit { IfNone result (written.stream_fits layers.entry ≡ false) }
     ensures few { IfSome result (λ mask. mask ≤ 15) }
 {
     let mut mask = 0;
-    for i in (0..layers.len()).rev() {
-        let layer = layers.at(i);
+    while let Some(layer) = layers.next_back() {
         let active = !layer.temporal_layers.is_empty();
         if !active {
             if layer.resolution_and_framerate.is_some() {
@@ -83,7 +81,7 @@ fn resolution_len(resolution: &Option<ResolutionAndFramerate>, ended: bool) -> O
 }
 
 // How many bytes the counts, rates and resolutions have of layers that can be written.
-fn layers_len(mut left: ActiveLayers) -> Option<usize>
+fn layers_len<S: Layered>(mut left: ActiveLayers<S>) -> Option<usize>
     requires { length left ≤ 16 }
     ensures fits { IfSome result (λ len. (written.layers_fit left.entry ≡ true)
         × (len ≡ (length left.entry + 3) / 4
@@ -107,16 +105,19 @@ fn layers_len(mut left: ActiveLayers) -> Option<usize>
 
 // Reads off the masks of streams that can be written, and says whether they can.
 #[tactic(auto, using(crate::proofs::LentLemmas::take_with))]
-pub(super) fn put_masks_of(streams: &LentStreams, masks: &mut [u8]) -> bool
+pub(super) fn put_masks_of<S: Layered>(streams: &LentStreams<S>, masks: &mut [u8]) -> bool
     requires { length streams.now ≡ length masks.old }
     ensures fits { IsTrue result ↔ (list_all written.stream_fits streams.now ≡ true) }
     ensures masks { OnTrue result (masks.new ≡ map mask_of streams.now) }
 {
-    for i in 0..streams.len() {
-        let Some(mask) = mask_of(streams.at(i)) else {
+    let mut left = streams.again();
+    let mut count = 0;
+    while let Some(layers) = left.next() {
+        let Some(mask) = mask_of(layers) else {
             return false;
         };
-        masks[i] = mask;
+        masks[count] = mask;
+        count += 1;
     }
     true
 }
@@ -153,7 +154,7 @@ fn masks_len(masks: &[u8]) -> usize
 
 // How many bytes the allocation has, where it can be written: the test and the measure in one.
 #[tactic(auto, unfolding(crate::specs::AllocationWritten::written_of))]
-pub(super) fn writable_len(v: &LentAllocation) -> Option<usize>
+pub(super) fn writable_len<S: Layered>(v: &LentAllocation<S>) -> Option<usize>
     ensures fits { IfSome result (λ len. (written.can_be_written v.now ≡ true)
         × (len ≡ length (written.written_of v.now))) }
     ensures unfit { IfNone result (written.can_be_written v.now ≡ false) }

@@ -11,7 +11,7 @@ ghost use Rattle.rtp_vla.specs.Leb.{shortest_of};
 use super::active::ActiveLayers;
 use super::allocation::{ResolutionAndFramerate, TemporalLayerAllocation, VideoLayersAllocation};
 use super::leb::put_leb;
-use super::lent::{LentAllocation, LentStreams};
+use super::lent::{Layered, LentAllocation, LentStreams};
 use super::measuring::{put_masks_of, shared_of, writable_len};
 use super::video_layers::VideoLayers;
 use rtp_base::put;
@@ -34,7 +34,7 @@ fn put_halves(buf: &mut [u8], at: usize, masks: &[u8]) -> usize
 }
 
 // The next count, and 0 after the last.
-fn next_count(left: &mut ActiveLayers) -> u8
+fn next_count<S: Layered>(left: &mut ActiveLayers<S>) -> u8
     requires { AllByRecursion IsCounted left.old }
     ensures count { result ≡ putting.first_count left.old }
     ensures left { left.new ≡ drop 1 left.old }
@@ -48,7 +48,7 @@ fn next_count(left: &mut ActiveLayers) -> u8
 }
 
 // Puts the counts, four in a byte.
-fn put_counts(buf: &mut [u8], at: usize, mut left: ActiveLayers) -> usize
+fn put_counts<S: Layered>(buf: &mut [u8], at: usize, mut left: ActiveLayers<S>) -> usize
     requires fit { AllByRecursion IsCounted left }
     requires room { at + length (written.quarters_of (map count_of left)) ≤ length buf.old }
     ensures written { buf.new ≡ overwritten buf.old at (written.quarters_of (map count_of left.entry)) }
@@ -81,7 +81,7 @@ fn put_layer_rates(buf: &mut [u8], at: usize, rates: &[TemporalLayerAllocation])
 }
 
 // Puts the rates.
-fn put_rates(buf: &mut [u8], at: usize, mut left: ActiveLayers) -> usize
+fn put_rates<S: Layered>(buf: &mut [u8], at: usize, mut left: ActiveLayers<S>) -> usize
     requires small { AllByRecursion putting.HasSmallRates left }
     requires room { at + length (flat_map written.rate_bytes left) ≤ length buf.old }
     ensures written { buf.new ≡ overwritten buf.old at (flat_map written.rate_bytes left.entry) }
@@ -117,7 +117,7 @@ fn put_resolution(buf: &mut [u8], at: usize, resolution: &Option<ResolutionAndFr
 }
 
 // Puts the resolutions.
-fn put_resolutions(buf: &mut [u8], at: usize, mut left: ActiveLayers) -> usize
+fn put_resolutions<S: Layered>(buf: &mut [u8], at: usize, mut left: ActiveLayers<S>) -> usize
     requires some { AllByRecursion putting.HasSizedResolution left }
     requires room { at + length (flat_map written.resolution_bytes left) ≤ length buf.old }
     ensures written { buf.new ≡ overwritten buf.old at (flat_map written.resolution_bytes left.entry) }
@@ -146,7 +146,7 @@ fn put_masks(buf: &mut [u8], at: usize, masks: &[u8]) -> usize
 }
 
 // Puts streams, of which there are some, and returns how many bytes they have.
-fn put_streams(buf: &mut [u8], index: u8, streams: &LentStreams) -> usize
+fn put_streams<S: Layered>(buf: &mut [u8], index: u8, streams: &LentStreams<S>) -> usize
     requires some { 1 ≤ length streams.now }
     requires fit { written.streams_fit index streams.now ≡ true }
     requires room { length (written.packed_bytes index streams.now) ≤ length buf.old }
@@ -165,7 +165,7 @@ fn put_streams(buf: &mut [u8], index: u8, streams: &LentStreams) -> usize
 }
 
 // Puts an allocation, and returns how many bytes it has.
-fn put_allocation(v: &LentAllocation, buf: &mut [u8]) -> usize
+fn put_allocation<S: Layered>(v: &LentAllocation<S>, buf: &mut [u8]) -> usize
     requires writable { written.can_be_written v.now ≡ true }
     requires room { length (written.written_of v.now) ≤ length buf.old }
     ensures written { buf.new ≡ written.written_of v.now ++ drop result buf.old }

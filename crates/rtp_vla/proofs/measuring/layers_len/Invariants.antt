@@ -5,7 +5,7 @@ use Rattle.rtp_vla.proofs.measuring.layers_len.Given as goal
 
 -- whether all fit is what the layers that are left say, and their bytes come after those so far
 abbrev pub invariant-loop-layer : goal.invariant-loop-layer
-invariant-loop-layer l = record {
+invariant-loop-layer g l = record {
   rates : list_all (λ layer. rates_fit layer.temporal_layers) l.left ≡ list_all (λ layer. rates_fit layer.temporal_layers) l.initial.left;
   front : resolutions_in_front l.ended l.left ≡ resolutions_in_front l.initial.ended l.initial.left;
   len : l.len + (length (flat_map rate_bytes l.left) + length (flat_map resolution_bytes l.left))
@@ -15,4 +15,4 @@ invariant-loop-layer l = record {
 }
 
 abbrev pub decreases-loop-layer : goal.decreases-loop-layer
-decreases-loop-layer l = length l.left
+decreases-loop-layer g l = length l.left

@@ -1,22 +1,44 @@
-use Rattle.std.proofs.Common.{◌≡◌, ◌∙◌, ◌++◌, ◌∷◌, [], map, take, ap, sym, false, arith}
+use Rattle.std.proofs.Common.{◌≡◌, ◌<◌, ◌∙◌, ◌++◌, ◌∷◌, [], map, take, length, ap, sym, false, true, arith, refl, length-drop, ◌≤◌}
 use Rattle.std.specs.List.{list_all}
 use Rattle.std.proofs.lemmas.Bool.{false≢true}
-use Rattle.std.proofs.lemmas.List.{take_more_set, map-append}
+use Rattle.std.proofs.lemmas.List.{take_more_set, map-append, take_all}
+use Rattle.std.proofs.lemmas.Option.{slice_get_within}
 use Rattle.rtp_vla.specs.Allocation.{mask_of}
 use Rattle.rtp_vla.specs.AllocationWritten.{stream_fits}
-use Rattle.rtp_vla.proofs.LentLemmas.{take_with, list_all-with, list_all-up_to}
+use Rattle.rtp_vla.proofs.LentLemmas.{front_at, take_with, list_all-with, list_all-up_to}
 use Rattle.rtp_vla.proofs.measuring.put_masks_of.Goals as goal
 
-pub returns-in_default-clause-fits : goal.returns-in_default-clause-fits
-returns-in_default-clause-fits c =
-    let all : list_all stream_fits c.args.streams.now ≡ false = list_all-with stream_fits c.args.streams.now _ c.at.result c.at.ensures c.in_default.ensures.unfit in
+pub returns-in_default-mask_of-clause-fits : goal.returns-in_default-mask_of-clause-fits
+returns-in_default-mask_of-clause-fits g c =
+    let at = front_at c.args.streams.now c.next.new.self c.loop-layers.count c.in-Some.layers (sym c.loop-layers.invariant.left ∙ c.in-Some.ensures.found) in
+    let all : list_all stream_fits c.args.streams.now ≡ false = list_all-with stream_fits c.args.streams.now _ c.in-Some.layers at.0 c.in_default-mask_of.ensures.unfit in
     (λ no. absurd (false≢true no), λ yes. absurd (false≢true (sym all ∙ yes)))
 
-pub loop-i-preserved : goal.loop-i-preserved
-loop-i-preserved c = record {
-  fits = list_all-up_to stream_fits c.args.streams.now _ c.at.result c.at.ensures c.loop-i.invariant.fits c.in-Some.ensures.fits.0;
-  masks = take_more_set c.loop-i.masks c.loop-i.i c.in-Some.mask (omega arith)
-      ∙ (λ j. c.loop-i.invariant.masks j ++ c.in-Some.ensures.fits.1 j ∷ [])
-      ∙ sym (map-append mask_of (take c.loop-i.i c.args.streams.now) (c.at.result ∷ []))
-      ∙ ap (map mask_of) (sym (take_with c.args.streams.now c.loop-i.i c.at.result c.at.ensures));
-}
+pub loop-layers-preserved : goal.loop-layers-preserved
+loop-layers-preserved g c =
+    let streams = c.args.streams.now in
+    let count = c.loop-layers.count in
+    let at = front_at streams c.next.new.self count c.in-Some.layers (sym c.loop-layers.invariant.left ∙ c.in-Some.ensures.found) in
+    let within : count < length streams = slice_get_within streams count c.in-Some.layers at.0 in
+    record {
+      left = at.1;
+      within = omega arith;
+      fits = list_all-up_to stream_fits streams _ c.in-Some.layers at.0 c.loop-layers.invariant.fits c.in-Some-mask_of.ensures.fits.0;
+      masks = take_more_set c.loop-layers.masks count c.in-Some-mask_of.mask (omega arith)
+          ∙ (λ j. c.loop-layers.invariant.masks j ++ c.in-Some-mask_of.ensures.fits.1 j ∷ [])
+          ∙ sym (map-append mask_of (take count streams) (c.in-Some.layers ∷ []))
+          ∙ ap (map mask_of) (sym (take_with streams count c.in-Some.layers at.0));
+    }
+
+pub returns-clause-fits : goal.returns-clause-fits
+returns-clause-fits g c =
+    let streams = c.args.streams.now in
+    let past : length streams ≤ c.loop-layers.count = omega (arith, ap length (sym c.loop-layers.invariant.left ∙ c.in_default.ensures.none.0), length-drop c.loop-layers.count streams) in
+    let all : list_all stream_fits streams ≡ true = ap (list_all stream_fits) (sym (take_all c.loop-layers.count streams past)) ∙ c.loop-layers.invariant.fits in
+    (λ _. all, λ _. refl)
+
+pub returns-clause-masks : goal.returns-clause-masks
+returns-clause-masks g c =
+    let streams = c.args.streams.now in
+    let past : length streams ≤ c.loop-layers.count = omega (arith, ap length (sym c.loop-layers.invariant.left ∙ c.in_default.ensures.none.0), length-drop c.loop-layers.count streams) in
+    sym (take_all c.loop-layers.count c.loop-layers.masks (omega arith)) ∙ c.loop-layers.invariant.masks ∙ ap (map mask_of) (take_all c.loop-layers.count streams past)

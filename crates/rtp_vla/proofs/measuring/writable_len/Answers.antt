@@ -8,14 +8,14 @@ use Rattle.rtp_vla.proofs.AllocationWritingLemmas.{length-active, measured}
 use Rattle.rtp_vla.proofs.measuring.writable_len.Goals as goal
 
 pub layers_len-requires : goal.layers_len-requires
-layers_len-requires c =
+layers_len-requires g c =
     let streams = c.v.inside.streams in
     let fits : list_all stream_fits streams ≡ true = c.put_masks_of.ensures.fits.0 c.if-not-put_masks_of.false in
     omega (arith, ap length c.new.ensures, ap (λ (ss : List Stream). length (active_layers ss)) c.again.ensures, length-active streams fits)
 
 pub returns-clause-fits : goal.returns-clause-fits
 unfolding written_of
-returns-clause-fits c =
+returns-clause-fits g c =
     let index = c.v.inside.index in
     let streams = c.v.inside.streams in
     let some : 0 < length streams = omega (arith, c.len-streams.ensures) in

@@ -6,7 +6,7 @@ use Rattle.rtp_vla.proofs.AllocationWritingLemmas.{quarters_more}
 use Rattle.rtp_vla.proofs.writing.put_counts.Goals as goal
 
 pub loop-layer-preserved : goal.loop-layer-preserved
-loop-layer-preserved c =
+loop-layer-preserved g c =
     let split = quarters_more c.loop-layer.left c.next.new.self c.next_count-second.new.left c.next_count-third.new.left c.next_count-fourth.new.left c.in-Some.layer
     c.saturating_sub-first.result c.next_count-second.result c.next_count-third.result c.next_count-fourth.result
     c.in-Some.ensures.steps
@@ -18,6 +18,6 @@ loop-layer-preserved c =
     }
 
 pub returns-clause-written : goal.returns-clause-written
-returns-clause-written c =
+returns-clause-written g c =
     let none : quarters_of (map count_of c.loop-layer.left) ≡ [] = ap (λ (ls : List Layer). quarters_of (map count_of ls)) c.in_default.ensures.steps.0 in
     (Leaves-end _ _ _ _ _ (rw none at c.loop-layer.invariant.leaves)).0

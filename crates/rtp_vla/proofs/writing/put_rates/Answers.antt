@@ -8,7 +8,7 @@ use Rattle.rtp_vla.proofs.AllocationWritingLemmas.{AllByRecursion-tail}
 use Rattle.rtp_vla.proofs.writing.put_rates.Goals as goal
 
 pub loop-layer-preserved : goal.loop-layer-preserved
-loop-layer-preserved c =
+loop-layer-preserved g c =
     let split : flat_map rate_bytes c.loop-layer.left ≡ rate_bytes c.in-Some.layer ++ flat_map rate_bytes c.next.new.self = ap (flat_map rate_bytes) c.in-Some.ensures.steps in
     let bytes : flat_map shortest_of c.layer.inside.temporal_layers.now ≡ rate_bytes c.in-Some.layer = ap rate_bytes c.layer.view_is in
     record {
@@ -17,6 +17,6 @@ loop-layer-preserved c =
     }
 
 pub returns-clause-written : goal.returns-clause-written
-returns-clause-written c =
+returns-clause-written g c =
     let none : flat_map rate_bytes c.loop-layer.left ≡ [] = ap (flat_map rate_bytes) c.in_default.ensures.steps.0 in
     (Leaves-end _ _ _ _ _ (rw none at c.loop-layer.invariant.leaves)).0

@@ -7,7 +7,7 @@ use Rattle.rtp_vla.proofs.AllocationWritingLemmas.{AllByRecursion-tail}
 use Rattle.rtp_vla.proofs.writing.put_resolutions.Goals as goal
 
 pub loop-layer-preserved : goal.loop-layer-preserved
-loop-layer-preserved c =
+loop-layer-preserved g c =
     let split : flat_map resolution_bytes c.loop-layer.left ≡ resolution_bytes c.in-Some.layer ++ flat_map resolution_bytes c.next.new.self = ap (flat_map resolution_bytes) c.in-Some.ensures.steps in
     let bytes : resolution_field c.layer.inside.resolution_and_framerate ≡ resolution_bytes c.in-Some.layer = ap resolution_bytes c.layer.view_is in
     record {
@@ -16,6 +16,6 @@ loop-layer-preserved c =
     }
 
 pub returns-clause-written : goal.returns-clause-written
-returns-clause-written c =
+returns-clause-written g c =
     let none : flat_map resolution_bytes c.loop-layer.left ≡ [] = ap (flat_map resolution_bytes) c.in_default.ensures.steps.0 in
     (Leaves-end _ _ _ _ _ (rw none at c.loop-layer.invariant.leaves)).0

@@ -7,10 +7,10 @@ use Rattle.rtp_vla.proofs.writing.put_resolutions.Given as goal
 
 -- what is left is put after the bytes so far
 abbrev pub invariant-loop-layer : goal.invariant-loop-layer
-invariant-loop-layer l = record {
+invariant-loop-layer g l = record {
   leaves : Leaves l.buf l.end (flat_map resolution_bytes l.left) l.initial.buf l.at (flat_map resolution_bytes l.initial.left);
   some : AllByRecursion HasSizedResolution l.left;
 }
 
 abbrev pub decreases-loop-layer : goal.decreases-loop-layer
-decreases-loop-layer l = length l.left
+decreases-loop-layer g l = length l.left

@@ -13,16 +13,16 @@ use Rattle.rtp_vla.proofs.writing.put_streams.Goals as goal
 use Rattle.rtp_vla.proofs.writing.put_streams.Goals.{After-slice_known-7-1}
 
 pub put_masks-end-requires-clause-fit : goal.put_masks-end-requires-clause-fit
-put_masks-end-requires-clause-fit c =
+put_masks-end-requires-clause-fit g c =
     let can = can_put c.args.index c.args.streams.now c.requires.some c.requires.fit in
     let masks = OnTrue_at (c.put_masks_of.ensures.fits.1 can.fits) c.put_masks_of.ensures.masks in
     subst (AllByRecursion (λ mask. mask ≤ 15)) (sym masks) can.masks
 
 pub put_counts-end-requires-clause-fit : goal.put_counts-end-requires-clause-fit
-put_counts-end-requires-clause-fit c = subst (AllByRecursion IsCounted) (sym (c.new.ensures ∙ ap active_layers c.again.ensures)) (can_put c.args.index c.args.streams.now c.requires.some c.requires.fit).counted
+put_counts-end-requires-clause-fit g c = subst (AllByRecursion IsCounted) (sym (c.new.ensures ∙ ap active_layers c.again.ensures)) (can_put c.args.index c.args.streams.now c.requires.some c.requires.fit).counted
 
 pub put_counts-end-requires-clause-room : goal.put_counts-end-requires-clause-room
-put_counts-end-requires-clause-room c =
+put_counts-end-requires-clause-room g c =
     let can = can_put c.args.index c.args.streams.now c.requires.some c.requires.fit in
     let masks = OnTrue_at (c.put_masks_of.ensures.fits.1 can.fits) c.put_masks_of.ensures.masks in
     omega (
@@ -38,10 +38,10 @@ put_counts-end-requires-clause-room c =
     )
 
 pub put_rates-end-requires-clause-small : goal.put_rates-end-requires-clause-small
-put_rates-end-requires-clause-small c = subst (AllByRecursion HasSmallRates) (sym (c.new-2.ensures ∙ ap active_layers c.again-2.ensures)) (can_put c.args.index c.args.streams.now c.requires.some c.requires.fit).small
+put_rates-end-requires-clause-small g c = subst (AllByRecursion HasSmallRates) (sym (c.new-2.ensures ∙ ap active_layers c.again-2.ensures)) (can_put c.args.index c.args.streams.now c.requires.some c.requires.fit).small
 
 pub put_rates-end-requires-clause-room : goal.put_rates-end-requires-clause-room
-put_rates-end-requires-clause-room c =
+put_rates-end-requires-clause-room g c =
     let can = can_put c.args.index c.args.streams.now c.requires.some c.requires.fit in
     let masks = OnTrue_at (c.put_masks_of.ensures.fits.1 can.fits) c.put_masks_of.ensures.masks in
     omega (
@@ -59,10 +59,10 @@ put_rates-end-requires-clause-room c =
     )
 
 pub put_resolutions-requires-clause-some : goal.put_resolutions-requires-clause-some
-put_resolutions-requires-clause-some c = subst (AllByRecursion HasSizedResolution) (sym (c.new-3.ensures ∙ ap active_layers c.again-3.ensures)) (can_put c.args.index c.args.streams.now c.requires.some c.requires.fit).sized
+put_resolutions-requires-clause-some g c = subst (AllByRecursion HasSizedResolution) (sym (c.new-3.ensures ∙ ap active_layers c.again-3.ensures)) (can_put c.args.index c.args.streams.now c.requires.some c.requires.fit).sized
 
 pub put_resolutions-requires-clause-room : goal.put_resolutions-requires-clause-room
-put_resolutions-requires-clause-room c =
+put_resolutions-requires-clause-room g c =
     let can = can_put c.args.index c.args.streams.now c.requires.some c.requires.fit in
     let masks = OnTrue_at (c.put_masks_of.ensures.fits.1 can.fits) c.put_masks_of.ensures.masks in
     omega (
@@ -82,8 +82,8 @@ put_resolutions-requires-clause-room c =
     )
 
 -- the five parts
-all_put : (c : After-slice_known-7-1) → (c.put_resolutions.new.buf ≡ overwritten c.args.buf.now 0 (packed_bytes c.args.index c.args.streams.now)) × (c.put_resolutions.result ≡ length (packed_bytes c.args.index c.args.streams.now))
-all_put c =
+all_put : (g : _) (c : After-slice_known-7-1 g) → (c.put_resolutions.new.buf ≡ overwritten c.args.buf.now 0 (packed_bytes c.args.index c.args.streams.now)) × (c.put_resolutions.result ≡ length (packed_bytes c.args.index c.args.streams.now))
+all_put g c =
     let streams = c.args.streams.now in
     let can = can_put c.args.index streams c.requires.some c.requires.fit in
     let masks = OnTrue_at (c.put_masks_of.ensures.fits.1 can.fits) c.put_masks_of.ensures.masks in
@@ -109,7 +109,7 @@ all_put c =
     (c.put_resolutions.ensures.end ∙ ap (λ (bs : List ℕ). c.put_rates-end.result + length bs) resolution_part)
 
 pub returns-clause-written : goal.returns-clause-written
-returns-clause-written c = (all_put c).0
+returns-clause-written g c = (all_put g c).0
 
 pub returns-clause-end : goal.returns-clause-end
-returns-clause-end c = (all_put c).1
+returns-clause-end g c = (all_put g c).1

@@ -5,9 +5,9 @@ use Rattle.rtp_vla.proofs.active.ActiveLayersIterator.next.Given as goal
 
 -- the streams that were passed had no active layer left
 abbrev pub invariant-loop-layer : goal.invariant-loop-layer
-invariant-loop-layer l =
+invariant-loop-layer g l =
     filter is_active l.self-inside.layers ++ active_layers l.self-inside.streams
     ≡ filter is_active l.initial.self-inside.layers ++ active_layers l.initial.self-inside.streams
 
 abbrev pub decreases-loop-layer : goal.decreases-loop-layer
-decreases-loop-layer l = length l.self-inside.streams
+decreases-loop-layer g l = length l.self-inside.streams
