@@ -6,7 +6,7 @@ use Rattle.std.proofs.lemmas.Bool.{lt-ltb, le-ltb, cases_lt}
 use Rattle.rtp_vla.specs.Leb.{base128_value, IsShortest, leb_of, shortest_of}
 use Rattle.rtp_base.specs.Overwriting.{overwritten}
 use Rattle.rtp_vla.specs.Leaving.{Leaves}
-use Rattle.rtp_vla.proofs.LeavingLemmas.{Leaves-byte, Leaves-end}
+use Rattle.rtp_vla.proofs.LeavingLemmas.{Leaves-start, Leaves-byte, Leaves-end}
 use Rattle.rtp_vla.proofs.LebLemmas.{base128_value-below}
 
 -- ---- The shortest spelling
@@ -121,6 +121,31 @@ leb_of-bytes (suc room) value =
 
 pub shortest_of-bytes : (value : ℕ) → AllByRecursion (λ byte. byte < 256) (shortest_of value)
 shortest_of-bytes value = rw (shortest-leb_of value) (leb_of-bytes 9 value)
+
+-- ---- Those of one and two bytes
+
+pub shortest-one : (value : ℕ) → value < 128 → shortest_of value ≡ value ∷ []
+shortest-one value low = shortest-leb_of value ∙ leb_of-low 8 value low
+
+pub shortest-two : (value : ℕ) → 128 ≤ value → value < 16384 → shortest_of value ≡ (value % 128 + 128) ∷ (value / 128) ∷ []
+shortest-two value high low =
+    shortest-leb_of value ∙ leb_of-high 8 value high ∙ ap (λ (bytes : List ℕ). (value % 128 + 128) ∷ bytes) (leb_of-low 7 (value / 128) (omega arith))
+
+pub put_one : (buf : List ℕ) (at value : ℕ) → value < 128 → at + length (shortest_of value) ≤ length buf → set buf at value ≡ overwritten buf at (shortest_of value)
+put_one buf at value low room =
+    let one = shortest-one value low in
+    let first = Leaves-byte buf [] buf (value ∷ []) at at value (Leaves-start buf (value ∷ []) at (omega (arith, room, ap length one))) in
+    (Leaves-end (set buf at value) buf (value ∷ []) (at + 1) at first).0 ∙ ap (overwritten buf at) (sym one)
+
+pub put_two : (buf : List ℕ) (at value : ℕ) → 128 ≤ value → value < 16384 → at + length (shortest_of value) ≤ length buf
+    → set (set buf at (value % 128 + 128)) (at + 1) (value / 128) ≡ overwritten buf at (shortest_of value)
+put_two buf at value high low room =
+    let two = shortest-two value high low in
+    let a = value % 128 + 128 in
+    let b = value / 128 in
+    let first = Leaves-byte buf (b ∷ []) buf (a ∷ b ∷ []) at at a (Leaves-start buf (a ∷ b ∷ []) at (omega (arith, room, ap length two))) in
+    let second = Leaves-byte (set buf at a) [] buf (a ∷ b ∷ []) (at + 1) at b first in
+    (Leaves-end (set (set buf at a) (at + 1) b) buf (a ∷ b ∷ []) (at + 1 + 1) at second).0 ∙ ap (overwritten buf at) (sym two)
 
 -- ---- The loops that write it and measure it
 

@@ -65,7 +65,7 @@ pub fn parse_leb_u63(buf: &[u8]) -> (u64, &[u8])
 }
 
 // How many bytes the shortest spelling has.
-pub(super) fn leb_len(value: u64) -> usize
+fn long_leb_len(value: u64) -> usize
     requires { value < 2 ^ 63 }
     ensures { result ≡ length (shortest_of value) }
 {
@@ -78,8 +78,24 @@ pub(super) fn leb_len(value: u64) -> usize
     len
 }
 
+// The same. Most rates in use have one or two bytes.
+#[inline(always)]
+pub(super) fn leb_len(value: u64) -> usize
+    requires { value < 2 ^ 63 }
+    ensures { result ≡ length (shortest_of value) }
+{
+    if value < 0x80 {
+        return 1;
+    }
+    if value < 0x4000 {
+        return 2;
+    }
+    long_leb_len(value)
+}
+
 // Puts the shortest spelling at an offset, and returns the offset after it.
-pub(super) fn put_leb(buf: &mut [u8], at: usize, value: u64) -> usize
+#[inline(never)]
+fn put_long_leb(buf: &mut [u8], at: usize, value: u64) -> usize
     requires small { value < 2 ^ 63 }
     requires room { at + length (shortest_of value) ≤ length buf.old }
     ensures written { buf.new ≡ overwritten buf.old at (shortest_of value) }
@@ -94,6 +110,26 @@ pub(super) fn put_leb(buf: &mut [u8], at: usize, value: u64) -> usize
     }
     buf[end] = left as u8;
     end + 1
+}
+
+// The same.
+#[inline(always)]
+pub(super) fn put_leb(buf: &mut [u8], at: usize, value: u64) -> usize
+    requires small { value < 2 ^ 63 }
+    requires room { at + length (shortest_of value) ≤ length buf.old }
+    ensures written { buf.new ≡ overwritten buf.old at (shortest_of value) }
+    ensures end { result ≡ at + length (shortest_of value) }
+{
+    if value < 0x80 {
+        buf[at] = value as u8;
+        return at + 1;
+    }
+    if value < 0x4000 {
+        buf[at] = (value % 128) as u8 + 128;
+        buf[at + 1] = (value / 128) as u8;
+        return at + 2;
+    }
+    put_long_leb(buf, at, value)
 }
 
 /// Writes the shortest spelling of the number to the front of the buffer, and returns how many

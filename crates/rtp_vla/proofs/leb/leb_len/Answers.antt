@@ -1,20 +1,9 @@
-use Rattle.std.proofs.Common.{◌≡◌, ◌-◌, ◌+◌, suc, ap, arith, length}
-use Rattle.rtp_vla.proofs.LebSpellingLemmas.{shortest-leb_of, measured_more, measured_all}
+use Rattle.std.proofs.Common.{ap, length, arith}
+use Rattle.rtp_vla.proofs.LebSpellingLemmas.{shortest-one, shortest-two}
 use Rattle.rtp_vla.proofs.leb.leb_len.Goals as goal
 
-pub loop-left-init : goal.loop-left-init
-loop-left-init c = record { all = omega (arith, ap length (shortest-leb_of c.args.value)); below = c.requires; some = omega arith; few = omega arith }
+pub returns-then-value-lt128 : goal.returns-then-value-lt128
+returns-then-value-lt128 c = omega (arith, ap length (shortest-one c.args.value c.if-value-lt128.true))
 
-pub loop-left-preserved : goal.loop-left-preserved
-loop-left-preserved c =
-    let l = c.loop-left in
-    let room : 10 - l.len ≡ suc (9 - l.len) = omega (arith, l.invariant.few) in
-    let next : 10 - (l.len + 1) ≡ 9 - l.len = omega arith in
-    let more = measured_more (9 - l.len) l.len l.left _ c.loop-left-test.true (rw room at l.invariant.below) (rw room at l.invariant.all) in
-    record { all = rw next more.0; below = rw next more.1; some = omega arith; few = omega (arith, more.2) }
-
-pub returns : goal.returns
-returns c =
-    let l = c.loop-left in
-    let room : 10 - l.len ≡ suc (9 - l.len) = omega (arith, l.invariant.few) in
-    omega (arith, measured_all (9 - l.len) l.len l.left _ c.loop-left-test.false (rw room at l.invariant.all))
+pub returns-then-value-lt16384 : goal.returns-then-value-lt16384
+returns-then-value-lt16384 c = omega (arith, ap length (shortest-two c.args.value c.if-value-lt128.false c.if-value-lt16384.true))

@@ -1,6 +1,6 @@
 use Rattle.std.proofs.Common.{◌≡◌, ◌+◌, ◌-◌, ◌^◌, ◌<◌, ◌≤◌, length}
 use Rattle.rtp_vla.specs.Leb.{leb_of, shortest_of}
-use Rattle.rtp_vla.proofs.leb.leb_len.Given as goal
+use Rattle.rtp_vla.proofs.leb.long_leb_len.Given as goal
 
 -- the bytes so far and those of what is left are all of them
 abbrev pub invariant-loop-left : goal.invariant-loop-left
