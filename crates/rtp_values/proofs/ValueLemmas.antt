@@ -3,7 +3,7 @@ use Rattle.std.proofs.Common.{◌≡◌, ℕ, ◌+◌, ◌*◌, ◌/◌, ◌%◌
 use Rattle.std.specs.Prelude.{◌&&◌, nat_le, if◌then◌else◌, unsigned_abs, ◌==◌, map, IsUtf8}
 use Rattle.std.specs.Option.{option_map, ForSome}
 use Rattle.std.specs.Str.{chars}
-use Rattle.std.proofs.lemmas.Bool.{ne_eqb, cases_lt, and_parts, leb-true}
+use Rattle.std.proofs.lemmas.Bool.{ne_eqb, cases_lt, and_parts, and_from, leb-true, le-leb}
 use Rattle.std.proofs.lemmas.Nat.{div-mul-add, mod-mul-add}
 use Rattle.rtp_base.specs.MediaTime.{Fraction}
 use Rattle.rtp_base.specs.Overwriting.{overwritten}
@@ -11,7 +11,7 @@ use Rattle.rtp_base.proofs.OverwritingLemmas.{overwritten-front}
 use Rattle.rtp_base.specs.Id.{before_padding, id_char, IsIdOf}
 use Rattle.rtp_vla.specs.Allocation.{Allocation}
 use Rattle.rtp_vla.specs.AllocationWritten.{Writable, can_be_written, written_of}
-use Rattle.rtp_vla.proofs.AllocationWriting.{Writable-from, written_means}
+use Rattle.rtp_vla.proofs.AllocationWriting.{Writable-from, can_be_written-from, written_means}
 use Rattle.rtp_values.specs.declared.kind.Extension.{Extension}
 use Rattle.rtp_values.specs.declared.kind.Extension.TheVariants.{AbsoluteSendTime, AbsoluteCaptureTime, AudioLevel, TransmissionTimeOffset, VideoOrientation, TransportSequenceNumber, PlayoutDelay, VideoContentType, VideoTiming, RtpStreamId, RepairedRtpStreamId, RtpMid, FrameMarking, VideoLayersAllocation}
 use Rattle.rtp_values.specs.declared.value.values.ExtensionValues.{ExtensionValues}
@@ -254,6 +254,13 @@ module _ {shown values : ExtensionValues} (same : shown ≡ values) where
 carries : (a : Allocation) (carried : Bool) (len : ℕ) → Some len ≡ option_map length (option_map written_of (if carried then Some a else None)) → carried ≡ true
 carries a true len is = refl
 carries a false len is = cc
+
+-- and the length that is measured, where one does
+pub measured-allocation : (values : ExtensionValues) (a : Allocation) (len : ℕ) → values.video_layers_allocation ≡ Some a → Writable a → len ≡ length (written_of a) → len ≤ 255
+    → Some len ≡ option_map length (spelled_data VideoLayersAllocation values)
+measured-allocation values a len is writable len-is few =
+    let carried : (can_be_written a && nat_le (length (written_of a)) 255) ≡ true = and_from _ _ (can_be_written-from a writable) (le-leb (length (written_of a)) 255 (omega (arith, len-is, few))) in
+    rw (is, carried, len-is) refl
 
 module _ {shown values : ExtensionValues} (same : shown ≡ values) {a : Allocation} (is : shown.video_layers_allocation ≡ Some a) {len : ℕ}
     (measured : Some len ≡ option_map length (spelled_data VideoLayersAllocation values)) where

@@ -13,6 +13,6 @@ pub use kind::Extension;
 pub use known_kind::KnownKind;
 pub use uri::Uri;
 pub use value::{
-    AbsCaptureTime, ElementValues, ExtensionValues, SetValues, VideoOrientation, VideoTiming,
-    WithLayers,
+    AbsCaptureTime, CarriedLayers, ElementValues, ExtensionValues, SetValues, VideoOrientation,
+    VideoTiming, WithLayers,
 };

@@ -3,6 +3,7 @@
 mod abs_capture_time;
 mod abs_send_time;
 mod audio_level;
+mod carried_layers;
 mod dispatch;
 mod element_values;
 mod frame_marking;
@@ -23,6 +24,7 @@ mod video_timing;
 mod with_layers;
 
 pub use abs_capture_time::AbsCaptureTime;
+pub use carried_layers::CarriedLayers;
 pub use element_values::ElementValues;
 pub(crate) use front::{first_u64, u16_at, u16_bytes};
 pub use set_values::SetValues;

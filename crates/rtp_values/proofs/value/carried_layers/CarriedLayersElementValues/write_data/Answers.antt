@@ -1,0 +1,14 @@
+use Rattle.std.proofs.Common.{Some, subst}
+use Rattle.rtp_values.specs.declared.value.values.ExtensionValues.{ExtensionValues}
+use Rattle.rtp_values.specs.KnownKind.{extension_of_kind}
+use Rattle.rtp_values.specs.KindBytes.{WritesData}
+use Rattle.rtp_values.proofs.WithLayersLemmas.{WritesData-other}
+use Rattle.rtp_values.proofs.value.carried_layers.CarriedLayersElementValues.write_data.Goals as goal
+
+pub returns-in_default : goal.returns-in_default
+returns-in_default c =
+    let done = c.write_to.ensures in
+    let writes = subst (λ (values : ExtensionValues). WritesData (extension_of_kind c.args.kind) values c.args.buf.now c.write_to.new.buf c.write_to.result) c.self.view_is
+    (WritesData-other c.args.kind c.self.inside.values.now (Some c.self.inside.layers.now) c.in_default.not-VideoLayersAllocation
+    (record { length_is = done.length; written = done.written; read_back = done.read_back; few = done.few })) in
+    record { length = writes.length_is; written = writes.written; read_back = writes.read_back; few = writes.few }
