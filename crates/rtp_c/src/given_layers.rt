@@ -1,7 +1,8 @@
 //! The layer allocation that C gives to be written.
 
-ghost use Rattle.std.specs.Prelude.{◌≡◌, ◌↔◌, [], None, IfSome, IfNone};
+ghost use Rattle.std.specs.Prelude.{◌≡◌, ◌↔◌, ◌≤◌, [], length, None, IfSome, IfNone};
 ghost use Rattle.rtp_vla.specs.Allocation as vla;
+ghost use Rattle.rtp_vla.specs.AllocationWritten.{Writable, written_of};
 ghost use Rattle.rtp_c.specs.Given.{given};
 ghost use Rattle.rtp_c.specs.GivenLayers.{IsGivenLayer, IsGivenStream, IsGivenLayers, AreCarriedLayers};
 
@@ -76,16 +77,19 @@ fn put_streams(view: &Layers, layers: &mut VideoLayers) -> Option<()>
     Some(())
 }
 
-// The same where an element can carry it.
-pub fn put_carried_streams(view: &Layers, layers: &mut VideoLayers) -> Option<()>
+// The same where an element can carry it. Returns the length of its data.
+pub fn put_carried_streams(view: &Layers, layers: &mut VideoLayers) -> Option<usize>
     requires current { layers.old.current_simulcast_stream_index ≡ view.now.current }
     requires streams { layers.old.simulcast_streams ≡ [] }
     ensures found { IfSome result (λ _. AreCarriedLayers view.now layers.new) }
+    ensures measured { IfSome result (λ len. Writable layers.new
+        × (len ≡ length (written_of layers.new)) × (len ≤ 255)) }
     ensures none { IfNone result ((a : vla.Allocation) → AreCarriedLayers view.now a → ⊥) }
 {
     put_streams(view, layers)?;
-    if layers.checked_wire_len()? > MAX_LEN {
+    let len = layers.checked_wire_len()?;
+    if len > MAX_LEN {
         return None;
     }
-    Some(())
+    Some(len)
 }

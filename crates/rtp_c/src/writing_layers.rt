@@ -3,7 +3,7 @@
 
 ghost use Rattle.std.specs.Prelude.{◌≡◌, ◌≢◌, ◌↔◌, ◌≤◌, ◌⊎◌, [], length, Some, IfSome, IfNone};
 ghost use Rattle.rtp_values.specs.Values.{no_values};
-ghost use Rattle.rtp_values.specs.WithLayers.{values_with_layers};
+ghost use Rattle.rtp_vla.specs.AllocationWritten.{Writable, written_of};
 ghost use Rattle.rtp_wire.specs.declared.header.rtp_header.RtpHeader.{RtpHeader as Header};
 ghost use Rattle.rtp_wire.specs.Written.{with_values};
 ghost use Rattle.rtp_c.specs.Status.{ok, short_buffer, bad_field};
@@ -16,30 +16,29 @@ use super::header::HeaderView;
 use super::kinds::StoredMap;
 use super::layers::Layers;
 use super::status::{BAD_FIELD, OK, SHORT_BUFFER};
-use rtp_values::WithLayers;
+use rtp_values::CarriedLayers;
 use rtp_vla::vla::VideoLayers;
 use rtp_wire::RtpHeader;
 use std::mem::ManuallyDrop;
 
-// The values of the header, with these layers as their allocation.
-fn with_layers<'a>(header: &'a RtpHeader, layers: &'a VideoLayers) -> WithLayers<'a>
-    ensures { values_with_layers result
-        ≡ record header.now.ext_vals { video_layers_allocation = Some layers.now } }
+// The values of the header, with these layers of this length as their allocation.
+fn with_layers<'a>(header: &'a RtpHeader, layers: &'a VideoLayers, len: usize) -> CarriedLayers<'a>
+    requires writable { Writable layers.now }
+    requires length { len ≡ length (written_of layers.now) }
+    requires few { len ≤ 255 }
+    ensures { result ≡ record header.now.ext_vals { video_layers_allocation = Some layers.now } }
 {
-    WithLayers {
-        values: &header.ext_vals,
-        layers: Some(layers),
-    }
+    CarriedLayers::new(&header.ext_vals, layers, len)
 }
 
-// Puts what is given to a header without values, and to layers of this index without streams; `None`
-// where there is no such header.
+// Puts what is given to a header without values, and to layers of this index without streams, and
+// returns the length of the layers' data; `None` where there is no such header.
 fn put_given_with_layers(
     view: &HeaderView,
     layers_view: &Layers,
     header: &mut RtpHeader,
     layers: &mut VideoLayers,
-) -> Option<()>
+) -> Option<usize>
     requires values { header.old.ext_vals ≡ no_values }
     requires current { layers.old.current_simulcast_stream_index ≡ layers_view.now.current }
     requires streams { layers.old.simulcast_streams ≡ [] }
@@ -47,6 +46,8 @@ fn put_given_with_layers(
         (with_values header.new (record header.new.ext_vals {
           video_layers_allocation = Some layers.new;
         }))) }
+    ensures measured { IfSome result (λ len. Writable layers.new
+        × (len ≡ length (written_of layers.new)) × (len ≤ 255)) }
     ensures none { IfNone result ((h : Header) →
         IsGivenWithLayers view.now layers_view.now h → ⊥) }
 {
@@ -73,11 +74,12 @@ pub extern "C" fn rtpw_wire_len_layers(
     let mut unfreed = ManuallyDrop::new(RtpHeader::default());
     let rtp_header = &mut *unfreed;
     let mut allocation = VideoLayers::new(layers.current);
-    let Some(()) = put_given_with_layers(header, layers, rtp_header, &mut allocation) else {
+    let Some(layers_len) = put_given_with_layers(header, layers, rtp_header, &mut allocation) else {
         return BAD_FIELD;
     };
     let given: &RtpHeader = rtp_header;
-    *len = given.values_wire_len(&with_layers(given, &allocation), map);
+    let values = with_layers(given, &allocation, layers_len);
+    *len = given.values_wire_len(&values, map);
     OK
 }
 
@@ -109,11 +111,12 @@ pub extern "C" fn rtpw_write_layers(
     let mut unfreed = ManuallyDrop::new(RtpHeader::default());
     let rtp_header = &mut *unfreed;
     let mut allocation = VideoLayers::new(layers.current);
-    let Some(()) = put_given_with_layers(header, layers, rtp_header, &mut allocation) else {
+    let Some(layers_len) = put_given_with_layers(header, layers, rtp_header, &mut allocation) else {
         return BAD_FIELD;
     };
     let given: &RtpHeader = rtp_header;
-    let Some(written) = given.try_write_values(buf, &with_layers(given, &allocation), map) else {
+    let values = with_layers(given, &allocation, layers_len);
+    let Some(written) = given.try_write_values(buf, &values, map) else {
         return SHORT_BUFFER;
     };
     *len = written;
