@@ -1,6 +1,6 @@
 //! Rates as LEB128 numbers.
 
-ghost use Rattle.std.specs.Prelude.{◌≡◌, ℕ, ◌+◌, ◌^◌, ◌<◌, ◌≤◌, ◌⊎◌, ◌++◌, List, length, drop, IfSome};
+ghost use Rattle.std.specs.Prelude.{◌≡◌, ℕ, ◌+◌, ◌^◌, ◌<◌, ◌≤◌, ◌⊎◌, ◌++◌, List, length, drop, IfSome, IfNone};
 ghost use Rattle.rtp_base.specs.Overwriting.{overwritten};
 ghost use Rattle.rtp_vla.specs.Leb.{IsShortest, ReadsLeb, shortest_of};
 ghost use Rattle.rtp_vla.specs.LebReading.{leb_number};
@@ -78,19 +78,22 @@ fn long_leb_len(value: u64) -> usize
     len
 }
 
-// The same. Most rates in use have one or two bytes.
+// The same, where the number is below 2^63. Most rates in use have one or two bytes.
 #[inline(always)]
-pub(super) fn leb_len(value: u64) -> usize
-    requires { value < 2 ^ 63 }
-    ensures { result ≡ length (shortest_of value) }
+pub(super) fn checked_leb_len(value: u64) -> Option<usize>
+    ensures fits { IfSome result (λ len. (value < 2 ^ 63) × (len ≡ length (shortest_of value))) }
+    ensures unfit { IfNone result (2 ^ 63 ≤ value) }
 {
+    if value >= 0x4000 {
+        if value >= 1 << 63 {
+            return None;
+        }
+        return Some(long_leb_len(value));
+    }
     if value < 0x80 {
-        return 1;
+        return Some(1);
     }
-    if value < 0x4000 {
-        return 2;
-    }
-    long_leb_len(value)
+    Some(2)
 }
 
 // Puts the shortest spelling at an offset, and returns the offset after it.

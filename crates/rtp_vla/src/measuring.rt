@@ -9,7 +9,7 @@ ghost use Rattle.rtp_vla.specs.Leb.{shortest_of};
 
 use super::active::ActiveLayers;
 use super::allocation::{ResolutionAndFramerate, TemporalLayerAllocation};
-use super::leb::leb_len;
+use super::leb::checked_leb_len;
 use super::lent::{Layered, Lendable, LentAllocation, LentLayers, LentStreams};
 
 // The mask of a stream that can be written.
@@ -47,10 +47,10 @@ fn rates_len(rates: &[TemporalLayerAllocation]) -> Option<usize>
     }
     let mut len = 0;
     for rate in rates {
-        if rate.cumulative_kbps >= 1 << 63 {
+        let Some(rate_len) = checked_leb_len(rate.cumulative_kbps) else {
             return None;
-        }
-        len += leb_len(rate.cumulative_kbps);
+        };
+        len += rate_len;
     }
     Some(len)
 }

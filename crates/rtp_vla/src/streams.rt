@@ -94,18 +94,18 @@ fn put_layers<L: Layers>(layers: &mut L, mask: u8, left: &mut LayerReader) -> Re
     Ok(())
 }
 
-// The stream of a mask in a value of fixed size.
+// Puts the layers of a mask into a stream of fixed size that has none. It is handed in, since a
+// stream that is returned is copied.
 #[inline(always)]
-fn held_stream(mask: u8, left: &mut LayerReader) -> VideoStream
+fn put_held_layers(stream: &mut VideoStream, mask: u8, left: &mut LayerReader)
+    requires none { stream.old ≡ [] }
     requires fits { mask ≤ 15 }
     requires enough { reading.active_in mask ≤ length left.old }
-    ensures dealt { result ≡ reading.dealt (reading.marks_of mask) left.old }
+    ensures dealt { stream.new ≡ reading.dealt (reading.marks_of mask) left.old }
     ensures left { left.new ≡ drop (reading.active_in mask) left.old }
 {
-    let mut stream = VideoStream::new();
     // It succeeds, since it takes no memory.
-    let _ = put_layers(&mut stream, mask, left);
-    stream
+    let _ = put_layers(stream, mask, left);
 }
 
 // The same in lists.
@@ -138,7 +138,9 @@ pub(super) fn put_streams(layers: &mut VideoLayers, masks: &[u8], mut left: Laye
     } }
 {
     for mask in masks {
-        layers.push(held_stream(*mask, &mut left));
+        let mut stream = VideoStream::new();
+        put_held_layers(&mut stream, *mask, &mut left);
+        layers.push(stream);
     }
 }
 

@@ -1,6 +1,6 @@
 //! From an allocation to bytes.
 
-ghost use Rattle.std.specs.Prelude.{◌≡◌, ◌↔◌, true, ◌+◌, ◌*◌, ◌/◌, ◌%◌, ◌<◌, ◌≤◌, ◌∷◌, [], ◌++◌, List, length, drop, map, is_some, IsTrue, IfSome, IfNone};
+ghost use Rattle.std.specs.Prelude.{◌≡◌, ◌↔◌, true, false, ◌+◌, ◌*◌, ◌/◌, ◌%◌, ◌<◌, ◌≤◌, ◌∷◌, [], ◌++◌, List, length, drop, map, is_some, IsTrue, IfSome, IfNone};
 ghost use Rattle.std.specs.List.{AllByRecursion, flat_map};
 ghost use Rattle.rtp_base.specs.Overwriting.{overwritten};
 ghost use Rattle.rtp_vla.specs.Allocation.{Layer, Means, IsCounted, count_of};
@@ -116,15 +116,19 @@ fn put_resolution(buf: &mut [u8], at: usize, resolution: &Option<ResolutionAndFr
     put(buf, at, &[x, y, z, u, resolution.framerate])
 }
 
-// Puts the resolutions.
+// Puts the resolutions. The first layer without one ends them.
 fn put_resolutions<S: Layered>(buf: &mut [u8], at: usize, mut left: ActiveLayers<S>) -> usize
     requires some { AllByRecursion putting.HasSizedResolution left }
+    requires front { written.resolutions_in_front false left ≡ true }
     requires room { at + length (flat_map written.resolution_bytes left) ≤ length buf.old }
     ensures written { buf.new ≡ overwritten buf.old at (flat_map written.resolution_bytes left.entry) }
     ensures end { result ≡ at + length (flat_map written.resolution_bytes left.entry) }
 {
     let mut end = at;
     while let Some(layer) = left.next() {
+        if layer.resolution_and_framerate.is_none() {
+            return end;
+        }
         end = put_resolution(buf, end, &layer.resolution_and_framerate);
     }
     end

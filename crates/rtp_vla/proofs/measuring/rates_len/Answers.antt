@@ -8,16 +8,16 @@ use Rattle.rtp_vla.proofs.AllocationWritingLemmas.{length-flat_map-more}
 use Rattle.rtp_vla.proofs.measuring.rates_len.Goals as goal
 
 pub overflow_add-len : goal.overflow_add-len
-overflow_add-len c = omega (arith, c.leb_len-len.ensures, (length-shortest_of c.rate.inside.cumulative_kbps c.if-rate.false).1)
+overflow_add-len c = omega (arith, c.in-Some.ensures.fits.1, (length-shortest_of c.rate.inside.cumulative_kbps c.in-Some.ensures.fits.0).1)
 
 pub loop-rate-preserved : goal.loop-rate-preserved
 loop-rate-preserved c =
     let rates = c.args.rates.now in
     let i = c.loop-rate.rate-index in
     let is : c.rate.inside.cumulative_kbps ≡ get_or rates i 0 = c.rate.view_is ∙ get_or_read rates i c.rate-item.result c.loop-rate-test.true c.rate-item.is 0 in
-    let small : get_or rates i 0 < 9223372036854775808 = omega (arith, is) in
+    let small : get_or rates i 0 < 9223372036854775808 = omega (arith, is, c.in-Some.ensures.fits.0) in
     record {
       fits = list_all_more (λ rate. ltb rate 9223372036854775808) rates i 0 c.loop-rate-test.true ∙ and_from _ _ c.loop-rate.invariant.fits (lt-ltb _ _ small);
-      len = omega (arith, c.loop-rate.invariant.len, c.leb_len-len.ensures, ap (λ (r : ℕ). length (shortest_of r)) is, length-flat_map-more shortest_of rates i c.loop-rate-test.true);
-      few = omega (arith, c.leb_len-len.ensures, (length-shortest_of c.rate.inside.cumulative_kbps c.if-rate.false).1);
+      len = omega (arith, c.loop-rate.invariant.len, c.in-Some.ensures.fits.1, ap (λ (r : ℕ). length (shortest_of r)) is, length-flat_map-more shortest_of rates i c.loop-rate-test.true);
+      few = omega (arith, c.in-Some.ensures.fits.1, (length-shortest_of c.rate.inside.cumulative_kbps c.in-Some.ensures.fits.0).1);
     }

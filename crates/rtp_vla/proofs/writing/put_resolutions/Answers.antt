@@ -1,5 +1,8 @@
-use Rattle.std.proofs.Common.{◌≡◌, ◌++◌, [], ◌∙◌, ap, List, ℕ, ◌+◌, length}
+use Rattle.std.proofs.Common.{◌≡◌, ◌++◌, [], ◌∙◌, ap, sym, List, ℕ, ◌+◌, length}
 use Rattle.std.specs.List.{flat_map}
+use Rattle.std.specs.Option.{is_none}
+use Rattle.rtp_vla.specs.Allocation.{Layer}
+use Rattle.rtp_vla.proofs.AllocationWriting.{front_more, none_left, none_by_test}
 use Rattle.rtp_vla.specs.AllocationWritten.{resolution_bytes, resolution_field}
 use Rattle.rtp_base.specs.Overwriting.{overwritten}
 use Rattle.rtp_vla.proofs.LeavingLemmas.{Leaves-part, Leaves-end}
@@ -13,9 +16,22 @@ loop-layer-preserved g c =
     record {
       leaves = Leaves-part c.loop-layer.buf c.put_resolution-end.new.buf _ _ _ _ c.loop-layer.end c.put_resolution-end.result c.args.at (rw split at c.loop-layer.invariant.leaves) (c.put_resolution-end.ensures.written ∙ ap (overwritten c.loop-layer.buf c.loop-layer.end) bytes) (c.put_resolution-end.ensures.end ∙ ap (λ (bs : List ℕ). c.loop-layer.end + length bs) bytes);
       some = AllByRecursion-tail _ _ _ c.in-Some.ensures.steps c.loop-layer.invariant.some;
+      front = front_more _ _ c.in-Some.layer c.in-Some.ensures.steps (ap (λ (l : Layer). is_none l.resolution_and_framerate) (sym c.layer.view_is) ∙ none_by_test c.layer.inside.resolution_and_framerate c.is_none.result c.is_none.ensures ∙ c.if-is_none.false) c.loop-layer.invariant.front;
     }
 
 pub returns-clause-written : goal.returns-clause-written
 returns-clause-written g c =
     let none : flat_map resolution_bytes c.loop-layer.left ≡ [] = ap (flat_map resolution_bytes) c.in_default.ensures.steps.0 in
     (Leaves-end _ _ _ _ _ (rw none at c.loop-layer.invariant.leaves)).0
+
+pub returns-then-is_none-clause-written : goal.returns-then-is_none-clause-written
+returns-then-is_none-clause-written g c =
+    let absent = ap (λ (l : Layer). is_none l.resolution_and_framerate) (sym c.layer.view_is) ∙ none_by_test c.layer.inside.resolution_and_framerate c.is_none.result c.is_none.ensures ∙ c.if-is_none.true in
+    let none = none_left c.loop-layer.left c.next.new.self c.in-Some.layer c.in-Some.ensures.steps absent c.loop-layer.invariant.front in
+    (Leaves-end _ _ _ _ _ (rw none at c.loop-layer.invariant.leaves)).0
+
+pub returns-then-is_none-clause-end : goal.returns-then-is_none-clause-end
+returns-then-is_none-clause-end g c =
+    let absent = ap (λ (l : Layer). is_none l.resolution_and_framerate) (sym c.layer.view_is) ∙ none_by_test c.layer.inside.resolution_and_framerate c.is_none.result c.is_none.ensures ∙ c.if-is_none.true in
+    let none = none_left c.loop-layer.left c.next.new.self c.in-Some.layer c.in-Some.ensures.steps absent c.loop-layer.invariant.front in
+    (Leaves-end _ _ _ _ _ (rw none at c.loop-layer.invariant.leaves)).1

@@ -1,6 +1,6 @@
-use Rattle.std.proofs.Common.{length}
+use Rattle.std.proofs.Common.{◌≡◌, length, true, false}
 use Rattle.std.specs.List.{AllByRecursion, flat_map}
-use Rattle.rtp_vla.specs.AllocationWritten.{resolution_bytes}
+use Rattle.rtp_vla.specs.AllocationWritten.{resolution_bytes, resolutions_in_front}
 use Rattle.rtp_vla.specs.AllocationPutting.{HasSizedResolution}
 use Rattle.rtp_vla.specs.Leaving.{Leaves}
 use Rattle.rtp_vla.proofs.writing.put_resolutions.Given as goal
@@ -10,6 +10,7 @@ abbrev pub invariant-loop-layer : goal.invariant-loop-layer
 invariant-loop-layer g l = record {
   leaves : Leaves l.buf l.end (flat_map resolution_bytes l.left) l.initial.buf l.at (flat_map resolution_bytes l.initial.left);
   some : AllByRecursion HasSizedResolution l.left;
+  front : resolutions_in_front false l.left ≡ true;
 }
 
 abbrev pub decreases-loop-layer : goal.decreases-loop-layer

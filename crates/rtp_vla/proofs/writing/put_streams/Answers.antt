@@ -1,9 +1,9 @@
-use Rattle.std.proofs.Common.{◌≡◌, ◌≤◌, ◌+◌, ◌-◌, ◌*◌, ◌∷◌, [], ◌∙◌, ap, sym, subst, arith, length, map, List, ℕ}
+use Rattle.std.proofs.Common.{◌≡◌, ◌≤◌, ◌+◌, ◌-◌, ◌*◌, ◌∷◌, [], ◌∙◌, ap, sym, subst, arith, length, map, List, ℕ, true, false}
 use Rattle.std.specs.List.{AllByRecursion, flat_map}
 use Rattle.std.proofs.lemmas.Bool.{OnTrue_at}
 use Rattle.rtp_vla.specs.Allocation.{Layer, IsCounted, active_layers, mask_of, count_of}
 use Rattle.rtp_vla.specs.AllocationPutting.{HasSmallRates, HasSizedResolution}
-use Rattle.rtp_vla.specs.AllocationWritten.{shared_of, mask_bytes, quarters_of, rate_bytes, resolution_bytes, packed_bytes}
+use Rattle.rtp_vla.specs.AllocationWritten.{shared_of, mask_bytes, quarters_of, rate_bytes, resolution_bytes, resolutions_in_front, packed_bytes}
 use Rattle.rtp_base.specs.Overwriting.{overwritten}
 use Rattle.rtp_vla.proofs.AllocationWriting.{can_put}
 use Rattle.rtp_vla.proofs.AllocationWritingLemmas.{length-packed_bytes, length-quarters_of}
@@ -60,6 +60,10 @@ put_rates-end-requires-clause-room g c =
 
 pub put_resolutions-requires-clause-some : goal.put_resolutions-requires-clause-some
 put_resolutions-requires-clause-some g c = subst (AllByRecursion HasSizedResolution) (sym (c.new-3.ensures ∙ ap active_layers c.again-3.ensures)) (can_put c.args.index c.args.streams.now c.requires.some c.requires.fit).sized
+
+pub put_resolutions-requires-clause-front : goal.put_resolutions-requires-clause-front
+put_resolutions-requires-clause-front g c =
+    subst (λ (layers : List Layer). resolutions_in_front false layers ≡ true) (sym (c.new-3.ensures ∙ ap active_layers c.again-3.ensures)) (can_put c.args.index c.args.streams.now c.requires.some c.requires.fit).front
 
 pub put_resolutions-requires-clause-room : goal.put_resolutions-requires-clause-room
 put_resolutions-requires-clause-room g c =
