@@ -107,6 +107,8 @@ fn write_id(form: ExtensionsForm, body: &mut [u8], place: &Place, id: Option<u8>
         ..
     } = *place;
     match id {
+        // Its header is there already.
+        Some(id) if id == place.id => {}
         Some(id) => write_header(body, start, form, id, (end - data_start) as u8),
         None => {
             put_zeros(body, start, end - start);
@@ -183,8 +185,25 @@ impl IdChange<'_> {
     }
 }
 
-// Gives each element its new id, or makes it padding, and returns whether one has become padding.
+// Gives each element its new id, or makes it padding, and returns whether one has become padding. It is
+// inlined, so that a removal and a table have loops of their own.
+#[inline(always)]
 fn change_ids(form: ExtensionsForm, body: &mut [u8], change: IdChange<'_>) -> bool
+    requires { All (λ element. IsElement form element → CanRenumber form (ids_of change) element)
+        (elements_left form body.old) }
+    ensures changed { ChangesIds form (ids_of change.entry) body.old body.new }
+    ensures lost { (elements : List Element) → AreElements form body.old elements →
+        result ≡ list_any (λ element. is_none (ids_of change.entry element.0)) elements }
+{
+    match form {
+        ExtensionsForm::OneByte => change_ids_in(ExtensionsForm::OneByte, body, change),
+        ExtensionsForm::TwoByte => change_ids_in(ExtensionsForm::TwoByte, body, change),
+    }
+}
+
+// The same. It is inlined, so that each form has a loop of its own.
+#[inline(always)]
+fn change_ids_in(form: ExtensionsForm, body: &mut [u8], change: IdChange<'_>) -> bool
     requires { All (λ element. IsElement form element → CanRenumber form (ids_of change) element)
         (elements_left form body.old) }
     ensures changed { ChangesIds form (ids_of change.entry) body.old body.new }

@@ -1,38 +1,17 @@
-use Rattle.std.proofs.Common.{◌≡◌, ℕ, Bool, true, false, not, ◌||◌, Option, Some, None, is_some, is_none, arith, refl, sym, subst}
-use Rattle.std.proofs.lemmas.Bool.{false≢true}
-use Rattle.rtp_ext.specs.IdChanges.{ids_of, HasOtherIdsTo}
-use Rattle.rtp_ext.proofs.PlaceLemmas.{LiesAt-next}
-use Rattle.rtp_ext.proofs.RenumberingLemmas.{HasOtherIdsTo-start, fits-next, HasOtherIdsTo-next, HasOtherIdsTo-end, lost-end}
+use Rattle.std.proofs.Common.{◌≡◌, List, sym, subst}
+use Rattle.std.specs.List.{list_any}
+use Rattle.std.specs.Option.{is_none}
+use Rattle.rtp_ext.specs.Elements.{Element, AreElements}
+use Rattle.rtp_ext.specs.IdChanges.{ids_of}
 use Rattle.rtp_ext.proofs.place.change_ids.Goals as goal
 
-none_of : (id : Option ℕ) (none : Bool) → is_some id ≡ not none → none ≡ is_none id
-none_of None true is = refl
-none_of None false is = absurd (false≢true is)
-none_of (Some id) true is = absurd (false≢true (sym is))
-none_of (Some id) false is = refl
+pub returns-in-OneByte-clause-lost : goal.returns-in-OneByte-clause-lost
+returns-in-OneByte-clause-lost c =
+    subst (λ form. (elements : List Element) → AreElements form c.args.body.now elements
+    → c.change_ids_in.result ≡ list_any (λ (element : Element). is_none (ids_of c.args.change element.0)) elements) (sym c.in-OneByte.is) c.change_ids_in.ensures.lost
 
-pub loop-place-init : goal.loop-place-init
-loop-place-init c = HasOtherIdsTo-start c.args.form (ids_of c.args.change) c.args.body.now c.requires
-
-pub write_id-requires-clause-lies : goal.write_id-requires-clause-lies
-write_id-requires-clause-lies c = LiesAt-next c.args.form c.loop-place.body c.loop-place.at c.in-Some.place (omega (arith, c.in-Some.ensures.further)) c.in-Some.ensures.found
-
-pub write_id-requires-clause-fits : goal.write_id-requires-clause-fits
-write_id-requires-clause-fits c =
-    fits-next c.args.form (ids_of c.args.change) c.args.body.now c.loop-place.body c.loop-place.at c.loop-place.lost c.in-Some.place c.new_id-id.result
-    c.loop-place.invariant c.in-Some.ensures.found c.new_id-id.ensures
-
-pub loop-place-preserved : goal.loop-place-preserved
-loop-place-preserved c =
-    subst (λ b. HasOtherIdsTo c.args.form (ids_of c.args.change) c.args.body.now c.write_id.new.body c.in-Some.place.end (c.loop-place.lost || b))
-    (sym (none_of c.new_id-id.result c.is_none-lost.result c.is_none-lost.ensures))
-    (HasOtherIdsTo-next c.args.form (ids_of c.args.change) c.args.body.now c.loop-place.body c.write_id.new.body c.loop-place.at c.loop-place.lost c.in-Some.place c.new_id-id.result
-    (omega (arith, c.in-Some.ensures.further)) c.loop-place.invariant c.in-Some.ensures.found c.new_id-id.ensures c.write_id.ensures)
-
-pub returns-clause-changed : goal.returns-clause-changed
-returns-clause-changed c =
-    HasOtherIdsTo-end c.args.form (ids_of c.args.change) c.args.body.now c.loop-place.body c.loop-place.at c.loop-place.lost c.loop-place.invariant c.in_default.ensures.none
-
-pub returns-clause-lost : goal.returns-clause-lost
-returns-clause-lost c = λ elements are.
-    lost-end c.args.form (ids_of c.args.change) c.args.body.now c.loop-place.body c.loop-place.at c.loop-place.lost elements c.loop-place.invariant c.in_default.ensures.none are
+pub returns-in-TwoByte-clause-lost : goal.returns-in-TwoByte-clause-lost
+returns-in-TwoByte-clause-lost c =
+    let told = c.change_ids_in-in-TwoByte in
+    subst (λ form. (elements : List Element) → AreElements form c.args.body.now elements
+    → told.result ≡ list_any (λ (element : Element). is_none (ids_of c.args.change element.0)) elements) (sym c.in-TwoByte.is) told.ensures.lost

@@ -5,9 +5,13 @@ use Rattle.rtp_ext.proofs.place.write_id.Goals as goal
 
 pub returns-in-Some : goal.returns-in-Some
 returns-in-Some c = λ lies.
+    rw c.in-Some.is (rw c.if-id-place.true lies.body_is)
+
+pub returns-in-Some-2 : goal.returns-in-Some-2
+returns-in-Some-2 c = λ lies.
     let len : c.args.place.now.end - c.args.place.now.data_start ≡ length lies.bytes = omega (arith, lies.end_is) in
-    rw c.in-Some.is
-    (c.write_header.ensures ∙ renumbered_at c.args.form c.args.body.now lies.front lies.bytes lies.after _ _ c.args.place.now.id c.in-Some.id lies.body_is lies.start_is len)
+    rw c.in-Some-2.is
+    (c.write_header.ensures ∙ renumbered_at c.args.form c.args.body.now lies.front lies.bytes lies.after _ _ c.args.place.now.id c.in-Some-2.id lies.body_is lies.start_is len)
 
 pub returns-in-None : goal.returns-in-None
 returns-in-None c = λ lies.

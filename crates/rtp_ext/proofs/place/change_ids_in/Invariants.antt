@@ -1,6 +1,6 @@
 use Rattle.std.proofs.Common.{◌-◌, length}
 use Rattle.rtp_ext.specs.IdChanges.{ids_of, HasOtherIdsTo}
-use Rattle.rtp_ext.proofs.place.change_ids.Given as goal
+use Rattle.rtp_ext.proofs.place.change_ids_in.Given as goal
 
 -- the elements up to the offset have their new ids
 abbrev pub invariant-loop-place : goal.invariant-loop-place
