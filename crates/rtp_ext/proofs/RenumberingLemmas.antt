@@ -1,5 +1,5 @@
 -- Elements that get other ids, or become padding, one after another.
-use Rattle.std.proofs.Common.{◌≡◌, ℕ, zero, suc, ◌≤◌, List, [], ◌∷◌, ◌++◌, length, take, drop, replicate, Bool, true, false, ◌||◌, ◌==◌, if◌then◌else◌, get_or, ◌↔◌, IsTrue, Option, Some, None, is_none, IfSome, All, append_assoc, length-append, arith, refl, sym, ap, ◌∙◌, subst}
+use Rattle.std.proofs.Common.{◌≡◌, ℕ, zero, suc, ◌≤◌, ◌<◌, List, [], ◌∷◌, ◌++◌, length, take, drop, replicate, Bool, true, false, ◌||◌, ◌==◌, if◌then◌else◌, get_or, ◌↔◌, IsTrue, Option, Some, None, is_none, IfSome, All, append_assoc, length-append, arith, refl, sym, ap, ◌∙◌, subst}
 use Rattle.std.specs.List.{AllByRecursion, flat_map, filter_map, list_any, cons_option}
 use Rattle.std.specs.Option.{option_map}
 use Rattle.std.specs.Bool.{OnFalse}
@@ -18,10 +18,11 @@ use Rattle.rtp_ext.specs.ElementsInPlace.{bytes_under, renumbered, renumbered_by
 use Rattle.rtp_ext.specs.ElementPlaces.{LiesAt, IsNextPlace, AreWhole}
 use Rattle.rtp_ext.specs.IdChanges.{HasOtherIdsTo}
 use Rattle.rtp_ext.proofs.ElementLemmas.{elements_left-padding}
-use Rattle.rtp_ext.proofs.ElementLemmasOfBodies.{elements_left-element}
+use Rattle.rtp_ext.proofs.ElementLemmasOfBodies.{elements_left-element, AreElements-found}
 use Rattle.rtp_ext.proofs.PlaceLemmas.{renumbered_next, left_next, end_next}
 use Rattle.rtp_ext.proofs.PieceLemmas.{AllByRecursion-append, AreWhole-nil, AreWhole-append, AreWhole-zeros, AreWhole-element, AreElements-after, AreElements-none}
 use Rattle.rtp_ext.proofs.LastPlaceLemmas.{AreElements-same}
+use Rattle.rtp_ext.proofs.NewIdLemmas.{All-IsElement}
 
 -- ---- the pieces of padding, of padding and an element
 
@@ -250,6 +251,19 @@ AreElements-renumbered form ids old new elements has are can =
 pub may-can : (form : ExtensionsForm) (ids : ℕ → Option ℕ) (elements : List Element) → All (CanRenumber form ids) elements
     → All (λ element. IsElement form element → CanRenumber form ids element) elements
 may-can form ids elements can = λ k d here is. can k d here
+
+-- the one-byte form can carry the new ids of a body's elements where it can carry those of all ids that they can have
+can-short : (element : Element) (id : Option ℕ) → IsElement OneByte element → IfSome id (λ new. (1 ≤ new) × (new ≤ 14)) → IfSome id (λ new. IsElement OneByte (new, element.1))
+can-short element None is short = tt
+can-short element (Some new) is short = (short.1, is.1, is.2, omega (arith, short.0))
+
+pub all-can : (form : ExtensionsForm) (ids : ℕ → Option ℕ) (body : List ℕ) → form ≡ OneByte → ((i : ℕ) → get_or body i 0 < 256)
+    → ((id : ℕ) → id ≤ 14 → IfSome (ids id) (λ new. (1 ≤ new) × (new ≤ 14))) → All (CanRenumber form ids) (elements_left form body)
+all-can OneByte ids body form_is bytes short = λ k d here.
+    let elements : List Element = elements_left OneByte body in
+    let is : IsElement OneByte (get_or elements k d) = All-IsElement OneByte body elements (AreElements-found OneByte body bytes) k d here in
+    can-short (get_or elements k d) (ids (get_or elements k d).0) is (short (get_or elements k d).0 is.0)
+all-can TwoByte ids body form_is bytes short = cc
 
 -- ---- all ids but one
 

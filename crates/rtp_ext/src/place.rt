@@ -1,6 +1,6 @@
 //! Where the elements of a body lie, and elements that are changed there, without memory.
 
-ghost use Rattle.std.specs.Prelude.{◌≡◌, ◌↔◌, ◌+◌, ◌<◌, ◌≤◌, ◌++◌, List, length, drop, IsTrue, Some, IfSome, IfNone, All, is_none};
+ghost use Rattle.std.specs.Prelude.{◌≡◌, ◌↔◌, ◌+◌, ◌<◌, ◌≤◌, ◌++◌, ℕ, List, length, drop, IsTrue, Some, IfSome, IfNone, All, is_none};
 ghost use Rattle.rtp_ext.specs.declared.form.ExtensionsForm.TheVariants.{OneByte};
 ghost use Rattle.rtp_ext.specs.Elements.{Element, AreElements, IsElement};
 ghost use Rattle.rtp_ext.specs.ElementReading.{BeginsWithNoElement, elements_left};
@@ -22,7 +22,7 @@ use super::elements::first_element;
 use super::form::{header_len, write_header};
 use super::growing::survey_of;
 use super::raw_writing::put_data;
-use super::{ExtensionsForm, NewIds};
+use super::{ExtensionsForm, MAX_ID_ONE_BYTE_FORM, NewIds};
 use rtp_base::put_zeros;
 
 /// Where an element lies in the body of a block, as offsets from the body's first byte.
@@ -185,6 +185,41 @@ impl IdChange<'_> {
     }
 }
 
+// Whether an element of the one-byte form can have the id, if there is one.
+fn fits_one_byte_form(id: Option<u8>) -> bool
+    ensures { OnTrue result (IfSome id (λ id. (1 ≤ id) × (id ≤ 14))) }
+{
+    match id {
+        Some(id) => (1..=MAX_ID_ONE_BYTE_FORM).contains(&id),
+        None => true,
+    }
+}
+
+// Whether the one-byte form can carry the new id of each id that its elements can have. No id ends the
+// loop, so that all of them are looked at at once.
+fn fit_one_byte_form(ids: &NewIds) -> bool
+    ensures { OnTrue result ((id : ℕ) → id ≤ 14 →
+        IfSome (new_id ids.now id) (λ new. (1 ≤ new) × (new ≤ 14))) }
+{
+    let mut fit = true;
+    for id in 0..=MAX_ID_ONE_BYTE_FORM {
+        fit &= fits_one_byte_form(ids.new_id(id));
+    }
+    fit
+}
+
+// Whether the form can carry the new ids of a body's elements. These aren't looked at where it can carry
+// those of all ids that they can have, as with most tables.
+fn carries_new_ids(form: ExtensionsForm, body: &[u8], ids: &NewIds) -> bool
+    ensures { IsTrue result
+        ↔ All (CanRenumber form (new_id ids.now)) (elements_left form body.now) }
+{
+    match form {
+        ExtensionsForm::OneByte if fit_one_byte_form(ids) => true,
+        _ => ids.can_renumber(form, body),
+    }
+}
+
 // Gives each element its new id, or makes it padding, and returns whether one has become padding. It is
 // inlined, so that a removal and a table have loops of their own.
 #[inline(always)]
@@ -247,7 +282,7 @@ pub fn can_renumber(form: ExtensionsForm, body: &[u8], ids: &NewIds) -> bool
     ensures { (elements : List Element) → AreElements form body.now elements →
         IsTrue result ↔ All (CanRenumber form (new_id ids.now)) elements }
 {
-    ids.can_renumber(form, body)
+    carries_new_ids(form, body, ids)
 }
 
 /// Gives each element of a block's body its new id where it lies, and makes an element whose id has
@@ -269,7 +304,7 @@ pub fn renumber(form: ExtensionsForm, body: &mut [u8], ids: &NewIds) -> bool
         CarriesExtensions from to ids.now → SaysValues form from body.old values →
         OnTrue result (SaysValues form to body.new (mapped_fields to values)) }
 {
-    if !ids.can_renumber(form, body) {
+    if !carries_new_ids(form, body, ids) {
         return false;
     }
     change_ids(form, body, IdChange::Table(ids));

@@ -1,0 +1,10 @@
+use Rattle.std.proofs.Common.{arith, refl}
+use Rattle.rtp_ext.specs.NewIds.{new_id}
+use Rattle.rtp_ext.proofs.RenumberingLemmas.{all-can}
+use Rattle.rtp_ext.proofs.place.carries_new_ids.Goals as goal
+
+pub returns-in-OneByte : goal.returns-in-OneByte
+returns-in-OneByte c = (
+  λ is. all-can c.args.form (new_id c.args.ids.now) c.args.body.now c.in-OneByte.is (λ i. omega (arith, c.type_inv.body i)) c.if-fit_one_byte_form.ensures,
+  λ can. refl,
+)
