@@ -112,6 +112,17 @@ fn survey_in(form: ExtensionsForm, body: &[u8], id: u8) -> Survey
 fn gather(form: ExtensionsForm, body: &mut [u8], id: u8) -> usize
     ensures { IsGathered form id body.old body.new result }
 {
+    match form {
+        ExtensionsForm::OneByte => gather_in(ExtensionsForm::OneByte, body, id),
+        ExtensionsForm::TwoByte => gather_in(ExtensionsForm::TwoByte, body, id),
+    }
+}
+
+// The same. It is inlined, so that each form has a loop of its own.
+#[inline(always)]
+fn gather_in(form: ExtensionsForm, body: &mut [u8], id: u8) -> usize
+    ensures { IsGathered form id body.old body.new result }
+{
     let mut len = 0;
     let mut at = 0;
     while let Some(place) = next_place(form, body, at) {

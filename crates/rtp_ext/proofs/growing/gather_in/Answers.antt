@@ -1,8 +1,8 @@
 use Rattle.std.proofs.Common.{◌≡◌, ◌-◌, drop, ◌∙◌}
 use lib.Seq.{paste}
 use Rattle.rtp_ext.proofs.GatheredLemmas.{IsGatheredTo-start, IsGatheredTo-this, IsGatheredTo-other, IsGathered-end, start-same}
-use Rattle.rtp_ext.proofs.growing.gather.Goals as goal
-use Rattle.rtp_ext.proofs.growing.gather.Goals.{then-len-place, else-len-place}
+use Rattle.rtp_ext.proofs.growing.gather_in.Goals as goal
+use Rattle.rtp_ext.proofs.growing.gather_in.Goals.{then-len-place, else-len-place}
 
 pub loop-place-init : goal.loop-place-init
 loop-place-init c = IsGatheredTo-start c.args.form c.args.id c.args.body.now

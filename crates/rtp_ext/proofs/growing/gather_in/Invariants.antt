@@ -1,6 +1,6 @@
 use Rattle.std.proofs.Common.{◌-◌, length}
 use Rattle.rtp_ext.specs.BodySurvey.{IsGatheredTo}
-use Rattle.rtp_ext.proofs.growing.gather.Given as goal
+use Rattle.rtp_ext.proofs.growing.gather_in.Given as goal
 
 -- the elements up to the offset stand in a row
 abbrev pub invariant-loop-place : goal.invariant-loop-place
