@@ -1,12 +1,12 @@
 -- Where the first element of bytes lies, and where reading ends.
-use Rattle.std.proofs.Common.{◌≡◌, ℕ, zero, suc, ◌+◌, ◌-◌, ◌*◌, ◌/◌, ◌%◌, ◌<◌, ◌≤◌, ◌⊎◌, inl, inr, List, [], ◌∷◌, ◌++◌, length, drop, replicate, Option, Some, None, get_or, append_assoc, take-append-drop, arith, refl, sym, ap, ◌∙◌, subst, Bor}
+use Rattle.std.proofs.Common.{◌≡◌, ℕ, zero, suc, ◌+◌, ◌-◌, ◌*◌, ◌/◌, ◌%◌, ◌<◌, ◌≤◌, ◌⊎◌, inl, inr, List, [], ◌∷◌, ◌++◌, length, take, drop, replicate, get_or, append_assoc, take-append-drop, arith, refl, sym, ap, ◌∙◌, subst}
 use Rattle.std.specs.List.{IsFirstAndRest, IsSplitAt}
-use Rattle.std.proofs.lemmas.List.{nil_from_length, replicate-append-replicate}
+use Rattle.std.proofs.lemmas.List.{nil_from_length, replicate-append-replicate, take_rest, length-drop}
 use Rattle.rtp_ext.specs.declared.form.ExtensionsForm.{ExtensionsForm}
 use Rattle.rtp_ext.specs.declared.form.ExtensionsForm.TheVariants.{OneByte, TwoByte}
 use Rattle.rtp_ext.specs.Elements.{Element, IsElement, element_bytes, IsTail, ended, stopped}
-use Rattle.rtp_ext.specs.ElementReading.{without_padding, elements_left, BeginsWithElement, BeginsWithNoElement, IsFirstElement}
-use Rattle.rtp_ext.proofs.ElementLemmas.{elements_left-padding}
+use Rattle.rtp_ext.specs.ElementReading.{without_padding, elements_left, BeginsWithElement, BeginsWithNoElement}
+use Rattle.rtp_ext.proofs.ElementLemmas.{elements_left-padding, first_unpadded}
 use Rattle.rtp_ext.proofs.ElementLemmasOfBodies.{elements_left-element, elements_left-tail, IsTail-one_byte, IsTail-two_byte, IsTail-two_byte_end}
 
 -- bytes without padding at their front
@@ -73,19 +73,103 @@ more_padded bytes rest end padding is more =
     ∙ (sym (append_assoc (replicate (padded bytes).0 0) (replicate padding 0) end)
     ∙ ap (λ b. b ++ end) (replicate-append-replicate (padded bytes).0 padding 0)))
 
-pub IsFirstElement-padded : (form : ExtensionsForm) (bytes rest : List ℕ) (first : Option (ℕ × Bor (List ℕ) × Bor (List ℕ))) → rest ≡ without_padding bytes
-    → IsFirstElement form rest first → IsFirstElement form bytes first
-IsFirstElement-padded form bytes rest None is none = record {
+pub fits_padded : (bytes rest : List ℕ) → rest ≡ without_padding bytes → ((i : ℕ) → get_or bytes i 0 < 256) → (i : ℕ) → get_or rest i 0 < 256
+unfolding without_padding
+fits_padded [] rest is fits i = subst (λ b. get_or b i 0 < 256) (sym is) (omega arith)
+fits_padded (zero ∷ bytes) rest is fits i = fits_padded bytes rest is (λ k. fits (suc k)) i
+fits_padded (suc byte ∷ bytes) rest is fits i = subst (λ b. get_or b i 0 < 256) (sym is) (fits i)
+
+-- bytes after padding, split behind an element with its header
+begins_first : (rest : List ℕ) → 1 ≤ length rest → IsFirstAndRest rest (get_or rest 0 0) (drop 1 rest)
+begins_first [] some = absurd (omega arith)
+begins_first (first ∷ rest) some = (refl, omega arith)
+
+begins_second : (rest : List ℕ) → 2 ≤ length rest → IsFirstAndRest (drop 1 rest) (get_or rest 1 0) (drop 2 rest)
+begins_second [] two = absurd (omega arith)
+begins_second (first ∷ []) two = absurd (omega arith)
+begins_second (first ∷ second ∷ rest) two = (refl, omega arith)
+
+split_second : (rest front back : List ℕ) (whole count : ℕ) → whole ≡ suc count → IsSplitAt rest whole front back
+    → IsSplitAt (drop 1 rest) count (take (length front - 1) (drop 1 front)) back
+split_second [] front back whole count whole_is split = absurd (omega (arith, split.0))
+split_second (first ∷ rest) front back whole count whole_is split =
+    let front_is : drop 1 front ≡ take count rest = ap (drop 1) (split.1 ∙ ap (λ n. take n (first ∷ rest)) whole_is) in
+    let all : take (length front - 1) (drop 1 front) ≡ drop 1 front = take_rest front 1 in (
+      omega (arith, split.0),
+      all ∙ front_is,
+      split.2 ∙ ap (λ n. drop n (first ∷ rest)) whole_is,
+      omega (arith, ap length all, length-drop 1 front, split.3),
+      omega (arith, split.4),
+    )
+
+split_third : (rest front back : List ℕ) (whole count : ℕ) → whole ≡ suc (suc count) → IsSplitAt rest whole front back
+    → IsSplitAt (drop 2 rest) count (take (length front - 2) (drop 2 front)) back
+split_third [] front back whole count whole_is split = absurd (omega (arith, split.0))
+split_third (first ∷ []) front back whole count whole_is split = absurd (omega (arith, split.0))
+split_third (first ∷ second ∷ rest) front back whole count whole_is split =
+    let front_is : drop 2 front ≡ take count rest = ap (drop 2) (split.1 ∙ ap (λ n. take n (first ∷ second ∷ rest)) whole_is) in
+    let all : take (length front - 2) (drop 2 front) ≡ drop 2 front = take_rest front 2 in (
+      omega (arith, split.0),
+      all ∙ front_is,
+      split.2 ∙ ap (λ n. drop n (first ∷ second ∷ rest)) whole_is,
+      omega (arith, ap length all, length-drop 2 front, split.3),
+      omega (arith, split.4),
+    )
+
+BeginsWithElement-padded : (form : ExtensionsForm) (bytes rest : List ℕ) (element : Element) (after : List ℕ) → rest ≡ without_padding bytes
+    → BeginsWithElement form rest element after → BeginsWithElement form bytes element after
+BeginsWithElement-padded form bytes rest element after is begins = record {
+  padding = (padded bytes).0 + begins.padding;
+  is_element = begins.is_element;
+  bytes_are = more_padded bytes rest (element_bytes form element ++ after) begins.padding is begins.bytes_are;
+}
+
+BeginsWithNoElement-padded : (form : ExtensionsForm) (bytes rest : List ℕ) → rest ≡ without_padding bytes → BeginsWithNoElement form rest → BeginsWithNoElement form bytes
+BeginsWithNoElement-padded form bytes rest is none = record {
   padding = (padded bytes).0 + none.padding;
   tail = none.tail;
   is_tail = none.is_tail;
   bytes_are = more_padded bytes rest none.tail none.padding is none.bytes_are;
 }
-IsFirstElement-padded form bytes rest (Some first) is begins = record {
-  padding = (padded bytes).0 + begins.padding;
-  is_element = begins.is_element;
-  bytes_are = more_padded bytes rest (element_bytes form (first.0, first.1.now) ++ first.2.now) begins.padding is begins.bytes_are;
-}
+
+-- nothing but padding
+pub no_element : (form : ExtensionsForm) (bytes : List ℕ) → length (without_padding bytes) ≡ 0 → BeginsWithNoElement form bytes
+no_element form bytes none = BeginsWithNoElement-padded form bytes (without_padding bytes) refl (BeginsWithNoElement-nothing form (without_padding bytes) none)
+
+module _ (bytes rest : List ℕ) (is : rest ≡ without_padding bytes) (some : 1 ≤ length rest) where
+  some_id : 1 ≤ get_or rest 0 0
+  some_id = first_unpadded (get_or rest 0 0) bytes rest (drop 1 rest) is (begins_first rest some)
+
+  pub short_element : (front back : List ℕ) → get_or rest 0 0 < 240 → IsSplitAt rest (get_or rest 0 0 % 16 + 2) front back
+      → BeginsWithElement OneByte bytes (get_or rest 0 0 / 16, take (length front - 1) (drop 1 front)) back
+  short_element front back low split =
+      BeginsWithElement-padded OneByte bytes rest _ back is
+      (BeginsWithElement-one_byte (get_or rest 0 0) rest (drop 1 rest) _ back some_id (begins_first rest some) low
+      (split_second rest front back (get_or rest 0 0 % 16 + 2) (get_or rest 0 0 % 16 + 1) (omega arith) split))
+
+  pub no_short_element : (240 ≤ get_or rest 0 0) ⊎ ((get_or rest 0 0 < 240) × (length rest < get_or rest 0 0 % 16 + 2)) → BeginsWithNoElement OneByte bytes
+  no_short_element (inl high) =
+      BeginsWithNoElement-padded OneByte bytes rest is (BeginsWithNoElement-one_byte (get_or rest 0 0) rest (drop 1 rest) some_id (begins_first rest some) (inl high))
+  no_short_element (inr cut) =
+      BeginsWithNoElement-padded OneByte bytes rest is
+      (BeginsWithNoElement-one_byte (get_or rest 0 0) rest (drop 1 rest) some_id (begins_first rest some) (inr (cut.0, omega (arith, cut.1, length-drop 1 rest))))
+
+  module _ (are : (i : ℕ) → get_or bytes i 0 < 256) where
+    pub long_element : (front back : List ℕ) → 2 ≤ length rest → IsSplitAt rest (get_or rest 1 0 + 2) front back
+        → BeginsWithElement TwoByte bytes (get_or rest 0 0, take (length front - 2) (drop 2 front)) back
+    long_element front back two split =
+        BeginsWithElement-padded TwoByte bytes rest _ back is
+        (BeginsWithElement-two_byte (get_or rest 0 0) (get_or rest 1 0) rest (drop 1 rest) (drop 2 rest) _ back (fits_padded bytes rest is are) some_id (begins_first rest some)
+        (begins_second rest two) (split_third rest front back (get_or rest 1 0 + 2) (get_or rest 1 0) (omega arith) split))
+
+    pub no_long_element : (length rest < 2) ⊎ ((2 ≤ length rest) × (length rest < get_or rest 1 0 + 2)) → BeginsWithNoElement TwoByte bytes
+    no_long_element (inl one) =
+        BeginsWithNoElement-padded TwoByte bytes rest is
+        (BeginsWithNoElement-two_byte_end (get_or rest 0 0) rest (drop 1 rest) (fits_padded bytes rest is are) some_id (begins_first rest some) (omega (arith, length-drop 1 rest)))
+    no_long_element (inr cut) =
+        BeginsWithNoElement-padded TwoByte bytes rest is
+        (BeginsWithNoElement-two_byte_cut (get_or rest 0 0) (get_or rest 1 0) rest (drop 1 rest) (drop 2 rest) (fits_padded bytes rest is are) some_id (begins_first rest some)
+        (begins_second rest cut.0) (omega (arith, cut.1, length-drop 2 rest)))
 
 -- the elements that are read
 elements_left-zeros : (form : ExtensionsForm) (padding : ℕ) (bytes : List ℕ) → elements_left form (replicate padding 0 ++ bytes) ≡ elements_left form bytes
@@ -102,9 +186,3 @@ pub elements_left-no_first : (form : ExtensionsForm) (bytes : List ℕ) → Begi
 elements_left-no_first form bytes none =
     ap (elements_left form) none.bytes_are
     ∙ (elements_left-zeros form none.padding none.tail ∙ elements_left-tail form none.tail none.is_tail)
-
-pub fits_padded : (bytes rest : List ℕ) → rest ≡ without_padding bytes → ((i : ℕ) → get_or bytes i 0 < 256) → (i : ℕ) → get_or rest i 0 < 256
-unfolding without_padding
-fits_padded [] rest is fits i = subst (λ b. get_or b i 0 < 256) (sym is) (omega arith)
-fits_padded (zero ∷ bytes) rest is fits i = fits_padded bytes rest is (λ k. fits (suc k)) i
-fits_padded (suc byte ∷ bytes) rest is fits i = subst (λ b. get_or b i 0 < 256) (sym is) (fits i)

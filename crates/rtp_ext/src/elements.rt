@@ -1,8 +1,7 @@
 //! The elements of a block, one after another.
 
-ghost use Rattle.std.specs.Prelude.{◌≡◌, List, length, MatchOption};
+ghost use Rattle.std.specs.Prelude.{◌≡◌, ◌≤◌, List, length, MatchOption};
 ghost use Rattle.std.specs.Bool.{OnTrue};
-ghost use Rattle.std.specs.List.{IsFirstAndRest};
 ghost use Rattle.std.specs.Iterator.{YieldsFirstBy, item_count};
 ghost use Rattle.rtp_ext.specs.Elements.{Element, AreElements};
 ghost use Rattle.rtp_ext.specs.ElementReading.{without_padding, IsFirstElement};
@@ -69,41 +68,49 @@ impl<'a> Iterator for Elements<'a> {
 }
 
 // The first element of bytes, and what follows it; None where reading ends before one. It is inlined,
-// since each walk calls it for every element.
+// since each walk calls it for every element. An element is split off with its header, so that a walk
+// counts what is left once an element.
 #[inline(always)]
 pub(super) fn first_element(bytes: &[u8], form: ExtensionsForm) -> Option<(u8, &[u8], &[u8])>
     ensures { IsFirstElement form bytes.now result }
 {
-    let (first, after) = first_unpadded(bytes)?;
+    let unpadded = unpadded(bytes)?;
     match form {
         ExtensionsForm::OneByte => {
-            if *first >= 240 {
+            let first = unpadded[0];
+            if first >= 240 {
                 return None;
             }
-            let (data, left) = after.split_at_checked(usize::from(*first % 16) + 1)?;
-            Some((*first / 16, data, left))
+            let (element, left) = unpadded.split_at_checked(usize::from(first % 16) + 2)?;
+            Some((first / 16, &element[1..], left))
         }
         ExtensionsForm::TwoByte => {
-            let (len, after) = after.split_first()?;
-            let (data, left) = after.split_at_checked(usize::from(*len))?;
-            Some((*first, data, left))
+            if unpadded.len() < 2 {
+                return None;
+            }
+            let (element, left) = unpadded.split_at_checked(usize::from(unpadded[1]) + 2)?;
+            Some((unpadded[0], &element[2..], left))
         }
     }
 }
 
-// The first byte after the padding at the front of bytes, and what follows it.
-fn first_unpadded(bytes: &[u8]) -> Option<(&u8, &[u8])>
+// The bytes after the padding at the front of bytes, if there are any.
+#[inline(always)]
+fn unpadded(bytes: &[u8]) -> Option<&[u8]>
     ensures { MatchOption result (length (without_padding bytes.now) ≡ 0)
-        (λ split. IsFirstAndRest (without_padding bytes.now) split.0.now split.1.now) }
+        (λ rest. (rest.now ≡ without_padding bytes.now) × (1 ≤ length rest.now)) }
 {
     let (first, after) = bytes.split_first()?;
     if *first != 0 {
-        return Some((first, after));
+        return Some(bytes);
     }
     if ends_in_zeros(after) {
         return None;
     }
-    skip_zeros(after).split_first()
+    match skip_zeros(after) {
+        [] => None,
+        rest => Some(rest),
+    }
 }
 
 // Whether these bytes are at most two zeros: with one before them they are the padding of most blocks, which
