@@ -16,9 +16,8 @@ use super::ExtensionsForm;
 use super::elements::first_element;
 use super::form::header_len;
 use super::place::{Place, next_place, place_before};
-use super::raw_writing::{put_data, put_element};
+use super::raw_writing::{clear, put_data, put_element};
 use super::widening::{put_widened, widened_len};
-use rtp_base::put_zeros;
 
 /// What a body has of an id, and how much besides.
 #[derive(Clone, Copy, Drop)]
@@ -279,7 +278,7 @@ pub fn put_anew(
         put_widened(body, front, end, count, id, data)
     };
     let left = body.len() - len;
-    put_zeros(body, len, left);
+    clear(body, len, left);
 }
 
 /// How many bytes the elements of a body take with this one put among them, in this form or the
@@ -316,6 +315,6 @@ pub fn take_out(form: ExtensionsForm, body: &mut [u8], id: u8) -> usize
 {
     let len = gather(form, body, id);
     let left = body.len() - len;
-    put_zeros(body, len, left);
+    clear(body, len, left);
     len
 }

@@ -21,9 +21,8 @@ ghost use Rattle.rtp_ext.specs.WrittenBlock.{mapped_fields};
 use super::elements::first_element;
 use super::form::{header_len, write_header};
 use super::growing::survey_of;
-use super::raw_writing::put_data;
+use super::raw_writing::{clear, put_data};
 use super::{ExtensionsForm, MAX_ID_ONE_BYTE_FORM, NewIds};
-use rtp_base::put_zeros;
 
 /// Where an element lies in the body of a block, as offsets from the body's first byte.
 #[derive(Clone, Copy, Drop)]
@@ -110,9 +109,7 @@ fn write_id(form: ExtensionsForm, body: &mut [u8], place: &Place, id: Option<u8>
         // Its header is there already.
         Some(id) if id == place.id => {}
         Some(id) => write_header(body, start, form, id, (end - data_start) as u8),
-        None => {
-            put_zeros(body, start, end - start);
-        }
+        None => clear(body, start, end - start),
     }
 }
 

@@ -7,7 +7,7 @@ ghost use Rattle.rtp_ext.specs.ElementsInARow.{IsWritable, AreWritableIn};
 
 use super::form::{header_len, write_header};
 use super::{ElementList, ExtensionsForm};
-use rtp_base::put;
+use rtp_base::{put, put_zeros};
 
 // How many bytes of the room are left after an element; `None` where it can't be written there.
 fn room_after(room: usize, form: ExtensionsForm, id: u8, bytes: &[u8]) -> Option<usize>
@@ -57,6 +57,33 @@ pub(super) fn put_data(buf: &mut [u8], at: usize, data: &[u8])
         }
         _ => {
             put(buf, at, data);
+        }
+    }
+}
+
+// Puts zeros at the offset. Up to four, as most elements and the rest of most words take, are put one by
+// one, since a call that clears so few takes longer.
+#[inline(always)]
+pub(super) fn clear(buf: &mut [u8], at: usize, count: usize)
+    requires { at + count ≤ length buf.old }
+    ensures { buf.new ≡ overwritten buf.old at (replicate count 0) }
+{
+    match count {
+        0 => {}
+        1 => {
+            put(buf, at, &[0]);
+        }
+        2 => {
+            put(buf, at, &[0, 0]);
+        }
+        3 => {
+            put(buf, at, &[0, 0, 0]);
+        }
+        4 => {
+            put(buf, at, &[0, 0, 0, 0]);
+        }
+        _ => {
+            put_zeros(buf, at, count);
         }
     }
 }

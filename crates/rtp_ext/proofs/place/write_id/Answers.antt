@@ -18,4 +18,4 @@ returns-in-None c = λ lies.
     let len : c.args.place.now.end - c.args.place.now.start ≡ length (element_bytes c.args.form (c.args.place.now.id, lies.bytes)) =
     omega (arith, length-lies c.args.form c.args.body.now c.args.place.now lies) in
     rw c.in-None.is
-    (c.put_zeros.ensures.written ∙ zeros_at c.args.form c.args.body.now lies.front lies.bytes lies.after _ _ c.args.place.now.id lies.body_is lies.start_is len)
+    (c.clear.ensures ∙ zeros_at c.args.form c.args.body.now lies.front lies.bytes lies.after _ _ c.args.place.now.id lies.body_is lies.start_is len)
