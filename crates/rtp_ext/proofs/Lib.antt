@@ -9,6 +9,8 @@ mod PieceLemmas
 pub mod LastPlaceLemmas
 mod RenumberingLemmas
 pub mod NewIdLemmas
+mod NewBytesLemmas
+mod CopiedLemmas
 mod RenamedIdLemmas
 pub mod MemoryLemmas
 mod MemoryFacts

@@ -12,7 +12,7 @@ use Rattle.rtp_ext.specs.declared.form.ExtensionsForm.TheVariants.{OneByte, TwoB
 use Rattle.rtp_ext.specs.Elements.{Element, IsElement, IsPiece, AreElements}
 use Rattle.rtp_ext.specs.ElementsInPlace.{CanRenumber}
 use Rattle.rtp_ext.specs.ExtensionMap.{Slots, IsId, IsLowest, entry_at, extension_at, extension_of, HasNoIdAbove}
-use Rattle.rtp_ext.specs.NewIds.{new_id, IsNewId, AreNewIds, CarriesExtensions, id_in_byte, ids_in_bytes, byte_of_id}
+use Rattle.rtp_ext.specs.NewIds.{AreNewBytes, new_id, IsNewId, AreNewIds, CarriesExtensions, id_in_byte, ids_in_bytes, byte_of_id}
 use Rattle.rtp_ext.specs.IdChanges.{carries_id}
 
 -- ---- what a form can carry
@@ -180,7 +180,7 @@ HasNewBytesTo from to bytes passed = HasNewIdsTo from to (map id_in_byte bytes) 
 pub HasNewBytesTo-start : (from to : Slots) (bytes : List ℕ) → length bytes ≡ 256 → HasNewBytesTo from to bytes 0
 HasNewBytesTo-start from to bytes long = HasNewIdsTo-start from to (map id_in_byte bytes) (length-map bytes id_in_byte ∙ long)
 
-byte_said : (new : Option ℕ) → IfSome new IsId → id_in_byte (byte_of_id new) ≡ new
+pub byte_said : (new : Option ℕ) → IfSome new IsId → id_in_byte (byte_of_id new) ≡ new
 byte_said None valid = refl
 byte_said (Some zero) valid = absurd (omega (arith, valid.0))
 byte_said (Some (suc k)) valid = refl
@@ -192,24 +192,11 @@ HasNewBytesTo-next from to bytes passed new within was is valid no_others =
     (sym (map-set id_in_byte bytes passed (byte_of_id new) ∙ ap (set (map id_in_byte bytes) passed) (byte_said new valid)))
     (HasNewIdsTo-next from to (map id_in_byte bytes) passed new within was is valid no_others)
 
-first_byte : (from to : Slots) (byte : ℕ) → IsNewId from to 0 (id_in_byte byte) → byte ≡ 0
-first_byte from to zero is = refl
-first_byte from to (suc k) is = let found = is.1 in cc
+-- the bytes of such a table say the new ids
+pub AreNewBytes-table : (from to : Slots) (bytes : List ℕ) (passed : ℕ) → 256 ≤ passed → HasNewBytesTo from to bytes passed → AreNewBytes from to bytes
+AreNewBytes-table from to bytes passed whole are = λ id.
+    subst (IsNewId from to id) (new_id-byte bytes id) (AreNewIds-table from to (map id_in_byte bytes) passed whole are id)
 
-byte_below : (byte : ℕ) → IfSome (id_in_byte byte) IsId → byte < 256
-byte_below zero valid = omega arith
-byte_below (suc k) valid = let below : suc k ≤ 255 = valid.1 in omega arith
-
-pub HasNewBytesTo-table : (from to : Slots) (bytes : List ℕ) (passed : ℕ) → 256 ≤ passed → HasNewBytesTo from to bytes passed
-    → (length bytes ≡ 256) × (get_or bytes 0 0 ≡ 0) × ((id : ℕ) → get_or bytes id 0 < 256)
-HasNewBytesTo-table from to bytes passed whole are = (
-  long,
-  first_byte from to (get_or bytes 0 0) (subst (IsNewId from to 0) (new_id-byte bytes 0) (are.new 0 None (omega arith))),
-  λ id. elim (cases_lt id 256) [
-    | inl below ↦ byte_below (get_or bytes id 0) (subst (λ (new : Option ℕ). IfSome new IsId) (new_id-byte bytes id) (are.valid id None (omega arith)))
-    | inr above ↦ subst (λ (byte : ℕ). byte < 256) (sym (get_or_past bytes id 0 (omega (arith, long)))) (omega arith)
-  ],
-)
-  where
-    long : length bytes ≡ 256
-    long = sym (length-map bytes id_in_byte) ∙ are.long
+-- they make a table
+pub AreNewBytes-new : (from to : Slots) (bytes : List ℕ) → AreNewBytes from to bytes → AreNewIds from to (map id_in_byte bytes)
+AreNewBytes-new from to bytes are = λ id. subst (IsNewId from to id) (sym (new_id-byte bytes id)) (are id)

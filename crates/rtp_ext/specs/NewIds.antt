@@ -50,6 +50,10 @@ ids_in_bytes (first ∷ bytes) = None ∷ map id_in_byte bytes
 abbrev pub byte_of_id : Option ℕ → ℕ
 byte_of_id id = unwrap_or id 0
 
+-- the bytes say the new id of each id, and 0 where it has none
+abbrev pub AreNewBytes : Slots → Slots → List ℕ → Type 0
+AreNewBytes from to bytes = (id : ℕ) → IsNewId from to id (id_in_byte (slice_index_or bytes id 0))
+
 -- For the prover: the bytes of the new ids that bytes say are these bytes.
 pub bytes_back : (bytes : List ℕ) → map byte_of_id (map id_in_byte bytes) ≡ bytes
 bytes_back [] = refl

@@ -7,7 +7,7 @@ ghost use Rattle.rtp_values.specs.declared.kind.Extension.{Extension};
 ghost use Rattle.rtp_values.specs.KnownKind.{extension_of_kind};
 ghost use Rattle.rtp_ext.specs.ExtensionMap.{IsId, Slots, HasNoIdAbove, extension_at, items_from};
 ghost use Rattle.rtp_ext.specs.KindsById.{is_long_item, known_slots};
-ghost use Rattle.rtp_ext.specs.NewIds.{IsNewId};
+ghost use Rattle.rtp_ext.specs.NewIds.{IsNewId, AreNewBytes};
 
 use super::MAX_ID_ONE_BYTE_FORM;
 use rtp_values::KnownKind;
@@ -69,6 +69,18 @@ pub trait Kinds {
         ensures new { IsNewId (slots self.now) (slots other.now) id result }
         ensures valid { IfSome result IsId }
         ensures no_others { HasNoIdAbove 255 (slots self.now) };
+
+    /// The new id of each id where elements go from this map to the other, each at the index of the
+    /// old one: the lowest id that the other map has for its extension, and 0 where it has none.
+    fn new_ids(&self, other: &Self) -> [u8; 256]
+        ensures { AreNewBytes (slots self.now) (slots other.now) result }
+    {
+        let mut ids = [0; 256];
+        for (id, new) in ids.iter_mut().enumerate() {
+            *new = self.id_under(other, id as u8).unwrap_or(0);
+        }
+        ids
+    }
 
     ghost known_is: { (map : Self) → known map ≡ known_slots (slots map) };
 }

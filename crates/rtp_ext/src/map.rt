@@ -154,7 +154,21 @@ impl ExtensionMap {
         ensures found { IfSome result (spec.IsLowest self.now ext) }
         ensures none { IfNone result (spec.IsUnmapped self.now ext) }
     {
-        slots::id_of(&self.slots, &ext)
+        self.lowest_id(&ext)
+    }
+
+    // The lowest id that is mapped to the extension: the first, since the mapped ids rise.
+    fn lowest_id(&self, ext: &Extension) -> Option<u8>
+        ensures found { IfSome result (spec.IsLowest self.now ext.now) }
+        ensures valid { IfSome result spec.IsId }
+        ensures none { IfNone result (spec.IsUnmapped self.now ext.now) }
+    {
+        for (id, held) in self.iter() {
+            if held == ext {
+                return Some(id);
+            }
+        }
+        None
     }
 
     /// The mapped ids by rising id, each with its extension.
@@ -194,9 +208,11 @@ impl ExtensionMap {
             spec.entry_at result id ≡ spec.of_medium audio (spec.entry_at self.now id) }
     {
         let mut exts = Self::empty();
-        slots::copy_of_medium(&self.slots, &mut exts.slots, audio);
-        exts.mapped = MappedIds::of(&exts.slots);
-        exts.kinds = KindsById::of_slots(&exts.slots);
+        for (id, ext) in self.iter_by_media_type(audio) {
+            if let Some(kind) = ext.known_kind() {
+                exts.set(id, Extension::from(kind));
+            }
+        }
         exts
     }
 
@@ -225,9 +241,9 @@ impl ExtensionMap {
         ensures known { spec.HasNoText self.now → result ≡ Ok self.now }
     {
         let mut copy = Self::empty();
-        slots::copy(alloc, &self.slots, &mut copy.slots)?;
-        copy.mapped = MappedIds::of(&copy.slots);
-        copy.kinds = KindsById::of_slots(&copy.slots);
+        slots::copy(alloc, &self.slots, self.mapped.as_slice(), &mut copy.slots)?;
+        copy.mapped = self.mapped;
+        copy.kinds = self.kinds;
         Ok(copy)
     }
 }
@@ -277,7 +293,16 @@ impl Kinds for ExtensionMap {
     }
 
     fn id_under(&self, other: &Self, id: u8) -> Option<u8> {
-        slots::id_of(&other.slots, slots::extension(&self.slots, id)?)
+        other.lowest_id(slots::extension(&self.slots, id)?)
+    }
+
+    // An id that isn't mapped has no new one.
+    fn new_ids(&self, other: &Self) -> [u8; 256] {
+        let mut ids = [0; 256];
+        for (id, ext) in self.iter() {
+            ids[usize::from(id)] = other.lowest_id(ext).unwrap_or(0);
+        }
+        ids
     }
 
     ghost known_is = { λ map. refl };

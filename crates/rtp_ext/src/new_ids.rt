@@ -108,11 +108,9 @@ impl NewIds {
         ensures ids { AreNewIds (K.slots from.now) (K.slots to.now) result }
         ensures carries { CarriesExtensions (K.slots from.now) (K.slots to.now) result }
     {
-        let mut ids = [0; IDS];
-        for (id, new) in ids.iter_mut().enumerate() {
-            *new = from.id_under(to, id as u8).unwrap_or(0);
+        NewIds {
+            ids: from.new_ids(to),
         }
-        NewIds { ids }
     }
 
     /// The ids that elements get where a packet becomes a retransmission (RFC 4588, 4; RFC 8852, 3):

@@ -6,7 +6,7 @@ ghost use Rattle.std.specs.Option.{option_copied, option_map};
 ghost use Rattle.rtp_values.specs.Kind.{IsKnown};
 ghost use Rattle.rtp_ext.specs.EqualMaps.{same_slot, same_slot-equiv};
 ghost use Rattle.rtp_ext.specs.KindsById.{entry_of_kind, known_entry};
-ghost use Rattle.rtp_ext.specs.MapSlots.{IsMapped};
+ghost use Rattle.rtp_ext.specs.MapSlots.{IsMapped, mapped_ids};
 ghost use Rattle.rtp_ext.specs.ExtensionMap as spec;
 
 use super::map::MAX_ID;
@@ -142,19 +142,6 @@ impl Slot {
         };
     }
 
-    // The same extension where it is for this medium, unlocked.
-    pub(super) fn of_medium(&self, audio: bool) -> Self
-        ensures { result ≡ spec.of_medium audio self.now }
-    {
-        match self.extension() {
-            Some(extension) if is_of_medium(extension, audio) => match extension.known_kind() {
-                Some(kind) => Self::from(Extension::from(kind)),
-                None => Self::unmapped(),
-            },
-            _ => Self::unmapped(),
-        }
-    }
-
     // The same slot.
     pub(super) fn clone(&self, alloc: Global) -> Result<Self, AllocError>
         ensures same { IfOk result (λ copy. copy ≡ self.now) }
@@ -207,16 +194,6 @@ pub(super) fn id_of(slots: &[Slot], ext: &Extension) -> Option<u8>
     Some(index as u8 + 1)
 }
 
-// Copies the entries for this medium, unlocked, into the slots of another map.
-pub(super) fn copy_of_medium(from: &[Slot], to: &mut [Slot], audio: bool)
-    requires { length from.now ≡ length to.old }
-    ensures { to.new ≡ map (spec.of_medium audio) from.now }
-{
-    for (index, slot) in from.iter().enumerate() {
-        to[index] = slot.of_medium(audio);
-    }
-}
-
 // One step of a renegotiation.
 fn remap_one(slots: &mut [Slot], id: u8, ext: &Extension)
     requires { length slots.old ≡ MAX_ID }
@@ -246,14 +223,22 @@ pub(super) fn remap(slots: &mut [Slot], steps: &[(u8, &Extension)])
     }
 }
 
-// Copies the entries into the slots of another map.
-pub(super) fn copy(alloc: Global, from: &[Slot], to: &mut [Slot]) -> Result<(), AllocError>
-    requires { length from.now ≡ length to.old }
+// Copies the entries of the mapped ids into the slots of an empty map.
+pub(super) fn copy(
+    alloc: Global,
+    from: &[Slot],
+    ids: &[u8],
+    to: &mut [Slot],
+) -> Result<(), AllocError>
+    requires length { length from.now ≡ length to.old }
+    requires ids { ids.now ≡ mapped_ids from.now }
+    requires empty { spec.IsEmpty to.old }
     ensures same { IfOk result (λ _. to.new ≡ from.now) }
     ensures known { spec.HasNoText from.now → IsOk result }
 {
-    for (index, slot) in from.iter().enumerate() {
-        to[index] = slot.clone(alloc)?;
+    for id in ids {
+        let index = usize::from(*id) - 1;
+        to[index] = from[index].clone(alloc)?;
     }
     Ok(())
 }

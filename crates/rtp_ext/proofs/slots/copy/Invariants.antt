@@ -1,6 +1,7 @@
-use Rattle.std.proofs.Common.{◌≡◌, take}
+use Rattle.std.proofs.Common.{drop}
+use Rattle.rtp_ext.proofs.CopiedLemmas.{IsCopiedBut}
 use Rattle.rtp_ext.proofs.slots.copy.Given as goal
 
--- the slots that were passed are as in the source
-abbrev pub invariant-loop-index : goal.invariant-loop-index
-invariant-loop-index l = take l.index l.to ≡ take l.index l.from
+-- the ids that were passed have their entries, and the others none yet
+abbrev pub invariant-loop-id : goal.invariant-loop-id
+invariant-loop-id l = IsCopiedBut l.from (drop l.id-index l.ids) l.to

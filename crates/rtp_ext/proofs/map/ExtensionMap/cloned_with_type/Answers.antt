@@ -1,10 +1,15 @@
-use Rattle.std.proofs.Common.{refl, ap, ◌∙◌}
+use Rattle.std.proofs.Common.{rules, sym, ◌∙◌, subst}
 use Rattle.rtp_ext.specs.ExtensionMap as spec
-use Rattle.rtp_ext.proofs.MapLemmas.{entry_at-map}
+use Rattle.rtp_ext.proofs.CopiedLemmas.{IsOfMediumBut-start, IsOfMediumBut-next}
 use Rattle.rtp_ext.proofs.map.ExtensionMap.cloned_with_type.Goals as goal
 
-pub returns : goal.returns
-returns c = λ id.
-    ap (λ (slots : spec.Slots). spec.entry_at slots id) c.copy_of_medium.ensures
-    ∙ (entry_at-map (spec.of_medium c.args.audio) _ id refl
-    ∙ ap (λ (slots : spec.Slots). spec.of_medium c.args.audio (spec.entry_at slots id)) c.self.view_is)
+pub loop-id-init : goal.loop-id-init
+loop-id-init c =
+    IsOfMediumBut-start c.args.audio c.args.self.now _ _
+    (subst (spec.IsListing c.args.self.now (spec.is_of_medium c.args.audio)) (sym c.into_iter-id-iterator.ensures.into_iter_gives) c.iter_by_media_type-id-items.ensures)
+    c.empty-exts.ensures
+
+pub loop-id-preserved-in-Some-known_kind : goal.loop-id-preserved-in-Some-known_kind
+loop-id-preserved-in-Some-known_kind c =
+    IsOfMediumBut-next c.args.audio c.args.self.now c.loop-id.id-iterator _ c.loop-id.exts _ (c.in-Some.id, c.in-Some.ext.now) c.from.result c.loop-id.invariant
+    c.in-Some.ensures.steps (search rules) (c.in-Some-known_kind.ensures.known ∙ sym c.from.ensures) c.set.ensures.within

@@ -1,0 +1,98 @@
+-- The bytes of the new ids, found on a walk over the mapped ids.
+use Rattle.std.proofs.Common.{◌≡◌, ◌⊎◌, inl, inr, ℕ, zero, suc, ◌<◌, List, [], ◌∷◌, length, get_or, set, replicate, Option, Some, None, IfSome, IfNone, All, arith, refl, sym, ap, ◌∙◌, subst, length-set}
+use Rattle.std.specs.Prelude.{true}
+use Rattle.std.specs.List.{Contains}
+use Rattle.std.proofs.lemmas.Bool.{cases_eq}
+use Rattle.std.proofs.lemmas.List.{get_or-set_same, get_or-set_other}
+use Rattle.std.proofs.lemmas.List.Elements.{All-head, All-tail}
+use Rattle.rtp_values.specs.declared.kind.Extension.{Extension}
+use Rattle.rtp_values.proofs.KindLemmas.{one_kind}
+use Rattle.rtp_ext.specs.ExtensionMap.{Slots, IsId, IsLowest, IsUnmapped, IsListing, extension_at, items_from}
+use Rattle.rtp_ext.specs.NewIds.{AreNewBytes, IsNewId, id_in_byte, byte_of_id}
+use Rattle.rtp_ext.proofs.ListingLemmas.{IsListing-from_slots}
+use Rattle.rtp_ext.proofs.NewIdLemmas.{byte_said}
+
+-- the ids have their new ids in a table of bytes, but for those of the items that are left
+pub record HasNewBytesBut (from to : Slots) (left : List (ℕ × Extension)) (bytes : List ℕ) : Type 0 where
+  pub long : length bytes ≡ 256
+  pub mapped : All (λ item. extension_at from item.0 ≡ Some item.1) left
+  pub new : (id : ℕ) → IsNewId from to id (id_in_byte (get_or bytes id 0)) ⊎ ((extension : Extension) × Contains left (id, extension))
+
+zero_there : (n id : ℕ) → get_or (replicate n zero) id zero ≡ zero
+zero_there zero id = refl
+zero_there (suc n) zero = refl
+zero_there (suc n) (suc id) = zero_there n id
+
+pub HasNewBytesBut-start : (from to : Slots) (left : List (ℕ × Extension)) (bytes : List ℕ) → left ≡ items_from 0 from → bytes ≡ replicate 256 0
+    → HasNewBytesBut from to left bytes
+HasNewBytesBut-start from to left bytes is zeros =
+    subst (λ (items : List (ℕ × Extension)). HasNewBytesBut from to items bytes) (sym is)
+    (subst (HasNewBytesBut from to (items_from 0 from)) (sym zeros) (record {
+      long = refl;
+      mapped = λ k d here. (listing.mapped k d here).0;
+      new = λ id. new id (extension_at from id) refl;
+    }))
+  where
+    listing : IsListing from (λ _. true) (items_from 0 from)
+    listing = IsListing-from_slots from
+
+    new : (id : ℕ) (found : Option Extension) → extension_at from id ≡ found
+        → IsNewId from to id (id_in_byte (get_or (replicate 256 0) id 0)) ⊎ ((extension : Extension) × Contains (items_from 0 from) (id, extension))
+    new id None missing = inl (subst (λ (byte : ℕ). IsNewId from to id (id_in_byte byte)) (sym (zero_there 256 id)) (λ extension mapped. let nothing = sym missing ∙ mapped in cc))
+    new id (Some extension) mapped = inr (extension, listing.all id extension mapped refl)
+
+item_or_later : (item : ℕ × Extension) (left : List (ℕ × Extension)) (id : ℕ) (extension : Extension) → Contains (item ∷ left) (id, extension)
+    → (item.0 ≡ id) ⊎ Contains left (id, extension)
+item_or_later item left id extension (zero, here, is) = inl (ap (λ (i : ℕ × Extension). i.0) is)
+item_or_later item left id extension (suc k, here, is) = inr (k, omega arith, is)
+
+-- the lowest id of an extension, if there is one
+pub record IsLowestOf (to : Slots) (extension : Extension) (lowest : Option ℕ) : Type 0 where
+  pub found : IfSome lowest (IsLowest to extension)
+  pub valid : IfSome lowest IsId
+  pub none : IfNone lowest (IsUnmapped to extension)
+
+lowest_new : (from to : Slots) (id : ℕ) (extension : Extension) (lowest : Option ℕ) → extension_at from id ≡ Some extension → IsLowestOf to extension lowest
+    → IsNewId from to id lowest
+lowest_new from to id extension None mapped is = λ other here. subst (IsUnmapped to) (one_kind (sym mapped ∙ here)) is.none
+lowest_new from to id extension (Some new) mapped is = (extension, mapped, is.found)
+
+pub HasNewBytesBut-next : (from to : Slots) (left more : List (ℕ × Extension)) (bytes : List ℕ) (item : ℕ × Extension) (at byte : ℕ) (lowest : Option ℕ)
+    → HasNewBytesBut from to left bytes → left ≡ item ∷ more → item.0 < 256 → at ≡ item.0 → byte ≡ byte_of_id lowest → IsLowestOf to item.1 lowest
+    → HasNewBytesBut from to more (set bytes at byte)
+HasNewBytesBut-next from to left more bytes item at byte lowest are is within there said of =
+    subst (λ (n : ℕ). HasNewBytesBut from to more (set bytes n byte)) (sym there) (record {
+      long = length-set bytes item.0 byte ∙ whole.long;
+      mapped = All-tail (λ i. extension_at from i.0 ≡ Some i.1) item more whole.mapped;
+      new = λ id. elim (cases_eq id item.0) [
+        | inl here ↦ inl (subst (λ (i : ℕ). IsNewId from to i (id_in_byte (get_or (set bytes item.0 byte) i 0))) (sym here) this)
+        | inr other ↦ elim (whole.new id) [
+          | inl new ↦ inl (subst (λ (b : ℕ). IsNewId from to id (id_in_byte b)) (sym (get_or-set_other bytes item.0 id byte 0 other)) new)
+          | inr left_there ↦ elim (item_or_later item more id left_there.0 left_there.1) [
+            | inl same ↦ absurd (other (sym same))
+            | inr later ↦ inr (left_there.0, later)
+          ]
+        ]
+      ];
+    })
+  where
+    whole : HasNewBytesBut from to (item ∷ more) bytes
+    whole = subst (λ (items : List (ℕ × Extension)). HasNewBytesBut from to items bytes) is are
+
+    new_byte : id_in_byte byte ≡ lowest
+    new_byte = ap id_in_byte said ∙ byte_said lowest of.valid
+
+    this : IsNewId from to item.0 (id_in_byte (get_or (set bytes item.0 byte) item.0 0))
+    this =
+        subst (λ (b : ℕ). IsNewId from to item.0 (id_in_byte b)) (sym (get_or-set_same bytes item.0 byte 0 (omega (arith, within, whole.long))))
+        (subst (IsNewId from to item.0) (sym new_byte)
+        (lowest_new from to item.0 item.1 lowest (All-head (λ i. extension_at from i.0 ≡ Some i.1) item more whole.mapped) of))
+
+pub HasNewBytesBut-end : (from to : Slots) (left : List (ℕ × Extension)) (bytes : List ℕ) → HasNewBytesBut from to left bytes → left ≡ [] → AreNewBytes from to bytes
+HasNewBytesBut-end from to left bytes are is = λ id. elim (are.new id) [
+  | inl new ↦ new
+  | inr there ↦
+      let found = subst (λ (items : List (ℕ × Extension)). Contains items (id, there.0)) is there.1 in
+      let within = found.1 in
+      absurd (omega arith)
+]
