@@ -1,7 +1,7 @@
 -- The known extensions by their ids: what a table of kinds shows, and what the known extensions of a map read.
-use Rattle.std.proofs.Common.{◌≡◌, ℕ, ◌+◌, ◌-◌, suc, zero, List, [], ◌∷◌, length, map, take, drop, replicate, set, get_or, Option, Some, None, All, arith, ap, refl, sym, ◌∙◌, subst, length-drop}
+use Rattle.std.proofs.Common.{◌≡◌, ℕ, ◌+◌, ◌-◌, suc, zero, List, [], ◌∷◌, length, map, replicate, set, get_or, Option, Some, None, All, arith, ap, refl, sym, ◌∙◌, subst}
 use Rattle.std.proofs.Math.ListN.{get_or-map}
-use Rattle.std.proofs.lemmas.List.{map-set, take_all}
+use Rattle.std.proofs.lemmas.List.{map-set}
 use Rattle.rtp_values.specs.declared.kind.Extension.{Extension}
 use Rattle.rtp_values.specs.declared.kind.Extension.TheVariants.{UnknownUri}
 use Rattle.rtp_values.specs.declared.known_kind.KnownKind.{KnownKind}
@@ -12,7 +12,7 @@ use Rattle.rtp_values.proofs.KindLemmas.{one_kind}
 use Rattle.rtp_ext.specs.Elements.{Element}
 use Rattle.rtp_ext.specs.ExtensionMap.{Entry, Slots, IsEmpty, IsId, entry_at, extension_at, extension_of}
 use Rattle.rtp_ext.specs.KindsById.{entry_of_kind, slots_of, known_alone, known_entry, known_slots}
-use Rattle.rtp_ext.specs.MapSlots.{mapped_ids, IsMapped}
+use Rattle.rtp_ext.specs.MapSlots.{IsMapped}
 use Rattle.rtp_values.specs.KnownKind.{extension_of_kind}
 use Rattle.rtp_ext.specs.BlockValues.{Carries, AreFields, last, none, AreValues, ReadElements}
 use Rattle.rtp_ext.specs.Memory.{HasAllocation, ReadUntilRefused}
@@ -89,12 +89,6 @@ extension_there kinds (suc k) kind mapped is = ap extension_of (entry_at-kinds k
 pub none_there : (kinds : List (Option KnownKind)) (id : ℕ) → get_or kinds id None ≡ None → extension_at (slots_of kinds) id ≡ None
 none_there kinds zero nothing = refl
 none_there kinds (suc k) nothing = ap extension_of (entry_at-kinds kinds k ∙ ap entry_of_kind nothing)
-
--- the mapped ids of the kinds after the first
-pub mapped-slots : (kinds : List (Option KnownKind)) (ids : List ℕ) → length kinds ≡ 256 → ids ≡ mapped_ids (map entry_of_kind (take 255 (drop 1 kinds)))
-    → ids ≡ mapped_ids (slots_of kinds)
-mapped-slots kinds ids long is =
-    is ∙ ap (λ (left : List (Option KnownKind)). mapped_ids (map entry_of_kind left)) (take_all 255 (drop 1 kinds) (omega (arith, long, length-drop 1 kinds)))
 
 -- ---- the known extensions of a map
 

@@ -22,6 +22,8 @@ mod PaddedIdLemmas
 mod ShortBlockLemmas
 pub mod KindsByIdLemmas
 mod TableLemmas
+mod UpdatedIdLemmas
+mod ReplacedLemmas
 mod FormLemmas
 pub mod KnownItemsLemmas
 pub mod WrittenBlockLemmas

@@ -1,16 +1,13 @@
 -- The map of extension ids: what an id stands for once slots have changed.
-use Rattle.std.proofs.Common.{◌≡◌, ◌≢◌, ℕ, ◌+◌, ◌-◌, ◌<◌, ◌⊎◌, inl, inr, suc, zero, List, ◌∷◌, length, map, drop, get_or, set, Option, Some, None, arith, ap, refl, sym, ◌∙◌, subst, get_or-set_same, get_or-set_other, ◌==◌, if◌then◌else◌}
-use Rattle.std.proofs.lemmas.List.{get_or_past, get_or_default, length-map, length-set}
+use Rattle.std.proofs.Common.{◌≡◌, ◌≢◌, ℕ, ◌+◌, ◌-◌, ◌<◌, inl, inr, suc, zero, List, ◌∷◌, length, map, drop, get_or, Option, Some, None, arith, ap, refl, sym, ◌∙◌, subst, ◌==◌, if◌then◌else◌}
+use Rattle.std.proofs.lemmas.List.{get_or_past, get_or_default, length-map}
 use Rattle.std.proofs.Math.ListN.{get_or-map}
 use Rattle.std.proofs.Math.Seq.{drop-cons}
-use Rattle.std.proofs.lemmas.List.Edits.{Swapped, swapped_from_swap}
-use Rattle.std.specs.List.{swap}
 use Rattle.std.specs.Option.{option_map}
 use Rattle.std.proofs.lemmas.Bool.{cases_lt, eq-eqb, ne_eqb}
 use Rattle.std.proofs.lemmas.Bool.Decides.{eqb_tells}
 use Rattle.rtp_values.specs.declared.kind.Extension.{Extension}
-use Rattle.rtp_ext.specs.declared.map.TheConstants.{MAX_ID}
-use Rattle.rtp_ext.specs.MapSlots.{IsMapped}
+use Rattle.rtp_ext.specs.MapSlots.{IsMapped, Puts}
 use Rattle.rtp_ext.specs.ExtensionMap.{Entry, Slots, IsEmpty, IsId, entry_at, extension_at, extension_of, Sets, Exchanges, IsRenumbered, IsLocked, IsLockedAt, locked, IsLowest, Remaps, AreRemapped, same_slot, moved}
 
 -- nothing stands in a index where nothing does in any
@@ -142,21 +139,8 @@ IsRenumbered-exchanged old new from to extension apart was change = record {
   ];
 }
 
--- the first index in which an extension stands has its lowest id
-pub IsLowest-from_first : (slots : Slots) (extension : Extension) (index : ℕ)
-    → extension_of (get_or slots index None) ≡ Some extension → ((k : ℕ) → k < index → extension_of (get_or slots k None) ≢ Some extension)
-    → IsLowest slots extension (index + 1)
-IsLowest-from_first slots extension index here earlier = record {
-  mapped = ap extension_of (entry_at-slot slots index (index + 1) refl) ∙ here;
-  lowest = before;
-}
-  where
-    before : (k : ℕ) → k < index + 1 → extension_at slots k ≢ Some extension
-    before zero below is = cc
-    before (suc k) below is = earlier k (omega arith) is
-
 -- an extension with its entry locked
-lock-of : (slot : Option Entry) (extension : Extension) → extension_of slot ≡ Some extension
+pub lock-of : (slot : Option Entry) (extension : Extension) → extension_of slot ≡ Some extension
     → option_map (λ entry. locked entry.extension) slot ≡ Some (locked extension)
 lock-of None extension is = cc
 lock-of (Some entry) extension is = ap (option_map locked) is
@@ -166,68 +150,34 @@ pub record IsStep (old new : Slots) (id : ℕ) (extension : Extension) : Type 0 
   pub step : Remaps old id extension new
   pub renumbered : IsRenumbered old new
 
--- the entry of the lowest id is locked, and exchanged with what stands in the index of the id
-pub IsStep-exchanged : (old new : Slots) (from to id : ℕ) (extension : Extension) → length old ≡ MAX_ID → to + 1 ≡ id → (to < MAX_ID) × (from < MAX_ID)
-    → IsLowest old extension (from + 1) → ((from ≡ to) ⊎ ((from ≢ to) × (IsLocked (get_or old from None) → ⊥)))
-    → new ≡ swap (set old from (option_map (λ entry. locked entry.extension) (get_or old from None))) from to
-    → IsStep old new id extension
-IsStep-exchanged old new from to id extension long index within lowest free is =
-    elim free [
-      | inl same ↦
-          let sets : Sets old new id (locked extension) = record {
-            this = entry_at-slot new to id index ∙ at_to;
-            others = entry_at-other old new to id index (λ k apart. elsewhere k (λ from_here. apart (from_here ∙ same)) apart);
-          } in
-          let mapped : extension_at old id ≡ Some extension =
-          ap (extension_at old) (omega (arith, index, same)) ∙ lowest.mapped in
-          record {
-            step = same_slot is_id (subst (IsLowest old extension) (omega (arith, index, same)) lowest) sets;
-            renumbered = IsRenumbered-locked old new id extension mapped sets;
-          }
-      | inr apart ↦
-          let exchange : Exchanges old new (from + 1) id extension = record {
-            here = entry_at-slot new to id index ∙ at_to;
-            there = entry_at-slot new from (from + 1) refl ∙ (at_from apart.0 ∙ sym (entry_at-slot old to id index));
-            others = others;
-          } in
-          let apart_ids : from + 1 ≢ id = λ same. apart.0 (omega arith) in
-          record {
-            step = moved (from + 1) is_id lowest apart_ids
-                (λ is_locked. apart.1 (subst IsLocked (entry_at-slot old from (from + 1) refl) is_locked)) exchange;
-            renumbered = IsRenumbered-exchanged old new (from + 1) id extension apart_ids lowest.mapped exchange;
-          }
-    ]
-  where
-    is_id : IsId id
-    is_id = (omega (arith, index), omega (arith, index, within.0))
+-- the entry of the lowest id is locked where it is
+pub IsStep-locked : (old new : Slots) (id : ℕ) (extension : Extension) → IsId id → IsLowest old extension id
+    → Puts old new id (option_map (λ entry. locked entry.extension) (entry_at old id)) → IsStep old new id extension
+IsStep-locked old new id extension is_id lowest puts =
+    let sets : Sets old new id (locked extension) = record {
+      this = puts.this ∙ lock-of (entry_at old id) extension lowest.mapped;
+      others = puts.others;
+    } in
+    record {
+      step = same_slot is_id lowest sets;
+      renumbered = IsRenumbered-locked old new id extension lowest.mapped sets;
+    }
 
-    inside : from < length old
-    inside = omega (arith, long, within.1)
-
-    here : extension_of (get_or old from None) ≡ Some extension
-    here = ap extension_of (sym (entry_at-slot old from (from + 1) refl)) ∙ lowest.mapped
-
-    middle : Slots
-    middle = set old from (Some (locked extension))
-
-    swapped : Swapped (λ k. get_or middle k None) (λ k. get_or new k None) from to
-    swapped = swapped_from_swap middle new from to None
-        (omega (arith, inside, length-set old from (Some (locked extension))))
-        (omega (arith, long, within.0, length-set old from (Some (locked extension))))
-        (is ∙ ap (λ entry. swap (set old from entry) from to) (lock-of (get_or old from None) extension here))
-
-    at_to : get_or new to None ≡ Some (locked extension)
-    at_to = swapped.1 ∙ get_or-set_same old from (Some (locked extension)) None inside
-
-    at_from : from ≢ to → get_or new from None ≡ get_or old to None
-    at_from apart = swapped.0 ∙ get_or-set_other old from to (Some (locked extension)) None (λ same. apart (sym same))
-
-    elsewhere : (k : ℕ) → k ≢ from → k ≢ to → get_or new k None ≡ get_or old k None
-    elsewhere k not_from not_to = swapped.2 k not_from not_to ∙ get_or-set_other old from k (Some (locked extension)) None not_from
-
-    others : (k : ℕ) → k ≢ from + 1 → k ≢ id → entry_at new k ≡ entry_at old k
-    others zero not_from not_id = refl
-    others (suc k) not_from not_id = elsewhere k (λ same. not_from (omega arith)) (λ same. not_id (omega arith))
+-- it is taken out, after the entry in its way, and they are put in again, it locked
+pub IsStep-moved : (old first second new : Slots) (from id : ℕ) (extension : Extension) (there entry moved : Option Entry) → IsId id → IsLowest old extension from
+    → from ≢ id → (IsLockedAt old from → ⊥) → there ≡ entry_at old id → Puts old first id None → entry ≡ entry_at first from → Puts first second from there
+    → moved ≡ option_map (λ entry. locked entry.extension) entry → Puts second new id moved → IsStep old new id extension
+IsStep-moved old first second new from id extension there entry moved_entry is_id lowest apart free there_is out entry_is put moved_is back_in =
+    let was : entry ≡ entry_at old from = entry_is ∙ out.others from apart in
+    let exchange : Exchanges old new from id extension = record {
+      here = back_in.this ∙ moved_is ∙ lock-of entry extension (ap extension_of was ∙ lowest.mapped);
+      there = back_in.others from apart ∙ put.this ∙ there_is;
+      others = λ k not_from not_id. back_in.others k not_id ∙ put.others k not_from ∙ out.others k not_id;
+    } in
+    record {
+      step = moved from is_id lowest apart free exchange;
+      renumbered = IsRenumbered-exchanged old new from id extension apart lowest.mapped exchange;
+    }
 
 -- what the items from an index on give
 pub left_from : {X Y : Type 0} (f : X → Y) (items : List X) (i : ℕ) (item : X) → i < length items → item ≡ get_or items i item

@@ -1,16 +1,16 @@
 -- The list of the mapped ids, and one more id in it.
-use Rattle.std.proofs.Common.{◌≡◌, ℕ, ◌+◌, ◌-◌, ◌<◌, ◌≤◌, suc, zero, List, [], ◌∷◌, ◌++◌, length, map, take, drop, set, get_or, Bool, true, false, Option, Some, None, All, arith, ap, refl, sym, ◌∙◌, le-ltb, lt-ltb, length-take-le, length-append, length-drop, append_assoc}
+use Rattle.std.proofs.Common.{◌≡◌, ℕ, ◌+◌, ◌-◌, ◌<◌, ◌≤◌, suc, zero, List, [], ◌∷◌, ◌++◌, length, map, take, drop, set, get_or, Bool, false, Option, Some, None, All, arith, ap, refl, sym, ◌∙◌, le-ltb, lt-ltb, length-take-le, length-append, length-drop}
 use Rattle.std.specs.List.{copy_within}
 use Rattle.std.proofs.Math.Seq.{take-set-lt, drop-append_seam}
 use Rattle.std.specs.Option.{is_some}
-use Rattle.std.proofs.lemmas.List.{get_or_default, length-set, drop-take, set_split, take-append-le, take-take}
+use Rattle.std.proofs.lemmas.List.{get_or_default, drop-take, set_split, take-append-le, take-take}
 use Rattle.std.proofs.lemmas.List.Edits.{take-paste}
 use Rattle.rtp_values.specs.declared.kind.Extension.{Extension}
 use Rattle.rtp_ext.specs.ExtensionMap.{items_from}
 use Rattle.rtp_ext.specs.MapSlots.{mapped_ids, items_at, inserted, IsMapped}
 use Rattle.rtp_ext.specs.ExtensionMap.{Entry, Slots, IsEmpty, entry_at, extension_of}
 use Rattle.rtp_ext.proofs.ListingLemmas.{All-head, above_passed, items_from-empty, IsListing-from_slots}
-use Rattle.rtp_ext.proofs.MapLemmas.{entry_at-slot, left_from}
+use Rattle.rtp_ext.proofs.MapLemmas.{entry_at-slot}
 use Rattle.std.specs.Prelude.{◌↔◌, ◌==◌, IsTrue}
 use Rattle.std.specs.Option.{option_map}
 use Rattle.std.specs.List.{cons_option, AllByRecursion}
@@ -80,50 +80,9 @@ no_ids-tells slots (id ∷ ids) none are is = (
   λ empty. let nothing = are ∙ no_ids-IsEmpty slots empty in absurd (omega (arith, ap length nothing)),
 )
 
--- the ids that the slots from an index on give
-abbrev pub ids_from : Slots → ℕ → List ℕ
-ids_from slots index = map (λ item. item.0) (items_from index (drop index slots))
-
 -- the ids of some entries
 abbrev ids_of : List (ℕ × Extension) → List ℕ
 ids_of items = map (λ item. item.0) items
-
--- the ids from an index on, where an entry stands there and where none does
-ids_with : (index : ℕ) (slot : Option Entry) (left : Slots) → is_some slot ≡ true
-    → ids_of (items_from index (slot ∷ left)) ≡ (index + 1) ∷ ids_of (items_from (index + 1) left)
-ids_with index None left some = cc
-ids_with index (Some entry) left some = refl
-
-ids_without : (index : ℕ) (slot : Option Entry) (left : Slots) → is_some slot ≡ false
-    → ids_of (items_from index (slot ∷ left)) ≡ ids_of (items_from (index + 1) left)
-ids_without index None left missing = refl
-ids_without index (Some entry) left missing = cc
-
--- an id more is listed, and one is passed over
-pub ids-pushed : {X : Type 0} (entry : X → Option Entry) (items : List X) (index : ℕ) (item : X) (mapped after all : List ℕ)
-    → index < length items → item ≡ get_or items index item → is_some (entry item) ≡ true
-    → mapped ++ ids_from (map entry items) index ≡ all → after ≡ mapped ++ (index + 1) ∷ [] → after ++ ids_from (map entry items) (index + 1) ≡ all
-ids-pushed entry items index item mapped after all here is some so_far pushed =
-    let later = ids_from (map entry items) (index + 1) in
-    let step : ids_from (map entry items) index ≡ (index + 1) ∷ later =
-    ap (λ (left : Slots). ids_of (items_from index left)) (left_from entry items index item here is)
-    ∙ ids_with index (entry item) (drop (index + 1) (map entry items)) some in
-    ap (λ (ids : List ℕ). ids ++ later) pushed
-    ∙ append_assoc mapped ((index + 1) ∷ []) later
-    ∙ ap (λ (ids : List ℕ). mapped ++ ids) (sym step)
-    ∙ so_far
-
-pub ids-passed : {X : Type 0} (entry : X → Option Entry) (items : List X) (index : ℕ) (item : X) (mapped after all : List ℕ)
-    → index < length items → item ≡ get_or items index item → is_some (entry item) ≡ false
-    → mapped ++ ids_from (map entry items) index ≡ all → after ≡ mapped → after ++ ids_from (map entry items) (index + 1) ≡ all
-ids-passed entry items index item mapped after all here is missing so_far same =
-    let later = ids_from (map entry items) (index + 1) in
-    let step : ids_from (map entry items) index ≡ later =
-    ap (λ (left : Slots). ids_of (items_from index left)) (left_from entry items index item here is)
-    ∙ ids_without index (entry item) (drop (index + 1) (map entry items)) missing in
-    ap (λ (ids : List ℕ). ids ++ later) same
-    ∙ ap (λ (ids : List ℕ). mapped ++ ids) (sym step)
-    ∙ so_far
 
 -- an id below all others stands first
 inserted-first : (id : ℕ) (items : List (ℕ × Extension)) → All (λ item. id < item.0) items → inserted id (ids_of items) ≡ id ∷ ids_of items
@@ -171,7 +130,7 @@ ids_from-same passed (Some first ∷ left) zero old entry some = refl
 ids_from-same passed (Some first ∷ left) (suc k) old entry some =
     ap (λ (ids : List ℕ). (passed + 1) ∷ ids) (ids_from-same (passed + 1) left k old entry some)
 
-mapped_ids-same : (slots : Slots) (k : ℕ) (old entry : Entry) → get_or slots k None ≡ Some old
+pub mapped_ids-same : (slots : Slots) (k : ℕ) (old entry : Entry) → get_or slots k None ≡ Some old
     → mapped_ids (set slots k (Some entry)) ≡ mapped_ids slots
 mapped_ids-same slots k old entry some = ids_from-same 0 slots k old entry some
 
@@ -221,39 +180,14 @@ moved-and-put ids at count id within room =
     ∙ ap (λ (xs : List ℕ). xs ++ id ∷ drop (suc at) (front ++ tail)) (head ∙ kept)
     ∙ ap (λ (xs : List ℕ). take at (take count ids) ++ id ∷ xs) (rest ∙ after)
 
--- a slot that held nothing when it was read, and one that held an entry
+-- a slot that held nothing when it was read
 empty_slot : (slots : Slots) (k : ℕ) (old seen : Option Entry) → k < length slots → old ≡ get_or slots k seen → is_some old ≡ false
     → get_or slots k None ≡ None
 empty_slot slots k None seen here is none = get_or_default slots k None seen here ∙ sym is
 empty_slot slots k (Some entry) seen here is none = cc
-
-filled_slot : (slots : Slots) (k : ℕ) (old seen : Option Entry) → k < length slots → old ≡ get_or slots k seen → is_some old ≡ true
-    → (entry : Entry) × (get_or slots k None ≡ Some entry)
-filled_slot slots k None seen here is some = cc
-filled_slot slots k (Some entry) seen here is some = (entry, get_or_default slots k None seen here ∙ sym is)
 
 -- there is room for the id of an empty slot
 pub room_for_new : (slots : Slots) (ids : List ℕ) (k : ℕ) (old seen : Option Entry) → ids ≡ mapped_ids slots → k < length slots
     → old ≡ get_or slots k seen → is_some old ≡ false → length ids < length slots
 room_for_new slots ids k old seen are here is none =
     omega (arith, ap length are, fewer_ids 0 slots k here (empty_slot slots k old seen here is none))
-
--- an entry is put into an empty slot, and its id into the list
-pub new_id : (slots : Slots) (ids after : List ℕ) (k id : ℕ) (old seen new : Option Entry) (entry : Entry) → ids ≡ mapped_ids slots → k + 1 ≡ id
-    → k < length slots → old ≡ get_or slots k seen → is_some old ≡ false → new ≡ Some entry → after ≡ inserted id ids
-    → (length (set slots k new) ≡ length slots) × (after ≡ mapped_ids (set slots k new))
-new_id slots ids after k id old seen new entry are index here is none put list = (
-  length-set slots k new,
-  list ∙ ap (inserted id) are ∙ sym (mapped_ids-set slots k id entry index here (empty_slot slots k old seen here is none))
-      ∙ ap (λ slot. mapped_ids (set slots k slot)) (sym put),
-)
-
--- an entry is put into a slot that has one
-pub same_ids : (slots : Slots) (ids : List ℕ) (k : ℕ) (old seen new : Option Entry) (entry : Entry) → ids ≡ mapped_ids slots
-    → k < length slots → old ≡ get_or slots k seen → is_some old ≡ true → new ≡ Some entry
-    → (length (set slots k new) ≡ length slots) × (ids ≡ mapped_ids (set slots k new))
-same_ids slots ids k old seen new entry are here is some put =
-    let found = filled_slot slots k old seen here is some in (
-      length-set slots k new,
-      are ∙ sym (mapped_ids-same slots k found.0 entry found.1) ∙ ap (λ slot. mapped_ids (set slots k slot)) (sym put),
-    )

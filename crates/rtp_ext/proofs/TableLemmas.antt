@@ -1,8 +1,8 @@
 -- What a table of kinds keeps in step with its entries: the list of the mapped ids, and whether the one-byte form fails.
-use Rattle.std.proofs.Common.{◌≡◌, ◌≢◌, ℕ, ◌+◌, ◌-◌, ◌<◌, suc, zero, List, [], ◌∷◌, length, map, take, drop, set, get_or, Bool, false, Option, Some, None, arith, ap, refl, sym, ◌∙◌, subst, get_or-set_other, length-drop}
+use Rattle.std.proofs.Common.{◌≡◌, ◌≢◌, ℕ, ◌+◌, ◌-◌, ◌<◌, suc, zero, List, [], ◌∷◌, length, drop, set, get_or, Bool, false, Option, Some, None, arith, ap, refl, sym, ◌∙◌, subst, get_or-set_other, length-drop}
 use Rattle.std.specs.Prelude.{◌||◌}
 use Rattle.std.specs.Option.{is_some}
-use Rattle.std.specs.List.{AllByRecursion, list_any}
+use Rattle.std.specs.List.{list_any}
 use Rattle.std.proofs.Math.Bool.{or_assoc, or_comm}
 use Rattle.std.proofs.lemmas.List.{length-map, length-set}
 use Rattle.rtp_values.specs.declared.kind.Extension.{Extension}
@@ -10,34 +10,15 @@ use Rattle.rtp_values.specs.declared.known_kind.KnownKind.{KnownKind}
 use Rattle.rtp_values.specs.KnownKind.{extension_of_kind}
 use Rattle.rtp_ext.specs.ExtensionMap.{Entry, Slots, IsId, items_from, unlocked}
 use Rattle.rtp_ext.specs.KindsById.{entry_of_kind, slots_of, is_long_item}
-use Rattle.rtp_ext.specs.MapSlots.{mapped_ids, items_at, inserted, IsMapped}
-use Rattle.rtp_ext.proofs.KindsByIdLemmas.{entry_at-kinds, mapped-slots, slots_of-put}
+use Rattle.rtp_ext.specs.MapSlots.{mapped_ids, inserted}
+use Rattle.rtp_ext.proofs.KindsByIdLemmas.{entry_at-kinds, slots_of-put}
 use Rattle.rtp_ext.proofs.MapLemmas.{entry_at-slot}
-use Rattle.rtp_ext.proofs.MappedIdLemmas.{items_at-mapped, all_mapped, mapped_ids-set, fewer_ids}
+use Rattle.rtp_ext.proofs.MappedIdLemmas.{mapped_ids-set, fewer_ids}
 
 -- the entries, and what is in step with them
 abbrev pub IsTable : List (Option KnownKind) → List ℕ → Bool → Type 0
 IsTable kinds ids long =
     (length kinds ≡ 256) × (get_or kinds 0 None ≡ None) × (ids ≡ mapped_ids (slots_of kinds)) × (long ≡ list_any is_long_item (items_from 0 (slots_of kinds)))
-
--- ---- made anew
-
-pub anew-mapped : (kinds : List (Option KnownKind)) (ids seen : List ℕ) → length kinds ≡ 256 → ids ≡ mapped_ids (map entry_of_kind (take 255 (drop 1 kinds)))
-    → seen ≡ ids → AllByRecursion (IsMapped (slots_of kinds)) seen
-anew-mapped kinds ids seen many are same =
-    subst (AllByRecursion (IsMapped (slots_of kinds))) (sym (same ∙ mapped-slots kinds ids many are)) (all_mapped (slots_of kinds))
-
-pub anew-table : (kinds : List (Option KnownKind)) (ids seen : List ℕ) (long : Bool) → length kinds ≡ 256 → get_or kinds 0 None ≡ None
-    → ids ≡ mapped_ids (map entry_of_kind (take 255 (drop 1 kinds))) → seen ≡ ids
-    → long ≡ list_any is_long_item (items_at (slots_of kinds) seen) → IsTable kinds ids long
-anew-table kinds ids seen long many padding are same is =
-    let mapped = mapped-slots kinds ids many are in (
-      many,
-      padding,
-      mapped,
-      is ∙ ap (λ (list : List ℕ). list_any is_long_item (items_at (slots_of kinds) list)) (same ∙ mapped)
-          ∙ ap (list_any is_long_item) (items_at-mapped (slots_of kinds)),
-    )
 
 -- ---- one entry is written
 

@@ -1,5 +1,5 @@
 -- The slots of a map as the code goes through them: that of id 1 is index 0.
-use Rattle.std.specs.Prelude.{◌≡◌, ℕ, ◌-◌, ◌<◌, ◌≤◌, nat_lt, if◌then◌else◌, List, [], ◌∷◌, ◌++◌, length, map, take, drop, replicate, Option, Some, None}
+use Rattle.std.specs.Prelude.{◌≡◌, ◌≢◌, ℕ, ◌-◌, ◌<◌, ◌≤◌, nat_lt, nat_eq, if◌then◌else◌, Bool, true, false, List, [], ◌∷◌, ◌++◌, length, map, take, drop, replicate, Option, Some, None}
 use Rattle.std.specs.Option.{option_map}
 use Rattle.std.specs.List.{filter_map}
 use Rattle.std.proofs.Common.{sym, ap, ◌∙◌, length-take-le, take-append-drop}
@@ -18,6 +18,11 @@ entry_of (mapping.Locked extension) = Some (locked extension)
 abbrev pub IsMapped : Slots → ℕ → Type 0
 IsMapped slots id = (entry : Entry) × (entry_at slots id ≡ Some entry)
 
+-- the id has the entry now, or none, and every other id what it had
+pub record Puts (old new : Slots) (id : ℕ) (slot : Option Entry) : Type 0 where
+  pub this : entry_at new id ≡ slot
+  pub others : (k : ℕ) → k ≢ id → entry_at new k ≡ entry_at old k
+
 -- the mapped ids, rising
 abbrev pub mapped_ids : Slots → List ℕ
 mapped_ids slots = map (λ item. item.0) (items_from 0 slots)
@@ -31,6 +36,17 @@ RiseAbove low (id ∷ ids) = (low < id) × RiseAbove id ids
 abbrev pub inserted : ℕ → List ℕ → List ℕ
 inserted id [] = id ∷ []
 inserted id (first ∷ ids) = if nat_lt first id then first ∷ inserted id ids else id ∷ first ∷ ids
+
+-- ids without one of them
+abbrev pub without : ℕ → List ℕ → List ℕ
+without id [] = []
+without id (first ∷ ids) = if nat_eq first id then without id ids else first ∷ without id ids
+
+-- the mapped ids once more, where an id that was mapped or was not is mapped or is not
+abbrev pub updated : ℕ → Bool → Bool → List ℕ → List ℕ
+updated id false true ids = inserted id ids
+updated id true false ids = without id ids
+updated id _ _ ids = ids
 
 -- the extensions of some ids, each with its id
 abbrev pub items_at : Slots → List ℕ → List (ℕ × Extension)

@@ -1,17 +1,16 @@
 //! The known extensions of a map by their ids.
 
-ghost use Rattle.std.specs.Prelude.{◌≡◌, ◌+◌, ◌-◌, ◌<◌, ◌≤◌, ◌∷◌, [], length, map, drop, replicate, Some, None, IfSome, IfNone, slice_set};
+ghost use Rattle.std.specs.Prelude.{◌≡◌, ◌+◌, ◌-◌, ◌<◌, ◌≤◌, ◌∷◌, [], length, drop, replicate, Some, None, IfSome, IfNone, slice_set};
 ghost use Rattle.std.specs.Option.{option_map};
 ghost use Rattle.std.specs.List.{AllByRecursion, list_any};
 ghost use Rattle.rtp_values.specs.KnownKind.{extension_of_kind};
 ghost use Rattle.rtp_ext.specs.ExtensionMap.{IsId, extension_at, items_from, mapped_count};
-ghost use Rattle.rtp_ext.specs.KindsById.{slots_of, entry_of_kind, known_entry, known_slots, is_long_item};
+ghost use Rattle.rtp_ext.specs.KindsById.{slots_of, entry_of_kind, is_long_item};
 ghost use Rattle.rtp_ext.specs.MapSlots.{items_at, mapped_ids, IsMapped};
 
 use super::kinds::is_long;
 use super::map::MAX_ID;
-use super::mapped_ids::{Mapped, MappedIds};
-use super::slots::Slot;
+use super::mapped_ids::MappedIds;
 use rtp_values::KnownKind;
 use std::marker::Model;
 
@@ -62,16 +61,6 @@ impl Model for KindsById {
     } };
 }
 
-impl Mapped for Option<KnownKind> {
-    ghost use Rattle.rtp_ext.specs.KindsById.{entry_of_kind};
-
-    ghost entry = { entry_of_kind };
-
-    fn is_mapped(&self) -> bool {
-        self.is_some()
-    }
-}
-
 impl KindsById {
     // A table in which no id is mapped.
     pub(super) fn empty() -> Self
@@ -81,22 +70,6 @@ impl KindsById {
             kinds: [None; IDS],
             mapped: MappedIds::none(),
             is_long: false,
-        }
-    }
-
-    // The known extensions of the slots.
-    pub(super) fn of_slots(slots: &[Slot]) -> Self
-        requires { length slots.now ≡ MAX_ID }
-        ensures { slots_of result ≡ known_slots slots.now }
-    {
-        let mut kinds = [None; IDS];
-        copy_known(slots, &mut kinds[1..]);
-        let mapped = MappedIds::of(&kinds[1..]);
-        let is_long = has_long(&kinds, mapped.as_slice());
-        KindsById {
-            kinds,
-            mapped,
-            is_long,
         }
     }
 
@@ -126,11 +99,10 @@ impl KindsById {
         }
         let old = self.kinds[usize::from(id)];
         self.kinds[usize::from(id)] = kind;
+        self.mapped.update(id, old.is_some(), kind.is_some());
         if old.is_some() {
-            self.mapped = MappedIds::of(&self.kinds[1..]);
             self.is_long = has_long(&self.kinds, self.mapped.as_slice());
         } else if let Some(kind) = kind {
-            self.mapped.insert(id);
             self.is_long |= is_long(id, kind);
         }
     }
@@ -168,14 +140,4 @@ fn has_long(kinds: &[Option<KnownKind>], ids: &[u8]) -> bool
         }
     }
     false
-}
-
-// Copies the known kinds of slots.
-fn copy_known(from: &[Slot], to: &mut [Option<KnownKind>])
-    requires { length from.now ≡ length to.old }
-    ensures { map entry_of_kind to.new ≡ map known_entry from.now }
-{
-    for (index, slot) in from.iter().enumerate() {
-        to[index] = slot.known_kind();
-    }
 }

@@ -1,15 +1,16 @@
 //! Which id is mapped to which extension.
 
 ghost use Rattle.std.specs.Prelude.{◌≡◌, ◌≢◌, ◌↔◌, ℕ, true, false, IsTrue, IfOk, IfSome, IfNone, map, length, ◌≤◌};
-ghost use Rattle.std.specs.Option.{option_copied};
+ghost use Rattle.std.specs.Option.{option_copied, option_map};
 ghost use Rattle.rtp_ext.specs.ExtensionMap as spec;
 ghost use Rattle.rtp_ext.specs.ExtensionMap.{items_from};
+ghost use Rattle.rtp_ext.specs.MapSlots.{Puts};
 ghost use Rattle.rtp_ext.specs.EqualMaps.{same_slots, same_slots-equiv};
 
 use super::iter::write_entries;
 use super::kinds::{Cursor, Kinds};
 use super::kinds_by_id::KindsById;
-use super::mapped_ids::{Mapped, MappedIds};
+use super::mapped_ids::MappedIds;
 use super::slots::Slot;
 use super::{Iter, IterByMediaType, MAX_ID_ONE_BYTE_FORM, slots};
 use rtp_values::{Extension, KnownKind};
@@ -132,14 +133,22 @@ impl ExtensionMap {
         ensures within { spec.IsId id → spec.Sets self.old self.new id (spec.unlocked ext) }
         ensures outside { (spec.IsId id → ⊥) → self.new ≡ self.old }
     {
-        if let Some(slot) = slots::slot_of(id) {
-            let new = Slot::from(ext);
-            self.kinds.set(id, new.known_kind());
-            let old = mem::replace(&mut self.slots[slot], new);
-            if !old.is_mapped() {
-                self.mapped.insert(id);
-            }
+        if id != 0 {
+            self.replace(id, Slot::from(ext));
         }
+    }
+
+    // Puts the slot in place of that of the id, which it returns.
+    fn replace(&mut self, id: u8, new: Slot) -> Slot
+        requires { spec.IsId id }
+        ensures old { result ≡ spec.entry_at self.old id }
+        ensures new { Puts self.old self.new id new }
+    {
+        self.kinds.set(id, new.known_kind());
+        let is_mapped = new.is_mapped();
+        let old = mem::replace(&mut self.slots[usize::from(id) - 1], new);
+        self.mapped.update(id, old.is_mapped(), is_mapped);
+        old
     }
 
     /// The extension that the id is mapped to, and `None` where there is none, as always for 0.
@@ -229,9 +238,50 @@ impl ExtensionMap {
         ensures steps { spec.AreRemapped self.old (map (λ step. (step.0, step.1.now)) steps.now) self.new }
         ensures renumbered { spec.IsRenumbered self.old self.new }
     {
-        slots::remap(&mut self.slots, steps);
-        self.mapped = MappedIds::of(&self.slots);
-        self.kinds = KindsById::of_slots(&self.slots);
+        for (id, ext) in steps {
+            self.remap_one(*id, ext);
+        }
+    }
+
+    // One step of a renegotiation.
+    fn remap_one(&mut self, id: u8, ext: &Extension)
+        ensures step { spec.Remaps self.old id ext.now self.new }
+        ensures renumbered { spec.IsRenumbered self.old self.new }
+    {
+        if id == 0 {
+            return;
+        }
+        let Some(lowest) = self.lowest_id(ext) else {
+            return
+        };
+        if lowest == id {
+            self.lock(id);
+            return;
+        }
+        if self.is_locked(lowest) {
+            return;
+        }
+        let there = self.replace(id, Slot::unmapped());
+        let mut entry = self.replace(lowest, there);
+        entry.lock();
+        self.replace(id, entry);
+    }
+
+    // Whether the entry of the id is locked.
+    fn is_locked(&self, id: u8) -> bool
+        requires { spec.IsId id }
+        ensures { IsTrue result ↔ spec.IsLockedAt self.now id }
+    {
+        self.slots[usize::from(id) - 1].is_locked()
+    }
+
+    // Locks the entry of the id, if it has one.
+    fn lock(&mut self, id: u8)
+        requires { spec.IsId id }
+        ensures { Puts self.old self.new id
+            (option_map (λ entry. spec.locked entry.extension) (spec.entry_at self.old id)) }
+    {
+        self.slots[usize::from(id) - 1].lock();
     }
 
     /// The same map. Only the texts of unknown extensions take memory, and where that is refused

@@ -1,25 +1,11 @@
 //! The ids of a map that are mapped.
 
-ghost use Rattle.std.specs.Prelude.{◌≡◌, ◌<◌, ◌≤◌, ◌∷◌, ◌++◌, [], length, take, drop, map, nat_lt, slice_index, IfSome, IfNone};
+ghost use Rattle.std.specs.Prelude.{◌≡◌, ◌<◌, ◌≤◌, false, ◌∷◌, ◌++◌, [], length, take, drop, nat_lt, slice_index, IfSome, IfNone};
 ghost use Rattle.std.specs.List.{list_any};
-ghost use Rattle.rtp_ext.specs.MapSlots.{mapped_ids, inserted, RiseAbove};
+ghost use Rattle.rtp_ext.specs.MapSlots.{inserted, without, updated, RiseAbove};
 
 use super::map::MAX_ID;
 use std::marker::Model;
-
-// What an id is mapped to, if to anything.
-pub(super) trait Mapped {
-    ghost use Rattle.std.specs.Prelude.{◌≡◌, Option};
-    ghost use Rattle.std.specs.Option.{is_some};
-    ghost use Rattle.rtp_ext.specs.ExtensionMap.{Entry};
-
-    // The entry that this is in a map.
-    ghost entry: { Self → Option Entry };
-
-    // Whether the id is mapped.
-    fn is_mapped(&self) -> bool
-        ensures { result ≡ is_some (entry self.now) };
-}
 
 // The mapped ids, rising.
 #[derive(Clone, Copy)]
@@ -71,20 +57,6 @@ impl MappedIds {
         self.count += 1;
     }
 
-    // The ids that are mapped, where this is what the ids from 1 on are mapped to.
-    pub(super) fn of<T: Mapped>(slots: &[T]) -> Self
-        requires { length slots.now ≡ MAX_ID }
-        ensures { result ≡ mapped_ids (map T.entry slots.now) }
-    {
-        let mut mapped = Self::none();
-        for (index, slot) in slots.iter().enumerate() {
-            if slot.is_mapped() {
-                mapped.push(index as u8 + 1);
-            }
-        }
-        mapped
-    }
-
     // How many ids are lower than this one.
     fn place_of(&self, id: u8) -> usize
         ensures within { result ≤ length self.now }
@@ -123,6 +95,33 @@ impl MappedIds {
             self.insert_between(id);
         } else {
             self.push(id);
+        }
+    }
+
+    // The ids without this one.
+    fn without(&self, id: u8) -> Self
+        ensures { result ≡ without id self.now }
+    {
+        let ids = self.as_slice();
+        let mut left = Self::none();
+        for listed in ids {
+            if *listed != id {
+                left.push(*listed);
+            }
+        }
+        left
+    }
+
+    // Puts in an id that is mapped now and wasn't, and takes out one that was and isn't.
+    pub(super) fn update(&mut self, id: u8, was_mapped: bool, is_mapped: bool)
+        requires room { was_mapped ≡ false → length self.old < MAX_ID }
+        requires rising { RiseAbove 0 self.old }
+        ensures { self.new ≡ updated id was_mapped is_mapped self.old }
+    {
+        match (was_mapped, is_mapped) {
+            (false, true) => self.insert(id),
+            (true, false) => *self = self.without(id),
+            _ => {}
         }
     }
 

@@ -2,7 +2,7 @@
 
 ghost use Rattle.std.specs.Prelude.{◌≡◌, ◌≢◌, ◌↔◌, ℕ, ◌+◌, ◌<◌, ◌≤◌, length, slice_index_or, map, IsTrue, IsOk, IfOk, Some, None, IfSome, IfNone, All};
 ghost use Rattle.std.specs.Cmp.{partial_equiv_from_equiv};
-ghost use Rattle.std.specs.Option.{option_copied, option_map};
+ghost use Rattle.std.specs.Option.{is_some, option_copied, option_map};
 ghost use Rattle.rtp_values.specs.Kind.{IsKnown};
 ghost use Rattle.rtp_ext.specs.EqualMaps.{same_slot, same_slot-equiv};
 ghost use Rattle.rtp_ext.specs.KindsById.{entry_of_kind, known_entry};
@@ -10,7 +10,6 @@ ghost use Rattle.rtp_ext.specs.MapSlots.{IsMapped, mapped_ids};
 ghost use Rattle.rtp_ext.specs.ExtensionMap as spec;
 
 use super::map::MAX_ID;
-use super::mapped_ids::Mapped;
 use rtp_values::{Extension, KnownKind};
 use std::alloc::{AllocError, Global};
 use std::marker::Model;
@@ -79,14 +78,6 @@ impl From<Extension> for Slot {
     }
 }
 
-impl Mapped for Slot {
-    ghost entry = { λ slot. slot };
-
-    fn is_mapped(&self) -> bool {
-        self.extension().is_some()
-    }
-}
-
 impl Slot {
     // Of an id that isn't mapped.
     pub(super) fn unmapped() -> Self
@@ -95,6 +86,13 @@ impl Slot {
         Slot {
             mapping: Mapping::Unmapped,
         }
+    }
+
+    // Whether the id is mapped.
+    pub(super) fn is_mapped(&self) -> bool
+        ensures { result ≡ is_some self.now }
+    {
+        self.extension().is_some()
     }
 
     // The extension that the id is mapped to.
@@ -112,16 +110,6 @@ impl Slot {
         ensures { entry_of_kind result ≡ known_entry self.now }
     {
         self.extension()?.known_kind()
-    }
-
-    // Whether the id is mapped to this extension.
-    pub(super) fn holds(&self, ext: &Extension) -> bool
-        ensures { IsTrue result ↔ (spec.extension_of self.now ≡ Some ext.now) }
-    {
-        match self.extension() {
-            Some(held) => held == ext,
-            None => false,
-        }
     }
 
     // Whether the id is mapped to an extension that is locked.
@@ -156,18 +144,6 @@ impl Slot {
     }
 }
 
-// The index of an id that the map has room for.
-pub(super) fn slot_of(id: u8) -> Option<usize>
-    ensures found { IfSome result (λ slot. (slot + 1 ≡ id) × (slot < MAX_ID)) }
-    ensures none { IfNone result (spec.IsId id → ⊥) }
-{
-    if (1..=MAX_ID).contains(&id) {
-        Some(usize::from(id) - 1)
-    } else {
-        None
-    }
-}
-
 // The extension of an id.
 pub(super) fn extension(slots: &[Slot], id: u8) -> Option<&Extension>
     ensures { option_copied result ≡ spec.extension_at slots.now id }
@@ -181,46 +157,6 @@ pub(super) fn extension_of_mapped(slots: &[Slot], id: u8) -> &Extension
     ensures { spec.extension_at slots.now id ≡ Some result.now }
 {
     slots[usize::from(id) - 1].extension().unwrap()
-}
-
-// The lowest id that is mapped to the extension.
-pub(super) fn id_of(slots: &[Slot], ext: &Extension) -> Option<u8>
-    requires { length slots.now ≡ MAX_ID }
-    ensures found { IfSome result (spec.IsLowest slots.now ext.now) }
-    ensures valid { IfSome result spec.IsId }
-    ensures none { IfNone result (spec.IsUnmapped slots.now ext.now) }
-{
-    let index = slots.iter().position(|slot| slot.holds(ext))?;
-    Some(index as u8 + 1)
-}
-
-// One step of a renegotiation.
-fn remap_one(slots: &mut [Slot], id: u8, ext: &Extension)
-    requires { length slots.old ≡ MAX_ID }
-    ensures step { spec.Remaps slots.old id ext.now slots.new }
-    ensures renumbered { spec.IsRenumbered slots.old slots.new }
-{
-    let Some(to) = slot_of(id) else { return };
-    let Some(lowest) = id_of(slots, ext) else {
-        return
-    };
-    let from = usize::from(lowest) - 1;
-    if from != to && slots[from].is_locked() {
-        return;
-    }
-    slots[from].lock();
-    slots.swap(from, to);
-}
-
-// The steps of a renegotiation, one after another.
-pub(super) fn remap(slots: &mut [Slot], steps: &[(u8, &Extension)])
-    requires { length slots.old ≡ MAX_ID }
-    ensures steps { spec.AreRemapped slots.old (map (λ step. (step.0, step.1.now)) steps.now) slots.new }
-    ensures renumbered { spec.IsRenumbered slots.old slots.new }
-{
-    for (id, ext) in steps {
-        remap_one(slots, *id, ext);
-    }
 }
 
 // Copies the entries of the mapped ids into the slots of an empty map.
