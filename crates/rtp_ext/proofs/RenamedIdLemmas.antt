@@ -1,5 +1,5 @@
 -- The lowest id of a kind, found on a walk, and the ids under which elements of one kind become elements of another.
-use Rattle.std.proofs.Common.{◌≡◌, ◌≢◌, ◌⊎◌, inl, inr, ℕ, zero, suc, ◌+◌, ◌<◌, ◌≤◌, List, [], ◌∷◌, length, get_or, set, map, replicate, Option, Some, None, IfSome, IfNone, All, arith, refl, sym, ap, ◌∙◌, subst, length-set}
+use Rattle.std.proofs.Common.{◌≡◌, ◌≢◌, ◌⊎◌, inl, inr, ℕ, zero, suc, ◌<◌, List, [], ◌∷◌, length, get_or, set, map, true, Option, Some, None, IfSome, IfNone, All, arith, refl, sym, ap, ◌∙◌, subst, length-set}
 use Rattle.std.specs.Option.{option_map}
 use Rattle.std.specs.List.{Contains}
 use Rattle.std.proofs.lemmas.Bool.{cases_lt, cases_eq}
@@ -13,7 +13,7 @@ use Rattle.rtp_values.specs.declared.known_kind.KnownKind.TheVariants as known
 use Rattle.rtp_values.specs.Kind.{IsKnown}
 use Rattle.rtp_values.specs.KnownKind.{extension_of_kind}
 use Rattle.rtp_values.proofs.KindLemmas.{one_kind}
-use Rattle.rtp_ext.specs.ExtensionMap.{Slots, IsId, IsLowest, IsUnmapped, IsRising, extension_at, items_from}
+use Rattle.rtp_ext.specs.ExtensionMap.{Slots, IsId, IsLowest, IsUnmapped, IsRising, IsListing, extension_at, items_from}
 use Rattle.rtp_ext.specs.KindsById.{known_slots}
 use Rattle.rtp_ext.specs.NewIds.{new_id, IsRenamedId, AreRenamedIds, id_in_byte}
 use Rattle.rtp_ext.proofs.KindsByIdLemmas.{known_slots-keep, known_slots-back}
@@ -212,72 +212,122 @@ IsRenamedId-byte exts slots from to (Some lowest) kind id byte is above beside r
   ];
 }
 
--- the ids below an id have their new ids in a table of bytes
-pub record HasRenamedTo (exts : Slots) (from to : Extension) (bytes : List ℕ) (passed : ℕ) : Type 0 where
-  pub long : length bytes ≡ 256
-  pub each : (id : ℕ) → 0 < id → id < passed → IsRenamedId exts from to id (id_in_byte (get_or bytes id 0))
-  pub first : 0 < passed → get_or bytes 0 0 ≡ 0
-  pub bytes_fit : (id : ℕ) → get_or bytes id 0 < 256
-
-pub HasRenamedTo-start : (exts : Slots) (from to : Extension) (bytes : List ℕ) → length bytes ≡ 256 → ((id : ℕ) → get_or bytes id 0 < 256)
-    → HasRenamedTo exts from to bytes 0
-HasRenamedTo-start exts from to bytes long fit = record {
-  long = long;
-  each = λ id above below. absurd (omega arith);
-  first = λ below. absurd (omega arith);
-  bytes_fit = fit;
+-- what stands for the kind of an id that a walk has come to
+pub of_kind : (from to kind : KnownKind) (lowest : Option ℕ) (id byte : ℕ) → (kind ≡ from → IfSome lowest (λ new. byte ≡ new)) → (kind ≡ to → IfSome lowest (λ _. byte ≡ 0))
+    → (kind ≢ from → kind ≢ to → byte ≡ id) → IfNone lowest (byte ≡ id) → IsRenamedByte from to lowest (Some kind) id byte
+of_kind from to kind lowest id byte renamed gone others lacking = record {
+  renamed = λ same. renamed (same_Some _ _ same);
+  gone = λ same. gone (same_Some _ _ same);
+  others = λ not_from not_to. others (λ same. not_from (ap Some same)) (λ same. not_to (ap Some same));
+  lacking = lacking;
 }
 
-pub zeros_fit : (n id : ℕ) → get_or (replicate n 0) id 0 < 256
-zeros_fit zero id = omega arith
-zeros_fit (suc n) zero = omega arith
-zeros_fit (suc n) (suc id) = zeros_fit n id
+of_none : (from to : KnownKind) (lowest : Option ℕ) (id byte : ℕ) → byte ≡ id → IsRenamedByte from to lowest None id byte
+of_none from to None id byte is = record {
+  renamed = λ same. let no = same in cc;
+  gone = λ same. let no = same in cc;
+  others = λ not_from not_to. is;
+  lacking = is;
+}
+of_none from to (Some lowest) id byte is = record {
+  renamed = λ same. let no = same in cc;
+  gone = λ same. let no = same in cc;
+  others = λ not_from not_to. is;
+  lacking = tt;
+}
 
-no_kind_at_0 : (slots : Slots) (kind : Option KnownKind) (any : KnownKind) → IsRead slots 0 kind → kind ≢ Some any
-no_kind_at_0 slots kind any read = λ same. let none = sym read ∙ ap (option_map extension_of_kind) same in cc
+-- the ids have their new ids in a table of bytes, but for those of the items that are left, which have themselves
+pub record HasRenamedBut (known : Slots) (from to : KnownKind) (lowest : Option ℕ) (left : List (ℕ × Extension)) (bytes : List ℕ) : Type 0 where
+  pub long : length bytes ≡ 256
+  pub first : get_or bytes 0 0 ≡ 0
+  pub mapped : All (λ item. extension_at known item.0 ≡ Some item.1) left
+  pub ids : All (λ item. 0 < item.0) left
+  pub bytes_fit : (id : ℕ) → get_or bytes id 0 < 256
+  pub each : (id : ℕ) → 0 < id → id < 256 → ((kind : Option KnownKind) × IsRead known id kind × IsRenamedByte from to lowest kind id (get_or bytes id 0))
+      ⊎ ((extension : Extension) × Contains left (id, extension))
 
-pub HasRenamedTo-next : (exts slots : Slots) (from to : KnownKind) (lowest : Option ℕ) (kind : Option KnownKind) (bytes : List ℕ) (passed byte : ℕ)
-    → slots ≡ known_slots exts → passed < 256 → byte < 256
-    → IsBeside exts (extension_of_kind from) (extension_of_kind to) lowest → IsRead slots passed kind → IsRenamedByte from to lowest kind passed byte
-    → HasRenamedTo exts (extension_of_kind from) (extension_of_kind to) bytes passed
-    → HasRenamedTo exts (extension_of_kind from) (extension_of_kind to) (set bytes passed byte) (passed + 1)
-HasRenamedTo-next exts slots from to lowest kind bytes passed byte is within fits beside read are was =
-    let long = was.long in
-    let same : get_or (set bytes passed byte) passed 0 ≡ byte = get_or-set_same bytes passed byte 0 (omega arith) in
-    record {
-      long = length-set bytes passed byte ∙ was.long;
-      each = λ id above below. elim (cases_lt id passed) [
-        | inl earlier ↦
-            subst (λ (b : ℕ). IsRenamedId exts (extension_of_kind from) (extension_of_kind to) id (id_in_byte b))
-            (sym (get_or-set_other bytes passed id byte 0 (omega arith))) (was.each id above earlier)
-        | inr later ↦
-            let here : passed ≡ id = omega arith in
-            subst (λ (i : ℕ). IsRenamedId exts (extension_of_kind from) (extension_of_kind to) i (id_in_byte (get_or (set bytes passed byte) i 0))) here
-            (subst (λ (b : ℕ). IsRenamedId exts (extension_of_kind from) (extension_of_kind to) passed (id_in_byte b)) (sym same)
-            (IsRenamedId-byte exts slots from to lowest kind passed byte is (omega arith) beside read are))
+pub HasRenamedBut-start : (known : Slots) (from to : KnownKind) (lowest : Option ℕ) (left : List (ℕ × Extension)) (bytes : List ℕ) → left ≡ items_from 0 known
+    → length bytes ≡ 256 → ((id : ℕ) → id < 256 → get_or bytes id 0 ≡ id) → HasRenamedBut known from to lowest left bytes
+HasRenamedBut-start known from to lowest left bytes is long same =
+    subst (λ (items : List (ℕ × Extension)). HasRenamedBut known from to lowest items bytes) (sym is) (record {
+      long = long;
+      first = same 0 (omega arith);
+      mapped = λ k d here. (listing.mapped k d here).0;
+      ids = above_passed 0 known;
+      bytes_fit = λ id. elim (cases_lt id 256) [
+        | inl below ↦ omega (arith, same id below, below)
+        | inr above ↦ subst (λ (b : ℕ). b < 256) (sym (get_or_past bytes id 0 (omega (arith, long)))) (omega arith)
       ];
-      first = λ some. first passed (omega arith) read are same was.first;
-      bytes_fit = λ id. elim (cases_eq id passed) [
-        | inl here ↦ subst (λ (i : ℕ). get_or (set bytes passed byte) i 0 < 256) (sym here) (subst (λ (b : ℕ). b < 256) (sym same) fits)
-        | inr other ↦ subst (λ (b : ℕ). b < 256) (sym (get_or-set_other bytes passed id byte 0 other)) (was.bytes_fit id)
-      ];
-    }
+      each = λ id above below. each id below (extension_at known id) refl;
+    })
   where
-    first : (at : ℕ) → at ≡ passed → IsRead slots at kind → IsRenamedByte from to lowest kind at byte → get_or (set bytes passed byte) passed 0 ≡ byte
-        → (0 < at → get_or bytes 0 0 ≡ 0) → get_or (set bytes passed byte) 0 0 ≡ 0
-    first zero here read are same was =
-        ap (λ (i : ℕ). get_or (set bytes passed byte) i 0) here ∙ same ∙ are.others (no_kind_at_0 slots kind from read) (no_kind_at_0 slots kind to read)
-    first (suc k) here read are same was = get_or-set_other bytes passed 0 byte 0 (omega arith) ∙ was (omega arith)
+    listing : IsListing known (λ _. true) (items_from 0 known)
+    listing = IsListing-from_slots known
 
-pub AreRenamedIds-table : (exts : Slots) (from to : Extension) (bytes : List ℕ) (passed : ℕ) → 256 ≤ passed → HasRenamedTo exts from to bytes passed
-    → AreRenamedIds exts from to (map id_in_byte bytes)
-AreRenamedIds-table exts from to bytes passed whole are = record {
-  each = λ id is. subst (IsRenamedId exts from to id) (sym (new_id-byte bytes id)) (are.each id (omega (arith, is.0)) (omega (arith, is.1)));
+    each : (id : ℕ) → id < 256 → (found : Option Extension) → extension_at known id ≡ found
+        → ((kind : Option KnownKind) × IsRead known id kind × IsRenamedByte from to lowest kind id (get_or bytes id 0))
+        ⊎ ((extension : Extension) × Contains (items_from 0 known) (id, extension))
+    each id below None missing = inl (None, sym missing, of_none from to lowest id (get_or bytes id 0) (same id below))
+    each id below (Some extension) mapped = inr (extension, listing.all id extension mapped refl)
+
+pub HasRenamedBut-next : (known : Slots) (from to : KnownKind) (lowest : Option ℕ) (left more : List (ℕ × Extension)) (bytes : List ℕ) (id at byte : ℕ) (kind : KnownKind)
+    → HasRenamedBut known from to lowest left bytes → left ≡ (id, extension_of_kind kind) ∷ more → id < 256 → byte < 256 → at ≡ id
+    → IsRenamedByte from to lowest (Some kind) id byte → HasRenamedBut known from to lowest more (set bytes at byte)
+HasRenamedBut-next known from to lowest left more bytes id at byte kind are is within fits there renamed =
+    subst (λ (n : ℕ). HasRenamedBut known from to lowest more (set bytes n byte)) (sym there) (record {
+      long = length-set bytes id byte ∙ whole.long;
+      first = get_or-set_other bytes id 0 byte 0 (λ same. omega (arith, above, same)) ∙ whole.first;
+      mapped = All-tail (λ i. extension_at known i.0 ≡ Some i.1) item more whole.mapped;
+      ids = All-tail (λ i. 0 < i.0) item more whole.ids;
+      bytes_fit = λ k. elim (cases_eq k id) [
+        | inl here ↦ subst (λ (i : ℕ). get_or (set bytes id byte) i 0 < 256) (sym here)
+            (subst (λ (b : ℕ). b < 256) (sym (get_or-set_same bytes id byte 0 (omega (arith, within, whole.long)))) fits)
+        | inr other ↦ subst (λ (b : ℕ). b < 256) (sym (get_or-set_other bytes id k byte 0 other)) (whole.bytes_fit k)
+      ];
+      each = λ k positive below. elim (cases_eq k id) [
+        | inl here ↦ inl (Some kind, subst (λ (n : ℕ). IsRead known n (Some kind)) (sym here) read, subst (λ (n : ℕ). IsRenamedByte from to lowest (Some kind) n (get_or (set bytes id byte) n 0)) (sym here) this)
+        | inr other ↦ elim (whole.each k positive below) [
+          | inl done ↦ inl (done.0, done.1, subst (IsRenamedByte from to lowest done.0 k) (sym (get_or-set_other bytes id k byte 0 other)) done.2)
+          | inr waits ↦ elim (later item more k waits.0 waits.1) [
+            | inl same ↦ absurd (other (sym (ap (λ (i : ℕ × Extension). i.0) same)))
+            | inr rest ↦ inr (waits.0, rest)
+          ]
+        ]
+      ];
+    })
+  where
+    item : ℕ × Extension
+    item = (id, extension_of_kind kind)
+
+    whole : HasRenamedBut known from to lowest ((id, extension_of_kind kind) ∷ more) bytes
+    whole = subst (λ (items : List (ℕ × Extension)). HasRenamedBut known from to lowest items bytes) is are
+
+    above : 0 < id
+    above = All-head (λ i. 0 < i.0) (id, extension_of_kind kind) more whole.ids
+
+    read : IsRead known id (Some kind)
+    read = sym (All-head (λ i. extension_at known i.0 ≡ Some i.1) (id, extension_of_kind kind) more whole.mapped)
+
+    this : IsRenamedByte from to lowest (Some kind) id (get_or (set bytes id byte) id 0)
+    this = subst (IsRenamedByte from to lowest (Some kind) id) (sym (get_or-set_same bytes id byte 0 (omega (arith, within, whole.long)))) renamed
+
+pub AreRenamedIds-end : (exts known : Slots) (from to : KnownKind) (lowest : Option ℕ) (left : List (ℕ × Extension)) (bytes : List ℕ) → known ≡ known_slots exts
+    → IsBeside exts (extension_of_kind from) (extension_of_kind to) lowest → HasRenamedBut known from to lowest left bytes → left ≡ []
+    → AreRenamedIds exts (extension_of_kind from) (extension_of_kind to) (map id_in_byte bytes)
+AreRenamedIds-end exts known from to lowest left bytes is beside are none_left = record {
+  each = λ id is_id. subst (IsRenamedId exts (extension_of_kind from) (extension_of_kind to) id) (sym (new_id-byte bytes id))
+      (elim (are.each id (omega (arith, is_id.0)) (omega (arith, is_id.1))) [
+        | inl done ↦ IsRenamedId-byte exts known from to lowest done.0 id (get_or bytes id 0) is (omega (arith, is_id.0)) beside done.1 done.2
+        | inr waits ↦
+            let found = subst (λ (items : List (ℕ × Extension)). Contains items (id, waits.0)) none_left waits.1 in
+            let within = found.1 in
+            absurd (omega arith)
+      ]);
   no_id = none;
 }
   where
     none : (id : ℕ) → (IsId id → ⊥) → new_id (map id_in_byte bytes) id ≡ None
-    none zero never = new_id-byte bytes 0 ∙ ap id_in_byte (are.first (omega arith))
+    none zero never = new_id-byte bytes 0 ∙ ap id_in_byte are.first
     none (suc k) never = elim (cases_lt (suc k) 256) [
       | inl below ↦ absurd (never (omega arith, omega arith))
       | inr above ↦ get_or_past (map id_in_byte bytes) (suc k) None (omega (arith, above, are.long, length-map bytes id_in_byte))

@@ -90,6 +90,7 @@ impl KindsById {
 
     // Maps the id to the kind, or to nothing, instead of what it was mapped to. The id 0, which is
     // that of padding, changes nothing.
+    #[inline(always)]
     pub(super) fn set(&mut self, id: u8, kind: Option<KnownKind>)
         ensures { IsId id → slots_of self.new
             ≡ slice_set (slots_of self.old) (id - 1) (entry_of_kind kind) }

@@ -129,6 +129,8 @@ impl ExtensionMap {
 
     /// Maps the id to the extension, unlocked, instead of what it was mapped to. The id 0, which a
     /// map has no room for, changes nothing.
+    // A call, so that what makes a map stays small enough to be made in its place.
+    #[inline(never)]
     pub fn set(&mut self, id: u8, ext: Extension)
         ensures within { spec.IsId id → spec.Sets self.old self.new id (spec.unlocked ext) }
         ensures outside { (spec.IsId id → ⊥) → self.new ≡ self.old }
@@ -139,6 +141,7 @@ impl ExtensionMap {
     }
 
     // Puts the slot in place of that of the id, which it returns.
+    #[inline(always)]
     fn replace(&mut self, id: u8, new: Slot) -> Slot
         requires { spec.IsId id }
         ensures old { result ≡ spec.entry_at self.old id }

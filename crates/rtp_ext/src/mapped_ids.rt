@@ -113,6 +113,7 @@ impl MappedIds {
     }
 
     // Puts in an id that is mapped now and wasn't, and takes out one that was and isn't.
+    #[inline(always)]
     pub(super) fn update(&mut self, id: u8, was_mapped: bool, is_mapped: bool)
         requires room { was_mapped ≡ false → length self.old < MAX_ID }
         requires rising { RiseAbove 0 self.old }

@@ -1,6 +1,6 @@
 //! Which ids elements have under another map.
 
-ghost use Rattle.std.specs.Prelude.{◌≡◌, ◌≢◌, ◌≤◌, ◌⊎◌, ◌↔◌, ℕ, IsTrue, IfSome, IfNone, Some, All, slice_index_or};
+ghost use Rattle.std.specs.Prelude.{◌≡◌, ◌≢◌, ◌<◌, ◌≤◌, ◌⊎◌, ◌↔◌, ℕ, IsTrue, IfSome, IfNone, Some, All, slice_index, slice_index_or};
 ghost use Rattle.rtp_values.specs.declared.kind.Extension.TheVariants.{RtpStreamId, RepairedRtpStreamId};
 ghost use Rattle.rtp_values.specs.KnownKind.{extension_of_kind};
 ghost use Rattle.rtp_ext.specs.declared.form.ExtensionsForm.TheVariants.{OneByte};
@@ -81,24 +81,29 @@ fn lowest_beside<K: Kinds>(exts: &K, from: KnownKind, to: KnownKind) -> Option<u
 
 // What stands in the table for an id of this kind, where elements of one kind get the lowest id of
 // another, if both are mapped.
-fn renamed(
-    id: u8,
-    kind: Option<KnownKind>,
-    from: KnownKind,
-    to: KnownKind,
-    lowest: Option<u8>,
-) -> u8
+fn renamed(id: u8, kind: KnownKind, from: KnownKind, to: KnownKind, lowest: Option<u8>) -> u8
     requires { from ≢ to }
-    ensures renamed { kind ≡ Some from → IfSome lowest (λ new. result ≡ new) }
-    ensures gone { kind ≡ Some to → IfSome lowest (λ _. result ≡ 0) }
-    ensures others { kind ≢ Some from → kind ≢ Some to → result ≡ id }
+    ensures renamed { kind ≡ from → IfSome lowest (λ new. result ≡ new) }
+    ensures gone { kind ≡ to → IfSome lowest (λ _. result ≡ 0) }
+    ensures others { kind ≢ from → kind ≢ to → result ≡ id }
     ensures lacking { IfNone lowest (result ≡ id) }
 {
-    match (lowest, kind) {
-        (Some(lowest), Some(kind)) if kind == from => lowest,
-        (Some(_), Some(kind)) if kind == to => 0,
+    match lowest {
+        Some(lowest) if kind == from => lowest,
+        Some(_) if kind == to => 0,
         _ => id,
     }
+}
+
+// The table in which each id keeps itself.
+fn same_ids() -> [u8; IDS]
+    ensures { (id : ℕ) → id < 256 → slice_index result id ≡ id }
+{
+    let mut ids = [0; IDS];
+    for (id, new) in ids.iter_mut().enumerate() {
+        *new = id as u8;
+    }
+    ids
 }
 
 impl NewIds {
@@ -142,10 +147,10 @@ impl NewIds {
         ensures { AreRenamedIds (K.slots exts.now) (extension_of_kind from) (extension_of_kind to) result }
     {
         let lowest = lowest_beside(exts, from, to);
-        let mut ids = [0; IDS];
-        for (id, new) in ids.iter_mut().enumerate() {
-            let id = id as u8;
-            *new = renamed(id, exts.get(id), from, to, lowest);
+        let mut ids = same_ids();
+        let mut cursor = exts.start();
+        while let Some((id, kind)) = exts.next(&mut cursor) {
+            ids[usize::from(id)] = renamed(id, kind, from, to, lowest);
         }
         NewIds { ids }
     }

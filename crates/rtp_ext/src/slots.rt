@@ -1,6 +1,6 @@
 //! The slots of a map, one for each id from 1 on: what the id is mapped to.
 
-ghost use Rattle.std.specs.Prelude.{◌≡◌, ◌≢◌, ◌↔◌, ℕ, ◌+◌, ◌<◌, ◌≤◌, length, slice_index_or, map, IsTrue, IsOk, IfOk, Some, None, IfSome, IfNone, All};
+ghost use Rattle.std.specs.Prelude.{◌≡◌, ◌↔◌, length, IsTrue, IsOk, IfOk, Some, None};
 ghost use Rattle.std.specs.Cmp.{partial_equiv_from_equiv};
 ghost use Rattle.std.specs.Option.{is_some, option_copied, option_map};
 ghost use Rattle.rtp_values.specs.Kind.{IsKnown};
@@ -9,7 +9,6 @@ ghost use Rattle.rtp_ext.specs.KindsById.{entry_of_kind, known_entry};
 ghost use Rattle.rtp_ext.specs.MapSlots.{IsMapped, mapped_ids};
 ghost use Rattle.rtp_ext.specs.ExtensionMap as spec;
 
-use super::map::MAX_ID;
 use rtp_values::{Extension, KnownKind};
 use std::alloc::{AllocError, Global};
 use std::marker::Model;
