@@ -1,31 +1,15 @@
--- The list of the known kinds has each of them, and two kinds are one or not.
-use Rattle.std.proofs.Common.{◌≡◌, ◌≢◌, ◌⊎◌, inl, inr, List, [], ◌∷◌, ◌++◌, Bool, true, false, Some, All, rules, refl, arith}
+-- What holds of each known kind, and two kinds are one or not.
+use Rattle.std.proofs.Common.{◌≡◌, ◌≢◌, ◌⊎◌, inl, inr, ℕ, List, [], ◌∷◌, ◌++◌, length, Bool, true, false, Option, Some, None, All, rules, refl, sym, ap, ◌∙◌}
 use Rattle.std.specs.Bool.{Decides}
 use Rattle.std.proofs.lemmas.List.Elements.{All-append, All-cons, All-nil}
 use Rattle.std.proofs.lemmas.Bool.Decides.{not_from_Decides}
 use Rattle.rtp_values.specs.contracts.kind.ExtensionPartialEq.TheImpl as extension_eq
 use Rattle.rtp_values.specs.declared.kind.Extension.{Extension}
 use Rattle.rtp_values.specs.declared.kind.Extension.TheVariants.{AbsoluteSendTime, AbsoluteCaptureTime, AudioLevel, TransmissionTimeOffset, VideoOrientation, TransportSequenceNumber, PlayoutDelay, VideoContentType, VideoTiming, RtpStreamId, RepairedRtpStreamId, RtpMid, FrameMarking, ColorSpace, VideoLayersAllocation, UnknownUri}
-use Rattle.rtp_values.specs.Kind.{kind_of, known_kinds, IsKnown}
-
--- what holds of each kind in the list holds of each known kind
-pub All-known : (P : Extension → Type 0) → All P known_kinds → (kind : Extension) → IsKnown kind → P kind
-All-known P all AbsoluteSendTime known = all 0 AbsoluteSendTime (omega arith)
-All-known P all AbsoluteCaptureTime known = all 1 AbsoluteCaptureTime (omega arith)
-All-known P all AudioLevel known = all 2 AudioLevel (omega arith)
-All-known P all TransmissionTimeOffset known = all 3 TransmissionTimeOffset (omega arith)
-All-known P all VideoOrientation known = all 4 VideoOrientation (omega arith)
-All-known P all TransportSequenceNumber known = all 5 TransportSequenceNumber (omega arith)
-All-known P all PlayoutDelay known = all 6 PlayoutDelay (omega arith)
-All-known P all VideoContentType known = all 7 VideoContentType (omega arith)
-All-known P all VideoTiming known = all 8 VideoTiming (omega arith)
-All-known P all RtpStreamId known = all 9 RtpStreamId (omega arith)
-All-known P all RepairedRtpStreamId known = all 10 RepairedRtpStreamId (omega arith)
-All-known P all RtpMid known = all 11 RtpMid (omega arith)
-All-known P all FrameMarking known = all 12 FrameMarking (omega arith)
-All-known P all ColorSpace known = all 13 ColorSpace (omega arith)
-All-known P all VideoLayersAllocation known = all 14 VideoLayersAllocation (omega arith)
-All-known P all (UnknownUri uri) known = absurd known
+use Rattle.rtp_values.specs.declared.known_kind.KnownKind.{KnownKind}
+use Rattle.rtp_values.specs.declared.known_kind.KnownKind.TheVariants as known
+use Rattle.rtp_values.specs.Kind.{kind_of, IsKnown}
+use Rattle.rtp_values.specs.KnownKind.{extension_of_kind}
 
 -- an unknown one is its URI
 pub unknown_is : (kind : Extension) → (IsKnown kind → ⊥) → UnknownUri (kind_of kind).uri ≡ kind
@@ -49,3 +33,57 @@ same_or_not a b = holds_or_not _ (extension_decides a b)
 
 pub one_kind : {a b : Extension} → Some a ≡ Some b → a ≡ b
 one_kind same = cc
+
+-- what holds of each known kind holds of the extensions that they are
+pub each_known : (P : Extension → Type 0) → ((kind : KnownKind) → P (extension_of_kind kind)) → (kind : Extension) → IsKnown kind → P kind
+each_known P all AbsoluteSendTime is_known = all known.AbsoluteSendTime
+each_known P all AbsoluteCaptureTime is_known = all known.AbsoluteCaptureTime
+each_known P all AudioLevel is_known = all known.AudioLevel
+each_known P all TransmissionTimeOffset is_known = all known.TransmissionTimeOffset
+each_known P all VideoOrientation is_known = all known.VideoOrientation
+each_known P all TransportSequenceNumber is_known = all known.TransportSequenceNumber
+each_known P all PlayoutDelay is_known = all known.PlayoutDelay
+each_known P all VideoContentType is_known = all known.VideoContentType
+each_known P all VideoTiming is_known = all known.VideoTiming
+each_known P all RtpStreamId is_known = all known.RtpStreamId
+each_known P all RepairedRtpStreamId is_known = all known.RepairedRtpStreamId
+each_known P all RtpMid is_known = all known.RtpMid
+each_known P all FrameMarking is_known = all known.FrameMarking
+each_known P all ColorSpace is_known = all known.ColorSpace
+each_known P all VideoLayersAllocation is_known = all known.VideoLayersAllocation
+each_known P all (UnknownUri uri) is_known = absurd is_known
+
+delay_or_not : (kind : KnownKind) → (kind ≡ known.PlayoutDelay) ⊎ (kind ≢ known.PlayoutDelay)
+delay_or_not known.PlayoutDelay = inl refl
+delay_or_not known.AbsoluteSendTime = inr (λ same. cc)
+delay_or_not known.AbsoluteCaptureTime = inr (λ same. cc)
+delay_or_not known.AudioLevel = inr (λ same. cc)
+delay_or_not known.TransmissionTimeOffset = inr (λ same. cc)
+delay_or_not known.VideoOrientation = inr (λ same. cc)
+delay_or_not known.TransportSequenceNumber = inr (λ same. cc)
+delay_or_not known.VideoContentType = inr (λ same. cc)
+delay_or_not known.VideoTiming = inr (λ same. cc)
+delay_or_not known.RtpStreamId = inr (λ same. cc)
+delay_or_not known.RepairedRtpStreamId = inr (λ same. cc)
+delay_or_not known.RtpMid = inr (λ same. cc)
+delay_or_not known.FrameMarking = inr (λ same. cc)
+delay_or_not known.ColorSpace = inr (λ same. cc)
+delay_or_not known.VideoLayersAllocation = inr (λ same. cc)
+
+-- a text that is the URI of no kind: not of the one that its length leaves, if it leaves one, and not of the playout delay
+pub no_kind_has : (uri : List ℕ) (found : Option KnownKind)
+    → ((kind : KnownKind) → kind ≢ known.PlayoutDelay → length (kind_of (extension_of_kind kind)).uri ≡ length uri → found ≡ Some kind)
+    → ((kind : KnownKind) → found ≡ Some kind → (kind_of (extension_of_kind kind)).uri ≢ uri)
+    → (found ≡ None) ⊎ ((kind_of (extension_of_kind known.PlayoutDelay)).uri ≢ uri)
+    → (kind : Extension) → IsKnown kind → (kind_of kind).uri ≢ uri
+no_kind_has uri found only not_found not_delay = each_known (λ kind. (kind_of kind).uri ≢ uri) λ kind same.
+    elim (delay_or_not kind) [
+      | inl delay ↦ elim not_delay [
+        | inl none ↦
+            let long : length (kind_of (extension_of_kind known.PlayoutDelay)).uri ≡ length uri =
+            ap (λ (k : KnownKind). length (kind_of (extension_of_kind k)).uri) (sym delay) ∙ ap length same in
+            let other = sym none ∙ only known.AbsoluteSendTime (λ is. cc) long in cc
+        | inr other ↦ other (ap (λ (k : KnownKind). (kind_of (extension_of_kind k)).uri) (sym delay) ∙ same)
+      ]
+      | inr other ↦ not_found kind (only kind other (ap length same)) same
+    ]

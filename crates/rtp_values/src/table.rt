@@ -1,8 +1,10 @@
 //! The table of the kinds: what is fixed for each.
 
-ghost use Rattle.std.specs.Prelude.{◌≡◌, ◌≢◌, map, IfSome, IfNone};
+ghost use Rattle.std.specs.Prelude.{◌≡◌, ◌≢◌, ◌↔◌, length, IsTrue, Some, IfSome, IfNone};
+ghost use Rattle.rtp_values.specs.declared.known_kind.KnownKind.{KnownKind};
+ghost use Rattle.rtp_values.specs.declared.known_kind.KnownKind.TheVariants.{PlayoutDelay};
 ghost use Rattle.rtp_values.specs.KnownKind.{extension_of_kind};
-ghost use Rattle.rtp_values.specs.Kind.{audio_and_video, audio_only, video_only, kind_of, known_kinds, IsKnown};
+ghost use Rattle.rtp_values.specs.Kind.{audio_and_video, audio_only, video_only, kind_of, IsKnown};
 ghost use Rattle.rtp_values.specs.KindTable.{kind_in};
 
 use super::{Extension, KnownKind};
@@ -119,40 +121,51 @@ pub(super) fn kind_of(kind: &Extension) -> Kind<'_>
     }
 }
 
-// The known kinds, each once.
-fn known() -> [KnownKind; 15]
-    ensures { map extension_of_kind result ≡ known_kinds }
+// The kind whose URI has so many bytes. That of the playout delay, which is as long as that of the
+// absolute send time, is left out: no other two are as long.
+fn kind_as_long(len: usize) -> Option<KnownKind>
+    ensures { (kind : KnownKind) → kind ≢ PlayoutDelay →
+        length (kind_of (extension_of_kind kind)).uri ≡ len → result ≡ Some kind }
 {
-    [
-        KnownKind::AbsoluteSendTime,
-        KnownKind::AbsoluteCaptureTime,
-        KnownKind::AudioLevel,
-        KnownKind::TransmissionTimeOffset,
-        KnownKind::VideoOrientation,
-        KnownKind::TransportSequenceNumber,
-        KnownKind::PlayoutDelay,
-        KnownKind::VideoContentType,
-        KnownKind::VideoTiming,
-        KnownKind::RtpStreamId,
-        KnownKind::RepairedRtpStreamId,
-        KnownKind::RtpMid,
-        KnownKind::FrameMarking,
-        KnownKind::ColorSpace,
-        KnownKind::VideoLayersAllocation,
-    ]
+    match len {
+        26 => Some(KnownKind::VideoOrientation),
+        34 => Some(KnownKind::TransmissionTimeOffset),
+        35 => Some(KnownKind::RtpMid),
+        43 => Some(KnownKind::AudioLevel),
+        45 => Some(KnownKind::RtpStreamId),
+        54 => Some(KnownKind::RepairedRtpStreamId),
+        56 => Some(KnownKind::ColorSpace),
+        57 => Some(KnownKind::VideoTiming),
+        58 => Some(KnownKind::AbsoluteSendTime),
+        60 => Some(KnownKind::FrameMarking),
+        61 => Some(KnownKind::AbsoluteCaptureTime),
+        63 => Some(KnownKind::VideoContentType),
+        70 => Some(KnownKind::VideoLayersAllocation),
+        73 => Some(KnownKind::TransportSequenceNumber),
+        _ => None,
+    }
 }
 
-// The known kind whose URI this is.
+// Whether this is the kind's URI.
+fn is_uri_of(kind: KnownKind, uri: &str) -> bool
+    ensures { IsTrue result ↔ ((kind_of (extension_of_kind kind)).uri ≡ uri.now) }
+{
+    // A known kind has no text of its own, and so nothing to free.
+    let extension = ManuallyDrop::new(Extension::from(kind));
+    extension.as_uri() == uri
+}
+
+// The known kind whose URI this is. Its length leaves one kind, or the playout delay.
 pub(super) fn known_by_uri(uri: &str) -> Option<KnownKind>
     ensures found { IfSome result (λ kind. (kind_of (extension_of_kind kind)).uri ≡ uri.now) }
     ensures none { IfNone result ((kind : Extension) → IsKnown kind → (kind_of kind).uri ≢ uri.now) }
 {
-    for kind in known() {
-        // A known kind has no text of its own, and so nothing to free.
-        let extension = ManuallyDrop::new(Extension::from(kind));
-        if extension.as_uri() == uri {
-            return Some(kind);
-        }
+    let kind = kind_as_long(uri.len())?;
+    if is_uri_of(kind, uri) {
+        return Some(kind);
+    }
+    if is_uri_of(KnownKind::PlayoutDelay, uri) {
+        return Some(KnownKind::PlayoutDelay);
     }
     None
 }

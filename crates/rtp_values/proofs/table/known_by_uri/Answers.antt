@@ -1,26 +1,24 @@
-use Rattle.std.proofs.Common.{◌≢◌, All, ◌∙◌, sym, ap, subst, arith}
-use Rattle.std.proofs.lemmas.List.{take_more, take_all}
-use Rattle.std.proofs.lemmas.List.Elements.{All-push, All-map}
-use Rattle.std.specs.Cmp.Lexicographic.{other_text}
+use Rattle.std.proofs.Common.{◌≢◌, Option, IfNone, inl, inr, sym, ap, ◌∙◌, subst}
+use Rattle.std.proofs.lemmas.Bool.{false≢true}
+use Rattle.std.proofs.lemmas.Option.{same_Some}
 use Rattle.rtp_values.specs.declared.kind.Extension.{Extension}
-use Rattle.rtp_values.specs.declared.known_kind.KnownKind.TheVariants as known
-use Rattle.rtp_values.specs.Kind.{kind_of}
+use Rattle.rtp_values.specs.declared.known_kind.KnownKind.{KnownKind}
+use Rattle.rtp_values.specs.Kind.{kind_of, IsKnown}
 use Rattle.rtp_values.specs.KnownKind.{extension_of_kind}
-use Rattle.rtp_values.proofs.KindLemmas.{All-known}
+use Rattle.rtp_values.proofs.KindLemmas.{no_kind_has}
 use Rattle.rtp_values.proofs.table.known_by_uri.Goals as goal
 
-pub loop-kind-preserved : goal.loop-kind-preserved
-loop-kind-preserved c =
-    let kinds = c.known-kind-items.result in
-    subst (All (λ kind. (kind_of (extension_of_kind kind)).uri ≢ c.args.uri.now))
-    (sym (take_more kinds c.loop-kind.kind-index known.AbsoluteSendTime (omega (arith, c.loop-kind-test.true))))
-    (All-push (λ kind. (kind_of (extension_of_kind kind)).uri ≢ c.args.uri.now) _ _ c.loop-kind.invariant
-    (λ same. other_text _ _ c.if-eq.ensures (c.as_uri.ensures ∙ ap (λ (kind : Extension). (kind_of kind).uri) (c.deref.ensures ∙ c.new-extension.ensures ∙ c.from.ensures) ∙ same)))
+pub returns-in_err-kind-clause-none : goal.returns-in_err-kind-clause-none
+returns-in_err-kind-clause-none c =
+    subst (λ (found : Option KnownKind). IfNone found ((kind : Extension) → IsKnown kind → (kind_of kind).uri ≢ c.args.uri.now)) (sym c.from_residual.ensures)
+    (no_kind_has c.args.uri.now c.kind_as_long.result c.kind_as_long.ensures (λ kind is. let none = sym is ∙ c.in_err-kind.was in cc) (inl c.in_err-kind.was))
 
 pub returns-clause-none : goal.returns-clause-none
 returns-clause-none c =
-    let kinds = c.known-kind-items.result in
-    let all = subst (All (λ kind. (kind_of (extension_of_kind kind)).uri ≢ c.args.uri.now)) (take_all c.loop-kind.kind-index kinds (omega (arith, c.loop-kind-test.false))) c.loop-kind.invariant in
-    All-known (λ kind. (kind_of kind).uri ≢ c.args.uri.now)
-    (subst (All (λ kind. (kind_of kind).uri ≢ c.args.uri.now)) c.known-kind-items.ensures
-    (All-map (λ kind. (kind_of kind).uri ≢ c.args.uri.now) extension_of_kind kinds all))
+    let first = c.if-is_uri_of.ensures in
+    let second = c.if-is_uri_of-2.ensures in
+    no_kind_has c.args.uri.now c.kind_as_long.result c.kind_as_long.ensures
+    (λ kind is same.
+    let this = same_Some _ _ (sym is ∙ c.in_ok-kind.was) in
+    false≢true (first.1 (ap (λ (k : KnownKind). (kind_of (extension_of_kind k)).uri) (sym this) ∙ same)))
+    (inr (λ same. false≢true (second.1 same)))
