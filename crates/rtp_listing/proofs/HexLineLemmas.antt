@@ -1,12 +1,15 @@
 -- Which lines are hexadecimal.
-use Rattle.std.proofs.Common.{◌≡◌, ℕ, ◌%◌, ◌+◌, ◌*◌, ◌<◌, ◌≤◌, List, length, get_or, Result, Ok, Err, true, refl, arith, below_more}
+use Rattle.std.proofs.Common.{◌≡◌, ℕ, ◌%◌, ◌/◌, ◌+◌, ◌*◌, ◌^◌, ◌<◌, ◌≤◌, List, length, take, drop, get_or, Result, Ok, Err, true, refl, sym, ap, ◌∙◌, arith, below_more, bit_and}
 use Rattle.std.specs.Prelude.{IsOk, Some, MatchBool, Bool, false, ◌&&◌}
 use Rattle.std.specs.List.{All}
 use Rattle.std.specs.Char.{IsAsciiHexdigit, IsNotAsciiHexdigit}
 use Rattle.std.proofs.lemmas.Grind.{common_steps}
-use Rattle.hex.specs.Hex.{decode_of, hex_digit_value, is_hex_digit, pair_value}
+use Rattle.std.proofs.lemmas.Nat.{and_block, and_mask}
+use Rattle.std.proofs.lemmas.List.{length-take-le, take_all}
+use Rattle.hex.specs.Hex.{decode_of, decode_pairs, hex_digit_value, is_hex_digit, pair_value}
 use Rattle.hex.specs.declared.error.FromHexError.{FromHexError}
 use Rattle.hex.proofs.HexLemmas.{decode_of-ok, decode_of-digits}
+use Rattle.hex.proofs.Pairs.{prepend, decode_done}
 
 -- the two tests of a digit agree
 passes : (c : ℕ) → IsAsciiHexdigit c → is_hex_digit c ≡ true
@@ -33,9 +36,45 @@ digits_from_ok line ok =
     let digits = decode_of-ok line bytes.0 bytes.1 in
     (digits.0, λ k d lt. is_digit _ (digits.1 k d lt))
 
--- the byte of two digits
+-- the value of a digit
+digit_value : (c : ℕ) → IsAsciiHexdigit c → (hex_digit_value c ≡ Some (c % 16 + c / 64 * 9)) × (c % 16 + c / 64 * 9 < 16) × (c < 128)
+digit_value c digit = (grind (arith, common_steps), grind (arith, common_steps), grind (arith, common_steps))
+
+-- the masks take the parts of each byte by itself
+low_bits : (high low : ℕ) → high < 256 → bit_and (high + low * 256) 3855 ≡ low % 16 * 256 + high % 16
+low_bits high low small =
+    ap (λ (n : ℕ). bit_and n 3855) (omega arith) ∙ and_block 8 low 15 high 15 (omega arith) (omega arith)
+    ∙ ap (λ (n : ℕ). n * 2 ^ 8 + bit_and high 15) (and_mask low 4) ∙ ap (λ (n : ℕ). low % 16 * 256 + n) (and_mask high 4)
+
+sixth_bits : (high low : ℕ) → high < 128 → low < 128 → bit_and ((high + low * 256) / 64) 257 ≡ low / 64 * 256 + high / 64
+sixth_bits high low few small =
+    ap (λ (n : ℕ). bit_and n 257) (omega arith) ∙ and_block 8 (low / 64) 1 (low % 64 * 4 + high / 64) 1 (omega arith) (omega arith)
+    ∙ ap (λ (n : ℕ). n * 2 ^ 8 + bit_and (low % 64 * 4 + high / 64) 1) (and_mask (low / 64) 1)
+    ∙ ap (λ (n : ℕ). low / 64 % 2 * 256 + n) (and_mask (low % 64 * 4 + high / 64) 1) ∙ omega arith
+
+-- the byte of two values
 pub pair_of : (high low i h l : ℕ) → hex_digit_value high ≡ Some h → hex_digit_value low ≡ Some l → pair_value high low i ≡ Ok (h * 16 + l)
 pair_of high low i h l first second = rw (first, second) refl
+
+-- the byte of two digits
+pub byte_is : (high low : ℕ) → IsAsciiHexdigit high → IsAsciiHexdigit low → (values : ℕ) → values ≡ bit_and (high + low * 256) 3855 + bit_and ((high + low * 256) / 64) 257 * 9
+    → (values * 16 + values / 256 < 2 ^ 16) × ((index : ℕ) → pair_value high low index ≡ Ok ((values * 16 + values / 256) % 256))
+byte_is high low first second values are =
+    let h = digit_value high first in
+    let l = digit_value low second in
+    let both : values ≡ (low % 16 + low / 64 * 9) * 256 + (high % 16 + high / 64 * 9) =
+    are ∙ ap (λ (n : ℕ). n + bit_and ((high + low * 256) / 64) 257 * 9) (low_bits high low (omega arith))
+    ∙ ap (λ (n : ℕ). low % 16 * 256 + high % 16 + n * 9) (sixth_bits high low h.2 l.2) ∙ omega arith in
+    let byte : (values * 16 + values / 256) % 256 ≡ (high % 16 + high / 64 * 9) * 16 + (low % 16 + low / 64 * 9) = omega arith in
+    (omega arith, λ index. pair_of high low index (high % 16 + high / 64 * 9) (low % 16 + low / 64 * 9) h.0 l.0 ∙ ap Ok (sym byte))
+
+-- the bytes of all digits, at the front of a longer list
+pub decoded_front : (s out : List ℕ) (i : ℕ) → i ≤ length out → length s ≤ 2 * i → decode_pairs 0 s ≡ prepend (take i out) (decode_pairs (2 * i) (drop (2 * i) s))
+    → decode_pairs 0 s ≡ Ok (take i out)
+decoded_front s out i room fits inv =
+    let long : length (take i out) ≡ i = length-take-le i out room in
+    let same : take i (take i out) ≡ take i out = take_all i (take i out) (omega arith) in
+    decode_done s (take i out) i (omega arith) fits (rw same inv)
 
 not_both : (c : ℕ) → IsAsciiHexdigit c → IsNotAsciiHexdigit c → ⊥
 not_both c digit other = grind (arith, common_steps)

@@ -7,3 +7,4 @@ mod ReadLemmas
 mod PrintLemmas
 mod PrintingLemmas
 mod RunLemmas
+mod TextLemmas

@@ -1,12 +1,12 @@
 -- The lines of datagrams that are printed one after the other.
-use Rattle.std.proofs.Common.{◌≡◌, ℕ, ◌+◌, ◌<◌, ◌≤◌, List, [], ◌∷◌, ◌++◌, length, map, take, get_or, refl, sym, ap, ◌∙◌, subst, arith, append_assoc, append-nil}
+use Rattle.std.proofs.Common.{◌≡◌, ℕ, ◌+◌, ◌<◌, ◌≤◌, List, [], ◌∷◌, ◌++◌, length, map, take, get_or, refl, sym, ap, ◌∙◌, subst, arith, append_assoc, append-nil, Bool, true, false}
 use Rattle.std.specs.Prelude.{Option, Some, None, IfSome, Result, Ok, Err, IsErrAnd, IfErr}
 use Rattle.std.specs.Option.{option_map}
+use Rattle.std.specs.Bool.{OnTrue}
 use Rattle.std.specs.List.{AllZip}
 use Rattle.std.specs.Io.KnownBytes.{Appends, Keeps}
 use Rattle.std.proofs.KnownBytes.{Appends-nil, Appends-trans, Appends-kept}
 use Rattle.std.proofs.lemmas.List.{map_push, length_push, take_more, take_all}
-use Rattle.std.proofs.lemmas.Option.{none-some}
 use Rattle.rtp_base.specs.Window.{Numbers}
 use Rattle.rtp_ext.specs.declared.map.ExtensionMap.{ExtensionMap}
 use Rattle.rtp_wire.specs.declared.header.rtp_header.RtpHeader.{RtpHeader}
@@ -21,17 +21,17 @@ use Rattle.rtp_wire.proofs.SourceLemmas.{SoFarEach, SoFarEach-none, SoFarEach-mo
 use Rattle.rtp_listing.specs.declared.program.RunEnd.{RunEnd}
 use Rattle.rtp_listing.specs.declared.program.RunEnd.TheVariants.{NoMemory, Io}
 use Rattle.rtp_listing.specs.Output.{IsHeader, packet_lines, lines_from, IsListing, Prints}
-use Rattle.rtp_listing.specs.Stopping.{IsPartialListing}
+use Rattle.rtp_listing.specs.Stopping.{IsPartialListing, read_header}
 
 -- a header of a datagram, with the verdict on it
 abbrev pub Listing : Type 0
 Listing = Option RtpHeader × Verdict
 
--- what `parse` returns is the header of the datagram
-pub IsHeader-parsed : (exts : ExtensionMap) (datagram : List ℕ) (answer : Option RtpHeader) → IfSome answer (IsWire exts datagram)
-    → ((header : RtpHeader) → IsWire exts datagram header → answer ≡ Some header) → IsHeader exts datagram answer
-IsHeader-parsed exts datagram None found only = λ header wire. none-some header (only header wire)
-IsHeader-parsed exts datagram (Some header) found only = found
+-- what `parse_into` reads is the header of the datagram
+pub IsHeader-read : (exts : ExtensionMap) (datagram : List ℕ) (found : Bool) (header : RtpHeader) → OnTrue found (IsWire exts datagram header)
+    → ((other : RtpHeader) → IsWire exts datagram other → (found ≡ true) × (header ≡ other)) → IsHeader exts datagram (read_header found header)
+IsHeader-read exts datagram true header wire only = wire
+IsHeader-read exts datagram false header wire only = λ other is. let seen = (only other is).0 in absurd (cc seen)
 
 -- and its packet id is that of the datagram
 IsPacketId-header : (exts : ExtensionMap) (datagram : List ℕ) (header : Option RtpHeader) → IsHeader exts datagram header → IsPacketId exts datagram (option_map packet_id_of header)

@@ -6,3 +6,4 @@ pub mod Output
 -- What the inside promises itself.
 pub mod Front
 pub mod Stopping
+pub mod Digits

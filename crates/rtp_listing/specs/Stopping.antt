@@ -1,6 +1,7 @@
 -- What is printed where a run stops early: what the functions of `printing` and `program` promise each other.
-use Rattle.std.specs.Prelude.{ℕ, List, ◌++◌, take}
+use Rattle.std.specs.Prelude.{ℕ, List, ◌++◌, take, Bool, true, false, Option, Some, None}
 use Rattle.rtp_ext.specs.declared.map.ExtensionMap.{ExtensionMap}
+use Rattle.rtp_wire.specs.declared.header.rtp_header.RtpHeader.{RtpHeader}
 use Rattle.rtp_listing.specs.declared.program.RunEnd.{RunEnd}
 use Rattle.rtp_listing.specs.declared.program.RunEnd.TheVariants.{Done, BadLine, NoMemory, Io}
 use Rattle.rtp_listing.specs.Output.{IsListing, IsBadLineOf, IsFrontOf, IsBeginningOf}
@@ -18,3 +19,8 @@ IsLeft text BadLine printed = IsBadLineOf text printed
 IsLeft text NoMemory printed = IsFrontOf text printed
 IsLeft text Io printed = IsBeginningOf text printed
 IsLeft text Done printed = ⊥
+
+-- the header that was read, where one was
+abbrev pub read_header : Bool → RtpHeader → Option RtpHeader
+read_header true header = Some header
+read_header false header = None

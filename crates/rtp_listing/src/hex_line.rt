@@ -1,8 +1,9 @@
 //! The lines that are datagrams in hexadecimal.
 
-ghost use Rattle.std.specs.Prelude.{◌≡◌, ◌↔◌, ◌*◌, ◌<◌, List, ℕ, length, All, IfOk, IfSome, IsErr, IsOk, IsSomeAnd, IsTrue, OnOk};
+ghost use Rattle.std.specs.Prelude.{◌≡◌, ◌↔◌, ◌*◌, ◌/◌, ◌%◌, ◌≤◌, List, ℕ, length, take, All, IfOk, IfSome, IsErr, IsOk, IsSomeAnd, IsTrue, OnOk};
 ghost use Rattle.std.specs.Char.{IsAsciiHexdigit};
-ghost use Rattle.hex.specs.Hex.{decode_of, hex_digit_value};
+ghost use Rattle.std.specs.Vec.{vec_len};
+ghost use Rattle.hex.specs.Hex.{decode_of, pair_value};
 
 use std::alloc::{AllocError, Global};
 
@@ -18,24 +19,30 @@ fn are_hex_digits(line: &[u8]) -> bool
     all
 }
 
-// The value of a hexadecimal digit: the low four bits of `0` to `9` are its value, and those of the
-// letters of either case count from 1. Requires such a digit.
-fn value_of(digit: u8) -> u8
-    requires { IsAsciiHexdigit digit }
-    ensures value { hex_digit_value digit ≡ Some result }
-    ensures small { result < 16 }
+// The byte of two hexadecimal digits. The low four bits of `0` to `9` are a digit's value, and those of
+// the letters of either case count from 1. Both digits are valued in one word of 16 bits, the first
+// one in its low byte, so that eight such words make a vector. Requires digits.
+#[inline(always)]
+fn byte_of(high: u8, low: u8) -> u8
+    requires high { IsAsciiHexdigit high }
+    requires low { IsAsciiHexdigit low }
+    ensures { (index : ℕ) → pair_value high low index ≡ Ok result }
 {
-    digit % 16 + digit / 64 * 9
+    let digits = high as u16 + low as u16 * 256;
+    let values = (digits & 0x0F0F) + (digits / 64 & 0x0101) * 9;
+    ((values * 16 + values / 256) % 256) as u8
 }
 
-// Writes the bytes of the digits, two digits a byte. Requires digits, twice as many as bytes.
+// Writes the bytes of the digits at the front, two digits a byte. Requires digits of an even number,
+// and room for their bytes.
 fn write_bytes(digits: &[u8], bytes: &mut [u8])
     requires digits { All IsAsciiHexdigit digits.now }
-    requires room { length digits.now ≡ 2 * length bytes.old }
-    ensures { decode_of digits.now ≡ Ok bytes.new }
+    requires even { length digits.now % 2 ≡ 0 }
+    requires room { length digits.now ≤ 2 * length bytes.old }
+    ensures { decode_of digits.now ≡ Ok (take (length digits.now / 2) bytes.new) }
 {
-    for i in 0..bytes.len() {
-        bytes[i] = value_of(digits[2 * i]) * 16 + value_of(digits[2 * i + 1]);
+    for i in 0..digits.len() / 2 {
+        bytes[i] = byte_of(digits[2 * i], digits[2 * i + 1]);
     }
 }
 
@@ -61,19 +68,32 @@ pub fn datagram(alloc: Global, line: &[u8]) -> Result<Option<Vec<u8>>, AllocErro
         return Ok(None);
     }
     let mut bytes = Vec::new(alloc);
-    decode_into(line, &mut bytes)?;
+    bytes.resize(line.len() / 2, 0)?;
+    write_bytes(line, bytes.as_mut_slice());
     Ok(Some(bytes))
 }
 
-/// Puts the bytes of a line of hexadecimal into the buffer, in place of what it held.
+// Makes the buffer at least this long. It is never cut, so that what it held is not put there anew.
+fn grow_to(bytes: &mut Vec<u8>, len: usize) -> Result<(), AllocError>
+    ensures { OnOk result (len ≤ vec_len bytes.new) }
+{
+    if bytes.len() < len {
+        bytes.resize(len, 0)?;
+    }
+    Ok(())
+}
+
+/// Puts the bytes of a line of hexadecimal at the front of the buffer, whatever it held.
 ///
 /// Returns `AllocError` only when memory for a longer buffer is refused. Requires that the line is
 /// hexadecimal.
 pub(super) fn decode_into(line: &[u8], bytes: &mut Vec<u8>) -> Result<(), AllocError>
     requires { IsOk (decode_of line.now) }
-    ensures { OnOk result (decode_of line.now ≡ Ok bytes.new.items) }
+    ensures within { OnOk result (length line.now / 2 ≤ vec_len bytes.new) }
+    ensures decoded { OnOk result
+        (decode_of line.now ≡ Ok (take (length line.now / 2) bytes.new.items)) }
 {
-    bytes.resize(line.len() / 2, 0)?;
+    grow_to(bytes, line.len() / 2)?;
     write_bytes(line, bytes.as_mut_slice());
     Ok(())
 }

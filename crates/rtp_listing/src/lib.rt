@@ -10,6 +10,7 @@ mod map_line;
 mod output;
 mod printing;
 mod program;
+mod text;
 
 pub use hex_line::datagram;
 pub use input::{Input, InputError, read_input};

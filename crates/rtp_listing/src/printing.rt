@@ -1,6 +1,6 @@
 //! The two lines of each datagram, written to the output.
 
-ghost use Rattle.std.specs.Prelude.{◌≡◌, ◌++◌, List, ℕ, [], string_bytes, IsOk, IfOk, IfErr, OnOk, OnErr};
+ghost use Rattle.std.specs.Prelude.{◌≡◌, ◌+◌, ◌≤◌, ◌++◌, List, ℕ, length, take, IsOk, IfOk, IfErr, OnOk};
 ghost use Rattle.std.specs.Str.Lines.{lines};
 ghost use Rattle.hex.specs.Hex.{decode_of};
 ghost use Rattle.std.specs.Option.{option_map, option_copied};
@@ -11,14 +11,15 @@ ghost use Rattle.rtp_wire.specs.EachSource.{HoldsEach, taken_after_each};
 ghost use Rattle.rtp_listing.specs.Input.{AreHex};
 ghost use Rattle.rtp_listing.specs.Front.{IsHexText};
 ghost use Rattle.rtp_listing.specs.Output.{IsHeader, packet_lines, IsListing, Prints};
-ghost use Rattle.rtp_listing.specs.Stopping.{IsPartialListing};
+ghost use Rattle.rtp_listing.specs.Stopping.{IsPartialListing, read_header};
 
 use super::hex_line::decode_into;
 use super::input::Input;
 use super::line::first_line;
-use super::listing::{HeaderLine, VerdictLine};
+use super::listing::{put_header_line, put_verdict_line};
 use super::output::write_text;
 use super::program::RunEnd;
+use super::text::put_bytes;
 use rtp_wire::{ExtensionMap, Receivers, RtpHeader, Verdict};
 use std::alloc::{AllocError, Global};
 use std::io::Write;
@@ -26,54 +27,63 @@ use std::io::Write;
 // How many bytes are gathered before they are written.
 const WRITTEN_AT_ONCE: usize = 8192;
 
-// The header that the datagram of this line begins with, if it begins with one, and the verdict on
-// it. The datagram is put into the buffer, in place of what that held. Requires that the line is
-// hexadecimal.
+// Reads the header that the datagram of this line begins with into the one that is given, and returns
+// whether it begins with one, and the verdict on it. The datagram is put into the buffer, whatever
+// that held. Requires that the line is hexadecimal.
 fn judged(
     alloc: Global,
     line: &[u8],
     datagram: &mut Vec<u8>,
     exts: &ExtensionMap,
+    header: &mut RtpHeader,
     receivers: &mut Receivers,
-) -> Result<(Option<RtpHeader>, Verdict), AllocError>
+) -> Result<(bool, Verdict), AllocError>
     requires { IsOk (decode_of line.now) }
     ensures header { (bytes : List ℕ) → decode_of line.now ≡ Ok bytes →
-        IfOk result (λ listing. IsHeader exts.now bytes listing.0) }
+        IfOk result (λ listing. IsHeader exts.now bytes (read_header listing.0 header.new)) }
     ensures verdict { (taken : ℕ → Numbers) → HoldsEach receivers.old 0 taken →
         IfOk result (λ listing. IsVerdict 0
-        (numbers_beside taken (option_map packet_id_of listing.0)) (option_map packet_id_of listing.0) listing.1) }
+        (numbers_beside taken (option_map packet_id_of (read_header listing.0 header.new)))
+        (option_map packet_id_of (read_header listing.0 header.new)) listing.1) }
     ensures after { (taken : ℕ → Numbers) → HoldsEach receivers.old 0 taken →
-        IfOk result (λ listing. HoldsEach receivers.new 0
-        (taken_after_each taken (option_map packet_id_of listing.0) listing.1)) }
+        IfOk result (λ listing. HoldsEach receivers.new 0 (taken_after_each taken
+        (option_map packet_id_of (read_header listing.0 header.new)) listing.1)) }
 {
     decode_into(line, datagram)?;
-    let header = RtpHeader::parse(alloc, datagram, exts)?;
-    let verdict = match &header {
-        Some(header) => receivers.receive(header.ssrc, header.sequence_number)?,
-        None => Verdict::Unreadable,
+    let found = header.parse_into(alloc, &datagram[..line.len() / 2], exts)?;
+    let verdict = if found {
+        receivers.receive(header.ssrc, header.sequence_number)?
+    } else {
+        Verdict::Unreadable
     };
-    Ok((header, verdict))
+    Ok((found, verdict))
 }
 
-// Adds the two lines of the datagram of this number to the text. Where memory for them is refused
-// the text is empty.
-fn push_lines(
-    text: &mut String,
+// The header, where one was read.
+fn shown(found: bool, header: &RtpHeader) -> Option<&RtpHeader>
+    ensures { option_copied result ≡ read_header found header.now }
+{
+    if found { Some(header) } else { None }
+}
+
+// Puts the two lines of the datagram of this number behind the text that the buffer begins with.
+// Requires room for them.
+fn put_lines(
+    text: &mut [u8],
+    at: usize,
     packet: u64,
     header: Option<&RtpHeader>,
     verdict: Verdict,
-) -> Result<(), AllocError>
-    ensures ok { OnOk result (string_bytes text.new
-        ≡ string_bytes text.old ++ packet_lines packet (option_copied header.entry) verdict) }
-    ensures err { OnErr result (string_bytes text.new ≡ []) }
+) -> usize
+    requires { at + 512 ≤ length text.old }
+    ensures end { result ≤ at + 512 }
+    ensures written { take result text.new
+        ≡ take at text.old ++ packet_lines packet (option_copied header.entry) verdict }
 {
-    let header = HeaderLine { packet, header };
-    let verdict = VerdictLine { packet, verdict };
-    if writeln!(text, "{header}\n{verdict}").is_err() {
-        text.clear();
-        return Err(AllocError);
-    }
-    Ok(())
+    let end = put_header_line(text, at, packet, header);
+    let end = put_bytes(text, end, b"\n");
+    let end = put_verdict_line(text, end, packet, verdict);
+    put_bytes(text, end, b"\n")
 }
 
 /// Prints the two lines of each datagram in order: its RTP header, and the verdict of the receiver of
@@ -96,25 +106,36 @@ pub(super) fn print_all<W: Write>(
 {
     let mut receivers = Receivers::new(alloc);
     let mut datagram = Vec::new(alloc);
-    let mut text = String::with_capacity(alloc, 2 * WRITTEN_AT_ONCE)?;
+    let mut header = RtpHeader::default();
+    let mut buffer = Vec::with_capacity(alloc, 2 * WRITTEN_AT_ONCE)?;
+    buffer.resize(2 * WRITTEN_AT_ONCE, 0)?;
+    let text = buffer.as_mut_slice();
+    let mut len = 0;
     let mut rest = input.datagrams;
     let mut packet = 0u64;
     while !rest.is_empty() {
         let (line, after) = first_line(rest);
-        let read = judged(alloc, line, &mut datagram, &input.exts, &mut receivers);
-        let Ok((header, verdict)) = read else {
-            write_text(output, text.as_bytes())?;
+        let read = judged(
+            alloc,
+            line,
+            &mut datagram,
+            &input.exts,
+            &mut header,
+            &mut receivers,
+        );
+        let Ok((found, verdict)) = read else {
+            write_text(output, &text[..len])?;
             return Err(RunEnd::NoMemory);
         };
         rest = after;
         packet += 1;
-        push_lines(&mut text, packet, header.as_ref(), verdict)?;
-        if text.len() >= WRITTEN_AT_ONCE {
-            write_text(output, text.as_bytes())?;
-            text.clear();
+        len = put_lines(text, len, packet, shown(found, &header), verdict);
+        if len >= WRITTEN_AT_ONCE {
+            write_text(output, &text[..len])?;
+            len = 0;
         }
     }
-    let last = text.as_bytes();
+    let last = &text[..len];
     write_text(output, last)?;
     match output.flush() {
         Ok(()) => Ok(()),

@@ -1,0 +1,45 @@
+-- Numbers in decimal, by several of their last digits.
+use Rattle.std.proofs.Common.{◌≡◌, ℕ, ◌+◌, ◌/◌, ◌%◌, ◌<◌, ◌≤◌, ◌^◌, List, [], ◌∷◌, ◌++◌, refl, sym, ap, ◌∙◌, arith, append_assoc}
+use Rattle.std.specs.Fmt.{decimal}
+use Rattle.std.proofs.lemmas.Fmt.{decimal_digit, decimal_step}
+use Rattle.rtp_listing.specs.Digits.{two_digits, four_digits}
+
+-- what is put behind a text in two steps
+pub in_two : (old between new a b all : List ℕ) → between ≡ old ++ a → new ≡ between ++ b → all ≡ a ++ b → new ≡ old ++ all
+in_two old between new a b all first second is =
+    second ∙ ap (λ (xs : List ℕ). xs ++ b) first ∙ append_assoc old a b ∙ ap (λ (xs : List ℕ). old ++ xs) (sym is)
+
+pub joined : (old between new a b : List ℕ) → between ≡ old ++ a → new ≡ between ++ b → new ≡ old ++ (a ++ b)
+joined old between new a b first second = in_two old between new a b (a ++ b) first second refl
+
+pub decimal_two : (n : ℕ) → 10 ≤ n → n < 100 → decimal n ≡ two_digits n
+decimal_two n some few =
+    decimal_step n some (omega arith) ∙ ap (λ (xs : List ℕ). xs ++ (48 + n % 10) ∷ []) (decimal_digit (n / 10) (omega arith))
+
+pub decimal_more_two : (n : ℕ) → 100 ≤ n → n < 2 ^ 64 → decimal n ≡ decimal (n / 100) ++ two_digits (n % 100)
+decimal_more_two n some fits =
+    decimal_step n (omega arith) fits
+    ∙ ap (λ (xs : List ℕ). xs ++ (48 + n % 10) ∷ []) (decimal_step (n / 10) (omega arith) (omega arith))
+    ∙ append_assoc (decimal (n / 10 / 10)) ((48 + n / 10 % 10) ∷ []) ((48 + n % 10) ∷ [])
+    ∙ ap (λ (m : ℕ). decimal m ++ (48 + n / 10 % 10) ∷ (48 + n % 10) ∷ []) (omega arith)
+    ∙ ap (λ (d : ℕ). decimal (n / 100) ++ (48 + d) ∷ (48 + n % 10) ∷ []) (omega arith)
+    ∙ ap (λ (d : ℕ). decimal (n / 100) ++ (48 + n % 100 / 10) ∷ (48 + d) ∷ []) (omega arith)
+
+pub decimal_more_four : (n : ℕ) → 10000 ≤ n → n < 2 ^ 64 → decimal n ≡ decimal (n / 10000) ++ four_digits (n % 10000)
+decimal_more_four n some fits =
+    decimal_more_two n (omega arith) fits
+    ∙ ap (λ (xs : List ℕ). xs ++ two_digits (n % 100)) (decimal_more_two (n / 100) (omega arith) (omega arith))
+    ∙ append_assoc (decimal (n / 100 / 100)) (two_digits (n / 100 % 100)) (two_digits (n % 100))
+    ∙ ap (λ (m : ℕ). decimal m ++ (two_digits (n / 100 % 100) ++ two_digits (n % 100))) (omega arith)
+    ∙ ap (λ (d : ℕ). decimal (n / 10000) ++ (two_digits d ++ two_digits (n % 100))) (omega arith)
+    ∙ ap (λ (d : ℕ). decimal (n / 10000) ++ (two_digits (n % 10000 / 100) ++ two_digits d)) (omega arith)
+
+pub decimal_more_eight : (n : ℕ) → 100000000 ≤ n → n < 2 ^ 64
+    → decimal n ≡ decimal (n / 100000000) ++ (four_digits (n % 100000000 / 10000) ++ four_digits (n % 100000000 % 10000))
+decimal_more_eight n some fits =
+    decimal_more_four n (omega arith) fits
+    ∙ ap (λ (xs : List ℕ). xs ++ four_digits (n % 10000)) (decimal_more_four (n / 10000) (omega arith) (omega arith))
+    ∙ append_assoc (decimal (n / 10000 / 10000)) (four_digits (n / 10000 % 10000)) (four_digits (n % 10000))
+    ∙ ap (λ (m : ℕ). decimal m ++ (four_digits (n / 10000 % 10000) ++ four_digits (n % 10000))) (omega arith)
+    ∙ ap (λ (d : ℕ). decimal (n / 100000000) ++ (four_digits d ++ four_digits (n % 10000))) (omega arith)
+    ∙ ap (λ (d : ℕ). decimal (n / 100000000) ++ (four_digits (n % 100000000 / 10000) ++ four_digits d)) (omega arith)

@@ -1,0 +1,154 @@
+//! Pieces of text, put into a buffer behind the text that it begins with.
+//!
+//! Each is told where that text ends, and says where it ends then. There is room for all of them, so
+//! that none tests it.
+
+ghost use Rattle.std.specs.Prelude.{◌≡◌, ◌+◌, ◌/◌, ◌%◌, ◌<◌, ◌≤◌, ◌∷◌, ◌++◌, [], length, take};
+ghost use Rattle.std.specs.Fmt.{decimal, signed_decimal};
+ghost use Rattle.rtp_listing.specs.Digits.{two_digits, four_digits};
+
+/// Puts the bytes behind the text. Requires room for them.
+#[inline(always)]
+pub(super) fn put_bytes(text: &mut [u8], at: usize, bytes: &[u8]) -> usize
+    requires { at + length bytes.now ≤ length text.old }
+    ensures end { result ≡ at + length bytes.now }
+    ensures written { take result text.new ≡ take at text.old ++ bytes.now }
+{
+    for i in 0..bytes.len() {
+        text[at + i] = bytes[i];
+    }
+    at + bytes.len()
+}
+
+// Puts a digit behind the text. Requires a number below 10, and room for it.
+#[inline(always)]
+fn put_digit(text: &mut [u8], at: usize, number: u32)
+    requires small { number < 10 }
+    requires room { at + 1 ≤ length text.old }
+    ensures { take (at + 1) text.new ≡ take at text.old ++ (48 + number) ∷ [] }
+{
+    text[at] = b'0' + number as u8;
+}
+
+// Puts two digits behind the text. Requires a number below 100, and room for them.
+#[inline(always)]
+fn put_two(text: &mut [u8], at: usize, number: u32)
+    requires small { number < 100 }
+    requires room { at + 2 ≤ length text.old }
+    ensures { take (at + 2) text.new ≡ take at text.old ++ two_digits number }
+{
+    put_digit(text, at, number / 10);
+    put_digit(text, at + 1, number % 10);
+}
+
+// Puts four digits behind the text. Requires a number below 10,000, and room for them.
+#[inline(always)]
+fn put_four(text: &mut [u8], at: usize, number: u32)
+    requires small { number < 10000 }
+    requires room { at + 4 ≤ length text.old }
+    ensures { take (at + 4) text.new ≡ take at text.old ++ four_digits number }
+{
+    put_two(text, at, number / 100);
+    put_two(text, at + 2, number % 100);
+}
+
+// Puts eight digits behind the text. Requires a number below 100,000,000, and room for them.
+#[inline(always)]
+fn put_eight(text: &mut [u8], at: usize, number: u32)
+    requires small { number < 100000000 }
+    requires room { at + 8 ≤ length text.old }
+    ensures { take (at + 8) text.new
+        ≡ take at text.old ++ (four_digits (number / 10000) ++ four_digits (number % 10000)) }
+{
+    put_four(text, at, number / 10_000);
+    put_four(text, at + 4, number % 10_000);
+}
+
+// Puts a number of one or two digits behind the text. Requires room for two.
+#[inline(always)]
+fn put_below_100(text: &mut [u8], at: usize, number: u32) -> usize
+    requires small { number < 100 }
+    requires room { at + 2 ≤ length text.old }
+    ensures end { result ≤ at + 2 }
+    ensures written { take result text.new ≡ take at text.old ++ decimal number }
+{
+    if number < 10 {
+        put_digit(text, at, number);
+        at + 1
+    } else {
+        put_two(text, at, number);
+        at + 2
+    }
+}
+
+// Puts a number of one to four digits behind the text. Requires room for four.
+#[inline(always)]
+fn put_below_10_000(text: &mut [u8], at: usize, number: u32) -> usize
+    requires small { number < 10000 }
+    requires room { at + 4 ≤ length text.old }
+    ensures end { result ≤ at + 4 }
+    ensures written { take result text.new ≡ take at text.old ++ decimal number }
+{
+    if number < 100 {
+        put_below_100(text, at, number)
+    } else {
+        let end = put_below_100(text, at, number / 100);
+        put_two(text, end, number % 100);
+        end + 2
+    }
+}
+
+// Puts a number of one to eight digits behind the text. Requires room for eight.
+#[inline(always)]
+fn put_below_100_000_000(text: &mut [u8], at: usize, number: u32) -> usize
+    requires small { number < 100000000 }
+    requires room { at + 8 ≤ length text.old }
+    ensures end { result ≤ at + 8 }
+    ensures written { take result text.new ≡ take at text.old ++ decimal number }
+{
+    if number < 10_000 {
+        put_below_10_000(text, at, number)
+    } else {
+        let end = put_below_10_000(text, at, number / 10_000);
+        put_four(text, end, number % 10_000);
+        end + 4
+    }
+}
+
+/// Puts the number behind the text, in decimal. Requires room for twenty digits.
+#[inline(always)]
+pub(super) fn put_number(text: &mut [u8], at: usize, number: u64) -> usize
+    requires { at + 20 ≤ length text.old }
+    ensures end { result ≤ at + 20 }
+    ensures written { take result text.new ≡ take at text.old ++ decimal number }
+{
+    if number < 100_000_000 {
+        put_below_100_000_000(text, at, number as u32)
+    } else if number < 10_000_000_000_000_000 {
+        let end = put_below_100_000_000(text, at, (number / 100_000_000) as u32);
+        put_eight(text, end, (number % 100_000_000) as u32);
+        end + 8
+    } else {
+        let end = put_below_10_000(text, at, (number / 10_000_000_000_000_000) as u32);
+        put_eight(text, end, (number / 100_000_000 % 100_000_000) as u32);
+        put_eight(text, end + 8, (number % 100_000_000) as u32);
+        end + 16
+    }
+}
+
+/// Puts the number behind the text, in decimal, with its sign where it is negative. Requires room for
+/// a sign and twenty digits.
+#[inline(always)]
+pub(super) fn put_signed(text: &mut [u8], at: usize, number: i8) -> usize
+    requires { at + 21 ≤ length text.old }
+    ensures end { result ≤ at + 21 }
+    ensures written { take result text.new ≡ take at text.old ++ signed_decimal number }
+{
+    let size = number.unsigned_abs() as u64;
+    if number >= 0 {
+        put_number(text, at, size)
+    } else {
+        let end = put_bytes(text, at, b"-");
+        put_number(text, end, size)
+    }
+}
