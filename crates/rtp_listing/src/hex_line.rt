@@ -1,7 +1,7 @@
 //! The lines that are datagrams in hexadecimal.
 
-ghost use Rattle.std.specs.Prelude.{◌≡◌, ◌↔◌, ◌*◌, ◌/◌, ◌%◌, ◌≤◌, List, ℕ, length, take, All, IfOk, IfSome, IsErr, IsOk, IsSomeAnd, IsTrue, OnOk};
-ghost use Rattle.std.specs.Char.{IsAsciiHexdigit};
+ghost use Rattle.std.specs.Prelude.{◌≡◌, ◌↔◌, ◌*◌, ◌/◌, ◌%◌, ◌<◌, ◌≤◌, List, ℕ, length, take, slice_index, All, IfOk, IfSome, IsErr, IsOk, IsSomeAnd, IsTrue, OnOk};
+ghost use Rattle.std.specs.Char.{IsAsciiHexdigit, IsNotAsciiHexdigit};
 ghost use Rattle.std.specs.Vec.{vec_len};
 ghost use Rattle.hex.specs.Hex.{decode_of, pair_value};
 
@@ -9,6 +9,7 @@ use std::alloc::{AllocError, Global};
 
 // Whether each byte is a hexadecimal digit of either case. No byte ends the loop early, so that many
 // are tested at once.
+#[inline(always)]
 fn are_hex_digits(line: &[u8]) -> bool
     ensures { IsTrue result ↔ All IsAsciiHexdigit line.now }
 {
@@ -46,8 +47,69 @@ fn write_bytes(digits: &[u8], bytes: &mut [u8])
     }
 }
 
-/// Whether the line is hexadecimal: an even number of digits.
-pub(super) fn is_hex(line: &[u8]) -> bool
+// The length of a front of digits, where the first `from` bytes are digits: so many bytes are tested at
+// once, until the front is so long, the next so many are not all digits, or fewer are left.
+#[inline(always)]
+fn front_of_digits(text: &[u8], from: usize, at_once: usize, until: usize) -> usize
+    requires some { 0 < at_once }
+    requires front { from ≤ length text.now }
+    requires before { (k : ℕ) → k < from → IsAsciiHexdigit (slice_index text.now k) }
+    ensures within { result ≤ length text.now }
+    ensures digits { (k : ℕ) → k < result → IsAsciiHexdigit (slice_index text.now k) }
+{
+    let mut len = from;
+    while len < until && text.len() - len >= at_once {
+        if !are_hex_digits(&text[len..len + at_once]) {
+            return len;
+        }
+        len += at_once;
+    }
+    len
+}
+
+// The length of a front of digits, behind which fewer than sixteen digits are left. Most lines of headers
+// alone are too short for a test of 64 bytes.
+#[inline(always)]
+fn long_front(text: &[u8]) -> usize
+    ensures within { result ≤ length text.now }
+    ensures digits { (k : ℕ) → k < result → IsAsciiHexdigit (slice_index text.now k) }
+{
+    let front = front_of_digits(text, 0, 16, 64);
+    if front < 64 {
+        return front;
+    }
+    let front = front_of_digits(text, front, 64, usize::MAX);
+    front_of_digits(text, front, 16, usize::MAX)
+}
+
+/// The length of the longest front of hexadecimal digits.
+pub(super) fn digits_at_front(text: &[u8]) -> usize
+    ensures within { result ≤ length text.now }
+    ensures digits { (k : ℕ) → k < result → IsAsciiHexdigit (slice_index text.now k) }
+    ensures end { result < length text.now → IsNotAsciiHexdigit (slice_index text.now result) }
+{
+    let mut len = front_of_digits(text, long_front(text), 8, usize::MAX);
+    while len < text.len() {
+        if !text[len].is_ascii_hexdigit() {
+            return len;
+        }
+        len += 1;
+    }
+    len
+}
+
+/// Whether the line is hexadecimal, where it begins with this many digits, and no digit follows them.
+pub(super) fn is_hex_after(line: &[u8], digits: usize) -> bool
+    requires digits { (k : ℕ) → k < digits → k < length line.now →
+        IsAsciiHexdigit (slice_index line.now k) }
+    requires end { digits < length line.now → IsNotAsciiHexdigit (slice_index line.now digits) }
+    ensures { IsTrue result ↔ IsOk (decode_of line.now) }
+{
+    line.len() % 2 == 0 && line.len() <= digits
+}
+
+// Whether the line is hexadecimal: an even number of digits.
+fn is_hex(line: &[u8]) -> bool
     ensures { IsTrue result ↔ IsOk (decode_of line.now) }
 {
     line.len() % 2 == 0 && are_hex_digits(line)

@@ -13,10 +13,8 @@ fn without_return(line: &[u8]) -> &[u8]
     }
 }
 
-// How many bytes are tested at once.
-const TESTED_AT_ONCE: usize = 16;
-
 // Whether one of the bytes has this value. None ends the loop early, so that many are tested at once.
+#[inline(always)]
 fn has(bytes: &[u8], value: u8) -> bool
     ensures { result ≡ false → (k : ℕ) → k < length bytes.now → slice_index bytes.now k ≢ value }
 {
@@ -27,17 +25,22 @@ fn has(bytes: &[u8], value: u8) -> bool
     found
 }
 
-// The length of a front that this byte isn't in.
-fn front_without(text: &[u8], byte: u8) -> usize
+// The length of a front that this byte isn't in, where it isn't in the first `from` bytes: so many bytes
+// are tested at once, and it is in the next so many, or fewer are left.
+#[inline(always)]
+fn front_without(text: &[u8], from: usize, byte: u8, at_once: usize) -> usize
+    requires some { 0 < at_once }
+    requires front { from ≤ length text.now }
+    requires before { (k : ℕ) → k < from → slice_index text.now k ≢ byte }
     ensures within { result ≤ length text.now }
     ensures without { (k : ℕ) → k < result → slice_index text.now k ≢ byte }
 {
-    let mut len = 0;
-    while text.len() - len >= TESTED_AT_ONCE {
-        if has(&text[len..len + TESTED_AT_ONCE], byte) {
+    let mut len = from;
+    while text.len() - len >= at_once {
+        if has(&text[len..len + at_once], byte) {
             return len;
         }
-        len += TESTED_AT_ONCE;
+        len += at_once;
     }
     len
 }
@@ -51,16 +54,52 @@ fn first_of(text: &[u8], byte: u8) -> Option<usize>
     text.iter().position(|candidate| *candidate == byte)
 }
 
+/// The index of the first byte of this value, `None` when there is none. Requires that it isn't in the
+/// first `from` bytes, which are not looked at.
+pub(super) fn position_from(text: &[u8], from: usize, byte: u8) -> Option<usize>
+    requires front { from ≤ length text.now }
+    requires before { (k : ℕ) → k < from → slice_index text.now k ≢ byte }
+    ensures found { IfSome result (λ at. (at < length text.now) × (slice_index text.now at ≡ byte)
+        × ((k : ℕ) → k < at → slice_index text.now k ≢ byte)) }
+    ensures none { IfNone result ((k : ℕ) → k < length text.now → slice_index text.now k ≢ byte) }
+{
+    if from < text.len() && text[from] == byte {
+        return Some(from);
+    }
+    // Each step leaves less for the next one, which goes on in smaller ones.
+    let front = front_without(text, from, byte, 64);
+    let front = front_without(text, front, byte, 16);
+    let front = front_without(text, front, byte, 8);
+    match first_of(&text[front..], byte) {
+        Some(at) => Some(front + at),
+        None => None,
+    }
+}
+
 /// The index of the first byte of this value, `None` when there is none.
 pub(super) fn position_of(text: &[u8], byte: u8) -> Option<usize>
     ensures found { IfSome result (λ at. (at < length text.now) × (slice_index text.now at ≡ byte)
         × ((k : ℕ) → k < at → slice_index text.now k ≢ byte)) }
     ensures none { IfNone result ((k : ℕ) → k < length text.now → slice_index text.now k ≢ byte) }
 {
-    let front = front_without(text, byte);
-    match first_of(&text[front..], byte) {
-        Some(at) => Some(front + at),
-        None => None,
+    position_from(text, 0, byte)
+}
+
+/// The first line without its LF or CR LF, and the text after it. Requires that the text is not empty,
+/// and that no LF is in its first `from` bytes, which are not looked at for one.
+pub(super) fn first_line_from(text: &[u8], from: usize) -> (&[u8], &[u8])
+    requires some { 0 < length text.now }
+    requires front { from ≤ length text.now }
+    requires before { (k : ℕ) → k < from → slice_index text.now k ≢ 10 }
+    ensures first { lines text.now ≡ result.0.now ∷ lines result.1.now }
+    ensures begins { (k : ℕ) → k < length result.0.now →
+        slice_index result.0.now k ≡ slice_index text.now k }
+    ensures within { length result.0.now ≤ length text.now }
+    ensures shorter { length result.1.now < length text.now }
+{
+    match position_from(text, from, b'\n') {
+        Some(end) => (without_return(&text[..end]), &text[end + 1..]),
+        None => (text, &[]),
     }
 }
 
@@ -70,8 +109,5 @@ pub(super) fn first_line(text: &[u8]) -> (&[u8], &[u8])
     ensures first { lines text.now ≡ result.0.now ∷ lines result.1.now }
     ensures shorter { length result.1.now < length text.now }
 {
-    match position_of(text, b'\n') {
-        Some(end) => (without_return(&text[..end]), &text[end + 1..]),
-        None => (text, &[]),
-    }
+    first_line_from(text, 0)
 }

@@ -6,10 +6,11 @@ pub loop-len-preserved : goal.loop-len-preserved
 loop-len-preserved c =
     let text = c.args.text.now in
     let len = c.loop-len.len in
-    let count : len + 16 - len ≡ 16 = omega arith in
+    let step = c.args.at_once in
+    let count : len + step - len ≡ step = omega arith in
     let none = subst (λ (n : ℕ). (k : ℕ) → k < length (take n (drop len text)) → get_or (take n (drop len text)) k 0 ≡ c.args.byte → ⊥) count (c.has.ensures c.if-has.false) in
     record {
       within = omega arith;
-      without = none_before text c.args.byte len 16 c.loop-len.invariant.without
-          (none_in_chunk text c.args.byte len 16 (omega (arith, length-drop len text)) none);
+      without = none_before text c.args.byte len step c.loop-len.invariant.without
+          (none_in_chunk text c.args.byte len step (omega (arith, length-drop len text)) none);
     }
