@@ -1,10 +1,10 @@
 -- The lines of datagrams that are printed while the lines of the input are read.
-use Rattle.std.proofs.Common.{◌≡◌, ℕ, ◌+◌, ◌<◌, ◌≤◌, List, [], ◌∷◌, ◌++◌, length, map, drop, get_or, Option, Result, Ok, refl, ap, ◌∙◌, subst, arith}
+use Rattle.std.proofs.Common.{◌≡◌, ℕ, ◌+◌, ◌<◌, ◌≤◌, List, [], ◌∷◌, ◌++◌, length, drop, get_or, Option, Ok, refl, ap, ◌∙◌, subst, arith}
 use Rattle.std.specs.Prelude.{IsOk}
 use Rattle.std.specs.Option.{option_map}
 use Rattle.std.specs.Str.Lines.{lines}
 use Rattle.std.specs.Io.KnownBytes.{Appends}
-use Rattle.std.proofs.lemmas.List.{drop_more, length-drop, drop_all}
+use Rattle.std.proofs.lemmas.List.{drop_more, length-drop}
 use Rattle.hex.specs.Hex.{decode_of}
 use Rattle.rtp_base.specs.Window.{Numbers}
 use Rattle.rtp_ext.specs.declared.map.ExtensionMap.{ExtensionMap}

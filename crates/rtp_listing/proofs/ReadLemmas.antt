@@ -1,6 +1,6 @@
 -- The whole input: its front and its rest.
 use Rattle.std.proofs.Common.{◌≡◌, ℕ, List, [], ◌∷◌, ◌++◌, length, drop, Result, Ok, Err, refl, sym, ap, ◌∙◌, subst, arith, append_assoc, length-append, Bool, true, false}
-use Rattle.std.specs.Prelude.{◌==◌, IsErr, IsErrAnd, IfErr, Option, Some, None, IfSome, if◌then◌else◌, ◌%◌}
+use Rattle.std.specs.Prelude.{◌==◌, IsErr, Option, Some, None, IfSome, if◌then◌else◌, ◌%◌}
 use Rattle.std.specs.Str.Lines.{lines}
 use Rattle.hex.specs.Hex.{decode_of, decode_pairs}
 use Rattle.hex.specs.declared.error.FromHexError.{FromHexError}

@@ -1,8 +1,11 @@
 -- Numbers in decimal, by several of their last digits.
-use Rattle.std.proofs.Common.{◌≡◌, ℕ, ◌+◌, ◌/◌, ◌%◌, ◌<◌, ◌≤◌, ◌^◌, List, [], ◌∷◌, ◌++◌, refl, sym, ap, ◌∙◌, arith, append_assoc}
+use Rattle.std.proofs.Common.{◌≡◌, ℕ, ◌+◌, ◌/◌, ◌%◌, ◌<◌, ◌≤◌, ◌^◌, List, [], ◌∷◌, ◌++◌, refl, sym, ap, ◌∙◌, arith, append_assoc, ◌*◌, Bool, true, false, zero, suc, get_or, eqb, inl, inr}
+use Rattle.std.specs.Prelude.{◌&&◌}
 use Rattle.std.specs.Fmt.{decimal}
+use Rattle.std.proofs.lemmas.Bool.{eqb-true, cases_lt}
 use Rattle.std.proofs.lemmas.Fmt.{decimal_digit, decimal_step}
 use Rattle.rtp_listing.specs.Digits.{two_digits, four_digits}
+use Rattle.rtp_listing.specs.declared.text.TheConstants.{TWO_DIGITS}
 
 -- what is put behind a text in two steps
 pub in_two : (old between new a b all : List ℕ) → between ≡ old ++ a → new ≡ between ++ b → all ≡ a ++ b → new ≡ old ++ all
@@ -43,3 +46,27 @@ decimal_more_eight n some fits =
     ∙ ap (λ (m : ℕ). decimal m ++ (four_digits (n / 10000 % 10000) ++ four_digits (n % 10000))) (omega arith)
     ∙ ap (λ (d : ℕ). decimal (n / 100000000) ++ (four_digits d ++ four_digits (n % 10000))) (omega arith)
     ∙ ap (λ (d : ℕ). decimal (n / 100000000) ++ (four_digits (n % 100000000 / 10000) ++ four_digits d)) (omega arith)
+
+-- the first n entries of the table are the two digits of each number below n
+abbrev holds_digits : ℕ → Bool
+holds_digits zero = true
+holds_digits (suc n) = (eqb (get_or TWO_DIGITS (n * 2) 0) (48 + n / 10) && eqb (get_or TWO_DIGITS (n * 2 + 1) 0) (48 + n % 10)) && holds_digits n
+
+both_true : (a b : Bool) → (a && b) ≡ true → (a ≡ true) × (b ≡ true)
+both_true true b e = (refl, e)
+both_true false b e = absurd (cc e)
+
+digits_below : (n number : ℕ) → holds_digits n ≡ true → number < n → (get_or TWO_DIGITS (number * 2) 0 ≡ 48 + number / 10) × (get_or TWO_DIGITS (number * 2 + 1) 0 ≡ 48 + number % 10)
+digits_below zero number are below = absurd (omega arith)
+digits_below (suc n) number are below =
+    let parts = both_true _ (holds_digits n) are in
+    elim (cases_lt number n) [
+      | inl lower ↦ digits_below n number parts.1 lower
+      | inr last ↦
+          let here : number ≡ n = omega arith in
+          let digits = both_true _ _ parts.0 in
+          rw here (eqb-true _ _ digits.0, eqb-true _ _ digits.1)
+    ]
+
+pub digits_at : (number : ℕ) → number < 100 → (get_or TWO_DIGITS (number * 2) 0 ≡ 48 + number / 10) × (get_or TWO_DIGITS (number * 2 + 1) 0 ≡ 48 + number % 10)
+digits_at number below = digits_below 100 number refl below

@@ -20,14 +20,17 @@ pub(super) fn put_bytes(text: &mut [u8], at: usize, bytes: &[u8]) -> usize
     at + bytes.len()
 }
 
-// Puts a digit behind the text. Requires a number below 10, and room for it.
+// The two digits of each number below 100, one after the other.
+static TWO_DIGITS: [u8; 200] =
+    *b"00010203040506070809101112131415161718192021222324252627282930313233343536373839404142434445464748495051525354555657585960616263646566676869707172737475767778798081828384858687888990919293949596979899";
+
+// Puts a byte behind the text. Requires room for it.
 #[inline(always)]
-fn put_digit(text: &mut [u8], at: usize, number: u32)
-    requires small { number < 10 }
-    requires room { at + 1 ≤ length text.old }
-    ensures { take (at + 1) text.new ≡ take at text.old ++ (48 + number) ∷ [] }
+fn put_byte(text: &mut [u8], at: usize, byte: u8)
+    requires { at + 1 ≤ length text.old }
+    ensures { take (at + 1) text.new ≡ take at text.old ++ byte ∷ [] }
 {
-    text[at] = b'0' + number as u8;
+    text[at] = byte;
 }
 
 // Puts two digits behind the text. Requires a number below 100, and room for them.
@@ -37,8 +40,10 @@ fn put_two(text: &mut [u8], at: usize, number: u32)
     requires room { at + 2 ≤ length text.old }
     ensures { take (at + 2) text.new ≡ take at text.old ++ two_digits number }
 {
-    put_digit(text, at, number / 10);
-    put_digit(text, at + 1, number % 10);
+    let pair = number as usize * 2;
+    let (tens, ones) = (TWO_DIGITS[pair], TWO_DIGITS[pair + 1]);
+    put_byte(text, at, tens);
+    put_byte(text, at + 1, ones);
 }
 
 // Puts four digits behind the text. Requires a number below 10,000, and room for them.
@@ -73,7 +78,7 @@ fn put_below_100(text: &mut [u8], at: usize, number: u32) -> usize
     ensures written { take result text.new ≡ take at text.old ++ decimal number }
 {
     if number < 10 {
-        put_digit(text, at, number);
+        put_byte(text, at, b'0' + number as u8);
         at + 1
     } else {
         put_two(text, at, number);

@@ -1,4 +1,4 @@
-use Rattle.std.proofs.Common.{◌≡◌, ℕ, ◌+◌, ◌-◌, List, length, take, drop, subst, arith, length-drop}
+use Rattle.std.proofs.Common.{◌≡◌, ℕ, ◌+◌, ◌-◌, take, drop, subst, arith, length-drop}
 use Rattle.std.specs.List.{All}
 use Rattle.std.specs.Char.{IsAsciiHexdigit}
 use Rattle.rtp_listing.proofs.HexLineLemmas.{digits_more}

@@ -1,14 +1,13 @@
-use Rattle.std.proofs.Common.{◌≡◌, ℕ, ◌+◌, List, [], ◌++◌, take, Option, refl, sym, ap, ◌∙◌, subst, arith, append-nil}
+use Rattle.std.proofs.Common.{◌≡◌, ◌+◌, [], ◌++◌, take, Option, refl, sym, ap, ◌∙◌, arith, append-nil}
 use Rattle.std.proofs.lemmas.Grind.{common_steps}
 use Rattle.std.proofs.lemmas.List.{nil_from_length}
-use Rattle.std.specs.Io.KnownBytes.{Appends}
 use Rattle.std.proofs.KnownBytes.{Appends-nil, Appends-kept}
 use Rattle.rtp_wire.specs.declared.header.rtp_header.RtpHeader.{RtpHeader}
 use Rattle.rtp_listing.specs.declared.program.RunEnd.TheVariants.{NoMemory, Io}
 use Rattle.rtp_listing.specs.Output.{Prints, packet_lines}
 use Rattle.rtp_listing.specs.Stopping.{IsPartialListing, read_header}
 use Rattle.rtp_listing.proofs.PrintLemmas.{Prints-all, Prints-written, Prints-cut, Prints-nothing, handed_on}
-use Rattle.rtp_listing.proofs.PrintingLemmas.{Printing-none, IsOk-next, Printing-more, Printing-written, Prints-before, all_done}
+use Rattle.rtp_listing.proofs.PrintingLemmas.{Printing-none, IsOk-next, Printing-more, Printing-written, all_done}
 use Rattle.rtp_listing.proofs.printing.print_all.Goals as goal
 
 pub returns-in_err-buffer-clause-err : goal.returns-in_err-buffer-clause-err
