@@ -1,6 +1,7 @@
 //! The receiving side: extended sequence numbers and replay protection.
 
 mod epoch;
+mod hints;
 mod receiver;
 mod receivers;
 mod restarting;

@@ -174,8 +174,13 @@ impl Receivers {
         ensures one_more { receiver_of self.old ssrc ≡ None →
             OnOk result (length self.new.by_source ≡ length self.old.by_source + 1) }
     {
-        if let Some(place) = self.sources.place_of(ssrc) {
-            self.sources.last = place;
+        let sources = &mut self.sources;
+        if let Some(place) = Sources::find(
+            &mut sources.hints,
+            &sources.list,
+            &sources.places,
+            ssrc,
+        ) {
             self.sources.list[place].1.record(number);
             return Ok(());
         }
@@ -232,8 +237,13 @@ impl Receivers {
         ensures one_more { receiver_of self.old ssrc ≡ None →
             OnOk result (length self.new.by_source ≡ length self.old.by_source + 1) }
     {
-        if let Some(place) = self.sources.place_of(ssrc) {
-            self.sources.last = place;
+        let sources = &mut self.sources;
+        if let Some(place) = Sources::find(
+            &mut sources.hints,
+            &sources.list,
+            &sources.places,
+            ssrc,
+        ) {
             return Ok(self.sources.list[place].1.receive(sequence_number));
         }
         let mut added = Receiver::starting_at(self.rollover_count);

@@ -7,18 +7,32 @@ ghost use Rattle.std.specs.BTreeMap.{get, Updates};
 ghost use Rattle.rtp_wire.specs.SourcePlaces.{source_at, held_of, ArePlaces};
 
 use super::Receiver;
+use super::hints::Hints;
 use rtp_base::Ssrc;
 use std::alloc::{AllocError, Global};
 use std::collections::BTreeMap;
+use std::fmt;
 
 // The sources with their receivers, in a list that has any order, and the place of each source in
-// it. Packets come in bursts of one source, so the place of the last one's source is kept, and a
-// source is looked up only where another one stands there.
-#[derive(Debug, Drop)]
+// it. Packets come in bursts of one source, so the place of the last one's source is tried first,
+// then where a hint says, and a source is looked up in the map only where another one stands at
+// both.
+#[derive(Drop)]
 pub(super) struct Sources {
     pub(super) list: Vec<(Ssrc, Receiver)>,
     pub(super) places: BTreeMap<Ssrc, usize>,
-    pub(super) last: usize,
+    pub(super) hints: Hints,
+}
+
+// Hints aren't shown: they say nothing that the list doesn't.
+impl fmt::Debug for Sources {
+    fn fmt<W: fmt::Write>(&self, f: &mut fmt::Formatter<W>) -> fmt::Result {
+        f.debug_struct("Sources")
+            .field("list", &self.list)
+            .field("places", &self.places)
+            .field("last", &self.hints.last)
+            .finish()
+    }
 }
 
 impl Sources {
@@ -30,7 +44,7 @@ impl Sources {
         Sources {
             list: Vec::new(alloc),
             places: BTreeMap::new(alloc),
-            last: 0,
+            hints: Hints::new(alloc),
         }
     }
 
@@ -39,9 +53,64 @@ impl Sources {
         requires { ArePlaces self.now.places self.now.list.items }
         ensures { result ≡ get nat_cmp self.now.places ssrc }
     {
-        match self.list.get(self.last) {
-            Some((source, _)) if *source == ssrc => Some(self.last),
+        let last = self.hints.last;
+        match self.list.get(last) {
+            Some((source, _)) if *source == ssrc => Some(last),
+            _ => self.place_of_another(ssrc),
+        }
+    }
+
+    // The same, where the source isn't the last packet's.
+    fn place_of_another(&self, ssrc: Ssrc) -> Option<usize>
+        requires { ArePlaces self.now.places self.now.list.items }
+        ensures { result ≡ get nat_cmp self.now.places ssrc }
+    {
+        let place = self.hints.place_of(ssrc);
+        match self.list.get(place) {
+            Some((source, _)) if *source == ssrc => Some(place),
             _ => self.places.get(&ssrc).copied(),
+        }
+    }
+
+    // The same for the source of a packet, which then is the last packet's. The hints alone are
+    // lent to be written, so that a caller knows that the rest stays as it is.
+    pub(super) fn find(
+        hints: &mut Hints,
+        list: &Vec<(Ssrc, Receiver)>,
+        places: &BTreeMap<Ssrc, usize>,
+        ssrc: Ssrc,
+    ) -> Option<usize>
+        requires { ArePlaces places.now list.now.items }
+        ensures { result ≡ get nat_cmp places.now ssrc }
+    {
+        match list.get(hints.last) {
+            Some((source, _)) if *source == ssrc => Some(hints.last),
+            _ => Self::find_another(hints, list, places, ssrc),
+        }
+    }
+
+    // The same, where the source isn't the last packet's. What the map says becomes a hint.
+    fn find_another(
+        hints: &mut Hints,
+        list: &Vec<(Ssrc, Receiver)>,
+        places: &BTreeMap<Ssrc, usize>,
+        ssrc: Ssrc,
+    ) -> Option<usize>
+        requires { ArePlaces places.now list.now.items }
+        ensures { result ≡ get nat_cmp places.now ssrc }
+    {
+        let place = hints.place_of(ssrc);
+        match list.get(place) {
+            Some((source, _)) if *source == ssrc => {
+                hints.last = place;
+                Some(place)
+            }
+            _ => {
+                let place = *places.get(&ssrc)?;
+                hints.learn(ssrc, place);
+                hints.last = place;
+                Some(place)
+            }
         }
     }
 
@@ -58,8 +127,10 @@ impl Sources {
         ensures same_places { OnErr result (self.new.places.entries ≡ self.old.places.entries) }
     {
         self.list.reserve(1)?;
-        self.places.insert(ssrc, self.list.len())?;
+        let place = self.list.len();
+        self.places.insert(ssrc, place)?;
         self.list.push_reserved((ssrc, receiver));
+        self.hints.make_room(place);
         Ok(())
     }
 
@@ -83,6 +154,7 @@ impl Sources {
             return None;
         };
         let (_, receiver) = self.list.swap_remove(place);
+        self.hints.clear(ssrc);
         self.renumber(place);
         Some(receiver)
     }
@@ -104,6 +176,7 @@ impl Sources {
         };
         if let Some(found) = self.places.get_mut(source) {
             *found = place;
+            self.hints.put(*source, place);
         }
     }
 }

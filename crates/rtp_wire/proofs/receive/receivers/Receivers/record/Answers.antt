@@ -25,7 +25,7 @@ pub returns-in-Some-clause-one_more : goal.returns-in-Some-clause-one_more
 returns-in-Some-clause-one_more c none = absurd (none-some c.index_mut.result.now.1 (sym none ∙ receiver_read c.self.inside.rollover_count c.self.inside.sources.places c.self.inside.sources.list.items c.args.self.now c.args.ssrc c.self.view_is c.in-Some.place c.index_mut.result.now c.self.invariant.1 (sym c.in-Some.ensures) c.index_mut.ensures.value))
 
 pub add-requires : goal.add-requires
-add-requires c = no_receiver c.self.inside.rollover_count c.self.inside.sources.places c.self.inside.sources.list.items c.args.self.now c.args.ssrc c.self.view_is (sym c.in_default.ensures)
+add-requires c = no_receiver c.self.inside.rollover_count c.self.inside.sources.places c.self.inside.sources.list.items _ c.args.ssrc refl (sym c.in_default.ensures)
 
 pub returns-in-Some-clause-recorded : goal.returns-in-Some-clause-recorded
 returns-in-Some-clause-recorded c count taken holds =

@@ -7,6 +7,6 @@ use Rattle.rtp_wire.proofs.receive.sources.Sources.place_of.Goals as goal
 
 pub returns-in-Some : goal.returns-in-Some
 returns-in-Some c =
-    let below : c.args.self.now.last < length c.args.self.now.list.items = search rules in
-    let same : source_at c.args.self.now.list.items c.args.self.now.last ≡ c.args.ssrc = search rules in
-    sym (subst (λ (s : ℕ). get nat_cmp c.args.self.now.places s ≡ Some c.args.self.now.last) same (c.requires.placed c.args.self.now.last below))
+    let below : c.args.self.now.hints.last < length c.args.self.now.list.items = search rules in
+    let same : source_at c.args.self.now.list.items c.args.self.now.hints.last ≡ c.args.ssrc = search rules in
+    sym (subst (λ (s : ℕ). get nat_cmp c.args.self.now.places s ≡ Some c.args.self.now.hints.last) same (c.requires.placed c.args.self.now.hints.last below))
