@@ -129,12 +129,12 @@ impl ExtensionMap {
 
     /// Maps the id to the extension, unlocked, instead of what it was mapped to. The id 0, which a
     /// map has no room for, changes nothing.
-    // A call, so that what makes a map stays small enough to be made in its place.
     #[inline(never)]
     pub fn set(&mut self, id: u8, ext: Extension)
         ensures within { spec.IsId id → spec.Sets self.old self.new id (spec.unlocked ext) }
         ensures outside { (spec.IsId id → ⊥) → self.new ≡ self.old }
     {
+        // It is a call, so that what makes a map stays small enough to be made in its place.
         if id != 0 {
             self.replace(id, Slot::from(ext));
         }
