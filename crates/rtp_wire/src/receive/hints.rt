@@ -7,7 +7,7 @@ use std::alloc::Global;
 // few sources find their row full, where the SSRCs are spread.
 const ROW: usize = 4;
 
-// With fewer sources the map of their places is one node, and there are no rows.
+// With so few sources before a new one the map of their places is small, and there are no rows.
 const FEW: usize = 4;
 
 // The place of the last packet's source, and rows of hints: an SSRC picks a row, and a hint is the
@@ -40,7 +40,7 @@ impl Hints {
         let mut place = 0;
         if let Some(row) = self.rows.get(self.row_of(ssrc)) {
             for hint in row {
-                if *hint >> 32 == source {
+                if *hint != 0 && *hint >> 32 == source {
                     place = *hint & 0xFFFF_FFFF;
                 }
             }
@@ -61,14 +61,13 @@ impl Hints {
         let Some(row) = self.rows.get_mut(index) else {
             return;
         };
-        for hint in row.iter_mut() {
-            if *hint == 0 || *hint >> 32 == source {
-                *hint = hint_of(ssrc, place);
-                return;
-            }
-        }
-        // The place decides, so that a source of a full row always drives out the same one.
-        row[place % ROW] = hint_of(ssrc, place);
+        let own = row
+            .iter()
+            .position(|hint| *hint != 0 && *hint >> 32 == source);
+        let free = row.iter().position(|hint| *hint == 0);
+        // In a full row the place decides, so that a source always drives out the same one.
+        let index = own.or(free).unwrap_or(place % ROW);
+        row[index] = hint_of(ssrc, place);
     }
 
     // The source has no place any more.
@@ -79,16 +78,16 @@ impl Hints {
             return;
         };
         for hint in row.iter_mut() {
-            if *hint >> 32 == source {
+            if *hint != 0 && *hint >> 32 == source {
                 *hint = 0;
             }
         }
     }
 
-    // Makes room for hints on this many sources, one of which is new: there are half as many rows then or
-    // more. The new rows are empty, and filled as packets come. Sources that never come back, as those of a
-    // flood, ask for no room and drive out no hint: there are more rows only once the map was asked as often
-    // as there are rows. Where memory is refused the old ones stay.
+    // Makes room for hints where a source is added to so many others. There is a row for each of these, once
+    // there are fewer than half as many and the map was asked for sources that it has more often than there
+    // are rows: so sources that never come back, as those of a flood, ask for no room. The new rows are
+    // empty, and filled as packets come. Where memory is refused the old ones stay.
     pub(super) fn make_room(&mut self, sources: usize) {
         let rows = self.rows.len();
         if sources < FEW || self.looked_up <= rows || sources / 2 < rows {
