@@ -60,6 +60,26 @@ fn recorded(rt: HostRuntime) {
     stays(&rt, &receivers, SOURCES);
 }
 
+// Sources that come back, so that hints on their places are made and grow. Where memory for these is refused
+// the calls go on without.
+#[test]
+fn received_again(rt: HostRuntime) {
+    let mut receivers = Receivers::new(rt.alloc());
+    for source in 0..SOURCES {
+        receives(&rt, &mut receivers, source);
+        for before in [source, source / 2] {
+            let again = receivers.receive(Ssrc::from(before), 7);
+            same(
+                &rt,
+                before,
+                again.expect(&rt, "no memory is owed"),
+                Verdict::Refused,
+            );
+        }
+    }
+    stays(&rt, &receivers, SOURCES);
+}
+
 // What is given back for a source that is forgotten, and then for all: nothing is held at the end.
 #[test]
 fn forgotten(rt: HostRuntime) {
