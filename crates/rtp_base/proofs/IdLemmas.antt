@@ -1,14 +1,15 @@
 -- Identifiers as texts filled up with spaces.
-use Rattle.std.proofs.Common.{◌≡◌, ℕ, ◌+◌, ◌-◌, ◌<◌, ◌≤◌, Bool, false, eqb, List, [], ◌∷◌, ◌++◌, length, map, take, drop, get_or, replicate, refl, sym, ap, ◌∙◌, subst, inl, inr, arith, length-append, length-take-le, take_at, drop_at}
+use Rattle.std.proofs.Common.{◌≡◌, ℕ, ◌+◌, ◌-◌, ◌<◌, ◌≤◌, Bool, false, not, cond, eqb, List, [], ◌∷◌, ◌++◌, length, map, take, drop, get_or, replicate, refl, sym, ap, ◌∙◌, subst, inl, inr, arith, length-append, length-take-le, take_at, drop_at}
 use Rattle.std.specs.Prelude.{IsUtf8}
-use Rattle.std.specs.List.{All, position_or_len}
+use Rattle.std.specs.List.{All, position_or_len, count_by}
 use Rattle.std.specs.Char.{is_ascii_alphanumeric}
 use Rattle.std.specs.Str.{chars, IsAscii}
 use Rattle.std.proofs.lemmas.Bool.{ne_eqb, cases_lt, cases_Bool, false≢true}
 use Rattle.std.proofs.lemmas.Bool.Decides.{nat_tests}
 use Rattle.std.proofs.lemmas.List.{get_or_append_left, get_or-append_right, get_or_past, get_or-replicate, length-replicate, length-take, take-append-drop, drop-replicate, take_all}
 use Rattle.std.proofs.lemmas.List.Elements.{All-nil, All-cons, All-take, All-head, All-tail, All-replicate}
-use Rattle.std.proofs.lemmas.List.Sums.{position_or_len_is}
+use Rattle.std.proofs.lemmas.List.Sums.{position_or_len_is, sum_by-cons, sum_by-append}
+use Rattle.std.proofs.lemmas.List.Folds.{sum_by-replicate}
 use Rattle.std.proofs.lemmas.Str.{IsUtf8-from_ascii, chars-IsAscii}
 use Rattle.std.proofs.lemmas.Str.Ascii.{IsAscii-from_all}
 use Rattle.rtp_base.specs.Id.{id_char, id_text, padded, IsIdOf, before_padding, IsIdByte, IsIdArray}
@@ -35,6 +36,28 @@ position-space text spaces is =
     let some : 0 < spaces = omega (arith, length-replicate {A = ℕ} spaces 32) in
     let here : length text - length text ≡ 0 = omega arith in
     rw (get_or-append_right text (replicate spaces 32) (length text) (length text) 0 refl (omega arith), here, get_or-replicate {A = ℕ} spaces 0 32 0 some) refl)
+
+-- a byte of the text, and no padding
+abbrev pub is_kept : ℕ → Bool
+is_kept b = not (eqb b 32)
+
+text-counted : (text : List ℕ) → All IsIdByte text → count_by is_kept text ≡ length text
+text-counted [] is = refl
+text-counted (b ∷ bs) is =
+    let one : ℕ = 1 in
+    let own : cond (is_kept b) 1 0 ≡ one = rw (IsIdByte-no_space b (All-head IsIdByte b bs is)) refl in
+    omega (arith, sum_by-cons (λ (x : ℕ). cond (is_kept x) 1 0) b bs, own, text-counted bs (All-tail IsIdByte b bs is))
+
+-- the bytes of an id that are no spaces are those before the first one
+pub count-text : (bytes : List ℕ) → IsIdArray bytes → count_by is_kept bytes ≡ position_or_len is_space bytes
+count-text bytes is =
+    let text = is.text in
+    let padding = replicate is.spaces 32 in
+    let parts = sum_by-append (λ (x : ℕ). cond (is_kept x) 1 0) text padding in
+    let none = sum_by-replicate (λ (x : ℕ). cond (is_kept x) 1 0) is.spaces 32 in
+    let counted : count_by is_kept (text ++ padding) ≡ length text =
+    omega (arith, parts, none, text-counted text is.text_is) in
+    ap (count_by is_kept) is.bytes_are ∙ counted ∙ sym (position-space text is.spaces is.text_is) ∙ sym (ap (position_or_len is_space) is.bytes_are)
 
 pub before_padding-padded : (text : List ℕ) (spaces : ℕ) → All IsIdByte text → before_padding (text ++ replicate spaces 32) ≡ text
 before_padding-padded text spaces is =

@@ -1,7 +1,7 @@
 //! What `Mid` and `Rid` have in common: texts in a fixed number of bytes.
 
-ghost use Rattle.std.specs.Prelude.{◌≡◌, IsUtf8, ◌≢◌, ℕ, ◌<◌, ◌≤◌, ◌||◌, ◌↔◌, length, take, drop, slice_index, nat_lt, nat_le, IsTrue, map, IsSome, IfSome, IfNone, All, ◌==◌};
-ghost use Rattle.std.specs.List.{position_or_len};
+ghost use Rattle.std.specs.Prelude.{◌≡◌, not, IsUtf8, ◌≢◌, ℕ, ◌<◌, ◌≤◌, ◌||◌, ◌↔◌, length, take, drop, slice_index, nat_lt, nat_le, IsTrue, map, IsSome, IfSome, IfNone, All, ◌==◌};
+ghost use Rattle.std.specs.List.{position_or_len, count_by};
 ghost use Rattle.std.specs.Bool.{OnTrue};
 ghost use Rattle.std.specs.Str.{IsAscii};
 ghost use Rattle.rtp_base.specs.Id.{id_char, id_text, before_padding, IsIdOf, IsIdByte, IsIdArray};
@@ -57,6 +57,9 @@ fn is_id_byte(byte: u8) -> bool
     byte.is_ascii_alphanumeric() || byte == b'_'
 }
 
+// In so few bytes the first space is found as fast as spaces are counted.
+const FEW: usize = 8;
+
 // The index of the first space, which begins the padding.
 fn first_space(bytes: &[u8]) -> Option<usize>
     ensures found { IfSome result (λ index. (index < length bytes.now) × (slice_index bytes.now index ≡ 32)
@@ -75,6 +78,21 @@ fn text_len(bytes: &[u8]) -> usize
         Some(index) => index,
         None => bytes.len(),
     }
+}
+
+// How many of the bytes are no spaces: in an identifier, the length of its text. None ends the loop, so
+// that all bytes are looked at at once.
+#[inline(always)]
+fn count_kept(bytes: &[u8]) -> usize
+    ensures { result ≡ count_by (λ b. not (b == 32)) bytes.now }
+{
+    let mut count = 0;
+    for byte in bytes {
+        if *byte != b' ' {
+            count += 1;
+        }
+    }
+    count
 }
 
 // Whether each byte is a letter, a digit or an underscore.
@@ -177,12 +195,24 @@ impl<const N: usize> IdText<N> {
         IdText { bytes }
     }
 
+    // The length of the text before the padding.
+    #[inline(always)]
+    fn len(&self) -> usize
+        ensures index { result ≡ position_or_len (λ b. b == 32) self.now }
+        ensures within { result ≤ length self.now }
+    {
+        if N <= FEW {
+            return text_len(&self.bytes);
+        }
+        count_kept(&self.bytes)
+    }
+
     // The text before the padding.
     pub(super) fn as_str(&self) -> &str
         ensures text { result.now ≡ before_padding self.now }
         ensures back { IsIdOf N result.now self.now }
     {
-        let text = &self.bytes[..text_len(&self.bytes)];
+        let text = &self.bytes[..self.len()];
         // The bytes of an identifier are ASCII.
         unsafe { str::from_utf8_unchecked(text) }
     }

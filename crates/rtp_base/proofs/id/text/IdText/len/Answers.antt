@@ -1,0 +1,8 @@
+use Rattle.std.proofs.Common.{◌∙◌, ap}
+use Rattle.std.specs.List.{position_or_len}
+use Rattle.rtp_base.proofs.IdLemmas.{count-text, is_space}
+use Rattle.rtp_base.proofs.id.text.IdText.len.Goals as goal
+
+pub returns-clause-index : goal.returns-clause-index
+returns-clause-index g c =
+    c.count_kept.ensures ∙ count-text c.self.inside.bytes c.self.invariant ∙ ap (position_or_len is_space) c.self.view_is
