@@ -6,11 +6,11 @@ ghost use Rattle.rtp_values.specs.KnownKind.{extension_of_kind};
 ghost use Rattle.rtp_ext.specs.declared.form.ExtensionsForm.TheVariants.{OneByte};
 ghost use Rattle.rtp_ext.specs.ElementReading.{elements_left};
 ghost use Rattle.rtp_ext.specs.ElementsInPlace.{CanRenumber};
-ghost use Rattle.rtp_ext.specs.ExtensionMap.{IsLowest, IsUnmapped, extension_at};
+ghost use Rattle.rtp_ext.specs.ExtensionMap.{IsLowest, IsUnmapped, extension_at, items_from};
 ghost use Rattle.rtp_ext.specs.NewIds.{new_id, AreNewIds, CarriesExtensions, AreRenamedIds, id_in_byte, ids_in_bytes};
 ghost use Rattle.rtp_ext.specs.IdChanges.{carries_id};
 
-use super::kinds::Kinds;
+use super::kinds::{Cursor, Kinds};
 use super::{Elements, ExtensionsForm, MAX_ID, MAX_ID_ONE_BYTE_FORM};
 use rtp_values::KnownKind;
 use std::marker::Model;
@@ -51,13 +51,14 @@ fn fits_one_byte_form(byte: u8) -> bool
     byte <= MAX_ID_ONE_BYTE_FORM
 }
 
-// The lowest id that is mapped to the kind.
-fn lowest_id<K: Kinds>(exts: &K, kind: KnownKind) -> Option<u8>
+// The lowest id that is mapped to the kind. The walk is one that `Kinds::start` returned.
+fn lowest_id<K: Kinds>(exts: &K, start: Cursor, kind: KnownKind) -> Option<u8>
+    requires { K.left exts.now start ≡ items_from 0 (K.known exts.now) }
     ensures lowest { IfSome result (IsLowest (K.slots exts.now) (extension_of_kind kind)) }
     ensures some_id { IfSome result (λ id. 1 ≤ id) }
     ensures none { IfNone result (IsUnmapped (K.slots exts.now) (extension_of_kind kind)) }
 {
-    let mut cursor = exts.start();
+    let mut cursor = start;
     while let Some((id, found)) = exts.next(&mut cursor) {
         if found == kind {
             return Some(id);
@@ -66,8 +67,9 @@ fn lowest_id<K: Kinds>(exts: &K, kind: KnownKind) -> Option<u8>
     None
 }
 
-// The lowest id of the second kind, where both are mapped.
-fn lowest_beside<K: Kinds>(exts: &K, from: KnownKind, to: KnownKind) -> Option<u8>
+// The lowest id of the second kind, where both are mapped. The walk is one that `Kinds::start` returned.
+fn lowest_beside<K: Kinds>(exts: &K, start: Cursor, from: KnownKind, to: KnownKind) -> Option<u8>
+    requires { K.left exts.now start ≡ items_from 0 (K.known exts.now) }
     ensures lowest { IfSome result (IsLowest (K.slots exts.now) (extension_of_kind to)) }
     ensures some_id { IfSome result (λ id. 1 ≤ id) }
     ensures beside { IfSome result (λ _. (other : ℕ) ×
@@ -75,8 +77,8 @@ fn lowest_beside<K: Kinds>(exts: &K, from: KnownKind, to: KnownKind) -> Option<u
     ensures none { IfNone result (IsUnmapped (K.slots exts.now) (extension_of_kind from)
         ⊎ IsUnmapped (K.slots exts.now) (extension_of_kind to)) }
 {
-    lowest_id(exts, from)?;
-    lowest_id(exts, to)
+    lowest_id(exts, start, from)?;
+    lowest_id(exts, start, to)
 }
 
 // What stands in the table for an id of this kind, where elements of one kind get the lowest id of
@@ -146,9 +148,10 @@ impl NewIds {
         requires { from ≢ to }
         ensures { AreRenamedIds (K.slots exts.now) (extension_of_kind from) (extension_of_kind to) result }
     {
-        let lowest = lowest_beside(exts, from, to);
+        let start = exts.start();
+        let lowest = lowest_beside(exts, start, from, to);
         let mut ids = same_ids();
-        let mut cursor = exts.start();
+        let mut cursor = start;
         while let Some((id, kind)) = exts.next(&mut cursor) {
             ids[usize::from(id)] = renamed(id, kind, from, to, lowest);
         }

@@ -6,7 +6,7 @@ use Rattle.rtp_ext.proofs.RenamedIdLemmas.{same_kind, AreLeft-start, AreLeft-nex
 use Rattle.rtp_ext.proofs.new_ids.lowest_id.Goals as goal
 
 pub loop-id-init : goal.loop-id-init
-loop-id-init g c = AreLeft-start _ _ _ c.start-cursor.ensures.all
+loop-id-init g c = AreLeft-start _ _ _ c.requires
 
 pub returns-then-eq-clause-lowest : goal.returns-then-eq-clause-lowest
 returns-then-eq-clause-lowest g c =

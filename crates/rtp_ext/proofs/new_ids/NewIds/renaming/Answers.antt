@@ -3,7 +3,7 @@ use Rattle.rtp_ext.proofs.RenamedIdLemmas.{HasRenamedBut-start, HasRenamedBut-ne
 use Rattle.rtp_ext.proofs.new_ids.NewIds.renaming.Goals as goal
 
 pub loop-id-init : goal.loop-id-init
-loop-id-init g c = HasRenamedBut-start (g.K.Kinds.known c.args.exts.now) c.args.from c.args.to c.lowest_beside-lowest.result _ c.same_ids-ids.result c.start-cursor.ensures.all (search rules) c.same_ids-ids.ensures
+loop-id-init g c = HasRenamedBut-start (g.K.Kinds.known c.args.exts.now) c.args.from c.args.to c.lowest_beside-lowest.result _ c.same_ids-ids.result c.start-start.ensures.all (search rules) c.same_ids-ids.ensures
 
 pub loop-id-preserved : goal.loop-id-preserved
 loop-id-preserved g c =
