@@ -57,7 +57,10 @@ impl RtpHeader {
         let Ok((packet, true)) = RtpPacket::read(buf) else {
             return Ok(None);
         };
-        let header = packet.header(alloc, exts)?;
+        // As `RtpPacket::header` does it, whose result would be moved once more.
+        let mut header = RtpHeader::default();
+        packet.put_fields(&mut header);
+        packet.read_values(alloc, exts, &mut header.ext_vals)?;
         Ok(Some(header))
     }
 
