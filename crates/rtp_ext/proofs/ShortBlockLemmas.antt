@@ -1,24 +1,26 @@
--- The elements of the one-byte form are short.
-use Rattle.std.proofs.Common.{◌≡◌, ℕ, ◌*◌, ◌≤◌, List, [], ◌∷◌, length, length-append, Bool, false, Option, Some, None, sym, ap, ◌∙◌, arith}
+-- The elements of the one-byte form are short, and so are those of the two-byte form without a layer allocation.
+use Rattle.std.proofs.Common.{◌≡◌, ℕ, ◌+◌, ◌*◌, ◌≤◌, List, [], ◌∷◌, length, length-append, Bool, false, Option, Some, None, sym, ap, ◌∙◌, arith}
 use Rattle.std.specs.Prelude.{IfSome, nat_lt}
 use Rattle.std.specs.List.{list_any}
 use Rattle.std.proofs.lemmas.Bool.{or_parts}
-use Rattle.rtp_ext.specs.declared.form.ExtensionsForm.TheVariants.{OneByte}
+use Rattle.rtp_ext.specs.declared.form.ExtensionsForm.TheVariants.{OneByte, TwoByte}
 use Rattle.rtp_values.specs.declared.kind.Extension.{Extension}
+use Rattle.rtp_values.specs.declared.kind.Extension.TheVariants.{VideoLayersAllocation}
+use Rattle.rtp_values.specs.declared.known_kind.KnownKind.{KnownKind}
+use Rattle.rtp_values.specs.declared.known_kind.KnownKind.TheVariants as known
+use Rattle.rtp_values.specs.contracts.known_kind.KnownKindPartialEq.TheImpl as kind_eq
+use Rattle.rtp_values.specs.KnownKind.{extension_of_kind}
 use Rattle.rtp_values.specs.declared.value.values.ExtensionValues.{ExtensionValues}
 use Rattle.rtp_values.specs.Spelling.{spelled_data, longest}
 use Rattle.rtp_ext.specs.Elements.{Element, elements_bytes}
 use Rattle.rtp_ext.specs.ElementWriting.{element_or_nothing, items_bytes}
 use Rattle.rtp_ext.specs.ExtensionMap.{Slots, items_from}
 use Rattle.rtp_ext.specs.KindsById.{known_slots, is_long_item}
-use Rattle.rtp_ext.specs.WrittenBlock.{TakesAtMost17Each}
-use Rattle.rtp_ext.proofs.FormLemmas.{Item, at_most}
+use Rattle.rtp_ext.specs.WrittenBlock.{TakesAtMost17Each, HasFewData, written_elements}
+use Rattle.rtp_ext.proofs.FormLemmas.{Item, at_most, long_kind}
 use Rattle.rtp_ext.proofs.KnownItemsLemmas.{written_known, count_known}
+use Rattle.rtp_ext.proofs.CursorLemmas.{known_bytes}
 use Rattle.rtp_ext.proofs.WrittenBlockLemmas.{items_bytes-nil, items_bytes-cons, items_bytes-written}
-
--- only a layer allocation has data of more than 16 bytes
-abbrev pub HasFewData : ExtensionValues → Type 0
-HasFewData values = (kind : Extension) → IfSome (spelled_data kind values) (λ bytes. length bytes ≤ longest kind)
 
 short-element : (id : ℕ) (kind : Extension) (bytes : Option (List ℕ)) → IfSome bytes (λ b. length b ≤ longest kind) → is_long_item (id, kind) ≡ false
     → length (element_or_nothing OneByte id bytes) ≤ 17
@@ -50,3 +52,82 @@ short_block exts values long is short few =
 pub short_known : (exts known : Slots) (values : ExtensionValues) → known ≡ known_slots exts → TakesAtMost17Each known values → TakesAtMost17Each exts values
 short_known exts known values is short =
     omega (arith, short, count_known exts known is, ap (λ (elements : List Element). length (elements_bytes OneByte elements)) (written_known exts known values is))
+
+-- ---- the two-byte form
+
+plain-element : (id : ℕ) (bytes : Option (List ℕ)) → IfSome bytes (λ b. length b ≤ 16) → length (element_or_nothing TwoByte id bytes) ≤ 18
+plain-element id None few = omega arith
+plain-element id (Some bytes) few = omega (arith, few)
+
+-- where no layer allocation is written
+few-plain : (kind : Extension) (values : ExtensionValues) → HasFewData values → spelled_data VideoLayersAllocation values ≡ None
+    → IfSome (spelled_data kind values) (λ b. length b ≤ 16)
+few-plain VideoLayersAllocation values few none = rw none tt
+few-plain kind values few none = few kind
+
+plain-items : (values : ExtensionValues) (items : List Item) → HasFewData values → spelled_data VideoLayersAllocation values ≡ None
+    → length (items_bytes TwoByte values items) ≤ 18 * length items
+plain-items values [] few none = omega (arith, ap length (items_bytes-nil TwoByte values))
+plain-items values (item ∷ items) few none =
+    omega (
+      arith,
+      ap length (items_bytes-cons TwoByte values item items),
+      length-append (element_or_nothing TwoByte item.0 (spelled_data item.1 values)) (items_bytes TwoByte values items),
+      plain-element item.0 (spelled_data item.1 values) (few-plain item.1 values few none),
+      plain-items values items few none,
+    )
+
+pub plain_block : (exts known : Slots) (values : ExtensionValues) (most : ℕ) → known ≡ known_slots exts → HasFewData values
+    → spelled_data VideoLayersAllocation values ≡ None → length (items_from 0 known) ≤ most
+    → length (elements_bytes TwoByte (written_elements exts values)) ≤ 18 * most
+plain_block exts known values most is few none fits =
+    omega (arith, plain-items values (items_from 0 known) few none, ap length (known_bytes TwoByte exts known values is), fits)
+
+pub short_by : (exts known : Slots) (values : ExtensionValues) (most : ℕ) → known ≡ known_slots exts → TakesAtMost17Each known values
+    → length (items_from 0 known) ≤ most → length (elements_bytes OneByte (written_elements exts values)) ≤ 17 * most
+short_by exts known values most is short fits =
+    omega (arith, short, fits, ap (λ (elements : List Element). length (elements_bytes OneByte elements)) (written_known exts known values is))
+
+-- ---- by the kinds alone
+
+-- the most bytes that the element of a kind has
+abbrev pub most_of : Extension → ℕ
+most_of kind = 2 + longest kind
+
+full-element : (id : ℕ) (kind : Extension) (bytes : Option (List ℕ)) → IfSome bytes (λ b. length b ≤ longest kind)
+    → length (element_or_nothing TwoByte id bytes) ≤ most_of kind
+full-element id kind None few = omega arith
+full-element id kind (Some bytes) few = omega (arith, few)
+
+pub full-items : (values : ExtensionValues) (item : Item) (items : List Item) → HasFewData values
+    → length (items_bytes TwoByte values (item ∷ items)) ≤ most_of item.1 + length (items_bytes TwoByte values items)
+full-items values item items few =
+    omega (
+      arith,
+      ap length (items_bytes-cons TwoByte values item items),
+      length-append (element_or_nothing TwoByte item.0 (spelled_data item.1 values)) (items_bytes TwoByte values items),
+      full-element item.0 item.1 (spelled_data item.1 values) (few item.1),
+    )
+
+pub long_most : (kind : KnownKind) → most_of (extension_of_kind kind) ≤ 257
+long_most known.VideoLayersAllocation = omega arith
+long_most _ = omega arith
+
+pub short_most : (kind : KnownKind) → (kind_eq.ghosts).eq kind known.VideoLayersAllocation ≡ false → most_of (extension_of_kind kind) ≤ 18
+short_most kind other = omega (arith, at_most 16 (longest (extension_of_kind kind)) (sym (long_kind kind) ∙ other))
+
+-- one more element is left behind
+pub most-next : (values : ExtensionValues) (all left more : List Item) (id most own : ℕ) (kind : KnownKind) → HasFewData values
+    → left ≡ (id, extension_of_kind kind) ∷ more → most_of (extension_of_kind kind) ≤ own
+    → length (items_bytes TwoByte values all) ≤ most + length (items_bytes TwoByte values left)
+    → length (items_bytes TwoByte values all) ≤ most + own + length (items_bytes TwoByte values more)
+most-next values all left more id most own kind few next fits before =
+    let parted = ap (λ (items : List Item). length (items_bytes TwoByte values items)) next in
+    omega (arith, before, parted, full-items values (id, extension_of_kind kind) more few, fits)
+
+pub most-end : (exts known : Slots) (values : ExtensionValues) (left : List Item) (most : ℕ) → known ≡ known_slots exts → left ≡ []
+    → length (items_bytes TwoByte values (items_from 0 known)) ≤ most + length (items_bytes TwoByte values left)
+    → length (elements_bytes TwoByte (written_elements exts values)) ≤ most
+most-end exts known values left most is none before =
+    let gone = ap (λ (items : List Item). length (items_bytes TwoByte values items)) none in
+    omega (arith, before, gone, ap length (items_bytes-nil TwoByte values), ap length (known_bytes TwoByte exts known values is))

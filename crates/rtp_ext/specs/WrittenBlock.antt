@@ -1,5 +1,5 @@
 -- The elements of a block as they are written (RFC 8285, 4.2 and 4.3).
-use Rattle.std.specs.Prelude.{ℕ, ◌+◌, ◌-◌, ◌*◌, ◌≤◌, ◌/◌, ◌%◌, List, [], ◌∷◌, ◌++◌, length, replicate, Bool, ◌||◌, nat_lt, if◌then◌else◌}
+use Rattle.std.specs.Prelude.{ℕ, ◌+◌, ◌-◌, ◌*◌, ◌≤◌, ◌/◌, ◌%◌, List, [], ◌∷◌, ◌++◌, length, replicate, Bool, ◌||◌, nat_lt, if◌then◌else◌, IfSome}
 use Rattle.std.specs.Option.{option_map}
 use Rattle.std.specs.List.{filter_map, list_any}
 use Rattle.std.specs.Int.{w16, to_be_bytes}
@@ -25,6 +25,10 @@ needs_two values item = nat_lt 14 item.0 || (nat_lt 16 (longest item.1) || has_n
 -- the two-byte form exactly where a mapped id needs it
 abbrev pub form_of : Slots → ExtensionValues → ExtensionsForm
 form_of exts values = if list_any (needs_two values) (items_from 0 exts) then TwoByte else OneByte
+
+-- only a layer allocation has data of more than 16 bytes
+abbrev pub HasFewData : ExtensionValues → Type 0
+HasFewData values = (kind : Extension) → IfSome (spelled_data kind values) (λ bytes. length bytes ≤ longest kind)
 
 -- the elements of the one-byte form have at most 17 bytes for each mapped id
 abbrev pub TakesAtMost17Each : Slots → ExtensionValues → Type 0

@@ -7,12 +7,13 @@ ghost use Rattle.rtp_ext.specs.Elements.{AreElements, elements_bytes};
 ghost use Rattle.rtp_ext.specs.ExtensionMap.{items_from, mapped_count};
 ghost use Rattle.rtp_ext.specs.ElementWriting.{element_header, element_or_nothing, CanCarry, IsCarried};
 ghost use Rattle.rtp_values.specs.Spelling.{spelled_data};
+ghost use Rattle.rtp_values.specs.declared.value.values.ExtensionValues.{ExtensionValues};
 ghost use Rattle.rtp_values.specs.KnownKind.{extension_of_kind};
 ghost use Rattle.rtp_ext.specs.KindsById.{known_slots, has_empty};
 ghost use Rattle.rtp_base.specs.Overwriting.{overwritten};
 ghost use Rattle.rtp_ext.specs.BlockValues.{AreValues};
 ghost use Rattle.rtp_values.specs.Values.{no_values};
-ghost use Rattle.rtp_ext.specs.WrittenBlock.{written_elements, form_of, needs_two, image_values, TakesAtMost17Each};
+ghost use Rattle.rtp_ext.specs.WrittenBlock.{written_elements, form_of, needs_two, image_values, HasFewData, TakesAtMost17Each};
 
 use super::form::{header_len, write_header};
 use super::kinds::{Cursor, Kinds};
@@ -88,11 +89,13 @@ fn needs_two_bytes<K: Kinds, V: ElementValues>(kinds: &K, start: Cursor, ev: &V)
     ensures needed { result
         ≡ list_any (needs_two (V.values ev.now)) (items_from 0 (K.slots kinds.now)) }
     ensures short { result ≡ false → TakesAtMost17Each (K.known kinds.now) (V.values ev.now) }
+    ensures few { HasFewData (V.values ev.now) }
 {
+    let has_empty = ev.has_empty_text();
     if kinds.has_long(start) {
         return true;
     }
-    ev.has_empty_text() && has_empty_data(kinds, start, ev)
+    has_empty && has_empty_data(kinds, start, ev)
 }
 
 /// The form that a block of these values needs under any map, as [`ExtensionMap::form`] has it. The
@@ -102,11 +105,60 @@ pub fn values_form<K: Kinds, V: ElementValues>(kinds: &K, start: Cursor, ev: &V)
     requires { K.left kinds.now start ≡ items_from 0 (K.known kinds.now) }
     ensures form { result ≡ form_of (K.slots kinds.now) (V.values ev.now) }
     ensures short { result ≡ OneByte → TakesAtMost17Each (K.known kinds.now) (V.values ev.now) }
+
+    // Only a layer allocation has data of more than 16 bytes.
+    ensures few { HasFewData (V.values ev.now) }
 {
     if needs_two_bytes(kinds, start, ev) {
         ExtensionsForm::TwoByte
     } else {
         ExtensionsForm::OneByte
+    }
+}
+
+// At most how many bytes the elements of the two-byte form take, by their kinds alone: only a layer
+// allocation has data of more than 16 bytes.
+fn most_in_two_byte_form<K: Kinds>(kinds: &K, start: Cursor) -> usize
+    requires start { K.left kinds.now start ≡ items_from 0 (K.known kinds.now) }
+    requires few { length (items_from 0 (K.known kinds.now)) ≤ 255 }
+    ensures most { (values : ExtensionValues) → HasFewData values →
+        length (elements_bytes TwoByte (written_elements (K.slots kinds.now) values)) ≤ result }
+    ensures bound { result ≤ 65535 }
+{
+    let mut cursor = start;
+    let mut most = 0;
+    while let Some((_, kind)) = kinds.next(&mut cursor) {
+        most += if kind == KnownKind::VideoLayersAllocation {
+            257
+        } else {
+            18
+        };
+    }
+    most
+}
+
+/// An upper bound of how many bytes [`write_values`] writes in the form, told by the mapped kinds and by
+/// whether there are layers, so that no other value is looked at. The walk is one that
+/// [`Kinds::start`] returned, and the form what [`values_form`] returned.
+#[inline(always)]
+pub fn values_len_at_most<K: Kinds, V: ElementValues>(
+    kinds: &K,
+    start: Cursor,
+    ev: &V,
+    form: ExtensionsForm,
+) -> usize
+    requires start { K.left kinds.now start ≡ items_from 0 (K.known kinds.now) }
+    requires few_ids { length (items_from 0 (K.known kinds.now)) ≤ 255 }
+    requires short { form ≡ OneByte → TakesAtMost17Each (K.known kinds.now) (V.values ev.now) }
+    requires few { HasFewData (V.values ev.now) }
+    ensures most { length
+        (elements_bytes form (written_elements (K.slots kinds.now) (V.values ev.now))) ≤ result }
+    ensures bound { result ≤ 65535 }
+{
+    match form {
+        ExtensionsForm::OneByte => 17 * kinds.at_most(start),
+        ExtensionsForm::TwoByte if ev.has_layers() => most_in_two_byte_form(kinds, start),
+        ExtensionsForm::TwoByte => 18 * kinds.at_most(start),
     }
 }
 

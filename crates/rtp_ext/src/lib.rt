@@ -19,7 +19,7 @@ mod raw_writing;
 mod slots;
 mod widening;
 
-pub use block_elements::{values_form, values_len, write_values};
+pub use block_elements::{values_form, values_len, values_len_at_most, write_values};
 pub use block_values::{read_layers, read_values};
 pub use element_list::ElementList;
 pub use elements::Elements;

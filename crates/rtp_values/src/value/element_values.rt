@@ -1,8 +1,9 @@
 //! What the elements of a block are written from.
 
-ghost use Rattle.std.specs.Prelude.{◌≡◌, ◌≤◌, [], ◌++◌, drop, length, unwrap_or, IfSome};
+ghost use Rattle.std.specs.Prelude.{◌≡◌, ◌≤◌, [], ◌++◌, drop, length, unwrap_or, false, None, is_some, IfSome};
 ghost use Rattle.std.specs.Option.{option_map};
 ghost use Rattle.rtp_values.specs.declared.kind.Extension.{Extension};
+ghost use Rattle.rtp_values.specs.declared.kind.Extension.TheVariants.{VideoLayersAllocation};
 ghost use Rattle.rtp_values.specs.KnownKind.{extension_of_kind};
 ghost use Rattle.rtp_values.specs.Values.{Reads};
 ghost use Rattle.rtp_values.specs.Spelling.{has_no_data, has_empty_text, spelled_data, carried_values, longest, HasRoom};
@@ -26,6 +27,14 @@ pub trait ElementValues {
         // Only a layer allocation has data of more than 16 bytes.
         ensures few { (kind : Extension) → IfSome (spelled_data kind (values self.now)) (λ bytes.
             length bytes ≤ longest kind) };
+
+    /// Whether a layer allocation may be written. `false` only where none is.
+    fn has_layers(&self) -> bool
+        ensures { result ≡ false
+            → spelled_data VideoLayersAllocation (values self.now) ≡ None }
+    {
+        true
+    }
 
     /// Whether [`write_data`](Self::write_data) writes data of no bytes, which only a text can
     /// have.
@@ -63,6 +72,14 @@ impl ElementValues for ExtensionValues {
     #[inline(always)]
     fn has_empty_text(&self) -> bool {
         ExtensionValues::has_empty_text(self)
+    }
+
+    #[inline(always)]
+    fn has_layers(&self) -> bool
+        ensures exact { result ≡ is_some self.now.video_layers_allocation }
+        ensures none { result ≡ false → spelled_data VideoLayersAllocation self.now ≡ None }
+    {
+        self.video_layers_allocation.is_some()
     }
 
     #[inline(always)]

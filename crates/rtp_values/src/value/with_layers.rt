@@ -1,5 +1,9 @@
 //! Values whose layer allocation is in a value of fixed size.
 
+ghost use Rattle.std.specs.Prelude.{◌≡◌, false, None, is_some};
+ghost use Rattle.rtp_values.specs.Spelling.{spelled_data};
+ghost use Rattle.rtp_values.specs.declared.kind.Extension.TheVariants.{VideoLayersAllocation};
+
 use super::{ElementValues, ExtensionValues, video_layers_allocation};
 use crate::KnownKind;
 use rtp_vla::vla::VideoLayers;
@@ -22,6 +26,15 @@ impl<'a> ElementValues for WithLayers<'a> {
     #[inline(always)]
     fn has_empty_text(&self) -> bool {
         self.values.has_empty_text()
+    }
+
+    #[inline(always)]
+    fn has_layers(&self) -> bool
+        ensures exact { result ≡ is_some self.now.layers }
+        ensures none { result ≡ false
+            → spelled_data VideoLayersAllocation (values_with_layers self.now) ≡ None }
+    {
+        self.layers.is_some()
     }
 
     // The data of an allocation are never empty.

@@ -9,7 +9,7 @@ ghost use Rattle.rtp_ext.specs.Elements.{AreElements, elements_bytes};
 ghost use Rattle.rtp_ext.specs.ElementsInARow.{form_given, AreWritableIn, AreNotWritableIn};
 ghost use Rattle.rtp_wire.specs.Header.{IsExtensionPart};
 ghost use Rattle.rtp_wire.specs.WrittenWith.{body_with};
-ghost use Rattle.rtp_ext.specs.WrittenBlock.{TakesAtMost17Each, form_of, block_of, filled, image_values, whole_words};
+ghost use Rattle.rtp_ext.specs.WrittenBlock.{TakesAtMost17Each, HasFewData, form_of, block_of, filled, image_values, whole_words};
 ghost use Rattle.rtp_wire.specs.WrittenInForm.{block_bytes_in, IsWithinMap};
 ghost use Rattle.rtp_ext.specs.ExtensionMap.{items_from};
 ghost use Rattle.rtp_ext.specs.declared.form.ExtensionsForm.TheVariants.{OneByte};
@@ -17,14 +17,11 @@ ghost use Rattle.rtp_ext.specs.declared.form.ExtensionsForm.TheVariants.{OneByte
 use rtp_base::put;
 use rtp_ext::{
     Cursor, ElementList, ElementValues, ExtensionsForm, Kinds, put_elements, values_len,
-    write_values,
+    values_len_at_most, write_values,
 };
 
 // How many bytes stand before a block's body.
 const HEADER_LEN: usize = 4;
-
-// The most bytes that an element of the one-byte form has (RFC 8285, 4.2).
-const MAX_LEN_ONE_BYTE_FORM: usize = 17;
 
 // The four bytes before a body of `words` words.
 fn block_header(form: ExtensionsForm, words: u16) -> [u8; HEADER_LEN]
@@ -66,8 +63,8 @@ pub(super) fn block_len<K: Kinds, V: ElementValues>(
     HEADER_LEN + elements_len.next_multiple_of(4)
 }
 
-// Whether the block that `write_block` writes has room. In the one-byte form most buffers have it
-// whatever the values are, so that no length is asked for.
+// Whether the block that `write_block` writes has room. Most buffers have it whatever the values are,
+// so that no length is asked for.
 #[inline(always)]
 pub(super) fn block_fits<K: Kinds, V: ElementValues>(
     kinds: &K,
@@ -79,11 +76,12 @@ pub(super) fn block_fits<K: Kinds, V: ElementValues>(
     requires start { K.left kinds.now start ≡ items_from 0 (K.known kinds.now) }
     requires few_ids { length (items_from 0 (K.known kinds.now)) ≤ 255 }
     requires short { form ≡ OneByte → TakesAtMost17Each (K.known kinds.now) (V.values ev.now) }
+    requires few { HasFewData (V.values ev.now) }
     ensures { IsTrue result
         ↔ (length (block_bytes_in form (K.slots kinds.now) (V.values ev.now)) ≤ room) }
 {
-    let most = MAX_LEN_ONE_BYTE_FORM * kinds.at_most(start);
-    if form == ExtensionsForm::OneByte && HEADER_LEN + most + 3 <= room {
+    let most = values_len_at_most(kinds, start, ev, form);
+    if HEADER_LEN + most + 3 <= room {
         return true;
     }
     block_len(kinds, start, form, ev) <= room

@@ -3,7 +3,7 @@
 ghost use Rattle.std.specs.Prelude.{◌≡◌, ℕ, ◌+◌, ◌*◌, ◌%◌, ◌<◌, ◌≤◌, ◌↔◌, ◌++◌, List, length, drop, Some, IsTrue, IsNone, IfSome, IfNone};
 ghost use Rattle.rtp_ext.specs.declared.form.ExtensionsForm.TheVariants.{OneByte};
 ghost use Rattle.rtp_ext.specs.ExtensionMap.{items_from, mapped_count, HasNoIdAbove};
-ghost use Rattle.rtp_ext.specs.WrittenBlock.{TakesAtMost17Each, whole_words};
+ghost use Rattle.rtp_ext.specs.WrittenBlock.{TakesAtMost17Each, HasFewData, whole_words};
 ghost use Rattle.rtp_wire.specs.Header.{IsWire};
 ghost use Rattle.rtp_wire.specs.Written.{extension_bytes, wire_bytes, image_of, with_values, CannotBeWritten};
 ghost use Rattle.rtp_wire.specs.WrittenInForm.{announced_form, IsWithinMap};
@@ -83,6 +83,7 @@ impl RtpHeader {
             ≡ announced_form (K.slots kinds.now) self.now.has_extension (V.values values.now) }
         ensures short { result ≡ Some OneByte
             → TakesAtMost17Each (K.known kinds.now) (V.values values.now) }
+        ensures few { IfSome result (λ _. HasFewData (V.values values.now)) }
     {
         if !self.has_extension {
             return None;
@@ -107,6 +108,7 @@ impl RtpHeader {
             ≡ announced_form (K.slots kinds.now) self.now.has_extension (V.values values.now) }
         requires short { form ≡ Some OneByte
             → TakesAtMost17Each (K.known kinds.now) (V.values values.now) }
+        requires few { IfSome form (λ _. HasFewData (V.values values.now)) }
         ensures { IsTrue result ↔ (length
             (wire_bytes (K.slots kinds.now) (with_values self.now (V.values values.now))) ≤ room) }
     {

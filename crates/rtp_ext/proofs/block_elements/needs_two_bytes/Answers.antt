@@ -9,27 +9,27 @@ returns-then-has_long-clause-needed g c =
     sym (needs_two_by (g.K.Kinds.slots c.args.kinds.now) (g.K.Kinds.known c.args.kinds.now) (g.V.ElementValues.values c.args.ev.now) true (g.met.K.Kinds.known_is c.args.kinds.now)
     (sym c.if-has_long.true ∙ c.has_long.ensures))
 
-pub returns-then-has_empty_text-clause-needed : goal.returns-then-has_empty_text-clause-needed
-returns-then-has_empty_text-clause-needed g c =
+pub returns-then-has_empty-clause-needed : goal.returns-then-has_empty-clause-needed
+returns-then-has_empty-clause-needed g c =
     c.has_empty_data.ensures
     ∙ sym (needs_two_by (g.K.Kinds.slots c.args.kinds.now) (g.K.Kinds.known c.args.kinds.now) (g.V.ElementValues.values c.args.ev.now) false (g.met.K.Kinds.known_is c.args.kinds.now)
     (sym c.if-has_long.false ∙ c.has_long.ensures))
 
-pub returns-else-has_empty_text-clause-needed : goal.returns-else-has_empty_text-clause-needed
-returns-else-has_empty_text-clause-needed g c =
-    c.if-has_empty_text.false
-    ∙ sym (no_empty (g.V.ElementValues.values c.args.ev.now) (items_from 0 (g.K.Kinds.known c.args.kinds.now)) (sym c.has_empty_text.ensures.empty ∙ c.if-has_empty_text.false))
+pub returns-else-has_empty-clause-needed : goal.returns-else-has_empty-clause-needed
+returns-else-has_empty-clause-needed g c =
+    c.if-has_empty.false
+    ∙ sym (no_empty (g.V.ElementValues.values c.args.ev.now) (items_from 0 (g.K.Kinds.known c.args.kinds.now)) (sym c.has_empty_text-has_empty.ensures.empty ∙ c.if-has_empty.false))
     ∙ sym (needs_two_by (g.K.Kinds.slots c.args.kinds.now) (g.K.Kinds.known c.args.kinds.now) (g.V.ElementValues.values c.args.ev.now) false (g.met.K.Kinds.known_is c.args.kinds.now)
     (sym c.if-has_long.false ∙ c.has_long.ensures))
 
-pub returns-then-has_empty_text-clause-short : goal.returns-then-has_empty_text-clause-short
-returns-then-has_empty_text-clause-short g c = λ none.
+pub returns-then-has_empty-clause-short : goal.returns-then-has_empty-clause-short
+returns-then-has_empty-clause-short g c = λ none.
     short_block (g.K.Kinds.known c.args.kinds.now) (g.V.ElementValues.values c.args.ev.now) false
     (sym (not_long_known (g.K.Kinds.slots c.args.kinds.now) (g.K.Kinds.known c.args.kinds.now) (g.met.K.Kinds.known_is c.args.kinds.now)
-    (sym c.has_long.ensures ∙ c.if-has_long.false))) refl c.has_empty_text.ensures.few
+    (sym c.has_long.ensures ∙ c.if-has_long.false))) refl c.has_empty_text-has_empty.ensures.few
 
-pub returns-else-has_empty_text-clause-short : goal.returns-else-has_empty_text-clause-short
-returns-else-has_empty_text-clause-short g c = λ none.
+pub returns-else-has_empty-clause-short : goal.returns-else-has_empty-clause-short
+returns-else-has_empty-clause-short g c = λ none.
     short_block (g.K.Kinds.known c.args.kinds.now) (g.V.ElementValues.values c.args.ev.now) false
     (sym (not_long_known (g.K.Kinds.slots c.args.kinds.now) (g.K.Kinds.known c.args.kinds.now) (g.met.K.Kinds.known_is c.args.kinds.now)
-    (sym c.has_long.ensures ∙ c.if-has_long.false))) refl c.has_empty_text.ensures.few
+    (sym c.has_long.ensures ∙ c.if-has_long.false))) refl c.has_empty_text-has_empty.ensures.few
