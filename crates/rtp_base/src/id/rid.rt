@@ -1,6 +1,6 @@
 //! The identifier of a stream of a simulcast.
 
-ghost use Rattle.std.specs.Prelude.{◌≡◌, ◌↔◌, IsTrue, IsSome, IfSome, IsUtf8};
+ghost use Rattle.std.specs.Prelude.{◌≡◌, ◌==◌, ◌≤◌, ◌↔◌, length, IsTrue, IsSome, IfSome, IsUtf8};
 ghost use Rattle.rtp_base.specs.Id.{before_padding, IsIdOf, IsIdArray};
 
 use super::text::IdText;
@@ -72,6 +72,15 @@ impl Rid {
         Rid {
             text: IdText::from_array(a),
         }
+    }
+
+    /// Returns whether the text has no characters, as that of [`as_str`](Self::as_str) then.
+    #[inline(always)]
+    pub fn is_empty(&self) -> bool
+        ensures empty { result ≡ (length (before_padding self.now) == 0) }
+        ensures few { length (before_padding self.now) ≤ 8 }
+    {
+        self.text.is_empty()
     }
 
     /// Returns the text without the spaces at its end. It may be empty.

@@ -207,6 +207,18 @@ impl<const N: usize> IdText<N> {
         count_kept(&self.bytes)
     }
 
+    // Whether the text is empty: whether the padding begins at once.
+    #[inline(always)]
+    pub(super) fn is_empty(&self) -> bool
+        ensures empty { result ≡ (length (before_padding self.now) == 0) }
+        ensures few { length (before_padding self.now) ≤ N }
+    {
+        match self.bytes.first() {
+            Some(byte) => *byte == b' ',
+            None => true,
+        }
+    }
+
     // The text before the padding.
     pub(super) fn as_str(&self) -> &str
         ensures text { result.now ≡ before_padding self.now }

@@ -58,7 +58,7 @@ fn is_empty_rid(rid: &Option<Rid>) -> bool
     ensures few { IfSome rid.now (λ id. length (before_padding id) ≤ 16) }
 {
     match rid {
-        Some(rid) => rid.as_str().is_empty(),
+        Some(rid) => rid.is_empty(),
         None => false,
     }
 }
@@ -69,7 +69,7 @@ fn is_empty_mid(mid: &Option<Mid>) -> bool
     ensures few { IfSome mid.now (λ id. length (before_padding id) ≤ 16) }
 {
     match mid {
-        Some(mid) => mid.as_str().is_empty(),
+        Some(mid) => mid.is_empty(),
         None => false,
     }
 }
