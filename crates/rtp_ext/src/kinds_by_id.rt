@@ -116,8 +116,9 @@ impl KindsById {
         ensures none { IfNone result (items_at (slots_of self.now) (drop place (mapped_ids (slots_of self.now))) ≡ []) }
         ensures within { IfSome result (λ _. place < MAX_ID) }
     {
-        let id = self.mapped.at(place)?;
-        Some((id, self.kinds[usize::from(id)]?))
+        let id = *self.mapped.as_slice().get(place)?;
+        // Each listed id is mapped.
+        Some((id, self.kinds[usize::from(id)].unwrap()))
     }
 
     // Whether the one-byte form can't carry a mapped id or the longest data of a mapped kind.

@@ -138,18 +138,6 @@ impl MappedIds {
         }
     }
 
-    // The id at this place, and 0 after the last one. No map has so many ids that it is `None`.
-    pub(super) fn at(&self, place: usize) -> Option<u8>
-        ensures some { IfSome result (λ id. id ≡ slice_index self.now place) }
-        ensures within { IfSome result (λ _. place < MAX_ID) }
-        ensures none { IfNone result (MAX_ID ≤ place) }
-    {
-        if place >= self.ids.len() {
-            return None;
-        }
-        Some(self.ids[place])
-    }
-
     pub(super) fn as_slice(&self) -> &[u8]
         ensures ids { result.now ≡ self.now }
         ensures few { length result.now ≤ MAX_ID }

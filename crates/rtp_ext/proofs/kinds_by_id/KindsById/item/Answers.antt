@@ -1,42 +1,27 @@
-use Rattle.std.proofs.Common.{sym, ap, ◌∙◌, subst, ◌≡◌, ◌≤◌, [], List, ℕ, get_or, arith, length, drop, length-drop, Option, None, IfNone}
-use Rattle.std.proofs.lemmas.List.{length-map, drop_all}
+use Rattle.std.proofs.Common.{◌≡◌, ◌<◌, ℕ, zero, suc, List, [], ◌∷◌, length, get_or, Option, Some, None, refl, sym, ap, ◌∙◌, subst, arith}
+use Rattle.std.specs.Prelude.{IsSome}
+use Rattle.std.specs.List.{AllByRecursion}
 use Rattle.rtp_values.specs.declared.known_kind.KnownKind.{KnownKind}
-use Rattle.rtp_ext.specs.ExtensionMap.{extension_at, items_from}
-use Rattle.rtp_ext.specs.KindsById.{slots_of, entry_of_kind}
-use Rattle.rtp_ext.specs.MapSlots.{items_at, mapped_ids}
-use Rattle.rtp_ext.proofs.ListingLemmas.{length-items_from}
+use Rattle.rtp_ext.specs.ExtensionMap.{Slots}
+use Rattle.rtp_ext.specs.KindsById.{slots_of}
+use Rattle.rtp_ext.specs.MapSlots.{mapped_ids, IsMapped}
+use Rattle.rtp_ext.proofs.KindsByIdLemmas.{kind_there}
 use Rattle.rtp_ext.proofs.MappedIdLemmas.{all_mapped}
-use Rattle.rtp_ext.proofs.CursorLemmas.{items_at-ended}
-use Rattle.rtp_ext.proofs.KindsByIdLemmas.{none_there}
 use Rattle.rtp_ext.proofs.kinds_by_id.KindsById.item.Goals as goal
 
--- no id is left from a place on
-HasNoneFrom : List (Option KnownKind) → ℕ → Type 0
-HasNoneFrom kinds place = items_at (slots_of kinds) (drop place (mapped_ids (slots_of kinds))) ≡ []
+-- one of some mapped ids
+mapped_at : (slots : Slots) (ids : List ℕ) (place d : ℕ) → AllByRecursion (IsMapped slots) ids → place < length ids → IsMapped slots (get_or ids place d)
+mapped_at slots [] place d all below = absurd (omega arith)
+mapped_at slots (id ∷ ids) zero d all below = all.0
+mapped_at slots (id ∷ ids) (suc place) d all below = mapped_at slots ids place d all.1 (omega arith)
 
-pub returns-in_err-id-clause-none : goal.returns-in_err-id-clause-none
-unfolding HasNoneFrom
-returns-in_err-id-clause-none c =
+pub unwrap-requires : goal.unwrap-requires
+unwrap-requires c =
     let kinds = c.self.inside.kinds in
-    let few : length (mapped_ids (slots_of kinds)) ≤ c.args.place = omega (
-      arith,
-      c.in_err-id.ensures.none,
-      length-map (items_from 0 (slots_of kinds)) (λ item. item.0),
-      length-items_from 0 (slots_of kinds),
-      length-map (drop 1 kinds) entry_of_kind,
-      length-drop 1 kinds,
-      c.self.invariant.0,
-    ) in
-    subst (λ (found : Option (ℕ × KnownKind)). IfNone found (HasNoneFrom c.args.self.now c.args.place)) (sym c.from_residual.ensures)
-    (subst (λ ks. HasNoneFrom ks c.args.place) c.self.view_is (ap (items_at (slots_of kinds)) (drop_all c.args.place (mapped_ids (slots_of kinds)) few)))
-
-pub returns-in_err-self-clause-none : goal.returns-in_err-self-clause-none
-unfolding HasNoneFrom
-returns-in_err-self-clause-none c =
-    let kinds = c.self.inside.kinds in
-    let id_is : c.in_ok-id.id ≡ get_or (mapped_ids (slots_of kinds)) c.args.place 0 =
-    c.in_ok-id.ensures.some ∙ ap (λ (ids : List ℕ). get_or ids c.args.place 0) c.self.invariant.2 in
-    subst (λ (found : Option (ℕ × KnownKind)). IfNone found (HasNoneFrom c.args.self.now c.args.place)) (sym c.from_residual-in_err-self.ensures)
-    (subst (λ ks. HasNoneFrom ks c.args.place) c.self.view_is (items_at-ended (slots_of kinds) (mapped_ids (slots_of kinds)) c.args.place (all_mapped (slots_of kinds))
-    (ap (extension_at (slots_of kinds)) (sym id_is)
-    ∙ none_there kinds c.in_ok-id.id (ap (λ k. get_or kinds k None) (sym c.from.ensures) ∙ c.in_err-self.was))))
+    let listed = c.in_ok-id.ensures.lookup in
+    let ids : c.as_slice.result.now ≡ mapped_ids (slots_of kinds) = c.as_slice.ensures.ids ∙ c.self.invariant.2 in
+    let below : c.args.place < length (mapped_ids (slots_of kinds)) = subst (λ (it : List ℕ). c.args.place < length it) ids listed.3.0 in
+    let id : get_or (mapped_ids (slots_of kinds)) c.args.place 0 ≡ c.from.result =
+    ap (λ (it : List ℕ). get_or it c.args.place 0) (sym ids) ∙ sym (listed.3.1 0) ∙ sym c.from.ensures in
+    let found = kind_there kinds c.from.result (subst (IsMapped (slots_of kinds)) id (mapped_at (slots_of kinds) (mapped_ids (slots_of kinds)) c.args.place 0 (all_mapped (slots_of kinds)) below)) in
+    subst (λ (it : Option KnownKind). IsSome it) (sym found.1) refl
