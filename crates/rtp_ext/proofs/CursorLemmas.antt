@@ -1,7 +1,6 @@
 -- A walk over the mapped ids, by a cursor.
-use Rattle.std.proofs.Common.{◌≡◌, ℕ, suc, zero, List, [], ◌∷◌, drop, get_or, None, ap, refl, ◌∙◌, subst}
-use Rattle.std.specs.List.{AllByRecursion}
-use Rattle.rtp_ext.specs.ExtensionMap.{Slots, extension_at, extension_of, items_from}
+use Rattle.std.proofs.Common.{◌≡◌, List, ap, ◌∙◌, subst}
+use Rattle.rtp_ext.specs.ExtensionMap.{Slots, items_from}
 use Rattle.rtp_ext.specs.KindsById.{known_slots}
 use Rattle.rtp_ext.specs.Elements.{Element, elements_bytes}
 use Rattle.rtp_ext.specs.ElementWriting.{items_bytes}
@@ -12,18 +11,7 @@ use Rattle.rtp_ext.specs.declared.form.ExtensionsForm.{ExtensionsForm}
 use Rattle.rtp_values.specs.declared.value.values.ExtensionValues.{ExtensionValues}
 use Rattle.rtp_ext.proofs.WrittenBlockLemmas.{items_bytes-written}
 use Rattle.rtp_ext.proofs.KnownItemsLemmas.{written_known, image_known}
-use Rattle.rtp_ext.specs.MapSlots.{items_at, IsMapped}
 use Rattle.rtp_ext.proofs.KindsByIdLemmas.{AreValues-known}
-
--- ---- by a list of the mapped ids
-
--- none is left
-pub items_at-ended : (slots : Slots) (ids : List ℕ) (at : ℕ) → AllByRecursion (IsMapped slots) ids → extension_at slots (get_or ids at 0) ≡ None
-    → items_at slots (drop at ids) ≡ []
-items_at-ended slots [] zero all none = refl
-items_at-ended slots [] (suc at) all none = refl
-items_at-ended slots (first ∷ ids) zero all none = let found = ap extension_of all.0.1 in cc
-items_at-ended slots (first ∷ ids) (suc at) all none = items_at-ended slots ids at all.1 none
 
 -- ---- what the known extensions write
 

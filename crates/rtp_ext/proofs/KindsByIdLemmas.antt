@@ -86,10 +86,6 @@ pub extension_there : (kinds : List (Option KnownKind)) (id : ℕ) (kind : Known
 extension_there kinds zero kind mapped is = let found = mapped.1 in cc
 extension_there kinds (suc k) kind mapped is = ap extension_of (entry_at-kinds kinds k ∙ ap entry_of_kind is)
 
-pub none_there : (kinds : List (Option KnownKind)) (id : ℕ) → get_or kinds id None ≡ None → extension_at (slots_of kinds) id ≡ None
-none_there kinds zero nothing = refl
-none_there kinds (suc k) nothing = ap extension_of (entry_at-kinds kinds k ∙ ap entry_of_kind nothing)
-
 -- ---- the known extensions of a map
 
 known_alone-known : (extension : Extension) → IsKnown extension → extension_of (known_alone extension) ≡ Some extension

@@ -1,8 +1,7 @@
 -- The places after the mapped ids hold zeros, also once an id was put in.
-use Rattle.std.proofs.Common.{◌≡◌, ℕ, zero, suc, get_or, inl, inr, refl, ◌+◌, ◌-◌, ◌<◌, ◌≤◌, List, length, take, drop, set, replicate, arith, ap, sym, ◌∙◌, length-drop, length-take-le}
+use Rattle.std.proofs.Common.{◌≡◌, ℕ, ◌+◌, ◌-◌, ◌<◌, ◌≤◌, List, length, take, drop, set, replicate, arith, ap, sym, ◌∙◌, length-drop, length-take-le}
 use Rattle.std.specs.List.{copy_within}
-use Rattle.std.proofs.lemmas.Bool.{cases_lt}
-use Rattle.std.proofs.lemmas.List.{drop-drop, drop-replicate, drop-set-lt, length-set, get_or-take, get_or-drop, get_or_past}
+use Rattle.std.proofs.lemmas.List.{drop-drop, drop-replicate, drop-set-lt, length-set}
 use Rattle.std.proofs.lemmas.List.Edits.{drop-paste, length-paste}
 
 -- places for 255 ids, so many of which are taken, and the others hold zeros
@@ -45,19 +44,3 @@ moved_padded ids after at count id padded within room is =
           ∙ ap (λ (n : ℕ). drop n ids) whole
           ∙ zeros_later ids count padded.2,
     )
-
--- the place after the last id reads as 0, as the zeros there do
-all_alike : (n i number : ℕ) → get_or (replicate n number) i number ≡ number
-all_alike zero i number = refl
-all_alike (suc n) zero number = refl
-all_alike (suc n) (suc i) number = all_alike n i number
-
-pub padded_at : (ids listed : List ℕ) (count place : ℕ) → ArePadded ids count → take count ids ≡ listed → get_or ids place 0 ≡ get_or listed place 0
-padded_at ids listed count place padded shows = elim (cases_lt place count) [
-  | inl here ↦ sym (get_or-take count ids place 0 here) ∙ ap (λ (ns : List ℕ). get_or ns place 0) shows
-  | inr there ↦
-      let index : count + (place - count) ≡ place = omega (arith, there) in
-      ap (λ (k : ℕ). get_or ids k 0) (sym index) ∙ sym (get_or-drop count ids (place - count) 0)
-      ∙ ap (λ (ns : List ℕ). get_or ns (place - count) 0) padded.2 ∙ all_alike (255 - count) (place - count) 0
-      ∙ sym (get_or_past listed place 0 (omega (arith, there, ap length shows, length-take-le count ids padded.1)))
-]

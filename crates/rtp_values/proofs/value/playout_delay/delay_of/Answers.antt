@@ -1,4 +1,4 @@
-use Rattle.std.proofs.Common.{◌≡◌, ◌+◌, ◌*◌, ◌/◌, ◌%◌, ◌<◌, ◌∙◌, subst, ℕ}
+use Rattle.std.proofs.Common.{◌+◌, ◌*◌, ◌/◌, ◌%◌, ◌<◌, ◌∙◌, subst, ℕ}
 use Rattle.rtp_values.proofs.DelayLemmas.{hundredths_in_parts}
 use Rattle.rtp_values.proofs.value.playout_delay.delay_of.Goals as goal
 
