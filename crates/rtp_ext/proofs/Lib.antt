@@ -14,6 +14,7 @@ mod CopiedLemmas
 mod RenamedIdLemmas
 pub mod MemoryLemmas
 mod MemoryFacts
+pub mod LastAllocationLemmas
 mod MapLemmas
 pub mod ListingLemmas
 mod MappedIdLemmas

@@ -5,6 +5,7 @@ pub mod KindsById
 pub mod Elements
 pub mod BlockValues
 pub mod Memory
+pub mod LastAllocation
 pub mod WrittenBlock
 pub mod ElementsInARow
 pub mod ElementsInPlace

@@ -1,15 +1,19 @@
 //! The values of a block of header extensions, as the map's kinds read them.
 
-ghost use Rattle.std.specs.Prelude.{◌≡◌, List, false, IsOk, OnOk, OnErr};
-ghost use Rattle.std.specs.Bool.{then_some};
+ghost use Rattle.std.specs.Prelude.{◌≡◌, ◌≤◌, ◌∷◌, ℕ, List, false, length, Some, IsOk, IsErr, IfOk, IfSome, OnOk, OnErr};
+ghost use Rattle.std.specs.Bool.{then_some, OnTrue, OnFalse};
 ghost use Rattle.rtp_ext.specs.Elements.{Element, AreElements};
 ghost use Rattle.rtp_ext.specs.Memory.{HasAllocation, IsStopped, ReadUntilRefused};
 ghost use Rattle.rtp_values.specs.declared.value.values.ExtensionValues.{ExtensionValues};
+ghost use Rattle.rtp_values.specs.declared.kind.Extension.TheVariants.{VideoLayersAllocation};
 ghost use Rattle.rtp_ext.specs.BlockValues.{AreValues, ReadElements, SaysValues};
+ghost use Rattle.rtp_ext.specs.ExtensionMap.{extension_at};
+ghost use Rattle.rtp_ext.specs.LastAllocation.{IsLastAllocation, ReadsAllocation, those_behind};
 
 use super::kinds::Kinds;
 use super::{Elements, ExtensionMap, ExtensionsForm};
 use rtp_values::{ExtensionValues, KnownKind, SetValues};
+use rtp_vla::vla;
 use rtp_vla::vla::VideoLayers;
 use std::alloc::{AllocError, Global};
 
@@ -52,12 +56,96 @@ fn read_in<K: Kinds, V: SetValues>(
     ensures succeeds { (elements : List Element) → AreElements form buf.now elements →
         (V.may_be_refused → HasAllocation (K.slots kinds.now) elements → ⊥) → IsOk result }
 {
-    for (id, bytes) in Elements::new(buf, form) {
+    let mut elements = Elements::new(buf, form);
+    // Whether the last allocation of the block was read, so that none that is left counts.
+    let mut is_read = false;
+    // Whether no allocation that may take memory was come to yet.
+    let mut is_first = true;
+    while let Some((id, bytes)) = elements.next() {
         if let Some(kind) = kinds.get(id) {
-            kind.parse_value(memory, bytes, ev)?;
+            match kind {
+                KnownKind::VideoLayersAllocation => {
+                    if !is_read {
+                        let later = elements.rest();
+                        is_read = read_allocation(kinds, memory, id, bytes, later, is_first, ev)?;
+                        is_first &= bytes.len() < 2;
+                    }
+                }
+                _ => {
+                    kind.parse_value(memory, bytes, ev)?;
+                }
+            }
         }
     }
     Ok(())
+}
+
+// Reads an element whose id is mapped to the layer allocation. Where it is the first whose data may take
+// memory, as they may from two bytes on, the last allocation of the block is read in its place, so that
+// memory is taken for one alone. Returns whether it was.
+#[cold]
+#[inline(never)]
+fn read_allocation<K: Kinds, V: SetValues>(
+    kinds: &K,
+    memory: V::Memory,
+    id: u8,
+    data: &[u8],
+    later: Elements,
+    is_first: bool,
+    ev: &mut V,
+) -> Result<bool, AllocError>
+    requires mapped { extension_at (K.known kinds.now) id ≡ Some VideoLayersAllocation }
+    ensures read { IfOk result (λ all. ReadsAllocation V.shows (K.known kinds.now)
+        ((id, «data».now) ∷ those_behind all later.entry) ev.old ev.new) }
+    ensures refused { IsErr result → V.may_be_refused × (2 ≤ length «data».now) }
+    ensures unchanged { IsErr result → ev.new ≡ ev.old }
+{
+    if is_first && data.len() >= 2 && read_last(kinds, memory, id, data, later, ev) {
+        return Ok(true);
+    }
+    KnownKind::VideoLayersAllocation.parse_value(memory, data, ev)?;
+    Ok(false)
+}
+
+// Reads the last allocation among the elements that follow one of these data, and returns whether it did.
+// It doesn't, and nothing changes, where there is none, where the data mean no allocation, or where memory
+// is refused: then each is read by itself, so that what stands is what the elements up to then give.
+fn read_last<K: Kinds, V: SetValues>(
+    kinds: &K,
+    memory: V::Memory,
+    id: u8,
+    data: &[u8],
+    later: Elements,
+    ev: &mut V,
+) -> bool
+    requires mapped { extension_at (K.known kinds.now) id ≡ Some VideoLayersAllocation }
+    ensures read { OnTrue result (ReadsAllocation V.shows (K.known kinds.now)
+        ((id, «data».now) ∷ later.entry) ev.old ev.new) }
+    ensures unchanged { OnFalse result (ev.new ≡ ev.old) }
+{
+    let Some(last) = last_allocation(kinds, later) else {
+        return false;
+    };
+    if !vla::is_allocation(data) {
+        return false;
+    }
+    let read = KnownKind::VideoLayersAllocation.parse_value(memory, last, ev);
+    read.is_ok()
+}
+
+// The data of the last of these elements whose id is mapped to the layer allocation and whose data mean
+// one.
+fn last_allocation<'a, K: Kinds>(kinds: &K, later: Elements<'a>) -> Option<&'a [u8]>
+    ensures { IfSome result (λ last. (first : List ℕ) →
+        IsLastAllocation (K.known kinds.now) later.entry first last.now) }
+{
+    let mut last = None;
+    for (id, data) in later {
+        if kinds.get(id) == Some(KnownKind::VideoLayersAllocation) && vla::is_allocation(data) {
+            last = Some(data);
+        }
+    }
+    last
 }
 
 /// Reads the layer allocation among the values that the elements of a block's body give into a value

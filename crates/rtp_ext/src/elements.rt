@@ -47,6 +47,17 @@ impl<'a> Elements<'a> {
     {
         Elements { left: block, form }
     }
+
+    // The elements that are left, to be gone through beside these.
+    #[inline(always)]
+    pub(super) fn rest(&self) -> Self
+        ensures { result ≡ self.now }
+    {
+        Elements {
+            left: self.left,
+            form: self.form,
+        }
+    }
 }
 
 impl<'a> Iterator for Elements<'a> {

@@ -18,6 +18,9 @@ const TWO: [u8; 13] = [0x10, 0xAA, 0x22, 1, 0, 5, 0x22, 1, 0, 6, 0x31, 0, 7];
 // The same with a first one that takes no memory.
 const NONE_AND_ONE: [u8; 11] = [0x10, 0xAA, 0x20, 0, 0x22, 1, 0, 6, 0x31, 0, 7];
 
+// The same behind two bytes of data that mean no allocation, and so take no memory.
+const MALFORMED_AND_ONE: [u8; 12] = [0x21, 0x30, 0x11, 0x10, 0xAA, 0x22, 1, 0, 6, 0x31, 0, 7];
+
 // The map under which all of them are values.
 pub(crate) fn map() -> ExtensionMap {
     let mut map = ExtensionMap::empty();
@@ -87,6 +90,17 @@ fn the_second_allocation(rt: HostRuntime) {
         holds(&rt, "the first", is_written(&kind, &values, &[0]));
         is_cut(&rt, &values);
         read_again(&rt, rt.alloc(), &NONE_AND_ONE, &mut values);
+    }
+    holds(&rt, "the end", is_whole(&values, 6));
+}
+
+#[test]
+fn behind_a_malformed_one(rt: HostRuntime) {
+    let mut values = ExtensionValues::default();
+    if read(rt.alloc(), &MALFORMED_AND_ONE, &mut values).is_err() {
+        // The level, which is before the allocation.
+        are_values(&rt, "the refusal", &values, &level(-42, true));
+        read_again(&rt, rt.alloc(), &MALFORMED_AND_ONE, &mut values);
     }
     holds(&rt, "the end", is_whole(&values, 6));
 }

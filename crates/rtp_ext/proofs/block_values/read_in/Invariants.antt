@@ -1,7 +1,10 @@
-use Rattle.std.proofs.Common.{map}
-use Rattle.rtp_ext.specs.BlockValues.{ReadElements}
+use Rattle.std.proofs.Common.{length}
+use Rattle.rtp_ext.specs.LastAllocation.{IsReadTo}
 use Rattle.rtp_ext.proofs.block_values.read_in.Given as goal
 
--- the values are those of the elements that were passed
+-- the values are those of the elements that were passed, but the allocation is that of all where it was read
 abbrev pub invariant-loop-id : goal.invariant-loop-id
-invariant-loop-id g l = ReadElements g.V.SetValues.shows (g.K.Kinds.known l.kinds) (map (λ item. (item.0, item.1.now)) l.yielded) l.initial.ev l.ev
+invariant-loop-id g l = IsReadTo g.V.SetValues.shows (g.K.Kinds.known l.kinds) l.initial.elements l.elements l.is_read l.initial.ev l.ev
+
+abbrev pub decreases-loop-id : goal.decreases-loop-id
+decreases-loop-id g l = length l.elements

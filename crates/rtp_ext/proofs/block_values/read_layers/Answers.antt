@@ -1,16 +1,10 @@
-use Rattle.std.proofs.Common.{◌∷◌, ◌≡◌, ◌++◌, ◌↔◌, ◌∙◌, sym, refl, subst, ap, ℕ, List, [], Bor, Bool, true, false, IsTrue, Option, Some, None, IsSomeAnd}
+use Rattle.std.proofs.Common.{◌∷◌, ◌≡◌, ◌++◌, ◌∙◌, sym, refl, subst, ap, ℕ, List, [], Bor, Bool, true, false, Option, Some, None, IsSomeAnd}
 use Rattle.std.specs.Bool.{then_some}
-use Rattle.std.specs.Option.{option_map, option_eq}
-use denote.Enum.Bare.{sameb}
 use Rattle.std.proofs.lemmas.Bool.{false≢true}
 use Rattle.std.proofs.lemmas.List.{map-append}
 use Rattle.std.proofs.lemmas.List.Elements.{All-nil}
 use Rattle.std.proofs.lemmas.Iterator.Consumers.{YieldsList-from_first, YieldsList-end}
-use Rattle.rtp_values.specs.contracts.known_kind.KnownKind.{the_type}
-use Rattle.rtp_values.specs.declared.known_kind.KnownKind.{KnownKind}
-use Rattle.rtp_values.specs.declared.known_kind.KnownKind.TheVariants as known
 use Rattle.rtp_values.specs.declared.kind.Extension.TheVariants.{VideoLayersAllocation}
-use Rattle.rtp_values.specs.KnownKind.{extension_of_kind}
 use Rattle.rtp_values.specs.Values.{no_values}
 use Rattle.rtp_values.proofs.FieldLemmas.{SameFields-refl}
 use Rattle.rtp_vla.specs.Allocation.{Allocation, Means}
@@ -20,15 +14,9 @@ use Rattle.rtp_ext.specs.ExtensionMap.{Slots}
 use Rattle.rtp_ext.specs.BlockValues.{Carries, AreFields, last}
 use Rattle.rtp_ext.proofs.KindsByIdLemmas.{AreFields-known}
 use Rattle.rtp_ext.proofs.ValuesLaws.{AreFields-passed, AreFields-one}
+use Rattle.rtp_ext.proofs.LastAllocationLemmas.{kind-tested}
 use Rattle.rtp_ext.proofs.block_values.read_layers.Goals as goal
 use Rattle.rtp_ext.proofs.block_values.read_layers.Goals.{else-eq-via-then-eq+else-parse_into, else-eq-via-else-eq}
-
--- a test whether the kind is that of the allocation
-kind-tested : (found : Option KnownKind) (test : Bool) → test ≡ option_eq (sameb the_type) found (Some known.VideoLayersAllocation)
-    → (IsTrue test ↔ (option_map extension_of_kind found ≡ Some VideoLayersAllocation))
-kind-tested None test is = (λ yes. absurd (false≢true (sym is ∙ yes)), λ some. absurd cc)
-kind-tested (Some known.VideoLayersAllocation) test is = (λ yes. refl, λ some. is)
-kind-tested (Some _) test is = (λ yes. absurd (false≢true (sym is ∙ yes)), λ some. absurd cc)
 
 -- data of which none is read mean no allocation
 no_meaning : (bytes : List ℕ) (read : Bool) (New : Allocation → Type 0) (known : Option Allocation) → ((a : Allocation) → Means bytes a → (read ≡ true) × New a)
