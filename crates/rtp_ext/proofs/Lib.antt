@@ -24,6 +24,7 @@ mod ShortBlockLemmas
 pub mod KindsByIdLemmas
 mod TableLemmas
 mod UpdatedIdLemmas
+mod RemovedIdLemmas
 mod ReplacedLemmas
 mod FormLemmas
 pub mod KnownItemsLemmas

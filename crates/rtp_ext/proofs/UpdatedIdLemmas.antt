@@ -18,10 +18,10 @@ use Rattle.rtp_ext.proofs.TableLemmas.{IsTable}
 abbrev ids_of : List (ℕ × Extension) → List ℕ
 ids_of items = map (λ item. item.0) items
 
-without-this : (id first : ℕ) (ids : List ℕ) → first ≡ id → without id (first ∷ ids) ≡ without id ids
+pub without-this : (id first : ℕ) (ids : List ℕ) → first ≡ id → without id (first ∷ ids) ≡ without id ids
 without-this id first ids same = rw (eq-eqb first id same) refl
 
-without-other : (id first : ℕ) (ids : List ℕ) → first ≢ id → without id (first ∷ ids) ≡ first ∷ without id ids
+pub without-other : (id first : ℕ) (ids : List ℕ) → first ≢ id → without id (first ∷ ids) ≡ first ∷ without id ids
 without-other id first ids other = rw (ne_eqb first id other) refl
 
 -- an id below all others is not among them

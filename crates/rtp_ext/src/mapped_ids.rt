@@ -1,6 +1,6 @@
 //! The ids of a map that are mapped.
 
-ghost use Rattle.std.specs.Prelude.{◌≡◌, ◌<◌, ◌≤◌, false, ◌∷◌, ◌++◌, [], length, take, drop, nat_lt, slice_index, IfSome, IfNone};
+ghost use Rattle.std.specs.Prelude.{◌≡◌, ◌≢◌, ◌<◌, ◌≤◌, ℕ, false, ◌∷◌, ◌++◌, [], length, take, drop, nat_lt, slice_index, IfSome, IfNone};
 ghost use Rattle.std.specs.List.{list_any};
 ghost use Rattle.rtp_ext.specs.MapSlots.{inserted, without, updated, RiseAbove};
 
@@ -98,18 +98,26 @@ impl MappedIds {
         }
     }
 
-    // The ids without this one.
-    fn without(&self, id: u8) -> Self
-        ensures { result ≡ without id self.now }
+    // The place of an id among the others, and `None` where it isn't listed.
+    fn place_listed(&self, id: u8) -> Option<usize>
+        ensures found { IfSome result (λ place. (place < length self.now) × (slice_index self.now place ≡ id)) }
+        ensures none { IfNone result ((k : ℕ) → k < length self.now → slice_index self.now k ≢ id) }
     {
-        let ids = self.as_slice();
-        let mut left = Self::none();
-        for listed in ids {
-            if *listed != id {
-                left.push(*listed);
-            }
-        }
-        left
+        self.as_slice().iter().position(|listed| *listed == id)
+    }
+
+    // Takes out an id, and the higher ones move down.
+    fn remove(&mut self, id: u8)
+        requires rising { RiseAbove 0 self.old }
+        ensures { self.new ≡ without id self.old }
+    {
+        let Some(place) = self.place_listed(id) else {
+            return;
+        };
+        let count = usize::from(self.count);
+        self.ids.copy_within(place + 1..count, place);
+        self.ids[count - 1] = 0;
+        self.count -= 1;
     }
 
     // Puts in an id that is mapped now and wasn't, and takes out one that was and isn't.
@@ -121,7 +129,7 @@ impl MappedIds {
     {
         match (was_mapped, is_mapped) {
             (false, true) => self.insert(id),
-            (true, false) => *self = self.without(id),
+            (true, false) => self.remove(id),
             _ => {}
         }
     }
