@@ -1,5 +1,5 @@
 -- The values of a block whose last allocation is read where the first one stands.
-use Rattle.std.proofs.Common.{◌≡◌, ◌≢◌, ◌≤◌, ℕ, inl, inr, ◌↔◌, Bool, true, false, IsTrue, List, [], ◌∷◌, ◌++◌, length, Option, Some, None, Result, Ok, Err, IsOk, IfOk, IfSome, Bor, All, append-nil, ap, refl, sym, ◌∙◌, subst}
+use Rattle.std.proofs.Common.{◌≡◌, ◌≢◌, ◌≤◌, ℕ, inl, inr, ◌↔◌, Bool, true, false, IsTrue, List, [], ◌∷◌, ◌++◌, length, Option, Some, None, Result, Ok, Err, IsOk, IfOk, All, append-nil, ap, refl, sym, ◌∙◌, subst}
 use Rattle.std.specs.declared.alloc.AllocError.{AllocError}
 use Rattle.std.proofs.lemmas.List.Elements.{All-append, All-cons, All-push, All-nil}
 use Rattle.std.proofs.lemmas.List.{append_assoc}
@@ -57,15 +57,6 @@ pub IsLastAllocation-taken : (exts : Slots) (done : List Element) (element : Ele
     → Carries exts VideoLayersAllocation element → IsLastAllocation exts (done ++ element ∷ []) first element.1
 IsLastAllocation-taken exts done element first carries =
     last_is done [] element refl carries (All-nil (λ e. Carries exts VideoLayersAllocation e → ⊥)) refl
-
--- the same of the last one so far, where there is one
-abbrev pub IsLastSoFar : Slots → List Element → Option (Bor (List ℕ)) → Type 0
-IsLastSoFar exts done found = IfSome found (λ bytes. (first : List ℕ) → IsLastAllocation exts done first bytes.now)
-
-pub IsLastSoFar-passed : (exts : Slots) (done : List Element) (element : Element) (found : Option (Bor (List ℕ)))
-    → (Carries exts VideoLayersAllocation element → ⊥) → IsLastSoFar exts done found → IsLastSoFar exts (done ++ element ∷ []) found
-IsLastSoFar-passed exts done element None not_carried is = tt
-IsLastSoFar-passed exts done element (Some bytes) not_carried is = λ first. IsLastAllocation-passed exts done element first bytes.now not_carried (is first)
 
 -- ---- what is read
 

@@ -59,16 +59,22 @@ fn read_in<K: Kinds, V: SetValues>(
     let mut elements = Elements::new(buf, form);
     // Whether the last allocation of the block was read, so that none that is left counts.
     let mut is_read = false;
-    // Whether no allocation that may take memory was come to yet.
-    let mut is_first = true;
+    let mut search = Search::NotYet;
     while let Some((id, bytes)) = elements.next() {
         if let Some(kind) = kinds.get(id) {
             match kind {
                 KnownKind::VideoLayersAllocation => {
                     if !is_read {
                         let later = elements.rest();
-                        is_read = read_allocation(kinds, memory, id, bytes, later, is_first, ev)?;
-                        is_first &= bytes.len() < 2;
+                        is_read = read_allocation(
+                            kinds,
+                            memory,
+                            id,
+                            bytes,
+                            later,
+                            &mut search,
+                            ev,
+                        )?;
                     }
                 }
                 _ => {
@@ -80,18 +86,38 @@ fn read_in<K: Kinds, V: SetValues>(
     Ok(())
 }
 
-// Reads an element whose id is mapped to the layer allocation. Where it is the first whose data may take
-// memory, as they may from two bytes on, the last allocation of the block is read in its place, so that
-// memory is taken for one alone. Returns whether it was.
-#[cold]
-#[inline(never)]
+// When the last allocation of a block is looked for: once, at the allocation that follows the first
+// well-formed one, since most blocks have one allocation at most.
+#[derive(Clone, Copy)]
+enum Search {
+    // No well-formed allocation was read yet.
+    NotYet,
+    // One was read: at the next one.
+    AtNext,
+    // Not any more. Each allocation is read by itself.
+    Over,
+}
+
+impl Search {
+    // When it is, once an element was read by itself that has an allocation, or has none.
+    fn after(self, has_allocation: bool) -> Self {
+        match self {
+            Search::NotYet if has_allocation => Search::AtNext,
+            _ => self,
+        }
+    }
+}
+
+// Reads an element whose id is mapped to the layer allocation, or in its place the last allocation of the
+// block, where that is looked for now. Returns whether it read the last one.
+#[inline(always)]
 fn read_allocation<K: Kinds, V: SetValues>(
     kinds: &K,
     memory: V::Memory,
     id: u8,
     data: &[u8],
     later: Elements,
-    is_first: bool,
+    search: &mut Search,
     ev: &mut V,
 ) -> Result<bool, AllocError>
     requires mapped { extension_at (K.known kinds.now) id ≡ Some VideoLayersAllocation }
@@ -100,16 +126,22 @@ fn read_allocation<K: Kinds, V: SetValues>(
     ensures refused { IsErr result → V.may_be_refused × (2 ≤ length «data».now) }
     ensures unchanged { IsErr result → ev.new ≡ ev.old }
 {
-    if is_first && data.len() >= 2 && read_last(kinds, memory, id, data, later, ev) {
-        return Ok(true);
+    if let Search::AtNext = search {
+        *search = Search::Over;
+        if read_last(kinds, memory, id, data, later, ev) {
+            return Ok(true);
+        }
     }
-    KnownKind::VideoLayersAllocation.parse_value(memory, data, ev)?;
+    let read = KnownKind::VideoLayersAllocation.parse_value(memory, data, ev)?;
+    *search = search.after(read.is_some());
     Ok(false)
 }
 
-// Reads the last allocation among the elements that follow one of these data, and returns whether it did.
-// It doesn't, and nothing changes, where there is none, where the data mean no allocation, or where memory
-// is refused: then each is read by itself, so that what stands is what the elements up to then give.
+// Reads the last allocation among an element of these data and those that follow it, and returns whether
+// it did. It doesn't, and nothing changes, where memory is refused: then each is read by itself, so that
+// what stands is what the elements up to then give.
+#[cold]
+#[inline(never)]
 fn read_last<K: Kinds, V: SetValues>(
     kinds: &K,
     memory: V::Memory,
@@ -123,26 +155,20 @@ fn read_last<K: Kinds, V: SetValues>(
         ((id, «data».now) ∷ later.entry) ev.old ev.new) }
     ensures unchanged { OnFalse result (ev.new ≡ ev.old) }
 {
-    let Some(last) = last_allocation(kinds, later) else {
-        return false;
-    };
-    if !vla::is_allocation(data) {
-        return false;
-    }
+    let last = last_allocation(kinds, data, later);
     let read = KnownKind::VideoLayersAllocation.parse_value(memory, last, ev);
     read.is_ok()
 }
 
 // The data of the last of these elements whose id is mapped to the layer allocation and whose data mean
-// one.
-fn last_allocation<'a, K: Kinds>(kinds: &K, later: Elements<'a>) -> Option<&'a [u8]>
-    ensures { IfSome result (λ last. (first : List ℕ) →
-        IsLastAllocation (K.known kinds.now) later.entry first last.now) }
+// one, and the first data where there is none.
+fn last_allocation<'a, K: Kinds>(kinds: &K, first: &'a [u8], later: Elements<'a>) -> &'a [u8]
+    ensures { IsLastAllocation (K.known kinds.now) later.entry first.now result.now }
 {
-    let mut last = None;
+    let mut last = first;
     for (id, data) in later {
         if kinds.get(id) == Some(KnownKind::VideoLayersAllocation) && vla::is_allocation(data) {
-            last = Some(data);
+            last = data;
         }
     }
     last
@@ -179,8 +205,8 @@ impl ExtensionMap {
     /// read all the same.
     ///
     /// Only an element of two bytes or more whose id is mapped to the layer allocation takes
-    /// memory. Where that is refused, the values are those that the elements before one such
-    /// element give.
+    /// memory. Where the call returns the error, the values are those that the elements before one
+    /// such element give.
     ///
     /// With id 1 mapped to the audio level, the body `10 AA 37 00` of the one-byte form sets a level
     /// of -42 with voice. The element of id 3 is cut short.

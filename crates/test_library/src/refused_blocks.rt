@@ -15,6 +15,11 @@ const BODY: [u8; 9] = [0x10, 0xAA, 0x22, 1, 0, 5, 0x31, 0, 7];
 // The same with a second allocation after the first one, of rate 6.
 const TWO: [u8; 13] = [0x10, 0xAA, 0x22, 1, 0, 5, 0x22, 1, 0, 6, 0x31, 0, 7];
 
+// The same with three, of the rates 5, 4 and 6.
+const THREE: [u8; 17] = [
+    0x10, 0xAA, 0x22, 1, 0, 5, 0x22, 1, 0, 4, 0x22, 1, 0, 6, 0x31, 0, 7,
+];
+
 // The same with a first one that takes no memory.
 const NONE_AND_ONE: [u8; 11] = [0x10, 0xAA, 0x20, 0, 0x22, 1, 0, 6, 0x31, 0, 7];
 
@@ -78,6 +83,18 @@ fn two_allocations(rt: HostRuntime) {
         holds(&rt, "the first", is_first);
         is_cut(&rt, &values);
         read_again(&rt, rt.alloc(), &TWO, &mut values);
+    }
+    holds(&rt, "the end", is_whole(&values, 6));
+}
+
+#[test]
+fn three_allocations(rt: HostRuntime) {
+    let mut values = ExtensionValues::default();
+    if read(rt.alloc(), &THREE, &mut values).is_err() {
+        let is_earlier = values == level(-42, true) || has_rate(&values, 5) || has_rate(&values, 4);
+        holds(&rt, "those before", is_earlier);
+        is_cut(&rt, &values);
+        read_again(&rt, rt.alloc(), &THREE, &mut values);
     }
     holds(&rt, "the end", is_whole(&values, 6));
 }

@@ -28,8 +28,8 @@ ended (Err error) test is so = λ same. cc
 pub returns-clause-read : goal.returns-clause-read
 returns-clause-read g c =
     let told = c.parse_value-read.ensures in
-    on_true c.is_ok.result (λ so. ReadsAllocation-parsed g.V.SetValues.shows (g.K.Kinds.known c.args.kinds.now) (c.args.id, c.args.data.now) c.args.later c.in-Some.last.now
-    c.args.ev.now c.parse_value-read.new.ev c.parse_value-read.result c.requires.mapped (c.in-Some.ensures c.args.data.now)
+    on_true c.is_ok.result (λ so. ReadsAllocation-parsed g.V.SetValues.shows (g.K.Kinds.known c.args.kinds.now) (c.args.id, c.args.data.now) c.args.later c.last_allocation-last.result.now
+    c.args.ev.now c.parse_value-read.new.ev c.parse_value-read.result c.requires.mapped c.last_allocation-last.ensures
     (went_on c.parse_value-read.result c.is_ok.result c.is_ok.ensures.value so) told.found told.only told.unchanged)
 
 pub returns-clause-unchanged : goal.returns-clause-unchanged
