@@ -53,7 +53,8 @@ fn read_masks<'a>(head: u8, bytes: &'a [u8], masks: &mut [u8; 4]) -> Option<(usi
 }
 
 // Where the parts are, if all of them are there. It reads the masks of the streams; what stands after
-// them is of no stream.
+// them is of no stream. It is inlined, since data that mean nothing cost little besides this call.
+#[inline(always)]
 fn layout_of<'a>(buf: &'a [u8], masks: &mut [u8; 4]) -> Option<Layout<'a>>
     ensures found { IfSome result (λ layout.
         reading.IsLaidOut buf.now layout.index (take layout.streams masks.new) layout.layers) }
