@@ -7,6 +7,7 @@ ghost use Rattle.std.specs.Str.{IsAscii};
 ghost use Rattle.rtp_base.specs.Id.{id_char, id_text, before_padding, IsIdOf, IsIdByte, IsIdArray};
 
 use std::marker::Model;
+use std::simd::prelude::*;
 use std::str;
 
 /// The text of an identifier: letters, digits and underscores, filled up with spaces to `N` bytes.
@@ -57,9 +58,6 @@ fn is_id_byte(byte: u8) -> bool
     byte.is_ascii_alphanumeric() || byte == b'_'
 }
 
-// In so few bytes the first space is found as fast as spaces are counted.
-const FEW: usize = 8;
-
 // The index of the first space, which begins the padding.
 fn first_space(bytes: &[u8]) -> Option<usize>
     ensures found { IfSome result (λ index. (index < length bytes.now) × (slice_index bytes.now index ≡ 32)
@@ -80,19 +78,14 @@ fn text_len(bytes: &[u8]) -> usize
     }
 }
 
-// How many of the bytes are no spaces: in an identifier, the length of its text. None ends the loop, so
-// that all bytes are looked at at once.
+// How many of sixteen bytes are no spaces: in an identifier, the length of its text.
 #[inline(always)]
 fn count_kept(bytes: &[u8]) -> usize
+    requires { length bytes.now ≡ 16 }
     ensures { result ≡ count_by (λ b. not (b == 32)) bytes.now }
 {
-    let mut count = 0;
-    for byte in bytes {
-        if *byte != b' ' {
-            count += 1;
-        }
-    }
-    count
+    let kept = u8x16::from_slice(bytes).simd_ne(u8x16::splat(b' '));
+    kept.to_bitmask().count_ones() as usize
 }
 
 // Whether each byte is a letter, a digit or an underscore.
@@ -195,16 +188,17 @@ impl<const N: usize> IdText<N> {
         IdText { bytes }
     }
 
-    // The length of the text before the padding.
+    // The length of the text before the padding. Sixteen bytes, as many as a mid has, are looked at at
+    // once; in the eight of a stream id the first space is found as fast.
     #[inline(always)]
     fn len(&self) -> usize
         ensures index { result ≡ position_or_len (λ b. b == 32) self.now }
         ensures within { result ≤ length self.now }
     {
-        if N <= FEW {
-            return text_len(&self.bytes);
+        if N == 16 {
+            return count_kept(&self.bytes);
         }
-        count_kept(&self.bytes)
+        text_len(&self.bytes)
     }
 
     // Whether the text is empty: whether the padding begins at once.
