@@ -1,6 +1,7 @@
 //! Which ids elements have under another map.
 
 ghost use Rattle.std.specs.Prelude.{◌≡◌, ◌≢◌, ◌<◌, ◌≤◌, ◌⊎◌, ◌↔◌, ℕ, IsTrue, IfSome, IfNone, Some, All, slice_index, slice_index_or};
+ghost use Rattle.std.specs.Bool.{OnTrue};
 ghost use Rattle.rtp_values.specs.declared.kind.Extension.TheVariants.{RtpStreamId, RepairedRtpStreamId};
 ghost use Rattle.rtp_values.specs.KnownKind.{extension_of_kind};
 ghost use Rattle.rtp_ext.specs.declared.form.ExtensionsForm.TheVariants.{OneByte};
@@ -14,6 +15,7 @@ use super::kinds::{Cursor, Kinds};
 use super::{Elements, ExtensionsForm, MAX_ID, MAX_ID_ONE_BYTE_FORM};
 use rtp_values::KnownKind;
 use std::marker::Model;
+use std::simd::prelude::*;
 
 // How many ids an element can have, with 0.
 const IDS: usize = MAX_ID as usize + 1;
@@ -187,6 +189,17 @@ impl NewIds {
             0 => None,
             new => Some(new),
         }
+    }
+
+    // Whether the one-byte form can carry the new id of each id up to 15, if it has one: sixteen are looked
+    // at at once, those that its elements can have and 15.
+    #[inline(always)]
+    pub(super) fn fit_one_byte_form(&self) -> bool
+        ensures { OnTrue result ((id : ℕ) → id ≤ 14 →
+            IfSome (new_id self.now id) (λ new. (1 ≤ new) × (new ≤ 14))) }
+    {
+        let above = u8x16::from_slice(&self.ids).simd_gt(u8x16::splat(MAX_ID_ONE_BYTE_FORM));
+        above.to_bitmask() == 0
     }
 
     // Whether the form can carry the new ids of a body's elements.

@@ -22,7 +22,7 @@ use super::elements::first_element;
 use super::form::{header_len, write_header};
 use super::growing::survey_of;
 use super::raw_writing::{clear, put_data};
-use super::{ExtensionsForm, MAX_ID_ONE_BYTE_FORM, NewIds};
+use super::{ExtensionsForm, NewIds};
 
 /// Where an element lies in the body of a block, as offsets from the body's first byte.
 #[derive(Clone, Copy, Drop)]
@@ -182,29 +182,6 @@ impl IdChange<'_> {
     }
 }
 
-// Whether an element of the one-byte form can have the id, if there is one.
-fn fits_one_byte_form(id: Option<u8>) -> bool
-    ensures { OnTrue result (IfSome id (λ id. (1 ≤ id) × (id ≤ 14))) }
-{
-    match id {
-        Some(id) => (1..=MAX_ID_ONE_BYTE_FORM).contains(&id),
-        None => true,
-    }
-}
-
-// Whether the one-byte form can carry the new id of each id that its elements can have. No id ends the
-// loop, so that all of them are looked at at once.
-fn fit_one_byte_form(ids: &NewIds) -> bool
-    ensures { OnTrue result ((id : ℕ) → id ≤ 14 →
-        IfSome (new_id ids.now id) (λ new. (1 ≤ new) × (new ≤ 14))) }
-{
-    let mut fit = true;
-    for id in 0..=MAX_ID_ONE_BYTE_FORM {
-        fit &= fits_one_byte_form(ids.new_id(id));
-    }
-    fit
-}
-
 // Whether the form can carry the new ids of a body's elements. These aren't looked at where it can carry
 // those of all ids that they can have, as with most tables.
 fn carries_new_ids(form: ExtensionsForm, body: &[u8], ids: &NewIds) -> bool
@@ -212,7 +189,7 @@ fn carries_new_ids(form: ExtensionsForm, body: &[u8], ids: &NewIds) -> bool
         ↔ All (CanRenumber form (new_id ids.now)) (elements_left form body.now) }
 {
     match form {
-        ExtensionsForm::OneByte if fit_one_byte_form(ids) => true,
+        ExtensionsForm::OneByte if ids.fit_one_byte_form() => true,
         _ => ids.can_renumber(form, body),
     }
 }
