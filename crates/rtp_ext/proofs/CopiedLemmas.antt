@@ -94,23 +94,6 @@ of_medium_known true (UnknownUri uri) is = cc
 of_medium_known false (UnknownUri uri) is = cc
 of_medium_known audio _ is = tt
 
-pub first_known : {A : Type 0} (audio : Bool) (from : Slots) (left more : List (ℕ × Extension)) (to : Slots) (item : ℕ × Extension) → IsOfMediumBut audio from left to
-    → left ≡ item ∷ more → (IsKnown item.1 → ⊥) → A
-first_known audio from left more to item are is unknown =
-    let whole = subst (λ (items : List (ℕ × Extension)). IsOfMediumBut audio from items to) is are in
-    absurd (unknown (of_medium_known audio item.1
-    (All-head (λ i. (extension_at from i.0 ≡ Some i.1) × (is_of_medium audio i.1 ≡ true)) item more whole.mapped).1))
-
-pub IsOfMediumBut-end : (audio : Bool) (from : Slots) (left : List (ℕ × Extension)) (to : Slots) → IsOfMediumBut audio from left to → left ≡ []
-    → (id : ℕ) → entry_at to id ≡ of_medium audio (entry_at from id)
-IsOfMediumBut-end audio from left to are is id = elim (are.each id) [
-  | inl there ↦ there
-  | inr waits ↦
-      let found = subst (λ (items : List (ℕ × Extension)). Contains items (id, waits.0)) is waits.1 in
-      let within = found.1 in
-      absurd (omega arith)
-]
-
 -- ---- of the whole map
 
 id_or_later : (first : ℕ) (left : List ℕ) (id : ℕ) → Contains (first ∷ left) id → (first ≡ id) ⊎ Contains left id

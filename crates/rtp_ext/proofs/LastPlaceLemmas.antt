@@ -1,5 +1,5 @@
 -- The last element of an id, and its place.
-use Rattle.std.proofs.Common.{◌≡◌, ◌≢◌, ℕ, ◌-◌, ◌≤◌, List, [], ◌∷◌, ◌++◌, length, take, drop, replicate, Option, Some, None, IfSome, IfNone, append_assoc, length-append, arith, refl, sym, ap, ◌∙◌, subst}
+use Rattle.std.proofs.Common.{◌≡◌, ◌≢◌, ℕ, ◌-◌, ◌≤◌, List, [], ◌∷◌, ◌++◌, length, take, drop, replicate, Option, Some, None, IfSome, append_assoc, length-append, arith, refl, sym, ap, ◌∙◌, subst}
 use Rattle.std.proofs.lemmas.List.{append-nil, drop_at, take_at, length-replicate}
 use Rattle.std.proofs.lemmas.List.Elements.{All-nil, All-cons, All-append, All-contains, Contains-append_right}
 use Rattle.rtp_ext.specs.declared.form.ExtensionsForm.{ExtensionsForm}
@@ -257,15 +257,6 @@ pub lies-within : (form : ExtensionsForm) (id : ℕ) (body : List ℕ) (last : O
     → IfSome last (λ place. place.end ≤ length body)
 lies-within form id body None is = tt
 lies-within form id body (Some place) is = LiesAt-within form body place is.lies
-
-pub IsPassed-none : (form : ExtensionsForm) (body : List ℕ) (at id : ℕ) (last : Option Place) → IsPassed form body at id last → BeginsWithNoElement form (drop at body)
-    → (elements : List Element) → AreElements form body elements → IfNone last (HasNone elements id)
-IsPassed-none form body at id (Some place) was none elements are = tt
-IsPassed-none form body at id None was none elements are =
-    let all : AreElements form body (was.elements ++ []) =
-    subst (λ b. AreElements form b (was.elements ++ [])) (sym was.body_is)
-    (AreElements-after form was.passed was.left was.elements [] was.are_whole (ended_left form body at id None was none)) in
-    subst (λ es. HasNone es id) (sym (append-nil was.elements) ∙ AreElements-same form body (was.elements ++ []) elements all are) was.last_is
 
 -- the last of an id is one
 HasNone-absurd : (before after : List Element) (id : ℕ) (bytes : List ℕ) → HasNone (before ++ (id, bytes) ∷ after) id → ⊥

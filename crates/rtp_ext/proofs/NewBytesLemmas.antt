@@ -1,5 +1,5 @@
 -- The bytes of the new ids, found on a walk over the mapped ids.
-use Rattle.std.proofs.Common.{◌≡◌, ◌⊎◌, inl, inr, ℕ, zero, suc, ◌<◌, List, [], ◌∷◌, length, get_or, set, replicate, Option, Some, None, IfSome, IfNone, All, arith, refl, sym, ap, ◌∙◌, subst, length-set}
+use Rattle.std.proofs.Common.{◌≡◌, ◌⊎◌, inl, inr, ℕ, zero, suc, ◌<◌, List, ◌∷◌, length, get_or, set, replicate, Option, Some, None, IfSome, IfNone, All, arith, refl, sym, ap, ◌∙◌, subst, length-set}
 use Rattle.std.specs.Prelude.{true}
 use Rattle.std.specs.List.{Contains}
 use Rattle.std.proofs.lemmas.Bool.{cases_eq}
@@ -8,7 +8,7 @@ use Rattle.std.proofs.lemmas.List.Elements.{All-head, All-tail}
 use Rattle.rtp_values.specs.declared.kind.Extension.{Extension}
 use Rattle.rtp_values.proofs.KindLemmas.{one_kind}
 use Rattle.rtp_ext.specs.ExtensionMap.{Slots, IsId, IsLowest, IsUnmapped, IsListing, extension_at, items_from}
-use Rattle.rtp_ext.specs.NewIds.{AreNewBytes, IsNewId, id_in_byte, byte_of_id}
+use Rattle.rtp_ext.specs.NewIds.{IsNewId, id_in_byte, byte_of_id}
 use Rattle.rtp_ext.proofs.ListingLemmas.{IsListing-from_slots}
 use Rattle.rtp_ext.proofs.NewIdLemmas.{byte_said}
 
@@ -87,12 +87,3 @@ HasNewBytesBut-next from to left more bytes item at byte lowest are is within th
         subst (λ (b : ℕ). IsNewId from to item.0 (id_in_byte b)) (sym (get_or-set_same bytes item.0 byte 0 (omega (arith, within, whole.long))))
         (subst (IsNewId from to item.0) (sym new_byte)
         (lowest_new from to item.0 item.1 lowest (All-head (λ i. extension_at from i.0 ≡ Some i.1) item more whole.mapped) of))
-
-pub HasNewBytesBut-end : (from to : Slots) (left : List (ℕ × Extension)) (bytes : List ℕ) → HasNewBytesBut from to left bytes → left ≡ [] → AreNewBytes from to bytes
-HasNewBytesBut-end from to left bytes are is = λ id. elim (are.new id) [
-  | inl new ↦ new
-  | inr there ↦
-      let found = subst (λ (items : List (ℕ × Extension)). Contains items (id, there.0)) is there.1 in
-      let within = found.1 in
-      absurd (omega arith)
-]

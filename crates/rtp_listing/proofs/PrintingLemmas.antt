@@ -98,11 +98,6 @@ Printing-written exts input rest done old new after text text' receivers p appen
   left = p.left;
 }
 
--- only whole lines that were written before are printed, and memory is refused
-pub Prints-before : (exts : ExtensionMap) (datagrams : List (List ℕ)) (done : ℕ) (old new : Option (List ℕ)) (text : List ℕ) (receivers : ReceiverStates)
-    → Printed exts datagrams done old new text receivers → Prints old new (IsPartialListing exts datagrams NoMemory)
-Prints-before exts datagrams done old new text receivers p = (p.written, p.appended, (p.count, p.whole))
-
 none_left : (done : ℕ) (datagrams left : List (List ℕ)) → drop done datagrams ≡ left → AreHex [] left → length datagrams ≤ done
 none_left done datagrams [] is hex = omega (arith, length-drop done datagrams, ap length is)
 none_left done datagrams (bytes ∷ more) is hex = absurd (cc)

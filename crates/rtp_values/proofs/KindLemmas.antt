@@ -1,7 +1,6 @@
 -- What holds of each known kind, and two kinds are one or not.
-use Rattle.std.proofs.Common.{◌≡◌, ◌≢◌, ◌⊎◌, inl, inr, ℕ, List, [], ◌∷◌, ◌++◌, length, Bool, true, false, Option, Some, None, All, rules, refl, sym, ap, ◌∙◌}
+use Rattle.std.proofs.Common.{◌≡◌, ◌≢◌, ◌⊎◌, inl, inr, ℕ, List, length, Bool, true, false, Option, Some, None, rules, refl, sym, ap, ◌∙◌}
 use Rattle.std.specs.Bool.{Decides}
-use Rattle.std.proofs.lemmas.List.Elements.{All-append, All-cons, All-nil}
 use Rattle.std.proofs.lemmas.Bool.Decides.{not_from_Decides}
 use Rattle.rtp_values.specs.contracts.kind.ExtensionPartialEq.TheImpl as extension_eq
 use Rattle.rtp_values.specs.declared.kind.Extension.{Extension}
@@ -15,10 +14,6 @@ use Rattle.rtp_values.specs.KnownKind.{extension_of_kind}
 pub unknown_is : (kind : Extension) → (IsKnown kind → ⊥) → UnknownUri (kind_of kind).uri ≡ kind
 unknown_is (UnknownUri uri) unknown = refl
 unknown_is _ unknown = absurd (unknown (tt {0}))
-
--- one more at the end
-pub All-snoc : {X : Type 0} (P : X → Type 0) (xs : List X) (x : X) → All P xs → P x → All P (xs ++ x ∷ [])
-All-snoc P xs x all one = All-append P xs (x ∷ []) all (All-cons P x [] one (All-nil P))
 
 -- whether two kinds are one
 pub extension_decides : (a b : Extension) → Decides ((extension_eq.ghosts).eq a b) (a ≡ b)

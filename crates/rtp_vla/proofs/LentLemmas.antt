@@ -1,17 +1,13 @@
 -- What stands at an index, behind what stands before it, and in front of what stands after it.
-use Rattle.std.proofs.Common.{◌≡◌, ℕ, zero, suc, ◌+◌, List, [], ◌∷◌, ◌++◌, length, take, drop, Bool, true, false, Some, ap, sym, ◌∙◌, append_assoc, arith}
+use Rattle.std.proofs.Common.{◌≡◌, ℕ, zero, suc, ◌+◌, List, [], ◌∷◌, ◌++◌, take, drop, Bool, true, false, Some, ap, ◌∙◌, arith}
 use Rattle.std.specs.List.{slice_get, list_all}
-use Rattle.std.proofs.Math.Seq.{drop-append_seam}
 use Rattle.std.proofs.lemmas.Bool.{and_from, and_left, and_right}
-use Rattle.std.proofs.lemmas.List.{take_more, drop_more}
+use Rattle.std.proofs.lemmas.List.{take_more}
 use Rattle.std.proofs.lemmas.List.Folds.{list_all_more, list_all_at}
 use Rattle.std.proofs.lemmas.Option.{slice_get_within, get_or_from_slice_get}
 
 pub take_with : {A : Type 0} (xs : List A) (i : ℕ) (x : A) → slice_get xs i ≡ Some x → take (i + 1) xs ≡ take i xs ++ x ∷ []
 take_with {A} xs i x is = take_more xs i x (slice_get_within xs i x is) ∙ ap (λ (y : A). take i xs ++ y ∷ []) (get_or_from_slice_get xs i x x is)
-
-pub drop_with : {A : Type 0} (xs : List A) (i : ℕ) (x : A) → slice_get xs i ≡ Some x → drop i xs ≡ x ∷ drop (i + 1) xs
-drop_with {A} xs i x is = drop_more xs i x (slice_get_within xs i x is) ∙ ap (λ (y : A). y ∷ drop (i + 1) xs) (get_or_from_slice_get xs i x x is)
 
 -- a test that fails at an index fails for all
 pub list_all-with : {A : Type 0} (p : A → Bool) (xs : List A) (i : ℕ) (x : A) → slice_get xs i ≡ Some x → p x ≡ false → list_all p xs ≡ false
@@ -31,12 +27,6 @@ front_at {A} (y ∷ xs) rest (suc i) x is =
     let more = front_at xs rest i x is in
     let next : suc (i + 1) ≡ suc i + 1 = omega arith in
     (more.0, more.1 ∙ ap (λ (k : ℕ). drop k (y ∷ xs)) next)
-
--- the last of what is left before those that were taken from the end
-pub back_at : {A : Type 0} (xs left rest : List A) (x : A) → left ++ drop (length left) xs ≡ xs → left ≡ rest ++ x ∷ [] → (rest ++ (x ∷ drop (length left) xs) ≡ xs) × (drop (length rest) xs ≡ x ∷ drop (length left) xs)
-back_at {A} xs left rest x joined is =
-    let all : rest ++ (x ∷ drop (length left) xs) ≡ xs = sym (append_assoc rest (x ∷ []) (drop (length left) xs)) ∙ ap (λ (ys : List A). ys ++ drop (length left) xs) (sym is) ∙ joined in
-    (all, ap (drop (length rest)) (sym all) ∙ drop-append_seam rest (x ∷ drop (length left) xs))
 
 pub list_all-amid : {A : Type 0} (p : A → Bool) (rest after : List A) (x : A) → p x ≡ false → list_all p (rest ++ (x ∷ after)) ≡ false
 list_all-amid p [] after x fails = and_left (p x) (list_all p after) fails

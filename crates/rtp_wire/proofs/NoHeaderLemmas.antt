@@ -169,14 +169,6 @@ IsFirstHeaderCause-other_form bytes parts other is some = record { applies = Has
     none_before (not_a_header.TheVariants.NotAPacket cause) before applies = not_a_packet bytes cause parts applies is
     none_before not_a_header.TheVariants.UnknownForm before applies = omega arith
 
--- the form is looked at before the words of the block are counted
-pub IsFirstHeaderCause-unknown_form : (bytes : List ℕ) → IsFirstCause bytes CutBlock → HasUnknownForm bytes → IsFirstHeaderCause bytes not_a_header.TheVariants.UnknownForm
-IsFirstHeaderCause-unknown_form bytes first unknown = record { applies = unknown; none_before = none_before }
-  where
-    none_before : (earlier : not_a_header.NotAHeader) → header_place_of earlier < 4 → AppliesToHeader bytes earlier → ⊥
-    none_before (not_a_header.TheVariants.NotAPacket cause) before applies = first.none_before cause (omega (arith, before, header_place cause)) applies
-    none_before not_a_header.TheVariants.UnknownForm before applies = omega arith
-
 pub IsFirstHeaderCause-packet : (bytes : List ℕ) (cause : NotAPacket) → IsFirstCause bytes cause → (cause ≡ CutBlock → HasUnknownForm bytes → ⊥) → IsFirstHeaderCause bytes (not_a_header.TheVariants.NotAPacket cause)
 IsFirstHeaderCause-packet bytes cause first known = record { applies = first.applies; none_before = none_before }
   where

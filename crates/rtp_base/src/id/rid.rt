@@ -74,7 +74,7 @@ impl Rid {
         }
     }
 
-    /// Returns whether the text has no characters, as that of [`as_str`](Self::as_str) then.
+    /// Returns whether the text, which [`as_str`](Self::as_str) returns, has no characters.
     #[inline(always)]
     pub fn is_empty(&self) -> bool
         ensures empty { result ≡ (length (before_padding self.now) == 0) }
