@@ -1,5 +1,6 @@
 -- Where the first numbers end, in the map that C fills.
-use Rattle.std.proofs.Common.{◌≡◌, ◌≤◌, ◌<◌, ◌+◌, ◌-◌, ◌*◌, ◌^◌, ◌/◌, ℕ, zero, suc, List, get_or, inl, inr, arith, ap, sym, refl, ◌∙◌}
+use Rattle.std.proofs.Common.{◌≡◌, ◌≤◌, ◌<◌, ◌+◌, ◌-◌, ◌*◌, ◌^◌, ◌/◌, ℕ, zero, suc, List, length, take, drop, get_or, inl, inr, arith, ap, sym, refl, ◌∙◌}
+use Rattle.std.proofs.lemmas.List.{get_or-drop, get_or_past, get_or-take, length-drop, length-take}
 use Rattle.std.specs.Int.{w64, byte_worth, from_le_bytes, sum_through, leading_zeros}
 use Rattle.std.proofs.lemmas.Bool.{cases_lt}
 use Rattle.std.proofs.lemmas.Nat.{leading_length, pow-add}
@@ -43,3 +44,20 @@ pub zeros_above : (numbers : List ℕ) (word leading i : ℕ) → word ≡ from_
 zeros_above numbers word leading i is within counted past low =
     let len = leading_length 64 word within in
     below_power numbers len.0 i (omega (arith, is, len.2)) (omega (arith, past, counted, len.1)) low
+
+-- numbers that are 0 between two indices, as they are looked at
+pub zeros_in : (numbers : List ℕ) (n m i : ℕ) → n + m ≤ length numbers
+    → ((k : ℕ) → k < length (take m (drop n numbers)) → get_or (take m (drop n numbers)) k 0 ≡ 0) → n ≤ i → i < n + m → get_or numbers i 0 ≡ 0
+zeros_in numbers n m i all zeros above below =
+    let index : i ≡ n + (i - n) = omega arith in
+    let here : i - n < m = omega arith in
+    ap (λ (k : ℕ). get_or numbers k 0) index ∙ sym (get_or-drop n numbers (i - n) 0) ∙ sym (get_or-take m (drop n numbers) (i - n) 0 here)
+    ∙ zeros (i - n) (omega (arith, here, length-take m (drop n numbers), length-drop n numbers))
+
+-- the numbers past a middle are 0, and so are those of the middle
+pub zeros_past : (numbers : List ℕ) (n m i : ℕ) → n + m ≡ length numbers
+    → ((k : ℕ) → k < length (take m (drop n numbers)) → get_or (take m (drop n numbers)) k 0 ≡ 0) → n ≤ i → get_or numbers i 0 ≡ 0
+zeros_past numbers n m i all zeros above = elim (cases_lt i (n + m)) [
+  | inl here ↦ zeros_in numbers n m i (omega arith) zeros above here
+  | inr past ↦ get_or_past numbers i 0 (omega (arith, past))
+]

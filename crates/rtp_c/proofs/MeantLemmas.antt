@@ -96,6 +96,21 @@ HaveNewIds-next from to bytes passed number new within was at is =
           )
     ]
 
+-- no number is meant from the ids that were passed on
+pub HaveNewIds-past : (from to bytes : List ℕ) (passed : ℕ) → ((id : ℕ) → passed ≤ id → id < 256 → get_or from id 0 ≡ 0)
+    → ((id : ℕ) → passed ≤ id → get_or bytes id 0 ≡ 0) → HaveNewIds from to bytes passed → HaveNewIds from to bytes 256
+HaveNewIds-past from to bytes passed none zeros was = record { many = was.many; each = each }
+  where
+    each : (id : ℕ) → id < 256 → (number : ℕ) × IsNumberAt from id number × IsIdOf to number (get_or bytes id 0)
+    each id below = elim (cases_lt id passed) [
+      | inl earlier ↦ was.each id earlier
+      | inr later ↦ (
+        0,
+        λ number means. not_zero (subst IsNamed (sym means.here ∙ none id later below) means.named),
+        subst (IsIdOf to 0) (sym (zeros id later)) (λ other means. not_zero means.named),
+      )
+    ]
+
 pub AreNewIdsOf-all : (from to bytes : List ℕ) (passed : ℕ) → 256 ≤ passed → length from ≡ 256 → HaveNewIds from to bytes passed → AreNewIdsOf from to bytes
 AreNewIdsOf-all from to bytes passed all long have = record { meant = meant; others = others }
   where

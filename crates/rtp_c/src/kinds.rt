@@ -148,6 +148,15 @@ impl StoredMap {
         }
     }
 
+    // An id from which on no id means a number: 16, where only ids of the one-byte form and 15 do, or the
+    // one past all.
+    pub(super) fn numbers_end(&self) -> usize
+        ensures zeros { (id : ℕ) → result ≤ id → id < 256 → slice_index self.now.kind id ≡ 0 }
+        ensures few { result ≤ 256 }
+    {
+        if are_zeros(&self.kind[16..]) { 16 } else { 256 }
+    }
+
     // The lowest id that means the number, and 0 where none does.
     pub fn id_of(&self, number: u8) -> u8
         ensures { IsIdOf self.now.kind number result }

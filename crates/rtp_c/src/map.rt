@@ -117,8 +117,9 @@ pub extern "C" fn rtpw_new_ids_between(from: &StoredMap, to: &StoredMap, ids: &m
     ensures kinds { CarryKinds from.now.kind to.now.kind ids.new.id }
     ensures first { slice_index ids.new.id 0 ≡ 0 }
 {
-    for (id, new) in ids.id.iter_mut().enumerate() {
-        *new = to.id_of(from.number_at(id as u8));
+    ids.id = [0; 256];
+    for id in 0..from.numbers_end() {
+        ids.id[id] = to.id_of(from.number_at(id as u8));
     }
 }
 

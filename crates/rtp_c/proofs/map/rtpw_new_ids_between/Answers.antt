@@ -1,26 +1,39 @@
-use Rattle.std.proofs.Common.{rules, ◌≡◌, ℕ, length, arith}
+use Rattle.std.proofs.Common.{rules, ◌≡◌, ◌∙◌, ℕ, zero, suc, length, get_or, refl, arith}
+use lib.ListN.{replicate}
+use Rattle.std.proofs.lemmas.List.{get_or-set_other}
 use Rattle.rtp_c.specs.StoredMap.{Means, AreNewIdsOf}
-use Rattle.rtp_c.proofs.MeantLemmas.{HaveNewIds-next, AreNewIdsOf-all, CarryKinds-new}
+use Rattle.rtp_c.proofs.MeantLemmas.{HaveNewIds-next, HaveNewIds-past, AreNewIdsOf-all, CarryKinds-new}
 use Rattle.rtp_c.proofs.map.rtpw_new_ids_between.Goals as goal
 
+-- a table of zeros
+no_ids : (n id : ℕ) → get_or (replicate {A = ℕ} n 0) id 0 ≡ 0
+no_ids zero id = refl
+no_ids (suc n) zero = refl
+no_ids (suc n) (suc id) = no_ids n id
+
 pub loop-id-init : goal.loop-id-init
-loop-id-init c = record { many = search rules; each = λ id below. absurd (omega (arith, below)) }
+loop-id-init c = (record { many = search rules; each = λ id below. absurd (omega (arith, below)) }, λ id within. no_ids 256 id)
 
 pub loop-id-preserved : goal.loop-id-preserved
 loop-id-preserved c =
-    HaveNewIds-next c.args.from.now.kind c.args.to.now.kind c.loop-id.new-items c.loop-id.id c.number_at.result c.id_of.result c.loop-id-test.true c.loop-id.invariant
-    c.number_at.ensures c.id_of.ensures
+    let within = c.loop-id-test.true in (
+      HaveNewIds-next c.args.from.now.kind c.args.to.now.kind c.loop-id.ids.id c.loop-id.id c.number_at.result c.id_of.result
+          (omega (arith, within, c.numbers_end-id-end.ensures.few)) c.loop-id.invariant.0 c.number_at.ensures c.id_of.ensures,
+      λ id past. get_or-set_other c.loop-id.ids.id c.loop-id.id id c.id_of.result 0 (omega (arith, past)) ∙ c.loop-id.invariant.1 id (omega (arith, past)),
+    )
 
-are_new : (c : goal.After-loop-id) → AreNewIdsOf c.args.from.now.kind c.args.to.now.kind c.loop-id.new-items
+are_new : (c : goal.After-loop-id) → AreNewIdsOf c.args.from.now.kind c.args.to.now.kind c.loop-id.ids.id
 are_new c =
     let many : length c.args.from.now.kind ≡ 256 = search rules in
-    AreNewIdsOf-all c.args.from.now.kind c.args.to.now.kind c.loop-id.new-items c.loop-id.id c.loop-id-test.false many c.loop-id.invariant
+    AreNewIdsOf-all c.args.from.now.kind c.args.to.now.kind c.loop-id.ids.id 256 (omega arith) many
+    (HaveNewIds-past c.args.from.now.kind c.args.to.now.kind c.loop-id.ids.id c.loop-id.id
+    (λ id past below. c.numbers_end-id-end.ensures.zeros id (omega (arith, past, c.loop-id-test.false)) below) c.loop-id.invariant.1 c.loop-id.invariant.0)
 
 pub returns-clause-ids : goal.returns-clause-ids
 returns-clause-ids c = are_new c
 
 pub returns-clause-kinds : goal.returns-clause-kinds
-returns-clause-kinds c = CarryKinds-new c.args.from.now.kind c.args.to.now.kind c.loop-id.new-items (are_new c)
+returns-clause-kinds c = CarryKinds-new c.args.from.now.kind c.args.to.now.kind c.loop-id.ids.id (are_new c)
 
 pub returns-clause-first : goal.returns-clause-first
 returns-clause-first c =

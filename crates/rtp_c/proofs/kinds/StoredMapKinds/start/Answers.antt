@@ -2,29 +2,13 @@ use Rattle.std.specs.Array.{IsFirstChunk}
 use Rattle.std.specs.Option.{MatchOption}
 use Rattle.std.proofs.Common.{◌≡◌, ℕ, List, Bor, Option, subst, ◌+◌, ◌-◌, ◌<◌, ◌≤◌, arith, sym, ap, ◌∙◌, length, take, get_or, rules, drop, inl, inr}
 use Rattle.std.proofs.lemmas.Bool.{cases_lt}
-use Rattle.std.proofs.lemmas.List.{get_or-drop, get_or_past, get_or-take, length-drop, length-take}
+use Rattle.std.proofs.lemmas.List.{get_or-take}
 use Rattle.rtp_ext.specs.ExtensionMap.{items_from}
 use Rattle.rtp_c.specs.StoredMap.{numbered_slots}
+use Rattle.rtp_c.proofs.FewSlotsLemmas.{zeros_in, zeros_past}
 use Rattle.rtp_c.proofs.NumberedLemmas.{numbered-low, numbered-all, numbered-few}
 use Rattle.rtp_c.proofs.kinds.StoredMapKinds.start.Goals as goal
 use Rattle.rtp_c.proofs.kinds.StoredMapKinds.start.Goals.{else-is_low, then-is_low+then-is_few, then-is_low+else-is_few+then-self-eq0, then-is_low+else-is_few+else-self-eq0}
-
--- numbers that are 0 between two indices, as they are looked at
-zeros_in : (numbers : List ℕ) (n m i : ℕ) → n + m ≤ length numbers
-    → ((k : ℕ) → k < length (take m (drop n numbers)) → get_or (take m (drop n numbers)) k 0 ≡ 0) → n ≤ i → i < n + m → get_or numbers i 0 ≡ 0
-zeros_in numbers n m i all zeros above below =
-    let index : i ≡ n + (i - n) = omega arith in
-    let here : i - n < m = omega arith in
-    ap (λ (k : ℕ). get_or numbers k 0) index ∙ sym (get_or-drop n numbers (i - n) 0) ∙ sym (get_or-take m (drop n numbers) (i - n) 0 here)
-    ∙ zeros (i - n) (omega (arith, here, length-take m (drop n numbers), length-drop n numbers))
-
--- the numbers past a middle are 0, and so are those of the middle
-zeros_past : (numbers : List ℕ) (n m i : ℕ) → n + m ≡ length numbers
-    → ((k : ℕ) → k < length (take m (drop n numbers)) → get_or (take m (drop n numbers)) k 0 ≡ 0) → n ≤ i → get_or numbers i 0 ≡ 0
-zeros_past numbers n m i all zeros above = elim (cases_lt i (n + m)) [
-  | inl here ↦ zeros_in numbers n m i (omega arith) zeros above here
-  | inr past ↦ get_or_past numbers i 0 (omega (arith, past))
-]
 
 zeros_from : (numbers : List ℕ) (n m l i : ℕ) → m + l ≡ length numbers → n ≤ m
     → ((k : ℕ) → k < length (take (m - n) (drop n numbers)) → get_or (take (m - n) (drop n numbers)) k 0 ≡ 0)
