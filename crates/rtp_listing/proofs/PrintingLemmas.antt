@@ -16,9 +16,7 @@ use Rattle.rtp_wire.specs.Sources.{numbers_beside}
 use Rattle.rtp_wire.specs.EachSource.{HoldsEach, taken_after_each}
 use Rattle.rtp_listing.specs.Input.{AreHex}
 use Rattle.rtp_listing.specs.Front.{IsHexText}
-use Rattle.rtp_listing.specs.declared.program.RunEnd.TheVariants.{NoMemory}
-use Rattle.rtp_listing.specs.Output.{IsHeader, packet_lines, Prints}
-use Rattle.rtp_listing.specs.Stopping.{IsPartialListing}
+use Rattle.rtp_listing.specs.Output.{IsHeader, packet_lines}
 use Rattle.rtp_listing.proofs.PrintLemmas.{Printed, Printed-none, Printed-more, Printed-written}
 
 -- the lines of the datagrams so far are printed or in the text, and the rest of the input is the lines of the others
