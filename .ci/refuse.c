@@ -1,6 +1,6 @@
 // Refuses one growth of memory to a program that it is loaded into (LD_PRELOAD): the one whose number
-// REFUSE says, from 1. At the end it writes to standard error whether there was such a growth, and how
-// many pieces of memory are still held.
+// REFUSE says, from 1; and those behind it, as many in a row as REFUSE_IN_A_ROW says. At the end it
+// writes to standard error whether there was such a growth, and how many pieces of memory are still held.
 #define _GNU_SOURCE
 #include <dlfcn.h>
 #include <stdio.h>
@@ -11,8 +11,11 @@ static long growths, held;
 
 static int is_refused(void)
 {
-    const char *number = getenv("REFUSE");
-    return number && ++growths == atol(number);
+    const char *number = getenv("REFUSE"), *in_a_row = getenv("REFUSE_IN_A_ROW");
+    if (!number)
+        return 0;
+    long behind = ++growths - atol(number);
+    return behind >= 0 && behind < (in_a_row ? atol(in_a_row) : 1);
 }
 
 void *malloc(size_t size)

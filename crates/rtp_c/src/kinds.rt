@@ -148,8 +148,7 @@ impl StoredMap {
         }
     }
 
-    // An id from which on no id means a number: 16, where only ids of the one-byte form and 15 do, or the
-    // one past all.
+    // The index from which on each number is 0: 16 where all from there on are, or the end.
     pub(super) fn numbers_end(&self) -> usize
         ensures zeros { (id : ℕ) → result ≤ id → id < 256 → slice_index self.now.kind id ≡ 0 }
         ensures few { result ≤ 256 }

@@ -6,8 +6,6 @@ use Rattle.std.proofs.lemmas.List.{get_or-set_same, get_or-set_other, get_or_pas
 use Rattle.std.proofs.lemmas.List.Elements.{All-head, All-tail}
 use Rattle.std.proofs.Math.Seq.{drop-cons}
 use Rattle.rtp_values.specs.declared.kind.Extension.{Extension}
-use Rattle.rtp_values.specs.declared.kind.Extension.TheVariants.{UnknownUri}
-use Rattle.rtp_values.specs.Kind.{IsKnown}
 use Rattle.rtp_ext.specs.ExtensionMap.{Entry, Slots, IsEmpty, IsId, IsListing, Sets, entry_at, extension_at, extension_of, is_of_medium, of_medium, unlocked, items_from}
 use Rattle.rtp_ext.specs.MapSlots.{IsMapped, mapped_ids}
 use Rattle.rtp_ext.proofs.MapLemmas.{entry_at-slot, entry_at-mapped, entry_at-other}
@@ -87,12 +85,6 @@ IsOfMediumBut-next audio from left more to new item put are is below same sets =
 
     done : Sets to new item.0 (unlocked put)
     done = sets (id_of_mapped from item.0 item.1 first.0 below)
-
--- an extension for a medium is known
-pub of_medium_known : (audio : Bool) (extension : Extension) → is_of_medium audio extension ≡ true → IsKnown extension
-of_medium_known true (UnknownUri uri) is = cc
-of_medium_known false (UnknownUri uri) is = cc
-of_medium_known audio _ is = tt
 
 -- ---- of the whole map
 

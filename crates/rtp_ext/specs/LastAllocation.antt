@@ -1,4 +1,4 @@
--- A block of whose layer allocations the last that is well-formed is read in place of the first whose data may take memory, and of all behind that.
+-- A block of whose layer allocations the last that is well-formed is read in place of the one behind the first that is well-formed, and of all behind that.
 use Rattle.std.specs.Prelude.{◌≡◌, ◌≢◌, Bool, true, false, List, [], ◌∷◌, ◌++◌, ℕ, All}
 use Rattle.rtp_values.specs.declared.kind.Extension.{Extension}
 use Rattle.rtp_values.specs.declared.kind.Extension.TheVariants.{VideoLayersAllocation}

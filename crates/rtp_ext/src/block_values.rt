@@ -98,16 +98,6 @@ enum Search {
     Over,
 }
 
-impl Search {
-    // When it is, once an element was read by itself that has an allocation, or has none.
-    fn after(self, has_allocation: bool) -> Self {
-        match self {
-            Search::NotYet if has_allocation => Search::AtNext,
-            _ => self,
-        }
-    }
-}
-
 // Reads an element whose id is mapped to the layer allocation, or in its place the last allocation of the
 // block, where that is looked for now. Returns whether it read the last one.
 #[inline(always)]
@@ -133,7 +123,9 @@ fn read_allocation<K: Kinds, V: SetValues>(
         }
     }
     let read = KnownKind::VideoLayersAllocation.parse_value(memory, data, ev)?;
-    *search = search.after(read.is_some());
+    if read.is_some() && matches!(search, Search::NotYet) {
+        *search = Search::AtNext;
+    }
     Ok(false)
 }
 

@@ -1,6 +1,6 @@
 //! Which ids elements have under another map.
 
-ghost use Rattle.std.specs.Prelude.{◌≡◌, ◌≢◌, ◌<◌, ◌≤◌, ◌⊎◌, ◌↔◌, ℕ, IsTrue, IfSome, IfNone, Some, All, slice_index, slice_index_or};
+ghost use Rattle.std.specs.Prelude.{◌≡◌, ◌≢◌, ◌<◌, ◌≤◌, ◌⊎◌, ◌↔◌, ℕ, IsTrue, IfSome, IfNone, Some, All, length, slice_index, slice_index_or};
 ghost use Rattle.std.specs.Bool.{OnTrue};
 ghost use Rattle.rtp_values.specs.declared.kind.Extension.TheVariants.{RtpStreamId, RepairedRtpStreamId};
 ghost use Rattle.rtp_values.specs.KnownKind.{extension_of_kind};
@@ -51,6 +51,17 @@ fn fits_one_byte_form(byte: u8) -> bool
     ensures { result ≡ carries_id OneByte (id_in_byte byte) }
 {
     byte <= MAX_ID_ONE_BYTE_FORM
+}
+
+// Whether each of these eight bytes is at most the greatest id of the one-byte form. They are looked at at
+// once.
+#[inline(always)]
+fn are_short(ids: &[u8]) -> bool
+    requires { length ids.now ≡ 8 }
+    ensures { OnTrue result ((k : ℕ) → k < 8 → slice_index ids.now k ≤ 14) }
+{
+    let above = u8x8::from_slice(ids).simd_gt(u8x8::splat(MAX_ID_ONE_BYTE_FORM));
+    above.to_bitmask() == 0
 }
 
 // The lowest id that is mapped to the kind. The walk is one that `Kinds::start` returned.
@@ -191,15 +202,13 @@ impl NewIds {
         }
     }
 
-    // Whether the one-byte form can carry the new id of each id up to 15, if it has one: sixteen are looked
-    // at at once, those that its elements can have and 15.
+    // Whether the one-byte form can carry the new id of each id up to 14, if it has one.
     #[inline(always)]
     pub(super) fn fit_one_byte_form(&self) -> bool
         ensures { OnTrue result ((id : ℕ) → id ≤ 14 →
             IfSome (new_id self.now id) (λ new. (1 ≤ new) × (new ≤ 14))) }
     {
-        let above = u8x16::from_slice(&self.ids).simd_gt(u8x16::splat(MAX_ID_ONE_BYTE_FORM));
-        above.to_bitmask() == 0
+        are_short(&self.ids[..8]) && are_short(&self.ids[7..15])
     }
 
     // Whether the form can carry the new ids of a body's elements.

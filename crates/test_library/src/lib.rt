@@ -70,6 +70,8 @@ mod refused_sources;
 #[cfg(test)]
 mod refused_texts;
 #[cfg(test)]
+mod refused_twice;
+#[cfg(test)]
 mod renegotiations;
 #[cfg(test)]
 mod runs;

@@ -20,7 +20,8 @@ impl RtpHeader {
     /// looked at.
     ///
     /// Nothing is allocated except the lists of a layer allocation: an element of two bytes or
-    /// more whose id is mapped to it. Where that memory is refused nothing is returned.
+    /// more whose id is mapped to it. An error says that this memory was refused, and nothing else is
+    /// returned then.
     ///
     /// Returns `None` exactly when no header begins there: under 12 bytes, a version other than 2,
     /// a CSRC list that is cut short, or a set X bit that no block follows, since the block's first
@@ -72,9 +73,9 @@ impl RtpHeader {
     /// nothing changes.
     ///
     /// Memory is taken for the lists of a layer allocation alone, and those of the header as it was
-    /// are given back. Where memory is refused, the header has the fields of the packet, and as its
-    /// values those of the elements before the one to which it was refused. The call may be made
-    /// again.
+    /// are given back. Where the call returns the error that memory was refused, the header has the
+    /// fields of the packet, and as its values those of the elements before one to which it was
+    /// refused. The call may be made again.
     #[inline(always)]
     pub fn parse_into<K: Kinds>(
         &mut self,
@@ -138,8 +139,8 @@ impl<'a> RtpPacket<'a> {
         }
     }
 
-    /// Returns the header, with the values that the elements of the block give under the map. Where
-    /// memory is refused to a layer allocation nothing is returned.
+    /// Returns the header, with the values that the elements of the block give under the map, or the
+    /// error that memory was refused to a layer allocation.
     ///
     /// Where the form of the block is another ([`has_other_form`](Self::has_other_form)), the
     /// header has X set and no values, and [`RtpHeader::write_to`] writes an empty block for it, of

@@ -1,10 +1,7 @@
-use Rattle.std.proofs.Common.{◌≡◌, ◌∙◌, ◌≤◌, ◌%◌, ◌^◌, ap, refl, sym, subst, ℕ, zero, suc, Bool, true, false, eqb, ltb, take, map, length, get_or, List, Option, IfSome, arith, w8}
+use Rattle.std.proofs.Common.{◌≡◌, ◌∙◌, ◌≤◌, ◌<◌, ◌+◌, ◌-◌, ap, sym, subst, ℕ, zero, suc, inl, inr, Bool, true, false, take, drop, map, get_or, List, Option, IfSome, arith}
 use Rattle.std.specs.Bool.{OnTrue}
-use lib.Lanes.{mask_l}
-use lib.ListN.{replicate}
-use Rattle.std.proofs.lemmas.Bool.{eqb-true, ltb-false}
-use Rattle.std.proofs.lemmas.List.{length-take-le, length-map}
-use Rattle.std.proofs.lemmas.Simd.{tops_compared, zip2_splat_left, mask_l-mod, none_from_empty_mask}
+use Rattle.std.proofs.lemmas.Bool.{cases_lt}
+use Rattle.std.proofs.lemmas.List.{get_or-take, get_or-drop}
 use Rattle.rtp_ext.specs.NewIds.{new_id, id_in_byte}
 use Rattle.rtp_ext.proofs.NewIdLemmas.{new_id-byte}
 use Rattle.rtp_ext.proofs.new_ids.NewIds.fit_one_byte_form.Goals as goal
@@ -14,22 +11,26 @@ short_id : (byte : ℕ) → byte ≤ 14 → IfSome (id_in_byte byte) (λ new. (1
 short_id zero short = tt
 short_id (suc k) short = (omega arith, short)
 
--- where no bit is set for the bytes above 14, the first bytes say such ids
-none-above : (ids : List ℕ) (slots : List (Option ℕ)) (mask : ℕ) (test : Bool) → 16 ≤ length ids → map id_in_byte ids ≡ slots
-    → test ≡ eqb mask 0 → mask ≡ mask_l (map (λ (x : ℕ). ltb 14 x) (take 16 ids))
-    → OnTrue test ((id : ℕ) → id ≤ 14 → IfSome (new_id slots id) (λ new. (1 ≤ new) × (new ≤ 14)))
-none-above ids slots mask false long same is bits = tt
-none-above ids slots mask true long same is bits = λ id few.
-    let none = none_from_empty_mask (λ (x : ℕ). ltb 14 x) ids 0 16 0 long (sym bits ∙ eqb-true mask 0 (sym is)) id (omega arith) (omega arith) in
-    subst (λ found. IfSome (new_id found id) (λ new. (1 ≤ new) × (new ≤ 14))) same
-    (subst (λ found. IfSome found (λ new. (1 ≤ new) × (new ≤ 14))) (sym (new_id-byte ids id)) (short_id (get_or ids id 0) (ltb-false 14 (get_or ids id 0) none)))
+-- each byte up to that of the id 14 is among the first eight or the eight from the seventh on
+byte_short : (ids : List ℕ) → ((k : ℕ) → k < 8 → get_or (take 8 ids) k 0 ≤ 14) → ((k : ℕ) → k < 8 → get_or (take 8 (drop 7 ids)) k 0 ≤ 14)
+    → (id : ℕ) → id ≤ 14 → get_or ids id 0 ≤ 14
+byte_short ids low high id few = elim (cases_lt id 8) [
+  | inl here ↦ subst (λ byte. byte ≤ 14) (get_or-take 8 ids id 0 here) (low id here)
+  | inr past ↦
+      let k = id - 7 in
+      let here : id - 7 < 8 = omega (arith, past, few) in
+      let place : 7 + (id - 7) ≡ id = omega (arith, past) in
+      subst (λ byte. byte ≤ 14) (get_or-take 8 (drop 7 ids) k 0 here ∙ get_or-drop 7 ids k 0 ∙ ap (λ i. get_or ids i 0) place) (high k here)
+]
 
-pub returns : goal.returns
-returns c =
-    let ids = c.self.inside.ids in
-    let lanes = take 16 ids in
-    let long : length lanes ≡ 16 = length-take-le 16 ids (omega (arith, c.self.invariant.0)) in
-    let above = map (λ (x : ℕ). ltb 14 x) lanes in
-    none-above ids c.args.self.now _ _ (omega (arith, c.self.invariant.0)) c.self.view_is refl
-    (ap (λ ms. mask_l ms % 2 ^ 64) (tops_compared w8 ltb (replicate 16 14) lanes ∙ zip2_splat_left ltb 14 16 lanes long)
-    ∙ mask_l-mod above 64 (omega (arith, length-map lanes (λ (x : ℕ). ltb 14 x), long)))
+short_ids : (ids : List ℕ) (slots : List (Option ℕ)) (test : Bool) → map id_in_byte ids ≡ slots → ((k : ℕ) → k < 8 → get_or (take 8 ids) k 0 ≤ 14)
+    → OnTrue test ((k : ℕ) → k < 8 → get_or (take 8 (drop 7 ids)) k 0 ≤ 14)
+    → OnTrue test ((id : ℕ) → id ≤ 14 → IfSome (new_id slots id) (λ new. (1 ≤ new) × (new ≤ 14)))
+short_ids ids slots false is low high = tt
+short_ids ids slots true is low high = λ id few.
+    subst (λ found. IfSome (new_id found id) (λ new. (1 ≤ new) × (new ≤ 14))) is
+    (subst (λ found. IfSome found (λ new. (1 ≤ new) × (new ≤ 14))) (sym (new_id-byte ids id)) (short_id (get_or ids id 0) (byte_short ids low high id few)))
+
+pub returns-then-are_short : goal.returns-then-are_short
+returns-then-are_short c =
+    short_ids c.self.inside.ids c.args.self.now c.are_short-then-are_short.result c.self.view_is c.if-are_short.ensures c.are_short-then-are_short.ensures
