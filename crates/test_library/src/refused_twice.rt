@@ -33,10 +33,12 @@ fn is_read(rt: &impl Abort, alloc: Global, body: &[u8], before: &[&[u8]]) -> boo
     false
 }
 
-// Reads the body three times, the last time with memory.
+// Reads the body until memory is there, the third time at the latest.
 fn read_at_last(rt: &impl Abort, alloc: Global, body: &[u8], before: &[&[u8]]) {
     for _ in 0..2 {
-        is_read(rt, alloc, body, before);
+        if is_read(rt, alloc, body, before) {
+            return;
+        }
     }
     holds(rt, "memory", is_read(rt, alloc, body, before));
 }
