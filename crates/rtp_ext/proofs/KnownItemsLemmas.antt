@@ -2,6 +2,7 @@
 use Rattle.std.proofs.Common.{◌≡◌, ℕ, ◌+◌, ◌≤◌, ◌⊎◌, inl, inr, suc, List, [], ◌∷◌, length, map, Bool, true, false, Some, None, refl, sym, ap, ◌∙◌, arith}
 use Rattle.std.specs.Prelude.{◌||◌, nat_lt, if◌then◌else◌}
 use Rattle.std.specs.List.{list_any, cons_option}
+use Rattle.std.proofs.lemmas.Bool.{or_parts}
 use Rattle.rtp_values.specs.declared.kind.Extension.{Extension}
 use Rattle.rtp_values.specs.declared.kind.Extension.TheVariants.{UnknownUri}
 use Rattle.rtp_values.specs.declared.value.values.ExtensionValues.{ExtensionValues}
@@ -12,7 +13,7 @@ use Rattle.rtp_ext.specs.declared.form.ExtensionsForm.{ExtensionsForm}
 use Rattle.rtp_ext.specs.declared.form.ExtensionsForm.TheVariants.{OneByte, TwoByte}
 use Rattle.rtp_ext.specs.Elements.{Element}
 use Rattle.rtp_ext.specs.ExtensionMap.{Slots, items_from, mapped_count}
-use Rattle.rtp_ext.specs.KindsById.{known_alone, known_slots, is_long_item, has_empty}
+use Rattle.rtp_ext.specs.KindsById.{known_alone, known_slots, is_long_item, has_long_data, has_empty}
 use Rattle.rtp_ext.specs.MapSlots.{mapped_ids}
 use Rattle.rtp_ext.specs.WrittenBlock.{written_elements, needs_two, form_of, fields_of_items, image_values}
 use Rattle.rtp_ext.proofs.FormLemmas.{Item, element_of, elements_of}
@@ -146,39 +147,56 @@ count_known exts known is = omega (arith, ap mapped_count is, count-known 0 exts
 
 -- ---- for what says the kinds of ids
 
+or_each : (a b above all known : Bool) → all ≡ (above || known) → ((a || b) || all) ≡ ((a || above) || (b || known))
+or_each true b above all known is = refl
+or_each false true true all known is = refl
+or_each false true false all known is = refl
+or_each false false above all known is = is
+
 long-cons : (passed : ℕ) (extension : Extension) (left : Slots)
-    → list_any is_long_item (items_from (passed + 1) left) ≡ (above (passed + 1) left || list_any is_long_item (items_from (passed + 1) (known_slots left)))
+    → list_any is_long_item (items_from (passed + 1) left) ≡ (above (passed + 1) left || list_any has_long_data (items_from (passed + 1) (known_slots left)))
     → (is_long_item (passed + 1, extension) || list_any is_long_item (items_from (passed + 1) left))
-    ≡ ((nat_lt 14 (passed + 1) || above (passed + 1) left) || list_any is_long_item (items_from passed (known_alone extension ∷ known_slots left)))
+    ≡ ((nat_lt 14 (passed + 1) || above (passed + 1) left) || list_any has_long_data (items_from passed (known_alone extension ∷ known_slots left)))
 long-cons passed (UnknownUri uri) left is =
     or_unknown (nat_lt 14 (passed + 1)) (above (passed + 1) left) (list_any is_long_item (items_from (passed + 1) left))
-    (list_any is_long_item (items_from (passed + 1) (known_slots left))) is
+    (list_any has_long_data (items_from (passed + 1) (known_slots left))) is
 long-cons passed extension left is =
-    or_above (nat_lt 14 (passed + 1)) (nat_lt 16 (longest extension)) (above (passed + 1) left) (list_any is_long_item (items_from (passed + 1) left))
-    (list_any is_long_item (items_from (passed + 1) (known_slots left))) is
+    or_each (nat_lt 14 (passed + 1)) (nat_lt 16 (longest extension)) (above (passed + 1) left) (list_any is_long_item (items_from (passed + 1) left))
+    (list_any has_long_data (items_from (passed + 1) (known_slots left))) is
 
 long-known : (passed : ℕ) (left : Slots)
-    → list_any is_long_item (items_from passed left) ≡ (above passed left || list_any is_long_item (items_from passed (known_slots left)))
+    → list_any is_long_item (items_from passed left) ≡ (above passed left || list_any has_long_data (items_from passed (known_slots left)))
 long-known passed [] = refl
 long-known passed (None ∷ left) = long-known (passed + 1) left
 long-known passed (Some entry ∷ left) = long-cons passed entry.extension left (long-known (passed + 1) left)
 
--- a mapped id is long for being above 14, or as a known one
+-- a mapped id is long for being above 14, or for the data that its kind may have
 pub long_split : (exts known : Slots) (ids : List ℕ) → ids ≡ mapped_ids exts → known ≡ known_slots exts
-    → list_any is_long_item (items_from 0 exts) ≡ (list_any (nat_lt 14) ids || list_any is_long_item (items_from 0 known))
+    → list_any is_long_item (items_from 0 exts) ≡ (list_any (nat_lt 14) ids || list_any has_long_data (items_from 0 known))
 long_split exts known ids are is =
     long-known 0 exts
-    ∙ ap (λ (slots : Slots). above 0 exts || list_any is_long_item (items_from 0 slots)) (sym is)
-    ∙ ap (λ (list : List ℕ). list_any (nat_lt 14) list || list_any is_long_item (items_from 0 known)) (sym are)
+    ∙ ap (λ (slots : Slots). above 0 exts || list_any has_long_data (items_from 0 slots)) (sym is)
+    ∙ ap (λ (list : List ℕ). list_any (nat_lt 14) list || list_any has_long_data (items_from 0 known)) (sym are)
 
-second : (a b : Bool) → (a || b) ≡ false → b ≡ false
-second true b is = cc
-second false b is = is
+short-cons : (passed : ℕ) (extension : Extension) (left : Slots) → is_long_item (passed + 1, extension) ≡ false
+    → list_any is_long_item (items_from (passed + 1) (known_slots left)) ≡ false
+    → list_any is_long_item (items_from passed (known_alone extension ∷ known_slots left)) ≡ false
+short-cons passed (UnknownUri uri) left first rest = rest
+short-cons passed extension left first rest =
+    ap (λ (b : Bool). b || list_any is_long_item (items_from (passed + 1) (known_slots left))) first ∙ rest
 
+short-known : (passed : ℕ) (left : Slots) → list_any is_long_item (items_from passed left) ≡ false
+    → list_any is_long_item (items_from passed (known_slots left)) ≡ false
+short-known passed [] short = refl
+short-known passed (None ∷ left) short = short-known (passed + 1) left short
+short-known passed (Some entry ∷ left) short =
+    let parts = or_parts (is_long_item (passed + 1, entry.extension)) (list_any is_long_item (items_from (passed + 1) left)) short in
+    short-cons passed entry.extension left parts.0 (short-known (passed + 1) left parts.1)
+
+-- where none of the mapped ids is long, none of the known ones is
 pub not_long_known : (exts known : Slots) → known ≡ known_slots exts → list_any is_long_item (items_from 0 exts) ≡ false
     → list_any is_long_item (items_from 0 known) ≡ false
-not_long_known exts known is short =
-    second (list_any (nat_lt 14) (mapped_ids exts)) (list_any is_long_item (items_from 0 known)) (sym (long_split exts known (mapped_ids exts) refl is) ∙ short)
+not_long_known exts known is short = ap (λ (slots : Slots). list_any is_long_item (items_from 0 slots)) is ∙ short-known 0 exts short
 
 empty-cons : (values : ExtensionValues) (passed : ℕ) (extension : Extension) (left : Slots)
     → has_empty (items_from (passed + 1) (known_slots left)) values ≡ has_empty (items_from (passed + 1) left) values

@@ -1,30 +1,40 @@
--- The values of a block whose last allocation is read in place of one before it.
+-- Rows of layer allocations, and the values once the last of a row was read in place of all.
 use Rattle.std.proofs.Common.{◌≡◌, ◌≢◌, ◌≤◌, ℕ, inl, inr, ◌↔◌, Bool, true, false, IsTrue, List, [], ◌∷◌, ◌++◌, length, Option, Some, None, Result, Ok, Err, IsOk, IfOk, All, append-nil, ap, refl, sym, ◌∙◌, subst}
-use Rattle.std.specs.declared.alloc.AllocError.{AllocError}
-use Rattle.std.proofs.lemmas.List.Elements.{All-append, All-cons, All-push, All-nil}
-use Rattle.std.proofs.lemmas.List.{append_assoc}
 use Rattle.std.specs.Option.{option_map, option_eq}
 use denote.Enum.Bare.{sameb}
 use Rattle.std.proofs.lemmas.Bool.{false≢true}
 use Rattle.rtp_values.specs.contracts.known_kind.KnownKind.{the_type}
+use Rattle.std.specs.declared.alloc.AllocError.{AllocError}
+use Rattle.std.proofs.lemmas.List.Elements.{All-append, All-cons, All-push, All-nil}
+use Rattle.std.proofs.lemmas.List.{append_assoc}
+use Rattle.rtp_values.specs.declared.kind.Extension.{Extension}
+use Rattle.rtp_values.specs.declared.kind.Extension.TheVariants.{VideoLayersAllocation}
 use Rattle.rtp_values.specs.declared.known_kind.KnownKind.{KnownKind}
 use Rattle.rtp_values.specs.declared.known_kind.KnownKind.TheVariants as known
 use Rattle.rtp_values.specs.KnownKind.{extension_of_kind}
-use Rattle.rtp_values.specs.declared.kind.Extension.{Extension}
-use Rattle.rtp_values.specs.declared.kind.Extension.TheVariants.{VideoLayersAllocation}
 use Rattle.rtp_values.specs.declared.value.values.ExtensionValues.{ExtensionValues}
 use Rattle.rtp_values.specs.Values.{Reads, SameFields, IsWellFormed}
 use Rattle.rtp_values.specs.KindBytes.{ReadsInto}
-use Rattle.rtp_values.proofs.FieldLemmas.{Reads-same, SameFields-refl, SameFields-sym, SameFields-trans, SameFields-others}
+use Rattle.rtp_values.proofs.FieldLemmas.{Reads-same, SameFields-refl, SameFields-trans, SameFields-others}
 use Rattle.rtp_values.proofs.KindLemmas.{same_or_not, one_kind}
 use Rattle.rtp_ext.specs.Elements.{Element}
 use Rattle.rtp_ext.specs.ExtensionMap.{Slots, extension_at}
 use Rattle.rtp_ext.specs.BlockValues.{Carries, AreFields, last, none, ReadElements}
 use Rattle.rtp_ext.specs.Memory.{ReadUntilRefused}
-use Rattle.rtp_ext.specs.LastAllocation.{IsLastAllocation, last_is, none_is, ReadsAllocation, those_behind, IsReadTo}
-use Rattle.rtp_ext.proofs.ValuesLaws.{AreValues-none, AreFields-one}
+use Rattle.rtp_ext.specs.LastAllocation.{IsLastAllocation, last_is, none_is, EndsRow, IsReadTo}
+use Rattle.rtp_ext.proofs.ValuesLaws.{ReadElements-none}
 
--- ---- the kind of the allocation
+-- ---- what an id is mapped to
+
+-- an element whose id is mapped to a kind, and to the layer allocation
+pub mapped-to : (exts : Slots) (id : ℕ) (found : Option KnownKind) (kind : KnownKind) → option_map extension_of_kind found ≡ extension_at exts id → found ≡ Some kind
+    → extension_at exts id ≡ Some (extension_of_kind kind)
+mapped-to exts id found kind at is = sym at ∙ ap (option_map extension_of_kind) is
+
+pub mapped-to-layers : (exts : Slots) (id : ℕ) (found : Option KnownKind) (kind same : KnownKind) → option_map extension_of_kind found ≡ extension_at exts id → found ≡ Some kind
+    → kind ≡ same → extension_of_kind same ≡ VideoLayersAllocation → extension_at exts id ≡ Some VideoLayersAllocation
+mapped-to-layers exts id found kind same at is kind_is layers =
+    mapped-to exts id found kind at is ∙ ap (λ k. Some (extension_of_kind k)) kind_is ∙ ap (λ extension. Some extension) layers
 
 -- a test whether the kind is that of the allocation
 pub kind-tested : (found : Option KnownKind) (test : Bool) → test ≡ option_eq (sameb the_type) found (Some known.VideoLayersAllocation)
@@ -33,17 +43,12 @@ kind-tested None test is = (λ yes. absurd (false≢true (sym is ∙ yes)), λ s
 kind-tested (Some known.VideoLayersAllocation) test is = (λ yes. refl, λ some. is)
 kind-tested (Some _) test is = (λ yes. absurd (false≢true (sym is ∙ yes)), λ some. absurd cc)
 
--- the kind of the layer allocation is one
-pub allocation-kind : (kind : KnownKind) → extension_of_kind kind ≡ VideoLayersAllocation → kind ≡ known.VideoLayersAllocation
-allocation-kind known.VideoLayersAllocation is = refl
-allocation-kind _ is = absurd cc
-
 -- ---- which data count
 
 pub IsLastAllocation-none : (exts : Slots) (first : List ℕ) → IsLastAllocation exts [] first first
 IsLastAllocation-none exts first = none_is (All-nil (λ e. Carries exts VideoLayersAllocation e → ⊥)) refl
 
-pub IsLastAllocation-passed : (exts : Slots) (done : List Element) (element : Element) (first bytes : List ℕ)
+IsLastAllocation-passed : (exts : Slots) (done : List Element) (element : Element) (first bytes : List ℕ)
     → (Carries exts VideoLayersAllocation element → ⊥) → IsLastAllocation exts done first bytes
     → IsLastAllocation exts (done ++ element ∷ []) first bytes
 IsLastAllocation-passed exts done element first bytes not_carried (last_is before after found is carries later bytes_are) =
@@ -53,10 +58,65 @@ IsLastAllocation-passed exts done element first bytes not_carried (last_is befor
 IsLastAllocation-passed exts done element first bytes not_carried (none_is never bytes_are) =
     none_is (All-push (λ e. Carries exts VideoLayersAllocation e → ⊥) done element never not_carried) bytes_are
 
-pub IsLastAllocation-taken : (exts : Slots) (done : List Element) (element : Element) (first : List ℕ)
+IsLastAllocation-taken : (exts : Slots) (done : List Element) (element : Element) (first : List ℕ)
     → Carries exts VideoLayersAllocation element → IsLastAllocation exts (done ++ element ∷ []) first element.1
 IsLastAllocation-taken exts done element first carries =
     last_is done [] element refl carries (All-nil (λ e. Carries exts VideoLayersAllocation e → ⊥)) refl
+
+-- ---- how a row grows
+
+-- the element after those that were passed is passed too
+one_less : (elements done left : List Element) (element : Element) → elements ≡ done ++ element ∷ left → elements ≡ (done ++ element ∷ []) ++ left
+one_less elements done left element is = is ∙ sym (append_assoc done (element ∷ []) left)
+
+pub EndsRow-start : (exts : Slots) (first : List ℕ) (elements : List Element) → EndsRow exts first elements elements first
+EndsRow-start exts first elements = record {
+  row = [];
+  elements_are = refl;
+  no_other = λ kind differs. All-nil (λ e. Carries exts kind e → ⊥);
+  last = IsLastAllocation-none exts first;
+  memory = λ long. long;
+}
+
+-- one more element carries nothing
+pub EndsRow-passed : (exts : Slots) (first : List ℕ) (elements left : List Element) (element : Element) (bytes : List ℕ)
+    → ((kind : Extension) → Carries exts kind element → ⊥) → EndsRow exts first elements (element ∷ left) bytes
+    → EndsRow exts first elements left bytes
+EndsRow-passed exts first elements left element bytes nothing was = record {
+  row = was.row ++ element ∷ [];
+  elements_are = one_less elements was.row left element was.elements_are;
+  no_other = λ kind differs. All-push (λ e. Carries exts kind e → ⊥) was.row element (was.no_other kind differs) (nothing kind);
+  last = IsLastAllocation-passed exts was.row element first bytes (nothing VideoLayersAllocation) was.last;
+  memory = was.memory;
+}
+
+-- one more element carries an allocation
+pub EndsRow-taken : (exts : Slots) (first : List ℕ) (elements left : List Element) (element : Element) (bytes : List ℕ)
+    → 2 ≤ length first → Carries exts VideoLayersAllocation element → EndsRow exts first elements (element ∷ left) bytes
+    → EndsRow exts first elements left element.1
+EndsRow-taken exts first elements left element bytes long carries was = record {
+  row = was.row ++ element ∷ [];
+  elements_are = one_less elements was.row left element was.elements_are;
+  no_other = λ kind differs. All-push (λ e. Carries exts kind e → ⊥) was.row element (was.no_other kind differs)
+      (λ other. differs (one_kind (sym other.0 ∙ carries.0)));
+  last = IsLastAllocation-taken exts was.row element first carries;
+  memory = λ bytes_long. long;
+}
+
+-- what is left begins with these elements
+pub EndsRow-left : (exts : Slots) (first : List ℕ) (elements left these : List Element) (bytes : List ℕ) → left ≡ these
+    → EndsRow exts first elements left bytes → EndsRow exts first elements these bytes
+EndsRow-left exts first elements left these bytes same was = subst (λ es. EndsRow exts first elements es bytes) same was
+
+-- an element of an id that is mapped to nothing carries nothing, nor does a malformed allocation
+pub unmapped-carries : (exts : Slots) (element : Element) → extension_at exts element.0 ≡ None → (kind : Extension) → Carries exts kind element → ⊥
+unmapped-carries exts element is kind carries = let both = sym is ∙ carries.0 in cc
+
+pub malformed-carries : (exts : Slots) (element : Element) → extension_at exts element.0 ≡ Some VideoLayersAllocation
+    → (IsWellFormed VideoLayersAllocation element.1 → ⊥) → (kind : Extension) → Carries exts kind element → ⊥
+malformed-carries exts element mapped malformed kind carries =
+    let same : kind ≡ VideoLayersAllocation = one_kind (sym carries.0 ∙ mapped) in
+    malformed (subst (λ k. IsWellFormed k element.1) same carries.1)
 
 -- ---- what is read
 
@@ -71,202 +131,104 @@ AreFields-joined exts xs ys kind u v w (last before after x is mapped reads late
 AreFields-joined exts xs ys kind u v w (none before same_before) (none never same) =
     none (All-append (λ e. Carries exts kind e → ⊥) xs ys before never) (SameFields-trans kind u v w same_before same)
 
--- the fields of a kind stay what they are
-AreFields-same : (exts : Slots) (xs : List Element) (kind : Extension) (u v w : ExtensionValues)
-    → AreFields exts xs kind u v → SameFields kind v w → AreFields exts xs kind u w
-AreFields-same exts xs kind u v w fields same =
-    subst (λ es. AreFields exts es kind u w) (append-nil xs)
-    (AreFields-joined exts xs [] kind u v w fields (none (All-nil (λ e. Carries exts kind e → ⊥)) same))
+ReadElements-joined : {V : Type 0} (Shows : V → ExtensionValues → Type 0) (exts : Slots) (xs ys : List Element) (old between new : V)
+    → ReadElements Shows exts xs old between → ReadElements Shows exts ys between new → ReadElements Shows exts (xs ++ ys) old new
+ReadElements-joined Shows exts xs ys old between new first second before shows =
+    let so_far = first before shows in
+    let next = second so_far.0 so_far.1 in
+    (next.0, next.1, λ kind. AreFields-joined exts xs ys kind before so_far.0 next.0 (so_far.2 kind) (next.2 kind))
 
--- one element that doesn't carry the kind
-not_in_one : (exts : Slots) (element : Element) (kind : Extension) → (Carries exts kind element → ⊥) → All (λ e. Carries exts kind e → ⊥) (element ∷ [])
-not_in_one exts element kind not_carried =
-    All-cons (λ e. Carries exts kind e → ⊥) element [] not_carried (All-nil (λ e. Carries exts kind e → ⊥))
-
-AreFields-other : (exts : Slots) (element : Element) (kind : Extension) (v w : ExtensionValues)
-    → (Carries exts kind element → ⊥) → AreFields exts (element ∷ []) kind v w → SameFields kind v w
-AreFields-other exts element kind v w not_carried fields =
-    SameFields-sym kind w v (AreFields-one exts (element ∷ []) kind v w v fields
-    (none (not_in_one exts element kind not_carried) (SameFields-refl kind v)))
-
--- an element of another kind
-not_other : (exts : Slots) (element : Element) (kind : Extension) → extension_at exts element.0 ≡ Some VideoLayersAllocation
-    → kind ≢ VideoLayersAllocation → Carries exts kind element → ⊥
-not_other exts element kind mapped differs carries = differs (one_kind (sym carries.0 ∙ mapped))
-
-pub ReadsAllocation-parsed : {V : Type 0} (Shows : V → ExtensionValues → Type 0) (exts : Slots) (element : Element) (later : List Element) (bytes : List ℕ)
+-- the data that count in a row were read: that reads the element of the first data and the row
+pub ReadElements-row : {V : Type 0} (Shows : V → ExtensionValues → Type 0) (exts : Slots) (element : Element) (row : List Element) (bytes : List ℕ)
     (old new : V) (result : Result (Option (Unit {0})) AllocError) → extension_at exts element.0 ≡ Some VideoLayersAllocation
-    → IsLastAllocation exts later element.1 bytes → IsOk result
+    → ((kind : Extension) → kind ≢ VideoLayersAllocation → All (λ e. Carries exts kind e → ⊥) row)
+    → IsLastAllocation exts row element.1 bytes → IsOk result
     → (result ≡ Ok (Some (record {})) → ReadsInto Shows VideoLayersAllocation bytes old new)
     → (IsWellFormed VideoLayersAllocation bytes → IfOk result (λ answer. answer ≡ Some (record {})))
-    → (result ≢ Ok (Some (record {})) → new ≡ old) → ReadsAllocation Shows exts (element ∷ later) old new
-ReadsAllocation-parsed Shows exts element later bytes old new (Err e) mapped is ok found only unchanged before shows = cc
-ReadsAllocation-parsed Shows exts element later bytes old new (Ok (Some read)) mapped is ok found only unchanged before shows =
-    let next = found refl before shows in (
-      next.0,
-      next.1,
-      fields next.0 next.2 is,
-      λ kind differs. subst (SameFields kind before) (sym next.3) (SameFields-others VideoLayersAllocation kind before next.0 differs),
+    → (result ≢ Ok (Some (record {})) → new ≡ old) → ReadElements Shows exts (element ∷ row) old new
+ReadElements-row Shows exts element row bytes old new result mapped no_other is ok found only unchanged before shows =
+    let all = by_answer result refl in (
+      all.0,
+      all.1,
+      λ kind. elim (same_or_not kind VideoLayersAllocation) [
+        | inl same ↦ subst (λ k. AreFields exts (element ∷ row) k before all.0) (sym same) all.2
+        | inr differs ↦ none (All-cons (λ e. Carries exts kind e → ⊥) element row
+            (λ carries. differs (one_kind (sym carries.0 ∙ mapped))) (no_other kind differs)) (all.3 kind differs)
+      ],
     )
   where
-    fields : (after : ExtensionValues) → Reads VideoLayersAllocation bytes after → IsLastAllocation exts later element.1 bytes
-        → AreFields exts (element ∷ later) VideoLayersAllocation before after
-    fields after reads (last_is front back x parts carries never bytes_are) =
+    -- the allocation, and that all else stays
+    Answer : Type 0
+    Answer = (after : ExtensionValues) × Shows new after × AreFields exts (element ∷ row) VideoLayersAllocation before after
+        × ((kind : Extension) → kind ≢ VideoLayersAllocation → SameFields kind before after)
+
+    malformed : result ≡ Ok None → IsWellFormed VideoLayersAllocation bytes → ⊥
+    malformed was well_formed = let contradiction = subst (λ r. IfOk r (λ answer. answer ≡ Some (record {}))) was (only well_formed) in cc
+
+    read_fields : (after : ExtensionValues) → Reads VideoLayersAllocation bytes after → IsLastAllocation exts row element.1 bytes
+        → AreFields exts (element ∷ row) VideoLayersAllocation before after
+    read_fields after reads (last_is front back x parts carries never bytes_are) =
         last (element ∷ front) back x (ap (λ es. element ∷ es) parts) carries.0
         (subst (λ bs. Reads VideoLayersAllocation bs after) bytes_are reads) never
-    fields after reads (none_is never bytes_are) =
-        last [] later element refl mapped (subst (λ bs. Reads VideoLayersAllocation bs after) bytes_are reads) never
-ReadsAllocation-parsed Shows exts element later bytes old new (Ok None) mapped is ok found only unchanged before shows = (
-  before,
-  subst (λ v. Shows v before) (sym (unchanged (λ same. cc))) shows,
-  fields is,
-  λ kind differs. SameFields-refl kind before,
-)
-  where
-    malformed : IsWellFormed VideoLayersAllocation bytes → ⊥
-    malformed well_formed = let contradiction = only well_formed in cc
+    read_fields after reads (none_is never bytes_are) =
+        last [] row element refl mapped (subst (λ bs. Reads VideoLayersAllocation bs after) bytes_are reads) never
 
-    fields : IsLastAllocation exts later element.1 bytes → AreFields exts (element ∷ later) VideoLayersAllocation before before
-    fields (last_is front back x parts carries never bytes_are) =
-        absurd (malformed (subst (IsWellFormed VideoLayersAllocation) (sym bytes_are) carries.1))
-    fields (none_is never bytes_are) =
-        none (All-cons (λ e. Carries exts VideoLayersAllocation e → ⊥) element later
-        (λ carries. malformed (subst (IsWellFormed VideoLayersAllocation) (sym bytes_are) carries.1)) never)
+    same_fields : result ≡ Ok None → IsLastAllocation exts row element.1 bytes → AreFields exts (element ∷ row) VideoLayersAllocation before before
+    same_fields was (last_is front back x parts carries never bytes_are) =
+        absurd (malformed was (subst (IsWellFormed VideoLayersAllocation) (sym bytes_are) carries.1))
+    same_fields was (none_is never bytes_are) =
+        none (All-cons (λ e. Carries exts VideoLayersAllocation e → ⊥) element row
+        (λ carries. malformed was (subst (IsWellFormed VideoLayersAllocation) (sym bytes_are) carries.1)) never)
         (SameFields-refl VideoLayersAllocation before)
+
+    by_answer : (answer : Result (Option (Unit {0})) AllocError) → result ≡ answer → Answer
+    by_answer (Err e) was = let contradiction = subst IsOk was ok in cc
+    by_answer (Ok (Some read)) was =
+        let next = found was before shows in
+        (next.0, next.1, read_fields next.0 next.2 is,
+        λ kind differs. subst (SameFields kind before) (sym next.3) (SameFields-others VideoLayersAllocation kind before next.0 differs))
+    by_answer (Ok None) was =
+        (before, subst (λ v. Shows v before) (sym (unchanged (λ same. let both = sym was ∙ same in cc))) shows, same_fields was is,
+        λ kind differs. SameFields-refl kind before)
 
 -- ---- how far reading has come
 
 pub IsReadTo-start : {V : Type 0} (Shows : V → ExtensionValues → Type 0) (exts : Slots) (elements : List Element) (old : V)
-    → IsReadTo Shows exts elements elements false old old
+    → IsReadTo Shows exts elements elements old old
 IsReadTo-start Shows exts elements old = record {
   done = [];
   elements_are = refl;
-  values_are = λ before shows. (before, shows, AreValues-none exts before VideoLayersAllocation, λ kind differs. AreValues-none exts before kind);
+  values_are = ReadElements-none Shows exts old;
 }
 
--- what is left begins with these elements
-pub IsReadTo-left : {V : Type 0} (Shows : V → ExtensionValues → Type 0) (exts : Slots) (elements left these : List Element) (is_read : Bool) (old new : V)
-    → left ≡ these → IsReadTo Shows exts elements left is_read old new → IsReadTo Shows exts elements these is_read old new
-IsReadTo-left Shows exts elements left these is_read old new same was = subst (λ es. IsReadTo Shows exts elements es is_read old new) same was
-
--- the element after those that were passed is passed too
-one_less : (elements done left : List Element) (element : Element) → elements ≡ done ++ element ∷ left → elements ≡ (done ++ element ∷ []) ++ left
-one_less elements done left element is = is ∙ sym (append_assoc done (element ∷ []) left)
-
--- one more element is read by itself: any, while no allocation was read, and then one of another kind
-pub IsReadTo-read : {V : Type 0} (Shows : V → ExtensionValues → Type 0) (exts : Slots) (elements left : List Element) (element : Element) (is_read : Bool) (old between new : V)
-    → (is_read ≡ true → extension_at exts element.0 ≢ Some VideoLayersAllocation) → ReadElements Shows exts (element ∷ []) between new
-    → IsReadTo Shows exts elements (element ∷ left) is_read old between → IsReadTo Shows exts elements left is_read old new
-IsReadTo-read Shows exts elements left element true old between new other reads was = record {
-  done = was.done ++ element ∷ [];
-  elements_are = one_less elements was.done left element was.elements_are;
-  values_are = λ before shows.
-      let so_far = was.values_are before shows in
-      let next = reads so_far.0 so_far.1 in (
-        next.0,
-        next.1,
-        subst (λ es. AreFields exts es VideoLayersAllocation before next.0) (sym (append_assoc was.done (element ∷ []) left))
-            (AreFields-same exts (was.done ++ element ∷ left) VideoLayersAllocation before so_far.0 next.0 so_far.2
-            (AreFields-other exts element VideoLayersAllocation so_far.0 next.0 (λ carries. other refl carries.0) (next.2 VideoLayersAllocation))),
-        λ kind differs. AreFields-joined exts was.done (element ∷ []) kind before so_far.0 next.0 (so_far.3 kind differs) (next.2 kind),
-      );
+-- these elements are read too
+pub IsReadTo-more : {V : Type 0} (Shows : V → ExtensionValues → Type 0) (exts : Slots) (elements left next these : List Element) (old between new : V)
+    → left ≡ these ++ next → ReadElements Shows exts these between new → IsReadTo Shows exts elements left old between
+    → IsReadTo Shows exts elements next old new
+IsReadTo-more Shows exts elements left next these old between new is reads was = record {
+  done = was.done ++ these;
+  elements_are = was.elements_are ∙ ap (λ es. was.done ++ es) is ∙ sym (append_assoc was.done these next);
+  values_are = ReadElements-joined Shows exts was.done these old between new was.values_are reads;
 }
-IsReadTo-read Shows exts elements left element false old between new other reads was = record {
-  done = was.done ++ element ∷ [];
-  elements_are = one_less elements was.done left element was.elements_are;
-  values_are = λ before shows.
-      let so_far = was.values_are before shows in
-      let next = reads so_far.0 so_far.1 in (
-        next.0,
-        next.1,
-        subst (λ es. AreFields exts es VideoLayersAllocation before next.0) (sym (append-nil (was.done ++ element ∷ [])))
-            (AreFields-joined exts was.done (element ∷ []) VideoLayersAllocation before so_far.0 next.0
-            (subst (λ es. AreFields exts es VideoLayersAllocation before so_far.0) (append-nil was.done) so_far.2) (next.2 VideoLayersAllocation)),
-        λ kind differs. AreFields-joined exts was.done (element ∷ []) kind before so_far.0 next.0 (so_far.3 kind differs) (next.2 kind),
-      );
-}
-
--- one more allocation is passed over, since the last one was read
-pub IsReadTo-over : {V : Type 0} (Shows : V → ExtensionValues → Type 0) (exts : Slots) (elements left : List Element) (element : Element) (is_read : Bool) (old new : V)
-    → is_read ≡ true → extension_at exts element.0 ≡ Some VideoLayersAllocation
-    → IsReadTo Shows exts elements (element ∷ left) is_read old new → IsReadTo Shows exts elements left is_read old new
-IsReadTo-over Shows exts elements left element false old new is mapped was = absurd cc
-IsReadTo-over Shows exts elements left element true old new is mapped was = record {
-  done = was.done ++ element ∷ [];
-  elements_are = one_less elements was.done left element was.elements_are;
-  values_are = λ before shows.
-      let so_far = was.values_are before shows in (
-        so_far.0,
-        so_far.1,
-        subst (λ es. AreFields exts es VideoLayersAllocation before so_far.0) (sym (append_assoc was.done (element ∷ []) left)) so_far.2,
-        λ kind differs. AreFields-joined exts was.done (element ∷ []) kind before so_far.0 so_far.0 (so_far.3 kind differs)
-            (none (not_in_one exts element kind (not_other exts element kind mapped differs)) (SameFields-refl kind so_far.0)),
-      );
-}
-
--- an allocation is read, by itself or with those behind it
-pub IsReadTo-allocation : {V : Type 0} (Shows : V → ExtensionValues → Type 0) (exts : Slots) (elements left : List Element) (element : Element) (is_read all : Bool) (old between new : V)
-    → is_read ≡ false → extension_at exts element.0 ≡ Some VideoLayersAllocation → ReadsAllocation Shows exts (element ∷ those_behind all left) between new
-    → IsReadTo Shows exts elements (element ∷ left) is_read old between → IsReadTo Shows exts elements left all old new
-IsReadTo-allocation Shows exts elements left element true all old between new is mapped reads was = absurd cc
-IsReadTo-allocation Shows exts elements left element false all old between new is mapped reads was = record {
-  done = was.done ++ element ∷ [];
-  elements_are = one_less elements was.done left element was.elements_are;
-  values_are = λ before shows.
-      let so_far = was.values_are before shows in
-      let next = reads so_far.0 so_far.1 in (
-        next.0,
-        next.1,
-        subst (λ es. AreFields exts es VideoLayersAllocation before next.0) (sym (append_assoc was.done (element ∷ []) (those_behind all left)))
-            (AreFields-joined exts was.done (element ∷ those_behind all left) VideoLayersAllocation before so_far.0 next.0
-            (subst (λ es. AreFields exts es VideoLayersAllocation before so_far.0) (append-nil was.done) so_far.2) next.2),
-        λ kind differs. AreFields-joined exts was.done (element ∷ []) kind before so_far.0 next.0 (so_far.3 kind differs)
-            (none (not_in_one exts element kind (not_other exts element kind mapped differs)) (next.3 kind differs)),
-      );
-}
-
-none_behind : (is_read : Bool) → those_behind is_read [] ≡ []
-none_behind true = refl
-none_behind false = refl
 
 -- no element is left
-pub IsReadTo-end : {V : Type 0} (Shows : V → ExtensionValues → Type 0) (exts : Slots) (elements left : List Element) (is_read : Bool) (old new : V)
-    → left ≡ [] → IsReadTo Shows exts elements left is_read old new → ReadElements Shows exts elements old new
-IsReadTo-end Shows exts elements left is_read old new ended was before shows =
-    let so_far = was.values_are before shows in
-    let done_are : elements ≡ was.done = was.elements_are ∙ ap (λ es. was.done ++ es) ended ∙ append-nil was.done in
-    let layers : AreFields exts was.done VideoLayersAllocation before so_far.0 =
-    subst (λ es. AreFields exts es VideoLayersAllocation before so_far.0)
-    (ap (λ es. was.done ++ those_behind is_read es) ended ∙ ap (λ es. was.done ++ es) (none_behind is_read) ∙ append-nil was.done) so_far.2 in (
-      so_far.0,
-      so_far.1,
-      λ kind. subst (λ es. AreFields exts es kind before so_far.0) (sym done_are) (elim (same_or_not kind VideoLayersAllocation) [
-        | inl same ↦ subst (λ k. AreFields exts was.done k before so_far.0) (sym same) layers
-        | inr differs ↦ so_far.3 kind differs
-      ]),
-    )
+pub IsReadTo-end : {V : Type 0} (Shows : V → ExtensionValues → Type 0) (exts : Slots) (elements left : List Element) (old new : V)
+    → left ≡ [] → IsReadTo Shows exts elements left old new → ReadElements Shows exts elements old new
+IsReadTo-end Shows exts elements left old new ended was =
+    subst (λ es. ReadElements Shows exts es old new)
+    (sym (was.elements_are ∙ ap (λ es. was.done ++ es) ended ∙ append-nil was.done)) was.values_are
 
 -- memory was refused to an allocation
-pub IsReadTo-refused : {V : Type 0} (Shows : V → ExtensionValues → Type 0) (exts : Slots) (elements left : List Element) (element : Element) (is_read : Bool) (old between new : V)
-    → is_read ≡ false → extension_at exts element.0 ≡ Some VideoLayersAllocation → 2 ≤ length element.1 → new ≡ between
-    → IsReadTo Shows exts elements (element ∷ left) is_read old between → ReadUntilRefused Shows exts elements old new
-IsReadTo-refused Shows exts elements left element true old between new is mapped long unchanged was = absurd cc
-IsReadTo-refused Shows exts elements left element false old between new is mapped long unchanged was = record {
+pub IsReadTo-refused : {V : Type 0} (Shows : V → ExtensionValues → Type 0) (exts : Slots) (elements left next : List Element) (element : Element) (old between new : V)
+    → left ≡ element ∷ next → extension_at exts element.0 ≡ Some VideoLayersAllocation → 2 ≤ length element.1 → new ≡ between
+    → IsReadTo Shows exts elements left old between → ReadUntilRefused Shows exts elements old new
+IsReadTo-refused Shows exts elements left next element old between new is mapped long unchanged was = record {
   at = record {
     before = was.done;
     element = element;
-    after = left;
-    elements_are = was.elements_are;
+    after = next;
+    elements_are = was.elements_are ∙ ap (λ es. was.done ++ es) is;
     is_allocation = (mapped, (refl, long));
   };
-  values_are = subst (λ v. ReadElements Shows exts was.done old v) (sym unchanged) (λ before shows.
-      let so_far = was.values_are before shows in (
-        so_far.0,
-        so_far.1,
-        λ kind. elim (same_or_not kind VideoLayersAllocation) [
-          | inl same ↦ subst (λ k. AreFields exts was.done k before so_far.0) (sym same)
-              (subst (λ es. AreFields exts es VideoLayersAllocation before so_far.0) (append-nil was.done) so_far.2)
-          | inr differs ↦ so_far.3 kind differs
-        ],
-      ));
+  values_are = subst (λ v. ReadElements Shows exts was.done old v) (sym unchanged) was.values_are;
 }

@@ -7,7 +7,7 @@ use Rattle.std.specs.Option.{option_map}
 use Rattle.std.proofs.lemmas.Bool.{cases_lt, eq-eqb, ne_eqb}
 use Rattle.std.proofs.lemmas.Bool.Decides.{eqb_tells}
 use Rattle.rtp_values.specs.declared.kind.Extension.{Extension}
-use Rattle.rtp_ext.specs.MapSlots.{IsMapped, Puts}
+use Rattle.rtp_ext.specs.MapSlots.{IsMapped, Puts, Swaps}
 use Rattle.rtp_ext.specs.ExtensionMap.{Entry, Slots, IsEmpty, IsId, entry_at, extension_at, extension_of, Sets, Exchanges, IsRenumbered, IsLocked, IsLockedAt, locked, IsLowest, Remaps, AreRemapped, same_slot, moved}
 
 -- nothing stands in a index where nothing does in any
@@ -163,16 +163,15 @@ IsStep-locked old new id extension is_id lowest puts =
       renumbered = IsRenumbered-locked old new id extension lowest.mapped sets;
     }
 
--- it is taken out, after the entry in its way, and they are put in again, it locked
-pub IsStep-moved : (old first second new : Slots) (from id : ℕ) (extension : Extension) (there entry moved : Option Entry) → IsId id → IsLowest old extension from
-    → from ≢ id → (IsLockedAt old from → ⊥) → there ≡ entry_at old id → Puts old first id None → entry ≡ entry_at first from → Puts first second from there
-    → moved ≡ option_map (λ entry. locked entry.extension) entry → Puts second new id moved → IsStep old new id extension
-IsStep-moved old first second new from id extension there entry moved_entry is_id lowest apart free there_is out entry_is put moved_is back_in =
-    let was : entry ≡ entry_at old from = entry_is ∙ out.others from apart in
+-- it is put in the place of the entry in its way, and locked there
+pub IsStep-moved : (old between new : Slots) (from id : ℕ) (extension : Extension) → IsId id → IsLowest old extension from → from ≢ id
+    → (IsLockedAt old from → ⊥) → Swaps old between from id → Puts between new id (option_map (λ entry. locked entry.extension) (entry_at between id))
+    → IsStep old new id extension
+IsStep-moved old between new from id extension is_id lowest apart free swaps puts =
     let exchange : Exchanges old new from id extension = record {
-      here = back_in.this ∙ moved_is ∙ lock-of entry extension (ap extension_of was ∙ lowest.mapped);
-      there = back_in.others from apart ∙ put.this ∙ there_is;
-      others = λ k not_from not_id. back_in.others k not_id ∙ put.others k not_from ∙ out.others k not_id;
+      here = puts.this ∙ lock-of (entry_at between id) extension (ap extension_of swaps.there ∙ lowest.mapped);
+      there = puts.others from apart ∙ swaps.here;
+      others = λ k not_from not_id. puts.others k not_id ∙ swaps.others k not_from not_id;
     } in
     record {
       step = moved from is_id lowest apart free exchange;

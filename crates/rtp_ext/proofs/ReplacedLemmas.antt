@@ -1,10 +1,18 @@
 -- A slot of a map that is put in place of another, and the steps of a renegotiation by it.
-use Rattle.std.proofs.Common.{◌≡◌, ℕ, ◌+◌, ◌<◌, zero, suc, List, [], ◌∷◌, length, map, set, get_or, Bool, true, false, Option, Some, None, ap, refl, sym, ◌∙◌, subst}
+use Rattle.std.proofs.Common.{◌≡◌, ◌≢◌, ℕ, ◌+◌, ◌-◌, ◌<◌, zero, suc, List, [], ◌∷◌, length, map, set, get_or, Bool, true, false, Option, Some, None, arith, ap, refl, sym, ◌∙◌, subst}
 use Rattle.std.specs.Option.{is_some, option_map}
-use Rattle.std.proofs.lemmas.List.{get_or_default, get_or-set_same, get_or-set_other}
-use Rattle.rtp_ext.specs.ExtensionMap.{Entry, Slots, entry_at, locked}
-use Rattle.rtp_ext.specs.KindsById.{known_entry, known_slots}
-use Rattle.rtp_ext.specs.MapSlots.{Puts, mapped_ids, updated}
+use Rattle.std.specs.List.{swap}
+use Rattle.std.proofs.Math.ListN.{get_or-map}
+use Rattle.std.proofs.lemmas.List.{get_or_default, get_or-set_same, get_or-set_other, length-set}
+use Rattle.std.proofs.lemmas.List.Edits.{swap_is}
+use Rattle.rtp_values.specs.declared.kind.Extension.{Extension}
+use Rattle.rtp_values.specs.declared.kind.Extension.TheVariants.{UnknownUri}
+use Rattle.rtp_values.specs.declared.known_kind.KnownKind.{KnownKind}
+use Rattle.rtp_values.specs.KnownKind.{extension_of_kind}
+use Rattle.rtp_ext.specs.ExtensionMap.{Entry, Slots, entry_at, extension_of, extension_at, unlocked, locked}
+use Rattle.rtp_ext.specs.KindsById.{entry_of_kind, known_alone, known_entry, known_slots}
+use Rattle.rtp_ext.specs.MapSlots.{Puts, Swaps, mapped_ids, updated}
+use Rattle.rtp_ext.proofs.KindsByIdLemmas.{known_slots-put}
 use Rattle.rtp_ext.proofs.MapLemmas.{entry_at-slot, entry_at-other}
 use Rattle.rtp_ext.proofs.UpdatedIdLemmas.{updated_ids}
 
@@ -20,12 +28,6 @@ replaced_ids slots ids after k id old seen new put was is are index here read wa
     ∙ sym (updated_ids slots k id new index here)
     ∙ ap (λ slot. mapped_ids (set slots k slot)) (sym same)
 
--- what stood there
-pub replaced_old : (slots shown : Slots) (k id : ℕ) (old seen : Option Entry) → slots ≡ shown → k + 1 ≡ id → k < length slots → old ≡ get_or slots k seen
-    → old ≡ entry_at shown id
-replaced_old slots shown k id old seen same index here read =
-    read ∙ sym (get_or_default slots k None seen here) ∙ sym (entry_at-slot slots k id index) ∙ ap (λ (s : Slots). entry_at s id) same
-
 -- what stands there
 pub Puts-replaced : (slots shown : Slots) (k id : ℕ) (put new : Option Entry) → slots ≡ shown → k + 1 ≡ id → k < length slots → put ≡ new
     → Puts shown (set slots k put) id new
@@ -34,6 +36,91 @@ Puts-replaced slots shown k id put new same index here is =
       this = entry_at-slot (set slots k put) k id index ∙ get_or-set_same slots k put None here ∙ is;
       others = entry_at-other slots (set slots k put) k id index (λ j apart. get_or-set_other slots k j put None apart);
     })
+
+-- ---- two entries that are exchanged
+
+-- the slots, once the first of two has been written
+abbrev pub half_swapped : Slots → ℕ → ℕ → Slots
+half_swapped slots i j = set slots i (get_or slots j None)
+
+pub half_swapped_length : (slots : Slots) (i j : ℕ) → length (half_swapped slots i j) ≡ length slots
+half_swapped_length slots i j = length-set slots i (get_or slots j None)
+
+-- what stood at the other of them is still there
+pub half_swapped_entry : (slots : Slots) (i j : ℕ) (y : Option Entry) → i ≢ j → y ≡ get_or slots j y → y ≡ get_or (half_swapped slots i j) j y
+half_swapped_entry slots i j y apart is = is ∙ sym (get_or-set_other slots i j (get_or slots j None) y (λ same. apart (sym same)))
+
+-- the list of the mapped ids has followed so far
+pub half_swapped_ids : (slots : Slots) (ids between : List ℕ) (i j from : ℕ) (x y : Option Entry) (was_x was_y : Bool) → ids ≡ mapped_ids slots
+    → i + 1 ≡ from → i < length slots → j < length slots → x ≡ get_or slots i x → y ≡ get_or slots j y → was_x ≡ is_some x → was_y ≡ is_some y
+    → between ≡ updated from was_x was_y ids → between ≡ mapped_ids (half_swapped slots i j)
+half_swapped_ids slots ids between i j from x y was_x was_y are index here there x_is y_is some_x some_y list =
+    replaced_ids slots ids between i from x x y (get_or slots j None) was_x was_y are index here x_is some_x some_y
+    (get_or_default slots j None y there ∙ sym y_is) list
+
+-- and to the end
+pub swapped_ids : (slots : Slots) (ids between after : List ℕ) (i j from to : ℕ) (x y : Option Entry) (was_x was_y : Bool) → ids ≡ mapped_ids slots
+    → i + 1 ≡ from → j + 1 ≡ to → i ≢ j → i < length slots → j < length slots → x ≡ get_or slots i x → y ≡ get_or slots j y
+    → was_x ≡ is_some x → was_y ≡ is_some y → between ≡ updated from was_x was_y ids → after ≡ updated to was_y was_x between
+    → after ≡ mapped_ids (swap slots i j)
+swapped_ids slots ids between after i j from to x y was_x was_y are index next apart here there x_is y_is some_x some_y list last =
+    replaced_ids (half_swapped slots i j) between after j to y y x (get_or slots i None) was_y was_x
+    (half_swapped_ids slots ids between i j from x y was_x was_y are index here there x_is y_is some_x some_y list) next
+    (omega (arith, there, half_swapped_length slots i j)) (half_swapped_entry slots i j y apart y_is) some_y some_x
+    (get_or_default slots i None x here ∙ sym x_is) last
+    ∙ ap mapped_ids (swap_is slots i j None here there)
+
+-- an entry of a known kind, as a table has it
+known_entry-unlocked : (slot : Option Entry) → option_map unlocked (extension_of (known_entry slot)) ≡ known_entry slot
+known_entry-unlocked None = refl
+known_entry-unlocked (Some entry) = alone entry.extension
+  where
+    alone : (extension : Extension) → option_map unlocked (extension_of (known_alone extension)) ≡ known_alone extension
+    alone (UnknownUri uri) = refl
+    alone _ = refl
+
+entry_of_kind-unlocked : (kind : Option KnownKind) → entry_of_kind kind ≡ option_map unlocked (option_map extension_of_kind kind)
+entry_of_kind-unlocked None = refl
+entry_of_kind-unlocked (Some kind) = refl
+
+-- the kind that a table gives is that of the slot
+pub kind_of_known : (slots table : Slots) (k id : ℕ) (kind : Option KnownKind) → table ≡ known_slots slots → k + 1 ≡ id
+    → option_map extension_of_kind kind ≡ extension_at table id → entry_of_kind kind ≡ known_entry (get_or slots k None)
+kind_of_known slots table k id kind in_step index at =
+    let entry : entry_at table id ≡ known_entry (get_or slots k None) =
+    ap (λ (s : Slots). entry_at s id) in_step ∙ entry_at-slot (known_slots slots) k id index ∙ get_or-map known_entry slots k None in
+    entry_of_kind-unlocked kind ∙ ap (option_map unlocked) (at ∙ ap extension_of entry) ∙ known_entry-unlocked (get_or slots k None)
+
+-- the table of the known kinds has followed
+pub swapped_known : (slots table between after : Slots) (i j from to : ℕ) (kind_i kind_j : Option KnownKind) → table ≡ known_slots slots
+    → i + 1 ≡ from → j + 1 ≡ to → i < length slots → j < length slots
+    → option_map extension_of_kind kind_i ≡ extension_at table from → option_map extension_of_kind kind_j ≡ extension_at table to
+    → between ≡ set table (from - 1) (entry_of_kind kind_j) → after ≡ set between (to - 1) (entry_of_kind kind_i)
+    → after ≡ known_slots (swap slots i j)
+swapped_known slots table between after i j from to kind_i kind_j in_step index next here there at_i at_j first second =
+    known_slots-put (half_swapped slots i j) between after j to (get_or slots i None) (entry_of_kind kind_i)
+    (known_slots-put slots table between i from (get_or slots j None) (entry_of_kind kind_j) in_step index first (kind_of_known slots table j to kind_j in_step next at_j))
+    next second (kind_of_known slots table i from kind_i in_step index at_i)
+    ∙ ap known_slots (swap_is slots i j None here there)
+
+-- the entries stand in each other's place
+pub Swaps-swapped : (slots shown : Slots) (i j from to : ℕ) → slots ≡ shown → i + 1 ≡ from → j + 1 ≡ to → from ≢ to → i < length slots → j < length slots
+    → Swaps shown (swap slots i j) from to
+Swaps-swapped slots shown i j from to same index next apart here there =
+    subst (λ (s : Slots). Swaps s (swap slots i j) from to) same
+    (subst (λ (s : Slots). Swaps slots s from to) (swap_is slots i j None here there) (record {
+      here = second.others from apart ∙ first.this ∙ sym (entry_at-slot slots j to next);
+      there = second.this ∙ sym (entry_at-slot slots i from index);
+      others = λ k not_from not_to. second.others k not_to ∙ first.others k not_from;
+    }))
+  where
+    first : Puts slots (half_swapped slots i j) from (get_or slots j None)
+    first = Puts-replaced slots slots i from (get_or slots j None) (get_or slots j None) refl index here refl
+
+    second : Puts (half_swapped slots i j) (set (half_swapped slots i j) j (get_or slots i None)) to (get_or slots i None)
+    second =
+        Puts-replaced (half_swapped slots i j) (half_swapped slots i j) j to (get_or slots i None) (get_or slots i None) refl next
+        (omega (arith, there, half_swapped_length slots i j)) refl
 
 -- ---- an entry that is locked
 

@@ -1,24 +1,26 @@
--- What a table of kinds keeps in step with its entries: the list of the mapped ids, and whether the one-byte form fails.
-use Rattle.std.proofs.Common.{◌≡◌, ◌≢◌, ℕ, ◌+◌, ◌-◌, ◌<◌, suc, zero, List, [], ◌∷◌, length, drop, set, get_or, Bool, false, Option, Some, None, arith, ap, refl, sym, ◌∙◌, subst, get_or-set_other, length-drop}
-use Rattle.std.specs.Prelude.{◌||◌}
+-- What a table of kinds keeps in step with its entries: the list of the mapped ids, and how many layer allocations there are.
+use Rattle.std.proofs.Common.{◌≡◌, ◌≢◌, ℕ, ◌+◌, ◌-◌, ◌<◌, suc, zero, List, [], ◌∷◌, length, drop, set, get_or, Bool, true, false, Option, Some, None, arith, ap, refl, sym, ◌∙◌, lt-ltb, get_or-set_other, length-drop}
+use Rattle.std.specs.Prelude.{nat_lt, map, ◌≤◌, if◌then◌else◌}
+use Rattle.std.specs.Int.{from_bool}
 use Rattle.std.specs.Option.{is_some}
-use Rattle.std.specs.List.{list_any}
+use Rattle.std.specs.List.{list_any, filter}
 use Rattle.std.proofs.Math.Bool.{or_assoc, or_comm}
 use Rattle.std.proofs.lemmas.List.{length-map, length-set}
 use Rattle.rtp_values.specs.declared.kind.Extension.{Extension}
 use Rattle.rtp_values.specs.declared.known_kind.KnownKind.{KnownKind}
+use Rattle.rtp_values.specs.declared.known_kind.KnownKind.TheVariants as known
 use Rattle.rtp_values.specs.KnownKind.{extension_of_kind}
 use Rattle.rtp_ext.specs.ExtensionMap.{Entry, Slots, IsId, items_from, unlocked}
-use Rattle.rtp_ext.specs.KindsById.{entry_of_kind, slots_of, is_long_item}
+use Rattle.rtp_ext.specs.KindsById.{entry_of_kind, slots_of, is_layers, has_long_data, layers_count}
 use Rattle.rtp_ext.specs.MapSlots.{mapped_ids, inserted}
 use Rattle.rtp_ext.proofs.KindsByIdLemmas.{entry_at-kinds, slots_of-put}
 use Rattle.rtp_ext.proofs.MapLemmas.{entry_at-slot}
 use Rattle.rtp_ext.proofs.MappedIdLemmas.{mapped_ids-set, fewer_ids}
 
 -- the entries, and what is in step with them
-abbrev pub IsTable : List (Option KnownKind) → List ℕ → Bool → Type 0
-IsTable kinds ids long =
-    (length kinds ≡ 256) × (get_or kinds 0 None ≡ None) × (ids ≡ mapped_ids (slots_of kinds)) × (long ≡ list_any is_long_item (items_from 0 (slots_of kinds)))
+abbrev pub IsTable : List (Option KnownKind) → List ℕ → ℕ → Type 0
+IsTable kinds ids layers =
+    (length kinds ≡ 256) × (get_or kinds 0 None ≡ None) × (ids ≡ mapped_ids (slots_of kinds)) × (layers ≡ layers_count kinds)
 
 -- ---- one entry is written
 
@@ -63,59 +65,55 @@ set-room kinds ids id many are other high missing =
       fewer_ids 0 (slots_of kinds) (id - 1) (within_slots kinds id other (omega (arith, high, many))) (no_entry kinds id other missing),
     )
 
--- one more item is at hand where an entry is put into an empty slot
-any-put : (p : ℕ × Extension → Bool) (passed : ℕ) (left : Slots) (k : ℕ) (entry : Entry) → k < length left → get_or left k None ≡ None
-    → list_any p (items_from passed (set left k (Some entry))) ≡ (list_any p (items_from passed left) || p (passed + k + 1, entry.extension))
-any-put p passed [] k entry here none = absurd (omega (arith, here))
-any-put p passed (None ∷ left) zero entry here none =
-    let index : passed + 1 ≡ passed + 0 + 1 = omega arith in
-    or_comm (p (passed + 1, entry.extension)) (list_any p (items_from (passed + 1) left))
-    ∙ ap (λ (id : ℕ). list_any p (items_from (passed + 1) left) || p (id, entry.extension)) index
-any-put p passed (None ∷ left) (suc k) entry here none =
-    let index : passed + 1 + k + 1 ≡ passed + suc k + 1 = omega arith in
-    any-put p (passed + 1) left k entry (omega arith) none
-    ∙ ap (λ (id : ℕ). list_any p (items_from (passed + 1) left) || p (id, entry.extension)) index
-any-put p passed (Some old ∷ left) zero entry here none = cc
-any-put p passed (Some old ∷ left) (suc k) entry here none =
-    let index : passed + 1 + k + 1 ≡ passed + suc k + 1 = omega arith in
-    ap (λ (rest : Bool). p (passed + 1, old.extension) || rest)
-    (any-put p (passed + 1) left k entry (omega arith) none
-    ∙ ap (λ (id : ℕ). list_any p (items_from (passed + 1) left) || p (id, entry.extension)) index)
-    ∙ sym (or_assoc (p (passed + 1, old.extension)) (list_any p (items_from (passed + 1) left)) (p (passed + suc k + 1, entry.extension)))
+-- ---- how many layer allocations there are
 
--- a kind is put where none was
-pub put-table : (kinds : List (Option KnownKind)) (ids after : List ℕ) (was long : Bool) (at id : ℕ) (put : Option KnownKind) (kind : KnownKind)
-    → IsTable kinds ids was → at ≡ id → put ≡ Some kind → id ≢ 0 → id < 256 → get_or kinds id None ≡ None → after ≡ inserted id ids
-    → long ≡ (was || is_long_item (id, extension_of_kind kind)) → IsTable (set kinds at put) after long
-put-table kinds ids after was long at id put kind table same put_is other high missing list is =
-    subst (λ (n : ℕ). IsTable (set kinds n put) after long) (sym same)
-    (subst (λ (k : Option KnownKind). IsTable (set kinds id k) after long) (sym put_is) with_kind)
-  where
-    is_id : IsId id
-    is_id = (omega (arith, other), omega (arith, high))
+if-length : (b : Bool) (kind : Option KnownKind) (kinds : List (Option KnownKind)) → length (if b then kind ∷ kinds else kinds) ≡ from_bool b + length kinds
+if-length true kind kinds = omega arith
+if-length false kind kinds = omega arith
 
-    entry : Entry
-    entry = unlocked (extension_of_kind kind)
+layers_count-cons : (kind : Option KnownKind) (kinds : List (Option KnownKind)) → layers_count (kind ∷ kinds) ≡ from_bool (is_layers kind) + layers_count kinds
+layers_count-cons kind kinds = if-length (is_layers kind) kind (filter is_layers kinds)
 
-    slots : slots_of (set kinds id (Some kind)) ≡ set (slots_of kinds) (id - 1) (Some entry)
-    slots = slots_of-put kinds id (Some kind) is_id
+pub is_layers-once : (b : Bool) → from_bool b ≤ 1
+is_layers-once true = omega arith
+is_layers-once false = omega arith
 
-    here : id - 1 < length (slots_of kinds)
-    here = within_slots kinds id other (omega (arith, high, table.0))
+layers_count-few : (kinds : List (Option KnownKind)) → layers_count kinds ≤ length kinds
+layers_count-few [] = omega arith
+layers_count-few (kind ∷ kinds) = omega (arith, layers_count-cons kind kinds, is_layers-once (is_layers kind), layers_count-few kinds)
 
-    none : get_or (slots_of kinds) (id - 1) None ≡ None
-    none = no_entry kinds id other missing
+layers_count-put : (kinds : List (Option KnownKind)) (k : ℕ) (kind seen : Option KnownKind) → k < length kinds
+    → layers_count (set kinds k kind) + from_bool (is_layers (get_or kinds k seen)) ≡ layers_count kinds + from_bool (is_layers kind)
+layers_count-put [] k kind seen here = absurd (omega (arith, here))
+layers_count-put (first ∷ kinds) zero kind seen here = omega (arith, layers_count-cons first kinds, layers_count-cons kind kinds)
+layers_count-put (first ∷ kinds) (suc k) kind seen here =
+    omega (arith, layers_count-cons first (set kinds k kind), layers_count-cons first kinds, layers_count-put kinds k kind seen (omega (arith, here)))
 
-    index : 0 + (id - 1) + 1 ≡ id
-    index = omega (arith, is_id.0)
+-- a kind is counted, and the one before it is not any more
+pub layers_count-set : (kinds : List (Option KnownKind)) (read at id layers : ℕ) (old kind seen : Option KnownKind) (is was : Bool) (more fewer : ℕ)
+    → read ≡ id → at ≡ id → id < length kinds → old ≡ get_or kinds read seen → layers ≡ layers_count kinds
+    → is ≡ is_layers kind → was ≡ is_layers old → more ≡ from_bool is → fewer ≡ from_bool was
+    → layers_count (set kinds at kind) + fewer ≡ layers + more
+layers_count-set kinds read at id layers old kind seen is was more fewer read_is at_is here old_is are is_is was_is more_is fewer_is =
+    let put = layers_count-put kinds id kind seen here in
+    let now = ap (λ (n : ℕ). layers_count (set kinds n kind)) at_is in
+    let gone = fewer_is ∙ ap from_bool (was_is ∙ ap is_layers (old_is ∙ ap (λ (n : ℕ). get_or kinds n seen) read_is)) in
+    let come = more_is ∙ ap from_bool is_is in
+    omega (arith, put, now, gone, come, are)
 
-    with_kind : IsTable (set kinds id (Some kind)) after long
-    with_kind = (
-      set-length kinds id (Some kind) table.0,
-      set-padding kinds id (Some kind) other table.1,
-      list ∙ ap (inserted id) table.2 ∙ sym (mapped_ids-set (slots_of kinds) (id - 1) id entry (omega (arith, is_id.0)) here none) ∙ ap mapped_ids (sym slots),
-      is ∙ ap (λ (b : Bool). b || is_long_item (id, extension_of_kind kind)) table.3
-          ∙ ap (λ (n : ℕ). list_any is_long_item (items_from 0 (slots_of kinds)) || is_long_item (n, extension_of_kind kind)) (sym index)
-          ∙ sym (any-put is_long_item 0 (slots_of kinds) (id - 1) entry here none)
-          ∙ ap (λ (entries : Slots). list_any is_long_item (items_from 0 entries)) (sym slots),
-    )
+pub few_layers : (kinds : List (Option KnownKind)) (layers : ℕ) → length kinds ≡ 256 → layers ≡ layers_count kinds → layers ≤ 256
+few_layers kinds layers many are = omega (arith, are, many, layers_count-few kinds)
+
+any-layers : (passed : ℕ) (kinds : List (Option KnownKind))
+    → nat_lt 0 (layers_count kinds) ≡ list_any has_long_data (items_from passed (map entry_of_kind kinds))
+any-layers passed [] = refl
+any-layers passed (None ∷ kinds) = any-layers (passed + 1) kinds
+any-layers passed (Some known.VideoLayersAllocation ∷ kinds) = lt-ltb 0 (suc (layers_count kinds)) (omega arith)
+any-layers passed (Some _ ∷ kinds) = any-layers (passed + 1) kinds
+
+-- there are such where the data of a mapped kind may be longer than 16 bytes
+pub any_layers : (kinds : List (Option KnownKind)) (layers : ℕ) → get_or kinds 0 None ≡ None → layers ≡ layers_count kinds
+    → nat_lt 0 layers ≡ list_any has_long_data (items_from 0 (slots_of kinds))
+any_layers [] layers padding are = ap (nat_lt 0) are
+any_layers (None ∷ kinds) layers padding are = ap (nat_lt 0) are ∙ any-layers 0 kinds
+any_layers (Some kind ∷ kinds) layers padding are = cc

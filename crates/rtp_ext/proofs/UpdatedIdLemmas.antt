@@ -114,17 +114,3 @@ updated_kinds kinds ids after read at id seen kind was is many are read_is at_is
 
     place : (id - 1) + 1 ≡ id
     place = omega (arith, above_zero other)
-
--- the table, where the list of its ids has followed
-pub still-mapped : (kinds : List (Option KnownKind)) (ids seen : List ℕ) → ids ≡ mapped_ids (slots_of kinds) → seen ≡ ids → AllByRecursion (IsMapped (slots_of kinds)) seen
-still-mapped kinds ids seen are same = subst (AllByRecursion (IsMapped (slots_of kinds))) (sym (same ∙ are)) (all_mapped (slots_of kinds))
-
-pub still-table : (kinds : List (Option KnownKind)) (ids seen : List ℕ) (long : Bool) → length kinds ≡ 256 → get_or kinds 0 None ≡ None
-    → ids ≡ mapped_ids (slots_of kinds) → seen ≡ ids → long ≡ list_any is_long_item (items_at (slots_of kinds) seen) → IsTable kinds ids long
-still-table kinds ids seen long many padding are same is = (
-  many,
-  padding,
-  are,
-  is ∙ ap (λ (list : List ℕ). list_any is_long_item (items_at (slots_of kinds) list)) (same ∙ are)
-      ∙ ap (list_any is_long_item) (items_at-mapped (slots_of kinds)),
-)

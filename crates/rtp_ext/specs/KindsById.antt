@@ -1,7 +1,7 @@
 -- The known extensions by their ids (RFC 8285, 5).
-use Rattle.std.specs.Prelude.{◌≡◌, ℕ, List, [], ◌∷◌, refl, drop, map, Bool, ◌||◌, nat_lt, Option, Some, None}
+use Rattle.std.specs.Prelude.{◌≡◌, ℕ, List, [], ◌∷◌, refl, drop, map, length, Bool, true, false, ◌||◌, nat_lt, Option, Some, None}
 use Rattle.std.specs.Option.{option_map}
-use Rattle.std.specs.List.{list_any}
+use Rattle.std.specs.List.{list_any, filter}
 use Rattle.std.proofs.Common.{sym, ap, ◌∙◌}
 use Rattle.rtp_values.specs.declared.value.values.ExtensionValues.{ExtensionValues}
 use Rattle.rtp_values.specs.declared.kind.Extension.{Extension}
@@ -37,6 +37,18 @@ known_slots slots = map known_entry slots
 -- whether the one-byte form can't carry the element of a mapped id, whatever its data are: its id is above 14, or they may have more than 16 bytes
 abbrev pub is_long_item : ℕ × Extension → Bool
 is_long_item item = nat_lt 14 item.0 || nat_lt 16 (longest item.1)
+
+-- whether the data of a mapped id's extension may be longer than those of the one-byte form
+abbrev pub has_long_data : ℕ × Extension → Bool
+has_long_data item = nat_lt 16 (longest item.1)
+
+-- whether the kind is the layer allocation, and how many of some kinds are
+abbrev pub is_layers : Option KnownKind → Bool
+is_layers (Some kind.VideoLayersAllocation) = true
+is_layers kind = false
+
+abbrev pub layers_count : List (Option KnownKind) → ℕ
+layers_count kinds = length (filter is_layers kinds)
 
 -- whether there are data for one of these mapped ids, and they are empty
 abbrev pub has_empty : List (ℕ × Extension) → ExtensionValues → Bool

@@ -1,12 +1,11 @@
--- A block of whose layer allocations the last that is well-formed is read in place of the one behind the first that is well-formed, and of all behind that.
-use Rattle.std.specs.Prelude.{◌≡◌, ◌≢◌, Bool, true, false, List, [], ◌∷◌, ◌++◌, ℕ, All}
+-- A row of layer allocations in a block: the last well-formed one is read in place of all of them.
+use Rattle.std.specs.Prelude.{◌≡◌, ◌≢◌, ◌≤◌, List, ◌∷◌, ◌++◌, ℕ, length, All}
 use Rattle.rtp_values.specs.declared.kind.Extension.{Extension}
 use Rattle.rtp_values.specs.declared.kind.Extension.TheVariants.{VideoLayersAllocation}
 use Rattle.rtp_values.specs.declared.value.values.ExtensionValues.{ExtensionValues}
-use Rattle.rtp_values.specs.Values.{SameFields}
 use Rattle.rtp_ext.specs.Elements.{Element}
 use Rattle.rtp_ext.specs.ExtensionMap.{Slots}
-use Rattle.rtp_ext.specs.BlockValues.{Carries, AreFields}
+use Rattle.rtp_ext.specs.BlockValues.{Carries, ReadElements}
 
 -- the bytes are the data of the last element that carries an allocation, and the first data where none does
 pub data IsLastAllocation (exts : Slots) (elements : List Element) (first bytes : List ℕ) : Type 0 where
@@ -18,23 +17,16 @@ pub data IsLastAllocation (exts : Slots) (elements : List Element) (first bytes 
   none_is : All (λ element. Carries exts VideoLayersAllocation element → ⊥) elements → bytes ≡ first
       → IsLastAllocation exts elements first bytes
 
--- what shows some values shows others afterwards: the allocation is what the elements make of it, and no other field is changed
-abbrev pub ReadsAllocation : {V : Type 0} → (V → ExtensionValues → Type 0) → Slots → List Element → V → V → Type 0
-ReadsAllocation Shows exts elements old new =
-    (before : ExtensionValues) → Shows old before
-    → (after : ExtensionValues) × Shows new after × AreFields exts elements VideoLayersAllocation before after
-    × ((kind : Extension) → kind ≢ VideoLayersAllocation → SameFields kind before after)
+-- the elements that follow an allocation of the first data begin with a row of elements that carry no other kind, and the bytes are what counts of the first data and of the row; they take memory only where the first data do
+pub record EndsRow (exts : Slots) (first : List ℕ) (elements left : List Element) (bytes : List ℕ) : Type 0 where
+  pub row : List Element
+  pub elements_are : elements ≡ row ++ left
+  pub no_other : (kind : Extension) → kind ≢ VideoLayersAllocation → All (λ element. Carries exts kind element → ⊥) row
+  pub last : IsLastAllocation exts row first bytes
+  pub memory : 2 ≤ length bytes → 2 ≤ length first
 
--- the elements that follow, where an allocation was read that takes their place
-abbrev pub those_behind : Bool → List Element → List Element
-those_behind true later = later
-those_behind false later = []
-
--- the elements up to those that are left were read: the values are theirs, but the allocation is that of all elements where it was read
-pub record IsReadTo {V : Type 0} (Shows : V → ExtensionValues → Type 0) (exts : Slots) (elements left : List Element) (is_read : Bool) (old new : V) : Type 0 where
+-- the elements up to those that are left were read into the values
+pub record IsReadTo {V : Type 0} (Shows : V → ExtensionValues → Type 0) (exts : Slots) (elements left : List Element) (old new : V) : Type 0 where
   pub done : List Element
   pub elements_are : elements ≡ done ++ left
-  pub values_are : (before : ExtensionValues) → Shows old before
-      → (after : ExtensionValues) × Shows new after
-      × AreFields exts (done ++ those_behind is_read left) VideoLayersAllocation before after
-      × ((kind : Extension) → kind ≢ VideoLayersAllocation → AreFields exts done kind before after)
+  pub values_are : ReadElements Shows exts done old new

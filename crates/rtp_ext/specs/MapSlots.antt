@@ -23,6 +23,12 @@ pub record Puts (old new : Slots) (id : ℕ) (slot : Option Entry) : Type 0 wher
   pub this : entry_at new id ≡ slot
   pub others : (k : ℕ) → k ≢ id → entry_at new k ≡ entry_at old k
 
+-- the entries of two ids are in each other's place now, and every other id has what it had
+pub record Swaps (old new : Slots) (from to : ℕ) : Type 0 where
+  pub here : entry_at new from ≡ entry_at old to
+  pub there : entry_at new to ≡ entry_at old from
+  pub others : (k : ℕ) → k ≢ from → k ≢ to → entry_at new k ≡ entry_at old k
+
 -- the mapped ids, rising
 abbrev pub mapped_ids : Slots → List ℕ
 mapped_ids slots = map (λ item. item.0) (items_from 0 slots)

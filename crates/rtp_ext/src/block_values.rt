@@ -8,7 +8,7 @@ ghost use Rattle.rtp_values.specs.declared.value.values.ExtensionValues.{Extensi
 ghost use Rattle.rtp_values.specs.declared.kind.Extension.TheVariants.{VideoLayersAllocation};
 ghost use Rattle.rtp_ext.specs.BlockValues.{AreValues, ReadElements, SaysValues};
 ghost use Rattle.rtp_ext.specs.ExtensionMap.{extension_at};
-ghost use Rattle.rtp_ext.specs.LastAllocation.{IsLastAllocation, ReadsAllocation, those_behind};
+ghost use Rattle.rtp_ext.specs.LastAllocation.{EndsRow};
 
 use super::kinds::Kinds;
 use super::{Elements, ExtensionMap, ExtensionsForm};
@@ -57,25 +57,12 @@ fn read_in<K: Kinds, V: SetValues>(
         (V.may_be_refused → HasAllocation (K.slots kinds.now) elements → ⊥) → IsOk result }
 {
     let mut elements = Elements::new(buf, form);
-    // Whether the last allocation of the block was read, so that none that is left counts.
-    let mut is_read = false;
-    let mut search = Search::NotYet;
     while let Some((id, bytes)) = elements.next() {
         if let Some(kind) = kinds.get(id) {
             match kind {
                 KnownKind::VideoLayersAllocation => {
-                    if !is_read {
-                        let later = elements.rest();
-                        is_read = read_allocation(
-                            kinds,
-                            memory,
-                            id,
-                            bytes,
-                            later,
-                            &mut search,
-                            ev,
-                        )?;
-                    }
+                    let last = last_in_row(kinds, bytes, &mut elements);
+                    KnownKind::VideoLayersAllocation.parse_value(memory, last, ev)?;
                 }
                 _ => {
                     kind.parse_value(memory, bytes, ev)?;
@@ -86,83 +73,36 @@ fn read_in<K: Kinds, V: SetValues>(
     Ok(())
 }
 
-// When the last allocation of a block is looked for: once, at the allocation that follows the first
-// well-formed one, since most blocks have one allocation at most.
-#[derive(Clone, Copy)]
-enum Search {
-    // No well-formed allocation was read yet.
-    NotYet,
-    // One was read: at the next one.
-    AtNext,
-    // Not any more. Each allocation is read by itself.
-    Over,
-}
-
-// Reads an element whose id is mapped to the layer allocation, or in its place the last allocation of the
-// block, where that is looked for now. Returns whether it read the last one.
+// The data that count in a row of layer allocations: the last well-formed ones of the elements that follow
+// these data up to one of another kind, or else these data. The row is passed over. Data that take no
+// memory are read by themselves, since reading them costs less than a look at what follows.
 #[inline(always)]
-fn read_allocation<K: Kinds, V: SetValues>(
+fn last_in_row<'a, K: Kinds>(
     kinds: &K,
-    memory: V::Memory,
-    id: u8,
-    data: &[u8],
-    later: Elements,
-    search: &mut Search,
-    ev: &mut V,
-) -> Result<bool, AllocError>
-    requires mapped { extension_at (K.known kinds.now) id ≡ Some VideoLayersAllocation }
-    ensures read { IfOk result (λ all. ReadsAllocation V.shows (K.known kinds.now)
-        ((id, «data».now) ∷ those_behind all later.entry) ev.old ev.new) }
-    ensures refused { IsErr result → V.may_be_refused × (2 ≤ length «data».now) }
-    ensures unchanged { IsErr result → ev.new ≡ ev.old }
-{
-    if let Search::AtNext = search {
-        *search = Search::Over;
-        if read_last(kinds, memory, id, data, later, ev) {
-            return Ok(true);
-        }
-    }
-    let read = KnownKind::VideoLayersAllocation.parse_value(memory, data, ev)?;
-    if read.is_some() && matches!(search, Search::NotYet) {
-        *search = Search::AtNext;
-    }
-    Ok(false)
-}
-
-// Reads the last allocation among an element of these data and those that follow it, and returns whether
-// it did. It doesn't, and nothing changes, where memory is refused: then each is read by itself, so that
-// what stands is what the elements up to then give.
-#[cold]
-#[inline(never)]
-fn read_last<K: Kinds, V: SetValues>(
-    kinds: &K,
-    memory: V::Memory,
-    id: u8,
-    data: &[u8],
-    later: Elements,
-    ev: &mut V,
-) -> bool
-    requires mapped { extension_at (K.known kinds.now) id ≡ Some VideoLayersAllocation }
-    ensures read { OnTrue result (ReadsAllocation V.shows (K.known kinds.now)
-        ((id, «data».now) ∷ later.entry) ev.old ev.new) }
-    ensures unchanged { OnFalse result (ev.new ≡ ev.old) }
-{
-    let last = last_allocation(kinds, data, later);
-    let read = KnownKind::VideoLayersAllocation.parse_value(memory, last, ev);
-    read.is_ok()
-}
-
-// The data of the last of these elements whose id is mapped to the layer allocation and whose data mean
-// one, and the first data where there is none.
-fn last_allocation<'a, K: Kinds>(kinds: &K, first: &'a [u8], later: Elements<'a>) -> &'a [u8]
-    ensures { IsLastAllocation (K.known kinds.now) later.entry first.now result.now }
+    first: &'a [u8],
+    elements: &mut Elements<'a>,
+) -> &'a [u8]
+    ensures { EndsRow (K.known kinds.now) first.now elements.old elements.new result.now }
 {
     let mut last = first;
-    for (id, data) in later {
-        if kinds.get(id) == Some(KnownKind::VideoLayersAllocation) && vla::is_allocation(data) {
-            last = data;
-        }
+    if first.len() < 2 {
+        return last;
     }
+    let mut ahead = elements.rest();
+    while let Some((id, data)) = ahead.next() {
+        if let Some(kind) = kinds.get(id) {
+            match kind {
+                KnownKind::VideoLayersAllocation => {
+                    if vla::is_allocation(data) {
+                        last = data;
+                    }
+                }
+                _ => return last,
+            }
+        }
+        *elements = ahead.rest();
+    }
+    *elements = ahead;
     last
 }
 

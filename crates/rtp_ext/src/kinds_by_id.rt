@@ -2,13 +2,12 @@
 
 ghost use Rattle.std.specs.Prelude.{◌≡◌, ◌+◌, ◌-◌, ◌<◌, ◌≤◌, ◌∷◌, [], length, drop, replicate, Some, None, IfSome, IfNone, slice_set};
 ghost use Rattle.std.specs.Option.{option_map};
-ghost use Rattle.std.specs.List.{AllByRecursion, list_any};
+ghost use Rattle.std.specs.List.{list_any};
 ghost use Rattle.rtp_values.specs.KnownKind.{extension_of_kind};
 ghost use Rattle.rtp_ext.specs.ExtensionMap.{IsId, extension_at, items_from, mapped_count};
-ghost use Rattle.rtp_ext.specs.KindsById.{slots_of, entry_of_kind, is_long_item};
-ghost use Rattle.rtp_ext.specs.MapSlots.{items_at, mapped_ids, IsMapped};
+ghost use Rattle.rtp_ext.specs.KindsById.{slots_of, entry_of_kind, is_layers, has_long_data};
+ghost use Rattle.rtp_ext.specs.MapSlots.{items_at, mapped_ids};
 
-use super::kinds::is_long;
 use super::map::MAX_ID;
 use super::mapped_ids::MappedIds;
 use rtp_values::KnownKind;
@@ -25,16 +24,14 @@ pub(super) struct KindsById {
     kinds: [Option<KnownKind>; IDS],
     // The mapped ids, so that a walk goes over these alone.
     mapped: MappedIds,
-    // Whether the one-byte form can't carry a mapped id or the longest data of a mapped kind.
-    is_long: bool,
+    // How many ids are mapped to the layer allocation, the one kind that may have more than 16 bytes of data.
+    layers: u16,
 }
 
 impl Model for KindsById {
     ghost use Rattle.std.specs.Prelude.{◌≡◌, List, Option, None, length, slice_index_or};
     ghost use Rattle.rtp_values.specs.declared.known_kind.KnownKind.{KnownKind};
-    ghost use Rattle.std.specs.List.{list_any};
-    ghost use Rattle.rtp_ext.specs.ExtensionMap.{items_from};
-    ghost use Rattle.rtp_ext.specs.KindsById.{slots_of, is_long_item};
+    ghost use Rattle.rtp_ext.specs.KindsById.{slots_of, layers_count};
     ghost use Rattle.rtp_ext.specs.MapSlots.{mapped_ids};
     ghost use Rattle.rtp_ext.specs.declared.kinds_by_id.TheConstants.{IDS};
     ghost use Rattle.std.proofs.Common.{sym};
@@ -46,18 +43,18 @@ impl Model for KindsById {
     ghost invariant = { λ table. (length table.kinds ≡ IDS)
         × (slice_index_or table.kinds 0 None ≡ None)
         × (table.mapped ≡ mapped_ids (slots_of table.kinds))
-        × (table.is_long ≡ list_any is_long_item (items_from 0 (slots_of table.kinds))) };
+        × (table.layers ≡ layers_count table.kinds) };
 
     ghost inverse = { λ kinds. record {
       kinds = kinds;
       mapped = mapped_ids (slots_of kinds);
-      is_long = list_any is_long_item (items_from 0 (slots_of kinds));
+      layers = layers_count kinds;
     } };
 
     ghost inverse_ok = { λ table known i. record {
       kinds = table.kinds;
       mapped = sym known.2 i;
-      is_long = sym known.3 i;
+      layers = sym known.3 i;
     } };
 }
 
@@ -69,7 +66,7 @@ impl KindsById {
         KindsById {
             kinds: [None; IDS],
             mapped: MappedIds::none(),
-            is_long: false,
+            layers: 0,
         }
     }
 
@@ -101,11 +98,8 @@ impl KindsById {
         let old = self.kinds[usize::from(id)];
         self.kinds[usize::from(id)] = kind;
         self.mapped.update(id, old.is_some(), kind.is_some());
-        if old.is_some() {
-            self.is_long = has_long(&self.kinds, self.mapped.as_slice());
-        } else if let Some(kind) = kind {
-            self.is_long |= is_long(id, kind);
-        }
+        self.layers += u16::from(is_layers(kind));
+        self.layers -= u16::from(is_layers(old));
     }
 
     // The id at this place among the mapped ids, which rise, and its kind.
@@ -121,25 +115,19 @@ impl KindsById {
         Some((id, self.kinds[usize::from(id)].unwrap()))
     }
 
-    // Whether the one-byte form can't carry a mapped id or the longest data of a mapped kind.
-    pub(super) fn has_long(&self) -> bool
-        ensures { result ≡ list_any is_long_item (items_from 0 (slots_of self.now)) }
+    // Whether a mapped kind may have more than 16 bytes of data.
+    #[tactic(auto, using(crate::proofs::TableLemmas::any_layers))]
+    pub(super) fn has_layers(&self) -> bool
+        ensures { result ≡ list_any has_long_data (items_from 0 (slots_of self.now)) }
     {
-        self.is_long
+        self.layers > 0
     }
 }
 
-// Whether the one-byte form can't carry one of the elements of these ids, all of which are mapped.
-#[tactic(auto, using(crate::proofs::KindsByIdLemmas::kind_there, crate::proofs::KindsByIdLemmas::extension_there))]
-fn has_long(kinds: &[Option<KnownKind>], ids: &[u8]) -> bool
-    requires length { length kinds.now ≡ IDS }
-    requires mapped { AllByRecursion (IsMapped (slots_of kinds.now)) ids.now }
-    ensures { result ≡ list_any is_long_item (items_at (slots_of kinds.now) ids.now) }
+// Whether the kind is the layer allocation.
+#[inline(always)]
+fn is_layers(kind: Option<KnownKind>) -> bool
+    ensures { result ≡ is_layers kind }
 {
-    for id in ids {
-        if is_long(*id, kinds[usize::from(*id)].unwrap()) {
-            return true;
-        }
-    }
-    false
+    matches!(kind, Some(KnownKind::VideoLayersAllocation))
 }

@@ -4,7 +4,7 @@ ghost use Rattle.std.specs.Prelude.{◌≡◌, ◌≢◌, ◌↔◌, ℕ, true, 
 ghost use Rattle.std.specs.Option.{option_copied, option_map};
 ghost use Rattle.rtp_ext.specs.ExtensionMap as spec;
 ghost use Rattle.rtp_ext.specs.ExtensionMap.{items_from};
-ghost use Rattle.rtp_ext.specs.MapSlots.{Puts};
+ghost use Rattle.rtp_ext.specs.MapSlots.{Puts, Swaps};
 ghost use Rattle.rtp_ext.specs.EqualMaps.{same_slots, same_slots-equiv};
 
 use super::iter::write_entries;
@@ -135,23 +135,13 @@ impl ExtensionMap {
         ensures outside { (spec.IsId id → ⊥) → self.new ≡ self.old }
     {
         // It is a call, so that what makes a map stays small enough to be made in its place.
-        if id != 0 {
-            self.replace(id, Slot::from(ext));
+        if id == 0 {
+            return;
         }
-    }
-
-    // Puts the slot in place of that of the id, which it returns.
-    #[inline(always)]
-    fn replace(&mut self, id: u8, new: Slot) -> Slot
-        requires { spec.IsId id }
-        ensures old { result ≡ spec.entry_at self.old id }
-        ensures new { Puts self.old self.new id new }
-    {
+        let new = Slot::from(ext);
         self.kinds.set(id, new.known_kind());
-        let is_mapped = new.is_mapped();
         let old = mem::replace(&mut self.slots[usize::from(id) - 1], new);
-        self.mapped.update(id, old.is_mapped(), is_mapped);
-        old
+        self.mapped.update(id, old.is_mapped(), true);
     }
 
     /// The extension that the id is mapped to, and `None` where there is none, as always for 0.
@@ -264,10 +254,26 @@ impl ExtensionMap {
         if self.is_locked(lowest) {
             return;
         }
-        let there = self.replace(id, Slot::unmapped());
-        let mut entry = self.replace(lowest, there);
-        entry.lock();
-        self.replace(id, entry);
+        self.exchange(lowest, id);
+        self.lock(id);
+    }
+
+    // Puts the entries of two ids in each other's place.
+    fn exchange(&mut self, from: u8, to: u8)
+        requires ids { spec.IsId from × spec.IsId to }
+        requires apart { from ≢ to }
+        ensures { Swaps self.old self.new from to }
+    {
+        let kind = self.kinds.get(from);
+        self.kinds.set(from, self.kinds.get(to));
+        self.kinds.set(to, kind);
+        let here = usize::from(from) - 1;
+        let there = usize::from(to) - 1;
+        let was_here = self.slots[here].is_mapped();
+        let was_there = self.slots[there].is_mapped();
+        self.slots.swap(here, there);
+        self.mapped.update(from, was_here, was_there);
+        self.mapped.update(to, was_there, was_here);
     }
 
     // Whether the entry of the id is locked.
@@ -337,7 +343,7 @@ impl Kinds for ExtensionMap {
     #[inline(always)]
     #[tactic(auto, using(crate::proofs::KnownItemsLemmas::long_split, crate::proofs::RisingIdLemmas::mapped_rise))]
     fn has_long(&self, _start: Cursor) -> bool {
-        self.mapped.has_above(MAX_ID_ONE_BYTE_FORM) || self.kinds.has_long()
+        self.mapped.has_above(MAX_ID_ONE_BYTE_FORM) || self.kinds.has_layers()
     }
 
     #[inline(always)]

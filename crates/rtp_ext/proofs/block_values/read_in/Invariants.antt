@@ -2,9 +2,9 @@ use Rattle.std.proofs.Common.{length}
 use Rattle.rtp_ext.specs.LastAllocation.{IsReadTo}
 use Rattle.rtp_ext.proofs.block_values.read_in.Given as goal
 
--- the values are those of the elements that were passed, but the allocation is that of all where it was read
+-- the elements that were passed were read
 abbrev pub invariant-loop-id : goal.invariant-loop-id
-invariant-loop-id g l = IsReadTo g.V.SetValues.shows (g.K.Kinds.known l.kinds) l.initial.elements l.elements l.is_read l.initial.ev l.ev
+invariant-loop-id g l = IsReadTo g.V.SetValues.shows (g.K.Kinds.known l.kinds) l.initial.elements l.elements l.initial.ev l.ev
 
 abbrev pub decreases-loop-id : goal.decreases-loop-id
 decreases-loop-id g l = length l.elements
