@@ -12,6 +12,8 @@ pub mod NewIdLemmas
 mod NewBytesLemmas
 mod CopiedLemmas
 mod RenamedIdLemmas
+mod RenamesLemmas
+mod ExchangedLemmas
 pub mod MemoryLemmas
 mod MemoryFacts
 pub mod LastAllocationLemmas

@@ -4,7 +4,7 @@ use Rattle.std.specs.Option.{option_map}
 use Rattle.std.specs.List.{Contains}
 use Rattle.std.proofs.lemmas.Bool.{cases_lt, cases_eq}
 use Rattle.std.proofs.lemmas.List.{get_or_past, get_or-set_same, get_or-set_other, length-map}
-use Rattle.std.proofs.lemmas.List.Elements.{All-head, All-tail, All-contains}
+use Rattle.std.proofs.lemmas.List.Elements.{All-head, All-tail, All-contains, All-nil}
 use Rattle.std.proofs.lemmas.Option.{same_Some}
 use Rattle.rtp_values.specs.declared.kind.Extension.{Extension}
 use Rattle.rtp_values.specs.declared.kind.Extension.TheVariants.{AbsoluteSendTime, AbsoluteCaptureTime, AudioLevel, TransmissionTimeOffset, VideoOrientation, TransportSequenceNumber, PlayoutDelay, VideoContentType, VideoTiming, RtpStreamId, RepairedRtpStreamId, RtpMid, FrameMarking, ColorSpace, VideoLayersAllocation, UnknownUri}
@@ -15,7 +15,7 @@ use Rattle.rtp_values.specs.KnownKind.{extension_of_kind}
 use Rattle.rtp_values.proofs.KindLemmas.{one_kind}
 use Rattle.rtp_ext.specs.ExtensionMap.{Slots, IsId, IsLowest, IsUnmapped, IsRising, IsListing, extension_at, items_from}
 use Rattle.rtp_ext.specs.KindsById.{known_slots}
-use Rattle.rtp_ext.specs.NewIds.{new_id, IsRenamedId, AreRenamedIds, id_in_byte}
+use Rattle.rtp_ext.specs.NewIds.{new_id, IsRenamedId, AreRenamedIds, Renames, id_in_byte}
 use Rattle.rtp_ext.proofs.KindsByIdLemmas.{known_slots-keep, known_slots-back}
 use Rattle.rtp_ext.proofs.ListingLemmas.{IsListing-from_slots, above_passed}
 use Rattle.rtp_ext.proofs.NewIdLemmas.{new_id-byte}
@@ -62,7 +62,7 @@ known_back known.VideoLayersAllocation = (tt, refl)
 pub same_kind : (a b : KnownKind) → extension_of_kind a ≡ extension_of_kind b → a ≡ b
 same_kind a b same = same_Some _ _ (sym (known_back a).1 ∙ ap back same ∙ (known_back b).1)
 
-kind_found : (found : Option KnownKind) (kind : KnownKind) → option_map extension_of_kind found ≡ Some (extension_of_kind kind) → found ≡ Some kind
+pub kind_found : (found : Option KnownKind) (kind : KnownKind) → option_map extension_of_kind found ≡ Some (extension_of_kind kind) → found ≡ Some kind
 kind_found None kind is = cc
 kind_found (Some found) kind is = ap Some (same_kind found kind (one_kind is))
 
@@ -85,7 +85,7 @@ AreLeft-start exts kind left is =
       all = λ id mapped. listing.all id kind mapped refl;
     })
 
-later : (item : ℕ × Extension) (left : List (ℕ × Extension)) (id : ℕ) (kind : Extension) → Contains (item ∷ left) (id, kind)
+pub later : (item : ℕ × Extension) (left : List (ℕ × Extension)) (id : ℕ) (kind : Extension) → Contains (item ∷ left) (id, kind)
     → (item ≡ (id, kind)) ⊎ Contains left (id, kind)
 later item left id kind (zero, here, is) = inl is
 later item left id kind (suc k, here, is) = inr (k, omega arith, is)
@@ -138,36 +138,18 @@ pub IsUnmapped-known : (exts slots : Slots) (kind : KnownKind) → slots ≡ kno
 IsUnmapped-known exts slots kind is none = λ id mapped.
     subst (λ (s : Slots). IsUnmapped s (extension_of_kind kind)) is none id (known_slots-keep exts id (extension_of_kind kind) (known_back kind).0 mapped)
 
+-- the same of what was found
+pub IsLowest-of_kind : (exts slots : Slots) (kind : KnownKind) (extension : Extension) (found : Option ℕ) → slots ≡ known_slots exts
+    → extension_of_kind kind ≡ extension → IfSome found (IsLowest slots (extension_of_kind kind)) → IfSome found (IsLowest exts extension)
+IsLowest-of_kind exts slots kind extension None is same lowest = tt
+IsLowest-of_kind exts slots kind extension (Some id) is same lowest = subst (λ (it : Extension). IsLowest exts it id) same (IsLowest-known exts slots kind id is lowest)
+
+pub IsUnmapped-of_kind : (exts slots : Slots) (kind : KnownKind) (extension : Extension) (found : Option ℕ) → slots ≡ known_slots exts
+    → extension_of_kind kind ≡ extension → IfNone found (IsUnmapped slots (extension_of_kind kind)) → IfNone found (IsUnmapped exts extension)
+IsUnmapped-of_kind exts slots kind extension None is same none = subst (IsUnmapped exts) same (IsUnmapped-known exts slots kind is none)
+IsUnmapped-of_kind exts slots kind extension (Some id) is same none = tt
+
 -- ---- the table
-
--- what is known of the lowest id of one kind beside another kind
-pub record IsBeside (exts : Slots) (from to : Extension) (lowest : Option ℕ) : Type 0 where
-  pub found : IfSome lowest (IsLowest exts to)
-  pub some_id : IfSome lowest (λ id. 0 < id)
-  pub beside : IfSome lowest (λ _. (other : ℕ) × (extension_at exts other ≡ Some from))
-  pub none : IfNone lowest (IsUnmapped exts from ⊎ IsUnmapped exts to)
-
--- what stands in the table for an id of this kind
-pub record IsRenamedByte (from to : KnownKind) (lowest : Option ℕ) (kind : Option KnownKind) (id byte : ℕ) : Type 0 where
-  pub renamed : kind ≡ Some from → IfSome lowest (λ new. byte ≡ new)
-  pub gone : kind ≡ Some to → IfSome lowest (λ _. byte ≡ 0)
-  pub others : kind ≢ Some from → kind ≢ Some to → byte ≡ id
-  pub lacking : IfNone lowest (byte ≡ id)
-
--- the kind that is read at an id
-abbrev IsRead : Slots → ℕ → Option KnownKind → Type 0
-IsRead slots id kind = option_map extension_of_kind kind ≡ extension_at slots id
-
-kind_here : (exts slots : Slots) (id : ℕ) (found : Option KnownKind) (kind : KnownKind) → slots ≡ known_slots exts → IsRead slots id found
-    → extension_at exts id ≡ Some (extension_of_kind kind) → found ≡ Some kind
-kind_here exts slots id found kind is read mapped =
-    kind_found found kind (read ∙ ap (λ (s : Slots). extension_at s id) is ∙ known_slots-keep exts id (extension_of_kind kind) (known_back kind).0 mapped)
-
-no_kind_here : (exts slots : Slots) (id : ℕ) (found : Option KnownKind) (kind : KnownKind) → slots ≡ known_slots exts → IsRead slots id found
-    → extension_at exts id ≢ Some (extension_of_kind kind) → found ≢ Some kind
-no_kind_here exts slots id found kind is read other = λ same.
-    other (known_slots-back exts id (extension_of_kind kind)
-    (sym (read ∙ ap (λ (s : Slots). extension_at s id) is) ∙ ap (option_map extension_of_kind) same))
 
 in_byte : (byte : ℕ) → 0 < byte → id_in_byte byte ≡ Some byte
 in_byte zero above = absurd (omega arith)
@@ -182,153 +164,77 @@ same_lowest exts kind a b first second = elim (cases_lt a b) [
   ]
 ]
 
-IsRenamedId-byte : (exts slots : Slots) (from to : KnownKind) (lowest : Option ℕ) (kind : Option KnownKind) (id byte : ℕ) → slots ≡ known_slots exts → 0 < id
-    → IsBeside exts (extension_of_kind from) (extension_of_kind to) lowest → IsRead slots id kind → IsRenamedByte from to lowest kind id byte
-    → IsRenamedId exts (extension_of_kind from) (extension_of_kind to) id (id_in_byte byte)
-IsRenamedId-byte exts slots from to None kind id byte is above beside read are =
-    let itself : id_in_byte byte ≡ Some id = ap id_in_byte are.lacking ∙ in_byte id above in
-    record {
-      renamed = λ new mapped lowest. elim beside.none [
-        | inl no_from ↦ absurd (no_from id mapped)
-        | inr no_to ↦ absurd (no_to new lowest.mapped)
-      ];
-      gone = λ other mapped there. elim beside.none [
-        | inl no_from ↦ absurd (no_from other there)
-        | inr no_to ↦ absurd (no_to id mapped)
-      ];
-      others = λ no_from no_to. itself;
-      lacking = λ none. itself;
-    }
-IsRenamedId-byte exts slots from to (Some lowest) kind id byte is above beside read are = record {
-  renamed = λ new mapped is_lowest.
-      ap id_in_byte (are.renamed (kind_here exts slots id kind from is read mapped)) ∙ in_byte lowest beside.some_id
-      ∙ ap Some (same_lowest exts (extension_of_kind to) lowest new beside.found is_lowest);
-  gone = λ other mapped there. ap id_in_byte (are.gone (kind_here exts slots id kind to is read mapped));
-  others = λ no_from no_to.
-      ap id_in_byte (are.others (no_kind_here exts slots id kind from is read no_from) (no_kind_here exts slots id kind to is read no_to)) ∙ in_byte id above;
+-- where the lowest id of the second kind has been put in the bytes, which said each id itself
+IsRenamedId-at : (exts known : Slots) (from to : KnownKind) (lowest : ℕ) (old new : List ℕ) (id : ℕ) → known ≡ known_slots exts → 0 < id → id < 256
+    → IsLowest exts (extension_of_kind to) lowest → 0 < lowest → (other : ℕ) → extension_at exts other ≡ Some (extension_of_kind from)
+    → ((k : ℕ) → k < 256 → get_or old k 0 ≡ k) → Renames known (extension_of_kind from) (extension_of_kind to) lowest old new
+    → IsRenamedId exts (extension_of_kind from) (extension_of_kind to) id (id_in_byte (get_or new id 0))
+IsRenamedId-at exts known from to lowest old new id is above below is_lowest some other beside same renames = record {
+  renamed = λ there mapped lowest_there.
+      ap id_in_byte (renames.renamed id below (keep from mapped)) ∙ in_byte lowest some
+      ∙ ap Some (same_lowest exts (extension_of_kind to) lowest there is_lowest lowest_there);
+  gone = λ there mapped from_there. ap id_in_byte (renames.gone id below (keep to mapped));
+  others = λ not_from not_to.
+      ap id_in_byte (renames.others id below (λ mapped. not_from (back_there from mapped)) (λ mapped. not_to (back_there to mapped)) ∙ same id below) ∙ in_byte id above;
   lacking = λ none. elim none [
-    | inl no_from ↦ absurd (no_from beside.beside.0 beside.beside.1)
-    | inr no_to ↦ absurd (no_to lowest beside.found.mapped)
+    | inl no_from ↦ absurd (no_from other beside)
+    | inr no_to ↦ absurd (no_to lowest is_lowest.mapped)
   ];
 }
-
--- what stands for the kind of an id that a walk has come to
-pub of_kind : (from to kind : KnownKind) (lowest : Option ℕ) (id byte : ℕ) → (kind ≡ from → IfSome lowest (λ new. byte ≡ new)) → (kind ≡ to → IfSome lowest (λ _. byte ≡ 0))
-    → (kind ≢ from → kind ≢ to → byte ≡ id) → IfNone lowest (byte ≡ id) → IsRenamedByte from to lowest (Some kind) id byte
-of_kind from to kind lowest id byte renamed gone others lacking = record {
-  renamed = λ same. renamed (same_Some _ _ same);
-  gone = λ same. gone (same_Some _ _ same);
-  others = λ not_from not_to. others (λ same. not_from (ap Some same)) (λ same. not_to (ap Some same));
-  lacking = lacking;
-}
-
-of_none : (from to : KnownKind) (lowest : Option ℕ) (id byte : ℕ) → byte ≡ id → IsRenamedByte from to lowest None id byte
-of_none from to None id byte is = record {
-  renamed = λ same. let no = same in cc;
-  gone = λ same. let no = same in cc;
-  others = λ not_from not_to. is;
-  lacking = is;
-}
-of_none from to (Some lowest) id byte is = record {
-  renamed = λ same. let no = same in cc;
-  gone = λ same. let no = same in cc;
-  others = λ not_from not_to. is;
-  lacking = tt;
-}
-
--- the ids have their new ids in a table of bytes, but for those of the items that are left, which have themselves
-pub record HasRenamedBut (known : Slots) (from to : KnownKind) (lowest : Option ℕ) (left : List (ℕ × Extension)) (bytes : List ℕ) : Type 0 where
-  pub long : length bytes ≡ 256
-  pub first : get_or bytes 0 0 ≡ 0
-  pub mapped : All (λ item. extension_at known item.0 ≡ Some item.1) left
-  pub ids : All (λ item. 0 < item.0) left
-  pub bytes_fit : (id : ℕ) → get_or bytes id 0 < 256
-  pub each : (id : ℕ) → 0 < id → id < 256 → ((kind : Option KnownKind) × IsRead known id kind × IsRenamedByte from to lowest kind id (get_or bytes id 0))
-      ⊎ ((extension : Extension) × Contains left (id, extension))
-
-pub HasRenamedBut-start : (known : Slots) (from to : KnownKind) (lowest : Option ℕ) (left : List (ℕ × Extension)) (bytes : List ℕ) → left ≡ items_from 0 known
-    → length bytes ≡ 256 → ((id : ℕ) → id < 256 → get_or bytes id 0 ≡ id) → HasRenamedBut known from to lowest left bytes
-HasRenamedBut-start known from to lowest left bytes is long same =
-    subst (λ (items : List (ℕ × Extension)). HasRenamedBut known from to lowest items bytes) (sym is) (record {
-      long = long;
-      first = same 0 (omega arith);
-      mapped = λ k d here. (listing.mapped k d here).0;
-      ids = above_passed 0 known;
-      bytes_fit = λ id. elim (cases_lt id 256) [
-        | inl below ↦ omega (arith, same id below, below)
-        | inr above ↦ subst (λ (b : ℕ). b < 256) (sym (get_or_past bytes id 0 (omega (arith, long)))) (omega arith)
-      ];
-      each = λ id above below. each id below (extension_at known id) refl;
-    })
   where
-    listing : IsListing known (λ _. true) (items_from 0 known)
-    listing = IsListing-from_slots known
+    keep : (kind : KnownKind) → extension_at exts id ≡ Some (extension_of_kind kind) → extension_at known id ≡ Some (extension_of_kind kind)
+    keep kind mapped =
+        ap (λ (s : Slots). extension_at s id) is ∙ known_slots-keep exts id (extension_of_kind kind) (known_back kind).0 mapped
 
-    each : (id : ℕ) → id < 256 → (found : Option Extension) → extension_at known id ≡ found
-        → ((kind : Option KnownKind) × IsRead known id kind × IsRenamedByte from to lowest kind id (get_or bytes id 0))
-        ⊎ ((extension : Extension) × Contains (items_from 0 known) (id, extension))
-    each id below None missing = inl (None, sym missing, of_none from to lowest id (get_or bytes id 0) (same id below))
-    each id below (Some extension) mapped = inr (extension, listing.all id extension mapped refl)
+    back_there : (kind : KnownKind) → extension_at known id ≡ Some (extension_of_kind kind) → extension_at exts id ≡ Some (extension_of_kind kind)
+    back_there kind mapped = known_slots-back exts id (extension_of_kind kind) (sym (ap (λ (s : Slots). extension_at s id) is) ∙ mapped)
 
-pub HasRenamedBut-next : (known : Slots) (from to : KnownKind) (lowest : Option ℕ) (left more : List (ℕ × Extension)) (bytes : List ℕ) (id at byte : ℕ) (kind : KnownKind)
-    → HasRenamedBut known from to lowest left bytes → left ≡ (id, extension_of_kind kind) ∷ more → id < 256 → byte < 256 → at ≡ id
-    → IsRenamedByte from to lowest (Some kind) id byte → HasRenamedBut known from to lowest more (set bytes at byte)
-HasRenamedBut-next known from to lowest left more bytes id at byte kind are is within fits there renamed =
-    subst (λ (n : ℕ). HasRenamedBut known from to lowest more (set bytes n byte)) (sym there) (record {
-      long = length-set bytes id byte ∙ whole.long;
-      first = get_or-set_other bytes id 0 byte 0 (λ same. omega (arith, above, same)) ∙ whole.first;
-      mapped = All-tail (λ i. extension_at known i.0 ≡ Some i.1) item more whole.mapped;
-      ids = All-tail (λ i. 0 < i.0) item more whole.ids;
-      bytes_fit = λ k. elim (cases_eq k id) [
-        | inl here ↦ subst (λ (i : ℕ). get_or (set bytes id byte) i 0 < 256) (sym here)
-            (subst (λ (b : ℕ). b < 256) (sym (get_or-set_same bytes id byte 0 (omega (arith, within, whole.long)))) fits)
-        | inr other ↦ subst (λ (b : ℕ). b < 256) (sym (get_or-set_other bytes id k byte 0 other)) (whole.bytes_fit k)
-      ];
-      each = λ k positive below. elim (cases_eq k id) [
-        | inl here ↦ inl (Some kind, subst (λ (n : ℕ). IsRead known n (Some kind)) (sym here) read, subst (λ (n : ℕ). IsRenamedByte from to lowest (Some kind) n (get_or (set bytes id byte) n 0)) (sym here) this)
-        | inr other ↦ elim (whole.each k positive below) [
-          | inl done ↦ inl (done.0, done.1, subst (IsRenamedByte from to lowest done.0 k) (sym (get_or-set_other bytes id k byte 0 other)) done.2)
-          | inr waits ↦ elim (later item more k waits.0 waits.1) [
-            | inl same ↦ absurd (other (sym (ap (λ (i : ℕ × Extension). i.0) same)))
-            | inr rest ↦ inr (waits.0, rest)
-          ]
-        ]
-      ];
-    })
-  where
-    item : ℕ × Extension
-    item = (id, extension_of_kind kind)
+-- the table of the bytes
+no_new_id : (bytes : List ℕ) → length bytes ≡ 256 → get_or bytes 0 0 ≡ 0 → (id : ℕ) → (IsId id → ⊥) → new_id (map id_in_byte bytes) id ≡ None
+no_new_id bytes long first zero never = new_id-byte bytes 0 ∙ ap id_in_byte first
+no_new_id bytes long first (suc k) never = elim (cases_lt (suc k) 256) [
+  | inl below ↦ absurd (never (omega arith, omega arith))
+  | inr above ↦ get_or_past (map id_in_byte bytes) (suc k) None (omega (arith, above, long, length-map bytes id_in_byte))
+]
 
-    whole : HasRenamedBut known from to lowest ((id, extension_of_kind kind) ∷ more) bytes
-    whole = subst (λ (items : List (ℕ × Extension)). HasRenamedBut known from to lowest items bytes) is are
+pub AreRenamedIds-put : (exts known : Slots) (from to : KnownKind) (lowest : ℕ) (old new : List ℕ) → known ≡ known_slots exts
+    → IsLowest exts (extension_of_kind to) lowest → 0 < lowest → (other : ℕ) × (extension_at exts other ≡ Some (extension_of_kind from))
+    → length new ≡ 256 → ((k : ℕ) → k < 256 → get_or old k 0 ≡ k) → Renames known (extension_of_kind from) (extension_of_kind to) lowest old new
+    → AreRenamedIds exts (extension_of_kind from) (extension_of_kind to) (map id_in_byte new)
+AreRenamedIds-put exts known from to lowest old new is is_lowest some beside long same renames = record {
+  each = λ id is_id. subst (IsRenamedId exts (extension_of_kind from) (extension_of_kind to) id) (sym (new_id-byte new id))
+      (IsRenamedId-at exts known from to lowest old new id is (omega (arith, is_id.0)) (omega (arith, is_id.1)) is_lowest some beside.0 beside.1 same renames);
+  no_id = no_new_id new long (renames.others 0 (omega arith) (λ mapped. cc) (λ mapped. cc) ∙ same 0 (omega arith));
+}
 
-    above : 0 < id
-    above = All-head (λ i. 0 < i.0) (id, extension_of_kind kind) more whole.ids
-
-    read : IsRead known id (Some kind)
-    read = sym (All-head (λ i. extension_at known i.0 ≡ Some i.1) (id, extension_of_kind kind) more whole.mapped)
-
-    this : IsRenamedByte from to lowest (Some kind) id (get_or (set bytes id byte) id 0)
-    this = subst (IsRenamedByte from to lowest (Some kind) id) (sym (get_or-set_same bytes id byte 0 (omega (arith, within, whole.long)))) renamed
-
-pub AreRenamedIds-end : (exts known : Slots) (from to : KnownKind) (lowest : Option ℕ) (left : List (ℕ × Extension)) (bytes : List ℕ) → known ≡ known_slots exts
-    → IsBeside exts (extension_of_kind from) (extension_of_kind to) lowest → HasRenamedBut known from to lowest left bytes → left ≡ []
-    → AreRenamedIds exts (extension_of_kind from) (extension_of_kind to) (map id_in_byte bytes)
-AreRenamedIds-end exts known from to lowest left bytes is beside are none_left = record {
-  each = λ id is_id. subst (IsRenamedId exts (extension_of_kind from) (extension_of_kind to) id) (sym (new_id-byte bytes id))
-      (elim (are.each id (omega (arith, is_id.0)) (omega (arith, is_id.1))) [
-        | inl done ↦ IsRenamedId-byte exts known from to lowest done.0 id (get_or bytes id 0) is (omega (arith, is_id.0)) beside done.1 done.2
-        | inr waits ↦
-            let found = subst (λ (items : List (ℕ × Extension)). Contains items (id, waits.0)) none_left waits.1 in
-            let within = found.1 in
-            absurd (omega arith)
-      ]);
-  no_id = none;
+-- where the map lacks one of the kinds
+pub AreRenamedIds-same : (exts : Slots) (from to : Extension) (bytes : List ℕ) → IsUnmapped exts from ⊎ IsUnmapped exts to → length bytes ≡ 256
+    → ((k : ℕ) → k < 256 → get_or bytes k 0 ≡ k) → AreRenamedIds exts from to (map id_in_byte bytes)
+AreRenamedIds-same exts from to bytes lacks long same = record {
+  each = λ id is_id. subst (IsRenamedId exts from to id) (sym (new_id-byte bytes id)) (at id (omega (arith, is_id.0)) (omega (arith, is_id.1)));
+  no_id = no_new_id bytes long (same 0 (omega arith));
 }
   where
-    none : (id : ℕ) → (IsId id → ⊥) → new_id (map id_in_byte bytes) id ≡ None
-    none zero never = new_id-byte bytes 0 ∙ ap id_in_byte are.first
-    none (suc k) never = elim (cases_lt (suc k) 256) [
-      | inl below ↦ absurd (never (omega arith, omega arith))
-      | inr above ↦ get_or_past (map id_in_byte bytes) (suc k) None (omega (arith, above, are.long, length-map bytes id_in_byte))
-    ]
+    at : (id : ℕ) → 0 < id → id < 256 → IsRenamedId exts from to id (id_in_byte (get_or bytes id 0))
+    at id above below =
+        let itself : id_in_byte (get_or bytes id 0) ≡ Some id = ap id_in_byte (same id below) ∙ in_byte id above in
+        record {
+          renamed = λ new mapped lowest. elim lacks [
+            | inl no_from ↦ absurd (no_from id mapped)
+            | inr no_to ↦ absurd (no_to new lowest.mapped)
+          ];
+          gone = λ other mapped there. elim lacks [
+            | inl no_from ↦ absurd (no_from other there)
+            | inr no_to ↦ absurd (no_to id mapped)
+          ];
+          others = λ no_from no_to. itself;
+          lacking = λ none. itself;
+        }
+
+-- the bytes of such a table are those of one
+pub renamed_first : (exts : Slots) (from to : Extension) (bytes : List ℕ) → AreRenamedIds exts from to (map id_in_byte bytes) → get_or bytes 0 0 ≡ 0
+renamed_first exts from to bytes are = in_no_byte (get_or bytes 0 0) (sym (new_id-byte bytes 0) ∙ are.no_id 0 (λ is_id. omega (arith, is_id.0)))
+  where
+    in_no_byte : (byte : ℕ) → id_in_byte byte ≡ None → byte ≡ 0
+    in_no_byte zero none = refl
+    in_no_byte (suc k) none = cc

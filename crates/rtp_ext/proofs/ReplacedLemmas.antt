@@ -3,16 +3,11 @@ use Rattle.std.proofs.Common.{◌≡◌, ◌≢◌, ℕ, ◌+◌, ◌-◌, ◌<�
 use Rattle.std.specs.Option.{is_some, option_map}
 use Rattle.std.specs.List.{swap}
 use Rattle.std.proofs.Math.ListN.{get_or-map}
-use Rattle.std.proofs.lemmas.List.{get_or_default, get_or-set_same, get_or-set_other, length-set}
+use Rattle.std.proofs.lemmas.List.{get_or_default, get_or-set_same, get_or-set_other, length-set, length-map, map-set}
 use Rattle.std.proofs.lemmas.List.Edits.{swap_is}
-use Rattle.rtp_values.specs.declared.kind.Extension.{Extension}
-use Rattle.rtp_values.specs.declared.kind.Extension.TheVariants.{UnknownUri}
-use Rattle.rtp_values.specs.declared.known_kind.KnownKind.{KnownKind}
-use Rattle.rtp_values.specs.KnownKind.{extension_of_kind}
-use Rattle.rtp_ext.specs.ExtensionMap.{Entry, Slots, entry_at, extension_of, extension_at, unlocked, locked}
-use Rattle.rtp_ext.specs.KindsById.{entry_of_kind, known_alone, known_entry, known_slots}
+use Rattle.rtp_ext.specs.ExtensionMap.{Entry, Slots, entry_at, locked}
+use Rattle.rtp_ext.specs.KindsById.{known_entry, known_slots}
 use Rattle.rtp_ext.specs.MapSlots.{Puts, Swaps, mapped_ids, updated}
-use Rattle.rtp_ext.proofs.KindsByIdLemmas.{known_slots-put}
 use Rattle.rtp_ext.proofs.MapLemmas.{entry_at-slot, entry_at-other}
 use Rattle.rtp_ext.proofs.UpdatedIdLemmas.{updated_ids}
 
@@ -70,37 +65,19 @@ swapped_ids slots ids between after i j from to x y was_x was_y are index next a
     (get_or_default slots i None x here ∙ sym x_is) last
     ∙ ap mapped_ids (swap_is slots i j None here there)
 
--- an entry of a known kind, as a table has it
-known_entry-unlocked : (slot : Option Entry) → option_map unlocked (extension_of (known_entry slot)) ≡ known_entry slot
-known_entry-unlocked None = refl
-known_entry-unlocked (Some entry) = alone entry.extension
-  where
-    alone : (extension : Extension) → option_map unlocked (extension_of (known_alone extension)) ≡ known_alone extension
-    alone (UnknownUri uri) = refl
-    alone _ = refl
-
-entry_of_kind-unlocked : (kind : Option KnownKind) → entry_of_kind kind ≡ option_map unlocked (option_map extension_of_kind kind)
-entry_of_kind-unlocked None = refl
-entry_of_kind-unlocked (Some kind) = refl
-
--- the kind that a table gives is that of the slot
-pub kind_of_known : (slots table : Slots) (k id : ℕ) (kind : Option KnownKind) → table ≡ known_slots slots → k + 1 ≡ id
-    → option_map extension_of_kind kind ≡ extension_at table id → entry_of_kind kind ≡ known_entry (get_or slots k None)
-kind_of_known slots table k id kind in_step index at =
-    let entry : entry_at table id ≡ known_entry (get_or slots k None) =
-    ap (λ (s : Slots). entry_at s id) in_step ∙ entry_at-slot (known_slots slots) k id index ∙ get_or-map known_entry slots k None in
-    entry_of_kind-unlocked kind ∙ ap (option_map unlocked) (at ∙ ap extension_of entry) ∙ known_entry-unlocked (get_or slots k None)
-
 -- the table of the known kinds has followed
-pub swapped_known : (slots table between after : Slots) (i j from to : ℕ) (kind_i kind_j : Option KnownKind) → table ≡ known_slots slots
-    → i + 1 ≡ from → j + 1 ≡ to → i < length slots → j < length slots
-    → option_map extension_of_kind kind_i ≡ extension_at table from → option_map extension_of_kind kind_j ≡ extension_at table to
-    → between ≡ set table (from - 1) (entry_of_kind kind_j) → after ≡ set between (to - 1) (entry_of_kind kind_i)
-    → after ≡ known_slots (swap slots i j)
-swapped_known slots table between after i j from to kind_i kind_j in_step index next here there at_i at_j first second =
-    known_slots-put (half_swapped slots i j) between after j to (get_or slots i None) (entry_of_kind kind_i)
-    (known_slots-put slots table between i from (get_or slots j None) (entry_of_kind kind_j) in_step index first (kind_of_known slots table j to kind_j in_step next at_j))
-    next second (kind_of_known slots table i from kind_i in_step index at_i)
+pub swapped_known : (slots table after : Slots) (i j from to : ℕ) → table ≡ known_slots slots → i + 1 ≡ from → j + 1 ≡ to
+    → i < length slots → j < length slots → after ≡ swap table (from - 1) (to - 1) → after ≡ known_slots (swap slots i j)
+swapped_known slots table after i j from to in_step index next here there swapped =
+    let first : from - 1 ≡ i = omega (arith, index) in
+    let second : to - 1 ≡ j = omega (arith, next) in
+    swapped ∙ ap (λ (t : Slots). swap t (from - 1) (to - 1)) in_step
+    ∙ ap (λ (n : ℕ). swap (known_slots slots) n (to - 1)) first ∙ ap (swap (known_slots slots) i) second
+    ∙ sym (swap_is (known_slots slots) i j None (omega (arith, here, length-map slots known_entry)) (omega (arith, there, length-map slots known_entry)))
+    ∙ ap (λ (entry : Option Entry). set (set (known_slots slots) i entry) j (get_or (known_slots slots) i None)) (get_or-map known_entry slots j None)
+    ∙ ap (λ (entry : Option Entry). set (set (known_slots slots) i (known_entry (get_or slots j None))) j entry) (get_or-map known_entry slots i None)
+    ∙ ap (λ (t : Slots). set t j (known_entry (get_or slots i None))) (sym (map-set known_entry slots i (get_or slots j None)))
+    ∙ sym (map-set known_entry (half_swapped slots i j) j (get_or slots i None))
     ∙ ap known_slots (swap_is slots i j None here there)
 
 -- the entries stand in each other's place

@@ -42,12 +42,16 @@ pub no_kind : (kinds : List (Option KnownKind)) (read id : ℕ) (d : Option Know
 no_kind kinds read id d same within missing =
     no_kind-at kinds id d within (ap (λ (n : ℕ). is_some (get_or kinds n d)) (sym same) ∙ missing)
 
+pub none_where : (kind : Option KnownKind) → is_some kind ≡ false → kind ≡ None
+none_where None missing = refl
+none_where (Some kind) missing = cc
+
 no_entry : (kinds : List (Option KnownKind)) (id : ℕ) → id ≢ 0 → get_or kinds id None ≡ None → get_or (slots_of kinds) (id - 1) None ≡ None
 no_entry kinds zero other missing = absurd (other refl)
 no_entry kinds (suc k) other missing =
     sym (entry_at-slot (slots_of kinds) (suc k - 1) (suc k) (omega arith)) ∙ entry_at-kinds kinds k ∙ ap entry_of_kind missing
 
-within_slots : (kinds : List (Option KnownKind)) (id : ℕ) → id ≢ 0 → id < length kinds → id - 1 < length (slots_of kinds)
+pub within_slots : (kinds : List (Option KnownKind)) (id : ℕ) → id ≢ 0 → id < length kinds → id - 1 < length (slots_of kinds)
 within_slots kinds zero other within = absurd (other refl)
 within_slots kinds (suc k) other within = omega (arith, length-map (drop 1 kinds) entry_of_kind, length-drop 1 kinds)
 
@@ -82,7 +86,7 @@ layers_count-few : (kinds : List (Option KnownKind)) → layers_count kinds ≤ 
 layers_count-few [] = omega arith
 layers_count-few (kind ∷ kinds) = omega (arith, layers_count-cons kind kinds, is_layers-once (is_layers kind), layers_count-few kinds)
 
-layers_count-put : (kinds : List (Option KnownKind)) (k : ℕ) (kind seen : Option KnownKind) → k < length kinds
+pub layers_count-put : (kinds : List (Option KnownKind)) (k : ℕ) (kind seen : Option KnownKind) → k < length kinds
     → layers_count (set kinds k kind) + from_bool (is_layers (get_or kinds k seen)) ≡ layers_count kinds + from_bool (is_layers kind)
 layers_count-put [] k kind seen here = absurd (omega (arith, here))
 layers_count-put (first ∷ kinds) zero kind seen here = omega (arith, layers_count-cons first kinds, layers_count-cons kind kinds)

@@ -1,5 +1,5 @@
 -- The ids that elements have under another map (RFC 8285, 5).
-use Rattle.std.specs.Prelude.{◌≡◌, ◌≢◌, ◌⊎◌, ℕ, zero, suc, List, [], ◌∷◌, map, Option, Some, None, slice_index_or}
+use Rattle.std.specs.Prelude.{◌≡◌, ◌≢◌, ◌<◌, ◌⊎◌, ℕ, zero, suc, List, [], ◌∷◌, map, Option, Some, None, slice_index, slice_index_or}
 use Rattle.std.specs.Option.{unwrap_or}
 use Rattle.std.proofs.Common.{refl, ap}
 use Rattle.rtp_values.specs.declared.kind.Extension.{Extension}
@@ -35,6 +35,12 @@ pub record IsRenamedId (map : Slots) (from to : Extension) (id : ℕ) (new : Opt
 pub record AreRenamedIds (map : Slots) (from to : Extension) (ids : List (Option ℕ)) : Type 0 where
   pub each : (id : ℕ) → IsId id → IsRenamedId map from to id (new_id ids id)
   pub no_id : (id : ℕ) → (IsId id → ⊥) → new_id ids id ≡ None
+
+-- in a table of bytes the ids of one extension get a new id and those of another none, and every other byte stays
+pub record Renames (map : Slots) (from to : Extension) (lowest : ℕ) (old new : List ℕ) : Type 0 where
+  pub renamed : (id : ℕ) → id < 256 → extension_at map id ≡ Some from → slice_index new id ≡ lowest
+  pub gone : (id : ℕ) → id < 256 → extension_at map id ≡ Some to → slice_index new id ≡ 0
+  pub others : (id : ℕ) → id < 256 → extension_at map id ≢ Some from → extension_at map id ≢ Some to → slice_index new id ≡ slice_index old id
 
 -- the new id that a byte of a table says, and none where it is 0, which is the id of no extension
 abbrev pub id_in_byte : ℕ → Option ℕ

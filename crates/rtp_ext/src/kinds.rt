@@ -1,15 +1,16 @@
 //! What says which known extension each id means.
 
-ghost use Rattle.std.specs.Prelude.{◌≡◌, ◌≤◌, ◌∷◌, [], ℕ, List, length, IfSome, IfNone};
+ghost use Rattle.std.specs.Prelude.{◌≡◌, ◌≢◌, ◌≤◌, ◌∷◌, [], ℕ, List, length, IfSome, IfNone};
 ghost use Rattle.std.specs.Option.{option_map};
 ghost use Rattle.std.specs.List.{list_any};
 ghost use Rattle.rtp_values.specs.declared.kind.Extension.{Extension};
 ghost use Rattle.rtp_values.specs.KnownKind.{extension_of_kind};
 ghost use Rattle.rtp_ext.specs.ExtensionMap.{IsId, Slots, HasNoIdAbove, extension_at, items_from};
 ghost use Rattle.rtp_ext.specs.KindsById.{is_long_item, known_slots};
-ghost use Rattle.rtp_ext.specs.NewIds.{IsNewId, AreNewBytes};
+ghost use Rattle.rtp_ext.specs.NewIds.{IsNewId, AreNewBytes, Renames};
 
 use super::MAX_ID_ONE_BYTE_FORM;
+use super::renamed_ids::renamed;
 use rtp_values::KnownKind;
 
 /// How far a walk over the mapped ids of a map has come.
@@ -80,6 +81,17 @@ pub trait Kinds {
             *new = self.id_under(other, id as u8).unwrap_or(0);
         }
         ids
+    }
+
+    /// Puts `lowest` at the index of each id that is mapped to the first kind, and 0 at that of each id
+    /// that is mapped to the second. Precondition: the kinds are two.
+    fn rename(&self, from: KnownKind, to: KnownKind, lowest: u8, ids: &mut [u8; 256])
+        requires { from ≢ to }
+        ensures { Renames (known self.now) (extension_of_kind from) (extension_of_kind to) lowest ids.old ids.new }
+    {
+        for (id, new) in ids.iter_mut().enumerate() {
+            *new = renamed(self.get(id as u8), from, to, lowest, *new);
+        }
     }
 
     ghost known_is: { (map : Self) → known map ≡ known_slots (slots map) };

@@ -1,10 +1,10 @@
 //! The known extensions of a map by their ids.
 
-ghost use Rattle.std.specs.Prelude.{◌≡◌, ◌+◌, ◌-◌, ◌<◌, ◌≤◌, ◌∷◌, [], length, drop, replicate, Some, None, IfSome, IfNone, slice_set};
+ghost use Rattle.std.specs.Prelude.{◌≡◌, ◌≢◌, ◌+◌, ◌-◌, ◌<◌, ◌≤◌, ◌∷◌, [], length, drop, replicate, Some, None, IfSome, IfNone, slice_set};
 ghost use Rattle.std.specs.Option.{option_map};
-ghost use Rattle.std.specs.List.{list_any};
+ghost use Rattle.std.specs.List.{list_any, swap};
 ghost use Rattle.rtp_values.specs.KnownKind.{extension_of_kind};
-ghost use Rattle.rtp_ext.specs.ExtensionMap.{IsId, extension_at, items_from, mapped_count};
+ghost use Rattle.rtp_ext.specs.ExtensionMap.{IsId, IsLowest, IsUnmapped, extension_at, items_from, mapped_count};
 ghost use Rattle.rtp_ext.specs.KindsById.{slots_of, entry_of_kind, is_layers, has_long_data};
 ghost use Rattle.rtp_ext.specs.MapSlots.{items_at, mapped_ids};
 
@@ -100,6 +100,36 @@ impl KindsById {
         self.mapped.update(id, old.is_some(), kind.is_some());
         self.layers += u16::from(is_layers(kind));
         self.layers -= u16::from(is_layers(old));
+    }
+
+    // Puts the kinds of two ids in each other's place.
+    pub(super) fn exchange(&mut self, from: u8, to: u8)
+        requires ids { IsId from × IsId to }
+        requires apart { from ≢ to }
+        ensures { slots_of self.new ≡ swap (slots_of self.old) (from - 1) (to - 1) }
+    {
+        let here = self.kinds[usize::from(from)];
+        let there = self.kinds[usize::from(to)];
+        self.kinds[usize::from(from)] = there;
+        self.kinds[usize::from(to)] = here;
+        self.mapped.update(from, here.is_some(), there.is_some());
+        self.mapped.update(to, there.is_some(), here.is_some());
+    }
+
+    // The lowest id that is mapped to the kind: the first, since the mapped ids rise.
+    pub(super) fn lowest_id(&self, kind: KnownKind) -> Option<u8>
+        ensures found { IfSome result (IsLowest (slots_of self.now) (extension_of_kind kind)) }
+        ensures valid { IfSome result IsId }
+        ensures none { IfNone result (IsUnmapped (slots_of self.now) (extension_of_kind kind)) }
+    {
+        let mut place = 0;
+        while let Some((id, found)) = self.item(place) {
+            if found == kind {
+                return Some(id);
+            }
+            place += 1;
+        }
+        None
     }
 
     // The id at this place among the mapped ids, which rise, and its kind.

@@ -16,6 +16,7 @@ mod mapped_ids;
 mod new_ids;
 mod place;
 mod raw_writing;
+mod renamed_ids;
 mod slots;
 mod widening;
 

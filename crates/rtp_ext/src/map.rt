@@ -11,6 +11,7 @@ use super::iter::write_entries;
 use super::kinds::{Cursor, Kinds};
 use super::kinds_by_id::KindsById;
 use super::mapped_ids::MappedIds;
+use super::renamed_ids::renamed;
 use super::slots::Slot;
 use super::{Iter, IterByMediaType, MAX_ID_ONE_BYTE_FORM, slots};
 use rtp_values::{Extension, KnownKind};
@@ -159,8 +160,20 @@ impl ExtensionMap {
         self.lowest_id(&ext)
     }
 
-    // The lowest id that is mapped to the extension: the first, since the mapped ids rise.
+    // The lowest id that is mapped to the extension.
     fn lowest_id(&self, ext: &Extension) -> Option<u8>
+        ensures found { IfSome result (spec.IsLowest self.now ext.now) }
+        ensures valid { IfSome result spec.IsId }
+        ensures none { IfNone result (spec.IsUnmapped self.now ext.now) }
+    {
+        match ext.known_kind() {
+            Some(kind) => self.kinds.lowest_id(kind),
+            None => self.lowest_unknown(ext),
+        }
+    }
+
+    // The same of any extension: the first that is mapped to it, since the mapped ids rise.
+    fn lowest_unknown(&self, ext: &Extension) -> Option<u8>
         ensures found { IfSome result (spec.IsLowest self.now ext.now) }
         ensures valid { IfSome result spec.IsId }
         ensures none { IfNone result (spec.IsUnmapped self.now ext.now) }
@@ -264,9 +277,7 @@ impl ExtensionMap {
         requires apart { from ≢ to }
         ensures { Swaps self.old self.new from to }
     {
-        let kind = self.kinds.get(from);
-        self.kinds.set(from, self.kinds.get(to));
-        self.kinds.set(to, kind);
+        self.kinds.exchange(from, to);
         let here = usize::from(from) - 1;
         let there = usize::from(to) - 1;
         let was_here = self.slots[here].is_mapped();
@@ -362,6 +373,14 @@ impl Kinds for ExtensionMap {
             ids[usize::from(id)] = other.lowest_id(ext).unwrap_or(0);
         }
         ids
+    }
+
+    fn rename(&self, from: KnownKind, to: KnownKind, lowest: u8, ids: &mut [u8; 256]) {
+        let mut cursor = self.start();
+        while let Some((id, kind)) = self.next(&mut cursor) {
+            let index = usize::from(id);
+            ids[index] = renamed(Some(kind), from, to, lowest, ids[index]);
+        }
     }
 
     ghost known_is = { λ map. refl };

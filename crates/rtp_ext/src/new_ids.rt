@@ -1,17 +1,17 @@
 //! Which ids elements have under another map.
 
-ghost use Rattle.std.specs.Prelude.{◌≡◌, ◌≢◌, ◌<◌, ◌≤◌, ◌⊎◌, ◌↔◌, ℕ, IsTrue, IfSome, IfNone, Some, All, length, slice_index, slice_index_or};
+ghost use Rattle.std.specs.Prelude.{◌≡◌, ◌≢◌, ◌<◌, ◌≤◌, ◌↔◌, ℕ, IsTrue, IfSome, All, length, slice_index, slice_index_or};
 ghost use Rattle.std.specs.Bool.{OnTrue};
 ghost use Rattle.rtp_values.specs.declared.kind.Extension.TheVariants.{RtpStreamId, RepairedRtpStreamId};
 ghost use Rattle.rtp_values.specs.KnownKind.{extension_of_kind};
 ghost use Rattle.rtp_ext.specs.declared.form.ExtensionsForm.TheVariants.{OneByte};
 ghost use Rattle.rtp_ext.specs.ElementReading.{elements_left};
 ghost use Rattle.rtp_ext.specs.ElementsInPlace.{CanRenumber};
-ghost use Rattle.rtp_ext.specs.ExtensionMap.{IsLowest, IsUnmapped, extension_at, items_from};
 ghost use Rattle.rtp_ext.specs.NewIds.{new_id, AreNewIds, CarriesExtensions, AreRenamedIds, id_in_byte, ids_in_bytes};
 ghost use Rattle.rtp_ext.specs.IdChanges.{carries_id};
 
-use super::kinds::{Cursor, Kinds};
+use super::kinds::Kinds;
+use super::renamed_ids::renamed_ids;
 use super::{Elements, ExtensionsForm, MAX_ID, MAX_ID_ONE_BYTE_FORM};
 use rtp_values::KnownKind;
 use std::marker::Model;
@@ -64,63 +64,6 @@ fn are_short(ids: &[u8]) -> bool
     above.to_bitmask() == 0
 }
 
-// The lowest id that is mapped to the kind. The walk is one that `Kinds::start` returned.
-fn lowest_id<K: Kinds>(exts: &K, start: Cursor, kind: KnownKind) -> Option<u8>
-    requires { K.left exts.now start ≡ items_from 0 (K.known exts.now) }
-    ensures lowest { IfSome result (IsLowest (K.slots exts.now) (extension_of_kind kind)) }
-    ensures some_id { IfSome result (λ id. 1 ≤ id) }
-    ensures none { IfNone result (IsUnmapped (K.slots exts.now) (extension_of_kind kind)) }
-{
-    let mut cursor = start;
-    while let Some((id, found)) = exts.next(&mut cursor) {
-        if found == kind {
-            return Some(id);
-        }
-    }
-    None
-}
-
-// The lowest id of the second kind, where both are mapped. The walk is one that `Kinds::start` returned.
-fn lowest_beside<K: Kinds>(exts: &K, start: Cursor, from: KnownKind, to: KnownKind) -> Option<u8>
-    requires { K.left exts.now start ≡ items_from 0 (K.known exts.now) }
-    ensures lowest { IfSome result (IsLowest (K.slots exts.now) (extension_of_kind to)) }
-    ensures some_id { IfSome result (λ id. 1 ≤ id) }
-    ensures beside { IfSome result (λ _. (other : ℕ) ×
-        (extension_at (K.slots exts.now) other ≡ Some (extension_of_kind from))) }
-    ensures none { IfNone result (IsUnmapped (K.slots exts.now) (extension_of_kind from)
-        ⊎ IsUnmapped (K.slots exts.now) (extension_of_kind to)) }
-{
-    lowest_id(exts, start, from)?;
-    lowest_id(exts, start, to)
-}
-
-// What stands in the table for an id of this kind, where elements of one kind get the lowest id of
-// another, if both are mapped.
-fn renamed(id: u8, kind: KnownKind, from: KnownKind, to: KnownKind, lowest: Option<u8>) -> u8
-    requires { from ≢ to }
-    ensures renamed { kind ≡ from → IfSome lowest (λ new. result ≡ new) }
-    ensures gone { kind ≡ to → IfSome lowest (λ _. result ≡ 0) }
-    ensures others { kind ≢ from → kind ≢ to → result ≡ id }
-    ensures lacking { IfNone lowest (result ≡ id) }
-{
-    match lowest {
-        Some(lowest) if kind == from => lowest,
-        Some(_) if kind == to => 0,
-        _ => id,
-    }
-}
-
-// The table in which each id keeps itself.
-fn same_ids() -> [u8; IDS]
-    ensures { (id : ℕ) → id < 256 → slice_index result id ≡ id }
-{
-    let mut ids = [0; IDS];
-    for (id, new) in ids.iter_mut().enumerate() {
-        *new = id as u8;
-    }
-    ids
-}
-
 impl NewIds {
     /// For each id that `from` maps to an extension that `to` maps as well, the lowest id that `to`
     /// has for it (RFC 8285, 5). Every other id has no new one. Takes no memory.
@@ -161,14 +104,9 @@ impl NewIds {
         requires { from ≢ to }
         ensures { AreRenamedIds (K.slots exts.now) (extension_of_kind from) (extension_of_kind to) result }
     {
-        let start = exts.start();
-        let lowest = lowest_beside(exts, start, from, to);
-        let mut ids = same_ids();
-        let mut cursor = start;
-        while let Some((id, kind)) = exts.next(&mut cursor) {
-            ids[usize::from(id)] = renamed(id, kind, from, to, lowest);
+        NewIds {
+            ids: renamed_ids(exts, from, to),
         }
-        NewIds { ids }
     }
 
     /// The table of these new ids, each at the index of the old one, with 0 where an id has none.

@@ -1,4 +1,4 @@
-use Rattle.std.proofs.Common.{◌≡◌, ◌∙◌, ◌∷◌, ℕ, List, Option, Some, None, IsSomeAnd, arith, ap, refl, sym, subst}
+use Rattle.std.proofs.Common.{◌∙◌, ◌∷◌, ℕ, List, Option, Some, None, IsSomeAnd, arith, ap, refl, sym, subst}
 use Rattle.std.proofs.lemmas.Bool.{false≢true}
 use Rattle.std.specs.Option.{option_map}
 use Rattle.rtp_values.specs.declared.kind.Extension.TheVariants.{VideoLayersAllocation}

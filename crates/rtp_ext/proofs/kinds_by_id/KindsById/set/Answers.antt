@@ -1,4 +1,4 @@
-use Rattle.std.proofs.Common.{◌≡◌, ◌+◌, ◌<◌, length, arith, refl, sym, ◌∙◌}
+use Rattle.std.proofs.Common.{arith, refl, sym, ◌∙◌}
 use Rattle.rtp_ext.specs.KindsById.{slots_of}
 use Rattle.rtp_ext.proofs.KindsByIdLemmas.{slots_of-set_slots}
 use Rattle.rtp_ext.proofs.RisingIdLemmas.{mapped_rise}

@@ -1,4 +1,4 @@
-use Rattle.std.proofs.Common.{◌≡◌, ◌≢◌, ◌+◌, ◌-◌, ◌<◌, length, arith, ap, sym, ◌∙◌, subst}
+use Rattle.std.proofs.Common.{◌≡◌, ◌+◌, ◌-◌, ◌<◌, length, arith, ap, sym, ◌∙◌, subst}
 use Rattle.std.specs.Option.{is_some}
 use Rattle.rtp_ext.specs.ExtensionMap.{Slots}
 use Rattle.rtp_ext.specs.KindsById.{slots_of, known_slots}
@@ -71,10 +71,8 @@ invariant_of-self c =
           (swapped_ids slots c.self.inside.mapped c.update.new.self c.update-2.new.self i j c.args.from c.args.to c.index-self-here.result c.index-self-there.result
           c.is_mapped-was_here.result c.is_mapped-was_there.result c.self.invariant.1 index next (λ same. c.requires.apart (omega (arith, index, next, same)))
           here there c.index-self-here.is c.index-self-there.is (c.is_mapped-was_here.ensures ∙ ap is_some (sym c.index-self-here.is)) (c.is_mapped-was_there.ensures ∙ ap is_some (sym c.index-self-there.is)) c.update.ensures c.update-2.ensures),
-      subst (λ (s : Slots). slots_of c.set-2.new.self ≡ known_slots s) (sym c.swap.ensures.after)
-          (swapped_known slots (slots_of c.self.inside.kinds) (slots_of c.set.new.self) (slots_of c.set-2.new.self) i j c.args.from c.args.to
-          c.get-kind.result c.get.result c.self.invariant.2 index next here there c.get-kind.ensures c.get.ensures
-          (c.set.ensures c.requires.ids.0) (c.set-2.ensures c.requires.ids.1)),
+      subst (λ (s : Slots). slots_of c.exchange.new.self ≡ known_slots s) (sym c.swap.ensures.after)
+          (swapped_known slots (slots_of c.self.inside.kinds) (slots_of c.exchange.new.self) i j c.args.from c.args.to c.self.invariant.2 index next here there c.exchange.ensures),
     )
 
 pub returns : goal.returns

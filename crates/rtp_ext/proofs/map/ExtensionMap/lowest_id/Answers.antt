@@ -1,8 +1,10 @@
-use Rattle.std.proofs.Common.{rules, tests}
-use Rattle.rtp_ext.proofs.RenamedIdLemmas.{AreLeft-next}
+use Rattle.std.proofs.Common.{◌≡◌, ap, sym, ◌∙◌, IfSome, IfNone, Option, Some, None, ℕ}
+use Rattle.rtp_ext.specs.KindsById.{known_slots}
+use Rattle.rtp_ext.proofs.RenamedIdLemmas.{IsLowest-of_kind, IsUnmapped-of_kind}
 use Rattle.rtp_ext.proofs.map.ExtensionMap.lowest_id.Goals as goal
 
-pub loop-id-preserved : goal.loop-id-preserved
-loop-id-preserved c =
-    AreLeft-next c.args.self.now c.args.ext.now c.loop-id.id-iterator _ (c.in-Some.id, c.in-Some.held.now) c.loop-id.invariant c.in-Some.ensures.steps
-    (λ same. let told = c.if-eq.ensures in let false_is = c.if-eq.false in search (rules, tests, told, false_is, same))
+pub returns-in-Some-clause-found : goal.returns-in-Some-clause-found
+returns-in-Some-clause-found c = IsLowest-of_kind c.args.self.now _ c.in-Some.kind c.args.ext.now c.lowest_id.result (c.self.invariant.2 ∙ ap known_slots c.self.view_is) (sym c.in-Some.ensures.known) c.lowest_id.ensures.found
+
+pub returns-in-Some-clause-none : goal.returns-in-Some-clause-none
+returns-in-Some-clause-none c = IsUnmapped-of_kind c.args.self.now _ c.in-Some.kind c.args.ext.now c.lowest_id.result (c.self.invariant.2 ∙ ap known_slots c.self.view_is) (sym c.in-Some.ensures.known) c.lowest_id.ensures.none

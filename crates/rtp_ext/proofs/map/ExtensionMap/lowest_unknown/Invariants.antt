@@ -1,5 +1,5 @@
 use Rattle.rtp_ext.proofs.RenamedIdLemmas.{AreLeft}
-use Rattle.rtp_ext.proofs.map.ExtensionMap.lowest_id.Given as goal
+use Rattle.rtp_ext.proofs.map.ExtensionMap.lowest_unknown.Given as goal
 
 -- the ids of the extension are left
 abbrev pub invariant-loop-id : goal.invariant-loop-id

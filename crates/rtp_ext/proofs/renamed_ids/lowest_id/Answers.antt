@@ -3,7 +3,7 @@ use denote.Enum.Bare.{same_true, same_false}
 use Rattle.rtp_values.specs.contracts.known_kind.KnownKind.{the_type}
 use Rattle.rtp_values.specs.KnownKind.{extension_of_kind}
 use Rattle.rtp_ext.proofs.RenamedIdLemmas.{same_kind, AreLeft-start, AreLeft-next, IsLowest-left, IsUnmapped-left, IsLowest-known, IsUnmapped-known}
-use Rattle.rtp_ext.proofs.new_ids.lowest_id.Goals as goal
+use Rattle.rtp_ext.proofs.renamed_ids.lowest_id.Goals as goal
 
 pub loop-id-init : goal.loop-id-init
 loop-id-init g c = AreLeft-start _ _ _ c.requires

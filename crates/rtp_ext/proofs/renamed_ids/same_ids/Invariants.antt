@@ -1,5 +1,5 @@
 use Rattle.std.proofs.Common.{◌≡◌, ◌<◌, ℕ, length, get_or}
-use Rattle.rtp_ext.proofs.new_ids.same_ids.Given as goal
+use Rattle.rtp_ext.proofs.renamed_ids.same_ids.Given as goal
 
 -- the ids that were passed keep themselves
 abbrev pub invariant-loop-id : goal.invariant-loop-id

@@ -1,7 +1,7 @@
 use Rattle.std.proofs.Common.{length}
 use Rattle.rtp_values.specs.KnownKind.{extension_of_kind}
 use Rattle.rtp_ext.proofs.RenamedIdLemmas.{AreLeft}
-use Rattle.rtp_ext.proofs.new_ids.lowest_id.Given as goal
+use Rattle.rtp_ext.proofs.renamed_ids.lowest_id.Given as goal
 
 -- the ids of the kind are left
 abbrev pub invariant-loop-id : goal.invariant-loop-id
