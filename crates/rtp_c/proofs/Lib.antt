@@ -7,6 +7,7 @@ mod ElementLemmas
 mod KindNumberLemmas
 mod StoredMapLemmas
 mod NumberedLemmas
+mod WalkLemmas
 mod MeantLemmas
 mod FewSlotsLemmas
 mod PlacesLemmas

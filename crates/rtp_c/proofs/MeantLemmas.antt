@@ -96,12 +96,12 @@ HaveNewIds-next from to bytes passed number new within was at is =
           )
     ]
 
--- no number is meant from the ids that were passed on
-pub HaveNewIds-past : (from to bytes : List ℕ) (passed : ℕ) → ((id : ℕ) → passed ≤ id → id < 256 → get_or from id 0 ≡ 0)
-    → ((id : ℕ) → passed ≤ id → get_or bytes id 0 ≡ 0) → HaveNewIds from to bytes passed → HaveNewIds from to bytes 256
-HaveNewIds-past from to bytes passed none zeros was = record { many = was.many; each = each }
+-- no number is meant by the ids from those that were passed up to others
+pub HaveNewIds-over : (from to bytes : List ℕ) (passed next : ℕ) → ((id : ℕ) → passed ≤ id → id < next → get_or from id 0 ≡ 0)
+    → ((id : ℕ) → passed ≤ id → get_or bytes id 0 ≡ 0) → HaveNewIds from to bytes passed → HaveNewIds from to bytes next
+HaveNewIds-over from to bytes passed next none zeros was = record { many = was.many; each = each }
   where
-    each : (id : ℕ) → id < 256 → (number : ℕ) × IsNumberAt from id number × IsIdOf to number (get_or bytes id 0)
+    each : (id : ℕ) → id < next → (number : ℕ) × IsNumberAt from id number × IsIdOf to number (get_or bytes id 0)
     each id below = elim (cases_lt id passed) [
       | inl earlier ↦ was.each id earlier
       | inr later ↦ (

@@ -124,6 +124,19 @@ pub numbered-next : (numbers : List ℕ) (end at : ℕ) (kind : KnownKind) → l
 numbered-next numbers end at kind long within below is =
     ap (items_from at) (split numbers end at (Some kind) long within below is)
 
+-- ids that are all mapped to nothing are passed over
+pub numbered-over : (n : ℕ) (numbers : List ℕ) (end at : ℕ) → length numbers ≡ 256 → end ≤ 255 → at + n ≤ end
+    → ((slot : ℕ) → at ≤ slot → slot < at + n → get_or numbers (slot + 1) 0 ≡ 0)
+    → items_from at (drop at (take end (numbered_slots numbers))) ≡ items_from (at + n) (drop (at + n) (take end (numbered_slots numbers)))
+numbered-over zero numbers end at long within below empty =
+    let same : at ≡ at + 0 = omega arith in
+    ap (λ (k : ℕ). items_from k (drop k (take end (numbered_slots numbers)))) same
+numbered-over (suc n) numbers end at long within below empty =
+    let next : at + 1 + n ≡ at + suc n = omega arith in
+    numbered-pass numbers end at None long within (omega (arith, below)) (sym (ap kind_numbered (empty at (omega arith) (omega arith)) ∙ number_zero)) refl
+    ∙ numbered-over n numbers end (at + 1) long within (omega (arith, below)) (λ slot above under. empty slot (omega (arith, above)) (omega (arith, under)))
+    ∙ ap (λ (k : ℕ). items_from k (drop k (take end (numbered_slots numbers)))) next
+
 -- none is left
 pub numbered-ended : (numbers : List ℕ) (end at : ℕ) → end ≤ at → items_from at (drop at (take end (numbered_slots numbers))) ≡ []
 numbered-ended numbers end at past =

@@ -1,5 +1,5 @@
 -- The map that C fills: a number for each id (RFC 8285, 5).
-use Rattle.std.specs.Prelude.{◌≡◌, ◌≢◌, ℕ, zero, suc, ◌<◌, ◌≤◌, List, length, map, slice_index, slice_index_or, Option, None, EachIndex, true}
+use Rattle.std.specs.Prelude.{◌≡◌, ◌≢◌, ℕ, zero, suc, ◌<◌, ◌≤◌, List, length, map, slice_index, slice_index_or, Option, None, EachIndex, true, nat_lt, if◌then◌else◌}
 use Rattle.rtp_values.specs.declared.known_kind.KnownKind.{KnownKind}
 use Rattle.rtp_ext.specs.ExtensionMap.{Slots, IsListing, standard_items}
 use Rattle.rtp_ext.specs.KindsById.{slots_of}
@@ -56,6 +56,10 @@ pub record CarryKinds (from to bytes : List ℕ) : Type 0 where
 -- What the inside promises itself: the slots of the ids from 1 on, by the numbers of the ids from 0 on.
 abbrev pub numbered_slots : List ℕ → Slots
 numbered_slots numbers = slots_of (map kind_numbered numbers)
+
+-- where a walk ends whose slots are looked at one by one up to an index: there, within the 14 of the one-byte form, and else at the last slot
+abbrev pub walk_end : ℕ → ℕ
+walk_end end = if nat_lt 14 end then 255 else end
 
 -- the first index where the number stands
 pub record IsFirstNumber (numbers : List ℕ) (number index : ℕ) : Type 0 where

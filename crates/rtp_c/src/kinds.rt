@@ -1,6 +1,6 @@
 //! The map that C fills, as it stands, as a map of kinds.
 
-ghost use Rattle.std.specs.Prelude.{◌≡◌, ◌≢◌, ◌↔◌, ℕ, ◌<◌, ◌≤◌, length, slice_index, false, IsTrue, IfSome, IfNone};
+ghost use Rattle.std.specs.Prelude.{◌≡◌, ◌≢◌, ◌↔◌, ◌+◌, ℕ, ◌<◌, ◌≤◌, length, slice_index, false, IsTrue, IfSome, IfNone};
 ghost use Rattle.rtp_c.specs.KindNumbers.{kind_number, kind_numbered, IsNamed};
 ghost use Rattle.rtp_c.specs.StoredMap.{IsFirstNumber, IsNumberAt, IsIdOf};
 
@@ -17,11 +17,13 @@ pub struct StoredMap {
     pub kind: [u8; 256],
 }
 
-// A walk ends after so many slots, where the others are empty: those of the one-byte form, or all.
-// Where only ids below 8 are mapped it ends after the last one.
+// How many slots the one-byte form has, and how many there are.
 const LOW_SLOTS: usize = 14;
 
 const ALL_SLOTS: usize = 255;
+
+// So many slots are tested at once for being empty.
+const AT_ONCE: usize = 16;
 
 // The number of the kind that may have long data.
 const LAYERS: u8 = 15;
@@ -148,12 +150,21 @@ impl StoredMap {
         }
     }
 
-    // The index from which on each number is 0: 16 where all from there on are, or the end.
-    pub(super) fn numbers_end(&self) -> usize
-        ensures zeros { (id : ℕ) → result ≤ id → id < 256 → slice_index self.now.kind id ≡ 0 }
-        ensures few { result ≤ 256 }
+    // A slot such that each from the given one up to it is empty: the first behind which 16 are not all so,
+    // or fewer than 16 are left. The slot of an id stands at the index below it.
+    #[inline(never)]
+    pub(super) fn past_empty(&self, from: usize) -> usize
+        requires { from < 255 }
+        ensures after { from ≤ result }
+        ensures within { result ≤ 255 }
+        ensures empty { (slot : ℕ) → from ≤ slot → slot < result →
+            slice_index self.now.kind (slot + 1) ≡ 0 }
     {
-        if are_zeros(&self.kind[16..]) { 16 } else { 256 }
+        let mut slot = from;
+        while slot + AT_ONCE <= ALL_SLOTS && are_zeros(&self.kind[slot + 1..slot + 1 + AT_ONCE]) {
+            slot += AT_ONCE;
+        }
+        slot
     }
 
     // The lowest id that means the number, and 0 where none does.
@@ -176,15 +187,15 @@ impl Kinds for StoredMap {
     ghost use Rattle.rtp_ext.specs.KindsById.{known_of_kinds};
     ghost use Rattle.rtp_ext.specs.declared.kinds.Cursor.{Cursor};
     ghost use Rattle.rtp_c.specs.KindNumbers.{kind_numbered};
-    ghost use Rattle.rtp_c.specs.StoredMap.{numbered_slots};
+    ghost use Rattle.rtp_c.specs.StoredMap.{numbered_slots, walk_end};
 
     ghost slots = { λ map. numbered_slots map.kind };
 
     ghost known = { λ map. numbered_slots map.kind };
 
-    // The slots of a walk are those before its end.
+    // A walk that ends within the slots of the one-byte form ends there, and any other at the last slot.
     ghost left = { λ map cursor.
-        items_from cursor.at (drop cursor.at (take cursor.end (numbered_slots map.kind))) };
+        items_from cursor.at (drop cursor.at (take (walk_end cursor.end) (numbered_slots map.kind))) };
 
     #[inline(always)]
     fn get(&self, id: u8) -> Option<KnownKind> {
@@ -194,6 +205,8 @@ impl Kinds for StoredMap {
         kind_numbered(self.kind[usize::from(id)])
     }
 
+    // The end is that of the slots that are looked at one by one: where only low ids are mapped all up to
+    // the last of these, and else the first 15, behind which empty ones are passed over.
     #[inline(always)]
     fn start(&self) -> Cursor {
         let is_low = are_zeros(&self.kind[16..]);
@@ -204,27 +217,33 @@ impl Kinds for StoredMap {
             } else if self.kind[15] == 0 {
                 LOW_SLOTS
             } else {
-                ALL_SLOTS
+                LOW_SLOTS + 1
             }
         } else {
-            ALL_SLOTS
+            LOW_SLOTS + 1
         };
         Cursor { at: 0, end }
     }
 
     #[inline(always)]
     fn next(&self, cursor: &mut Cursor) -> Option<(u8, KnownKind)> {
-        let end = cursor.end;
+        let mut end = cursor.end;
         let mut at = cursor.at;
-        while at < end {
-            let found = kind_numbered(self.kind[at + 1]);
-            at += 1;
-            if let Some(kind) = found {
-                cursor.at = at;
-                return Some((at as u8, kind));
+        loop {
+            if at < end {
+                let found = kind_numbered(self.kind[at + 1]);
+                at += 1;
+                if let Some(kind) = found {
+                    *cursor = Cursor { at, end };
+                    return Some((at as u8, kind));
+                }
+            } else if end <= LOW_SLOTS || at >= ALL_SLOTS {
+                return None;
+            } else {
+                at = self.past_empty(at);
+                end = ALL_SLOTS.min(at + AT_ONCE);
             }
         }
-        None
     }
 
     #[inline(always)]
@@ -243,7 +262,11 @@ impl Kinds for StoredMap {
 
     #[inline(always)]
     fn at_most(&self, start: Cursor) -> usize {
-        start.end
+        if start.end <= LOW_SLOTS {
+            start.end
+        } else {
+            ALL_SLOTS
+        }
     }
 
     fn id_under(&self, other: &Self, id: u8) -> Option<u8> {

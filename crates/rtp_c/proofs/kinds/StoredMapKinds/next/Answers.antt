@@ -1,30 +1,51 @@
-use Rattle.std.proofs.Common.{◌≡◌, sym, ap, ◌∙◌, ◌∷◌, ◌+◌, length, take, drop, ℕ, rules}
-use Rattle.rtp_values.specs.KnownKind.{extension_of_kind}
+use Rattle.std.proofs.Common.{◌≡◌, sym, ap, ◌∙◌, ◌∷◌, ◌+◌, ◌<◌, ◌≤◌, length, take, drop, ℕ, arith, inl, inr, rules}
+use Rattle.std.proofs.lemmas.Bool.{cases_lt}
 use Rattle.rtp_ext.specs.ExtensionMap.{items_from}
-use Rattle.rtp_c.specs.StoredMap.{numbered_slots}
+use Rattle.rtp_c.specs.StoredMap.{numbered_slots, walk_end}
 use Rattle.rtp_c.proofs.NumberedLemmas.{numbered-pass, numbered-next, numbered-ended}
+use Rattle.rtp_c.proofs.WalkLemmas.{walk_end-low, walk_end-within, walk-over}
 use Rattle.rtp_c.proofs.kinds.StoredMapKinds.next.Goals as goal
 
 pub returns-in-Some-clause-some : goal.returns-in-Some-clause-some
 returns-in-Some-clause-some c =
     let numbers = c.args.self.now.kind in
-    let at = c.loop-at.at in
     let many : length numbers ≡ 256 = search rules in
+    let end = walk_end-within c.loop-at.end c.loop-at.invariant.1 in
     c.loop-at.invariant.0
-    ∙ numbered-next numbers c.args.cursor.now.end at c.in-Some.kind many c.loop-at.invariant.2 c.loop-at-test.true (sym c.in-Some.is ∙ c.kind_numbered-found.ensures)
-    ∙ ap (λ (end : ℕ). (at + 1, extension_of_kind c.in-Some.kind) ∷ items_from (at + 1) (drop (at + 1) (take end (numbered_slots numbers)))) (sym c.loop-at.invariant.1)
+    ∙ numbered-next numbers (walk_end c.loop-at.end) c.loop-at.at c.in-Some.kind many end.1 (omega (arith, c.if-at-end.true, end.0))
+    (sym c.in-Some.is ∙ c.kind_numbered-found.ensures)
+
+pub loop-at-preserved-in_default : goal.loop-at-preserved-in_default
+loop-at-preserved-in_default c =
+    let numbers = c.args.self.now.kind in
+    let many : length numbers ≡ 256 = search rules in
+    let end = walk_end-within c.loop-at.end c.loop-at.invariant.1 in (
+      c.loop-at.invariant.0
+          ∙ numbered-pass numbers (walk_end c.loop-at.end) c.loop-at.at c.kind_numbered-found.result many end.1 (omega (arith, c.if-at-end.true, end.0))
+          c.kind_numbered-found.ensures c.in_default.is,
+      c.loop-at.invariant.1,
+    )
 
 pub loop-at-preserved : goal.loop-at-preserved
 loop-at-preserved c =
     let numbers = c.args.self.now.kind in
-    let many : length numbers ≡ 256 = search rules in (
+    let many : length numbers ≡ 256 = search rules in
+    let more = c.if-at-ge-ALL_SLOTS.false in
+    let told = c.past_empty-at.ensures in (
       c.loop-at.invariant.0
-          ∙ numbered-pass numbers c.args.cursor.now.end c.loop-at.at c.kind_numbered-found.result many c.loop-at.invariant.2 c.loop-at-test.true
-          c.kind_numbered-found.ensures c.in_default.is,
-      c.loop-at.invariant.1,
-      c.loop-at.invariant.2,
+          ∙ walk-over numbers c.loop-at.end c.min-end.result c.loop-at.at c.past_empty-at.result many more.0
+          (omega (arith, c.min-end.ensures, told.after, c.if-at-end.false, more.0)) told.after told.within told.empty,
+      omega (arith, c.min-end.ensures),
     )
 
-pub returns-clause-none : goal.returns-clause-none
-returns-clause-none c =
-    c.loop-at.invariant.0 ∙ numbered-ended c.args.self.now.kind c.args.cursor.now.end c.loop-at.at c.loop-at-test.false
+pub loop-at-smaller : goal.loop-at-smaller
+loop-at-smaller c =
+    omega (arith, c.min-end.ensures, c.past_empty-at.ensures.after, c.past_empty-at.ensures.within, c.if-at-end.false, c.if-at-ge-ALL_SLOTS.false.1, c.loop-at.invariant.1)
+
+pub returns-then-at-ge-ALL_SLOTS-clause-none : goal.returns-then-at-ge-ALL_SLOTS-clause-none
+returns-then-at-ge-ALL_SLOTS-clause-none c =
+    c.loop-at.invariant.0 ∙ numbered-ended c.args.self.now.kind (walk_end c.loop-at.end) c.loop-at.at
+    (elim c.if-at-ge-ALL_SLOTS.either [
+      | inl low ↦ omega (arith, walk_end-low c.loop-at.end low, c.if-at-end.false)
+      | inr past ↦ omega (arith, (walk_end-within c.loop-at.end c.loop-at.invariant.1).1, past.1)
+    ])

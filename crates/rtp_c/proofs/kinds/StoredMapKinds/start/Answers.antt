@@ -4,9 +4,10 @@ use Rattle.std.proofs.Common.{◌≡◌, ℕ, List, Bor, Option, subst, ◌+◌,
 use Rattle.std.proofs.lemmas.Bool.{cases_lt}
 use Rattle.std.proofs.lemmas.List.{get_or-take}
 use Rattle.rtp_ext.specs.ExtensionMap.{items_from}
-use Rattle.rtp_c.specs.StoredMap.{numbered_slots}
+use Rattle.rtp_c.specs.StoredMap.{numbered_slots, walk_end}
 use Rattle.rtp_c.proofs.FewSlotsLemmas.{zeros_in, zeros_past}
 use Rattle.rtp_c.proofs.NumberedLemmas.{numbered-low, numbered-all, numbered-few}
+use Rattle.rtp_c.proofs.WalkLemmas.{walk_end-low}
 use Rattle.rtp_c.proofs.kinds.StoredMapKinds.start.Goals as goal
 use Rattle.rtp_c.proofs.kinds.StoredMapKinds.start.Goals.{else-is_low, then-is_low+then-is_few, then-is_low+else-is_few+then-self-eq0, then-is_low+else-is_few+else-self-eq0}
 
@@ -43,18 +44,19 @@ returns-clause-all c =
       | then-is_low+then-is_few w ↦
           let first : IsFirstChunk numbers w.unwrap.result.now 8 =
           subst (λ (found : Option (Bor (List ℕ))). MatchOption found (length numbers < 8) (λ chunk. IsFirstChunk numbers chunk.now 8)) w.unwrap.ensures w.first_chunk.ensures.cases in
-          ap (λ (end : ℕ). items_from 0 (take end (numbered_slots numbers))) w.end-is
+          ap (λ (end : ℕ). items_from 0 (take (walk_end end) (numbered_slots numbers))) w.end-is
+          ∙ ap (λ (end : ℕ). items_from 0 (take end (numbered_slots numbers))) (walk_end-low w.last_of_few.result (omega (arith, w.last_of_few.ensures.few)))
           ∙ numbered-low numbers w.last_of_few.result (λ i above.
           zeros_after numbers w.unwrap.result.now w.last_of_few.result i (sym many) first.same
           w.last_of_few.ensures.zeros (c.are_zeros-is_few.ensures.0 w.if-is_few.true) (c.are_zeros-is_low.ensures.0 w.if-is_low.true) (omega (arith, above)))
       | then-is_low+else-is_few+then-self-eq0 w ↦
-          ap (λ (end : ℕ). items_from 0 (take end (numbered_slots numbers))) w.end-is
+          ap (λ (end : ℕ). items_from 0 (take (walk_end end) (numbered_slots numbers))) w.end-is
           ∙ numbered-low numbers 14 (λ i above.
           zero_and numbers 15 240 i (sym many) (omega (arith, w.if-self-eq0.true)) (c.are_zeros-is_low.ensures.0 w.if-is_low.true) above)
       | then-is_low+else-is_few+else-self-eq0 w ↦
-          ap (λ (end : ℕ). items_from 0 (take end (numbered_slots numbers))) w.end-is ∙ numbered-all numbers many
+          ap (λ (end : ℕ). items_from 0 (take (walk_end end) (numbered_slots numbers))) w.end-is ∙ numbered-all numbers many
       | else-is_low w ↦
-          ap (λ (end : ℕ). items_from 0 (take end (numbered_slots numbers))) w.end-is ∙ numbered-all numbers many
+          ap (λ (end : ℕ). items_from 0 (take (walk_end end) (numbered_slots numbers))) w.end-is ∙ numbered-all numbers many
     ]
 
 pub returns-clause-few : goal.returns-clause-few
