@@ -1,8 +1,9 @@
 -- Where the first numbers end, in the map that C fills.
-use Rattle.std.proofs.Common.{◌≡◌, ◌≤◌, ◌<◌, ◌+◌, ◌-◌, ◌*◌, ◌^◌, ◌/◌, ℕ, zero, suc, List, length, take, drop, get_or, inl, inr, arith, ap, sym, refl, ◌∙◌}
+use Rattle.std.proofs.Common.{◌≡◌, ◌≤◌, ◌<◌, ◌+◌, ◌-◌, ◌*◌, ◌^◌, ◌/◌, ℕ, zero, suc, List, length, take, drop, get_or, inl, inr, arith, ap, sym, refl, ◌∙◌, subst, None}
 use Rattle.std.proofs.lemmas.List.{get_or-drop, get_or_past, get_or-take, length-drop, length-take}
 use Rattle.std.specs.Int.{w64, byte_worth, from_le_bytes, sum_through, leading_zeros}
 use Rattle.std.proofs.lemmas.Bool.{cases_lt}
+use Rattle.rtp_c.specs.KindNumbers.{kind_numbered}
 use Rattle.std.proofs.lemmas.Nat.{leading_length, pow-add}
 use Rattle.std.proofs.Math.Nat.{pow-le-pow_right, le-mul_of_pos_right, mul_comm}
 
@@ -45,14 +46,24 @@ zeros_above numbers word leading i is within counted past low =
     let len = leading_length 64 word within in
     below_power numbers len.0 i (omega (arith, is, len.2)) (omega (arith, past, counted, len.1)) low
 
--- numbers that are 0 between two indices, as they are looked at
-pub zeros_in : (numbers : List ℕ) (n m i : ℕ) → n + m ≤ length numbers
-    → ((k : ℕ) → k < length (take m (drop n numbers)) → get_or (take m (drop n numbers)) k 0 ≡ 0) → n ≤ i → i < n + m → get_or numbers i 0 ≡ 0
-zeros_in numbers n m i all zeros above below =
+-- what is true of each number between two indices, as they are looked at
+pub each_in : (P : ℕ → Type 0) (numbers : List ℕ) (n m i : ℕ) → n + m ≤ length numbers
+    → ((k : ℕ) → k < length (take m (drop n numbers)) → P (get_or (take m (drop n numbers)) k 0)) → n ≤ i → i < n + m → P (get_or numbers i 0)
+each_in P numbers n m i all each above below =
     let index : i ≡ n + (i - n) = omega arith in
     let here : i - n < m = omega arith in
-    ap (λ (k : ℕ). get_or numbers k 0) index ∙ sym (get_or-drop n numbers (i - n) 0) ∙ sym (get_or-take m (drop n numbers) (i - n) 0 here)
-    ∙ zeros (i - n) (omega (arith, here, length-take m (drop n numbers), length-drop n numbers))
+    let there : get_or (take m (drop n numbers)) (i - n) 0 ≡ get_or numbers i 0 =
+    get_or-take m (drop n numbers) (i - n) 0 here ∙ get_or-drop n numbers (i - n) 0 ∙ ap (λ (k : ℕ). get_or numbers k 0) (sym index) in
+    subst P there (each (i - n) (omega (arith, here, length-take m (drop n numbers), length-drop n numbers)))
+
+pub zeros_in : (numbers : List ℕ) (n m i : ℕ) → n + m ≤ length numbers
+    → ((k : ℕ) → k < length (take m (drop n numbers)) → get_or (take m (drop n numbers)) k 0 ≡ 0) → n ≤ i → i < n + m → get_or numbers i 0 ≡ 0
+zeros_in numbers n m i all zeros above below = each_in (λ (number : ℕ). number ≡ 0) numbers n m i all zeros above below
+
+pub unmapped_in : (numbers : List ℕ) (n m i : ℕ) → n + m ≤ length numbers
+    → ((k : ℕ) → k < length (take m (drop n numbers)) → kind_numbered (get_or (take m (drop n numbers)) k 0) ≡ None) → n ≤ i → i < n + m
+    → kind_numbered (get_or numbers i 0) ≡ None
+unmapped_in numbers n m i all unmapped above below = each_in (λ (number : ℕ). kind_numbered number ≡ None) numbers n m i all unmapped above below
 
 -- the numbers past a middle are 0, and so are those of the middle
 pub zeros_past : (numbers : List ℕ) (n m i : ℕ) → n + m ≡ length numbers

@@ -96,6 +96,22 @@ HaveNewIds-next from to bytes passed number new within was at is =
           )
     ]
 
+-- the next id means no number, and has no new one
+pub HaveNewIds-none : (from to bytes : List ℕ) (passed number : ℕ) → number ≡ 0 → IsNumberAt from passed number
+    → ((id : ℕ) → passed ≤ id → get_or bytes id 0 ≡ 0) → HaveNewIds from to bytes passed → HaveNewIds from to bytes (passed + 1)
+HaveNewIds-none from to bytes passed number none is zeros was = record { many = was.many; each = each }
+  where
+    each : (id : ℕ) → id < passed + 1 → (number : ℕ) × IsNumberAt from id number × IsIdOf to number (get_or bytes id 0)
+    each id below = elim (cases_lt id passed) [
+      | inl earlier ↦ was.each id earlier
+      | inr later ↦
+          let same : passed ≡ id = omega (arith, below, later) in (
+            0,
+            subst (λ (i : ℕ). IsNumberAt from i 0) same (subst (IsNumberAt from passed) none is),
+            subst (IsIdOf to 0) (sym (zeros id later)) (λ other means. not_zero means.named),
+          )
+    ]
+
 -- no number is meant by the ids from those that were passed up to others
 pub HaveNewIds-over : (from to bytes : List ℕ) (passed next : ℕ) → ((id : ℕ) → passed ≤ id → id < next → get_or from id 0 ≡ 0)
     → ((id : ℕ) → passed ≤ id → get_or bytes id 0 ≡ 0) → HaveNewIds from to bytes passed → HaveNewIds from to bytes next

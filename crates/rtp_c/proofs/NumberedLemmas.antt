@@ -1,9 +1,9 @@
 -- The map that C fills, as it stands: what each id is mapped to, and a walk over the mapped ids.
-use Rattle.std.proofs.Common.{◌≡◌, ◌≢◌, ℕ, zero, suc, ◌≤◌, ◌<◌, ◌+◌, ◌-◌, List, [], ◌∷◌, length, map, take, drop, get_or, Bool, false, true, Option, None, Some, inl, inr, arith, refl, sym, ap, ◌∙◌, subst, le-ltb}
+use Rattle.std.proofs.Common.{◌≡◌, ◌≢◌, ℕ, zero, suc, ◌≤◌, ◌<◌, ◌+◌, ◌-◌, ◌%◌, List, [], ◌∷◌, length, map, take, drop, get_or, Bool, false, true, Option, None, Some, inl, inr, arith, refl, sym, ap, ◌∙◌, subst, le-ltb}
 use Rattle.std.specs.Prelude.{◌||◌, nat_lt, nat_le, nat_eq}
 use Rattle.std.specs.Option.{option_map}
 use Rattle.std.specs.List.{list_any}
-use Rattle.std.proofs.lemmas.Bool.{cases_lt, eqb-true, ne_eqb, leb-true}
+use Rattle.std.proofs.lemmas.Bool.{cases_lt, eqb-true, ne_eqb, leb-true, false≢true}
 use Rattle.std.proofs.lemmas.List.{length-map, length-take, length-drop, drop_all, drop_more, take_all, get_or-take, get_or-drop, get_or_past}
 use Rattle.std.proofs.Math.ListN.{get_or-map}
 use Rattle.rtp_values.specs.Spelling.{longest}
@@ -35,6 +35,22 @@ HasKinds-numbered numbers = record {
       (numbered_is (get_or numbers i 0));
   slots_are = refl;
 }
+
+-- a number that isn't one of 1 to 15 is that of no kind
+all_in_range : all_pass (λ number kind. nat_lt ((number + 255) % 256) 15) 0 numbered_kinds ≡ true
+unfolding all_pass
+all_in_range = refl
+
+pub no_kind_past : (number : ℕ) → nat_lt ((number + 255) % 256) 15 ≡ false → kind_numbered number ≡ None
+no_kind_past number out = of_found (kind_numbered number) refl
+  where
+    of_found : (found : Option KnownKind) → kind_numbered number ≡ found → found ≡ None
+    of_found None none = refl
+    of_found (Some kind) some = absurd (false≢true (sym out ∙ numbered_passes _ all_in_range number kind some))
+
+-- the number of a kind
+pub number_found : (number : ℕ) (kind : KnownKind) → kind_numbered number ≡ Some kind → number ≡ kind_number kind
+number_found number kind is = sym (subst (IsKindNumbered number) is (numbered_is number))
 
 -- the known kind of an extension, and that of the mid for an unknown one
 kind_back : Extension → KnownKind
@@ -126,14 +142,14 @@ numbered-next numbers end at kind long within below is =
 
 -- ids that are all mapped to nothing are passed over
 pub numbered-over : (n : ℕ) (numbers : List ℕ) (end at : ℕ) → length numbers ≡ 256 → end ≤ 255 → at + n ≤ end
-    → ((slot : ℕ) → at ≤ slot → slot < at + n → get_or numbers (slot + 1) 0 ≡ 0)
+    → ((slot : ℕ) → at ≤ slot → slot < at + n → kind_numbered (get_or numbers (slot + 1) 0) ≡ None)
     → items_from at (drop at (take end (numbered_slots numbers))) ≡ items_from (at + n) (drop (at + n) (take end (numbered_slots numbers)))
 numbered-over zero numbers end at long within below empty =
     let same : at ≡ at + 0 = omega arith in
     ap (λ (k : ℕ). items_from k (drop k (take end (numbered_slots numbers)))) same
 numbered-over (suc n) numbers end at long within below empty =
     let next : at + 1 + n ≡ at + suc n = omega arith in
-    numbered-pass numbers end at None long within (omega (arith, below)) (sym (ap kind_numbered (empty at (omega arith) (omega arith)) ∙ number_zero)) refl
+    numbered-pass numbers end at None long within (omega (arith, below)) (sym (empty at (omega arith) (omega arith))) refl
     ∙ numbered-over n numbers end (at + 1) long within (omega (arith, below)) (λ slot above under. empty slot (omega (arith, above)) (omega (arith, under)))
     ∙ ap (λ (k : ℕ). items_from k (drop k (take end (numbered_slots numbers)))) next
 

@@ -1,8 +1,9 @@
 -- Where a walk over the map that C fills ends.
-use Rattle.std.proofs.Common.{◌≡◌, ℕ, ◌≤◌, ◌<◌, ◌+◌, ◌-◌, List, length, take, drop, get_or, arith, refl, sym, ap, ◌∙◌, inl, inr, lt-ltb, le-ltb}
+use Rattle.std.proofs.Common.{◌≡◌, ℕ, ◌≤◌, ◌<◌, ◌+◌, ◌-◌, List, length, take, drop, get_or, None, arith, refl, sym, ap, ◌∙◌, inl, inr, lt-ltb, le-ltb}
 use Rattle.std.specs.Prelude.{if◌then◌else◌, Bool}
 use Rattle.std.proofs.lemmas.Bool.{cases_lt}
 use Rattle.rtp_ext.specs.ExtensionMap.{items_from}
+use Rattle.rtp_c.specs.KindNumbers.{kind_numbered}
 use Rattle.rtp_c.specs.StoredMap.{numbered_slots, walk_end}
 use Rattle.rtp_c.proofs.NumberedLemmas.{numbered-over}
 
@@ -19,13 +20,13 @@ walk_end-within end few = elim (cases_lt 14 end) [
   | inr low ↦ let is = walk_end-low end low in (omega (arith, is), omega (arith, is, few))
 ]
 
--- a walk that passes over empty slots
+-- a walk that passes over slots without a kind
 pub walk-over : (numbers : List ℕ) (end next at to : ℕ) → length numbers ≡ 256 → 14 < end → 14 < next → at ≤ to → to ≤ 255
-    → ((slot : ℕ) → at ≤ slot → slot < to → get_or numbers (slot + 1) 0 ≡ 0)
+    → ((slot : ℕ) → at ≤ slot → slot < to → kind_numbered (get_or numbers (slot + 1) 0) ≡ None)
     → items_from at (drop at (take (walk_end end) (numbered_slots numbers))) ≡ items_from to (drop to (take (walk_end next) (numbered_slots numbers)))
-walk-over numbers end next at to long high next_high after within empty =
+walk-over numbers end next at to long high next_high after within unmapped =
     let there : at + (to - at) ≡ to = omega (arith, after) in
     ap (λ (n : ℕ). items_from at (drop at (take n (numbered_slots numbers)))) (walk_end-high end high)
-    ∙ numbered-over (to - at) numbers 255 at long (omega arith) (omega (arith, there, within)) (λ slot above below. empty slot above (omega (arith, below, there)))
+    ∙ numbered-over (to - at) numbers 255 at long (omega arith) (omega (arith, there, within)) (λ slot above below. unmapped slot above (omega (arith, below, there)))
     ∙ ap (λ (k : ℕ). items_from k (drop k (take 255 (numbered_slots numbers)))) there
     ∙ ap (λ (n : ℕ). items_from to (drop to (take n (numbered_slots numbers)))) (sym (walk_end-high next next_high))

@@ -1,6 +1,6 @@
 //! The map that C fills, as it stands, as a map of kinds.
 
-ghost use Rattle.std.specs.Prelude.{◌≡◌, ◌≢◌, ◌↔◌, ◌+◌, ℕ, ◌<◌, ◌≤◌, length, slice_index, false, IsTrue, IfSome, IfNone};
+ghost use Rattle.std.specs.Prelude.{◌≡◌, ◌≢◌, ◌↔◌, ◌+◌, ℕ, ◌<◌, ◌≤◌, length, slice_index, false, None, IsTrue, IfSome, IfNone};
 ghost use Rattle.rtp_c.specs.KindNumbers.{kind_number, kind_numbered, IsNamed};
 ghost use Rattle.rtp_c.specs.StoredMap.{IsFirstNumber, IsNumberAt, IsIdOf};
 
@@ -22,7 +22,7 @@ const LOW_SLOTS: usize = 14;
 
 const ALL_SLOTS: usize = 255;
 
-// So many slots are tested at once for being empty.
+// So many slots are tested at once for a kind.
 const AT_ONCE: usize = 16;
 
 // The number of the kind that may have long data.
@@ -114,6 +114,23 @@ fn last_of_few(numbers: &[u8; 8]) -> usize
     len as usize / 8
 }
 
+// The new byte of an id of this number in a table: `lowest` where it is the first of two, 0 where it is the
+// second, and else the old one.
+#[inline(always)]
+fn renamed(number: u8, from: u8, to: u8, lowest: u8, old: u8) -> u8
+    ensures renamed { number ≡ from → result ≡ lowest }
+    ensures gone { number ≢ from → number ≡ to → result ≡ 0 }
+    ensures others { number ≢ from → number ≢ to → result ≡ old }
+{
+    if number == from {
+        lowest
+    } else if number == to {
+        0
+    } else {
+        old
+    }
+}
+
 // Whether one of the numbers is this one. Each is looked at, so that many are at once.
 #[inline(always)]
 fn has_number(numbers: &[u8], wanted: u8) -> bool
@@ -123,6 +140,19 @@ fn has_number(numbers: &[u8], wanted: u8) -> bool
     let mut any = false;
     for number in numbers {
         any |= *number == wanted;
+    }
+    any
+}
+
+// Whether one of the numbers is that of a kind. Each is looked at, so that many are at once.
+#[inline(always)]
+fn has_kind(numbers: &[u8]) -> bool
+    ensures { result ≡ false → (i : ℕ) → i < length numbers.now →
+        kind_numbered (slice_index numbers.now i) ≡ None }
+{
+    let mut any = false;
+    for number in numbers {
+        any |= number.wrapping_sub(1) < LAST_NUMBER;
     }
     any
 }
@@ -150,18 +180,26 @@ impl StoredMap {
         }
     }
 
-    // A slot such that each from the given one up to it is empty: the first behind which 16 are not all so,
-    // or fewer than 16 are left. The slot of an id stands at the index below it.
+    // The index from which on each number is 0: 16 where all from there on are, or the end.
+    pub(super) fn numbers_end(&self) -> usize
+        ensures zeros { (id : ℕ) → result ≤ id → id < 256 → slice_index self.now.kind id ≡ 0 }
+        ensures few { result ≤ 256 }
+    {
+        if are_zeros(&self.kind[16..]) { 16 } else { 256 }
+    }
+
+    // A slot such that each from the given one up to it is mapped to no kind: the first behind which one of
+    // 16 is, or fewer than 16 are left. The slot of an id stands at the index below it.
     #[inline(never)]
-    pub(super) fn past_empty(&self, from: usize) -> usize
+    fn past_unmapped(&self, from: usize) -> usize
         requires { from < 255 }
         ensures after { from ≤ result }
         ensures within { result ≤ 255 }
-        ensures empty { (slot : ℕ) → from ≤ slot → slot < result →
-            slice_index self.now.kind (slot + 1) ≡ 0 }
+        ensures unmapped { (slot : ℕ) → from ≤ slot → slot < result →
+            kind_numbered (slice_index self.now.kind (slot + 1)) ≡ None }
     {
         let mut slot = from;
-        while slot + AT_ONCE <= ALL_SLOTS && are_zeros(&self.kind[slot + 1..slot + 1 + AT_ONCE]) {
+        while slot + AT_ONCE <= ALL_SLOTS && !has_kind(&self.kind[slot + 1..slot + 1 + AT_ONCE]) {
             slot += AT_ONCE;
         }
         slot
@@ -206,7 +244,7 @@ impl Kinds for StoredMap {
     }
 
     // The end is that of the slots that are looked at one by one: where only low ids are mapped all up to
-    // the last of these, and else the first 15, behind which empty ones are passed over.
+    // the last of these, and else the first 15, behind which those without a kind are passed over.
     #[inline(always)]
     fn start(&self) -> Cursor {
         let is_low = are_zeros(&self.kind[16..]);
@@ -240,7 +278,7 @@ impl Kinds for StoredMap {
             } else if end <= LOW_SLOTS || at >= ALL_SLOTS {
                 return None;
             } else {
-                at = self.past_empty(at);
+                at = self.past_unmapped(at);
                 end = ALL_SLOTS.min(at + AT_ONCE);
             }
         }
@@ -273,6 +311,15 @@ impl Kinds for StoredMap {
         let kind = self.get(id)?;
         let index = index_of(&other.kind[1..], number_of(kind))?;
         Some(index as u8 + 1)
+    }
+
+    // By the numbers, so that many are looked at at once. What stands at index 0 is that of no id.
+    fn rename(&self, from: KnownKind, to: KnownKind, lowest: u8, ids: &mut [u8; 256]) {
+        let from = number_of(from);
+        let to = number_of(to);
+        for id in 1..256 {
+            ids[id] = renamed(self.kind[id], from, to, lowest, ids[id]);
+        }
     }
 
     ghost known_is = { λ numbered. known_of_kinds (map kind_numbered numbered.kind) };

@@ -118,13 +118,10 @@ pub extern "C" fn rtpw_new_ids_between(from: &StoredMap, to: &StoredMap, ids: &m
     ensures first { slice_index ids.new.id 0 ≡ 0 }
 {
     ids.id = [0; 256];
-    let mut id = 0;
-    while id < 256 {
+    for id in 0..from.numbers_end() {
         let number = from.number_at(id as u8);
-        ids.id[id] = to.id_of(number);
-        id += 1;
-        if number == 0 && id % 16 == 0 && id < 256 {
-            id = from.past_empty(id - 1) + 1;
+        if number != 0 {
+            ids.id[id] = to.id_of(number);
         }
     }
 }

@@ -1,5 +1,5 @@
 -- Rows of layer allocations, and the values once the last of a row was read in place of all.
-use Rattle.std.proofs.Common.{◌≡◌, ◌≢◌, ◌≤◌, ℕ, inl, inr, ◌↔◌, Bool, true, false, IsTrue, List, [], ◌∷◌, ◌++◌, length, Option, Some, None, Result, Ok, Err, IsOk, IfOk, All, append-nil, ap, refl, sym, ◌∙◌, subst}
+use Rattle.std.proofs.Common.{◌≡◌, ◌≢◌, ◌≤◌, ℕ, inl, inr, ◌↔◌, Bool, true, false, not, IsTrue, List, [], ◌∷◌, ◌++◌, length, Option, Some, None, Result, Ok, Err, IsOk, IfOk, All, append-nil, ap, refl, sym, ◌∙◌, subst}
 use Rattle.std.specs.Option.{option_map, option_eq}
 use denote.Enum.Bare.{sameb}
 use Rattle.std.proofs.lemmas.Bool.{false≢true}
@@ -43,6 +43,12 @@ kind-tested None test is = (λ yes. absurd (false≢true (sym is ∙ yes)), λ s
 kind-tested (Some known.VideoLayersAllocation) test is = (λ yes. refl, λ some. is)
 kind-tested (Some _) test is = (λ yes. absurd (false≢true (sym is ∙ yes)), λ some. absurd cc)
 
+pub kind-untested : (found : Option KnownKind) (test : Bool) → test ≡ not (option_eq (sameb the_type) found (Some known.VideoLayersAllocation)) → test ≡ false
+    → option_map extension_of_kind found ≡ Some VideoLayersAllocation
+kind-untested None test is false_is = absurd (false≢true (sym false_is ∙ is))
+kind-untested (Some known.VideoLayersAllocation) test is false_is = refl
+kind-untested (Some _) test is false_is = absurd (false≢true (sym false_is ∙ is))
+
 -- ---- which data count
 
 pub IsLastAllocation-none : (exts : Slots) (first : List ℕ) → IsLastAllocation exts [] first first
@@ -75,7 +81,6 @@ EndsRow-start exts first elements = record {
   elements_are = refl;
   no_other = λ kind differs. All-nil (λ e. Carries exts kind e → ⊥);
   last = IsLastAllocation-none exts first;
-  memory = λ long. long;
 }
 
 -- one more element carries nothing
@@ -87,20 +92,18 @@ EndsRow-passed exts first elements left element bytes nothing was = record {
   elements_are = one_less elements was.row left element was.elements_are;
   no_other = λ kind differs. All-push (λ e. Carries exts kind e → ⊥) was.row element (was.no_other kind differs) (nothing kind);
   last = IsLastAllocation-passed exts was.row element first bytes (nothing VideoLayersAllocation) was.last;
-  memory = was.memory;
 }
 
 -- one more element carries an allocation
 pub EndsRow-taken : (exts : Slots) (first : List ℕ) (elements left : List Element) (element : Element) (bytes : List ℕ)
-    → 2 ≤ length first → Carries exts VideoLayersAllocation element → EndsRow exts first elements (element ∷ left) bytes
+    → Carries exts VideoLayersAllocation element → EndsRow exts first elements (element ∷ left) bytes
     → EndsRow exts first elements left element.1
-EndsRow-taken exts first elements left element bytes long carries was = record {
+EndsRow-taken exts first elements left element bytes carries was = record {
   row = was.row ++ element ∷ [];
   elements_are = one_less elements was.row left element was.elements_are;
   no_other = λ kind differs. All-push (λ e. Carries exts kind e → ⊥) was.row element (was.no_other kind differs)
       (λ other. differs (one_kind (sym other.0 ∙ carries.0)));
   last = IsLastAllocation-taken exts was.row element first carries;
-  memory = λ bytes_long. long;
 }
 
 -- what is left begins with these elements

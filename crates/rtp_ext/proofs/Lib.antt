@@ -12,7 +12,7 @@ pub mod NewIdLemmas
 mod NewBytesLemmas
 mod CopiedLemmas
 mod RenamedIdLemmas
-mod RenamesLemmas
+pub mod RenamesLemmas
 mod ExchangedLemmas
 pub mod MemoryLemmas
 mod MemoryFacts

@@ -45,6 +45,16 @@ IsRenamedTo-start map from to lowest old long = record {
   after = λ id above. refl;
 }
 
+-- the id 0 is mapped to nothing
+pub IsRenamedTo-first : (map : Slots) (from to : Extension) (lowest : ℕ) (old : List ℕ) → length old ≡ 256 → IsRenamedTo map from to lowest old old 1
+IsRenamedTo-first map from to lowest old long = record {
+  long = long;
+  before = λ id below.
+      let first : 0 ≡ id = omega (arith, below) in
+      subst (IsRenamedAt map from to lowest old old) first (record { renamed = λ mapped. cc; gone = λ mapped. cc; others = λ not_from not_to. refl });
+  after = λ id above. refl;
+}
+
 pub IsRenamedTo-next : (map : Slots) (from to : KnownKind) (lowest : ℕ) (old new : List ℕ) (id byte : ℕ) (found : Option KnownKind) → id < 256
     → option_map extension_of_kind found ≡ extension_at map id
     → (found ≡ Some from → byte ≡ lowest) → (found ≡ Some to → byte ≡ 0) → (found ≢ Some from → found ≢ Some to → byte ≡ get_or new id 0)

@@ -60,7 +60,7 @@ fn read_in<K: Kinds, V: SetValues>(
     while let Some((id, bytes)) = elements.next() {
         if let Some(kind) = kinds.get(id) {
             match kind {
-                KnownKind::VideoLayersAllocation => {
+                KnownKind::VideoLayersAllocation if bytes.len() > 1 => {
                     let last = last_in_row(kinds, bytes, &mut elements);
                     KnownKind::VideoLayersAllocation.parse_value(memory, last, ev)?;
                 }
@@ -73,9 +73,9 @@ fn read_in<K: Kinds, V: SetValues>(
     Ok(())
 }
 
-// The data that count in a row of layer allocations: the last well-formed ones of the elements that follow
-// these data up to one of another kind, or else these data. The row is passed over. Data that take no
-// memory are read by themselves, since reading them costs less than a look at what follows.
+// The data that count where layer allocations follow one another: the last well-formed ones of those that
+// follow an allocation of these data, or else these. Those that follow are passed over, so that of a row of
+// allocations one alone takes memory.
 #[inline(always)]
 fn last_in_row<'a, K: Kinds>(
     kinds: &K,
@@ -85,20 +85,13 @@ fn last_in_row<'a, K: Kinds>(
     ensures { EndsRow (K.known kinds.now) first.now elements.old elements.new result.now }
 {
     let mut last = first;
-    if first.len() < 2 {
-        return last;
-    }
     let mut ahead = elements.rest();
     while let Some((id, data)) = ahead.next() {
-        if let Some(kind) = kinds.get(id) {
-            match kind {
-                KnownKind::VideoLayersAllocation => {
-                    if vla::is_allocation(data) {
-                        last = data;
-                    }
-                }
-                _ => return last,
-            }
+        if kinds.get(id) != Some(KnownKind::VideoLayersAllocation) {
+            return last;
+        }
+        if vla::is_allocation(data) {
+            last = data;
         }
         *elements = ahead.rest();
     }

@@ -136,9 +136,17 @@ impl ExtensionMap {
         ensures outside { (spec.IsId id → ⊥) → self.new ≡ self.old }
     {
         // It is a call, so that what makes a map stays small enough to be made in its place.
-        if id == 0 {
-            return;
+        if id != 0 {
+            self.put(id, ext);
         }
+    }
+
+    // Maps the id to the extension, unlocked, instead of what it was mapped to.
+    #[inline(always)]
+    fn put(&mut self, id: u8, ext: Extension)
+        requires { spec.IsId id }
+        ensures { spec.Sets self.old self.new id (spec.unlocked ext) }
+    {
         let new = Slot::from(ext);
         self.kinds.set(id, new.known_kind());
         let old = mem::replace(&mut self.slots[usize::from(id) - 1], new);
@@ -225,7 +233,7 @@ impl ExtensionMap {
         let mut exts = Self::empty();
         for (id, ext) in self.iter_by_media_type(audio) {
             if let Some(kind) = ext.known_kind() {
-                exts.set(id, Extension::from(kind));
+                exts.put(id, Extension::from(kind));
             }
         }
         exts

@@ -7,9 +7,9 @@ use Rattle.rtp_values.specs.KnownKind.{extension_of_kind}
 use Rattle.rtp_vla.specs.Allocation.{Allocation, Means}
 use Rattle.rtp_ext.specs.Elements.{Element}
 use Rattle.rtp_ext.specs.LastAllocation.{EndsRow}
-use Rattle.rtp_ext.proofs.LastAllocationLemmas.{EndsRow-passed, EndsRow-taken, EndsRow-left, mapped-to-layers, unmapped-carries, malformed-carries}
+use Rattle.rtp_ext.proofs.LastAllocationLemmas.{EndsRow-passed, EndsRow-taken, EndsRow-left, kind-untested, malformed-carries}
 use Rattle.rtp_ext.proofs.block_values.last_in_row.Goals as goal
-use Rattle.rtp_ext.proofs.block_values.last_in_row.Goals.{in-Some-get+in-VideoLayersAllocation+then-is_allocation, in-Some-get+in-VideoLayersAllocation+else-is_allocation, in_default-get}
+use Rattle.rtp_ext.proofs.block_values.last_in_row.Goals.{then-is_allocation, else-is_allocation}
 
 -- data are well-formed where they mean an allocation
 well_formed : (bytes : List ℕ) → (a : Allocation) × Means bytes a → IsWellFormed VideoLayersAllocation bytes
@@ -23,23 +23,18 @@ pub loop-id-preserved : goal.loop-id-preserved
 loop-id-preserved g c =
     let exts = g.K.Kinds.known c.args.kinds.now in
     let element : Element = (c.in-Some.id, c.in-Some.data.now) in
+    let mapped = sym c.get.ensures ∙ kind-untested c.get.result c.ne.result c.ne.ensures c.if-ne.false in
     let was = EndsRow-left exts c.args.first.now c.args.elements.now c.loop-id.elements (element ∷ c.next.new.self) c.loop-id.last.now
     (c.loop-id.invariant.1 ∙ c.in-Some.ensures.steps) c.loop-id.invariant.0 in
-    let row : EndsRow exts c.args.first.now c.args.elements.now c.next.new.self c.match-get.last.now = elim c.match-get.branch [
-      | in-Some-get+in-VideoLayersAllocation+then-is_allocation w ↦
+    let row : EndsRow exts c.args.first.now c.args.elements.now c.next.new.self c.if-is_allocation.last.now = elim c.if-is_allocation.branch [
+      | then-is_allocation w ↦
           subst (λ bytes. EndsRow exts c.args.first.now c.args.elements.now c.next.new.self bytes.now) (sym w.last-is)
-          (EndsRow-taken exts c.args.first.now c.args.elements.now c.next.new.self element c.loop-id.last.now (omega (arith, c.if-first-lt2.false))
-          (mapped-to-layers exts c.in-Some.id c.get.result w.in-Some-get.kind _ c.get.ensures w.in-Some-get.is w.in-VideoLayersAllocation.is refl,
-          well_formed c.in-Some.data.now (w.is_allocation.ensures.0 w.if-is_allocation.true)) was)
-      | in-Some-get+in-VideoLayersAllocation+else-is_allocation w ↦
-          subst (λ bytes. EndsRow exts c.args.first.now c.args.elements.now c.next.new.self bytes.now) (sym w.last-is)
-          (EndsRow-passed exts c.args.first.now c.args.elements.now c.next.new.self element c.loop-id.last.now
-          (malformed-carries exts element
-          (mapped-to-layers exts c.in-Some.id c.get.result w.in-Some-get.kind _ c.get.ensures w.in-Some-get.is w.in-VideoLayersAllocation.is refl)
-          (λ good. false≢true (sym w.if-is_allocation.false ∙ w.is_allocation.ensures.1 (some_meaning c.in-Some.data.now good.0.video_layers_allocation good.1)))) was)
-      | in_default-get w ↦
+          (EndsRow-taken exts c.args.first.now c.args.elements.now c.next.new.self element c.loop-id.last.now
+          (mapped, well_formed c.in-Some.data.now (c.is_allocation.ensures.0 w.if-is_allocation.true)) was)
+      | else-is_allocation w ↦
           subst (λ bytes. EndsRow exts c.args.first.now c.args.elements.now c.next.new.self bytes.now) (sym w.last-is)
           (EndsRow-passed exts c.args.first.now c.args.elements.now c.next.new.self element c.loop-id.last.now
-          (unmapped-carries exts element (sym c.get.ensures ∙ ap (option_map extension_of_kind) w.in_default-get.is)) was)
+          (malformed-carries exts element mapped
+          (λ good. false≢true (sym w.if-is_allocation.false ∙ c.is_allocation.ensures.1 (some_meaning c.in-Some.data.now good.0.video_layers_allocation good.1)))) was)
     ] in
-    (subst (λ left. EndsRow exts c.args.first.now c.args.elements.now left c.match-get.last.now) (sym c.rest.ensures) row, c.rest.ensures)
+    (subst (λ left. EndsRow exts c.args.first.now c.args.elements.now left c.if-is_allocation.last.now) (sym c.rest.ensures) row, c.rest.ensures)

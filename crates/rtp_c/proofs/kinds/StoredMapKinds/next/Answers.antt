@@ -31,16 +31,16 @@ loop-at-preserved c =
     let numbers = c.args.self.now.kind in
     let many : length numbers ≡ 256 = search rules in
     let more = c.if-at-ge-ALL_SLOTS.false in
-    let told = c.past_empty-at.ensures in (
+    let told = c.past_unmapped-at.ensures in (
       c.loop-at.invariant.0
-          ∙ walk-over numbers c.loop-at.end c.min-end.result c.loop-at.at c.past_empty-at.result many more.0
-          (omega (arith, c.min-end.ensures, told.after, c.if-at-end.false, more.0)) told.after told.within told.empty,
+          ∙ walk-over numbers c.loop-at.end c.min-end.result c.loop-at.at c.past_unmapped-at.result many more.0
+          (omega (arith, c.min-end.ensures, told.after, c.if-at-end.false, more.0)) told.after told.within told.unmapped,
       omega (arith, c.min-end.ensures),
     )
 
 pub loop-at-smaller : goal.loop-at-smaller
 loop-at-smaller c =
-    omega (arith, c.min-end.ensures, c.past_empty-at.ensures.after, c.past_empty-at.ensures.within, c.if-at-end.false, c.if-at-ge-ALL_SLOTS.false.1, c.loop-at.invariant.1)
+    omega (arith, c.min-end.ensures, c.past_unmapped-at.ensures.after, c.past_unmapped-at.ensures.within, c.if-at-end.false, c.if-at-ge-ALL_SLOTS.false.1, c.loop-at.invariant.1)
 
 pub returns-then-at-ge-ALL_SLOTS-clause-none : goal.returns-then-at-ge-ALL_SLOTS-clause-none
 returns-then-at-ge-ALL_SLOTS-clause-none c =

@@ -12,4 +12,4 @@ loop-id-init c =
 pub loop-id-preserved-in-Some-known_kind : goal.loop-id-preserved-in-Some-known_kind
 loop-id-preserved-in-Some-known_kind c =
     IsOfMediumBut-next c.args.audio c.args.self.now c.loop-id.id-iterator _ c.loop-id.exts _ (c.in-Some.id, c.in-Some.ext.now) c.from.result c.loop-id.invariant
-    c.in-Some.ensures.steps (search rules) (c.in-Some-known_kind.ensures.known ∙ sym c.from.ensures) c.set.ensures.within
+    c.in-Some.ensures.steps (search rules) (c.in-Some-known_kind.ensures.known ∙ sym c.from.ensures) (λ is_id. c.put.ensures)

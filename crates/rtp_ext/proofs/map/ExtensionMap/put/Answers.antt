@@ -1,13 +1,12 @@
 use Rattle.std.proofs.Common.{◌≡◌, ◌+◌, ◌-◌, ◌<◌, length, arith, ap, sym, ◌∙◌}
 use Rattle.std.specs.Option.{is_some}
 use Rattle.std.proofs.lemmas.List.{length-set}
-use Rattle.rtp_ext.specs.ExtensionMap.{IsId}
 use Rattle.rtp_ext.specs.KindsById.{known_entry}
 use Rattle.rtp_ext.proofs.KindsByIdLemmas.{known_slots-put}
 use Rattle.rtp_ext.proofs.MappedIdLemmas.{room_for_new}
 use Rattle.rtp_ext.proofs.ReplacedLemmas.{replaced_ids, Puts-replaced}
 use Rattle.rtp_ext.proofs.RisingIdLemmas.{mapped_rise}
-use Rattle.rtp_ext.proofs.map.ExtensionMap.set.Goals as goal
+use Rattle.rtp_ext.proofs.map.ExtensionMap.put.Goals as goal
 
 pub update-requires-clause-room : goal.update-requires-clause-room
 update-requires-clause-room c = λ missing.
@@ -15,7 +14,7 @@ update-requires-clause-room c = λ missing.
       arith,
       c.self.invariant.0,
       room_for_new c.self.inside.slots c.self.inside.mapped (c.from.result - 1) c.replace-old.result _ c.self.invariant.1
-          (omega (arith, c.from.ensures, c.ranges.id.fits, c.self.invariant.0, c.if-id-eq0.false)) c.replace-old.ensures.value (sym c.is_mapped.ensures ∙ missing),
+          (omega (arith, c.from.ensures, c.requires.1, c.self.invariant.0, c.requires.0)) c.replace-old.ensures.value (sym c.is_mapped.ensures ∙ missing),
     )
 
 pub update-requires-clause-rising : goal.update-requires-clause-rising
@@ -25,19 +24,18 @@ pub invariant_of-self : goal.invariant_of-self
 invariant_of-self c =
     let slots = c.self.inside.slots in
     let k = c.from.result - 1 in
-    let index : k + 1 ≡ c.args.id = omega (arith, c.from.ensures, c.if-id-eq0.false) in
-    let here : k < length slots = omega (arith, index, c.ranges.id.fits, c.self.invariant.0) in
-    let is_id : IsId c.args.id = (omega (arith, c.if-id-eq0.false), omega (arith, c.ranges.id.fits)) in (
+    let index : k + 1 ≡ c.args.id = omega (arith, c.from.ensures, c.requires.0) in
+    let here : k < length slots = omega (arith, index, c.requires.1, c.self.invariant.0) in (
       length-set slots k _ ∙ c.self.invariant.0,
       replaced_ids slots c.self.inside.mapped c.update.new.self k c.args.id c.replace-old.result _ c.from-new.result _ c.is_mapped.result _
           c.self.invariant.1 index here c.replace-old.ensures.value c.is_mapped.ensures (sym (ap is_some c.from-new.ensures)) c.replace-old.ensures.after c.update.ensures,
-      known_slots-put slots _ _ k c.args.id _ _ c.self.invariant.2 index (c.set.ensures is_id)
+      known_slots-put slots _ _ k c.args.id _ _ c.self.invariant.2 index (c.set.ensures c.requires)
           (c.known_kind.ensures ∙ ap known_entry (sym c.replace-old.ensures.after)),
     )
 
-pub returns-clause-within : goal.returns-clause-within
-returns-clause-within c = λ is_id.
-    let index : (c.from.result - 1) + 1 ≡ c.args.id = omega (arith, c.from.ensures, is_id.0) in
+pub returns : goal.returns
+returns c =
+    let index : (c.from.result - 1) + 1 ≡ c.args.id = omega (arith, c.from.ensures, c.requires.0) in
     let put = Puts-replaced c.self.inside.slots c.args.self.now (c.from.result - 1) c.args.id _ c.from-new.result c.self.view_is index
-    (omega (arith, index, is_id.1, c.self.invariant.0)) c.replace-old.ensures.after in
+    (omega (arith, index, c.requires.1, c.self.invariant.0)) c.replace-old.ensures.after in
     record { this = put.this ∙ c.from-new.ensures; others = put.others }
