@@ -1,6 +1,9 @@
 //! The data of one element, made of the values that C gives.
 
-ghost use Rattle.std.specs.Prelude.{◌≡◌, ◌≢◌, ◌↔◌, ◌≤◌, ◌⊎◌, length};
+ghost use Rattle.std.specs.Prelude.{◌≡◌, ◌≢◌, ◌↔◌, ◌≤◌, ◌⊎◌, length, IfSome};
+ghost use Rattle.std.specs.Option.{option_map};
+ghost use Rattle.rtp_values.specs.KnownKind.{extension_of_kind};
+ghost use Rattle.rtp_values.specs.Spelling.{spelled_data};
 ghost use Rattle.rtp_c.specs.ElementData.{IsNothingAskedFor, HasNoData, AreWrittenData, AreTooLongData};
 ghost use Rattle.rtp_c.specs.Status.{ok, short_buffer, bad_field, none};
 
@@ -8,8 +11,17 @@ use super::given::put_given_values;
 use super::kinds::{is_named, kind_numbered};
 use super::status::{BAD_FIELD, NONE, OK, SHORT_BUFFER};
 use super::values::ValuesView;
-use rtp_values::ExtensionValues;
+use rtp_values::{ExtensionValues, KnownKind};
 use std::mem::ManuallyDrop;
+
+// How many bytes of data an element of this kind has. It is a call, so that what is told before it costs little.
+#[inline(never)]
+fn len_of(kind: KnownKind, values: &ExtensionValues) -> Option<usize>
+    ensures length { result ≡ option_map length (spelled_data (extension_of_kind kind) values.now) }
+    ensures few { IfSome result (λ len. len ≤ 255) }
+{
+    kind.data_len(values)
+}
 
 /// Writes the data that an element of this kind has for these values to the front of the buffer, as
 /// `rtpw_write` would (RFC 8285, 4.2 and 4.3): for an element that is set where it lies, or written with
@@ -46,7 +58,7 @@ pub extern "C" fn rtpw_data_of(
     let Some(kind) = kind_numbered(kind) else {
         return NONE;
     };
-    let Some(data_len) = kind.data_len(given) else {
+    let Some(data_len) = len_of(kind, given) else {
         return NONE;
     };
     if buf.len() < data_len {

@@ -81,6 +81,7 @@ EndsRow-start exts first elements = record {
   elements_are = refl;
   no_other = λ kind differs. All-nil (λ e. Carries exts kind e → ⊥);
   last = IsLastAllocation-none exts first;
+  memory = λ long. long;
 }
 
 -- one more element carries nothing
@@ -92,18 +93,20 @@ EndsRow-passed exts first elements left element bytes nothing was = record {
   elements_are = one_less elements was.row left element was.elements_are;
   no_other = λ kind differs. All-push (λ e. Carries exts kind e → ⊥) was.row element (was.no_other kind differs) (nothing kind);
   last = IsLastAllocation-passed exts was.row element first bytes (nothing VideoLayersAllocation) was.last;
+  memory = was.memory;
 }
 
 -- one more element carries an allocation
 pub EndsRow-taken : (exts : Slots) (first : List ℕ) (elements left : List Element) (element : Element) (bytes : List ℕ)
-    → Carries exts VideoLayersAllocation element → EndsRow exts first elements (element ∷ left) bytes
+    → 2 ≤ length first → Carries exts VideoLayersAllocation element → EndsRow exts first elements (element ∷ left) bytes
     → EndsRow exts first elements left element.1
-EndsRow-taken exts first elements left element bytes carries was = record {
+EndsRow-taken exts first elements left element bytes long carries was = record {
   row = was.row ++ element ∷ [];
   elements_are = one_less elements was.row left element was.elements_are;
   no_other = λ kind differs. All-push (λ e. Carries exts kind e → ⊥) was.row element (was.no_other kind differs)
       (λ other. differs (one_kind (sym other.0 ∙ carries.0)));
   last = IsLastAllocation-taken exts was.row element first carries;
+  memory = λ bytes_long. long;
 }
 
 -- what is left begins with these elements

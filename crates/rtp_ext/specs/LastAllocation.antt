@@ -1,5 +1,5 @@
 -- A row of layer allocations in a block: the last well-formed one is read in place of all of them.
-use Rattle.std.specs.Prelude.{◌≡◌, ◌≢◌, List, ◌∷◌, ◌++◌, ℕ, All}
+use Rattle.std.specs.Prelude.{◌≡◌, ◌≢◌, ◌≤◌, List, ◌∷◌, ◌++◌, ℕ, length, All}
 use Rattle.rtp_values.specs.declared.kind.Extension.{Extension}
 use Rattle.rtp_values.specs.declared.kind.Extension.TheVariants.{VideoLayersAllocation}
 use Rattle.rtp_values.specs.declared.value.values.ExtensionValues.{ExtensionValues}
@@ -17,12 +17,13 @@ pub data IsLastAllocation (exts : Slots) (elements : List Element) (first bytes 
   none_is : All (λ element. Carries exts VideoLayersAllocation element → ⊥) elements → bytes ≡ first
       → IsLastAllocation exts elements first bytes
 
--- the elements that follow an allocation of the first data begin with a row of elements that carry no other kind, and the bytes are what counts of the first data and of the row
+-- the elements that follow an allocation of the first data begin with a row of elements that carry no other kind, and the bytes are what counts of the first data and of the row; they take memory only where the first data do
 pub record EndsRow (exts : Slots) (first : List ℕ) (elements left : List Element) (bytes : List ℕ) : Type 0 where
   pub row : List Element
   pub elements_are : elements ≡ row ++ left
   pub no_other : (kind : Extension) → kind ≢ VideoLayersAllocation → All (λ element. Carries exts kind element → ⊥) row
   pub last : IsLastAllocation exts row first bytes
+  pub memory : 2 ≤ length bytes → 2 ≤ length first
 
 -- the elements up to those that are left were read into the values
 pub record IsReadTo {V : Type 0} (Shows : V → ExtensionValues → Type 0) (exts : Slots) (elements left : List Element) (old new : V) : Type 0 where

@@ -1,6 +1,6 @@
 //! The values of a block of header extensions, as the map's kinds read them.
 
-ghost use Rattle.std.specs.Prelude.{◌≡◌, ◌≤◌, ◌∷◌, ℕ, List, false, length, Some, IsOk, IsErr, IfOk, IfSome, OnOk, OnErr};
+ghost use Rattle.std.specs.Prelude.{◌≡◌, ◌≤◌, ◌∷◌, ℕ, List, false, length, Some, IsOk, IsErr, IfOk, IfSome, OnOk, OnErr, IsTrue, ◌↔◌};
 ghost use Rattle.std.specs.Bool.{then_some, OnTrue, OnFalse};
 ghost use Rattle.rtp_ext.specs.Elements.{Element, AreElements};
 ghost use Rattle.rtp_ext.specs.Memory.{HasAllocation, IsStopped, ReadUntilRefused};
@@ -8,6 +8,7 @@ ghost use Rattle.rtp_values.specs.declared.value.values.ExtensionValues.{Extensi
 ghost use Rattle.rtp_values.specs.declared.kind.Extension.TheVariants.{VideoLayersAllocation};
 ghost use Rattle.rtp_ext.specs.BlockValues.{AreValues, ReadElements, SaysValues};
 ghost use Rattle.rtp_ext.specs.ExtensionMap.{extension_at};
+ghost use Rattle.rtp_vla.specs.Allocation.{Allocation, Means};
 ghost use Rattle.rtp_ext.specs.LastAllocation.{EndsRow};
 
 use super::kinds::Kinds;
@@ -60,7 +61,7 @@ fn read_in<K: Kinds, V: SetValues>(
     while let Some((id, bytes)) = elements.next() {
         if let Some(kind) = kinds.get(id) {
             match kind {
-                KnownKind::VideoLayersAllocation if bytes.len() > 1 => {
+                KnownKind::VideoLayersAllocation => {
                     let last = last_in_row(kinds, bytes, &mut elements);
                     KnownKind::VideoLayersAllocation.parse_value(memory, last, ev)?;
                 }
@@ -75,7 +76,7 @@ fn read_in<K: Kinds, V: SetValues>(
 
 // The data that count where layer allocations follow one another: the last well-formed ones of those that
 // follow an allocation of these data, or else these. Those that follow are passed over, so that of a row of
-// allocations one alone takes memory.
+// allocations one alone takes memory. Data that take none are read by themselves.
 #[inline(always)]
 fn last_in_row<'a, K: Kinds>(
     kinds: &K,
@@ -85,18 +86,29 @@ fn last_in_row<'a, K: Kinds>(
     ensures { EndsRow (K.known kinds.now) first.now elements.old elements.new result.now }
 {
     let mut last = first;
+    if first.len() < 2 {
+        return last;
+    }
     let mut ahead = elements.rest();
     while let Some((id, data)) = ahead.next() {
         if kinds.get(id) != Some(KnownKind::VideoLayersAllocation) {
             return last;
         }
-        if vla::is_allocation(data) {
+        if is_another_allocation(data) {
             last = data;
         }
         *elements = ahead.rest();
     }
     *elements = ahead;
     last
+}
+
+// Whether the data mean an allocation. It is a call, since few blocks have a second one.
+#[inline(never)]
+fn is_another_allocation(data: &[u8]) -> bool
+    ensures { IsTrue result ↔ ((a : Allocation) × Means «data».now a) }
+{
+    vla::is_allocation(data)
 }
 
 /// Reads the layer allocation among the values that the elements of a block's body give into a value

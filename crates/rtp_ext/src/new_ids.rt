@@ -100,6 +100,7 @@ impl NewIds {
     }
 
     // The table in which the ids of one kind become the lowest id of another, where both are mapped.
+    #[inline(always)]
     fn renaming<K: Kinds>(exts: &K, from: KnownKind, to: KnownKind) -> Self
         requires { from ≢ to }
         ensures { AreRenamedIds (K.slots exts.now) (extension_of_kind from) (extension_of_kind to) result }

@@ -236,6 +236,7 @@ fn change_ids_in(form: ExtensionsForm, body: &mut [u8], change: IdChange<'_>) ->
 ///
 /// In the body `10 AA 21 BB CC 10 DD 00` (hexadecimal) of the one-byte form the removal of id 1
 /// leaves `00 00 21 BB CC 00 00 00`.
+#[inline(never)]
 pub fn remove_element(form: ExtensionsForm, body: &mut [u8], id: u8) -> bool
     ensures removed { ChangesIds form (all_but id) body.old body.new }
     ensures unchanged { OnFalse result (body.new ≡ body.old) }

@@ -72,6 +72,7 @@ fn same_ids() -> [u8; 256]
 }
 
 // The table in which the ids of one kind become the lowest id of another, where both are mapped.
+#[inline(always)]
 pub(super) fn renamed_ids<K: Kinds>(exts: &K, from: KnownKind, to: KnownKind) -> [u8; 256]
     requires { from ≢ to }
     ensures { AreRenamedIds (K.slots exts.now) (extension_of_kind from) (extension_of_kind to) (map id_in_byte result) }

@@ -9,7 +9,7 @@ use Rattle.rtp_ext.specs.Elements.{Element}
 use Rattle.rtp_ext.specs.LastAllocation.{EndsRow}
 use Rattle.rtp_ext.proofs.LastAllocationLemmas.{EndsRow-passed, EndsRow-taken, EndsRow-left, kind-untested, malformed-carries}
 use Rattle.rtp_ext.proofs.block_values.last_in_row.Goals as goal
-use Rattle.rtp_ext.proofs.block_values.last_in_row.Goals.{then-is_allocation, else-is_allocation}
+use Rattle.rtp_ext.proofs.block_values.last_in_row.Goals.{then-is_another_allocation, else-is_another_allocation}
 
 -- data are well-formed where they mean an allocation
 well_formed : (bytes : List ℕ) → (a : Allocation) × Means bytes a → IsWellFormed VideoLayersAllocation bytes
@@ -26,15 +26,15 @@ loop-id-preserved g c =
     let mapped = sym c.get.ensures ∙ kind-untested c.get.result c.ne.result c.ne.ensures c.if-ne.false in
     let was = EndsRow-left exts c.args.first.now c.args.elements.now c.loop-id.elements (element ∷ c.next.new.self) c.loop-id.last.now
     (c.loop-id.invariant.1 ∙ c.in-Some.ensures.steps) c.loop-id.invariant.0 in
-    let row : EndsRow exts c.args.first.now c.args.elements.now c.next.new.self c.if-is_allocation.last.now = elim c.if-is_allocation.branch [
-      | then-is_allocation w ↦
+    let row : EndsRow exts c.args.first.now c.args.elements.now c.next.new.self c.if-is_another_allocation.last.now = elim c.if-is_another_allocation.branch [
+      | then-is_another_allocation w ↦
           subst (λ bytes. EndsRow exts c.args.first.now c.args.elements.now c.next.new.self bytes.now) (sym w.last-is)
-          (EndsRow-taken exts c.args.first.now c.args.elements.now c.next.new.self element c.loop-id.last.now
-          (mapped, well_formed c.in-Some.data.now (c.is_allocation.ensures.0 w.if-is_allocation.true)) was)
-      | else-is_allocation w ↦
+          (EndsRow-taken exts c.args.first.now c.args.elements.now c.next.new.self element c.loop-id.last.now (omega (arith, c.if-first-lt2.false))
+          (mapped, well_formed c.in-Some.data.now (c.is_another_allocation.ensures.0 w.if-is_another_allocation.true)) was)
+      | else-is_another_allocation w ↦
           subst (λ bytes. EndsRow exts c.args.first.now c.args.elements.now c.next.new.self bytes.now) (sym w.last-is)
           (EndsRow-passed exts c.args.first.now c.args.elements.now c.next.new.self element c.loop-id.last.now
           (malformed-carries exts element mapped
-          (λ good. false≢true (sym w.if-is_allocation.false ∙ c.is_allocation.ensures.1 (some_meaning c.in-Some.data.now good.0.video_layers_allocation good.1)))) was)
+          (λ good. false≢true (sym w.if-is_another_allocation.false ∙ c.is_another_allocation.ensures.1 (some_meaning c.in-Some.data.now good.0.video_layers_allocation good.1)))) was)
     ] in
-    (subst (λ left. EndsRow exts c.args.first.now c.args.elements.now left c.if-is_allocation.last.now) (sym c.rest.ensures) row, c.rest.ensures)
+    (subst (λ left. EndsRow exts c.args.first.now c.args.elements.now left c.if-is_another_allocation.last.now) (sym c.rest.ensures) row, c.rest.ensures)
