@@ -35,9 +35,10 @@ struct Row {
 pub(super) struct Hints {
     pub(super) last: usize,
     rows: Vec<Row>,
-    // How often the map has still to be asked for a source that it has, before rows are made.
+    // How often the map is asked for a source that it has, before there is anything to do about it: 0
+    // where there are rows.
     awaited: usize,
-    // How often it will have been asked then, since rows were made.
+    // How often it was asked since rows were made; those that are awaited count already.
     asked: usize,
 }
 
@@ -54,8 +55,12 @@ impl Row {
     #[inline(always)]
     fn place_of(&self, source: u32) -> Option<usize> {
         let same = u32x4::from_array(self.sources).simd_eq(u32x4::splat(source));
-        let index = same.to_bitmask().trailing_zeros() as usize;
-        Some(*self.places.get(index)? as usize)
+        let same = same.to_bitmask();
+        if same == 0 {
+            return None;
+        }
+        let index = same.trailing_zeros() as usize % ROW;
+        Some(self.places[index] as usize)
     }
 
     // Puts a hint where the row has one on the source, or else where it has none. Returns whether it
@@ -86,31 +91,45 @@ impl Hints {
         }
     }
 
+    pub(super) fn has_rows(&self) -> bool {
+        !self.rows.is_empty()
+    }
+
     // The place where the source may stand, if there is a hint on it.
     #[inline(always)]
     pub(super) fn place_of(&self, ssrc: Ssrc) -> Option<usize> {
-        if self.rows.is_empty() {
-            return None;
-        }
         self.rows.get(self.row_of(ssrc))?.place_of(ssrc.get())
     }
 
     // The map had to be asked where the source stands: at this place.
     #[inline(always)]
     pub(super) fn learn(&mut self, list: &Vec<(Ssrc, Receiver)>, ssrc: Ssrc, place: usize) {
-        if self.awaited == 0 {
-            self.make_rows(list);
-            return;
+        let (left, was_none) = self.awaited.overflowing_sub(1);
+        self.awaited = left;
+        if was_none {
+            self.learn_now(list, ssrc, place);
         }
-        self.awaited -= 1;
-        if !self.rows.is_empty() {
+    }
+
+    // The same where nothing is awaited. Rows are made once the map was asked often enough: so sources
+    // that never come back, as those of a flood, ask for no rows.
+    #[inline(never)]
+    fn learn_now(&mut self, list: &Vec<(Ssrc, Receiver)>, ssrc: Ssrc, place: usize) {
+        self.awaited = 0;
+        self.asked = self.asked.saturating_add(1);
+        let enough = (list.len() / SHARE).max(self.rows.len());
+        if self.asked >= enough {
+            self.make_rows(list);
+        } else if self.has_rows() {
             self.put(ssrc, place);
+        } else {
+            self.awaited = enough - self.asked;
+            self.asked = enough;
         }
     }
 
     // Puts a hint that the source stands at this place, which is below 2^32, since no two SSRCs are
     // alike. Returns whether its row has room.
-    #[inline(never)]
     fn put(&mut self, ssrc: Ssrc, place: usize) -> bool {
         let index = self.row_of(ssrc);
         match self.rows.get_mut(index) {
@@ -119,33 +138,19 @@ impl Hints {
         }
     }
 
-    // Makes a row for each source, once the map was asked often enough: so sources that never come
-    // back, as those of a flood, ask for no rows. Where memory is refused the old ones stay.
-    #[inline(never)]
+    // Makes a row for each source. Where memory is refused the old ones stay, and where too many
+    // sources find their row full there are none.
     fn make_rows(&mut self, list: &Vec<(Ssrc, Receiver)>) {
-        let sources = list.len();
-        let enough = sources / SHARE;
-        if self.asked < enough {
-            self.awaited = enough - self.asked;
-            self.asked = enough;
-            return;
-        }
-        self.wait(sources);
         let alloc = *self.rows.allocator();
-        let Ok(rows) = Vec::from_elem(alloc, Row::new(), sources) else {
+        self.asked = 0;
+        let Ok(rows) = Vec::from_elem(alloc, Row::new(), list.len()) else {
             return;
         };
         self.rows = rows;
         if !self.fill(list) {
             self.rows = Vec::new(alloc);
-            self.wait(sources.saturating_mul(PATIENCE));
+            self.awaited = list.len().saturating_mul(PATIENCE);
         }
-    }
-
-    // No rows are made before the map was asked so often.
-    fn wait(&mut self, times: usize) {
-        self.awaited = times;
-        self.asked = times;
     }
 
     // Puts a hint on each source into empty rows. Returns whether few were left out, and ends where

@@ -68,13 +68,14 @@ impl Sources {
         requires { ArePlaces self.now.places self.now.list.items }
         ensures { result ≡ get nat_cmp self.now.places ssrc }
     {
-        if self.list.len() <= FEW {
+        if self.hints.has_rows() {
+            if let Some(place) = hinted_place(&self.hints, &self.list, ssrc) {
+                return Some(place);
+            }
+        } else if self.list.len() <= FEW {
             return place_among(&self.list, ssrc);
         }
-        match hinted_place(&self.hints, &self.list, ssrc) {
-            Some(place) => Some(place),
-            None => self.places.get(&ssrc).copied(),
-        }
+        self.places.get(&ssrc).copied()
     }
 
     // The same for the source of a packet, which then is the last packet's. The hints alone are
@@ -106,16 +107,17 @@ impl Sources {
         requires { ArePlaces places.now list.now.items }
         ensures { result ≡ get nat_cmp places.now ssrc }
     {
-        if list.len() <= FEW {
+        if hints.has_rows() {
+            if let Some(place) = hinted_place(hints, list, ssrc) {
+                hints.last = place;
+                return Some(place);
+            }
+        } else if list.len() <= FEW {
             let found = place_among(list, ssrc);
             if let Some(place) = found {
                 hints.last = place;
             }
             return found;
-        }
-        if let Some(place) = hinted_place(hints, list, ssrc) {
-            hints.last = place;
-            return Some(place);
         }
         let place = *places.get(&ssrc)?;
         hints.last = place;
