@@ -16,6 +16,10 @@ use std::fmt;
 // So few sources are gone through one by one, which takes less than the map does.
 const FEW: usize = 16;
 
+// A look that changes nothing may be for a forged packet, of which there is no hint. Among no more sources than
+// these, a look at the hints in vain would add too much to what the map takes.
+const MANY: usize = 4_096;
+
 // The sources with their receivers, in a list that has any order, and the place of each source in
 // it. Packets come in bursts of one source, so the place of the last one's source is tried first.
 // Few sources are gone through then. Among more it is tried where a hint says, and a source is looked
@@ -68,12 +72,13 @@ impl Sources {
         requires { ArePlaces self.now.places self.now.list.items }
         ensures { result ≡ get nat_cmp self.now.places ssrc }
     {
-        if self.hints.has_rows() {
+        if self.list.len() <= FEW {
+            return place_among(&self.list, ssrc);
+        }
+        if self.list.len() > MANY {
             if let Some(place) = hinted_place(&self.hints, &self.list, ssrc) {
                 return Some(place);
             }
-        } else if self.list.len() <= FEW {
-            return place_among(&self.list, ssrc);
         }
         self.places.get(&ssrc).copied()
     }
