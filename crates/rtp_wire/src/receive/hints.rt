@@ -18,6 +18,9 @@ const SPARE: usize = 4;
 // Where rows were given up, they are made again once the map was asked so many times for each source.
 const PATIENCE: usize = 16;
 
+// Where a source finds its row full, no hint is put before the map was asked so many times more.
+const REST: usize = 16;
+
 // The hints of a row: the SSRCs of sources, and at the same index the place of each. Both are 0
 // where there is no hint.
 #[derive(Clone, Copy)]
@@ -35,10 +38,10 @@ struct Row {
 pub(super) struct Hints {
     pub(super) last: usize,
     rows: Vec<Row>,
-    // How often the map is asked for a source that it has, before there is anything to do about it: 0
-    // where there are rows.
+    // How often the map is asked for a source that it has, before there is anything to do about it.
     awaited: usize,
-    // How often it was asked since rows were made; those that are awaited count already.
+    // How often it was asked, since rows were made, for a source that has a hint now, or while there
+    // were no rows; then those that are awaited count already.
     asked: usize,
 }
 
@@ -112,17 +115,19 @@ impl Hints {
     }
 
     // The same where nothing is awaited. Rows are made once the map was asked often enough: so sources
-    // that never come back, as those of a flood, ask for no rows.
+    // that never come back, as those of a flood, ask for no rows. No hint drives out another one.
     #[inline(never)]
     fn learn_now(&mut self, list: &Vec<(Ssrc, Receiver)>, ssrc: Ssrc, place: usize) {
         self.awaited = 0;
+        if self.has_rows() && !self.put(ssrc, place) {
+            self.awaited = REST;
+            return;
+        }
         self.asked = self.asked.saturating_add(1);
         let enough = (list.len() / SHARE).max(self.rows.len());
         if self.asked >= enough {
             self.make_rows(list);
-        } else if self.has_rows() {
-            self.put(ssrc, place);
-        } else {
+        } else if !self.has_rows() {
             self.awaited = enough - self.asked;
             self.asked = enough;
         }
@@ -138,11 +143,12 @@ impl Hints {
         }
     }
 
-    // Makes a row for each source. Where memory is refused the old ones stay, and where too many
-    // sources find their row full there are none.
+    // Makes a row for each source in place of the old ones. There are none where memory is refused, or
+    // where too many sources find their row full.
     fn make_rows(&mut self, list: &Vec<(Ssrc, Receiver)>) {
         let alloc = *self.rows.allocator();
         self.asked = 0;
+        self.rows = Vec::new(alloc);
         let Ok(rows) = Vec::from_elem(alloc, Row::new(), list.len()) else {
             return;
         };
