@@ -40,8 +40,8 @@ pub(super) struct Hints {
     rows: Vec<Row>,
     // How often the map is asked for a source that it has, before there is anything to do about it.
     awaited: usize,
-    // How often it was asked, since rows were made, for a source that has a hint now, or while there
-    // were no rows; then those that are awaited count already.
+    // How often it was asked since rows were made, where that is a reason for new ones. Those that are
+    // awaited count already.
     asked: usize,
 }
 
@@ -121,7 +121,11 @@ impl Hints {
         self.awaited = 0;
         if self.has_rows() && !self.put(ssrc, place) {
             self.awaited = REST;
-            return;
+            // More rows help where there are more sources than when they were made.
+            if list.len() <= self.rows.len() {
+                return;
+            }
+            self.asked = self.asked.saturating_add(REST);
         }
         self.asked = self.asked.saturating_add(1);
         let enough = (list.len() / SHARE).max(self.rows.len());
@@ -147,6 +151,7 @@ impl Hints {
     // where too many sources find their row full.
     fn make_rows(&mut self, list: &Vec<(Ssrc, Receiver)>) {
         let alloc = *self.rows.allocator();
+        self.awaited = 0;
         self.asked = 0;
         self.rows = Vec::new(alloc);
         let Ok(rows) = Vec::from_elem(alloc, Row::new(), list.len()) else {

@@ -72,13 +72,12 @@ impl Sources {
         requires { ArePlaces self.now.places self.now.list.items }
         ensures { result ≡ get nat_cmp self.now.places ssrc }
     {
-        if self.list.len() <= FEW {
-            return place_among(&self.list, ssrc);
-        }
         if self.list.len() > MANY {
             if let Some(place) = hinted_place(&self.hints, &self.list, ssrc) {
                 return Some(place);
             }
+        } else if self.list.len() <= FEW {
+            return place_among(&self.list, ssrc);
         }
         self.places.get(&ssrc).copied()
     }
