@@ -1,6 +1,6 @@
 -- What a change of the list, or of the places in it, changes.
 use Rattle.std.proofs.Common.{◌≡◌, ◌≢◌, ℕ, ◌+◌, ◌-◌, ◌<◌, ◌≤◌, Bool, true, false, cond, eqb, ltb, List, [], ◌∷◌, ◌++◌, length, get_or, set, refl, sym, ap, ◌∙◌, subst, inl, inr, arith, get_or-set_same, get_or-set_other}
-use Rattle.std.specs.Prelude.{Option, Some, None, IsSome}
+use Rattle.std.specs.Prelude.{Option, Some, None, IsSome, IfSome, IfNone}
 use Rattle.std.specs.Option.{option_map}
 use Rattle.std.specs.Map.{lookup}
 use Rattle.std.specs.Ordering.{nat_cmp, is_eq}
@@ -34,6 +34,24 @@ some-same a b same = cc same
 -- two sources at one place are one
 pub one_source : (places : BTreeMap ℕ ℕ) (list : List (ℕ × ReceiverState)) (a b place : ℕ) → ArePlaces places list → get nat_cmp places a ≡ Some place → get nat_cmp places b ≡ Some place → a ≡ b
 one_source places list a b place are first second = sym (are.found a place first).1 ∙ (are.found b place second).1
+
+-- ---- where a source stands
+
+-- a source has the place where it stands
+pub get-place : (places : BTreeMap ℕ ℕ) (list : List (ℕ × ReceiverState)) (source place : ℕ) → ArePlaces places list → (place < length list) × (source_at list place ≡ source) → get nat_cmp places source ≡ Some place
+get-place places list source place are stands = subst (λ (s : ℕ). get nat_cmp places s ≡ Some place) stands.1 (are.placed place stands.0)
+
+not_some : (o : Option ℕ) → ((place : ℕ) → o ≡ Some place → ⊥) → o ≡ None
+not_some None never = refl
+not_some (Some place) never = absurd (never place refl)
+
+-- what a look through the list says is the place of the source
+pub looked_through : (places : BTreeMap ℕ ℕ) (list : List (ℕ × ReceiverState)) (source : ℕ) (result : Option ℕ) → ArePlaces places list
+    → IfSome result (λ place. (place < length list) × (source_at list place ≡ source))
+    → IfNone result ((place : ℕ) → place < length list → source_at list place ≢ source)
+    → result ≡ get nat_cmp places source
+looked_through places list source None are stands apart = sym (not_some (get nat_cmp places source) (λ place is. let old = are.found source place is in apart place old.0 old.1))
+looked_through places list source (Some place) are stands apart = sym (get-place places list source place are stands)
 
 -- ---- one receiver changes
 

@@ -80,6 +80,27 @@ fn received_again(rt: HostRuntime) {
     stays(&rt, &receivers, SOURCES);
 }
 
+// Sources that all come before one comes back: rows of hints are made while they are looked up, and none is owed.
+#[test]
+fn received_in_turn(rt: HostRuntime) {
+    let mut receivers = Receivers::new(rt.alloc());
+    for source in 0..SOURCES {
+        receives(&rt, &mut receivers, source);
+    }
+    for _ in 0..3 {
+        for source in 0..SOURCES {
+            let again = receivers.receive(Ssrc::from(source), 7);
+            same(
+                &rt,
+                source,
+                again.expect(&rt, "no memory is owed"),
+                Verdict::Refused,
+            );
+        }
+    }
+    stays(&rt, &receivers, SOURCES);
+}
+
 // What is given back for a source that is forgotten, and then for all: nothing is held at the end.
 #[test]
 fn forgotten(rt: HostRuntime) {

@@ -1,27 +1,86 @@
 //! Where the receiver of a source may stand: what is looked at before the map of the places is.
 
+use super::Receiver;
 use rtp_base::Ssrc;
 use std::alloc::Global;
+use std::simd::prelude::*;
 
 // How many hints a row has: few enough to compare an SSRC with all of them at once, and enough that
 // few sources find their row full, where the SSRCs are spread.
 const ROW: usize = 4;
 
-// With so few sources before a new one the map of their places is small, and there are no rows.
-const FEW: usize = 4;
+// Rows are made once the map was asked for one source in so many, which pays for them.
+const SHARE: usize = 8;
 
-// The place of the last packet's source, and rows of hints: an SSRC picks a row, and a hint is the
-// SSRC of a source in the upper 32 bits, and its place in the lower ones.
+// Rows that leave out more than one source in so many are given up.
+const SPARE: usize = 4;
+
+// Where rows were given up, they are made again once the map was asked so many times for each source.
+const PATIENCE: usize = 16;
+
+// Where a source finds its row full, no hint is put before the map was asked so many times more.
+const REST: usize = 16;
+
+// The hints of a row: the SSRCs of sources, and at the same index the place of each. Both are 0
+// where there is no hint.
+#[derive(Clone, Copy)]
+struct Row {
+    sources: [u32; ROW],
+    places: [u32; ROW],
+}
+
+// The place of the last packet's source, and rows of hints: an SSRC picks a row.
 //
 // Nothing is promised of a hint. Who takes one compares the source that stands there, and else asks
-// the map, so a hint may be missing or old. SSRCs that all pick one row, as a peer may choose them,
-// cost a look at that row, and then what the map costs.
+// the map, so a hint may be missing or old. Where SSRCs all pick one row, as a peer may choose them,
+// there are no rows, and each of them costs what the map costs.
 #[derive(Drop)]
 pub(super) struct Hints {
     pub(super) last: usize,
-    rows: Vec<[u64; ROW]>,
-    // How often the map had to be asked for a source that it has, since the rows were made.
-    looked_up: usize,
+    rows: Vec<Row>,
+    // How often the map is asked for a source that it has, before there is anything to do about it.
+    awaited: usize,
+    // How often it was asked since rows were made, where that is a reason for new ones. Those that are
+    // awaited count already.
+    asked: usize,
+}
+
+impl Row {
+    // No hint.
+    fn new() -> Self {
+        Row {
+            sources: [0; ROW],
+            places: [0; ROW],
+        }
+    }
+
+    // The place of the hint on the source.
+    #[inline(always)]
+    fn place_of(&self, source: u32) -> Option<usize> {
+        let same = u32x4::from_array(self.sources).simd_eq(u32x4::splat(source));
+        let same = same.to_bitmask();
+        if same == 0 {
+            return None;
+        }
+        let index = same.trailing_zeros() as usize % ROW;
+        Some(self.places[index] as usize)
+    }
+
+    // Puts a hint where the row has one on the source, or else where it has none. Returns whether it
+    // has room.
+    fn put(&mut self, source: u32, place: u32) -> bool {
+        let sources = u32x4::from_array(self.sources);
+        let places = u32x4::from_array(self.places);
+        let own = sources.simd_eq(u32x4::splat(source)).to_bitmask();
+        let free = (sources | places).simd_eq(u32x4::splat(0)).to_bitmask();
+        let index = if own != 0 { own } else { free }.trailing_zeros() as usize;
+        let has_room = index < ROW;
+        if has_room {
+            self.sources[index] = source;
+            self.places[index] = place;
+        }
+        has_room
+    }
 }
 
 impl Hints {
@@ -30,73 +89,95 @@ impl Hints {
         Hints {
             last: 0,
             rows: Vec::new(alloc),
-            looked_up: 0,
+            awaited: 0,
+            asked: 0,
         }
     }
 
-    // The place where the source may stand.
-    pub(super) fn place_of(&self, ssrc: Ssrc) -> usize {
-        let source = u64::from(ssrc.get());
-        let mut place = 0;
-        if let Some(row) = self.rows.get(self.row_of(ssrc)) {
-            for hint in row {
-                if *hint != 0 && *hint >> 32 == source {
-                    place = *hint & 0xFFFF_FFFF;
-                }
-            }
-        }
-        place as usize
+    pub(super) fn has_rows(&self) -> bool {
+        !self.rows.is_empty()
+    }
+
+    // The place where the source may stand, if there is a hint on it.
+    #[inline(always)]
+    pub(super) fn place_of(&self, ssrc: Ssrc) -> Option<usize> {
+        self.rows.get(self.row_of(ssrc))?.place_of(ssrc.get())
     }
 
     // The map had to be asked where the source stands: at this place.
-    pub(super) fn learn(&mut self, ssrc: Ssrc, place: usize) {
-        self.looked_up = self.looked_up.saturating_add(1);
-        self.put(ssrc, place);
+    #[inline(always)]
+    pub(super) fn learn(&mut self, list: &Vec<(Ssrc, Receiver)>, ssrc: Ssrc, place: usize) {
+        let (left, was_none) = self.awaited.overflowing_sub(1);
+        self.awaited = left;
+        if was_none {
+            self.learn_now(list, ssrc, place);
+        }
     }
 
-    // The source stands at this place, as the map says.
-    pub(super) fn put(&mut self, ssrc: Ssrc, place: usize) {
-        let source = u64::from(ssrc.get());
-        let index = self.row_of(ssrc);
-        let Some(row) = self.rows.get_mut(index) else {
-            return;
-        };
-        let own = row
-            .iter()
-            .position(|hint| *hint != 0 && *hint >> 32 == source);
-        let free = row.iter().position(|hint| *hint == 0);
-        // In a full row the place decides, so that a source always drives out the same one.
-        let index = own.or(free).unwrap_or(place % ROW);
-        row[index] = hint_of(ssrc, place);
-    }
-
-    // The source has no place any more.
-    pub(super) fn clear(&mut self, ssrc: Ssrc) {
-        let source = u64::from(ssrc.get());
-        let index = self.row_of(ssrc);
-        let Some(row) = self.rows.get_mut(index) else {
-            return;
-        };
-        for hint in row.iter_mut() {
-            if *hint != 0 && *hint >> 32 == source {
-                *hint = 0;
+    // The same where nothing is awaited. Rows are made once the map was asked often enough: so sources
+    // that never come back, as those of a flood, ask for no rows. No hint drives out another one.
+    #[inline(never)]
+    fn learn_now(&mut self, list: &Vec<(Ssrc, Receiver)>, ssrc: Ssrc, place: usize) {
+        self.awaited = 0;
+        if self.has_rows() && !self.put(ssrc, place) {
+            self.awaited = REST;
+            // More rows help where there are more sources than when they were made.
+            if list.len() <= self.rows.len() {
+                return;
             }
+            self.asked = self.asked.saturating_add(REST);
+        }
+        self.asked = self.asked.saturating_add(1);
+        let enough = (list.len() / SHARE).max(self.rows.len());
+        if self.asked >= enough {
+            self.make_rows(list);
+        } else if !self.has_rows() {
+            self.awaited = enough - self.asked;
+            self.asked = enough;
         }
     }
 
-    // Makes room for hints where a source is added to so many others. There is a row for each of these, once
-    // there are fewer than half as many and the map was asked for sources that it has more often than there
-    // are rows: so sources that never come back, as those of a flood, ask for no room. The new rows are
-    // empty, and filled as packets come. Where memory is refused the old ones stay.
-    pub(super) fn make_room(&mut self, sources: usize) {
-        let rows = self.rows.len();
-        if sources < FEW || self.looked_up <= rows || sources / 2 < rows {
+    // Puts a hint that the source stands at this place, which is below 2^32, since no two SSRCs are
+    // alike. Returns whether its row has room.
+    fn put(&mut self, ssrc: Ssrc, place: usize) -> bool {
+        let index = self.row_of(ssrc);
+        match self.rows.get_mut(index) {
+            Some(row) => row.put(ssrc.get(), (place & 0xFFFF_FFFF) as u32),
+            None => false,
+        }
+    }
+
+    // Makes a row for each source in place of the old ones. There are none where memory is refused, or
+    // where too many sources find their row full.
+    fn make_rows(&mut self, list: &Vec<(Ssrc, Receiver)>) {
+        let alloc = *self.rows.allocator();
+        self.awaited = 0;
+        self.asked = 0;
+        self.rows = Vec::new(alloc);
+        let Ok(rows) = Vec::from_elem(alloc, Row::new(), list.len()) else {
             return;
+        };
+        self.rows = rows;
+        if !self.fill(list) {
+            self.rows = Vec::new(alloc);
+            self.awaited = list.len().saturating_mul(PATIENCE);
         }
-        if let Ok(rows) = Vec::from_elem(*self.rows.allocator(), [0; ROW], sources) {
-            self.rows = rows;
-            self.looked_up = 0;
+    }
+
+    // Puts a hint on each source into empty rows. Returns whether few were left out, and ends where
+    // it sees that too many are.
+    fn fill(&mut self, list: &Vec<(Ssrc, Receiver)>) -> bool {
+        let mut spare = list.len() / SPARE;
+        for (place, (source, _)) in list.iter().enumerate() {
+            if self.put(*source, place) {
+                continue;
+            }
+            if spare == 0 {
+                return false;
+            }
+            spare -= 1;
         }
+        true
     }
 
     // The row of the source: the SSRC is multiplied by an odd number near 2^32 over the golden ratio
@@ -105,9 +186,4 @@ impl Hints {
         let mixed = u64::from(ssrc.get().wrapping_mul(0x9E37_79B1));
         (mixed.wrapping_mul(self.rows.len() as u64) >> 32) as usize
     }
-}
-
-// A hint that the source stands at this place, which is below 2^32, since no two SSRCs are alike.
-fn hint_of(ssrc: Ssrc, place: usize) -> u64 {
-    u64::from(ssrc.get()) << 32 | place as u64
 }

@@ -151,8 +151,9 @@ impl Receivers {
     /// Records that the number is taken of the source, once its packet is known to be authentic. A
     /// number that [`accepts`](Self::accepts) refuses changes nothing in the source's receiver.
     ///
-    /// Memory is taken where the source gets its receiver. Where it is refused to the receiver nothing
-    /// changes, and where to the hints by which receivers are found, the call goes on without.
+    /// Memory is taken where the source gets its receiver; where it is refused nothing changes. It is also
+    /// taken now and then for the hints by which receivers are found; where that is refused, the call
+    /// goes on without.
     pub fn record(&mut self, ssrc: Ssrc, number: SeqNo) -> Result<(), AllocError>
         ensures recorded { (count : ℕ) → (taken : Numbers) →
             Holds (state_of self.old ssrc) count taken →
@@ -197,8 +198,9 @@ impl Receivers {
     /// [`accepts`](Self::accepts) and [`record`](Self::record) in one, where nothing is
     /// authenticated.
     ///
-    /// Memory is taken where the source gets its receiver. Where it is refused to the receiver nothing
-    /// changes, and where to the hints by which receivers are found, the call goes on without.
+    /// Memory is taken where the source gets its receiver; where it is refused nothing changes. It is also
+    /// taken now and then for the hints by which receivers are found; where that is refused, the call
+    /// goes on without.
     pub fn receive(&mut self, ssrc: Ssrc, sequence_number: u16) -> Result<Verdict, AllocError>
         ensures verdict { (count : ℕ) → (taken : Numbers) →
             Holds (state_of self.old ssrc) count taken → IfOk result (λ verdict.

@@ -13,10 +13,17 @@ use std::alloc::{AllocError, Global};
 use std::collections::BTreeMap;
 use std::fmt;
 
+// So few sources are gone through one by one, which takes less than the map does.
+const FEW: usize = 16;
+
+// A look that changes nothing may be for a forged packet, of which there is no hint. Among no more sources than
+// these, a look at the hints in vain would add too much to what the map takes.
+const MANY: usize = 4_096;
+
 // The sources with their receivers, in a list that has any order, and the place of each source in
-// it. Packets come in bursts of one source, so the place of the last one's source is tried first,
-// then where a hint says, and a source is looked up in the map only where another one stands at
-// both.
+// it. Packets come in bursts of one source, so the place of the last one's source is tried first.
+// Few sources are gone through then. Among more it is tried where a hint says, and a source is looked
+// up in the map only where another one stands there.
 #[derive(Drop)]
 pub(super) struct Sources {
     pub(super) list: Vec<(Ssrc, Receiver)>,
@@ -65,15 +72,19 @@ impl Sources {
         requires { ArePlaces self.now.places self.now.list.items }
         ensures { result ≡ get nat_cmp self.now.places ssrc }
     {
-        let place = self.hints.place_of(ssrc);
-        match self.list.get(place) {
-            Some((source, _)) if *source == ssrc => Some(place),
-            _ => self.places.get(&ssrc).copied(),
+        if self.list.len() > MANY {
+            if let Some(place) = hinted_place(&self.hints, &self.list, ssrc) {
+                return Some(place);
+            }
+        } else if self.list.len() <= FEW {
+            return place_among(&self.list, ssrc);
         }
+        self.places.get(&ssrc).copied()
     }
 
     // The same for the source of a packet, which then is the last packet's. The hints alone are
     // lent to be written, so that a caller knows that the rest stays as it is.
+    #[inline(always)]
     pub(super) fn find(
         hints: &mut Hints,
         list: &Vec<(Ssrc, Receiver)>,
@@ -90,6 +101,7 @@ impl Sources {
     }
 
     // The same, where the source isn't the last packet's. What the map says becomes a hint.
+    #[inline(always)]
     fn find_another(
         hints: &mut Hints,
         list: &Vec<(Ssrc, Receiver)>,
@@ -99,19 +111,22 @@ impl Sources {
         requires { ArePlaces places.now list.now.items }
         ensures { result ≡ get nat_cmp places.now ssrc }
     {
-        let place = hints.place_of(ssrc);
-        match list.get(place) {
-            Some((source, _)) if *source == ssrc => {
+        if hints.has_rows() {
+            if let Some(place) = hinted_place(hints, list, ssrc) {
                 hints.last = place;
-                Some(place)
+                return Some(place);
             }
-            _ => {
-                let place = *places.get(&ssrc)?;
-                hints.learn(ssrc, place);
+        } else if list.len() <= FEW {
+            let found = place_among(list, ssrc);
+            if let Some(place) = found {
                 hints.last = place;
-                Some(place)
             }
+            return found;
         }
+        let place = *places.get(&ssrc)?;
+        hints.last = place;
+        hints.learn(list, ssrc, place);
+        Some(place)
     }
 
     // Puts a source that has no receiver at the end of the list.
@@ -127,10 +142,8 @@ impl Sources {
         ensures same_places { OnErr result (self.new.places.entries ≡ self.old.places.entries) }
     {
         self.list.reserve(1)?;
-        let place = self.list.len();
-        self.places.insert(ssrc, place)?;
+        self.places.insert(ssrc, self.list.len())?;
         self.list.push_reserved((ssrc, receiver));
-        self.hints.make_room(place);
         Ok(())
     }
 
@@ -154,7 +167,6 @@ impl Sources {
             return None;
         };
         let (_, receiver) = self.list.swap_remove(place);
-        self.hints.clear(ssrc);
         self.renumber(place);
         Some(receiver)
     }
@@ -176,7 +188,30 @@ impl Sources {
         };
         if let Some(found) = self.places.get_mut(source) {
             *found = place;
-            self.hints.put(*source, place);
         }
+    }
+}
+
+// The place of the source in the list, and `None` where it has none. The list is gone through.
+#[inline(always)]
+fn place_among(list: &Vec<(Ssrc, Receiver)>, ssrc: Ssrc) -> Option<usize>
+    ensures place { IfSome result (λ place. (place < length list.now.items)
+        × (source_at list.now.items place ≡ ssrc)) }
+    ensures none { IfNone result ((place : ℕ) → place < length list.now.items →
+        source_at list.now.items place ≢ ssrc) }
+{
+    list.iter().position(|(source, _)| *source == ssrc)
+}
+
+// The place of the source in the list, where a hint says it.
+#[inline(always)]
+fn hinted_place(hints: &Hints, list: &Vec<(Ssrc, Receiver)>, ssrc: Ssrc) -> Option<usize>
+    ensures { IfSome result (λ place. (place < length list.now.items)
+        × (source_at list.now.items place ≡ ssrc)) }
+{
+    let place = hints.place_of(ssrc)?;
+    match list.get(place) {
+        Some((source, _)) if *source == ssrc => Some(place),
+        _ => None,
     }
 }

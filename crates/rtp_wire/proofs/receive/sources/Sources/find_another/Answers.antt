@@ -1,12 +1,12 @@
-use Rattle.std.proofs.Common.{rules, ℕ, ◌<◌, length, sym, subst, ◌≡◌}
-use Rattle.std.specs.Prelude.{Some}
-use Rattle.std.specs.BTreeMap.{get}
-use Rattle.std.specs.Ordering.{nat_cmp}
-use Rattle.rtp_wire.specs.SourcePlaces.{source_at}
+use Rattle.std.proofs.Common.{sym}
+use Rattle.rtp_wire.proofs.PlacesLemmas.{get-place, looked_through}
 use Rattle.rtp_wire.proofs.receive.sources.Sources.find_another.Goals as goal
 
 pub returns-in-Some : goal.returns-in-Some
-returns-in-Some c =
-    let below : c.place_of-place.result < length c.args.list.now.items = search rules in
-    let same : source_at c.args.list.now.items c.place_of-place.result ≡ c.args.ssrc = search rules in
-    sym (subst (λ (s : ℕ). get nat_cmp c.args.places.now s ≡ Some c.place_of-place.result) same (c.requires.placed c.place_of-place.result below))
+returns-in-Some c = sym (get-place c.args.places.now c.args.list.now.items c.args.ssrc c.in-Some.place c.requires c.in-Some.ensures)
+
+pub returns-in-Some-found : goal.returns-in-Some-found
+returns-in-Some-found c = sym (get-place c.args.places.now c.args.list.now.items c.args.ssrc c.in-Some-found.place c.requires c.in-Some-found.ensures.place)
+
+pub returns-in_default-found : goal.returns-in_default-found
+returns-in_default-found c = looked_through c.args.places.now c.args.list.now.items c.args.ssrc _ c.requires c.place_among-found.ensures.place c.place_among-found.ensures.none
