@@ -1,8 +1,9 @@
 //! A server that forwards packets: each is looked at once, and sent on to its receivers with numbers,
 //! times, ids and elements of theirs, to some of them as a retransmission.
 
+use crate::block::mid_of;
 use crate::digest::Digest;
-use crate::made::{Template, map, mid_of, templates};
+use crate::made::{Template, map, templates};
 use crate::numbers::Numbers;
 use rtp_base::{Pt, Ssrc};
 use rtp_wire::{
@@ -152,7 +153,7 @@ fn send(leg: &mut Leg, source: &[u8], buf: &mut [u8], turn: u32, digest: &mut Di
         Some(len) => {
             digest.add(len as u64);
             if len <= buf.len() {
-                digest.add_bytes(&buf[..len.min(64)]);
+                digest.add_bytes(&buf[..len]);
             }
         }
         None => digest.add(1),

@@ -6,8 +6,15 @@ use crate::numbers::Numbers;
 use rtp_listing::{RunEnd, run as list};
 use std::alloc::{AllocError, Global};
 
-// How many lines a capture has at most.
-const LINES: u64 = 20_000;
+// How many lines a capture has at most, and how many captures there are at least.
+const LINES: u64 = 5_000;
+
+const CAPTURES: u64 = 10;
+
+// How the lines of a capture end.
+const FEED: &[u8] = b"\n";
+
+const RETURN_AND_FEED: &[u8] = b"\r\n";
 
 fn digit(value: u8) -> u8 {
     let value = value % 16;
@@ -18,14 +25,13 @@ fn digit(value: u8) -> u8 {
     }
 }
 
-// The text of a datagram: two digits a byte, and a line feed.
+// The text of a datagram: two digits a byte.
 fn line_of(alloc: Global, bytes: &[u8]) -> Result<Vec<u8>, AllocError> {
     let mut text = Vec::new(alloc);
     for byte in bytes {
         text.push(digit(*byte / 16))?;
         text.push(digit(*byte))?;
     }
-    text.push(b'\n')?;
     Ok(text)
 }
 
@@ -59,10 +65,12 @@ fn put_line(
     line: &mut Vec<u8>,
     number: u16,
     time: u16,
+    end: &[u8],
 ) -> Result<(), AllocError> {
     put_number(line.as_mut_slice(), 4, number);
     put_number(line.as_mut_slice(), 10, time);
-    text.extend_from_slice(line)
+    text.extend_from_slice(line)?;
+    text.extend_from_slice(end)
 }
 
 // A capture of so many lines, of which every tenth is a whole packet.
@@ -71,6 +79,7 @@ fn capture(
     numbers: &mut Numbers,
     lines: &mut [Vec<u8>],
     count: u64,
+    end: &[u8],
 ) -> Result<Vec<u8>, AllocError> {
     let mut text = Vec::new(alloc);
     for line in 0..count {
@@ -79,7 +88,7 @@ fn capture(
         let place = whole + numbers.below(128) as usize % 128;
         let time = numbers.short();
         if let Some(line) = lines.get_mut(place) {
-            put_line(&mut text, line, number, time)?;
+            put_line(&mut text, line, number, time, end)?;
         }
     }
     Ok(text)
@@ -102,6 +111,26 @@ fn listed(alloc: Global, text: &[u8]) -> u64 {
     output.finish() ^ end_of(end)
 }
 
+// The capture of this number. Of ten, three have lines that end in CR LF; one of these and another one have
+// a line near their end that is no datagram.
+fn numbered(
+    alloc: Global,
+    numbers: &mut Numbers,
+    lines: &mut [Vec<u8>],
+    number: u64,
+    count: u64,
+) -> Result<Vec<u8>, AllocError> {
+    let end = match number % 10 {
+        3 | 6 | 9 => RETURN_AND_FEED,
+        _ => FEED,
+    };
+    let mut text = capture(alloc, numbers, lines, count, end)?;
+    if number % 5 == 4 {
+        text.extend_from_slice(b"80x0\n80\n")?;
+    }
+    Ok(text)
+}
+
 /// Lists so many hundreds of lines.
 pub fn run(alloc: Global, seed: u64, hundreds: u32) -> Result<u64, AllocError> {
     let mut numbers = Numbers::new(seed);
@@ -110,15 +139,11 @@ pub fn run(alloc: Global, seed: u64, hundreds: u32) -> Result<u64, AllocError> {
     put_lines(alloc, &mut numbers, true, &mut lines)?;
     let mut digest = Digest::new();
     let all = u64::from(hundreds) * 100;
-    for _ in 0..all / LINES {
-        let text = capture(alloc, &mut numbers, lines.as_mut_slice(), LINES)?;
+    let count = (all / LINES).max(CAPTURES);
+    for number in 0..count {
+        let lines = lines.as_mut_slice();
+        let text = numbered(alloc, &mut numbers, lines, number, all / count)?;
         digest.add(listed(alloc, &text));
     }
-    let text = capture(alloc, &mut numbers, lines.as_mut_slice(), all % LINES)?;
-    digest.add(listed(alloc, &text));
-    // A capture with a line that is no datagram, near its end.
-    let mut bad = text;
-    bad.extend_from_slice(b"80x0\n80\n")?;
-    digest.add(listed(alloc, &bad));
     Ok(digest.get())
 }

@@ -5,12 +5,15 @@
 //! lines it has. The workload `all` is each of them, one after the other.
 #![tactic(auto)]
 
+mod block;
 mod digest;
 mod forward;
+mod layers;
 mod listing;
 mod made;
 mod numbers;
 mod read;
+mod senders;
 mod session;
 mod sources;
 mod values;

@@ -2,7 +2,8 @@
 //! largest size that is all one block.
 
 use crate::digest::Digest;
-use crate::made::{LAYERS_ID, Template, map, templates};
+use crate::layers::Allocation;
+use crate::made::{LAYERS_ID, Template, map, put_at, templates};
 use crate::numbers::Numbers;
 use crate::values::{add_header, add_layers, add_values};
 use rtp_wire::vla::VideoLayers;
@@ -19,6 +20,8 @@ struct Reader {
     header: RtpHeader,
     layers: VideoLayers,
     last_layers: VideoLayers,
+    // The allocation that was told last.
+    told: Allocation,
     digest: Digest,
 }
 
@@ -71,7 +74,7 @@ fn put_large(bytes: &mut Vec<u8>, kind: u32, seed: u8) -> Result<(), AllocError>
         let element = match kind {
             0 => [0, 0, 0, 0],
             1 => [0x10, byte, 0x10, 0xAA],
-            2 => [0x90, byte, 0x71, byte],
+            2 => [0x90, byte, 0x70, byte],
             _ => [0xC2, 0x01, 0x00, byte % 128],
         };
         bytes.extend_from_slice(&element)?;
@@ -96,7 +99,7 @@ fn read_large(
     number: u16,
 ) -> Result<(), AllocError> {
     for datagram in datagrams.iter_mut() {
-        crate::made::put_at(datagram.as_mut_slice(), 2, &number.to_be_bytes());
+        put_at(datagram.as_mut_slice(), 2, &number.to_be_bytes());
         parse_into(alloc, reader, datagram.as_slice())?;
     }
     Ok(())
@@ -117,12 +120,25 @@ fn read_one(
     }
 }
 
-fn made_reader() -> Reader {
+// Gives the datagram its number and times, and where it tells the layers an allocation of its own, or
+// now and then the last one once more.
+fn set(reader: &mut Reader, template: &mut Template, numbers: &mut Numbers, number: u16) {
+    template.set(number, numbers.word(), number);
+    if template.has_layers() {
+        if !numbers.one_in(8) {
+            reader.told = Allocation::drawn(numbers);
+        }
+        template.set_layers(&reader.told);
+    }
+}
+
+fn made_reader(numbers: &mut Numbers) -> Reader {
     Reader {
         exts: map(),
         header: RtpHeader::default(),
         layers: VideoLayers::new(0),
         last_layers: VideoLayers::new(0),
+        told: Allocation::drawn(numbers),
         digest: Digest::new(),
     }
 }
@@ -130,12 +146,13 @@ fn made_reader() -> Reader {
 /// Reads so many hundreds of packets.
 pub fn run(alloc: Global, seed: u64, hundreds: u32) -> Result<u64, AllocError> {
     let mut numbers = Numbers::new(seed);
-    let mut templates = templates(alloc, &mut numbers, 256, (60, 1200))?;
+    // The shortest payload has room for the longest allocation.
+    let mut templates = templates(alloc, &mut numbers, 256, (128, 1200))?;
     let mut all_large = Vec::new(alloc);
     for kind in 0..4 {
         all_large.push(large(alloc, kind, numbers.byte())?)?;
     }
-    let mut reader = made_reader();
+    let mut reader = made_reader(&mut numbers);
     for packet in 0..u64::from(hundreds) * 100 {
         let number = (packet % 65_536) as u16;
         let place = numbers.below(256) as usize;
@@ -145,7 +162,7 @@ pub fn run(alloc: Global, seed: u64, hundreds: u32) -> Result<u64, AllocError> {
             numbers.below(3)
         };
         if let Some(template) = templates.get_mut(place) {
-            template.set(number, numbers.word(), number);
+            set(&mut reader, template, &mut numbers, number);
             read_one(alloc, &mut reader, template, way)?;
         }
         if packet % 100_000 == 99 {

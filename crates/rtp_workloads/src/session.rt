@@ -33,17 +33,37 @@ const URIS: [&str; 20] = [
     "https://aomediacodec.github.io/av1-rtp-spec/#dependency-descriptor-rtp-header-extension",
 ];
 
-// The map of an offer: five to fifteen lines, some with ids above 14.
+// The extension of a line: one of the URIs, or now and then one that nobody knows.
+fn extension(alloc: Global, numbers: &mut Numbers, place: u32) -> Result<Extension, AllocError> {
+    let uri = URIS.get(place as usize).unwrap_or(&"urn:example");
+    if !numbers.one_in(8) {
+        return Extension::from_sdp_uri(alloc, uri);
+    }
+    let version = numbers.word();
+    let uri = format!(in alloc; "{uri}/{version}")?;
+    Extension::from_sdp_uri(alloc, uri.as_str())
+}
+
+// The map of an offer: about ten lines of the URIs in an order of its own, whose ids leave some out, in
+// one of eight offers those below 16.
 fn offered(alloc: Global, numbers: &mut Numbers) -> Result<ExtensionMap, AllocError> {
     let mut exts = ExtensionMap::empty();
-    let first = numbers.below(20);
-    let step = if numbers.one_in(2) { 1 } else { 3 };
-    let shift = if numbers.one_in(8) { 14 } else { 0 };
-    for line in 0..numbers.between(5, 15) {
-        let place = first.wrapping_add(line.wrapping_mul(step)) % 20;
-        let id = (line % 32 + 1 + shift) as u8;
-        if let Some(uri) = URIS.get(place as usize) {
-            exts.set(id, Extension::from_sdp_uri(alloc, uri)?);
+    let wanted = numbers.word();
+    // Steps of this many pass all of the 20 URIs.
+    let step = [1, 3, 7, 9][numbers.below(4) as usize % 4];
+    let mut place = numbers.below(20);
+    let mut id = if numbers.one_in(8) { 15u32 } else { 0 };
+    for line in 0..20u32 {
+        place = place.wrapping_add(step) % 20;
+        if (wanted >> line) % 2 == 1 {
+            let left_out = if numbers.one_in(4) {
+                numbers.below(3)
+            } else {
+                0
+            };
+            id = id.wrapping_add(left_out);
+            exts.set((id % 255) as u8 + 1, extension(alloc, numbers, place)?);
+            id = id.wrapping_add(1);
         }
     }
     Ok(exts)

@@ -1,19 +1,18 @@
-//! A receiver of many sources: those of many transports, of a server that looks at all of them, and of
-//! a flood.
+//! A receiver of many sources: those of many transports, of a server that looks at all of them, of a
+//! flood, and those of whole runs.
 
 use crate::digest::Digest;
-use crate::made::{map, put_at};
+use crate::made::map;
 use crate::numbers::Numbers;
+use crate::senders::{Order, Senders, datagram, set_datagram};
 use rtp_base::Ssrc;
 use rtp_wire::{Receivers, RtpPacket, Verdict, receive_run};
 use std::alloc::{AllocError, Global};
 
-// How many sources a server sees, how many a flood has, and how many a run.
-const SEEN: u32 = 10_000;
+// How many packets come on a transport, and how many in a run.
+const TRANSPORT: u64 = 3_000;
 
-const FLOOD: u32 = 200_000;
-
-const RUN: u32 = 400;
+const RUN: u64 = 10_000;
 
 fn add_verdict(digest: &mut Digest, verdict: Verdict) {
     match verdict {
@@ -23,60 +22,44 @@ fn add_verdict(digest: &mut Digest, verdict: Verdict) {
     }
 }
 
-// The SSRC of a source: all of them differ.
-fn ssrc_of(source: u32, salt: u32) -> u32 {
-    let mixed = (source ^ salt).wrapping_mul(0x9E37_79B1);
-    (mixed ^ (mixed >> 15)).wrapping_mul(0x85EB_CA77)
-}
-
-// The next number of a source: now and then one is lost, late or doubled.
-fn next_number(number: &mut u16, numbers: &mut Numbers) -> u16 {
-    let chance = numbers.below(64);
-    if chance == 0 {
-        return number.wrapping_sub((numbers.below(20) % 20) as u16);
-    }
-    let step = if chance == 1 { 3 } else { 1 };
-    *number = number.wrapping_add(step);
-    *number
-}
-
-// A datagram of twelve bytes.
-fn datagram(ssrc: u32, number: u16) -> [u8; 12] {
-    let mut bytes = [0x80, 0x60, 0, 0, 0, 0, 0, 0, 0, 0, 0, 0];
-    put_at(&mut bytes, 2, &number.to_be_bytes());
-    put_at(&mut bytes, 8, &ssrc.to_be_bytes());
-    bytes
-}
-
-// The packets of six sources on one transport, in bursts.
+// So many packets of two to ten sources on one transport.
 fn transport(
     alloc: Global,
     numbers: &mut Numbers,
-    packets: u32,
+    order: Order,
+    packets: u64,
     digest: &mut Digest,
 ) -> Result<(), AllocError> {
     let mut receivers = Receivers::new(alloc);
-    let salt = numbers.word();
-    let mut last = [0u16; 6];
-    for number in &mut last {
-        *number = numbers.short();
-    }
-    let mut source = 0;
-    let mut left = 0;
+    let sources = numbers.between(2, 10);
+    let mut senders = Senders::new(alloc, numbers, sources, order)?;
+    let mut bytes = datagram();
     for _ in 0..packets {
-        if left == 0 {
-            source = numbers.below(6);
-            left = numbers.between(1, 30);
-        }
-        left = left.wrapping_sub(1);
-        let Some(number) = last.get_mut(source as usize) else {
-            continue;
-        };
-        let bytes = datagram(ssrc_of(source, salt), next_number(number, numbers));
+        let (ssrc, number) = senders.next(numbers);
+        set_datagram(&mut bytes, ssrc, number);
         if let Ok(packet) = RtpPacket::parse(&bytes) {
             let verdict = receivers.receive(packet.ssrc(), packet.sequence_number())?;
             add_verdict(digest, verdict);
         }
+    }
+    Ok(())
+}
+
+// So many packets on transports, whose sources send in turn on every second one, and else in bursts.
+fn transports(
+    alloc: Global,
+    numbers: &mut Numbers,
+    packets: u64,
+    digest: &mut Digest,
+) -> Result<(), AllocError> {
+    let count = (packets / TRANSPORT).max(2);
+    for place in 0..count {
+        let order = if place % 2 == 0 {
+            Order::InTurn
+        } else {
+            Order::Bursts(30)
+        };
+        transport(alloc, numbers, order, packets / count, digest)?;
     }
     Ok(())
 }
@@ -107,83 +90,82 @@ fn one(
     Ok(())
 }
 
-// So many packets of so many sources, which take turns in bursts of at most this length.
+// So many packets of so many sources, which send bursts of at most this length.
 fn server(
     alloc: Global,
     numbers: &mut Numbers,
     sources: u32,
     packets: u64,
-    burst: u32,
+    longest: u32,
     digest: &mut Digest,
 ) -> Result<(), AllocError> {
     let mut receivers = Receivers::starting_at(alloc, 1);
-    let salt = numbers.word();
-    let mut last = vec![in alloc; 7u16; sources as usize]?;
-    let mut source = 0;
-    let mut left = 0;
+    let mut senders = Senders::new(alloc, numbers, sources, Order::Bursts(longest))?;
     for _ in 0..packets {
-        if left == 0 {
-            source = numbers.below(sources);
-            left = numbers.between(1, burst);
-        }
-        left = left.wrapping_sub(1);
-        let Some(number) = last.get_mut(source as usize) else {
-            continue;
-        };
-        let number = next_number(number, numbers);
+        let (ssrc, number) = senders.next(numbers);
         let way = numbers.word();
-        one(
-            &mut receivers,
-            Ssrc::from(ssrc_of(source, salt)),
-            number,
-            way,
-            digest,
-        )?;
+        one(&mut receivers, Ssrc::from(ssrc), number, way, digest)?;
     }
     digest.add(receivers.len() as u64);
     Ok(())
 }
 
-// A run of datagrams, all at once.
-fn datagrams(
-    alloc: Global,
-    numbers: &mut Numbers,
-    packets: u32,
-) -> Result<Vec<Vec<u8>>, AllocError> {
-    let salt = numbers.word();
-    let mut all = Vec::with_capacity(alloc, packets as usize)?;
-    for packet in 0..packets {
-        let source = numbers.below(RUN);
-        let bytes = datagram(ssrc_of(source, salt), (packet / RUN % 65_536) as u16);
-        all.push(bytes.to_vec(alloc)?)?;
+// A run of so many datagrams, which are still to be set.
+fn datagrams(alloc: Global, packets: u64) -> Result<Vec<Vec<u8>>, AllocError> {
+    let mut all = Vec::new(alloc);
+    for _ in 0..packets {
+        all.push(datagram().to_vec(alloc)?)?;
     }
     Ok(all)
 }
 
-fn run_at_once(
-    alloc: Global,
-    numbers: &mut Numbers,
-    packets: u32,
-    digest: &mut Digest,
-) -> Result<(), AllocError> {
-    let run = datagrams(alloc, numbers, packets)?;
-    for verdict in &receive_run(alloc, run.as_slice(), &map())? {
-        add_verdict(digest, *verdict);
+// Makes the datagrams those of a run of as many sources as let each have 25 of them.
+fn set_run(alloc: Global, numbers: &mut Numbers, run: &mut [Vec<u8>]) -> Result<(), AllocError> {
+    let sources = (run.len() / 25 % 65_536) as u32 + 1;
+    let mut senders = Senders::new(alloc, numbers, sources, Order::Bursts(4))?;
+    for datagram in run.iter_mut() {
+        let (ssrc, number) = senders.next(numbers);
+        set_datagram(datagram.as_mut_slice(), ssrc, number);
     }
     Ok(())
 }
 
-/// Receives so many hundreds of packets.
+fn add_verdicts(digest: &mut Digest, verdicts: &[Verdict]) {
+    for verdict in verdicts {
+        add_verdict(digest, *verdict);
+    }
+}
+
+// So many packets in runs that are received at once.
+fn runs(
+    alloc: Global,
+    numbers: &mut Numbers,
+    packets: u64,
+    digest: &mut Digest,
+) -> Result<(), AllocError> {
+    let count = (packets / RUN).max(1);
+    let mut run = datagrams(alloc, packets / count)?;
+    let exts = map();
+    for _ in 0..count {
+        set_run(alloc, numbers, run.as_mut_slice())?;
+        let verdicts = receive_run(alloc, run.as_slice(), &exts)?;
+        add_verdicts(digest, verdicts.as_slice());
+    }
+    Ok(())
+}
+
+/// Receives so many hundreds of packets: three tenths of them come on transports, four tenths at a
+/// server, two tenths in a flood, and one tenth in runs. A source sends 400 packets to the server, and
+/// ten in the flood, however many hundreds there are.
 pub fn run(alloc: Global, seed: u64, hundreds: u32) -> Result<u64, AllocError> {
     let mut numbers = Numbers::new(seed);
     let mut digest = Digest::new();
-    let packets = u64::from(hundreds) * 100;
-    // Three tenths are those of single transports, four tenths those that a server sees.
-    for _ in 0..u64::from(hundreds) / 100 {
-        transport(alloc, &mut numbers, 3_000, &mut digest)?;
-    }
-    server(alloc, &mut numbers, SEEN, packets / 10 * 4, 4, &mut digest)?;
-    server(alloc, &mut numbers, FLOOD, packets / 10 * 2, 1, &mut digest)?;
-    run_at_once(alloc, &mut numbers, hundreds % 100_000 * 10, &mut digest)?;
+    let tenth = u64::from(hundreds) * 10;
+    transports(alloc, &mut numbers, tenth * 3, &mut digest)?;
+    let seen = (hundreds / 10).max(2);
+    server(alloc, &mut numbers, seen, tenth * 4, 4, &mut digest)?;
+    let flood = hundreds.saturating_mul(2);
+    server(alloc, &mut numbers, flood, tenth * 2, 1, &mut digest)?;
+    runs(alloc, &mut numbers, tenth, &mut digest)?;
     Ok(digest.get())
 }

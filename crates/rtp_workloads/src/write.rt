@@ -1,7 +1,9 @@
 //! A sender: headers with their values, written into the front of a packet.
 
+use crate::block::mid_of;
 use crate::digest::Digest;
-use crate::made::{layers, map, mid_of, templates};
+use crate::layers::Allocation;
+use crate::made::{map, templates};
 use crate::numbers::Numbers;
 use rtp_wire::vla::VideoLayers;
 use rtp_wire::{ExtensionMap, RtpHeader, WithLayers};
@@ -82,7 +84,9 @@ fn made_sender(alloc: Global, numbers: &mut Numbers) -> Result<Sender, AllocErro
     }
     let mut all_layers = Vec::new(alloc);
     for _ in 0..64 {
-        all_layers.push(layers(numbers))?;
+        let mut layers = VideoLayers::new(0);
+        layers.parse_into(Allocation::drawn(numbers).bytes());
+        all_layers.push(layers)?;
     }
     Ok(Sender {
         exts,
