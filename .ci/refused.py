@@ -2,26 +2,33 @@
 
 A line of crates/NAME/wrong/refused has the name of a body and a digest: of the edit, of the crate's sources,
 definitions and proofs, of the sources and definitions of the crates below it, whose contracts its functions are proved by,
-and of the logic that proved them.
+of the logic that proved them, and of the scripts that judge.
 """
 
 import hashlib
 import re
+from pathlib import Path
 
 OWN, BELOW = ("src", "specs", "proofs"), ("src", "specs")
+SCRIPTS = [Path(__file__).with_name(it).read_bytes() for it in ("wrong_bodies", "wrong_body.py", "refused.py")]
 
 
 class Refused:
     """The lines of one crate, and the digest that a body would have now."""
 
     def __init__(self, top, lines, crate, version):
-        self.file = top / "crates" / crate / "wrong" / "refused"
+        self.file, self.crate, self.version = top / "crates" / crate / "wrong" / "refused", crate, version
         known = self.file.read_text().splitlines() if self.file.is_file() else []
         self.known = dict(it.split() for it in known)
-        self.stands_on = hashlib.sha256(re.sub(r".*\b(logic \w+).*", r"\1", version, flags=re.S).encode())
+        self.stand_on(top, lines)
+
+    def stand_on(self, top, lines):
+        """Takes the digests of the sources in this folder: the checkout, or the copy that bodies are tried on."""
+        logic = re.sub(r".*\b(logic \w+).*", r"\1", self.version, flags=re.S)
+        self.stands_on = hashlib.sha256(b"\n".join([logic.encode(), *SCRIPTS]))
         for name, line in lines.items():
             self.stands_on.update(line.encode())
-            for part in OWN if name == crate else BELOW:
+            for part in OWN if name == self.crate else BELOW:
                 folder = top / "crates" / name / part
                 for file in sorted(it for it in folder.rglob("*") if it.is_file()):
                     self.stands_on.update(f"\n{name}/{part}/{file.relative_to(folder)}\n".encode())

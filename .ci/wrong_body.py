@@ -10,20 +10,23 @@ IMPL = re.compile(r"impl(?:<[^>]*>)? (?:(?:\w+::)*(\w+)(?:<(.*)>)? for )?(?:&(?:
 
 
 class Body:
-    """A wrong body: the functions whose verdict counts, what it changes, and the functions that this is in."""
+    """A wrong body: its text, the functions whose verdict counts, and once it is read what it changes."""
 
     def __init__(self, file):
         self.text = file.read_text()
-        words = [(it.partition(":")[0], it.partition(":")[2][1:]) for it in self.text.splitlines()]
-        self.name, self.crate = file.stem, dict(words).get("crate", file.parent.parent.name)
+        self.words = [(it.partition(":")[0], it.partition(":")[2][1:]) for it in self.text.splitlines()]
+        self.file, self.name, self.crate = file, file.stem, dict(self.words).get("crate", file.parent.parent.name)
         self.is_kept = file.parent.name == "wrong"
-        self.wanted = dict(words).get("wanted", REFUSED)
-        self.functions = [text for word, text in words if word == "fn"]
+        self.wanted = dict(self.words).get("wanted", REFUSED)
+        self.functions = [text for word, text in self.words if word == "fn"]
+
+    def read(self, crate):
+        """Finds what it changes in the sources of the crate in this folder, and the functions that this is in."""
         # By file and number the new lines, and the verdict where it can't be tried.
         self.changes, self.changed, self.problem, before, after = {}, set(), None, {}, {}
-        for word, text in words:
+        for word, text in self.words:
             if word == "file":
-                source, path = text, TOP / "crates" / self.crate / text
+                source, path = text, crate / text
                 before.setdefault(source, path.read_text() if path.is_file() else "")
                 after.setdefault(source, before[source])
             elif word == "old":
@@ -41,7 +44,7 @@ class Body:
         self.alone = None in self.changed or len(self.changed) > 1 or len(self.functions) > 1
         if not self.functions:
             places = [f"`fn: {it}`" for it in self.changed if it] or ["the name of what it breaks"]
-            self.problem = "no line `fn:`", f"{file.relative_to(TOP)} may need {', '.join(sorted(places))}"
+            self.problem = "no line `fn:`", f"{self.file.relative_to(TOP)} may need {', '.join(sorted(places))}"
 
     def fits(self, other):
         """Whether both can be applied together, and each then has a verdict of its own."""

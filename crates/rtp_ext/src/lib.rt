@@ -35,6 +35,6 @@ pub use place::{
 };
 pub use raw_writing::{put_elements, write_elements};
 pub use rtp_values::{
-    AbsCaptureTime, ElementValues, Extension, ExtensionValues, KnownKind, Uri, VideoOrientation,
-    VideoTiming, WithLayers, standard,
+    AbsCaptureTime, CarriedLayers, ElementValues, Extension, ExtensionValues, KnownKind, Uri,
+    VideoOrientation, VideoTiming, WithLayers, standard,
 };

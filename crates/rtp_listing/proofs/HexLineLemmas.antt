@@ -78,7 +78,7 @@ decoded_front s out i room fits inv =
     let same : take i (take i out) ≡ take i out = take_all i (take i out) (omega arith) in
     decode_done s (take i out) i (omega arith) fits (rw same inv)
 
-not_both : (c : ℕ) → IsAsciiHexdigit c → IsNotAsciiHexdigit c → ⊥
+pub not_both : (c : ℕ) → IsAsciiHexdigit c → IsNotAsciiHexdigit c → ⊥
 not_both c digit other = grind (arith, common_steps)
 
 -- whether all of the first bytes of a line are digits

@@ -2,6 +2,7 @@ mod HexLineLemmas
 mod LineLemmas
 mod MapLineLemmas
 mod InputLemmas
+mod FirstLineLemmas
 mod FrontLemmas
 mod ReadLemmas
 mod PrintLemmas

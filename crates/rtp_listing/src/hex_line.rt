@@ -1,9 +1,10 @@
 //! The lines that are datagrams in hexadecimal.
 
-ghost use Rattle.std.specs.Prelude.{◌≡◌, ◌↔◌, ◌*◌, ◌/◌, ◌%◌, ◌<◌, ◌≤◌, List, ℕ, length, take, slice_index, All, IfOk, IfSome, IsErr, IsOk, IsSomeAnd, IsTrue, OnOk};
+ghost use Rattle.std.specs.Prelude.{◌≡◌, ◌↔◌, ◌*◌, ◌/◌, ◌%◌, ◌<◌, ◌≤◌, List, ℕ, length, take, slice_index, All, IfOk, IfSome, IfNone, IsErr, IsOk, IsSomeAnd, IsTrue, OnOk};
 ghost use Rattle.std.specs.Char.{IsAsciiHexdigit, IsNotAsciiHexdigit};
 ghost use Rattle.std.specs.Vec.{vec_len};
 ghost use Rattle.hex.specs.Hex.{decode_of, pair_value};
+ghost use Rattle.rtp_listing.specs.Front.{IsHexFirst, IsNotHexFirst, IsLineEnd};
 
 use std::alloc::{AllocError, Global};
 
@@ -48,9 +49,9 @@ fn write_bytes(digits: &[u8], bytes: &mut [u8])
 }
 
 // The length of a front of digits, where the first `from` bytes are digits: so many bytes are tested at
-// once, until the front is so long, the next so many are not all digits, or fewer are left.
+// once, and the next so many are not all digits, or fewer are left.
 #[inline(always)]
-fn front_of_digits(text: &[u8], from: usize, at_once: usize, until: usize) -> usize
+fn front_of_digits(text: &[u8], from: usize, at_once: usize) -> usize
     requires some { 0 < at_once }
     requires front { from ≤ length text.now }
     requires before { (k : ℕ) → k < from → IsAsciiHexdigit (slice_index text.now k) }
@@ -58,7 +59,7 @@ fn front_of_digits(text: &[u8], from: usize, at_once: usize, until: usize) -> us
     ensures digits { (k : ℕ) → k < result → IsAsciiHexdigit (slice_index text.now k) }
 {
     let mut len = from;
-    while len < until && text.len() - len >= at_once {
+    while text.len() - len >= at_once {
         if !are_hex_digits(&text[len..len + at_once]) {
             return len;
         }
@@ -67,28 +68,45 @@ fn front_of_digits(text: &[u8], from: usize, at_once: usize, until: usize) -> us
     len
 }
 
-// The length of a front of digits, behind which fewer than sixteen digits are left. Most lines of headers
-// alone are too short for a test of 64 bytes.
+// The length of a front of digits, behind which fewer than sixteen digits are left. Most lines are too
+// short to gain by tests of 64 bytes, of which the last one is for nothing.
 #[inline(always)]
 fn long_front(text: &[u8]) -> usize
     ensures within { result ≤ length text.now }
     ensures digits { (k : ℕ) → k < result → IsAsciiHexdigit (slice_index text.now k) }
 {
-    let front = front_of_digits(text, 0, 16, 64);
-    if front < 64 {
+    let front = front_of_digits(&text[..text.len().min(208)], 0, 16);
+    if front < 208 {
         return front;
     }
-    let front = front_of_digits(text, front, 64, usize::MAX);
-    front_of_digits(text, front, 16, usize::MAX)
+    let front = front_of_digits(text, front, 64);
+    front_of_digits(text, front, 16)
 }
 
-/// The length of the longest front of hexadecimal digits.
-pub(super) fn digits_at_front(text: &[u8]) -> usize
+// The length of a front of digits, where the first `from` bytes are digits, behind which fewer than eight
+// digits are left. It is no part of its caller, so that what that has read doesn't keep eight bytes from
+// one test.
+#[inline(never)]
+fn eights(text: &[u8], from: usize) -> usize
+    requires front { from ≤ length text.now }
+    requires before { (k : ℕ) → k < from → IsAsciiHexdigit (slice_index text.now k) }
+    ensures within { result ≤ length text.now }
+    ensures digits { (k : ℕ) → k < result → IsAsciiHexdigit (slice_index text.now k) }
+{
+    front_of_digits(text, from, 8)
+}
+
+// The length of the longest front of hexadecimal digits. What ends a line is less than any digit.
+fn digits_at_front(text: &[u8]) -> usize
     ensures within { result ≤ length text.now }
     ensures digits { (k : ℕ) → k < result → IsAsciiHexdigit (slice_index text.now k) }
     ensures end { result < length text.now → IsNotAsciiHexdigit (slice_index text.now result) }
 {
-    let mut len = front_of_digits(text, long_front(text), 8, usize::MAX);
+    let front = long_front(text);
+    if front == text.len() || text[front] < b'0' {
+        return front;
+    }
+    let mut len = if front == 0 { 0 } else { eights(text, front) };
     while len < text.len() {
         if !text[len].is_ascii_hexdigit() {
             return len;
@@ -98,14 +116,34 @@ pub(super) fn digits_at_front(text: &[u8]) -> usize
     len
 }
 
-/// Whether the line is hexadecimal, where it begins with this many digits, and no digit follows them.
-pub(super) fn is_hex_after(line: &[u8], digits: usize) -> bool
-    requires digits { (k : ℕ) → k < digits → k < length line.now →
-        IsAsciiHexdigit (slice_index line.now k) }
-    requires end { digits < length line.now → IsNotAsciiHexdigit (slice_index line.now digits) }
-    ensures { IsTrue result ↔ IsOk (decode_of line.now) }
+// The text after the end of a line, where that stands at the front: LF, CR LF, or the end of the text.
+fn after_line_end(text: &[u8]) -> Option<&[u8]>
+    ensures found { IfSome result (λ after. IsLineEnd text.now after.now) }
+    ensures none { IfNone result ((after : List ℕ) → IsLineEnd text.now after → ⊥) }
 {
-    line.len() % 2 == 0 && line.len() <= digits
+    match text {
+        [] => Some(&[]),
+        [b'\n', after @ ..] => Some(after),
+        [b'\r', b'\n', after @ ..] => Some(after),
+        _ => None,
+    }
+}
+
+/// The text after the first line, when that is hexadecimal. Requires that the text is not empty.
+pub(super) fn after_hex_line(text: &[u8]) -> Option<&[u8]>
+    requires { 0 < length text.now }
+    ensures found { IfSome result (λ after. IsHexFirst text.now after.now) }
+    ensures none { IfNone result (IsNotHexFirst text.now) }
+{
+    // A line without digits ends at its front.
+    if let Some(after) = after_line_end(text) {
+        return Some(after);
+    }
+    let digits = digits_at_front(text);
+    if digits % 2 != 0 {
+        return None;
+    }
+    after_line_end(&text[digits..])
 }
 
 // Whether the line is hexadecimal: an even number of digits.

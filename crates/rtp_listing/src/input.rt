@@ -6,8 +6,8 @@ ghost use Rattle.rtp_listing.specs.declared.input.InputError.TheVariants.{NoMemo
 ghost use Rattle.rtp_listing.specs.Input.{AreHex, Spells, IsFirstBadLine};
 ghost use Rattle.rtp_listing.specs.Front.{MapsFirst, MapsNoneFirst, IsFront, IsFirstNotHex, IsHexText};
 
-use super::hex_line::{digits_at_front, is_hex_after};
-use super::line::{first_line, first_line_from};
+use super::hex_line::after_hex_line;
+use super::line::first_line;
 use super::map_line::map_line;
 use rtp_wire::{Extension, ExtensionMap};
 use std::alloc::{AllocError, Global};
@@ -70,7 +70,7 @@ fn map_lines(alloc: Global, text: &[u8]) -> Result<(ExtensionMap, u64, &[u8]), A
 }
 
 // The number of the first line that is not hexadecimal. `lines_before` is the number of lines before
-// the text. A digit ends no line, so that the end of a line is looked for behind its digits.
+// the text.
 fn first_not_hex(text: &[u8], lines_before: u64) -> Option<u64>
     requires { lines_before + length text.now < 2 ^ 64 }
     ensures found { IfSome result (IsFirstNotHex (lines text.now) lines_before) }
@@ -79,13 +79,11 @@ fn first_not_hex(text: &[u8], lines_before: u64) -> Option<u64>
     let mut rest = text;
     let mut number = lines_before;
     while !rest.is_empty() {
-        let digits = digits_at_front(rest);
-        let (line, after) = first_line_from(rest, digits);
         number += 1;
-        if !is_hex_after(line, digits) {
-            return Some(number);
+        match after_hex_line(rest) {
+            Some(after) => rest = after,
+            None => return Some(number),
         }
-        rest = after;
     }
     None
 }

@@ -54,52 +54,19 @@ fn first_of(text: &[u8], byte: u8) -> Option<usize>
     text.iter().position(|candidate| *candidate == byte)
 }
 
-/// The index of the first byte of this value, `None` when there is none. Requires that it isn't in the
-/// first `from` bytes, which are not looked at.
-pub(super) fn position_from(text: &[u8], from: usize, byte: u8) -> Option<usize>
-    requires front { from ≤ length text.now }
-    requires before { (k : ℕ) → k < from → slice_index text.now k ≢ byte }
-    ensures found { IfSome result (λ at. (at < length text.now) × (slice_index text.now at ≡ byte)
-        × ((k : ℕ) → k < at → slice_index text.now k ≢ byte)) }
-    ensures none { IfNone result ((k : ℕ) → k < length text.now → slice_index text.now k ≢ byte) }
-{
-    if from < text.len() && text[from] == byte {
-        return Some(from);
-    }
-    // Each step leaves less for the next one, which goes on in smaller ones.
-    let front = front_without(text, from, byte, 64);
-    let front = front_without(text, front, byte, 16);
-    let front = front_without(text, front, byte, 8);
-    match first_of(&text[front..], byte) {
-        Some(at) => Some(front + at),
-        None => None,
-    }
-}
-
 /// The index of the first byte of this value, `None` when there is none.
 pub(super) fn position_of(text: &[u8], byte: u8) -> Option<usize>
     ensures found { IfSome result (λ at. (at < length text.now) × (slice_index text.now at ≡ byte)
         × ((k : ℕ) → k < at → slice_index text.now k ≢ byte)) }
     ensures none { IfNone result ((k : ℕ) → k < length text.now → slice_index text.now k ≢ byte) }
 {
-    position_from(text, 0, byte)
-}
-
-/// The first line without its LF or CR LF, and the text after it. Requires that the text is not empty,
-/// and that no LF is in its first `from` bytes, which are not looked at for one.
-pub(super) fn first_line_from(text: &[u8], from: usize) -> (&[u8], &[u8])
-    requires some { 0 < length text.now }
-    requires front { from ≤ length text.now }
-    requires before { (k : ℕ) → k < from → slice_index text.now k ≢ 10 }
-    ensures first { lines text.now ≡ result.0.now ∷ lines result.1.now }
-    ensures begins { (k : ℕ) → k < length result.0.now →
-        slice_index result.0.now k ≡ slice_index text.now k }
-    ensures within { length result.0.now ≤ length text.now }
-    ensures shorter { length result.1.now < length text.now }
-{
-    match position_from(text, from, b'\n') {
-        Some(end) => (without_return(&text[..end]), &text[end + 1..]),
-        None => (text, &[]),
+    // Each step leaves less for the next one, which goes on in smaller ones.
+    let front = front_without(text, 0, byte, 64);
+    let front = front_without(text, front, byte, 16);
+    let front = front_without(text, front, byte, 8);
+    match first_of(&text[front..], byte) {
+        Some(at) => Some(front + at),
+        None => None,
     }
 }
 
@@ -109,5 +76,8 @@ pub(super) fn first_line(text: &[u8]) -> (&[u8], &[u8])
     ensures first { lines text.now ≡ result.0.now ∷ lines result.1.now }
     ensures shorter { length result.1.now < length text.now }
 {
-    first_line_from(text, 0)
+    match position_of(text, b'\n') {
+        Some(end) => (without_return(&text[..end]), &text[end + 1..]),
+        None => (text, &[]),
+    }
 }

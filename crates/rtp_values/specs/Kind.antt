@@ -39,25 +39,6 @@ kind_of ColorSpace = video_only (codes "http://www.webrtc.org/experiments/rtp-hd
 kind_of VideoLayersAllocation = video_only (codes "http://www.webrtc.org/experiments/rtp-hdrext/video-layers-allocation00") (codes "http://www.webrtc.org/experiments/rtp-hdrext/video-layers-allocation00")
 kind_of (UnknownUri uri) = record { uri = uri; name = uri; audio = false; video = false }
 
--- the kinds that are known, each once
-abbrev pub known_kinds : List Extension
-known_kinds =
-    AbsoluteSendTime
-    ∷ AbsoluteCaptureTime
-    ∷ AudioLevel
-    ∷ TransmissionTimeOffset
-    ∷ VideoOrientation
-    ∷ TransportSequenceNumber
-    ∷ PlayoutDelay
-    ∷ VideoContentType
-    ∷ VideoTiming
-    ∷ RtpStreamId
-    ∷ RepairedRtpStreamId
-    ∷ RtpMid
-    ∷ FrameMarking
-    ∷ ColorSpace
-    ∷ VideoLayersAllocation ∷ []
-
 -- a kind that is known by itself, without a text
 abbrev pub IsKnown : Extension → Type 0
 IsKnown (UnknownUri uri) = ⊥

@@ -1,12 +1,13 @@
 //! Values whose layer allocation is in a value of fixed size, and measured already.
 
-ghost use Rattle.std.specs.Prelude.{◌≡◌, ◌≤◌, length, Some};
+ghost use Rattle.std.specs.Prelude.{◌≡◌, ◌≤◌, length, Some, IfSome, IfNone};
 ghost use Rattle.std.specs.Option.{option_map};
 ghost use Rattle.rtp_vla.specs.AllocationWritten.{Writable, written_of};
 ghost use Rattle.rtp_values.specs.declared.kind.Extension.TheVariants as kind;
 ghost use Rattle.rtp_values.specs.Spelling.{HasRoom, spelled_data};
 ghost use Rattle.rtp_values.specs.KindBytes.{WritesData};
 
+use super::video_layers_allocation::MAX_LEN;
 use super::{ElementValues, ExtensionValues};
 use crate::KnownKind;
 use rtp_vla::vla::VideoLayers;
@@ -39,7 +40,22 @@ impl<'a> Model for CarriedLayers<'a> {
 }
 
 impl<'a> CarriedLayers<'a> {
-    /// These values with these layers. It requires layers of which
+    /// These values with these layers; `None` where no element can carry them: they can't be written,
+    /// or take more than 255 bytes.
+    pub fn measure(values: &'a ExtensionValues, layers: &'a VideoLayers) -> Option<Self>
+        ensures found { IfSome result (λ carried.
+            carried ≡ record values.now { video_layers_allocation = Some layers.now }) }
+        ensures none { IfNone result (Writable layers.now
+            → length (written_of layers.now) ≤ 255 → ⊥) }
+    {
+        let len = layers.checked_wire_len()?;
+        if len > MAX_LEN {
+            return None;
+        }
+        Some(CarriedLayers::new(values, layers, len))
+    }
+
+    /// The same where the length is known already. It requires layers of which
     /// [`checked_wire_len`](VideoLayers::checked_wire_len) is this length, and at most 255.
     pub fn new(values: &'a ExtensionValues, layers: &'a VideoLayers, len: usize) -> Self
         requires writable { Writable layers.now }

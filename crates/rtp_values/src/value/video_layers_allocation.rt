@@ -14,7 +14,7 @@ use rtp_vla::vla;
 use std::alloc::AllocError;
 
 // The longest data that an element can have (RFC 8285, 4.3).
-const MAX_LEN: usize = 255;
+pub(super) const MAX_LEN: usize = 255;
 
 pub(super) fn read<V: SetValues>(
     memory: V::Memory,

@@ -1,7 +1,7 @@
 use Rattle.std.proofs.Common.{◌+◌}
 use Rattle.std.proofs.lemmas.List.{take_rest}
 use Rattle.rtp_listing.proofs.LineLemmas.{lines-feed, lines-last}
-use Rattle.rtp_listing.proofs.line.first_line_from.Goals as goal
+use Rattle.rtp_listing.proofs.line.first_line.Goals as goal
 
 pub returns-in-Some-clause-first : goal.returns-in-Some-clause-first
 returns-in-Some-clause-first c =
@@ -11,4 +11,4 @@ returns-in-Some-clause-first c =
     rw (c.without_return.ensures, take_rest text (end + 1)) (lines-feed text end found.0 found.1 found.2)
 
 pub returns-in-None-clause-first : goal.returns-in-None-clause-first
-returns-in-None-clause-first c = lines-last c.args.text.now c.requires.some c.in-None.ensures.none
+returns-in-None-clause-first c = lines-last c.args.text.now c.requires c.in-None.ensures.none

@@ -1,7 +1,7 @@
 use Rattle.std.proofs.Common.{◌≡◌, ℕ, ◌<◌, List, length, drop, get_or, subst, arith, length-drop, ◌∙◌, sym}
 use Rattle.std.proofs.lemmas.List.{take_rest, get_or-drop}
 use Rattle.rtp_listing.proofs.LineLemmas.{none_before}
-use Rattle.rtp_listing.proofs.line.position_from.Goals as goal
+use Rattle.rtp_listing.proofs.line.position_of.Goals as goal
 
 pub returns-in-None-clause-none : goal.returns-in-None-clause-none
 returns-in-None-clause-none c k below =
