@@ -1,5 +1,5 @@
 -- Where a walk over the map that C fills ends.
-use Rattle.std.proofs.Common.{◌≡◌, ℕ, ◌≤◌, ◌<◌, ◌+◌, ◌-◌, List, length, take, drop, get_or, None, arith, refl, sym, ap, ◌∙◌, inl, inr, lt-ltb, le-ltb}
+use Rattle.std.proofs.Common.{◌≡◌, ℕ, ◌≤◌, ◌<◌, ◌+◌, ◌-◌, List, length, take, drop, get_or, None, arith, sym, ap, ◌∙◌, inl, inr, lt-ltb, le-ltb}
 use Rattle.std.specs.Prelude.{if◌then◌else◌, Bool}
 use Rattle.std.proofs.lemmas.Bool.{cases_lt}
 use Rattle.rtp_ext.specs.ExtensionMap.{items_from}

@@ -1,5 +1,5 @@
 -- Rows of layer allocations, and the values once the last of a row was read in place of all.
-use Rattle.std.proofs.Common.{◌≡◌, ◌≢◌, ◌≤◌, ℕ, inl, inr, ◌↔◌, Bool, true, false, not, IsTrue, List, [], ◌∷◌, ◌++◌, length, Option, Some, None, Result, Ok, Err, IsOk, IfOk, All, append-nil, ap, refl, sym, ◌∙◌, subst}
+use Rattle.std.proofs.Common.{◌≡◌, ◌≢◌, ◌≤◌, ℕ, inl, inr, ◌↔◌, Bool, false, not, IsTrue, List, [], ◌∷◌, ◌++◌, length, Option, Some, None, Result, Ok, Err, IsOk, IfOk, All, append-nil, ap, refl, sym, ◌∙◌, subst}
 use Rattle.std.specs.Option.{option_map, option_eq}
 use denote.Enum.Bare.{sameb}
 use Rattle.std.proofs.lemmas.Bool.{false≢true}
@@ -190,12 +190,18 @@ ReadElements-row Shows exts element row bytes old new result mapped no_other is 
     by_answer : (answer : Result (Option (Unit {0})) AllocError) → result ≡ answer → Answer
     by_answer (Err e) was = let contradiction = subst IsOk was ok in cc
     by_answer (Ok (Some read)) was =
-        let next = found was before shows in
-        (next.0, next.1, read_fields next.0 next.2 is,
-        λ kind differs. subst (SameFields kind before) (sym next.3) (SameFields-others VideoLayersAllocation kind before next.0 differs))
-    by_answer (Ok None) was =
-        (before, subst (λ v. Shows v before) (sym (unchanged (λ same. let both = sym was ∙ same in cc))) shows, same_fields was is,
-        λ kind differs. SameFields-refl kind before)
+        let next = found was before shows in (
+          next.0,
+          next.1,
+          read_fields next.0 next.2 is,
+          λ kind differs. subst (SameFields kind before) (sym next.3) (SameFields-others VideoLayersAllocation kind before next.0 differs),
+        )
+    by_answer (Ok None) was = (
+      before,
+      subst (λ v. Shows v before) (sym (unchanged (λ same. let both = sym was ∙ same in cc))) shows,
+      same_fields was is,
+      λ kind differs. SameFields-refl kind before,
+    )
 
 -- ---- how far reading has come
 

@@ -4,18 +4,15 @@ use Rattle.std.specs.Prelude.{nat_lt, map, ◌≤◌, if◌then◌else◌}
 use Rattle.std.specs.Int.{from_bool}
 use Rattle.std.specs.Option.{is_some}
 use Rattle.std.specs.List.{list_any, filter}
-use Rattle.std.proofs.Math.Bool.{or_assoc, or_comm}
 use Rattle.std.proofs.lemmas.List.{length-map, length-set}
-use Rattle.rtp_values.specs.declared.kind.Extension.{Extension}
 use Rattle.rtp_values.specs.declared.known_kind.KnownKind.{KnownKind}
 use Rattle.rtp_values.specs.declared.known_kind.KnownKind.TheVariants as known
-use Rattle.rtp_values.specs.KnownKind.{extension_of_kind}
-use Rattle.rtp_ext.specs.ExtensionMap.{Entry, Slots, IsId, items_from, unlocked}
+use Rattle.rtp_ext.specs.ExtensionMap.{items_from}
 use Rattle.rtp_ext.specs.KindsById.{entry_of_kind, slots_of, is_layers, has_long_data, layers_count}
-use Rattle.rtp_ext.specs.MapSlots.{mapped_ids, inserted}
-use Rattle.rtp_ext.proofs.KindsByIdLemmas.{entry_at-kinds, slots_of-put}
+use Rattle.rtp_ext.specs.MapSlots.{mapped_ids}
+use Rattle.rtp_ext.proofs.KindsByIdLemmas.{entry_at-kinds}
 use Rattle.rtp_ext.proofs.MapLemmas.{entry_at-slot}
-use Rattle.rtp_ext.proofs.MappedIdLemmas.{mapped_ids-set, fewer_ids}
+use Rattle.rtp_ext.proofs.MappedIdLemmas.{fewer_ids}
 
 -- the entries, and what is in step with them
 abbrev pub IsTable : List (Option KnownKind) → List ℕ → ℕ → Type 0

@@ -1,19 +1,17 @@
 -- The list of the mapped ids, where what one id is mapped to changes.
-use Rattle.std.proofs.Common.{◌≡◌, ◌≢◌, ℕ, ◌+◌, ◌-◌, ◌<◌, ◌≤◌, suc, zero, List, [], ◌∷◌, length, map, drop, set, get_or, Bool, Option, Some, None, All, arith, ap, refl, sym, ◌∙◌, subst, length-drop}
+use Rattle.std.proofs.Common.{◌≡◌, ◌≢◌, ℕ, ◌+◌, ◌-◌, ◌<◌, ◌≤◌, suc, zero, List, [], ◌∷◌, length, map, drop, set, get_or, Bool, Option, Some, None, All, arith, ap, refl, sym, ◌∙◌, length-drop}
 use Rattle.std.specs.Option.{is_some}
-use Rattle.std.specs.List.{AllByRecursion, list_any}
 use Rattle.std.proofs.lemmas.Bool.{eq-eqb, ne_eqb}
 use Rattle.std.proofs.lemmas.List.{get_or_default, length-map}
 use Rattle.std.proofs.Math.ListN.{get_or-map}
 use Rattle.rtp_values.specs.declared.kind.Extension.{Extension}
 use Rattle.rtp_values.specs.declared.known_kind.KnownKind.{KnownKind}
 use Rattle.rtp_ext.specs.ExtensionMap.{Entry, Slots, items_from}
-use Rattle.rtp_ext.specs.KindsById.{entry_of_kind, slots_of, is_long_item}
-use Rattle.rtp_ext.specs.MapSlots.{mapped_ids, items_at, without, updated, IsMapped}
+use Rattle.rtp_ext.specs.KindsById.{entry_of_kind, slots_of}
+use Rattle.rtp_ext.specs.MapSlots.{mapped_ids, without, updated}
 use Rattle.rtp_ext.proofs.KindsByIdLemmas.{slots_of-put}
 use Rattle.rtp_ext.proofs.ListingLemmas.{All-head, above_passed}
-use Rattle.rtp_ext.proofs.MappedIdLemmas.{items_at-mapped, all_mapped, mapped_ids-set, mapped_ids-same}
-use Rattle.rtp_ext.proofs.TableLemmas.{IsTable}
+use Rattle.rtp_ext.proofs.MappedIdLemmas.{mapped_ids-set, mapped_ids-same}
 
 abbrev ids_of : List (ℕ × Extension) → List ℕ
 ids_of items = map (λ item. item.0) items

@@ -157,7 +157,7 @@ pub fn values_len_at_most<K: Kinds, V: ElementValues>(
 {
     match form {
         ExtensionsForm::OneByte => 17 * kinds.at_most(start),
-        ExtensionsForm::TwoByte if ev.has_layers() => most_in_two_byte_form(kinds, start),
+        ExtensionsForm::TwoByte if ev.may_have_layers() => most_in_two_byte_form(kinds, start),
         ExtensionsForm::TwoByte => 18 * kinds.at_most(start),
     }
 }

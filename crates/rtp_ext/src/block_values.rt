@@ -78,11 +78,7 @@ fn read_in<K: Kinds, V: SetValues>(
 // follow an allocation of these data, or else these. Those that follow are passed over, so that of a row of
 // allocations one alone takes memory. Data that take none are read by themselves.
 #[inline(always)]
-fn last_in_row<'a, K: Kinds>(
-    kinds: &K,
-    first: &'a [u8],
-    elements: &mut Elements<'a>,
-) -> &'a [u8]
+fn last_in_row<'a, K: Kinds>(kinds: &K, first: &'a [u8], elements: &mut Elements<'a>) -> &'a [u8]
     ensures { EndsRow (K.known kinds.now) first.now elements.old elements.new result.now }
 {
     let mut last = first;

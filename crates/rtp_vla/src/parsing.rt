@@ -86,6 +86,7 @@ fn says_nothing(buf: &[u8]) -> bool
 
 /// Whether the bytes mean an allocation, which [`parse`] and [`VideoLayers::parse`] return then. Nothing
 /// of it is made.
+#[inline(always)]
 pub fn is_allocation(buf: &[u8]) -> bool
     ensures { IsTrue result ↔ ((a : Allocation) × Means buf.now a) }
 {

@@ -29,7 +29,7 @@ pub trait ElementValues {
             length bytes ≤ longest kind) };
 
     /// Whether a layer allocation may be written. `false` only where none is.
-    fn has_layers(&self) -> bool
+    fn may_have_layers(&self) -> bool
         ensures { result ≡ false
             → spelled_data VideoLayersAllocation (values self.now) ≡ None }
     {
@@ -75,7 +75,7 @@ impl ElementValues for ExtensionValues {
     }
 
     #[inline(always)]
-    fn has_layers(&self) -> bool
+    fn may_have_layers(&self) -> bool
         ensures exact { result ≡ is_some self.now.video_layers_allocation }
         ensures none { result ≡ false → spelled_data VideoLayersAllocation self.now ≡ None }
     {

@@ -29,7 +29,7 @@ impl<'a> ElementValues for WithLayers<'a> {
     }
 
     #[inline(always)]
-    fn has_layers(&self) -> bool
+    fn may_have_layers(&self) -> bool
         ensures exact { result ≡ is_some self.now.layers }
         ensures none { result ≡ false
             → spelled_data VideoLayersAllocation (values_with_layers self.now) ≡ None }

@@ -48,7 +48,6 @@ fn fill_word(buf: &mut [u8], at: usize, count: usize) -> usize
 }
 
 // The length of the block that `write_block` writes.
-#[inline(always)]
 pub(super) fn block_len<K: Kinds, V: ElementValues>(
     kinds: &K,
     start: Cursor,

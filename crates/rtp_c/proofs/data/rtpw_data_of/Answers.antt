@@ -34,19 +34,19 @@ kind_asked c =
     IsAskedFor-found c.args.kind c.args.values.now (Some c.in-Some-kind_numbered.kind) c.put_given_values.new.values (c.is_named.ensures.0 c.if-not-is_named.false)
     (sym c.in-Some-kind_numbered.is ∙ c.kind_numbered.ensures) c.in-Some.ensures.found
 
-pub returns-in_default-data_len-clause-none : goal.returns-in_default-data_len-clause-none
-returns-in_default-data_len-clause-none c _ =
-    HasNoData-kind c.args.kind c.args.values.now c.in-Some-kind_numbered.kind c.put_given_values.new.values (kind_asked (goal.at.returns-in_default-data_len-clause-none c).In-Some-kind_numbered)
-    (sym c.in_default-data_len.is ∙ c.data_len.ensures.length)
+pub returns-in_default-len_of-clause-none : goal.returns-in_default-len_of-clause-none
+returns-in_default-len_of-clause-none c _ =
+    HasNoData-kind c.args.kind c.args.values.now c.in-Some-kind_numbered.kind c.put_given_values.new.values (kind_asked (goal.at.returns-in_default-len_of-clause-none c).In-Some-kind_numbered)
+    (sym c.in_default-len_of.is ∙ c.len_of.ensures.length)
 
-pub returns-in_default-data_len-clause-bad_field : goal.returns-in_default-data_len-clause-bad_field
-returns-in_default-data_len-clause-bad_field c =
-    (λ is. absurd (none_is_not is), λ nothing. absurd (nothing (Some c.in-Some-kind_numbered.kind) c.put_given_values.new.values (kind_asked (goal.at.returns-in_default-data_len-clause-bad_field c).In-Some-kind_numbered)))
+pub returns-in_default-len_of-clause-bad_field : goal.returns-in_default-len_of-clause-bad_field
+returns-in_default-len_of-clause-bad_field c =
+    (λ is. absurd (none_is_not is), λ nothing. absurd (nothing (Some c.in-Some-kind_numbered.kind) c.put_given_values.new.values (kind_asked (goal.at.returns-in_default-len_of-clause-bad_field c).In-Some-kind_numbered)))
 
 pub returns-then-buf-data_len-clause-short : goal.returns-then-buf-data_len-clause-short
 returns-then-buf-data_len-clause-short c _ =
     AreTooLongData-short c.args.kind c.args.values.now c.in-Some-kind_numbered.kind c.put_given_values.new.values (kind_asked (goal.at.returns-then-buf-data_len-clause-short c).In-Some-kind_numbered)
-    c.in-Some-data_len.data_len (sym c.in-Some-data_len.is ∙ c.data_len.ensures.length) (length c.args.buf.now) c.if-buf-data_len.true
+    c.in-Some-len_of.data_len (sym c.in-Some-len_of.is ∙ c.len_of.ensures.length) (length c.args.buf.now) c.if-buf-data_len.true
 
 pub returns-then-buf-data_len-clause-bad_field : goal.returns-then-buf-data_len-clause-bad_field
 returns-then-buf-data_len-clause-bad_field c =
@@ -55,7 +55,7 @@ returns-then-buf-data_len-clause-bad_field c =
 pub returns-clause-written : goal.returns-clause-written
 returns-clause-written c _ =
     AreWrittenData-written c.args.kind c.args.values.now c.in-Some-kind_numbered.kind c.put_given_values.new.values (kind_asked (goal.at.returns-clause-written c).In-Some-kind_numbered)
-    c.in-Some-data_len.data_len (sym c.in-Some-data_len.is ∙ c.data_len.ensures.length) c.args.buf.now c.write_to.new.buf
+    c.in-Some-len_of.data_len (sym c.in-Some-len_of.is ∙ c.len_of.ensures.length) c.args.buf.now c.write_to.new.buf
     c.write_to.ensures.read_back c.write_to.ensures.written
 
 pub returns-clause-bad_field : goal.returns-clause-bad_field

@@ -1,4 +1,4 @@
-use Rattle.std.proofs.Common.{◌≡◌, ◌<◌, arith, ap, inl, inr, sym, ◌∙◌, get_or}
+use Rattle.std.proofs.Common.{◌≡◌, arith, ap, inl, inr, ◌∙◌, get_or}
 use Rattle.std.proofs.lemmas.Bool.{cases_lt, or_parts}
 use Rattle.rtp_c.specs.KindNumbers.{kind_numbered}
 use Rattle.rtp_c.proofs.NumberedLemmas.{no_kind_past}

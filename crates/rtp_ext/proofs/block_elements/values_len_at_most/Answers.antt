@@ -18,4 +18,4 @@ returns-in-TwoByte-2-clause-most g c =
     let values = g.V.ElementValues.values c.args.ev.now in
     subst (λ (form : ExtensionsForm). length (elements_bytes form (written_elements exts values)) ≤ 18 * c.at_most-in-TwoByte-2.result) (sym c.in-TwoByte-2.is)
     (plain_block exts (g.K.Kinds.known c.args.kinds.now) values c.at_most-in-TwoByte-2.result (g.met.K.Kinds.known_is c.args.kinds.now) c.requires.few
-    (c.has_layers.ensures c.if-has_layers.false) c.at_most-in-TwoByte-2.ensures.most)
+    (c.may_have_layers.ensures c.if-may_have_layers.false) c.at_most-in-TwoByte-2.ensures.most)

@@ -1,9 +1,7 @@
-use Rattle.std.proofs.Common.{◌∙◌, ◌∷◌, ℕ, List, Option, Some, None, IsSomeAnd, arith, ap, refl, sym, subst}
+use Rattle.std.proofs.Common.{◌∙◌, ◌∷◌, ℕ, List, Option, Some, None, IsSomeAnd, arith, sym, subst}
 use Rattle.std.proofs.lemmas.Bool.{false≢true}
-use Rattle.std.specs.Option.{option_map}
 use Rattle.rtp_values.specs.declared.kind.Extension.TheVariants.{VideoLayersAllocation}
 use Rattle.rtp_values.specs.Values.{no_values, IsWellFormed}
-use Rattle.rtp_values.specs.KnownKind.{extension_of_kind}
 use Rattle.rtp_vla.specs.Allocation.{Allocation, Means}
 use Rattle.rtp_ext.specs.Elements.{Element}
 use Rattle.rtp_ext.specs.LastAllocation.{EndsRow}

@@ -1,4 +1,4 @@
-use Rattle.std.proofs.Common.{arith, [], ◌∷◌, ap, sym, refl, ◌∙◌, subst, List}
+use Rattle.std.proofs.Common.{[], ◌∷◌, ap, sym, refl, ◌∙◌, subst, List}
 use Rattle.std.specs.Option.{option_map}
 use Rattle.rtp_values.specs.KnownKind.{extension_of_kind}
 use Rattle.rtp_ext.specs.Elements.{Element, AreElements}

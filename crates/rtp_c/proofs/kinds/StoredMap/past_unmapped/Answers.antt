@@ -1,4 +1,4 @@
-use Rattle.std.proofs.Common.{◌≡◌, ◌+◌, ◌-◌, ◌<◌, ◌≤◌, ℕ, arith, inl, inr, length, rules, sym, ap, ◌∙◌, get_or, take, drop}
+use Rattle.std.proofs.Common.{◌≡◌, ◌+◌, ◌-◌, arith, inl, inr, length, rules}
 use Rattle.std.proofs.lemmas.Bool.{cases_lt}
 use Rattle.rtp_c.proofs.FewSlotsLemmas.{unmapped_in}
 use Rattle.rtp_c.proofs.kinds.StoredMap.past_unmapped.Goals as goal

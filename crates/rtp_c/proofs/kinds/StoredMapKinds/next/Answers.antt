@@ -1,7 +1,5 @@
-use Rattle.std.proofs.Common.{◌≡◌, sym, ap, ◌∙◌, ◌∷◌, ◌+◌, ◌<◌, ◌≤◌, length, take, drop, ℕ, arith, inl, inr, rules}
-use Rattle.std.proofs.lemmas.Bool.{cases_lt}
-use Rattle.rtp_ext.specs.ExtensionMap.{items_from}
-use Rattle.rtp_c.specs.StoredMap.{numbered_slots, walk_end}
+use Rattle.std.proofs.Common.{◌≡◌, sym, ◌∙◌, length, arith, inl, inr, rules}
+use Rattle.rtp_c.specs.StoredMap.{walk_end}
 use Rattle.rtp_c.proofs.NumberedLemmas.{numbered-pass, numbered-next, numbered-ended}
 use Rattle.rtp_c.proofs.WalkLemmas.{walk_end-low, walk_end-within, walk-over}
 use Rattle.rtp_c.proofs.kinds.StoredMapKinds.next.Goals as goal

@@ -1,4 +1,4 @@
-use Rattle.std.proofs.Common.{arith, refl, sym, ◌∙◌, set, get_or, None}
+use Rattle.std.proofs.Common.{arith, sym, ◌∙◌, set, get_or, None}
 use Rattle.rtp_ext.specs.KindsById.{slots_of}
 use Rattle.rtp_ext.proofs.ExchangedLemmas.{half_length, still_there, half_exchanged_ids, exchanged_ids, exchanged_layers, exchanged_padding, exchanged_length, exchanged_slots}
 use Rattle.rtp_ext.proofs.RisingIdLemmas.{mapped_rise}
@@ -37,18 +37,18 @@ update-requires-2-clause-rising c =
 pub invariant_of-self : goal.invariant_of-self
 invariant_of-self c = (
   exchanged_length c.self.inside.kinds c.self.invariant.0 c.self.invariant.1 c.from.result c.from-2.result c.from-3.result c.from-4.result c.args.from c.args.to
-    c.from.ensures c.from-2.ensures c.from-3.ensures c.from-4.ensures c.requires.ids.0 c.requires.ids.1 c.requires.apart,
+      c.from.ensures c.from-2.ensures c.from-3.ensures c.from-4.ensures c.requires.ids.0 c.requires.ids.1 c.requires.apart,
   exchanged_padding c.self.inside.kinds c.self.invariant.0 c.self.invariant.1 c.from.result c.from-2.result c.from-3.result c.from-4.result c.args.from c.args.to
-    c.from.ensures c.from-2.ensures c.from-3.ensures c.from-4.ensures c.requires.ids.0 c.requires.ids.1 c.requires.apart,
+      c.from.ensures c.from-2.ensures c.from-3.ensures c.from-4.ensures c.requires.ids.0 c.requires.ids.1 c.requires.apart,
   exchanged_ids c.self.inside.kinds c.self.invariant.0 c.self.invariant.1 c.from.result c.from-2.result c.from-3.result c.from-4.result c.args.from c.args.to
-    c.from.ensures c.from-2.ensures c.from-3.ensures c.from-4.ensures c.requires.ids.0 c.requires.ids.1 c.requires.apart
+      c.from.ensures c.from-2.ensures c.from-3.ensures c.from-4.ensures c.requires.ids.0 c.requires.ids.1 c.requires.apart
       c.update.new.self c.update-2.new.self c.is_some-3.result c.is_some-4.result
       (half_exchanged_ids c.self.inside.kinds c.self.invariant.0 c.self.invariant.1 c.from.result c.from-2.result c.from-3.result c.from-4.result c.args.from c.args.to
-    c.from.ensures c.from-2.ensures c.from-3.ensures c.from-4.ensures c.requires.ids.0 c.requires.ids.1 c.requires.apart c.self.inside.mapped c.update.new.self c.is_some.result c.is_some-2.result
-    c.self.invariant.2 c.is_some.ensures c.is_some-2.ensures c.update.ensures)
+      c.from.ensures c.from-2.ensures c.from-3.ensures c.from-4.ensures c.requires.ids.0 c.requires.ids.1 c.requires.apart c.self.inside.mapped c.update.new.self c.is_some.result c.is_some-2.result
+      c.self.invariant.2 c.is_some.ensures c.is_some-2.ensures c.update.ensures)
       c.is_some-3.ensures c.is_some-4.ensures c.update-2.ensures,
   c.self.invariant.3 ∙ sym (exchanged_layers c.self.inside.kinds c.self.invariant.0 c.self.invariant.1 c.from.result c.from-2.result c.from-3.result c.from-4.result c.args.from c.args.to
-    c.from.ensures c.from-2.ensures c.from-3.ensures c.from-4.ensures c.requires.ids.0 c.requires.ids.1 c.requires.apart),
+      c.from.ensures c.from-2.ensures c.from-3.ensures c.from-4.ensures c.requires.ids.0 c.requires.ids.1 c.requires.apart),
 )
 
 pub returns : goal.returns

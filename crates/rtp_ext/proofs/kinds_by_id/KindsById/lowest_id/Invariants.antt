@@ -1,4 +1,4 @@
-use Rattle.std.proofs.Common.{◌-◌, drop, ℕ}
+use Rattle.std.proofs.Common.{◌-◌, drop}
 use Rattle.rtp_values.specs.KnownKind.{extension_of_kind}
 use Rattle.rtp_ext.specs.KindsById.{slots_of}
 use Rattle.rtp_ext.specs.MapSlots.{items_at, mapped_ids}

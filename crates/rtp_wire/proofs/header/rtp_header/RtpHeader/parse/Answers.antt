@@ -34,7 +34,13 @@ read g c =
     (IsHeaderOf-read exts parts _ c.read_values.new.values _ c.put_fields.ensures c.in_ok-read_values.ensures.found)
 
 pub returns-clause-found : goal.returns-clause-found
-returns-clause-found g c = (read g c).wire
+returns-clause-found g c = record {
+  parts = parts_of c.in-Ok-default-true.packet;
+  is_packet = c.in-Ok-default-true.ensures.found;
+  no_other = c.in-Ok-default-true.ensures.header c.in-Ok-default-true.field-0-1-test;
+  is_header = IsHeaderOf-read (g.K.Kinds.slots c.args.exts.now) (parts_of c.in-Ok-default-true.packet) _ c.read_values.new.values _ c.put_fields.ensures
+      c.in_ok-read_values.ensures.found;
+}
 
 pub returns-clause-only : goal.returns-clause-only
 returns-clause-only g c header is = ap Some ((read g c).only header is)
