@@ -115,6 +115,7 @@ impl SetValues for ValuesView {
         self.frame_marking = marking;
     }
 
+    #[inline(always)]
     fn read_layers(&mut self, _memory: (), buf: &[u8]) -> Result<Option<()>, AllocError> {
         if !vla::is_allocation(buf) {
             return Ok(None);

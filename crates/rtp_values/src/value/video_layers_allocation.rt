@@ -16,6 +16,8 @@ use std::alloc::AllocError;
 // The longest data that an element can have (RFC 8285, 4.3).
 pub(super) const MAX_LEN: usize = 255;
 
+// It is inlined, since an allocation of one byte costs less than a call.
+#[inline(always)]
 pub(super) fn read<V: SetValues>(
     memory: V::Memory,
     buf: &[u8],
