@@ -161,6 +161,7 @@ sanitized=(-O1 -g -Wall -Wextra -Wpedantic -Werror -fsanitize=address,undefined 
 echo 'int main(void) { return 0; }' >"$scratch/none.c"
 if cc "${sanitized[@]}" "$scratch/none.c" -o "$scratch/none" 2>/dev/null && "$scratch/none"; then
     bindings/test/sanitized.sh "$scratch/sanitized" "$prefix/include" "$library"
+    bindings/test/examples.sh "$scratch/sanitized"
     said 'the examples in C and C++, under -fsanitize=address,undefined'
 else
     said 'the examples under -fsanitize were left out: there is no such compiler'
