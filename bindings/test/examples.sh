@@ -3,7 +3,7 @@
 # what was worked out by hand. Ends at the first that prints other things.
 #
 # usage: bindings/test/examples.sh FOLDER [EMULATOR]
-#        FOLDER has the programs lines_*, and of forward, receive and sfu_* those that are to be compared.
+#        FOLDER has those of the programs lines_*, receive, forward, sfu_* and ends that are to be compared.
 set -euo pipefail
 folder=$(cd -- "$1" && pwd)
 emulator=("${@:2}")
@@ -44,7 +44,9 @@ compare() {
     done
     [ -z "$("$@" </dev/null)" ] || fail "$*, no line"
 }
-for program in "$folder"/lines_*; do compare "${emulator[@]}" "$program"; done
+for program in "$folder"/lines_*; do
+    [ ! -e "$program" ] || compare "${emulator[@]}" "$program"
+done
 
 if [ -e "$folder/receive" ]; then
     printf '%s\n' '-10 dB, and 2 bytes of payload' 'a replay, or too old' 'no RTP packet' >"$scratch/expected"
@@ -133,3 +135,12 @@ sends_on() {
 for program in "$folder"/sfu_*; do
     [ ! -e "$program" ] || sends_on "$program"
 done
+if [ -e "$folder/ends" ]; then "$folder/ends" >&2 || fail 'the SFU at the ends of its room'; fi
+# Taken twice, with numbers that are higher by 1,000 the second time: twice as much of everything.
+if [ -e "$folder/sfu_c" ]; then
+    bytes=$(awk 'NF == 2 { bytes += length($2) } END { print bytes }' "$scratch/sfu.expected")
+    "$folder/sfu_c" 2 <"$scratch/sfu.lines" | sed 's/receivers, .*/receivers/' >"$scratch/said"
+    printf '%s\n' "16 datagrams, $bytes bytes to receivers" \
+        'taken 8 replays 2 late 2 rtcp 2 unreadable 2 strangers 0 sent 24 unsent 0' | diff - "$scratch/said" >&2 ||
+        fail 'the SFU, twice'
+fi
