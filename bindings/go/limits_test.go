@@ -21,6 +21,8 @@ type stateful interface {
 	NumberOf(uint16) uint64
 	Accepts(uint64) bool
 	Highest() (uint64, bool)
+	ReceivePacket([]byte, *rtpwire.Map, *rtpwire.Packet) (uint64, error)
+	CheckPacket([]byte, *rtpwire.Map, *rtpwire.Packet) (uint64, error)
 }
 
 func record(r stateful, number uint64) {
@@ -60,8 +62,20 @@ func TestWindows(t *testing.T) {
 			number, ok := r.Receive(uint16(highest - below))
 			same(t, "a replay", []any{number, ok, r.Accepts(highest - below)}, []any{uint64(0), false, false})
 		}
+		var packet rtpwire.Packet
+		for below := uint64(2); below < size; below += 15 { // none of them is taken yet
+			datagram := plain(uint16(highest - below))
+			number, err := r.CheckPacket(datagram, nil, &packet)
+			same(t, "checked", []any{number, err}, []any{highest - below, nil})
+			number, err = r.ReceivePacket(datagram, nil, &packet)
+			same(t, "taken", []any{number, err}, []any{highest - below, nil})
+			_, err = r.ReceivePacket(datagram, nil, &packet)
+			same(t, "a replay", []any{err, r.Accepts(highest - below)}, []any{rtpwire.ErrRefused, false})
+			number, err = r.CheckPacket(datagram, nil, &packet)
+			same(t, "a replay", []any{number, err}, []any{highest - below, rtpwire.ErrRefused})
+		}
 		for below := uint64(0); below < size+200; below++ {
-			is := below < size && below%3 != 1 && below != 0
+			is := below < size && below%3 != 1 && below%15 != 2 && below != 0
 			if r.Accepts(highest-below) != is {
 				t.Fatalf("window of %d, %d below: %v", size, below, !is)
 			}
@@ -345,4 +359,31 @@ func TestUnpadded(t *testing.T) {
 			same(t, "kept", []any{err, rest, datagram[0]}, []any{rtpwire.ErrBadField, []byte(nil), row.first})
 		}
 	}
+}
+
+// A datagram may be longer than 65,535 bytes, and so may a buffer.
+func TestLongBuffers(t *testing.T) {
+	// 4 + 65,532 bytes of a block, and 70,000 of payload
+	datagram := append([]byte{0x90, 96, 0, 5, 0, 0, 0, 1, 0, 0, 0, 7, 0xBE, 0xDE, 0x3F, 0xFF}, make([]byte, 65532+70000)...)
+	copy(datagram[65500:], []byte{0x21, 8, 9})
+	packet := parsed(t, datagram, nil)
+	same(t, "lengths", []int{packet.HeaderLen(), len(packet.Payload())}, []int{65548, 70000})
+	element, ok := packet.Element(2)
+	same(t, "element", []any{element, ok}, []any{[]byte{8, 9}, true})
+	places := packet.AppendPlaces(nil)
+	same(t, "places", []any{len(places), places[0].At, packet.Data(places[0])}, []any{1, 65485, []byte{8, 9}})
+	same(t, "set", rtpwire.SetElement(datagram, 2, []byte{6, 7}), nil)
+	buf := make([]byte, 70000)
+	n, err := new(rtpwire.Header).WriteWith(buf, datagram[16:], places)
+	same(t, "written", []any{n, err, buf[16:20]}, []any{20, nil, []byte{0x21, 6, 7, 0}})
+	length := len(datagram)
+	datagram = append(datagram, 0, 0)
+	sent, err := rtpwire.ToRetransmission(datagram, length, 9, 97, 3, new(rtpwire.NewIDs))
+	same(t, "sent again", []any{len(sent), err}, []any{length + 2, nil})
+	short, err := rtpwire.Compact(sent)
+	same(t, "without its block", []any{len(short), err}, []any{16 + 70002, nil})
+	grown, err := rtpwire.PutElement(datagram, len(short), 300-45, make([]byte, 255), rtpwire.AnyForm)
+	same(t, "put", []any{len(grown), err}, []any{16 + 260 + 70002, nil})
+	count, err := rtpwire.Pad(datagram, len(grown), 3, 1)
+	same(t, "padded", []any{count, err, datagram[len(grown)+2]}, []any{3, nil, byte(3)})
 }

@@ -114,6 +114,46 @@ func TestClear(t *testing.T) {
 	same(t, "no level", err, rtpwire.ErrNotFound)
 }
 
+// A value is told as it was set, to the nanosecond and the bit, and in each order.
+func TestValuesAreToldAsTheyWereSet(t *testing.T) {
+	var v rtpwire.Values
+	v.SetPlayoutDelay(1500*time.Microsecond+1, time.Hour)
+	least, most, ok := v.PlayoutDelay()
+	same(t, "delay", []any{least, most, ok}, []any{1500001 * time.Nanosecond, time.Hour, true})
+	v.SetCaptureOffset(7)
+	v.SetCaptureTime(1 << 63)
+	offset, ok := v.CaptureOffset()
+	captured, has := v.CaptureTime()
+	same(t, "capture", []any{offset, ok, captured, has}, []any{int64(7), true, uint64(1 << 63), true})
+	timing := rtpwire.VideoTiming{Flags: 0xFE, EncodeStart: 0x8001, EncodeFinish: 0x8002, PacketizeComplete: 0x8003, LastLeftPacer: 0x8004}
+	v.SetVideoTiming(timing)
+	told, ok := v.VideoTiming()
+	same(t, "timing", []any{told, ok}, []any{timing, true})
+	v.SetAudioLevel(-127, false)
+	level, voice, ok := v.AudioLevel()
+	same(t, "level", []any{level, voice, ok}, []any{int8(-127), false, true})
+	v.SetSendTime(1<<64 - 1)
+	v.SetTransmissionOffset(1<<32 - 1)
+	v.SetFrameMarking(1<<32 - 2)
+	v.SetTransportNumber(65535)
+	v.SetVideoContentType(255)
+	v.SetVideoOrientation(90)
+	sent, _ := v.SendTime()
+	ticks, _ := v.TransmissionOffset()
+	marking, _ := v.FrameMarking()
+	number, _ := v.TransportNumber()
+	content, _ := v.VideoContentType()
+	degrees, _ := v.VideoOrientation()
+	same(t, "numbers", []any{sent, ticks, marking, number, content, degrees},
+		[]any{uint64(1<<64 - 1), uint32(1<<32 - 1), uint32(1<<32 - 2), uint16(65535), uint8(255), uint16(90)})
+	var layer rtpwire.Layer
+	for _, resolution := range []rtpwire.Resolution{{Width: 65535, Height: 1}, {Width: 1, Height: 65535, Framerate: 255}, {}} {
+		layer.SetResolution(resolution)
+		read, ok := layer.Resolution()
+		same(t, "resolution", []any{read, ok}, []any{resolution, true})
+	}
+}
+
 // 0, false and nothing are values, and are read and written as such.
 func TestZerosAreThere(t *testing.T) {
 	m := everyKind(t)
@@ -224,6 +264,10 @@ func TestWhatReceiversLeave(t *testing.T) {
 		{"wide", wideReceiver.ReceivePacket, wideReceiver.CheckPacket, func() any { return wideReceiver.Accepts(number) }, number},
 		{"restarting", judge, nil, func() any { return *restarting }, 0},
 	}
+	// A packet's number is that of its header, whatever else the header has.
+	padded := append([]byte{0xA0}, plain(9)[1:]...)
+	told, _, err := new(rtpwire.RestartingReceiver).ReceivePacket(append(padded, 1), nil, new(rtpwire.Packet))
+	same(t, "with padding", []any{told, err}, []any{uint64(65545), nil})
 	m := everyKind(t)
 	for _, row := range rows {
 		packet := parsed(t, everyValue, m)

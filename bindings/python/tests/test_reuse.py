@@ -25,6 +25,7 @@ from rtp_wire import (
     OtherForm,
     Packet,
     Receiver,
+    Resolution,
     RestartingReceiver,
     RtpError,
     ShortBuffer,
@@ -400,6 +401,127 @@ class Zeros(unittest.TestCase):
         self.assertEqual((empty == {}, bool(empty), dict(Map({4: Kind.MID}))), (True, False, {4: Kind.MID}))
 
 
+class Kept(unittest.TestCase):
+    """What is told has its type, its order and all of its parts."""
+
+    def test_types(self) -> None:
+        packet, header = Packet.parse(bytearray(SAMPLE)), Header.parse(SAMPLE)
+        wide, restarting = WideReceiver(), RestartingReceiver()
+        map = Map({3: Kind.MID})
+        taken = restarting.receive(7)
+        assert taken is not None
+        flags = [packet.marker, packet.has_padding, header.marker, header.has_padding, header.has_extension]
+        flags += [wide.record(9), wide.record(9), wide.accepts(9), Receiver().accepts(9), taken.restarted]
+        flags += [rtp_wire.is_rtcp(b""), rtp_wire.is_rtcp(b"\x80\xC8")]
+        said = Packet.parse(Header(has_extension=True, values=Values(voice_activity=False, audio_level=0)).write(
+            Map({1: Kind.AUDIO_LEVEL})), Map({1: Kind.AUDIO_LEVEL})).values
+        flags += [said.voice_activity or False]
+        self.assertEqual({type(it) for it in flags}, {bool})
+        self.assertIs(said.voice_activity, False)
+        values = Values(mid="a")
+        made = [header.write(map), header.write_with([]), rtp_wire.write_elements([], 1), values.data_of(Kind.MID)]
+        self.assertEqual({type(it) for it in [*made, bytes(packet)]}, {bytes})
+        numbers = [packet.ssrc, packet.timestamp, packet.sequence_number, packet.payload_type, header.ssrc, len(packet)]
+        numbers += [packet.header_len, header.header_len, header.wire_len(map), Receiver().number_of(5), taken.number]
+        numbers += [wide.highest or 0, rtp_wire.extend_u8(5, 6), rtp_wire.read_original(b"\1\2"), packet.remove_padding()]
+        self.assertEqual({type(it) for it in numbers}, {int})
+        self.assertEqual((type(packet.form), type(map[3]), type(Kind.from_uri("urn:x"))), (Form, Kind, Kind))
+        self.assertEqual((type(packet.csrc), type(header.csrc), type(taken)), (tuple, tuple, Taken))
+
+    def test_sources(self) -> None:
+        for sources in ((0,), (0, 5, 0), (0xFFFFFFFF, 1, 0xFFFFFFFF), tuple(range(15)), tuple(range(15, 0, -1))):
+            written = Header(csrc=sources).write(Map())
+            self.assertEqual((Header.parse(written).csrc, Packet.parse(written).csrc), (sources, sources))
+            self.assertEqual(len(Header(csrc=sources).write_with([(1, b"a")])), 12 + 4 * len(sources) + 8)
+            self.assertEqual(Header(csrc=list(sources)).write(Map()), written)  # type: ignore[arg-type]
+
+    def test_without_a_map_there_are_no_values(self) -> None:
+        map = Map.standard()
+        written = Header(has_extension=True, values=Values(mid="a", rid="b")).write(map)
+        self.assertEqual(Header.parse(written, map).values, Values(mid="a", rid="b"))
+        for values in (Header.parse(written).values, Packet.parse(written).values, Header.parse(written, Map()).values):
+            self.assertEqual(values, Values())
+
+    def test_values_that_are_not_written_are_looked_at(self) -> None:
+        for values in (Values(mid="-"), Values(video_orientation=45), Values(playout_delay_min=Time(1, 0))):
+            for header in (Header(values=values), Header(has_extension=True, values=values)):
+                self.assertRaises(BadField, header.write, Map())
+                self.assertRaises(BadField, header.wire_len, Map())
+        self.assertEqual(Header(values=Values(mid="a")).write(Map({1: Kind.MID})), b"\x80" + bytes(11))
+
+    def test_layers(self) -> None:
+        def rated(*kbps: int) -> Layer:
+            return Layer(kbps, None)
+
+        map = Map({5: Kind.LAYERS})
+        rows = [
+            Layers(((rated(0),),), 0),
+            Layers(((rated(0, 9, 0, 3),), (rated(7, 5, 6),)), 1),
+            Layers(((), (rated(5), rated(), rated(1)), (), (rated(2, 1),)), 2),
+            Layers(((rated(), rated(8)), (rated(8),)), 0),
+            Layers(((Layer((5,), Resolution(65535, 1, 0)), Layer((6, 5), Resolution(1, 65535, 255))),), 0),
+            Layers(((rated(4, 3, 2, 1),) * 4,) * 4, 3),
+        ]
+        for layers in rows:
+            written = Header(has_extension=True, values=Values(layers=layers)).write(map)
+            self.assertEqual(Packet.parse(written, map).values.layers, layers)
+            self.assertEqual(Header.parse(written, map).values.layers, layers)
+
+    def test_every_id(self) -> None:
+        map = Map((id, Kind(1 + id % 15)) for id in range(1, 256))
+        ids = NewIds((id, 256 - id) for id in range(1, 256))
+        table: Any
+        for table in (map, ids):
+            self.assertEqual((len(table), list(table), 255 in table), (255, list(range(1, 256)), True))
+        self.assertEqual([map[id] for id in map], [1 + id % 15 for id in range(1, 256)])
+        self.assertEqual([ids[id] for id in ids], list(range(255, 0, -1)))
+        same: Any
+        for same in (Map({4: Kind.MID, 9: Kind.MID, 255: Kind.MID}), NewIds({4: 7, 9: 7, 255: 7})):
+            self.assertEqual((len(same), list(same), len(dict(same))), (3, [4, 9, 255], 3))
+            del same[9]
+            self.assertEqual((len(same), list(same), bool(same)), (2, [4, 255], True))
+            self.assertRaises(KeyError, same.__delitem__, 9)
+
+    def test_a_number_of_each_end(self) -> None:
+        packet = Packet.parse(bytearray(SAMPLE))
+        for ends in ((0, 0, 0, 0), (127, 65535, 0xFFFFFFFF, 0xFFFFFFFF)):
+            packet.set_fields(**dict(zip(("payload_type", "sequence_number", "timestamp", "ssrc"), ends)))  # type: ignore[arg-type]
+            self.assertEqual((packet.payload_type, packet.sequence_number, packet.timestamp, packet.ssrc), ends)
+            header = Header(*ends)
+            self.assertEqual(Header.parse(header.write(Map())), header)
+        for index in (0, 1):
+            packet.set_csrc(index, 0xFFFFFFFF)
+        self.assertEqual(packet.csrc, (0xFFFFFFFF, 0xFFFFFFFF))
+        packet.set_csrc(0, 0)
+        self.assertEqual(packet.csrc, (0, 0xFFFFFFFF))
+        map = Map({1: Kind.VIDEO_TIMING, 2: Kind.ABS_CAPTURE_TIME, 3: Kind.AUDIO_LEVEL, 4: Kind.TRANSPORT_NUMBER})
+        for values in (
+            Values(video_timing=VideoTiming(65535, 65534, 65533, 65532, 255)),
+            Values(capture_time=(1 << 64) - 1, capture_offset=(1 << 63) - 1),
+            Values(capture_time=0, capture_offset=-1 << 63),
+            Values(audio_level=-127, voice_activity=True),
+            Values(audio_level=-1, voice_activity=False),
+            Values(transport_number=65535),
+        ):
+            written = Header(has_extension=True, values=values).write(map)
+            self.assertEqual(Packet.parse(written, map).values, values)
+
+    def test_long_datagrams(self) -> None:
+        # 4 + 65,532 bytes of a block, and 70,000 of payload
+        datagram = bytearray.fromhex("90600005 00000001 00000007 BEDE3FFF") + bytes(65532 + 70000)
+        datagram[65500:65503] = b"\x21\x08\x09"
+        packet = Packet.parse(datagram, Map({2: Kind.TRANSPORT_NUMBER}))
+        self.assertEqual((len(packet), packet.header_len, len(packet.payload)), (135548, 65548, 70000))
+        self.assertEqual((packet.element(2), packet.values.transport_number), (b"\x08\x09", 0x0809))
+        self.assertEqual([(it.id, bytes(it.data)) for it in packet.elements()], [(2, b"\x08\x09")])
+        self.assertEqual(len(Header().write_with(packet.elements())), 20)
+        del packet
+        buf = datagram + bytes(2)
+        self.assertEqual(rtp_wire.to_retransmission(buf, 135548, 9, 97, 3, NewIds()), 135550)
+        self.assertEqual(rtp_wire.compact(buf), 16 + 70002)
+        self.assertEqual(rtp_wire.put_element(buf, 16 + 70002, 45, bytes(255)), 16 + 260 + 70002)
+
+
 class States(unittest.TestCase):
     """Receive states, through windows and copies."""
 
@@ -470,6 +592,18 @@ class States(unittest.TestCase):
             self.assertEqual(made.receive(30000), Taken(196608 + 30000, False))
             self.assertIsNone(made.receive(30000))
         self.assertEqual(receiver.highest, 65545)
+
+    def test_windows_of_restarting_receivers_are_copied(self) -> None:
+        receiver = RestartingReceiver()
+        receiver.receive(1000)
+        for below in range(1, 128, 2):
+            receiver.receive(1000 - below)
+        for made in self.copies(receiver):
+            self.assertEqual(made, receiver)
+            for below in range(128):
+                number = made.receive(1000 - below)
+                self.assertEqual(number, None if below % 2 or below == 0 else Taken(66536 - below, False), below)
+            self.assertNotEqual(made, receiver)
 
     def test_the_number_0_is_taken(self) -> None:
         receiver: Any

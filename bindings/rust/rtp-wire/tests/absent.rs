@@ -436,3 +436,64 @@ fn a_change_that_is_refused_leaves_all() {
     assert_eq!(packet.remove_padding(), Err(NotChanged::BadPadding));
     assert!(packet.as_packet().has_padding() && packet.as_packet().unpadded_payload().is_none());
 }
+
+#[test]
+fn long_buffers_are_not_cut() {
+    // 4 + 65,532 bytes of a block, and 70,000 of payload
+    let mut buf = vec![0; 135_550];
+    buf[..16].copy_from_slice(&[
+        0x90, 96, 0, 5, 0, 0, 0, 1, 0, 0, 0, 7, 0xBE, 0xDE, 0x3F, 0xFF,
+    ]);
+    buf[65_500..65_503].copy_from_slice(&[0x21, 8, 9]);
+    let packet = Packet::parse(&buf[..135_548]).unwrap();
+    assert_eq!(
+        (packet.header_len(), packet.payload().len()),
+        (65_548, 70_000)
+    );
+    assert_eq!(packet.element(2), Some(&[8, 9][..]));
+    assert_eq!(
+        packet.elements().places().next().map(|it| it.data()),
+        Some(65_485..65_487)
+    );
+    assert_eq!(
+        Header::parse(&buf, &Map::new()).unwrap().header_len(),
+        65_548
+    );
+    let sent = to_retransmission(&mut buf, 135_548, 9, 97, 3, &NewIds::new().with(2, 3));
+    assert_eq!(sent, Ok(135_550));
+    let back = from_retransmission(&mut buf, 135_550, 7, 96, &NewIds::new().with(3, 2));
+    assert_eq!(back, Ok(135_548));
+    assert_eq!(compact(&mut buf), Ok(20 + 70_002));
+    assert_eq!(
+        put_element(&mut buf, 70_022, 45, &[7; 255], None),
+        Ok(16 + 264 + 70_002)
+    );
+}
+
+#[test]
+fn a_change_leaves_what_stands_beside_it() {
+    for second in 0..=255 {
+        for has_padding in [false, true] {
+            let mut datagram = SAMPLE;
+            datagram[1] = second;
+            let mut packet = PacketMut::parse(&mut datagram).unwrap();
+            packet.set_padding(has_padding);
+            assert_eq!(packet.as_packet().has_padding(), has_padding);
+            packet.set_marker(has_padding);
+            let packet = packet.as_packet();
+            assert_eq!(
+                (packet.marker(), packet.payload_type()),
+                (has_padding, second & 127)
+            );
+            let shown = format!("{packet:?}");
+            assert!(
+                shown.contains(&format!("payload_type: {}, ", second & 127)),
+                "{shown}"
+            );
+            assert!(
+                shown.ends_with("header_len: 32, payload_len: 5, .. }"),
+                "{shown}"
+            );
+        }
+    }
+}
