@@ -88,6 +88,21 @@ func TestWindows(t *testing.T) {
 		same(t, "in the window that moved on", []any{number, ok}, []any{highest + 1, true})
 		same(t, "behind it", r.Accepts(highest), false)
 	}
+	for _, count := range []uint64{1, 1 << 16, 1 << 31, 1 << 32, 1 << 47, 1<<48 - 1} {
+		r, err := rtpwire.NewReceiver(count)
+		same(t, "made", err, nil)
+		for _, r := range []stateful{r, wide(t, 2, count)} {
+			highest := count<<16 + 0x8000
+			same(t, "number", r.NumberOf(0x8000), highest)
+			record(r, highest)
+			number, ok := r.Highest()
+			same(t, "highest", []any{number, ok, r.NumberOf(0x7FFF)}, []any{highest, true, highest - 1})
+			same(t, "accepted", []bool{r.Accepts(highest - 128), r.Accepts(highest - 127), r.Accepts(highest), r.Accepts(highest + 1),
+				r.Accepts(1<<64 - 1), r.Accepts(0x8000)}, []bool{false, true, false, true, true, false})
+			number, ok = r.Receive(0x8001)
+			same(t, "taken", []any{number, ok}, []any{highest + 1, true})
+		}
+	}
 	// The highest number may be 0.
 	var zero rtpwire.Receiver
 	number, ok := zero.Receive(0)

@@ -146,6 +146,13 @@ func TestValuesAreToldAsTheyWereSet(t *testing.T) {
 	degrees, _ := v.VideoOrientation()
 	same(t, "numbers", []any{sent, ticks, marking, number, content, degrees},
 		[]any{uint64(1<<64 - 1), uint32(1<<32 - 1), uint32(1<<32 - 2), uint16(65535), uint8(255), uint16(90)})
+	for _, degrees := range []uint16{1, 45, 89, 91, 271, 360, 450, 65535} {
+		v.SetVideoOrientation(degrees)
+		told, ok := v.VideoOrientation()
+		same(t, "orientation", []any{told, ok}, []any{degrees, true})
+		_, err := (&rtpwire.Header{Values: v}).WireLen(nil)
+		same(t, "none of the four", err, rtpwire.ErrBadField)
+	}
 	var layer rtpwire.Layer
 	for _, resolution := range []rtpwire.Resolution{{Width: 65535, Height: 1}, {Width: 1, Height: 65535, Framerate: 255}, {}} {
 		layer.SetResolution(resolution)
@@ -331,4 +338,48 @@ func TestNil(t *testing.T) {
 		same(t, "no elements", []any{n, err}, []any{0, nil})
 	}
 	same(t, "a packet of none", bytes.Equal(packet.Datagram(), nil), true)
+}
+
+// Each bit of each number is written and read.
+func TestNoBitIsLost(t *testing.T) {
+	m := everyKind(t)
+	datagram := plain(0)[:12]
+	for bit := 0; bit < 64; bit++ {
+		number := uint64(1) << bit
+		word, half := uint32(1)<<(bit%32), uint16(1)<<(bit%16)
+		var fields rtpwire.Fields
+		fields.SetSSRC(word)
+		fields.SetTimestamp(^word)
+		fields.SetSequenceNumber(half)
+		fields.SetPayloadType(uint8(half) & 127)
+		fields.SetMarker(bit%2 == 0)
+		same(t, "set", fields.Apply(datagram), nil)
+		header := rtpwire.Header{SSRC: word, Timestamp: ^word, SequenceNumber: half, PayloadType: uint8(half) & 127, Marker: bit%2 == 0}
+		same(t, "sources", header.SetCSRC([]uint32{word, ^word}), nil)
+		buf := make([]byte, 200)
+		n, err := header.Write(buf, nil)
+		same(t, "written", []any{n, err, buf[1:12], buf[0]}, []any{20, nil, datagram[1:], byte(0x82)})
+		packet := parsed(t, buf[:n], nil)
+		same(t, "read", []any{packet.SSRC, packet.Timestamp, packet.SequenceNumber, packet.PayloadType, packet.Marker, packet.CSRC()},
+			[]any{word, ^word, half, uint8(half) & 127, bit%2 == 0, []uint32{word, ^word}})
+		ssrc, ok := rtpwire.PeekSSRC(datagram)
+		same(t, "SSRC", []any{ssrc, ok}, []any{word, true})
+
+		header.HasExtension, header.HasPadding = true, bit%3 == 0
+		v := &header.Values
+		v.SetCaptureTime(number)
+		v.SetCaptureOffset(int64(^number))
+		v.SetTransmissionOffset(word)
+		v.SetFrameMarking(^word)
+		v.SetTransportNumber(half)
+		v.SetVideoContentType(uint8(half))
+		v.SetAudioLevel(-int8(half&127), bit%2 == 0)
+		v.SetVideoTiming(rtpwire.VideoTiming{Flags: ^uint8(half), EncodeStart: half, EncodeFinish: ^half,
+			PacketizeComplete: half<<1 | half>>15, LastLeftPacer: half<<2 | half>>14})
+		n, err = header.Write(buf, m)
+		same(t, "written", err, nil)
+		packet = parsed(t, buf[:n], m)
+		same(t, "values", packet.Values, header.Values)
+		same(t, "P", packet.HasPadding, bit%3 == 0)
+	}
 }

@@ -122,10 +122,20 @@ for i in {1..17}; do printf '9021B7980000271000000%03XBEDE000132000000\n' "$i"; 
 printf '9021B7990000271000000001100001FC%04064d\n9021B79A0000271000000001100001FD%04072d\n' 0 0 >>"$scratch/full.lines"
 printf '9021B79B0000271000000001100001FE%04080d\n' 0 >>"$scratch/full.lines"
 echo 'taken 19 replays 0 late 0 rtcp 0 unreadable 0 strangers 1 sent 51 unsent 6' >"$scratch/full.expected"
+# One from before the first has a number too, and shuts out none after it.
+printf '806F%s000000A00000002C\n' 0005 FFFF 0006 >"$scratch/before.lines"
+echo 'taken 3 replays 0 late 0 rtcp 0 unreadable 0 strangers 0 sent 9 unsent 0' >"$scratch/before.expected"
 sends_on() {
     "$@" <"$scratch/sfu.lines" | diff "$scratch/sfu.expected" - >&2 || fail "$*, what is sent on"
     "$@" <"$scratch/window.lines" | grep -v '^[23] ' | diff "$scratch/window.expected" - >&2 || fail "$*, the window"
-    "$@" <"$scratch/full.lines" | tail -n 1 | diff "$scratch/full.expected" - >&2 || fail "$*, without room"
+    for it in full before; do
+        "$@" <"$scratch/$it.lines" | tail -n 1 | diff "$scratch/$it.expected" - >&2 || fail "$*, what is counted, $it"
+    done
+    # 65,536 bytes, of which each receiver gets the payload; and a map line behind a datagram.
+    printf '80000001000000010000002C%0131048d\n' 0 | "$@" | awk '/^[1-3] / { n += length($2) } END { print n }' >"$scratch/said"
+    [ "$(cat "$scratch/said")" -gt $((3 * 131048)) ] || fail "$*, a long line"
+    echo 'line 2: neither a map line nor hex' >"$scratch/later"
+    is_bad later '80\nmap 3 urn:x' "$@"
     for bad in 802 8G "${bad_maps[@]}"; do is_bad first "$bad" "$@"; done
     # All print the same.
     for lines in captures/*.lines bindings/test/by_hand.lines "$scratch/full.lines"; do
@@ -145,4 +155,7 @@ if [ -e "$folder/sfu_c" ]; then
     printf '%s\n' "16 datagrams, $bytes bytes to receivers" \
         'taken 8 replays 2 late 2 rtcp 2 unreadable 2 strangers 0 sent 24 unsent 0' | diff - "$scratch/said" >&2 ||
         fail 'the SFU, twice'
+    printf '806F%s000000A00000002C\n' 0005 0069 000F | "$folder/sfu_c" 2 | tail -n 1 >"$scratch/said"
+    echo 'taken 6 replays 0 late 0 rtcp 0 unreadable 0 strangers 0 sent 18 unsent 0' | diff - "$scratch/said" >&2 ||
+        fail 'the SFU, twice with higher numbers'
 fi

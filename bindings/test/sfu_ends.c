@@ -88,6 +88,27 @@ static int times(void) {
     return 0;
 }
 
+/* What makes a block a two-byte one becomes padding again, whatever ids the sender has. */
+static int spare(void) {
+    static const uint8_t packet[] = {0x90, 0, 0, 5, 0, 0, 0, 1, 0, 0, 0, 0x2C, 0xBE, 0xDE, 0, 1, 0x10, 0x8A, 0, 0};
+    for (int last = 15; last <= 255; last++) {
+        static sfu sfu;
+        sent it = {0};
+        memset(&sfu, 0, sizeof sfu);
+        rtpw_map sender = {{0}};
+        sfu_peer peer = {{{0}}, "", 0, 0};
+        for (int id = last; id <= 255; id++) {
+            sender.kind[id] = RTPW_KIND_AUDIO_LEVEL;
+        }
+        sender.kind[1] = peer.map.kind[20] = RTPW_KIND_AUDIO_LEVEL;
+        CHECK(sfu_add(&sfu, &sender, &peer));
+        sfu_receive(&sfu, packet, sizeof packet, 0, keep, &it);
+        /* Without an id to spare the block has no other way to become a two-byte one: the packet isn't sent. */
+        CHECK(last == 15 || is(&it, "\x10\0\0\2\x14\1\x8A\0\0\0\0\0", 12));
+    }
+    return 0;
+}
+
 static int room(void) {
     static sfu sfu;
     sfu_peer peer = {{{0}}, "0123456789abcdef0123456789ABCDEF", 1000, 0};
@@ -126,5 +147,5 @@ static int room(void) {
 }
 
 int main(void) {
-    return forms() || times() || room();
+    return forms() || times() || spare() || room();
 }

@@ -286,6 +286,14 @@ class Changes(unittest.TestCase):
         packet.has_padding = False
         self.assertEqual(packet.unpadded_payload, packet.payload)
 
+    def test_the_map_is_looked_at_again(self) -> None:
+        map = Map({2: Kind.TRANSPORT_NUMBER})
+        packet = Packet.parse(bytearray(SAMPLE), map)
+        map[1] = Kind.AUDIO_LEVEL
+        self.assertEqual(packet.values, Values(transport_number=0xBBCC))
+        packet.ssrc = 5
+        self.assertEqual((packet.values.audio_level, packet.values.transport_number), (-0x5D, 0xBBCC))
+
     def test_layers_are_read_again(self) -> None:
         # the layer's rate, 5 kbit/s, lies in the sixth byte of the element
         datagram = bytearray.fromhex("90000001 00000002 00000003 BEDE0001 52010005 07")
@@ -384,6 +392,9 @@ class Zeros(unittest.TestCase):
         self.assertEqual((packet.form, packet.body, packet.block_profile), (Form.ONE_BYTE, b"", 0xBEDE))
         self.assertEqual((list(packet.elements()), packet.element(1), packet.values), ([], None, Values()))
         self.assertEqual((packet.header_len, packet.payload, packet.unpadded_payload), (16, b"\7", b"\7"))
+        header = Header.parse(bytes(packet), self.MAP)
+        self.assertEqual((header.has_extension, header.header_len, header.values), (True, 16, Values()))
+        self.assertFalse(Header.parse(b"\x80" + bytes(15)).has_extension)
         buf = bytearray(bytes(packet)[:16] + bytes(4))
         self.assertEqual(rtp_wire.put_element(buf, 16, 7, b""), 20)
         self.assertEqual(buf[12:].hex(), "1000000107000000")
@@ -448,6 +459,13 @@ class Kept(unittest.TestCase):
                 self.assertRaises(BadField, header.write, Map())
                 self.assertRaises(BadField, header.wire_len, Map())
         self.assertEqual(Header(values=Values(mid="a")).write(Map({1: Kind.MID})), b"\x80" + bytes(11))
+        for layers in (Layers((), 1), Layers(((Layer((), Resolution(1, 1, 1)),),), 0)):
+            for header in (Header(), Header(has_extension=True)):
+                header.values.layers = layers
+                self.assertRaises(BadField, header.write, Map())
+                self.assertRaises(BadField, header.write_to, bytearray(20), Map({5: Kind.LAYERS}))
+        header = Header(values=Values(layers=Layers((), 0)))
+        self.assertEqual(header.write(Map({5: Kind.LAYERS})), b"\x80" + bytes(11))
 
     def test_layers(self) -> None:
         def rated(*kbps: int) -> Layer:
@@ -505,6 +523,39 @@ class Kept(unittest.TestCase):
         ):
             written = Header(has_extension=True, values=values).write(map)
             self.assertEqual(Packet.parse(written, map).values, values)
+
+    def test_no_bit_is_lost(self) -> None:
+        map = Zeros.MAP
+        packet = Packet.parse(bytearray(b"\x80" + bytes(11)))
+        for bit in range(64):
+            word, half, byte = 1 << bit % 32, 1 << bit % 16, 1 << bit % 8
+            back, low = word ^ 0xFFFFFFFF, byte & 127
+            packet.set_fields(ssrc=word, timestamp=back, sequence_number=half, payload_type=low, marker=bit % 2 == 0)
+            header = Header(low, half, back, word, marker=bit % 2 == 0)
+            self.assertEqual((header.write(Map()), Header.parse(bytes(packet))), (bytes(packet), header))
+            read = (packet.ssrc, packet.timestamp, packet.sequence_number, packet.payload_type, packet.marker)
+            self.assertEqual(read, (word, back, half, low, bit % 2 == 0))
+            packet.ssrc, packet.timestamp, packet.sequence_number = back, word, half ^ 0xFFFF
+            packet.payload_type, packet.marker = low ^ 127, bit % 2 != 0
+            read = (packet.ssrc, packet.timestamp, packet.sequence_number, packet.payload_type, packet.marker)
+            self.assertEqual(read, (back, word, half ^ 0xFFFF, low ^ 127, bit % 2 != 0))
+            header = Header(csrc=(word, back), has_extension=True, has_padding=bit % 3 == 0)
+            header.values = Values(
+                capture_time=1 << bit,
+                capture_offset=(1 << bit) - (1 << 63),
+                transmission_offset=word,
+                frame_marking=back,
+                transport_number=half,
+                video_content_type=byte,
+                audio_level=-low,
+                voice_activity=bit % 2 == 0,
+                video_timing=VideoTiming(half, half ^ 0xFFFF, half >> 1, half >> 2, byte),
+                playout_delay_min=Time(1 << bit % 12, 100),
+                playout_delay_max=Time(4095 - bit, 100),
+            )
+            written = header.write(map)
+            self.assertEqual(Header.parse(written, map), header)
+            self.assertEqual((Packet.parse(written, map).values, Packet.parse(written).csrc), (header.values, header.csrc))
 
     def test_long_datagrams(self) -> None:
         # 4 + 65,532 bytes of a block, and 70,000 of payload
@@ -629,7 +680,26 @@ class States(unittest.TestCase):
             other.receive(low)
             self.assertNotEqual(other, wide)
         self.assertEqual(repr(Receiver(3)), "Receiver(rollover_count=3)")
+        self.assertEqual(repr(Receiver((1 << 48) - 1)), "Receiver(rollover_count=281474976710655)")
+        self.assertEqual(repr(WideReceiver(9, 1 << 47)), "WideReceiver(words=9, rollover_count=140737488355328)")
         self.assertEqual(repr(WideReceiver()), "WideReceiver(words=16, rollover_count=1)")
+
+    def test_numbers_up_to_64_bits(self) -> None:
+        receiver: Any
+        for count in (1, 1 << 16, 1 << 31, 1 << 32, 1 << 47, (1 << 48) - 1):
+            for receiver in (Receiver(count), WideReceiver(2, count)):
+                highest = (count << 16) + 0x8000
+                self.assertEqual(receiver.number_of(0x8000), highest)
+                receiver.record(highest)
+                self.assertEqual((receiver.highest, receiver.number_of(0x7FFF)), (highest, highest - 1))
+                accepted = [receiver.accepts(highest + it) for it in (-128, -127, 0, 1, 0x7FFF)]
+                self.assertEqual(accepted, [False, True, False, True, True])
+                self.assertTrue(receiver.accepts((1 << 64) - 1))
+                self.assertFalse(receiver.accepts(highest & 0xFFFF))
+                self.assertEqual(receiver.receive(0x8001), highest + 1)
+        taken = [RestartingReceiver(it) for it in (65535, 32767)]
+        self.assertEqual([it.receive(0) for it in taken], [Taken(65536, False)] * 2)
+        self.assertEqual([it.receive(32767) for it in taken], [Taken(98303, False), None])
 
     def test_numbers_past_32_bits(self) -> None:
         self.assertEqual((rtp_wire.extend_u8(FAR + 255, 0), rtp_wire.extend_u8(FAR, 255)), (FAR + 256, FAR - 1))

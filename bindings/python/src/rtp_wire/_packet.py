@@ -78,8 +78,8 @@ class Packet:
 
     @classmethod
     def parse(cls, datagram: Buffer, map: Optional[Map] = None) -> Packet:
-        """Reads the packet that the datagram is, and what its elements say under the map. NotAPacket, with the first
-        cause for which it is none."""
+        """Reads the packet that the datagram is, and what its elements say under the map, which is looked at again
+        when the packet is changed. NotAPacket, with the first cause for which it is none."""
         packet = cls.__new__(cls)
         packet._map = map
         packet._data, at = place_of(datagram)

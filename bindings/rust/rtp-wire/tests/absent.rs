@@ -450,6 +450,7 @@ fn long_buffers_are_not_cut() {
         (packet.header_len(), packet.payload().len()),
         (65_548, 70_000)
     );
+    assert_eq!(packet.unpadded_payload().map(<[u8]>::len), Some(70_000));
     assert_eq!(packet.element(2), Some(&[8, 9][..]));
     assert_eq!(
         packet.elements().places().next().map(|it| it.data()),
@@ -495,5 +496,87 @@ fn a_change_leaves_what_stands_beside_it() {
                 "{shown}"
             );
         }
+    }
+}
+
+/// Each bit of each number is written and read.
+#[test]
+fn no_bit_is_lost() {
+    let mut packet = [&[0x80][..], &[0; 11]].concat();
+    for bit in 0..32 {
+        let number = 1_u32 << bit;
+        let mut fields = Fields::default();
+        fields.ssrc = Some(number);
+        fields.timestamp = Some(!number);
+        fields.sequence_number = Some(number as u16);
+        fields.payload_type = Some(number as u8 & 127);
+        fields.marker = Some(bit % 2 == 0);
+        let mut changed = PacketMut::parse(&mut packet).unwrap();
+        assert_eq!(changed.set_fields(&fields), Ok(()));
+        let mut header = Header::default();
+        header.ssrc = number;
+        header.timestamp = !number;
+        header.sequence_number = number as u16;
+        header.payload_type = number as u8 & 127;
+        header.marker = bit % 2 == 0;
+        let mut buf = [0; 12];
+        assert_eq!(header.write_to(&mut buf, &Map::new()), Ok(12));
+        assert_eq!(buf, packet[..]);
+        let read = Packet::parse(&buf).unwrap();
+        assert_eq!((read.ssrc(), read.timestamp()), (number, !number));
+        assert_eq!(read.sequence_number(), number as u16);
+        let header = Header::parse(&buf, &Map::new()).unwrap();
+        assert_eq!((header.ssrc, header.timestamp), (number, !number));
+        for part in 0..4 {
+            let mut one = PacketMut::parse(&mut packet).unwrap();
+            match part {
+                0 => one.set_ssrc(!number),
+                1 => one.set_timestamp(number),
+                2 => one.set_sequence_number(!(number as u16)),
+                _ => one.set_marker(bit % 2 != 0),
+            }
+        }
+        let read = Packet::parse(&packet).unwrap();
+        assert_eq!((read.ssrc(), read.timestamp()), (!number, number));
+        assert_eq!(read.sequence_number(), !(number as u16));
+        assert_eq!(
+            (read.marker(), read.payload_type()),
+            (bit % 2 != 0, number as u8 & 127)
+        );
+    }
+    for bit in 0..64 {
+        let (word, half, number) = (
+            1_u32.wrapping_shl(bit),
+            1_u16.wrapping_shl(bit),
+            1_u64 << bit,
+        );
+        let mut values = Values::default();
+        values.capture_time = Some(number);
+        values.capture_offset = Some(!number as i64);
+        values.transmission_offset = Some(word);
+        values.frame_marking = Some(!word);
+        values.transport_number = Some(half);
+        values.video_content_type = Some(half as u8);
+        values.audio_level = Some(-(number as i8 & 127));
+        values.voice_activity = Some(bit % 2 == 0);
+        values.video_timing = Some(VideoTiming {
+            flags: !(half as u8),
+            encode_start: half,
+            encode_finish: half.rotate_left(1),
+            packetize_complete: half.rotate_left(2),
+            last_left_pacer: half.rotate_left(3),
+        });
+        let mut header = Header::default();
+        header.has_extension = true;
+        header.values = values;
+        let mut buf = [0; 100];
+        let len = header.write_to(&mut buf, &every_kind()).unwrap();
+        let read = Header::parse(&buf[..len], &every_kind()).unwrap().values;
+        assert_eq!(read, values, "{bit}");
+        assert_eq!(
+            Packet::parse(&buf[..len]).unwrap().values(&every_kind()),
+            values,
+            "{bit}"
+        );
     }
 }
