@@ -110,6 +110,10 @@ func TestPutElement(t *testing.T) {
 	put("in the two-byte form", 15, []byte{4}, rtpwire.AnyForm, 45, nil)
 	_, err := rtpwire.PutElement(buf[:48], 45, 16, []byte{4, 5, 6}, rtpwire.AnyForm)
 	same(t, "no room", err, error(rtpwire.ErrShortBuffer))
+	for _, data := range [][]byte{make([]byte, 256), make([]byte, 300), make([]byte, 65537)} {
+		_, err := rtpwire.PutElement(make([]byte, 70000), 12, 1, data, rtpwire.AnyForm)
+		same(t, "more than 255 bytes", err, error(rtpwire.ErrBadField))
+	}
 	for _, length := range []int{-1, 65} {
 		_, err := rtpwire.PutElement(buf, length, 1, nil, rtpwire.AnyForm)
 		same(t, "no length", err, error(rtpwire.ErrBadField))

@@ -348,6 +348,11 @@ func TestNoBitIsLost(t *testing.T) {
 		number := uint64(1) << bit
 		word, half := uint32(1)<<(bit%32), uint16(1)<<(bit%16)
 		var fields rtpwire.Fields
+		fields.SetSSRC(^word) // which is set again
+		fields.SetTimestamp(word)
+		fields.SetSequenceNumber(^half)
+		fields.SetPayloadType(200)
+		fields.SetMarker(bit%2 != 0)
 		fields.SetSSRC(word)
 		fields.SetTimestamp(^word)
 		fields.SetSequenceNumber(half)

@@ -73,6 +73,12 @@ func TestDataOfTheBufferItself(t *testing.T) {
 			grown, err := rtpwire.PutElement(buf, 37, id, data, rtpwire.AnyForm)
 			return len(grown), err
 		}, at, end)
+		// The packet fills the buffer then, over data that end where that does.
+		full := append(sample(), byte(i), byte(i>>8), 3, 4)
+		both("put up to the end", full, func(buf, data []byte) (int, error) {
+			grown, err := rtpwire.PutElement(buf, 37, 3, data[:3], rtpwire.AnyForm)
+			return len(grown), err
+		}, 38-i%8, 41)
 		long, from := long(random), random.Intn(24)
 		both("set", long, func(buf, data []byte) (int, error) {
 			return 0, rtpwire.SetElement(buf, 7, data)

@@ -371,6 +371,14 @@ class Zeros(unittest.TestCase):
         for kind in self.MAP.values():
             self.assertEqual(set(self.ALL.data_of(kind)) | {0}, {0})
 
+    def test_padding_of_no_bytes(self) -> None:
+        fixed = bytes.fromhex("A0000001 00000002 00000003")
+        for payload in (b"", b"\0", b"\7\0"):
+            packet = Packet.parse(bytearray(fixed + payload))
+            self.assertEqual((packet.has_padding, packet.unpadded_payload), (True, payload))
+            self.assertTrue(Header.parse(fixed + payload).has_padding)
+            self.assertEqual((packet.remove_padding(), packet.has_padding), (12 + len(payload), False))
+
     def test_half_of_two_values(self) -> None:
         for half in (
             Values(audio_level=0),
@@ -395,6 +403,11 @@ class Zeros(unittest.TestCase):
         header = Header.parse(bytes(packet), self.MAP)
         self.assertEqual((header.has_extension, header.header_len, header.values), (True, 16, Values()))
         self.assertFalse(Header.parse(b"\x80" + bytes(15)).has_extension)
+        # and elements of many bytes
+        long = Packet.parse(bytearray(Header().write_with([(1, bytes(255)), (2, bytes(17))])))
+        long.set_element(1, bytes(range(255)))
+        long.set_element(2, bytes(range(17)))
+        self.assertEqual((long.element(1), long.element(2)), (bytes(range(255)), bytes(range(17))))
         buf = bytearray(bytes(packet)[:16] + bytes(4))
         self.assertEqual(rtp_wire.put_element(buf, 16, 7, b""), 20)
         self.assertEqual(buf[12:].hex(), "1000000107000000")
@@ -558,17 +571,18 @@ class Kept(unittest.TestCase):
             self.assertEqual((Packet.parse(written, map).values, Packet.parse(written).csrc), (header.values, header.csrc))
 
     def test_long_datagrams(self) -> None:
-        # 4 + 65,532 bytes of a block, and 70,000 of payload
-        datagram = bytearray.fromhex("90600005 00000001 00000007 BEDE3FFF") + bytes(65532 + 70000)
-        datagram[65500:65503] = b"\x21\x08\x09"
+        # 4 + 65,540 bytes of a block, and 70,000 of payload
+        datagram = bytearray.fromhex("90600005 00000001 00000007 BEDE4001") + bytes(65540 + 70000)
+        datagram[65552:65555] = b"\x21\x08\x09"
         packet = Packet.parse(datagram, Map({2: Kind.TRANSPORT_NUMBER}))
-        self.assertEqual((len(packet), packet.header_len, len(packet.payload)), (135548, 65548, 70000))
+        self.assertEqual((len(packet), packet.header_len, len(packet.payload)), (135556, 65556, 70000))
         self.assertEqual((packet.element(2), packet.values.transport_number), (b"\x08\x09", 0x0809))
         self.assertEqual([(it.id, bytes(it.data)) for it in packet.elements()], [(2, b"\x08\x09")])
         self.assertEqual(len(Header().write_with(packet.elements())), 20)
         del packet
         buf = datagram + bytes(2)
-        self.assertEqual(rtp_wire.to_retransmission(buf, 135548, 9, 97, 3, NewIds()), 135550)
+        self.assertEqual(rtp_wire.to_retransmission(buf, 135556, 9, 97, 0xFFFE, NewIds()), 135558)
+        self.assertEqual(buf[2:4], b"\xFF\xFE")
         self.assertEqual(rtp_wire.compact(buf), 16 + 70002)
         self.assertEqual(rtp_wire.put_element(buf, 16 + 70002, 45, bytes(255)), 16 + 260 + 70002)
 
@@ -746,6 +760,12 @@ class Errors(unittest.TestCase):
             self.assertIsInstance(error, ValueError)
             self.assertEqual(isinstance(error, LookupError), kind is NoElement)
             self.assertEqual((error.__cause__, hasattr(error, "cause")), (None, kind is NotAPacket))
+            self.assertIs(type(error.status), rtp_wire.Status)
+        for number in (0xFFFE, 0x8001):
+            self.assertEqual(rtp_wire.read_original(number.to_bytes(2, "big")), number)
+        # Elements are written whatever the values are.
+        header = Header(values=Values(mid="a" * 17, send_time=-1))
+        self.assertEqual(header.write_with([(1, b"a")])[12:], bytes.fromhex("BEDE0001 10610000"))
 
 
 if __name__ == "__main__":

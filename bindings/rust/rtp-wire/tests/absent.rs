@@ -97,7 +97,9 @@ fn fields_of_zero_are_set() {
     let none = Fields::default();
     let header = |places: &[(usize, u8)]| {
         let mut bytes = SAMPLE[..12].to_vec();
-        places.iter().for_each(|(at, byte)| bytes[*at] = *byte);
+        for (at, byte) in places {
+            bytes[*at] = *byte;
+        }
         bytes
     };
     assert_eq!(set(none), header(&[]));
@@ -439,31 +441,26 @@ fn a_change_that_is_refused_leaves_all() {
 
 #[test]
 fn long_buffers_are_not_cut() {
-    // 4 + 65,532 bytes of a block, and 70,000 of payload
-    let mut buf = vec![0; 135_550];
-    buf[..16].copy_from_slice(&[
-        0x90, 96, 0, 5, 0, 0, 0, 1, 0, 0, 0, 7, 0xBE, 0xDE, 0x3F, 0xFF,
-    ]);
-    buf[65_500..65_503].copy_from_slice(&[0x21, 8, 9]);
-    let packet = Packet::parse(&buf[..135_548]).unwrap();
-    assert_eq!(
-        (packet.header_len(), packet.payload().len()),
-        (65_548, 70_000)
-    );
+    // 4 + 65,540 bytes of a block, and 70,000 of payload
+    let mut buf = vec![0; 135_558];
+    buf[..16].copy_from_slice(&[0x90, 96, 0, 5, 0, 0, 0, 1, 0, 0, 0, 7, 0xBE, 0xDE, 0x40, 1]);
+    buf[65_552..65_555].copy_from_slice(&[0x61, 8, 9]);
+    let packet = Packet::parse(&buf[..135_556]).unwrap();
+    let lens = (packet.header_len(), packet.payload().len());
+    assert_eq!(lens, (65_556, 70_000));
     assert_eq!(packet.unpadded_payload().map(<[u8]>::len), Some(70_000));
-    assert_eq!(packet.element(2), Some(&[8, 9][..]));
-    assert_eq!(
-        packet.elements().places().next().map(|it| it.data()),
-        Some(65_485..65_487)
-    );
-    assert_eq!(
-        Header::parse(&buf, &Map::new()).unwrap().header_len(),
-        65_548
-    );
-    let sent = to_retransmission(&mut buf, 135_548, 9, 97, 3, &NewIds::new().with(2, 3));
-    assert_eq!(sent, Ok(135_550));
-    let back = from_retransmission(&mut buf, 135_550, 7, 96, &NewIds::new().with(3, 2));
-    assert_eq!(back, Ok(135_548));
+    assert_eq!(packet.element(6), Some(&[8, 9][..]));
+    let mut places = packet.elements().places();
+    assert_eq!(places.next().map(|it| it.data()), Some(65_537..65_539));
+    assert_eq!(packet.values(&every_kind()).transport_number, Some(0x0809));
+    let header = Header::parse(&buf, &every_kind()).unwrap();
+    assert_eq!(header.header_len(), 65_556);
+    assert_eq!(header.values.transport_number, Some(0x0809));
+    let ids = NewIds::new().with(6, 3);
+    let sent = to_retransmission(&mut buf, 135_556, 9, 97, 0xFFFE, &ids);
+    assert_eq!((sent, &buf[2..4]), (Ok(135_558), &[0xFF, 0xFE][..]));
+    let back = from_retransmission(&mut buf, 135_558, 7, 96, &NewIds::new().with(3, 2));
+    assert_eq!(back, Ok(135_556));
     assert_eq!(compact(&mut buf), Ok(20 + 70_002));
     assert_eq!(
         put_element(&mut buf, 70_022, 45, &[7; 255], None),
@@ -505,12 +502,13 @@ fn no_bit_is_lost() {
     let mut packet = [&[0x80][..], &[0; 11]].concat();
     for bit in 0..32 {
         let number = 1_u32 << bit;
-        let mut fields = Fields::default();
-        fields.ssrc = Some(number);
-        fields.timestamp = Some(!number);
-        fields.sequence_number = Some(number as u16);
-        fields.payload_type = Some(number as u8 & 127);
-        fields.marker = Some(bit % 2 == 0);
+        let fields = Fields {
+            ssrc: Some(number),
+            timestamp: Some(!number),
+            sequence_number: Some(number as u16),
+            payload_type: Some(number as u8 & 127),
+            marker: Some(bit % 2 == 0),
+        };
         let mut changed = PacketMut::parse(&mut packet).unwrap();
         assert_eq!(changed.set_fields(&fields), Ok(()));
         let mut header = Header::default();
@@ -552,12 +550,12 @@ fn no_bit_is_lost() {
         );
         let mut values = Values::default();
         values.capture_time = Some(number);
-        values.capture_offset = Some(!number as i64);
+        values.capture_offset = Some(i64::from_ne_bytes((!number).to_ne_bytes()));
         values.transmission_offset = Some(word);
         values.frame_marking = Some(!word);
         values.transport_number = Some(half);
         values.video_content_type = Some(half as u8);
-        values.audio_level = Some(-(number as i8 & 127));
+        values.audio_level = Some(-i8::try_from(number & 127).unwrap());
         values.voice_activity = Some(bit % 2 == 0);
         values.video_timing = Some(VideoTiming {
             flags: !(half as u8),
