@@ -132,7 +132,8 @@ sends_on() {
         "$@" <"$scratch/$it.lines" | tail -n 1 | diff "$scratch/$it.expected" - >&2 || fail "$*, what is counted, $it"
     done
     # 65,536 bytes, of which each receiver gets the payload; and a map line behind a datagram.
-    printf '80000001000000010000002C%0131048d\n' 0 | "$@" | awk '/^[1-3] / { n += length($2) } END { print n }' >"$scratch/said"
+    printf '80000001000000010000002C%0131048d\n' 0 | "$@" |
+        awk '/^[1-3] / { n += length($2) } END { print n }' >"$scratch/said"
     [ "$(cat "$scratch/said")" -gt $((3 * 131048)) ] || fail "$*, a long line"
     echo 'line 2: neither a map line nor hex' >"$scratch/later"
     is_bad later '80\nmap 3 urn:x' "$@"

@@ -18,8 +18,11 @@ LINES = [*CAPTURES.glob("*.lines"), *(HERE.parent / "test").glob("by_hand.lines"
 
 
 # No map lines: of an id that none has or that no one to three digits spell, without a URI, or with other spaces.
-BAD_MAPS = b"""map 0 urn:x,map 256 urn:x,map +3 urn:x,map -3 urn:x,map 0003 urn:x,map 1234 urn:x,map 3a urn:x,map 3,map 3 ,map,
-map  3 urn:x,map\t3 urn:x,map 3\turn:x, map 3 urn:x,mop 3 urn:x,map \xC2\xB2 urn:x""".replace(b"\n", b"").split(b",")
+BAD_MAPS = [
+    *(b"map 0 urn:x", b"map 256 urn:x", b"map +3 urn:x", b"map -3 urn:x", b"map 0003 urn:x", b"map 1234 urn:x"),
+    *(b"map 3a urn:x", b"map 3", b"map 3 ", b"map", b"map ", b"map  3 urn:x", b"map\t3 urn:x", b"map 3\turn:x"),
+    *(b" map 3 urn:x", b"mop 3 urn:x", b"map \xC2\xB2 urn:x"),
+]
 
 
 @unittest.skipUnless(LINES, "there are no captures here")

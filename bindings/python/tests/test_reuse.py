@@ -437,8 +437,9 @@ class Kept(unittest.TestCase):
         flags = [packet.marker, packet.has_padding, header.marker, header.has_padding, header.has_extension]
         flags += [wide.record(9), wide.record(9), wide.accepts(9), Receiver().accepts(9), taken.restarted]
         flags += [rtp_wire.is_rtcp(b""), rtp_wire.is_rtcp(b"\x80\xC8")]
-        said = Packet.parse(Header(has_extension=True, values=Values(voice_activity=False, audio_level=0)).write(
-            Map({1: Kind.AUDIO_LEVEL})), Map({1: Kind.AUDIO_LEVEL})).values
+        levels = Map({1: Kind.AUDIO_LEVEL})
+        silent = Header(has_extension=True, values=Values(voice_activity=False, audio_level=0))
+        said = Packet.parse(silent.write(levels), levels).values
         flags += [said.voice_activity or False]
         self.assertEqual({type(it) for it in flags}, {bool})
         self.assertIs(said.voice_activity, False)
@@ -447,7 +448,8 @@ class Kept(unittest.TestCase):
         self.assertEqual({type(it) for it in [*made, bytes(packet)]}, {bytes})
         numbers = [packet.ssrc, packet.timestamp, packet.sequence_number, packet.payload_type, header.ssrc, len(packet)]
         numbers += [packet.header_len, header.header_len, header.wire_len(map), Receiver().number_of(5), taken.number]
-        numbers += [wide.highest or 0, rtp_wire.extend_u8(5, 6), rtp_wire.read_original(b"\1\2"), packet.remove_padding()]
+        numbers += [wide.highest or 0, rtp_wire.extend_u8(5, 6), rtp_wire.read_original(b"\1\2")]
+        numbers += [packet.remove_padding()]
         self.assertEqual({type(it) for it in numbers}, {int})
         self.assertEqual((type(packet.form), type(map[3]), type(Kind.from_uri("urn:x"))), (Form, Kind, Kind))
         self.assertEqual((type(packet.csrc), type(header.csrc), type(taken)), (tuple, tuple, Taken))
@@ -516,7 +518,8 @@ class Kept(unittest.TestCase):
     def test_a_number_of_each_end(self) -> None:
         packet = Packet.parse(bytearray(SAMPLE))
         for ends in ((0, 0, 0, 0), (127, 65535, 0xFFFFFFFF, 0xFFFFFFFF)):
-            packet.set_fields(**dict(zip(("payload_type", "sequence_number", "timestamp", "ssrc"), ends)))  # type: ignore[arg-type]
+            payload_type, number, timestamp, ssrc = ends
+            packet.set_fields(payload_type=payload_type, sequence_number=number, timestamp=timestamp, ssrc=ssrc)
             self.assertEqual((packet.payload_type, packet.sequence_number, packet.timestamp, packet.ssrc), ends)
             header = Header(*ends)
             self.assertEqual(Header.parse(header.write(Map())), header)
@@ -568,7 +571,8 @@ class Kept(unittest.TestCase):
             )
             written = header.write(map)
             self.assertEqual(Header.parse(written, map), header)
-            self.assertEqual((Packet.parse(written, map).values, Packet.parse(written).csrc), (header.values, header.csrc))
+            again = Packet.parse(written, map)
+            self.assertEqual((again.values, again.csrc), (header.values, header.csrc))
 
     def test_long_datagrams(self) -> None:
         # 4 + 65,540 bytes of a block, and 70,000 of payload
