@@ -144,103 +144,28 @@ if has go; then
 else
     said 'Go was left out: there is no go'
 fi
-compare() {
-    # by_hand.lines has what no capture has: padding, sources, no extension, a replay, a rollover, no packet, zeros
-    # as values, an empty text, a URI without a kind, CR LF.
-    for lines in captures/*.lines bindings/test/by_hand.lines; do
-        "$@" <"$lines" | cmp - "${lines%.lines}.expected" >&2 || fail "$*, $lines"
-    done
-    # 65,536 bytes
-    echo 'packet 1: pt 0 seq 1 ts 1 ssrc 44 marker no padding no extension no csrc 0 header 12' >"$scratch/long"
-    echo 'verdict 1: taken 1' >>"$scratch/long"
-    printf '80000001000000010000002C%0131048d\n' 0 | "$@" | cmp - "$scratch/long" >&2 || fail "$*, a long line"
-    printf 'packet 1: unreadable\nverdict 1: unreadable\nline 2: neither a map line nor hex\n' >"$scratch/second"
-    echo 'line 1: neither a map line nor hex' >"$scratch/first"
-    for bad in 802 8G 'map 0 urn:x' 'map 256 urn:x' 'map 300 urn:x' 'map 3' 'map 3 ' 'mop 3 urn:x'; do is_bad first "$bad" "$@"; done
-    for bad in 802 8G 'map 3 urn:x'; do is_bad second "80\n$bad" "$@"; done
-}
-is_bad() { # what is printed, the lines, the program
-    local status=0
-    printf '%b\n' "$2" | "${@:3}" >"$scratch/said" || status=$?
-    [ $status -eq 2 ] && cmp "$scratch/said" "$scratch/$1" >&2 || fail "${*:3}, the bad line $2"
-}
-for program in "$scratch"/lines_*; do compare "$program"; done
-said "the examples in $languages (in C static, shared and all static) against captures/*.expected"
-
-# SSRC 44 -> 77; 47,000 - 46,000 = 1,000; at 5 s the send time is 5 * 2^18 = 0x140000, and 40 ms later
-# 1,321,205 = 0x1428F5; its id 4 becomes 2, and the mid (id 3) becomes padding. The second packet says no send
-# time, and the third line is no packet.
-cc -std=c99 "${strict[@]}" "${include[@]}" bindings/examples/forward.c "$library" -o "$scratch/forward"
-printf '%s\n' 9021B798000027100000002CBEDE000242AABBCC303100000102 9021B799000027110000002CBEDE0001303100000304 80 \
-    9021B79A000027110000002CBEDE000142AABBCC05 | "$scratch/forward" 77 -46000 5 >"$scratch/forwarded"
-printf '%s\n' 902103E8000027100000004DBEDE000222140000000000000102 902103E9000027110000004DBEDE0001000000000304 \
-    902103EA000027110000004DBEDE0001221428F505 >"$scratch/expected"
-diff "$scratch/expected" "$scratch/forwarded" >&2 || fail 'the forwarder'
-# 65,530 + 70,000 = 2 * 65,536 + 4,458 (0x116A), and 1 and 255 become 4,465 and 4,719; 6,400,000,063 s are 63 s
-# modulo 64, and 63.02 s are 16,520,314.9 units of 2^-18 s: 0xFC147A. P, M, X, the source, the application bits and
-# the payload stay; the ids 2 and 1 mean nothing to the publisher. The second to the fourth line are no packets.
-printf '%b\n' 80000001000000010000002C 80000001000000010000002C0 80000001000000010000002CGG '' \
-    B1E0FFFAABCDEF0112345678000000091002000304030102030202AABB0101FF4142434445464748494A000003\\r \
-    800000ff000000000000002c |
-    "$scratch/forward" 4294967290 70000 6400000063 >"$scratch/forwarded"
-printf '%s\n' 8000117100000001FFFFFFFA \
-    B1E0116AABCDEF01FFFFFFFA00000009100200030203FC147A000000000000004142434445464748494A000003 \
-    8000126F00000000FFFFFFFA >"$scratch/expected"
-diff "$scratch/expected" "$scratch/forwarded" >&2 || fail 'the forwarder, near the ends'
-printf '80000001000000010000002C%0131048d\n' 0 | "$scratch/forward" 4294967290 70000 5 >"$scratch/forwarded"
-printf '8000117100000001FFFFFFFA%0131048d\n' 0 | cmp - "$scratch/forwarded" >&2 || fail 'the forwarder, a long line'
-status=0
-"$scratch/forward" 77 -46000 </dev/null >"$scratch/forwarded" || status=$?
-[ $status -eq 2 ] && [ ! -s "$scratch/forwarded" ] || fail 'the forwarder without all its arguments'
-said 'the forwarder in C'
-
-# The SFU, in C and in Rust: what three receivers get of a packet with a mid of one character, a transport number and
-# a level (ids 1 to 3), which comes twice; of one with P, a contributing source and no block; of one that jumps
-# ahead, after which another comes too late; and of a camera's, whose block of another form stays. Between them a
-# receiver report, and a datagram that is no packet. The first receiver gets the numbers as they are, the second one
-# plus 40,000, the third one less 1; the datagrams come 20 ms apart, so that the send times are 0, 60 ms (15,728 =
-# 0x3D70) and 100 ms (26,214 = 0x6666).
+for it in forward receive; do
+    cc -std=c99 "${strict[@]}" "${include[@]}" bindings/examples/$it.c "$library" -o "$scratch/$it"
+done
 cc -std=c99 "${strict[@]}" "${include[@]}" bindings/examples/sfu{,_lines}.c "$library" -o "$scratch/sfu_c"
-cc -std=c99 "${strict[@]}" "${include[@]}" bindings/examples/sfu{,_sockets}.c "$library" -o "$scratch/sfu_sockets"
-second=7365636F6E645F666C6F6F725F63616D6572615F # second_floor_camera_
-alice=63616D6572615F6F665F616C696365            # camera_of_alice
-printf '%s\n' 'map 1 urn:ietf:params:rtp-hdrext:sdes:mid' \
-    'map 2 http://www.ietf.org/id/draft-holmer-rmcat-transport-wide-cc-extensions-01' \
-    'map 3 urn:ietf:params:rtp-hdrext:ssrc-audio-level' 906F0005000000A00000002CBEDE00021061210007308A000102 \
-    906F0005000000A00000002CBEDE00021061210007308A000102 80C900010000002C \
-    A1EFFFFF000000010000002D00000009AABB0002 80 806F00CD000000A00000002C 806F0006000000A00000002C \
-    90E000CE00015F900000002CABAC0003E58B3C4080000000E0070000414243 >"$scratch/sfu.lines"
-cat >"$scratch/expected" <<END
-1 906F0005000000A0000003E8BEDE0003216D30510000908A720000000102
-2 906F9C45000000A0000007D0100000091415${second}30C802000001018AFF03000000000102
-3 906F0004000000A000000BB8BEDE0006EF${alice}30110000320000000102
-1 B1EFFFFF00000001000003E900000009BEDE0003216D3151000172003D700000AABB0002
-2 B1EF9C3F00000001000007D100000009100000081415${second}31C8020001FF03003D70AABB0002
-3 B1EFFFFE0000000100000BB900000009BEDE0006EF${alice}3111000132003D70AABB0002
-1 906F00CD000000A0000003E8BEDE0003216D30510002720066660000
-2 906F9D0D000000A0000007D0100000081415${second}30C8020002FF03006666
-3 906F00CC000000A000000BB8BEDE0006EF${alice}3011000232006666
-1 90E000CE00015F90000003E8ABAC0003E58B3C4080000000E0070000414243
-2 90E09D0E00015F90000007D0ABAC0003E58B3C4080000000E0070000414243
-3 90E000CD00015F9000000BB8ABAC0003E58B3C4080000000E0070000414243
-taken 4 replays 1 late 1 rtcp 1 unreadable 1 strangers 0 sent 12 unsent 0
-END
-"$scratch/sfu_c" <"$scratch/sfu.lines" | diff "$scratch/expected" - >&2 || fail 'the SFU in C'
-alike='in C'
+cc -std=c99 "${strict[@]}" "${include[@]}" bindings/examples/sfu{,_sockets}.c "$library" -o "$scratch/sockets"
 if has cargo; then
     "${cargo[@]}" build "${crate[@]}" --example sfu
-    # One source more than there is room for, and a block of 2,040 bytes: its header has no room.
-    for i in {1..17}; do printf '9021B7980000271000000%03XBEDE000132000000\n' "$i"; done >"$scratch/full.lines"
-    printf '9021B7990000271000000001100001FE%04080d\n' 0 >>"$scratch/full.lines"
-    for lines in captures/*.lines bindings/test/by_hand.lines "$scratch"/{sfu,full}.lines; do
-        "$scratch/sfu_c" <"$lines" >"$scratch/said"
-        "$CARGO_TARGET_DIR/debug/examples/sfu" <"$lines" | diff "$scratch/said" - >&2 || fail "the SFU in Rust, $lines"
-    done
-    "$scratch/sfu_c" <"$scratch/full.lines" | tail -n 1 >"$scratch/said"
-    echo 'taken 17 replays 0 late 0 rtcp 0 unreadable 0 strangers 1 sent 48 unsent 3' | diff - "$scratch/said" >&2 || fail 'an SFU without room'
-    alike='in C and in Rust, which print the same over captures/*.lines'
+    cp -- "$CARGO_TARGET_DIR/debug/examples/sfu" "$scratch/sfu_rust"
 fi
-said "the SFU $alike"
+bindings/test/examples.sh "$scratch"
+said "the examples in $languages (in C static, shared and all static) against captures/*.expected and by hand"
+
+# In C and C++ the same, where what is undefined and what is outside of a buffer ends the program.
+sanitized=(-O1 -g -Wall -Wextra -Wpedantic -Werror -fsanitize=address,undefined -fno-sanitize-recover=all)
+echo 'int main(void) { return 0; }' >"$scratch/none.c"
+if cc "${sanitized[@]}" "$scratch/none.c" -o "$scratch/none" 2>/dev/null && "$scratch/none"; then
+    bindings/test/sanitized.sh "$scratch/sanitized" "$prefix/include" "$library"
+    bindings/test/examples.sh "$scratch/sanitized"
+    said 'the examples in C and C++, under -fsanitize=address,undefined'
+else
+    said 'the examples under -fsanitize were left out: there is no such compiler'
+fi
 
 if has cargo; then
     "${cargo[@]}" test "${crate[@]}" >"$scratch/cargo.log" 2>&1 || { cat "$scratch/cargo.log" >&2; fail 'cargo test'; }
@@ -333,7 +258,9 @@ if has aarch64-linux-gnu-gcc && has qemu-aarch64; then
         fail 'the list and the library for ARM differ'
     wants_as_said aarch64-linux-gnu-nm "$arm"
     aarch64-linux-gnu-gcc -std=c99 "${strict[@]}" "${include[@]}" -static bindings/examples/lines.c "$arm" -o "$scratch/arm"
-    compare qemu-aarch64 "$scratch/arm"
+    mkdir "$scratch/emulated"
+    cp "$scratch/arm" "$scratch/emulated/lines_arm"
+    bindings/test/examples.sh "$scratch/emulated" qemu-aarch64
     for it in packets padding faults headers statuses receivers; do
         aarch64-linux-gnu-gcc -std=c99 "${strict[@]}" -static bindings/c/test/$it.c "$arm" -o "$scratch/arm"
         qemu-aarch64 "$scratch/arm"

@@ -19,16 +19,20 @@ typedef struct {
     rtpw_receiver receiver;
 } stream;
 
-/* Whether the line maps an id, which is done. */
+/* Whether the line maps an id, of one to three digits, which is done. */
 static int is_map_line(const char *line) {
-    unsigned id;
-    int uri_at = 0;
-    if (sscanf(line, "map %3u %n", &id, &uri_at) != 1 || uri_at == 0 || id > 255) {
+    if (strncmp(line, "map ", 4) != 0) {
         return 0;
     }
-    const char *uri = line + uri_at;
+    size_t digits = strspn(line + 4, "0123456789");
+    if (digits == 0 || digits > 3 || line[4 + digits] != ' ') {
+        return 0;
+    }
+    unsigned long id = strtoul(line + 4, NULL, 10);
+    const char *uri = line + 4 + digits + 1;
     size_t len = strcspn(uri, "\r\n");
-    return len != 0 && rtpw_map_set(&map, (uint8_t)id, rtpw_kind_of_uri((const uint8_t *)uri, len)) == RTPW_OK;
+    return id <= 255 && len != 0 &&
+           rtpw_map_set(&map, (uint8_t)id, rtpw_kind_of_uri((const uint8_t *)uri, len)) == RTPW_OK;
 }
 
 /* How many bytes the line spells, which then stand at its beginning; -1 where it isn't hexadecimal. */

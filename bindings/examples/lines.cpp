@@ -6,18 +6,20 @@
 #include <cstdint>
 #include <iostream>
 #include <map>
-#include <sstream>
 #include <string>
 #include <vector>
 
 namespace {
 
-// Whether the line maps an id, which is done.
+// Whether the line maps an id, of one to three digits, which is done.
 bool map_line(const std::string &line, rtpw_map &map) {
-    std::istringstream words(line);
-    std::string word, uri;
-    unsigned id;
-    if (!(words >> word >> id) || word != "map" || id > 255 || !std::getline(words >> std::ws, uri)) {
+    const std::size_t end = line.find_first_not_of("0123456789", 4);
+    if (line.compare(0, 4, "map ") != 0 || end == std::string::npos || end == 4 || end > 7 || line[end] != ' ') {
+        return false;
+    }
+    const unsigned long id = std::stoul(line.substr(4, end - 4));
+    const std::string uri = line.substr(end + 1);
+    if (id > 255 || uri.empty()) {
         return false;
     }
     const auto *bytes = reinterpret_cast<const std::uint8_t *>(uri.data());

@@ -5,6 +5,7 @@
 #include "sfu.h"
 
 #include <stdio.h>
+#include <stdlib.h>
 #include <string.h>
 
 /* Low ids and short mids; ids and mids of the two-byte form; and one that agreed to no audio level. */
@@ -21,15 +22,20 @@ static inline bool add_peers(sfu *sfu, const rtpw_map *sender) {
     return sfu_add(sfu, sender, &PEERS[0]) && sfu_add(sfu, sender, &PEERS[1]) && sfu_add(sfu, sender, &PEERS[2]);
 }
 
-/* Whether the line maps an id of the sender, which is done: `map ID URI`. */
+/* Whether the line maps an id of the sender, of one to three digits, which is done: `map ID URI`. */
 static inline bool is_map_line(rtpw_map *map, const char *line) {
-    unsigned id;
-    int uri_at = 0;
-    if (sscanf(line, "map %3u %n", &id, &uri_at) != 1 || uri_at == 0 || id > 255) {
+    if (strncmp(line, "map ", 4) != 0) {
         return false;
     }
-    const char *uri = line + uri_at;
-    return rtpw_map_set(map, (uint8_t)id, rtpw_kind_of_uri((const uint8_t *)uri, strcspn(uri, "\r\n"))) == RTPW_OK;
+    size_t digits = strspn(line + 4, "0123456789");
+    if (digits == 0 || digits > 3 || line[4 + digits] != ' ') {
+        return false;
+    }
+    unsigned long id = strtoul(line + 4, NULL, 10);
+    const char *uri = line + 4 + digits + 1;
+    size_t len = strcspn(uri, "\r\n");
+    return id <= 255 && len != 0 &&
+           rtpw_map_set(map, (uint8_t)id, rtpw_kind_of_uri((const uint8_t *)uri, len)) == RTPW_OK;
 }
 
 static inline void print_counts(const sfu_counts *it) {

@@ -54,7 +54,7 @@ func SetCSRC(datagram []byte, index int, source uint32) error {
 }
 
 // SetElement gives the last element of this id these data. It returns ErrNotFound where the packet has no element of
-// the id, or its last one has another number of bytes. The data may not overlap the datagram.
+// the id, or its last one has another number of bytes. Data that overlap the datagram are copied first.
 func SetElement(datagram []byte, id uint8, data []byte) error {
 	return setElement(datagram, id, data)
 }
@@ -86,28 +86,32 @@ func RemovePadding(datagram []byte) ([]byte, error) {
 	return datagram[:length], nil
 }
 
-// PutElement puts an element, of an id from 1 on with at most 255 bytes of data, into the packet, and returns the packet
-// as it then lies in the slice, with the capacity behind it as room. It then has exactly one element of the id, in
-// place of the last one of the id or as the last of all; the other elements stay, in order, and all other parts too.
-// Without a block the packet gets one. Where the element is the only one of its id and has as many bytes, only these
-// change. Else the block is made anew: its padding is used up, and then the payload moves by whole words; a body never
-// becomes shorter ([Compact]). What stands where reading ends, an element that is cut short or what follows the id 15,
-// is no element, and goes where the block is made anew. A header alone is enough.
+// PutElement puts an element, of an id from 1 on with at most 255 bytes of data, into the packet in the first length
+// bytes of the buffer, whose other bytes are the room for it, and returns the packet's bytes. It then has exactly one
+// element of the id, in place of the last one of the id or as the last of all; the other elements stay, in order, and
+// all other parts too. Without a block the packet gets one. Where the element is the only one of its id and has as many
+// bytes, only these change. Else the block is made anew: its padding is used up, and then the payload moves by whole
+// words; a body never becomes shorter ([Compact]). What stands where reading ends, an element that is cut short or what
+// follows the id 15, is no element, and goes where the block is made anew. A header alone is enough. Data that overlap
+// the buffer are copied first.
 //
 // A one-byte block that can't carry the element becomes a two-byte one, where the forms that are allowed let it:
 // AnyForm; OneByteForm alone, as for a peer that hasn't agreed to both in one stream (RFC 8285, 4.1.2); or TwoByteForm
 // alone, which the block then gets. It carries no element of the id 0, so these go.
 //
-// It returns ErrBadField where allowed is none of the three, the id is 0, there are more than 255 bytes of data, or the
-// block needs a form that isn't allowed, or more than 65,535 words; ErrOtherForm where the block has another form, and so
-// carries no elements; and ErrShortBuffer where the capacity is too small. Where it returns an error nothing changes.
-func PutElement(datagram []byte, id uint8, data []byte, allowed Form) ([]byte, error) {
-	buf := datagram[:cap(datagram)]
-	length, err := putElement(buf, len(datagram), id, data, allowed)
+// It returns ErrBadField where the length isn't one of the buffer, allowed is none of the three, the id is 0, there are
+// more than 255 bytes of data, or the block needs a form that isn't allowed, or more than 65,535 words; ErrOtherForm
+// where the block has another form, and so carries no elements; and ErrShortBuffer where the buffer has no room. Where
+// it returns an error nothing changes.
+func PutElement(buf []byte, length int, id uint8, data []byte, allowed Form) ([]byte, error) {
+	if length < 0 {
+		return nil, ErrBadField
+	}
+	end, err := putElement(buf, length, id, data, allowed)
 	if err != nil {
 		return nil, err
 	}
-	return buf[:length], nil
+	return buf[:end], nil
 }
 
 // Compact makes the packet as short as its elements allow, and returns the bytes that it then has, the first ones of

@@ -90,10 +90,11 @@ func TestNewIDs(t *testing.T) {
 }
 
 func TestPutElement(t *testing.T) {
-	datagram := append(make([]byte, 0, 64), sample()...)
+	buf := append(sample(), make([]byte, 27)...)
+	datagram := buf[:37]
 	put := func(at string, id uint8, data []byte, allowed rtpwire.Form, length int, err error) {
 		t.Helper()
-		grown, found := rtpwire.PutElement(datagram, id, data, allowed)
+		grown, found := rtpwire.PutElement(buf, len(datagram), id, data, allowed)
 		same(t, at, []any{len(grown), found}, []any{length, err})
 		if err == nil {
 			datagram = grown
@@ -107,8 +108,16 @@ func TestPutElement(t *testing.T) {
 	put("form not allowed", 15, []byte{4}, rtpwire.OneByteForm, 0, rtpwire.ErrBadField)
 	put("no such form", 1, []byte{4}, 3, 0, rtpwire.ErrBadField)
 	put("in the two-byte form", 15, []byte{4}, rtpwire.AnyForm, 45, nil)
-	_, err := rtpwire.PutElement(datagram[:45:48], 16, []byte{4, 5, 6}, rtpwire.AnyForm)
+	_, err := rtpwire.PutElement(buf[:48], 45, 16, []byte{4, 5, 6}, rtpwire.AnyForm)
 	same(t, "no room", err, error(rtpwire.ErrShortBuffer))
+	for _, data := range [][]byte{make([]byte, 256), make([]byte, 300), make([]byte, 65537)} {
+		_, err := rtpwire.PutElement(make([]byte, 70000), 12, 1, data, rtpwire.AnyForm)
+		same(t, "more than 255 bytes", err, error(rtpwire.ErrBadField))
+	}
+	for _, length := range []int{-1, 65} {
+		_, err := rtpwire.PutElement(buf, length, 1, nil, rtpwire.AnyForm)
+		same(t, "no length", err, error(rtpwire.ErrBadField))
+	}
 	same(t, "removed", rtpwire.RemoveElement(datagram, 2), nil)
 	short, err := rtpwire.Compact(datagram)
 	same(t, "short", []any{len(short), err}, []any{41, nil})
@@ -227,10 +236,10 @@ func TestOtherFormsAreChanged(t *testing.T) {
 	} {
 		same(t, "no elements", refused.got, refused.wanted)
 	}
-	_, err := rtpwire.PutElement(datagram, 1, []byte{7}, rtpwire.AnyForm)
+	_, err := rtpwire.PutElement(datagram[:64], 31, 1, []byte{7}, rtpwire.AnyForm)
 	same(t, "put", err, rtpwire.ErrOtherForm)
 	same(t, "a packet", errors.Is(err, rtpwire.ErrNotAPacket), false)
-	_, err = rtpwire.PutElement(datagram, 1, []byte{7}, rtpwire.OtherForm)
+	_, err = rtpwire.PutElement(datagram[:64], 31, 1, []byte{7}, rtpwire.OtherForm)
 	same(t, "no form to put", err, rtpwire.ErrBadField)
 	short, err := rtpwire.Compact(datagram)
 	same(t, "compact", []any{len(short), err}, []any{31, nil})

@@ -68,14 +68,15 @@ func (p *Packet) AppendPlaces(places []Place) []Place {
 	return places
 }
 
-// Data is the data at a place that AppendPlaces told of this packet.
+// Data is the data at a place that AppendPlaces told of this packet: a part of the datagram, which an append copies.
 func (p *Packet) Data(place Place) []byte {
 	_, body := p.Block()
-	return body[place.At : place.At+place.Len]
+	end := place.At + place.Len
+	return body[place.At:end:end]
 }
 
-// Element is the data of the last element of this id, which is the one that counts. It is not ok where the packet has
-// no element of the id.
+// Element is the data of the last element of this id, which is the one that counts: a part of the datagram, which an
+// append copies. It is not ok where the packet has no element of the id.
 func (p *Packet) Element(id uint8) (data []byte, ok bool) {
 	form, body := p.Block()
 	if !form.hasElements() {
@@ -85,11 +86,12 @@ func (p *Packet) Element(id uint8) (data []byte, ok bool) {
 	if err != nil {
 		return nil, false
 	}
-	return body[place.At:place.end], true
+	return body[place.At:place.end:place.end], true
 }
 
 // WriteElements writes elements, one after the other, as a block's body has them, to the front of the buffer, and
-// returns how many bytes they took; those after them stay. Each place is one in data.
+// returns how many bytes they took; those after them stay. Each place is one in data, which is copied where it overlaps
+// the buffer.
 //
 // It returns ErrBadField where the form is none of the two or can't carry one of them, or one has bytes past the end
 // of data; and else ErrShortBuffer. Nothing is written then.

@@ -24,18 +24,23 @@ type Header struct {
 	Values Values
 }
 
-// CSRC is the contributing sources, at most 15, in order. It is a part of the header, not a copy.
+// CSRC is the contributing sources, at most 15, in order. It is a part of the header, not a copy: what is written
+// through it changes the header, and an append copies.
 func (h *Header) CSRC() []uint32 {
 	return h.csrc[:h.csrcCount:h.csrcCount]
 }
 
-// SetCSRC sets the contributing sources. It returns ErrBadField, and changes nothing, where there are more than 15.
+// SetCSRC sets the contributing sources, which may be a part of those of the header. It returns ErrBadField, and
+// changes nothing, where there are more than 15.
 func (h *Header) SetCSRC(sources []uint32) error {
 	if len(sources) > len(h.csrc) {
 		return ErrBadField
 	}
-	h.csrc = [15]uint32{}
-	h.csrcCount = uint8(copy(h.csrc[:], sources))
+	count := copy(h.csrc[:], sources)
+	for i := count; i < len(h.csrc); i++ {
+		h.csrc[i] = 0
+	}
+	h.csrcCount = uint8(count)
 	return nil
 }
 
@@ -71,8 +76,8 @@ func (h *Header) WriteLayers(buf []byte, m *Map, layers *Layers) (int, error) {
 }
 
 // WriteWith writes the header with a block of these elements, whatever HasExtension and Values hold, and returns how
-// many bytes it took; those after them stay. Each place is one in data. The block is in the one-byte form where that
-// can carry each element: ids 1 to 14, 1 to 16 bytes.
+// many bytes it took; those after them stay. Each place is one in data, which is copied where it overlaps the buffer.
+// The block is in the one-byte form where that can carry each element: ids 1 to 14, 1 to 16 bytes.
 //
 // It returns ErrBadField where the payload type is above 127, or an element has the id 0, more than 255 bytes or
 // bytes past the end of data, or all of them are too long for a block; and else ErrShortBuffer. Nothing is written

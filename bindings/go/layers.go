@@ -45,24 +45,29 @@ func (l *Layers) SetCurrent(current uint8) {
 	l.current = current
 }
 
-// Streams is the streams, at most 4: none where nothing is sent.
+// Streams is the streams, at most 4: none where nothing is sent. It is a part of the Layers, as [Header.CSRC] of its
+// header, and so are [Stream.Layers] and [Layer.Kbps].
 func (l *Layers) Streams() []Stream {
-	return l.streams[:l.count]
+	return l.streams[:l.count:l.count]
 }
 
-// SetStreams sets the streams. It returns ErrBadField, and changes nothing, where there are more than 4.
+// SetStreams sets the streams, which may be a part of those that are there. It returns ErrBadField, and changes
+// nothing, where there are more than 4.
 func (l *Layers) SetStreams(streams ...Stream) error {
 	if len(streams) > len(l.streams) {
 		return ErrBadField
 	}
-	l.streams = [4]Stream{}
-	l.count = uint8(copy(l.streams[:], streams))
+	count := copy(l.streams[:], streams)
+	for i := count; i < len(l.streams); i++ {
+		l.streams[i] = Stream{}
+	}
+	l.count = uint8(count)
 	return nil
 }
 
 // Layers is the spatial layers by rising resolution, at most 4.
 func (s *Stream) Layers() []Layer {
-	return s.layers[:s.count]
+	return s.layers[:s.count:s.count]
 }
 
 // SetLayers sets the spatial layers, by rising resolution. It returns ErrBadField, and changes nothing, where there are
@@ -71,15 +76,18 @@ func (s *Stream) SetLayers(layers ...Layer) error {
 	if len(layers) > len(s.layers) {
 		return ErrBadField
 	}
-	s.layers = [4]Layer{}
-	s.count = uint8(copy(s.layers[:], layers))
+	count := copy(s.layers[:], layers)
+	for i := count; i < len(s.layers); i++ {
+		s.layers[i] = Layer{}
+	}
+	s.count = uint8(count)
 	return nil
 }
 
 // Kbps is the rate of each temporal layer with those below it, in kilobits per second, at most 4: none where the
 // layer isn't active.
 func (l *Layer) Kbps() []uint64 {
-	return l.kbps[:l.rates]
+	return l.kbps[:l.rates:l.rates]
 }
 
 // SetKbps sets the rates: none where the layer isn't active. It returns ErrBadField, and changes nothing, where there
@@ -88,8 +96,11 @@ func (l *Layer) SetKbps(kbps ...uint64) error {
 	if len(kbps) > len(l.kbps) {
 		return ErrBadField
 	}
-	l.kbps = [4]uint64{}
-	l.rates = uint8(copy(l.kbps[:], kbps))
+	count := copy(l.kbps[:], kbps)
+	for i := count; i < len(l.kbps); i++ {
+		l.kbps[i] = 0
+	}
+	l.rates = uint8(count)
 	return nil
 }
 

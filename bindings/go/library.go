@@ -16,6 +16,18 @@ func first(bytes []byte) *C.uint8_t {
 	return (*C.uint8_t)(unsafe.Pointer(&bytes[0]))
 }
 
+// apart is the data, copied where they overlap the buffer: what the library writes may overlap nothing that it reads.
+func apart(data, buf []byte) []byte {
+	if len(data) == 0 || len(buf) == 0 {
+		return data
+	}
+	dataAt, bufAt := uintptr(unsafe.Pointer(&data[0])), uintptr(unsafe.Pointer(&buf[0]))
+	if dataAt-bufAt < uintptr(len(buf)) || bufAt-dataAt < uintptr(len(data)) {
+		return append([]byte(nil), data...)
+	}
+	return data
+}
+
 func size(bytes []byte) C.size_t {
 	return C.size_t(len(bytes))
 }
@@ -242,12 +254,14 @@ func (h *Header) writeLayers(buf []byte, m *Map, l *Layers) (int, error) {
 }
 
 func (h *Header) writeWith(buf []byte, form Form, data []byte, places []Place) (int, error) {
+	data = apart(data, buf)
 	count, number := C.size_t(len(places)), C.uint8_t(form)
 	it := C.call_write_with_form(h.c(), first(data), size(data), firstPlace(places), count, number, first(buf), size(buf))
 	return lenOr(it)
 }
 
 func writeElements(buf []byte, form Form, data []byte, places []Place) (int, error) {
+	data = apart(data, buf)
 	count := C.size_t(len(places))
 	it := C.call_write_elements(first(data), size(data), firstPlace(places), count, C.uint8_t(form), first(buf), size(buf))
 	return lenOr(it)
@@ -262,6 +276,7 @@ func setCSRC(datagram []byte, index int, source uint32) error {
 }
 
 func setElement(datagram []byte, id uint8, data []byte) error {
+	data = apart(data, datagram)
 	return errorOf(int32(C.rtpw_set_element(first(datagram), size(datagram), C.uint8_t(id), first(data), size(data))))
 }
 
@@ -278,6 +293,7 @@ func removePadding(datagram []byte) (int, error) {
 }
 
 func putElement(buf []byte, length int, id uint8, data []byte, allowed Form) (int, error) {
+	data = apart(data, buf)
 	it := C.call_put_element(first(buf), size(buf), C.size_t(length), C.uint8_t(id), first(data), size(data), C.uint8_t(allowed))
 	return lenOr(it)
 }

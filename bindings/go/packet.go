@@ -1,8 +1,8 @@
 package rtpwire
 
 // A Packet is a packet in the bytes of its datagram, of which nothing is copied but the header: its fields and
-// values are those of the Header, and its methods lend parts of the datagram. Use one again for the next packet:
-// what it lent stays as it is.
+// values are those of the Header, and its methods lend parts of the datagram: an append to one writes over nothing of
+// the packet. Use one again for the next packet: what it lent stays as it is.
 type Packet struct {
 	Header
 	parts    parts
@@ -55,13 +55,14 @@ func (p *Packet) UnpaddedPayload() (payload []byte, ok bool) {
 	if !p.parts.paddingFits {
 		return nil, false
 	}
-	return p.Payload()[:p.parts.unpaddedLen], true
+	end := p.parts.payloadAt + p.parts.unpaddedLen
+	return p.datagram[p.parts.payloadAt:end:end], true
 }
 
 // Block is the form and the body of the extension block, after the four bytes of its header. Where there is none (X is
 // clear) the form is NoBlock. Of a block of OtherForm [Packet.BlockProfile] says more.
 func (p *Packet) Block() (Form, []byte) {
-	return p.parts.form, p.datagram[p.parts.bodyAt:p.parts.payloadAt]
+	return p.parts.form, p.datagram[p.parts.bodyAt:p.parts.payloadAt:p.parts.payloadAt]
 }
 
 // BlockProfile is the 16 bits that the extension block begins with, those of a form or others, which the block's

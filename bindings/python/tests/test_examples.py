@@ -17,6 +17,14 @@ CAPTURES = HERE.parent.parent / "captures"
 LINES = [*CAPTURES.glob("*.lines"), *(HERE.parent / "test").glob("by_hand.lines")]
 
 
+# No map lines: of an id that none has or that no one to three digits spell, without a URI, or with other spaces.
+BAD_MAPS = [
+    *(b"map 0 urn:x", b"map 256 urn:x", b"map +3 urn:x", b"map -3 urn:x", b"map 0003 urn:x", b"map 1234 urn:x"),
+    *(b"map 3a urn:x", b"map 3", b"map 3 ", b"map", b"map ", b"map  3 urn:x", b"map\t3 urn:x", b"map 3\turn:x"),
+    *(b" map 3 urn:x", b"mop 3 urn:x", b"map \xC2\xB2 urn:x"),
+]
+
+
 @unittest.skipUnless(LINES, "there are no captures here")
 class Captures(unittest.TestCase):
     def lines(self, text: bytes) -> "subprocess.CompletedProcess[bytes]":
@@ -31,7 +39,7 @@ class Captures(unittest.TestCase):
             self.assertEqual(said.stdout.decode(), lines.with_suffix(".expected").read_text("utf-8"), lines)
 
     def test_a_bad_line(self) -> None:
-        for bad in (b"802", b"8G", b"map 0 urn:x", b"map 256 urn:x", b"map 3", b"map 3 ", b"mop 3 urn:x"):
+        for bad in (b"802", b"8G", *BAD_MAPS):
             said = self.lines(bad + b"\n")
             self.assertEqual((said.returncode, said.stdout), (2, b"line 1: neither a map line nor hex\n"))
         for bad in (b"802", b"8G", b"map 3 urn:x"):

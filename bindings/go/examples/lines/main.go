@@ -58,10 +58,10 @@ func printAll(out io.Writer, in io.Reader) error {
 	return lines.Err()
 }
 
-// isMapped maps the id of the line, where it is a map line.
+// isMapped maps the id of the line, of one to three digits, where it is a map line.
 func isMapped(m *rtpwire.Map, line string) bool {
 	words := strings.SplitN(line, " ", 3)
-	if len(words) < 3 || words[0] != "map" || words[2] == "" {
+	if len(words) < 3 || words[0] != "map" || len(words[1]) > 3 || words[2] == "" {
 		return false
 	}
 	id, err := strconv.ParseUint(words[1], 10, 8)

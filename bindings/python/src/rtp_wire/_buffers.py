@@ -9,7 +9,16 @@ if TYPE_CHECKING:
     from _typeshed import ReadableBuffer as Buffer
     from _typeshed import WriteableBuffer as WritableBuffer
 
-    __all__ = ["Address", "Buffer", "WritableBuffer", "address_of", "place_of", "view_of", "writable_view_of"]
+    __all__ = [
+        "Address",
+        "Buffer",
+        "WritableBuffer",
+        "address_of",
+        "copy_of",
+        "place_of",
+        "view_of",
+        "writable_view_of",
+    ]
 
     # What ctypes passes as a pointer to the first byte: None where there is no byte.
     Address = Union[bytes, int, None]
@@ -54,6 +63,11 @@ def writable_view_of(data: WritableBuffer) -> memoryview:
     if view.readonly:
         raise TypeError("the buffer is read-only")
     return view
+
+
+def copy_of(data: Buffer) -> bytes:
+    """The bytes, where they may lie in what is written: the library mustn't see them twice."""
+    return data if isinstance(data, bytes) else bytes(view_of(data))
 
 
 def address_of(view: memoryview) -> Optional[int]:

@@ -6,8 +6,8 @@ from ctypes import c_size_t
 from typing import TYPE_CHECKING, Optional
 
 from . import _library
-from ._buffers import address_of, place_of, writable_view_of
-from ._errors import check, unsigned
+from ._buffers import address_of, copy_of, writable_view_of
+from ._errors import check, unsigned, within
 from ._packet import Form
 
 if TYPE_CHECKING:
@@ -21,7 +21,8 @@ def put_element(
     of the buffer, and returns how many bytes the packet then has: it has exactly one element of the id, in place of the
     last one of the id or as the last of all. The other elements stay, in order, and all other parts too; without a
     block the packet gets one. A body never becomes shorter (`compact`). What stands where reading ends, an element that
-    is cut short or what follows the id 15, goes where the block is made anew. A header alone is enough.
+    is cut short or what follows the id 15, goes where the block is made anew. A header alone is enough, and the data
+    may be a part of the buffer.
 
     A one-byte block that can't carry the element becomes a two-byte one, which carries no element of the id 0, unless
     the one-byte form alone is allowed, as for a peer that hasn't agreed to both in one stream (RFC 8285, 4.1.2). Where
@@ -32,10 +33,9 @@ def put_element(
     Nothing changes then.
     """
     view, count = writable_view_of(buffer), c_size_t(unsigned("length", length, 64))
-    bytes_of, at = place_of(data)
-    form = Form.NONE if allowed is None else allowed
-    number = unsigned("id", id, 8)
-    check(_library.put_element(address_of(view), len(view), count, number, at, len(bytes_of), form))
+    copy, number = copy_of(data), unsigned("id", id, 8)
+    form = Form.NONE if allowed is None else within("allowed", allowed, Form.NONE, Form.TWO_BYTE)
+    check(_library.put_element(address_of(view), len(view), count, number, copy, len(copy), form))
     return count.value
 
 

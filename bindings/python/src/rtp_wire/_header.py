@@ -92,7 +92,9 @@ class Header:
             raise BadField(Status.BAD_FIELD, f"csrc has {len(self.csrc)} sources, and not up to {MOST_CSRCS}")
         raw.csrc_count = len(self.csrc)
         raw.csrc[: len(self.csrc)] = [unsigned("a source", source, 32) for source in self.csrc]
-        raw.marker, raw.has_padding, raw.has_extension = self.marker, self.has_padding, self.has_extension
+        raw.marker = unsigned("marker", self.marker, 1)
+        raw.has_padding = unsigned("has_padding", self.has_padding, 1)
+        raw.has_extension = unsigned("has_extension", self.has_extension, 1)
         if with_values:
             put_values(raw.values, self.values)
         return raw

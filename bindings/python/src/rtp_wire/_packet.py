@@ -8,7 +8,7 @@ from struct import unpack_from
 from typing import TYPE_CHECKING, Iterator, NamedTuple, Optional, Tuple, Union
 
 from . import _library
-from ._buffers import address_of, place_of, view_of, writable_view_of
+from ._buffers import address_of, copy_of, place_of, view_of, writable_view_of
 from ._errors import Status, check, error_of, unsigned
 from ._header import read_layers
 from ._library import whole_packet_parse
@@ -78,8 +78,8 @@ class Packet:
 
     @classmethod
     def parse(cls, datagram: Buffer, map: Optional[Map] = None) -> Packet:
-        """Reads the packet that the datagram is, and what its elements say under the map. NotAPacket, with the first
-        cause for which it is none."""
+        """Reads the packet that the datagram is, and what its elements say under the map, which is looked at again
+        when the packet is changed. NotAPacket, with the first cause for which it is none."""
         packet = cls.__new__(cls)
         packet._map = map
         packet._data, at = place_of(datagram)
@@ -160,7 +160,7 @@ class Packet:
 
     @marker.setter
     def marker(self, marker: bool) -> None:
-        self._set(_library.set_marker, marker)
+        self._set(_library.set_marker, unsigned("marker", marker, 1))
 
     @property
     def has_padding(self) -> bool:
@@ -169,7 +169,7 @@ class Packet:
 
     @has_padding.setter
     def has_padding(self, has_padding: bool) -> None:
-        self._set(_library.set_padding, has_padding)
+        self._set(_library.set_padding, unsigned("has_padding", has_padding, 1))
 
     @property
     def csrc(self) -> Tuple[int, ...]:
@@ -285,8 +285,8 @@ class Packet:
 
     def set_element(self, id: int, data: Buffer) -> None:
         """Gives the last element of this id these data. NoElement where the packet has none, or its last one has
-        another number of bytes."""
-        copy = bytes(view_of(data))  # they may be a part of the datagram, which the library mustn't see twice
+        another number of bytes. The data may be a part of the datagram."""
+        copy = copy_of(data)
         self._set(_library.set_element, unsigned("an id", id, 8), copy, len(copy))
 
     def remove_element(self, id: int) -> None:

@@ -58,7 +58,7 @@ def to_retransmission(buf: WritableBuffer, length: int, ssrc: int, payload_type:
     there is no room for the two bytes. Nothing changes then.
     """
     view, end = writable_view_of(buf), c_size_t(unsigned("length", length, 64))
-    fields = (unsigned("ssrc", ssrc, 32), unsigned("payload_type", payload_type, 8), unsigned("number", number, 16))
+    fields = (unsigned("ssrc", ssrc, 32), unsigned("payload_type", payload_type, 7), unsigned("number", number, 16))
     check(_library.to_retransmission(address_of(view), len(view), end, *fields, ids._raw))
     return end.value
 
@@ -72,6 +72,6 @@ def from_retransmission(buf: WritableBuffer, length: int, ssrc: int, payload_typ
     Nothing changes then.
     """
     view, end = writable_view_of(buf), c_size_t(unsigned("length", length, 64))
-    fields = (unsigned("ssrc", ssrc, 32), unsigned("payload_type", payload_type, 8))
+    fields = (unsigned("ssrc", ssrc, 32), unsigned("payload_type", payload_type, 7))
     check(_library.from_retransmission(address_of(view), len(view), end, *fields, ids._raw))
     return end.value

@@ -8,14 +8,17 @@ use std::process::ExitCode;
 
 use rtp_wire::{Header, Kind, Map, Receiver, Values};
 
-/// Maps the id of the line, where it is a map line.
+/// Maps the id of the line, of one to three digits, where it is a map line.
 fn is_mapped(map: &mut Map, line: &str) -> bool {
     let words = line.strip_prefix("map ").and_then(|it| it.split_once(' '));
     let Some((id, uri)) = words else {
         return false;
     };
-    id.parse()
-        .is_ok_and(|id| !uri.is_empty() && map.set(id, Kind::from_uri(uri)).is_ok())
+    let is_number = id.len() <= 3 && id.bytes().all(|digit| digit.is_ascii_digit());
+    is_number && !uri.is_empty() && {
+        let id = id.parse();
+        id.is_ok_and(|id| map.set(id, Kind::from_uri(uri)).is_ok())
+    }
 }
 
 /// The bytes that the text spells.

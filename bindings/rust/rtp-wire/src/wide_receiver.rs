@@ -15,6 +15,10 @@ use crate::views::WideState;
 /// assert_eq!(receiver.receive(3977), None); // a replay
 /// assert_eq!(receiver.receive(3976), None); // too old to tell
 /// ```
+///
+/// ```compile_fail
+/// rtp_wire::WideReceiver::<513>::new();
+/// ```
 #[derive(Clone, Copy, Debug)]
 pub struct WideReceiver<const WORDS: usize> {
     state: WideState,

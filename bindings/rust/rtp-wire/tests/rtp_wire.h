@@ -21,7 +21,10 @@
  * The caller owes what C asks anyway:
  *   - a pointer is to as much memory as is said, and aligned for its type: NULL may stand only where the
  *     size or the count after it is 0 (that this is as a buffer of no bytes is tested, not proved);
- *   - what is written overlaps nothing else that is passed.
+ *   - what is written overlaps nothing else that is passed. This is neither looked at nor mended: where the data of
+ *     an element lie in the buffer that rtpw_set_element, rtpw_put_element, rtpw_write_with, rtpw_write_with_form or
+ *     rtpw_write_elements writes, as those of an element of the same packet do, the status may be RTPW_OK and the
+ *     bytes wrong. Copy such data first: an element has at most 255 bytes.
  *
  * A buffer is a pointer and then its size in bytes. Numbers are in the byte order of the machine:
  * what stands in a packet in network byte order is turned. Outputs are written whole where the
@@ -193,7 +196,7 @@ RTPW_CHECKED int32_t rtpw_set_fields(uint8_t *datagram, size_t len, const rtpw_f
 RTPW_CHECKED int32_t rtpw_set_csrc(uint8_t *datagram, size_t len, size_t index, uint32_t source);
 
 /* Gives the last element of this id these data. RTPW_NONE where the packet has no element of the id,
- * or its last one has another number of bytes. */
+ * or its last one has another number of bytes. The data must not overlap the datagram: copy those that do. */
 RTPW_CHECKED int32_t rtpw_set_element(uint8_t *datagram, size_t len, uint8_t id, const uint8_t *data, size_t data_len);
 /* Makes each element of this id padding. RTPW_NONE where the packet has none. */
 RTPW_CHECKED int32_t rtpw_remove_element(uint8_t *datagram, size_t len, uint8_t id);
@@ -218,6 +221,9 @@ enum { RTPW_ANY_FORM = 0 };
  * and has as many bytes, only these change. Else the block is made anew: its padding is used up, and then the
  * payload moves by whole words; a body never becomes shorter (rtpw_compact). What stands where reading ends, an
  * element that is cut short or what follows the id 15, is no element, and goes where the block is made anew.
+ *
+ * The data must not overlap the `size` bytes of the buffer, as those of another element of the packet would: copy
+ * them first.
  *
  * A one-byte block that can't carry the element becomes a two-byte one, where the forms that are allowed let
  * it: RTPW_ANY_FORM; RTPW_ONE_BYTE_FORM alone, as for a peer that hasn't agreed to both in one stream (RFC 8285,
@@ -507,7 +513,8 @@ RTPW_CHECKED int32_t rtpw_write_layers(const rtpw_map *map, const rtpw_header *h
  * are the data_len bytes at data_at of `data`: those that rtpw_next_element told of a body, say. What
  * `end` holds isn't looked at; data_at is, also of an element of no bytes. The block is in the one-byte
  * form where that can carry each element (ids 1 to 14, 1 to 16 bytes), and else in the two-byte form (ids
- * 1 to 255, 0 to 255 bytes).
+ * 1 to 255, 0 to 255 bytes). The data must not overlap the buffer: those of a packet are written into another
+ * buffer, or copied first.
  *
  * RTPW_OK; RTPW_BAD_FIELD where payload_type is above 127, csrc_count above 15, or an element has the id
  * 0, more than 255 bytes, or its data_at + data_len is past the end of the data, or all of them take more
@@ -517,15 +524,16 @@ RTPW_CHECKED int32_t rtpw_write_with(const rtpw_header *header, const uint8_t *d
                                      size_t *len);
 
 /* The same in one form alone, for a peer that hasn't agreed to both forms in one stream (RFC 8285, 4.1.2):
- * RTPW_ONE_BYTE_FORM or RTPW_TWO_BYTE_FORM; with 0, which is RTPW_NO_BLOCK, as rtpw_write_with.
- * RTPW_BAD_FIELD also where the form is another number or can't carry an element. */
+ * RTPW_ONE_BYTE_FORM or RTPW_TWO_BYTE_FORM; with 0, which is RTPW_NO_BLOCK, as rtpw_write_with. Here too the data
+ * must not overlap the buffer. RTPW_BAD_FIELD also where the form is another number or can't carry an element. */
 RTPW_CHECKED int32_t rtpw_write_with_form(const rtpw_header *header, const uint8_t *data, size_t data_len,
                                           const rtpw_element *elements, size_t count, uint8_t form, uint8_t *buf,
                                           size_t size, size_t *len);
 
 /* Writes elements, one after the other, as a block's body has them, to the front of the buffer; bytes
- * after them stay. RTPW_OK; RTPW_BAD_FIELD where the form is none of the two or can't carry one of them, or
- * data_at + data_len of one is past the end of the data; RTPW_SHORT_BUFFER where the buffer alone is at fault. */
+ * after them stay. The data must not overlap the buffer: copy those that do. RTPW_OK; RTPW_BAD_FIELD where the
+ * form is none of the two or can't carry one of them, or data_at + data_len of one is past the end of the data;
+ * RTPW_SHORT_BUFFER where the buffer alone is at fault. */
 RTPW_CHECKED int32_t rtpw_write_elements(const uint8_t *data, size_t data_len, const rtpw_element *elements, size_t count,
                                          uint8_t form, uint8_t *buf, size_t size, size_t *len);
 
@@ -579,7 +587,8 @@ void rtpw_new_ids_from_retransmission(const rtpw_map *map, rtpw_new_ids *ids);
 /* Makes the packet in the first *len bytes of the buffer a retransmission (RFC 4588, 4): with this SSRC, payload
  * type and number of its own, the elements under their new ids, and as payload the original number in two bytes
  * and the original payload without its padding. All else stays, M and the timestamp too. *len becomes its
- * length, two bytes more than the packet has without its padding; bytes behind it stay.
+ * length, two bytes more than the packet has without its padding; bytes behind it stay. The payload
+ * moves within the buffer; `len` and `ids` must not lie there.
  *
  * RTPW_OK; RTPW_BAD_FIELD where payload_type is above 127, *len is above size, padding_fits is 0, or the packet's
  * form can't carry a new id that an element gets; the first cause for which there is no packet; or

@@ -1,0 +1,232 @@
+//! Receive states of each kind: their windows, what a refused packet leaves, copies, and numbers past 2^32. Expected
+//! values are worked out by hand from RFC 3711, 3.3.1 and 3.3.2, and RFC 3550, A.1.
+
+use rtp_wire::{
+    extend_u15, extend_u16, extend_u32, extend_u8, Arrival, BadRolloverCount, Receiver,
+    RestartingReceiver, WideReceiver,
+};
+
+const FAR: u64 = 1 << 40; // past 2^32
+const COUNT: u64 = FAR >> 16;
+
+/// What a receiver and a wide one both do.
+trait Stateful: Copy {
+    fn receive(&mut self, low: u16) -> Option<u64>;
+    fn record(&mut self, number: u64) -> Option<bool>;
+    fn accepts(&self, number: u64) -> bool;
+    fn number_of(&self, low: u16) -> u64;
+    fn highest(&self) -> Option<u64>;
+}
+
+impl Stateful for Receiver {
+    fn receive(&mut self, low: u16) -> Option<u64> {
+        Receiver::receive(self, low)
+    }
+    fn record(&mut self, number: u64) -> Option<bool> {
+        Receiver::record(self, number);
+        None
+    }
+    fn accepts(&self, number: u64) -> bool {
+        Receiver::accepts(self, number)
+    }
+    fn number_of(&self, low: u16) -> u64 {
+        Receiver::number_of(self, low)
+    }
+    fn highest(&self) -> Option<u64> {
+        Receiver::highest(self)
+    }
+}
+
+impl<const WORDS: usize> Stateful for WideReceiver<WORDS> {
+    fn receive(&mut self, low: u16) -> Option<u64> {
+        WideReceiver::receive(self, low)
+    }
+    fn record(&mut self, number: u64) -> Option<bool> {
+        Some(WideReceiver::record(self, number))
+    }
+    fn accepts(&self, number: u64) -> bool {
+        WideReceiver::accepts(self, number)
+    }
+    fn number_of(&self, low: u16) -> u64 {
+        WideReceiver::number_of(self, low)
+    }
+    fn highest(&self) -> Option<u64> {
+        WideReceiver::highest(self)
+    }
+}
+
+/// The numbers that are taken are told from the others in the whole window, and only there.
+fn has_a_window(mut receiver: impl Stateful, size: u64) {
+    let fresh = receiver;
+    assert_eq!((receiver.highest(), receiver.number_of(9)), (None, FAR + 9));
+    assert!(receiver.accepts(0) && receiver.accepts(FAR) && receiver.accepts(u64::MAX));
+    let highest = FAR + 40_000;
+    assert_eq!(receiver.receive(40_000), Some(highest));
+    assert_eq!((receiver.highest(), fresh.highest()), (Some(highest), None));
+    for below in (1..size).step_by(3) {
+        let number = highest - below;
+        assert!(receiver.accepts(number));
+        if below % 2 == 0 {
+            assert!(receiver.record(number).unwrap_or(true));
+            assert!(!receiver.record(number).unwrap_or(false)); // which changes nothing
+        } else {
+            assert_eq!(receiver.receive(number as u16), Some(number));
+        }
+        assert_eq!(receiver.receive(number as u16), None);
+    }
+    let copy = receiver;
+    assert!(!receiver.record(highest - size).unwrap_or(false));
+    for receiver in [receiver, copy] {
+        for below in 0..size + 200 {
+            let is_new = below < size && below % 3 != 1 && below != 0;
+            assert_eq!(receiver.accepts(highest - below), is_new, "{size} {below}");
+        }
+        assert_eq!(receiver.number_of(39_999), FAR + 39_999);
+        assert_eq!(receiver.number_of(7), FAR + 65_536 + 7);
+    }
+    // It moves on, and the copy doesn't.
+    assert!(receiver.record(highest + size).unwrap_or(true));
+    assert_eq!(receiver.receive((highest + 1) as u16), Some(highest + 1));
+    assert!(!receiver.accepts(highest) && !receiver.accepts(highest + size));
+    assert_eq!(receiver.highest(), Some(highest + size));
+    assert_eq!(copy.highest(), Some(highest));
+    assert!(copy.accepts(highest + 1));
+}
+
+#[test]
+fn windows_have_their_size() {
+    has_a_window(Receiver::starting_at(COUNT).unwrap(), 128);
+    has_a_window(WideReceiver::<1>::starting_at(COUNT).unwrap(), 64);
+    has_a_window(WideReceiver::<3>::starting_at(COUNT).unwrap(), 192);
+    has_a_window(WideReceiver::<16>::starting_at(COUNT).unwrap(), 1024);
+    has_a_window(WideReceiver::<512>::starting_at(COUNT).unwrap(), 32_768);
+}
+
+#[test]
+fn the_number_0_is_taken() {
+    fn takes_it(mut receiver: impl Stateful) {
+        assert_eq!(
+            (receiver.highest(), receiver.number_of(65_535)),
+            (None, 65_535)
+        );
+        assert_eq!((receiver.receive(0), receiver.receive(0)), (Some(0), None));
+        assert_eq!((receiver.highest(), receiver.accepts(0)), (Some(0), false));
+        assert_eq!(receiver.number_of(65_535), u64::MAX);
+    }
+    takes_it(Receiver::new());
+    takes_it(Receiver::default());
+    takes_it(WideReceiver::<2>::new());
+    takes_it(WideReceiver::<2>::default());
+    takes_it(WideReceiver::<2>::starting_at(0).unwrap());
+}
+
+#[test]
+fn wide_receivers_start_at_each_rollover_count() {
+    for count in [1, 7, 65_536, 1 << 32, (1 << 48) - 1] {
+        let mut receiver = WideReceiver::<4>::starting_at(count).unwrap();
+        assert_eq!(receiver.number_of(0xABCD), count << 16 | 0xABCD);
+        assert_eq!(receiver.receive(0xABCD), Some(count << 16 | 0xABCD));
+        assert_eq!(receiver.receive(0xABCC), Some(count << 16 | 0xABCC));
+    }
+    for count in [1 << 48, u64::MAX] {
+        assert_eq!(
+            WideReceiver::<4>::starting_at(count).err(),
+            Some(BadRolloverCount)
+        );
+    }
+}
+
+fn judges(receiver: &mut RestartingReceiver, rows: &[(u16, Arrival)]) {
+    for (low, arrival) in rows {
+        assert_eq!(receiver.receive(*low), *arrival, "{low}");
+    }
+}
+
+#[test]
+fn senders_start_again() {
+    use Arrival::{Refused, Restarted, Taken};
+    // 2,999 ahead is of the stream, and 3,000 isn't; 127 below is in the window, and 128 isn't.
+    for mut receiver in [
+        RestartingReceiver::new(),
+        RestartingReceiver::default(),
+        RestartingReceiver::with_bounds(0, 0),
+        RestartingReceiver::with_bounds(3000, 1),
+    ] {
+        assert_eq!(receiver.highest(), None);
+        judges(
+            &mut receiver,
+            &[(1000, Taken(66_536)), (873, Taken(66_409)), (872, Refused)],
+        );
+        judges(
+            &mut receiver,
+            &[(3999, Taken(69_535)), (3999, Refused), (6999, Refused)],
+        );
+        assert_eq!(receiver.highest(), Some(69_535));
+        let mut copy = receiver;
+        judges(
+            &mut receiver,
+            &[(7001, Refused), (7000, Refused), (7001, Restarted(203_609))],
+        );
+        judges(
+            &mut receiver,
+            &[
+                (7001, Refused),
+                (7000, Taken(203_608)),
+                (7002, Taken(203_610)),
+            ],
+        );
+        assert_eq!(
+            (receiver.highest(), copy.highest()),
+            (Some(203_610), Some(69_535))
+        );
+        judges(&mut copy, &[(7000, Restarted(203_608))]);
+    }
+}
+
+#[test]
+fn bounds_are_those_that_are_given() {
+    use Arrival::{Refused, Restarted, Taken};
+    let mut receiver = RestartingReceiver::with_bounds(100, 3);
+    judges(
+        &mut receiver,
+        &[
+            (500, Refused),
+            (501, Refused),
+            (503, Refused),
+            (504, Refused),
+        ],
+    );
+    judges(
+        &mut receiver,
+        &[(505, Taken(66_041)), (605, Refused), (604, Taken(66_140))],
+    );
+    judges(
+        &mut receiver,
+        &[(704, Refused), (705, Restarted(196_608 + 705))],
+    );
+    let mut receiver = RestartingReceiver::with_bounds(65_535, 1);
+    judges(
+        &mut receiver,
+        &[(0, Taken(65_536)), (0, Refused), (32_767, Taken(98_303))],
+    );
+}
+
+#[test]
+fn numbers_are_extended_past_32_bits() {
+    assert_eq!(
+        (extend_u8(FAR + 255, 0), extend_u8(FAR, 255)),
+        (FAR + 256, FAR - 1)
+    );
+    assert_eq!(
+        (extend_u15(FAR + 32_767, 0), extend_u15(FAR, 32_767)),
+        (FAR + 32_768, FAR - 1)
+    );
+    assert_eq!(
+        (extend_u16(FAR + 65_535, 0), extend_u16(FAR, 65_535)),
+        (FAR + 65_536, FAR - 1)
+    );
+    assert_eq!(
+        (extend_u32(FAR - 1, 0), extend_u32(FAR, u32::MAX)),
+        (FAR, FAR - 1)
+    );
+}

@@ -1,0 +1,162 @@
+#!/usr/bin/env bash
+# Compares what the examples print with what is due: what rtp_lines prints of captures/*.lines and by_hand.lines, and
+# what was worked out by hand. Ends at the first that prints other things.
+#
+# usage: bindings/test/examples.sh FOLDER [EMULATOR]
+#        FOLDER has those of the programs lines_*, receive, forward, sfu_* and ends that are to be compared.
+set -euo pipefail
+folder=$(cd -- "$1" && pwd)
+emulator=("${@:2}")
+cd -- "$(dirname -- "$(readlink -f -- "${BASH_SOURCE[0]}")")/../.."
+scratch=$(mktemp -d)
+trap 'rm -rf -- "$scratch"' EXIT
+fail() {
+    echo "examples.sh: $*" >&2
+    exit 1
+}
+
+# No map lines: of an id that none has or that no one to three digits spell, without a URI, or with other spaces.
+bad_maps=('map 0 urn:x' 'map 000 urn:x' 'map 256 urn:x' 'map 300 urn:x' 'map +3 urn:x' 'map -3 urn:x' 'map 0x3 urn:x'
+    'map 0003 urn:x' 'map 1234 urn:x' 'map 3a urn:x' 'map 3' 'map 3 ' 'map 3 \r' 'map' 'map ' 'map  3 urn:x'
+    'map\t3 urn:x' 'map 3\turn:x' ' map 3 urn:x' 'mop 3 urn:x' 'MAP 3 urn:x' 'map urn:x 3')
+printf 'packet 1: unreadable\nverdict 1: unreadable\nline 2: neither a map line nor hex\n' >"$scratch/second"
+echo 'line 1: neither a map line nor hex' >"$scratch/first"
+is_bad() { # what is printed, the lines, the program
+    local status=0
+    printf '%b\n' "$2" | "${@:3}" >"$scratch/said" || status=$?
+    [ $status -eq 2 ] && cmp "$scratch/said" "$scratch/$1" >&2 || fail "${*:3}, the bad line $2"
+}
+compare() {
+    # by_hand.lines has what no capture has: padding, sources, no extension, a replay, a rollover, no packet, zeros
+    # as values, an empty text, a URI without a kind, CR LF.
+    for lines in captures/*.lines bindings/test/by_hand.lines; do
+        "$@" <"$lines" | cmp - "${lines%.lines}.expected" >&2 || fail "$*, $lines"
+    done
+    # 65,536 bytes
+    echo 'packet 1: pt 0 seq 1 ts 1 ssrc 44 marker no padding no extension no csrc 0 header 12' >"$scratch/long"
+    echo 'verdict 1: taken 1' >>"$scratch/long"
+    printf '80000001000000010000002C%0131048d\n' 0 | "$@" | cmp - "$scratch/long" >&2 || fail "$*, a long line"
+    for bad in 802 8G "${bad_maps[@]}"; do is_bad first "$bad" "$@"; done
+    for bad in 802 8G 'map 3 urn:x'; do is_bad second "80\n$bad" "$@"; done
+    # One to three digits, and a URI is the rest of the line.
+    for good in 'map 3 urn:x' 'map 03 urn:x' 'map 003 urn:x' 'map 255 urn:x y' 'map 7  '; do
+        printf '%b\n80\n' "$good" | "$@" | cmp - <(head -n 2 "$scratch/second") >&2 || fail "$*, the line $good"
+    done
+    [ -z "$("$@" </dev/null)" ] || fail "$*, no line"
+}
+for program in "$folder"/lines_*; do
+    [ ! -e "$program" ] || compare "${emulator[@]}" "$program"
+done
+
+if [ -e "$folder/receive" ]; then
+    printf '%s\n' '-10 dB, and 2 bytes of payload' 'a replay, or too old' 'no RTP packet' >"$scratch/expected"
+    "$folder/receive" | diff "$scratch/expected" - >&2 || fail receive
+fi
+
+forwards() {
+    # SSRC 44 -> 77; 47,000 - 46,000 = 1,000; at 5 s the send time is 5 * 2^18 = 0x140000, and 40 ms later
+    # 1,321,205 = 0x1428F5; its id 4 becomes 2, and the mid (id 3) becomes padding. The second packet says no send
+    # time, and the third line is no packet.
+    printf '%s\n' 9021B798000027100000002CBEDE000242AABBCC303100000102 9021B799000027110000002CBEDE0001303100000304 80 \
+        9021B79A000027110000002CBEDE000142AABBCC05 | "$folder/forward" 77 -46000 5 >"$scratch/forwarded"
+    printf '%s\n' 902103E8000027100000004DBEDE000222140000000000000102 902103E9000027110000004DBEDE0001000000000304 \
+        902103EA000027110000004DBEDE0001221428F505 >"$scratch/expected"
+    diff "$scratch/expected" "$scratch/forwarded" >&2 || fail 'the forwarder'
+    # 65,530 + 70,000 = 2 * 65,536 + 4,458 (0x116A), and 1 and 255 become 4,465 and 4,719; 6,400,000,063 s are 63 s
+    # modulo 64, and 63.02 s are 16,520,314.9 units of 2^-18 s: 0xFC147A. P, M, X, the source, the application bits and
+    # the payload stay; the ids 2 and 1 mean nothing to the publisher. The second to the fourth line are no packets.
+    printf '%b\n' 80000001000000010000002C 80000001000000010000002C0 80000001000000010000002CGG '' \
+        B1E0FFFAABCDEF0112345678000000091002000304030102030202AABB0101FF4142434445464748494A000003\\r \
+        800000ff000000000000002c |
+        "$folder/forward" 4294967290 70000 6400000063 >"$scratch/forwarded"
+    printf '%s\n' 8000117100000001FFFFFFFA \
+        B1E0116AABCDEF01FFFFFFFA00000009100200030203FC147A000000000000004142434445464748494A000003 \
+        8000126F00000000FFFFFFFA >"$scratch/expected"
+    diff "$scratch/expected" "$scratch/forwarded" >&2 || fail 'the forwarder, near the ends'
+    printf '80000001000000010000002C%0131048d\n' 0 | "$folder/forward" 4294967290 70000 5 >"$scratch/forwarded"
+    printf '8000117100000001FFFFFFFA%0131048d\n' 0 | cmp - "$scratch/forwarded" >&2 || fail 'the forwarder, a long line'
+    status=0
+    "$folder/forward" 77 -46000 </dev/null >"$scratch/forwarded" || status=$?
+    [ $status -eq 2 ] && [ ! -s "$scratch/forwarded" ] || fail 'the forwarder without all its arguments'
+}
+[ ! -e "$folder/forward" ] || forwards
+
+# The SFU, in C and in Rust: what three receivers get of a packet with a mid of one character, a transport number and
+# a level (ids 1 to 3), which comes twice; of one with P, a contributing source and no block; of one that jumps
+# ahead, after which another comes too late; and of a camera's, whose block of another form stays. Between them a
+# receiver report, and a datagram that is no packet. The first receiver gets the numbers as they are, the second one
+# plus 40,000, the third one less 1; the datagrams come 20 ms apart, so that the send times are 0, 60 ms (15,728 =
+# 0x3D70) and 100 ms (26,214 = 0x6666).
+second=7365636F6E645F666C6F6F725F63616D6572615F # second_floor_camera_
+alice=63616D6572615F6F665F616C696365            # camera_of_alice
+printf '%s\n' 'map 1 urn:ietf:params:rtp-hdrext:sdes:mid' \
+    'map 2 http://www.ietf.org/id/draft-holmer-rmcat-transport-wide-cc-extensions-01' \
+    'map 3 urn:ietf:params:rtp-hdrext:ssrc-audio-level' 906F0005000000A00000002CBEDE00021061210007308A000102 \
+    906F0005000000A00000002CBEDE00021061210007308A000102 80C900010000002C \
+    A1EFFFFF000000010000002D00000009AABB0002 80 806F00CD000000A00000002C 806F0006000000A00000002C \
+    90E000CE00015F900000002CABAC0003E58B3C4080000000E0070000414243 >"$scratch/sfu.lines"
+cat >"$scratch/sfu.expected" <<END
+1 906F0005000000A0000003E8BEDE0003216D30510000908A720000000102
+2 906F9C45000000A0000007D0100000091415${second}30C802000001018AFF03000000000102
+3 906F0004000000A000000BB8BEDE0006EF${alice}30110000320000000102
+1 B1EFFFFF00000001000003E900000009BEDE0003216D3151000172003D700000AABB0002
+2 B1EF9C3F00000001000007D100000009100000081415${second}31C8020001FF03003D70AABB0002
+3 B1EFFFFE0000000100000BB900000009BEDE0006EF${alice}3111000132003D70AABB0002
+1 906F00CD000000A0000003E8BEDE0003216D30510002720066660000
+2 906F9D0D000000A0000007D0100000081415${second}30C8020002FF03006666
+3 906F00CC000000A000000BB8BEDE0006EF${alice}3011000232006666
+1 90E000CE00015F90000003E8ABAC0003E58B3C4080000000E0070000414243
+2 90E09D0E00015F90000007D0ABAC0003E58B3C4080000000E0070000414243
+3 90E000CD00015F9000000BB8ABAC0003E58B3C4080000000E0070000414243
+taken 4 replays 1 late 1 rtcp 1 unreadable 1 strangers 0 sent 12 unsent 0
+END
+# Of the numbers up to the highest one, 205, that 127 below it (78) is taken once, and that 128 below it is too late.
+printf '806F%s000000A00000002C\n' 00CD 004E 004E 004D >"$scratch/window.lines"
+# The second goes 20 ms after the first: 5,242.88 units of 2^-18 seconds (0x147A).
+printf '%s\n' 1\ 906F00CD000000A0000003E8BEDE0003216D30510000720000000000 \
+    1\ 906F004E000000A0000003E8BEDE0003216D305100017200147A0000 >"$scratch/window.expected"
+echo 'taken 2 replays 1 late 1 rtcp 0 unreadable 0 strangers 0 sent 6 unsent 0' >>"$scratch/window.expected"
+# One source more than there is room for. Then headers of 2,048 bytes, which is as much as is sent on, and the padding
+# of its block is used up; of four more, and of eight more.
+for i in {1..17}; do printf '9021B7980000271000000%03XBEDE000132000000\n' "$i"; done >"$scratch/full.lines"
+printf '9021B7990000271000000001100001FC%04064d\n9021B79A0000271000000001100001FD%04072d\n' 0 0 >>"$scratch/full.lines"
+printf '9021B79B0000271000000001100001FE%04080d\n' 0 >>"$scratch/full.lines"
+echo 'taken 19 replays 0 late 0 rtcp 0 unreadable 0 strangers 1 sent 51 unsent 6' >"$scratch/full.expected"
+# One from before the first has a number too, and shuts out none after it.
+printf '806F%s000000A00000002C\n' 0005 FFFF 0006 >"$scratch/before.lines"
+echo 'taken 3 replays 0 late 0 rtcp 0 unreadable 0 strangers 0 sent 9 unsent 0' >"$scratch/before.expected"
+sends_on() {
+    "$@" <"$scratch/sfu.lines" | diff "$scratch/sfu.expected" - >&2 || fail "$*, what is sent on"
+    "$@" <"$scratch/window.lines" | grep -v '^[23] ' | diff "$scratch/window.expected" - >&2 || fail "$*, the window"
+    for it in full before; do
+        "$@" <"$scratch/$it.lines" | tail -n 1 | diff "$scratch/$it.expected" - >&2 || fail "$*, what is counted, $it"
+    done
+    # 65,536 bytes, of which each receiver gets the payload; and a map line behind a datagram.
+    printf '80000001000000010000002C%0131048d\n' 0 | "$@" |
+        awk '/^[1-3] / { n += length($2) } END { print n }' >"$scratch/said"
+    [ "$(cat "$scratch/said")" -gt $((3 * 131048)) ] || fail "$*, a long line"
+    echo 'line 2: neither a map line nor hex' >"$scratch/later"
+    is_bad later '80\nmap 3 urn:x' "$@"
+    for bad in 802 8G "${bad_maps[@]}"; do is_bad first "$bad" "$@"; done
+    # All print the same.
+    for lines in captures/*.lines bindings/test/by_hand.lines "$scratch/full.lines"; do
+        "$@" <"$lines" >"$scratch/said"
+        [ -e "$scratch/${lines##*/}.all" ] || cp "$scratch/said" "$scratch/${lines##*/}.all"
+        cmp "$scratch/said" "$scratch/${lines##*/}.all" >&2 || fail "$*, $lines"
+    done
+}
+for program in "$folder"/sfu_*; do
+    [ ! -e "$program" ] || sends_on "$program"
+done
+if [ -e "$folder/ends" ]; then "$folder/ends" >&2 || fail 'the SFU at the ends of its room'; fi
+# Taken twice, with numbers that are higher by 1,000 the second time: twice as much of everything.
+if [ -e "$folder/sfu_c" ]; then
+    bytes=$(awk 'NF == 2 { bytes += length($2) } END { print bytes }' "$scratch/sfu.expected")
+    "$folder/sfu_c" 2 <"$scratch/sfu.lines" | sed 's/receivers, .*/receivers/' >"$scratch/said"
+    printf '%s\n' "16 datagrams, $bytes bytes to receivers" \
+        'taken 8 replays 2 late 2 rtcp 2 unreadable 2 strangers 0 sent 24 unsent 0' | diff - "$scratch/said" >&2 ||
+        fail 'the SFU, twice'
+    printf '806F%s000000A00000002C\n' 0005 0069 000F | "$folder/sfu_c" 2 | tail -n 1 >"$scratch/said"
+    echo 'taken 6 replays 0 late 0 rtcp 0 unreadable 0 strangers 0 sent 18 unsent 0' | diff - "$scratch/said" >&2 ||
+        fail 'the SFU, twice with higher numbers'
+fi

@@ -1,0 +1,29 @@
+#!/usr/bin/env bash
+# Builds the examples in C and C++ so that what is undefined, and what is outside of a buffer, ends the program:
+# then bindings/test/examples.sh compares what they print.
+#
+# usage: bindings/test/sanitized.sh FOLDER INCLUDE LIBRARY [FILE]
+#        FOLDER is made, INCLUDE has rtp_wire.h, and LIBRARY is what to link, also an assembly text. Of FILE, a name
+#        in bindings/examples, only the programs that it is a part of.
+set -euo pipefail
+folder=$1 include=$2 library=$3 file=${4-}
+examples=$(cd -- "$(dirname -- "$0")/../examples" && pwd)
+built=(-O1 -g -Wall -Wextra -Wpedantic -Werror -fsanitize=address,undefined -fno-sanitize-recover=all -I "$include")
+mkdir -p -- "$folder"
+build() { # program, standard, files
+    [ -z "$file" ] || [[ " ${*:3} " = *" $file "* ]] || return 0
+    local it sources=()
+    for it in "${@:3}"; do
+        case $it in *.c | *.cpp) sources+=("$examples/$it") ;; esac
+    done
+    case $2 in
+    c++*) c++ "-std=$2" "${built[@]}" "${sources[@]}" "$library" -o "$folder/$1" ;;
+    *) cc "-std=$2" "${built[@]}" "${sources[@]}" "$library" -o "$folder/$1" ;;
+    esac
+}
+build lines_c c99 lines.c
+build lines_cpp c++11 lines.cpp
+build receive c99 receive.c
+build forward c99 forward.c
+build sfu_c c99 sfu.c sfu_lines.c sfu.h sfu_peers.h
+build ends c99 ../test/sfu_ends.c sfu.c sfu.h

@@ -1,0 +1,151 @@
+/*
+ * The core of the SFU (bindings/examples/sfu.c) at the ends of what it has room for: receivers, streams, mids, ids of
+ * both forms, and times. Expected values are worked out by hand from RFC 3550, 5.1 and RFC 8285, 4.2 and 4.3.
+ */
+#include "../examples/sfu.h"
+
+#include <stdio.h>
+#include <string.h>
+
+#define CHECK(what)                                                                                                    \
+    do {                                                                                                               \
+        if (!(what)) {                                                                                                 \
+            printf("sfu_ends.c:%d: %s\n", __LINE__, #what);                                                            \
+            return 1;                                                                                                  \
+        }                                                                                                              \
+    } while (0)
+
+typedef struct {
+    size_t count, receiver, header_len, payload_len;
+    uint8_t header[SFU_HEADER];
+    const uint8_t *payload;
+} sent;
+
+static void keep(void *context, size_t receiver, const uint8_t *header, size_t header_len, const uint8_t *payload,
+                 size_t payload_len) {
+    sent *last = context;
+    last->count++;
+    last->receiver = receiver;
+    memcpy(last->header, header, header_len);
+    last->header_len = header_len;
+    last->payload = payload;
+    last->payload_len = payload_len;
+}
+
+static const char LONGEST[] = "0123456789abcdef0123456789ABCDE";
+static const rtpw_map NOTHING = {{0}};
+
+/* What the receiver of this id and mid gets of a packet without a block, of the stream 0, behind the fixed part. */
+static sent sent_to(uint8_t id, uint8_t kind, const char *mid, uint64_t microseconds) {
+    static const uint8_t packet[] = {0x80, 0x6F, 0xFF, 0xFF, 0, 0, 0, 1, 0, 0, 0, 0x2C, 1, 2, 3};
+    static sfu sfu;
+    sent last = {0};
+    memset(&sfu, 0, sizeof sfu);
+    sfu_peer peer = {{{0}}, mid, 0xFFFFFFFF, 2};
+    peer.map.kind[id] = kind;
+    if (sfu_add(&sfu, &NOTHING, &peer)) {
+        sfu_receive(&sfu, packet, sizeof packet, microseconds, keep, &last);
+    }
+    static const uint8_t fixed[] = {0x90, 0x6F, 0, 1, 0, 0, 0, 1, 0xFF, 0xFF, 0xFF, 0xFF};
+    if (last.count != 1 || last.payload != packet + 12 || last.payload_len != 3 || memcmp(last.header, fixed, 12) != 0) {
+        last.header_len = 0;
+    }
+    return last;
+}
+
+static bool is(const sent *last, const char *block, size_t len) {
+    return last->header_len == 12 + len && memcmp(last->header + 12, block, len) == 0;
+}
+
+/* Ids up to 14 and mids up to 16 characters, the stream's digit among them, are those of the one-byte form. */
+static int forms(void) {
+    sent it = sent_to(14, RTPW_KIND_MID, "m", 0);
+    CHECK(is(&it, "\xBE\xDE\0\1\xE1m0\0", 8));
+    it = sent_to(15, RTPW_KIND_MID, "m", 0);
+    CHECK(is(&it, "\x10\0\0\1\x0F\2m0", 8));
+    it = sent_to(255, RTPW_KIND_MID, "m", 0);
+    CHECK(is(&it, "\x10\0\0\1\xFF\2m0", 8));
+    it = sent_to(1, RTPW_KIND_MID, LONGEST + 16, 0);
+    CHECK(is(&it, "\xBE\xDE\0\5\x1F" "0123456789ABCDE0\0\0\0", 24));
+    it = sent_to(1, RTPW_KIND_MID, LONGEST + 15, 0);
+    CHECK(is(&it, "\x10\0\0\5\1\x11" "f0123456789ABCDE0\0", 24));
+    it = sent_to(1, RTPW_KIND_MID, LONGEST, 0);
+    CHECK(is(&it, "\x10\0\0\x09\1\x20" "0123456789abcdef0123456789ABCDE0\0\0", 40));
+    /* The mid of a receiver that has no id for it is as good as none. */
+    it = sent_to(1, RTPW_KIND_TRANSPORT_NUMBER, LONGEST, 0);
+    CHECK(is(&it, "\xBE\xDE\0\1\x11\0\0\0", 8));
+    return 0;
+}
+
+/* 63.99 s are 16,774,594.56 units of 2^-18 s, and 64.02 s are 5,242.88 of them, modulo 64 s. */
+static int times(void) {
+    sent it = sent_to(3, RTPW_KIND_ABS_SEND_TIME, "", 63990000);
+    CHECK(is(&it, "\xBE\xDE\0\1\x32\xFF\xF5\xC2", 8));
+    it = sent_to(3, RTPW_KIND_ABS_SEND_TIME, "", 64020000);
+    CHECK(is(&it, "\xBE\xDE\0\1\x32\0\x14\x7A", 8));
+    it = sent_to(3, RTPW_KIND_ABS_SEND_TIME, "", 6400000000u * 1000 + 64020000);
+    CHECK(is(&it, "\xBE\xDE\0\1\x32\0\x14\x7A", 8));
+    return 0;
+}
+
+/* What makes a block a two-byte one becomes padding again, whatever ids the sender has. */
+static int spare(void) {
+    static const uint8_t packet[] = {0x90, 0, 0, 5, 0, 0, 0, 1, 0, 0, 0, 0x2C, 0xBE, 0xDE, 0, 1, 0x10, 0x8A, 0, 0};
+    for (int last = 15; last <= 255; last++) {
+        static sfu sfu;
+        sent it = {0};
+        memset(&sfu, 0, sizeof sfu);
+        rtpw_map sender = {{0}};
+        sfu_peer peer = {{{0}}, "", 0, 0};
+        for (int id = last; id <= 255; id++) {
+            sender.kind[id] = RTPW_KIND_AUDIO_LEVEL;
+        }
+        sender.kind[1] = peer.map.kind[20] = RTPW_KIND_AUDIO_LEVEL;
+        CHECK(sfu_add(&sfu, &sender, &peer));
+        sfu_receive(&sfu, packet, sizeof packet, 0, keep, &it);
+        /* Without an id to spare the block has no other way to become a two-byte one: the packet isn't sent. */
+        CHECK(last == 15 || is(&it, "\x10\0\0\2\x14\1\x8A\0\0\0\0\0", 12));
+    }
+    return 0;
+}
+
+static int room(void) {
+    static sfu sfu;
+    sfu_peer peer = {{{0}}, "0123456789abcdef0123456789ABCDEF", 1000, 0};
+    CHECK(!sfu_add(&sfu, &NOTHING, &peer) && sfu.route_count == 0);
+    peer.mid = LONGEST;
+    peer.map.kind[2] = RTPW_KIND_MID;
+    for (int i = 0; i < SFU_RECEIVERS; i++) {
+        CHECK(sfu_add(&sfu, &NOTHING, &peer));
+    }
+    CHECK(!sfu_add(&sfu, &NOTHING, &peer) && sfu.route_count == SFU_RECEIVERS);
+    sent last = {0};
+    uint8_t packet[12] = {0x80, 0, 0, 5};
+    for (uint8_t stream = 0; stream <= SFU_STREAMS; stream++) {
+        packet[11] = stream;
+        sfu_receive(&sfu, packet, sizeof packet, 0, keep, &last);
+        bool is_known = stream < SFU_STREAMS;
+        CHECK(last.count == SFU_RECEIVERS * (is_known ? stream + 1u : SFU_STREAMS));
+        CHECK(last.receiver == SFU_RECEIVERS - 1 && last.payload_len == 0);
+        /* 1,000 and the stream's number, and the mid ends in this, a hexadecimal digit. */
+        CHECK(!is_known || (last.header[10] == (1000 + stream) >> 8 && last.header[11] == ((1000 + stream) & 0xFF)));
+        CHECK(!is_known || last.header[12 + 4 + 2 + 31] == (uint8_t)"0123456789ABCDEF"[stream]);
+    }
+    CHECK(sfu.counts.strangers == 1 && sfu.counts.taken == SFU_STREAMS && sfu.counts.unsent == 0);
+    CHECK(sfu.counts.sent == SFU_STREAMS * SFU_RECEIVERS);
+    /* Each receiver counts its own packets, over all streams. */
+    peer.map.kind[3] = RTPW_KIND_TRANSPORT_NUMBER;
+    memset(&sfu, 0, sizeof sfu);
+    CHECK(sfu_add(&sfu, &NOTHING, &peer) && sfu_add(&sfu, &NOTHING, &peer));
+    for (int i = 0; i < 600; i++) {
+        packet[2] = (uint8_t)(i / 2 >> 8), packet[3] = (uint8_t)(i / 2), packet[11] = (uint8_t)(i % 2);
+        sfu_receive(&sfu, packet, sizeof packet, 0, keep, &last);
+    }
+    CHECK(last.count == SFU_RECEIVERS * SFU_STREAMS + 1200 && last.header_len == 12 + 4 + 40);
+    CHECK(memcmp(last.header + 12 + 4 + 34, "\3\2\2\x57", 4) == 0); /* 599 */
+    return 0;
+}
+
+int main(void) {
+    return forms() || times() || spare() || room();
+}
