@@ -12,7 +12,7 @@ import re
 from pathlib import Path
 
 OWN, BELOW = ("src", "specs", "proofs"), ("src", "specs")
-SCRIPTS = [Path(__file__).with_name(it).read_bytes() for it in ("wrong_bodies", "wrong_body.py", "refused.py")]
+SCRIPTS = "wrong_bodies", "wrong_body.py", "refused.py"
 
 
 class Record:
@@ -62,7 +62,8 @@ class Refused(Record):
     def stand_on(self, top, lines):
         """Takes the digests of the sources in this folder: the checkout, or the copy that bodies are tried on."""
         logic = re.sub(r".*\b(logic \w+).*", r"\1", self.version, flags=re.S)
-        self.stands_on = hashlib.sha256(b"\n".join([logic.encode(), *SCRIPTS]))
+        scripts = (Path(__file__).with_name(it).read_bytes() for it in SCRIPTS)
+        self.stands_on = hashlib.sha256(b"\n".join([logic.encode(), *scripts]))
         for name, line in lines.items():
             self.stands_on.update(line.encode())
             for part in OWN if name == self.crate else BELOW:
