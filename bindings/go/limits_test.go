@@ -403,4 +403,16 @@ func TestLongBuffers(t *testing.T) {
 	same(t, "put", []any{len(grown), err}, []any{16 + 260 + 70002, nil})
 	count, err := rtpwire.Pad(datagram, len(grown), 3, 1)
 	same(t, "padded", []any{count, err, datagram[len(grown)+2]}, []any{3, nil, byte(3)})
+	rest, err := rtpwire.RemovePadding(datagram[:len(grown)+3])
+	same(t, "without its padding", []any{len(rest), err}, []any{len(grown), nil})
+
+	// As many places as there are: 300 of one byte each.
+	places = make([]rtpwire.Place, 300)
+	for at := range places {
+		places[at] = rtpwire.Place{ID: uint8(1 + at%14), At: at, Len: 1}
+	}
+	n, err = rtpwire.WriteElements(buf, rtpwire.OneByteForm, datagram, places)
+	same(t, "elements", []any{n, err, buf[598:600]}, []any{600, nil, []byte{0x60, datagram[299]}})
+	n, err = new(rtpwire.Header).WriteWithForm(buf, rtpwire.TwoByteForm, datagram, places)
+	same(t, "header", []any{n, err, buf[16+897 : 16+900]}, []any{916, nil, []byte{6, 1, datagram[299]}})
 }

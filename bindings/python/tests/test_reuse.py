@@ -371,6 +371,16 @@ class Zeros(unittest.TestCase):
         for kind in self.MAP.values():
             self.assertEqual(set(self.ALL.data_of(kind)) | {0}, {0})
 
+    def test_a_form_of_none_is_any(self) -> None:
+        for form in (None, Form.NONE, 0):
+            self.assertEqual(Header().write_with([(200, b"a")], form)[12:].hex(), "10000001c8016100")
+            self.assertEqual(Header().write_with([(2, b"a")], form)[12:].hex(), "bede000120610000")
+        buf = bytearray(Header().write_with([(200, b"a"), (255, b"b")]) + bytes(8))
+        Packet.parse(buf).renumber(NewIds({200: 255, 255: 128}))
+        self.assertEqual(buf[12:22].hex(), "10000002ff0161800162")
+        self.assertEqual(rtp_wire.to_retransmission(buf, 28, 1, 2, 3, NewIds({128: 129})), 30)
+        self.assertEqual(buf[12:22].hex(), "10000002000000810162")
+
     def test_padding_of_no_bytes(self) -> None:
         fixed = bytes.fromhex("A0000001 00000002 00000003")
         for payload in (b"", b"\0", b"\7\0"):
