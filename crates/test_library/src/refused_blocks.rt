@@ -78,10 +78,22 @@ pub(crate) fn is_cut(rt: &impl Abort, values: &ExtensionValues) {
     same(rt, "the number", values.transport_cc, None);
 }
 
-// Where the memory of the first one is refused, the level stands. Where that of the second one is, it is
-// read once more: `refused_twice` has what stands where that is refused too.
+// Where the memory of the second one is refused, the first one stands.
 #[test]
 fn two_allocations(rt: HostRuntime) {
+    let mut values = ExtensionValues::default();
+    if read(rt.alloc(), &TWO, &mut values).is_err() {
+        let is_first = values == level(-42, true) || has_rate(&values, 5);
+        holds(&rt, "the first", is_first);
+        is_cut(&rt, &values);
+        read_again(&rt, rt.alloc(), &TWO, &mut values);
+    }
+    holds(&rt, "the end", is_whole(&values, 6));
+}
+
+// Of two in a row the last one alone takes memory, and where it is refused the level stands.
+#[test]
+fn two_in_a_row(rt: HostRuntime) {
     let mut values = ExtensionValues::default();
     if read(rt.alloc(), &TWO, &mut values).is_err() {
         are_values(&rt, "the refusal", &values, &level(-42, true));
@@ -100,15 +112,15 @@ fn three_allocations(rt: HostRuntime) {
     holds(&rt, "the end", is_whole(&values, 6));
 }
 
-// A second one of which the first takes no memory is read once more where memory is refused.
 #[test]
 fn the_second_allocation(rt: HostRuntime) {
     let mut values = ExtensionValues::default();
-    holds(
-        &rt,
-        "memory",
-        read(rt.alloc(), &NONE_AND_ONE, &mut values).is_ok(),
-    );
+    if read(rt.alloc(), &NONE_AND_ONE, &mut values).is_err() {
+        let kind = Extension::VideoLayersAllocation;
+        holds(&rt, "the first", is_written(&kind, &values, &[0]));
+        is_cut(&rt, &values);
+        read_again(&rt, rt.alloc(), &NONE_AND_ONE, &mut values);
+    }
     holds(&rt, "the end", is_whole(&values, 6));
 }
 
