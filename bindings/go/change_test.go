@@ -332,3 +332,16 @@ func TestElementsAreWritten(t *testing.T) {
 		0x10, 0, 0, 3, 21, 1, 0xAA, 22, 2, 0xBB, 0xCC, 21, 1, 0xDD, 0, 0,
 	}, nil})
 }
+
+// The same fields are set in one packet after another.
+func TestFieldsAreSetAgain(t *testing.T) {
+	var fields rtpwire.Fields
+	fields.SetMarker(false)
+	fields.SetPayloadType(8)
+	fields.SetSequenceNumber(0x0102)
+	fields.SetTimestamp(0x03040506)
+	fields.SetSSRC(0x0708090A)
+	for range [3]int{} {
+		changed(t, "all", fields.Apply, nil, map[int]byte{1: 8, 2: 1, 3: 2, 4: 3, 5: 4, 6: 5, 7: 6, 8: 7, 9: 8, 10: 9, 11: 10})
+	}
+}

@@ -294,3 +294,31 @@ func FuzzParse(f *testing.F) {
 		packet.UnpaddedPayload()
 	})
 }
+
+// A Packet that has read nothing has no datagram, also where it was given bytes that are no packet.
+func TestNothingIsRead(t *testing.T) {
+	var packet rtpwire.Packet
+	for _, datagram := range [][]byte{sample()[:11], sample()[:31]} {
+		same(t, "no packet", packet.Parse(datagram, nil) != nil, true)
+		same(t, "as before", packet, rtpwire.Packet{})
+	}
+}
+
+// The header of a Packet may be replaced, and the parts of the datagram are where they are.
+func TestHeaderIsReplaced(t *testing.T) {
+	packet := parsed(t, sample(), nil)
+	for _, header := range []rtpwire.Header{{}, parsed(t, camera(), nil).Header} {
+		packet.Header = header
+		same(t, "lengths", []int{packet.HeaderLen(), len(packet.Payload())}, []int{32, 5})
+	}
+}
+
+// Where there are no elements, room for one place is enough.
+func TestRoomForOnePlace(t *testing.T) {
+	packet := parsed(t, []byte{0x90, 0, 0, 1, 0, 0, 0, 2, 0, 0, 0, 3, 0xBE, 0xDE, 0, 1, 0, 0, 0, 0}, nil)
+	room := make([]rtpwire.Place, 0, 1)
+	taken := testing.AllocsPerRun(100, func() {
+		room = packet.AppendPlaces(room)
+	})
+	same(t, "no memory", []any{taken, len(room), cap(room)}, []any{0.0, 0, 1})
+}

@@ -90,3 +90,20 @@ func TestPacketsAreJudged(t *testing.T) {
 	names := []string{rtpwire.Refused.String(), rtpwire.Taken.String(), rtpwire.Restarted.String()}
 	same(t, "names", names, []string{"refused", "taken", "restarted"})
 }
+
+// Each epoch begins with the rollover count 2 more than that of the highest number before: after 2^15 of them the
+// numbers are past 2^32.
+func TestEpochsPastTwoToThe32(t *testing.T) {
+	var r rtpwire.RestartingReceiver
+	judges(t, &r, []judged{{0, 65536, rtpwire.Taken}})
+	const epochs = 1<<15 + 2
+	for epoch := uint64(1); epoch <= epochs; epoch++ {
+		low := uint16(20000 + epoch%2*30000)
+		r.Receive(low)
+		number, verdict := r.Receive(low + 1)
+		if number != (1+2*epoch)<<16+uint64(low+1) || verdict != rtpwire.Restarted {
+			t.Fatal(epoch, number, verdict)
+		}
+	}
+	judges(t, &r, []judged{{20002, 1<<32 + 5<<16 + 20002, rtpwire.Taken}})
+}

@@ -20,6 +20,10 @@ func TestPartsOfOwnValues(t *testing.T) {
 	sources(header.CSRC()[1:], 2, 3)
 	sources(header.CSRC()[:1], 2)
 	sources(header.CSRC(), 2)
+	sources([]uint32{1, 2, 3, 4, 5, 6, 7, 8, 9, 10, 11, 12, 13, 14, 15}, 1, 2, 3, 4, 5, 6, 7, 8, 9, 10, 11, 12, 13, 14, 15)
+	sources(header.CSRC(), 1, 2, 3, 4, 5, 6, 7, 8, 9, 10, 11, 12, 13, 14, 15)
+	sources(header.CSRC()[14:], 15)
+	sources([]uint32{2}, 2)
 	same(t, "those behind them", header, func() (plain rtpwire.Header) {
 		same(t, "set", plain.SetCSRC([]uint32{2}), nil)
 		return plain
@@ -96,6 +100,15 @@ func TestDataOfTheBufferItself(t *testing.T) {
 	}
 }
 
+// Data may begin in the last byte of the buffer, which the packet then fills.
+func TestDataThatBeginInTheLastByte(t *testing.T) {
+	whole := append(sample(), 0, 0, 0, 7, 8, 9)
+	grown, err := rtpwire.PutElement(whole[:41], 37, 3, whole[40:], rtpwire.AnyForm)
+	same(t, "put", []any{len(grown), err}, []any{41, nil})
+	same(t, "block", whole[20:36], []byte{0xBE, 0xDE, 0, 3, 0x10, 0xAA, 0x21, 0xBB, 0xCC, 0x10, 0xDD, 0x32, 7, 8, 9, 0})
+	same(t, "payload, and what is behind it", whole[36:], []byte{1, 2, 3, 0, 2, 8, 9})
+}
+
 // What lies behind the slice that is handed over stays, also where its capacity goes on.
 func TestNothingBehindASliceIsWritten(t *testing.T) {
 	buf := append(sample(), bytes.Repeat([]byte{0xEE}, 27)...)
@@ -111,6 +124,12 @@ func TestNothingBehindASliceIsWritten(t *testing.T) {
 	same(t, "padding", []any{err, buf}, []any{rtpwire.ErrShortBuffer, before})
 	_, err = rtpwire.ToRetransmission(buf[:37], 37, 7, 8, 9, new(rtpwire.NewIDs))
 	same(t, "sent again", []any{len(buf), err, buf[37:]}, []any{64, nil, before[37:]})
+
+	before = append([]byte(nil), buf...)
+	for _, size := range []int{0, 11} {
+		n, err := new(rtpwire.Header).Write(buf[:size], nil)
+		same(t, "written", []any{n, err, buf}, []any{0, rtpwire.ErrShortBuffer, before})
+	}
 }
 
 // An append to a slice that a packet or header lent writes over nothing of it; a write through it does.

@@ -341,3 +341,23 @@ func TestDataOf(t *testing.T) {
 	same(t, "a value of another kind", err, rtpwire.ErrBadField)
 	same(t, "unchanged", buf, make([]byte, rtpwire.MostData))
 }
+
+// A datagram that is no packet changes no layers, whatever the form of its block.
+func TestLayersOfNoPacketStay(t *testing.T) {
+	var layers rtpwire.Layers
+	same(t, "set", layers.SetStreams(rtpwire.Stream{}, rtpwire.Stream{}), nil)
+	layers.SetCurrent(1)
+	for _, datagram := range [][]byte{sample()[:31], camera()[:27]} { // the last byte of the body is cut off
+		same(t, "no packet", layers.Parse(datagram, nil), rtpwire.CutBlock)
+		same(t, "as before", []int{len(layers.Streams()), layers.Current()}, []int{2, 1})
+	}
+}
+
+// A URI is compared letter for letter (RFC 8285, 5): nothing is left out at its ends.
+func TestLettersOfURIs(t *testing.T) {
+	const uri = "urn:ietf:params:rtp-hdrext:sdes:mid"
+	same(t, "mid", rtpwire.KindOfURI(uri), rtpwire.KindMID)
+	for _, other := range []string{uri + " ", " " + uri, uri + "\r", uri + "\n", uri + "\t", uri + "\x00", uri + "/", uri[:len(uri)-1]} {
+		same(t, other, rtpwire.KindOfURI(other), rtpwire.KindNone)
+	}
+}
