@@ -5,6 +5,7 @@ import copy
 import pickle
 import unittest
 from types import SimpleNamespace
+from typing import Any
 
 from rtp_wire import BadField, Form, Header, Kind, Map, NewIds, ShortBuffer, Values, write_elements
 
@@ -101,6 +102,11 @@ class Headers(unittest.TestCase):
             if form != Form.NONE:
                 with self.assertRaises(BadField):
                     Header().write_with([(id, data)], form)
+        # None alone leaves the form open: what is false, but no whole number, is no form
+        other: Any
+        for other in ("", b"", 0.0, ()):
+            with self.assertRaises(TypeError):
+                Header().write_with([(1, b"a")], other)
 
 
 class Maps(unittest.TestCase):
@@ -168,7 +174,8 @@ class Maps(unittest.TestCase):
     def test_maps_are_copied(self) -> None:
         for table in (Map.standard(), NewIds({1: 2})):
             for made in (copy.copy(table), copy.deepcopy(table), pickle.loads(pickle.dumps(table))):
-                self.assertEqual(made, table)
+                # a map and new ids of the same numbers are equal as mappings
+                self.assertEqual((type(made), made), (type(table), table))
                 made.clear()
                 self.assertEqual((len(made), bool(table)), (0, True))
 
