@@ -291,3 +291,13 @@ fn a_uri_is_all_of_its_bytes() {
         assert_eq!(Kind::from_uri(at_end(&longer)), None, "{more}");
     }
 }
+
+#[test]
+fn a_range_that_ends_before_its_start_is_empty() {
+    let (from, to) = (3, 1);
+    let places = [Place::new(7, from..to)];
+    let mut buf = [0xEE; 4];
+    let written = write_elements(&mut buf, Form::TwoByte, &[1, 2, 3, 4], &places);
+    assert_eq!(written, Ok(2));
+    assert_eq!(buf, [7, 0, 0xEE, 0xEE]);
+}

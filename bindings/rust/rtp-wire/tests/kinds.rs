@@ -258,3 +258,17 @@ fn each_map_lists_its_ids() {
         assert_eq!(map.id_of(KINDS[(index + 1) % KINDS.len()].0), None);
     }
 }
+
+#[test]
+fn a_uri_is_compared_whole() {
+    // RFC 8285, 5: the URI names the extension, character for character.
+    for uri in [
+        " urn:ietf:params:rtp-hdrext:sdes:mid",
+        "urn:ietf:params:rtp-hdrext:sdes:mid ",
+        "urn:ietf:params:rtp-hdrext:sdes:mid\n",
+    ] {
+        assert_eq!(Kind::from_uri(uri), None);
+        assert_eq!(Map::from_uris([(3, uri)]), Ok(Map::new()));
+        assert_eq!(Map::from_uris([(0, uri)]), Ok(Map::new()));
+    }
+}

@@ -230,3 +230,16 @@ fn numbers_are_extended_past_32_bits() {
         (FAR, FAR - 1)
     );
 }
+
+#[test]
+fn the_highest_number_has_64_bits() {
+    // The last rollover count is 2^48 - 1: with 16 bits behind it the number has 64.
+    const LAST: u64 = (1 << 48) - 1;
+    fn tells_it(mut receiver: impl Stateful) {
+        let number = 0xFFFF_FFFF_FFFF_ABCD;
+        assert_eq!(receiver.receive(0xABCD), Some(number));
+        assert_eq!(receiver.highest(), Some(number));
+    }
+    tells_it(Receiver::starting_at(LAST).unwrap());
+    tells_it(WideReceiver::<2>::starting_at(LAST).unwrap());
+}
