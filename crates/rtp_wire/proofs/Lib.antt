@@ -8,6 +8,7 @@ pub mod PartsLemmas
 pub mod PlacesLemmas
 mod BytesBetween
 mod PacketChanges
+mod PacketBufLemmas
 mod PacketParts
 mod PaddingChanges
 mod ChangedPackets
