@@ -9,6 +9,7 @@ pub mod PlacesLemmas
 mod BytesBetween
 mod PacketChanges
 mod PacketBufLemmas
+mod AddedPaddingLemmas
 mod PacketParts
 mod PaddingChanges
 mod ChangedPackets

@@ -31,6 +31,7 @@ pub mod GivenFields
 pub mod PutIntoPacket
 pub mod InPlace
 pub mod PacketBuf
+pub mod AddedPadding
 pub mod Header
 pub mod NotAHeader
 pub mod NoHeaderCause

@@ -78,8 +78,11 @@ fn remove_padding(datagram: &mut [u8]) -> Option<usize>
 impl<'a> RtpPacketBuf<'a> {
     ghost use Rattle.rtp_wire.specs.PacketBuf.{whole_of, len_of, bytes_of, parts_within, StaysWhole, KeepsLength};
 
-    /// [`RtpPacketMut::set_fields`]: sets the fields that are given, and leaves the others (RFC
-    /// 3550, 5.1). Requires that a payload type is at most 127.
+    /// Sets the fields that are given, and leaves the others, as [`RtpPacketMut::set_fields`] does
+    /// (RFC 3550, 5.1). Requires that a payload type is at most 127.
+    ///
+    /// In a packet that begins with `80 E0 00 05` (hexadecimal) the payload type 8 and the number 6
+    /// make these bytes `80 88 00 06`.
     pub fn set_fields(&mut self, fields: &Fields)
         requires { IfSome fields.now.payload_type (λ pt. pt ≤ 127) }
         ensures set { SetsFields fields.now (bytes_of self.old) (bytes_of self.new) }
@@ -89,9 +92,9 @@ impl<'a> RtpPacketBuf<'a> {
         set_fields(&mut self.buf[..self.len], fields);
     }
 
-    /// [`RtpPacketMut::set_element`]: gives the last element of this id these data, where it has as
-    /// many bytes of them, and returns whether it has (RFC 8285, 4.2 and 4.3). Else nothing changes:
-    /// [`put_element`](Self::put_element) takes data of any length.
+    /// Gives the last element of this id these data, where it has as many bytes of them, and returns
+    /// whether it has, as [`RtpPacketMut::set_element`] does (RFC 8285, 4.2 and 4.3). Else nothing
+    /// changes: [`put_element`](Self::put_element) takes data of other lengths.
     pub fn set_element(&mut self, id: u8, data: &[u8]) -> bool
         ensures set { SetsElement id «data».now result (bytes_of self.old) (bytes_of self.new) }
         ensures kept { KeepsLength self.old self.new }
@@ -100,8 +103,9 @@ impl<'a> RtpPacketBuf<'a> {
         set_element(&mut self.buf[..self.len], id, data)
     }
 
-    /// [`RtpPacketMut::remove_element`]: makes each element of this id padding, and returns whether
-    /// there is one (RFC 8285, 4.2 and 4.3). [`compact`](Self::compact) then gives the bytes back.
+    /// Makes each element of this id padding, and returns whether there is one, as
+    /// [`RtpPacketMut::remove_element`] does (RFC 8285, 4.2 and 4.3). [`compact`](Self::compact)
+    /// then gives the bytes back.
     pub fn remove_element(&mut self, id: u8) -> bool
         ensures removed { RemovesElement id result (bytes_of self.old) (bytes_of self.new) }
         ensures kept { KeepsLength self.old self.new }
@@ -110,9 +114,9 @@ impl<'a> RtpPacketBuf<'a> {
         remove_element(&mut self.buf[..self.len], id)
     }
 
-    /// [`RtpPacketMut::renumber`]: gives each element its new id, and makes an element without one
-    /// padding (RFC 8285, 4.2 and 4.3). Returns `false`, and nothing changes, where the form of the
-    /// block can't carry a new id: one above 14 in the one-byte form.
+    /// Gives each element its new id, and makes an element without one padding, as
+    /// [`RtpPacketMut::renumber`] does (RFC 8285, 4.2 and 4.3). Returns `false`, and nothing
+    /// changes, where the form of the block can't carry a new id: one above 14 in the one-byte form.
     pub fn renumber(&mut self, ids: &NewIds) -> bool
         ensures renumbered { RenumbersElements ids.now result
             (bytes_of self.old) (bytes_of self.new) }
@@ -122,9 +126,9 @@ impl<'a> RtpPacketBuf<'a> {
         renumber(&mut self.buf[..self.len], ids)
     }
 
-    /// [`RtpPacketMut::remove_padding`]: takes the padding off, and clears P; where P is clear
-    /// nothing changes (RFC 3550, 5.1). Returns `false`, and changes nothing, where the last byte
-    /// counts more bytes than the payload has.
+    /// Takes the padding off, and clears P; where P is clear nothing changes (RFC 3550, 5.1).
+    /// Returns `false`, and changes nothing, where the last byte counts more bytes than the payload
+    /// has.
     ///
     /// The packet `A0 00 00 01 00 00 00 00 00 00 00 2C AA BB 00 02` (hexadecimal) becomes
     /// `80 00 00 01 00 00 00 00 00 00 00 2C AA BB`.

@@ -1,5 +1,6 @@
 //! An RTP packet where it lies in the bytes of a datagram.
 
+mod adding_padding;
 mod any_block;
 mod compacting;
 mod csrcs;

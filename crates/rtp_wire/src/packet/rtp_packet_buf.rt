@@ -92,8 +92,9 @@ impl<'a> RtpPacketBuf<'a> {
         buf
     }
 
-    /// [`put_element`](super::put_element): gives the packet one element of this id, with these
-    /// data, for which it grows where it must (RFC 3550, 5.3.1; RFC 8285, 4.2 and 4.3).
+    /// Gives the packet one element of this id, 1 to 255, with these data, of at most 255 bytes, as
+    /// [`put_element`](super::put_element) does: it grows where it must (RFC 3550, 5.3.1; RFC 8285,
+    /// 4.2 and 4.3). `allowed` is the form that alone is allowed, if one is.
     ///
     /// The packet `90 60 00 05 00 00 00 64 00 00 00 2C BE DE 00 01 10 AA 00 00 01` (hexadecimal), in
     /// a buffer of 25 bytes or more, gets the data `07 08` of id 2: it then is
@@ -120,9 +121,9 @@ impl<'a> RtpPacketBuf<'a> {
         Ok(())
     }
 
-    /// [`compact`](super::compact): makes the packet as short as its elements allow, as after
-    /// [`remove_element`](Self::remove_element) (RFC 3550, 5.3.1; RFC 8285, 4.2 and 4.3). Between
-    /// the new end and the old one any bytes may stand.
+    /// Makes the packet as short as its elements allow, as [`compact`](super::compact) does: call it
+    /// after [`remove_element`](Self::remove_element) (RFC 3550, 5.3.1; RFC 8285, 4.2 and 4.3).
+    /// Between the new end and the old one any bytes may stand.
     ///
     /// The packet `90 60 00 05 00 00 00 64 00 00 00 2C BE DE 00 02 00 00 21 BB CC 00 00 00 01`
     /// (hexadecimal) becomes `90 60 00 05 00 00 00 64 00 00 00 2C BE DE 00 01 21 BB CC 00 01`.
@@ -136,9 +137,9 @@ impl<'a> RtpPacketBuf<'a> {
         self.len = compact(&mut self.buf[..self.len]).unwrap();
     }
 
-    /// [`to_retransmission`](super::to_retransmission): makes the packet a retransmission, whose
-    /// payload is the original sequence number and the payload without its padding (RFC 4588, 4).
-    /// Requires a payload type of at most 127.
+    /// Makes the packet a retransmission, whose payload is the original sequence number and the
+    /// payload without its padding, as [`to_retransmission`](super::to_retransmission) does (RFC
+    /// 4588, 4). Requires a payload type of at most 127.
     ///
     /// The packet `80 60 00 05 00 00 00 01 00 00 00 2C AA BB` (hexadecimal), in a buffer of 16 bytes
     /// or more, becomes `80 61 00 07 00 00 00 01 00 00 00 2D 00 05 AA BB` with the SSRC 45, the
@@ -171,8 +172,9 @@ impl<'a> RtpPacketBuf<'a> {
         Ok(())
     }
 
-    /// [`from_retransmission`](super::from_retransmission): makes the retransmission the packet that
-    /// it repeats (RFC 4588, 4). Requires a payload type of at most 127.
+    /// Makes the retransmission the packet that it repeats, as
+    /// [`from_retransmission`](super::from_retransmission) does (RFC 4588, 4). Requires a payload
+    /// type of at most 127.
     ///
     /// Of the retransmission in the example of [`to_retransmission`](Self::to_retransmission) the
     /// SSRC 44 and the payload type 96 make the packet again.
