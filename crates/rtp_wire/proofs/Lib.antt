@@ -8,6 +8,8 @@ pub mod PartsLemmas
 pub mod PlacesLemmas
 mod BytesBetween
 mod PacketChanges
+mod PacketBufLemmas
+mod AddedPaddingLemmas
 mod PacketParts
 mod PaddingChanges
 mod ChangedPackets

@@ -8,7 +8,7 @@ use Rattle.rtp_ext.specs.ElementsInARow.{IsWritable}
 use Rattle.rtp_ext.specs.PutElement.{needed_form, allowed_form}
 use Rattle.rtp_ext.specs.WrittenBlock.{whole_words}
 use Rattle.rtp_ext.proofs.LastPlaceLemmas.{AreElements-same}
-use Rattle.rtp_wire.specs.declared.packet.growing.Plan.{Plan}
+use Rattle.rtp_wire.specs.declared.packet.putting.Plan.{Plan}
 use Rattle.rtp_wire.specs.declared.packet.not_put.NotPut.{NotPut}
 use Rattle.rtp_wire.specs.declared.packet.not_put.NotPut.TheVariants.{CutPacket, NotAPacket, ZeroId, LongData, OtherForm, OneByteOnly, LongBlock, NoRoom}
 use Rattle.rtp_wire.specs.NotAHeader.{sources_end}

@@ -7,7 +7,7 @@ use Rattle.rtp_ext.specs.Elements.{Element, AreElements}
 use Rattle.rtp_ext.specs.ElementsInARow.{IsWritable}
 use Rattle.rtp_ext.specs.PutElement.{row_to}
 use Rattle.rtp_ext.specs.BodySurvey.{IsSurvey}
-use Rattle.rtp_wire.specs.declared.packet.growing.Plan.{Plan}
+use Rattle.rtp_wire.specs.declared.packet.putting.Plan.{Plan}
 use Rattle.rtp_wire.specs.NotAHeader.{sources_end}
 use Rattle.rtp_wire.specs.Packet.{IsPacket, header_len_of}
 use Rattle.rtp_wire.specs.PutIntoPacket.{IsGrowth, form_of_block, body_of_block, elements_with}

@@ -29,6 +29,9 @@ pub mod SourcePlaces
 pub mod ChangedPacket
 pub mod GivenFields
 pub mod PutIntoPacket
+pub mod InPlace
+pub mod PacketBuf
+pub mod AddedPadding
 pub mod Header
 pub mod NotAHeader
 pub mod NoHeaderCause

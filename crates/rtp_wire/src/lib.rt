@@ -9,8 +9,9 @@ mod receive;
 
 pub use header::{NotAHeader, RtpHeader};
 pub use packet::{
-    Csrcs, Fields, NotAPacket, NotPut, NotRetransmitted, OriginalFields, RetransmissionFields,
-    RtpPacket, RtpPacketMut, compact, from_retransmission, is_rtcp, put_element, to_retransmission,
+    Csrcs, Fields, NotAPacket, NotInBuffer, NotPut, NotRetransmitted, OriginalFields,
+    RetransmissionFields, RtpPacket, RtpPacketBuf, RtpPacketMut, compact, from_retransmission,
+    is_rtcp, put_element, to_retransmission,
 };
 pub use payload::{
     MAX_BLANK_PADDING_PAYLOAD_SIZE, create_padding_packet, read_original_sequence_number,

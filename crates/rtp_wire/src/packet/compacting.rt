@@ -6,7 +6,7 @@ ghost use Rattle.rtp_wire.specs.NotAHeader.{IsNoPacket};
 ghost use Rattle.rtp_wire.specs.NotAPacket.{IsFirstCause};
 ghost use Rattle.rtp_wire.specs.PutIntoPacket.{Compacts};
 
-use super::growing::{HEADER_LEN, resize};
+use super::putting::{HEADER_LEN, resize};
 use super::rtp_packet::sources_end;
 use super::{NotAPacket, RtpPacket};
 use rtp_ext::{ExtensionsForm, take_out};

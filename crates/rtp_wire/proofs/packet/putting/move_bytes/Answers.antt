@@ -1,0 +1,13 @@
+use Rattle.std.proofs.Common.{arith, ◌≡◌, ℕ, ◌+◌, ◌-◌, List, drop, ◌++◌, ap, sym, ◌∙◌, subst, take-add}
+use Rattle.std.specs.List.{copy_within}
+use Rattle.std.proofs.lemmas.List.{take-append-drop}
+use Rattle.rtp_wire.proofs.packet.putting.move_bytes.Goals as goal
+
+-- bytes that are copied to where they stand
+copied_there : (xs : List ℕ) (start end : ℕ) → xs ≡ copy_within xs start end start
+copied_there xs start end =
+    sym (take-append-drop (start + (end - start)) xs) ∙ ap (λ (ys : List ℕ). ys ++ drop (start + (end - start)) xs) (take-add start (end - start) xs)
+
+pub returns-in-0 : goal.returns-in-0
+returns-in-0 c =
+    subst (λ (to : ℕ). c.args.buf.now ≡ copy_within c.args.buf.now c.args.start c.args.end to) (omega (arith, c.in-0.is, c.if-start-to.false)) (copied_there c.args.buf.now c.args.start c.args.end)

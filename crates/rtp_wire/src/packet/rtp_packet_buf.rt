@@ -1,0 +1,216 @@
+//! The packet in a buffer that it may grow in.
+
+ghost use Rattle.std.specs.Prelude.{◌≡◌, ◌↔◌, ℕ, ◌+◌, ◌<◌, ◌≤◌, List, Option, length, take, drop, IsErr, IfOk, IfErr, OnOk, OnErr};
+ghost use Rattle.rtp_ext.specs.NewIds.{new_id};
+ghost use Rattle.rtp_wire.specs.declared.packet.not_put.NotPut.{NotPut};
+ghost use Rattle.rtp_wire.specs.declared.packet.not_in_buffer.NotInBuffer.{NotInBuffer};
+ghost use Rattle.rtp_wire.specs.declared.packet.not_retransmitted.NotRetransmitted.{NotRetransmitted};
+ghost use Rattle.rtp_wire.specs.declared.packet.retransmission.RetransmissionFields.{RetransmissionFields};
+ghost use Rattle.rtp_wire.specs.NotAHeader.{IsNoPacket};
+ghost use Rattle.rtp_wire.specs.Packet.{PacketParts, IsPacket, IsWithoutPadding, header_len_of};
+ghost use Rattle.rtp_wire.specs.PutIntoPacket.{PutsElement, AppliesToPut, IsFirstNotPut, Compacts};
+ghost use Rattle.rtp_wire.specs.Retransmission.{IsRetransmissionOf, IsOriginalOf, IsRestored, IsPacketWith, Becomes, KeepsBlockHeader, KeepsFromSending, KeepsFromRestoring, IsFirstOf};
+
+use super::{
+    NotInBuffer, NotPut, NotRetransmitted, OriginalFields, RetransmissionFields, RtpPacket,
+    compact, from_retransmission, put_element, to_retransmission,
+};
+use rtp_ext::{ExtensionsForm, NewIds};
+
+/// An RTP packet in the first bytes of a buffer, into whose other bytes it may grow (RFC 3550, 5.1;
+/// RFC 8285, 4). Each call that changes the length of the packet keeps count of it; one that is
+/// refused changes nothing.
+#[derive(Debug, Drop)]
+pub struct RtpPacketBuf<'a> {
+    pub(super) buf: &'a mut [u8],
+    // How many of its first bytes are the packet.
+    pub(super) len: usize,
+    ghost within: { len ≤ length buf.now },
+    ghost held: { IsNoPacket (take len buf.now) → ⊥ },
+}
+
+impl<'a> RtpPacketBuf<'a> {
+    ghost use Rattle.rtp_wire.specs.PartsOf.{parts_of, datagram_of};
+    ghost use Rattle.rtp_wire.specs.PacketBuf.{whole_of, len_of, bytes_of, parts_within, IsNotFront, StaysWhole};
+
+    /// The packet in the first `len` bytes of the buffer, or the first cause for which these are
+    /// none (RFC 3550, 5.1 and 5.3.1).
+    pub fn parse(buf: &'a mut [u8], len: usize) -> Result<Self, NotInBuffer>
+        ensures found { IfOk result (λ packet. IsPacket (take len buf.old) (parts_within packet)) }
+        ensures length { IfOk result (λ packet. len_of packet ≡ len) }
+        ensures same_buffer { IfOk result (λ packet.
+            (whole_of packet).ghost_name ≡ buf.entry.ghost_name) }
+        ensures same_bytes { IfOk result (λ packet. (whole_of packet).now ≡ buf.old) }
+        ensures cause { IfErr result (IsNotFront buf.old len) }
+        ensures refused { IsErr result ↔ ((cause : NotInBuffer) × IsNotFront buf.old len cause) }
+    {
+        if len > buf.len() {
+            return Err(NotInBuffer::CutPacket);
+        }
+        RtpPacket::parse(&buf[..len])?;
+        Ok(RtpPacketBuf { buf, len })
+    }
+
+    /// The packet as it stands in the buffer.
+    pub fn as_packet(&self) -> RtpPacket<'_>
+        ensures parts { parts_of result ≡ parts_within self.now }
+        ensures bytes { datagram_of result ≡ bytes_of self.now }
+        ensures is_packet { IsPacket (bytes_of self.now) (parts_within self.now) }
+    {
+        RtpPacket::parse(self.as_bytes()).unwrap()
+    }
+
+    /// The bytes of the packet, to be sent, say.
+    pub fn as_bytes(&self) -> &[u8]
+        ensures { result.now ≡ bytes_of self.now }
+    {
+        &self.buf[..self.len]
+    }
+
+    /// How many bytes the packet has.
+    pub fn len(&self) -> usize
+        ensures length { result ≡ len_of self.now }
+        ensures bytes { length (bytes_of self.now) ≡ result }
+    {
+        self.len
+    }
+
+    /// How many bytes the packet may have: those of the buffer.
+    pub fn capacity(&self) -> usize
+        ensures { result ≡ length (whole_of self.now).now }
+    {
+        self.buf.len()
+    }
+
+    /// The whole buffer, to encrypt the payload in place with a tag behind it, say. Ask for the
+    /// length of the packet first.
+    pub fn into_buffer(self) -> &'a mut [u8]
+        ensures same_buffer { result.ghost_name ≡ (whole_of self.entry).ghost_name }
+        ensures same_bytes { result.now ≡ (whole_of self.entry).now }
+    {
+        let RtpPacketBuf { buf, len: _ } = self;
+        buf
+    }
+
+    /// Gives the packet one element of this id, 1 to 255, with these data, of at most 255 bytes, as
+    /// [`put_element`](super::put_element) does: it grows where it must (RFC 3550, 5.3.1; RFC 8285,
+    /// 4.2 and 4.3). `allowed` is the form that alone is allowed, if one is.
+    ///
+    /// The packet `90 60 00 05 00 00 00 64 00 00 00 2C BE DE 00 01 10 AA 00 00 01` (hexadecimal), in
+    /// a buffer of 25 bytes or more, gets the data `07 08` of id 2: it then is
+    /// `90 60 00 05 00 00 00 64 00 00 00 2C BE DE 00 02 10 AA 21 07 08 00 00 00 01`.
+    pub fn put_element(
+        &mut self,
+        id: u8,
+        data: &[u8],
+        allowed: Option<ExtensionsForm>,
+    ) -> Result<(), NotPut>
+        ensures put { OnOk result (PutsElement (bytes_of self.old) (id, «data».now) allowed
+            (whole_of self.new).now (len_of self.new)) }
+        ensures length { OnOk result (len_of self.old ≤ len_of self.new) }
+        ensures behind { OnOk result (drop (len_of self.new) (whole_of self.new).now
+            ≡ drop (len_of self.new) (whole_of self.old).now) }
+        ensures cause { IfErr result (IsFirstNotPut
+            (AppliesToPut (whole_of self.old).now (len_of self.old) (id, «data».now) allowed)) }
+        ensures refused { IsErr result ↔ ((cause : NotPut)
+            × AppliesToPut (whole_of self.old).now (len_of self.old) (id, «data».now) allowed cause) }
+        ensures unchanged { OnErr result (StaysWhole self.old self.new) }
+        ensures same_buffer { (whole_of self.new).ghost_name ≡ (whole_of self.old).ghost_name }
+    {
+        self.len = put_element(self.buf, self.len, id, data, allowed)?;
+        Ok(())
+    }
+
+    /// Makes the packet as short as its elements allow, as [`compact`](super::compact) does: call it
+    /// after [`remove_element`](Self::remove_element) (RFC 3550, 5.3.1; RFC 8285, 4.2 and 4.3).
+    /// Between the new end and the old one any bytes may stand.
+    ///
+    /// The packet `90 60 00 05 00 00 00 64 00 00 00 2C BE DE 00 02 00 00 21 BB CC 00 00 00 01`
+    /// (hexadecimal) becomes `90 60 00 05 00 00 00 64 00 00 00 2C BE DE 00 01 21 BB CC 00 01`.
+    pub fn compact(&mut self)
+        ensures compacted { Compacts (bytes_of self.old) (whole_of self.new).now (len_of self.new) }
+        ensures length { len_of self.new ≤ len_of self.old }
+        ensures behind { drop (len_of self.old) (whole_of self.new).now
+            ≡ drop (len_of self.old) (whole_of self.old).now }
+        ensures same_buffer { (whole_of self.new).ghost_name ≡ (whole_of self.old).ghost_name }
+    {
+        self.len = compact(&mut self.buf[..self.len]).unwrap();
+    }
+
+    /// Makes the packet a retransmission, whose payload is the original sequence number and the
+    /// payload without its padding, as [`to_retransmission`](super::to_retransmission) does (RFC
+    /// 4588, 4). Requires a payload type of at most 127.
+    ///
+    /// The packet `80 60 00 05 00 00 00 01 00 00 00 2C AA BB` (hexadecimal), in a buffer of 16 bytes
+    /// or more, becomes `80 61 00 07 00 00 00 01 00 00 00 2D 00 05 AA BB` with the SSRC 45, the
+    /// payload type 97 and the number 7.
+    pub fn to_retransmission(
+        &mut self,
+        stream: &RetransmissionFields,
+        ids: &NewIds,
+    ) -> Result<(), NotRetransmitted>
+        requires { stream.now.payload_type ≤ 127 }
+        ensures sent { OnOk result (Becomes
+            (λ original. IsRetransmissionOf original stream.now (new_id ids.now))
+            (bytes_of self.old) (bytes_of self.new)) }
+        ensures length { (original : PacketParts) (payload : List ℕ) →
+            IsPacket (bytes_of self.old) original →
+            IsWithoutPadding original.has_padding original.payload payload →
+            OnOk result (len_of self.new ≡ header_len_of original + 2 + length payload) }
+        ensures block_header { OnOk result
+            (KeepsBlockHeader (whole_of self.old).now (whole_of self.new).now) }
+        ensures behind { OnOk result (drop (len_of self.new) (whole_of self.new).now
+            ≡ drop (len_of self.new) (whole_of self.old).now) }
+        ensures cause { IfErr result (IsFirstOf
+            (KeepsFromSending (new_id ids.now) (whole_of self.old).now (len_of self.old))) }
+        ensures refused { IsErr result ↔ ((cause : NotRetransmitted)
+            × KeepsFromSending (new_id ids.now) (whole_of self.old).now (len_of self.old) cause) }
+        ensures unchanged { OnErr result (StaysWhole self.old self.new) }
+        ensures same_buffer { (whole_of self.new).ghost_name ≡ (whole_of self.old).ghost_name }
+    {
+        self.len = to_retransmission(self.buf, self.len, stream, ids)?;
+        Ok(())
+    }
+
+    /// Makes the retransmission the packet that it repeats, as
+    /// [`from_retransmission`](super::from_retransmission) does (RFC 4588, 4). Requires a payload
+    /// type of at most 127.
+    ///
+    /// Of the retransmission in the example of [`to_retransmission`](Self::to_retransmission) the
+    /// SSRC 44 and the payload type 96 make the packet again.
+    pub fn from_retransmission(
+        &mut self,
+        stream: &OriginalFields,
+        ids: &NewIds,
+    ) -> Result<(), NotRetransmitted>
+        requires { stream.now.payload_type ≤ 127 }
+        ensures restored { OnOk result (Becomes
+            (λ sent. IsOriginalOf sent stream.now (new_id ids.now))
+            (bytes_of self.old) (bytes_of self.new)) }
+        ensures length { (sent : PacketParts) (payload : List ℕ) →
+            IsPacket (bytes_of self.old) sent →
+            IsWithoutPadding sent.has_padding sent.payload payload →
+            OnOk result (len_of self.new + 2 ≡ header_len_of sent + length payload) }
+        ensures block_header { OnOk result
+            (KeepsBlockHeader (whole_of self.old).now (whole_of self.new).now) }
+        ensures behind { OnOk result (drop (len_of self.new) (whole_of self.new).now
+            ≡ drop (len_of self.new) (whole_of self.old).now) }
+        ensures cause { IfErr result (IsFirstOf
+            (KeepsFromRestoring (new_id ids.now) (whole_of self.old).now (len_of self.old))) }
+        ensures refused { IsErr result ↔ ((cause : NotRetransmitted)
+            × KeepsFromRestoring (new_id ids.now) (whole_of self.old).now (len_of self.old) cause) }
+        ensures unchanged { OnErr result (StaysWhole self.old self.new) }
+        ensures same_buffer { (whole_of self.new).ghost_name ≡ (whole_of self.old).ghost_name }
+
+        // What `to_retransmission` made of a packet is that packet again, without its padding.
+        ensures undone { (original sent : PacketParts) (fields : RetransmissionFields)
+            (there : ℕ → Option ℕ) → original.sequence_number < 65536 →
+            IsRetransmissionOf original fields there sent →
+            IsPacket (bytes_of self.old) sent → OnOk result
+            (IsPacketWith (IsRestored original stream.now there (new_id ids.now))
+            (bytes_of self.new)) }
+    {
+        self.len = from_retransmission(self.buf, self.len, stream, ids)?;
+        Ok(())
+    }
+}
