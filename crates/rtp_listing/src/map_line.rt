@@ -23,10 +23,7 @@ fn id_of(digits: &[u8]) -> Option<u8>
     if digits.len() > 3 || !are_digits(digits) {
         return None;
     }
-    let id = match str::from_utf8(digits) {
-        Ok(text) => text.parse::<u8>().ok()?,
-        Err(_) => return None,
-    };
+    let id = str::from_utf8(digits).ok()?.parse::<u8>().ok()?;
     if !(1..=MAX_ID).contains(&id) {
         return None;
     }
@@ -58,8 +55,5 @@ pub(super) fn map_line(line: &[u8]) -> Option<(u8, &str)>
     if uri.is_empty() {
         return None;
     }
-    match str::from_utf8(uri) {
-        Ok(uri) => Some((id, uri)),
-        Err(_) => None,
-    }
+    Some((id, str::from_utf8(uri).ok()?))
 }
