@@ -40,20 +40,6 @@ fn write_bytes(digits: &[u8], bytes: &mut [u8])
 // bytes are tested by sixteen.
 const BY_SIXTEEN: usize = 208;
 
-// The length of a front of digits, behind which fewer than sixteen digits are left.
-#[inline(always)]
-fn long_front(text: &[u8]) -> usize
-    ensures within { result ≤ length text.now }
-    ensures digits { (k : ℕ) → k < result → IsAsciiHexdigit (slice_index text.now k) }
-{
-    let front = front_of(&text[..text.len().min(BY_SIXTEEN)], Kind::Digits, 0, 16);
-    if front < BY_SIXTEEN {
-        return front;
-    }
-    let front = front_of(text, Kind::Digits, front, 64);
-    front_of(text, Kind::Digits, front, 16)
-}
-
 // The length of a front of digits, where the first `from` bytes are digits, behind which fewer than
 // eight digits are left. It is no part of its caller, so that what that has read doesn't keep eight
 // bytes from one test.
@@ -73,7 +59,11 @@ fn digits_at_front(text: &[u8]) -> usize
     ensures digits { (k : ℕ) → k < result → IsAsciiHexdigit (slice_index text.now k) }
     ensures end { result < length text.now → IsNotAsciiHexdigit (slice_index text.now result) }
 {
-    let front = long_front(text);
+    let mut front = front_of(&text[..text.len().min(BY_SIXTEEN)], Kind::Digits, 0, 16);
+    if front == BY_SIXTEEN {
+        front = front_of(text, Kind::Digits, front, 64);
+        front = front_of(text, Kind::Digits, front, 16);
+    }
     if front == text.len() || text[front] < b'0' {
         return front;
     }

@@ -1,6 +1,4 @@
-//! The lines that are printed.
-//!
-//! Each part of a line is put behind the text that a buffer begins with, as in `text`.
+//! The lines that are printed, put behind the text that a buffer begins with, as in `text`.
 
 ghost use Rattle.std.specs.Prelude.{◌≡◌, ◌+◌, ◌*◌, ◌≤◌, ◌++◌, length, take};
 ghost use Rattle.std.specs.Option.{option_copied};
@@ -86,10 +84,7 @@ fn put_verdict_line(text: &mut [u8], at: usize, packet: u64, verdict: Verdict) -
     }
 }
 
-/// Room for the longest two lines of a datagram.
-pub(super) const LINES: usize = 22 * FIELD;
-
-/// Puts the two lines of the datagram of this number. Requires room for the longest ones.
+/// Puts the two lines of the datagram of this number. Requires room for 22 fields.
 pub(super) fn put_lines(
     text: &mut [u8],
     at: usize,
@@ -97,8 +92,8 @@ pub(super) fn put_lines(
     header: Option<&RtpHeader>,
     verdict: Verdict,
 ) -> usize
-    requires { at + LINES ≤ length text.old }
-    ensures end { result ≤ at + LINES }
+    requires { at + 22 * FIELD ≤ length text.old }
+    ensures end { result ≤ at + 22 * FIELD }
     ensures written { take result text.new
         ≡ take at text.old ++ packet_lines packet (option_copied header.entry) verdict }
 {

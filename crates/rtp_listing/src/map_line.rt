@@ -8,19 +8,12 @@ use super::line::position_of;
 use rtp_wire::MAX_ID;
 use std::str;
 
-// Whether each byte is a decimal digit.
-fn are_digits(text: &[u8]) -> bool
-    ensures { IsTrue result ↔ All IsAsciiDigit text.now }
-{
-    text.iter().all(|byte| byte.is_ascii_digit())
-}
-
 // The number that one to three digits write, when it is an id of a map.
 fn id_of(digits: &[u8]) -> Option<u8>
     ensures found { IfSome result (IsIdText digits.now) }
     ensures only { (id : ℕ) → IsIdText digits.now id → result ≡ Some id }
 {
-    if digits.len() > 3 || !are_digits(digits) {
+    if digits.len() > 3 || !digits.iter().all(|byte| byte.is_ascii_digit()) {
         return None;
     }
     let id = str::from_utf8(digits).ok()?.parse::<u8>().ok()?;

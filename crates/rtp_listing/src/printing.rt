@@ -101,7 +101,7 @@ pub(super) fn print_all<W: Write>(
         (IsPartialListing input.now.exts datagrams end)) }
 {
     let mut receivers = Receivers::new(alloc);
-    let mut datagram = Vec::new(alloc);
+    let mut bytes = Vec::new(alloc);
     let mut header = RtpHeader::default();
     let mut buffer = vec![in alloc; 0u8; 2 * WRITTEN_AT_ONCE]?;
     let text = buffer.as_mut_slice();
@@ -110,14 +110,8 @@ pub(super) fn print_all<W: Write>(
     let mut packet = 0u64;
     while !rest.is_empty() {
         let (line, after) = first_line(rest);
-        let read = judged(
-            alloc,
-            line,
-            &mut datagram,
-            &input.exts,
-            &mut header,
-            &mut receivers,
-        );
+        let exts = &input.exts;
+        let read = judged(alloc, line, &mut bytes, exts, &mut header, &mut receivers);
         let Ok((found, verdict)) = read else {
             write_text(output, &text[..len])?;
             return Err(RunEnd::NoMemory);

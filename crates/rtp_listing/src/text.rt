@@ -1,7 +1,5 @@
-//! Pieces of text, put into a buffer behind the text that it begins with.
-//!
-//! Each is told where that text ends, and says where it ends then. There is room for all of them, so
-//! that none tests it.
+//! Pieces of text, put into a buffer behind the text that it begins with. Each is told where that
+//! ends, and says where it ends then. There is room for all of them, so that none tests it.
 
 ghost use Rattle.std.specs.Prelude.{◌≡◌, ◌+◌, ◌/◌, ◌%◌, ◌<◌, ◌≤◌, ◌∷◌, ◌++◌, [], ℕ, List, length, take};
 ghost use Rattle.std.specs.Fmt.{decimal, signed_decimal};
@@ -114,36 +112,15 @@ fn put_below_100_000_000(text: &mut [u8], at: usize, number: u32) -> usize
     }
 }
 
-/// Puts the number behind the text, in decimal. Requires room for twenty digits.
-#[inline(always)]
-pub(super) fn put_number(text: &mut [u8], at: usize, number: u64) -> usize
-    requires { at + 20 ≤ length text.old }
-    ensures end { result ≤ at + 20 }
-    ensures written { take result text.new ≡ take at text.old ++ decimal number }
-{
-    if number < 100_000_000 {
-        put_below_100_000_000(text, at, number as u32)
-    } else if number < 10_000_000_000_000_000 {
-        let end = put_below_100_000_000(text, at, (number / 100_000_000) as u32);
-        put_eight(text, end, (number % 100_000_000) as u32);
-        end + 8
-    } else {
-        let end = put_below_10_000(text, at, (number / 10_000_000_000_000_000) as u32);
-        put_eight(text, end, (number / 100_000_000 % 100_000_000) as u32);
-        put_eight(text, end + 8, (number % 100_000_000) as u32);
-        end + 16
-    }
-}
-
-/// A value that is printed in at most 21 bytes: a sign and twenty digits.
+/// A value that is printed in at most twenty bytes.
 pub(super) trait Value {
     // How it is printed.
     ghost printed: { Self → List ℕ };
 
     /// Puts it behind the text. Requires room for the longest value.
     fn put(self, text: &mut [u8], at: usize) -> usize
-        requires { at + 21 ≤ length text.old }
-        ensures end { result ≤ at + 21 }
+        requires { at + 20 ≤ length text.old }
+        ensures end { result ≤ at + 20 }
         ensures written { take result text.new ≡ take at text.old ++ printed self };
 }
 
@@ -152,34 +129,42 @@ impl Value for u64 {
 
     #[inline(always)]
     fn put(self, text: &mut [u8], at: usize) -> usize {
-        put_number(text, at, self)
+        if self < 100_000_000 {
+            put_below_100_000_000(text, at, self as u32)
+        } else if self < 10_000_000_000_000_000 {
+            let end = put_below_100_000_000(text, at, (self / 100_000_000) as u32);
+            put_eight(text, end, (self % 100_000_000) as u32);
+            end + 8
+        } else {
+            let end = put_below_10_000(text, at, (self / 10_000_000_000_000_000) as u32);
+            put_eight(text, end, (self / 100_000_000 % 100_000_000) as u32);
+            put_eight(text, end + 8, (self % 100_000_000) as u32);
+            end + 16
+        }
     }
 }
 
 impl Value for u16 {
     ghost printed = { decimal };
 
-    #[inline(always)]
     fn put(self, text: &mut [u8], at: usize) -> usize {
-        put_number(text, at, self as u64)
+        put_below_100_000_000(text, at, self as u32)
     }
 }
 
 impl Value for i8 {
     ghost printed = { signed_decimal };
 
-    #[inline(always)]
     fn put(self, text: &mut [u8], at: usize) -> usize {
         let sign: &[u8] = if self < 0 { b"-" } else { b"" };
         let end = put_bytes(text, at, sign);
-        put_number(text, end, self.unsigned_abs() as u64)
+        put_below_10_000(text, end, self.unsigned_abs() as u32)
     }
 }
 
 impl Value for bool {
     ghost printed = { flag_text };
 
-    #[inline(always)]
     fn put(self, text: &mut [u8], at: usize) -> usize {
         if self {
             put_bytes(text, at, b"yes")
@@ -192,7 +177,6 @@ impl Value for bool {
 impl Value for Mid {
     ghost printed = { before_padding };
 
-    #[inline(always)]
     fn put(self, text: &mut [u8], at: usize) -> usize {
         put_bytes(text, at, self.as_str().as_bytes())
     }
@@ -201,7 +185,6 @@ impl Value for Mid {
 impl Value for Rid {
     ghost printed = { before_padding };
 
-    #[inline(always)]
     fn put(self, text: &mut [u8], at: usize) -> usize {
         put_bytes(text, at, self.as_str().as_bytes())
     }
