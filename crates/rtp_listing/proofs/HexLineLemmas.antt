@@ -1,13 +1,11 @@
 -- Which lines are hexadecimal.
-use Rattle.std.proofs.Common.{◌≡◌, ℕ, ◌%◌, ◌/◌, ◌+◌, ◌*◌, ◌^◌, ◌<◌, ◌≤◌, List, length, take, drop, get_or, Result, Ok, Err, true, refl, sym, ap, ◌∙◌, subst, arith, below_more, bit_and, inl, inr, ◌-◌}
-use Rattle.std.specs.Prelude.{IsOk, Some, MatchBool, Bool, false, ◌&&◌}
+use Rattle.std.proofs.Common.{◌≡◌, ℕ, ◌%◌, ◌/◌, ◌+◌, ◌*◌, ◌^◌, ◌<◌, ◌≤◌, List, length, take, drop, Result, Ok, Err, true, refl, sym, ap, ◌∙◌, arith, bit_and}
+use Rattle.std.specs.Prelude.{IsOk, Some}
 use Rattle.std.specs.List.{All}
 use Rattle.std.specs.Char.{IsAsciiHexdigit, IsNotAsciiHexdigit}
 use Rattle.std.proofs.lemmas.Grind.{common_steps}
 use Rattle.std.proofs.lemmas.Nat.{and_block, and_mask}
-use Rattle.std.proofs.lemmas.Bool.{cases_lt}
-use Rattle.std.proofs.lemmas.List.{length-take-le, take_all, get_or-take, get_or-drop}
-use Rattle.std.proofs.lemmas.List.Elements.{All-from_get_or}
+use Rattle.std.proofs.lemmas.List.{length-take-le, take_all}
 use Rattle.hex.specs.Hex.{decode_of, decode_pairs, hex_digit_value, is_hex_digit, pair_value}
 use Rattle.hex.specs.declared.error.FromHexError.{FromHexError}
 use Rattle.hex.proofs.HexLemmas.{decode_of-ok, decode_of-digits}
@@ -80,53 +78,3 @@ decoded_front s out i room fits inv =
 
 pub not_both : (c : ℕ) → IsAsciiHexdigit c → IsNotAsciiHexdigit c → ⊥
 not_both c digit other = grind (arith, common_steps)
-
--- whether all of the first bytes of a line are digits
-pub record DigitsSoFar (line : List ℕ) (count : ℕ) (all : Bool) : Type 0 where
-  pub within : count ≤ length line
-  pub sound : all ≡ true → (k : ℕ) → k < count → IsAsciiHexdigit (get_or line k 0)
-  pub complete : ((k : ℕ) → k < count → IsAsciiHexdigit (get_or line k 0)) → all ≡ true
-
-pub DigitsSoFar-none : (line : List ℕ) → DigitsSoFar line 0 true
-DigitsSoFar-none line = record { within = omega arith; sound = λ all k below. absurd (omega arith); complete = λ each. refl }
-
-pub DigitsSoFar-more : (line : List ℕ) (count : ℕ) (all here : Bool) → count < length line → MatchBool here (IsAsciiHexdigit (get_or line count 0)) (IsNotAsciiHexdigit (get_or line count 0))
-    → DigitsSoFar line count all → DigitsSoFar line (count + 1) (all && here)
-DigitsSoFar-more line count true true below is p = record {
-  within = omega arith;
-  sound = λ all. below_more (λ k. IsAsciiHexdigit (get_or line k 0)) count (p.sound refl) is;
-  complete = λ each. refl;
-}
-DigitsSoFar-more line count true false below is p = record {
-  within = omega arith;
-  sound = λ all. absurd (cc all);
-  complete = λ each. absurd (not_both (get_or line count 0) (each count (omega arith)) is);
-}
-DigitsSoFar-more line count false here below is p = record {
-  within = omega arith;
-  sound = λ all. absurd (cc all);
-  complete = λ each. p.complete (λ k lower. each k (omega arith));
-}
-
--- the digits of a chunk behind some digits
-pub digits_more : (text : List ℕ) (len step : ℕ) → step ≤ length (drop len text) → ((k : ℕ) → k < len → IsAsciiHexdigit (get_or text k 0)) → All IsAsciiHexdigit (take step (drop len text))
-    → (k : ℕ) → k < len + step → IsAsciiHexdigit (get_or text k 0)
-digits_more text len step fits before chunk k below = elim (cases_lt k len) [
-  | inl here ↦ before k here
-  | inr there ↦
-      let i = k - len in
-      let within : i < length (take step (drop len text)) = omega (arith, length-take-le step (drop len text) fits) in
-      let same : get_or (take step (drop len text)) i 0 ≡ get_or text k 0 =
-      get_or-take step (drop len text) i 0 (omega arith) ∙ get_or-drop len text i 0 ∙ ap (λ (j : ℕ). get_or text j 0) (omega arith) in
-      subst IsAsciiHexdigit same (chunk i 0 within)
-]
-
--- a line of digits alone, and one that something else is in
-pub IsOk-after : (line : List ℕ) (digits : ℕ) → ((k : ℕ) → k < digits → k < length line → IsAsciiHexdigit (get_or line k 0)) → length line % 2 ≡ 0 → length line ≤ digits → IsOk (decode_of line)
-IsOk-after line digits each even all = IsOk-digits line even (All-from_get_or IsAsciiHexdigit line 0 (λ k below. each k (omega arith) below))
-
-pub ok_after : (line : List ℕ) (digits : ℕ) → (digits < length line → IsNotAsciiHexdigit (get_or line digits 0)) → IsOk (decode_of line) → length line ≤ digits
-ok_after line digits other ok = elim (cases_lt digits (length line)) [
-  | inl more ↦ absurd (not_both (get_or line digits 0) ((digits_from_ok line ok).1 digits 0 more) (other more))
-  | inr all ↦ all
-]

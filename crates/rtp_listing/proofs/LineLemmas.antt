@@ -1,5 +1,6 @@
 -- The first line of a text, and the lines after it.
-use Rattle.std.proofs.Common.{◌≡◌, ℕ, ◌+◌, ◌-◌, ◌<◌, ◌≤◌, Bool, false, inl, inr, eqb, List, [], ◌∷◌, ◌++◌, length, take, drop, get_or, refl, sym, ap, ◌∙◌, arith}
+use Rattle.std.proofs.Common.{◌≡◌, ℕ, ◌+◌, ◌-◌, ◌<◌, ◌≤◌, Bool, true, false, inl, inr, eqb, List, [], ◌∷◌, ◌++◌, length, take, drop, get_or, refl, sym, ap, ◌∙◌, subst, arith, below_more}
+use Rattle.std.specs.Prelude.{◌&&◌, ◌↔◌, IsTrue}
 use Rattle.std.specs.List.{slice_split, All}
 use Rattle.std.specs.Str.Lines.{lines, lines_of_parts, strip_carriage_return}
 use Rattle.std.proofs.lemmas.Bool.{ne_eqb, cases_lt}
@@ -36,16 +37,28 @@ lines-last text some none =
     slice_split_none is_feed text (All-from_get_or (λ b. is_feed b ≡ false) text 0 (λ i below. ne_eqb _ 10 (none i below))) in
     ap lines_of_parts whole ∙ rw (ne_eqb (length text) 0 (λ e. absurd (omega arith))) refl
 
--- a byte that isn't in a front, nor in what follows, isn't in both
-pub none_before : (text : List ℕ) (byte front n : ℕ) → ((k : ℕ) → k < front → get_or text k 0 ≡ byte → ⊥) → ((k : ℕ) → k < n → get_or (drop front text) k 0 ≡ byte → ⊥)
-    → (k : ℕ) → k < front + n → get_or text k 0 ≡ byte → ⊥
-none_before text byte front n before after k below is =
-    elim (cases_lt k front) [
-      | inl here ↦ before k here is
-      | inr there ↦ after (k - front) (omega arith) (get_or-drop front text (k - front) 0 ∙ ap (λ (j : ℕ). get_or text j 0) (omega arith) ∙ is)
-    ]
+-- what all bytes of a front are, and all of a chunk behind it, those of both are
+pub all_more : (P : ℕ → Type 0) (text : List ℕ) (len step : ℕ) → step ≤ length (drop len text) → ((k : ℕ) → k < len → P (get_or text k 0)) → All P (take step (drop len text))
+    → (k : ℕ) → k < len + step → P (get_or text k 0)
+all_more P text len step fits before chunk k below = elim (cases_lt k len) [
+  | inl here ↦ before k here
+  | inr there ↦
+      let i = k - len in
+      let within : i < length (take step (drop len text)) = omega (arith, length-take-le step (drop len text) fits) in
+      let same : get_or (take step (drop len text)) i 0 ≡ get_or text k 0 =
+      get_or-take step (drop len text) i 0 (omega arith) ∙ get_or-drop len text i 0 ∙ ap (λ (j : ℕ). get_or text j 0) (omega arith) in
+      subst P same (chunk i 0 within)
+]
 
-pub none_in_chunk : (text : List ℕ) (byte front n : ℕ) → n ≤ length (drop front text) → ((k : ℕ) → k < length (take n (drop front text)) → get_or (take n (drop front text)) k 0 ≡ byte → ⊥)
-    → (k : ℕ) → k < n → get_or (drop front text) k 0 ≡ byte → ⊥
-none_in_chunk text byte front n fits none k below is =
-    none k (omega (arith, length-take-le n (drop front text) fits)) (get_or-take n (drop front text) k 0 below ∙ is)
+-- whether all of the first bytes are of a kind
+pub record SoFar (P : ℕ → Type 0) (bytes : List ℕ) (count : ℕ) (all : Bool) : Type 0 where
+  pub sound : all ≡ true → (k : ℕ) → k < count → P (get_or bytes k 0)
+  pub complete : ((k : ℕ) → k < count → P (get_or bytes k 0)) → all ≡ true
+
+pub SoFar-none : (P : ℕ → Type 0) (bytes : List ℕ) → SoFar P bytes 0 true
+SoFar-none P bytes = record { sound = λ all k below. absurd (omega arith); complete = λ each. refl }
+
+pub SoFar-more : (P : ℕ → Type 0) (bytes : List ℕ) (count : ℕ) (all here : Bool) → IsTrue here ↔ P (get_or bytes count 0) → SoFar P bytes count all → SoFar P bytes (count + 1) (all && here)
+SoFar-more P bytes count true true is so_far = record { sound = λ all. below_more (λ k. P (get_or bytes k 0)) count (so_far.sound refl) (is.0 refl); complete = λ each. refl }
+SoFar-more P bytes count true false is so_far = record { sound = λ all. absurd (cc all); complete = λ each. is.1 (each count (omega arith)) }
+SoFar-more P bytes count false here is so_far = record { sound = λ all. absurd (cc all); complete = λ each. so_far.complete (λ k lower. each k (omega arith)) }

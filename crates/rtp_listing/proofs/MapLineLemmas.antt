@@ -1,6 +1,7 @@
 -- A map line and its parts.
-use Rattle.std.proofs.Common.{◌≡◌, ℕ, ◌+◌, ◌<◌, List, [], ◌∷◌, ◌++◌, length, take, drop, get_or, refl, sym, ap, ◌∙◌, arith, length-append}
-use Rattle.std.specs.Prelude.{◌≢◌, suc}
+use Rattle.std.proofs.Common.{◌≡◌, ℕ, ◌+◌, ◌<◌, List, [], ◌∷◌, ◌++◌, length, take, drop, get_or, refl, sym, ap, ◌∙◌, arith, length-append, Bor, Result, Ok, Err, Some, None}
+use Rattle.std.specs.Prelude.{◌≢◌, suc, MatchResult}
+use Rattle.std.specs.Result.{result_ok}
 use Rattle.std.specs.List.{All}
 use Rattle.std.specs.Str.{IsUtf8}
 use Rattle.std.specs.Str.Parse.{AllDigits}
@@ -15,6 +16,17 @@ use Rattle.rtp_listing.specs.MapLine.{IsMapLine}
 -- digits are text
 pub IsUtf8-digits : (digits : List ℕ) → AllDigits 10 digits → IsUtf8 digits
 IsUtf8-digits digits all = IsUtf8-from_ascii digits (IsAscii-from_digits digits all)
+
+-- what is made of bytes that may be text: nothing where they are none, and else the text of the same bytes
+pub not_text : {E : Type 0} (r : Result (Bor (List ℕ)) E) (bytes : List ℕ) (P : E → Type 0) → MatchResult r (λ s. (s.now ≡ bytes) × IsUtf8 bytes) (λ e. (IsUtf8 bytes → ⊥) × P e)
+    → None ≡ result_ok r → IsUtf8 bytes → ⊥
+not_text (Ok text) bytes P is none = absurd (cc none)
+not_text (Err e) bytes P is none = is.0
+
+pub text_is : {E : Type 0} (r : Result (Bor (List ℕ)) E) (bytes : List ℕ) (P : E → Type 0) (text : Bor (List ℕ)) → MatchResult r (λ s. (s.now ≡ bytes) × IsUtf8 bytes) (λ e. (IsUtf8 bytes → ⊥) × P e)
+    → Some text ≡ result_ok r → text.now ≡ bytes
+text_is (Ok found) bytes P text is some = let same : text ≡ found = cc in ap (λ (t : Bor (List ℕ)). t.now) same ∙ is.0
+text_is (Err e) bytes P text is some = absurd (cc some)
 
 -- no digit is a space
 pub no_space : (digits : List ℕ) → AllDigits 10 digits → All (λ byte. byte ≢ 32) digits

@@ -1,8 +1,8 @@
 -- The lines of datagrams that are printed one after the other.
-use Rattle.std.proofs.Common.{◌≡◌, ℕ, ◌+◌, ◌<◌, ◌≤◌, List, [], ◌∷◌, ◌++◌, length, map, take, get_or, refl, sym, ap, ◌∙◌, subst, arith, append_assoc, append-nil, Bool, true, false}
+use Rattle.std.proofs.Common.{◌≡◌, ℕ, ◌+◌, ◌<◌, ◌≤◌, List, [], ◌∷◌, ◌++◌, length, map, take, get_or, refl, sym, ap, ◌∙◌, subst, arith, append_assoc, append-nil, Bool, true, false, Bor}
 use Rattle.std.specs.Prelude.{Option, Some, None, Result, Ok, Err, IsErrAnd, IfErr}
-use Rattle.std.specs.Option.{option_map}
-use Rattle.std.specs.Bool.{OnTrue}
+use Rattle.std.specs.Option.{option_map, option_copied}
+use Rattle.std.specs.Bool.{OnTrue, then_some}
 use Rattle.std.specs.List.{AllZip}
 use Rattle.std.specs.Io.KnownBytes.{Appends, Keeps}
 use Rattle.std.proofs.KnownBytes.{Appends-nil, Appends-trans, Appends-kept}
@@ -26,6 +26,11 @@ use Rattle.rtp_listing.specs.Stopping.{IsPartialListing, read_header}
 -- a header of a datagram, with the verdict on it
 abbrev pub Listing : Type 0
 Listing = Option RtpHeader × Verdict
+
+-- where a header was read, it is shown
+pub shown_is : (found : Bool) (header : Bor RtpHeader) → option_copied (then_some found header) ≡ read_header found header.now
+shown_is true header = refl
+shown_is false header = refl
 
 -- what `parse_into` reads is the header of the datagram
 pub IsHeader-read : (exts : ExtensionMap) (datagram : List ℕ) (found : Bool) (header : RtpHeader) → OnTrue found (IsWire exts datagram header)

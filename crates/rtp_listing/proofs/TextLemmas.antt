@@ -1,7 +1,8 @@
 -- Numbers in decimal, by several of their last digits.
-use Rattle.std.proofs.Common.{◌≡◌, ℕ, ◌+◌, ◌/◌, ◌%◌, ◌<◌, ◌≤◌, ◌^◌, List, [], ◌∷◌, ◌++◌, refl, sym, ap, ◌∙◌, arith, append_assoc, ◌*◌, Bool, true, false, zero, suc, get_or, eqb, inl, inr}
+use Rattle.std.proofs.Common.{◌≡◌, ℕ, ◌+◌, ◌/◌, ◌%◌, ◌<◌, ◌≤◌, ◌^◌, List, [], ◌∷◌, ◌++◌, refl, sym, ap, ◌∙◌, arith, append_assoc, ◌*◌, Bool, true, false, zero, suc, get_or, eqb, inl, inr, length, take, drop}
 use Rattle.std.specs.Prelude.{◌&&◌}
 use Rattle.std.specs.Fmt.{decimal}
+use Rattle.std.proofs.lemmas.List.{drop_more}
 use Rattle.std.proofs.lemmas.Bool.{eqb-true, cases_lt}
 use Rattle.std.proofs.lemmas.Fmt.{decimal_digit, decimal_step}
 use Rattle.rtp_listing.specs.Digits.{two_digits, four_digits}
@@ -68,5 +69,11 @@ digits_below (suc n) number are below =
           rw here (eqb-true _ _ digits.0, eqb-true _ _ digits.1)
     ]
 
-pub digits_at : (number : ℕ) → number < 100 → (get_or TWO_DIGITS (number * 2) 0 ≡ 48 + number / 10) × (get_or TWO_DIGITS (number * 2 + 1) 0 ≡ 48 + number % 10)
-digits_at number below = digits_below 100 number refl below
+-- so the two bytes there are its two digits
+pub two_at : (number : ℕ) → number < 100 → take 2 (drop (number * 2) TWO_DIGITS) ≡ two_digits number
+two_at number below =
+    let long : length TWO_DIGITS ≡ 200 = refl in
+    let ones = get_or TWO_DIGITS (number * 2 + 1) 0 in
+    let pair = digits_below 100 number refl below in
+    ap (take 2) (drop_more TWO_DIGITS (number * 2) 0 (omega arith) ∙ ap (λ (xs : List ℕ). get_or TWO_DIGITS (number * 2) 0 ∷ xs) (drop_more TWO_DIGITS (number * 2 + 1) 0 (omega arith)))
+    ∙ ap (λ (d : ℕ). d ∷ ones ∷ []) pair.0 ∙ ap (λ (d : ℕ). (48 + number / 10) ∷ d ∷ []) pair.1

@@ -1,10 +1,18 @@
 -- The text read in two steps: the map lines at its front, and the rest.
-use Rattle.std.specs.Prelude.{◌≡◌, ℕ, ◌+◌, ◌<◌, ◌≤◌, ◌⊎◌, List, [], ◌∷◌, ◌++◌, length, IsErr, Ok}
+use Rattle.std.specs.Prelude.{◌≡◌, ◌≢◌, ℕ, ◌+◌, ◌<◌, ◌≤◌, ◌⊎◌, List, [], ◌∷◌, ◌++◌, length, IsErr, Ok}
+use Rattle.std.specs.Char.{IsAsciiHexdigit}
 use Rattle.std.specs.Str.Lines.{lines}
 use Rattle.hex.specs.Hex.{decode_of}
 use Rattle.rtp_ext.specs.ExtensionMap.{Slots}
+use Rattle.rtp_listing.specs.declared.line.Kind.{Kind}
+use Rattle.rtp_listing.specs.declared.line.Kind.TheVariants.{Digits, Without}
 use Rattle.rtp_listing.specs.MapLine.{IsMapLine}
 use Rattle.rtp_listing.specs.Input.{Item, AreMapLines, AreMapped, AreHex}
+
+-- the bytes of a kind
+abbrev pub IsOf : Kind → ℕ → Type 0
+IsOf Digits byte = IsAsciiHexdigit byte
+IsOf (Without other) byte = byte ≢ other
 
 -- the first line is a map line, and this follows it
 pub record MapsFirst (text : List ℕ) (id : ℕ) (uri after : List ℕ) : Type 0 where

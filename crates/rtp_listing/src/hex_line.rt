@@ -6,23 +6,11 @@ ghost use Rattle.std.specs.Vec.{vec_len};
 ghost use Rattle.hex.specs.Hex.{decode_of, pair_value};
 ghost use Rattle.rtp_listing.specs.Front.{IsHexFirst, IsNotHexFirst, IsLineEnd};
 
-use std::alloc::{AllocError, Global};
+use super::line::{Kind, front_of};
+use std::alloc::AllocError;
 
-// Whether each byte is a hexadecimal digit of either case. No byte ends the loop early, so that many
-// are tested at once.
-#[inline(always)]
-fn are_hex_digits(line: &[u8]) -> bool
-    ensures { IsTrue result ↔ All IsAsciiHexdigit line.now }
-{
-    let mut all = true;
-    for byte in line {
-        all &= byte.is_ascii_hexdigit();
-    }
-    all
-}
-
-// The byte of two hexadecimal digits. The low four bits of `0` to `9` are a digit's value, and those of
-// the letters of either case count from 1. Both digits are valued in one word of 16 bits, the first
+// The byte of two hexadecimal digits. The low four bits of `0` to `9` are a digit's value, and those
+// of the letters of either case count from 1. Both digits are valued in one word of 16 bits, the first
 // one in its low byte, so that eight such words make a vector. Requires digits.
 #[inline(always)]
 fn byte_of(high: u8, low: u8) -> u8
@@ -35,7 +23,7 @@ fn byte_of(high: u8, low: u8) -> u8
     ((values * 16 + values / 256) % 256) as u8
 }
 
-// Writes the bytes of the digits at the front, two digits a byte. Requires digits of an even number,
+// Writes the bytes of the digits at the front, two digits a byte. Requires an even number of digits,
 // and room for their bytes.
 fn write_bytes(digits: &[u8], bytes: &mut [u8])
     requires digits { All IsAsciiHexdigit digits.now }
@@ -48,44 +36,13 @@ fn write_bytes(digits: &[u8], bytes: &mut [u8])
     }
 }
 
-// The length of a front of digits, where the first `from` bytes are digits: so many bytes are tested at
-// once, and the next so many are not all digits, or fewer are left.
-#[inline(always)]
-fn front_of_digits(text: &[u8], from: usize, at_once: usize) -> usize
-    requires some { 0 < at_once }
-    requires front { from ≤ length text.now }
-    requires before { (k : ℕ) → k < from → IsAsciiHexdigit (slice_index text.now k) }
-    ensures within { result ≤ length text.now }
-    ensures digits { (k : ℕ) → k < result → IsAsciiHexdigit (slice_index text.now k) }
-{
-    let mut len = from;
-    while text.len() - len >= at_once {
-        if !are_hex_digits(&text[len..len + at_once]) {
-            return len;
-        }
-        len += at_once;
-    }
-    len
-}
+// Most lines are too short to gain by tests of 64 bytes, of which the last one is for nothing: so many
+// bytes are tested by sixteen.
+const BY_SIXTEEN: usize = 208;
 
-// The length of a front of digits, behind which fewer than sixteen digits are left. Most lines are too
-// short to gain by tests of 64 bytes, of which the last one is for nothing.
-#[inline(always)]
-fn long_front(text: &[u8]) -> usize
-    ensures within { result ≤ length text.now }
-    ensures digits { (k : ℕ) → k < result → IsAsciiHexdigit (slice_index text.now k) }
-{
-    let front = front_of_digits(&text[..text.len().min(208)], 0, 16);
-    if front < 208 {
-        return front;
-    }
-    let front = front_of_digits(text, front, 64);
-    front_of_digits(text, front, 16)
-}
-
-// The length of a front of digits, where the first `from` bytes are digits, behind which fewer than eight
-// digits are left. It is no part of its caller, so that what that has read doesn't keep eight bytes from
-// one test.
+// The length of a front of digits, where the first `from` bytes are digits, behind which fewer than
+// eight digits are left. It is no part of its caller, so that what that has read doesn't keep eight
+// bytes from one test.
 #[inline(never)]
 fn eights(text: &[u8], from: usize) -> usize
     requires front { from ≤ length text.now }
@@ -93,7 +50,7 @@ fn eights(text: &[u8], from: usize) -> usize
     ensures within { result ≤ length text.now }
     ensures digits { (k : ℕ) → k < result → IsAsciiHexdigit (slice_index text.now k) }
 {
-    front_of_digits(text, from, 8)
+    front_of(text, Kind::Digits, from, 8)
 }
 
 // The length of the longest front of hexadecimal digits. What ends a line is less than any digit.
@@ -102,21 +59,19 @@ fn digits_at_front(text: &[u8]) -> usize
     ensures digits { (k : ℕ) → k < result → IsAsciiHexdigit (slice_index text.now k) }
     ensures end { result < length text.now → IsNotAsciiHexdigit (slice_index text.now result) }
 {
-    let front = long_front(text);
+    let mut front = front_of(&text[..text.len().min(BY_SIXTEEN)], Kind::Digits, 0, 16);
+    if front == BY_SIXTEEN {
+        front = front_of(text, Kind::Digits, front, 64);
+        front = front_of(text, Kind::Digits, front, 16);
+    }
     if front == text.len() || text[front] < b'0' {
         return front;
     }
-    let mut len = if front == 0 { 0 } else { eights(text, front) };
-    while len < text.len() {
-        if !text[len].is_ascii_hexdigit() {
-            return len;
-        }
-        len += 1;
-    }
-    len
+    let front = if front == 0 { 0 } else { eights(text, front) };
+    front_of(text, Kind::Digits, front, 1)
 }
 
-// The text after the end of a line, where that stands at the front: LF, CR LF, or the end of the text.
+// The text after the end of a line, where that is at the front: LF, CR LF, or the end of the text.
 fn after_line_end(text: &[u8]) -> Option<&[u8]>
     ensures found { IfSome result (λ after. IsLineEnd text.now after.now) }
     ensures none { IfNone result ((after : List ℕ) → IsLineEnd text.now after → ⊥) }
@@ -146,43 +101,6 @@ pub(super) fn after_hex_line(text: &[u8]) -> Option<&[u8]>
     after_line_end(&text[digits..])
 }
 
-// Whether the line is hexadecimal: an even number of digits.
-fn is_hex(line: &[u8]) -> bool
-    ensures { IsTrue result ↔ IsOk (decode_of line.now) }
-{
-    line.len() % 2 == 0 && are_hex_digits(line)
-}
-
-/// Returns the bytes of a line of hexadecimal digits of either case, two digits a byte, and `None`
-/// when the line has an odd length or another character in it. An empty line is an empty datagram.
-///
-/// Returns `AllocError` only when memory for the bytes is refused; a line that is not hexadecimal
-/// needs none.
-pub fn datagram(alloc: Global, line: &[u8]) -> Result<Option<Vec<u8>>, AllocError>
-    ensures found { IfOk result (λ answer. IfSome answer (λ bytes. decode_of line.now ≡ Ok bytes.items)) }
-    ensures only { (bytes : List ℕ) → decode_of line.now ≡ Ok bytes →
-        IfOk result (λ answer. IsSomeAnd answer (λ found. found.items ≡ bytes)) }
-    ensures none { IsErr (decode_of line.now) → result ≡ Ok None }
-{
-    if !is_hex(line) {
-        return Ok(None);
-    }
-    let mut bytes = Vec::new(alloc);
-    bytes.resize(line.len() / 2, 0)?;
-    write_bytes(line, bytes.as_mut_slice());
-    Ok(Some(bytes))
-}
-
-// Makes the buffer at least this long. It is never cut, so that what it held is not put there anew.
-fn grow_to(bytes: &mut Vec<u8>, len: usize) -> Result<(), AllocError>
-    ensures { OnOk result (len ≤ vec_len bytes.new) }
-{
-    if bytes.len() < len {
-        bytes.resize(len, 0)?;
-    }
-    Ok(())
-}
-
 /// Puts the bytes of a line of hexadecimal at the front of the buffer, whatever it held.
 ///
 /// Returns `AllocError` only when memory for a longer buffer is refused. Requires that the line is
@@ -193,7 +111,10 @@ pub(super) fn decode_into(line: &[u8], bytes: &mut Vec<u8>) -> Result<(), AllocE
     ensures decoded { OnOk result
         (decode_of line.now ≡ Ok (take (length line.now / 2) bytes.new.items)) }
 {
-    grow_to(bytes, line.len() / 2)?;
+    let len = line.len() / 2;
+    if bytes.len() < len {
+        bytes.resize(len, 0)?;
+    }
     write_bytes(line, bytes.as_mut_slice());
     Ok(())
 }

@@ -17,8 +17,7 @@ use std::alloc::{AllocError, Global};
 pub struct Input<'a> {
     /// The extension that each id is mapped to.
     pub exts: ExtensionMap,
-    /// The lines after the map lines: the datagrams in hexadecimal, one a line, as
-    /// [`datagram`](super::datagram) reads them.
+    /// The lines after the map lines: the datagrams, one a line, two hexadecimal digits a byte.
     pub datagrams: &'a [u8],
 }
 
@@ -69,8 +68,7 @@ fn map_lines(alloc: Global, text: &[u8]) -> Result<(ExtensionMap, u64, &[u8]), A
     Ok((exts, count, rest))
 }
 
-// The number of the first line that is not hexadecimal. `lines_before` is the number of lines before
-// the text.
+// The number of the first line that is not hexadecimal, where so many lines are before the text.
 fn first_not_hex(text: &[u8], lines_before: u64) -> Option<u64>
     requires { lines_before + length text.now < 2 ^ 64 }
     ensures found { IfSome result (IsFirstNotHex (lines text.now) lines_before) }
@@ -100,8 +98,8 @@ pub fn read_input(alloc: Global, text: &[u8]) -> Result<Input<'_>, InputError>
     ensures bad_line { IfErr result (λ error. (n : ℕ) → error ≡ InputError.BadLine n →
         IsFirstBadLine text.now n) }
 {
-    let (exts, count, rest) = map_lines(alloc, text)?;
-    if let Some(number) = first_not_hex(rest, count) {
+    let (exts, count, datagrams) = map_lines(alloc, text)?;
+    if let Some(number) = first_not_hex(datagrams, count) {
         return Err(InputError::BadLine(number));
     }
     let exts = if count == 0 {
@@ -109,8 +107,5 @@ pub fn read_input(alloc: Global, text: &[u8]) -> Result<Input<'_>, InputError>
     } else {
         exts
     };
-    Ok(Input {
-        exts,
-        datagrams: rest,
-    })
+    Ok(Input { exts, datagrams })
 }

@@ -7,11 +7,9 @@ mod input;
 mod line;
 mod listing;
 mod map_line;
-mod output;
 mod printing;
 mod program;
 mod text;
 
-pub use hex_line::datagram;
 pub use input::{Input, InputError, read_input};
 pub use program::{RunEnd, run};

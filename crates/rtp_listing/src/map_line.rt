@@ -8,25 +8,15 @@ use super::line::position_of;
 use rtp_wire::MAX_ID;
 use std::str;
 
-// Whether each byte is a decimal digit.
-fn are_digits(text: &[u8]) -> bool
-    ensures { IsTrue result ↔ All IsAsciiDigit text.now }
-{
-    text.iter().all(|byte| byte.is_ascii_digit())
-}
-
 // The number that one to three digits write, when it is an id of a map.
 fn id_of(digits: &[u8]) -> Option<u8>
     ensures found { IfSome result (IsIdText digits.now) }
     ensures only { (id : ℕ) → IsIdText digits.now id → result ≡ Some id }
 {
-    if digits.len() > 3 || !are_digits(digits) {
+    if digits.len() > 3 || !digits.iter().all(|byte| byte.is_ascii_digit()) {
         return None;
     }
-    let id = match str::from_utf8(digits) {
-        Ok(text) => text.parse::<u8>().ok()?,
-        Err(_) => return None,
-    };
+    let id = str::from_utf8(digits).ok()?.parse::<u8>().ok()?;
     if !(1..=MAX_ID).contains(&id) {
         return None;
     }
@@ -58,8 +48,5 @@ pub(super) fn map_line(line: &[u8]) -> Option<(u8, &str)>
     if uri.is_empty() {
         return None;
     }
-    match str::from_utf8(uri) {
-        Ok(uri) => Some((id, uri)),
-        Err(_) => None,
-    }
+    Some((id, str::from_utf8(uri).ok()?))
 }

@@ -1,7 +1,8 @@
 //! The two lines of each datagram, written to the output.
 
-ghost use Rattle.std.specs.Prelude.{◌≡◌, ◌+◌, ◌≤◌, ◌++◌, List, ℕ, length, take, IsOk, IfOk, IfErr, OnOk};
+ghost use Rattle.std.specs.Prelude.{◌≡◌, ◌+◌, ◌≤◌, ◌++◌, List, ℕ, length, take, IsOk, IfOk, IfErr, OnOk, OnErr};
 ghost use Rattle.std.specs.Str.Lines.{lines};
+ghost use Rattle.std.specs.Io.KnownBytes.{Appends};
 ghost use Rattle.hex.specs.Hex.{decode_of};
 ghost use Rattle.std.specs.Option.{option_map, option_copied};
 ghost use Rattle.rtp_base.specs.Window.{Numbers};
@@ -16,13 +17,11 @@ ghost use Rattle.rtp_listing.specs.Stopping.{IsPartialListing, read_header};
 use super::hex_line::decode_into;
 use super::input::Input;
 use super::line::first_line;
-use super::listing::{put_header_line, put_verdict_line};
-use super::output::write_text;
+use super::listing::put_lines;
 use super::program::RunEnd;
-use super::text::put_bytes;
 use rtp_wire::{ExtensionMap, Receivers, RtpHeader, Verdict};
 use std::alloc::{AllocError, Global};
-use std::io::Write;
+use std::io::{ErrorKind, Write};
 
 // How many bytes are gathered before they are written.
 const WRITTEN_AT_ONCE: usize = 8192;
@@ -59,31 +58,28 @@ fn judged(
     Ok((found, verdict))
 }
 
-// The header, where one was read.
-fn shown(found: bool, header: &RtpHeader) -> Option<&RtpHeader>
-    ensures { option_copied result ≡ read_header found header.now }
+/// Writes all of the text, also where a write takes only a part of it or is interrupted. Returns
+/// `Io` when a write fails, with a beginning of the text written.
+pub(super) fn write_text<W: Write>(output: &mut W, text: &[u8]) -> Result<(), RunEnd>
+    ensures ok { OnOk result (Appends (W.contents output.old) (W.contents output.new) text.now) }
+    ensures err { IfErr result (λ end. end ≡ RunEnd.Io) }
+    ensures beginning { OnErr result (Prints (W.contents output.old) (W.contents output.new)
+        (λ printed. (rest : List ℕ) × (text.now ≡ printed ++ rest))) }
 {
-    if found { Some(header) } else { None }
-}
-
-// Puts the two lines of the datagram of this number behind the text that the buffer begins with.
-// Requires room for them.
-fn put_lines(
-    text: &mut [u8],
-    at: usize,
-    packet: u64,
-    header: Option<&RtpHeader>,
-    verdict: Verdict,
-) -> usize
-    requires { at + 512 ≤ length text.old }
-    ensures end { result ≤ at + 512 }
-    ensures written { take result text.new
-        ≡ take at text.old ++ packet_lines packet (option_copied header.entry) verdict }
-{
-    let end = put_header_line(text, at, packet, header);
-    let end = put_bytes(text, end, b"\n");
-    let end = put_verdict_line(text, end, packet, verdict);
-    put_bytes(text, end, b"\n")
+    let mut rest = text;
+    // The label names the loop for its proof.
+    'turns: for _ in 0..u64::MAX {
+        if rest.is_empty() {
+            return Ok(());
+        }
+        match output.write(rest) {
+            Ok(0) => return Err(RunEnd::Io),
+            Ok(written) => rest = &rest[written..],
+            Err(error) if error.kind() == ErrorKind::Interrupted => {}
+            Err(_) => return Err(RunEnd::Io),
+        }
+    }
+    Err(RunEnd::Io)
 }
 
 /// Prints the two lines of each datagram in order: its RTP header, and the verdict of the receiver of
@@ -105,31 +101,24 @@ pub(super) fn print_all<W: Write>(
         (IsPartialListing input.now.exts datagrams end)) }
 {
     let mut receivers = Receivers::new(alloc);
-    let mut datagram = Vec::new(alloc);
+    let mut bytes = Vec::new(alloc);
     let mut header = RtpHeader::default();
-    let mut buffer = Vec::with_capacity(alloc, 2 * WRITTEN_AT_ONCE)?;
-    buffer.resize(2 * WRITTEN_AT_ONCE, 0)?;
+    let mut buffer = vec![in alloc; 0u8; 2 * WRITTEN_AT_ONCE]?;
     let text = buffer.as_mut_slice();
     let mut len = 0;
     let mut rest = input.datagrams;
     let mut packet = 0u64;
     while !rest.is_empty() {
         let (line, after) = first_line(rest);
-        let read = judged(
-            alloc,
-            line,
-            &mut datagram,
-            &input.exts,
-            &mut header,
-            &mut receivers,
-        );
+        let exts = &input.exts;
+        let read = judged(alloc, line, &mut bytes, exts, &mut header, &mut receivers);
         let Ok((found, verdict)) = read else {
             write_text(output, &text[..len])?;
             return Err(RunEnd::NoMemory);
         };
         rest = after;
         packet += 1;
-        len = put_lines(text, len, packet, shown(found, &header), verdict);
+        len = put_lines(text, len, packet, found.then_some(&header), verdict);
         if len >= WRITTEN_AT_ONCE {
             write_text(output, &text[..len])?;
             len = 0;

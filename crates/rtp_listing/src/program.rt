@@ -8,8 +8,7 @@ ghost use Rattle.rtp_listing.specs.Stopping.{IsLeft};
 ghost use Rattle.rtp_listing.specs.declared.program.RunEnd.TheVariants.{NoMemory};
 
 use super::input::{InputError, read_input};
-use super::output::write_text;
-use super::printing::print_all;
+use super::printing::{print_all, write_text};
 use std::alloc::{AllocError, Global};
 use std::io;
 use std::io::{ErrorKind, Read, Write};
@@ -61,16 +60,6 @@ fn unread(error: io::Error) -> RunEnd
     }
 }
 
-// All that is left to read.
-fn read_all<R: Read>(alloc: Global, input: &mut R) -> Result<Vec<u8>, RunEnd>
-    ensures text { IfOk result (λ text. IfSome (R.remaining input.old) (λ known. text.items ≡ known)) }
-    ensures failed { IfErr result (λ end. (end ≡ RunEnd.NoMemory) ⊎ (end ≡ RunEnd.Io)) }
-{
-    let mut text = Vec::new(alloc);
-    input.read_to_end(&mut text).map_err(unread)?;
-    Ok(text)
-}
-
 // Prints the lines of all datagrams of the text, or the line that names its first bad line.
 fn list_text<W: Write>(alloc: Global, text: &[u8], output: &mut W) -> Result<(), RunEnd>
     ensures ok { OnOk result
@@ -96,7 +85,8 @@ fn list_input<R: Read, W: Write>(alloc: Global, input: &mut R, output: &mut W) -
     ensures err { IfErr result (λ end. IfSome (R.remaining input.old) (λ text.
         Prints (W.contents output.old) (W.contents output.new) (IsLeft text end))) }
 {
-    let text = read_all(alloc, input)?;
+    let mut text = Vec::new(alloc);
+    input.read_to_end(&mut text).map_err(unread)?;
     list_text(alloc, &text, output)
 }
 

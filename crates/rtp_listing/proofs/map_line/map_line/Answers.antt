@@ -2,7 +2,7 @@ use Rattle.std.proofs.Common.{◌≡◌, ◌≤◌, ℕ, List, subst, ap, sym, l
 use Rattle.std.proofs.lemmas.Grind.{common_steps}
 use Rattle.std.specs.Str.{IsUtf8}
 use Rattle.rtp_listing.specs.MapLine.{IsIdText}
-use Rattle.rtp_listing.proofs.MapLineLemmas.{after_word, no_space}
+use Rattle.rtp_listing.proofs.MapLineLemmas.{after_word, no_space, not_text, text_is}
 use Rattle.rtp_listing.proofs.map_line.map_line.Goals as goal
 
 pub returns-in_err-digits-clause-only : goal.returns-in_err-digits-clause-only
@@ -25,15 +25,15 @@ returns-then-is_empty-clause-only c id uri m =
     let same : length c.in_ok-digits.uri.now ≡ length uri = ap length parts.1 in
     grind (arith, common_steps)
 
-pub returns-in-Err-clause-only : goal.returns-in-Err-clause-only
-returns-in-Err-clause-only c id uri m =
+pub returns-in_err-ok-clause-only : goal.returns-in_err-ok-clause-only
+returns-in_err-ok-clause-only c id uri m =
     let rest = after_word c.args.line.now c.in_ok-strip_prefix.field-0.now id uri m c.in_ok-strip_prefix.ensures.cases.1 in
     let parts = c.in_ok-digits.ensures.only m.digits uri (no_space m.digits m.digits_are.are_digits) rest in
-    absurd (c.in-Err.ensures.cases.0 (subst IsUtf8 (sym parts.1) m.uri_is_text))
+    absurd (not_text c.from_utf8.result c.in_ok-digits.uri.now _ c.from_utf8.ensures.cases c.in_err-ok.ensures.value (subst IsUtf8 (sym parts.1) m.uri_is_text))
 
-pub returns-in-Ok-clause-only : goal.returns-in-Ok-clause-only
-returns-in-Ok-clause-only c id uri m =
+pub returns-clause-only : goal.returns-clause-only
+returns-clause-only c id uri m =
     let rest = after_word c.args.line.now c.in_ok-strip_prefix.field-0.now id uri m c.in_ok-strip_prefix.ensures.cases.1 in
     let parts = c.in_ok-digits.ensures.only m.digits uri (no_space m.digits m.digits_are.are_digits) rest in
     let same = c.in_ok-id.ensures.only id (subst (λ (digits : List ℕ). IsIdText digits id) (sym parts.0) m.digits_are) in
-    (cc, c.in-Ok.ensures.cases.0 ∙ parts.1)
+    (cc, text_is c.from_utf8.result c.in_ok-digits.uri.now _ c.in_ok-ok.field-0 c.from_utf8.ensures.cases c.in_ok-ok.ensures.value ∙ parts.1)

@@ -1,12 +1,13 @@
 use Rattle.std.proofs.Common.{◌≡◌, ◌+◌, [], ◌++◌, take, Option, refl, sym, ap, ◌∙◌, arith, append-nil}
-use Rattle.std.proofs.lemmas.Grind.{common_steps}
 use Rattle.std.proofs.lemmas.List.{nil_from_length}
+use Rattle.std.proofs.lemmas.Bool.{eqb-true}
 use Rattle.std.proofs.KnownBytes.{Appends-nil, Appends-kept}
 use Rattle.rtp_wire.specs.declared.header.rtp_header.RtpHeader.{RtpHeader}
 use Rattle.rtp_listing.specs.declared.program.RunEnd.TheVariants.{NoMemory, Io}
 use Rattle.rtp_listing.specs.Output.{Prints, packet_lines}
 use Rattle.rtp_listing.specs.Stopping.{IsPartialListing, read_header}
-use Rattle.rtp_listing.proofs.PrintLemmas.{Prints-all, Prints-written, Prints-cut, Prints-nothing, handed_on}
+use Rattle.rtp_listing.proofs.PrintLemmas.{Prints-all, Prints-written, Prints-cut, Prints-nothing, handed_on, shown_is}
+use Rattle.std.specs.Option.{option_copied}
 use Rattle.rtp_listing.proofs.PrintingLemmas.{Printing-none, IsOk-next, Printing-more, Printing-written, all_done}
 use Rattle.rtp_listing.proofs.printing.print_all.Goals as goal
 
@@ -16,15 +17,9 @@ returns-in_err-buffer-clause-err g c datagrams hex =
     handed_on c.from_residual.result NoMemory NoMemory (λ end. Prints old old (IsPartialListing c.args.input.now.exts datagrams end)) c.from_residual.ensures.1 refl
     (Prints-nothing c.args.input.now.exts datagrams old)
 
-pub returns-in_err-resize-clause-err : goal.returns-in_err-resize-clause-err
-returns-in_err-resize-clause-err g c datagrams hex =
-    let old = g.W.Write.contents c.args.output.now in
-    handed_on c.from_residual-in_err-resize.result NoMemory NoMemory (λ end. Prints old old (IsPartialListing c.args.input.now.exts datagrams end))
-    c.from_residual-in_err-resize.ensures.1 refl (Prints-nothing c.args.input.now.exts datagrams old)
-
 pub loop-rest-init : goal.loop-rest-init
 loop-rest-init g c = record {
-  room = omega (arith, c.as_mut_slice-text.ensures.len, c.in_ok-resize.ensures.len);
+  room = omega (arith, c.as_mut_slice-text.ensures.len, c.in_ok-buffer.ensures.len);
   short = omega arith;
   printing = Printing-none _ _ _ _ c.new-receivers.result (Appends-nil (g.W.Write.contents c.args.output.now)) refl c.new-receivers.ensures;
 }
@@ -43,7 +38,7 @@ returns-in_default-clause-err g c datagrams hex =
 
 pub returns-in_err-write_text-2-clause-err : goal.returns-in_err-write_text-2-clause-err
 returns-in_err-write_text-2-clause-err g c datagrams hex =
-    let shown = ap (λ (h : Option RtpHeader). take c.loop-rest.len c.loop-rest.text ++ packet_lines (c.loop-rest.packet + 1) h c.in-Ok.verdict) c.shown.ensures in
+    let shown = ap (λ (h : Option RtpHeader). take c.loop-rest.len c.loop-rest.text ++ packet_lines (c.loop-rest.packet + 1) h c.in-Ok.verdict) (ap option_copied c.then_some.ensures ∙ shown_is c.in-Ok.found _) in
     let more =
     Printing-more _ _ _ _ c.first_line.result.1.now _ _ _ _ _ _ _ (read_header c.in-Ok.found c.judged-read.new.header) c.in-Ok.verdict c.loop-rest.invariant.printing c.first_line.ensures.first c.first_line.ensures.shorter
     c.in-Ok.ensures.header c.in-Ok.ensures.verdict c.in-Ok.ensures.after (c.put_lines-len.ensures.written ∙ shown) in
@@ -57,7 +52,7 @@ returns-in_err-write_text-3-clause-err g c datagrams hex =
 
 pub returns-in-Ok-flush-clause-ok : goal.returns-in-Ok-flush-clause-ok
 returns-in-Ok-flush-clause-ok g c datagrams hex =
-    let empty : c.loop-rest.rest.now ≡ [] = nil_from_length _ (grind (arith, common_steps)) in
+    let empty : c.loop-rest.rest.now ≡ [] = nil_from_length _ (eqb-true _ 0 (sym c.is_empty.ensures ∙ c.loop-rest-test.false)) in
     Prints-all _ _ _ _ _ _ _ _ _ (c.loop-rest.invariant.printing.printed datagrams hex) refl _
     (all_done _ _ _ _ _ _ _ _ c.loop-rest.invariant.printing empty datagrams hex) c.in_ok-write_text-3.ensures.ok c.in-Ok-flush.ensures.bytes
 
@@ -68,7 +63,7 @@ returns-clause-err g c datagrams hex =
 
 pub loop-rest-preserved-then-len-ge-WRITTEN_AT_ONCE : goal.loop-rest-preserved-then-len-ge-WRITTEN_AT_ONCE
 loop-rest-preserved-then-len-ge-WRITTEN_AT_ONCE g c =
-    let shown = ap (λ (h : Option RtpHeader). take c.loop-rest.len c.loop-rest.text ++ packet_lines (c.loop-rest.packet + 1) h c.in-Ok.verdict) c.shown.ensures in
+    let shown = ap (λ (h : Option RtpHeader). take c.loop-rest.len c.loop-rest.text ++ packet_lines (c.loop-rest.packet + 1) h c.in-Ok.verdict) (ap option_copied c.then_some.ensures ∙ shown_is c.in-Ok.found _) in
     let more =
     Printing-more _ _ _ _ c.first_line.result.1.now _ _ _ _ _ _ _ (read_header c.in-Ok.found c.judged-read.new.header) c.in-Ok.verdict c.loop-rest.invariant.printing c.first_line.ensures.first c.first_line.ensures.shorter
     c.in-Ok.ensures.header c.in-Ok.ensures.verdict c.in-Ok.ensures.after (c.put_lines-len.ensures.written ∙ shown) in
@@ -80,7 +75,7 @@ loop-rest-preserved-then-len-ge-WRITTEN_AT_ONCE g c =
 
 pub loop-rest-preserved : goal.loop-rest-preserved
 loop-rest-preserved g c =
-    let shown = ap (λ (h : Option RtpHeader). take c.loop-rest.len c.loop-rest.text ++ packet_lines (c.loop-rest.packet + 1) h c.in-Ok.verdict) c.shown.ensures in
+    let shown = ap (λ (h : Option RtpHeader). take c.loop-rest.len c.loop-rest.text ++ packet_lines (c.loop-rest.packet + 1) h c.in-Ok.verdict) (ap option_copied c.then_some.ensures ∙ shown_is c.in-Ok.found _) in
     let more =
     Printing-more _ _ _ _ c.first_line.result.1.now _ _ _ _ _ _ _ (read_header c.in-Ok.found c.judged-read.new.header) c.in-Ok.verdict c.loop-rest.invariant.printing c.first_line.ensures.first c.first_line.ensures.shorter
     c.in-Ok.ensures.header c.in-Ok.ensures.verdict c.in-Ok.ensures.after (c.put_lines-len.ensures.written ∙ shown) in

@@ -5,7 +5,7 @@ use Rattle.rtp_listing.proofs.text.put_below_100.Goals as goal
 
 pub returns-then-number-lt10-clause-written : goal.returns-then-number-lt10-clause-written
 returns-then-number-lt10-clause-written c =
-    c.put_byte.ensures ∙ ap (λ (xs : List ℕ). take c.args.at c.args.text.now ++ xs) (sym (decimal_digit c.args.number c.if-number-lt10.true))
+    c.put_bytes.ensures.written ∙ ap (λ (xs : List ℕ). take c.args.at c.args.text.now ++ xs) (sym (decimal_digit c.args.number c.if-number-lt10.true))
 
 pub returns-else-number-lt10-clause-written : goal.returns-else-number-lt10-clause-written
 returns-else-number-lt10-clause-written c =

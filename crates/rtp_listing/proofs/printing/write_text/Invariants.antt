@@ -1,6 +1,6 @@
 use Rattle.std.proofs.Common.{◌≡◌, ℕ, List, ◌++◌}
 use Rattle.std.specs.Io.KnownBytes.{Appends}
-use Rattle.rtp_listing.proofs.output.write_text.Given as goal
+use Rattle.rtp_listing.proofs.printing.write_text.Given as goal
 
 -- what is gone from the rest is written
 abbrev pub invariant-turns : goal.invariant-turns

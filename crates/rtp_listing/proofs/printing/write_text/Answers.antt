@@ -1,8 +1,8 @@
 use Rattle.std.proofs.Common.{◌≡◌, ℕ, ◌-◌, List, ◌++◌, length, take, drop, sym, ap, ◌∙◌, append_assoc, take-append-drop, Bor}
 use Rattle.std.proofs.lemmas.List.{take_rest}
 use Rattle.std.proofs.KnownBytes.{Appends-trans, Appends-kept}
-use Rattle.rtp_listing.proofs.output.write_text.Goals as goal
-use Rattle.rtp_listing.proofs.output.write_text.Goals.{in-Ok, in-Err}
+use Rattle.rtp_listing.proofs.printing.write_text.Goals as goal
+use Rattle.rtp_listing.proofs.printing.write_text.Goals.{in-Ok, in-Err}
 
 -- what was written and what is left are all
 moved : (all written rest : List ℕ) (n : ℕ) → all ≡ written ++ rest → all ≡ (written ++ take n rest) ++ take (length rest - n) (drop n rest)
