@@ -122,7 +122,7 @@ take_what_is_proved() {
     local name renamed=()
     for name in $(in_front); do renamed+=(--redefine-sym "rtpw_$name=rtp_proved_$name"); done
     "${tools}objcopy" "${renamed[@]}" "$top/crates/rtp_c/out/librtp_c.a" "$work/librtp_c.a"
-    sed "1,/^${not_proved//[\/*]/.}\$/d" "$work/rtp_wire.s" >"$work/apart.s"
+    awk -v front="$not_proved" 'found; $0 == front { found = 1 }' "$work/rtp_wire.s" >"$work/apart.s"
     # shellcheck disable=SC2086
     $cc -c "$work/apart.s" -o "$work/apart.o"
     parts=(--whole-archive "$work/librtp_c.a" --no-whole-archive "$work/apart.o")
