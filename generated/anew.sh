@@ -74,13 +74,15 @@ in_front() {
     sed -n 's/^APART(\([a-z_]*\),.*/\1/p' "$top/generated/apart.c"
 }
 
-# Lets the kit's clang write as text what it is given, with the words by which `rt` called it.
+# Lets the kit's clang write as text what it is given, with the words by which `rt` called it. For ARM these tell it
+# to leave out the passes that `rt` has run before; C needs them.
 as_text() { # language, file, where to
     local words at
     mapfile -t words <"$lent/words" || return
     for at in "${!words[@]}"; do
-        case ${words[at]} in
+        case ${words[at]-} in
         -c) words[at]=-S ;;
+        -Xclang) [ "$1" = ir ] || unset "words[at]" "words[at + 1]" ;;
         -x) words[at + 1]=$1 words[at + 2]=$2 ;;
         -o) words[at + 1]=$3 ;;
         esac
