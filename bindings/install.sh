@@ -118,8 +118,14 @@ take_what_is_proved() {
     else
         give_up "the text $text isn't what was proved: generated/make writes it anew"
     fi
-    cp -- "$top/crates/rtp_c/out/librtp_c.a" "$work"
-    parts=(--whole-archive "$work/librtp_c.a" --no-whole-archive)
+    # In front of some functions stands what isn't proved: it is the end of the text.
+    local name renamed=()
+    for name in $(in_front); do renamed+=(--redefine-sym "rtpw_$name=rtp_proved_$name"); done
+    "${tools}objcopy" "${renamed[@]}" "$top/crates/rtp_c/out/librtp_c.a" "$work/librtp_c.a"
+    awk -v front="$not_proved" 'found; $0 == front { found = 1 }' "$work/rtp_wire.s" >"$work/apart.s"
+    # shellcheck disable=SC2086
+    $cc -c "$work/apart.s" -o "$work/apart.o"
+    parts=(--whole-archive "$work/librtp_c.a" --no-whole-archive "$work/apart.o")
 }
 
 if [ -n "$proves" ]; then

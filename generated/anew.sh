@@ -64,37 +64,60 @@ build_for() { # text, processor
 # The code of a text: without the names of the compiler's files, with labels that meet no others where the text is
 # part of a larger one, and with call frame information where debuggers and profilers look for it. Only these
 # names can be seen from outside.
-plain_code() { # names
-    sed -E -e '/^\t\.(file|ident|cfi_sections)[\t ]/d' -e "/^\t\.globl\t($1)\$/!{/^\t\.globl\t/d}" \
-        -e '/^\t\.ascii\t/!s/\.L([A-Za-z_])/.Lrtp_\1/g'
+plain_code() { # names, what labels begin with
+    sed -E -e '/^\t\.(file|ident|cfi_sections|hidden)[\t ]/d' -e '/^\t(#|\/\/)(NO_)?APP$/d' \
+        -e "/^\t\.globl\t($1)\$/!{/^\t\.globl\t/d}" -e "/^\t\.ascii\t/!s/\.L([A-Za-z_])/.L$2\1/g"
 }
 
-# Writes the text of what was built last.
-make_text() { # text, processor, file
-    local words at exports what
+# The functions for C in front of which generated/apart.c stands, without the rtpw_ of their names.
+in_front() {
+    sed -n 's/^APART(\([a-z_]*\),.*/\1/p' "$top/generated/apart.c"
+}
+
+# Lets the kit's clang write as text what it is given, with the words by which `rt` called it. For ARM these tell it
+# to leave out the passes that `rt` has run before; C needs them.
+as_text() { # language, file, where to
+    local words at
     mapfile -t words <"$lent/words" || return
     for at in "${!words[@]}"; do
-        case ${words[at]} in
+        case ${words[at]-} in
         -c) words[at]=-S ;;
-        -x) words[at + 2]=$lent/module ;;
-        -o) words[at + 1]=$lent/module.s ;;
+        -Xclang) [ "$1" = ir ] || unset "words[at]" "words[at + 1]" ;;
+        -x) words[at + 1]=$1 words[at + 2]=$2 ;;
+        -o) words[at + 1]=$3 ;;
         esac
     done
-    "$lent/toolchain/bin/clang" "${words[@]}" -fno-addrsig -fno-verbose-asm || return
+    "$lent/toolchain/bin/clang" "${words[@]}" -fno-addrsig -fno-verbose-asm
+}
+
+# Writes the text of what was built last. In the library for C generated/apart.c takes the names of the functions in
+# front of which it stands, and is the end of the text.
+make_text() { # text, processor, file
+    local exports what proved='is proved' front
+    as_text ir "$lent/module" "$lent/module.s" || return
     case $1 in
-    rtp_wire) what='the library for C' exports='rtpw_[a-z0-9_]*' ;;
+    rtp_wire)
+        as_text c "$top/generated/apart.c" "$lent/apart.s" || return
+        front=$(in_front | paste -s -d '|') exports='rtpw_[a-z0-9_]*'
+        sed -i -E "s/\brtpw_($front)\b/rtp_proved_\1/g" "$lent/module.s" || return
+        what='the library for C' proved='but those at its end is proved'
+        ;;
     rtp_lines) what='the program' exports=main ;;
     esac
     {
         echo "/*"
-        echo " * $1 for Linux on $2: the assembly text that Rattle's compiler makes of $what, each function of which is proved."
+        echo " * $1 for Linux on $2: the assembly text that Rattle's compiler makes of $what, each function of which $proved."
         echo " * Made anew by: generated/make"
         echo " * kit: $(rt version)"
         echo " * sources: $(sources_digest "${crate_of[$1]}")"
         echo " * SPDX-License-Identifier: MIT OR Apache-2.0"
         echo " * Copyright (c) 2026 The rtp-wire developers (NOTICE)"
         echo " */"
-        plain_code "$exports" <"$lent/module.s"
+        plain_code "$exports" rtp_ <"$lent/module.s"
+        if [ "$1" = rtp_wire ]; then
+            echo "$not_proved"
+            plain_code "$exports" rtp_apart_ <"$lent/apart.s"
+        fi
     } >"$3"
     sed -i "s/^ \* sources: .*/&\n * text: $(text_digest "$3")/" "$3"
 }

@@ -11,8 +11,11 @@ text_of() { # text, processor
     echo "$top/generated/$1-$2.s"
 }
 
+# The line of the text of the library for C behind which generated/apart.c begins.
+not_proved='/* What follows is of generated/apart.c, in front of the functions rtp_proved_*, and is not proved. */'
+
 # The digest of what a crate is made of: the lines of crates.txt for it and for those below it, and
-# their src, specs and proofs.
+# their src, specs and proofs; and for the library for C generated/apart.c.
 sources_digest() { # crate
     local names name part folders=()
     read -ra names <<<"$(crates_of "$1")"
@@ -26,6 +29,7 @@ sources_digest() { # crate
         done
         find "${folders[@]}" -type f \( -name '*.rt' -o -name '*.antt' \) -print0 |
             LC_ALL=C sort -z | xargs -0 sha256sum
+        [ "$1" != rtp_c ] || sha256sum generated/apart.c
     ) | sha256sum | cut -d ' ' -f 1
 }
 

@@ -34,7 +34,9 @@ static size_t bytes_of(char *line) {
         char pair[3] = {line[2 * i], line[2 * i + 1], '\0'};
         line[i] = (char)strtoul(pair, NULL, 16);
     }
-    return len % 2 == 0 && strchr("\r\n", line[len]) != NULL ? len / 2 : 0;
+    const char *end = line + len;
+    bool ends = strcmp(end, "\n") == 0 || strcmp(end, "\r\n") == 0 || *end == '\0';
+    return len % 2 == 0 && ends ? len / 2 : 0;
 }
 
 int main(int argc, char **argv) {

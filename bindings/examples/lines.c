@@ -19,6 +19,15 @@ typedef struct {
     rtpw_receiver receiver;
 } stream;
 
+/* How long a line is without its end: a line feed, and a carriage return before that. */
+static size_t len_of(const char *line) {
+    size_t len = strlen(line);
+    if (len != 0 && line[len - 1] == '\n') {
+        len -= len >= 2 && line[len - 2] == '\r' ? 2 : 1;
+    }
+    return len;
+}
+
 /* Whether the line maps an id, of one to three digits, which is done. */
 static int is_map_line(const char *line) {
     if (strncmp(line, "map ", 4) != 0) {
@@ -30,14 +39,14 @@ static int is_map_line(const char *line) {
     }
     unsigned long id = strtoul(line + 4, NULL, 10);
     const char *uri = line + 4 + digits + 1;
-    size_t len = strcspn(uri, "\r\n");
+    size_t len = len_of(uri);
     return id <= 255 && len != 0 &&
            rtpw_map_set(&map, (uint8_t)id, rtpw_kind_of_uri((const uint8_t *)uri, len)) == RTPW_OK;
 }
 
 /* How many bytes the line spells, which then stand at its beginning; -1 where it isn't hexadecimal. */
 static long bytes_of(char *line) {
-    size_t len = strcspn(line, "\r\n");
+    size_t len = len_of(line);
     if (len % 2 != 0 || strspn(line, "0123456789abcdefABCDEF") != len) {
         return -1;
     }

@@ -95,7 +95,7 @@ int main() {
     unsigned long packets = 0, lines = 0;
     while (std::getline(std::cin, line)) {
         lines++;
-        if (!line.empty() && line.back() == '\r') {
+        if (!line.empty() && line.back() == '\r' && !std::cin.eof()) { // before a line feed
             line.pop_back();
         }
         if (packets == 0 && map_line(line, map)) {

@@ -22,7 +22,7 @@ typedef struct {
 
 /* How many bytes the line spells, which then stand at its beginning; -1 where it isn't hexadecimal. */
 static long bytes_of(char *line) {
-    size_t len = strcspn(line, "\r\n");
+    size_t len = len_of(line);
     if (len % 2 != 0 || strspn(line, "0123456789abcdefABCDEF") != len) {
         return -1;
     }

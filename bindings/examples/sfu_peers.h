@@ -22,6 +22,15 @@ static inline bool add_peers(sfu *sfu, const rtpw_map *sender) {
     return sfu_add(sfu, sender, &PEERS[0]) && sfu_add(sfu, sender, &PEERS[1]) && sfu_add(sfu, sender, &PEERS[2]);
 }
 
+/* How long a line is without its end: a line feed, and a carriage return before that. */
+static inline size_t len_of(const char *line) {
+    size_t len = strlen(line);
+    if (len != 0 && line[len - 1] == '\n') {
+        len -= len >= 2 && line[len - 2] == '\r' ? 2 : 1;
+    }
+    return len;
+}
+
 /* Whether the line maps an id of the sender, of one to three digits, which is done: `map ID URI`. */
 static inline bool is_map_line(rtpw_map *map, const char *line) {
     if (strncmp(line, "map ", 4) != 0) {
@@ -33,7 +42,7 @@ static inline bool is_map_line(rtpw_map *map, const char *line) {
     }
     unsigned long id = strtoul(line + 4, NULL, 10);
     const char *uri = line + 4 + digits + 1;
-    size_t len = strcspn(uri, "\r\n");
+    size_t len = len_of(uri);
     return id <= 255 && len != 0 &&
            rtpw_map_set(map, (uint8_t)id, rtpw_kind_of_uri((const uint8_t *)uri, len)) == RTPW_OK;
 }

@@ -3,7 +3,8 @@
 # what was worked out by hand. Ends at the first that prints other things.
 #
 # usage: bindings/test/examples.sh FOLDER [EMULATOR]
-#        FOLDER has those of the programs lines_*, receive, forward, sfu_* and ends that are to be compared.
+#        FOLDER has those of the programs lines_*, receive, forward, sfu_*, ends, and sockets with udp that are to be
+#        compared.
 set -euo pipefail
 folder=$(cd -- "$1" && pwd)
 emulator=("${@:2}")
@@ -19,12 +20,19 @@ fail() {
 bad_maps=('map 0 urn:x' 'map 000 urn:x' 'map 256 urn:x' 'map 300 urn:x' 'map +3 urn:x' 'map -3 urn:x' 'map 0x3 urn:x'
     'map 0003 urn:x' 'map 1234 urn:x' 'map 3a urn:x' 'map 3' 'map 3 ' 'map 3 \r' 'map' 'map ' 'map  3 urn:x'
     'map\t3 urn:x' 'map 3\turn:x' ' map 3 urn:x' 'mop 3 urn:x' 'MAP 3 urn:x' 'map urn:x 3')
+# No hexadecimal: an odd number of digits, another letter, and a carriage return that isn't before the line feed.
+bad_hex=(802 8G '80\rGG' '80\r80' '80\r\r' '\r80')
 printf 'packet 1: unreadable\nverdict 1: unreadable\nline 2: neither a map line nor hex\n' >"$scratch/second"
 echo 'line 1: neither a map line nor hex' >"$scratch/first"
 is_bad() { # what is printed, the lines, the program
     local status=0
     printf '%b\n' "$2" | "${@:3}" >"$scratch/said" || status=$?
     [ $status -eq 2 ] && cmp "$scratch/said" "$scratch/$1" >&2 || fail "${*:3}, the bad line $2"
+}
+is_bad_at_the_end() { # the program, of a line that ends with the input, behind a carriage return
+    local status=0
+    printf '80\r' | "$@" >"$scratch/said" || status=$?
+    [ $status -eq 2 ] && cmp "$scratch/said" "$scratch/first" >&2 || fail "$*, a carriage return at the end"
 }
 compare() {
     # by_hand.lines has what no capture has: padding, sources, no extension, a replay, a rollover, no packet, zeros
@@ -36,12 +44,18 @@ compare() {
     echo 'packet 1: pt 0 seq 1 ts 1 ssrc 44 marker no padding no extension no csrc 0 header 12' >"$scratch/long"
     echo 'verdict 1: taken 1' >>"$scratch/long"
     printf '80000001000000010000002C%0131048d\n' 0 | "$@" | cmp - "$scratch/long" >&2 || fail "$*, a long line"
-    for bad in 802 8G "${bad_maps[@]}"; do is_bad first "$bad" "$@"; done
-    for bad in 802 8G 'map 3 urn:x'; do is_bad second "80\n$bad" "$@"; done
+    for bad in "${bad_hex[@]}" "${bad_maps[@]}"; do is_bad first "$bad" "$@"; done
+    for bad in "${bad_hex[@]}" 'map 3 urn:x'; do is_bad second "80\n$bad" "$@"; done
     # One to three digits, and a URI is the rest of the line.
     for good in 'map 3 urn:x' 'map 03 urn:x' 'map 003 urn:x' 'map 255 urn:x y' 'map 7  '; do
         printf '%b\n80\n' "$good" | "$@" | cmp - <(head -n 2 "$scratch/second") >&2 || fail "$*, the line $good"
     done
+    is_bad_at_the_end "$@"
+    # A carriage return within a URI is a part of it: of this one no kind is known, and the mid isn't told.
+    printf '%b\n' 'map 1 urn:ietf:params:rtp-hdrext:sdes:mid\rx' 90000001000000010000002CBEDE000110410000 | "$@" |
+        head -n 1 >"$scratch/said"
+    echo 'packet 1: pt 0 seq 1 ts 1 ssrc 44 marker no padding no extension yes csrc 0 header 20' |
+        cmp - "$scratch/said" >&2 || fail "$*, a URI with a carriage return"
     [ -z "$("$@" </dev/null)" ] || fail "$*, no line"
 }
 for program in "$folder"/lines_*; do
@@ -64,8 +78,9 @@ forwards() {
     diff "$scratch/expected" "$scratch/forwarded" >&2 || fail 'the forwarder'
     # 65,530 + 70,000 = 2 * 65,536 + 4,458 (0x116A), and 1 and 255 become 4,465 and 4,719; 6,400,000,063 s are 63 s
     # modulo 64, and 63.02 s are 16,520,314.9 units of 2^-18 s: 0xFC147A. P, M, X, the source, the application bits and
-    # the payload stay; the ids 2 and 1 mean nothing to the publisher. The second to the fourth line are no packets.
-    printf '%b\n' 80000001000000010000002C 80000001000000010000002C0 80000001000000010000002CGG '' \
+    # the payload stay; the ids 2 and 1 mean nothing to the publisher. The second to the sixth line are no packets.
+    printf '%b\n' 80000001000000010000002C 80000001000000010000002C0 80000001000000010000002CGG \
+        '80000001000000010000002C\rGG' '80000001000000010000002C\r\r' '' \
         B1E0FFFAABCDEF0112345678000000091002000304030102030202AABB0101FF4142434445464748494A000003\\r \
         800000ff000000000000002c |
         "$folder/forward" 4294967290 70000 6400000063 >"$scratch/forwarded"
@@ -75,6 +90,9 @@ forwards() {
     diff "$scratch/expected" "$scratch/forwarded" >&2 || fail 'the forwarder, near the ends'
     printf '80000001000000010000002C%0131048d\n' 0 | "$folder/forward" 4294967290 70000 5 >"$scratch/forwarded"
     printf '8000117100000001FFFFFFFA%0131048d\n' 0 | cmp - "$scratch/forwarded" >&2 || fail 'the forwarder, a long line'
+    # The SSRC is a decimal number, also with zeros before it: 77 is 0x4D.
+    echo 80000001000000010000002C | "$folder/forward" 0077 0 0 >"$scratch/forwarded"
+    echo 80000001000000010000004D | cmp - "$scratch/forwarded" >&2 || fail 'the forwarder, an SSRC with zeros'
     status=0
     "$folder/forward" 77 -46000 </dev/null >"$scratch/forwarded" || status=$?
     [ $status -eq 2 ] && [ ! -s "$scratch/forwarded" ] || fail 'the forwarder without all its arguments'
@@ -125,6 +143,16 @@ echo 'taken 19 replays 0 late 0 rtcp 0 unreadable 0 strangers 1 sent 51 unsent 6
 # One from before the first has a number too, and shuts out none after it.
 printf '806F%s000000A00000002C\n' 0005 FFFF 0006 >"$scratch/before.lines"
 echo 'taken 3 replays 0 late 0 rtcp 0 unreadable 0 strangers 0 sent 9 unsent 0' >"$scratch/before.expected"
+# One datagram more than a transport has numbers, 20 ms apart. The last one has the 16 bits of the first: 0, and with
+# what is added 40,000 (0x9C40) and 65,535. It goes after 1,310.72 s, which modulo 64 s are 30.72 s, and so
+# 8,053,063.68 units of 2^-18 s (0x7AE147). Its transport number, 65,536, is 0 too.
+printf '806F%04X000000A00000002C\n' {0..65535} 0 >"$scratch/many.lines"
+cat >"$scratch/many.expected" <<END
+1 906F0000000000A0000003E8BEDE0003216D30510000727AE1470000
+2 906F9C40000000A0000007D0100000081415${second}30C8020000FF037AE147
+3 906FFFFF000000A000000BB8BEDE0006EF${alice}30110000327AE147
+taken 65537 replays 0 late 0 rtcp 0 unreadable 0 strangers 0 sent 196611 unsent 0
+END
 sends_on() {
     "$@" <"$scratch/sfu.lines" | diff "$scratch/sfu.expected" - >&2 || fail "$*, what is sent on"
     "$@" <"$scratch/window.lines" | grep -v '^[23] ' | diff "$scratch/window.expected" - >&2 || fail "$*, the window"
@@ -137,7 +165,9 @@ sends_on() {
     [ "$(cat "$scratch/said")" -gt $((3 * 131048)) ] || fail "$*, a long line"
     echo 'line 2: neither a map line nor hex' >"$scratch/later"
     is_bad later '80\nmap 3 urn:x' "$@"
-    for bad in 802 8G "${bad_maps[@]}"; do is_bad first "$bad" "$@"; done
+    for bad in "${bad_hex[@]}" "${bad_maps[@]}"; do is_bad first "$bad" "$@"; done
+    is_bad_at_the_end "$@"
+    "$@" <"$scratch/many.lines" | tail -n 4 | diff "$scratch/many.expected" - >&2 || fail "$*, many datagrams"
     # All print the same.
     for lines in captures/*.lines bindings/test/by_hand.lines "$scratch/full.lines"; do
         "$@" <"$lines" >"$scratch/said"
@@ -159,4 +189,14 @@ if [ -e "$folder/sfu_c" ]; then
     printf '806F%s000000A00000002C\n' 0005 0069 000F | "$folder/sfu_c" 2 | tail -n 1 >"$scratch/said"
     echo 'taken 6 replays 0 late 0 rtcp 0 unreadable 0 strangers 0 sent 18 unsent 0' | diff - "$scratch/said" >&2 ||
         fail 'the SFU, twice with higher numbers'
+    # 1,000 datagrams are taken again, and not one more. Of each the receivers get 28, 48 and 40 bytes.
+    head -n 1000 "$scratch/many.lines" | "$folder/sfu_c" 1 | sed 's/receivers, .*/receivers/' >"$scratch/said"
+    printf '%s\n' '1000 datagrams, 116000 bytes to receivers' \
+        'taken 1000 replays 0 late 0 rtcp 0 unreadable 0 strangers 0 sent 3000 unsent 0' | diff - "$scratch/said" >&2 ||
+        fail 'the SFU, 1,000 datagrams again'
+    status=0
+    head -n 1001 "$scratch/many.lines" | "$folder/sfu_c" 1 >"$scratch/said" || status=$?
+    [ $status -eq 3 ] && [ ! -s "$scratch/said" ] || fail 'the SFU, 1,001 datagrams again'
 fi
+# What goes over sockets, on 127.0.0.1.
+if [ -e "$folder/sockets" ]; then "$folder/udp" "$folder/sockets" >&2 || fail 'the SFU with sockets'; fi

@@ -70,7 +70,7 @@ def main(lines: Iterable[str]) -> int:
     receivers: DefaultDict[int, Receiver] = defaultdict(Receiver)
     count = 0
     for place, line in enumerate(lines, 1):
-        line = line.rstrip("\r\n")
+        line = re.sub(r"\r?\n\Z", "", line)
         if count == 0 and is_map_line(line, map):
             continue
         if not re.fullmatch("([0-9a-fA-F]{2})*", line):
@@ -83,4 +83,5 @@ def main(lines: Iterable[str]) -> int:
 
 
 if __name__ == "__main__":
-    sys.exit(main(sys.stdin))
+    with open(sys.stdin.fileno(), encoding="utf-8", newline="\n") as lines:  # no carriage return ends a line by itself
+        sys.exit(main(lines))

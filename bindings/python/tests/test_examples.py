@@ -39,13 +39,15 @@ class Captures(unittest.TestCase):
             self.assertEqual(said.stdout.decode(), lines.with_suffix(".expected").read_text("utf-8"), lines)
 
     def test_a_bad_line(self) -> None:
-        for bad in (b"802", b"8G", *BAD_MAPS):
+        for bad in (b"802", b"8G", b"80\r80", b"80\r\r", *BAD_MAPS):
             said = self.lines(bad + b"\n")
             self.assertEqual((said.returncode, said.stdout), (2, b"line 1: neither a map line nor hex\n"))
         for bad in (b"802", b"8G", b"map 3 urn:x"):
             said = self.lines(b"80\n" + bad + b"\n")
             told = b"packet 1: unreadable\nverdict 1: unreadable\nline 2: neither a map line nor hex\n"
             self.assertEqual((said.returncode, said.stdout), (2, told))
+        said = self.lines(b"80\r\n")
+        self.assertEqual((said.returncode, said.stdout), (0, b"packet 1: unreadable\nverdict 1: unreadable\n"))
 
     def test_the_table_of_the_readme(self) -> None:
         program = blocks("python")[0]

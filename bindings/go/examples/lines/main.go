@@ -5,6 +5,7 @@ package main
 
 import (
 	"bufio"
+	"bytes"
 	"encoding/hex"
 	"errors"
 	"fmt"
@@ -41,6 +42,7 @@ func printAll(out io.Writer, in io.Reader) error {
 	count := 0
 	lines := bufio.NewScanner(in)
 	lines.Buffer(nil, 1<<20)
+	lines.Split(splitLines)
 	for number := 1; lines.Scan(); number++ {
 		if count == 0 && isMapped(&m, lines.Text()) {
 			continue
@@ -56,6 +58,17 @@ func printAll(out io.Writer, in io.Reader) error {
 		}
 	}
 	return lines.Err()
+}
+
+// splitLines splits at line feeds, and takes off a carriage return before one, but none that the input ends in.
+func splitLines(data []byte, atEOF bool) (int, []byte, error) {
+	if at := bytes.IndexByte(data, '\n'); at >= 0 {
+		return at + 1, bytes.TrimSuffix(data[:at], []byte("\r")), nil
+	}
+	if atEOF && len(data) > 0 {
+		return len(data), data, nil
+	}
+	return 0, nil, nil
 }
 
 // isMapped maps the id of the line, of one to three digits, where it is a map line.

@@ -1,9 +1,9 @@
 /*
- * rtp_wire for Linux on aarch64: the assembly text that Rattle's compiler makes of the library for C, each function of which is proved.
+ * rtp_wire for Linux on aarch64: the assembly text that Rattle's compiler makes of the library for C, each function of which but those at its end is proved.
  * Made anew by: generated/make
  * kit: rattle-kit-13f logic dac8208d650f15bf
- * sources: 74d9a932039629f87fe8724bc7a6095f92e037b03b41e13aa084f4fac7385355
- * text: 5fabea53639a0e8303961be23595f7e83b253e699374640ddd2538054fb549ba
+ * sources: 1464ce3771a215299289f48378b655b187e703593c7a491ac2e5674696712326
+ * text: 6a1c492783604994426d0dfbf4a7c03127e1fa9e23f46eeabed8f097cc987ff4
  * SPDX-License-Identifier: MIT OR Apache-2.0
  * Copyright (c) 2026 The rtp-wire developers (NOTICE)
  */
@@ -11905,11 +11905,10 @@ rtpw_wide_receiver_start:
 	.size	rtpw_wide_receiver_start, .Lrtp_func_end64-rtpw_wide_receiver_start
 	.cfi_endproc
 
-	.section	.text.rtpw_write_elements,"ax",@progbits
-	.globl	rtpw_write_elements
+	.section	.text.rtp_proved_write_elements,"ax",@progbits
 	.p2align	2
-	.type	rtpw_write_elements,@function
-rtpw_write_elements:
+	.type	rtp_proved_write_elements,@function
+rtp_proved_write_elements:
 	.cfi_startproc
 	cmp	x0, #0
 	mov	w8, #4096
@@ -12063,7 +12062,7 @@ rtpw_write_elements:
 	add	sp, sp, #64
 	ret
 .Lrtp_func_end65:
-	.size	rtpw_write_elements, .Lrtp_func_end65-rtpw_write_elements
+	.size	rtp_proved_write_elements, .Lrtp_func_end65-rtp_proved_write_elements
 	.cfi_endproc
 
 	.section	.text.rtpw_write_original,"ax",@progbits
@@ -12592,11 +12591,10 @@ rtpw_parse:
 	.size	rtpw_parse, .Lrtp_func_end69-rtpw_parse
 	.cfi_endproc
 
-	.section	.text.rtpw_put_element,"ax",@progbits
-	.globl	rtpw_put_element
+	.section	.text.rtp_proved_put_element,"ax",@progbits
 	.p2align	2
-	.type	rtpw_put_element,@function
-rtpw_put_element:
+	.type	rtp_proved_put_element,@function
+rtp_proved_put_element:
 	.cfi_startproc
 	sub	sp, sp, #256
 	stp	x29, x30, [sp, #160]
@@ -13683,7 +13681,7 @@ rtpw_put_element:
 	and	x14, x22, #0x1f
 	b	.Lrtp_BB70_136
 .Lrtp_func_end70:
-	.size	rtpw_put_element, .Lrtp_func_end70-rtpw_put_element
+	.size	rtp_proved_put_element, .Lrtp_func_end70-rtp_proved_put_element
 	.cfi_endproc
 
 	.section	.text.rtpw_remove_element,"ax",@progbits
@@ -14042,11 +14040,10 @@ rtpw_set_csrc:
 	.size	rtpw_set_csrc, .Lrtp_func_end74-rtpw_set_csrc
 	.cfi_endproc
 
-	.section	.text.rtpw_set_element,"ax",@progbits
-	.globl	rtpw_set_element
+	.section	.text.rtp_proved_set_element,"ax",@progbits
 	.p2align	2
-	.type	rtpw_set_element,@function
-rtpw_set_element:
+	.type	rtp_proved_set_element,@function
+rtp_proved_set_element:
 	.cfi_startproc
 	sub	sp, sp, #128
 	stp	x29, x30, [sp, #32]
@@ -14389,7 +14386,7 @@ rtpw_set_element:
 	b.ne	.Lrtp_BB75_62
 	b	.Lrtp_BB75_65
 .Lrtp_func_end75:
-	.size	rtpw_set_element, .Lrtp_func_end75-rtpw_set_element
+	.size	rtp_proved_set_element, .Lrtp_func_end75-rtp_proved_set_element
 	.cfi_endproc
 
 	.section	.text.rtpw_set_padding,"ax",@progbits
@@ -19718,11 +19715,10 @@ rtpw_write_layers:
 	.byte	(.Lrtp_BB96_85-.Lrtp_BB96_57)>>2
 	.byte	(.Lrtp_BB96_57-.Lrtp_BB96_57)>>2
 
-	.section	.text.rtpw_write_with,"ax",@progbits
-	.globl	rtpw_write_with
+	.section	.text.rtp_proved_write_with,"ax",@progbits
 	.p2align	2
-	.type	rtpw_write_with,@function
-rtpw_write_with:
+	.type	rtp_proved_write_with,@function
+rtp_proved_write_with:
 	.cfi_startproc
 	sub	sp, sp, #32
 	stp	x29, x30, [sp, #16]
@@ -19750,14 +19746,13 @@ rtpw_write_with:
 	add	sp, sp, #32
 	ret
 .Lrtp_func_end97:
-	.size	rtpw_write_with, .Lrtp_func_end97-rtpw_write_with
+	.size	rtp_proved_write_with, .Lrtp_func_end97-rtp_proved_write_with
 	.cfi_endproc
 
-	.section	.text.rtpw_write_with_form,"ax",@progbits
-	.globl	rtpw_write_with_form
+	.section	.text.rtp_proved_write_with_form,"ax",@progbits
 	.p2align	2
-	.type	rtpw_write_with_form,@function
-rtpw_write_with_form:
+	.type	rtp_proved_write_with_form,@function
+rtp_proved_write_with_form:
 	.cfi_startproc
 	and	w9, w5, #0xff
 	cmp	w9, #2
@@ -19796,7 +19791,7 @@ rtpw_write_with_form:
 	mov	w0, #9
 	ret
 .Lrtp_func_end98:
-	.size	rtpw_write_with_form, .Lrtp_func_end98-rtpw_write_with_form
+	.size	rtp_proved_write_with_form, .Lrtp_func_end98-rtp_proved_write_with_form
 	.cfi_endproc
 
 	.type	.Lrtp_static.2,@object
@@ -19902,5 +19897,124 @@ rtpw_write_with_form:
 	.xword	18
 	.xword	257
 	.size	.Lrtp_switch.table.rtpw_write_layers, 120
+
+	.section	".note.GNU-stack","",@progbits
+/* What follows is of generated/apart.c, in front of the functions rtp_proved_*, and is not proved. */
+	.section	.text.rtpw_set_element,"ax",@progbits
+	.globl	rtpw_set_element
+	.p2align	2
+	.type	rtpw_set_element,@function
+rtpw_set_element:
+	.cfi_startproc
+	add	x8, x4, x3
+	cmp	x8, x0
+	b.hi	.Lrtp_apart_BB0_2
+.Lrtp_apart_BB0_1:
+	b	rtp_proved_set_element
+.Lrtp_apart_BB0_2:
+	add	x8, x1, x0
+	cmp	x8, x3
+	b.ls	.Lrtp_apart_BB0_1
+	cbz	x1, .Lrtp_apart_BB0_1
+	cbz	x4, .Lrtp_apart_BB0_1
+	mov	w0, #9
+	ret
+.Lrtp_apart_func_end0:
+	.size	rtpw_set_element, .Lrtp_apart_func_end0-rtpw_set_element
+	.cfi_endproc
+
+	.section	.text.rtpw_put_element,"ax",@progbits
+	.globl	rtpw_put_element
+	.p2align	2
+	.type	rtpw_put_element,@function
+rtpw_put_element:
+	.cfi_startproc
+	add	x8, x5, x4
+	cmp	x8, x0
+	b.hi	.Lrtp_apart_BB1_2
+.Lrtp_apart_BB1_1:
+	b	rtp_proved_put_element
+.Lrtp_apart_BB1_2:
+	add	x8, x1, x0
+	cmp	x8, x4
+	b.ls	.Lrtp_apart_BB1_1
+	cbz	x1, .Lrtp_apart_BB1_1
+	cbz	x5, .Lrtp_apart_BB1_1
+	mov	w0, #9
+	ret
+.Lrtp_apart_func_end1:
+	.size	rtpw_put_element, .Lrtp_apart_func_end1-rtpw_put_element
+	.cfi_endproc
+
+	.section	.text.rtpw_write_with,"ax",@progbits
+	.globl	rtpw_write_with
+	.p2align	2
+	.type	rtpw_write_with,@function
+rtpw_write_with:
+	.cfi_startproc
+	add	x8, x2, x1
+	cmp	x8, x5
+	b.hi	.Lrtp_apart_BB2_2
+.Lrtp_apart_BB2_1:
+	b	rtp_proved_write_with
+.Lrtp_apart_BB2_2:
+	add	x8, x6, x5
+	cmp	x8, x1
+	b.ls	.Lrtp_apart_BB2_1
+	cbz	x2, .Lrtp_apart_BB2_1
+	cbz	x6, .Lrtp_apart_BB2_1
+	mov	w0, #9
+	ret
+.Lrtp_apart_func_end2:
+	.size	rtpw_write_with, .Lrtp_apart_func_end2-rtpw_write_with
+	.cfi_endproc
+
+	.section	.text.rtpw_write_with_form,"ax",@progbits
+	.globl	rtpw_write_with_form
+	.p2align	2
+	.type	rtpw_write_with_form,@function
+rtpw_write_with_form:
+	.cfi_startproc
+	add	x9, x2, x1
+	ldr	x8, [sp]
+	cmp	x9, x6
+	b.hi	.Lrtp_apart_BB3_2
+.Lrtp_apart_BB3_1:
+	str	x8, [sp]
+	b	rtp_proved_write_with_form
+.Lrtp_apart_BB3_2:
+	add	x9, x7, x6
+	cmp	x9, x1
+	b.ls	.Lrtp_apart_BB3_1
+	cbz	x2, .Lrtp_apart_BB3_1
+	cbz	x7, .Lrtp_apart_BB3_1
+	mov	w0, #9
+	ret
+.Lrtp_apart_func_end3:
+	.size	rtpw_write_with_form, .Lrtp_apart_func_end3-rtpw_write_with_form
+	.cfi_endproc
+
+	.section	.text.rtpw_write_elements,"ax",@progbits
+	.globl	rtpw_write_elements
+	.p2align	2
+	.type	rtpw_write_elements,@function
+rtpw_write_elements:
+	.cfi_startproc
+	add	x8, x1, x0
+	cmp	x8, x5
+	b.hi	.Lrtp_apart_BB4_2
+.Lrtp_apart_BB4_1:
+	b	rtp_proved_write_elements
+.Lrtp_apart_BB4_2:
+	add	x8, x6, x5
+	cmp	x8, x0
+	b.ls	.Lrtp_apart_BB4_1
+	cbz	x1, .Lrtp_apart_BB4_1
+	cbz	x6, .Lrtp_apart_BB4_1
+	mov	w0, #9
+	ret
+.Lrtp_apart_func_end4:
+	.size	rtpw_write_elements, .Lrtp_apart_func_end4-rtpw_write_elements
+	.cfi_endproc
 
 	.section	".note.GNU-stack","",@progbits

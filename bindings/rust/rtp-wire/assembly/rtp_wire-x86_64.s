@@ -1,9 +1,9 @@
 /*
- * rtp_wire for Linux on x86_64: the assembly text that Rattle's compiler makes of the library for C, each function of which is proved.
+ * rtp_wire for Linux on x86_64: the assembly text that Rattle's compiler makes of the library for C, each function of which but those at its end is proved.
  * Made anew by: generated/make
  * kit: rattle-kit-13f logic dac8208d650f15bf
- * sources: 74d9a932039629f87fe8724bc7a6095f92e037b03b41e13aa084f4fac7385355
- * text: 3368ceb3e7677b17000f870421b8a5c2dc402f4de63f77513dee0e4f6b5b4814
+ * sources: 1464ce3771a215299289f48378b655b187e703593c7a491ac2e5674696712326
+ * text: cd34a7a429ce690e3450c1ad4d9fa3c5bcf12dfaa17a4a18139df8d15f00d95e
  * SPDX-License-Identifier: MIT OR Apache-2.0
  * Copyright (c) 2026 The rtp-wire developers (NOTICE)
  */
@@ -13169,11 +13169,10 @@ rtpw_wide_receiver_start:
 	.size	rtpw_wide_receiver_start, .Lrtp_func_end64-rtpw_wide_receiver_start
 	.cfi_endproc
 
-	.section	.text.rtpw_write_elements,"ax",@progbits
-	.globl	rtpw_write_elements
+	.section	.text.rtp_proved_write_elements,"ax",@progbits
 	.p2align	4
-	.type	rtpw_write_elements,@function
-rtpw_write_elements:
+	.type	rtp_proved_write_elements,@function
+rtp_proved_write_elements:
 	.cfi_startproc
 	pushq	%rbp
 	.cfi_def_cfa_offset 16
@@ -13363,7 +13362,7 @@ rtpw_write_elements:
 	movl	$8, %eax
 	jmp	.Lrtp_BB65_31
 .Lrtp_func_end65:
-	.size	rtpw_write_elements, .Lrtp_func_end65-rtpw_write_elements
+	.size	rtp_proved_write_elements, .Lrtp_func_end65-rtp_proved_write_elements
 	.cfi_endproc
 
 	.section	.text.rtpw_write_original,"ax",@progbits
@@ -13930,11 +13929,10 @@ rtpw_parse:
 	.size	rtpw_parse, .Lrtp_func_end69-rtpw_parse
 	.cfi_endproc
 
-	.section	.text.rtpw_put_element,"ax",@progbits
-	.globl	rtpw_put_element
+	.section	.text.rtp_proved_put_element,"ax",@progbits
 	.p2align	4
-	.type	rtpw_put_element,@function
-rtpw_put_element:
+	.type	rtp_proved_put_element,@function
+rtp_proved_put_element:
 	.cfi_startproc
 	pushq	%rbp
 	.cfi_def_cfa_offset 16
@@ -15285,9 +15283,9 @@ rtpw_put_element:
 	jne	.Lrtp_BB70_137
 	jmp	.Lrtp_BB70_140
 .Lrtp_func_end70:
-	.size	rtpw_put_element, .Lrtp_func_end70-rtpw_put_element
+	.size	rtp_proved_put_element, .Lrtp_func_end70-rtp_proved_put_element
 	.cfi_endproc
-	.section	.rodata.rtpw_put_element,"a",@progbits
+	.section	.rodata.rtp_proved_put_element,"a",@progbits
 	.p2align	2, 0x0
 .Lrtp_JTI70_0:
 	.long	.Lrtp_BB70_211-.Lrtp_JTI70_0
@@ -15586,11 +15584,10 @@ rtpw_set_csrc:
 	.size	rtpw_set_csrc, .Lrtp_func_end74-rtpw_set_csrc
 	.cfi_endproc
 
-	.section	.text.rtpw_set_element,"ax",@progbits
-	.globl	rtpw_set_element
+	.section	.text.rtp_proved_set_element,"ax",@progbits
 	.p2align	4
-	.type	rtpw_set_element,@function
-rtpw_set_element:
+	.type	rtp_proved_set_element,@function
+rtp_proved_set_element:
 	.cfi_startproc
 	pushq	%rbp
 	.cfi_def_cfa_offset 16
@@ -16007,7 +16004,7 @@ rtpw_set_element:
 	jne	.Lrtp_BB75_62
 	jmp	.Lrtp_BB75_66
 .Lrtp_func_end75:
-	.size	rtpw_set_element, .Lrtp_func_end75-rtpw_set_element
+	.size	rtp_proved_set_element, .Lrtp_func_end75-rtp_proved_set_element
 	.cfi_endproc
 
 	.section	.text.rtpw_set_padding,"ax",@progbits
@@ -21689,11 +21686,10 @@ rtpw_write_layers:
 	.long	.Lrtp_BB96_80-.Lrtp_JTI96_1
 	.long	.Lrtp_BB96_54-.Lrtp_JTI96_1
 
-	.section	.text.rtpw_write_with,"ax",@progbits
-	.globl	rtpw_write_with
+	.section	.text.rtp_proved_write_with,"ax",@progbits
 	.p2align	4
-	.type	rtpw_write_with,@function
-rtpw_write_with:
+	.type	rtp_proved_write_with,@function
+rtp_proved_write_with:
 	.cfi_startproc
 	subq	$40, %rsp
 	.cfi_def_cfa_offset 48
@@ -21722,14 +21718,13 @@ rtpw_write_with:
 	.cfi_def_cfa_offset 8
 	retq
 .Lrtp_func_end97:
-	.size	rtpw_write_with, .Lrtp_func_end97-rtpw_write_with
+	.size	rtp_proved_write_with, .Lrtp_func_end97-rtp_proved_write_with
 	.cfi_endproc
 
-	.section	.text.rtpw_write_with_form,"ax",@progbits
-	.globl	rtpw_write_with_form
+	.section	.text.rtp_proved_write_with_form,"ax",@progbits
 	.p2align	4
-	.type	rtpw_write_with_form,@function
-rtpw_write_with_form:
+	.type	rtp_proved_write_with_form,@function
+rtp_proved_write_with_form:
 	.cfi_startproc
 	movl	%r9d, %r11d
 	cmpb	$2, %r11b
@@ -21792,7 +21787,7 @@ rtpw_write_with_form:
 	movl	$9, %eax
 	retq
 .Lrtp_func_end98:
-	.size	rtpw_write_with_form, .Lrtp_func_end98-rtpw_write_with_form
+	.size	rtp_proved_write_with_form, .Lrtp_func_end98-rtp_proved_write_with_form
 	.cfi_endproc
 
 	.type	.Lrtp_static.0,@object
@@ -21904,5 +21899,131 @@ rtpw_write_with_form:
 	.quad	18
 	.quad	257
 	.size	.Lrtp_switch.table.rtpw_write_layers, 120
+
+	.section	".note.GNU-stack","",@progbits
+/* What follows is of generated/apart.c, in front of the functions rtp_proved_*, and is not proved. */
+	.section	.text.rtpw_set_element,"ax",@progbits
+	.globl	rtpw_set_element
+	.p2align	4
+	.type	rtpw_set_element,@function
+rtpw_set_element:
+	.cfi_startproc
+	leaq	(%r8,%rcx), %rax
+	cmpq	%rdi, %rax
+	jbe	rtp_proved_set_element
+	leaq	(%rsi,%rdi), %rax
+	cmpq	%rcx, %rax
+	jbe	rtp_proved_set_element
+	testq	%r8, %r8
+	setne	%al
+	testq	%rsi, %rsi
+	setne	%r9b
+	testb	%al, %r9b
+	je	rtp_proved_set_element
+	movl	$9, %eax
+	retq
+.Lrtp_apart_func_end0:
+	.size	rtpw_set_element, .Lrtp_apart_func_end0-rtpw_set_element
+	.cfi_endproc
+
+	.section	.text.rtpw_put_element,"ax",@progbits
+	.globl	rtpw_put_element
+	.p2align	4
+	.type	rtpw_put_element,@function
+rtpw_put_element:
+	.cfi_startproc
+	leaq	(%r9,%r8), %rax
+	cmpq	%rdi, %rax
+	jbe	rtp_proved_put_element
+	leaq	(%rsi,%rdi), %rax
+	cmpq	%r8, %rax
+	jbe	rtp_proved_put_element
+	testq	%r9, %r9
+	setne	%al
+	testq	%rsi, %rsi
+	setne	%r10b
+	testb	%al, %r10b
+	je	rtp_proved_put_element
+	movl	$9, %eax
+	retq
+.Lrtp_apart_func_end1:
+	.size	rtpw_put_element, .Lrtp_apart_func_end1-rtpw_put_element
+	.cfi_endproc
+
+	.section	.text.rtpw_write_with,"ax",@progbits
+	.globl	rtpw_write_with
+	.p2align	4
+	.type	rtpw_write_with,@function
+rtpw_write_with:
+	.cfi_startproc
+	leaq	(%rdx,%rsi), %rax
+	cmpq	%r9, %rax
+	jbe	rtp_proved_write_with
+	movq	8(%rsp), %rax
+	leaq	(%rax,%r9), %r10
+	cmpq	%rsi, %r10
+	jbe	rtp_proved_write_with
+	testq	%rdx, %rdx
+	setne	%r10b
+	testq	%rax, %rax
+	setne	%al
+	testb	%al, %r10b
+	je	rtp_proved_write_with
+	movl	$9, %eax
+	retq
+.Lrtp_apart_func_end2:
+	.size	rtpw_write_with, .Lrtp_apart_func_end2-rtpw_write_with
+	.cfi_endproc
+
+	.section	.text.rtpw_write_with_form,"ax",@progbits
+	.globl	rtpw_write_with_form
+	.p2align	4
+	.type	rtpw_write_with_form,@function
+rtpw_write_with_form:
+	.cfi_startproc
+	movq	8(%rsp), %r10
+	leaq	(%rdx,%rsi), %rax
+	cmpq	%r10, %rax
+	jbe	rtp_proved_write_with_form
+	movq	16(%rsp), %rax
+	addq	%rax, %r10
+	cmpq	%rsi, %r10
+	jbe	rtp_proved_write_with_form
+	testq	%rdx, %rdx
+	setne	%r10b
+	testq	%rax, %rax
+	setne	%al
+	testb	%al, %r10b
+	je	rtp_proved_write_with_form
+	movl	$9, %eax
+	retq
+.Lrtp_apart_func_end3:
+	.size	rtpw_write_with_form, .Lrtp_apart_func_end3-rtpw_write_with_form
+	.cfi_endproc
+
+	.section	.text.rtpw_write_elements,"ax",@progbits
+	.globl	rtpw_write_elements
+	.p2align	4
+	.type	rtpw_write_elements,@function
+rtpw_write_elements:
+	.cfi_startproc
+	leaq	(%rsi,%rdi), %rax
+	cmpq	%r9, %rax
+	jbe	rtp_proved_write_elements
+	movq	8(%rsp), %rax
+	leaq	(%rax,%r9), %r10
+	cmpq	%rdi, %r10
+	jbe	rtp_proved_write_elements
+	testq	%rsi, %rsi
+	setne	%r10b
+	testq	%rax, %rax
+	setne	%al
+	testb	%al, %r10b
+	je	rtp_proved_write_elements
+	movl	$9, %eax
+	retq
+.Lrtp_apart_func_end4:
+	.size	rtpw_write_elements, .Lrtp_apart_func_end4-rtpw_write_elements
+	.cfi_endproc
 
 	.section	".note.GNU-stack","",@progbits

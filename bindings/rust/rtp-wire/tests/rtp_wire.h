@@ -2,7 +2,8 @@
  * rtp_wire.h: RTP packets where they lie in memory (RFC 3550, 5.1; RFC 8285).
  *
  * The functions are those of the library rtp-wire, each proved: what is said here of results and
- * outputs holds for every input. Only rtpw_status_text is written in C, and tested.
+ * outputs holds for every input. Two things are written in C, and tested: rtpw_status_text, and the comparison that
+ * stands in front of the five functions of elements, which refuses data that lie in the buffer.
  *
  *     if (rtpw_is_rtcp(datagram, len)) { // on a port that RTP and RTCP share
  *         return control(datagram, len);
@@ -21,17 +22,18 @@
  * The caller owes what C asks anyway:
  *   - a pointer is to as much memory as is said, and aligned for its type: NULL may stand only where the
  *     size or the count after it is 0 (that this is as a buffer of no bytes is tested, not proved);
- *   - what is written overlaps nothing else that is passed. This is neither looked at nor mended: where the data of
- *     an element lie in the buffer that rtpw_set_element, rtpw_put_element, rtpw_write_with, rtpw_write_with_form or
- *     rtpw_write_elements writes, as those of an element of the same packet do, the status may be RTPW_OK and the
- *     bytes wrong. Copy such data first: an element has at most 255 bytes.
+ *   - what is written overlaps nothing else that is passed. Of bytes that are read this is looked at: where one of the
+ *     data lies in the buffer that rtpw_set_element, rtpw_put_element, rtpw_write_with, rtpw_write_with_form or
+ *     rtpw_write_elements may write, as those of another element of the same packet do, the status is RTPW_BAD_FIELD
+ *     and nothing is written. Copy such data first: an element has at most 255 bytes. Of structs, arrays of
+ *     structs or numbers, and lengths it isn't looked at: they must not lie in a buffer, nor in one another.
  *
  * A buffer is a pointer and then its size in bytes. Numbers are in the byte order of the machine:
  * what stands in a packet in network byte order is turned. Outputs are written whole where the
  * status is RTPW_OK, and else not at all.
  *
  * Where a call has several faults, the status is that of the first of these:
- *   1. an argument is out of its range whatever the buffers hold: RTPW_BAD_FIELD;
+ *   1. an argument is out of its range whatever the buffers hold, or data lie in the buffer: RTPW_BAD_FIELD;
  *   2. the buffer holds no packet, or the form of its block has to be known and isn't: one of the causes 1 to 6;
  *   3. what is named isn't there, or the packet or an element doesn't allow it: RTPW_NONE, or RTPW_BAD_FIELD;
  *   4. there is no room: RTPW_SHORT_BUFFER.
@@ -195,8 +197,8 @@ RTPW_CHECKED int32_t rtpw_set_fields(uint8_t *datagram, size_t len, const rtpw_f
 /* The contributing source at this place, counted from 0. RTPW_NONE where the list has no such place. */
 RTPW_CHECKED int32_t rtpw_set_csrc(uint8_t *datagram, size_t len, size_t index, uint32_t source);
 
-/* Gives the last element of this id these data. RTPW_NONE where the packet has no element of the id,
- * or its last one has another number of bytes. The data must not overlap the datagram: copy those that do. */
+/* Gives the last element of this id these data. RTPW_BAD_FIELD, before all else, where one of them lies in the
+ * datagram; RTPW_NONE where the packet has no element of the id, or its last one has another number of bytes. */
 RTPW_CHECKED int32_t rtpw_set_element(uint8_t *datagram, size_t len, uint8_t id, const uint8_t *data, size_t data_len);
 /* Makes each element of this id padding. RTPW_NONE where the packet has none. */
 RTPW_CHECKED int32_t rtpw_remove_element(uint8_t *datagram, size_t len, uint8_t id);
@@ -222,9 +224,6 @@ enum { RTPW_ANY_FORM = 0 };
  * payload moves by whole words; a body never becomes shorter (rtpw_compact). What stands where reading ends, an
  * element that is cut short or what follows the id 15, is no element, and goes where the block is made anew.
  *
- * The data must not overlap the `size` bytes of the buffer, as those of another element of the packet would: copy
- * them first.
- *
  * A one-byte block that can't carry the element becomes a two-byte one, where the forms that are allowed let
  * it: RTPW_ANY_FORM; RTPW_ONE_BYTE_FORM alone, as for a peer that hasn't agreed to both in one stream (RFC 8285,
  * 4.1.2); or RTPW_TWO_BYTE_FORM alone, which the block then gets. It carries no element of the id 0, so these go.
@@ -234,7 +233,8 @@ enum { RTPW_ANY_FORM = 0 };
  *     int32_t status = rtpw_put_element(bytes, sizeof bytes, &len, id, mid, strlen(mid), RTPW_ANY_FORM);
  *
  * RTPW_OK; RTPW_BAD_FIELD, before all else, where `allowed` is none of the three, *len is past the buffer, the
- * id is 0 or there are more than 255 bytes of data; the first cause for which the bytes are no packet;
+ * id is 0, there are more than 255 bytes of data, or one of these lies in the `size` bytes of the buffer, as those
+ * of another element of the packet do: copy them first; the first cause for which the bytes are no packet;
  * RTPW_UNKNOWN_FORM where the block is of RTPW_OTHER_FORM; RTPW_BAD_FIELD where it needs a form that isn't
  * allowed, or more than 65,535 words; RTPW_SHORT_BUFFER. */
 RTPW_CHECKED int32_t rtpw_put_element(uint8_t *buf, size_t size, size_t *len, uint8_t id, const uint8_t *data,
@@ -513,26 +513,27 @@ RTPW_CHECKED int32_t rtpw_write_layers(const rtpw_map *map, const rtpw_header *h
  * are the data_len bytes at data_at of `data`: those that rtpw_next_element told of a body, say. What
  * `end` holds isn't looked at; data_at is, also of an element of no bytes. The block is in the one-byte
  * form where that can carry each element (ids 1 to 14, 1 to 16 bytes), and else in the two-byte form (ids
- * 1 to 255, 0 to 255 bytes). The data must not overlap the buffer: those of a packet are written into another
- * buffer, or copied first.
+ * 1 to 255, 0 to 255 bytes).
  *
  * RTPW_OK; RTPW_BAD_FIELD where payload_type is above 127, csrc_count above 15, or an element has the id
  * 0, more than 255 bytes, or its data_at + data_len is past the end of the data, or all of them take more
- * than the 262,140 bytes of a block; RTPW_SHORT_BUFFER where the buffer alone is at fault. */
+ * than the 262,140 bytes of a block, or one of the data_len bytes of `data`, whether an element has it or not, lies in
+ * the `size` bytes of the buffer: the data of a packet are written into another buffer, or copied first;
+ * RTPW_SHORT_BUFFER where the buffer alone is at fault. */
 RTPW_CHECKED int32_t rtpw_write_with(const rtpw_header *header, const uint8_t *data, size_t data_len,
                                      const rtpw_element *elements, size_t count, uint8_t *buf, size_t size,
                                      size_t *len);
 
 /* The same in one form alone, for a peer that hasn't agreed to both forms in one stream (RFC 8285, 4.1.2):
- * RTPW_ONE_BYTE_FORM or RTPW_TWO_BYTE_FORM; with 0, which is RTPW_NO_BLOCK, as rtpw_write_with. Here too the data
- * must not overlap the buffer. RTPW_BAD_FIELD also where the form is another number or can't carry an element. */
+ * RTPW_ONE_BYTE_FORM or RTPW_TWO_BYTE_FORM; with 0, which is RTPW_NO_BLOCK, as rtpw_write_with. RTPW_BAD_FIELD
+ * also where the form is another number or can't carry an element. */
 RTPW_CHECKED int32_t rtpw_write_with_form(const rtpw_header *header, const uint8_t *data, size_t data_len,
                                           const rtpw_element *elements, size_t count, uint8_t form, uint8_t *buf,
                                           size_t size, size_t *len);
 
 /* Writes elements, one after the other, as a block's body has them, to the front of the buffer; bytes
- * after them stay. The data must not overlap the buffer: copy those that do. RTPW_OK; RTPW_BAD_FIELD where the
- * form is none of the two or can't carry one of them, or data_at + data_len of one is past the end of the data;
+ * after them stay. RTPW_OK; RTPW_BAD_FIELD where the form is none of the two or can't carry one of them, data_at +
+ * data_len of one is past the end of the data, or one of the data, as with rtpw_write_with, lies in the buffer;
  * RTPW_SHORT_BUFFER where the buffer alone is at fault. */
 RTPW_CHECKED int32_t rtpw_write_elements(const uint8_t *data, size_t data_len, const rtpw_element *elements, size_t count,
                                          uint8_t form, uint8_t *buf, size_t size, size_t *len);

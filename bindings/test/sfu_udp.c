@@ -1,0 +1,176 @@
+/*
+ * The SFU on 127.0.0.1 (bindings/examples/sfu_sockets.c): what three receivers get of a short datagram and of a long
+ * one, and how the program ends, also where a packet can't be sent. All ports are the system's choice. Expected values
+ * are worked out by hand from RFC 3550, 5.1 and RFC 8285, 4.2 and 4.3.
+ *
+ * usage: udp PROGRAM
+ */
+#define _DEFAULT_SOURCE
+#include <arpa/inet.h>
+#include <netinet/in.h>
+#include <poll.h>
+#include <stdint.h>
+#include <stdio.h>
+#include <stdlib.h>
+#include <string.h>
+#include <sys/socket.h>
+#include <sys/wait.h>
+#include <unistd.h>
+
+#define CHECK(what) \
+    do { \
+        if (!(what)) { \
+            printf("sfu_udp.c:%d: %s\n", __LINE__, #what); \
+            exit(1); \
+        } \
+    } while (0)
+
+enum { RECEIVERS = 3, FIXED = 12, SHORT = FIXED + 3, LONG = 60000, PATIENCE = 60 * 1000 /* milliseconds */ };
+
+static struct sockaddr_in local(unsigned port) {
+    struct sockaddr_in address = {0};
+    address.sin_family = AF_INET;
+    address.sin_addr.s_addr = htonl(INADDR_LOOPBACK);
+    address.sin_port = htons((uint16_t)port);
+    return address;
+}
+
+/* A socket at a free port, which is told. */
+static int opened(unsigned *port) {
+    struct sockaddr_in address = local(0);
+    socklen_t len = sizeof address;
+    int it = socket(AF_INET, SOCK_DGRAM, 0);
+    CHECK(it >= 0);
+    CHECK(bind(it, (struct sockaddr *)&address, len) == 0);
+    CHECK(getsockname(it, (struct sockaddr *)&address, &len) == 0);
+    *port = ntohs(address.sin_port);
+    return it;
+}
+
+/* The program as it runs: its standard input and output, and its port. */
+typedef struct {
+    pid_t process;
+    FILE *in, *out;
+    unsigned port;
+} running;
+
+static running started(const char *program, const unsigned *ports) {
+    running it;
+    char words[RECEIVERS][8];
+    int in[2], out[2];
+    for (int i = 0; i < RECEIVERS; i++) {
+        snprintf(words[i], sizeof words[i], "%u", ports[i] & 0xFFFF);
+    }
+    CHECK(pipe(in) == 0 && pipe(out) == 0);
+    it.process = fork();
+    CHECK(it.process >= 0);
+    if (it.process == 0) {
+        dup2(in[0], STDIN_FILENO);
+        dup2(out[1], STDOUT_FILENO);
+        close(in[0]), close(in[1]), close(out[0]), close(out[1]);
+        execl(program, program, words[0], words[1], words[2], (char *)NULL);
+        _exit(126);
+    }
+    close(in[0]), close(out[1]);
+    it.in = fdopen(in[1], "w"), it.out = fdopen(out[0], "r");
+    CHECK(it.in != NULL && it.out != NULL);
+    CHECK(fputs("map 3 urn:ietf:params:rtp-hdrext:ssrc-audio-level\n\n", it.in) >= 0 && fflush(it.in) == 0);
+    CHECK(fscanf(it.out, "port %u", &it.port) == 1 && fgetc(it.out) == '\n');
+    return it;
+}
+
+/* Ends the input of the program: what it prints then, and its status, are these. */
+static void ends(running *it, const char *expected, int expected_status) {
+    char said[200] = "";
+    int status;
+    CHECK(fclose(it->in) == 0);
+    CHECK(fgets(said, sizeof said, it->out) != NULL && strcmp(said, expected) == 0);
+    CHECK(fgetc(it->out) == EOF && fclose(it->out) == 0);
+    CHECK(waitpid(it->process, &status, 0) == it->process);
+    CHECK(WIFEXITED(status) && WEXITSTATUS(status) == expected_status);
+}
+
+/* What comes from the program within the time; what others send isn't looked at. */
+static size_t received(int socket, unsigned port, uint8_t *bytes, size_t size) {
+    for (;;) {
+        struct pollfd waits = {socket, POLLIN, 0};
+        struct sockaddr_in from = {0};
+        socklen_t from_len = sizeof from;
+        CHECK(poll(&waits, 1, PATIENCE) == 1);
+        ssize_t len = recvfrom(socket, bytes, size, 0, (struct sockaddr *)&from, &from_len);
+        CHECK(len >= 0);
+        if (ntohs(from.sin_port) == port) {
+            return (size_t)len;
+        }
+    }
+}
+
+/* What each receiver gets before the payload, of the packet 5 with the level -10 dB and voice, and of the packet 6
+ * without an extension; xyz is the time, which isn't looked at. */
+#define OF(number, timestamp, ssrc) "\x90\x6F" number "\0\0\0" timestamp "\0\0" ssrc
+#define SECOND "second_floor_camera_0"
+#define ALICE "camera_of_alice0"
+static const struct {
+    const char *header;
+    size_t len, time_at;
+} EXPECTED[2][RECEIVERS] = {
+    {{OF("\0\5", "\xA0", "\x03\xE8") "\xBE\xDE\0\3\x90\x8A\x21m0\x51\0\0\x72xyz", 28, 25},
+     {OF("\x9C\x45", "\xA0", "\x07\xD0") "\x10\0\0\x09\1\1\x8A\x14\x15" SECOND "\xC8\2\0\0\xFF\3xyz\0", 52, 48},
+     {OF("\0\4", "\xA0", "\x0B\xB8") "\xBE\xDE\0\6\xEF" ALICE "\x11\0\0\x32xyz", 40, 37}},
+    {{OF("\0\6", "\xA1", "\x03\xE8") "\xBE\xDE\0\3\x21m0\x51\0\1\x72xyz\0\0", 28, 23},
+     {OF("\x9C\x46", "\xA1", "\x07\xD0") "\x10\0\0\x08\x14\x15" SECOND "\xC8\2\0\1\xFF\3xyz", 48, 45},
+     {OF("\0\5", "\xA1", "\x0B\xB8") "\xBE\xDE\0\6\xEF" ALICE "\x11\0\1\x32xyz", 40, 37}},
+};
+
+static uint8_t bytes[65536];
+
+/* The receiver gets the packet of this place, with this payload. */
+static void comes_to(int socket, unsigned port, int packet, int receiver, const uint8_t *payload, size_t payload_len) {
+    size_t len = received(socket, port, bytes, sizeof bytes);
+    size_t header_len = EXPECTED[packet][receiver].len, time_at = EXPECTED[packet][receiver].time_at;
+    const char *header = EXPECTED[packet][receiver].header;
+    CHECK(len == header_len + payload_len);
+    memcpy(bytes + time_at, "xyz", 3);
+    CHECK(memcmp(bytes, header, header_len) == 0);
+    CHECK(memcmp(bytes + header_len, payload, payload_len) == 0);
+}
+
+static const uint8_t LEVEL[] = {0x90, 0x6F, 0, 5, 0,    0,    0, 0xA0, 0, 0, 0, 0x2C,
+                                0xBE, 0xDE, 0, 1, 0x30, 0x8A, 0, 0,    1, 2, 3};
+
+static void sends(int socket, unsigned port, const uint8_t *datagram, size_t len) {
+    struct sockaddr_in to = local(port);
+    CHECK(sendto(socket, datagram, len, 0, (struct sockaddr *)&to, sizeof to) == (ssize_t)len);
+}
+
+int main(int argc, char **argv) {
+    static uint8_t datagram[LONG] = {0x80, 0x6F, 0, 6, 0, 0, 0, 0xA1, 0, 0, 0, 0x2C};
+    unsigned ports[RECEIVERS], own;
+    int sockets[RECEIVERS], sender = opened(&own);
+    CHECK(argc == 2);
+    for (int i = 0; i < RECEIVERS; i++) {
+        sockets[i] = opened(&ports[i]);
+    }
+    for (size_t i = FIXED; i < LONG; i++) {
+        datagram[i] = (uint8_t)(i * 7 + i / 256);
+    }
+    running it = started(argv[1], ports);
+    sends(sender, it.port, LEVEL, sizeof LEVEL);
+    for (int i = 0; i < RECEIVERS; i++) {
+        comes_to(sockets[i], it.port, 0, i, LEVEL + 20, 3);
+    }
+    sends(sender, it.port, datagram, LONG);
+    for (int i = 0; i < RECEIVERS; i++) {
+        comes_to(sockets[i], it.port, 1, i, datagram + FIXED, LONG - FIXED);
+    }
+    ends(&it, "taken 2 replays 0 late 0 rtcp 0 unreadable 0 strangers 0 sent 6 unsent 0\n", 0);
+
+    /* Nothing can be sent to the port 0: the other receivers get their packets, and the status says it. */
+    ports[1] = 0;
+    it = started(argv[1], ports);
+    sends(sender, it.port, LEVEL, sizeof LEVEL);
+    comes_to(sockets[0], it.port, 0, 0, LEVEL + 20, 3);
+    comes_to(sockets[2], it.port, 0, 2, LEVEL + 20, 3);
+    ends(&it, "taken 1 replays 0 late 0 rtcp 0 unreadable 0 strangers 0 sent 3 unsent 0\n", 1);
+    return 0;
+}
