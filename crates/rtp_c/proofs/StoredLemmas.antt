@@ -6,7 +6,7 @@ use Rattle.std.proofs.lemmas.Nat.Bits.{bit_at_lowest, bit_at-suc, bit_at-lt, sam
 use Rattle.std.specs.Int.{bit_at}
 use Rattle.rtp_base.specs.Bitmap.{bits_of}
 use Rattle.rtp_base.specs.Window.{Numbers, WindowState, including, Keeps}
-use Rattle.rtp_wire.specs.declared.receive.receiver.ReceiverState.{ReceiverState}
+use Rattle.rtp_wire.specs.StreamState.{ReceiverState}
 use Rattle.rtp_wire.specs.declared.receive.receiver.ReceiverState.TheVariants.{Start, Window}
 use Rattle.rtp_wire.specs.Receiver.{Holds, IsFresh, StaysBelowZeroIn}
 use Rattle.rtp_c.specs.declared.receiver.StoredReceiver.{StoredReceiver}

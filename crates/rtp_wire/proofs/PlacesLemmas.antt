@@ -10,7 +10,7 @@ use Rattle.std.proofs.lemmas.Bool.{ne_eqb, cases_eq, cases_lt}
 use Rattle.std.proofs.lemmas.Option.{none-some}
 use Rattle.std.proofs.lemmas.List.{length_push, get_or_append_left, get_or_at}
 use Rattle.std.proofs.lemmas.Map.Made.{lookup-map_values}
-use Rattle.rtp_wire.specs.declared.receive.receiver.ReceiverState.{ReceiverState}
+use Rattle.rtp_wire.specs.StreamState.{ReceiverState}
 use Rattle.rtp_wire.specs.SourcePlaces.{past_the_end, source_at, held_at, held, held_of, ArePlaces}
 
 -- a value isn't both there and not

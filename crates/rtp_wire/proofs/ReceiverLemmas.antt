@@ -4,7 +4,7 @@ use Rattle.std.specs.Prelude.{IsTrue}
 use Rattle.std.proofs.lemmas.Bool.{false≢true}
 use Rattle.rtp_base.specs.Window.{Numbers, WindowState, IsGreatest, KeepsOf, AcceptsOf, including}
 use Rattle.rtp_base.proofs.WindowLemmas.{KeepsOf-refused}
-use Rattle.rtp_wire.specs.declared.receive.receiver.ReceiverState.{ReceiverState}
+use Rattle.rtp_wire.specs.StreamState.{ReceiverState}
 use Rattle.rtp_wire.specs.declared.receive.receiver.ReceiverState.TheVariants.{Start, Window}
 use Rattle.rtp_wire.specs.Receiver.{HoldsOf, IsNothing, IsFreshOf}
 

@@ -8,7 +8,7 @@ use Rattle.std.proofs.lemmas.List.{length-map}
 use Rattle.rtp_base.specs.Window.{Numbers, window_size}
 use Rattle.rtp_ext.specs.declared.map.ExtensionMap.{ExtensionMap}
 use Rattle.rtp_wire.specs.declared.header.rtp_header.RtpHeader.{RtpHeader}
-use Rattle.rtp_wire.specs.declared.receive.receiver.ReceiverState.{ReceiverState}
+use Rattle.rtp_wire.specs.StreamState.{ReceiverState}
 use Rattle.rtp_wire.specs.declared.receive.receiver.Verdict.{Verdict}
 use Rattle.rtp_wire.specs.Receiver.{Holds, taken_after}
 use Rattle.rtp_wire.specs.Receivers.{ReceiverStates, receiver_of, state_of}

@@ -53,7 +53,7 @@ pub mod Sources
 pub mod WrittenInForm
 pub mod PartsAt
 pub mod GrowingPacket
-pub mod WideState
+pub mod StreamState
 pub mod RestartingState
 pub mod EachSource
 pub mod RetransmissionParts

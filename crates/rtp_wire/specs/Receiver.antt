@@ -1,16 +1,11 @@
 -- What one stream's receiver holds, and its rule for a number (RFC 3711, 3.3.1 and 3.3.2).
-use Rattle.std.specs.Prelude.{◌≡◌, ℕ, ◌+◌, ◌*◌, ◌%◌, ◌^◌, ◌<◌, ◌⊎◌, ⊤, false, Option, Some, None}
+use Rattle.std.specs.Prelude.{◌≡◌, ℕ, ◌+◌, ◌*◌, ◌%◌, ◌⊎◌, false, Option, Some, None}
 use Rattle.rtp_base.specs.Window.{Numbers, window_size, IsGreatest, KeepsOf, ShowsBelowZeroOf, StaysBelowZeroOf, AcceptsOf, including}
 use Rattle.rtp_wire.specs.Widening.{IsNearest}
-use Rattle.rtp_wire.specs.declared.receive.receiver.ReceiverState.{ReceiverState}
+use Rattle.rtp_wire.specs.StreamState.{ReceiverState}
 use Rattle.rtp_wire.specs.declared.receive.receiver.ReceiverState.TheVariants.{Start, Window}
 use Rattle.rtp_wire.specs.declared.receive.receiver.Verdict.{Verdict}
 use Rattle.rtp_wire.specs.declared.receive.receiver.Verdict.TheVariants.{Unreadable, Taken, Refused}
-
--- a first packet's rollover count has the 48 bits of its number above the 16 of its header
-abbrev pub StartsInRange : ReceiverState → Type 0
-StartsInRange (Start count) = count < 2 ^ 48
-StartsInRange (Window window) = ⊤
 
 -- no number is in the set
 abbrev pub IsNothing : Numbers → Type 0

@@ -2,7 +2,7 @@
 use Rattle.std.specs.Prelude.{ℕ, List, Option, unwrap_or}
 use Rattle.std.specs.Map.{lookup}
 use Rattle.std.specs.Ordering.{nat_cmp, is_eq}
-use Rattle.rtp_wire.specs.declared.receive.receiver.ReceiverState.{ReceiverState}
+use Rattle.rtp_wire.specs.StreamState.{ReceiverState}
 use Rattle.rtp_wire.specs.declared.receive.receiver.ReceiverState.TheVariants.{Start}
 
 -- the rollover count at which receivers start, and each source that has one, with what its receiver holds, by rising SSRC

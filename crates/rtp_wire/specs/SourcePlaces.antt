@@ -3,7 +3,7 @@ use Rattle.std.specs.Prelude.{◌≡◌, ℕ, ◌<◌, List, map, length, slice_
 use Rattle.std.specs.Map.{lookup}
 use Rattle.std.specs.BTreeMap.{BTreeMap, get}
 use Rattle.std.specs.Ordering.{nat_cmp, is_eq}
-use Rattle.rtp_wire.specs.declared.receive.receiver.ReceiverState.{ReceiverState}
+use Rattle.rtp_wire.specs.StreamState.{ReceiverState}
 use Rattle.rtp_wire.specs.declared.receive.receiver.ReceiverState.TheVariants.{Start}
 
 -- what is read at a place that the list doesn't have

@@ -17,8 +17,9 @@ pub use payload::{
     try_create_padding_packet, unpad_payload, write_original_sequence_number,
 };
 pub use receive::{
-    Receiver, Receivers, RestartingReceiver, RestartingVerdict, Verdict, WideReceiver, extend_u7,
-    extend_u8, extend_u15, extend_u16, extend_u32, receive_run, receive_run_one,
+    Receiver, Receivers, ReplayWindow, RestartingReceiver, RestartingVerdict, StreamReceiver,
+    Verdict, WideReceiver, extend_u7, extend_u8, extend_u15, extend_u16, extend_u32, receive_run,
+    receive_run_one,
 };
 pub use rtp_ext::{
     AbsCaptureTime, CarriedLayers, Cursor, ElementList, ElementValues, Elements, Extension,

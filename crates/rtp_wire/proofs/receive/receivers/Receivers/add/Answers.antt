@@ -1,5 +1,5 @@
 use Rattle.std.proofs.Common.{ℕ, List, ap, ◌∙◌}
-use Rattle.rtp_wire.specs.declared.receive.receiver.ReceiverState.{ReceiverState}
+use Rattle.rtp_wire.specs.StreamState.{ReceiverState}
 use Rattle.rtp_wire.specs.SourcePlaces.{held_of}
 use Rattle.rtp_wire.specs.Receivers.{ReceiverStates, receiver_of}
 use Rattle.rtp_wire.proofs.ReceiversLemmas.{no_place}

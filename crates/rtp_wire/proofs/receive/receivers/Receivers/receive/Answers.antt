@@ -3,7 +3,7 @@ use Rattle.std.specs.Prelude.{Option, Some, IsSome, false}
 use Rattle.std.proofs.lemmas.Option.{none-some}
 use Rattle.rtp_base.specs.Window.{Numbers, including}
 use Rattle.rtp_wire.specs.declared.receive.receiver.Verdict.{Verdict}
-use Rattle.rtp_wire.specs.declared.receive.receiver.ReceiverState.{ReceiverState}
+use Rattle.rtp_wire.specs.StreamState.{ReceiverState}
 use Rattle.rtp_wire.specs.Receiver.{Holds, IsJudged, taken_after}
 use Rattle.rtp_wire.proofs.PlacesLemmas.{is_none}
 use Rattle.rtp_wire.proofs.ReceiversLemmas.{no_receiver, Holds-new, receiver_read, Holds-read, ArePlaces-written, receiver_written, Holds-written, StaysBelowZeroIn-new, StaysBelowZeroIn-written, others_written, state_is, on_err}

@@ -2,7 +2,7 @@ use Rattle.std.proofs.Common.{arith, inl, refl, subst, sym, ap, ◌∙◌}
 use Rattle.std.specs.Prelude.{Option, Some, IsSome}
 use Rattle.std.proofs.lemmas.Option.{none-some}
 use Rattle.rtp_base.specs.Window.{including}
-use Rattle.rtp_wire.specs.declared.receive.receiver.ReceiverState.{ReceiverState}
+use Rattle.rtp_wire.specs.StreamState.{ReceiverState}
 use Rattle.rtp_wire.specs.declared.receive.receiver.ReceiverState.TheVariants.{Start}
 use Rattle.rtp_wire.specs.Receiver.{Holds}
 use Rattle.rtp_wire.proofs.PlacesLemmas.{is_none}

@@ -1,7 +1,7 @@
 use Rattle.std.proofs.Common.{rules, arith, refl, ℕ, sym, ap, subst, ◌∙◌}
 use Rattle.std.specs.Prelude.{Option, Some, IsSome}
 use Rattle.std.proofs.lemmas.List.{get_or_default}
-use Rattle.rtp_wire.specs.declared.receive.receiver.ReceiverState.{ReceiverState}
+use Rattle.rtp_wire.specs.StreamState.{ReceiverState}
 use Rattle.rtp_wire.specs.SourcePlaces.{past_the_end}
 use Rattle.rtp_wire.proofs.PlacesLemmas.{ArePlaces-same, filled_by, held_of-found, held_of-none, IsTaken, has_place, taken}
 use Rattle.rtp_wire.proofs.receive.sources.Sources.remove.Goals as goal
