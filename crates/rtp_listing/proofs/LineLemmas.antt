@@ -50,7 +50,7 @@ all_more P text len step fits before chunk k below = elim (cases_lt k len) [
       subst P same (chunk i 0 within)
 ]
 
--- whether all of the first bytes are of a kind
+-- whether all of the first bytes are of a class
 pub record SoFar (P : ℕ → Type 0) (bytes : List ℕ) (count : ℕ) (all : Bool) : Type 0 where
   pub sound : all ≡ true → (k : ℕ) → k < count → P (get_or bytes k 0)
   pub complete : ((k : ℕ) → k < count → P (get_or bytes k 0)) → all ≡ true

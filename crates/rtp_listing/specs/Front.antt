@@ -4,13 +4,13 @@ use Rattle.std.specs.Char.{IsAsciiHexdigit}
 use Rattle.std.specs.Str.Lines.{lines}
 use Rattle.hex.specs.Hex.{decode_of}
 use Rattle.rtp_ext.specs.ExtensionMap.{Slots}
-use Rattle.rtp_listing.specs.declared.line.Kind.{Kind}
-use Rattle.rtp_listing.specs.declared.line.Kind.TheVariants.{Digits, Without}
+use Rattle.rtp_listing.specs.declared.line.Class.{Class}
+use Rattle.rtp_listing.specs.declared.line.Class.TheVariants.{Digits, Without}
 use Rattle.rtp_listing.specs.MapLine.{IsMapLine}
 use Rattle.rtp_listing.specs.Input.{Item, AreMapLines, AreMapped, AreHex}
 
--- the bytes of a kind
-abbrev pub IsOf : Kind → ℕ → Type 0
+-- the bytes of a class
+abbrev pub IsOf : Class → ℕ → Type 0
 IsOf Digits byte = IsAsciiHexdigit byte
 IsOf (Without other) byte = byte ≢ other
 

@@ -6,12 +6,12 @@ ghost use Rattle.std.specs.Vec.{vec_len};
 ghost use Rattle.hex.specs.Hex.{decode_of, pair_value};
 ghost use Rattle.rtp_listing.specs.Front.{IsHexFirst, IsNotHexFirst, IsLineEnd};
 
-use super::line::{Kind, front_of};
+use super::line::{Class, front_of};
 use std::alloc::AllocError;
 
-// The byte of two hexadecimal digits. The low four bits of `0` to `9` are a digit's value, and those
-// of the letters of either case count from 1. Both digits are valued in one word of 16 bits, the first
-// one in its low byte, so that eight such words make a vector. Requires digits.
+// The byte of two hexadecimal digits. The low four bits of `0` to `9` are a digit's value, those
+// of letters of either case count from 1. Both are valued in one word of 16 bits, the first in
+// its low byte, so that eight such words make a vector. Requires digits.
 #[inline(always)]
 fn byte_of(high: u8, low: u8) -> u8
     requires high { IsAsciiHexdigit high }
@@ -23,7 +23,7 @@ fn byte_of(high: u8, low: u8) -> u8
     ((values * 16 + values / 256) % 256) as u8
 }
 
-// Writes the bytes of the digits at the front, two digits a byte. Requires an even number of digits,
+// Writes the bytes of the digits at the front, two digits a byte. Requires an even number of them
 // and room for their bytes.
 fn write_bytes(digits: &[u8], bytes: &mut [u8])
     requires digits { All IsAsciiHexdigit digits.now }
@@ -36,8 +36,8 @@ fn write_bytes(digits: &[u8], bytes: &mut [u8])
     }
 }
 
-// Most lines are too short to gain by tests of 64 bytes, of which the last one is for nothing: so many
-// bytes are tested by sixteen.
+// So many bytes are tested by sixteen: most lines are too short to gain by tests of 64 bytes, of
+// which the last one is for nothing.
 const BY_SIXTEEN: usize = 208;
 
 // The length of a front of digits, where the first `from` bytes are digits, behind which fewer than
@@ -50,7 +50,7 @@ fn eights(text: &[u8], from: usize) -> usize
     ensures within { result ≤ length text.now }
     ensures digits { (k : ℕ) → k < result → IsAsciiHexdigit (slice_index text.now k) }
 {
-    front_of(text, Kind::Digits, from, 8)
+    front_of(text, Class::Digits, from, 8)
 }
 
 // The length of the longest front of hexadecimal digits. What ends a line is less than any digit.
@@ -59,16 +59,16 @@ fn digits_at_front(text: &[u8]) -> usize
     ensures digits { (k : ℕ) → k < result → IsAsciiHexdigit (slice_index text.now k) }
     ensures end { result < length text.now → IsNotAsciiHexdigit (slice_index text.now result) }
 {
-    let mut front = front_of(&text[..text.len().min(BY_SIXTEEN)], Kind::Digits, 0, 16);
+    let mut front = front_of(&text[..text.len().min(BY_SIXTEEN)], Class::Digits, 0, 16);
     if front == BY_SIXTEEN {
-        front = front_of(text, Kind::Digits, front, 64);
-        front = front_of(text, Kind::Digits, front, 16);
+        front = front_of(text, Class::Digits, front, 64);
+        front = front_of(text, Class::Digits, front, 16);
     }
     if front == text.len() || text[front] < b'0' {
         return front;
     }
     let front = if front == 0 { 0 } else { eights(text, front) };
-    front_of(text, Kind::Digits, front, 1)
+    front_of(text, Class::Digits, front, 1)
 }
 
 // The text after the end of a line, where that is at the front: LF, CR LF, or the end of the text.

@@ -89,8 +89,8 @@ fn first_not_hex(text: &[u8], lines_before: u64) -> Option<u64>
 /// Reads the map lines at the front, and finds the lines of datagrams after them. Without any map
 /// line the map is the standard one.
 ///
-/// Returns `BadLine` with the first line that is neither, and `NoMemory` only when memory for the map
-/// is refused: the lines of datagrams take none.
+/// Returns `BadLine` with the first line that is neither, and `NoMemory` only when memory for the
+/// map is refused: the lines of datagrams take none.
 pub fn read_input(alloc: Global, text: &[u8]) -> Result<Input<'_>, InputError>
     // What the lines of datagrams decode to is what the text says.
     ensures spelled { IfOk result (λ input. (datagrams : List (List ℕ)) ×

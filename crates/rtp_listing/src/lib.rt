@@ -1,5 +1,5 @@
-//! Reads datagrams in hexadecimal, and prints for each its RTP header and whether a receiver takes it
-//! or refuses it as a replay.
+//! Reads datagrams in hexadecimal, and prints for each its RTP header and whether a receiver takes
+//! it or refuses it as a replay.
 #![tactic(auto)]
 
 mod hex_line;

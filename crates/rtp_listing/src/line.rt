@@ -1,57 +1,57 @@
-//! The lines of a text, and how far its front is of one kind of bytes.
+//! The lines of a text, and how far its front is of one class of bytes.
 
 ghost use Rattle.std.specs.Prelude.{◌≡◌, ◌↔◌, ◌<◌, ◌≤◌, ◌∷◌, ◌≢◌, ℕ, length, slice_index, All, IfSome, IfNone, IsTrue};
 ghost use Rattle.std.specs.Str.Lines.{lines, strip_carriage_return};
 ghost use Rattle.rtp_listing.specs.Front.{IsOf};
 
-/// A kind of bytes.
+/// A class of bytes.
 #[derive(Clone, Copy)]
-pub(super) enum Kind {
+pub(super) enum Class {
     /// Hexadecimal digits of either case.
     Digits,
     /// All but this one.
     Without(u8),
 }
 
-impl Kind {
+impl Class {
     #[inline(always)]
     fn has(self, byte: u8) -> bool
         ensures { IsTrue result ↔ IsOf self byte }
     {
         match self {
-            Kind::Digits => byte.is_ascii_hexdigit(),
-            Kind::Without(other) => byte != other,
+            Class::Digits => byte.is_ascii_hexdigit(),
+            Class::Without(other) => byte != other,
         }
     }
 }
 
-// Whether all bytes are of the kind. None ends the loop early, so that many are tested at once.
+// Whether all bytes are of the class. None ends the loop early, so that many are tested at once.
 #[inline(always)]
-fn are_of(bytes: &[u8], kind: Kind) -> bool
-    ensures { IsTrue result ↔ All (IsOf kind) bytes.now }
+fn are_of(bytes: &[u8], class: Class) -> bool
+    ensures { IsTrue result ↔ All (IsOf class) bytes.now }
 {
     let mut all = true;
     for byte in bytes {
-        all &= kind.has(*byte);
+        all &= class.has(*byte);
     }
     all
 }
 
-/// The length of a front of this kind, where the first `from` bytes are of it: so many bytes are tested
-/// at once, and the next so many are not all of it, or fewer are left.
+/// The length of a front of this class, where the first `from` bytes are of it: so many bytes are
+/// tested at once, and the next so many are not all of it, or fewer are left.
 #[inline(always)]
-pub(super) fn front_of(text: &[u8], kind: Kind, from: usize, at_once: usize) -> usize
+pub(super) fn front_of(text: &[u8], class: Class, from: usize, at_once: usize) -> usize
     requires some { 0 < at_once }
     requires front { from ≤ length text.now }
-    requires before { (k : ℕ) → k < from → IsOf kind (slice_index text.now k) }
+    requires before { (k : ℕ) → k < from → IsOf class (slice_index text.now k) }
     ensures within { result ≤ length text.now }
-    ensures each { (k : ℕ) → k < result → IsOf kind (slice_index text.now k) }
+    ensures each { (k : ℕ) → k < result → IsOf class (slice_index text.now k) }
     ensures end { at_once ≡ 1 → result < length text.now
-        → IsOf kind (slice_index text.now result) → ⊥ }
+        → IsOf class (slice_index text.now result) → ⊥ }
 {
     let mut len = from;
     while text.len() - len >= at_once {
-        if !are_of(&text[len..len + at_once], kind) {
+        if !are_of(&text[len..len + at_once], class) {
             return len;
         }
         len += at_once;
@@ -66,7 +66,7 @@ pub(super) fn position_of(text: &[u8], byte: u8) -> Option<usize>
     ensures none { IfNone result ((k : ℕ) → k < length text.now → slice_index text.now k ≢ byte) }
 {
     // Each step leaves less for the next one, which goes on in smaller ones.
-    let other = Kind::Without(byte);
+    let other = Class::Without(byte);
     let front = front_of(text, other, front_of(text, other, 0, 64), 16);
     let at = front_of(text, other, front_of(text, other, front, 8), 1);
     (at < text.len()).then_some(at)

@@ -35,9 +35,9 @@ fn around_space(text: &[u8]) -> Option<(&[u8], &[u8])>
     Some((&text[..space], &text[space + 1..]))
 }
 
-/// The id and the URI of a map line, `None` when the line is no map line. A map line is `map`, an id
-/// from 1 to 255 in one to three digits, and a URI, with one space between them. The URI is the rest
-/// of the line, spaces included: one byte or more, in UTF-8.
+/// The id and the URI of a map line, `None` when the line is no map line. A map line is `map`, an
+/// id from 1 to 255 in one to three digits, and a URI, with one space between them. The URI is the
+/// rest of the line, spaces included: one byte or more, in UTF-8.
 pub(super) fn map_line(line: &[u8]) -> Option<(u8, &str)>
     ensures found { IfSome result (λ item. IsMapLine line.now item.0 item.1.now) }
     ensures only { (id : ℕ) (uri : List ℕ) → IsMapLine line.now id uri →

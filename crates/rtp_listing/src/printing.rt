@@ -26,9 +26,9 @@ use std::io::{ErrorKind, Write};
 // How many bytes are gathered before they are written.
 const WRITTEN_AT_ONCE: usize = 8192;
 
-// Reads the header that the datagram of this line begins with into the one that is given, and returns
-// whether it begins with one, and the verdict on it. The datagram is put into the buffer, whatever
-// that held. Requires that the line is hexadecimal.
+// Reads the header that the datagram of this line begins with into the one that is given, and
+// returns whether it begins with one, and the verdict on it. The datagram is put into the buffer,
+// whatever that held. Requires that the line is hexadecimal.
 fn judged(
     alloc: Global,
     line: &[u8],
@@ -82,11 +82,11 @@ pub(super) fn write_text<W: Write>(output: &mut W, text: &[u8]) -> Result<(), Ru
     Err(RunEnd::Io)
 }
 
-/// Prints the two lines of each datagram in order: its RTP header, and the verdict of the receiver of
-/// its SSRC. Requires that the lines of the datagrams are hexadecimal.
+/// Prints the two lines of each datagram in order: its RTP header, and the verdict of the receiver
+/// of its SSRC. Requires that the lines of the datagrams are hexadecimal.
 ///
-/// Returns `NoMemory` when memory is refused, with the lines of the first datagrams printed, and `Io`
-/// when a write fails, with a beginning of the lines printed.
+/// Returns `NoMemory` when memory is refused, with the lines of the first datagrams printed, and
+/// `Io` when a write fails, with a beginning of the lines printed.
 pub(super) fn print_all<W: Write>(
     alloc: Global,
     input: &Input<'_>,

@@ -95,9 +95,9 @@ fn list_input<R: Read, W: Write>(alloc: Global, input: &mut R, output: &mut W) -
 ///
 /// A line of the input ends with LF or CR LF; the last one may end without either. A line is a
 /// datagram in hexadecimal of either case, and an empty line is an empty datagram. Before all
-/// datagrams there may be lines `map ID URI`, which map an id of 1 to 255, in one to three digits, to
-/// the extension with this URI; the last line for an id counts. Without such lines the standard map
-/// is used.
+/// datagrams there may be lines `map ID URI`, which map an id of 1 to 255, in one to three digits,
+/// to the extension with this URI; the last line for an id counts. Without such lines the standard
+/// map is used.
 ///
 /// - `BadLine`: the whole output is one line that gives the number of the first bad line, from 1.
 /// - `NoMemory`: the last line of the output is `want of memory`; the lines before it are the first
@@ -123,8 +123,10 @@ pub fn run<R: Read, W: Write>(alloc: Global, input: &mut R, output: &mut W) -> R
         Prints (W.contents output.old) (W.contents output.new) (IsBeginningOf text)) }
 
     // Whether some line is bad decides between the first two.
-    ensures taken { IfSome (R.remaining input.old) (λ text. IsInput text → result ≢ RunEnd.BadLine) }
-    ensures refused { IfSome (R.remaining input.old) (λ text. HasBadLine text → result ≢ RunEnd.Done) }
+    ensures taken { IfSome (R.remaining input.old) (λ text.
+        IsInput text → result ≢ RunEnd.BadLine) }
+    ensures refused { IfSome (R.remaining input.old) (λ text.
+        HasBadLine text → result ≢ RunEnd.Done) }
 {
     let Err(end) = list_input(alloc, input, output) else {
         return RunEnd::Done;

@@ -191,9 +191,9 @@ impl Value for Rid {
 }
 
 /// Room for the longest word and value.
-pub(super) const FIELD: usize = 32;
+pub(super) const FIELD: usize = 11 + 20;
 
-/// Puts the word, of at most eleven bytes, and the value behind the text. Requires room for a field.
+/// Puts the word and the value behind the text. Requires a word of at most eleven bytes, and room.
 #[inline(always)]
 pub(super) fn put_field<T: Value>(text: &mut [u8], at: usize, word: &[u8], value: T) -> usize
     requires word { length word.now ≤ 11 }

@@ -10,8 +10,8 @@ loop-len-preserved c =
     let len = c.loop-len.len in
     let step = c.args.at_once in
     let count : len + step - len ≡ step = omega arith in
-    let chunk = subst (λ (n : ℕ). All (IsOf c.args.kind) (take n (drop len text))) count (c.are_of.ensures.0 c.if-not-are_of.false) in
+    let chunk = subst (λ (n : ℕ). All (IsOf c.args.class) (take n (drop len text))) count (c.are_of.ensures.0 c.if-not-are_of.false) in
     record {
       within = omega arith;
-      each = all_more (IsOf c.args.kind) text len step (omega (arith, length-drop len text)) c.loop-len.invariant.each chunk;
+      each = all_more (IsOf c.args.class) text len step (omega (arith, length-drop len text)) c.loop-len.invariant.each chunk;
     }
