@@ -12,7 +12,7 @@ use Rattle.rtp_wire.specs.Padding.{padding_bytes, with_padding_bit, IsPaddingLen
 use Rattle.rtp_wire.specs.PartsAt.{is_set, form_in, header_end, parts_at}
 use Rattle.rtp_wire.proofs.FlagLemmas.{bit-once}
 use Rattle.rtp_wire.proofs.HeaderFound.{HasHeader, IsWhole-header}
-use Rattle.rtp_wire.proofs.PacketLemmas.{bit-is_set, IsPacket-whole, whole_and_parts, one_packet}
+use Rattle.rtp_wire.proofs.PacketLemmas.{bit-is_set, IsPacket-whole, whole_and_parts}
 use Rattle.rtp_wire.proofs.PartsLemmas.{length-packet}
 use Rattle.rtp_wire.proofs.PaddingChanges.{HasPadding, parts-padding, HasHeader-padding}
 

@@ -1,4 +1,4 @@
-use Rattle.std.proofs.Common.{List, ℕ, rules}
+use Rattle.std.proofs.Common.{rules}
 use Rattle.rtp_wire.specs.InPlace.{SetsElement}
 use Rattle.rtp_wire.proofs.PacketBufLemmas.{moved, held-mut}
 use Rattle.rtp_wire.proofs.packet.in_place.set_element.Goals as goal

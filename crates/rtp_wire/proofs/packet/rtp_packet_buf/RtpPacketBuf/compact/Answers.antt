@@ -1,5 +1,4 @@
-use Rattle.std.proofs.Common.{◌≤◌, ℕ, Result, length, take, drop, subst, arith}
-use Rattle.std.specs.Prelude.{IfOk}
+use Rattle.std.proofs.Common.{◌≤◌, length, take, drop, arith}
 use Rattle.rtp_wire.specs.PutIntoPacket.{Compacts}
 use Rattle.rtp_wire.proofs.CompactLemmas.{Compacts-front}
 use Rattle.rtp_wire.proofs.PacketBufLemmas.{IsHeld-compact}

@@ -1,4 +1,4 @@
-use Rattle.std.proofs.Common.{List, ℕ, Some, take, drop}
+use Rattle.std.proofs.Common.{Some, take, drop}
 use Rattle.rtp_wire.specs.InPlace.{RemovesPadding}
 use Rattle.rtp_wire.proofs.PacketBufLemmas.{IsHeld-unpadded, ChangesOnly-unpadded}
 use Rattle.rtp_wire.proofs.packet.rtp_packet_buf.RtpPacketBuf.remove_padding.Goals as goal
