@@ -65,7 +65,7 @@ build_for() { # text, processor
 # part of a larger one, and with call frame information where debuggers and profilers look for it. Only these
 # names can be seen from outside.
 plain_code() { # names, what labels begin with
-    sed -E -e '/^\t\.(file|ident|cfi_sections|hidden)[\t ]/d' -e '/^\t(#|\/\/)(NO_)?APP$/d' \
+    sed -E -e '/^\t\.(file|ident|cfi_sections|hidden)[\t ]/d' \
         -e "/^\t\.globl\t($1)\$/!{/^\t\.globl\t/d}" -e "/^\t\.ascii\t/!s/\.L([A-Za-z_])/.L$2\1/g"
 }
 
