@@ -1,5 +1,5 @@
 use Rattle.rtp_ext.proofs.NewBytesLemmas.{HasNewBytesBut}
-use Rattle.rtp_ext.proofs.map.ExtensionMapKinds.new_ids.Given as goal
+use Rattle.rtp_ext.proofs.map.kinds.ExtensionMapKinds.new_ids.Given as goal
 
 -- the ids that were passed have their new ids, and those that are mapped to nothing none
 abbrev pub invariant-loop-id : goal.invariant-loop-id

@@ -1,6 +1,6 @@
 use Rattle.std.proofs.Common.{refl, rules, ◌∙◌}
 use Rattle.rtp_ext.proofs.NewBytesLemmas.{HasNewBytesBut-start, HasNewBytesBut-next}
-use Rattle.rtp_ext.proofs.map.ExtensionMapKinds.new_ids.Goals as goal
+use Rattle.rtp_ext.proofs.map.kinds.ExtensionMapKinds.new_ids.Goals as goal
 
 pub loop-id-init : goal.loop-id-init
 loop-id-init c = HasNewBytesBut-start c.args.self.now c.args.other.now _ _ (c.into_iter-id-iterator.ensures.into_iter_gives ∙ c.iter-id-items.ensures.items) refl

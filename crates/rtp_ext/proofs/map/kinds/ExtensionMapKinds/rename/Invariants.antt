@@ -3,7 +3,7 @@ use Rattle.rtp_values.specs.KnownKind.{extension_of_kind}
 use Rattle.rtp_ext.specs.KindsById.{known_slots}
 use Rattle.rtp_ext.specs.MapSlots.{items_at, mapped_ids}
 use Rattle.rtp_ext.proofs.RenamesLemmas.{IsRenamedBut}
-use Rattle.rtp_ext.proofs.map.ExtensionMapKinds.rename.Given as goal
+use Rattle.rtp_ext.proofs.map.kinds.ExtensionMapKinds.rename.Given as goal
 
 -- the ids that were passed have their new bytes, and the others the old ones
 abbrev pub invariant-loop-id : goal.invariant-loop-id

@@ -1,20 +1,20 @@
 //! Which id is mapped to which extension.
 
-ghost use Rattle.std.specs.Prelude.{◌≡◌, ◌≢◌, ◌↔◌, ℕ, true, false, IsTrue, IfOk, IfSome, IfNone, map, length, ◌≤◌};
-ghost use Rattle.std.specs.Option.{option_copied, option_map};
+mod kinds;
+mod remap;
+
+ghost use Rattle.std.specs.Prelude.{◌≡◌, ◌≢◌, ◌↔◌, ℕ, true, false, IsTrue, IfOk, IfSome, IfNone, length, ◌≤◌};
+ghost use Rattle.std.specs.Option.{option_copied};
 ghost use Rattle.rtp_ext.specs.ExtensionMap as spec;
 ghost use Rattle.rtp_ext.specs.ExtensionMap.{items_from};
-ghost use Rattle.rtp_ext.specs.MapSlots.{Puts, Swaps};
 ghost use Rattle.rtp_ext.specs.EqualMaps.{same_slots, same_slots-equiv};
 
 use super::iter::write_entries;
-use super::kinds::{Cursor, Kinds};
 use super::kinds_by_id::KindsById;
 use super::mapped_ids::MappedIds;
-use super::renamed_ids::renamed;
 use super::slots::Slot;
-use super::{Iter, IterByMediaType, MAX_ID_ONE_BYTE_FORM, slots};
-use rtp_values::{Extension, KnownKind};
+use super::{Iter, IterByMediaType, slots};
+use rtp_values::Extension;
 use std::alloc::{AllocError, Global};
 use std::marker::Model;
 use std::{array, fmt, mem};
@@ -239,79 +239,6 @@ impl ExtensionMap {
         exts
     }
 
-    /// Takes up the pairs of a renegotiation, one step after another: for each pair the peer maps
-    /// the id to the extension. A pair whose id is 0, or whose extension isn't mapped, changes
-    /// nothing. The lowest id of the extension counts. Where that is the id, its entry is locked.
-    /// Where it is another and locked, nothing changes. Else the entry moves to the id and is locked
-    /// there, and the entry of that id, locked or not, moves to the other.
-    ///
-    /// A map of 3 to the transport number, 4 to the video orientation and 5 to the content type, after
-    /// the pairs of 12 and the video orientation, and of 14 and the transport number, maps 5 to the
-    /// content type, 12 to the video orientation and 14 to the transport number, the last two locked.
-    pub fn remap(&mut self, steps: &[(u8, &Extension)])
-        ensures steps { spec.AreRemapped self.old (map (λ step. (step.0, step.1.now)) steps.now) self.new }
-        ensures renumbered { spec.IsRenumbered self.old self.new }
-    {
-        for (id, ext) in steps {
-            self.remap_one(*id, ext);
-        }
-    }
-
-    // One step of a renegotiation.
-    fn remap_one(&mut self, id: u8, ext: &Extension)
-        ensures step { spec.Remaps self.old id ext.now self.new }
-        ensures renumbered { spec.IsRenumbered self.old self.new }
-    {
-        if id == 0 {
-            return;
-        }
-        let Some(lowest) = self.lowest_id(ext) else {
-            return
-        };
-        if lowest == id {
-            self.lock(id);
-            return;
-        }
-        if self.is_locked(lowest) {
-            return;
-        }
-        self.exchange(lowest, id);
-        self.lock(id);
-    }
-
-    // Puts the entries of two ids in each other's place.
-    fn exchange(&mut self, from: u8, to: u8)
-        requires ids { spec.IsId from × spec.IsId to }
-        requires apart { from ≢ to }
-        ensures { Swaps self.old self.new from to }
-    {
-        self.kinds.exchange(from, to);
-        let here = usize::from(from) - 1;
-        let there = usize::from(to) - 1;
-        let was_here = self.slots[here].is_mapped();
-        let was_there = self.slots[there].is_mapped();
-        self.slots.swap(here, there);
-        self.mapped.update(from, was_here, was_there);
-        self.mapped.update(to, was_there, was_here);
-    }
-
-    // Whether the entry of the id is locked.
-    fn is_locked(&self, id: u8) -> bool
-        requires { spec.IsId id }
-        ensures { IsTrue result ↔ spec.IsLockedAt self.now id }
-    {
-        self.slots[usize::from(id) - 1].is_locked()
-    }
-
-    // Locks the entry of the id, if it has one.
-    fn lock(&mut self, id: u8)
-        requires { spec.IsId id }
-        ensures { Puts self.old self.new id
-            (option_map (λ entry. spec.locked entry.extension) (spec.entry_at self.old id)) }
-    {
-        self.slots[usize::from(id) - 1].lock();
-    }
-
     /// The same map. Only the texts of unknown extensions take memory, and where that is refused
     /// nothing is returned.
     pub fn clone(&self, alloc: Global) -> Result<Self, AllocError>
@@ -324,74 +251,6 @@ impl ExtensionMap {
         copy.kinds = self.kinds;
         Ok(copy)
     }
-}
-
-impl Kinds for ExtensionMap {
-    ghost use Rattle.std.specs.Prelude.{drop, refl};
-    ghost use Rattle.rtp_ext.specs.KindsById.{known_slots};
-    ghost use Rattle.rtp_ext.specs.MapSlots.{items_at, mapped_ids};
-    ghost use Rattle.rtp_ext.specs.declared.kinds.Cursor.{Cursor};
-
-    ghost slots = { λ map. map };
-
-    ghost known = { λ map. known_slots map };
-
-    ghost left = { λ map cursor. items_at (known_slots map) (drop cursor.at (mapped_ids (known_slots map))) };
-
-    #[inline(always)]
-    fn get(&self, id: u8) -> Option<KnownKind> {
-        self.kinds.get(id)
-    }
-
-    #[inline(always)]
-    fn start(&self) -> Cursor {
-        Cursor {
-            at: 0,
-            end: self.kinds.len(),
-        }
-    }
-
-    #[inline(always)]
-    fn next(&self, cursor: &mut Cursor) -> Option<(u8, KnownKind)> {
-        let item = self.kinds.item(cursor.at)?;
-        cursor.at += 1;
-        Some(item)
-    }
-
-    // An unknown extension too may have an id above 14.
-    #[inline(always)]
-    #[tactic(auto, using(crate::proofs::KnownItemsLemmas::long_split, crate::proofs::RisingIdLemmas::mapped_rise))]
-    fn has_long(&self, _start: Cursor) -> bool {
-        self.mapped.has_above(MAX_ID_ONE_BYTE_FORM) || self.kinds.has_layers()
-    }
-
-    #[inline(always)]
-    fn at_most(&self, _start: Cursor) -> usize {
-        self.kinds.len()
-    }
-
-    fn id_under(&self, other: &Self, id: u8) -> Option<u8> {
-        other.lowest_id(slots::extension(&self.slots, id)?)
-    }
-
-    // An id that isn't mapped has no new one.
-    fn new_ids(&self, other: &Self) -> [u8; 256] {
-        let mut ids = [0; 256];
-        for (id, ext) in self.iter() {
-            ids[usize::from(id)] = other.lowest_id(ext).unwrap_or(0);
-        }
-        ids
-    }
-
-    fn rename(&self, from: KnownKind, to: KnownKind, lowest: u8, ids: &mut [u8; 256]) {
-        let mut cursor = self.start();
-        while let Some((id, kind)) = self.next(&mut cursor) {
-            let index = usize::from(id);
-            ids[index] = renamed(Some(kind), from, to, lowest, ids[index]);
-        }
-    }
-
-    ghost known_is = { λ map. refl };
 }
 
 /// The entries by rising id, each as its number and the extension's text.

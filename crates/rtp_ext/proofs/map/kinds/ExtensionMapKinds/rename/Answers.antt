@@ -2,7 +2,7 @@ use Rattle.std.proofs.Common.{rules}
 use Rattle.rtp_values.specs.KnownKind.{extension_of_kind}
 use Rattle.rtp_ext.specs.KindsById.{known_slots}
 use Rattle.rtp_ext.proofs.RenamesLemmas.{IsRenamedBut-start, IsRenamedBut-next, Renames-walked}
-use Rattle.rtp_ext.proofs.map.ExtensionMapKinds.rename.Goals as goal
+use Rattle.rtp_ext.proofs.map.kinds.ExtensionMapKinds.rename.Goals as goal
 
 pub loop-id-init : goal.loop-id-init
 loop-id-init c =
