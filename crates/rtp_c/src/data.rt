@@ -8,7 +8,7 @@ ghost use Rattle.rtp_c.specs.ElementData.{IsNothingAskedFor, HasNoData, AreWritt
 ghost use Rattle.rtp_c.specs.Status.{ok, short_buffer, bad_field, none};
 
 use super::given::put_given_values;
-use super::kinds::{is_named, kind_numbered};
+use super::numbers::{is_named, kind_numbered};
 use super::status::{BAD_FIELD, NONE, OK, SHORT_BUFFER};
 use super::values::ValuesView;
 use rtp_values::{ExtensionValues, KnownKind};

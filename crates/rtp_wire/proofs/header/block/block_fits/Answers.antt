@@ -6,7 +6,7 @@ use Rattle.rtp_wire.proofs.header.block.block_fits.Goals as goal
 
 pub returns-then-most-room : goal.returns-then-most-room
 returns-then-most-room g c =
-    let exts = g.K.Kinds.slots c.args.kinds.now in
+    let exts = c.args.ids.now in
     let ev = g.V.ElementValues.values c.args.ev.now in
     let len = length (elements_bytes c.args.form (written_elements exts ev)) in (
       λ _. omega (arith, length-block c.args.form exts ev len refl, c.values_len_at_most-most.ensures.most, c.if-most-room.true),

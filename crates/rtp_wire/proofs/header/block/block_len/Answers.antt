@@ -7,5 +7,5 @@ returns-clause-length g c =
     omega (
       arith,
       c.next_multiple_of.ensures.value,
-      length-block c.args.form (g.K.Kinds.slots c.args.kinds.now) (g.V.ElementValues.values c.args.ev.now) c.values_len-elements_len.result c.values_len-elements_len.ensures.length,
+      length-block c.args.form c.args.ids.now (g.V.ElementValues.values c.args.ev.now) c.values_len-elements_len.result c.values_len-elements_len.ensures.length,
     )

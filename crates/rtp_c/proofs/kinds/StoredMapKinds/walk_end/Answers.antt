@@ -4,12 +4,11 @@ use Rattle.std.proofs.Common.{◌≡◌, ℕ, List, Bor, Option, subst, ◌+◌,
 use Rattle.std.proofs.lemmas.Bool.{cases_lt}
 use Rattle.std.proofs.lemmas.List.{get_or-take}
 use Rattle.rtp_ext.specs.ExtensionMap.{items_from}
-use Rattle.rtp_c.specs.StoredMap.{numbered_slots, walk_end}
+use Rattle.rtp_c.specs.StoredMap.{numbered_slots, last_end}
 use Rattle.rtp_c.proofs.FewSlotsLemmas.{zeros_in, zeros_past}
 use Rattle.rtp_c.proofs.NumberedLemmas.{numbered-low, numbered-all, numbered-few}
-use Rattle.rtp_c.proofs.WalkLemmas.{walk_end-low}
-use Rattle.rtp_c.proofs.kinds.StoredMapKinds.start.Goals as goal
-use Rattle.rtp_c.proofs.kinds.StoredMapKinds.start.Goals.{else-is_low, then-is_low+then-is_few, then-is_low+else-is_few+then-self-eq0, then-is_low+else-is_few+else-self-eq0}
+use Rattle.rtp_c.proofs.WalkLemmas.{last_end-low}
+use Rattle.rtp_c.proofs.kinds.StoredMapKinds.walk_end.Goals as goal
 
 zeros_from : (numbers : List ℕ) (n m l i : ℕ) → m + l ≡ length numbers → n ≤ m
     → ((k : ℕ) → k < length (take (m - n) (drop n numbers)) → get_or (take (m - n) (drop n numbers)) k 0 ≡ 0)
@@ -36,28 +35,37 @@ zeros_after numbers first end i all first_is few middle high past = elim (cases_
   | inr there ↦ zeros_from numbers 8 16 240 i all (omega arith) middle high (omega (arith, there))
 ]
 
-pub returns-clause-all : goal.returns-clause-all
-returns-clause-all c =
+pub returns-then-is_few-clause-all : goal.returns-then-is_few-clause-all
+returns-then-is_few-clause-all c =
     let numbers = c.args.self.now.kind in
     let many : length numbers ≡ 256 = search rules in
-    elim c.if-is_low.branch [
-      | then-is_low+then-is_few w ↦
-          let first : IsFirstChunk numbers w.unwrap.result.now 8 =
-          subst (λ (found : Option (Bor (List ℕ))). MatchOption found (length numbers < 8) (λ chunk. IsFirstChunk numbers chunk.now 8)) w.unwrap.ensures w.first_chunk.ensures.cases in
-          ap (λ (end : ℕ). items_from 0 (take (walk_end end) (numbered_slots numbers))) w.end-is
-          ∙ ap (λ (end : ℕ). items_from 0 (take end (numbered_slots numbers))) (walk_end-low w.last_of_few.result (omega (arith, w.last_of_few.ensures.few)))
-          ∙ numbered-low numbers w.last_of_few.result (λ i above.
-          zeros_after numbers w.unwrap.result.now w.last_of_few.result i (sym many) first.same
-          w.last_of_few.ensures.zeros (c.are_zeros-is_few.ensures.0 w.if-is_few.true) (c.are_zeros-is_low.ensures.0 w.if-is_low.true) (omega (arith, above)))
-      | then-is_low+else-is_few+then-self-eq0 w ↦
-          ap (λ (end : ℕ). items_from 0 (take (walk_end end) (numbered_slots numbers))) w.end-is
-          ∙ numbered-low numbers 14 (λ i above.
-          zero_and numbers 15 240 i (sym many) (omega (arith, w.if-self-eq0.true)) (c.are_zeros-is_low.ensures.0 w.if-is_low.true) above)
-      | then-is_low+else-is_few+else-self-eq0 w ↦
-          ap (λ (end : ℕ). items_from 0 (take (walk_end end) (numbered_slots numbers))) w.end-is ∙ numbered-all numbers many
-      | else-is_low w ↦
-          ap (λ (end : ℕ). items_from 0 (take (walk_end end) (numbered_slots numbers))) w.end-is ∙ numbered-all numbers many
-    ]
+    let first : IsFirstChunk numbers c.unwrap.result.now 8 =
+    subst (λ (found : Option (Bor (List ℕ))). MatchOption found (length numbers < 8) (λ chunk. IsFirstChunk numbers chunk.now 8)) c.unwrap.ensures c.first_chunk.ensures.cases in
+    ap (λ (end : ℕ). items_from 0 (take end (numbered_slots numbers))) (last_end-low c.last_of_few.result (omega (arith, c.last_of_few.ensures.few)))
+    ∙ numbered-low numbers c.last_of_few.result (λ i above.
+    zeros_after numbers c.unwrap.result.now c.last_of_few.result i (sym many) first.same
+    c.last_of_few.ensures.zeros (c.are_zeros-is_few.ensures.0 c.if-is_few.true) (c.are_zeros-is_low.ensures.0 c.if-is_low.true) (omega (arith, above)))
 
-pub returns-clause-few : goal.returns-clause-few
-returns-clause-few c = let many : length c.args.self.now.kind ≡ 256 = search rules in numbered-few c.args.self.now.kind many
+pub returns-then-self-eq0-clause-all : goal.returns-then-self-eq0-clause-all
+returns-then-self-eq0-clause-all c =
+    let numbers = c.args.self.now.kind in
+    let many : length numbers ≡ 256 = search rules in
+    numbered-low numbers 14 (λ i above. zero_and numbers 15 240 i (sym many) (omega (arith, c.if-self-eq0.true)) (c.are_zeros-is_low.ensures.0 c.if-is_low.true) above)
+
+pub returns-else-self-eq0-clause-all : goal.returns-else-self-eq0-clause-all
+returns-else-self-eq0-clause-all c = let many : length c.args.self.now.kind ≡ 256 = search rules in numbered-all c.args.self.now.kind many
+
+pub returns-else-is_low-clause-all : goal.returns-else-is_low-clause-all
+returns-else-is_low-clause-all c = let many : length c.args.self.now.kind ≡ 256 = search rules in numbered-all c.args.self.now.kind many
+
+pub returns-then-is_few-clause-few : goal.returns-then-is_few-clause-few
+returns-then-is_few-clause-few c = numbered-few c.args.self.now.kind (search rules)
+
+pub returns-then-self-eq0-clause-few : goal.returns-then-self-eq0-clause-few
+returns-then-self-eq0-clause-few c = numbered-few c.args.self.now.kind (search rules)
+
+pub returns-else-self-eq0-clause-few : goal.returns-else-self-eq0-clause-few
+returns-else-self-eq0-clause-few c = numbered-few c.args.self.now.kind (search rules)
+
+pub returns-else-is_low-clause-few : goal.returns-else-is_low-clause-few
+returns-else-is_low-clause-few c = numbered-few c.args.self.now.kind (search rules)

@@ -1,5 +1,5 @@
 use Rattle.std.proofs.Common.{◌≡◌, ◌≢◌, ◌<◌, ℕ, get_or, false}
-use Rattle.rtp_c.proofs.kinds.has_number.Given as goal
+use Rattle.rtp_c.proofs.numbers.has_number.Given as goal
 
 -- whether one of the numbers so far is the wanted one
 abbrev pub invariant-loop-number : goal.invariant-loop-number

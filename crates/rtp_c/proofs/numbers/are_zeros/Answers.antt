@@ -3,7 +3,7 @@ use Rattle.std.specs.Int.Bits.{or_zero_l}
 use Rattle.std.specs.Int.RustNames.{bit_or}
 use Rattle.std.proofs.lemmas.Bool.{cases_lt}
 use Rattle.std.proofs.lemmas.Nat.{le_or_l, le_or_r}
-use Rattle.rtp_c.proofs.kinds.are_zeros.Goals as goal
+use Rattle.rtp_c.proofs.numbers.are_zeros.Goals as goal
 
 pub loop-number-preserved : goal.loop-number-preserved
 loop-number-preserved c =

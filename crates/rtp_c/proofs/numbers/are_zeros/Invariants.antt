@@ -1,5 +1,5 @@
 use Rattle.std.proofs.Common.{◌≡◌, ◌<◌, ℕ, get_or}
-use Rattle.rtp_c.proofs.kinds.are_zeros.Given as goal
+use Rattle.rtp_c.proofs.numbers.are_zeros.Given as goal
 
 -- no bit is set so far exactly where each number so far is 0
 abbrev pub invariant-loop-number : goal.invariant-loop-number

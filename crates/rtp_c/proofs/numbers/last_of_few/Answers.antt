@@ -1,7 +1,7 @@
 use Rattle.std.proofs.Common.{arith, refl}
 use Rattle.std.proofs.lemmas.Nat.{leading_le}
 use Rattle.rtp_c.proofs.FewSlotsLemmas.{zeros_above}
-use Rattle.rtp_c.proofs.kinds.last_of_few.Goals as goal
+use Rattle.rtp_c.proofs.numbers.last_of_few.Goals as goal
 
 pub overflow_sub-len : goal.overflow_sub-len
 overflow_sub-len c = leading_le 64 c.from_le_bytes.result
