@@ -73,6 +73,9 @@ fn write_element<V: ElementValues>(
 fn has_empty_data<K: Kinds, V: ElementValues>(ids: &KnownIds<'_, K>, ev: &V) -> bool
     ensures { result ≡ has_empty (items_from 0 (known_slots ids.now)) (V.values ev.now) }
 {
+    if ids.are_none() {
+        return false;
+    }
     let mut items = ids.iter();
     while let Some((_, kind)) = items.next() {
         if ev.has_empty_data(kind) {
@@ -165,6 +168,9 @@ pub fn values_len<K: Kinds, V: ElementValues>(
     ensures by_map { result ≤ 257 * mapped_count ids.now }
     ensures bound { result ≤ 65535 }
 {
+    if ids.are_none() {
+        return 0;
+    }
     let mut items = ids.iter();
     let mut len = 0;
     while let Some((_, kind)) = items.next() {

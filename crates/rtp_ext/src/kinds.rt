@@ -9,7 +9,6 @@ ghost use Rattle.rtp_ext.specs.ExtensionMap.{IsId, Slots, HasNoIdAbove, extensio
 ghost use Rattle.rtp_ext.specs.KindsById.{is_long_item, known_slots};
 ghost use Rattle.rtp_ext.specs.NewIds.{IsNewId, AreNewBytes, Renames};
 
-use super::MAX_ID_ONE_BYTE_FORM;
 use super::renamed_ids::renamed;
 use rtp_values::KnownKind;
 
@@ -87,13 +86,4 @@ pub trait Kinds {
     }
 
     ghost known_is: { (map : Self) → known map ≡ known_slots (slots map) };
-}
-
-/// Whether the one-byte form can't carry the element of a mapped id, whatever its data are: the id is
-/// above [`MAX_ID_ONE_BYTE_FORM`], or the kind may have more than 16 bytes of data (RFC 8285, 4.2).
-#[tactic(auto, using(crate::proofs::FormLemmas::long_kind))]
-pub fn is_long(id: u8, kind: KnownKind) -> bool
-    ensures { result ≡ is_long_item (id, extension_of_kind kind) }
-{
-    id > MAX_ID_ONE_BYTE_FORM || kind == KnownKind::VideoLayersAllocation
 }

@@ -1,6 +1,7 @@
 //! Walks over the mapped ids of a map.
 
 ghost use Rattle.std.specs.Prelude.{◌≡◌, ◌≤◌, ◌∷◌, [], length, IfSome, IfNone};
+ghost use Rattle.std.specs.Bool.{OnTrue};
 ghost use Rattle.std.specs.List.{list_any};
 ghost use Rattle.rtp_values.specs.KnownKind.{extension_of_kind};
 ghost use Rattle.rtp_ext.specs.ExtensionMap.{items_from};
@@ -14,7 +15,7 @@ use std::marker::Model;
 /// A clause sees what the map maps.
 #[derive(Drop)]
 pub struct KnownIds<'a, K: Kinds> {
-    kinds: &'a K,
+    exts: &'a K,
     // Where each walk ends at the latest.
     end: usize,
 }
@@ -25,10 +26,10 @@ impl<'a, K: Kinds> Model for KnownIds<'a, K> {
 
     ghost Value = { Slots };
 
-    ghost view = { λ ids. K.slots ids.kinds.now };
+    ghost view = { λ ids. K.slots ids.exts.now };
 
-    ghost invariant = { λ ids. (K.left ids.kinds.now 0 ids.end ≡ items_from 0 (K.known ids.kinds.now))
-        × (length (items_from 0 (K.known ids.kinds.now)) ≤ 255)
+    ghost invariant = { λ ids. (K.left ids.exts.now 0 ids.end ≡ items_from 0 (K.known ids.exts.now))
+        × (length (items_from 0 (K.known ids.exts.now)) ≤ 255)
         × (ids.end ≤ 255) };
 }
 
@@ -36,7 +37,7 @@ impl<'a, K: Kinds> Model for KnownIds<'a, K> {
 /// those that are left.
 #[derive(Drop)]
 pub struct KnownItems<'a, K: Kinds> {
-    kinds: &'a K,
+    exts: &'a K,
     // Where the walk looks next, and where it ends at the latest.
     at: usize,
     end: usize,
@@ -48,7 +49,7 @@ impl<'a, K: Kinds> Model for KnownItems<'a, K> {
 
     ghost Value = { List (ℕ × Extension) };
 
-    ghost view = { λ walk. K.left walk.kinds.now walk.at walk.end };
+    ghost view = { λ walk. K.left walk.exts.now walk.at walk.end };
 
     ghost invariant = { λ walk. walk.end ≤ 255 };
 }
@@ -61,19 +62,19 @@ impl<'a, K: Kinds> KnownItems<'a, K> {
             self.old ≡ (item.0, extension_of_kind item.1) ∷ self.new) }
         ensures none { IfNone result (self.old ≡ []) }
     {
-        self.kinds.next(&mut self.at, &mut self.end)
+        self.exts.next(&mut self.at, &mut self.end)
     }
 }
 
 impl<'a, K: Kinds> KnownIds<'a, K> {
     /// Those of the map.
     #[inline(always)]
-    pub fn of(kinds: &'a K) -> Self
-        ensures { result ≡ K.slots kinds.now }
+    pub fn of(exts: &'a K) -> Self
+        ensures { result ≡ K.slots exts.now }
     {
         KnownIds {
-            kinds,
-            end: kinds.walk_end(),
+            exts,
+            end: exts.walk_end(),
         }
     }
 
@@ -84,7 +85,7 @@ impl<'a, K: Kinds> KnownIds<'a, K> {
         ensures few { length result ≤ 255 }
     {
         KnownItems {
-            kinds: self.kinds,
+            exts: self.exts,
             at: 0,
             end: self.end,
         }
@@ -95,7 +96,7 @@ impl<'a, K: Kinds> KnownIds<'a, K> {
     pub fn has_long(&self) -> bool
         ensures { result ≡ list_any is_long_item (items_from 0 self.now) }
     {
-        self.kinds.has_long(self.end)
+        self.exts.has_long(self.end)
     }
 
     /// At most so many ids are mapped to a known extension.
@@ -104,6 +105,14 @@ impl<'a, K: Kinds> KnownIds<'a, K> {
         ensures most { length (items_from 0 (known_slots self.now)) ≤ result }
         ensures few { result ≤ 255 }
     {
-        self.kinds.at_most(self.end)
+        self.exts.at_most(self.end)
+    }
+
+    /// Whether it is known without a walk that no id is mapped to a known extension.
+    #[inline(always)]
+    pub fn are_none(&self) -> bool
+        ensures { OnTrue result (items_from 0 (known_slots self.now) ≡ []) }
+    {
+        self.at_most() == 0
     }
 }

@@ -64,6 +64,13 @@ words exts true values =
     let form = form_of exts values in
     omega (arith, ap length (a_part exts true values form refl), length-block form exts values (length (elements_bytes form (written_elements exts values))) refl)
 
+-- a block has at least four bytes
+pub least_part : (exts : Slots) (extension : Bool) (values : ExtensionValues) → extension ≡ true → 4 ≤ length (extension_bytes exts extension values)
+least_part exts false values set = cc
+least_part exts true values set =
+    let form = form_of exts values in
+    omega (arith, ap length (a_part exts true values form refl), length-block form exts values (length (elements_bytes form (written_elements exts values))) refl)
+
 -- a header whose block is no longer than its map allows
 pub wire_len_bounds : (exts : Slots) (h : RtpHeader) → h.csrc_count ≤ 15 → length h.csrc ≡ 15 → IsWithinMap exts (length (extension_bytes exts h.has_extension h.ext_vals))
     → IsWithinBounds exts (length (wire_bytes exts h))

@@ -21,7 +21,7 @@ use rtp_ext::{
 };
 
 // How many bytes stand before a block's body.
-const HEADER_LEN: usize = 4;
+pub(super) const HEADER_LEN: usize = 4;
 
 // The four bytes before a body of `words` words.
 fn block_header(form: ExtensionsForm, words: u16) -> [u8; HEADER_LEN]
@@ -47,6 +47,15 @@ fn fill_word(buf: &mut [u8], at: usize, count: usize) -> usize
     }
 }
 
+// So many bytes, with the zeros that fill their last word.
+#[inline(always)]
+fn in_words(len: usize) -> usize
+    requires { len ≤ 262140 }
+    ensures { result ≡ whole_words len }
+{
+    (len + 3) / 4 * 4
+}
+
 // The length of the block that `write_block` writes.
 pub(super) fn block_len<K: Kinds, V: ElementValues>(
     ids: &KnownIds<'_, K>,
@@ -56,8 +65,7 @@ pub(super) fn block_len<K: Kinds, V: ElementValues>(
     ensures length { result ≡ length (block_bytes_in form ids.now (V.values ev.now)) }
     ensures few { IsWithinMap ids.now result }
 {
-    let elements_len = values_len(ids, ev, form);
-    HEADER_LEN + elements_len.next_multiple_of(4)
+    HEADER_LEN + in_words(values_len(ids, ev, form))
 }
 
 // Whether the block that `write_block` writes has room. Most buffers have it whatever the values are,
@@ -74,8 +82,7 @@ pub(super) fn block_fits<K: Kinds, V: ElementValues>(
     ensures { IsTrue result
         ↔ (length (block_bytes_in form ids.now (V.values ev.now)) ≤ room) }
 {
-    let most = values_len_at_most(ids, ev, form);
-    if HEADER_LEN + most + 3 <= room {
+    if HEADER_LEN + in_words(values_len_at_most(ids, ev, form)) <= room {
         return true;
     }
     block_len(ids, ev, form) <= room
@@ -91,7 +98,7 @@ fn close_block(buf: &mut [u8], form: ExtensionsForm, elements_len: usize) -> usi
         buf.new ≡ block_of form (filled row) ++ drop result before }
     ensures length { result ≡ 4 + whole_words elements_len }
 {
-    let body_len = elements_len.next_multiple_of(4);
+    let body_len = in_words(elements_len);
     let len = fill_word(buf, HEADER_LEN + elements_len, body_len - elements_len);
     put(buf, 0, &block_header(form, (body_len / 4) as u16));
     len

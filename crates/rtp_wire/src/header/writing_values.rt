@@ -2,7 +2,8 @@
 
 ghost use Rattle.std.specs.Prelude.{◌≡◌, ℕ, ◌+◌, ◌*◌, ◌%◌, ◌<◌, ◌≤◌, ◌↔◌, ◌++◌, List, length, drop, Some, IsTrue, IsNone, IfSome, IfNone};
 ghost use Rattle.rtp_ext.specs.declared.form.ExtensionsForm.TheVariants.{OneByte};
-ghost use Rattle.rtp_ext.specs.ExtensionMap.{mapped_count, HasNoIdAbove};
+ghost use Rattle.rtp_ext.specs.ExtensionMap.{Slots, mapped_count, HasNoIdAbove};
+ghost use Rattle.rtp_values.specs.declared.value.values.ExtensionValues.{ExtensionValues};
 ghost use Rattle.rtp_ext.specs.KindsById.{known_slots};
 ghost use Rattle.rtp_ext.specs.WrittenBlock.{TakesAtMost17Each, HasFewData, whole_words};
 ghost use Rattle.rtp_wire.specs.Header.{IsWire};
@@ -10,7 +11,7 @@ ghost use Rattle.rtp_wire.specs.Written.{extension_bytes, wire_bytes, image_of, 
 ghost use Rattle.rtp_wire.specs.WrittenInForm.{announced_form, IsWithinMap};
 
 use super::RtpHeader;
-use super::block::{block_fits, block_len, write_block};
+use super::block::{HEADER_LEN, block_fits, block_len, write_block};
 use super::writing::put_sources;
 use rtp_base::put;
 use rtp_ext::{ElementValues, ExtensionsForm, Kinds, KnownIds, values_form};
@@ -28,11 +29,11 @@ impl RtpHeader {
         ensures bound { result ≤ 65612 }
     {
         let before = 12 + 4 * self.csrc_count;
-        let ids = KnownIds::of(exts);
-        match self.form(&ids, values) {
-            Some(form) => before + block_len(&ids, values, form),
-            None => before,
+        if !self.has_extension {
+            return before;
         }
+        let ids = KnownIds::of(exts);
+        before + block_len(&ids, values, values_form(&ids, values))
     }
 
     /// Writes the header as [`try_write_to`](Self::try_write_to) does, with these values in place
@@ -63,12 +64,30 @@ impl RtpHeader {
         if self.csrc_count > 15 || self.payload_type.get() > 127 {
             return None;
         }
+        if buf.len() < self.least_len() {
+            return None;
+        }
         let ids = KnownIds::of(exts);
         let form = self.form(&ids, values);
         if !self.fits(&ids, values, form, buf.len()) {
             return None;
         }
         Some(self.write_in(&ids, values, form, buf))
+    }
+
+    // At least so many bytes are written, whatever the map and the values are.
+    #[inline(always)]
+    fn least_len(&self) -> usize
+        requires { self.now.csrc_count ≤ 15 }
+        ensures { (exts : Slots) (values : ExtensionValues) →
+            result ≤ length (wire_bytes exts (with_values self.now values)) }
+    {
+        let before = 12 + 4 * self.csrc_count;
+        if self.has_extension {
+            before + HEADER_LEN
+        } else {
+            before
+        }
     }
 
     // The form of the block that X announces, and `None` where X is clear.

@@ -1,4 +1,4 @@
-use Rattle.std.proofs.Common.{ℕ, refl, subst, rules, Some}
+use Rattle.std.proofs.Common.{ℕ, subst, rules, Some}
 use Rattle.std.specs.Prelude.{◌⊎◌, ◌≡◌}
 use Rattle.rtp_values.specs.KnownKind.{extension_of_kind}
 use Rattle.rtp_ext.specs.ExtensionMap.{Slots, IsLowest, IsUnmapped, extension_at}

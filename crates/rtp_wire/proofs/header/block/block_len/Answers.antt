@@ -6,6 +6,6 @@ pub returns-clause-length : goal.returns-clause-length
 returns-clause-length g c =
     omega (
       arith,
-      c.next_multiple_of.ensures.value,
-      length-block c.args.form c.args.ids.now (g.V.ElementValues.values c.args.ev.now) c.values_len-elements_len.result c.values_len-elements_len.ensures.length,
+      c.in_words.ensures,
+      length-block c.args.form c.args.ids.now (g.V.ElementValues.values c.args.ev.now) c.values_len.result c.values_len.ensures.length,
     )

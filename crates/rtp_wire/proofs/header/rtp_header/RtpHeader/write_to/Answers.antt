@@ -1,4 +1,4 @@
-use Rattle.std.proofs.Common.{arith, drop, length, subst, ◌++◌, List, ℕ}
+use Rattle.std.proofs.Common.{arith, drop, subst, ◌++◌, List, ℕ}
 use Rattle.rtp_ext.specs.ExtensionMap.{Slots}
 use Rattle.rtp_wire.specs.Header.{IsWire}
 use Rattle.rtp_wire.specs.Written.{wire_bytes, image_of}
