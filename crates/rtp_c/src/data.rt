@@ -47,7 +47,8 @@ pub extern "C" fn rtpw_data_of(
         ⊎ (result ≡ bad_field))) }
     ensures unchanged { result ≢ ok → (buf.new ≡ buf.old) × (len.new ≡ len.old) }
 {
-    if !is_named(kind) {
+    let known = kind_numbered(kind);
+    if known.is_none() && kind < FIRST_OWN {
         return BAD_FIELD;
     }
     let mut unfreed = ManuallyDrop::new(ExtensionValues::default());
@@ -55,7 +56,7 @@ pub extern "C" fn rtpw_data_of(
     let Some(()) = put_given_values(values, given) else {
         return BAD_FIELD;
     };
-    let Some(kind) = kind_numbered(kind) else {
+    let Some(kind) = known else {
         return NONE;
     };
     let Some(data_len) = len_of(kind, given) else {
