@@ -8,7 +8,7 @@ ghost use Rattle.rtp_c.specs.ElementData.{IsNothingAskedFor, HasNoData, AreWritt
 ghost use Rattle.rtp_c.specs.Status.{ok, short_buffer, bad_field, none};
 
 use super::given::put_given_values;
-use super::kinds::{is_named, kind_numbered};
+use super::kinds::named;
 use super::status::{BAD_FIELD, NONE, OK, SHORT_BUFFER};
 use super::values::ValuesView;
 use rtp_values::{ExtensionValues, KnownKind};
@@ -47,10 +47,9 @@ pub extern "C" fn rtpw_data_of(
         ⊎ (result ≡ bad_field))) }
     ensures unchanged { result ≢ ok → (buf.new ≡ buf.old) × (len.new ≡ len.old) }
 {
-    let known = kind_numbered(kind);
-    if known.is_none() && kind < FIRST_OWN {
+    let Some(known) = named(kind) else {
         return BAD_FIELD;
-    }
+    };
     let mut unfreed = ManuallyDrop::new(ExtensionValues::default());
     let given = &mut *unfreed;
     let Some(()) = put_given_values(values, given) else {
