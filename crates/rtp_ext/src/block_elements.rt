@@ -168,9 +168,6 @@ pub fn values_len<K: Kinds, V: ElementValues>(
     ensures by_map { result ≤ 257 * mapped_count ids.now }
     ensures bound { result ≤ 65535 }
 {
-    if ids.are_none() {
-        return 0;
-    }
     let mut items = ids.iter();
     let mut len = 0;
     while let Some((_, kind)) = items.next() {

@@ -9,7 +9,7 @@ ghost use Rattle.rtp_values.specs.declared.kind.Extension.TheVariants.{VideoLaye
 ghost use Rattle.rtp_ext.specs.BlockValues.{AreValues, ReadElements, SaysValues};
 ghost use Rattle.rtp_ext.specs.ExtensionMap.{extension_at};
 ghost use Rattle.rtp_vla.specs.Allocation.{Allocation, Means};
-ghost use Rattle.rtp_ext.specs.LastAllocation.{EndsRow};
+ghost use Rattle.rtp_ext.specs.LastAllocation.{EndsRow, EndsBefore};
 
 use super::kinds::Kinds;
 use super::{Elements, ExtensionMap, ExtensionsForm};
@@ -79,7 +79,8 @@ fn read_in<K: Kinds, V: SetValues>(
 // allocations one alone takes memory. Data that take none are read by themselves.
 #[inline(always)]
 fn last_in_row<'a, K: Kinds>(exts: &K, first: &'a [u8], elements: &mut Elements<'a>) -> &'a [u8]
-    ensures { EndsRow (K.known exts.now) first.now elements.old elements.new result.now }
+    ensures row { EndsRow (K.known exts.now) first.now elements.old elements.new result.now }
+    ensures whole { 2 ≤ length first.now → EndsBefore (K.known exts.now) elements.new }
 {
     let mut last = first;
     if first.len() < 2 {

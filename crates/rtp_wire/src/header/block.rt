@@ -57,6 +57,7 @@ fn in_words(len: usize) -> usize
 }
 
 // The length of the block that `write_block` writes.
+#[inline(always)]
 pub(super) fn block_len<K: Kinds, V: ElementValues>(
     ids: &KnownIds<'_, K>,
     ev: &V,
@@ -65,6 +66,9 @@ pub(super) fn block_len<K: Kinds, V: ElementValues>(
     ensures length { result ≡ length (block_bytes_in form ids.now (V.values ev.now)) }
     ensures few { IsWithinMap ids.now result }
 {
+    if ids.are_none() {
+        return HEADER_LEN;
+    }
     HEADER_LEN + in_words(values_len(ids, ev, form))
 }
 

@@ -79,8 +79,9 @@ impl RtpHeader {
     #[inline(always)]
     fn least_len(&self) -> usize
         requires { self.now.csrc_count ≤ 15 }
-        ensures { (exts : Slots) (values : ExtensionValues) →
+        ensures least { (exts : Slots) (values : ExtensionValues) →
             result ≤ length (wire_bytes exts (with_values self.now values)) }
+        ensures before { 12 + 4 * self.now.csrc_count ≤ result }
     {
         let before = 12 + 4 * self.csrc_count;
         if self.has_extension {
@@ -109,7 +110,7 @@ impl RtpHeader {
         Some(values_form(ids, values))
     }
 
-    // Whether the header has room, with its block in this form.
+    // Whether the header has room, with its block in this form, where what stands before the block has it.
     #[inline(always)]
     fn fits<K: Kinds, V: ElementValues>(
         &self,
@@ -119,6 +120,7 @@ impl RtpHeader {
         room: usize,
     ) -> bool
         requires sources { self.now.csrc_count ≤ 15 }
+        requires before { 12 + 4 * self.now.csrc_count ≤ room }
         requires form { form
             ≡ announced_form ids.now self.now.has_extension (V.values values.now) }
         requires short { form ≡ Some OneByte
@@ -127,11 +129,8 @@ impl RtpHeader {
         ensures { IsTrue result ↔ (length
             (wire_bytes ids.now (with_values self.now (V.values values.now))) ≤ room) }
     {
-        let Some(left) = room.checked_sub(12 + 4 * self.csrc_count) else {
-            return false;
-        };
         match form {
-            Some(form) => block_fits(ids, values, form, left),
+            Some(form) => block_fits(ids, values, form, room - (12 + 4 * self.csrc_count)),
             None => true,
         }
     }

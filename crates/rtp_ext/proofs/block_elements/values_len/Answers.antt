@@ -1,5 +1,4 @@
 use Rattle.std.proofs.Common.{refl, arith, ap, ◌∙◌, length, length-append}
-use Rattle.std.proofs.lemmas.Bool.{OnTrue_at}
 use Rattle.rtp_values.specs.KnownKind.{extension_of_kind}
 use Rattle.rtp_values.specs.Spelling.{spelled_data}
 use Rattle.rtp_ext.specs.ElementWriting.{items_bytes, element_or_nothing}
@@ -8,12 +7,6 @@ use Rattle.rtp_ext.proofs.CursorLemmas.{known_bytes}
 use Rattle.rtp_ext.proofs.KnownItemsLemmas.{count_known}
 use Rattle.rtp_ext.specs.KindsById.{known_slots}
 use Rattle.rtp_ext.proofs.block_elements.values_len.Goals as goal
-
-pub returns-then-are_none-clause-length : goal.returns-then-are_none-clause-length
-returns-then-are_none-clause-length g c =
-    let values = g.V.ElementValues.values c.args.ev.now in
-    let none = ap length (ap (items_bytes c.args.form values) (OnTrue_at c.if-are_none.true c.are_none.ensures) ∙ items_bytes-nil c.args.form values) in
-    omega (arith, none, ap length (known_bytes c.args.form c.args.ids.now (known_slots c.args.ids.now) values refl))
 
 pub loop-kind-preserved : goal.loop-kind-preserved
 loop-kind-preserved g c =

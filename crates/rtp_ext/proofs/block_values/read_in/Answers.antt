@@ -40,7 +40,7 @@ pub loop-id-preserved-in_ok-parse_value-in-VideoLayersAllocation :
 loop-id-preserved-in_ok-parse_value-in-VideoLayersAllocation g c =
     let exts = g.K.Kinds.known c.args.exts.now in
     let told = c.parse_value.ensures in
-    let row = c.last_in_row-last.ensures in
+    let row = c.last_in_row-last.ensures.row in
     let element : Element = (c.in-Some.id, c.in-Some.bytes.now) in
     IsReadTo-more g.V.SetValues.shows exts c.new-elements.result c.loop-id.elements c.last_in_row-last.new.elements (element ∷ row.row)
     c.args.ev.now c.loop-id.ev c.parse_value.new.ev
@@ -62,7 +62,7 @@ stopped g c elements are =
     (IsReadTo-refused g.V.SetValues.shows exts c.new-elements.result c.loop-id.elements c.next.new.self element c.args.ev.now c.loop-id.ev c.parse_value.new.ev
     c.in-Some.ensures.steps
     (mapped-to-layers exts c.in-Some.id c.get.result c.in-Some-get.kind _ c.get.ensures c.in-Some-get.is c.in-VideoLayersAllocation.is refl)
-    (c.last_in_row-last.ensures.memory (told.refused (rw c.in_err-parse_value-in-VideoLayersAllocation.was refl)).1.1)
+    (c.last_in_row-last.ensures.row.memory (told.refused (rw c.in_err-parse_value-in-VideoLayersAllocation.was refl)).1.1)
     (told.unchanged (λ same. let is = c.in_err-parse_value-in-VideoLayersAllocation.was in cc)) c.loop-id.invariant))
 
 pub returns-in_err-parse_value-in-VideoLayersAllocation-clause-refused :

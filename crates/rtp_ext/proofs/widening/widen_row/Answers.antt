@@ -1,6 +1,6 @@
 use Rattle.std.proofs.Common.{arith}
 use Rattle.rtp_ext.proofs.WidenLemmas.{IsWidenedTo-start, IsWidenedTo-next, IsWidened-end, ahead, in_room}
-use Rattle.rtp_ext.proofs.widening.widen.Goals as goal
+use Rattle.rtp_ext.proofs.widening.widen_row.Goals as goal
 
 pub loop-place-init : goal.loop-place-init
 loop-place-init c = IsWidenedTo-start c.args.room.now c.args.len c.requires

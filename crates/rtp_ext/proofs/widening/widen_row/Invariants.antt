@@ -1,6 +1,6 @@
 use Rattle.std.proofs.Common.{◌-◌, length}
 use Rattle.rtp_ext.specs.BodySurvey.{IsWidenedTo}
-use Rattle.rtp_ext.proofs.widening.widen.Given as goal
+use Rattle.rtp_ext.proofs.widening.widen_row.Given as goal
 
 -- the elements up to the offset stand at the front in the two-byte form
 abbrev pub invariant-loop-place : goal.invariant-loop-place
