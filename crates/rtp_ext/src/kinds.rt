@@ -28,7 +28,8 @@ pub trait Kinds {
     fn get(&self, id: u8) -> Option<KnownKind>
         ensures { option_map extension_of_kind result ≡ extension_at (known self.now) id };
 
-    /// Where a walk over all ids that are mapped to a known extension ends at the latest. It begins at 0.
+    /// The end with which a walk over all ids that are mapped to a known extension begins at 0. `next` may
+    /// move it.
     fn walk_end(&self) -> usize
         ensures all { left self.now 0 result ≡ items_from 0 (known self.now) }
         ensures few { length (items_from 0 (known self.now)) ≤ 255 }

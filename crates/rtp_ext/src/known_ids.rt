@@ -16,7 +16,7 @@ use std::marker::Model;
 #[derive(Drop)]
 pub struct KnownIds<'a, K: Kinds> {
     exts: &'a K,
-    // Where each walk ends at the latest.
+    // The end with which each walk begins.
     end: usize,
 }
 
@@ -38,7 +38,7 @@ impl<'a, K: Kinds> Model for KnownIds<'a, K> {
 #[derive(Drop)]
 pub struct KnownItems<'a, K: Kinds> {
     exts: &'a K,
-    // Where the walk looks next, and where it ends at the latest.
+    // Where the walk looks next, and the end that it has.
     at: usize,
     end: usize,
 }
