@@ -8,6 +8,7 @@ mod KindNumberLemmas
 mod StoredMapLemmas
 mod NumberedLemmas
 mod WalkLemmas
+mod LongLemmas
 mod MeantLemmas
 mod FewSlotsLemmas
 mod PlacesLemmas

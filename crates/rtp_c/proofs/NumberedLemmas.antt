@@ -48,6 +48,31 @@ no_kind_past number out = of_found (kind_numbered number) refl
     of_found None none = refl
     of_found (Some kind) some = absurd (false≢true (sym out ∙ numbered_passes _ all_in_range number kind some))
 
+-- and each of 1 to 15 is that of a kind
+all_some : List (Option KnownKind) → Bool
+all_some [] = true
+all_some (None ∷ kinds) = false
+all_some (Some kind ∷ kinds) = all_some kinds
+
+some_at : (kinds : List (Option KnownKind)) (index : ℕ) → all_some kinds ≡ true → index < length kinds → get_or kinds index None ≢ None
+unfolding all_some
+some_at [] index all within = absurd (omega arith)
+some_at (None ∷ kinds) index all within = cc
+some_at (Some kind ∷ kinds) zero all within = λ none. cc
+some_at (Some kind ∷ kinds) (suc index) all within = some_at kinds index all (omega arith)
+
+some_from_1 : all_some (drop 1 numbered_kinds) ≡ true
+unfolding all_some
+some_from_1 = refl
+
+pub no_kind_out : (number : ℕ) → number < 256 → kind_numbered number ≡ None → nat_lt ((number + 255) % 256) 15 ≡ false
+unfolding kind_numbered
+no_kind_out zero byte none = refl
+no_kind_out (suc before) byte none = elim (cases_lt before 15) [
+  | inl few ↦ absurd (some_at (drop 1 numbered_kinds) before some_from_1 few none)
+  | inr many ↦ le-ltb ((suc before + 255) % 256) 15 (omega (arith, many, byte))
+]
+
 -- the number of a kind
 pub number_found : (number : ℕ) (kind : KnownKind) → kind_numbered number ≡ Some kind → number ≡ kind_number kind
 number_found number kind is = sym (subst (IsKindNumbered number) is (numbered_is number))
@@ -88,7 +113,7 @@ kind_of_extension (Some found) kind is = ap Some (same_kind found kind (one_kind
 -- ---- a walk over the mapped ids
 
 -- the slot of an id
-slot_numbered : (numbers : List ℕ) (k : ℕ) → get_or (numbered_slots numbers) k None ≡ entry_of_kind (kind_numbered (get_or numbers (suc k) 0))
+pub slot_numbered : (numbers : List ℕ) (k : ℕ) → get_or (numbered_slots numbers) k None ≡ entry_of_kind (kind_numbered (get_or numbers (suc k) 0))
 slot_numbered numbers k =
     entry_at-kinds (map kind_numbered numbers) k
     ∙ ap entry_of_kind (ap (get_or (map kind_numbered numbers) (suc k)) (sym number_zero) ∙ get_or-map kind_numbered numbers (suc k) 0)
@@ -189,63 +214,6 @@ pub numbered-most : (numbers : List ℕ) (end at : ℕ)
 numbered-most numbers end at all =
     let slots = take end (numbered_slots numbers) in
     omega (arith, ap length all, length-items_from at (drop at slots), length-drop at slots, length-take end (numbered_slots numbers))
-
--- ---- no walk over low ids without the layer allocation needs the two-byte form
-
-HasFewData : Option Entry → Type 0
-HasFewData None = Unit {0}
-HasFewData (Some entry) = nat_lt 16 (longest entry.extension) ≡ false
-
-all_few : all_pass (λ number kind. nat_eq number 15 || nat_le (longest (extension_of_kind kind)) 16) 0 numbered_kinds ≡ true
-unfolding all_pass
-all_few = refl
-
-few_data : (number : ℕ) → number ≢ 15 → HasFewData (entry_of_kind (kind_numbered number))
-unfolding HasFewData
-few_data number other = of_found (kind_numbered number) refl
-  where
-    of_found : (found : Option KnownKind) → kind_numbered number ≡ found → HasFewData (entry_of_kind found)
-    of_found None none = tt
-    of_found (Some kind) some =
-        let passes = subst (λ (b : Bool). (b || nat_le (longest (extension_of_kind kind)) 16) ≡ true) (ne_eqb number 15 other) (numbered_passes _ all_few number kind some) in
-        le-ltb 16 (longest (extension_of_kind kind)) (leb-true (longest (extension_of_kind kind)) 16 passes)
-
-at_most_14 : (id : ℕ) → id ≤ 14 → nat_lt 14 id ≡ false
-at_most_14 id low = le-ltb 14 id low
-
-no_long_items : (passed : ℕ) (left : Slots) → passed + length left ≤ 14 → ((k : ℕ) → HasFewData (get_or left k None)) → list_any is_long_item (items_from passed left) ≡ false
-unfolding HasFewData
-no_long_items passed [] low few = refl
-no_long_items passed (None ∷ left) low few = no_long_items (passed + 1) left (omega arith) (λ k. few (suc k))
-no_long_items passed (Some entry ∷ left) low few =
-    ap (λ (b : Bool). (b || nat_lt 16 (longest entry.extension)) || list_any is_long_item (items_from (passed + 1) left)) (at_most_14 (passed + 1) (omega arith))
-    ∙ ap (λ (b : Bool). b || list_any is_long_item (items_from (passed + 1) left)) (few 0)
-    ∙ no_long_items (passed + 1) left (omega arith) (λ k. few (suc k))
-
-pub numbered-short : (numbers : List ℕ) (end at : ℕ) → end ≤ 14 → ((i : ℕ) → i < length (take 16 numbers) → get_or (take 16 numbers) i 0 ≢ 15) → length numbers ≡ 256
-    → list_any is_long_item (items_from at (drop at (take end (numbered_slots numbers)))) ≡ false
-unfolding HasFewData
-numbered-short numbers end at low none long = elim (cases_lt at end) [
-  | inl within ↦ no_long_items at (drop at slots) (omega (arith, within, length-drop at slots, length-take end (numbered_slots numbers))) few
-  | inr past ↦ ap (λ (left : Slots). list_any is_long_item (items_from at left)) (drop_all at slots (omega (arith, past, length-take end (numbered_slots numbers))))
-]
-  where
-    slots : Slots
-    slots = take end (numbered_slots numbers)
-
-    number_here : (i : ℕ) → i < 16 → get_or numbers i 0 ≢ 15
-    number_here i below is = none i (omega (arith, below, long, length-take 16 numbers)) (get_or-take 16 numbers i 0 below ∙ is)
-
-    few_at : (i : ℕ) → HasFewData (get_or slots i None)
-    few_at i = elim (cases_lt i end) [
-      | inl here ↦
-          subst HasFewData (sym (get_or-take end (numbered_slots numbers) i None here ∙ slot_numbered numbers i))
-          (few_data (get_or numbers (suc i) 0) (number_here (suc i) (omega (arith, here))))
-      | inr there ↦ subst HasFewData (sym (get_or_past slots i None (omega (arith, there, length-take end (numbered_slots numbers))))) tt
-    ]
-
-    few : (k : ℕ) → HasFewData (get_or (drop at slots) k None)
-    few k = subst HasFewData (sym (get_or-drop at slots k None)) (few_at (at + k))
 
 -- ---- the new id of an id
 

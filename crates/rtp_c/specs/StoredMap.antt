@@ -58,8 +58,8 @@ abbrev pub numbered_slots : List ℕ → Slots
 numbered_slots numbers = slots_of (map kind_numbered numbers)
 
 -- where a walk ends whose slots are looked at one by one up to an index: there, within the 14 of the one-byte form, and else at the last slot
-abbrev pub walk_end : ℕ → ℕ
-walk_end end = if nat_lt 14 end then 255 else end
+abbrev pub last_end : ℕ → ℕ
+last_end end = if nat_lt 14 end then 255 else end
 
 -- the first index where the number stands
 pub record IsFirstNumber (numbers : List ℕ) (number index : ℕ) : Type 0 where

@@ -8,7 +8,7 @@ ghost use Rattle.rtp_c.specs.ElementData.{IsNothingAskedFor, HasNoData, AreWritt
 ghost use Rattle.rtp_c.specs.Status.{ok, short_buffer, bad_field, none};
 
 use super::given::put_given_values;
-use super::kinds::{is_named, kind_numbered};
+use super::numbers::named;
 use super::status::{BAD_FIELD, NONE, OK, SHORT_BUFFER};
 use super::values::ValuesView;
 use rtp_values::{ExtensionValues, KnownKind};
@@ -47,15 +47,15 @@ pub extern "C" fn rtpw_data_of(
         ⊎ (result ≡ bad_field))) }
     ensures unchanged { result ≢ ok → (buf.new ≡ buf.old) × (len.new ≡ len.old) }
 {
-    if !is_named(kind) {
+    let Some(known) = named(kind) else {
         return BAD_FIELD;
-    }
+    };
     let mut unfreed = ManuallyDrop::new(ExtensionValues::default());
     let given = &mut *unfreed;
     let Some(()) = put_given_values(values, given) else {
         return BAD_FIELD;
     };
-    let Some(kind) = kind_numbered(kind) else {
+    let Some(kind) = known else {
         return NONE;
     };
     let Some(data_len) = len_of(kind, given) else {

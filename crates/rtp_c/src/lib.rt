@@ -16,6 +16,7 @@ mod kinds;
 mod layers;
 mod map;
 mod named_elements;
+mod numbers;
 mod packet;
 mod padding;
 mod payload;

@@ -18,7 +18,8 @@ ghost use Rattle.rtp_c.specs.StoredMap.{AreStandardNumbers, IsNumberAt, IsIdOf, 
 ghost use Rattle.rtp_c.specs.Status.{ok, bad_field, IsCauseStatus};
 
 use super::changing::layout_of;
-use super::kinds::{StoredMap, is_named, number_of};
+use super::kinds::StoredMap;
+use super::numbers::{is_named, number_of};
 use super::status::{BAD_FIELD, OK};
 use rtp_ext::NewIds;
 use rtp_values::KnownKind;

@@ -1,9 +1,10 @@
 -- The form that mapped ids and their values need, and the elements that it can carry.
-use Rattle.std.proofs.Common.{◌≡◌, ℕ, ◌+◌, ◌≤◌, ◌⊎◌, inl, inr, List, [], ◌∷◌, length, Bool, true, false, Option, Some, None, refl, sym, ◌∙◌, arith}
-use Rattle.std.specs.Prelude.{◌||◌, nat_lt, if◌then◌else◌}
+use Rattle.std.proofs.Common.{◌≡◌, ℕ, zero, suc, ◌+◌, ◌*◌, ◌≤◌, ◌<◌, ◌⊎◌, inl, inr, List, [], ◌∷◌, length, Bool, true, false, Option, Some, None, refl, sym, subst, ◌∙◌, arith}
+use Rattle.std.specs.Prelude.{◌||◌, ◌&&◌, nat_lt, nat_eq, if◌then◌else◌}
+use Rattle.std.specs.Int.{w8, rotate_left}
 use Rattle.std.specs.List.{AllByRecursion, filter_map, list_any}
 use Rattle.std.specs.Option.{option_map}
-use Rattle.std.proofs.lemmas.Bool.{or_parts}
+use Rattle.std.proofs.lemmas.Bool.{or_parts, and_parts, cases_lt, eqb-true}
 use Rattle.std.proofs.lemmas.Bool.Decides.{nat_tests}
 use Rattle.rtp_ext.specs.declared.form.ExtensionsForm.{ExtensionsForm}
 use Rattle.rtp_ext.specs.declared.form.ExtensionsForm.TheVariants.{OneByte, TwoByte}
@@ -104,3 +105,24 @@ pub all_fit : (exts : Slots) (values : ExtensionValues) (form : ExtensionsForm) 
 all_fit exts values TwoByte chosen = fit-two values 0 exts
 all_fit exts values OneByte (inl chosen) = fit-one values 0 exts (chosen ∙ sym (form_for-map exts values))
 all_fit exts values OneByte (inr two) = two≢one two
+
+-- ---- an id in the upper four bits
+
+holds_below : (ℕ → Bool) → ℕ → Bool
+holds_below test zero = true
+holds_below test (suc n) = test n && holds_below test n
+
+below : (test : ℕ → Bool) (n k : ℕ) → holds_below test n ≡ true → k < n → test k ≡ true
+unfolding holds_below
+below test zero k all within = absurd (omega (arith, within))
+below test (suc n) k all within = elim (cases_lt k n) [
+  | inl before ↦ below test n k (and_parts _ _ all).1 before
+  | inr here ↦ let same : n ≡ k = omega (arith, here, within) in subst (λ (i : ℕ). test i ≡ true) same (and_parts _ _ all).0
+]
+
+each_rotated : holds_below (λ id. nat_eq (rotate_left w8 id 4) (id * 16)) 15 ≡ true
+unfolding holds_below
+each_rotated = refl
+
+pub rotated_id : (id : ℕ) → id ≤ 14 → rotate_left w8 id 4 ≡ id * 16
+rotated_id id few = eqb-true _ _ (below (λ id. nat_eq (rotate_left w8 id 4) (id * 16)) 15 id each_rotated (omega (arith, few)))

@@ -260,3 +260,15 @@ IsListing-filter slots passes items listing = record {
       (All-filter (λ item. passes item.1) (λ item. (extension_at slots item.0 ≡ Some item.1) × (true ≡ true)) items listing.mapped);
   all = λ id extension is passed. Contains-filter (λ item. passes item.1) (id, extension) items (listing.all id extension is refl) passed;
 }
+
+-- each item is of an id that is mapped so
+pub items_mapped : (slots : Slots) → All (λ item. extension_at slots item.0 ≡ Some item.1) (items_from 0 slots)
+items_mapped slots = λ k d here. ((IsListing-from_slots slots).mapped k d here).0
+
+-- an id is mapped to nothing, or there is an item of it
+pub unmapped_or_item : (slots : Slots) (id : ℕ) → (extension_at slots id ≡ None) ⊎ ((extension : Extension) × Contains (items_from 0 slots) (id, extension))
+unmapped_or_item slots id = found (extension_at slots id) refl
+  where
+    found : (at : Option Extension) → extension_at slots id ≡ at → (extension_at slots id ≡ None) ⊎ ((extension : Extension) × Contains (items_from 0 slots) (id, extension))
+    found None missing = inl missing
+    found (Some extension) mapped = inr (extension, (IsListing-from_slots slots).all id extension mapped refl)

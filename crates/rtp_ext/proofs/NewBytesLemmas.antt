@@ -1,5 +1,5 @@
 -- The bytes of the new ids, found on a walk over the mapped ids.
-use Rattle.std.proofs.Common.{◌≡◌, ◌⊎◌, inl, inr, ℕ, zero, suc, ◌<◌, List, ◌∷◌, length, get_or, set, replicate, Option, Some, None, IfSome, IfNone, All, arith, refl, sym, ap, ◌∙◌, subst, length-set}
+use Rattle.std.proofs.Common.{◌≡◌, ◌⊎◌, inl, inr, ℕ, zero, suc, ◌<◌, List, ◌∷◌, length, get_or, set, replicate, Option, Some, None, IfSome, IfNone, All, arith, refl, sym, ap, ◌∙◌, subst, ⊎_elim, length-set}
 use Rattle.std.specs.Prelude.{true}
 use Rattle.std.specs.List.{Contains}
 use Rattle.std.proofs.lemmas.Bool.{cases_eq}
@@ -9,7 +9,7 @@ use Rattle.rtp_values.specs.declared.kind.Extension.{Extension}
 use Rattle.rtp_values.proofs.KindLemmas.{one_kind}
 use Rattle.rtp_ext.specs.ExtensionMap.{Slots, IsId, IsLowest, IsUnmapped, IsListing, extension_at, items_from}
 use Rattle.rtp_ext.specs.NewIds.{IsNewId, id_in_byte, byte_of_id}
-use Rattle.rtp_ext.proofs.ListingLemmas.{IsListing-from_slots}
+use Rattle.rtp_ext.proofs.ListingLemmas.{items_mapped, unmapped_or_item}
 use Rattle.rtp_ext.proofs.NewIdLemmas.{byte_said}
 
 -- the ids have their new ids in a table of bytes, but for those of the items that are left
@@ -29,17 +29,13 @@ HasNewBytesBut-start from to left bytes is zeros =
     subst (λ (items : List (ℕ × Extension)). HasNewBytesBut from to items bytes) (sym is)
     (subst (HasNewBytesBut from to (items_from 0 from)) (sym zeros) (record {
       long = refl;
-      mapped = λ k d here. (listing.mapped k d here).0;
-      new = λ id. new id (extension_at from id) refl;
+      mapped = items_mapped from;
+      new = λ id. ⊎_elim (λ missing. inl (unmapped id missing)) inr (unmapped_or_item from id);
     }))
   where
-    listing : IsListing from (λ _. true) (items_from 0 from)
-    listing = IsListing-from_slots from
-
-    new : (id : ℕ) (found : Option Extension) → extension_at from id ≡ found
-        → IsNewId from to id (id_in_byte (get_or (replicate 256 0) id 0)) ⊎ ((extension : Extension) × Contains (items_from 0 from) (id, extension))
-    new id None missing = inl (subst (λ (byte : ℕ). IsNewId from to id (id_in_byte byte)) (sym (zero_there 256 id)) (λ extension mapped. let nothing = sym missing ∙ mapped in cc))
-    new id (Some extension) mapped = inr (extension, listing.all id extension mapped refl)
+    unmapped : (id : ℕ) → extension_at from id ≡ None → IsNewId from to id (id_in_byte (get_or (replicate 256 0) id 0))
+    unmapped id missing =
+        subst (λ (byte : ℕ). IsNewId from to id (id_in_byte byte)) (sym (zero_there 256 id)) (λ extension mapped. let nothing = sym missing ∙ mapped in cc)
 
 item_or_later : (item : ℕ × Extension) (left : List (ℕ × Extension)) (id : ℕ) (extension : Extension) → Contains (item ∷ left) (id, extension)
     → (item.0 ≡ id) ⊎ Contains left (id, extension)

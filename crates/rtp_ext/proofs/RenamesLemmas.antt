@@ -1,5 +1,5 @@
 -- A table of bytes in which the ids of one kind get a new id, and those of another none.
-use Rattle.std.proofs.Common.{◌≡◌, ◌≢◌, ◌⊎◌, inl, inr, ℕ, ◌+◌, ◌<◌, ◌≤◌, List, [], ◌∷◌, length, get_or, set, true, Option, Some, None, All, arith, refl, sym, ap, ◌∙◌, subst, length-set}
+use Rattle.std.proofs.Common.{◌≡◌, ◌≢◌, ◌⊎◌, inl, inr, ℕ, ◌+◌, ◌<◌, ◌≤◌, List, [], ◌∷◌, length, get_or, set, true, Option, Some, None, All, arith, refl, sym, ap, ◌∙◌, subst, ⊎_elim, length-set}
 use Rattle.std.specs.Option.{option_map}
 use Rattle.std.specs.List.{Contains}
 use Rattle.std.proofs.lemmas.Bool.{cases_eq}
@@ -10,7 +10,7 @@ use Rattle.rtp_values.specs.declared.known_kind.KnownKind.{KnownKind}
 use Rattle.rtp_values.specs.KnownKind.{extension_of_kind}
 use Rattle.rtp_ext.specs.ExtensionMap.{Slots, IsListing, extension_at, items_from}
 use Rattle.rtp_ext.specs.NewIds.{Renames}
-use Rattle.rtp_ext.proofs.ListingLemmas.{IsListing-from_slots}
+use Rattle.rtp_ext.proofs.ListingLemmas.{items_mapped, unmapped_or_item}
 use Rattle.rtp_ext.proofs.RenamedIdLemmas.{kind_found, later}
 
 -- what became of the byte of an id
@@ -100,21 +100,16 @@ pub IsRenamedBut-start : (map : Slots) (from to : Extension) (lowest : ℕ) (old
 IsRenamedBut-start map from to lowest old left is long =
     subst (IsRenamedBut map from to lowest old old) (sym is) (record {
       long = long;
-      mapped = λ k d here. (listing.mapped k d here).0;
-      each = λ id. at id (extension_at map id) refl;
+      mapped = items_mapped map;
+      each = λ id. ⊎_elim (λ missing. inl (unmapped id missing)) (λ listed. inr (listed, refl)) (unmapped_or_item map id);
     })
   where
-    listing : IsListing map (λ _. true) (items_from 0 map)
-    listing = IsListing-from_slots map
-
-    at : (id : ℕ) (found : Option Extension) → extension_at map id ≡ found → IsRenamedAt map from to lowest old old id
-        ⊎ (((extension : Extension) × Contains (items_from 0 map) (id, extension)) × (get_or old id 0 ≡ get_or old id 0))
-    at id None missing = inl (record {
+    unmapped : (id : ℕ) → extension_at map id ≡ None → IsRenamedAt map from to lowest old old id
+    unmapped id missing = record {
       renamed = λ mapped. let no = sym missing ∙ mapped in cc;
       gone = λ mapped. let no = sym missing ∙ mapped in cc;
       others = λ not_from not_to. refl;
-    })
-    at id (Some extension) mapped = inr ((extension, listing.all id extension mapped refl), refl)
+    }
 
 pub IsRenamedBut-next : (map : Slots) (from to : KnownKind) (lowest : ℕ) (old new : List ℕ) (left more : List (ℕ × Extension)) (id index byte : ℕ) (kind : KnownKind)
     → left ≡ (id, extension_of_kind kind) ∷ more → id < 256 → index ≡ id

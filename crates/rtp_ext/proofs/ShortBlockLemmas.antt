@@ -1,5 +1,5 @@
 -- The elements of the one-byte form are short, and so are those of the two-byte form without a layer allocation.
-use Rattle.std.proofs.Common.{◌≡◌, ℕ, ◌+◌, ◌*◌, ◌≤◌, List, [], ◌∷◌, length, length-append, Bool, false, Option, Some, None, sym, ap, ◌∙◌, arith}
+use Rattle.std.proofs.Common.{refl, ◌≡◌, ℕ, ◌+◌, ◌*◌, ◌≤◌, List, [], ◌∷◌, length, length-append, Bool, false, Option, Some, None, sym, ap, ◌∙◌, arith}
 use Rattle.std.specs.Prelude.{IfSome, nat_lt}
 use Rattle.std.specs.List.{list_any}
 use Rattle.std.proofs.lemmas.Bool.{or_parts}
@@ -125,9 +125,14 @@ most-next values all left more id most own kind few next fits before =
     let parted = ap (λ (items : List Item). length (items_bytes TwoByte values items)) next in
     omega (arith, before, parted, full-items values (id, extension_of_kind kind) more few, fits)
 
-pub most-end : (exts known : Slots) (values : ExtensionValues) (left : List Item) (most : ℕ) → known ≡ known_slots exts → left ≡ []
-    → length (items_bytes TwoByte values (items_from 0 known)) ≤ most + length (items_bytes TwoByte values left)
-    → length (elements_bytes TwoByte (written_elements exts values)) ≤ most
-most-end exts known values left most is none before =
+pub most-end : (values : ExtensionValues) (all left : List Item) (most : ℕ) → left ≡ []
+    → length (items_bytes TwoByte values all) ≤ most + length (items_bytes TwoByte values left) → length (items_bytes TwoByte values all) ≤ most
+most-end values all left most none before =
     let gone = ap (λ (items : List Item). length (items_bytes TwoByte values items)) none in
-    omega (arith, before, gone, ap length (items_bytes-nil TwoByte values), ap length (known_bytes TwoByte exts known values is))
+    omega (arith, before, gone, ap length (items_bytes-nil TwoByte values))
+
+-- all of them are what is written
+pub written_at_most : (exts : Slots) (values : ExtensionValues) (items : List Item) (most : ℕ) → items ≡ items_from 0 (known_slots exts)
+    → length (items_bytes TwoByte values items) ≤ most → length (elements_bytes TwoByte (written_elements exts values)) ≤ most
+written_at_most exts values items most all fits =
+    omega (arith, fits, ap (λ (list : List Item). length (items_bytes TwoByte values list)) all, ap length (known_bytes TwoByte exts (known_slots exts) values refl))

@@ -1,10 +1,10 @@
 -- A row of layer allocations in a block: the last well-formed one is read in place of all of them.
-use Rattle.std.specs.Prelude.{◌≡◌, ◌≢◌, ◌≤◌, List, ◌∷◌, ◌++◌, ℕ, length, All}
+use Rattle.std.specs.Prelude.{◌≡◌, ◌≢◌, ◌≤◌, List, ◌∷◌, ◌++◌, ℕ, length, All, Some}
 use Rattle.rtp_values.specs.declared.kind.Extension.{Extension}
 use Rattle.rtp_values.specs.declared.kind.Extension.TheVariants.{VideoLayersAllocation}
 use Rattle.rtp_values.specs.declared.value.values.ExtensionValues.{ExtensionValues}
 use Rattle.rtp_ext.specs.Elements.{Element}
-use Rattle.rtp_ext.specs.ExtensionMap.{Slots}
+use Rattle.rtp_ext.specs.ExtensionMap.{Slots, extension_at}
 use Rattle.rtp_ext.specs.BlockValues.{Carries, ReadElements}
 
 -- the bytes are the data of the last element that carries an allocation, and the first data where none does
@@ -24,6 +24,11 @@ pub record EndsRow (exts : Slots) (first : List ℕ) (elements left : List Eleme
   pub no_other : (kind : Extension) → kind ≢ VideoLayersAllocation → All (λ element. Carries exts kind element → ⊥) row
   pub last : IsLastAllocation exts row first bytes
   pub memory : 2 ≤ length bytes → 2 ≤ length first
+
+-- the first of the elements, if there is one, has an id that isn't mapped to the layer allocation
+abbrev pub EndsBefore : Slots → List Element → Type 0
+EndsBefore exts left = (element : Element) (after : List Element) → left ≡ element ∷ after
+    → extension_at exts element.0 ≢ Some VideoLayersAllocation
 
 -- the elements up to those that are left were read into the values
 pub record IsReadTo {V : Type 0} (Shows : V → ExtensionValues → Type 0) (exts : Slots) (elements left : List Element) (old new : V) : Type 0 where

@@ -5,7 +5,7 @@ ghost use Rattle.std.specs.List.{list_any};
 ghost use Rattle.rtp_ext.specs.declared.form.ExtensionsForm.TheVariants.{OneByte, TwoByte};
 ghost use Rattle.rtp_ext.specs.Elements.{AreElements, elements_bytes};
 ghost use Rattle.rtp_ext.specs.ExtensionMap.{items_from, mapped_count};
-ghost use Rattle.rtp_ext.specs.ElementWriting.{element_header, element_or_nothing, CanCarry, IsCarried};
+ghost use Rattle.rtp_ext.specs.ElementWriting.{element_header, element_or_nothing, items_bytes, CanCarry, IsCarried};
 ghost use Rattle.rtp_values.specs.Spelling.{spelled_data};
 ghost use Rattle.rtp_values.specs.declared.value.values.ExtensionValues.{ExtensionValues};
 ghost use Rattle.rtp_values.specs.KnownKind.{extension_of_kind};
@@ -16,12 +16,13 @@ ghost use Rattle.rtp_values.specs.Values.{no_values};
 ghost use Rattle.rtp_ext.specs.WrittenBlock.{written_elements, form_of, needs_two, image_values, HasFewData, TakesAtMost17Each};
 
 use super::form::{header_len, write_header};
-use super::kinds::{Cursor, Kinds};
+use super::kinds::Kinds;
+use super::known_ids::{KnownIds, KnownItems};
 use super::{ExtensionMap, ExtensionsForm};
 use rtp_values::{ElementValues, ExtensionValues, KnownKind};
 
 // How many bytes the element of a kind takes, 0 where a value that it needs is absent.
-fn element_len<V: ElementValues>(form: ExtensionsForm, kind: KnownKind, ev: &V) -> usize
+fn element_len<V: ElementValues>(kind: KnownKind, ev: &V, form: ExtensionsForm) -> usize
     ensures length { (id : ℕ) → result ≡ length
         (element_or_nothing form id (spelled_data (extension_of_kind kind) (V.values ev.now))) }
     ensures few { result ≤ 257 }
@@ -36,12 +37,12 @@ fn element_len<V: ElementValues>(form: ExtensionsForm, kind: KnownKind, ev: &V) 
 // and returns the offset after it.
 #[inline(always)]
 fn write_element<V: ElementValues>(
-    buf: &mut [u8],
-    at: usize,
-    form: ExtensionsForm,
     id: u8,
     kind: KnownKind,
     ev: &V,
+    form: ExtensionsForm,
+    buf: &mut [u8],
+    at: usize,
 ) -> usize
     requires room { at + length
         (element_or_nothing form id (spelled_data (extension_of_kind kind) (V.values ev.now)))
@@ -69,12 +70,14 @@ fn write_element<V: ElementValues>(
 // Whether a text is written that is empty. It stays out of line, since few values have an empty text
 // and its loop would make every other call save registers.
 #[inline(never)]
-fn has_empty_data<K: Kinds, V: ElementValues>(kinds: &K, start: Cursor, ev: &V) -> bool
-    requires { K.left kinds.now start ≡ items_from 0 (K.known kinds.now) }
-    ensures { result ≡ has_empty (items_from 0 (K.known kinds.now)) (V.values ev.now) }
+fn has_empty_data<K: Kinds, V: ElementValues>(ids: &KnownIds<'_, K>, ev: &V) -> bool
+    ensures { result ≡ has_empty (items_from 0 (known_slots ids.now)) (V.values ev.now) }
 {
-    let mut cursor = start;
-    while let Some((_, kind)) = kinds.next(&mut cursor) {
+    if ids.are_none() {
+        return false;
+    }
+    let mut items = ids.iter();
+    while let Some((_, kind)) = items.next() {
         if ev.has_empty_data(kind) {
             return true;
         }
@@ -84,32 +87,29 @@ fn has_empty_data<K: Kinds, V: ElementValues>(kinds: &K, start: Cursor, ev: &V) 
 
 // Whether the one-byte form doesn't serve.
 #[inline(always)]
-fn needs_two_bytes<K: Kinds, V: ElementValues>(kinds: &K, start: Cursor, ev: &V) -> bool
-    requires { K.left kinds.now start ≡ items_from 0 (K.known kinds.now) }
+fn needs_two_bytes<K: Kinds, V: ElementValues>(ids: &KnownIds<'_, K>, ev: &V) -> bool
     ensures needed { result
-        ≡ list_any (needs_two (V.values ev.now)) (items_from 0 (K.slots kinds.now)) }
-    ensures short { result ≡ false → TakesAtMost17Each (K.known kinds.now) (V.values ev.now) }
+        ≡ list_any (needs_two (V.values ev.now)) (items_from 0 ids.now) }
+    ensures short { result ≡ false → TakesAtMost17Each (known_slots ids.now) (V.values ev.now) }
     ensures few { HasFewData (V.values ev.now) }
 {
     let has_empty = ev.has_empty_text();
-    if kinds.has_long(start) {
+    if ids.has_long() {
         return true;
     }
-    has_empty && has_empty_data(kinds, start, ev)
+    has_empty && has_empty_data(ids, ev)
 }
 
-/// The form that a block of these values needs under any map, as [`ExtensionMap::form`] has it. The
-/// walk is one that [`Kinds::start`] returned.
+/// The form that a block of these values needs under any map, as [`ExtensionMap::form`] has it.
 #[inline(always)]
-pub fn values_form<K: Kinds, V: ElementValues>(kinds: &K, start: Cursor, ev: &V) -> ExtensionsForm
-    requires { K.left kinds.now start ≡ items_from 0 (K.known kinds.now) }
-    ensures form { result ≡ form_of (K.slots kinds.now) (V.values ev.now) }
-    ensures short { result ≡ OneByte → TakesAtMost17Each (K.known kinds.now) (V.values ev.now) }
+pub fn values_form<K: Kinds, V: ElementValues>(ids: &KnownIds<'_, K>, ev: &V) -> ExtensionsForm
+    ensures form { result ≡ form_of ids.now (V.values ev.now) }
+    ensures short { result ≡ OneByte → TakesAtMost17Each (known_slots ids.now) (V.values ev.now) }
 
     // Only a layer allocation has data of more than 16 bytes.
     ensures few { HasFewData (V.values ev.now) }
 {
-    if needs_two_bytes(kinds, start, ev) {
+    if needs_two_bytes(ids, ev) {
         ExtensionsForm::TwoByte
     } else {
         ExtensionsForm::OneByte
@@ -118,16 +118,14 @@ pub fn values_form<K: Kinds, V: ElementValues>(kinds: &K, start: Cursor, ev: &V)
 
 // At most how many bytes the elements of the two-byte form take, by their kinds alone: only a layer
 // allocation has data of more than 16 bytes.
-fn most_in_two_byte_form<K: Kinds>(kinds: &K, start: Cursor) -> usize
-    requires start { K.left kinds.now start ≡ items_from 0 (K.known kinds.now) }
-    requires few { length (items_from 0 (K.known kinds.now)) ≤ 255 }
+fn most_in_two_byte_form<K: Kinds>(mut items: KnownItems<'_, K>) -> usize
+    requires { length items ≤ 255 }
     ensures most { (values : ExtensionValues) → HasFewData values →
-        length (elements_bytes TwoByte (written_elements (K.slots kinds.now) values)) ≤ result }
+        length (items_bytes TwoByte values items.entry) ≤ result }
     ensures bound { result ≤ 65535 }
 {
-    let mut cursor = start;
     let mut most = 0;
-    while let Some((_, kind)) = kinds.next(&mut cursor) {
+    while let Some((_, kind)) = items.next() {
         most += if kind == KnownKind::VideoLayersAllocation {
             257
         } else {
@@ -138,91 +136,81 @@ fn most_in_two_byte_form<K: Kinds>(kinds: &K, start: Cursor) -> usize
 }
 
 /// An upper bound of how many bytes [`write_values`] writes in the form, told by the mapped kinds and by
-/// whether there are layers, so that no other value is looked at. The walk is one that
-/// [`Kinds::start`] returned, and the form what [`values_form`] returned.
+/// whether there are layers, so that no other value is looked at. The form is what
+/// [`values_form`] returned.
 #[inline(always)]
 pub fn values_len_at_most<K: Kinds, V: ElementValues>(
-    kinds: &K,
-    start: Cursor,
+    ids: &KnownIds<'_, K>,
     ev: &V,
     form: ExtensionsForm,
 ) -> usize
-    requires start { K.left kinds.now start ≡ items_from 0 (K.known kinds.now) }
-    requires few_ids { length (items_from 0 (K.known kinds.now)) ≤ 255 }
-    requires short { form ≡ OneByte → TakesAtMost17Each (K.known kinds.now) (V.values ev.now) }
+    requires short { form ≡ OneByte → TakesAtMost17Each (known_slots ids.now) (V.values ev.now) }
     requires few { HasFewData (V.values ev.now) }
     ensures most { length
-        (elements_bytes form (written_elements (K.slots kinds.now) (V.values ev.now))) ≤ result }
+        (elements_bytes form (written_elements ids.now (V.values ev.now))) ≤ result }
     ensures bound { result ≤ 65535 }
 {
     match form {
-        ExtensionsForm::OneByte => 17 * kinds.at_most(start),
-        ExtensionsForm::TwoByte if ev.may_have_layers() => most_in_two_byte_form(kinds, start),
-        ExtensionsForm::TwoByte => 18 * kinds.at_most(start),
+        ExtensionsForm::OneByte => 17 * ids.at_most(),
+        ExtensionsForm::TwoByte if ev.may_have_layers() => most_in_two_byte_form(ids.iter()),
+        ExtensionsForm::TwoByte => 18 * ids.at_most(),
     }
 }
 
-/// How many bytes [`write_values`] writes in the form, as [`ExtensionMap::wire_len`] has it. The walk
-/// is one that [`Kinds::start`] returned.
+/// How many bytes [`write_values`] writes in the form, as [`ExtensionMap::wire_len`] has it.
 pub fn values_len<K: Kinds, V: ElementValues>(
-    kinds: &K,
-    start: Cursor,
+    ids: &KnownIds<'_, K>,
     ev: &V,
     form: ExtensionsForm,
 ) -> usize
-    requires start { K.left kinds.now start ≡ items_from 0 (K.known kinds.now) }
-    requires few { length (items_from 0 (K.known kinds.now)) ≤ 255 }
     ensures length { result
-        ≡ length (elements_bytes form (written_elements (K.slots kinds.now) (V.values ev.now))) }
-    ensures by_map { result ≤ 257 * mapped_count (K.slots kinds.now) }
+        ≡ length (elements_bytes form (written_elements ids.now (V.values ev.now))) }
+    ensures by_map { result ≤ 257 * mapped_count ids.now }
     ensures bound { result ≤ 65535 }
 {
-    let mut cursor = start;
+    let mut items = ids.iter();
     let mut len = 0;
-    while let Some((_, kind)) = kinds.next(&mut cursor) {
-        len += element_len(form, kind, ev);
+    while let Some((_, kind)) = items.next() {
+        len += element_len(kind, ev, form);
     }
     len
 }
 
 /// Writes an element for each mapped id whose kind has its values, under any map, as
-/// [`ExtensionMap::write_to`] does. The walk is one that [`Kinds::start`] returned.
+/// [`ExtensionMap::write_to`] does.
 pub fn write_values<K: Kinds, V: ElementValues>(
-    kinds: &K,
-    start: Cursor,
-    buf: &mut [u8],
+    ids: &KnownIds<'_, K>,
     ev: &V,
     form: ExtensionsForm,
+    buf: &mut [u8],
 ) -> usize
-    requires start { K.left kinds.now start ≡ items_from 0 (K.known kinds.now) }
-    requires few { length (items_from 0 (K.known kinds.now)) ≤ 255 }
-    requires form { (form ≡ form_of (K.slots kinds.now) (V.values ev.now)) ⊎ (form ≡ TwoByte) }
+    requires form { (form ≡ form_of ids.now (V.values ev.now)) ⊎ (form ≡ TwoByte) }
     requires room { length
-        (elements_bytes form (written_elements (K.slots kinds.now) (V.values ev.now)))
+        (elements_bytes form (written_elements ids.now (V.values ev.now)))
         ≤ length buf.old }
     ensures length { result
-        ≡ length (elements_bytes form (written_elements (K.slots kinds.now) (V.values ev.now))) }
+        ≡ length (elements_bytes form (written_elements ids.now (V.values ev.now))) }
     ensures written { buf.new
-        ≡ elements_bytes form (written_elements (K.slots kinds.now) (V.values ev.now))
+        ≡ elements_bytes form (written_elements ids.now (V.values ev.now))
         ++ drop result buf.old }
-    ensures by_map { result ≤ 257 * mapped_count (K.slots kinds.now) }
+    ensures by_map { result ≤ 257 * mapped_count ids.now }
     ensures bound { result ≤ 65535 }
 
     // What was written, and any zeros that follow it, are a block's body with these elements.
     ensures elements { (zeros : ℕ) → AreElements form
-        (elements_bytes form (written_elements (K.slots kinds.now) (V.values ev.now))
+        (elements_bytes form (written_elements ids.now (V.values ev.now))
         ++ replicate zeros 0)
-        (written_elements (K.slots kinds.now) (V.values ev.now)) }
+        (written_elements ids.now (V.values ev.now)) }
 
     // These elements are read as the image of the values.
-    ensures values { AreValues (K.slots kinds.now)
-        (written_elements (K.slots kinds.now) (V.values ev.now)) no_values
-        (image_values (K.slots kinds.now) (V.values ev.now)) }
+    ensures values { AreValues ids.now
+        (written_elements ids.now (V.values ev.now)) no_values
+        (image_values ids.now (V.values ev.now)) }
 {
-    let mut cursor = start;
+    let mut items = ids.iter();
     let mut at = 0;
-    while let Some((id, kind)) = kinds.next(&mut cursor) {
-        at = write_element(buf, at, form, id, kind, ev);
+    while let Some((id, kind)) = items.next() {
+        at = write_element(id, kind, ev, form, buf, at);
     }
     at
 }
@@ -239,7 +227,7 @@ impl ExtensionMap {
         ensures short { result ≡ OneByte → TakesAtMost17Each self.now ev.now }
         ensures known { result ≡ OneByte → TakesAtMost17Each (known_slots self.now) ev.now }
     {
-        values_form(self, self.start(), ev)
+        values_form(&KnownIds::of(self), ev)
     }
 
     /// How many bytes [`write_to`](Self::write_to) writes in the form, which is
@@ -251,7 +239,7 @@ impl ExtensionMap {
         ensures by_map { result ≤ 257 * mapped_count self.now }
         ensures bound { result ≤ 65535 }
     {
-        values_len(self, self.start(), ev, form)
+        values_len(&KnownIds::of(self), ev, form)
     }
 
     /// Writes an element for each mapped id whose kind has its values, by rising id, to the front
@@ -281,6 +269,6 @@ impl ExtensionMap {
         ensures values { AreValues self.now (written_elements self.now ev.now) no_values
             (image_values self.now ev.now) }
     {
-        write_values(self, self.start(), buf, ev, form)
+        write_values(&KnownIds::of(self), ev, form, buf)
     }
 }

@@ -9,7 +9,7 @@ ghost use Rattle.rtp_values.specs.declared.kind.Extension.TheVariants.{VideoLaye
 ghost use Rattle.rtp_ext.specs.BlockValues.{AreValues, ReadElements, SaysValues};
 ghost use Rattle.rtp_ext.specs.ExtensionMap.{extension_at};
 ghost use Rattle.rtp_vla.specs.Allocation.{Allocation, Means};
-ghost use Rattle.rtp_ext.specs.LastAllocation.{EndsRow};
+ghost use Rattle.rtp_ext.specs.LastAllocation.{EndsRow, EndsBefore};
 
 use super::kinds::Kinds;
 use super::{Elements, ExtensionMap, ExtensionsForm};
@@ -22,47 +22,47 @@ use std::alloc::{AllocError, Global};
 /// does; into values that take no memory nothing is refused.
 #[inline(never)]
 pub fn read_values<K: Kinds, V: SetValues>(
-    kinds: &K,
+    exts: &K,
     memory: V::Memory,
     buf: &[u8],
     form: ExtensionsForm,
     ev: &mut V,
 ) -> Result<(), AllocError>
     ensures values { OnOk result ((elements : List Element) → AreElements form buf.now elements →
-        ReadElements V.shows (K.slots kinds.now) elements ev.old ev.new) }
+        ReadElements V.shows (K.slots exts.now) elements ev.old ev.new) }
     ensures refused { OnErr result ((elements : List Element) → AreElements form buf.now elements →
-        V.may_be_refused × ReadUntilRefused V.shows (K.slots kinds.now) elements ev.old ev.new) }
+        V.may_be_refused × ReadUntilRefused V.shows (K.slots exts.now) elements ev.old ev.new) }
     ensures succeeds { (elements : List Element) → AreElements form buf.now elements →
-        (V.may_be_refused → HasAllocation (K.slots kinds.now) elements → ⊥) → IsOk result }
+        (V.may_be_refused → HasAllocation (K.slots exts.now) elements → ⊥) → IsOk result }
 {
     match form {
-        ExtensionsForm::OneByte => read_in(kinds, memory, buf, ExtensionsForm::OneByte, ev),
-        ExtensionsForm::TwoByte => read_in(kinds, memory, buf, ExtensionsForm::TwoByte, ev),
+        ExtensionsForm::OneByte => read_in(exts, memory, buf, ExtensionsForm::OneByte, ev),
+        ExtensionsForm::TwoByte => read_in(exts, memory, buf, ExtensionsForm::TwoByte, ev),
     }
 }
 
 // The same. It is inlined, so that each form has a loop of its own.
 #[inline(always)]
 fn read_in<K: Kinds, V: SetValues>(
-    kinds: &K,
+    exts: &K,
     memory: V::Memory,
     buf: &[u8],
     form: ExtensionsForm,
     ev: &mut V,
 ) -> Result<(), AllocError>
     ensures values { OnOk result ((elements : List Element) → AreElements form buf.now elements →
-        ReadElements V.shows (K.slots kinds.now) elements ev.old ev.new) }
+        ReadElements V.shows (K.slots exts.now) elements ev.old ev.new) }
     ensures refused { OnErr result ((elements : List Element) → AreElements form buf.now elements →
-        V.may_be_refused × ReadUntilRefused V.shows (K.slots kinds.now) elements ev.old ev.new) }
+        V.may_be_refused × ReadUntilRefused V.shows (K.slots exts.now) elements ev.old ev.new) }
     ensures succeeds { (elements : List Element) → AreElements form buf.now elements →
-        (V.may_be_refused → HasAllocation (K.slots kinds.now) elements → ⊥) → IsOk result }
+        (V.may_be_refused → HasAllocation (K.slots exts.now) elements → ⊥) → IsOk result }
 {
     let mut elements = Elements::new(buf, form);
     while let Some((id, bytes)) = elements.next() {
-        if let Some(kind) = kinds.get(id) {
+        if let Some(kind) = exts.get(id) {
             match kind {
                 KnownKind::VideoLayersAllocation => {
-                    let last = last_in_row(kinds, bytes, &mut elements);
+                    let last = last_in_row(exts, bytes, &mut elements);
                     KnownKind::VideoLayersAllocation.parse_value(memory, last, ev)?;
                 }
                 _ => {
@@ -78,8 +78,9 @@ fn read_in<K: Kinds, V: SetValues>(
 // follow an allocation of these data, or else these. Those that follow are passed over, so that of a row of
 // allocations one alone takes memory. Data that take none are read by themselves.
 #[inline(always)]
-fn last_in_row<'a, K: Kinds>(kinds: &K, first: &'a [u8], elements: &mut Elements<'a>) -> &'a [u8]
-    ensures { EndsRow (K.known kinds.now) first.now elements.old elements.new result.now }
+fn last_in_row<'a, K: Kinds>(exts: &K, first: &'a [u8], elements: &mut Elements<'a>) -> &'a [u8]
+    ensures row { EndsRow (K.known exts.now) first.now elements.old elements.new result.now }
+    ensures whole { 2 ≤ length first.now → EndsBefore (K.known exts.now) elements.new }
 {
     let mut last = first;
     if first.len() < 2 {
@@ -87,7 +88,7 @@ fn last_in_row<'a, K: Kinds>(kinds: &K, first: &'a [u8], elements: &mut Elements
     }
     let mut ahead = elements.rest();
     while let Some((id, data)) = ahead.next() {
-        if kinds.get(id) != Some(KnownKind::VideoLayersAllocation) {
+        if exts.get(id) != Some(KnownKind::VideoLayersAllocation) {
             return last;
         }
         if is_another_allocation(data) {
@@ -111,18 +112,18 @@ fn is_another_allocation(data: &[u8]) -> bool
 /// of fixed size, which takes no memory: that of the last element whose id is mapped to it and whose
 /// data mean one. `false` exactly where the elements give none, and then nothing is changed.
 pub fn read_layers<K: Kinds>(
-    kinds: &K,
+    exts: &K,
     buf: &[u8],
     form: ExtensionsForm,
     layers: &mut VideoLayers,
 ) -> bool
-    ensures found { (values : ExtensionValues) → SaysValues form (K.slots kinds.now) buf.now values →
+    ensures found { (values : ExtensionValues) → SaysValues form (K.slots exts.now) buf.now values →
         then_some result layers.new ≡ values.video_layers_allocation }
     ensures unchanged { result ≡ false → layers.new ≡ layers.old }
 {
     let mut found = false;
     for (id, element) in Elements::new(buf, form) {
-        if kinds.get(id) == Some(KnownKind::VideoLayersAllocation) && layers.parse_into(element) {
+        if exts.get(id) == Some(KnownKind::VideoLayersAllocation) && layers.parse_into(element) {
             found = true;
         }
     }

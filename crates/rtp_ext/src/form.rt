@@ -93,7 +93,8 @@ pub(super) fn write_header(buf: &mut [u8], at: usize, form: ExtensionsForm, id: 
     ensures { buf.new ≡ overwritten buf.old at (element_header form id len) }
 {
     match form {
-        ExtensionsForm::OneByte => buf[at] = id * 16 + (len - 1),
+        // By a rotation, since a compiler would count the products of ids along with the ids of a walk.
+        ExtensionsForm::OneByte => buf[at] = id.rotate_left(4) + (len - 1),
         ExtensionsForm::TwoByte => {
             buf[at] = id;
             buf[at + 1] = len;

@@ -16,7 +16,7 @@ use super::ExtensionsForm;
 use super::elements::first_element;
 use super::form::header_len;
 use super::place::{Place, next_place, place_before};
-use super::raw_writing::{clear, put_data, put_element};
+use super::raw_writing::{clear_after, put_data, put_element};
 use super::widening::{put_widened, widened_len};
 
 /// What a body has of an id, and how much besides.
@@ -277,8 +277,7 @@ pub fn put_anew(
     } else {
         put_widened(body, front, end, count, id, data)
     };
-    let left = body.len() - len;
-    clear(body, len, left);
+    clear_after(body, len);
 }
 
 /// How many bytes the elements of a body take with this one put among them, in this form or the
@@ -314,7 +313,6 @@ pub fn take_out(form: ExtensionsForm, body: &mut [u8], id: u8) -> usize
     ensures { IsTakenOut form id body.old body.new result }
 {
     let len = gather(form, body, id);
-    let left = body.len() - len;
-    clear(body, len, left);
+    clear_after(body, len);
     len
 }

@@ -9,59 +9,51 @@ ghost use Rattle.rtp_ext.specs.ExtensionMap.{IsId, Slots, HasNoIdAbove, extensio
 ghost use Rattle.rtp_ext.specs.KindsById.{is_long_item, known_slots};
 ghost use Rattle.rtp_ext.specs.NewIds.{IsNewId, AreNewBytes, Renames};
 
-use super::MAX_ID_ONE_BYTE_FORM;
 use super::renamed_ids::renamed;
 use rtp_values::KnownKind;
-
-/// How far a walk over the mapped ids of a map has come.
-#[derive(Clone, Copy)]
-pub struct Cursor {
-    /// Where the walk looks next.
-    pub at: usize,
-    /// Where it ends at the latest.
-    pub end: usize,
-    ghost within: { end ≤ 255 },
-}
 
 /// A map from ids to known extensions (RFC 8285, 5): all that reading and writing the elements of a
 /// packet needs of it. [`ExtensionMap`](super::ExtensionMap) is one.
 pub trait Kinds {
-    ghost use Rattle.rtp_ext.specs.declared.kinds.Cursor.{Cursor};
-
     // What each id is mapped to.
     ghost slots: { Self → Slots };
 
     // The known extensions of it.
     ghost known: { Self → Slots };
 
-    // The mapped ids that a walk has not passed yet.
-    ghost left: { Self → Cursor → List (ℕ × Extension) };
+    // The mapped ids that a walk has not passed yet, at this place of it and with this end.
+    ghost left: { Self → ℕ → ℕ → List (ℕ × Extension) };
 
     /// The kind that the id is mapped to, and `None` where there is none, as always for 0.
     fn get(&self, id: u8) -> Option<KnownKind>
         ensures { option_map extension_of_kind result ≡ extension_at (known self.now) id };
 
-    /// A walk over all ids that are mapped to a known extension.
-    fn start(&self) -> Cursor
-        ensures all { left self.now result ≡ items_from 0 (known self.now) }
-        ensures few { length (items_from 0 (known self.now)) ≤ 255 };
+    /// The end with which a walk over all ids that are mapped to a known extension begins at 0. `next` may
+    /// move it.
+    fn walk_end(&self) -> usize
+        ensures all { left self.now 0 result ≡ items_from 0 (known self.now) }
+        ensures few { length (items_from 0 (known self.now)) ≤ 255 }
+        ensures within { result ≤ 255 };
 
-    /// The next such id, each higher than the one before it, and its kind.
-    fn next(&self, cursor: &mut Cursor) -> Option<(u8, KnownKind)>
-        ensures some { IfSome result (λ item. left self.now cursor.old
-            ≡ (item.0, extension_of_kind item.1) ∷ left self.now cursor.new) }
-        ensures none { IfNone result (left self.now cursor.old ≡ []) };
+    /// The next such id of a walk, each higher than the one before it, and its kind.
+    fn next(&self, at: &mut usize, end: &mut usize) -> Option<(u8, KnownKind)>
+        requires { end.old ≤ 255 }
+        ensures some { IfSome result (λ item. left self.now at.old end.old
+            ≡ (item.0, extension_of_kind item.1) ∷ left self.now at.new end.new) }
+        ensures none { IfNone result (left self.now at.old end.old ≡ []) }
+        ensures within { end.new ≤ 255 };
 
-    /// Whether the one-byte form can't carry a mapped id or the longest data of a mapped kind. The
-    /// walk is one that [`start`](Self::start) returned.
-    fn has_long(&self, start: Cursor) -> bool
-        requires { left self.now start ≡ items_from 0 (known self.now) }
+    /// Whether the one-byte form can't carry a mapped id or the longest data of a mapped kind. The end is
+    /// that of a walk over all of them.
+    fn has_long(&self, end: usize) -> bool
+        requires all { left self.now 0 end ≡ items_from 0 (known self.now) }
+        requires within { end ≤ 255 }
         ensures { result ≡ list_any is_long_item (items_from 0 (slots self.now)) };
 
-    /// At most so many ids are mapped to a known extension. The walk is one that
-    /// [`start`](Self::start) returned.
-    fn at_most(&self, start: Cursor) -> usize
-        requires { left self.now start ≡ items_from 0 (known self.now) }
+    /// At most so many ids are mapped to a known extension. The end is that of a walk over all of them.
+    fn at_most(&self, end: usize) -> usize
+        requires all { left self.now 0 end ≡ items_from 0 (known self.now) }
+        requires within { end ≤ 255 }
         ensures most { length (items_from 0 (known self.now)) ≤ result }
         ensures few { result ≤ 255 };
 
@@ -95,13 +87,4 @@ pub trait Kinds {
     }
 
     ghost known_is: { (map : Self) → known map ≡ known_slots (slots map) };
-}
-
-/// Whether the one-byte form can't carry the element of a mapped id, whatever its data are: the id is
-/// above [`MAX_ID_ONE_BYTE_FORM`], or the kind may have more than 16 bytes of data (RFC 8285, 4.2).
-#[tactic(auto, using(crate::proofs::FormLemmas::long_kind))]
-pub fn is_long(id: u8, kind: KnownKind) -> bool
-    ensures { result ≡ is_long_item (id, extension_of_kind kind) }
-{
-    id > MAX_ID_ONE_BYTE_FORM || kind == KnownKind::VideoLayersAllocation
 }

@@ -7,9 +7,11 @@ ghost use Rattle.rtp_values.specs.KnownKind.{extension_of_kind};
 ghost use Rattle.rtp_ext.specs.ExtensionMap.{IsId, IsLowest, IsUnmapped, extension_at, items_from, mapped_count};
 ghost use Rattle.rtp_ext.specs.KindsById.{slots_of, entry_of_kind, is_layers, has_long_data};
 ghost use Rattle.rtp_ext.specs.MapSlots.{items_at, mapped_ids};
+ghost use Rattle.rtp_ext.specs.NewIds.{Renames};
 
 use super::map::MAX_ID;
 use super::mapped_ids::MappedIds;
+use super::renamed_ids::renamed;
 use rtp_values::KnownKind;
 use std::marker::Model;
 
@@ -130,6 +132,20 @@ impl KindsById {
             place += 1;
         }
         None
+    }
+
+    // Puts `lowest` at the index of each id that is mapped to the first kind, and 0 at that of each id
+    // that is mapped to the second.
+    pub(super) fn rename(&self, from: KnownKind, to: KnownKind, lowest: u8, ids: &mut [u8; 256])
+        requires { from ≢ to }
+        ensures { Renames (slots_of self.now) (extension_of_kind from) (extension_of_kind to) lowest ids.old ids.new }
+    {
+        let mut place = 0;
+        while let Some((id, kind)) = self.item(place) {
+            let index = usize::from(id);
+            ids[index] = renamed(Some(kind), from, to, lowest, ids[index]);
+            place += 1;
+        }
     }
 
     // The id at this place among the mapped ids, which rise, and its kind.

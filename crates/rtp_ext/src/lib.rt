@@ -11,6 +11,7 @@ mod growing;
 mod iter;
 mod kinds;
 mod kinds_by_id;
+mod known_ids;
 mod map;
 mod mapped_ids;
 mod new_ids;
@@ -27,7 +28,8 @@ pub use elements::Elements;
 pub use form::{ExtensionsForm, MAX_ID_ONE_BYTE_FORM, form_to_put};
 pub use growing::{Survey, put_anew, put_len, set_sole, survey_of, take_out};
 pub use iter::{Iter, IterByMediaType};
-pub use kinds::{Cursor, Kinds, is_long};
+pub use kinds::Kinds;
+pub use known_ids::{KnownIds, KnownItems};
 pub use map::{ExtensionMap, MAX_ID};
 pub use new_ids::NewIds;
 pub use place::{

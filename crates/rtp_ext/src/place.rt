@@ -245,6 +245,7 @@ pub fn remove_element(form: ExtensionsForm, body: &mut [u8], id: u8) -> bool
     ensures elements { (elements : List Element) → AreElements form body.old elements →
         AreElements form body.new (filter_map (renumbered (all_but id)) elements) }
 {
+    // It is a call, so that a packet without a block costs little.
     change_ids(form, body, IdChange::AllBut(id))
 }
 

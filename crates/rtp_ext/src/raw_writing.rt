@@ -1,6 +1,6 @@
 //! Elements as they are given, from their ids and data to bytes.
 
-ghost use Rattle.std.specs.Prelude.{◌≡◌, ◌↔◌, ◌≤◌, ◌+◌, ℕ, ◌++◌, length, take, drop, replicate, IsTrue, IsSome, IfSome, IfNone};
+ghost use Rattle.std.specs.Prelude.{◌≡◌, ◌↔◌, ◌≤◌, ◌+◌, ◌-◌, ℕ, ◌++◌, length, take, drop, replicate, IsTrue, IsSome, IfSome, IfNone};
 ghost use Rattle.rtp_base.specs.Overwriting.{overwritten};
 ghost use Rattle.rtp_ext.specs.Elements.{AreElements, element_bytes, elements_bytes};
 ghost use Rattle.rtp_ext.specs.ElementsInARow.{IsWritable, AreWritableIn};
@@ -85,6 +85,18 @@ pub(super) fn clear(buf: &mut [u8], at: usize, count: usize)
         _ => {
             put_zeros(buf, at, count);
         }
+    }
+}
+
+// Puts zeros after the first so many bytes, if there are any.
+#[inline(always)]
+pub(super) fn clear_after(buf: &mut [u8], len: usize)
+    requires { len ≤ length buf.old }
+    ensures { buf.new ≡ overwritten buf.old len (replicate (length buf.old - len) 0) }
+{
+    if len < buf.len() {
+        let left = buf.len() - len;
+        clear(buf, len, left);
     }
 }
 

@@ -2,21 +2,21 @@
 
 ghost use Rattle.std.specs.Prelude.{◌≡◌, ◌≢◌, ◌<◌, ◌≤◌, ◌⊎◌, ℕ, IfSome, IfNone, Some, map, slice_index};
 ghost use Rattle.rtp_values.specs.KnownKind.{extension_of_kind};
-ghost use Rattle.rtp_ext.specs.ExtensionMap.{IsLowest, IsUnmapped, extension_at, items_from};
+ghost use Rattle.rtp_ext.specs.ExtensionMap.{IsLowest, IsUnmapped, extension_at};
 ghost use Rattle.rtp_ext.specs.NewIds.{AreRenamedIds, id_in_byte};
 
-use super::kinds::{Cursor, Kinds};
+use super::kinds::Kinds;
+use super::known_ids::KnownIds;
 use rtp_values::KnownKind;
 
-// The lowest id that is mapped to the kind. The walk is one that `Kinds::start` returned.
-fn lowest_id<K: Kinds>(exts: &K, start: Cursor, kind: KnownKind) -> Option<u8>
-    requires { K.left exts.now start ≡ items_from 0 (K.known exts.now) }
-    ensures lowest { IfSome result (IsLowest (K.slots exts.now) (extension_of_kind kind)) }
+// The lowest id that is mapped to the kind.
+fn lowest_id<K: Kinds>(ids: &KnownIds<'_, K>, kind: KnownKind) -> Option<u8>
+    ensures lowest { IfSome result (IsLowest ids.now (extension_of_kind kind)) }
     ensures some_id { IfSome result (λ id. 1 ≤ id) }
-    ensures none { IfNone result (IsUnmapped (K.slots exts.now) (extension_of_kind kind)) }
+    ensures none { IfNone result (IsUnmapped ids.now (extension_of_kind kind)) }
 {
-    let mut cursor = start;
-    while let Some((id, found)) = exts.next(&mut cursor) {
+    let mut items = ids.iter();
+    while let Some((id, found)) = items.next() {
         if found == kind {
             return Some(id);
         }
@@ -24,18 +24,17 @@ fn lowest_id<K: Kinds>(exts: &K, start: Cursor, kind: KnownKind) -> Option<u8>
     None
 }
 
-// The lowest id of the second kind, where both are mapped. The walk is one that `Kinds::start` returned.
-fn lowest_beside<K: Kinds>(exts: &K, start: Cursor, from: KnownKind, to: KnownKind) -> Option<u8>
-    requires { K.left exts.now start ≡ items_from 0 (K.known exts.now) }
-    ensures lowest { IfSome result (IsLowest (K.slots exts.now) (extension_of_kind to)) }
+// The lowest id of the second kind, where both are mapped.
+fn lowest_beside<K: Kinds>(ids: &KnownIds<'_, K>, from: KnownKind, to: KnownKind) -> Option<u8>
+    ensures lowest { IfSome result (IsLowest ids.now (extension_of_kind to)) }
     ensures some_id { IfSome result (λ id. 1 ≤ id) }
     ensures beside { IfSome result (λ _. (other : ℕ) ×
-        (extension_at (K.slots exts.now) other ≡ Some (extension_of_kind from))) }
-    ensures none { IfNone result (IsUnmapped (K.slots exts.now) (extension_of_kind from)
-        ⊎ IsUnmapped (K.slots exts.now) (extension_of_kind to)) }
+        (extension_at ids.now other ≡ Some (extension_of_kind from))) }
+    ensures none { IfNone result (IsUnmapped ids.now (extension_of_kind from)
+        ⊎ IsUnmapped ids.now (extension_of_kind to)) }
 {
-    lowest_id(exts, start, from)?;
-    lowest_id(exts, start, to)
+    lowest_id(ids, from)?;
+    lowest_id(ids, to)
 }
 
 // The new byte of an id of this kind in a table: `lowest` where the kind is the first, 0 where it is the
@@ -78,7 +77,7 @@ pub(super) fn renamed_ids<K: Kinds>(exts: &K, from: KnownKind, to: KnownKind) ->
     ensures { AreRenamedIds (K.slots exts.now) (extension_of_kind from) (extension_of_kind to) (map id_in_byte result) }
 {
     let mut ids = same_ids();
-    if let Some(lowest) = lowest_beside(exts, exts.start(), from, to) {
+    if let Some(lowest) = lowest_beside(&KnownIds::of(exts), from, to) {
         exts.rename(from, to, lowest, &mut ids);
     }
     ids

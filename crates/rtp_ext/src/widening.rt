@@ -15,7 +15,8 @@ use super::raw_writing::put_element;
 
 // Puts elements of the one-byte form, which are the last `len` bytes of the room, to its front in
 // the two-byte form. Returns how many bytes they then take.
-fn widen(room: &mut [u8], len: usize) -> usize
+#[inline(never)]
+fn widen_row(room: &mut [u8], len: usize) -> usize
     requires { IsWideRow room.old len }
     ensures { IsWidened room.old room.new len result }
 {
@@ -29,6 +30,15 @@ fn widen(room: &mut [u8], len: usize) -> usize
         end += 2 + data_len;
     }
     end
+}
+
+// The same of elements that may be none, as mostly those behind the element that is put.
+#[inline(always)]
+fn widen(room: &mut [u8], len: usize) -> usize
+    requires { IsWideRow room.old len }
+    ensures { IsWidened room.old room.new len result }
+{
+    if len == 0 { 0 } else { widen_row(room, len) }
 }
 
 // Puts the element after so many bytes at the front of the body, and behind it the `count` bytes at

@@ -64,6 +64,13 @@ words exts true values =
     let form = form_of exts values in
     omega (arith, ap length (a_part exts true values form refl), length-block form exts values (length (elements_bytes form (written_elements exts values))) refl)
 
+-- a block has at least four bytes
+pub least_part : (exts : Slots) (extension : Bool) (values : ExtensionValues) → extension ≡ true → 4 ≤ length (extension_bytes exts extension values)
+least_part exts false values set = cc
+least_part exts true values set =
+    let form = form_of exts values in
+    omega (arith, ap length (a_part exts true values form refl), length-block form exts values (length (elements_bytes form (written_elements exts values))) refl)
+
 -- a header whose block is no longer than its map allows
 pub wire_len_bounds : (exts : Slots) (h : RtpHeader) → h.csrc_count ≤ 15 → length h.csrc ≡ 15 → IsWithinMap exts (length (extension_bytes exts h.has_extension h.ext_vals))
     → IsWithinBounds exts (length (wire_bytes exts h))
@@ -92,3 +99,10 @@ length-with_block exts h form block count slots form-is block-is few =
       is = whole;
       bounds = subst (IsWithinBounds exts) (sym whole) (wire_len_bounds exts h count slots (subst (IsWithinMap exts) (block-is ∙ sym part) few));
     }
+
+-- the same where what is mapped is known by another name
+pub length-with_block_of : (ids exts : Slots) (h : RtpHeader) (form : ExtensionsForm) (block : ℕ) → ids ≡ exts → h.csrc_count ≤ 15 → length h.csrc ≡ 15
+    → Some form ≡ announced_form ids h.has_extension h.ext_vals → block ≡ length (block_bytes_in form ids h.ext_vals) → IsWithinMap ids block
+    → IsLength exts h (12 + 4 * h.csrc_count + block)
+length-with_block_of ids exts h form block same count slots form-is block-is few =
+    subst (λ (slots : Slots). IsLength slots h (12 + 4 * h.csrc_count + block)) same (length-with_block ids h form block count slots form-is block-is few)

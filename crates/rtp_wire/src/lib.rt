@@ -23,8 +23,8 @@ pub use receive::{
     receive_run_one,
 };
 pub use rtp_ext::{
-    AbsCaptureTime, CarriedLayers, Cursor, ElementList, ElementValues, Elements, Extension,
-    ExtensionMap, ExtensionValues, ExtensionsForm, Iter, IterByMediaType, Kinds, KnownKind, MAX_ID,
+    AbsCaptureTime, CarriedLayers, ElementList, ElementValues, Elements, Extension, ExtensionMap,
+    ExtensionValues, ExtensionsForm, Iter, IterByMediaType, Kinds, KnownKind, MAX_ID,
     MAX_ID_ONE_BYTE_FORM, NewIds, Uri, VideoOrientation, VideoTiming, WithLayers, standard,
     write_elements,
 };

@@ -11,17 +11,17 @@ ghost use Rattle.rtp_wire.specs.Header.{IsExtensionPart};
 ghost use Rattle.rtp_wire.specs.WrittenWith.{body_with};
 ghost use Rattle.rtp_ext.specs.WrittenBlock.{TakesAtMost17Each, HasFewData, form_of, block_of, filled, image_values, whole_words};
 ghost use Rattle.rtp_wire.specs.WrittenInForm.{block_bytes_in, IsWithinMap};
-ghost use Rattle.rtp_ext.specs.ExtensionMap.{items_from};
+ghost use Rattle.rtp_ext.specs.KindsById.{known_slots};
 ghost use Rattle.rtp_ext.specs.declared.form.ExtensionsForm.TheVariants.{OneByte};
 
 use rtp_base::put;
 use rtp_ext::{
-    Cursor, ElementList, ElementValues, ExtensionsForm, Kinds, put_elements, values_len,
+    ElementList, ElementValues, ExtensionsForm, Kinds, KnownIds, put_elements, values_len,
     values_len_at_most, write_values,
 };
 
 // How many bytes stand before a block's body.
-const HEADER_LEN: usize = 4;
+pub(super) const HEADER_LEN: usize = 4;
 
 // The four bytes before a body of `words` words.
 fn block_header(form: ExtensionsForm, words: u16) -> [u8; HEADER_LEN]
@@ -47,44 +47,49 @@ fn fill_word(buf: &mut [u8], at: usize, count: usize) -> usize
     }
 }
 
-// The length of the block that `write_block` writes.
-pub(super) fn block_len<K: Kinds, V: ElementValues>(
-    kinds: &K,
-    start: Cursor,
-    form: ExtensionsForm,
-    ev: &V,
-) -> usize
-    requires start { K.left kinds.now start ≡ items_from 0 (K.known kinds.now) }
-    requires few_ids { length (items_from 0 (K.known kinds.now)) ≤ 255 }
-    ensures length { result ≡ length (block_bytes_in form (K.slots kinds.now) (V.values ev.now)) }
-    ensures few { IsWithinMap (K.slots kinds.now) result }
+// So many bytes, with the zeros that fill their last word.
+#[inline(always)]
+fn in_words(len: usize) -> usize
+    requires { len ≤ 262140 }
+    ensures { result ≡ whole_words len }
 {
-    let elements_len = values_len(kinds, start, ev, form);
-    HEADER_LEN + elements_len.next_multiple_of(4)
+    (len + 3) / 4 * 4
+}
+
+// The length of the block that `write_block` writes.
+#[inline(always)]
+pub(super) fn block_len<K: Kinds, V: ElementValues>(
+    ids: &KnownIds<'_, K>,
+    ev: &V,
+    form: ExtensionsForm,
+) -> usize
+    ensures length { result ≡ length (block_bytes_in form ids.now (V.values ev.now)) }
+    ensures few { IsWithinMap ids.now result }
+{
+    if ids.are_none() {
+        return HEADER_LEN;
+    }
+    HEADER_LEN + in_words(values_len(ids, ev, form))
 }
 
 // Whether the block that `write_block` writes has room. Most buffers have it whatever the values are,
 // so that no length is asked for.
 #[inline(always)]
 pub(super) fn block_fits<K: Kinds, V: ElementValues>(
-    kinds: &K,
-    start: Cursor,
-    form: ExtensionsForm,
+    ids: &KnownIds<'_, K>,
     ev: &V,
+    form: ExtensionsForm,
     room: usize,
 ) -> bool
-    requires start { K.left kinds.now start ≡ items_from 0 (K.known kinds.now) }
-    requires few_ids { length (items_from 0 (K.known kinds.now)) ≤ 255 }
-    requires short { form ≡ OneByte → TakesAtMost17Each (K.known kinds.now) (V.values ev.now) }
+    requires short { form ≡ OneByte → TakesAtMost17Each (known_slots ids.now) (V.values ev.now) }
     requires few { HasFewData (V.values ev.now) }
     ensures { IsTrue result
-        ↔ (length (block_bytes_in form (K.slots kinds.now) (V.values ev.now)) ≤ room) }
+        ↔ (length (block_bytes_in form ids.now (V.values ev.now)) ≤ room) }
 {
-    let most = values_len_at_most(kinds, start, ev, form);
-    if HEADER_LEN + most + 3 <= room {
+    if HEADER_LEN + in_words(values_len_at_most(ids, ev, form)) <= room {
         return true;
     }
-    block_len(kinds, start, form, ev) <= room
+    block_len(ids, ev, form) <= room
 }
 
 // Puts the four bytes before a body in front of elements that stand after these, and after them the
@@ -97,7 +102,7 @@ fn close_block(buf: &mut [u8], form: ExtensionsForm, elements_len: usize) -> usi
         buf.new ≡ block_of form (filled row) ++ drop result before }
     ensures length { result ≡ 4 + whole_words elements_len }
 {
-    let body_len = elements_len.next_multiple_of(4);
+    let body_len = in_words(elements_len);
     let len = fill_word(buf, HEADER_LEN + elements_len, body_len - elements_len);
     put(buf, 0, &block_header(form, (body_len / 4) as u16));
     len
@@ -106,28 +111,25 @@ fn close_block(buf: &mut [u8], form: ExtensionsForm, elements_len: usize) -> usi
 // Writes the block of these values in the form to the front of the buffer, and returns its length.
 #[inline(always)]
 pub(super) fn write_block<K: Kinds, V: ElementValues>(
-    kinds: &K,
-    start: Cursor,
+    ids: &KnownIds<'_, K>,
+    ev: &V,
     form: ExtensionsForm,
     buf: &mut [u8],
-    ev: &V,
 ) -> usize
-    requires start { K.left kinds.now start ≡ items_from 0 (K.known kinds.now) }
-    requires few_ids { length (items_from 0 (K.known kinds.now)) ≤ 255 }
-    requires form { form ≡ form_of (K.slots kinds.now) (V.values ev.now) }
-    requires room { length (block_bytes_in form (K.slots kinds.now) (V.values ev.now))
+    requires form { form ≡ form_of ids.now (V.values ev.now) }
+    requires room { length (block_bytes_in form ids.now (V.values ev.now))
         ≤ length buf.old }
     ensures written { buf.new
-        ≡ block_bytes_in form (K.slots kinds.now) (V.values ev.now) ++ drop result buf.old }
-    ensures length { result ≡ length (block_bytes_in form (K.slots kinds.now) (V.values ev.now)) }
-    ensures few { IsWithinMap (K.slots kinds.now) result }
+        ≡ block_bytes_in form ids.now (V.values ev.now) ++ drop result buf.old }
+    ensures length { result ≡ length (block_bytes_in form ids.now (V.values ev.now)) }
+    ensures few { IsWithinMap ids.now result }
 
     // What was written is read as the image of the values.
-    ensures read_back { IsExtensionPart (K.slots kinds.now) true
-        (block_bytes_in form (K.slots kinds.now) (V.values ev.now))
-        (image_values (K.slots kinds.now) (V.values ev.now)) }
+    ensures read_back { IsExtensionPart ids.now true
+        (block_bytes_in form ids.now (V.values ev.now))
+        (image_values ids.now (V.values ev.now)) }
 {
-    let elements_len = write_values(kinds, start, &mut buf[HEADER_LEN..], ev, form);
+    let elements_len = write_values(ids, ev, form, &mut buf[HEADER_LEN..]);
     close_block(buf, form, elements_len)
 }
 

@@ -17,7 +17,7 @@ use super::RtpHeader;
 use super::block::{block_form, write_block_of};
 use crate::packet::flag;
 use rtp_base::put;
-use rtp_ext::{ElementList, ExtensionsForm, Kinds};
+use rtp_ext::{ElementList, ExtensionsForm, Kinds, KnownIds};
 
 impl RtpHeader {
     /// Returns how many bytes [`write_to`](Self::write_to) writes under the map: a multiple of
@@ -68,9 +68,9 @@ impl RtpHeader {
         ensures read_back { (rest : List ℕ) →
             IsWire (K.slots exts.now) (wire_bytes (K.slots exts.now) self.now ++ rest) (image_of (K.slots exts.now) self.now) }
     {
-        let start = exts.start();
-        let form = self.form(&self.ext_vals, exts, start);
-        self.write_in(buf, &self.ext_vals, exts, start, form)
+        let ids = KnownIds::of(exts);
+        let form = self.form(&ids, &self.ext_vals);
+        self.write_in(&ids, &self.ext_vals, form, buf)
     }
 
     /// Writes the header as [`write_to`](Self::write_to) does, whatever it holds and however long the

@@ -2,17 +2,19 @@
 
 ghost use Rattle.std.specs.Prelude.{◌≡◌, ℕ, ◌+◌, ◌*◌, ◌%◌, ◌<◌, ◌≤◌, ◌↔◌, ◌++◌, List, length, drop, Some, IsTrue, IsNone, IfSome, IfNone};
 ghost use Rattle.rtp_ext.specs.declared.form.ExtensionsForm.TheVariants.{OneByte};
-ghost use Rattle.rtp_ext.specs.ExtensionMap.{items_from, mapped_count, HasNoIdAbove};
+ghost use Rattle.rtp_ext.specs.ExtensionMap.{Slots, mapped_count, HasNoIdAbove};
+ghost use Rattle.rtp_values.specs.declared.value.values.ExtensionValues.{ExtensionValues};
+ghost use Rattle.rtp_ext.specs.KindsById.{known_slots};
 ghost use Rattle.rtp_ext.specs.WrittenBlock.{TakesAtMost17Each, HasFewData, whole_words};
 ghost use Rattle.rtp_wire.specs.Header.{IsWire};
 ghost use Rattle.rtp_wire.specs.Written.{extension_bytes, wire_bytes, image_of, with_values, CannotBeWritten};
 ghost use Rattle.rtp_wire.specs.WrittenInForm.{announced_form, IsWithinMap};
 
 use super::RtpHeader;
-use super::block::{block_fits, block_len, write_block};
+use super::block::{HEADER_LEN, block_fits, block_len, write_block};
 use super::writing::put_sources;
 use rtp_base::put;
-use rtp_ext::{Cursor, ElementValues, ExtensionsForm, Kinds, values_form};
+use rtp_ext::{ElementValues, ExtensionsForm, Kinds, KnownIds, values_form};
 
 impl RtpHeader {
     /// Returns how many bytes [`try_write_values`](Self::try_write_values) writes, within the
@@ -27,11 +29,11 @@ impl RtpHeader {
         ensures bound { result ≤ 65612 }
     {
         let before = 12 + 4 * self.csrc_count;
-        let start = exts.start();
-        match self.form(values, exts, start) {
-            Some(form) => before + block_len(exts, start, form, values),
-            None => before,
+        if !self.has_extension {
+            return before;
         }
+        let ids = KnownIds::of(exts);
+        before + block_len(&ids, values, values_form(&ids, values))
     }
 
     /// Writes the header as [`try_write_to`](Self::try_write_to) does, with these values in place
@@ -62,61 +64,73 @@ impl RtpHeader {
         if self.csrc_count > 15 || self.payload_type.get() > 127 {
             return None;
         }
-        let start = exts.start();
-        let form = self.form(values, exts, start);
-        if !self.fits(buf.len(), values, exts, start, form) {
+        if buf.len() < self.least_len() {
             return None;
         }
-        Some(self.write_in(buf, values, exts, start, form))
+        let ids = KnownIds::of(exts);
+        let form = self.form(&ids, values);
+        if !self.fits(&ids, values, form, buf.len()) {
+            return None;
+        }
+        Some(self.write_in(&ids, values, form, buf))
+    }
+
+    // At least so many bytes are written, whatever the map and the values are.
+    #[inline(always)]
+    fn least_len(&self) -> usize
+        requires { self.now.csrc_count ≤ 15 }
+        ensures least { (exts : Slots) (values : ExtensionValues) →
+            result ≤ length (wire_bytes exts (with_values self.now values)) }
+        ensures before { 12 + 4 * self.now.csrc_count ≤ result }
+    {
+        let before = 12 + 4 * self.csrc_count;
+        if self.has_extension {
+            before + HEADER_LEN
+        } else {
+            before
+        }
     }
 
     // The form of the block that X announces, and `None` where X is clear.
     #[inline(always)]
     pub(super) fn form<K: Kinds, V: ElementValues>(
         &self,
+        ids: &KnownIds<'_, K>,
         values: &V,
-        kinds: &K,
-        start: Cursor,
     ) -> Option<ExtensionsForm>
-        requires { K.left kinds.now start ≡ items_from 0 (K.known kinds.now) }
         ensures form { result
-            ≡ announced_form (K.slots kinds.now) self.now.has_extension (V.values values.now) }
+            ≡ announced_form ids.now self.now.has_extension (V.values values.now) }
         ensures short { result ≡ Some OneByte
-            → TakesAtMost17Each (K.known kinds.now) (V.values values.now) }
+            → TakesAtMost17Each (known_slots ids.now) (V.values values.now) }
         ensures few { IfSome result (λ _. HasFewData (V.values values.now)) }
     {
         if !self.has_extension {
             return None;
         }
-        Some(values_form(kinds, start, values))
+        Some(values_form(ids, values))
     }
 
-    // Whether the header has room, with its block in this form.
+    // Whether the header has room, with its block in this form, where what stands before the block has it.
     #[inline(always)]
     fn fits<K: Kinds, V: ElementValues>(
         &self,
-        room: usize,
+        ids: &KnownIds<'_, K>,
         values: &V,
-        kinds: &K,
-        start: Cursor,
         form: Option<ExtensionsForm>,
+        room: usize,
     ) -> bool
-        requires start { K.left kinds.now start ≡ items_from 0 (K.known kinds.now) }
-        requires few_ids { length (items_from 0 (K.known kinds.now)) ≤ 255 }
         requires sources { self.now.csrc_count ≤ 15 }
+        requires before { 12 + 4 * self.now.csrc_count ≤ room }
         requires form { form
-            ≡ announced_form (K.slots kinds.now) self.now.has_extension (V.values values.now) }
+            ≡ announced_form ids.now self.now.has_extension (V.values values.now) }
         requires short { form ≡ Some OneByte
-            → TakesAtMost17Each (K.known kinds.now) (V.values values.now) }
+            → TakesAtMost17Each (known_slots ids.now) (V.values values.now) }
         requires few { IfSome form (λ _. HasFewData (V.values values.now)) }
         ensures { IsTrue result ↔ (length
-            (wire_bytes (K.slots kinds.now) (with_values self.now (V.values values.now))) ≤ room) }
+            (wire_bytes ids.now (with_values self.now (V.values values.now))) ≤ room) }
     {
-        let Some(left) = room.checked_sub(12 + 4 * self.csrc_count) else {
-            return false;
-        };
         match form {
-            Some(form) => block_fits(kinds, start, form, values, left),
+            Some(form) => block_fits(ids, values, form, room - (12 + 4 * self.csrc_count)),
             None => true,
         }
     }
@@ -126,32 +140,29 @@ impl RtpHeader {
     #[inline(always)]
     pub(super) fn write_in<K: Kinds, V: ElementValues>(
         &self,
-        buf: &mut [u8],
+        ids: &KnownIds<'_, K>,
         values: &V,
-        kinds: &K,
-        start: Cursor,
         form: Option<ExtensionsForm>,
+        buf: &mut [u8],
     ) -> usize
-        requires start { K.left kinds.now start ≡ items_from 0 (K.known kinds.now) }
-        requires few_ids { length (items_from 0 (K.known kinds.now)) ≤ 255 }
         requires payload_type { self.now.payload_type ≤ 127 }
         requires sources { self.now.csrc_count ≤ 15 }
         requires form { form
-            ≡ announced_form (K.slots kinds.now) self.now.has_extension (V.values values.now) }
+            ≡ announced_form ids.now self.now.has_extension (V.values values.now) }
         requires room { length
-            (wire_bytes (K.slots kinds.now) (with_values self.now (V.values values.now)))
+            (wire_bytes ids.now (with_values self.now (V.values values.now)))
             ≤ length buf.old }
         ensures written { buf.new
-            ≡ wire_bytes (K.slots kinds.now) (with_values self.now (V.values values.now))
+            ≡ wire_bytes ids.now (with_values self.now (V.values values.now))
             ++ drop result buf.old }
         ensures length { result ≡ length
-            (wire_bytes (K.slots kinds.now) (with_values self.now (V.values values.now))) }
-        ensures few { IsWithinMap (K.slots kinds.now)
-            (length (extension_bytes (K.slots kinds.now)
+            (wire_bytes ids.now (with_values self.now (V.values values.now))) }
+        ensures few { IsWithinMap ids.now
+            (length (extension_bytes ids.now
             self.now.has_extension (V.values values.now))) }
-        ensures read_back { (rest : List ℕ) → IsWire (K.slots kinds.now)
-            (wire_bytes (K.slots kinds.now) (with_values self.now (V.values values.now)) ++ rest)
-            (image_of (K.slots kinds.now) (with_values self.now (V.values values.now))) }
+        ensures read_back { (rest : List ℕ) → IsWire ids.now
+            (wire_bytes ids.now (with_values self.now (V.values values.now)) ++ rest)
+            (image_of ids.now (with_values self.now (V.values values.now))) }
     {
         let sources = &self.csrc[..self.csrc_count];
         let end = put(buf, 0, &self.fixed_bytes(self.has_extension));
@@ -159,6 +170,6 @@ impl RtpHeader {
         let Some(form) = form else {
             return end;
         };
-        end + write_block(kinds, start, form, &mut buf[end..], values)
+        end + write_block(ids, values, form, &mut buf[end..])
     }
 }

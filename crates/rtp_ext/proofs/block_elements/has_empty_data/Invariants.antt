@@ -1,11 +1,11 @@
 use Rattle.std.proofs.Common.{◌≡◌, length}
 use Rattle.rtp_ext.specs.ExtensionMap.{items_from}
-use Rattle.rtp_ext.specs.KindsById.{has_empty}
+use Rattle.rtp_ext.specs.KindsById.{has_empty, known_slots}
 use Rattle.rtp_ext.proofs.block_elements.has_empty_data.Given as goal
 
 -- the ids that are left decide
 abbrev pub invariant-loop-kind : goal.invariant-loop-kind
-invariant-loop-kind g l = has_empty (g.K.Kinds.left l.kinds l.cursor) (g.V.ElementValues.values l.ev) ≡ has_empty (items_from 0 (g.K.Kinds.known l.kinds)) (g.V.ElementValues.values l.ev)
+invariant-loop-kind g l = has_empty l.items (g.V.ElementValues.values l.ev) ≡ has_empty (items_from 0 (known_slots l.ids)) (g.V.ElementValues.values l.ev)
 
 abbrev pub decreases-loop-kind : goal.decreases-loop-kind
-decreases-loop-kind g l = length (g.K.Kinds.left l.kinds l.cursor)
+decreases-loop-kind g l = length l.items

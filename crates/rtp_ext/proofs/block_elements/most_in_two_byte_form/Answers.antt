@@ -19,5 +19,4 @@ loop-kind-preserved g c =
 
 pub returns-clause-most : goal.returns-clause-most
 returns-clause-most g c = λ values few.
-    most-end (g.K.Kinds.slots c.args.kinds.now) (g.K.Kinds.known c.args.kinds.now) values _ c.loop-kind.most (g.met.K.Kinds.known_is c.args.kinds.now)
-    c.in_default.ensures.none (c.loop-kind.invariant.0 values few)
+    most-end values _ _ c.loop-kind.most c.in_default.ensures.none (c.loop-kind.invariant.0 values few)

@@ -1,7 +1,6 @@
 use Rattle.std.proofs.Common.{◌≤◌, ◌+◌, ◌*◌, length}
 use Rattle.rtp_values.specs.declared.value.values.ExtensionValues.{ExtensionValues}
 use Rattle.rtp_ext.specs.declared.form.ExtensionsForm.TheVariants.{TwoByte}
-use Rattle.rtp_ext.specs.ExtensionMap.{items_from}
 use Rattle.rtp_ext.specs.ElementWriting.{items_bytes}
 use Rattle.rtp_ext.specs.WrittenBlock.{HasFewData}
 use Rattle.rtp_ext.proofs.block_elements.most_in_two_byte_form.Given as goal
@@ -9,9 +8,8 @@ use Rattle.rtp_ext.proofs.block_elements.most_in_two_byte_form.Given as goal
 -- what is left takes the rest
 abbrev pub invariant-loop-kind : goal.invariant-loop-kind
 invariant-loop-kind g l =
-    ((values : ExtensionValues) → HasFewData values → length (items_bytes TwoByte values (items_from 0 (g.K.Kinds.known l.kinds)))
-    ≤ l.most + length (items_bytes TwoByte values (g.K.Kinds.left l.kinds l.cursor)))
-    × (l.most + 257 * length (g.K.Kinds.left l.kinds l.cursor) ≤ 65535)
+    ((values : ExtensionValues) → HasFewData values → length (items_bytes TwoByte values l.initial.items) ≤ l.most + length (items_bytes TwoByte values l.items))
+    × (l.most + 257 * length l.items ≤ 65535)
 
 abbrev pub decreases-loop-kind : goal.decreases-loop-kind
-decreases-loop-kind g l = length (g.K.Kinds.left l.kinds l.cursor)
+decreases-loop-kind g l = length l.items

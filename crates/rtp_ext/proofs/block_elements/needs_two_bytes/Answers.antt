@@ -2,34 +2,35 @@ use Rattle.std.proofs.Common.{sym, ◌∙◌, true, false, refl}
 use Rattle.rtp_ext.specs.ExtensionMap.{items_from}
 use Rattle.rtp_ext.proofs.KnownItemsLemmas.{needs_two_by, not_long_known, no_empty}
 use Rattle.rtp_ext.proofs.ShortBlockLemmas.{short_block}
+use Rattle.rtp_ext.specs.KindsById.{known_slots}
 use Rattle.rtp_ext.proofs.block_elements.needs_two_bytes.Goals as goal
 
 pub returns-then-has_long-clause-needed : goal.returns-then-has_long-clause-needed
 returns-then-has_long-clause-needed g c =
-    sym (needs_two_by (g.K.Kinds.slots c.args.kinds.now) (g.K.Kinds.known c.args.kinds.now) (g.V.ElementValues.values c.args.ev.now) true (g.met.K.Kinds.known_is c.args.kinds.now)
+    sym (needs_two_by c.args.ids.now (known_slots c.args.ids.now) (g.V.ElementValues.values c.args.ev.now) true refl
     (sym c.if-has_long.true ∙ c.has_long.ensures))
 
 pub returns-then-has_empty-clause-needed : goal.returns-then-has_empty-clause-needed
 returns-then-has_empty-clause-needed g c =
     c.has_empty_data.ensures
-    ∙ sym (needs_two_by (g.K.Kinds.slots c.args.kinds.now) (g.K.Kinds.known c.args.kinds.now) (g.V.ElementValues.values c.args.ev.now) false (g.met.K.Kinds.known_is c.args.kinds.now)
+    ∙ sym (needs_two_by c.args.ids.now (known_slots c.args.ids.now) (g.V.ElementValues.values c.args.ev.now) false refl
     (sym c.if-has_long.false ∙ c.has_long.ensures))
 
 pub returns-else-has_empty-clause-needed : goal.returns-else-has_empty-clause-needed
 returns-else-has_empty-clause-needed g c =
     c.if-has_empty.false
-    ∙ sym (no_empty (g.V.ElementValues.values c.args.ev.now) (items_from 0 (g.K.Kinds.known c.args.kinds.now)) (sym c.has_empty_text-has_empty.ensures.empty ∙ c.if-has_empty.false))
-    ∙ sym (needs_two_by (g.K.Kinds.slots c.args.kinds.now) (g.K.Kinds.known c.args.kinds.now) (g.V.ElementValues.values c.args.ev.now) false (g.met.K.Kinds.known_is c.args.kinds.now)
+    ∙ sym (no_empty (g.V.ElementValues.values c.args.ev.now) (items_from 0 (known_slots c.args.ids.now)) (sym c.has_empty_text-has_empty.ensures.empty ∙ c.if-has_empty.false))
+    ∙ sym (needs_two_by c.args.ids.now (known_slots c.args.ids.now) (g.V.ElementValues.values c.args.ev.now) false refl
     (sym c.if-has_long.false ∙ c.has_long.ensures))
 
 pub returns-then-has_empty-clause-short : goal.returns-then-has_empty-clause-short
 returns-then-has_empty-clause-short g c = λ none.
-    short_block (g.K.Kinds.known c.args.kinds.now) (g.V.ElementValues.values c.args.ev.now) false
-    (sym (not_long_known (g.K.Kinds.slots c.args.kinds.now) (g.K.Kinds.known c.args.kinds.now) (g.met.K.Kinds.known_is c.args.kinds.now)
+    short_block (known_slots c.args.ids.now) (g.V.ElementValues.values c.args.ev.now) false
+    (sym (not_long_known c.args.ids.now (known_slots c.args.ids.now) refl
     (sym c.has_long.ensures ∙ c.if-has_long.false))) refl c.has_empty_text-has_empty.ensures.few
 
 pub returns-else-has_empty-clause-short : goal.returns-else-has_empty-clause-short
 returns-else-has_empty-clause-short g c = λ none.
-    short_block (g.K.Kinds.known c.args.kinds.now) (g.V.ElementValues.values c.args.ev.now) false
-    (sym (not_long_known (g.K.Kinds.slots c.args.kinds.now) (g.K.Kinds.known c.args.kinds.now) (g.met.K.Kinds.known_is c.args.kinds.now)
+    short_block (known_slots c.args.ids.now) (g.V.ElementValues.values c.args.ev.now) false
+    (sym (not_long_known c.args.ids.now (known_slots c.args.ids.now) refl
     (sym c.has_long.ensures ∙ c.if-has_long.false))) refl c.has_empty_text-has_empty.ensures.few

@@ -1,16 +1,17 @@
-use Rattle.std.proofs.Common.{arith, ap, ◌∙◌, length, length-append}
+use Rattle.std.proofs.Common.{refl, arith, ap, ◌∙◌, length, length-append}
 use Rattle.rtp_values.specs.KnownKind.{extension_of_kind}
 use Rattle.rtp_values.specs.Spelling.{spelled_data}
 use Rattle.rtp_ext.specs.ElementWriting.{items_bytes, element_or_nothing}
 use Rattle.rtp_ext.proofs.WrittenBlockLemmas.{items_bytes-nil, items_bytes-cons}
 use Rattle.rtp_ext.proofs.CursorLemmas.{known_bytes}
 use Rattle.rtp_ext.proofs.KnownItemsLemmas.{count_known}
+use Rattle.rtp_ext.specs.KindsById.{known_slots}
 use Rattle.rtp_ext.proofs.block_elements.values_len.Goals as goal
 
 pub loop-kind-preserved : goal.loop-kind-preserved
 loop-kind-preserved g c =
     let id = c.in-Some.field-0-0 in
-    let more = g.K.Kinds.left c.args.kinds.now c.next.new.cursor in
+    let more = c.next.new.self in
     let data_is = spelled_data (extension_of_kind c.in-Some.kind) (g.V.ElementValues.values c.args.ev.now) in
     let split = ap length (ap (items_bytes c.args.form (g.V.ElementValues.values c.args.ev.now)) c.in-Some.ensures.some
     ∙ items_bytes-cons c.args.form (g.V.ElementValues.values c.args.ev.now) (id, (extension_of_kind c.in-Some.kind)) more) in
@@ -23,9 +24,9 @@ loop-kind-preserved g c =
 pub returns-clause-length : goal.returns-clause-length
 returns-clause-length g c =
     let none = ap length (ap (items_bytes c.args.form (g.V.ElementValues.values c.args.ev.now)) c.in_default.ensures.none ∙ items_bytes-nil c.args.form (g.V.ElementValues.values c.args.ev.now)) in
-    let whole = ap length (known_bytes c.args.form (g.K.Kinds.slots c.args.kinds.now) (g.K.Kinds.known c.args.kinds.now) (g.V.ElementValues.values c.args.ev.now) (g.met.K.Kinds.known_is c.args.kinds.now)) in
+    let whole = ap length (known_bytes c.args.form c.args.ids.now (known_slots c.args.ids.now) (g.V.ElementValues.values c.args.ev.now) refl) in
     omega (arith, c.loop-kind.invariant.0, none, whole)
 
 pub returns-clause-by_map : goal.returns-clause-by_map
 returns-clause-by_map g c =
-    omega (arith, c.loop-kind.invariant.1, count_known (g.K.Kinds.slots c.args.kinds.now) (g.K.Kinds.known c.args.kinds.now) (g.met.K.Kinds.known_is c.args.kinds.now))
+    omega (arith, c.loop-kind.invariant.1, count_known c.args.ids.now (known_slots c.args.ids.now) refl)

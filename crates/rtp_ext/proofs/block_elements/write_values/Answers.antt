@@ -1,4 +1,4 @@
-use Rattle.std.proofs.Common.{arith, sym, ap, ◌∙◌, ◌≡◌, ◌++◌, List, length, drop, replicate, subst}
+use Rattle.std.proofs.Common.{refl, arith, sym, ap, ◌∙◌, ◌≡◌, ◌++◌, List, length, drop, replicate, subst}
 use Rattle.std.specs.List.{AllByRecursion}
 use Rattle.rtp_values.specs.KnownKind.{extension_of_kind}
 use Rattle.rtp_ext.specs.ElementWriting.{items_bytes, IsCarried}
@@ -12,67 +12,68 @@ use Rattle.rtp_ext.proofs.KnownItemsLemmas.{chosen_known, written_known, count_k
 use Rattle.rtp_ext.specs.Elements.{Element, AreElements}
 use Rattle.rtp_ext.proofs.WrittenElementsLemmas.{AreElements-written}
 use Rattle.rtp_ext.proofs.WrittenValuesLemmas.{AreValues-written}
+use Rattle.rtp_ext.specs.KindsById.{known_slots}
 use Rattle.rtp_ext.proofs.block_elements.write_values.Goals as goal
 
 pub loop-id-init : goal.loop-id-init
 loop-id-init g c =
-    let exts = g.K.Kinds.known c.args.kinds.now in
+    let exts = known_slots c.args.ids.now in
     subst (λ items. IsUnderWay c.args.form (g.V.ElementValues.values c.args.ev.now) c.args.buf.now c.args.buf.now (items_from 0 exts) items 0)
-    (sym c.requires.start)
-    (IsUnderWay-start c.args.form (g.V.ElementValues.values c.args.ev.now) c.args.buf.now (items_from 0 exts) (all_fit exts (g.V.ElementValues.values c.args.ev.now) c.args.form (chosen_known (g.K.Kinds.slots c.args.kinds.now) exts (g.V.ElementValues.values c.args.ev.now) c.args.form (g.met.K.Kinds.known_is c.args.kinds.now) c.requires.form)))
+    (sym c.iter-items.ensures.all)
+    (IsUnderWay-start c.args.form (g.V.ElementValues.values c.args.ev.now) c.args.buf.now (items_from 0 exts) (all_fit exts (g.V.ElementValues.values c.args.ev.now) c.args.form (chosen_known c.args.ids.now exts (g.V.ElementValues.values c.args.ev.now) c.args.form refl c.requires.form)))
 
 pub write_element-at-requires : goal.write_element-at-requires
 write_element-at-requires g c =
-    let exts = g.K.Kinds.known c.args.kinds.now in
-    let next = IsUnderWay-next _ _ _ _ (items_from 0 exts) _ (g.K.Kinds.left c.args.kinds.now c.next.new.cursor) (c.in-Some.id, (extension_of_kind c.in-Some.kind)) c.loop-id.at
+    let exts = known_slots c.args.ids.now in
+    let next = IsUnderWay-next _ _ _ _ (items_from 0 exts) _ c.next.new.self (c.in-Some.id, (extension_of_kind c.in-Some.kind)) c.loop-id.at
     c.loop-id.invariant c.in-Some.ensures.some
-    (omega (arith, c.requires.room, ap length (known_bytes c.args.form (g.K.Kinds.slots c.args.kinds.now) (g.K.Kinds.known c.args.kinds.now) (g.V.ElementValues.values c.args.ev.now) (g.met.K.Kinds.known_is c.args.kinds.now)))) in
+    (omega (arith, c.requires.room, ap length (known_bytes c.args.form c.args.ids.now (known_slots c.args.ids.now) (g.V.ElementValues.values c.args.ev.now) refl))) in
     record { room = next.0; id = next.1.0; fits = next.1.1 }
 
 pub loop-id-preserved : goal.loop-id-preserved
 loop-id-preserved g c =
-    let exts = g.K.Kinds.known c.args.kinds.now in
-    IsUnderWay-step c.args.form (g.V.ElementValues.values c.args.ev.now) c.args.buf.now c.loop-id.buf _ (items_from 0 exts) _ (g.K.Kinds.left c.args.kinds.now c.next.new.cursor) (c.in-Some.id, (extension_of_kind c.in-Some.kind))
+    let exts = known_slots c.args.ids.now in
+    IsUnderWay-step c.args.form (g.V.ElementValues.values c.args.ev.now) c.args.buf.now c.loop-id.buf _ (items_from 0 exts) _ c.next.new.self (c.in-Some.id, (extension_of_kind c.in-Some.kind))
     c.loop-id.at _ c.loop-id.invariant c.in-Some.ensures.some
-    (omega (arith, c.requires.room, ap length (known_bytes c.args.form (g.K.Kinds.slots c.args.kinds.now) (g.K.Kinds.known c.args.kinds.now) (g.V.ElementValues.values c.args.ev.now) (g.met.K.Kinds.known_is c.args.kinds.now))))
+    (omega (arith, c.requires.room, ap length (known_bytes c.args.form c.args.ids.now (known_slots c.args.ids.now) (g.V.ElementValues.values c.args.ev.now) refl)))
     c.write_element-at.ensures.written c.write_element-at.ensures.end c.write_element-at.ensures.carried
 
 -- all are written
 ended : (g : _) (c : goal.In_default g) →
-    (c.loop-id.at ≡ length (items_bytes c.args.form (g.V.ElementValues.values c.args.ev.now) (items_from 0 (g.K.Kinds.known c.args.kinds.now))))
-    × (c.loop-id.buf ≡ items_bytes c.args.form (g.V.ElementValues.values c.args.ev.now) (items_from 0 (g.K.Kinds.known c.args.kinds.now))
-    ++ drop (length (items_bytes c.args.form (g.V.ElementValues.values c.args.ev.now) (items_from 0 (g.K.Kinds.known c.args.kinds.now)))) c.args.buf.now)
-    × AllByRecursion (IsCarried c.args.form (g.V.ElementValues.values c.args.ev.now)) (items_from 0 (g.K.Kinds.known c.args.kinds.now))
+    (c.loop-id.at ≡ length (items_bytes c.args.form (g.V.ElementValues.values c.args.ev.now) (items_from 0 (known_slots c.args.ids.now))))
+    × (c.loop-id.buf ≡ items_bytes c.args.form (g.V.ElementValues.values c.args.ev.now) (items_from 0 (known_slots c.args.ids.now))
+    ++ drop (length (items_bytes c.args.form (g.V.ElementValues.values c.args.ev.now) (items_from 0 (known_slots c.args.ids.now)))) c.args.buf.now)
+    × AllByRecursion (IsCarried c.args.form (g.V.ElementValues.values c.args.ev.now)) (items_from 0 (known_slots c.args.ids.now))
 ended g c = IsUnderWay-end _ _ _ _ _ _ _ c.loop-id.invariant c.in_default.ensures.none
 
 pub returns-clause-length : goal.returns-clause-length
-returns-clause-length g c = (ended g c).0 ∙ ap length (known_bytes c.args.form (g.K.Kinds.slots c.args.kinds.now) (g.K.Kinds.known c.args.kinds.now) (g.V.ElementValues.values c.args.ev.now) (g.met.K.Kinds.known_is c.args.kinds.now))
+returns-clause-length g c = (ended g c).0 ∙ ap length (known_bytes c.args.form c.args.ids.now (known_slots c.args.ids.now) (g.V.ElementValues.values c.args.ev.now) refl)
 
 pub returns-clause-written : goal.returns-clause-written
 returns-clause-written g c =
-    (ended g c).1 ∙ ap (λ bytes. bytes ++ drop (length bytes) c.args.buf.now) (known_bytes c.args.form (g.K.Kinds.slots c.args.kinds.now) (g.K.Kinds.known c.args.kinds.now) (g.V.ElementValues.values c.args.ev.now) (g.met.K.Kinds.known_is c.args.kinds.now))
-    ∙ ap (λ end. elements_bytes c.args.form (written_elements (g.K.Kinds.slots c.args.kinds.now) (g.V.ElementValues.values c.args.ev.now)) ++ drop end c.args.buf.now) (sym (returns-clause-length g c))
+    (ended g c).1 ∙ ap (λ bytes. bytes ++ drop (length bytes) c.args.buf.now) (known_bytes c.args.form c.args.ids.now (known_slots c.args.ids.now) (g.V.ElementValues.values c.args.ev.now) refl)
+    ∙ ap (λ end. elements_bytes c.args.form (written_elements c.args.ids.now (g.V.ElementValues.values c.args.ev.now)) ++ drop end c.args.buf.now) (sym (returns-clause-length g c))
 
 pub returns-clause-bound : goal.returns-clause-bound
 returns-clause-bound g c =
-    omega (arith, (ended g c).0, length-items c.args.form (g.V.ElementValues.values c.args.ev.now) (items_from 0 (g.K.Kinds.known c.args.kinds.now)) (ended g c).2, c.requires.few)
+    omega (arith, (ended g c).0, length-items c.args.form (g.V.ElementValues.values c.args.ev.now) (items_from 0 (known_slots c.args.ids.now)) (ended g c).2, c.iter-items.ensures.few, ap length c.iter-items.ensures.all)
 
 pub returns-clause-by_map : goal.returns-clause-by_map
 returns-clause-by_map g c =
     omega (
       arith,
       (ended g c).0,
-      length-items c.args.form (g.V.ElementValues.values c.args.ev.now) (items_from 0 (g.K.Kinds.known c.args.kinds.now)) (ended g c).2,
-      count_known (g.K.Kinds.slots c.args.kinds.now) (g.K.Kinds.known c.args.kinds.now) (g.met.K.Kinds.known_is c.args.kinds.now),
+      length-items c.args.form (g.V.ElementValues.values c.args.ev.now) (items_from 0 (known_slots c.args.ids.now)) (ended g c).2,
+      count_known c.args.ids.now (known_slots c.args.ids.now) refl,
     )
 
 pub returns-clause-elements : goal.returns-clause-elements
 returns-clause-elements g c = λ zeros.
     subst (λ (elements : List Element). AreElements c.args.form (elements_bytes c.args.form elements ++ replicate zeros 0) elements)
-    (written_known (g.K.Kinds.slots c.args.kinds.now) (g.K.Kinds.known c.args.kinds.now) (g.V.ElementValues.values c.args.ev.now) (g.met.K.Kinds.known_is c.args.kinds.now))
-    (AreElements-written c.args.form (g.K.Kinds.known c.args.kinds.now) (g.V.ElementValues.values c.args.ev.now) zeros (ended g c).2)
+    (written_known c.args.ids.now (known_slots c.args.ids.now) (g.V.ElementValues.values c.args.ev.now) refl)
+    (AreElements-written c.args.form (known_slots c.args.ids.now) (g.V.ElementValues.values c.args.ev.now) zeros (ended g c).2)
 
 pub returns-clause-values : goal.returns-clause-values
 returns-clause-values g c =
-    AreValues_by (g.K.Kinds.slots c.args.kinds.now) (g.K.Kinds.known c.args.kinds.now) (g.V.ElementValues.values c.args.ev.now) (g.met.K.Kinds.known_is c.args.kinds.now)
-    (AreValues-written c.args.form (g.K.Kinds.known c.args.kinds.now) (g.V.ElementValues.values c.args.ev.now) (ended g c).2)
+    AreValues_by c.args.ids.now (known_slots c.args.ids.now) (g.V.ElementValues.values c.args.ev.now) refl
+    (AreValues-written c.args.form (known_slots c.args.ids.now) (g.V.ElementValues.values c.args.ev.now) (ended g c).2)

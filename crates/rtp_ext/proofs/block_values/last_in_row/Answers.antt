@@ -19,7 +19,7 @@ some_meaning bytes (Some a) is = (a, is)
 
 pub loop-id-preserved : goal.loop-id-preserved
 loop-id-preserved g c =
-    let exts = g.K.Kinds.known c.args.kinds.now in
+    let exts = g.K.Kinds.known c.args.exts.now in
     let element : Element = (c.in-Some.id, c.in-Some.data.now) in
     let mapped = sym c.get.ensures ∙ kind-untested c.get.result c.ne.result c.ne.ensures c.if-ne.false in
     let was = EndsRow-left exts c.args.first.now c.args.elements.now c.loop-id.elements (element ∷ c.next.new.self) c.loop-id.last.now

@@ -11,11 +11,11 @@ use Rattle.rtp_ext.proofs.LastAllocationLemmas.{mapped-to, mapped-to-layers, unm
 use Rattle.rtp_ext.proofs.block_values.read_in.Goals as goal
 
 pub loop-id-init : goal.loop-id-init
-loop-id-init g c = IsReadTo-start g.V.SetValues.shows (g.K.Kinds.known c.args.kinds.now) c.new-elements.result c.args.ev.now
+loop-id-init g c = IsReadTo-start g.V.SetValues.shows (g.K.Kinds.known c.args.exts.now) c.new-elements.result c.args.ev.now
 
 pub loop-id-preserved : goal.loop-id-preserved
 loop-id-preserved g c =
-    let exts = g.K.Kinds.known c.args.kinds.now in
+    let exts = g.K.Kinds.known c.args.exts.now in
     let element : Element = (c.in-Some.id, c.in-Some.bytes.now) in
     IsReadTo-more g.V.SetValues.shows exts c.new-elements.result c.loop-id.elements c.next.new.self (element ∷ []) c.args.ev.now c.loop-id.ev c.loop-id.ev
     c.in-Some.ensures.steps
@@ -25,7 +25,7 @@ loop-id-preserved g c =
 
 pub loop-id-preserved-in_ok-parse_value-in_default-kind : goal.loop-id-preserved-in_ok-parse_value-in_default-kind
 loop-id-preserved-in_ok-parse_value-in_default-kind g c =
-    let exts = g.K.Kinds.known c.args.kinds.now in
+    let exts = g.K.Kinds.known c.args.exts.now in
     let told = c.parse_value-in_default-kind.ensures in
     let element : Element = (c.in-Some.id, c.in-Some.bytes.now) in
     IsReadTo-more g.V.SetValues.shows exts c.new-elements.result c.loop-id.elements c.next.new.self (element ∷ []) c.args.ev.now c.loop-id.ev c.parse_value-in_default-kind.new.ev
@@ -38,9 +38,9 @@ loop-id-preserved-in_ok-parse_value-in_default-kind g c =
 pub loop-id-preserved-in_ok-parse_value-in-VideoLayersAllocation :
     goal.loop-id-preserved-in_ok-parse_value-in-VideoLayersAllocation
 loop-id-preserved-in_ok-parse_value-in-VideoLayersAllocation g c =
-    let exts = g.K.Kinds.known c.args.kinds.now in
+    let exts = g.K.Kinds.known c.args.exts.now in
     let told = c.parse_value.ensures in
-    let row = c.last_in_row-last.ensures in
+    let row = c.last_in_row-last.ensures.row in
     let element : Element = (c.in-Some.id, c.in-Some.bytes.now) in
     IsReadTo-more g.V.SetValues.shows exts c.new-elements.result c.loop-id.elements c.last_in_row-last.new.elements (element ∷ row.row)
     c.args.ev.now c.loop-id.ev c.parse_value.new.ev
@@ -52,17 +52,17 @@ loop-id-preserved-in_ok-parse_value-in-VideoLayersAllocation g c =
 
 -- memory was refused to an allocation
 stopped : (g : _) (c : goal.After-from_residual g) (elements : List Element) → AreElements c.args.form c.args.buf.now elements
-    → ReadUntilRefused g.V.SetValues.shows (g.K.Kinds.slots c.args.kinds.now) elements c.args.ev.now c.parse_value.new.ev
+    → ReadUntilRefused g.V.SetValues.shows (g.K.Kinds.slots c.args.exts.now) elements c.args.ev.now c.parse_value.new.ev
 stopped g c elements are =
-    let exts = g.K.Kinds.known c.args.kinds.now in
+    let exts = g.K.Kinds.known c.args.exts.now in
     let element : Element = (c.in-Some.id, c.in-Some.bytes.now) in
     let told = c.parse_value.ensures in
-    ReadUntilRefused-known g.V.SetValues.shows (g.K.Kinds.slots c.args.kinds.now) _ elements _ _ (g.met.K.Kinds.known_is c.args.kinds.now)
+    ReadUntilRefused-known g.V.SetValues.shows (g.K.Kinds.slots c.args.exts.now) _ elements _ _ (g.met.K.Kinds.known_is c.args.exts.now)
     (subst (λ es. ReadUntilRefused g.V.SetValues.shows exts es c.args.ev.now c.parse_value.new.ev) (sym (c.new-elements.ensures.only elements are))
     (IsReadTo-refused g.V.SetValues.shows exts c.new-elements.result c.loop-id.elements c.next.new.self element c.args.ev.now c.loop-id.ev c.parse_value.new.ev
     c.in-Some.ensures.steps
     (mapped-to-layers exts c.in-Some.id c.get.result c.in-Some-get.kind _ c.get.ensures c.in-Some-get.is c.in-VideoLayersAllocation.is refl)
-    (c.last_in_row-last.ensures.memory (told.refused (rw c.in_err-parse_value-in-VideoLayersAllocation.was refl)).1.1)
+    (c.last_in_row-last.ensures.row.memory (told.refused (rw c.in_err-parse_value-in-VideoLayersAllocation.was refl)).1.1)
     (told.unchanged (λ same. let is = c.in_err-parse_value-in-VideoLayersAllocation.was in cc)) c.loop-id.invariant))
 
 pub returns-in_err-parse_value-in-VideoLayersAllocation-clause-refused :
@@ -77,7 +77,7 @@ returns-in_err-parse_value-in-VideoLayersAllocation-clause-succeeds g c elements
 
 pub returns-clause-values : goal.returns-clause-values
 returns-clause-values g c = λ elements are.
-    let exts = g.K.Kinds.known c.args.kinds.now in
-    ReadElements-known g.V.SetValues.shows (g.K.Kinds.slots c.args.kinds.now) _ elements _ _ (g.met.K.Kinds.known_is c.args.kinds.now)
+    let exts = g.K.Kinds.known c.args.exts.now in
+    ReadElements-known g.V.SetValues.shows (g.K.Kinds.slots c.args.exts.now) _ elements _ _ (g.met.K.Kinds.known_is c.args.exts.now)
     (subst (λ es. ReadElements g.V.SetValues.shows exts es c.args.ev.now c.loop-id.ev) (sym (c.new-elements.ensures.only elements are))
     (IsReadTo-end g.V.SetValues.shows exts c.new-elements.result c.loop-id.elements c.args.ev.now c.loop-id.ev c.in_default.ensures.steps.0 c.loop-id.invariant))

@@ -37,20 +37,20 @@ pub loop-id-preserved-then-parse_into : goal.loop-id-preserved-then-parse_into
 loop-id-preserved-then-parse_into g c =
     let mapped = sym c.get.ensures ∙ (kind-tested c.get.result c.eq.result c.eq.ensures).0 c.if-eq.true in (
       simp map-append (last _ [] (c.in-Some.id, c.in-Some.element.now) refl mapped c.if-parse_into.ensures.found
-          (All-nil (λ later. Carries (g.K.Kinds.known c.args.kinds.now) VideoLayersAllocation later → ⊥))),
+          (All-nil (λ later. Carries (g.K.Kinds.known c.args.exts.now) VideoLayersAllocation later → ⊥))),
       λ none. absurd (false≢true (sym none)),
     )
 
 pub loop-id-preserved : goal.loop-id-preserved
 loop-id-preserved g c = elim c.else-eq.branch [
   | else-eq-via-then-eq+else-parse_into w ↦ (
-    simp map-append (passed (g.K.Kinds.known c.args.kinds.now) _ (c.in-Some.id, c.in-Some.element.now) c.loop-id.found c.loop-id.layers c.else-eq.layers
+    simp map-append (passed (g.K.Kinds.known c.args.exts.now) _ (c.in-Some.id, c.in-Some.element.now) c.loop-id.found c.loop-id.layers c.else-eq.layers
         (w.layers-is ∙ w.parse_into.ensures.same w.if-parse_into.false)
         (λ carries. no_meaning _ w.parse_into.result _ _ w.parse_into.ensures.only w.if-parse_into.false carries.1.1) c.loop-id.invariant.0),
     λ none. w.layers-is ∙ w.parse_into.ensures.same w.if-parse_into.false ∙ c.loop-id.invariant.1 none,
   )
   | else-eq-via-else-eq w ↦ (
-    simp map-append (passed (g.K.Kinds.known c.args.kinds.now) _ (c.in-Some.id, c.in-Some.element.now) c.loop-id.found c.loop-id.layers c.else-eq.layers
+    simp map-append (passed (g.K.Kinds.known c.args.exts.now) _ (c.in-Some.id, c.in-Some.element.now) c.loop-id.found c.loop-id.layers c.else-eq.layers
         w.layers-is
         (λ carries. false≢true (sym w.if-eq.false ∙ (kind-tested c.get.result c.eq.result c.eq.ensures).1 (c.get.ensures ∙ carries.0))) c.loop-id.invariant.0),
     λ none. w.layers-is ∙ c.loop-id.invariant.1 none,
@@ -63,9 +63,9 @@ returns-clause-found g c values says =
     c.new-id-items.result c.into_iter-id-iterator.ensures.into_iter_gives)
     c.loop-id.yielded _ c.loop-id.yielded_by _ _ c.in-None.is c.next.ensures.steps in
     let shown : ExtensionValues = record no_values { video_layers_allocation = then_some c.loop-id.found c.loop-id.layers } in
-    ap (λ (v : ExtensionValues). v.video_layers_allocation) (sym (AreFields-one (g.K.Kinds.slots c.args.kinds.now) says.elements VideoLayersAllocation no_values shown values
-    (AreFields-known (g.K.Kinds.slots c.args.kinds.now) says.elements VideoLayersAllocation no_values shown
-    (subst (λ (slots : Slots). AreFields slots says.elements VideoLayersAllocation no_values shown) (g.met.K.Kinds.known_is c.args.kinds.now)
-    (subst (λ (es : List Element). AreFields (g.K.Kinds.known c.args.kinds.now) es VideoLayersAllocation no_values shown)
+    ap (λ (v : ExtensionValues). v.video_layers_allocation) (sym (AreFields-one (g.K.Kinds.slots c.args.exts.now) says.elements VideoLayersAllocation no_values shown values
+    (AreFields-known (g.K.Kinds.slots c.args.exts.now) says.elements VideoLayersAllocation no_values shown
+    (subst (λ (slots : Slots). AreFields slots says.elements VideoLayersAllocation no_values shown) (g.met.K.Kinds.known_is c.args.exts.now)
+    (subst (λ (es : List Element). AreFields (g.K.Kinds.known c.args.exts.now) es VideoLayersAllocation no_values shown)
     (end.0 ∙ sym (c.new-id-items.ensures.only says.elements says.are_elements)) c.loop-id.invariant.0)))
     (says.are_values VideoLayersAllocation)))

@@ -1,11 +1,13 @@
-use Rattle.std.proofs.Common.{arith}
+use Rattle.std.proofs.Common.{◌≡◌, ◌*◌, ◌∙◌, arith}
 use Rattle.rtp_base.proofs.OverwritingLemmas.{overwritten-set, overwritten-set_two}
+use Rattle.rtp_ext.proofs.FormLemmas.{rotated_id}
 use Rattle.rtp_ext.proofs.form.write_header.Goals as goal
 
 pub returns-in-OneByte : goal.returns-in-OneByte
 returns-in-OneByte c =
     let fits = c.requires.room in
-    rw c.in-OneByte.is (overwritten-set c.args.buf.now c.args.at _ (omega (arith, rw c.in-OneByte.is at fits)))
+    let turned : c.rotate_left.result ≡ c.args.id * 16 = c.rotate_left.ensures ∙ rotated_id c.args.id (c.requires.fits c.in-OneByte.is).0 in
+    rw c.in-OneByte.is (rw turned (overwritten-set c.args.buf.now c.args.at _ (omega (arith, rw c.in-OneByte.is at fits))))
 
 pub returns-in-TwoByte : goal.returns-in-TwoByte
 returns-in-TwoByte c =

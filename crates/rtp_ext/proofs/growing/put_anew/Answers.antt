@@ -61,11 +61,8 @@ fits c =
     let row = row_len c s.elements s.are_elements in
     omega (arith, row.len_is, c.requires.room s.elements s.are_elements, c.if-eq.auto.body, c.put_in_rows-front.ensures.length_is)
 
-pub overflow_sub-left : goal.overflow_sub-left
-overflow_sub-left c = fits (goal.at.overflow_sub-left c).Joined-eq
-
-pub clear-requires : goal.clear-requires
-clear-requires c = let f = fits (goal.at.clear-requires c).Joined-eq in omega arith
+pub clear_after-requires : goal.clear_after-requires
+clear_after-requires c = let f = fits (goal.at.clear_after-requires c).Joined-eq in omega arith
 
 written : (c : goal.Joined-eq) (new : List ℕ) → new ≡ overwritten c.if-eq.body c.if-eq.len (replicate (length c.if-eq.body - c.if-eq.len) 0)
     → (elements : List Element) → AreElements c.args.form (take c.args.body_len c.args.body.now) elements
@@ -79,10 +76,10 @@ written c new new_is elements are =
     row.row_is row.len_is (omega arith)
 
 pub returns-clause-row : goal.returns-clause-row
-returns-clause-row c = λ elements are. written (goal.at.returns-clause-row c).Joined-eq c.clear.new.buf c.clear.ensures elements are
+returns-clause-row c = λ elements are. written (goal.at.returns-clause-row c).Joined-eq c.clear_after.new.buf c.clear_after.ensures elements are
 
 pub returns-clause-elements : goal.returns-clause-elements
 returns-clause-elements c = λ elements are.
     subst (λ (b : List ℕ). AreElements c.args.new_form b (put_element (c.args.id, c.args.data.now) (carried_in c.args.new_form elements)))
-    (sym (written (goal.at.returns-clause-elements c).Joined-eq c.clear.new.buf c.clear.ensures elements are))
+    (sym (written (goal.at.returns-clause-elements c).Joined-eq c.clear_after.new.buf c.clear_after.ensures elements are))
     (row_to-read c.args.form c.args.new_form (take c.args.body_len c.args.body.now) elements (c.args.id, c.args.data.now) (length c.args.body.now) c.requires.forms are c.requires.writable)

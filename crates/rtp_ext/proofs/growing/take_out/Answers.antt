@@ -9,7 +9,7 @@ returns c =
     record {
       elements = g.elements;
       are_elements = g.are_elements;
-      new_is = c.clear.ensures
+      new_is = c.clear_after.ensures
           ∙ row_to-zeros c.args.form (without c.args.id g.elements) c.gather-len.new.body c.gather-len.result _ g.length_is g.row_is g.len_is g.within;
       len_is = g.len_is;
       within = g.within;

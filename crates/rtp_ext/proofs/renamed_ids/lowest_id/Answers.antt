@@ -1,4 +1,4 @@
-use Rattle.std.proofs.Common.{◌≡◌, sym, ap}
+use Rattle.std.proofs.Common.{refl, ◌≡◌, sym, ap}
 use denote.Enum.Bare.{same_true, same_false}
 use Rattle.rtp_values.specs.contracts.known_kind.KnownKind.{the_type}
 use Rattle.rtp_values.specs.KnownKind.{extension_of_kind}
@@ -6,12 +6,12 @@ use Rattle.rtp_ext.proofs.RenamedIdLemmas.{same_kind, AreLeft-start, AreLeft-nex
 use Rattle.rtp_ext.proofs.renamed_ids.lowest_id.Goals as goal
 
 pub loop-id-init : goal.loop-id-init
-loop-id-init g c = AreLeft-start _ _ _ c.requires
+loop-id-init g c = AreLeft-start _ _ _ c.iter-items.ensures.all
 
 pub returns-then-eq-clause-lowest : goal.returns-then-eq-clause-lowest
 returns-then-eq-clause-lowest g c =
     let this : c.in-Some.found ≡ c.args.kind = same_true the_type tt _ _ (sym c.if-eq.ensures) in
-    IsLowest-known (g.K.Kinds.slots c.args.exts.now) _ c.args.kind c.in-Some.id (g.met.K.Kinds.known_is c.args.exts.now)
+    IsLowest-known c.args.ids.now _ c.args.kind c.in-Some.id refl
     ((IsLowest-left _ _ _ _ (c.in-Some.id, extension_of_kind c.in-Some.found) c.loop-id.invariant c.in-Some.ensures.some (ap extension_of_kind this)).0)
 
 pub returns-then-eq-clause-some_id : goal.returns-then-eq-clause-some_id
@@ -26,5 +26,5 @@ loop-id-preserved g c =
 
 pub returns-clause-none : goal.returns-clause-none
 returns-clause-none g c =
-    IsUnmapped-known (g.K.Kinds.slots c.args.exts.now) _ c.args.kind (g.met.K.Kinds.known_is c.args.exts.now)
+    IsUnmapped-known c.args.ids.now _ c.args.kind refl
     (IsUnmapped-left _ _ _ c.loop-id.invariant c.in_default.ensures.none)

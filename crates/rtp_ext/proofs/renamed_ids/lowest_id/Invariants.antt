@@ -1,11 +1,12 @@
 use Rattle.std.proofs.Common.{length}
 use Rattle.rtp_values.specs.KnownKind.{extension_of_kind}
+use Rattle.rtp_ext.specs.KindsById.{known_slots}
 use Rattle.rtp_ext.proofs.RenamedIdLemmas.{AreLeft}
 use Rattle.rtp_ext.proofs.renamed_ids.lowest_id.Given as goal
 
 -- the ids of the kind are left
 abbrev pub invariant-loop-id : goal.invariant-loop-id
-invariant-loop-id g l = AreLeft (g.K.Kinds.known l.exts) (extension_of_kind l.kind) (g.K.Kinds.left l.exts l.cursor)
+invariant-loop-id g l = AreLeft (known_slots l.ids) (extension_of_kind l.kind) l.items
 
 abbrev pub decreases-loop-id : goal.decreases-loop-id
-decreases-loop-id g l = length (g.K.Kinds.left l.exts l.cursor)
+decreases-loop-id g l = length l.items

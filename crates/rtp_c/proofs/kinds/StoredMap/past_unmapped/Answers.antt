@@ -18,7 +18,7 @@ loop-slot-preserved c =
         | inl before ↦ c.loop-slot.invariant.2 slot above before
         | inr now ↦
             unmapped_in c.args.self.now.kind (c.loop-slot.slot + 1) (c.loop-slot.slot + 1 + 16 - (c.loop-slot.slot + 1)) (slot + 1)
-            (omega (arith, many, c.loop-slot-test.true)) (c.has_kind.ensures c.if-not-has_kind.true) (omega (arith, now)) (omega (arith, below))
+            (omega (arith, many, c.loop-slot-test.true)) (c.has_kind.ensures.0 c.if-not-has_kind.true) (omega (arith, now)) (omega (arith, below))
       ],
     )
 

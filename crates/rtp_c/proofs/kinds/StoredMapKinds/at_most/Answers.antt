@@ -1,21 +1,21 @@
 use Rattle.std.proofs.Common.{arith}
-use Rattle.rtp_c.specs.StoredMap.{walk_end}
+use Rattle.rtp_c.specs.StoredMap.{last_end}
 use Rattle.rtp_c.proofs.NumberedLemmas.{numbered-most}
-use Rattle.rtp_c.proofs.WalkLemmas.{walk_end-low, walk_end-within}
+use Rattle.rtp_c.proofs.WalkLemmas.{last_end-low, last_end-within}
 use Rattle.rtp_c.proofs.kinds.StoredMapKinds.at_most.Goals as goal
 
-pub returns-then-start-le-LOW_SLOTS-clause-most : goal.returns-then-start-le-LOW_SLOTS-clause-most
-returns-then-start-le-LOW_SLOTS-clause-most c =
+pub returns-then-end-le-LOW_SLOTS-clause-most : goal.returns-then-end-le-LOW_SLOTS-clause-most
+returns-then-end-le-LOW_SLOTS-clause-most c =
     omega (
       arith,
-      numbered-most c.args.self.now.kind (walk_end c.args.start.end) c.args.start.at c.requires,
-      walk_end-low c.args.start.end c.if-start-le-LOW_SLOTS.true,
+      numbered-most c.args.self.now.kind (last_end c.args.end) 0 c.requires.all,
+      last_end-low c.args.end c.if-end-le-LOW_SLOTS.true,
     )
 
-pub returns-else-start-le-LOW_SLOTS-clause-most : goal.returns-else-start-le-LOW_SLOTS-clause-most
-returns-else-start-le-LOW_SLOTS-clause-most c =
+pub returns-else-end-le-LOW_SLOTS-clause-most : goal.returns-else-end-le-LOW_SLOTS-clause-most
+returns-else-end-le-LOW_SLOTS-clause-most c =
     omega (
       arith,
-      numbered-most c.args.self.now.kind (walk_end c.args.start.end) c.args.start.at c.requires,
-      (walk_end-within c.args.start.end c.args.start.within).1,
+      numbered-most c.args.self.now.kind (last_end c.args.end) 0 c.requires.all,
+      (last_end-within c.args.end c.requires.within).1,
     )

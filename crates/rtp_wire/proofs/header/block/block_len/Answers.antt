@@ -1,11 +1,25 @@
-use Rattle.std.proofs.Common.{arith}
+use Rattle.std.proofs.Common.{refl, arith, ap, ◌∙◌, length}
+use Rattle.std.proofs.lemmas.Bool.{OnTrue_at}
+use Rattle.rtp_ext.specs.Elements.{elements_bytes}
+use Rattle.rtp_ext.specs.KindsById.{known_slots}
+use Rattle.rtp_ext.specs.WrittenBlock.{written_elements}
+use Rattle.rtp_ext.specs.ElementWriting.{items_bytes}
+use Rattle.rtp_ext.proofs.WrittenBlockLemmas.{items_bytes-nil}
+use Rattle.rtp_ext.proofs.CursorLemmas.{known_bytes}
 use Rattle.rtp_wire.proofs.BlockWriting.{length-block}
 use Rattle.rtp_wire.proofs.header.block.block_len.Goals as goal
+
+pub returns-then-are_none-clause-length : goal.returns-then-are_none-clause-length
+returns-then-are_none-clause-length g c =
+    let values = g.V.ElementValues.values c.args.ev.now in
+    let none = ap length (ap (items_bytes c.args.form values) (OnTrue_at c.if-are_none.true c.are_none.ensures) ∙ items_bytes-nil c.args.form values) in
+    let whole = ap length (known_bytes c.args.form c.args.ids.now (known_slots c.args.ids.now) values refl) in
+    omega (arith, none, whole, length-block c.args.form c.args.ids.now values (length (elements_bytes c.args.form (written_elements c.args.ids.now values))) refl)
 
 pub returns-clause-length : goal.returns-clause-length
 returns-clause-length g c =
     omega (
       arith,
-      c.next_multiple_of.ensures.value,
-      length-block c.args.form (g.K.Kinds.slots c.args.kinds.now) (g.V.ElementValues.values c.args.ev.now) c.values_len-elements_len.result c.values_len-elements_len.ensures.length,
+      c.in_words.ensures,
+      length-block c.args.form c.args.ids.now (g.V.ElementValues.values c.args.ev.now) c.values_len.result c.values_len.ensures.length,
     )

@@ -10,8 +10,8 @@ pub returns-clause-closed : goal.returns-clause-closed
 returns-clause-closed c before row put long len =
     let buf = c.args.buf.now in
     let n = c.args.elements_len in
-    let body = c.next_multiple_of-body_len.result in
-    let body-is : body ≡ n + padding_of n = c.next_multiple_of-body_len.ensures.value in
+    let body = c.in_words-body_len.result in
+    let body-is : body ≡ n + padding_of n = c.in_words-body_len.ensures in
     let pad : body - n ≡ padding_of n = omega (arith, body-is) in
     block-put row before buf c.fill_word-len.new.buf c.put.new.buf c.block_header.result c.args.form n c.fill_word-len.result
     len (omega (arith, c.requires.room, long)) put

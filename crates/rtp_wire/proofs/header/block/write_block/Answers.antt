@@ -17,24 +17,24 @@ room : (form : ExtensionsForm) (exts : Slots) (ev : ExtensionValues) (buf : List
 room form exts ev buf fits = omega (arith, fits, length-block form exts ev (length (row form exts ev)) refl)
 
 pub slice_bounds-write_values-count : goal.slice_bounds-write_values-count
-slice_bounds-write_values-count g c = omega (arith, room c.args.form (g.K.Kinds.slots c.args.kinds.now) (g.V.ElementValues.values c.args.ev.now) c.args.buf.now c.requires.room)
+slice_bounds-write_values-count g c = omega (arith, room c.args.form c.args.ids.now (g.V.ElementValues.values c.args.ev.now) c.args.buf.now c.requires.room)
 
 pub slice_bounds-write_values-start : goal.slice_bounds-write_values-start
-slice_bounds-write_values-start g c = omega (arith, room c.args.form (g.K.Kinds.slots c.args.kinds.now) (g.V.ElementValues.values c.args.ev.now) c.args.buf.now c.requires.room)
+slice_bounds-write_values-start g c = omega (arith, room c.args.form c.args.ids.now (g.V.ElementValues.values c.args.ev.now) c.args.buf.now c.requires.room)
 
 pub write_values-elements_len-requires-clause-room : goal.write_values-elements_len-requires-clause-room
 write_values-elements_len-requires-clause-room g c =
     let buf = c.args.buf.now in
     omega (
       arith,
-      room c.args.form (g.K.Kinds.slots c.args.kinds.now) (g.V.ElementValues.values c.args.ev.now) buf c.requires.room,
+      room c.args.form c.args.ids.now (g.V.ElementValues.values c.args.ev.now) buf c.requires.room,
       ap length (take_rest buf 4),
       length-drop 4 buf,
     )
 
 pub close_block-requires-clause-room : goal.close_block-requires-clause-room
 close_block-requires-clause-room g c =
-    let exts = g.K.Kinds.slots c.args.kinds.now in
+    let exts = c.args.ids.now in
     let put = row-put (row c.args.form exts (g.V.ElementValues.values c.args.ev.now)) c.args.buf.now c.write_values-elements_len.new.buf c.write_values-elements_len.result
     c.write_values-elements_len.ensures.length c.write_values-elements_len.ensures.written
     (room c.args.form exts (g.V.ElementValues.values c.args.ev.now) c.args.buf.now c.requires.room) in
@@ -42,7 +42,7 @@ close_block-requires-clause-room g c =
 
 pub returns-clause-written : goal.returns-clause-written
 returns-clause-written g c =
-    let exts = g.K.Kinds.slots c.args.kinds.now in
+    let exts = c.args.ids.now in
     let buf = c.args.buf.now in
     let bytes = row c.args.form exts (g.V.ElementValues.values c.args.ev.now) in
     let put = row-put bytes buf c.write_values-elements_len.new.buf c.write_values-elements_len.result
@@ -56,10 +56,10 @@ returns-clause-length g c =
     omega (
       arith,
       c.close_block.ensures.length,
-      length-block c.args.form (g.K.Kinds.slots c.args.kinds.now) (g.V.ElementValues.values c.args.ev.now) c.write_values-elements_len.result c.write_values-elements_len.ensures.length,
+      length-block c.args.form c.args.ids.now (g.V.ElementValues.values c.args.ev.now) c.write_values-elements_len.result c.write_values-elements_len.ensures.length,
     )
 
 pub returns-clause-read_back : goal.returns-clause-read_back
 returns-clause-read_back g c =
-    IsExtensionPart-written c.args.form (g.K.Kinds.slots c.args.kinds.now) (g.V.ElementValues.values c.args.ev.now) c.write_values-elements_len.result
+    IsExtensionPart-written c.args.form c.args.ids.now (g.V.ElementValues.values c.args.ev.now) c.write_values-elements_len.result
     c.write_values-elements_len.ensures.length c.write_values-elements_len.ensures.bound c.write_values-elements_len.ensures.elements c.write_values-elements_len.ensures.values

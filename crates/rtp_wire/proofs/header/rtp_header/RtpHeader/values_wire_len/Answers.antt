@@ -1,32 +1,37 @@
-use Rattle.std.proofs.Common.{sym, ap, ◌∙◌, arith, length}
+use Rattle.std.proofs.Common.{◌+◌, ◌*◌, Some, ap, arith, length}
 use Rattle.rtp_wire.specs.Written.{with_values}
-use Rattle.rtp_wire.specs.WrittenInForm.{announced_form}
 use Rattle.rtp_wire.proofs.RoundTrip.{length-wire_bytes}
-use Rattle.rtp_wire.proofs.WrittenInFormLemmas.{no_part, length-with_block}
+use Rattle.rtp_wire.proofs.WrittenInFormLemmas.{IsLength, no_part, announced-clear, announced-set, length-with_block_of}
 use Rattle.rtp_wire.proofs.header.rtp_header.RtpHeader.values_wire_len.Goals as goal
 
-pub returns-in-Some-clause-length : goal.returns-in-Some-clause-length
-returns-in-Some-clause-length g c =
-    (length-with_block (g.K.Kinds.slots c.args.exts.now) (with_values c.args.self.now (g.V.ElementValues.values c.args.values.now)) c.in-Some.form c.block_len.result c.requires.sources (omega arith) (sym c.in-Some.is ∙ c.form.ensures.form)
-    c.block_len.ensures.length c.block_len.ensures.few).is
-
-pub returns-in-Some-clause-words : goal.returns-in-Some-clause-words
-returns-in-Some-clause-words g c =
-    (length-with_block (g.K.Kinds.slots c.args.exts.now) (with_values c.args.self.now (g.V.ElementValues.values c.args.values.now)) c.in-Some.form c.block_len.result c.requires.sources (omega arith) (sym c.in-Some.is ∙ c.form.ensures.form)
-    c.block_len.ensures.length c.block_len.ensures.few).bounds.words
-
-pub returns-in-Some-clause-small : goal.returns-in-Some-clause-small
-returns-in-Some-clause-small g c =
-    (length-with_block (g.K.Kinds.slots c.args.exts.now) (with_values c.args.self.now (g.V.ElementValues.values c.args.values.now)) c.in-Some.form c.block_len.result c.requires.sources (omega arith) (sym c.in-Some.is ∙ c.form.ensures.form)
-    c.block_len.ensures.length c.block_len.ensures.few).bounds.small
-
-pub returns-in-None-clause-length : goal.returns-in-None-clause-length
-returns-in-None-clause-length g c =
+pub returns-then-not-self-clause-length : goal.returns-then-not-self-clause-length
+returns-then-not-self-clause-length g c =
     let exts = g.K.Kinds.slots c.args.exts.now in
     let values = g.V.ElementValues.values c.args.values.now in
-    let clear = ◌∙◌ {c = announced_form exts c.args.self.now.has_extension values} (sym c.in-None.is) c.form.ensures.form in
     omega (
       arith,
       length-wire_bytes exts (with_values c.args.self.now values) (omega arith),
-      ap length (no_part exts c.args.self.now.has_extension values clear),
+      ap length (no_part exts c.args.self.now.has_extension values (announced-clear exts c.args.self.now.has_extension values c.if-not-self.true)),
     )
+
+with_block : (g : _) (c : goal.After-block_len g) → IsLength (g.K.Kinds.slots c.args.exts.now) (with_values c.args.self.now (g.V.ElementValues.values c.args.values.now)) (12 + 4 * c.args.self.now.csrc_count + c.block_len.result)
+with_block g c =
+    let values = g.V.ElementValues.values c.args.values.now in
+    length-with_block_of c.of-ids.result (g.K.Kinds.slots c.args.exts.now) (with_values c.args.self.now values) c.values_form.result c.block_len.result c.of-ids.ensures c.requires.sources (omega arith)
+    (announced-set c.of-ids.result c.args.self.now.has_extension values c.values_form.result c.if-not-self.false (ap Some c.values_form.ensures.form))
+    c.block_len.ensures.length c.block_len.ensures.few
+
+pub returns-clause-length : goal.returns-clause-length
+returns-clause-length g c = (with_block g c).is
+
+pub returns-clause-words : goal.returns-clause-words
+returns-clause-words g c = (with_block g c).bounds.words
+
+pub returns-clause-by_map : goal.returns-clause-by_map
+returns-clause-by_map g c = (with_block g c).bounds.by_map
+
+pub returns-clause-small : goal.returns-clause-small
+returns-clause-small g c = (with_block g c).bounds.small
+
+pub returns-clause-bound : goal.returns-clause-bound
+returns-clause-bound g c = (with_block g c).bounds.bound

@@ -14,27 +14,27 @@ use Rattle.rtp_wire.proofs.header.rtp_header.RtpHeader.write_in.Goals as goal
 
 pub put-end-requires : goal.put-end-requires
 put-end-requires g c =
-    omega (arith, c.requires.room, length-wire_bytes (g.K.Kinds.slots c.args.kinds.now) (with_values c.args.self.now (g.V.ElementValues.values c.args.values.now)) (omega arith), ap length c.fixed_bytes.ensures.bytes)
+    omega (arith, c.requires.room, length-wire_bytes c.args.ids.now (with_values c.args.self.now (g.V.ElementValues.values c.args.values.now)) (omega arith), ap length c.fixed_bytes.ensures.bytes)
 
 pub put_sources-end-requires : goal.put_sources-end-requires
 put_sources-end-requires g c =
     omega (
       arith,
       c.requires.room,
-      length-wire_bytes (g.K.Kinds.slots c.args.kinds.now) (with_values c.args.self.now (g.V.ElementValues.values c.args.values.now)) (omega arith),
+      length-wire_bytes c.args.ids.now (with_values c.args.self.now (g.V.ElementValues.values c.args.values.now)) (omega arith),
       ap length c.fixed_bytes.ensures.bytes,
       c.put-end.ensures.end,
       length-take-le c.args.self.now.csrc_count c.args.self.now.csrc (omega arith),
     )
 
 -- without a form nothing is put after the sources
-none : (g : _) (c : goal.In_default g) → extension_bytes (g.K.Kinds.slots c.args.kinds.now) c.args.self.now.has_extension (g.V.ElementValues.values c.args.values.now) ≡ []
-none g c = no_part (g.K.Kinds.slots c.args.kinds.now) c.args.self.now.has_extension (g.V.ElementValues.values c.args.values.now) (sym c.in_default.is ∙ c.requires.form)
+none : (g : _) (c : goal.In_default g) → extension_bytes c.args.ids.now c.args.self.now.has_extension (g.V.ElementValues.values c.args.values.now) ≡ []
+none g c = no_part c.args.ids.now c.args.self.now.has_extension (g.V.ElementValues.values c.args.values.now) (sym c.in_default.is ∙ c.requires.form)
 
-none_put : (g : _) (c : goal.In_default g) → (c.put_sources-end.result ≡ length (wire_bytes (g.K.Kinds.slots c.args.kinds.now) (with_values c.args.self.now (g.V.ElementValues.values c.args.values.now))))
-    × (c.put_sources-end.new.buf ≡ wire_bytes (g.K.Kinds.slots c.args.kinds.now) (with_values c.args.self.now (g.V.ElementValues.values c.args.values.now)) ++ drop c.put_sources-end.result c.args.buf.now)
+none_put : (g : _) (c : goal.In_default g) → (c.put_sources-end.result ≡ length (wire_bytes c.args.ids.now (with_values c.args.self.now (g.V.ElementValues.values c.args.values.now))))
+    × (c.put_sources-end.new.buf ≡ wire_bytes c.args.ids.now (with_values c.args.self.now (g.V.ElementValues.values c.args.values.now)) ++ drop c.put_sources-end.result c.args.buf.now)
 none_put g c =
-    wire_bytes-from_pieces (with_values c.args.self.now (g.V.ElementValues.values c.args.values.now)) (g.K.Kinds.slots c.args.kinds.now) c.args.buf.now c.put-end.new.buf c.put_sources-end.new.buf c.put_sources-end.new.buf
+    wire_bytes-from_pieces (with_values c.args.self.now (g.V.ElementValues.values c.args.values.now)) c.args.ids.now c.args.buf.now c.put-end.new.buf c.put_sources-end.new.buf c.put_sources-end.new.buf
     c.fixed_bytes.result c.put-end.result c.put_sources-end.result c.put_sources-end.result (omega arith) c.requires.room c.fixed_bytes.ensures.bytes
     c.put-end.ensures.written c.put-end.ensures.end c.put_sources-end.ensures.written c.put_sources-end.ensures.end
     (rw (none g c) (sym (overwritten-nil c.put_sources-end.new.buf c.put_sources-end.result))) (omega (arith, ap length (none g c)))
@@ -49,7 +49,7 @@ pub returns-in_default-clause-few : goal.returns-in_default-clause-few
 returns-in_default-clause-few g c = (omega (arith, ap length (none g c)), omega (arith, ap length (none g c)))
 
 pub returns-in_default-clause-read_back : goal.returns-in_default-clause-read_back
-returns-in_default-clause-read_back g c rest = IsWire-written (with_values c.args.self.now (g.V.ElementValues.values c.args.values.now)) (g.K.Kinds.slots c.args.kinds.now) rest (record {
+returns-in_default-clause-read_back g c rest = IsWire-written (with_values c.args.self.now (g.V.ElementValues.values c.args.values.now)) c.args.ids.now rest (record {
   payload_type = c.requires.payload_type;
   count = c.requires.sources;
   slots = omega arith;
@@ -57,7 +57,7 @@ returns-in_default-clause-read_back g c rest = IsWire-written (with_values c.arg
   timestamp = c.fixed_bytes.ensures.timestamp;
   ssrc = c.fixed_bytes.ensures.ssrc;
   sources = AllByRecursion-from_each (take c.args.self.now.csrc_count c.args.self.now.csrc) c.put_sources-end.ensures.in_range;
-}) (IsExtensionPart-none (g.K.Kinds.slots c.args.kinds.now) c.args.self.now.has_extension (g.V.ElementValues.values c.args.values.now) (sym c.in_default.is ∙ c.requires.form))
+}) (IsExtensionPart-none c.args.ids.now c.args.self.now.has_extension (g.V.ElementValues.values c.args.values.now) (sym c.in_default.is ∙ c.requires.form))
 
 -- with one the block in it is put, and there is room for it
 room : (exts : Slots) (h : RtpHeader) (form : ExtensionsForm) (fixed : List ℕ) (first second len : ℕ) → h.csrc_count ≤ length h.csrc → Some form ≡ announced_form exts h.has_extension h.ext_vals
@@ -77,37 +77,37 @@ room exts h form fixed first second len within is fits fixed-is first-is second-
 
 pub slice_bounds-write_block-count : goal.slice_bounds-write_block-count
 slice_bounds-write_block-count g c =
-    let there = room (g.K.Kinds.slots c.args.kinds.now) (with_values c.args.self.now (g.V.ElementValues.values c.args.values.now)) c.in-Some.form c.fixed_bytes.result c.put-end.result c.put_sources-end.result (length c.args.buf.now) (omega arith)
+    let there = room c.args.ids.now (with_values c.args.self.now (g.V.ElementValues.values c.args.values.now)) c.in-Some.form c.fixed_bytes.result c.put-end.result c.put_sources-end.result (length c.args.buf.now) (omega arith)
     (sym c.in-Some.is ∙ c.requires.form) c.requires.room c.fixed_bytes.ensures.bytes c.put-end.ensures.end c.put_sources-end.ensures.end in omega (arith, there)
 
 pub slice_bounds-write_block-start : goal.slice_bounds-write_block-start
 slice_bounds-write_block-start g c =
-    let there = room (g.K.Kinds.slots c.args.kinds.now) (with_values c.args.self.now (g.V.ElementValues.values c.args.values.now)) c.in-Some.form c.fixed_bytes.result c.put-end.result c.put_sources-end.result (length c.args.buf.now) (omega arith)
+    let there = room c.args.ids.now (with_values c.args.self.now (g.V.ElementValues.values c.args.values.now)) c.in-Some.form c.fixed_bytes.result c.put-end.result c.put_sources-end.result (length c.args.buf.now) (omega arith)
     (sym c.in-Some.is ∙ c.requires.form) c.requires.room c.fixed_bytes.ensures.bytes c.put-end.ensures.end c.put_sources-end.ensures.end in omega (arith, there)
 
 pub write_block-requires-clause-room : goal.write_block-requires-clause-room
 write_block-requires-clause-room g c =
-    let there = room (g.K.Kinds.slots c.args.kinds.now) (with_values c.args.self.now (g.V.ElementValues.values c.args.values.now)) c.in-Some.form c.fixed_bytes.result c.put-end.result c.put_sources-end.result (length c.args.buf.now) (omega arith)
+    let there = room c.args.ids.now (with_values c.args.self.now (g.V.ElementValues.values c.args.values.now)) c.in-Some.form c.fixed_bytes.result c.put-end.result c.put_sources-end.result (length c.args.buf.now) (omega arith)
     (sym c.in-Some.is ∙ c.requires.form) c.requires.room c.fixed_bytes.ensures.bytes c.put-end.ensures.end c.put_sources-end.ensures.end in omega (arith, there)
 
 -- what was put, and where it ends
 all_put : (g : _) (c : goal.After-slice_known-4-1 g) (put : List ℕ)
-    → put ≡ overwritten c.put_sources-end.new.buf c.put_sources-end.result (block_bytes_in c.in-Some.form (g.K.Kinds.slots c.args.kinds.now) (g.V.ElementValues.values c.args.values.now))
-    → (c.put_sources-end.result + c.write_block.result ≡ length (wire_bytes (g.K.Kinds.slots c.args.kinds.now) (with_values c.args.self.now (g.V.ElementValues.values c.args.values.now))))
-    × (put ≡ wire_bytes (g.K.Kinds.slots c.args.kinds.now) (with_values c.args.self.now (g.V.ElementValues.values c.args.values.now)) ++ drop (c.put_sources-end.result + c.write_block.result) c.args.buf.now)
+    → put ≡ overwritten c.put_sources-end.new.buf c.put_sources-end.result (block_bytes_in c.in-Some.form c.args.ids.now (g.V.ElementValues.values c.args.values.now))
+    → (c.put_sources-end.result + c.write_block.result ≡ length (wire_bytes c.args.ids.now (with_values c.args.self.now (g.V.ElementValues.values c.args.values.now))))
+    × (put ≡ wire_bytes c.args.ids.now (with_values c.args.self.now (g.V.ElementValues.values c.args.values.now)) ++ drop (c.put_sources-end.result + c.write_block.result) c.args.buf.now)
 all_put g c put is =
-    wire_bytes-from_pieces (with_values c.args.self.now (g.V.ElementValues.values c.args.values.now)) (g.K.Kinds.slots c.args.kinds.now) c.args.buf.now c.put-end.new.buf c.put_sources-end.new.buf put
+    wire_bytes-from_pieces (with_values c.args.self.now (g.V.ElementValues.values c.args.values.now)) c.args.ids.now c.args.buf.now c.put-end.new.buf c.put_sources-end.new.buf put
     c.fixed_bytes.result c.put-end.result c.put_sources-end.result (c.put_sources-end.result + c.write_block.result) (omega arith) c.requires.room c.fixed_bytes.ensures.bytes
     c.put-end.ensures.written c.put-end.ensures.end c.put_sources-end.ensures.written c.put_sources-end.ensures.end
-    (is ∙ ap (overwritten c.put_sources-end.new.buf c.put_sources-end.result) (sym (a_part (g.K.Kinds.slots c.args.kinds.now) c.args.self.now.has_extension (g.V.ElementValues.values c.args.values.now) c.in-Some.form (sym c.in-Some.is ∙ c.requires.form))))
-    (omega (arith, c.write_block.ensures.length, ap length (a_part (g.K.Kinds.slots c.args.kinds.now) c.args.self.now.has_extension (g.V.ElementValues.values c.args.values.now) c.in-Some.form (sym c.in-Some.is ∙ c.requires.form))))
+    (is ∙ ap (overwritten c.put_sources-end.new.buf c.put_sources-end.result) (sym (a_part c.args.ids.now c.args.self.now.has_extension (g.V.ElementValues.values c.args.values.now) c.in-Some.form (sym c.in-Some.is ∙ c.requires.form))))
+    (omega (arith, c.write_block.ensures.length, ap length (a_part c.args.ids.now c.args.self.now.has_extension (g.V.ElementValues.values c.args.values.now) c.in-Some.form (sym c.in-Some.is ∙ c.requires.form))))
 
 pub returns-clause-written : goal.returns-clause-written
 returns-clause-written g c =
     let buf = c.put_sources-end.new.buf in
     let at = c.put_sources-end.result in
-    let bytes = block_bytes_in c.in-Some.form (g.K.Kinds.slots c.args.kinds.now) (g.V.ElementValues.values c.args.values.now) in
-    let fits = room (g.K.Kinds.slots c.args.kinds.now) (with_values c.args.self.now (g.V.ElementValues.values c.args.values.now)) c.in-Some.form c.fixed_bytes.result c.put-end.result c.put_sources-end.result (length c.args.buf.now) (omega arith)
+    let bytes = block_bytes_in c.in-Some.form c.args.ids.now (g.V.ElementValues.values c.args.values.now) in
+    let fits = room c.args.ids.now (with_values c.args.self.now (g.V.ElementValues.values c.args.values.now)) c.in-Some.form c.fixed_bytes.result c.put-end.result c.put_sources-end.result (length c.args.buf.now) (omega arith)
     (sym c.in-Some.is ∙ c.requires.form) c.requires.room c.fixed_bytes.ensures.bytes c.put-end.ensures.end c.put_sources-end.ensures.end in
     let there : at + length bytes ≤ length buf = omega (arith, fits) in
     (all_put g c _ (overwritten-rest buf c.write_block.new.buf bytes at there
@@ -117,10 +117,10 @@ pub returns-clause-length : goal.returns-clause-length
 returns-clause-length g c = (all_put g c _ refl).0
 
 pub returns-clause-few : goal.returns-clause-few
-returns-clause-few g c = rw (ap length (a_part (g.K.Kinds.slots c.args.kinds.now) c.args.self.now.has_extension (g.V.ElementValues.values c.args.values.now) c.in-Some.form (sym c.in-Some.is ∙ c.requires.form)) ∙ sym c.write_block.ensures.length) c.write_block.ensures.few
+returns-clause-few g c = rw (ap length (a_part c.args.ids.now c.args.self.now.has_extension (g.V.ElementValues.values c.args.values.now) c.in-Some.form (sym c.in-Some.is ∙ c.requires.form)) ∙ sym c.write_block.ensures.length) c.write_block.ensures.few
 
 pub returns-clause-read_back : goal.returns-clause-read_back
-returns-clause-read_back g c rest = IsWire-written (with_values c.args.self.now (g.V.ElementValues.values c.args.values.now)) (g.K.Kinds.slots c.args.kinds.now) rest (record {
+returns-clause-read_back g c rest = IsWire-written (with_values c.args.self.now (g.V.ElementValues.values c.args.values.now)) c.args.ids.now rest (record {
   payload_type = c.requires.payload_type;
   count = c.requires.sources;
   slots = omega arith;
@@ -128,5 +128,5 @@ returns-clause-read_back g c rest = IsWire-written (with_values c.args.self.now 
   timestamp = c.fixed_bytes.ensures.timestamp;
   ssrc = c.fixed_bytes.ensures.ssrc;
   sources = AllByRecursion-from_each (take c.args.self.now.csrc_count c.args.self.now.csrc) c.put_sources-end.ensures.in_range;
-}) (IsExtensionPart-some (g.K.Kinds.slots c.args.kinds.now) c.args.self.now.has_extension (g.V.ElementValues.values c.args.values.now) c.in-Some.form (sym c.in-Some.is ∙ c.requires.form)
+}) (IsExtensionPart-some c.args.ids.now c.args.self.now.has_extension (g.V.ElementValues.values c.args.values.now) c.in-Some.form (sym c.in-Some.is ∙ c.requires.form)
     c.write_block.ensures.read_back)

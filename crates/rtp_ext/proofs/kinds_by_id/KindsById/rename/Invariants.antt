@@ -1,0 +1,15 @@
+use Rattle.std.proofs.Common.{◌-◌, drop}
+use Rattle.rtp_values.specs.KnownKind.{extension_of_kind}
+use Rattle.rtp_ext.specs.KindsById.{slots_of}
+use Rattle.rtp_ext.specs.MapSlots.{items_at, mapped_ids}
+use Rattle.rtp_ext.proofs.RenamesLemmas.{IsRenamedBut}
+use Rattle.rtp_ext.proofs.kinds_by_id.KindsById.rename.Given as goal
+
+-- the ids that were passed have their new bytes, and the others the old ones
+abbrev pub invariant-loop-id : goal.invariant-loop-id
+invariant-loop-id l =
+    IsRenamedBut (slots_of l.self) (extension_of_kind l.from) (extension_of_kind l.to) l.lowest l.initial.ids l.ids
+    (items_at (slots_of l.self) (drop l.place (mapped_ids (slots_of l.self))))
+
+abbrev pub decreases-loop-id : goal.decreases-loop-id
+decreases-loop-id l = 256 - l.place

@@ -1,0 +1,68 @@
+//! A map as the kinds of its ids, by which elements are read and written.
+
+ghost use Rattle.std.specs.Prelude.{true, false};
+
+use super::ExtensionMap;
+use crate::kinds::Kinds;
+use crate::{MAX_ID_ONE_BYTE_FORM, slots};
+use rtp_values::KnownKind;
+
+impl Kinds for ExtensionMap {
+    ghost use Rattle.std.specs.Prelude.{drop, refl};
+    ghost use Rattle.rtp_ext.specs.KindsById.{known_slots};
+    ghost use Rattle.rtp_ext.specs.MapSlots.{items_at, mapped_ids};
+
+    ghost slots = { λ map. map };
+
+    ghost known = { λ map. known_slots map };
+
+    ghost left = { λ map at end. items_at (known_slots map) (drop at (mapped_ids (known_slots map))) };
+
+    #[inline(always)]
+    fn get(&self, id: u8) -> Option<KnownKind> {
+        self.kinds.get(id)
+    }
+
+    #[inline(always)]
+    fn walk_end(&self) -> usize {
+        self.kinds.len()
+    }
+
+    #[inline(always)]
+    fn next(&self, at: &mut usize, _end: &mut usize) -> Option<(u8, KnownKind)> {
+        let item = self.kinds.item(*at)?;
+        *at += 1;
+        Some(item)
+    }
+
+    // An unknown extension too may have an id above 14.
+    #[inline(always)]
+    #[tactic(auto, using(crate::proofs::KnownItemsLemmas::long_split, crate::proofs::RisingIdLemmas::mapped_rise))]
+    fn has_long(&self, _end: usize) -> bool {
+        self.mapped.has_above(MAX_ID_ONE_BYTE_FORM) || self.kinds.has_layers()
+    }
+
+    #[inline(always)]
+    fn at_most(&self, _end: usize) -> usize {
+        self.kinds.len()
+    }
+
+    fn id_under(&self, other: &Self, id: u8) -> Option<u8> {
+        other.lowest_id(slots::extension(&self.slots, id)?)
+    }
+
+    // An id that isn't mapped has no new one.
+    fn new_ids(&self, other: &Self) -> [u8; 256] {
+        let mut ids = [0; 256];
+        for (id, ext) in self.iter() {
+            ids[usize::from(id)] = other.lowest_id(ext).unwrap_or(0);
+        }
+        ids
+    }
+
+    fn rename(&self, from: KnownKind, to: KnownKind, lowest: u8, ids: &mut [u8; 256]) {
+        self.kinds.rename(from, to, lowest, ids);
+    }
+
+    ghost known_is = { λ map. refl };
+}
