@@ -6,8 +6,8 @@ ghost use Rattle.std.specs.Vec.{vec_len};
 ghost use Rattle.hex.specs.Hex.{decode_of, pair_value};
 ghost use Rattle.rtp_listing.specs.Front.{IsHexFirst, IsNotHexFirst, IsLineEnd};
 
-use super::line::{Class, front_of};
-use std::alloc::AllocError;
+use super::line::{Class, are_of, front_of};
+use std::alloc::{AllocError, Global};
 
 // The byte of two hexadecimal digits. The low four bits of `0` to `9` are a digit's value, those
 // of letters of either case count from 1. Both are valued in one word of 16 bits, the first in
@@ -99,6 +99,33 @@ pub(super) fn after_hex_line(text: &[u8]) -> Option<&[u8]>
         return None;
     }
     after_line_end(&text[digits..])
+}
+
+// Whether the line is hexadecimal: an even number of digits.
+fn is_hex(line: &[u8]) -> bool
+    ensures { IsTrue result ↔ IsOk (decode_of line.now) }
+{
+    line.len() % 2 == 0 && are_of(line, Class::Digits)
+}
+
+/// Returns the bytes of a line of hexadecimal digits of either case, two digits a byte, and `None`
+/// when the line has an odd length or another character in it. An empty line is an empty datagram.
+///
+/// Returns `AllocError` only when memory for the bytes is refused; a line that is not hexadecimal
+/// needs none.
+pub fn datagram(alloc: Global, line: &[u8]) -> Result<Option<Vec<u8>>, AllocError>
+    ensures found { IfOk result (λ answer. IfSome answer (λ bytes. decode_of line.now ≡ Ok bytes.items)) }
+    ensures only { (bytes : List ℕ) → decode_of line.now ≡ Ok bytes →
+        IfOk result (λ answer. IsSomeAnd answer (λ found. found.items ≡ bytes)) }
+    ensures none { IsErr (decode_of line.now) → result ≡ Ok None }
+{
+    if !is_hex(line) {
+        return Ok(None);
+    }
+    let mut bytes = Vec::new(alloc);
+    bytes.resize(line.len() / 2, 0)?;
+    write_bytes(line, bytes.as_mut_slice());
+    Ok(Some(bytes))
 }
 
 /// Puts the bytes of a line of hexadecimal at the front of the buffer, whatever it held.

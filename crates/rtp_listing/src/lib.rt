@@ -11,5 +11,6 @@ mod printing;
 mod program;
 mod text;
 
+pub use hex_line::datagram;
 pub use input::{Input, InputError, read_input};
 pub use program::{RunEnd, run};

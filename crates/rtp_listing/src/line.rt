@@ -25,9 +25,9 @@ impl Class {
     }
 }
 
-// Whether all bytes are of the class. None ends the loop early, so that many are tested at once.
+/// Whether all bytes are of the class. None ends the loop early, so that many are tested at once.
 #[inline(always)]
-fn are_of(bytes: &[u8], class: Class) -> bool
+pub(super) fn are_of(bytes: &[u8], class: Class) -> bool
     ensures { IsTrue result ↔ All (IsOf class) bytes.now }
 {
     let mut all = true;

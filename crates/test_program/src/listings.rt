@@ -1,7 +1,7 @@
 //! What the program prints, over readers and writers in memory.
 
 use crate::checks::same;
-use rtp_listing::{RunEnd, run};
+use rtp_listing::{RunEnd, datagram, run};
 use std::alloc::Global;
 use std::fmt::Display;
 use std::io::Read;
@@ -131,27 +131,54 @@ fn runs(rt: HostRuntime) {
     }
 }
 
+// Lines, and the bytes that they have in hexadecimal.
+const LINES: [(&[u8], &[u8]); 3] = [
+    (b"", &[]),
+    (b"80ff", &[0x80, 0xFF]),
+    (b"80FF", &[0x80, 0xFF]),
+];
+
+// Lines that are not hexadecimal.
+const OTHER_LINES: [&[u8]; 3] = [b"8", b"8g", b"80 21"];
+
+// What the line is decoded to.
+fn decoded(rt: &impl Abort, alloc: Global, line: &[u8]) -> Option<Vec<u8>> {
+    datagram(alloc, line).expect(rt, "memory")
+}
+
+#[test]
+fn datagrams_in_either_case(rt: HostRuntime) {
+    for &(line, bytes) in &LINES {
+        let found = decoded(&rt, rt.alloc(), line).expect(&rt, "hexadecimal");
+        same(&rt, line.len(), found.as_slice(), bytes);
+    }
+    for line in &OTHER_LINES {
+        let found = decoded(&rt, rt.alloc(), line);
+        same(&rt, line.len(), found.is_none(), true);
+    }
+}
+
 // What is printed of a packet from the source 0x80FF.
 const SOURCE_80FF: &str = "packet 1: pt 0 seq 0 ts 0 ssrc 33023 marker no padding no \
 extension no csrc 0 header 12\nverdict 1: taken 0\n";
 
 // Lines, and what is printed of them: of an empty datagram, and of bytes in either case.
-const LINES: [(&[u8], &str); 3] = [
+const LISTED_LINES: [(&[u8], &str); 3] = [
     (b"\n", "packet 1: unreadable\nverdict 1: unreadable\n"),
     (b"8000000000000000000080ff", SOURCE_80FF),
     (b"8000000000000000000080FF", SOURCE_80FF),
 ];
 
 // Lines that are not hexadecimal.
-const OTHER_LINES: [&[u8]; 3] = [b"8", b"8g", b"80 21"];
+const BAD_LINES: [&[u8]; 3] = [b"8", b"8g", b"80 21"];
 
 #[test]
-fn datagrams_in_either_case(rt: HostRuntime) {
-    for &(line, printed) in &LINES {
+fn packets_in_either_case(rt: HostRuntime) {
+    for &(line, printed) in &LISTED_LINES {
         let printed = printed.as_bytes();
         lists(&rt, rt.alloc(), line.len(), line, RunEnd::Done, printed);
     }
-    for line in &OTHER_LINES {
+    for line in &BAD_LINES {
         names_bad_line(&rt, rt.alloc(), line.len(), *line, 1);
     }
 }
