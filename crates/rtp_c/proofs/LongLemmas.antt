@@ -10,7 +10,7 @@ use Rattle.rtp_values.specs.declared.known_kind.KnownKind.{KnownKind}
 use Rattle.rtp_values.specs.declared.known_kind.KnownKind.TheVariants.{VideoLayersAllocation}
 use Rattle.rtp_ext.specs.ExtensionMap.{Entry, Slots, items_from}
 use Rattle.rtp_ext.specs.KindsById.{entry_of_kind, is_long_item}
-use Rattle.rtp_c.specs.KindNumbers.{kind_number, kind_numbered, numbered_kinds}
+use Rattle.rtp_c.specs.KindNumbers.{kind_numbered, numbered_kinds}
 use Rattle.rtp_c.specs.StoredMap.{numbered_slots}
 use Rattle.rtp_c.proofs.FewSlotsLemmas.{each_in}
 use Rattle.rtp_c.proofs.KindNumberLemmas.{number_of_kind, number_zero, all_pass, numbered_passes}

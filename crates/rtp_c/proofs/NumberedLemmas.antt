@@ -1,20 +1,18 @@
 -- The map that C fills, as it stands: what each id is mapped to, and a walk over the mapped ids.
 use Rattle.std.proofs.Common.{◌≡◌, ◌≢◌, ℕ, zero, suc, ◌≤◌, ◌<◌, ◌+◌, ◌-◌, ◌%◌, List, [], ◌∷◌, length, map, take, drop, get_or, Bool, false, true, Option, None, Some, inl, inr, arith, refl, sym, ap, ◌∙◌, subst, le-ltb}
-use Rattle.std.specs.Prelude.{◌||◌, nat_lt, nat_le, nat_eq}
+use Rattle.std.specs.Prelude.{nat_lt, nat_eq}
 use Rattle.std.specs.Option.{option_map}
-use Rattle.std.specs.List.{list_any}
-use Rattle.std.proofs.lemmas.Bool.{cases_lt, eqb-true, ne_eqb, leb-true, false≢true}
-use Rattle.std.proofs.lemmas.List.{length-map, length-take, length-drop, drop_all, drop_more, take_all, get_or-take, get_or-drop, get_or_past}
+use Rattle.std.proofs.lemmas.Bool.{cases_lt, eqb-true, false≢true}
+use Rattle.std.proofs.lemmas.List.{length-map, length-take, length-drop, drop_all, drop_more, take_all, get_or-take, get_or_past}
 use Rattle.std.proofs.Math.ListN.{get_or-map}
-use Rattle.rtp_values.specs.Spelling.{longest}
 use Rattle.rtp_values.proofs.KindLemmas.{one_kind}
 use Rattle.rtp_values.specs.KnownKind.{extension_of_kind}
 use Rattle.rtp_values.specs.declared.kind.Extension.{Extension}
 use Rattle.rtp_values.specs.declared.kind.Extension.TheVariants as extension
 use Rattle.rtp_values.specs.declared.known_kind.KnownKind.{KnownKind}
 use Rattle.rtp_values.specs.declared.known_kind.KnownKind.TheVariants.{AbsoluteSendTime, AbsoluteCaptureTime, AudioLevel, TransmissionTimeOffset, VideoOrientation, TransportSequenceNumber, PlayoutDelay, VideoContentType, VideoTiming, RtpStreamId, RepairedRtpStreamId, RtpMid, FrameMarking, ColorSpace, VideoLayersAllocation}
-use Rattle.rtp_ext.specs.ExtensionMap.{Entry, Slots, IsLowest, IsUnmapped, extension_at, extension_of, items_from}
-use Rattle.rtp_ext.specs.KindsById.{entry_of_kind, is_long_item}
+use Rattle.rtp_ext.specs.ExtensionMap.{Slots, IsLowest, IsUnmapped, extension_at, extension_of, items_from}
+use Rattle.rtp_ext.specs.KindsById.{entry_of_kind}
 use Rattle.rtp_ext.specs.NewIds.{IsNewId}
 use Rattle.rtp_ext.proofs.KindsByIdLemmas.{entry_at-kinds}
 use Rattle.rtp_ext.proofs.ListingLemmas.{items_from-empty, length-items_from}

@@ -1,13 +1,12 @@
 -- The bytes of the new ids, found on a walk over the mapped ids.
 use Rattle.std.proofs.Common.{◌≡◌, ◌⊎◌, inl, inr, ℕ, zero, suc, ◌<◌, List, ◌∷◌, length, get_or, set, replicate, Option, Some, None, IfSome, IfNone, All, arith, refl, sym, ap, ◌∙◌, subst, ⊎_elim, length-set}
-use Rattle.std.specs.Prelude.{true}
 use Rattle.std.specs.List.{Contains}
 use Rattle.std.proofs.lemmas.Bool.{cases_eq}
 use Rattle.std.proofs.lemmas.List.{get_or-set_same, get_or-set_other}
 use Rattle.std.proofs.lemmas.List.Elements.{All-head, All-tail}
 use Rattle.rtp_values.specs.declared.kind.Extension.{Extension}
 use Rattle.rtp_values.proofs.KindLemmas.{one_kind}
-use Rattle.rtp_ext.specs.ExtensionMap.{Slots, IsId, IsLowest, IsUnmapped, IsListing, extension_at, items_from}
+use Rattle.rtp_ext.specs.ExtensionMap.{Slots, IsId, IsLowest, IsUnmapped, extension_at, items_from}
 use Rattle.rtp_ext.specs.NewIds.{IsNewId, id_in_byte, byte_of_id}
 use Rattle.rtp_ext.proofs.ListingLemmas.{items_mapped, unmapped_or_item}
 use Rattle.rtp_ext.proofs.NewIdLemmas.{byte_said}

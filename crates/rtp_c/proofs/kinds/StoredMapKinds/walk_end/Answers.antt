@@ -4,7 +4,7 @@ use Rattle.std.proofs.Common.{◌≡◌, ℕ, List, Bor, Option, subst, ◌+◌,
 use Rattle.std.proofs.lemmas.Bool.{cases_lt}
 use Rattle.std.proofs.lemmas.List.{get_or-take}
 use Rattle.rtp_ext.specs.ExtensionMap.{items_from}
-use Rattle.rtp_c.specs.StoredMap.{numbered_slots, last_end}
+use Rattle.rtp_c.specs.StoredMap.{numbered_slots}
 use Rattle.rtp_c.proofs.FewSlotsLemmas.{zeros_in, zeros_past}
 use Rattle.rtp_c.proofs.NumberedLemmas.{numbered-low, numbered-all, numbered-few}
 use Rattle.rtp_c.proofs.WalkLemmas.{last_end-low}
