@@ -84,9 +84,9 @@ slot_short numbers k low high = elim (cases_lt k 14) [
   | inr past ↦ subst (IsShortAt (suc k)) (sym (ap entry_of_kind (high past)) ∙ sym (slot_numbered numbers k)) tt
 ]
 
--- none of the ids up to 15 has the layer allocation, and none above 14 a kind
-unfoldable pub HasNoLayers : List ℕ → Type 0
-HasNoLayers numbers = (i : ℕ) → 1 ≤ i → i < 16 → get_or numbers i 0 ≢ 15
+-- none of the ids up to 16 has the layer allocation, and none above 14 a kind
+pub HasNoLayers : List ℕ → Type 0
+HasNoLayers numbers = (i : ℕ) → 1 ≤ i → i < 17 → get_or numbers i 0 ≢ 15
 
 pub HasNoHighKind : List ℕ → Type 0
 HasNoHighKind numbers = (i : ℕ) → 15 ≤ i → i < 256 → kind_numbered (get_or numbers i 0) ≡ None
@@ -159,13 +159,13 @@ each_of P numbers n m k each within =
     let below : k < m = omega (arith, within, length-take m (drop n numbers)) in
     subst P (sym (get_or-take m (drop n numbers) k 0 below ∙ get_or-drop n numbers k 0)) (each (n + k) (omega arith) (omega (arith, below)))
 
-pub looked_layers : (numbers : List ℕ) → HasNoLayers numbers → (k : ℕ) → k < length (take 15 (drop 1 numbers)) → get_or (take 15 (drop 1 numbers)) k 0 ≢ 15
+pub looked_layers : (numbers : List ℕ) → HasNoLayers numbers → (k : ℕ) → k < length (take 16 (drop 1 numbers)) → get_or (take 16 (drop 1 numbers)) k 0 ≢ 15
 unfolding HasNoLayers
-looked_layers numbers layers k within = each_of (λ (number : ℕ). number ≢ 15) numbers 1 15 k layers within
+looked_layers numbers layers k within = each_of (λ (number : ℕ). number ≢ 15) numbers 1 16 k layers within
 
-pub layers_looked : (numbers : List ℕ) → length numbers ≡ 256 → ((k : ℕ) → k < length (take 15 (drop 1 numbers)) → get_or (take 15 (drop 1 numbers)) k 0 ≢ 15) → HasNoLayers numbers
+pub layers_looked : (numbers : List ℕ) → length numbers ≡ 256 → ((k : ℕ) → k < length (take 16 (drop 1 numbers)) → get_or (take 16 (drop 1 numbers)) k 0 ≢ 15) → HasNoLayers numbers
 unfolding HasNoLayers
-layers_looked numbers long looked i above below = each_in (λ (number : ℕ). number ≢ 15) numbers 1 15 i (omega (arith, long)) looked above below
+layers_looked numbers long looked i above below = each_in (λ (number : ℕ). number ≢ 15) numbers 1 16 i (omega (arith, long)) looked above below
 
 pub looked_high : (numbers : List ℕ) → HasNoHighKind numbers → (k : ℕ) → k < length (take 241 (drop 15 numbers)) → kind_numbered (get_or (take 241 (drop 15 numbers)) k 0) ≡ None
 unfolding HasNoHighKind

@@ -1,6 +1,6 @@
 //! The map that C fills, as it stands, as a map of kinds.
 
-ghost use Rattle.std.specs.Prelude.{◌≡◌, ◌≢◌, ◌↔◌, ◌+◌, ℕ, ◌<◌, ◌≤◌, slice_index, None, false};
+ghost use Rattle.std.specs.Prelude.{◌≡◌, ◌+◌, ℕ, ◌<◌, ◌≤◌, slice_index, None};
 ghost use Rattle.rtp_c.specs.KindNumbers.{kind_numbered};
 ghost use Rattle.rtp_c.specs.StoredMap.{IsNumberAt, IsIdOf};
 
@@ -66,16 +66,6 @@ impl StoredMap {
             slot += AT_ONCE;
         }
         slot
-    }
-
-    // Whether one of the ids 1 to 15 is mapped to the layer allocation. The first sixteen numbers are looked at
-    // as they lie, also that at index 0, which is no id's and seldom this one.
-    #[inline(always)]
-    fn has_low_layers(&self) -> bool
-        ensures { (result ≡ false) ↔ ((id : ℕ) → 1 ≤ id → id < 16 →
-            slice_index self.now.kind id ≢ 15) }
-    {
-        has_number(&self.kind[..16], LAYERS) && has_number(&self.kind[1..16], LAYERS)
     }
 
     // The lowest id that means the number, and 0 where none does.
@@ -159,7 +149,7 @@ impl Kinds for StoredMap {
     // An id above 14 that is mapped to a kind is long, and so is the layer allocation at any id.
     #[inline(always)]
     fn has_long(&self, end: usize) -> bool {
-        self.has_low_layers() || (end > LOW_SLOTS && has_kind(&self.kind[15..]))
+        has_number(&self.kind[1..17], LAYERS) || (end > LOW_SLOTS && has_kind(&self.kind[15..]))
     }
 
     #[inline(always)]
