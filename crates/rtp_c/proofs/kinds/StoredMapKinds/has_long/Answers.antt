@@ -1,4 +1,4 @@
-use Rattle.std.proofs.Common.{◌≡◌, ℕ, length, take, arith, sym, ap, ◌∙◌, rules, le-ltb}
+use Rattle.std.proofs.Common.{◌≡◌, ℕ, length, take, sym, ap, ◌∙◌, rules, le-ltb}
 use Rattle.std.proofs.lemmas.Bool.{true_from_ne_false, false≢true}
 use Rattle.rtp_ext.specs.ExtensionMap.{items_from}
 use Rattle.rtp_c.specs.StoredMap.{numbered_slots}
