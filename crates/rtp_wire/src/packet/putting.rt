@@ -159,16 +159,19 @@ fn move_back(buf: &mut [u8], start: usize, end: usize, distance: usize)
     buf[start..].copy_within(..end - start, distance);
 }
 
-// Moves the bytes between two offsets to another one, apart from where they stand. Most blocks grow or shrink
-// by one or two words: where the distance is a known one, a long payload takes a fourth of the instructions.
-// It stays out of line, so that the move has the registers for itself.
+// Moves the bytes between two offsets to another one, where they don't stand there already. Most blocks grow
+// or shrink by one or two words: where the distance is a known one, a long payload takes a fourth of the
+// instructions. It stays out of line, so that the move has the registers for itself.
 #[inline(never)]
-fn move_away(buf: &mut [u8], start: usize, end: usize, to: usize)
+fn move_bytes(buf: &mut [u8], start: usize, end: usize, to: usize)
     requires order { start ≤ end }
     requires within { end ≤ length buf.old }
     requires room { to + (end - start) ≤ length buf.old }
     ensures { buf.new ≡ copy_within buf.old start end to }
 {
+    if start == to {
+        return;
+    }
     if start < to {
         match to - start {
             4 => move_back(buf, start, end, 4),
@@ -181,19 +184,6 @@ fn move_away(buf: &mut [u8], start: usize, end: usize, to: usize)
             8 => buf.copy_within(start..end, start - 8),
             _ => buf.copy_within(start..end, to),
         }
-    }
-}
-
-// Moves the bytes between two offsets to another one, where they don't stand there already.
-#[inline(always)]
-fn move_bytes(buf: &mut [u8], start: usize, end: usize, to: usize)
-    requires order { start ≤ end }
-    requires within { end ≤ length buf.old }
-    requires room { to + (end - start) ≤ length buf.old }
-    ensures { buf.new ≡ copy_within buf.old start end to }
-{
-    if start != to {
-        move_away(buf, start, end, to);
     }
 }
 

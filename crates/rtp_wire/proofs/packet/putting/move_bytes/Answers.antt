@@ -8,6 +8,6 @@ copied_there : (xs : List ℕ) (start end : ℕ) → xs ≡ copy_within xs start
 copied_there xs start end =
     sym (take-append-drop (start + (end - start)) xs) ∙ ap (λ (ys : List ℕ). ys ++ drop (start + (end - start)) xs) (take-add start (end - start) xs)
 
-pub returns-else-start-to : goal.returns-else-start-to
-returns-else-start-to c =
-    subst (λ (to : ℕ). c.args.buf.now ≡ copy_within c.args.buf.now c.args.start c.args.end to) (omega (arith, c.if-start-to.false)) (copied_there c.args.buf.now c.args.start c.args.end)
+pub returns-then-start-to : goal.returns-then-start-to
+returns-then-start-to c =
+    subst (λ (to : ℕ). c.args.buf.now ≡ copy_within c.args.buf.now c.args.start c.args.end to) (omega (arith, c.if-start-to.true)) (copied_there c.args.buf.now c.args.start c.args.end)
