@@ -173,8 +173,8 @@ func TestOriginals(t *testing.T) {
 	same(t, "written", rtpwire.WriteOriginal(payload, 65536+258), nil)
 	same(t, "payload", payload, []byte{1, 2, 7})
 	for _, short := range [][]byte{nil, {7}} {
-		_, _, err := rtpwire.ReadOriginal(short)
-		same(t, "short", err, rtpwire.ErrShortBuffer)
+		number, original, err := rtpwire.ReadOriginal(short)
+		same(t, "short", []any{number, original, err}, []any{uint16(0), []byte(nil), rtpwire.ErrShortBuffer})
 		same(t, "short", rtpwire.WriteOriginal(short, 1), rtpwire.ErrShortBuffer)
 	}
 }
@@ -287,8 +287,12 @@ func TestElementsAreWritten(t *testing.T) {
 	same(t, "two-byte form", []any{buf[:n], err}, []any{[]byte{1, 1, 0xAA, 2, 2, 0xBB, 0xCC}, nil})
 	n, err = rtpwire.WriteElements(nil, rtpwire.OneByteForm, nil, nil)
 	same(t, "none", []any{n, err}, []any{0, nil})
-	_, err = rtpwire.WriteElements(buf, rtpwire.NoBlock, data, places)
-	same(t, "no form", err, rtpwire.ErrBadField)
+	for _, form := range []rtpwire.Form{rtpwire.NoBlock, rtpwire.OtherForm} {
+		_, err = rtpwire.WriteElements(buf, form, data, places)
+		same(t, "no form", err, rtpwire.ErrBadField)
+		_, err = rtpwire.WriteElements(buf, form, nil, nil)
+		same(t, "no form, and no elements", err, rtpwire.ErrBadField)
+	}
 	_, err = rtpwire.WriteElements(buf[:4], rtpwire.OneByteForm, data, places)
 	same(t, "short", err, rtpwire.ErrShortBuffer)
 
@@ -303,6 +307,10 @@ func TestElementsAreWritten(t *testing.T) {
 		_, err = header.WriteWith(buf, data, []rtpwire.Place{place})
 		same(t, "a bad place", err, rtpwire.ErrBadField)
 	}
+
+	// Without elements there is a block of no words.
+	n, err = header.WriteWith(buf, nil, nil)
+	same(t, "no elements", []any{buf[:n], err}, []any{[]byte{0x90, 0, 0, 1, 0, 0, 0, 0, 0, 0, 0, 0, 0xBE, 0xDE, 0, 0}, nil})
 
 	// One form alone.
 	n, err = header.WriteWithForm(buf[:24], rtpwire.TwoByteForm, data, places)

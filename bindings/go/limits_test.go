@@ -149,9 +149,11 @@ func TestRestartingReceiversStart(t *testing.T) {
 	same(t, "taken", []any{number, verdict}, []any{uint64(65536), rtpwire.Taken})
 	number, ok = r.Highest()
 	same(t, "highest", []any{number, ok}, []any{uint64(65536), true})
-	judges(t, &rtpwire.RestartingReceiver{MinSequential: 3}, []judged{
-		{7, 0, rtpwire.Refused}, {8, 0, rtpwire.Refused}, {9, 65545, rtpwire.Taken},
-	})
+	patient := rtpwire.RestartingReceiver{MinSequential: 3}
+	judges(t, &patient, []judged{{7, 0, rtpwire.Refused}, {8, 0, rtpwire.Refused}})
+	number, ok = patient.Highest()
+	same(t, "two of three in a row", []any{number, ok}, []any{uint64(0), false})
+	judges(t, &patient, []judged{{9, 65545, rtpwire.Taken}})
 	judges(t, &rtpwire.RestartingReceiver{MaxDropout: 65535}, []judged{
 		{7, 65543, rtpwire.Taken}, {32774, 98310, rtpwire.Taken},
 	})
@@ -336,7 +338,11 @@ func TestEveryID(t *testing.T) {
 	ids.Set(7, 0)
 	same(t, "none", ids.Get(7), uint8(0))
 
-	// Where the map has both kinds of stream id, and where it has one.
+	// Where the map has both kinds of stream id, where it has one, and where there is no map.
+	for id := 0; id < 256; id++ {
+		there, back := rtpwire.NewIDsToRetransmission(nil), rtpwire.NewIDsFromRetransmission(nil)
+		same(t, "of no map", []uint8{there.Get(uint8(id)), back.Get(uint8(id))}, []uint8{uint8(id), uint8(id)})
+	}
 	m = rtpwire.Map{}
 	same(t, "set", []error{m.Set(3, rtpwire.KindRID), m.Set(5, rtpwire.KindRID)}, []error{nil, nil})
 	there, back := rtpwire.NewIDsToRetransmission(&m), rtpwire.NewIDsFromRetransmission(&m)

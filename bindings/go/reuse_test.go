@@ -279,7 +279,7 @@ func TestWhatReceiversLeave(t *testing.T) {
 	for _, row := range rows {
 		packet := parsed(t, everyValue, m)
 		before := *packet
-		cut := [][]byte{nil, plain(5)[:11], sample()[:31]}
+		cut := [][]byte{nil, plain(5)[:11], sample()[:31], camera()[:27]}
 		for _, datagram := range cut {
 			for _, call := range []call{row.receive, row.check} {
 				if call != nil {
@@ -326,16 +326,26 @@ func TestNil(t *testing.T) {
 		} {
 			same(t, what, err, rtpwire.CutFixedPart)
 		}
-		_, err := rtpwire.PutElement(none, 0, 1, none, rtpwire.AnyForm)
-		same(t, "put", err, rtpwire.CutFixedPart)
-		_, err = rtpwire.RemovePadding(none)
-		same(t, "padding", err, rtpwire.CutFixedPart)
-		_, err = rtpwire.ToRetransmission(none, 0, 1, 2, 3, new(rtpwire.NewIDs))
-		same(t, "sent again", err, rtpwire.CutFixedPart)
+		refused := func(what string, made []byte, err error) {
+			t.Helper()
+			same(t, what, []any{made, err}, []any{[]byte(nil), rtpwire.CutFixedPart})
+		}
+		made, err := rtpwire.PutElement(none, 0, 1, none, rtpwire.AnyForm)
+		refused("put", made, err)
+		made, err = rtpwire.RemovePadding(none)
+		refused("padding", made, err)
+		made, err = rtpwire.ToRetransmission(none, 0, 1, 2, 3, new(rtpwire.NewIDs))
+		refused("sent again", made, err)
+		made, err = rtpwire.FromRetransmission(none, 0, 1, 2, new(rtpwire.NewIDs))
+		refused("restored", made, err)
+		made, err = rtpwire.Compact(none)
+		refused("compact", made, err)
 		_, err = new(rtpwire.Header).Write(none, nil)
 		same(t, "write", err, rtpwire.ErrShortBuffer)
-		n, err := rtpwire.WriteElements(none, rtpwire.TwoByteForm, none, nil)
-		same(t, "no elements", []any{n, err}, []any{0, nil})
+		for _, places := range [][]rtpwire.Place{nil, {}} {
+			n, err := rtpwire.WriteElements(none, rtpwire.TwoByteForm, none, places)
+			same(t, "no elements", []any{n, err}, []any{0, nil})
+		}
 	}
 	same(t, "a packet of none", bytes.Equal(packet.Datagram(), nil), true)
 }

@@ -168,6 +168,10 @@ func TestTexts(t *testing.T) {
 	}
 	same(t, "nine characters", v.SetRID("abcdefghi"), rtpwire.ErrBadField)
 	same(t, "the values", v, before)
+	var none rtpwire.Values
+	refused := []error{none.SetMID("a-b"), none.SetRID("123456789"), none.SetRepairedRID("a-b")}
+	same(t, "refused", refused, []error{rtpwire.ErrBadField, rtpwire.ErrBadField, rtpwire.ErrBadField})
+	same(t, "no values", none, rtpwire.Values{})
 }
 
 func TestDelaysBelowZero(t *testing.T) {

@@ -57,6 +57,13 @@ compare() {
     echo 'packet 1: pt 0 seq 1 ts 1 ssrc 44 marker no padding no extension yes csrc 0 header 20' |
         cmp - "$scratch/said" >&2 || fail "$*, a URI with a carriage return"
     [ -z "$("$@" </dev/null)" ] || fail "$*, no line"
+    # What can't be written, and what can't be read, as a folder, which C++ takes for the end of the input.
+    status=0
+    echo 80 | "$@" >/dev/full 2>"$scratch/said" || status=$?
+    [ $status -eq 1 ] || fail "$*, a full disk"
+    status=0
+    "$@" <"$scratch" >"$scratch/said" 2>&1 || status=$?
+    [ $status -eq 1 ] || [[ $* == *_cpp ]] || fail "$*, a folder"
 }
 for program in "$folder"/lines_*; do
     [ ! -e "$program" ] || compare "${emulator[@]}" "$program"

@@ -5,6 +5,7 @@ import doctest
 import importlib
 import io
 import re
+import runpy
 import subprocess
 import sys
 import unittest
@@ -21,7 +22,7 @@ LINES = [*CAPTURES.glob("*.lines"), *(HERE.parent / "test").glob("by_hand.lines"
 BAD_MAPS = [
     *(b"map 0 urn:x", b"map 256 urn:x", b"map +3 urn:x", b"map -3 urn:x", b"map 0003 urn:x", b"map 1234 urn:x"),
     *(b"map 3a urn:x", b"map 3", b"map 3 ", b"map", b"map ", b"map  3 urn:x", b"map\t3 urn:x", b"map 3\turn:x"),
-    *(b" map 3 urn:x", b"mop 3 urn:x", b"map \xC2\xB2 urn:x"),
+    *(b" map 3 urn:x", b"mop 3 urn:x", b"MAP 3 urn:x", b"map \xC2\xB2 urn:x"),
 ]
 
 
@@ -39,15 +40,34 @@ class Captures(unittest.TestCase):
             self.assertEqual(said.stdout.decode(), lines.with_suffix(".expected").read_text("utf-8"), lines)
 
     def test_a_bad_line(self) -> None:
-        for bad in (b"802", b"8G", b"80\r80", b"80\r\r", *BAD_MAPS):
+        for bad in (b"802", b"8G", b"80\r80", b"80\r\r", b"80 80", *BAD_MAPS):
             said = self.lines(bad + b"\n")
             self.assertEqual((said.returncode, said.stdout), (2, b"line 1: neither a map line nor hex\n"))
         for bad in (b"802", b"8G", b"map 3 urn:x"):
             said = self.lines(b"80\n" + bad + b"\n")
             told = b"packet 1: unreadable\nverdict 1: unreadable\nline 2: neither a map line nor hex\n"
             self.assertEqual((said.returncode, said.stdout), (2, told))
-        said = self.lines(b"80\r\n")
-        self.assertEqual((said.returncode, said.stdout), (0, b"packet 1: unreadable\nverdict 1: unreadable\n"))
+        # one to three digits, and a carriage return that the input ends in is no end of a line
+        for good in (b"80\r\n", b"map 3 urn:x\nmap 03 urn:x\nmap 003 urn:x\nmap 255 urn:x y\nmap 7  \r\n80"):
+            said = self.lines(good)
+            self.assertEqual((said.returncode, said.stdout), (0, b"packet 1: unreadable\nverdict 1: unreadable\n"))
+        said = self.lines(b"80\r")
+        self.assertEqual((said.returncode, said.stdout), (2, b"line 1: neither a map line nor hex\n"))
+
+    def test_a_uri_is_the_rest_of_the_line(self) -> None:
+        # with something behind it, it has no kind: of the elements A and B, of the ids 1 and 2, no mid is told
+        mid = b"urn:ietf:params:rtp-hdrext:sdes:mid"
+        maps = b"map 1 " + mid + b" \nmap 2 " + mid + b"\rx\n"
+        said = self.lines(maps + b"90000001000000010000002CBEDE000110412042\n")
+        told = b"packet 1: pt 0 seq 1 ts 1 ssrc 44 marker no padding no extension yes csrc 0 header 20\n"
+        self.assertEqual(said.stdout, told + b"verdict 1: taken 1\n")
+
+    def test_nanoseconds(self) -> None:
+        # the least of the runs: 250 calls in 0.00025 seconds are 1,000 nanoseconds each
+        times = runpy.run_path(str(HERE / "examples/times.py"))
+        self.assertEqual(times["CALLS"], 250)
+        times["nanoseconds"].__globals__["repeat"] = lambda *_, **__: [0.0005, 0.00025, 0.0003]
+        self.assertEqual(times["nanoseconds"]("None"), 1000)
 
     def test_the_table_of_the_readme(self) -> None:
         program = blocks("python")[0]

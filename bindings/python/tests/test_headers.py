@@ -133,8 +133,9 @@ class Maps(unittest.TestCase):
         for id in (0, 256, -1):
             with self.assertRaises(BadField):
                 map[id] = Kind.MID
-            with self.assertRaises(BadField):
-                Map.from_uris({id: MID})
+            for uri in (MID, "urn:x"):
+                with self.assertRaises(BadField):
+                    Map.from_uris({id: uri})
         with self.assertRaises(BadField):
             map[1] = 16  # type: ignore[assignment]
         self.assertEqual(map, Map({4: Kind.MID}))

@@ -154,6 +154,10 @@ class Library(unittest.TestCase):
             self.assertEqual((stored.status, isinstance(stored, ValueError)), (status, True))
         _errors.check(Status.OK)
 
+    def test_each_public_name_is_in_all(self) -> None:
+        names = {name for name in vars(rtp_wire) if not name.startswith("_")}
+        self.assertEqual((set(rtp_wire.__all__), len(rtp_wire.__all__)), (names, len(names)))
+
     def test_the_version(self) -> None:
         version = re.findall(r'#define RTPW_VERSION "(.*)"', TEXT)
         self.assertEqual([rtp_wire.__version__, metadata.version("rtp_wire")], version * 2)

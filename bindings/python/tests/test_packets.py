@@ -101,14 +101,24 @@ class Reading(unittest.TestCase):
                 for parse in (Packet.parse, rtp_wire.Header.parse):
                     with self.assertRaises(NotAPacket) as raised:
                         parse(buffer(data), Map.standard())
-                    self.assertEqual(raised.exception.cause, cause)
+                    self.assertIs(raised.exception.cause, cause)
                     self.assertEqual(raised.exception.status, cause)
                     self.assertIsInstance(raised.exception, ValueError)
 
     def test_what_is_no_buffer_of_bytes_together(self) -> None:
-        for data in ("text", 12, None, [1, 2], memoryview(SAMPLE * 2)[::2]):
+        datagram = bytearray(SAMPLE)
+        data: Any
+        for data in ("text", 1, 2, None, [1], [1, 2], memoryview(SAMPLE * 2)[::2]):
             with self.assertRaises(TypeError):
-                Packet.parse(data)  # type: ignore[arg-type]
+                Packet.parse(data)
+            for id in (1, 2):  # of one byte, and of two
+                with self.assertRaises(TypeError):
+                    Packet.parse(datagram).set_element(id, data)
+                with self.assertRaises(TypeError):
+                    put_element(datagram, 37, id, data)
+            with self.assertRaises(TypeError):
+                rtp_wire.write_elements([(1, data)], Form.TWO_BYTE)
+        self.assertEqual(datagram, SAMPLE)
         with self.assertRaises(TypeError):
             Packet()
 
@@ -192,6 +202,12 @@ class Reading(unittest.TestCase):
             "Packet(payload_type=96, sequence_number=5, timestamp=160, ssrc=7, csrc=(), marker=True, has_padding=False,"
             " form=<Form.ONE_BYTE: 1>, header_len=20, payload=<2 bytes>,"
             " values=Values(audio_level=-10, voice_activity=True))",
+        )
+        # the payload with its padding
+        self.assertEqual(
+            repr(Packet.parse(SAMPLE)),
+            "Packet(payload_type=33, sequence_number=47000, timestamp=10000, ssrc=44, csrc=(1, 2), marker=True,"
+            " has_padding=True, form=<Form.ONE_BYTE: 1>, header_len=32, payload=<5 bytes>, values=Values())",
         )
 
 

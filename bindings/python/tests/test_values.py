@@ -4,6 +4,7 @@ import copy
 import pickle
 import unittest
 from dataclasses import replace
+from typing import Any
 
 from rtp_wire import (
     BadField,
@@ -178,6 +179,10 @@ class OwnKinds(unittest.TestCase):
         for number in (-1, 16, 127, 256):
             with self.assertRaises(ValueError):
                 Kind(number)
+        other: Any
+        for other in ("MID", None, 129.5, b"\x81"):
+            with self.assertRaises(ValueError):
+                Kind(other)
         self.assertEqual((len(Kind), Kind.from_uri("urn:x")), (17, Kind.NONE))
 
     def test_ids(self) -> None:
@@ -247,6 +252,7 @@ class LayerAllocations(unittest.TestCase):
             Layers(((Layer((1 << 63,), None),),), 0),
             Layers(((Layer((5,), Resolution(0, 1, 30)),),), 0),
             Layers(((Layer((5,), Resolution(1, 0, 30)),),), 0),
+            Layers(((Layer((5,), Resolution(0, 0, 0)),),), 0),
             Layers(((Layer((5,), Resolution(65536, 1, 30)),),), 0),
             Layers(((Layer((5,), Resolution(1, 1, 256)),),), 0),
             Layers(((Layer((), size),),), 0),
