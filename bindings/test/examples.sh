@@ -24,6 +24,7 @@ bad_maps=('map 0 urn:x' 'map 000 urn:x' 'map 256 urn:x' 'map 300 urn:x' 'map +3 
 bad_hex=(802 8G '80\rGG' '80\r80' '80\r\r' '\r80')
 printf 'packet 1: unreadable\nverdict 1: unreadable\nline 2: neither a map line nor hex\n' >"$scratch/second"
 echo 'line 1: neither a map line nor hex' >"$scratch/first"
+echo 'line 2: neither a map line nor hex' >"$scratch/later"
 is_bad() { # what is printed, the lines, the program
     local status=0
     printf '%b\n' "$2" | "${@:3}" >"$scratch/said" || status=$?
@@ -33,6 +34,13 @@ is_bad_at_the_end() { # the program, of a line that ends with the input, behind 
     local status=0
     printf '80\r' | "$@" >"$scratch/said" || status=$?
     [ $status -eq 2 ] && cmp "$scratch/said" "$scratch/first" >&2 || fail "$*, a carriage return at the end"
+}
+# Three numbers for each 65,536, and at last one: 2^32.
+awk 'BEGIN { for (i = 0; i <= 3 * 65536; i++) printf "8000%04X000000000000002C\n", i % 3 * 21845 }' >"$scratch/far.lines"
+tells_a_full_device() { # the line, the program
+    local status=0
+    echo "$1" | "${@:2}" >/dev/full 2>"$scratch/told" || status=$?
+    [ $status -eq 1 ] || fail "${*:2}, what can't be written"
 }
 compare() {
     # by_hand.lines has what no capture has: padding, sources, no extension, a replay, a rollover, no packet, zeros
@@ -51,6 +59,10 @@ compare() {
         printf '%b\n80\n' "$good" | "$@" | cmp - <(head -n 2 "$scratch/second") >&2 || fail "$*, the line $good"
     done
     is_bad_at_the_end "$@"
+    is_bad later 'map 3 urn:x\n8G' "$@"
+    tells_a_full_device 80 "$@"
+    "$@" <"$scratch/far.lines" | tail -n 1 >"$scratch/said"
+    echo 'verdict 196609: taken 4294967296' | cmp - "$scratch/said" >&2 || fail "$*, a number past 2^32"
     # A carriage return within a URI is a part of it: of this one no kind is known, and the mid isn't told.
     printf '%b\n' 'map 1 urn:ietf:params:rtp-hdrext:sdes:mid\rx' 90000001000000010000002CBEDE000110410000 | "$@" |
         head -n 1 >"$scratch/said"
@@ -100,6 +112,10 @@ forwards() {
     # The SSRC is a decimal number, also with zeros before it: 77 is 0x4D.
     echo 80000001000000010000002C | "$folder/forward" 0077 0 0 >"$scratch/forwarded"
     echo 80000001000000010000004D | cmp - "$scratch/forwarded" >&2 || fail 'the forwarder, an SSRC with zeros'
+    # The last line needs no line feed.
+    printf 80000001000000010000002C | "$folder/forward" 77 0 0 >"$scratch/forwarded"
+    echo 80000001000000010000004D | cmp - "$scratch/forwarded" >&2 || fail 'the forwarder, a line without an end'
+    tells_a_full_device 80000001000000010000002C "$folder/forward" 77 0 0
     status=0
     "$folder/forward" 77 -46000 </dev/null >"$scratch/forwarded" || status=$?
     [ $status -eq 2 ] && [ ! -s "$scratch/forwarded" ] || fail 'the forwarder without all its arguments'
@@ -160,18 +176,41 @@ cat >"$scratch/many.expected" <<END
 3 906FFFFF000000A000000BB8BEDE0006EF${alice}30110000327AE147
 taken 65537 replays 0 late 0 rtcp 0 unreadable 0 strangers 0 sent 196611 unsent 0
 END
+# Each is counted as what it is: 128 below the highest number is too late.
+printf '%s\n' 806F00CD000000A00000002C{,,} 806F004D000000A00000002C{,,} 80C900010000002C{,,,} 80{,,,,} >"$scratch/counted.lines"
+echo 'taken 1 replays 2 late 3 rtcp 4 unreadable 5 strangers 0 sent 3 unsent 0' >"$scratch/counted.expected"
+# The ids to spare are those that the sender's have no part in: 254 is the level's, which the packet doesn't have.
+printf '%s\n' 'map 254 urn:ietf:params:rtp-hdrext:ssrc-audio-level' 806F0005000000A00000002C >"$scratch/spare.lines"
+echo "2 906F9C45000000A0000007D0100000081415${second}30C8020000FF03000000" >"$scratch/spare.expected"
+# 119 levels of 16 bytes and one of 4 fill a block of 2,032 bytes up to 4: the first receiver's mid has room there, and
+# the number of its transport hasn't, which is used up; the ids of the second one need more, and the third one has no
+# levels. Then one that is sent to all: the first receiver gets the number 1, 20 ms later.
+{
+    echo 'map 3 urn:ietf:params:rtp-hdrext:ssrc-audio-level'
+    printf '906F0001000000A00000002CBEDE01FC'
+    awk 'BEGIN { for (i = 0; i < 119; i++) printf "3F%032d", 0 }'
+    printf '33000000000000000000\n806F0002000000A00000002C\n'
+} >"$scratch/unsent.lines"
+echo 1\ 906F0002000000A0000003E8BEDE0003216D305100017200147A0000 >"$scratch/unsent.expected"
+echo 'taken 2 replays 0 late 0 rtcp 0 unreadable 0 strangers 0 sent 4 unsent 2' >>"$scratch/unsent.expected"
 sends_on() {
     "$@" <"$scratch/sfu.lines" | diff "$scratch/sfu.expected" - >&2 || fail "$*, what is sent on"
     "$@" <"$scratch/window.lines" | grep -v '^[23] ' | diff "$scratch/window.expected" - >&2 || fail "$*, the window"
-    for it in full before; do
+    for it in full before counted; do
         "$@" <"$scratch/$it.lines" | tail -n 1 | diff "$scratch/$it.expected" - >&2 || fail "$*, what is counted, $it"
     done
+    "$@" <"$scratch/spare.lines" | grep '^2 ' | diff "$scratch/spare.expected" - >&2 || fail "$*, the id to spare"
+    "$@" <"$scratch/unsent.lines" | grep -v '^[23] ' | cmp "$scratch/unsent.expected" - >&2 || fail "$*, one that isn't sent"
+    # The mids of the sixteen streams end in their hexadecimal digits.
+    "$@" <"$scratch/full.lines" | sed -n 's/^1 .\{24\}BEDE0003216D\(..\).*/\1/p' | diff <(printf '%s\n' 3{0..9} 4{1..6}) - >&2 ||
+        fail "$*, the digits of the streams"
     # 65,536 bytes, of which each receiver gets the payload; and a map line behind a datagram.
     printf '80000001000000010000002C%0131048d\n' 0 | "$@" |
         awk '/^[1-3] / { n += length($2) } END { print n }' >"$scratch/said"
     [ "$(cat "$scratch/said")" -gt $((3 * 131048)) ] || fail "$*, a long line"
-    echo 'line 2: neither a map line nor hex' >"$scratch/later"
     is_bad later '80\nmap 3 urn:x' "$@"
+    is_bad later 'map 3 urn:x\n8G' "$@"
+    tells_a_full_device 80 "$@"
     for bad in "${bad_hex[@]}" "${bad_maps[@]}"; do is_bad first "$bad" "$@"; done
     is_bad_at_the_end "$@"
     "$@" <"$scratch/many.lines" | tail -n 4 | diff "$scratch/many.expected" - >&2 || fail "$*, many datagrams"
@@ -196,8 +235,11 @@ if [ -e "$folder/sfu_c" ]; then
     printf '806F%s000000A00000002C\n' 0005 0069 000F | "$folder/sfu_c" 2 | tail -n 1 >"$scratch/said"
     echo 'taken 6 replays 0 late 0 rtcp 0 unreadable 0 strangers 0 sent 18 unsent 0' | diff - "$scratch/said" >&2 ||
         fail 'the SFU, twice with higher numbers'
-    # 1,000 datagrams are taken again, and not one more. Of each the receivers get 28, 48 and 40 bytes.
-    head -n 1000 "$scratch/many.lines" | "$folder/sfu_c" 1 | sed 's/receivers, .*/receivers/' >"$scratch/said"
+    # 1,000 datagrams are taken again, and not one more. Of each the receivers get 28, 48 and 40 bytes. A million takes
+    # less than ten thousand seconds.
+    head -n 1000 "$scratch/many.lines" | "$folder/sfu_c" 1 >"$scratch/took"
+    grep -qE ' receivers, [0-9]{1,4}\.[0-9]{2} seconds of ' "$scratch/took" || fail 'the SFU, the time that it took'
+    sed <"$scratch/took" 's/receivers, .*/receivers/' >"$scratch/said"
     printf '%s\n' '1000 datagrams, 116000 bytes to receivers' \
         'taken 1000 replays 0 late 0 rtcp 0 unreadable 0 strangers 0 sent 3000 unsent 0' | diff - "$scratch/said" >&2 ||
         fail 'the SFU, 1,000 datagrams again'
@@ -206,4 +248,16 @@ if [ -e "$folder/sfu_c" ]; then
     [ $status -eq 3 ] && [ ! -s "$scratch/said" ] || fail 'the SFU, 1,001 datagrams again'
 fi
 # What goes over sockets, on 127.0.0.1.
-if [ -e "$folder/sockets" ]; then "$folder/udp" "$folder/sockets" >&2 || fail 'the SFU with sockets'; fi
+if [ -e "$folder/sockets" ]; then
+    "$folder/udp" "$folder/sockets" >&2 || fail 'the SFU with sockets'
+    ends_at_once() { # its ports; its input is a file
+        local status=0
+        "$folder/sockets" "$@" >"$scratch/said" || status=$?
+        [ $status -eq 2 ] && [ ! -s "$scratch/said" ] || fail "the SFU with sockets, $*"
+    }
+    for bad in "${bad_maps[@]}"; do ends_at_once 1 2 3 < <(printf '%b\n' "$bad"); done
+    for ports in '' '1 2' '1 2 3 4'; do
+        # shellcheck disable=SC2086
+        ends_at_once $ports </dev/null
+    done
+fi

@@ -109,6 +109,20 @@ static int spare(void) {
     return 0;
 }
 
+/* A block that is a two-byte one stays as long as it is. */
+static int two_byte(void) {
+    static const uint8_t packet[] = {0x90, 0, 0, 5, 0, 0, 0, 1, 0, 0, 0, 0x2C, 0x10, 0, 0, 1, 1, 1, 0x8A, 0};
+    static sfu sfu;
+    rtpw_map sender = {{0}};
+    sfu_peer peer = {{{0}}, "", 0, 0};
+    sent it = {0};
+    sender.kind[1] = peer.map.kind[20] = RTPW_KIND_AUDIO_LEVEL;
+    CHECK(sfu_add(&sfu, &sender, &peer));
+    sfu_receive(&sfu, packet, sizeof packet, 0, keep, &it);
+    CHECK(is(&it, "\x10\0\0\1\x14\1\x8A\0", 8));
+    return 0;
+}
+
 static int room(void) {
     static sfu sfu;
     sfu_peer peer = {{{0}}, "0123456789abcdef0123456789ABCDEF", 1000, 0};
@@ -147,5 +161,5 @@ static int room(void) {
 }
 
 int main(void) {
-    return forms() || times() || spare() || room();
+    return forms() || times() || spare() || two_byte() || room();
 }

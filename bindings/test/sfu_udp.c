@@ -9,12 +9,14 @@
 #include <arpa/inet.h>
 #include <netinet/in.h>
 #include <poll.h>
+#include <signal.h>
 #include <stdint.h>
 #include <stdio.h>
 #include <stdlib.h>
 #include <string.h>
 #include <sys/socket.h>
 #include <sys/wait.h>
+#include <time.h>
 #include <unistd.h>
 
 #define CHECK(what) \
@@ -65,6 +67,7 @@ static running started(const char *program, const unsigned *ports) {
     it.process = fork();
     CHECK(it.process >= 0);
     if (it.process == 0) {
+        signal(SIGPIPE, SIG_IGN);
         dup2(in[0], STDIN_FILENO);
         dup2(out[1], STDOUT_FILENO);
         close(in[0]), close(in[1]), close(out[0]), close(out[1]);
@@ -79,15 +82,19 @@ static running started(const char *program, const unsigned *ports) {
     return it;
 }
 
-/* Ends the input of the program: what it prints then, and its status, are these. */
-static void ends(running *it, const char *expected, int expected_status) {
+/* The input of the program has ended: what it prints then, and its status, are these. */
+static void has_ended(running *it, const char *expected, int expected_status) {
     char said[200] = "";
     int status;
-    CHECK(fclose(it->in) == 0);
     CHECK(fgets(said, sizeof said, it->out) != NULL && strcmp(said, expected) == 0);
     CHECK(fgetc(it->out) == EOF && fclose(it->out) == 0);
     CHECK(waitpid(it->process, &status, 0) == it->process);
     CHECK(WIFEXITED(status) && WEXITSTATUS(status) == expected_status);
+}
+
+static void ends(running *it, const char *expected, int expected_status) {
+    CHECK(fclose(it->in) == 0);
+    has_ended(it, expected, expected_status);
 }
 
 /* What comes from the program within the time; what others send isn't looked at. */
@@ -106,7 +113,7 @@ static size_t received(int socket, unsigned port, uint8_t *bytes, size_t size) {
 }
 
 /* What each receiver gets before the payload, of the packet 5 with the level -10 dB and voice, and of the packet 6
- * without an extension; xyz is the time, which isn't looked at. */
+ * without an extension; xyz is the time. */
 #define OF(number, timestamp, ssrc) "\x90\x6F" number "\0\0\0" timestamp "\0\0" ssrc
 #define SECOND "second_floor_camera_0"
 #define ALICE "camera_of_alice0"
@@ -124,12 +131,22 @@ static const struct {
 
 static uint8_t bytes[65536];
 
-/* The receiver gets the packet of this place, with this payload. */
-static void comes_to(int socket, unsigned port, int packet, int receiver, const uint8_t *payload, size_t payload_len) {
+/* The time of the system in units of 2^-18 seconds, modulo 64 seconds: 24 bits. */
+static uint32_t now(void) {
+    struct timespec time;
+    CHECK(clock_gettime(CLOCK_MONOTONIC, &time) == 0);
+    return (uint32_t)(((uint64_t)time.tv_sec % 64 << 18) + ((uint64_t)(time.tv_nsec / 1000) << 18) / 1000000);
+}
+
+/* The receiver gets the packet of this place, with this payload, and it was sent since this time. */
+static void comes_to(int socket, unsigned port, int packet, int receiver, const uint8_t *payload, size_t payload_len,
+                     uint32_t since) {
     size_t len = received(socket, port, bytes, sizeof bytes);
     size_t header_len = EXPECTED[packet][receiver].len, time_at = EXPECTED[packet][receiver].time_at;
     const char *header = EXPECTED[packet][receiver].header;
     CHECK(len == header_len + payload_len);
+    uint32_t time = (uint32_t)bytes[time_at] << 16 | (uint32_t)bytes[time_at + 1] << 8 | bytes[time_at + 2];
+    CHECK(((time - since) & 0xFFFFFF) <= ((now() - since) & 0xFFFFFF));
     memcpy(bytes + time_at, "xyz", 3);
     CHECK(memcmp(bytes, header, header_len) == 0);
     CHECK(memcmp(bytes + header_len, payload, payload_len) == 0);
@@ -155,22 +172,40 @@ int main(int argc, char **argv) {
         datagram[i] = (uint8_t)(i * 7 + i / 256);
     }
     running it = started(argv[1], ports);
+    uint32_t since = now();
     sends(sender, it.port, LEVEL, sizeof LEVEL);
     for (int i = 0; i < RECEIVERS; i++) {
-        comes_to(sockets[i], it.port, 0, i, LEVEL + 20, 3);
+        comes_to(sockets[i], it.port, 0, i, LEVEL + 20, 3, since);
     }
+    since = now();
     sends(sender, it.port, datagram, LONG);
     for (int i = 0; i < RECEIVERS; i++) {
-        comes_to(sockets[i], it.port, 1, i, datagram + FIXED, LONG - FIXED);
+        comes_to(sockets[i], it.port, 1, i, datagram + FIXED, LONG - FIXED, since);
     }
     ends(&it, "taken 2 replays 0 late 0 rtcp 0 unreadable 0 strangers 0 sent 6 unsent 0\n", 0);
 
     /* Nothing can be sent to the port 0: the other receivers get their packets, and the status says it. */
     ports[1] = 0;
     it = started(argv[1], ports);
+    since = now();
     sends(sender, it.port, LEVEL, sizeof LEVEL);
-    comes_to(sockets[0], it.port, 0, 0, LEVEL + 20, 3);
-    comes_to(sockets[2], it.port, 0, 2, LEVEL + 20, 3);
+    comes_to(sockets[0], it.port, 0, 0, LEVEL + 20, 3, since);
+    comes_to(sockets[2], it.port, 0, 2, LEVEL + 20, 3, since);
     ends(&it, "taken 1 replays 0 late 0 rtcp 0 unreadable 0 strangers 0 sent 3 unsent 0\n", 1);
+
+    /* While it is stopped a datagram of no bytes comes, a packet, and the end of its input: all are taken. */
+    int status;
+    it = started(argv[1], ports);
+    CHECK(kill(it.process, SIGSTOP) == 0);
+    CHECK(waitpid(it.process, &status, WUNTRACED) == it.process && WIFSTOPPED(status));
+    sends(sender, it.port, LEVEL, 0);
+    sends(sender, it.port, LEVEL, sizeof LEVEL);
+    CHECK(fclose(it.in) == 0 && kill(it.process, SIGCONT) == 0);
+    has_ended(&it, "taken 1 replays 0 late 0 rtcp 0 unreadable 1 strangers 0 sent 3 unsent 0\n", 1);
+
+    /* What it can't print is told by its status. */
+    it = started(argv[1], ports);
+    CHECK(fclose(it.out) == 0 && fclose(it.in) == 0);
+    CHECK(waitpid(it.process, &status, 0) == it.process && WIFEXITED(status) && WEXITSTATUS(status) == 1);
     return 0;
 }

@@ -179,6 +179,34 @@ static void all_data_count(void) {
     }
 }
 
+/* Lengths and sizes of more than 32 bits are looked at whole, before a byte is. */
+static void none_is_cut(void) {
+    static call *const CALLS[] = {set, put, with, with_form, elements};
+    static const char *const NAMES[] = {"set_element", "put_element", "write_with", "write_with_form", "write_elements"};
+    const size_t far = (size_t)1 << 32;
+    rtpw_header header = header_of();
+    rtpw_element element = element_of(2);
+    size_t i;
+    for (i = 0; i < sizeof CALLS / sizeof *CALLS; i++) {
+        const char *name = NAMES[i];
+        const uint8_t *data = BUF - 8;
+        size_t data_len = far + 4;
+        fill();
+        CHECK(CALLS[i](i == 0 ? PACKET : SIZE, data, data_len) == RTPW_BAD_FIELD);
+        data = BUF + SIZE, data_len = 2;
+        CHECK(CALLS[i](far + PACKET, data, data_len) == RTPW_BAD_FIELD);
+        CHECK(memcmp(room, before, sizeof room) == 0);
+    }
+    /* Of so many data an element has the first two, which lie before the buffer. */
+    const char *name = "data past 2^32";
+    const uint8_t *data = BUF - 8;
+    size_t data_len = far + 4;
+    CHECK(rtpw_write_with(&header, data, data_len, &element, 1, BUF, SIZE, &len) == RTPW_BAD_FIELD);
+    CHECK(rtpw_write_with_form(&header, data, data_len, &element, 1, RTPW_NO_BLOCK, BUF, SIZE, &len) == RTPW_BAD_FIELD);
+    CHECK(rtpw_write_elements(data, data_len, &element, 1, RTPW_ONE_BYTE_FORM, BUF, SIZE, &len) == RTPW_BAD_FIELD);
+    CHECK(memcmp(room, before, sizeof room) == 0);
+}
+
 #define FIXED "\x90\x6F\0\1\0\0\0\xA0\0\0\0\x2C"
 
 int main(void) {
@@ -209,5 +237,6 @@ int main(void) {
     is_empty("write_with_form", with_form, RTPW_SHORT_BUFFER);
     is_empty("write_elements", elements, RTPW_SHORT_BUFFER);
     all_data_count();
+    none_is_cut();
     return failed;
 }

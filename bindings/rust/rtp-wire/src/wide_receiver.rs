@@ -17,6 +17,10 @@ use crate::views::WideState;
 /// ```
 ///
 /// ```compile_fail
+/// rtp_wire::WideReceiver::<0>::new();
+/// ```
+///
+/// ```compile_fail
 /// rtp_wire::WideReceiver::<513>::new();
 /// ```
 #[derive(Clone, Copy, Debug)]

@@ -272,3 +272,16 @@ fn a_uri_is_compared_whole() {
         assert_eq!(Map::from_uris([(0, uri)]), Ok(Map::new()));
     }
 }
+
+#[test]
+fn of_an_id_the_last_known_uri_counts() {
+    let (level, mid, other) = (KINDS[2].3, KINDS[11].3, "urn:x");
+    for (uris, kind) in [
+        ([level, mid, other], Kind::Mid),
+        ([mid, other, level], Kind::AudioLevel),
+        ([other, mid, mid], Kind::Mid),
+    ] {
+        let map = Map::from_uris(uris.map(|uri| (3, uri)));
+        assert_eq!(map, Ok(Map::new().with(3, kind)), "{uris:?}");
+    }
+}

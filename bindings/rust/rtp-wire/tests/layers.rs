@@ -322,6 +322,8 @@ fn what_no_element_can_carry_is_refused() {
     let rates = vec![u64::MAX >> 1; 4]; // nine bytes each: 16 layers have 576
     refused(0, &vec![vec![(rates, None); 4]; 4]);
 
+    // what is given is told
+    assert_eq!(Layers::new(255, &[]).unwrap().current(), 255);
     assert_eq!(Layer::new(&[0; 5], None), Err(TooManyLayers));
     assert_eq!(Stream::new(&[Layer::default(); 5]), Err(TooManyLayers));
     assert_eq!(Layers::new(0, &[Stream::default(); 5]), Err(TooManyLayers));

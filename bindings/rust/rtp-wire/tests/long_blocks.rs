@@ -2,8 +2,8 @@
 //! form; and long buffers.
 
 use rtp_wire::{
-    pad, read_original, write_elements, write_original, Element, Form, Header, Kind, Map, NewIds,
-    NotChanged, NotWritten, Packet, PacketMut, Place,
+    is_rtcp, pad, read_original, write_elements, write_original, Element, Fields, Form, Header,
+    Kind, Layers, Map, NewIds, NotChanged, NotWritten, Packet, PacketMut, Place, Values,
 };
 
 const LEN: usize = 12 + 60 + 4 + 262_140;
@@ -187,5 +187,38 @@ fn long_buffers_are_used_whole() {
             Ok(2)
         );
         assert_eq!(buf[..3], [0x10, 7, 0]);
+    }
+}
+
+#[test]
+fn long_datagrams_are_looked_at_whole() {
+    for len in [256, 257, 65_536, 65_541, 131_072] {
+        let mut bytes = vec![0; len];
+        bytes[..2].copy_from_slice(&[0x80, 201]);
+        bytes[len - 1] = 7;
+        assert!(is_rtcp(&bytes));
+        let mut packet = PacketMut::parse(&mut bytes).unwrap();
+        packet.set_padding(true);
+        let fields = Fields {
+            payload_type: Some(33),
+            ssrc: Some(0x0102_0304),
+            ..Fields::default()
+        };
+        assert_eq!(packet.set_fields(&fields), Ok(()));
+        let first = [0xA0, 0xA1, 0, 0, 0, 0, 0, 0, 1, 2, 3, 4];
+        assert_eq!(packet.as_packet().datagram()[..12], first);
+        assert_eq!(packet.remove_padding(), Ok(len - 7));
+        assert_eq!(bytes[..2], [0x80, 0xA1]);
+
+        let mut values = Values::default();
+        values.transport_number = Some(0x0506);
+        assert_eq!(
+            values.data_of(Kind::TransportNumber, &mut bytes),
+            Ok(Some(2))
+        );
+        assert_eq!(bytes[..3], [5, 6, 0]);
+        let (header, layers) = (Header::default(), Layers::default());
+        let written = header.write_with_layers(&mut bytes, &Map::new(), &layers);
+        assert_eq!((written, bytes[0]), (Ok(12), 0x80));
     }
 }

@@ -472,3 +472,35 @@ fn padding_is_in_whole_blocks() {
     }
     assert_eq!(buf, [0x95; 20 + 240]);
 }
+
+#[test]
+fn in_the_one_byte_form_an_id_may_be_0() {
+    // 0 of three bytes, which isn't padding, and 1
+    let datagram = [
+        0x90, 0, 0, 1, 0, 0, 0, 2, 0, 0, 0, 3, 0xBE, 0xDE, 0, 2, 2, 7, 8, 9, 0x10, 0xAA, 0, 0,
+    ];
+    let packet = Packet::parse(&datagram).unwrap();
+    let found: Vec<_> = packet.elements().map(|it| (it.id, it.data)).collect();
+    assert_eq!(found, [(0, &[7, 8, 9][..]), (1, &[0xAA])]);
+    assert_eq!(packet.element(0), Some(&[7, 8, 9][..]));
+}
+
+/// V=2, X; a block of one word: 1 (AA); no payload.
+#[test]
+fn a_packet_without_a_payload_is_sent_again() {
+    let mut buf = [0; 22];
+    buf[..20].copy_from_slice(&[
+        0x90, 0x60, 0, 5, 0, 0, 0, 1, 0, 0, 0, 2, 0xBE, 0xDE, 0, 1, 0x10, 0xAA, 0, 0,
+    ]);
+    let before = buf;
+    let too_high = NewIds::new().with(1, 15);
+    let sent = to_retransmission(&mut buf, 20, 7, 99, 9, &too_high);
+    assert_eq!(sent, Err(NotRetransmitted::BadNewId));
+    assert_eq!(buf, before);
+    let ids = NewIds::new().with(1, 3);
+    let sent = to_retransmission(&mut buf, 20, 7, 99, 9, &ids);
+    assert_eq!((sent, &buf[..4]), (Ok(22), &[0x90, 0x63, 0, 9][..]));
+    assert_eq!(buf[16..], [0x30, 0xAA, 0, 0, 0, 5]);
+    let back = from_retransmission(&mut buf, 22, 2, 96, &NewIds::new().with(3, 1));
+    assert_eq!((back, &buf[..20]), (Ok(20), &before[..20]));
+}

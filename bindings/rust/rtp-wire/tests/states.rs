@@ -243,3 +243,15 @@ fn the_highest_number_has_64_bits() {
     tells_it(Receiver::starting_at(LAST).unwrap());
     tells_it(WideReceiver::<2>::starting_at(LAST).unwrap());
 }
+
+#[test]
+fn many_packets_in_a_row_may_be_asked_for() {
+    for count in [2, 16, 17, 127, 128, 255_u8] {
+        let mut receiver = RestartingReceiver::with_bounds(3000, count);
+        for low in 1..count {
+            assert_eq!(receiver.receive(low.into()), Arrival::Refused, "{count}");
+        }
+        let number = 65_536 + u64::from(count);
+        assert_eq!(receiver.receive(count.into()), Arrival::Taken(number));
+    }
+}

@@ -4,8 +4,8 @@
 use std::error::Error;
 
 use rtp_wire::{
-    write_elements, BadId, BadRolloverCount, Form, Header, Map, NotAHeader, NotAPacket, NotAText,
-    NotChanged, NotPut, NotWritten, Packet, PacketMut, Place, TooManyLayers,
+    compact, put_element, write_elements, BadId, BadRolloverCount, Form, Header, Map, NotAHeader,
+    NotAPacket, NotAText, NotChanged, NotPut, NotWritten, Packet, PacketMut, Place, TooManyLayers,
 };
 
 /// V=2, X, CC=1; the source 9; a block of one word: 1 (AA).
@@ -283,4 +283,36 @@ fn what_is_not_written_has_its_cause() {
         );
     }
     assert_eq!(header.wire_len(&Map::new()), Err(NotWritten::BadField));
+}
+
+#[test]
+fn without_a_block_the_rest_is_looked_at() {
+    for (cause, bytes) in [
+        (NotAPacket::CutFixedPart, &[0x80; 11][..]),
+        (NotAPacket::OtherVersion, &[0x40; 12]),
+        (NotAPacket::CutSources, &[0x81; 15]),
+    ] {
+        let mut same = bytes.to_vec();
+        assert_eq!(compact(&mut same), Err(cause));
+        let put = put_element(&mut same, bytes.len(), 1, &[], None);
+        assert_eq!(put, Err(NotPut::NotAPacket(cause)));
+        assert_eq!(same, bytes);
+    }
+}
+
+#[test]
+fn an_element_has_at_most_255_bytes() {
+    let mut buf = [0xEE; 600];
+    buf[..24].copy_from_slice(&SAMPLE);
+    let before = buf;
+    for len in [256, 257, 300, 511, 512] {
+        for allowed in [None, Some(Form::TwoByte)] {
+            let put = put_element(&mut buf, 24, 1, &[7; 512][..len], allowed);
+            assert_eq!(put, Err(NotPut::BadField), "{len}");
+        }
+    }
+    assert_eq!(buf, before);
+    // 2 and 255 bytes, and 3 of padding
+    let put = put_element(&mut buf, 24, 1, &[7; 255], None);
+    assert_eq!(put, Ok(20 + 260));
 }

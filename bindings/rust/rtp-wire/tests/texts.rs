@@ -52,6 +52,7 @@ fn texts_are_equal_by_their_characters() {
     assert!(ab == same && ab != other && ab != longer && ab != none);
     for text in ["cd", "a", "abc", "AB", "", "ab\0"] {
         assert!(ab != *text && ab != text, "{text:?}");
+        assert!(*text != ab && text != ab, "{text:?}");
     }
     assert!(ab == *"ab" && ab == "ab" && none == *"" && none.is_empty());
     for text in ["ab", "cd"] {
