@@ -3,11 +3,11 @@ use Rattle.std.proofs.Common.{◌≡◌, ℕ, ℤ, false, inl, inr, refl, sym, s
 use Rattle.std.proofs.lemmas.Bool.{cases_eq}
 use Rattle.rtp_base.specs.Ring.{ring_bits}
 use Rattle.rtp_base.specs.Window.{Numbers}
-use Rattle.rtp_wire.specs.Receiver.{IsNothing}
-use Rattle.rtp_wire.specs.Restarting.{Bounds, IsRestartingVerdict, epoch_after}
-use Rattle.rtp_wire.specs.RestartingState.{bounds_of, Leads, Grows, RowLeads, RowGrows}
-use Rattle.rtp_wire.specs.declared.receive.restarting.RestartingReceiver.{RestartingReceiver}
-use Rattle.rtp_wire.specs.declared.receive.restarting_verdict.RestartingVerdict.{RestartingVerdict}
+use Rattle.rtp_receive.specs.Receiver.{IsNothing}
+use Rattle.rtp_receive.specs.Restarting.{Bounds, IsRestartingVerdict, epoch_after}
+use Rattle.rtp_receive.specs.RestartingState.{bounds_of, Leads, Grows, RowLeads, RowGrows}
+use Rattle.rtp_receive.specs.declared.restarting.RestartingReceiver.{RestartingReceiver}
+use Rattle.rtp_receive.specs.declared.restarting_verdict.RestartingVerdict.{RestartingVerdict}
 use Rattle.rtp_c.specs.declared.restarting.StoredRestarting.{StoredRestarting}
 use Rattle.rtp_c.specs.StoredRestarting.{bounds_in, HoldsIn, IsTold, IsAnsweredIn}
 use Rattle.rtp_c.proofs.StoredWideLemmas.{HoldsWindow-some}

@@ -6,9 +6,9 @@ use Rattle.std.proofs.lemmas.Nat.Bits.{bit_at_lowest, bit_at-suc, bit_at-lt, sam
 use Rattle.std.specs.Int.{bit_at}
 use Rattle.rtp_base.specs.Bitmap.{bits_of}
 use Rattle.rtp_base.specs.Window.{Numbers, WindowState, including, Keeps}
-use Rattle.rtp_wire.specs.StreamState.{ReceiverState}
-use Rattle.rtp_wire.specs.declared.receive.receiver.ReceiverState.TheVariants.{Start, Window}
-use Rattle.rtp_wire.specs.Receiver.{Holds, IsFresh, StaysBelowZeroIn}
+use Rattle.rtp_receive.specs.StreamState.{ReceiverState}
+use Rattle.rtp_receive.specs.declared.receiver.ReceiverState.TheVariants.{Start, Window}
+use Rattle.rtp_receive.specs.Receiver.{Holds, IsFresh, StaysBelowZeroIn}
 use Rattle.rtp_c.specs.declared.receiver.StoredReceiver.{StoredReceiver}
 use Rattle.rtp_c.specs.StoredReceiver.{recorded_bits, IsWindowOf, HoldsNumbers, IsStarted, stored_again, HasHalves, IsStored, bit_of, MovesBelowZero}
 

@@ -7,7 +7,7 @@ use Rattle.rtp_base.specs.Ring.{ring_size, ring_bit, ring_bits, ring_window}
 use Rattle.rtp_base.specs.Window.{Numbers, WindowState, IsGreatest, KeepsOf, AcceptsOf, only, including}
 use Rattle.rtp_base.proofs.RingLemmas.{ring_bits-near}
 use Rattle.rtp_base.proofs.WindowLemmas.{AcceptsOf-low, KeepsOf-first, KeepsOf-shown}
-use Rattle.rtp_wire.specs.Receiver.{IsNothing, IsFreshOf}
+use Rattle.rtp_receive.specs.Receiver.{IsNothing, IsFreshOf}
 use Rattle.rtp_c.specs.declared.wide_receiver.StoredWideReceiver.{StoredWideReceiver}
 use Rattle.rtp_c.specs.StoredWideReceiver.{IsReceivedAs}
 use Rattle.rtp_c.specs.StoredWindow.{HoldsWindow, HoldsStored}

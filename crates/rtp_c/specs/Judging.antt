@@ -1,7 +1,7 @@
 -- What a receiver in the memory of C says of a packet (RFC 3711, 3.3.1 and 3.3.2).
 use Rattle.std.specs.Prelude.{◌≡◌, ℕ, ◌⊎◌, ℤ}
 use Rattle.rtp_base.specs.Window.{Numbers, including}
-use Rattle.rtp_wire.specs.Receiver.{IsNumberOf, IsFresh}
+use Rattle.rtp_receive.specs.Receiver.{IsNumberOf, IsFresh}
 use Rattle.rtp_c.specs.declared.receiver.StoredReceiver.{StoredReceiver}
 use Rattle.rtp_c.specs.Status.{ok, refused}
 use Rattle.rtp_c.specs.StoredReceiver.{HoldsNumbers, IsStarted}

@@ -2,11 +2,11 @@
 use Rattle.std.specs.Prelude.{◌≡◌, ℕ, ◌<◌, ◌⊎◌, ◌==◌, if◌then◌else◌, ℤ}
 use Rattle.rtp_base.specs.Ring.{ring_bits}
 use Rattle.rtp_base.specs.Window.{Numbers, window_size}
-use Rattle.rtp_wire.specs.Receiver.{IsNothing}
-use Rattle.rtp_wire.specs.Restarting.{Bounds, IsRestartingVerdict, epoch_after}
-use Rattle.rtp_wire.specs.RestartingState.{Leads, Grows}
-use Rattle.rtp_wire.specs.declared.receive.restarting_verdict.RestartingVerdict.{RestartingVerdict}
-use Rattle.rtp_wire.specs.declared.receive.restarting_verdict.RestartingVerdict.TheVariants.{Taken, Restarted, Refused}
+use Rattle.rtp_receive.specs.Receiver.{IsNothing}
+use Rattle.rtp_receive.specs.Restarting.{Bounds, IsRestartingVerdict, epoch_after}
+use Rattle.rtp_receive.specs.RestartingState.{Leads, Grows}
+use Rattle.rtp_receive.specs.declared.restarting_verdict.RestartingVerdict.{RestartingVerdict}
+use Rattle.rtp_receive.specs.declared.restarting_verdict.RestartingVerdict.TheVariants.{Taken, Restarted, Refused}
 use Rattle.rtp_c.specs.declared.restarting.StoredRestarting.{StoredRestarting}
 use Rattle.rtp_c.specs.Status.{ok, refused, restarted}
 use Rattle.rtp_c.specs.StoredWindow.{HoldsWindow, HasStarted}

@@ -2,7 +2,7 @@
 use Rattle.std.specs.Prelude.{◌≡◌, ℕ, ◌*◌, ◌<◌, ◌≤◌, ◌⊎◌, List, length, ℤ}
 use Rattle.rtp_base.specs.Ring.{ring_size, ring_bits}
 use Rattle.rtp_base.specs.Window.{Numbers, including}
-use Rattle.rtp_wire.specs.Receiver.{IsNumberOf, IsFreshOf}
+use Rattle.rtp_receive.specs.Receiver.{IsNumberOf, IsFreshOf}
 use Rattle.rtp_c.specs.declared.wide_receiver.StoredWideReceiver.{StoredWideReceiver}
 use Rattle.rtp_c.specs.Status.{ok, refused}
 use Rattle.rtp_c.specs.StoredWindow.{HoldsStored, HasStarted, MovesBelow}

@@ -2,7 +2,7 @@
 use Rattle.std.specs.Prelude.{◌≡◌, ℕ, ◌-◌, ◌/◌, ◌<◌, ◌⊎◌, List, Bool, true, false, ◌||◌, ◌==◌, slice_index_or}
 use Rattle.rtp_base.specs.Ring.{ring_bit}
 use Rattle.rtp_base.specs.Window.{Numbers, WindowState, KeepsOf}
-use Rattle.rtp_wire.specs.Receiver.{IsNothing}
+use Rattle.rtp_receive.specs.Receiver.{IsNothing}
 
 -- the window of this highest number and these bits: the highest number is recorded whatever its bit says
 pub record IsRestored (size highest : ℕ) (bits : List Bool) (window : WindowState) : Type 0 where

@@ -2,9 +2,9 @@
 
 ghost use Rattle.std.specs.Prelude.{◌≡◌, ◌≢◌, ◌↔◌, ◌/◌, ◌^◌, ◌<◌, ◌≤◌, ℕ, IsTrue, Some};
 ghost use Rattle.rtp_base.specs.Window.{Numbers, WindowState, including};
-ghost use Rattle.rtp_wire.specs.Receiver.{Holds, IsNothing, IsNumberOf, IsFresh};
-ghost use Rattle.rtp_wire.specs.declared.receive.receiver.ReceiverState.TheVariants.{Start, Window};
-ghost use Rattle.rtp_wire.specs.Widening.{Extends};
+ghost use Rattle.rtp_receive.specs.Receiver.{Holds, IsNothing, IsNumberOf, IsFresh};
+ghost use Rattle.rtp_receive.specs.declared.receiver.ReceiverState.TheVariants.{Start, Window};
+ghost use Rattle.rtp_receive.specs.Widening.{Extends};
 ghost use Rattle.rtp_c.specs.Status.{ok, bad_field, refused};
 ghost use Rattle.rtp_c.specs.StoredReceiver.{HoldsNumbers, IsWindowOf, IsStarted, IsStored, HasHalves, MovesBelowZero, unstarted, stored_again};
 ghost use Rattle.rtp_c.specs.Judging.{IsJudgedAs, IsJudgedBy};

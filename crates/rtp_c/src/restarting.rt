@@ -2,7 +2,7 @@
 
 ghost use Rattle.std.specs.Prelude.{◌≡◌, ◌<◌};
 ghost use Rattle.rtp_base.specs.Window.{Numbers};
-ghost use Rattle.rtp_wire.specs.RestartingState.{bounds_of, HoldsEpoch};
+ghost use Rattle.rtp_receive.specs.RestartingState.{bounds_of, HoldsEpoch};
 ghost use Rattle.rtp_c.specs.Status.{refused};
 ghost use Rattle.rtp_c.specs.StoredRestarting.{bounds_in, HoldsIn, IsStartedIn, IsAnsweredIn};
 

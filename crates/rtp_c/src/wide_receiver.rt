@@ -3,7 +3,7 @@
 ghost use Rattle.std.specs.Prelude.{◌+◌, ◌≡◌, ◌≢◌, ◌↔◌, ◌^◌, ◌<◌, ◌≤◌, ◌/◌, ℕ, List, length, IsTrue, true, false};
 ghost use Rattle.rtp_base.specs.Ring.{ring_size};
 ghost use Rattle.rtp_base.specs.Window.{Numbers, including};
-ghost use Rattle.rtp_wire.specs.Receiver.{IsNothing, IsNumberOf, IsFreshOf};
+ghost use Rattle.rtp_receive.specs.Receiver.{IsNothing, IsNumberOf, IsFreshOf};
 ghost use Rattle.rtp_c.specs.Status.{ok, bad_field};
 ghost use Rattle.rtp_c.specs.StoredWideReceiver.{IsWindowLen, HoldsIn, unstarted, IsStartedIn, MovesBelowZeroIn, IsJudgedIn, IsReceivedAs, IsReceivedIn};
 

@@ -10,14 +10,15 @@ use Rattle.std.proofs.lemmas.List.{map_push, length_push, take_more, take_all}
 use Rattle.rtp_base.specs.Window.{Numbers}
 use Rattle.rtp_ext.specs.declared.map.ExtensionMap.{ExtensionMap}
 use Rattle.rtp_wire.specs.declared.header.rtp_header.RtpHeader.{RtpHeader}
-use Rattle.rtp_wire.specs.declared.receive.receiver.Verdict.{Verdict}
+use Rattle.rtp_receive.specs.declared.receiver.Verdict.{Verdict}
 use Rattle.rtp_wire.specs.Header.{IsWire}
-use Rattle.rtp_wire.specs.Receivers.{ReceiverStates}
-use Rattle.rtp_wire.specs.Verdicts.{PacketId, packet_id_of, IsPacketId, ArePacketIds, IsVerdict}
-use Rattle.rtp_wire.specs.Sources.{taken_of, numbers_beside}
-use Rattle.rtp_wire.specs.EachSource.{HoldsEach, taken_after_each}
-use Rattle.rtp_wire.proofs.VerdictLemmas.{AllZip-more}
-use Rattle.rtp_wire.proofs.SourceLemmas.{SoFarEach, SoFarEach-none, SoFarEach-more}
+use Rattle.rtp_receive.specs.Receivers.{ReceiverStates}
+use Rattle.rtp_receive.specs.Verdicts.{PacketId, IsVerdict}
+use Rattle.rtp_wire.specs.PacketIds.{packet_id_of, IsPacketId, ArePacketIds}
+use Rattle.rtp_receive.specs.Sources.{taken_of, numbers_beside}
+use Rattle.rtp_receive.specs.EachSource.{HoldsEach, taken_after_each}
+use Rattle.rtp_wire.proofs.RunLemmas.{AllZip-more}
+use Rattle.rtp_receive.proofs.SourceLemmas.{SoFarEach, SoFarEach-none, SoFarEach-more}
 use Rattle.rtp_listing.specs.declared.program.RunEnd.{RunEnd}
 use Rattle.rtp_listing.specs.declared.program.RunEnd.TheVariants.{NoMemory, Io}
 use Rattle.rtp_listing.specs.Output.{IsHeader, packet_lines, lines_from, IsListing, Prints}

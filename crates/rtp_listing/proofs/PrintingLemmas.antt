@@ -9,11 +9,12 @@ use Rattle.hex.specs.Hex.{decode_of}
 use Rattle.rtp_base.specs.Window.{Numbers}
 use Rattle.rtp_ext.specs.declared.map.ExtensionMap.{ExtensionMap}
 use Rattle.rtp_wire.specs.declared.header.rtp_header.RtpHeader.{RtpHeader}
-use Rattle.rtp_wire.specs.declared.receive.receiver.Verdict.{Verdict}
-use Rattle.rtp_wire.specs.Receivers.{ReceiverStates}
-use Rattle.rtp_wire.specs.Verdicts.{packet_id_of, IsVerdict}
-use Rattle.rtp_wire.specs.Sources.{numbers_beside}
-use Rattle.rtp_wire.specs.EachSource.{HoldsEach, taken_after_each}
+use Rattle.rtp_receive.specs.declared.receiver.Verdict.{Verdict}
+use Rattle.rtp_receive.specs.Receivers.{ReceiverStates}
+use Rattle.rtp_receive.specs.Verdicts.{IsVerdict}
+use Rattle.rtp_wire.specs.PacketIds.{packet_id_of}
+use Rattle.rtp_receive.specs.Sources.{numbers_beside}
+use Rattle.rtp_receive.specs.EachSource.{HoldsEach, taken_after_each}
 use Rattle.rtp_listing.specs.Input.{AreHex}
 use Rattle.rtp_listing.specs.Front.{IsHexText}
 use Rattle.rtp_listing.specs.Output.{IsHeader, packet_lines}

@@ -4,8 +4,8 @@ use Rattle.std.specs.Fmt.{decimal, signed_decimal}
 use Rattle.rtp_base.specs.Id.{before_padding}
 use Rattle.rtp_values.specs.HeaderValues.{HeaderValues}
 use Rattle.rtp_wire.specs.declared.header.rtp_header.RtpHeader.{RtpHeader}
-use Rattle.rtp_wire.specs.declared.receive.receiver.Verdict.{Verdict}
-use Rattle.rtp_wire.specs.declared.receive.receiver.Verdict.TheVariants.{Unreadable, Taken, Refused}
+use Rattle.rtp_receive.specs.declared.receiver.Verdict.{Verdict}
+use Rattle.rtp_receive.specs.declared.receiver.Verdict.TheVariants.{Unreadable, Taken, Refused}
 
 -- how a flag is printed
 abbrev pub flag_text : Bool → List ℕ

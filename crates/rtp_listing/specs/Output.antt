@@ -5,9 +5,9 @@ use Rattle.std.specs.Fmt.{decimal}
 use Rattle.std.specs.Io.KnownBytes.{Appends}
 use Rattle.rtp_ext.specs.declared.map.ExtensionMap.{ExtensionMap}
 use Rattle.rtp_wire.specs.declared.header.rtp_header.RtpHeader.{RtpHeader}
-use Rattle.rtp_wire.specs.declared.receive.receiver.Verdict.{Verdict}
+use Rattle.rtp_receive.specs.declared.receiver.Verdict.{Verdict}
 use Rattle.rtp_wire.specs.Header.{IsWire}
-use Rattle.rtp_wire.specs.Sources.{AreVerdictsBySource}
+use Rattle.rtp_wire.specs.Runs.{AreVerdictsBySource}
 use Rattle.rtp_listing.specs.declared.program.RunEnd.{RunEnd}
 use Rattle.rtp_listing.specs.declared.program.RunEnd.TheVariants.{Done, BadLine, NoMemory, Io}
 use Rattle.rtp_listing.specs.Input.{Spells, IsFirstBadLine}

@@ -1,9 +1,9 @@
 -- One packet more of a source whose sender may start again.
 use Rattle.std.proofs.Common.{◌≡◌, ℕ, List, [], ◌∷◌, ◌++◌, length, refl, arith}
-use Rattle.rtp_wire.specs.declared.receive.restarting_verdict.RestartingVerdict.{RestartingVerdict}
-use Rattle.rtp_wire.specs.Restarting.{Bounds, Arrival}
-use Rattle.rtp_wire.specs.EpochRun as epoch
-use Rattle.rtp_wire.specs.EpochRun.{IsRunInEpoch, AreRising}
+use Rattle.rtp_receive.specs.declared.restarting_verdict.RestartingVerdict.{RestartingVerdict}
+use Rattle.rtp_receive.specs.Restarting.{Bounds, Arrival}
+use Rattle.rtp_receive.specs.EpochRun as epoch
+use Rattle.rtp_receive.specs.EpochRun.{IsRunInEpoch, AreRising}
 use Rattle.rtp_uses.specs.Arriving.{arrivals_after}
 
 pub arrivals_after-push : (before : List Arrival) (lows : List ℕ) (verdicts : List RestartingVerdict) (low : ℕ) (verdict : RestartingVerdict) → length verdicts ≡ length lows

@@ -5,12 +5,12 @@ use Rattle.std.proofs.lemmas.Bool.{false≢true, ne_eqb}
 use Rattle.rtp_base.specs.Window.{Numbers, including}
 use Rattle.rtp_ext.specs.declared.map.ExtensionMap.{ExtensionMap}
 use Rattle.rtp_wire.specs.declared.header.rtp_header.RtpHeader.{RtpHeader}
-use Rattle.rtp_wire.specs.declared.receive.receiver.Verdict.{Verdict}
-use Rattle.rtp_wire.specs.declared.receive.receiver.Verdict.TheVariants.{Unreadable, Taken, Refused}
-use Rattle.rtp_wire.specs.Receiver.{IsNothing, IsHighest, ExtendsFrom, IsNumberOf, IsFresh, IsJudged}
+use Rattle.rtp_receive.specs.declared.receiver.Verdict.{Verdict}
+use Rattle.rtp_receive.specs.declared.receiver.Verdict.TheVariants.{Unreadable, Taken, Refused}
+use Rattle.rtp_receive.specs.Receiver.{IsNothing, IsHighest, ExtendsFrom, IsNumberOf, IsFresh, IsJudged}
 use Rattle.rtp_wire.specs.Written.{image_of}
-use Rattle.rtp_wire.proofs.TrueNumberLemmas.{one_highest, greatest_of_none}
-use Rattle.rtp_wire.proofs.NearestLemmas.{only_near, Extends-within_half}
+use Rattle.rtp_receive.proofs.TrueNumberLemmas.{one_highest, greatest_of_none}
+use Rattle.rtp_receive.proofs.NearestLemmas.{only_near, Extends-within_half}
 
 number_of_none : (count : ℕ) (taken : Numbers) (highest : Option ℕ) (low number : ℕ) → IsNothing taken → IsHighest taken highest → ExtendsFrom count highest low number → number ≡ 65536 * count + low % 65536
 number_of_none count taken None low number none is near = near

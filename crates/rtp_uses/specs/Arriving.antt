@@ -1,7 +1,7 @@
 -- Packets of a source whose sender may start again, as they came.
 use Rattle.std.specs.Prelude.{ℕ, List, [], ◌∷◌}
-use Rattle.rtp_wire.specs.declared.receive.restarting_verdict.RestartingVerdict.{RestartingVerdict}
-use Rattle.rtp_wire.specs.Restarting.{Bounds, Arrival}
+use Rattle.rtp_receive.specs.declared.restarting_verdict.RestartingVerdict.{RestartingVerdict}
+use Rattle.rtp_receive.specs.Restarting.{Bounds, Arrival}
 
 -- RFC 3550's MAX_DROPOUT, a window of 1,024 numbers, and a source that is valid with its first packet
 abbrev pub usual_bounds : Bounds

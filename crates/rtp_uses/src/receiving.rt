@@ -5,11 +5,11 @@ ghost use Rattle.rtp_base.specs.Window.{Numbers, IsGreatest, including};
 ghost use Rattle.rtp_wire.specs.NotAHeader.{IsNoPacket};
 ghost use Rattle.rtp_wire.specs.Packet.{PacketParts, IsPacket};
 ghost use Rattle.rtp_wire.specs.PartsOf.{parts_of};
-ghost use Rattle.rtp_wire.specs.Receiver.{Holds, IsNumberOf, IsFresh, IsJudged, taken_after};
-ghost use Rattle.rtp_wire.specs.Receivers.{receiver_of, state_of};
-ghost use Rattle.rtp_wire.specs.TrueNumbers.{IsTrueNumber, AreTrueNumbers, AreTrueVerdicts};
+ghost use Rattle.rtp_receive.specs.Receiver.{Holds, IsNumberOf, IsFresh, IsJudged, taken_after};
+ghost use Rattle.rtp_receive.specs.Receivers.{receiver_of, state_of};
+ghost use Rattle.rtp_receive.specs.TrueNumbers.{IsTrueNumber, AreTrueNumbers, AreTrueVerdicts};
 ghost use Rattle.rtp_wire.specs.Sending.{packet_ids_of};
-ghost use Rattle.rtp_wire.specs.declared.receive.receiver.Verdict.TheVariants.{Taken, Unreadable};
+ghost use Rattle.rtp_receive.specs.declared.receiver.Verdict.TheVariants.{Taken, Unreadable};
 
 use rtp_base::{SeqNo, Ssrc};
 use rtp_wire::{Receiver, Receivers, RtpHeader, RtpPacket, Verdict};

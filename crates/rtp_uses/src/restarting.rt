@@ -1,8 +1,8 @@
 //! Packets of a source whose sender may start again.
 
 ghost use Rattle.std.specs.Prelude.{◌≡◌, length, IfOk};
-ghost use Rattle.rtp_wire.specs.Restarting.{IsRestartingRun};
-ghost use Rattle.rtp_wire.specs.EpochRun.{IsRunInEpoch, AreRising};
+ghost use Rattle.rtp_receive.specs.Restarting.{IsRestartingRun};
+ghost use Rattle.rtp_receive.specs.EpochRun.{IsRunInEpoch, AreRising};
 ghost use Rattle.rtp_uses.specs.Arriving.{usual_bounds, arrivals_of};
 
 use rtp_wire::{RestartingReceiver, RestartingVerdict};

@@ -2,10 +2,10 @@
 
 ghost use Rattle.std.specs.Prelude.{◌≡◌, ◌≤◌, ℕ, length, IfOk, OnOk};
 ghost use Rattle.rtp_base.specs.Window.{Numbers, including};
-ghost use Rattle.rtp_wire.specs.Receiver.{Holds, IsFresh};
-ghost use Rattle.rtp_wire.specs.TrueNumbers.{IsTrueNumber};
+ghost use Rattle.rtp_receive.specs.Receiver.{Holds, IsFresh};
+ghost use Rattle.rtp_receive.specs.TrueNumbers.{IsTrueNumber};
 ghost use Rattle.rtp_wire.specs.Written.{wire_bytes};
-ghost use Rattle.rtp_wire.specs.declared.receive.receiver.Verdict.TheVariants.{Taken};
+ghost use Rattle.rtp_receive.specs.declared.receiver.Verdict.TheVariants.{Taken};
 
 use crate::headers::written_and_read;
 use rtp_wire::{ExtensionMap, Receiver, RtpHeader, Verdict};

@@ -5,7 +5,6 @@ mod BlockLemmas
 pub mod PacketLemmas
 pub mod HeaderFound
 pub mod PartsLemmas
-pub mod PlacesLemmas
 mod BytesBetween
 mod PacketChanges
 mod PacketBufLemmas
@@ -32,18 +31,9 @@ mod SetInPlaceLemmas
 mod PutElementLemmas
 pub mod CompactLemmas
 mod StandardFacts
-pub mod WideningLemmas
-pub mod NearestLemmas
-mod ReceiverLemmas
-pub mod ReceiversLemmas
-mod RestartingLemmas
-mod EpochOrder
-mod EpochLemmas
-pub mod VerdictLemmas
-pub mod TrueNumberLemmas
+mod PacketIdLemmas
 mod SendingLemmas
-pub mod SourceLemmas
-mod SourceFacts
+pub mod RunLemmas
 mod RetransmissionBytes
 mod RetransmissionCauses
 mod RetransmissionHeaders

@@ -1,4 +1,4 @@
--- Header extensions and the layer allocation, whose definitions come from the lower crates.
+-- Header extensions, the layer allocation and receivers, whose definitions come from the lower crates.
 pub use Rattle.rtp_ext.specs.Form
 pub use Rattle.rtp_values.specs.Kind
 pub use Rattle.rtp_ext.specs.ExtensionMap
@@ -18,6 +18,16 @@ pub use Rattle.rtp_vla.specs.Leb
 pub use Rattle.rtp_vla.specs.Allocation
 pub use Rattle.rtp_vla.specs.AllocationWritten
 pub use Rattle.rtp_vla.specs.AllocationEqual
+pub use Rattle.rtp_receive.specs.Widening
+pub use Rattle.rtp_receive.specs.Receiver
+pub use Rattle.rtp_receive.specs.Verdicts
+pub use Rattle.rtp_receive.specs.TrueNumbers
+pub use Rattle.rtp_receive.specs.Restarting
+pub use Rattle.rtp_receive.specs.EpochRun
+pub use Rattle.rtp_receive.specs.Receivers
+pub use Rattle.rtp_receive.specs.Sources
+pub use Rattle.rtp_receive.specs.StreamState
+pub use Rattle.rtp_receive.specs.RestartingState
 -- What contracts rest on, from the bytes up.
 pub mod Block
 pub mod Packet
@@ -25,7 +35,6 @@ pub mod NotAPacket
 pub mod Rtcp
 pub mod PacketElements
 pub mod PartsOf
-pub mod SourcePlaces
 pub mod ChangedPacket
 pub mod GivenFields
 pub mod PutIntoPacket
@@ -42,21 +51,12 @@ pub mod WrittenWith
 pub mod Padding
 pub mod OriginalNumber
 pub mod Retransmission
--- Numbers over time.
-pub mod Widening
-pub mod Receiver
-pub mod Verdicts
-pub mod TrueNumbers
+-- A run of datagrams.
+pub mod PacketIds
 pub mod Sending
-pub mod Restarting
-pub mod EpochRun
-pub mod Receivers
-pub mod Sources
+pub mod Runs
 -- What functions inside promise each other.
 pub mod WrittenInForm
 pub mod PartsAt
 pub mod GrowingPacket
-pub mod StreamState
-pub mod RestartingState
-pub mod EachSource
 pub mod RetransmissionParts

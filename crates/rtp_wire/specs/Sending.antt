@@ -1,11 +1,12 @@
 -- Packets of one sender, and what arrives of them (RFC 3550, 5.1; RFC 8285, 4).
 use Rattle.std.specs.Prelude.{◌≡◌, ℕ, List, map, Option, Some}
 use Rattle.std.specs.List.{AllZip, AllByRecursion}
+use Rattle.rtp_receive.specs.Verdicts.{PacketId}
+use Rattle.rtp_receive.specs.TrueNumbers.{AreTrueNumbers}
 use Rattle.rtp_ext.specs.declared.map.ExtensionMap.{ExtensionMap}
 use Rattle.rtp_wire.specs.declared.header.rtp_header.RtpHeader.{RtpHeader}
 use Rattle.rtp_wire.specs.Header.{IsWire}
-use Rattle.rtp_wire.specs.TrueNumbers.{AreTrueNumbers}
-use Rattle.rtp_wire.specs.Verdicts.{PacketId, packet_id_of}
+use Rattle.rtp_wire.specs.PacketIds.{packet_id_of}
 use Rattle.rtp_wire.specs.Written.{image_of}
 
 -- a header of this source

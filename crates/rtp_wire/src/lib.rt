@@ -5,7 +5,7 @@
 mod header;
 mod packet;
 mod payload;
-mod receive;
+mod run;
 
 pub use header::{NotAHeader, RtpHeader};
 pub use packet::{
@@ -17,15 +17,15 @@ pub use payload::{
     MAX_BLANK_PADDING_PAYLOAD_SIZE, create_padding_packet, read_original_sequence_number,
     try_create_padding_packet, unpad_payload, write_original_sequence_number,
 };
-pub use receive::{
-    Receiver, Receivers, ReplayWindow, RestartingReceiver, RestartingVerdict, StreamReceiver,
-    Verdict, WideReceiver, extend_u7, extend_u8, extend_u15, extend_u16, extend_u32, receive_run,
-    receive_run_one,
-};
 pub use rtp_ext::{
     AbsCaptureTime, CarriedLayers, ElementList, ElementValues, Elements, Extension, ExtensionMap,
     ExtensionValues, ExtensionsForm, Iter, IterByMediaType, Kinds, KnownKind, MAX_ID,
     MAX_ID_ONE_BYTE_FORM, NewIds, Uri, VideoOrientation, VideoTiming, WithLayers, standard,
     write_elements,
 };
+pub use rtp_receive::{
+    Receiver, Receivers, ReplayWindow, RestartingReceiver, RestartingVerdict, StreamReceiver,
+    Verdict, WideReceiver, extend_u7, extend_u8, extend_u15, extend_u16, extend_u32,
+};
 pub use rtp_vla::vla;
+pub use run::{receive_run, receive_run_one};

@@ -5,6 +5,7 @@ mod not_a_header;
 mod parsing;
 mod refusal;
 mod rtp_header;
+mod sequence_number;
 mod writing;
 mod writing_values;
 

@@ -1,8 +1,8 @@
 use Rattle.std.proofs.Common.{◌≡◌, Bool, true, false, ◌||◌, ◌/◌, refl, sym, ◌∙◌, subst, arith}
 use Rattle.rtp_base.specs.Window.{Numbers}
 use Rattle.rtp_base.proofs.WindowLemmas.{Keeps-shown}
-use Rattle.rtp_wire.specs.StreamState.{ReceiverState}
-use Rattle.rtp_wire.specs.Receiver.{Holds, IsNothing}
+use Rattle.rtp_receive.specs.StreamState.{ReceiverState}
+use Rattle.rtp_receive.specs.Receiver.{Holds, IsNothing}
 use Rattle.rtp_c.proofs.receiver.receiver_of.Goals as goal
 
 none : Numbers

@@ -1,8 +1,8 @@
 use Rattle.std.proofs.Common.{◌≡◌, ℕ, Bool, true, cond, refl, sym, ap, ◌∙◌, subst, inl, inr, arith}
 use Rattle.std.proofs.lemmas.Bool.{false≢true}
 use Rattle.rtp_base.specs.Window.{Numbers, including}
-use Rattle.rtp_wire.specs.StreamState.{ReceiverState}
-use Rattle.rtp_wire.specs.Receiver.{Holds, IsFresh}
+use Rattle.rtp_receive.specs.StreamState.{ReceiverState}
+use Rattle.rtp_receive.specs.Receiver.{Holds, IsFresh}
 use Rattle.rtp_c.specs.StoredReceiver.{HoldsNumbers, bit_of}
 use Rattle.rtp_c.proofs.StoredLemmas.{started-refused, IsStarted-held, MovesBelowZero-stored}
 use Rattle.rtp_c.proofs.receiver.take.Goals as goal

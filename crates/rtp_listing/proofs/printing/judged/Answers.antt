@@ -1,7 +1,7 @@
 use Rattle.std.proofs.Common.{ℕ, ◌/◌, List, length, take, refl, ap, subst, ◌∙◌}
 use Rattle.hex.proofs.HexLemmas.{decode_of-same}
-use Rattle.rtp_wire.specs.Verdicts.{packet_id_of}
-use Rattle.rtp_wire.proofs.SourceLemmas.{HoldsEach-after}
+use Rattle.rtp_wire.specs.PacketIds.{packet_id_of}
+use Rattle.rtp_receive.proofs.SourceLemmas.{HoldsEach-after}
 use Rattle.rtp_listing.specs.Output.{IsHeader}
 use Rattle.rtp_listing.specs.Stopping.{read_header}
 use Rattle.rtp_listing.proofs.PrintLemmas.{IsHeader-read}

@@ -1,9 +1,9 @@
 use Rattle.std.proofs.Common.{◌≡◌, ℕ, sym, ap, ◌∙◌, subst, rules}
 use Rattle.std.specs.Prelude.{IsSome, IfOk}
-use Rattle.rtp_wire.specs.declared.receive.receiver.Verdict.{Verdict}
+use Rattle.rtp_receive.specs.declared.receiver.Verdict.{Verdict}
 use Rattle.rtp_wire.specs.Packet.{PacketParts, IsPacket}
-use Rattle.rtp_wire.specs.Receiver.{Holds, IsNumberOf, IsJudged}
-use Rattle.rtp_wire.specs.Receivers.{receiver_of, state_of}
+use Rattle.rtp_receive.specs.Receiver.{Holds, IsNumberOf, IsJudged}
+use Rattle.rtp_receive.specs.Receivers.{receiver_of, state_of}
 use Rattle.rtp_uses.proofs.receiving.receive_datagram.Goals as goal
 
 source_is : (c : goal.After-receive) (parts : PacketParts) → IsPacket c.args.datagram.now parts → c.ssrc.result ≡ parts.ssrc

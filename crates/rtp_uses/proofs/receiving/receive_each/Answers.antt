@@ -2,11 +2,12 @@ use Rattle.std.proofs.Common.{◌≡◌, ℕ, ◌+◌, List, [], ◌∷◌, ◌+
 use Rattle.std.specs.Prelude.{Option, Some, None}
 use Rattle.std.proofs.lemmas.List.{get_or-map, length-map, length_push, take_more, take_all}
 use Rattle.rtp_wire.specs.declared.header.rtp_header.RtpHeader.{RtpHeader}
-use Rattle.rtp_wire.specs.declared.receive.receiver.Verdict.{Verdict}
+use Rattle.rtp_receive.specs.declared.receiver.Verdict.{Verdict}
 use Rattle.rtp_wire.specs.Sending.{packet_ids_of}
-use Rattle.rtp_wire.specs.Verdicts.{PacketId, packet_id_of, taken_by, IsRun}
-use Rattle.rtp_wire.proofs.TrueNumberLemmas.{AreTrueVerdicts-run}
-use Rattle.rtp_wire.proofs.VerdictLemmas.{SoFar, SoFar-more}
+use Rattle.rtp_receive.specs.Verdicts.{PacketId, taken_by, IsRun}
+use Rattle.rtp_wire.specs.PacketIds.{packet_id_of}
+use Rattle.rtp_receive.proofs.TrueNumberLemmas.{AreTrueVerdicts-run}
+use Rattle.rtp_receive.proofs.VerdictLemmas.{SoFar, SoFar-more}
 use Rattle.rtp_uses.proofs.receiving.receive_each.Goals as goal
 
 pub loop-header-preserved : goal.loop-header-preserved

@@ -1,6 +1,6 @@
 use Rattle.std.proofs.Common.{◌≡◌, length, take, vec_capacity}
 use Rattle.rtp_wire.specs.Sending.{packet_ids_of}
-use Rattle.rtp_wire.proofs.VerdictLemmas.{SoFar}
+use Rattle.rtp_receive.proofs.VerdictLemmas.{SoFar}
 use Rattle.rtp_uses.proofs.receiving.receive_each.Given as goal
 
 -- the verdicts so far, with room for the others

@@ -1,8 +1,8 @@
 use Rattle.std.proofs.Common.{refl, sym, ap, ◌∙◌, subst, arith}
-use Rattle.rtp_wire.specs.declared.receive.receiver.Verdict.TheVariants.{Taken}
-use Rattle.rtp_wire.specs.Receiver.{Holds}
-use Rattle.rtp_wire.specs.Receivers.{state_of}
-use Rattle.rtp_wire.proofs.ReceiversLemmas.{same_state}
+use Rattle.rtp_receive.specs.declared.receiver.Verdict.TheVariants.{Taken}
+use Rattle.rtp_receive.specs.Receiver.{Holds}
+use Rattle.rtp_receive.specs.Receivers.{state_of}
+use Rattle.rtp_receive.proofs.ReceiversLemmas.{same_state}
 use Rattle.rtp_uses.proofs.ReceivingLemmas.{first_taken, no_number, IsNothing-no_number}
 use Rattle.rtp_uses.proofs.receiving.receive_first_of_two.Goals as goal
 

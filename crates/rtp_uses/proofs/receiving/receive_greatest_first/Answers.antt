@@ -1,7 +1,7 @@
 use Rattle.std.proofs.Common.{refl, sym, subst, inl, arith}
 use Rattle.std.specs.Prelude.{None}
-use Rattle.rtp_wire.specs.Receiver.{Holds}
-use Rattle.rtp_wire.specs.TrueNumbers.{IsTrueNumber}
+use Rattle.rtp_receive.specs.Receiver.{Holds}
+use Rattle.rtp_receive.specs.TrueNumbers.{IsTrueNumber}
 use Rattle.rtp_uses.proofs.ReceivingLemmas.{judged_fresh, no_number, IsNothing-no_number}
 use Rattle.rtp_uses.proofs.receiving.receive_greatest_first.Goals as goal
 

@@ -1,6 +1,6 @@
 use Rattle.std.proofs.Common.{◌≡◌, ◌+◌, refl, sym, ap, ◌∙◌, subst, arith}
-use Rattle.rtp_wire.specs.Receiver.{Holds, taken_after}
-use Rattle.rtp_wire.specs.declared.receive.receiver.Verdict.TheVariants.{Taken}
+use Rattle.rtp_receive.specs.Receiver.{Holds, taken_after}
+use Rattle.rtp_receive.specs.declared.receiver.Verdict.TheVariants.{Taken}
 use Rattle.rtp_uses.proofs.ReceivingLemmas.{first_taken, before_taken, no_number, IsNothing-no_number}
 use Rattle.rtp_uses.proofs.receiving.receive_one_before_the_first.Goals as goal
 

@@ -1,10 +1,10 @@
 use Rattle.std.proofs.Common.{◌≡◌, ℕ, ◌+◌, List, [], ◌∷◌, ◌++◌, take, length, get_or, sym, ap, ◌∙◌, subst, arith, rules, length-take-le}
 use Rattle.std.proofs.lemmas.Bool.{false≢true}
 use Rattle.std.proofs.lemmas.List.{take_more, take_all, length_push}
-use Rattle.rtp_wire.specs.declared.receive.restarting_verdict.RestartingVerdict.{RestartingVerdict}
-use Rattle.rtp_wire.specs.Restarting.{Bounds, Arrival, IsRestartingRun}
-use Rattle.rtp_wire.specs.RestartingState.{Remembers}
-use Rattle.rtp_wire.specs.EpochRun.{IsRunInEpoch, AreRising}
+use Rattle.rtp_receive.specs.declared.restarting_verdict.RestartingVerdict.{RestartingVerdict}
+use Rattle.rtp_receive.specs.Restarting.{Bounds, Arrival, IsRestartingRun}
+use Rattle.rtp_receive.specs.RestartingState.{Remembers}
+use Rattle.rtp_receive.specs.EpochRun.{IsRunInEpoch, AreRising}
 use Rattle.rtp_uses.specs.Arriving.{usual_bounds, arrivals_of}
 use Rattle.rtp_uses.proofs.ArrivingLemmas.{arrivals_after-push, none_in_epoch}
 use Rattle.rtp_uses.proofs.restarting.receive_each_epoch.Goals as goal

@@ -1,6 +1,6 @@
 use Rattle.std.proofs.Common.{◌≡◌, length, take, vec_capacity}
-use Rattle.rtp_wire.specs.RestartingState.{bounds_of, Remembers}
-use Rattle.rtp_wire.specs.EpochRun.{IsRunInEpoch, AreRising}
+use Rattle.rtp_receive.specs.RestartingState.{bounds_of, Remembers}
+use Rattle.rtp_receive.specs.EpochRun.{IsRunInEpoch, AreRising}
 use Rattle.rtp_uses.specs.Arriving.{usual_bounds, arrivals_of}
 use Rattle.rtp_uses.proofs.restarting.receive_each_epoch.Given as goal
 

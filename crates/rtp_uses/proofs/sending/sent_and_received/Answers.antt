@@ -1,6 +1,6 @@
 use Rattle.std.proofs.Common.{◌≡◌, sym, ◌∙◌, subst}
 use Rattle.std.proofs.lemmas.Option.{same_Some}
-use Rattle.rtp_wire.specs.TrueNumbers.{IsTrueNumber}
+use Rattle.rtp_receive.specs.TrueNumbers.{IsTrueNumber}
 use Rattle.rtp_uses.proofs.ReceivingLemmas.{judged_fresh, number_of_image}
 use Rattle.rtp_uses.proofs.sending.sent_and_received.Goals as goal
 

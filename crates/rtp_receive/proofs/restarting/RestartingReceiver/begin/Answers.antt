@@ -1,0 +1,20 @@
+use Rattle.std.proofs.Common.{ℕ, arith}
+use Rattle.rtp_receive.specs.Restarting.{leading}
+use Rattle.rtp_receive.specs.RestartingState.{bounds_of}
+use Rattle.rtp_receive.proofs.restarting.RestartingReceiver.begin.Goals as goal
+
+pub returns-then-row_before-leading-clause-none : goal.returns-then-row_before-leading-clause-none
+returns-then-row_before-leading-clause-none g c _ count taken holds verdict begins =
+    let k : ℕ = leading (bounds_of g.row.N c.args.self.now) begins.is_first.highest in
+    let le = (c.row_before.ensures k).0 begins.lead in
+    let is = c.leading.ensures count taken holds begins.is_first.highest begins.is_first.is_highest in
+    omega (arith, le, is, c.if-row_before-leading.true)
+
+pub returns-clause-begins : goal.returns-clause-begins
+returns-clause-begins g c count taken holds verdict is =
+    let first = c.start_epoch.ensures.first count taken holds verdict is in
+    let few = c.leading.ensures count taken holds first.highest first.is_highest in
+    record { is_first = first; lead = (c.row_before.ensures (leading (bounds_of g.row.N c.args.self.now) first.highest)).1 (omega (arith, few, c.if-row_before-leading.false)) }
+
+pub returns-clause-none : goal.returns-clause-none
+returns-clause-none g c is count taken holds verdict begins = c.start_epoch.ensures.none is count taken holds verdict begins.is_first

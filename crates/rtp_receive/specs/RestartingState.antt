@@ -1,0 +1,39 @@
+-- What a receiver of a stream whose sender may start again holds of the packets that came.
+use Rattle.std.specs.Prelude.{◌≡◌, ℕ, suc, ◌+◌, ◌*◌, ◌%◌, ◌≤◌, ◌⊎◌, ◌↔◌, List}
+use Rattle.rtp_base.specs.Window.{Numbers}
+use Rattle.rtp_receive.specs.Receiver.{HoldsOf}
+use Rattle.rtp_receive.specs.Restarting.{Bounds, IsOutside, Arrival, taken_in, LeadUp, IsRestartingRun}
+use Rattle.rtp_receive.specs.declared.restarting.RestartingReceiver.{RestartingReceiver}
+use Rattle.rtp_receive.specs.declared.restarting_verdict.RestartingVerdict.{RestartingVerdict}
+use Rattle.rtp_receive.specs.declared.restarting_verdict.RestartingVerdict.TheVariants.{Refused}
+
+-- what its caller chose
+abbrev pub bounds_of : (words : ℕ) → RestartingReceiver words → Bounds
+bounds_of words receiver = record { max_dropout = receiver.max_dropout; size = 64 * words; min_sequential = receiver.min_sequential }
+
+-- it holds the numbers taken in the epoch; the first epoch starts at this rollover count
+abbrev pub HoldsEpoch : (words : ℕ) → RestartingReceiver words → ℕ → Numbers → Type 0
+HoldsEpoch words receiver count taken = HoldsOf (64 * words) receiver.receiver count taken
+
+-- by a row of this many packets as many lead up to a packet of these 16 bits: none, or at most all of them where the bits are those that come next
+abbrev pub Leads : ℕ → ℕ → ℕ → ℕ → Type 0
+Leads in_row next low k = (k ≡ 0) ⊎ ((k ≤ in_row) × (low ≡ next))
+
+-- a packet makes the row longer where it is outside of the stream and refused, and else ends it
+abbrev pub Grows : Bounds → Numbers → ℕ → RestartingVerdict → ℕ → ℕ → ℕ → ℕ → Type 0
+Grows bounds taken low verdict old_in_row old_next in_row next = (later k : ℕ) → suc k ≤ 255 →
+    Leads in_row next later (suc k) ↔ ((verdict ≡ Refused) × IsOutside bounds taken low × (later ≡ (low + 1) % 65536) × Leads old_in_row old_next low k)
+
+-- the same of a receiver
+abbrev pub RowLeads : (words : ℕ) → RestartingReceiver words → ℕ → ℕ → Type 0
+RowLeads words receiver = Leads receiver.in_row receiver.next
+
+abbrev pub RowGrows : (words : ℕ) → RestartingReceiver words → Numbers → ℕ → RestartingVerdict → RestartingReceiver words → Type 0
+RowGrows words old taken low verdict new = Grows (bounds_of words old) taken low verdict old.in_row old.next new.in_row new.next
+
+-- it started at the rollover count 1, and is what these packets have left, of which the latest comes first
+pub record Remembers (words : ℕ) (receiver : RestartingReceiver words) (before : List Arrival) : Type 0 where
+  pub run : IsRestartingRun (bounds_of words receiver) before
+  pub holds : HoldsEpoch words receiver 1 (taken_in before)
+  pub few : receiver.min_sequential ≤ 255
+  pub row : (low k : ℕ) → k ≤ 255 → LeadUp (bounds_of words receiver) before low k ↔ RowLeads words receiver low k

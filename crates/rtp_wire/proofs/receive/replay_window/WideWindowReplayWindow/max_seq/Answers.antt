@@ -1,6 +1,0 @@
-use Rattle.rtp_wire.proofs.TrueNumberLemmas.{one_greatest}
-use Rattle.rtp_wire.proofs.receive.replay_window.WideWindowReplayWindow.max_seq.Goals as goal
-
-pub returns-clause-is : goal.returns-clause-is
-returns-clause-is g c =
-    let kept = c.max_seq.ensures.some in one_greatest kept.0 _ _ (c.max_seq.ensures.greatest kept.0 kept.1) kept.1.top
