@@ -1,5 +1,5 @@
 -- Within one epoch the packets of the stream are judged as those of a sender that never starts again.
-use Rattle.std.proofs.Common.{◌≡◌, ℕ, ◌*◌, ◌+◌, ◌/◌, ◌%◌, ◌^◌, ◌≤◌, Bool, false, ◌||◌, eqb, List, [], ◌∷◌, ◌++◌, map, refl, sym, ap, ◌∙◌, subst, inl, inr, arith}
+use Rattle.std.proofs.Common.{◌≡◌, ℕ, ◌*◌, ◌+◌, ◌/◌, ◌%◌, Bool, ◌||◌, eqb, List, [], ◌∷◌, ◌++◌, map, refl, sym, ap, ◌∙◌, subst, inl, inr, arith}
 use Rattle.std.specs.Prelude.{Option, Some, None}
 use Rattle.std.proofs.lemmas.List.{map-append}
 use Rattle.std.proofs.Math.Path.{fun_ext}
@@ -10,9 +10,9 @@ use Rattle.rtp_receive.specs.declared.restarting_verdict.RestartingVerdict.{Rest
 use Rattle.rtp_receive.specs.declared.restarting_verdict.RestartingVerdict.TheVariants.{Taken, Restarted, Refused}
 use Rattle.rtp_receive.specs.Receiver.{IsHighest, IsJudgedOf, taken_after}
 use Rattle.rtp_receive.specs.Verdicts.{PacketId, IsVerdictOf, IsRunOf, taken_by}
-use Rattle.rtp_receive.specs.Restarting.{Bounds, IsOutside, IsFirst, announced, first_number, in_stream, IsJudgedInStream, IsRestartingRun, Arrival, epoch_after, taken_in, IsNext, IsRestartingVerdict, HasNoPair, IsOneEpoch}
+use Rattle.rtp_receive.specs.Restarting.{Bounds, IsOutside, IsFirst, announced, first_number, in_stream, IsJudgedInStream, IsRestartingRun, Arrival, epoch_after, taken_in, IsNext, IsRestartingVerdict}
 use Rattle.rtp_receive.specs.declared.restarting.RestartingReceiver.{RestartingReceiver}
-use Rattle.rtp_receive.specs.RestartingState.{bounds_of, HoldsEpoch, RowLeads, RowGrows, Remembers}
+use Rattle.rtp_receive.specs.RestartingState.{bounds_of, HoldsEpoch, RowLeads, RowGrows, Remembers, Follows}
 use Rattle.rtp_receive.specs.EpochRun.{packet_id_in, verdict_in_epoch, verdicts_in_epoch, IsRunInEpoch, AreRising}
 use Rattle.rtp_receive.specs.EpochRun as epoch
 use Rattle.rtp_receive.proofs.VerdictLemmas.{taken_by-push, or_false, IsRun-more}
@@ -125,17 +125,9 @@ run_in_epoch bounds (arrival ∷ before) run =
 -- ---- one packet more
 
 -- what a verdict and what is held after it say of all packets that came before
-pub record Follows (words : ℕ) (old new : RestartingReceiver words) (low : ℕ) (verdict : RestartingVerdict) (before : List Arrival) : Type 0 where
-  pub next : IsNext (bounds_of words old) before (record { low = low; verdict = verdict })
-  pub after : Remembers words new (record { low = low; verdict = verdict } ∷ before)
-  pub in_epoch : IsRunInEpoch (bounds_of words old) (record { low = low; verdict = verdict } ∷ before)
-  pub one_epoch : HasNoPair (bounds_of words old) (record { low = low; verdict = verdict } ∷ before) → IsOneEpoch (record { low = low; verdict = verdict } ∷ before)
-  pub rising : 64 * words ≤ 2 ^ 63 → AreRising (record { low = low; verdict = verdict } ∷ before)
-  pub once : (number : ℕ) → verdict ≡ Taken number → taken_in before number ≡ false
-
 pub follows : (words : ℕ) (old new : RestartingReceiver words) (low : ℕ) (verdict : RestartingVerdict) (before : List Arrival) → Remembers words old before
     → IsRestartingVerdict (bounds_of words old) 1 (taken_in before) (RowLeads words old low) low verdict → HoldsEpoch words new 1 (epoch_after (taken_in before) verdict)
-    → RowGrows words old (taken_in before) low verdict new → bounds_of words new ≡ bounds_of words old → Follows words old new low verdict before
+    → RowGrows words old (taken_in before) low verdict new → bounds_of words new ≡ bounds_of words old → Follows words old new before (record { low = low; verdict = verdict })
 follows words old new low verdict before remembers is holds grows same =
     let bounds : Bounds = bounds_of words old in
     let next : IsNext bounds before (record { low = low; verdict = verdict }) = next_verdict words old new before low verdict remembers is in

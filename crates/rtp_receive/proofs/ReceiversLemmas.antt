@@ -1,27 +1,23 @@
 -- What the receivers have for one source, and for the others, by the places of their list.
-use Rattle.std.proofs.Common.{◌≡◌, ◌≢◌, ℕ, List, get_or, set, length-set, sym, refl, ap, ◌∙◌, subst}
-use Rattle.std.specs.Prelude.{Option, Some, None, unwrap_or, Result, Ok, Err, OnErr}
+use Rattle.std.proofs.Common.{◌≡◌, ◌≢◌, ℕ, ◌+◌, List, length, get_or, set, length-set, sym, refl, ap, ◌∙◌, subst}
+use Rattle.std.specs.Prelude.{Option, Some, None, IsSome, unwrap_or, Result, Ok, Err, IsErr}
 use Rattle.std.specs.Option.{option_map}
 use Rattle.std.specs.Ordering.{nat_cmp}
 use Rattle.std.specs.BTreeMap.{BTreeMap, get}
-use Rattle.std.proofs.lemmas.List.{get_or_default}
+use Rattle.std.proofs.lemmas.List.{get_or_default, length-map}
+use Rattle.std.proofs.lemmas.Bool.{false≢true}
 use Rattle.std.proofs.lemmas.Option.{none-some}
 use Rattle.rtp_base.specs.Window.{Numbers}
 use Rattle.rtp_receive.specs.StreamState.{ReceiverState}
 use Rattle.rtp_receive.specs.declared.receiver.ReceiverState.TheVariants.{Start}
 use Rattle.rtp_receive.specs.Receiver.{Holds, StaysBelowZeroIn}
-use Rattle.rtp_receive.specs.Receivers.{ReceiverStates, receiver_of, state_of}
-use Rattle.rtp_receive.specs.SourcePlaces.{past_the_end, held_at, held, ArePlaces}
-use Rattle.rtp_receive.proofs.PlacesLemmas.{held_of-place, held_of-found, held_of-none, ArePlaces-set, held-set_same, held-set_other}
+use Rattle.rtp_receive.specs.Receivers.{ReceiverStates, receiver_of, state_of, ChangesSource}
+use Rattle.rtp_receive.specs.SourcePlaces.{past_the_end, held_at, held, held_of, ArePlaces}
+use Rattle.rtp_receive.proofs.PlacesLemmas.{is_none, held_of-place, held_of-found, held_of-none, ArePlaces-set, held-set_same, held-set_other}
 
 -- receivers as they are seen, by the list that has them and the places in it
 abbrev pub seen : ℕ → BTreeMap ℕ ℕ → List (ℕ × ReceiverState) → ReceiverStates
 seen rollover_count places list = record { rollover_count = rollover_count; by_source = held places list }
-
--- a fact holds also where a call failed
-pub on_err : {A E : Type 0} (result : Result A E) (fact : Type 0) → fact → OnErr result fact
-on_err (Ok value) fact holds = tt
-on_err (Err error) fact holds = holds
 
 no_value : (list : List (ℕ × ReceiverState)) (place : Option ℕ) → option_map (held_at list) place ≡ None → place ≡ None
 no_value list None none = refl
@@ -62,6 +58,36 @@ module _ (rollover_count : ℕ) (places : BTreeMap ℕ ℕ) (list : List (ℕ ×
       (start is ∙ sym (ap (λ (o : Option ReceiverState). unwrap_or o (Start receivers.rollover_count)) (no_receiver none)))
       (subst (λ (s : ReceiverState). StaysBelowZeroIn made s) (sym (state_is after source added now)) stays)
 
+  -- where it has no receiver one is added, or memory is refused
+  pub ChangesSource-added : {A E : Type 0} (answer : A) (after : ReceiverStates) {added : ReceiverState} → get nat_cmp places source ≡ None → receiver_of after source ≡ Some added
+      → ((other : ℕ) → other ≢ source → receiver_of after other ≡ receiver_of (seen rollover_count places list) other) → after.rollover_count ≡ rollover_count
+      → length after.by_source ≡ length (held places list) + 1 → ChangesSource {A = A} {E = E} source (Ok answer) receivers after
+  ChangesSource-added {A = A} {E = E} answer after none now others count more =
+      subst (λ (before : ReceiverStates). ChangesSource {A = A} {E = E} source (Ok answer) before after) same (record {
+        receiver = subst (λ (o : Option ReceiverState). IsSome o) (sym now) refl;
+        others = others;
+        count = count;
+        refused = tt;
+        memory = tt;
+        as_many = λ known. absurd (is_none (held_of places list source) (held_of-none places list source none) known);
+        one_more = λ _. more;
+      })
+
+  pub ChangesSource-refused : {A E : Type 0} (answer : Result A E) (after : ReceiverStates) → IsErr answer → get nat_cmp places source ≡ None → after ≡ seen rollover_count places list
+      → ChangesSource source answer receivers after
+  ChangesSource-refused (Ok value) after is none kept = absurd (false≢true is)
+  ChangesSource-refused (Err error) after is none kept =
+      let unchanged = kept ∙ same in
+      record {
+        receiver = tt;
+        others = λ other apart. ap (λ (rs : ReceiverStates). receiver_of rs other) unchanged;
+        count = ap (λ (rs : ReceiverStates). rs.rollover_count) unchanged;
+        refused = unchanged;
+        memory = no_receiver none;
+        as_many = λ known. ap (λ (rs : ReceiverStates). length rs.by_source) unchanged;
+        one_more = λ _. tt;
+      }
+
   module _ (place : ℕ) (value : ℕ × ReceiverState) (are : ArePlaces places list) (is : get nat_cmp places source ≡ Some place) (read : value ≡ get_or list place value) where
     read_there : value ≡ get_or list place past_the_end
     read_there = read ∙ get_or_default list place value past_the_end (are.found source place is).0
@@ -99,3 +125,14 @@ module _ (rollover_count : ℕ) (places : BTreeMap ℕ ℕ) (list : List (ℕ ×
       -- and the others have theirs
       pub others_written : (other : ℕ) → other ≢ source → receiver_of (seen rollover_count places (set list place (value.0, state))) other ≡ receiver_of receivers other
       others_written other apart = held-set_other places list place (value.0, state) source other are is apart ∙ ap (λ (rs : ReceiverStates). receiver_of rs other) same
+
+      pub ChangesSource-written : {A E : Type 0} (answer : A) → ChangesSource {A = A} {E = E} source (Ok answer) receivers (seen rollover_count places (set list place (value.0, state)))
+      ChangesSource-written answer = record {
+        receiver = subst (λ (o : Option ReceiverState). IsSome o) (sym receiver_written) refl;
+        others = others_written;
+        count = ap (λ (rs : ReceiverStates). rs.rollover_count) same;
+        refused = tt;
+        memory = tt;
+        as_many = λ known. length-map places.entries (λ entry. (entry.0, held_at (set list place (value.0, state)) entry.1)) ∙ sym (length-map places.entries (λ entry. (entry.0, held_at list entry.1))) ∙ ap (λ (rs : ReceiverStates). length rs.by_source) same;
+        one_more = λ none. absurd (none-some value.1 (sym none ∙ receiver_read));
+      }

@@ -1,11 +1,12 @@
 -- What a receiver of a stream whose sender may start again holds of the packets that came.
-use Rattle.std.specs.Prelude.{◌≡◌, ℕ, suc, ◌+◌, ◌*◌, ◌%◌, ◌≤◌, ◌⊎◌, ◌↔◌, List}
+use Rattle.std.specs.Prelude.{◌≡◌, ℕ, suc, ◌+◌, ◌*◌, ◌%◌, ◌^◌, ◌≤◌, ◌⊎◌, ◌↔◌, List, ◌∷◌, false}
 use Rattle.rtp_base.specs.Window.{Numbers}
 use Rattle.rtp_receive.specs.Receiver.{HoldsOf}
-use Rattle.rtp_receive.specs.Restarting.{Bounds, IsOutside, Arrival, taken_in, LeadUp, IsRestartingRun}
+use Rattle.rtp_receive.specs.Restarting.{Bounds, IsOutside, Arrival, taken_in, LeadUp, IsNext, IsRestartingRun, HasNoPair, IsOneEpoch}
+use Rattle.rtp_receive.specs.EpochRun.{IsRunInEpoch, AreRising}
 use Rattle.rtp_receive.specs.declared.restarting.RestartingReceiver.{RestartingReceiver}
 use Rattle.rtp_receive.specs.declared.restarting_verdict.RestartingVerdict.{RestartingVerdict}
-use Rattle.rtp_receive.specs.declared.restarting_verdict.RestartingVerdict.TheVariants.{Refused}
+use Rattle.rtp_receive.specs.declared.restarting_verdict.RestartingVerdict.TheVariants.{Taken, Refused}
 
 -- what its caller chose
 abbrev pub bounds_of : (words : ℕ) → RestartingReceiver words → Bounds
@@ -37,3 +38,12 @@ pub record Remembers (words : ℕ) (receiver : RestartingReceiver words) (before
   pub holds : HoldsEpoch words receiver 1 (taken_in before)
   pub few : receiver.min_sequential ≤ 255
   pub row : (low k : ℕ) → k ≤ 255 → LeadUp (bounds_of words receiver) before low k ↔ RowLeads words receiver low k
+
+-- a packet gets its verdict by these packets that came before it, of which the latest comes first, and is remembered with them: without two in a row that are outside of the stream there is one epoch; within an epoch those of the stream are judged as if the sender never started again, and no number is taken twice; and each number of an epoch is above all those of the epochs before it
+pub record Follows (words : ℕ) (old new : RestartingReceiver words) (before : List Arrival) (arrival : Arrival) : Type 0 where
+  pub next : IsNext (bounds_of words old) before arrival
+  pub after : Remembers words new (arrival ∷ before)
+  pub one_epoch : HasNoPair (bounds_of words old) (arrival ∷ before) → IsOneEpoch (arrival ∷ before)
+  pub in_epoch : IsRunInEpoch (bounds_of words old) (arrival ∷ before)
+  pub once : (number : ℕ) → arrival.verdict ≡ Taken number → taken_in before number ≡ false
+  pub rising : 64 * words ≤ 2 ^ 63 → AreRising (arrival ∷ before)

@@ -15,7 +15,8 @@ const SHARE: usize = 8;
 // Rows that leave out more than one source in so many are given up.
 const SPARE: usize = 4;
 
-// Where rows were given up, they are made again once the map was asked so many times for each source.
+// Where rows were given up, they are made again once the map was asked so many times for each
+// source.
 const PATIENCE: usize = 16;
 
 // Where a source finds its row full, no hint is put before the map was asked so many times more.
@@ -29,19 +30,19 @@ struct Row {
     places: [u32; ROW],
 }
 
-// The place of the last packet's source, and rows of hints: an SSRC picks a row.
+// Rows of hints, of which an SSRC picks one, and the place of the last packet's source.
 //
 // Nothing is promised of a hint. Who takes one compares the source that stands there, and else asks
-// the map, so a hint may be missing or old. Where SSRCs all pick one row, as a peer may choose them,
-// there are no rows, and each of them costs what the map costs.
+// the map, so a hint may be missing or old. Where SSRCs all pick one row, as a peer may choose
+// them, there are no rows, and each of them costs what the map costs.
 #[derive(Drop)]
 pub(super) struct Hints {
-    pub(super) last: usize,
+    pub(super) last_place: usize,
     rows: Vec<Row>,
     // How often the map is asked for a source that it has, before there is anything to do about it.
     awaited: usize,
-    // How often it was asked since rows were made, where that is a reason for new ones. Those that are
-    // awaited count already.
+    // How often it was asked since rows were made, where that is a reason for new ones. Those that
+    // are awaited count already.
     asked: usize,
 }
 
@@ -66,8 +67,8 @@ impl Row {
         Some(self.places[index] as usize)
     }
 
-    // Puts a hint where the row has one on the source, or else where it has none. Returns whether it
-    // has room.
+    // Puts a hint where the row has one on the source, or else where it has none. Returns whether
+    // it has room.
     fn put(&mut self, source: u32, place: u32) -> bool {
         let sources = u32x4::from_array(self.sources);
         let places = u32x4::from_array(self.places);
@@ -87,7 +88,7 @@ impl Hints {
     // No hint yet.
     pub(super) fn new(alloc: Global) -> Self {
         Hints {
-            last: 0,
+            last_place: 0,
             rows: Vec::new(alloc),
             awaited: 0,
             asked: 0,
@@ -114,8 +115,9 @@ impl Hints {
         }
     }
 
-    // The same where nothing is awaited. Rows are made once the map was asked often enough: so sources
-    // that never come back, as those of a flood, ask for no rows. No hint drives out another one.
+    // The same where nothing is awaited. Rows are made once the map was asked often enough: so
+    // sources that never come back, as those of a flood, ask for no rows. No hint drives out
+    // another one.
     #[inline(never)]
     fn learn_now(&mut self, list: &Vec<(Ssrc, Receiver)>, ssrc: Ssrc, place: usize) {
         self.awaited = 0;
@@ -147,8 +149,8 @@ impl Hints {
         }
     }
 
-    // Makes a row for each source in place of the old ones. There are none where memory is refused, or
-    // where too many sources find their row full.
+    // Makes a row for each source in place of the old ones. There are none where memory is refused,
+    // or where too many sources find their row full.
     fn make_rows(&mut self, list: &Vec<(Ssrc, Receiver)>) {
         let alloc = *self.rows.allocator();
         self.awaited = 0;
@@ -180,8 +182,8 @@ impl Hints {
         true
     }
 
-    // The row of the source: the SSRC is multiplied by an odd number near 2^32 over the golden ratio
-    // (Knuth), so that neighbours get rows far apart, and then scaled to the number of rows.
+    // The row of the source: the SSRC is multiplied by an odd number near 2^32 over the golden
+    // ratio (Knuth), so that neighbours get rows far apart, and then scaled to the number of rows.
     fn row_of(&self, ssrc: Ssrc) -> usize {
         let mixed = u64::from(ssrc.get().wrapping_mul(0x9E37_79B1));
         (mixed.wrapping_mul(self.rows.len() as u64) >> 32) as usize

@@ -4,7 +4,7 @@ ghost use Rattle.std.specs.Prelude.{◌≡◌, ◌≢◌, ◌↔◌, ◌+◌, �
 ghost use Rattle.std.specs.Option.{option_copied};
 ghost use Rattle.rtp_base.specs.Window.{Numbers, including};
 ghost use Rattle.rtp_receive.specs.Receiver.{Holds, IsNumberOf, IsFresh, IsJudged, taken_after, StaysBelowZeroIn};
-ghost use Rattle.rtp_receive.specs.Receivers.{receiver_of, state_of};
+ghost use Rattle.rtp_receive.specs.Receivers.{receiver_of, state_of, ChangesSource};
 ghost use Rattle.rtp_receive.specs.declared.receiver.Verdict.TheVariants.{Refused};
 ghost use Rattle.rtp_receive.specs.declared.receiver.ReceiverState.TheVariants.{Start};
 ghost use Rattle.rtp_receive.specs.TrueNumbers.{IsTrueNumber};
@@ -146,9 +146,9 @@ impl Receivers {
     /// Records that the number is taken of the source, once its packet is known to be authentic. A
     /// number that [`accepts`](Self::accepts) refuses changes nothing in the source's receiver.
     ///
-    /// Memory is taken where the source gets its receiver; where it is refused nothing changes. It is also
-    /// taken now and then for the hints by which receivers are found; where that is refused, the call
-    /// goes on without.
+    /// Memory is taken where the source gets its receiver; where it is refused nothing changes. It
+    /// is also taken now and then for the hints by which receivers are found; where that is
+    /// refused, the call goes on without.
     pub fn record(&mut self, ssrc: Ssrc, number: SeqNo) -> Result<(), AllocError>
         ensures recorded { (count : ℕ) → (taken : Numbers) →
             Holds (state_of self.old ssrc) count taken →
@@ -156,20 +156,9 @@ impl Receivers {
         ensures unchanged { (count : ℕ) → (taken : Numbers) →
             Holds (state_of self.old ssrc) count taken → (IsFresh taken number → ⊥) →
             receiver_of self.new ssrc ≡ receiver_of self.old ssrc }
-        ensures receiver { OnOk result (IsSome (receiver_of self.new ssrc)) }
-        ensures others { (source : ℕ) → source ≢ ssrc →
-            receiver_of self.new source ≡ receiver_of self.old source }
-        ensures count { self.new.rollover_count ≡ self.old.rollover_count }
         ensures below_zero { OnOk result
             (StaysBelowZeroIn (state_of self.old ssrc) (state_of self.new ssrc)) }
-        ensures refused { OnErr result (self.new ≡ self.old) }
-        ensures memory { OnErr result (receiver_of self.old ssrc ≡ None) }
-
-        // One receiver more exactly where the source had none.
-        ensures as_many { IsSome (receiver_of self.old ssrc) →
-            length self.new.by_source ≡ length self.old.by_source }
-        ensures one_more { receiver_of self.old ssrc ≡ None →
-            OnOk result (length self.new.by_source ≡ length self.old.by_source + 1) }
+        ensures source { ChangesSource ssrc result self.old self.new }
     {
         let sources = &mut self.sources;
         if let Some(place) = Sources::find(
@@ -193,9 +182,9 @@ impl Receivers {
     /// [`accepts`](Self::accepts) and [`record`](Self::record) in one, where nothing is
     /// authenticated.
     ///
-    /// Memory is taken where the source gets its receiver; where it is refused nothing changes. It is also
-    /// taken now and then for the hints by which receivers are found; where that is refused, the call
-    /// goes on without.
+    /// Memory is taken where the source gets its receiver; where it is refused nothing changes. It
+    /// is also taken now and then for the hints by which receivers are found; where that is
+    /// refused, the call goes on without.
     pub fn receive(&mut self, ssrc: Ssrc, sequence_number: u16) -> Result<Verdict, AllocError>
         ensures verdict { (count : ℕ) → (taken : Numbers) →
             Holds (state_of self.old ssrc) count taken → IfOk result (λ verdict.
@@ -219,22 +208,9 @@ impl Receivers {
         ensures unchanged { IfOk result (λ verdict. verdict ≡ Refused →
             IsSome (receiver_of self.old ssrc)
             × (receiver_of self.new ssrc ≡ receiver_of self.old ssrc)) }
-
-        // The source has a receiver now, and the other sources have what they had.
-        ensures receiver { OnOk result (IsSome (receiver_of self.new ssrc)) }
-        ensures others { (source : ℕ) → source ≢ ssrc →
-            receiver_of self.new source ≡ receiver_of self.old source }
-        ensures count { self.new.rollover_count ≡ self.old.rollover_count }
         ensures below_zero { OnOk result
             (StaysBelowZeroIn (state_of self.old ssrc) (state_of self.new ssrc)) }
-        ensures refused { OnErr result (self.new ≡ self.old) }
-        ensures memory { OnErr result (receiver_of self.old ssrc ≡ None) }
-
-        // One receiver more exactly where the source had none.
-        ensures as_many { IsSome (receiver_of self.old ssrc) →
-            length self.new.by_source ≡ length self.old.by_source }
-        ensures one_more { receiver_of self.old ssrc ≡ None →
-            OnOk result (length self.new.by_source ≡ length self.old.by_source + 1) }
+        ensures source { ChangesSource ssrc result self.old self.new }
     {
         let sources = &mut self.sources;
         if let Some(place) = Sources::find(

@@ -1,11 +1,10 @@
 //! The receive state of one stream whose sender may start again.
 
-ghost use Rattle.std.specs.Prelude.{◌≡◌, ◌≢◌, ◌↔◌, ◌+◌, ◌*◌, ◌^◌, ◌<◌, ◌≤◌, ℕ, IsTrue, List, [], ◌∷◌, Some, None, false};
+ghost use Rattle.std.specs.Prelude.{◌≡◌, ◌≢◌, ◌↔◌, ◌+◌, ◌*◌, ◌<◌, ℕ, IsTrue, List, [], Some, None};
 ghost use Rattle.rtp_base.specs.Window.{Numbers};
 ghost use Rattle.rtp_receive.specs.Receiver.{IsHighest, IsJudgedOf, StaysBelowZeroInOf};
-ghost use Rattle.rtp_receive.specs.Restarting.{IsOfStream, IsOutside, in_stream, IsRestartingVerdict, Arrival, epoch_after, taken_in, IsNext, HasNoPair, IsOneEpoch};
-ghost use Rattle.rtp_receive.specs.EpochRun.{IsRunInEpoch, AreRising};
-ghost use Rattle.rtp_receive.specs.RestartingState.{bounds_of, HoldsEpoch, RowLeads, RowGrows, Remembers};
+ghost use Rattle.rtp_receive.specs.Restarting.{IsOfStream, IsOutside, in_stream, IsRestartingVerdict, Arrival, epoch_after};
+ghost use Rattle.rtp_receive.specs.RestartingState.{bounds_of, HoldsEpoch, RowLeads, RowGrows, Remembers, Follows};
 ghost use Rattle.rtp_receive.specs.declared.restarting_verdict.RestartingVerdict.{RestartingVerdict};
 ghost use Rattle.rtp_receive.specs.declared.restarting_verdict.RestartingVerdict.TheVariants.{Taken, Restarted, Refused};
 ghost use Rattle.rtp_receive.specs.declared.receiver.ReceiverState.TheVariants.{Start};
@@ -159,32 +158,9 @@ impl<const N: usize> RestartingReceiver<N> {
 
         // The same by all packets that came before, where the first epoch starts at the rollover
         // count 1, as in `new`.
-        ensures next { (before : List Arrival) → Remembers N self.old before →
-            IsNext (bounds_of N self.old) before
+        ensures follows { (before : List Arrival) → Remembers N self.old before →
+            Follows N self.old self.new before
             (record { low = sequence_number; verdict = result }) }
-        ensures after { (before : List Arrival) → Remembers N self.old before →
-            Remembers N self.new (record { low = sequence_number; verdict = result } ∷ before) }
-
-        // Without two packets in a row that are outside of the stream there is one epoch.
-        ensures one_epoch { (before : List Arrival) → Remembers N self.old before →
-            HasNoPair (bounds_of N self.old)
-            (record { low = sequence_number; verdict = result } ∷ before) →
-            IsOneEpoch (record { low = sequence_number; verdict = result } ∷ before) }
-
-        // Within an epoch the packets of the stream are judged as if the sender never started
-        // again.
-        ensures in_epoch { (before : List Arrival) → Remembers N self.old before →
-            IsRunInEpoch (bounds_of N self.old)
-            (record { low = sequence_number; verdict = result } ∷ before) }
-
-        // Each number of an epoch is above all those of the epochs before it.
-        ensures rising { (before : List Arrival) → Remembers N self.old before →
-            64 * N ≤ 2 ^ 63 →
-            AreRising (record { low = sequence_number; verdict = result } ∷ before) }
-
-        // No number is taken twice in an epoch.
-        ensures once { (before : List Arrival) → Remembers N self.old before →
-            (number : ℕ) → result ≡ Taken number → taken_in before number ≡ false }
     {
         match self.stream_number(sequence_number) {
             Some(number) => self.receive_in_stream(number),

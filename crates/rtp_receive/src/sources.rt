@@ -1,6 +1,6 @@
 //! A receiver for each source, and how it is found.
 
-ghost use Rattle.std.specs.Prelude.{◌≡◌, ◌≢◌, ◌+◌, ◌<◌, ◌≤◌, ◌++◌, ◌∷◌, [], ℕ, length, Some, None, IsSome, OnOk, OnErr, IfSome, IfNone};
+ghost use Rattle.std.specs.Prelude.{◌≡◌, ◌≢◌, ◌↔◌, ◌+◌, ◌<◌, ◌≤◌, ◌++◌, ◌∷◌, [], ℕ, length, Some, None, IsTrue, IsSome, OnOk, OnErr, IfSome, IfNone};
 ghost use Rattle.std.specs.Option.{option_copied};
 ghost use Rattle.std.specs.Ordering.{nat_cmp};
 ghost use Rattle.std.specs.BTreeMap.{get, Updates};
@@ -16,14 +16,14 @@ use std::fmt;
 // So few sources are gone through one by one, which takes less than the map does.
 const FEW: usize = 16;
 
-// A look that changes nothing may be for a forged packet, of which there is no hint. Among no more sources than
-// these, a look at the hints in vain would add too much to what the map takes.
+// A look that changes nothing may be for a forged packet, of which there is no hint. Among no more
+// sources than these, a look at the hints in vain would add too much to what the map takes.
 const MANY: usize = 4_096;
 
 // The sources with their receivers, in a list that has any order, and the place of each source in
 // it. Packets come in bursts of one source, so the place of the last one's source is tried first.
-// Few sources are gone through then. Among more it is tried where a hint says, and a source is looked
-// up in the map only where another one stands there.
+// Few sources are gone through then. Among more it is tried where a hint says, and a source is
+// looked up in the map only where another one stands there.
 #[derive(Drop)]
 pub(super) struct Sources {
     pub(super) list: Vec<(Ssrc, Receiver)>,
@@ -37,7 +37,7 @@ impl fmt::Debug for Sources {
         f.debug_struct("Sources")
             .field("list", &self.list)
             .field("places", &self.places)
-            .field("last", &self.hints.last)
+            .field("last", &self.hints.last_place)
             .finish()
     }
 }
@@ -60,18 +60,10 @@ impl Sources {
         requires { ArePlaces self.now.places self.now.list.items }
         ensures { result ≡ get nat_cmp self.now.places ssrc }
     {
-        let last = self.hints.last;
-        match self.list.get(last) {
-            Some((source, _)) if *source == ssrc => Some(last),
-            _ => self.place_of_another(ssrc),
+        let last = self.hints.last_place;
+        if stands_at(&self.list, last, ssrc) {
+            return Some(last);
         }
-    }
-
-    // The same, where the source isn't the last packet's.
-    fn place_of_another(&self, ssrc: Ssrc) -> Option<usize>
-        requires { ArePlaces self.now.places self.now.list.items }
-        ensures { result ≡ get nat_cmp self.now.places ssrc }
-    {
         if self.list.len() > MANY {
             if let Some(place) = hinted_place(&self.hints, &self.list, ssrc) {
                 return Some(place);
@@ -94,10 +86,12 @@ impl Sources {
         requires { ArePlaces places.now list.now.items }
         ensures { result ≡ get nat_cmp places.now ssrc }
     {
-        match list.get(hints.last) {
-            Some((source, _)) if *source == ssrc => Some(hints.last),
-            _ => Self::find_another(hints, list, places, ssrc),
+        if stands_at(list, hints.last_place, ssrc) {
+            return Some(hints.last_place);
         }
+        let place = Self::find_another(hints, list, places, ssrc)?;
+        hints.last_place = place;
+        Some(place)
     }
 
     // The same, where the source isn't the last packet's. What the map says becomes a hint.
@@ -113,18 +107,12 @@ impl Sources {
     {
         if hints.has_rows() {
             if let Some(place) = hinted_place(hints, list, ssrc) {
-                hints.last = place;
                 return Some(place);
             }
         } else if list.len() <= FEW {
-            let found = place_among(list, ssrc);
-            if let Some(place) = found {
-                hints.last = place;
-            }
-            return found;
+            return place_among(list, ssrc);
         }
         let place = *places.get(&ssrc)?;
-        hints.last = place;
         hints.learn(list, ssrc, place);
         Some(place)
     }
@@ -192,6 +180,15 @@ impl Sources {
     }
 }
 
+// Whether the source stands at this place of the list.
+#[inline(always)]
+fn stands_at(list: &Vec<(Ssrc, Receiver)>, place: usize, ssrc: Ssrc) -> bool
+    ensures { IsTrue result ↔ ((place < length list.now.items)
+        × (source_at list.now.items place ≡ ssrc)) }
+{
+    list.get(place).is_some_and(|(source, _)| *source == ssrc)
+}
+
 // The place of the source in the list, and `None` where it has none. The list is gone through.
 #[inline(always)]
 fn place_among(list: &Vec<(Ssrc, Receiver)>, ssrc: Ssrc) -> Option<usize>
@@ -210,8 +207,5 @@ fn hinted_place(hints: &Hints, list: &Vec<(Ssrc, Receiver)>, ssrc: Ssrc) -> Opti
         × (source_at list.now.items place ≡ ssrc)) }
 {
     let place = hints.place_of(ssrc)?;
-    match list.get(place) {
-        Some((source, _)) if *source == ssrc => Some(place),
-        _ => None,
-    }
+    stands_at(list, place, ssrc).then_some(place)
 }

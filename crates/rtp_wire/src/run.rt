@@ -26,9 +26,9 @@ use std::alloc::{AllocError, Global};
 /// one of the same SSRC and sequence number.
 ///
 /// Memory is taken for the list of the verdicts, made at once, and for the receiver of each SSRC,
-/// at its first packet; where it is refused nothing is returned. Where it is refused to the hints by
-/// which receivers are found, the run goes on without. The values of header extensions take none,
-/// and aren't looked at.
+/// at its first packet; where it is refused nothing is returned. Where it is refused to the hints
+/// by which receivers are found, the run goes on without. The values of header extensions take
+/// none, and aren't looked at.
 pub fn receive_run(
     alloc: Global,
     datagrams: &[Vec<u8>],

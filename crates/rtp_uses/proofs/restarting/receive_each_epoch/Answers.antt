@@ -28,15 +28,16 @@ loop-sequence_number-preserved c =
     let old = c.loop-sequence_number.invariant in
     let before : List Arrival = arrivals_of (take i lows) verdicts in
     let many : length verdicts ≡ length (take i lows) = old.as_many ∙ sym (length-take-le i lows (omega arith)) in
+    let next = c.receive.ensures.follows before old.remembers in
     let one : arrivals_of (take (i + 1) lows) c.push_reserved.new.self.items ≡ record { low = low; verdict = c.receive.result } ∷ before =
     ap (λ (ls : List ℕ). arrivals_of ls c.push_reserved.new.self.items) (take_more lows i 0 c.loop-sequence_number-test.true)
     ∙ ap (λ (vs : List RestartingVerdict). arrivals_of (take i lows ++ low ∷ []) vs) c.push_reserved.ensures.items ∙ arrivals_after-push [] (take i lows) verdicts low c.receive.result many in
     record {
-      remembers = subst (λ (arrivals : List Arrival). Remembers 16 c.receive.new.self arrivals) (sym one) (c.receive.ensures.after before old.remembers);
+      remembers = subst (λ (arrivals : List Arrival). Remembers 16 c.receive.new.self arrivals) (sym one) next.after;
       bounds = c.receive.ensures.bounds ∙ old.bounds;
       in_epoch = subst (λ (arrivals : List Arrival). IsRunInEpoch usual_bounds arrivals) (sym one)
-          (subst (λ (bounds : Bounds). IsRunInEpoch bounds (record { low = low; verdict = c.receive.result } ∷ before)) old.bounds (c.receive.ensures.in_epoch before old.remembers));
-      rising = subst (λ (arrivals : List Arrival). AreRising arrivals) (sym one) (c.receive.ensures.rising before old.remembers (omega arith));
+          (subst (λ (bounds : Bounds). IsRunInEpoch bounds (record { low = low; verdict = c.receive.result } ∷ before)) old.bounds next.in_epoch);
+      rising = subst (λ (arrivals : List Arrival). AreRising arrivals) (sym one) (next.rising (omega arith));
       room = c.push_reserved.ensures.capacity ∙ old.room;
       as_many = ap length c.push_reserved.ensures.items ∙ length_push verdicts c.receive.result ∙ ap (λ (k : ℕ). k + 1) old.as_many;
     }

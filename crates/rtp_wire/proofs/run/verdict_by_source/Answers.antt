@@ -38,8 +38,8 @@ returns-in-Ok-default-true-clause-after c exts packet_id read count taken holds 
     let here = returns-in-Ok-default-true-clause-read c in
     subst (λ (id : Option PacketId). IfOk c.receive.result (λ (verdict : Verdict). HoldsEach c.receive.new.self count (taken_after_each taken id verdict)))
     (one_packet_id exts c.args.datagram.now here.0 packet_id (here.1 exts) read)
-    (HoldsEach-received count c.args.receivers.now c.receive.new.self taken (record { source = c.ssrc.result; low = c.sequence_number.result }) c.receive.result holds c.receive.ensures.count
-    (c.receive.ensures.after count (taken c.ssrc.result) (holds c.ssrc.result)) c.receive.ensures.others)
+    (HoldsEach-received count c.args.receivers.now c.receive.new.self taken (record { source = c.ssrc.result; low = c.sequence_number.result }) c.receive.result holds c.receive.ensures.source.count
+    (c.receive.ensures.after count (taken c.ssrc.result) (holds c.ssrc.result)) c.receive.ensures.source.others)
 
 -- no packet begins with no header
 pub returns-in-Ok-default-true-clause-succeeds : goal.returns-in-Ok-default-true-clause-succeeds

@@ -1,7 +1,6 @@
-use Rattle.std.proofs.Common.{List, refl, inl, inr, arith}
-use Rattle.rtp_receive.specs.Restarting.{Arrival, taken_in}
-use Rattle.rtp_receive.specs.RestartingState.{Remembers}
-use Rattle.rtp_receive.proofs.EpochLemmas.{Follows, follows}
+use Rattle.std.proofs.Common.{refl, inl, inr, arith}
+use Rattle.rtp_receive.specs.Restarting.{taken_in}
+use Rattle.rtp_receive.proofs.EpochLemmas.{follows}
 use Rattle.rtp_receive.proofs.restarting.RestartingReceiver.receive.Goals as goal
 
 -- ---- a packet of the stream
@@ -16,30 +15,11 @@ returns-in-Some-clause-row g c count taken holds later k few = (
   λ parts. absurd (parts.1 c.in-Some.number (c.in-Some.ensures.some count taken holds c.in-Some.number refl)),
 )
 
-of_stream : (g : _) (c : goal.After-receive_in_stream g) (before : List Arrival) → Remembers g.row.N c.args.self.now before
-    → Follows g.row.N c.args.self.now c.receive_in_stream.new.self c.args.sequence_number c.receive_in_stream.result before
-of_stream g c before remembers =
+pub returns-in-Some-clause-follows : goal.returns-in-Some-clause-follows
+returns-in-Some-clause-follows g c before remembers =
     follows g.row.N c.args.self.now c.receive_in_stream.new.self c.args.sequence_number c.receive_in_stream.result before remembers
     (returns-in-Some-clause-verdict g c 1 (taken_in before) remembers.holds) (c.receive_in_stream.ensures.epoch 1 (taken_in before) remembers.holds)
     (returns-in-Some-clause-row g c 1 (taken_in before) remembers.holds) c.receive_in_stream.ensures.bounds
-
-pub returns-in-Some-clause-next : goal.returns-in-Some-clause-next
-returns-in-Some-clause-next g c before remembers = (of_stream g c before remembers).next
-
-pub returns-in-Some-clause-after : goal.returns-in-Some-clause-after
-returns-in-Some-clause-after g c before remembers = (of_stream g c before remembers).after
-
-pub returns-in-Some-clause-in_epoch : goal.returns-in-Some-clause-in_epoch
-returns-in-Some-clause-in_epoch g c before remembers = (of_stream g c before remembers).in_epoch
-
-pub returns-in-Some-clause-one_epoch : goal.returns-in-Some-clause-one_epoch
-returns-in-Some-clause-one_epoch g c before remembers = (of_stream g c before remembers).one_epoch
-
-pub returns-in-Some-clause-rising : goal.returns-in-Some-clause-rising
-returns-in-Some-clause-rising g c before remembers = (of_stream g c before remembers).rising
-
-pub returns-in-Some-clause-once : goal.returns-in-Some-clause-once
-returns-in-Some-clause-once g c before remembers = (of_stream g c before remembers).once
 
 pub returns-in-Some-clause-restarted : goal.returns-in-Some-clause-restarted
 returns-in-Some-clause-restarted g c number is = absurd (c.receive_in_stream.ensures.same_epoch number is)
@@ -57,27 +37,8 @@ returns-in-None-clause-row g c count taken holds later k few =
       λ parts. grown.1 (parts.0, parts.2, parts.3),
     )
 
-outside : (g : _) (c : goal.After-receive_outside g) (before : List Arrival) → Remembers g.row.N c.args.self.now before
-    → Follows g.row.N c.args.self.now c.receive_outside.new.self c.args.sequence_number c.receive_outside.result before
-outside g c before remembers =
+pub returns-in-None-clause-follows : goal.returns-in-None-clause-follows
+returns-in-None-clause-follows g c before remembers =
     follows g.row.N c.args.self.now c.receive_outside.new.self c.args.sequence_number c.receive_outside.result before remembers
     (returns-in-None-clause-verdict g c 1 (taken_in before) remembers.holds) (c.receive_outside.ensures.epoch 1 (taken_in before) remembers.holds)
     (returns-in-None-clause-row g c 1 (taken_in before) remembers.holds) c.receive_outside.ensures.bounds
-
-pub returns-in-None-clause-next : goal.returns-in-None-clause-next
-returns-in-None-clause-next g c before remembers = (outside g c before remembers).next
-
-pub returns-in-None-clause-after : goal.returns-in-None-clause-after
-returns-in-None-clause-after g c before remembers = (outside g c before remembers).after
-
-pub returns-in-None-clause-in_epoch : goal.returns-in-None-clause-in_epoch
-returns-in-None-clause-in_epoch g c before remembers = (outside g c before remembers).in_epoch
-
-pub returns-in-None-clause-one_epoch : goal.returns-in-None-clause-one_epoch
-returns-in-None-clause-one_epoch g c before remembers = (outside g c before remembers).one_epoch
-
-pub returns-in-None-clause-rising : goal.returns-in-None-clause-rising
-returns-in-None-clause-rising g c before remembers = (outside g c before remembers).rising
-
-pub returns-in-None-clause-once : goal.returns-in-None-clause-once
-returns-in-None-clause-once g c before remembers = (outside g c before remembers).once
