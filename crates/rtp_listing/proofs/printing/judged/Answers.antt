@@ -24,6 +24,6 @@ returns-clause-verdict c taken holds =
 pub returns-clause-after : goal.returns-clause-after
 returns-clause-after c taken holds =
     elim c.if-found.branch [
-      | then-found+in_ok-verdict w ↦ rw (w.receivers-is, w.verdict-is, w.if-found.true) (HoldsEach-after 0 c.args.receivers.now w.receive.new.self taken (packet_id_of c.parse_into.new.self) w.in_ok-verdict.verdict holds w.in_ok-verdict.ensures.count (w.in_ok-verdict.ensures.after 0 (taken c.parse_into.new.self.ssrc) (holds c.parse_into.new.self.ssrc)) w.in_ok-verdict.ensures.others)
+      | then-found+in_ok-verdict w ↦ rw (w.receivers-is, w.verdict-is, w.if-found.true) (HoldsEach-after 0 c.args.receivers.now w.receive.new.self taken (packet_id_of c.parse_into.new.self) w.in_ok-verdict.verdict holds w.in_ok-verdict.ensures.source.count (w.in_ok-verdict.ensures.after 0 (taken c.parse_into.new.self.ssrc) (holds c.parse_into.new.self.ssrc)) w.in_ok-verdict.ensures.source.others)
       | else-found w ↦ rw (w.receivers-is, w.verdict-is, w.if-found.false) holds
     ]

@@ -16,7 +16,7 @@ returns-clause-one c =
 pub returns-clause-other : goal.returns-clause-other
 returns-clause-other c =
     let here = c.ssrc-2.result in
-    let stays = same_state _ _ here c.in_ok-first.ensures.count (c.in_ok-first.ensures.others here (λ same. c.requires (sym c.ssrc-2.ensures ∙ same ∙ c.ssrc.ensures))) in
+    let stays = same_state _ _ here c.in_ok-first.ensures.source.count (c.in_ok-first.ensures.source.others here (λ same. c.requires (sym c.ssrc-2.ensures ∙ same ∙ c.ssrc.ensures))) in
     first_taken 0 no_number c.sequence_number-2.result c.in_ok-second.second IsNothing-no_number
     (c.in_ok-second.ensures.verdict 0 no_number
     (subst (λ state. Holds state 0 no_number) (sym (stays ∙ ap (λ receivers. state_of receivers here) c.new-receivers.ensures)) (refl, IsNothing-no_number)))
