@@ -36,8 +36,8 @@ pub fn element_of(form: ExtensionsForm, body: &[u8], id: u8) -> Option<&[u8]>
     Some(&body[place.data_start..place.end])
 }
 
-// Gives the element at the place these data, where it has as many bytes of them, and returns whether it
-// has. Else nothing changes.
+// Gives the element at the place these data, where it has as many bytes of them, and returns
+// whether it has. Else nothing changes.
 #[inline(always)]
 fn set_data(body: &mut [u8], place: &Place, data: &[u8]) -> bool
     requires order { place.now.data_start ≤ place.now.end }
@@ -56,8 +56,8 @@ fn set_data(body: &mut [u8], place: &Place, data: &[u8]) -> bool
 /// Gives the last element of the id in a block's body these data, where it has as many bytes of
 /// them, and returns whether it has; all other bytes stay. Else nothing changes.
 ///
-/// Under a map in which a kind has this id and no other, the body then says what it said, except for
-/// the fields of that kind; these are what the data say, where they are well-formed for it.
+/// Under a map in which a kind has this id and no other, the body then says what it said, except
+/// for the fields of that kind; these are what the data say, where they are well-formed for it.
 ///
 /// In the body `10 AA 21 BB CC 10 DD 00` (hexadecimal) of the one-byte form the data `EE` of id 1
 /// give `10 AA 21 BB CC 10 EE 00`.
@@ -70,7 +70,8 @@ pub fn set_element(form: ExtensionsForm, body: &mut [u8], id: u8, data: &[u8]) -
     ensures other_values { (exts : Slots) (kind : Extension) (old new : ExtensionValues) →
         extension_at exts id ≡ Some kind → SaysValues form exts body.old old →
         SaysValues form exts body.new new → OnTrue result (new ≡ with_fields kind old new) }
-    ensures values { (exts : Slots) (kind : Extension) (new : ExtensionValues) → IsOnlyId exts kind id →
+    ensures values { (exts : Slots) (kind : Extension) (new : ExtensionValues) →
+        IsOnlyId exts kind id →
         IsWellFormed kind «data».now → SaysValues form exts body.new new →
         OnTrue result (Reads kind «data».now new) }
 {
@@ -87,9 +88,11 @@ pub fn set_sole(body: &mut [u8], survey: &Survey, id: u8, data: &[u8]) -> bool
     ensures set { (form : ExtensionsForm) → IsSurvey form body.old id survey.now →
         OnTrue result (SetsLast form id «data».now body.old body.new) }
     ensures unchanged { OnFalse result (body.new ≡ body.old) }
-    ensures answer { (form : ExtensionsForm) (elements : List Element) → IsSurvey form body.old id survey.now →
+    ensures answer { (form : ExtensionsForm) (elements : List Element) →
+        IsSurvey form body.old id survey.now →
         AreElements form body.old elements → IsTrue result ↔ IsSole elements (id, «data».now) }
-    ensures elements { (form : ExtensionsForm) (elements : List Element) → IsSurvey form body.old id survey.now →
+    ensures elements { (form : ExtensionsForm) (elements : List Element) →
+        IsSurvey form body.old id survey.now →
         AreElements form body.old elements →
         OnTrue result (AreElements form body.new (put_element (id, «data».now) elements)) }
 {

@@ -8,7 +8,8 @@ use super::ExtensionsForm;
 use super::place::next_place;
 use super::raw_writing::clear_after;
 
-// Puts the elements of other ids in a row at the front, in order, and returns how many bytes they take.
+// Puts the elements of other ids in a row at the front, in order, and returns how many bytes they
+// take.
 fn gather(form: ExtensionsForm, body: &mut [u8], id: u8) -> usize
     ensures { IsGathered form id body.old body.new result }
 {
@@ -60,8 +61,8 @@ pub(super) fn gather_around(
     (front, count)
 }
 
-/// Makes a body anew without the elements of the id (RFC 8285, 4.2 and 4.3): the others in a row, and
-/// zeros to its end. Returns how many bytes the row takes.
+/// Makes a body anew without the elements of the id (RFC 8285, 4.2 and 4.3): the others in a row,
+/// and zeros to its end. Returns how many bytes the row takes.
 pub fn take_out(form: ExtensionsForm, body: &mut [u8], id: u8) -> usize
     ensures { IsTakenOut form id body.old body.new result }
 {

@@ -8,14 +8,14 @@ ghost use Rattle.rtp_ext.specs.BodySurvey.{IsSurvey, HasRows};
 ghost use Rattle.rtp_ext.specs.PutElement.{put_element, carried_in, row_to};
 
 use super::ExtensionsForm;
-use super::form::header_len;
+use super::form::element_header_len;
 use super::gathering::gather_around;
 use super::raw_writing::{clear_after, put_element};
 use super::survey::Survey;
 use super::two_byte_rows::{put_widened, widened_len};
 
-// Puts the element after so many bytes at the front of the body, and behind it the `count` bytes at the
-// offset. Returns where these end.
+// Puts the element after so many bytes at the front of the body, and behind it the `count` bytes at
+// the offset. Returns where these end.
 fn put_between(
     form: ExtensionsForm,
     body: &mut [u8],
@@ -33,7 +33,7 @@ fn put_between(
         ++ (element_bytes form (id, «data».now) ++ slice_range body.old at (at + count)) }
     ensures end { result ≡ front + length (element_bytes form (id, «data».now)) + count }
 {
-    let end = front + header_len(form) + data.len();
+    let end = front + element_header_len(form) + data.len();
     body.copy_within(at..at + count, end);
     put_element(body, front, form, id, data);
     end + count
@@ -63,8 +63,8 @@ fn put_in_rows(
     gather_around(form, body, start, end, body_len, id)
 }
 
-/// Makes a body anew with the element in it, in this form or the two-byte form (RFC 8285, 4.2 and 4.3):
-/// the elements in a row, and zeros to the end of the slice, at whose front the body lies.
+/// Makes a body anew with the element in it, in this form or the two-byte form (RFC 8285, 4.2 and
+/// 4.3): the elements in a row, and zeros to the end of the slice, at whose front the body lies.
 pub fn put_anew(
     form: ExtensionsForm,
     new_form: ExtensionsForm,
@@ -79,13 +79,16 @@ pub fn put_anew(
     requires writable { IsWritable new_form (id, «data».now) }
     requires forms { (new_form ≡ form) ⊎ (new_form ≡ TwoByte) }
     requires room { (elements : List Element) → AreElements form (take body_len body.old) elements →
-        length (elements_bytes new_form (put_element (id, «data».now) (carried_in new_form elements)))
+        length (elements_bytes new_form
+        (put_element (id, «data».now) (carried_in new_form elements)))
         ≤ length body.old }
     ensures row { (elements : List Element) → AreElements form (take body_len body.old) elements →
         body.new ≡ row_to new_form (put_element (id, «data».now) (carried_in new_form elements))
         (length body.old) }
-    ensures elements { (elements : List Element) → AreElements form (take body_len body.old) elements →
-        AreElements new_form body.new (put_element (id, «data».now) (carried_in new_form elements)) }
+    ensures elements { (elements : List Element) →
+        AreElements form (take body_len body.old) elements →
+        AreElements new_form body.new
+        (put_element (id, «data».now) (carried_in new_form elements)) }
 {
     let (start, end) = survey.around();
     let (front, count) = put_in_rows(form, body, body_len, survey, id, start, end);
@@ -121,5 +124,5 @@ pub fn put_len(
     } else {
         widened_len(body, id)
     };
-    others_len + header_len(new_form) + data.len()
+    others_len + element_header_len(new_form) + data.len()
 }

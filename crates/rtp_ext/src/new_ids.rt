@@ -53,8 +53,8 @@ fn fits_one_byte_form(byte: u8) -> bool
     byte <= MAX_ID_ONE_BYTE_FORM
 }
 
-// Whether each of these eight bytes is at most the greatest id of the one-byte form. They are looked at at
-// once.
+// Whether each of these eight bytes is at most the greatest id of the one-byte form. They are
+// looked at at once.
 #[inline(always)]
 fn are_short(ids: &[u8]) -> bool
     requires { length ids.now ≡ 8 }
@@ -76,11 +76,11 @@ impl NewIds {
         }
     }
 
-    /// The ids that elements get where a packet becomes a retransmission (RFC 4588, 4; RFC 8852, 3):
-    /// the element of an RTP stream id becomes that of a repaired RTP stream id, and one that was
-    /// there before goes. So where the map has both, each id of the first becomes the lowest of the
-    /// second, and the ids of the second have no new one. Every other id keeps itself, also one that
-    /// is mapped to nothing; so does each where the map hasn't both. Takes no memory.
+    /// The ids that elements get where a packet becomes a retransmission (RFC 4588, 4; RFC 8852,
+    /// 3): the element of an RTP stream id becomes that of a repaired RTP stream id, and one that
+    /// was there before goes. So where the map has both, each id of the first becomes the lowest of
+    /// the second, and the ids of the second have no new one. Every other id keeps itself, also one
+    /// that is mapped to nothing; so does each where the map hasn't both. Takes no memory.
     ///
     /// With 10 mapped to the RTP stream id and 11 to the repaired one, 10 becomes 11, 11 has no new
     /// id, and 4 stays 4.
@@ -91,19 +91,21 @@ impl NewIds {
     }
 
     /// The ids that elements get on the way back, where a retransmission becomes the packet that it
-    /// repeats: as with [`to_retransmission`](Self::to_retransmission), but the element of a repaired
-    /// RTP stream id becomes that of an RTP stream id.
+    /// repeats: as with [`to_retransmission`](Self::to_retransmission), but the element of a
+    /// repaired RTP stream id becomes that of an RTP stream id.
     pub fn from_retransmission<K: Kinds>(exts: &K) -> Self
         ensures { AreRenamedIds (K.slots exts.now) RepairedRtpStreamId RtpStreamId result }
     {
         Self::renaming(exts, KnownKind::RepairedRtpStreamId, KnownKind::RtpStreamId)
     }
 
-    // The table in which the ids of one kind become the lowest id of another, where both are mapped.
+    // The table in which the ids of one kind become the lowest id of another, where both are
+    // mapped.
     #[inline(always)]
     fn renaming<K: Kinds>(exts: &K, from: KnownKind, to: KnownKind) -> Self
         requires { from ≢ to }
-        ensures { AreRenamedIds (K.slots exts.now) (extension_of_kind from) (extension_of_kind to) result }
+        ensures { AreRenamedIds (K.slots exts.now) (extension_of_kind from)
+            (extension_of_kind to) result }
     {
         NewIds {
             ids: renamed_ids(exts, from, to),

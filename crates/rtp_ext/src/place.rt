@@ -13,11 +13,11 @@ ghost use Rattle.rtp_ext.specs.BlockValues.{SaysValues};
 ghost use Rattle.rtp_values.specs.declared.value.values.ExtensionValues.{ExtensionValues};
 ghost use Rattle.std.specs.List.{filter_map, list_any};
 ghost use Rattle.rtp_ext.specs.NewIds.{new_id, CarriesExtensions};
-ghost use Rattle.rtp_ext.specs.IdChanges.{ids_of};
+ghost use Rattle.rtp_ext.specs.IdChanges.{ids_of, CanChangeIds, HasOtherIds};
 ghost use Rattle.rtp_ext.specs.WrittenBlock.{mapped_fields};
 
 use super::elements::first_element;
-use super::form::{header_len, write_header};
+use super::form::{element_header_len, write_header};
 use super::raw_writing::clear;
 use super::survey::survey_of;
 use super::{ExtensionsForm, NewIds};
@@ -53,7 +53,7 @@ pub(super) fn place_before(
 {
     let end = body_len - left;
     let data_start = end - data_len;
-    let start = data_start - header_len(form);
+    let start = data_start - element_header_len(form);
     Place {
         id,
         start,
@@ -62,9 +62,9 @@ pub(super) fn place_before(
     }
 }
 
-/// The place of the first element of a block's body from the offset on, and `None` where reading ends
-/// before one (RFC 8285, 4.2 and 4.3). The elements of the body are found one after another from the
-/// offset 0 on, each from the end of the one before it.
+/// The place of the first element of a block's body from the offset on, and `None` where reading
+/// ends before one (RFC 8285, 4.2 and 4.3). The elements of the body are found one after another
+/// from the offset 0 on, each from the end of the one before it.
 ///
 /// Requires an offset within the body.
 pub fn next_place(form: ExtensionsForm, body: &[u8], at: usize) -> Option<Place>
@@ -133,8 +133,8 @@ impl IdChange<'_> {
     }
 }
 
-// Whether the form can carry the new ids of a body's elements. These aren't looked at where it can carry
-// those of all ids that they can have, as with most tables.
+// Whether the form can carry the new ids of a body's elements. These aren't looked at where it can
+// carry those of all ids that they can have, as with most tables.
 fn carries_new_ids(form: ExtensionsForm, body: &[u8], ids: &NewIds) -> bool
     ensures { IsTrue result
         ↔ All (CanRenumber form (new_id ids.now)) (elements_left form body.now) }
@@ -145,15 +145,12 @@ fn carries_new_ids(form: ExtensionsForm, body: &[u8], ids: &NewIds) -> bool
     }
 }
 
-// Gives each element its new id, or makes it padding, and returns whether one has become padding. It is
-// inlined, so that a removal and a table have loops of their own.
+// Gives each element its new id, or makes it padding, and returns whether one has become padding.
+// It is inlined, so that a removal and a table have loops of their own.
 #[inline(always)]
 fn change_ids(form: ExtensionsForm, body: &mut [u8], change: IdChange<'_>) -> bool
-    requires { All (λ element. IsElement form element → CanRenumber form (ids_of change) element)
-        (elements_left form body.old) }
-    ensures changed { ChangesIds form (ids_of change.entry) body.old body.new }
-    ensures lost { (elements : List Element) → AreElements form body.old elements →
-        result ≡ list_any (λ element. is_none (ids_of change.entry element.0)) elements }
+    requires { CanChangeIds form (ids_of change) body.old }
+    ensures { HasOtherIds form (ids_of change.entry) body.old body.new result }
 {
     match form {
         ExtensionsForm::OneByte => change_ids_in(ExtensionsForm::OneByte, body, change),
@@ -164,11 +161,8 @@ fn change_ids(form: ExtensionsForm, body: &mut [u8], change: IdChange<'_>) -> bo
 // The same. It is inlined, so that each form has a loop of its own.
 #[inline(always)]
 fn change_ids_in(form: ExtensionsForm, body: &mut [u8], change: IdChange<'_>) -> bool
-    requires { All (λ element. IsElement form element → CanRenumber form (ids_of change) element)
-        (elements_left form body.old) }
-    ensures changed { ChangesIds form (ids_of change.entry) body.old body.new }
-    ensures lost { (elements : List Element) → AreElements form body.old elements →
-        result ≡ list_any (λ element. is_none (ids_of change.entry element.0)) elements }
+    requires { CanChangeIds form (ids_of change) body.old }
+    ensures { HasOtherIds form (ids_of change.entry) body.old body.new result }
 {
     let mut lost = false;
     let mut at = 0;
@@ -225,7 +219,8 @@ pub fn renumber(form: ExtensionsForm, body: &mut [u8], ids: &NewIds) -> bool
     ensures unchanged { OnFalse result (body.new ≡ body.old) }
     ensures answer { (elements : List Element) → AreElements form body.old elements →
         IsTrue result ↔ All (CanRenumber form (new_id ids.now)) elements }
-    ensures elements { (elements : List Element) → AreElements form body.old elements → OnTrue result
+    ensures elements { (elements : List Element) → AreElements form body.old elements →
+        OnTrue result
         (AreElements form body.new (filter_map (renumbered (new_id ids.now)) elements)) }
     ensures values { (from to : Slots) (values : ExtensionValues) →
         CarriesExtensions from to ids.now → SaysValues form from body.old values →

@@ -8,7 +8,7 @@ ghost use Rattle.rtp_ext.specs.BodySurvey.{IsSurvey, IsSurveyedTo};
 
 use super::ExtensionsForm;
 use super::elements::first_element;
-use super::form::header_len;
+use super::form::element_header_len;
 use super::place::{Place, place_before};
 
 /// What a body has of an id, and how much besides.
@@ -30,7 +30,8 @@ impl Survey {
     pub(super) fn around(&self) -> (usize, usize)
         ensures some { IfSome self.now.last
             (λ place. (result.0 ≡ place.start) × (result.1 ≡ place.end)) }
-        ensures none { IfNone self.now.last ((result.0 ≡ self.now.end) × (result.1 ≡ self.now.end)) }
+        ensures none { IfNone self.now.last ((result.0 ≡ self.now.end)
+            × (result.1 ≡ self.now.end)) }
     {
         match self.last {
             Some(place) => (place.start, place.end),
@@ -60,8 +61,9 @@ struct Walk<'a> {
 }
 
 impl Walk<'_> {
-    // Goes on after the next element of the id, and returns its place; where none is left, to the end of
-    // reading. It has a loop of its own, so that less is kept from one element of another id to the next.
+    // Goes on after the next element of the id, and returns its place; where none is left, to the
+    // end of reading. It has a loop of its own, so that less is kept from one element of another id
+    // to the next.
     #[inline(always)]
     fn next_of(&mut self, form: ExtensionsForm, body: &[u8], id: u8) -> Option<Place>
         requires left { IsLeft body.now self.old.left.now }
@@ -72,20 +74,22 @@ impl Walk<'_> {
         ensures some { (last : Option Place) (count : ℕ) → IsSurveyedTo form body.now
             (length body.now - length self.old.left.now) id last count self.old.others_len →
             IfSome result (λ place. IsSurveyedTo form body.now
-            (length body.now - length self.new.left.now) id (Some place) (count + 1) self.new.others_len) }
+            (length body.now - length self.new.left.now) id (Some place)
+            (count + 1) self.new.others_len) }
         ensures none { (last : Option Place) (count : ℕ) → IsSurveyedTo form body.now
             (length body.now - length self.old.left.now) id last count self.old.others_len →
             IfNone result (IsSurveyedTo form body.now
             (length body.now - length self.new.left.now) id last count self.new.others_len) }
         ensures end { IfNone result
-            (BeginsWithNoElement form (drop (length body.now - length self.new.left.now) body.now)) }
+            (BeginsWithNoElement form
+            (drop (length body.now - length self.new.left.now) body.now)) }
     {
         while let Some((other, data, after)) = first_element(self.left, form) {
             self.left = after;
             if other == id {
                 return Some(place_before(form, body.len(), after.len(), id, data.len()));
             }
-            self.others_len += header_len(form) + data.len();
+            self.others_len += element_header_len(form) + data.len();
         }
         None
     }

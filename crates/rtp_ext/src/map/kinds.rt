@@ -16,7 +16,8 @@ impl Kinds for ExtensionMap {
 
     ghost known = { λ map. known_slots map };
 
-    ghost left = { λ map at end. items_at (known_slots map) (drop at (mapped_ids (known_slots map))) };
+    ghost left = { λ map at end. items_at (known_slots map)
+        (drop at (mapped_ids (known_slots map))) };
 
     #[inline(always)]
     fn get(&self, id: u8) -> Option<KnownKind> {

@@ -49,23 +49,23 @@ long c elements are =
 pub overflow_add-result : goal.overflow_add-result
 overflow_add-result c =
     let f = few (goal.at.overflow_add-result c).Joined-eq in
-    omega (arith, c.header_len.ensures 0 0, length-header_bytes c.args.new_form 0 0, c.requires.few)
+    omega (arith, c.element_header_len.ensures 0 0, length-header_bytes c.args.new_form 0 0, c.requires.few)
 
 pub overflow_add-result-2 : goal.overflow_add-result-2
 overflow_add-result-2 c =
     let f = few (goal.at.overflow_add-result-2 c).Joined-eq in
-    omega (arith, c.header_len.ensures 0 0, length-header_bytes c.args.new_form 0 0, c.requires.few, IsWritable-short c.args.new_form (c.args.id, c.args.data.now) c.requires.writable)
+    omega (arith, c.element_header_len.ensures 0 0, length-header_bytes c.args.new_form 0 0, c.requires.few, IsWritable-short c.args.new_form (c.args.id, c.args.data.now) c.requires.writable)
 
 pub returns-clause-length : goal.returns-clause-length
 returns-clause-length c = λ elements are.
     omega (
       arith,
       long (goal.at.returns-clause-length c).Joined-eq elements are,
-      c.header_len.ensures c.args.id (length c.args.data.now),
+      c.element_header_len.ensures c.args.id (length c.args.data.now),
       length-element c.args.new_form c.args.id c.args.data.now,
     )
 
 pub returns-clause-few : goal.returns-clause-few
 returns-clause-few c =
     let f = few (goal.at.returns-clause-few c).Joined-eq in
-    omega (arith, c.header_len.ensures 0 0, length-header_bytes c.args.new_form 0 0, IsWritable-short c.args.new_form (c.args.id, c.args.data.now) c.requires.writable)
+    omega (arith, c.element_header_len.ensures 0 0, length-header_bytes c.args.new_form 0 0, IsWritable-short c.args.new_form (c.args.id, c.args.data.now) c.requires.writable)

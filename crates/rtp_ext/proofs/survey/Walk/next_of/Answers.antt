@@ -21,13 +21,13 @@ returns-then-other-id-clause-some c = λ last count was.
 pub overflow_add-self : goal.overflow_add-self
 overflow_add-self c =
     let few = fits_all c.args.form c.args.body.now c.loop-other.self.left.now c.in-Some.other c.in-Some.data.now c.in-Some.after.now c.loop-other.invariant.0 c.in-Some.ensures in
-    omega (arith, few, c.header_len.ensures c.in-Some.other (length c.in-Some.data.now))
+    omega (arith, few, c.element_header_len.ensures c.in-Some.other (length c.in-Some.data.now))
 
 pub overflow_add-self-in-Some : goal.overflow_add-self-in-Some
 overflow_add-self-in-Some c =
     let few = fits_all c.args.form c.args.body.now c.loop-other.self.left.now c.in-Some.other c.in-Some.data.now c.in-Some.after.now c.loop-other.invariant.0 c.in-Some.ensures in
     let small = c.loop-other.invariant.2 in
-    omega (arith, few, small, c.header_len.ensures c.in-Some.other (length c.in-Some.data.now))
+    omega (arith, few, small, c.element_header_len.ensures c.in-Some.other (length c.in-Some.data.now))
 
 pub loop-other-preserved : goal.loop-other-preserved
 loop-other-preserved c =
@@ -39,12 +39,12 @@ loop-other-preserved c =
     let few = fits_all c.args.form c.args.body.now c.loop-other.self.left.now c.in-Some.other c.in-Some.data.now c.in-Some.after.now left c.in-Some.ensures in
     let fewer = c.loop-other.invariant.1 in
     let small = c.loop-other.invariant.2 in
-    let header = c.header_len.ensures c.in-Some.other (length c.in-Some.data.now) in (
+    let header = c.element_header_len.ensures c.in-Some.other (length c.in-Some.data.now) in (
       IsLeft-next c.args.form c.args.body.now c.loop-other.self.left.now c.in-Some.other c.in-Some.data.now c.in-Some.after.now left c.in-Some.ensures,
       omega (arith, few, fewer, left.few),
       omega (arith, few, small, header, left.few),
       λ last count was.
-          subst (λ (at : ℕ). IsSurveyedTo c.args.form c.args.body.now at c.args.id last count (c.loop-other.self.others_len + (c.header_len.result + length c.in-Some.data.now))) end
+          subst (λ (at : ℕ). IsSurveyedTo c.args.form c.args.body.now at c.args.id last count (c.loop-other.self.others_len + (c.element_header_len.result + length c.in-Some.data.now))) end
           (subst (λ (more : ℕ). IsSurveyedTo c.args.form c.args.body.now place.end c.args.id last count (c.loop-other.self.others_len + more)) (omega (arith, len, header))
           (IsSurveyedTo-other c.args.form c.args.body.now (length c.args.body.now - length c.loop-other.self.left.now) c.args.id last count c.loop-other.self.others_len place
           (c.loop-other.invariant.3 last count was)

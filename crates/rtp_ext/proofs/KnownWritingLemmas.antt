@@ -1,4 +1,4 @@
--- A walk over the mapped ids, by a cursor.
+-- What a map writes is what its known extensions do.
 use Rattle.std.proofs.Common.{◌≡◌, List, ap, ◌∙◌, subst}
 use Rattle.rtp_ext.specs.ExtensionMap.{Slots, items_from}
 use Rattle.rtp_ext.specs.KindsById.{known_slots}
@@ -12,8 +12,6 @@ use Rattle.rtp_values.specs.declared.value.values.ExtensionValues.{ExtensionValu
 use Rattle.rtp_ext.proofs.WrittenBlockLemmas.{items_bytes-written}
 use Rattle.rtp_ext.proofs.KnownItemsLemmas.{written_known, image_known}
 use Rattle.rtp_ext.proofs.KindsByIdLemmas.{AreValues-known}
-
--- ---- what the known extensions write
 
 pub known_bytes : (form : ExtensionsForm) (exts known : Slots) (values : ExtensionValues) → known ≡ known_slots exts
     → items_bytes form values (items_from 0 known) ≡ elements_bytes form (written_elements exts values)
