@@ -1,6 +1,6 @@
 //! A whole header, and how it is read from bytes.
 
-ghost use Rattle.std.specs.Prelude.{◌≡◌, ◌≢◌, ◌⊎◌, ◌↔◌, ◌≤◌, ◌-◌, ◌++◌, length, replicate, unwrap_or, None, IfNone, IfOk, IfErr, IsErr};
+ghost use Rattle.std.specs.Prelude.{◌≡◌, ◌≢◌, ◌⊎◌, ◌↔◌, unwrap_or, None, IfOk, IfErr, IsErr};
 ghost use Rattle.rtp_values.specs.declared.value.values.ExtensionValues.{ExtensionValues};
 ghost use Rattle.rtp_wire.specs.PacketElements.{HasValues};
 ghost use Rattle.rtp_c.specs.StoredMap.{numbered_slots};
@@ -16,11 +16,11 @@ ghost use Rattle.rtp_c.specs.Status.{ok, IsHeaderStatus};
 
 use super::kinds::StoredMap;
 use super::layers::{Layers, put_layers, put_no_layers};
-use super::status::{OK, UNKNOWN_FORM, header_status_of};
+use super::status::{OK, header_status_of};
 use super::values::{ValuesView, flag_number, put_no_values, put_values};
 use rtp_ext::read_layers;
 use rtp_vla::vla::VideoLayers;
-use rtp_wire::{Csrcs, RtpHeader, RtpPacket};
+use rtp_wire::RtpPacket;
 
 /// The header of a packet (RFC 3550, 5.1), with the values of its block: `rtpw_header` in C, 224
 /// bytes.
@@ -51,23 +51,6 @@ pub struct HeaderView {
     pub values: ValuesView,
 }
 
-// Puts the sources into the first slots and zeros into the others, and returns how many sources
-// there are.
-fn put_sources(sources: Csrcs<'_>, slots: &mut [u32; 15]) -> u8
-    requires { length sources ≤ 15 }
-    ensures sources { slots.new
-        ≡ sources.entry ++ replicate (15 - length sources.entry) 0 }
-    ensures count { result ≡ length sources.entry }
-{
-    *slots = [0; 15];
-    let mut count = 0;
-    for source in sources {
-        slots[usize::from(count)] = source;
-        count += 1;
-    }
-    count
-}
-
 // Puts what C is told of the values that the packet's block gives under the map.
 #[inline(always)]
 fn put_values_of(packet: &RtpPacket<'_>, map: &StoredMap, view: &mut ValuesView)
@@ -84,7 +67,6 @@ fn put_values_of(packet: &RtpPacket<'_>, map: &StoredMap, view: &mut ValuesView)
 // Puts what C is told of the packet's header, with the values that its block gives under the map.
 #[inline(always)]
 fn put_header(packet: &RtpPacket<'_>, map: &StoredMap, view: &mut HeaderView)
-    requires sources { length (parts_of packet.now).sources ≤ 15 }
     ensures { (values : ExtensionValues)
         × HasValues (numbered_slots map.now.kind) (parts_of packet.now).block values
         × IsViewOfHeader (header_of (parts_of packet.now) values) view.new }
@@ -92,7 +74,7 @@ fn put_header(packet: &RtpPacket<'_>, map: &StoredMap, view: &mut HeaderView)
     view.header_len = packet.header_len();
     view.timestamp = packet.timestamp();
     view.ssrc = packet.ssrc().get();
-    view.csrc_count = put_sources(packet.csrc(), &mut view.csrc);
+    view.csrc_count = packet.put_csrc(&mut view.csrc) as u8;
     view.sequence_number = packet.sequence_number();
     view.payload_type = packet.payload_type().get();
     view.marker = flag_number(packet.marker());
@@ -101,8 +83,8 @@ fn put_header(packet: &RtpPacket<'_>, map: &StoredMap, view: &mut HeaderView)
     put_values_of(packet, map, &mut view.values);
 }
 
-// Puts what C is told of the layers that the packet's block gives under the map. It stays out of line,
-// so that the layers aren't on the stack while the header is read.
+// Puts what C is told of the layers that the packet's block gives under the map. It stays out of
+// line, so that the layers aren't on the stack while the header is read.
 #[inline(never)]
 fn put_layers_of(packet: &RtpPacket<'_>, map: &StoredMap, view: &mut Layers)
     ensures { (values : ExtensionValues)
@@ -118,17 +100,8 @@ fn put_layers_of(packet: &RtpPacket<'_>, map: &StoredMap, view: &mut Layers)
     put_layers(&layers, view);
 }
 
-// The status of the first cause for which no header begins the bytes, and `OK` where one does.
-fn refusal_of(buf: &[u8]) -> i32
-    ensures { NotAHeader buf.now → IsHeaderStatus buf.now result }
-{
-    match RtpHeader::refusal(buf) {
-        Some(cause) => header_status_of(cause),
-        None => OK,
-    }
-}
-
-// The packet whose header the bytes begin with, or the status of the first cause for which none does.
+// The packet whose header the bytes begin with, or the status of the first cause for which none
+// does.
 #[inline(always)]
 fn packet_in(buf: &[u8]) -> Result<RtpPacket<'_>, i32>
     ensures found { IfOk result (λ packet. IsPacket buf.now (parts_of packet)) }
@@ -136,18 +109,16 @@ fn packet_in(buf: &[u8]) -> Result<RtpPacket<'_>, i32>
     ensures cause { IfErr result (IsHeaderStatus buf.now) }
     ensures refused { NotAHeader buf.now → IsErr result }
 {
-    let Ok(packet) = RtpPacket::parse(buf) else {
-        return Err(refusal_of(buf));
-    };
-    if packet.has_other_form() {
-        return Err(UNKNOWN_FORM);
+    match RtpPacket::parse_known_form(buf) {
+        Ok(packet) => Ok(packet),
+        Err(cause) => Err(header_status_of(cause)),
     }
-    Ok(packet)
 }
 
 /// Reads the header that the bytes begin with, with the values that its block gives under the map
-/// (RFC 3550, 5.1 and 5.3.1; RFC 8285, 4.2 and 4.3). Whatever follows the header isn't looked at. `OK`,
-/// or the status of the first cause for which no header begins there, and then nothing is written.
+/// (RFC 3550, 5.1 and 5.3.1; RFC 8285, 4.2 and 4.3). Whatever follows the header isn't looked at.
+/// `OK`, or the status of the first cause for which no header begins there, and then nothing is
+/// written.
 #[unsafe(no_mangle)]
 pub extern "C" fn rtpw_parse(buf: &[u8], map: &StoredMap, header: &mut HeaderView) -> i32
     ensures found { result ≡ ok → IsParsedAs map.now.kind buf.now header.new }
@@ -166,9 +137,9 @@ pub extern "C" fn rtpw_parse(buf: &[u8], map: &StoredMap, header: &mut HeaderVie
     }
 }
 
-/// Reads the header as [`rtpw_parse`] does, and with it the layer allocation of its block. Where the
-/// block gives none, as `has_layers` of the header's values tells, the layers are those of a sender
-/// that sends nothing: each number is 0. Where it isn't `OK` nothing is written.
+/// Reads the header as [`rtpw_parse`] does, and with it the layer allocation of its block. Where
+/// the block gives none, as `has_layers` of the header's values tells, the layers are those of a
+/// sender that sends nothing: each number is 0. Where it isn't `OK` nothing is written.
 #[unsafe(no_mangle)]
 pub extern "C" fn rtpw_parse_layers(
     buf: &[u8],

@@ -11,9 +11,10 @@ use super::numbers::{
 use rtp_ext::Kinds;
 use rtp_values::KnownKind;
 
-/// The extensions by their ids (RFC 8285, 5): `rtpw_map` in C, 256 bytes, which C may fill itself. Each
-/// value is one: a number from 128 on is one of the caller's own, whose id is mapped to no kind; any
-/// other that is no kind's maps its id to nothing, and what stands at index 0 is passed over.
+/// The extensions by their ids (RFC 8285, 5): `rtpw_map` in C, 256 bytes, which C may fill itself.
+/// Each value is one: a number from 128 on is one of the caller's own, whose id is mapped to no
+/// kind; any other that is no kind's maps its id to nothing, and what stands at index 0 is passed
+/// over.
 #[repr(C)]
 #[derive(Clone, Copy)]
 pub struct StoredMap {
@@ -51,8 +52,9 @@ impl StoredMap {
         if are_zeros(&self.kind[16..]) { 16 } else { 256 }
     }
 
-    // A slot such that each from the given one up to it is mapped to no kind: the first behind which one of
-    // 16 is, or fewer than 16 are left. The slot of an id stands at the index below it.
+    // A slot such that each from the given one up to it is mapped to no kind: the first behind
+    // which one of 16 is, or fewer than 16 are left. The slot of an id stands at the index below
+    // it.
     #[inline(never)]
     fn past_unmapped(&self, from: usize) -> usize
         requires { from < 255 }
@@ -93,7 +95,8 @@ impl Kinds for StoredMap {
 
     ghost known = { λ map. numbered_slots map.kind };
 
-    // A walk that ends within the slots of the one-byte form ends there, and any other at the last slot.
+    // A walk that ends within the slots of the one-byte form ends there, and any other at the last
+    // slot.
     ghost left = { λ map at end.
         items_from at (drop at (take (last_end end) (numbered_slots map.kind))) };
 
@@ -105,8 +108,9 @@ impl Kinds for StoredMap {
         kind_numbered(self.kind[usize::from(id)])
     }
 
-    // The end is that of the slots that are looked at one by one: where only low ids are mapped all up to
-    // the last of these, and else the first 15, behind which those without a kind are passed over.
+    // The end is that of the slots that are looked at one by one: where only low ids are mapped all
+    // up to the last of these, and else the first 15, behind which those without a kind are passed
+    // over.
     #[inline(always)]
     fn walk_end(&self) -> usize {
         let is_low = are_zeros(&self.kind[16..]);

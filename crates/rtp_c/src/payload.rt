@@ -30,8 +30,8 @@ pub extern "C" fn rtpw_read_original(payload: &[u8], number: &mut u16) -> i32
 }
 
 /// Writes the low 16 bits of the original sequence number to the front of the payload of a
-/// retransmission packet (RFC 4588, 4). `OK`, or `SHORT_BUFFER` where there are fewer than two bytes,
-/// and then nothing is written.
+/// retransmission packet (RFC 4588, 4). `OK`, or `SHORT_BUFFER` where there are fewer than two
+/// bytes, and then nothing is written.
 #[unsafe(no_mangle)]
 pub extern "C" fn rtpw_write_original(payload: &mut [u8], number: u64) -> i32
     ensures done { 2 ≤ length payload.old → result ≡ ok }
@@ -50,9 +50,9 @@ pub extern "C" fn rtpw_write_original(payload: &mut [u8], number: u64) -> i32
 /// Makes a packet of padding alone after its header (RFC 3550, 5.1): sets P, and writes the padding
 /// from `header_len` on, zeros and in the last byte their count. It is `pad_len` rounded up to a
 /// multiple of `block_size`, but at most 240; with a `pad_len` of 0 nothing changes, and no room is
-/// wanted. `OK`, and how many bytes of padding there are is written too; `BAD_FIELD` where `block_size`
-/// is 0; `SHORT_BUFFER` where there isn't room for the header and the padding. Where it isn't `OK`
-/// nothing is written.
+/// wanted. `OK`, and how many bytes of padding there are is written too; `BAD_FIELD` where
+/// `block_size` is 0; `SHORT_BUFFER` where there isn't room for the header and the padding. Where
+/// it isn't `OK` nothing is written.
 #[unsafe(no_mangle)]
 pub extern "C" fn rtpw_pad(
     datagram: &mut [u8],

@@ -1,6 +1,6 @@
 use Rattle.std.proofs.Common.{◌≡◌, ◌++◌, take, drop, map}
 use Rattle.std.specs.Int.{w32, from_be_bytes}
-use Rattle.rtp_wire.proofs.packet.rtp_packet.RtpPacket.put_fields.Given as goal
+use Rattle.rtp_wire.proofs.packet.rtp_packet.RtpPacket.put_csrc.Given as goal
 
 -- the numbers of the groups so far, and the slots after them as they were
 abbrev pub invariant-loop-slot : goal.invariant-loop-slot

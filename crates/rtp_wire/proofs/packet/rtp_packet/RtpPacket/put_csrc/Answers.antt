@@ -1,7 +1,7 @@
 use Rattle.std.proofs.Common.{arith}
 use Rattle.std.specs.Int.{w32, from_be_bytes}
 use Rattle.rtp_wire.proofs.GroupLemmas.{set_slot}
-use Rattle.rtp_wire.proofs.packet.rtp_packet.RtpPacket.put_fields.Goals as goal
+use Rattle.rtp_wire.proofs.packet.rtp_packet.RtpPacket.put_csrc.Goals as goal
 
 pub loop-slot-preserved : goal.loop-slot-preserved
 loop-slot-preserved c =
