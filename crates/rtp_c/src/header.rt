@@ -5,7 +5,7 @@ ghost use Rattle.rtp_values.specs.declared.value.values.ExtensionValues.{Extensi
 ghost use Rattle.rtp_wire.specs.PacketElements.{HasValues};
 ghost use Rattle.rtp_c.specs.StoredMap.{numbered_slots};
 ghost use Rattle.rtp_wire.specs.Header.{header_of};
-ghost use Rattle.rtp_wire.specs.NotAHeader.{NotAHeader};
+ghost use Rattle.rtp_wire.specs.NotAHeader.{HasNoHeader};
 ghost use Rattle.rtp_wire.specs.Packet.{IsPacket};
 ghost use Rattle.rtp_wire.specs.PartsOf.{parts_of};
 ghost use Rattle.rtp_vla.specs.Allocation.{nothing_sent};
@@ -107,7 +107,7 @@ fn packet_in(buf: &[u8]) -> Result<RtpPacket<'_>, i32>
     ensures found { IfOk result (λ packet. IsPacket buf.now (parts_of packet)) }
     ensures known { IfOk result (λ packet. (parts_of packet).other_block ≡ None) }
     ensures cause { IfErr result (IsHeaderStatus buf.now) }
-    ensures refused { NotAHeader buf.now → IsErr result }
+    ensures refused { HasNoHeader buf.now → IsErr result }
 {
     match RtpPacket::parse_known_form(buf) {
         Ok(packet) => Ok(packet),
@@ -124,7 +124,7 @@ pub extern "C" fn rtpw_parse(buf: &[u8], map: &StoredMap, header: &mut HeaderVie
     ensures found { result ≡ ok → IsParsedAs map.now.kind buf.now header.new }
 
     // The causes for which no header is read, and there are no others.
-    ensures refused { IsHeaderStatus buf.now result ↔ NotAHeader buf.now }
+    ensures refused { IsHeaderStatus buf.now result ↔ HasNoHeader buf.now }
     ensures statuses { (result ≡ ok) ⊎ IsHeaderStatus buf.now result }
     ensures unchanged { result ≢ ok → header.new ≡ header.old }
 {
@@ -151,7 +151,7 @@ pub extern "C" fn rtpw_parse_layers(
         IsParsedWithLayersAs map.now.kind buf.now header.new layers.new }
 
     // The causes for which no header is read, and there are no others.
-    ensures refused { IsHeaderStatus buf.now result ↔ NotAHeader buf.now }
+    ensures refused { IsHeaderStatus buf.now result ↔ HasNoHeader buf.now }
     ensures statuses { (result ≡ ok) ⊎ IsHeaderStatus buf.now result }
     ensures unchanged { result ≢ ok → (header.new ≡ header.old) × (layers.new ≡ layers.old) }
 {

@@ -64,16 +64,15 @@ pub extern "C" fn rtpw_pad(
     ensures length { result ≡ ok → 0 < pad_len → IsPaddingLength pad_len block_size count.new }
     ensures padded { result ≡ ok → 0 < pad_len → datagram.new
         ≡ overwritten (with_padding_bit datagram.old) header_len (padding_bytes count.new) }
-    ensures nothing { result ≡ ok → pad_len ≡ 0 → count.new ≡ 0 }
+    ensures nothing { 1 ≤ block_size → pad_len ≡ 0 → (result ≡ ok) × (count.new ≡ 0) }
     ensures same { pad_len ≡ 0 → datagram.new ≡ datagram.old }
     ensures no_block { block_size ≡ 0 → result ≡ bad_field }
     ensures short { 1 ≤ block_size → 0 < pad_len → (n : ℕ) → IsPaddingLength pad_len block_size n →
         length datagram.old < header_len + n → result ≡ short_buffer }
     ensures done { 1 ≤ block_size → 0 < pad_len → (n : ℕ) → IsPaddingLength pad_len block_size n →
         header_len + n ≤ length datagram.old → result ≡ ok }
-    ensures none_wanted { 1 ≤ block_size → pad_len ≡ 0 → result ≡ ok }
-    ensures unchanged { result ≢ ok → datagram.new ≡ datagram.old }
-    ensures unwritten { result ≢ ok → count.new ≡ count.old }
+    ensures unchanged { result ≢ ok →
+        (datagram.new ≡ datagram.old) × (count.new ≡ count.old) }
 {
     if block_size == 0 {
         return BAD_FIELD;

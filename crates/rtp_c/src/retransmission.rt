@@ -82,8 +82,8 @@ pub extern "C" fn rtpw_to_retransmission(
         IsWithoutPadding original.has_padding original.payload payload →
         len.new ≡ header_len_of original + 2 + length payload }
     ensures block_header { result ≡ ok → KeepsBlockHeader buf.old buf.new }
-    ensures within { result ≡ ok → len.new ≤ length buf.old }
-    ensures behind { result ≡ ok → drop len.new buf.new ≡ drop len.new buf.old }
+    ensures behind { result ≡ ok → (len.new ≤ length buf.old)
+        × (drop len.new buf.new ≡ drop len.new buf.old) }
     ensures too_high { 127 < payload_type → result ≡ bad_field }
     ensures refusal { payload_type ≤ 127 → result ≢ ok →
         IsRefusal (KeepsFromSending (new_id (ids_in_bytes ids.now.id)) buf.old len.old) result }
@@ -134,8 +134,8 @@ pub extern "C" fn rtpw_from_retransmission(
         IsWithoutPadding sent.has_padding sent.payload payload →
         len.new + 2 ≡ header_len_of sent + length payload }
     ensures block_header { result ≡ ok → KeepsBlockHeader buf.old buf.new }
-    ensures within { result ≡ ok → len.new ≤ length buf.old }
-    ensures behind { result ≡ ok → drop len.new buf.new ≡ drop len.new buf.old }
+    ensures behind { result ≡ ok → (len.new ≤ length buf.old)
+        × (drop len.new buf.new ≡ drop len.new buf.old) }
     ensures too_high { 127 < payload_type → result ≡ bad_field }
     ensures refusal { payload_type ≤ 127 → result ≢ ok →
         IsRefusal (KeepsFromRestoring (new_id (ids_in_bytes ids.now.id)) buf.old len.old) result }

@@ -4,7 +4,7 @@ ghost use Rattle.std.specs.Prelude.{◌↔◌, ◌≡◌, ◌≤◌, ◌-◌, �
 ghost use Rattle.std.specs.Bool.{OnTrue};
 ghost use Rattle.rtp_wire.specs.PacketElements.{HasValues};
 ghost use Rattle.rtp_wire.specs.RefusedMemory.{AreValuesStopped, BlockHasAllocation, HeaderHasAllocation, IsHeaderStopped, IsWireStopped};
-ghost use Rattle.rtp_wire.specs.NotAHeader.{NotAHeader};
+ghost use Rattle.rtp_wire.specs.NotAHeader.{HasNoHeader};
 ghost use Rattle.rtp_wire.specs.Header.{header_of, IsHeaderOf, IsWire};
 ghost use Rattle.rtp_values.specs.declared.value.values.ExtensionValues.{ExtensionValues};
 ghost use Rattle.rtp_values.specs.Values.{no_values};
@@ -53,7 +53,7 @@ impl RtpHeader {
 
         // The causes for which no header is returned, and there are no others. That they are those
         // of a packet, and another form of its block, is `either` of `refusal`.
-        ensures refused { (result ≡ Ok None) ↔ NotAHeader buf.now }
+        ensures refused { (result ≡ Ok None) ↔ HasNoHeader buf.now }
     {
         let Ok((packet, true)) = RtpPacket::read(buf) else {
             return Ok(None);
@@ -98,8 +98,8 @@ impl RtpHeader {
             OnTrue found (self.new.header_len ≤ length buf.now)) }
 
         // The causes for which no header is read, and there are no others: see `refusal`.
-        ensures refused { (result ≡ Ok false) ↔ NotAHeader buf.now }
-        ensures same { NotAHeader buf.now → self.new ≡ self.old }
+        ensures refused { (result ≡ Ok false) ↔ HasNoHeader buf.now }
+        ensures same { HasNoHeader buf.now → self.new ≡ self.old }
     {
         let Ok((packet, true)) = RtpPacket::read(buf) else {
             return Ok(false);

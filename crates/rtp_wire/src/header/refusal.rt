@@ -2,7 +2,7 @@
 
 ghost use Rattle.std.specs.Prelude.{◌≡◌, ◌↔◌, ◌⊎◌, ◌+◌, ◌≤◌, ◌/◌, ◌%◌, length, slice_index, None, IsErr, IfOk, IfErr, IfSome, IsSome, IsTrue};
 ghost use Rattle.rtp_wire.specs.NoHeaderCause.{IsFirstHeaderCause};
-ghost use Rattle.rtp_wire.specs.NotAHeader.{sources_end, IsNoPacket, HasUnknownForm, NotAHeader as BeginsWithNone};
+ghost use Rattle.rtp_wire.specs.NotAHeader.{sources_end, IsNoPacket, HasUnknownForm, HasNoHeader};
 ghost use Rattle.rtp_wire.specs.Packet.{IsPacket, HasOtherForm};
 
 use super::{NotAHeader, RtpHeader};
@@ -21,7 +21,7 @@ impl<'a> RtpPacket<'a> {
         ensures found { IfOk result (λ packet. IsPacket datagram.now (parts_of packet)) }
         ensures known { IfOk result (λ packet. (parts_of packet).other_block ≡ None) }
         ensures cause { IfErr result (IsFirstHeaderCause datagram.now) }
-        ensures refused { IsErr result ↔ BeginsWithNone datagram.now }
+        ensures refused { IsErr result ↔ HasNoHeader datagram.now }
     {
         match Self::parse(datagram) {
             Ok(packet) if packet.has_other_form() => Err(NotAHeader::UnknownForm),
@@ -40,11 +40,11 @@ impl RtpHeader {
     /// header begins there: 0xABAC is the word of neither form.
     pub fn refusal(buf: &[u8]) -> Option<NotAHeader>
         ensures cause { IfSome result (IsFirstHeaderCause buf.now) }
-        ensures refused { IsSome result ↔ BeginsWithNone buf.now }
+        ensures refused { IsSome result ↔ HasNoHeader buf.now }
 
         // No header begins exactly where the bytes are no packet, or one whose block is of another
         // form than the two.
-        ensures either { BeginsWithNone buf.now ↔ (IsNoPacket buf.now ⊎ HasOtherForm buf.now) }
+        ensures either { HasNoHeader buf.now ↔ (IsNoPacket buf.now ⊎ HasOtherForm buf.now) }
     {
         RtpPacket::parse_known_form(buf).err()
     }

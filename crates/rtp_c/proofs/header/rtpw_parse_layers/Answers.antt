@@ -8,7 +8,7 @@ use Rattle.rtp_c.specs.HeaderView.{BeginsWithHeader}
 use Rattle.rtp_c.specs.LayersView.{IsViewOfLayers}
 use Rattle.rtp_c.specs.StoredMap.{numbered_slots}
 use Rattle.rtp_c.proofs.NumberedLemmas.{HasKinds-numbered}
-use Rattle.rtp_c.proofs.HeaderStatusLemmas.{NotAHeader-status}
+use Rattle.rtp_c.proofs.HeaderStatusLemmas.{HasNoHeader-status}
 use Rattle.rtp_c.proofs.header.rtpw_parse_layers.Goals as goal
 use Rattle.rtp_c.proofs.header.rtpw_parse_layers.Goals.{After-put_header}
 
@@ -52,4 +52,4 @@ returns-else-header-eq0-clause-found c _ =
     }
 
 pub returns-in-Err-clause-refused : goal.returns-in-Err-clause-refused
-returns-in-Err-clause-refused c = (λ is. NotAHeader-status c.args.buf.now _ is, λ none. search (rules, c.in-Err.ensures.cause))
+returns-in-Err-clause-refused c = (λ is. HasNoHeader-status c.args.buf.now _ is, λ none. search (rules, c.in-Err.ensures.cause))
