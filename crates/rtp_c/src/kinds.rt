@@ -1,6 +1,7 @@
 //! The map that C fills, as it stands, as a map of kinds.
 
 ghost use Rattle.std.specs.Prelude.{◌≡◌, ◌+◌, ℕ, ◌<◌, ◌≤◌, slice_index, None};
+ghost use Rattle.std.specs.Bool.{OnTrue};
 ghost use Rattle.rtp_c.specs.KindNumbers.{kind_numbered};
 ghost use Rattle.rtp_c.specs.StoredMap.{IsNumberAt, IsIdOf};
 
@@ -44,12 +45,20 @@ impl StoredMap {
         }
     }
 
+    // Whether no id from 16 on means a number, as under most maps.
+    #[inline(always)]
+    fn has_low_ids_alone(&self) -> bool
+        ensures { OnTrue result ((id : ℕ) → 16 ≤ id → slice_index self.now.kind id ≡ 0) }
+    {
+        are_zeros(&self.kind[16..])
+    }
+
     // The index from which on each number is 0: 16 where all from there on are, or the end.
     pub(super) fn numbers_end(&self) -> usize
         ensures zeros { (id : ℕ) → result ≤ id → id < 256 → slice_index self.now.kind id ≡ 0 }
         ensures few { result ≤ 256 }
     {
-        if are_zeros(&self.kind[16..]) { 16 } else { 256 }
+        if self.has_low_ids_alone() { 16 } else { 256 }
     }
 
     // A slot such that each from the given one up to it is mapped to no kind: the first behind
@@ -113,7 +122,7 @@ impl Kinds for StoredMap {
     // over.
     #[inline(always)]
     fn walk_end(&self) -> usize {
-        let is_low = are_zeros(&self.kind[16..]);
+        let is_low = self.has_low_ids_alone();
         let is_few = are_zeros(&self.kind[8..16]);
         if is_low {
             if is_few {
