@@ -67,8 +67,8 @@ fn write_element<V: ElementValues>(
     start + len
 }
 
-// Whether a text is written that is empty. It stays out of line, since few values have an empty text
-// and its loop would make every other call save registers.
+// Whether a text is written that is empty. It stays out of line, since few values have an empty
+// text and its loop would make every other call save registers.
 #[inline(never)]
 fn has_empty_data<K: Kinds, V: ElementValues>(ids: &KnownIds<'_, K>, ev: &V) -> bool
     ensures { result ≡ has_empty (items_from 0 (known_slots ids.now)) (V.values ev.now) }
@@ -135,8 +135,8 @@ fn most_in_two_byte_form<K: Kinds>(mut items: KnownItems<'_, K>) -> usize
     most
 }
 
-/// An upper bound of how many bytes [`write_values`] writes in the form, told by the mapped kinds and by
-/// whether there are layers, so that no other value is looked at. The form is what
+/// An upper bound of how many bytes [`write_values`] writes in the form, told by the mapped kinds
+/// and by whether there are layers, so that no other value is looked at. The form is what
 /// [`values_form`] returned.
 #[inline(always)]
 pub fn values_len_at_most<K: Kinds, V: ElementValues>(

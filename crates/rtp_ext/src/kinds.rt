@@ -28,8 +28,8 @@ pub trait Kinds {
     fn get(&self, id: u8) -> Option<KnownKind>
         ensures { option_map extension_of_kind result ≡ extension_at (known self.now) id };
 
-    /// The end with which a walk over all ids that are mapped to a known extension begins at 0. `next` may
-    /// move it.
+    /// The end with which a walk over all ids that are mapped to a known extension begins at 0.
+    /// `next` may move it.
     fn walk_end(&self) -> usize
         ensures all { left self.now 0 result ≡ items_from 0 (known self.now) }
         ensures few { length (items_from 0 (known self.now)) ≤ 255 }
@@ -43,25 +43,27 @@ pub trait Kinds {
         ensures none { IfNone result (left self.now at.old end.old ≡ []) }
         ensures within { end.new ≤ 255 };
 
-    /// Whether the one-byte form can't carry a mapped id or the longest data of a mapped kind. The end is
-    /// that of a walk over all of them.
+    /// Whether the one-byte form can't carry a mapped id or the longest data of a mapped kind. The
+    /// end is that of a walk over all of them.
     fn has_long(&self, end: usize) -> bool
         requires all { left self.now 0 end ≡ items_from 0 (known self.now) }
         requires within { end ≤ 255 }
         ensures { result ≡ list_any is_long_item (items_from 0 (slots self.now)) };
 
-    /// At most so many ids are mapped to a known extension. The end is that of a walk over all of them.
+    /// At most so many ids are mapped to a known extension. The end is that of a walk over all of
+    /// them.
     fn at_most(&self, end: usize) -> usize
         requires all { left self.now 0 end ≡ items_from 0 (known self.now) }
         requires within { end ≤ 255 }
         ensures most { length (items_from 0 (known self.now)) ≤ result }
         ensures few { result ≤ 255 };
 
-    /// Puts `lowest` at the index of each id that is mapped to the first kind, and 0 at that of each id
-    /// that is mapped to the second. Precondition: the kinds are two.
+    /// Puts `lowest` at the index of each id that is mapped to the first kind, and 0 at that of
+    /// each id that is mapped to the second. Precondition: the kinds are two.
     fn rename(&self, from: KnownKind, to: KnownKind, lowest: u8, ids: &mut [u8; 256])
         requires { from ≢ to }
-        ensures { Renames (known self.now) (extension_of_kind from) (extension_of_kind to) lowest ids.old ids.new }
+        ensures { Renames (known self.now) (extension_of_kind from)
+            (extension_of_kind to) lowest ids.old ids.new }
     {
         for (id, new) in ids.iter_mut().enumerate() {
             *new = renamed(self.get(id as u8), from, to, lowest, *new);

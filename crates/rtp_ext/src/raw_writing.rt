@@ -9,8 +9,8 @@ use super::form::{element_header_len, write_header};
 use super::{ElementList, ExtensionsForm};
 use rtp_base::{put, put_zeros};
 
-// Puts the data of an element at the offset. Up to three bytes, as most elements have, are put one by
-// one, since a copy of so few takes longer.
+// Puts the data of an element at the offset. Up to three bytes, as most elements have, are put one
+// by one, since a copy of so few takes longer.
 #[inline(always)]
 pub(super) fn put_data(buf: &mut [u8], at: usize, data: &[u8])
     requires { at + length «data».now ≤ length buf.old }
@@ -33,8 +33,8 @@ pub(super) fn put_data(buf: &mut [u8], at: usize, data: &[u8])
     }
 }
 
-// Puts zeros at the offset. Up to four, as most elements and the rest of most words take, are put one by
-// one, since a call that clears so few takes longer.
+// Puts zeros at the offset. Up to four, as most elements and the rest of most words take, are put
+// one by one, since a call that clears so few takes longer.
 #[inline(always)]
 pub(super) fn clear(buf: &mut [u8], at: usize, count: usize)
     requires { at + count ≤ length buf.old }

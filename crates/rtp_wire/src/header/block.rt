@@ -1,5 +1,5 @@
-//! A block of header extensions as it is written: the word of its form, the number of its words, and
-//! its body.
+//! A block of header extensions as it is written: the word of its form, the number of its words,
+//! and its body.
 
 ghost use Rattle.std.specs.Prelude.{◌≡◌, ◌⊎◌, ℕ, ◌+◌, ◌*◌, ◌≤◌, ◌<◌, List, ◌++◌, length, drop, replicate, true, IsTrue, ◌↔◌, IfSome, IfNone};
 ghost use Rattle.std.specs.Int.{w16, to_be_bytes};
@@ -72,8 +72,8 @@ pub(super) fn block_len<K: Kinds, V: ElementValues>(
     BLOCK_HEADER_LEN + in_words(values_len(ids, ev, form))
 }
 
-// Whether the block that `write_block` writes has room. Most buffers have it whatever the values are,
-// so that no length is asked for.
+// Whether the block that `write_block` writes has room. Most buffers have it whatever the values
+// are, so that no length is asked for.
 #[inline(always)]
 pub(super) fn block_fits<K: Kinds, V: ElementValues>(
     ids: &KnownIds<'_, K>,
@@ -137,7 +137,8 @@ pub(super) fn write_block<K: Kinds, V: ElementValues>(
     close_block(buf, form, elements_len)
 }
 
-// Writes the block of these elements in the form to the front of the buffer, and returns its length.
+// Writes the block of these elements in the form to the front of the buffer, and returns its
+// length.
 pub(super) fn write_block_of<L: ElementList>(
     buf: &mut [u8],
     form: ExtensionsForm,
@@ -158,7 +159,8 @@ pub(super) fn write_block_of<L: ElementList>(
     close_block(buf, form, elements_len)
 }
 
-// The form of a block of these elements that has room: the one that serves, or that alone is allowed.
+// The form of a block of these elements that has room: the one that serves, or that alone is
+// allowed.
 pub(super) fn block_form<L: ElementList>(
     room: usize,
     elements: L,

@@ -110,7 +110,8 @@ impl RtpHeader {
         Some(values_form(ids, values))
     }
 
-    // Whether the header has room, with its block in this form, where what stands before the block has it.
+    // Whether the header has room, with its block in this form, where what stands before the block
+    // has it.
     #[inline(always)]
     fn fits<K: Kinds, V: ElementValues>(
         &self,
