@@ -1,6 +1,6 @@
 //! What follows the header: the padding at the payload's end, and the original number at its front.
 
-ghost use Rattle.std.specs.Prelude.{◌≡◌, ◌≢◌, ◌+◌, ◌%◌, ◌<◌, ◌≤◌, ◌++◌, ℕ, List, length, drop};
+ghost use Rattle.std.specs.Prelude.{◌≡◌, ◌≢◌, ◌+◌, ◌%◌, ◌<◌, ◌≤◌, ◌++◌, ℕ, length, drop};
 ghost use Rattle.std.specs.Int.{w16, to_be_bytes};
 ghost use Rattle.rtp_base.specs.Overwriting.{overwritten};
 ghost use Rattle.rtp_wire.specs.OriginalNumber.{HasOriginalNumber};

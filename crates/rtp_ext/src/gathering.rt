@@ -1,7 +1,6 @@
 //! The elements of a body without those of an id, in a row at its front.
 
-ghost use Rattle.std.specs.Prelude.{◌+◌, ◌-◌, ◌<◌, ◌≤◌, length, Some};
-ghost use Rattle.rtp_ext.specs.declared.form.ExtensionsForm.TheVariants.{OneByte, TwoByte};
+ghost use Rattle.std.specs.Prelude.{◌≤◌, length};
 ghost use Rattle.rtp_ext.specs.BodySurvey.{IsGathered, HasRows, IsTakenOut};
 
 use super::ExtensionsForm;

@@ -1,6 +1,6 @@
 //! A body that is made anew where it lies, with an element put into it, without memory.
 
-ghost use Rattle.std.specs.Prelude.{◌≡◌, ◌+◌, ◌-◌, ◌*◌, ◌≤◌, ◌++◌, ◌⊎◌, List, length, take, slice_range, IfSome, IfNone};
+ghost use Rattle.std.specs.Prelude.{◌≡◌, ◌+◌, ◌*◌, ◌≤◌, ◌++◌, ◌⊎◌, List, length, take, slice_range, IfSome, IfNone};
 ghost use Rattle.rtp_ext.specs.declared.form.ExtensionsForm.TheVariants.{TwoByte};
 ghost use Rattle.rtp_ext.specs.Elements.{Element, AreElements, element_bytes, elements_bytes};
 ghost use Rattle.rtp_ext.specs.ElementsInARow.{IsWritable};

@@ -1,8 +1,8 @@
 //! Where the elements of a body lie, and other ids that they get there, without memory.
 
-ghost use Rattle.std.specs.Prelude.{◌≡◌, ◌↔◌, ◌+◌, ◌<◌, ◌≤◌, ◌++◌, ℕ, List, length, drop, IsTrue, Some, IfSome, IfNone, All, is_none};
+ghost use Rattle.std.specs.Prelude.{◌≡◌, ◌↔◌, ◌+◌, ◌<◌, ◌≤◌, ◌++◌, List, length, drop, IsTrue, IfSome, IfNone, All};
 ghost use Rattle.rtp_ext.specs.declared.form.ExtensionsForm.TheVariants.{OneByte};
-ghost use Rattle.rtp_ext.specs.Elements.{Element, AreElements, IsElement};
+ghost use Rattle.rtp_ext.specs.Elements.{Element, AreElements};
 ghost use Rattle.rtp_ext.specs.ElementReading.{BeginsWithNoElement, elements_left};
 ghost use Rattle.rtp_ext.specs.ElementWriting.{element_header};
 ghost use Rattle.rtp_ext.specs.ElementsInPlace.{HasNone, bytes_under, ChangesIds, CanRenumber, renumbered, all_but};
@@ -11,7 +11,7 @@ ghost use Rattle.std.specs.Bool.{OnTrue, OnFalse};
 ghost use Rattle.rtp_ext.specs.ExtensionMap.{Slots};
 ghost use Rattle.rtp_ext.specs.BlockValues.{SaysValues};
 ghost use Rattle.rtp_values.specs.declared.value.values.ExtensionValues.{ExtensionValues};
-ghost use Rattle.std.specs.List.{filter_map, list_any};
+ghost use Rattle.std.specs.List.{filter_map};
 ghost use Rattle.rtp_ext.specs.NewIds.{new_id, CarriesExtensions};
 ghost use Rattle.rtp_ext.specs.IdChanges.{ids_of, CanChangeIds, HasOtherIds};
 ghost use Rattle.rtp_ext.specs.WrittenBlock.{mapped_fields};
