@@ -16,11 +16,11 @@ ghost use Rattle.rtp_c.specs.Status.{ok, IsHeaderStatus};
 
 use super::kinds::StoredMap;
 use super::layers::{Layers, put_layers, put_no_layers};
-use super::status::{OK, header_status_of};
+use super::status::{OK, UNKNOWN_FORM, header_status_of};
 use super::values::{ValuesView, flag_number, put_no_values, put_values};
 use rtp_ext::read_layers;
 use rtp_vla::vla::VideoLayers;
-use rtp_wire::RtpPacket;
+use rtp_wire::{RtpHeader, RtpPacket};
 
 /// The header of a packet (RFC 3550, 5.1), with the values of its block: `rtpw_header` in C, 224
 /// bytes.
@@ -100,6 +100,16 @@ fn put_layers_of(packet: &RtpPacket<'_>, map: &StoredMap, view: &mut Layers)
     put_layers(&layers, view);
 }
 
+// The status of the first cause for which no header begins the bytes, and `OK` where one does.
+fn refusal_of(buf: &[u8]) -> i32
+    ensures { HasNoHeader buf.now → IsHeaderStatus buf.now result }
+{
+    match RtpHeader::refusal(buf) {
+        Some(cause) => header_status_of(cause),
+        None => OK,
+    }
+}
+
 // The packet whose header the bytes begin with, or the status of the first cause for which none
 // does.
 #[inline(always)]
@@ -109,10 +119,13 @@ fn packet_in(buf: &[u8]) -> Result<RtpPacket<'_>, i32>
     ensures cause { IfErr result (IsHeaderStatus buf.now) }
     ensures refused { HasNoHeader buf.now → IsErr result }
 {
-    match RtpPacket::parse_known_form(buf) {
-        Ok(packet) => Ok(packet),
-        Err(cause) => Err(header_status_of(cause)),
+    let Ok(packet) = RtpPacket::parse(buf) else {
+        return Err(refusal_of(buf));
+    };
+    if packet.has_other_form() {
+        return Err(UNKNOWN_FORM);
     }
+    Ok(packet)
 }
 
 /// Reads the header that the bytes begin with, with the values that its block gives under the map

@@ -30,6 +30,44 @@ left-more elements i element is =
     drop_more elements i element (slice_get_within elements i element is)
     ∙ ap (λ (e : Element). e ∷ drop (i + 1) elements) (get_or_from_slice_get elements i element element is)
 
+-- ---- the room
+
+-- what is left of the room, where an element takes some of it
+abbrev pub IsRoomAfter : ExtensionsForm → Element → ℕ → Option ℕ → Type 0
+IsRoomAfter form element room left =
+    IfSome left (λ rest. IsWritable form element × (rest + length (element_bytes form element) ≡ room))
+    × IfNone left (IsWritable form element → length (element_bytes form element) ≤ room → ⊥)
+
+pub IsRoomAfter-taken : (form : ExtensionsForm) (id : ℕ) (bytes : List ℕ) (room header : ℕ) (left : Option ℕ) → IsWritable form (id, bytes)
+    → header ≡ length (element_header form id (length bytes)) → SomeIff left (header + length bytes ≤ room) (room - (header + length bytes))
+    → IsRoomAfter form (id, bytes) room left
+IsRoomAfter-taken form id bytes room header None writable is none =
+    (tt, λ again fits. none (omega (arith, is, length-header form id bytes)))
+IsRoomAfter-taken form id bytes room header (Some rest) writable is some =
+    ((writable, omega (arith, is, length-header form id bytes, some.0, some.1)), tt)
+
+pub AreWritableIn-more : (form : ExtensionsForm) (left more : List Element) (element : Element) (room rest : ℕ) → left ≡ element ∷ more
+    → IsWritable form element → rest + length (element_bytes form element) ≡ room → AreWritableIn form more rest ↔ AreWritableIn form left room
+AreWritableIn-more form left more element room rest split writable is =
+    let long : length (elements_bytes form left) ≡ length (element_bytes form element) + length (elements_bytes form more) =
+    ap (λ es. length (elements_bytes form es)) split ∙ length-append (element_bytes form element) (elements_bytes form more) in (
+      λ fit. record {
+        writable = subst (AllByRecursion (IsWritable form)) (sym split) (writable, fit.writable);
+        bytes_fit = omega (arith, fit.bytes_fit, long);
+      },
+      λ fit. record {
+        writable = (subst (AllByRecursion (IsWritable form)) split fit.writable).1;
+        bytes_fit = omega (arith, fit.bytes_fit, long);
+      },
+    )
+
+pub AreWritableIn-not : (form : ExtensionsForm) (left more : List Element) (element : Element) (room : ℕ) → left ≡ element ∷ more
+    → (IsWritable form element → length (element_bytes form element) ≤ room → ⊥) → AreWritableIn form left room → ⊥
+AreWritableIn-not form left more element room split none fit =
+    let long : length (elements_bytes form left) ≡ length (element_bytes form element) + length (elements_bytes form more) =
+    ap (λ es. length (elements_bytes form es)) split ∙ length-append (element_bytes form element) (elements_bytes form more) in
+    none (subst (AllByRecursion (IsWritable form)) split fit.writable).0 (omega (arith, fit.bytes_fit, long))
+
 -- ---- the bytes
 
 -- the elements before the offset are written, and with those that are left they are all

@@ -1,8 +1,7 @@
 //! The data of an element, found and set where they lie, without memory.
 
-ghost use Rattle.std.specs.Prelude.{◌≡◌, ◌↔◌, ◌-◌, ◌≤◌, List, length, IsTrue, Some, IfSome, IfNone};
+ghost use Rattle.std.specs.Prelude.{◌≡◌, ◌↔◌, List, length, IsTrue, Some, IfSome, IfNone};
 ghost use Rattle.std.specs.Bool.{OnTrue, OnFalse};
-ghost use Rattle.rtp_base.specs.Overwriting.{overwritten};
 ghost use Rattle.rtp_values.specs.declared.kind.Extension.{Extension};
 ghost use Rattle.rtp_values.specs.declared.value.values.ExtensionValues.{ExtensionValues};
 ghost use Rattle.rtp_values.specs.Values.{Reads, with_fields, IsWellFormed};
@@ -16,7 +15,7 @@ ghost use Rattle.rtp_ext.specs.BodySurvey.{IsSurvey};
 ghost use Rattle.rtp_ext.specs.PutElement.{put_element, IsSole};
 
 use super::ExtensionsForm;
-use super::place::{Place, last_place};
+use super::place::last_place;
 use super::raw_writing::put_data;
 use super::survey::Survey;
 
@@ -34,23 +33,6 @@ pub fn element_of(form: ExtensionsForm, body: &[u8], id: u8) -> Option<&[u8]>
 {
     let place = last_place(form, body, id)?;
     Some(&body[place.data_start..place.end])
-}
-
-// Gives the element at the place these data, where it has as many bytes of them, and returns
-// whether it has. Else nothing changes.
-#[inline(always)]
-fn set_data(body: &mut [u8], place: &Place, data: &[u8]) -> bool
-    requires order { place.now.data_start ≤ place.now.end }
-    requires within { place.now.end ≤ length body.old }
-    ensures answer { IsTrue result ↔ (place.now.end - place.now.data_start ≡ length «data».now) }
-    ensures set { OnTrue result (body.new ≡ overwritten body.old place.now.data_start «data».now) }
-    ensures unchanged { OnFalse result (body.new ≡ body.old) }
-{
-    if place.end - place.data_start != data.len() {
-        return false;
-    }
-    put_data(body, place.data_start, data);
-    true
 }
 
 /// Gives the last element of the id in a block's body these data, where it has as many bytes of
@@ -78,7 +60,11 @@ pub fn set_element(form: ExtensionsForm, body: &mut [u8], id: u8, data: &[u8]) -
     let Some(place) = last_place(form, body, id) else {
         return false;
     };
-    set_data(body, &place, data)
+    if place.end - place.data_start != data.len() {
+        return false;
+    }
+    put_data(body, place.data_start, data);
+    true
 }
 
 /// Gives the element of the id these data where it lies, where it is the only one and has as many
@@ -96,11 +82,12 @@ pub fn set_sole(body: &mut [u8], survey: &Survey, id: u8, data: &[u8]) -> bool
         AreElements form body.old elements →
         OnTrue result (AreElements form body.new (put_element (id, «data».now) elements)) }
 {
-    let Some(last) = survey.last else {
+    let Some(place) = survey.last else {
         return false;
     };
-    if survey.count != 1 {
+    if survey.count != 1 || place.end - place.data_start != data.len() {
         return false;
     }
-    set_data(body, &last, data)
+    put_data(body, place.data_start, data);
+    true
 }

@@ -1,6 +1,6 @@
 //! Elements as they are given, from their ids and data to bytes.
 
-ghost use Rattle.std.specs.Prelude.{◌≡◌, ◌↔◌, ◌≤◌, ◌+◌, ◌-◌, ℕ, ◌++◌, length, take, drop, replicate, IsSome, IfSome, IfNone};
+ghost use Rattle.std.specs.Prelude.{◌≡◌, ◌↔◌, ◌≤◌, ◌+◌, ◌-◌, ℕ, ◌++◌, length, take, drop, replicate, IsTrue, IsSome, IfSome, IfNone};
 ghost use Rattle.rtp_base.specs.Overwriting.{overwritten};
 ghost use Rattle.rtp_ext.specs.Elements.{AreElements, element_bytes, elements_bytes};
 ghost use Rattle.rtp_ext.specs.ElementsInARow.{IsWritable, AreWritableIn};
@@ -8,6 +8,34 @@ ghost use Rattle.rtp_ext.specs.ElementsInARow.{IsWritable, AreWritableIn};
 use super::form::{element_header_len, write_header};
 use super::{ElementList, ExtensionsForm};
 use rtp_base::{put, put_zeros};
+
+// How many bytes of the room are left after an element; `None` where it can't be written there.
+fn room_after(room: usize, form: ExtensionsForm, id: u8, bytes: &[u8]) -> Option<usize>
+    ensures some { IfSome result (λ left. IsWritable form (id, bytes.now)
+        × (left + length (element_bytes form (id, bytes.now)) ≡ room)) }
+    ensures none { IfNone result (IsWritable form (id, bytes.now) →
+        length (element_bytes form (id, bytes.now)) ≤ room → ⊥) }
+{
+    if !form.can_carry(id, bytes) {
+        return None;
+    }
+    room.checked_sub(element_header_len(form) + bytes.len())
+}
+
+// Whether the elements can be written in the form, and in the room.
+fn fit<L: ElementList>(room: usize, form: ExtensionsForm, elements: L) -> bool
+    ensures { IsTrue result ↔ AreWritableIn form (L.elements elements) room }
+{
+    let mut left = room;
+    for index in 0..elements.count() {
+        let (id, bytes) = elements.at(index);
+        let Some(rest) = room_after(left, form, id, bytes) else {
+            return false;
+        };
+        left = rest;
+    }
+    true
+}
 
 // Puts the data of an element at the offset. Up to three bytes, as most elements have, are put one
 // by one, since a copy of so few takes longer.
@@ -142,7 +170,7 @@ pub fn write_elements<L: ElementList>(
         AreElements form (take len buf.new ++ replicate zeros 0)
         (L.elements elements)) }
 {
-    if ExtensionsForm::for_elements(elements, Some(form), buf.len()).is_none() {
+    if !fit(buf.len(), form, elements) {
         return None;
     }
     Some(put_elements(buf, form, elements))

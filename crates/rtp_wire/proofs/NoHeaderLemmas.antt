@@ -192,3 +192,12 @@ block_header-there bytes first = elim (cases_lt (length bytes) (sources_end byte
     | inr long ↦ omega (arith, long, room, length-drop (sources_end bytes) bytes)
   ]
 ]
+
+-- what is told of a packet: nothing, or that its form is unknown
+pub told_of_packet : (bytes : List ℕ) (parts : PacketParts) (test : Bool) (told : Option not_a_header.NotAHeader) → IsPacket bytes parts → test ≡ is_some parts.other_block
+    → told ≡ then_some test not_a_header.TheVariants.UnknownForm → IfSome told (IsFirstHeaderCause bytes) × (IsSome told ↔ HasNoHeader bytes)
+told_of_packet bytes parts false told is test-is told-is =
+    rw told-is (tt, (λ some. absurd (false≢true some), λ none. absurd (header_there bytes parts is (none_there parts.other_block (sym test-is)) none)))
+told_of_packet bytes parts true told is test-is told-is =
+    let other = some_there parts.other_block (sym test-is) in
+    rw told-is (IsFirstHeaderCause-other_form bytes parts other.0 is other.1, (λ _. unknown_form (HasUnknownForm-packet bytes parts other.0 is other.1), λ _. refl))

@@ -1,36 +1,13 @@
 //! Why no header begins a datagram, for callers that were told that none does.
 
-ghost use Rattle.std.specs.Prelude.{◌≡◌, ◌↔◌, ◌⊎◌, ◌+◌, ◌≤◌, ◌/◌, ◌%◌, length, slice_index, None, IsErr, IfOk, IfErr, IfSome, IsSome, IsTrue};
+ghost use Rattle.std.specs.Prelude.{◌≡◌, ◌↔◌, ◌⊎◌, ◌+◌, ◌≤◌, ◌/◌, ◌%◌, length, slice_index, IfSome, IsSome, IsTrue};
 ghost use Rattle.rtp_wire.specs.NoHeaderCause.{IsFirstHeaderCause};
 ghost use Rattle.rtp_wire.specs.NotAHeader.{sources_end, IsNoPacket, HasUnknownForm, HasNoHeader};
-ghost use Rattle.rtp_wire.specs.Packet.{IsPacket, HasOtherForm};
+ghost use Rattle.rtp_wire.specs.Packet.{HasOtherForm};
 
 use super::{NotAHeader, RtpHeader};
 use crate::packet::{NotAPacket, RtpPacket, sources_end};
 use rtp_ext::ExtensionsForm;
-
-impl<'a> RtpPacket<'a> {
-    ghost use Rattle.rtp_wire.specs.PartsOf.{parts_of};
-
-    /// Returns the packet that the datagram is, as [`parse`](Self::parse) does, where a header
-    /// begins it that [`RtpHeader::parse`] reads: where its block, if there is one, is in one of
-    /// the two forms. Else the first cause for which none does, in the order of the bytes (RFC
-    /// 3550, 5.1; RFC 8285, 4).
-    #[inline(always)]
-    pub fn parse_known_form(datagram: &'a [u8]) -> Result<Self, NotAHeader>
-        ensures found { IfOk result (λ packet. IsPacket datagram.now (parts_of packet)) }
-        ensures known { IfOk result (λ packet. (parts_of packet).other_block ≡ None) }
-        ensures cause { IfErr result (IsFirstHeaderCause datagram.now) }
-        ensures refused { IsErr result ↔ HasNoHeader datagram.now }
-    {
-        match Self::parse(datagram) {
-            Ok(packet) if packet.has_other_form() => Err(NotAHeader::UnknownForm),
-            Ok(packet) => Ok(packet),
-            Err(NotAPacket::CutBlock) if has_unknown_form(datagram) => Err(NotAHeader::UnknownForm),
-            Err(cause) => Err(NotAHeader::NotAPacket(cause)),
-        }
-    }
-}
 
 impl RtpHeader {
     /// The first cause for which no header begins there, in the order of the bytes, and `None`
@@ -46,7 +23,11 @@ impl RtpHeader {
         // form than the two.
         ensures either { HasNoHeader buf.now ↔ (IsNoPacket buf.now ⊎ HasOtherForm buf.now) }
     {
-        RtpPacket::parse_known_form(buf).err()
+        match RtpPacket::parse(buf) {
+            Ok(packet) => packet.has_other_form().then_some(NotAHeader::UnknownForm),
+            Err(NotAPacket::CutBlock) if has_unknown_form(buf) => Some(NotAHeader::UnknownForm),
+            Err(cause) => Some(NotAHeader::NotAPacket(cause)),
+        }
     }
 }
 

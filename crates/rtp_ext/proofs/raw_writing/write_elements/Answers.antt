@@ -1,6 +1,5 @@
-use Rattle.std.proofs.Common.{drop, length}
+use Rattle.std.proofs.Common.{drop}
 use Rattle.rtp_ext.proofs.RawWritingLemmas.{AreElements-front}
-use Rattle.rtp_ext.proofs.ServingFormLemmas.{AreNotWritableIn-not}
 use Rattle.rtp_ext.proofs.raw_writing.write_elements.Goals as goal
 
 pub returns-clause-elements : goal.returns-clause-elements
