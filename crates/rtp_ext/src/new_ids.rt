@@ -64,8 +64,8 @@ fn are_short(ids: &[u8]) -> bool
     above.to_bitmask() == 0
 }
 
-// The new ids of one map's ids under another, each at the index of the old one, with 0 where an id has
-// none, as one that isn't mapped.
+// The new ids of one map's ids under another, each at the index of the old one, with 0 where an id
+// has none, as one that isn't mapped.
 fn bytes_between(from: &ExtensionMap, to: &ExtensionMap) -> [u8; IDS]
     ensures { AreNewBytes from.now to.now result }
 {
