@@ -5,17 +5,17 @@ use Rattle.std.proofs.lemmas.Bool.{false≢true}
 use Rattle.rtp_wire.specs.declared.header.not_a_header.NotAHeader.{NotAHeader as Cause}
 use Rattle.rtp_wire.specs.declared.header.not_a_header.NotAHeader.TheVariants.{NotAPacket, UnknownForm}
 use Rattle.rtp_wire.specs.NoHeaderCause.{AppliesToHeader}
-use Rattle.rtp_wire.specs.NotAHeader.{NotAHeader, no_packet, unknown_form}
+use Rattle.rtp_wire.specs.NotAHeader.{HasNoHeader, no_packet, unknown_form}
 use Rattle.rtp_wire.specs.Packet.{PacketParts, IsPacket}
 use Rattle.rtp_c.specs.Status.{unknown_form as unknown_form_status, IsHeaderStatus}
 use Rattle.rtp_wire.proofs.NotAPacketLemmas.{IsNoPacket-applies}
 use Rattle.rtp_wire.proofs.NoHeaderLemmas.{IsFirstHeaderCause-other_form}
 
 -- bytes to which a cause applies begin with no header
-pub NotAHeader-status : (bytes : List ℕ) (status : ℤ) → IsHeaderStatus bytes status → NotAHeader bytes
-NotAHeader-status bytes status is = begins_none is.cause is.is_first.applies
+pub HasNoHeader-status : (bytes : List ℕ) (status : ℤ) → IsHeaderStatus bytes status → HasNoHeader bytes
+HasNoHeader-status bytes status is = begins_none is.cause is.is_first.applies
   where
-    begins_none : (cause : Cause) → AppliesToHeader bytes cause → NotAHeader bytes
+    begins_none : (cause : Cause) → AppliesToHeader bytes cause → HasNoHeader bytes
     begins_none (NotAPacket cause) applies = no_packet (IsNoPacket-applies bytes cause applies)
     begins_none UnknownForm applies = unknown_form applies
 

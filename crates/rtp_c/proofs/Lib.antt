@@ -12,7 +12,6 @@ mod LongLemmas
 mod MeantLemmas
 mod FewSlotsLemmas
 mod PlacesLemmas
-mod HeaderViewLemmas
 mod GivenLayersLemmas
 mod GivenLemmas
 mod ElementDataLemmas

@@ -4,9 +4,9 @@ use Rattle.std.proofs.lemmas.List.{length-map}
 use Rattle.std.proofs.Math.ListN.{get_or-map}
 use Rattle.rtp_values.specs.declared.known_kind.KnownKind.{KnownKind}
 use Rattle.rtp_values.specs.declared.known_kind.KnownKind.TheVariants.{AbsoluteSendTime, AudioLevel, VideoOrientation, TransportSequenceNumber, RtpStreamId, RepairedRtpStreamId, RtpMid}
-use Rattle.rtp_ext.specs.ExtensionMap.{IsListing, items_from, standard_items}
+use Rattle.rtp_ext.specs.ExtensionMap.{ListsItems, items_from, standard_items}
 use Rattle.rtp_ext.specs.KindsById.{slots_of}
-use Rattle.rtp_ext.proofs.ListingLemmas.{IsListing-from_slots}
+use Rattle.rtp_ext.proofs.ListingLemmas.{ListsItems-from_slots}
 use Rattle.rtp_c.specs.KindNumbers.{kind_number, IsKindNumbered}
 use Rattle.rtp_c.specs.StoredMap.{HasKinds, AreStandardNumbers}
 use Rattle.rtp_c.proofs.KindNumberLemmas.{number≢0}
@@ -55,7 +55,7 @@ pub AreStandardNumbers-numbers : (numbers : List ℕ) → numbers ≡ standard_n
 AreStandardNumbers-numbers numbers is = record {
   slots = slots_of standard_kinds;
   has_kinds = subst (λ (n : List ℕ). HasKinds n (slots_of standard_kinds)) (numbers_are ∙ sym is) (HasKinds-numbers standard_kinds);
-  listing = subst (IsListing (slots_of standard_kinds) (λ _. true)) items_are (IsListing-from_slots (slots_of standard_kinds));
+  listing = subst (ListsItems (slots_of standard_kinds) (λ _. true)) items_are (ListsItems-from_slots (slots_of standard_kinds));
 }
 
 low-zeros : (n k : ℕ) → get_or (replicate n 0) k 0 ≤ 15

@@ -1,7 +1,7 @@
 -- The map that C fills: a number for each id (RFC 8285, 5).
 use Rattle.std.specs.Prelude.{◌≡◌, ◌≢◌, ℕ, zero, suc, ◌<◌, ◌≤◌, List, length, map, slice_index, slice_index_or, Option, None, EachIndex, true, nat_lt, if◌then◌else◌}
 use Rattle.rtp_values.specs.declared.known_kind.KnownKind.{KnownKind}
-use Rattle.rtp_ext.specs.ExtensionMap.{Slots, IsListing, standard_items}
+use Rattle.rtp_ext.specs.ExtensionMap.{Slots, ListsItems, standard_items}
 use Rattle.rtp_ext.specs.KindsById.{slots_of}
 use Rattle.rtp_ext.specs.NewIds.{CarriesExtensions, ids_in_bytes}
 use Rattle.rtp_c.specs.KindNumbers.{IsKindNumbered, IsNamed, kind_numbered}
@@ -17,7 +17,7 @@ pub record HasKinds (numbers : List ℕ) (slots : Slots) : Type 0 where
 pub record AreStandardNumbers (numbers : List ℕ) : Type 0 where
   pub slots : Slots
   pub has_kinds : HasKinds numbers slots
-  pub listing : IsListing slots (λ _. true) standard_items
+  pub listing : ListsItems slots (λ _. true) standard_items
 
 -- the id means this number: it stands there, and is that of a kind or one of the caller's own
 pub record Means (numbers : List ℕ) (id number : ℕ) : Type 0 where

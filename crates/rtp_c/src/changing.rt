@@ -19,8 +19,8 @@ use super::status::{BAD_FIELD, NONE, OK, status_of};
 use rtp_base::{Pt, Ssrc};
 use rtp_wire::{ExtensionsForm, Fields, RtpPacket, RtpPacketMut};
 
-/// Fields that are set together: `rtpw_fields` in C, 20 bytes. Each is set where its `has_` isn't 0, and
-/// else not looked at.
+/// Fields that are set together: `rtpw_fields` in C, 20 bytes. Each is set where its `has_` isn't
+/// 0, and else not looked at.
 #[repr(C)]
 #[derive(Clone, Copy)]
 pub struct FieldsView {
@@ -55,8 +55,8 @@ fn given_fields(view: &FieldsView) -> Fields
     }
 }
 
-// How many bytes the header of the packet in the buffer takes, and the form of its block; the status
-// of the first cause for which the buffer holds no packet.
+// How many bytes the header of the packet in the buffer takes, and the form of its block; the
+// status of the first cause for which the buffer holds no packet.
 pub fn layout_of(datagram: &[u8]) -> Result<(usize, Option<ExtensionsForm>), i32>
     ensures found { IfOk result (λ layout. HasLayout datagram.now layout.0 layout.1) }
     ensures only { (parts : PacketParts) → IsPacket datagram.now parts →
@@ -70,8 +70,8 @@ pub fn layout_of(datagram: &[u8]) -> Result<(usize, Option<ExtensionsForm>), i32
     }
 }
 
-// Sets the fields that are given, after one look at the packet in the buffer; the status of the first
-// cause for which it holds none, and then nothing changes.
+// Sets the fields that are given, after one look at the packet in the buffer; the status of the
+// first cause for which it holds none, and then nothing changes.
 #[inline(always)]
 fn set(datagram: &mut [u8], fields: &Fields) -> i32
     requires { IfSome fields.now.payload_type (λ pt. pt ≤ 127) }
@@ -188,8 +188,8 @@ pub extern "C" fn rtpw_set_ssrc(datagram: &mut [u8], ssrc: u32) -> i32
 }
 
 /// Sets the fields that are given, and no others, after one look at the packet in the buffer. `OK`;
-/// `BAD_FIELD` where a payload type is given that is above 127; or the status of the first cause for
-/// which the buffer holds no packet. Where it isn't `OK` nothing changes.
+/// `BAD_FIELD` where a payload type is given that is above 127; or the status of the first cause
+/// for which the buffer holds no packet. Where it isn't `OK` nothing changes.
 #[unsafe(no_mangle)]
 pub extern "C" fn rtpw_set_fields(datagram: &mut [u8], fields: &FieldsView) -> i32
     ensures set { (parts : PacketParts) → IsPacket datagram.old parts → CanBeSet fields.now →
@@ -209,8 +209,8 @@ pub extern "C" fn rtpw_set_fields(datagram: &mut [u8], fields: &FieldsView) -> i
 }
 
 /// Sets the contributing source at this place of the CSRC list of the packet in the buffer, counted
-/// from 0. `OK`; `NONE` where the list has no such place; or the status of the first cause for which
-/// the buffer holds no packet. Where it isn't `OK` nothing changes.
+/// from 0. `OK`; `NONE` where the list has no such place; or the status of the first cause for
+/// which the buffer holds no packet. Where it isn't `OK` nothing changes.
 #[unsafe(no_mangle)]
 pub extern "C" fn rtpw_set_csrc(datagram: &mut [u8], index: usize, source: u32) -> i32
     ensures done { (parts : PacketParts) → IsPacket datagram.old parts →

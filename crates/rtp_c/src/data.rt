@@ -14,7 +14,8 @@ use super::values::ValuesView;
 use rtp_values::{ExtensionValues, KnownKind};
 use std::mem::ManuallyDrop;
 
-// How many bytes of data an element of this kind has. It is a call, so that what is told before it costs little.
+// How many bytes of data an element of this kind has. It is a call, so that what is told before it
+// costs little.
 #[inline(never)]
 fn len_of(kind: KnownKind, values: &ExtensionValues) -> Option<usize>
     ensures length { result ≡ option_map length (spelled_data (extension_of_kind kind) values.now) }
@@ -24,13 +25,14 @@ fn len_of(kind: KnownKind, values: &ExtensionValues) -> Option<usize>
 }
 
 /// Writes the data that an element of this kind has for these values to the front of the buffer, as
-/// `rtpw_write` would (RFC 8285, 4.2 and 4.3): for an element that is set where it lies, or written with
-/// others.
+/// `rtpw_write` would (RFC 8285, 4.2 and 4.3): for an element that is set where it lies, or written
+/// with others.
 ///
 /// `OK`, and how many bytes they are is written too. `BAD_FIELD` where the number is that of no
-/// extension, or a value that is there is none that can be written, whatever the kind is; `NONE` where a
-/// value that the kind needs isn't there, and always for a kind that has none and for extensions of the
-/// caller's own; `SHORT_BUFFER` where only the room is short. Where it isn't `OK` nothing is written.
+/// extension, or a value that is there is none that can be written, whatever the kind is; `NONE`
+/// where a value that the kind needs isn't there, and always for a kind that has none and for
+/// extensions of the caller's own; `SHORT_BUFFER` where only the room is short. Where it isn't `OK`
+/// nothing is written.
 #[unsafe(no_mangle)]
 pub extern "C" fn rtpw_data_of(
     kind: u8,

@@ -106,7 +106,8 @@ fn rid_of(bytes: &[u8; 9]) -> Option<Rid>
     Some(Rid::from_array(padded(text)))
 }
 
-// The orientation of these degrees, where it is given; `None` where it is given and there is no such one.
+// The orientation of these degrees, where it is given; `None` where it is given and there is no
+// such one.
 fn given_orientation(has: u8, degrees: u16) -> Option<Option<VideoOrientation>>
     ensures { FindsGiven has (λ turn. degrees_of turn ≡ degrees) result }
 {
@@ -187,8 +188,8 @@ fn given_timing(view: &ValuesView) -> Option<VideoTiming>
     })
 }
 
-// Puts a value, where it is there, to a place that holds none: most values are absent, and then nothing
-// is stored.
+// Puts a value, where it is there, to a place that holds none: most values are absent, and then
+// nothing is stored.
 #[inline(always)]
 fn put_some<T: Drop>(place: &mut Option<T>, value: Option<T>)
     requires { place.old ≡ None }
@@ -199,8 +200,8 @@ fn put_some<T: Drop>(place: &mut Option<T>, value: Option<T>)
     }
 }
 
-// Puts the values that are given to values that are all absent; `None` where a text, an orientation or a
-// time is none.
+// Puts the values that are given to values that are all absent; `None` where a text, an orientation
+// or a time is none.
 #[inline(always)]
 pub fn put_given_values(view: &ValuesView, values: &mut ExtensionValues) -> Option<()>
     requires { values.old ≡ no_values }
@@ -236,8 +237,8 @@ pub fn put_given_values(view: &ValuesView, values: &mut ExtensionValues) -> Opti
     Some(())
 }
 
-// Puts the fields that are given to the header, and leaves its values; `None` where no header can have
-// them.
+// Puts the fields that are given to the header, and leaves its values; `None` where no header can
+// have them.
 #[inline(always)]
 pub fn put_given_fields(view: &HeaderView, header: &mut RtpHeader) -> Option<()>
     ensures found { IfSome result (λ _. AreGivenFields view.now header.new) }
@@ -259,8 +260,8 @@ pub fn put_given_fields(view: &HeaderView, header: &mut RtpHeader) -> Option<()>
     Some(())
 }
 
-// Puts the fields and the values that are given to a header without values; `None` where no header can
-// have them.
+// Puts the fields and the values that are given to a header without values; `None` where no header
+// can have them.
 #[inline(always)]
 pub fn put_given_header(view: &HeaderView, header: &mut RtpHeader) -> Option<()>
     requires { header.old.ext_vals ≡ no_values }

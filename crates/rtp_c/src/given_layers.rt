@@ -61,8 +61,8 @@ fn stream_of(view: &Stream) -> Option<VideoStream>
     Some(stream)
 }
 
-// Puts the streams that are given to an allocation of this index that has none; `None` exactly where it,
-// one of its streams or one of their layers counts more than four.
+// Puts the streams that are given to an allocation of this index that has none; `None` exactly
+// where it, one of its streams or one of their layers counts more than four.
 fn put_streams(view: &Layers, layers: &mut VideoLayers) -> Option<()>
     requires current { layers.old.current_simulcast_stream_index ≡ view.now.current }
     requires streams { layers.old.simulcast_streams ≡ [] }

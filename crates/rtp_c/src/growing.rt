@@ -26,17 +26,17 @@ fn put_status_of(cause: NotPut) -> i32
     }
 }
 
-/// Puts an element into the packet in the first `len` bytes of the buffer, which grows where it lies: the
-/// packet then has exactly one element of this id, with these data, in place of the last one of the id or
-/// as the last of all, and all else is as it was (RFC 8285, 4.2 and 4.3). `len` becomes its new length. Of
-/// the block's forms the number `allowed` allows both where it is 0, the one-byte form alone where it is 1,
-/// and the two-byte form alone where it is 2.
+/// Puts an element into the packet in the first `len` bytes of the buffer, which grows where it
+/// lies: the packet then has exactly one element of this id, with these data, in place of the last
+/// one of the id or as the last of all, and all else is as it was (RFC 8285, 4.2 and 4.3). `len`
+/// becomes its new length. Of the block's forms the number `allowed` allows both where it is 0, the
+/// one-byte form alone where it is 1, and the two-byte form alone where it is 2.
 ///
-/// `OK`; `BAD_FIELD` where `allowed` is above 2, `len` is past the buffer, the id is 0, there are more than
-/// 255 bytes of data, the block needs the two-byte form and that isn't allowed, or it would have more than
-/// 65,535 words; the status of the first cause for which the bytes are no packet; `UNKNOWN_FORM` where the
-/// block's form is another, which carries no elements; or `SHORT_BUFFER` where there is no room behind the
-/// packet. Where it isn't `OK` nothing changes.
+/// `OK`; `BAD_FIELD` where `allowed` is above 2, `len` is past the buffer, the id is 0, there are
+/// more than 255 bytes of data, the block needs the two-byte form and that isn't allowed, or it
+/// would have more than 65,535 words; the status of the first cause for which the bytes are no
+/// packet; `UNKNOWN_FORM` where the block's form is another, which carries no elements; or
+/// `SHORT_BUFFER` where there is no room behind the packet. Where it isn't `OK` nothing changes.
 #[unsafe(no_mangle)]
 pub extern "C" fn rtpw_put_element(
     buf: &mut [u8],
@@ -69,13 +69,14 @@ pub extern "C" fn rtpw_put_element(
     }
 }
 
-/// Makes the packet in the first `len` bytes of the buffer as short as its elements allow: they stand in a
-/// row in the same order, the body is filled up to whole words, and the payload moves to the front (RFC
-/// 8285, 4.2 and 4.3). `len` becomes its new length, and between that and the old one any bytes may stand.
-/// After `rtpw_remove_element` it gives the bytes back. A block of another form stays.
+/// Makes the packet in the first `len` bytes of the buffer as short as its elements allow: they
+/// stand in a row in the same order, the body is filled up to whole words, and the payload moves to
+/// the front (RFC 8285, 4.2 and 4.3). `len` becomes its new length, and between that and the old
+/// one any bytes may stand. After `rtpw_remove_element` it gives the bytes back. A block of another
+/// form stays.
 ///
-/// `OK`; `BAD_FIELD` where `len` is past the buffer; or the status of the first cause for which the bytes
-/// are no packet. Where it isn't `OK` nothing changes.
+/// `OK`; `BAD_FIELD` where `len` is past the buffer; or the status of the first cause for which the
+/// bytes are no packet. Where it isn't `OK` nothing changes.
 #[unsafe(no_mangle)]
 pub extern "C" fn rtpw_compact(buf: &mut [u8], len: &mut usize) -> i32
     ensures compacted { result ≡ ok → Compacts (take len.old buf.old) buf.new len.new }

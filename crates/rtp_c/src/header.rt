@@ -1,11 +1,11 @@
 //! A whole header, and how it is read from bytes.
 
-ghost use Rattle.std.specs.Prelude.{◌≡◌, ◌≢◌, ◌⊎◌, ◌↔◌, ◌≤◌, ◌-◌, ◌++◌, length, replicate, unwrap_or, None, IfNone, IfOk, IfErr, IsErr};
+ghost use Rattle.std.specs.Prelude.{◌≡◌, ◌≢◌, ◌⊎◌, ◌↔◌, unwrap_or, None, IfOk, IfErr, IsErr};
 ghost use Rattle.rtp_values.specs.declared.value.values.ExtensionValues.{ExtensionValues};
 ghost use Rattle.rtp_wire.specs.PacketElements.{HasValues};
 ghost use Rattle.rtp_c.specs.StoredMap.{numbered_slots};
 ghost use Rattle.rtp_wire.specs.Header.{header_of};
-ghost use Rattle.rtp_wire.specs.NotAHeader.{NotAHeader};
+ghost use Rattle.rtp_wire.specs.NotAHeader.{HasNoHeader};
 ghost use Rattle.rtp_wire.specs.Packet.{IsPacket};
 ghost use Rattle.rtp_wire.specs.PartsOf.{parts_of};
 ghost use Rattle.rtp_vla.specs.Allocation.{nothing_sent};
@@ -20,7 +20,7 @@ use super::status::{OK, UNKNOWN_FORM, header_status_of};
 use super::values::{ValuesView, flag_number, put_no_values, put_values};
 use rtp_ext::read_layers;
 use rtp_vla::vla::VideoLayers;
-use rtp_wire::{Csrcs, RtpHeader, RtpPacket};
+use rtp_wire::{RtpHeader, RtpPacket};
 
 /// The header of a packet (RFC 3550, 5.1), with the values of its block: `rtpw_header` in C, 224
 /// bytes.
@@ -51,23 +51,6 @@ pub struct HeaderView {
     pub values: ValuesView,
 }
 
-// Puts the sources into the first slots and zeros into the others, and returns how many sources
-// there are.
-fn put_sources(sources: Csrcs<'_>, slots: &mut [u32; 15]) -> u8
-    requires { length sources ≤ 15 }
-    ensures sources { slots.new
-        ≡ sources.entry ++ replicate (15 - length sources.entry) 0 }
-    ensures count { result ≡ length sources.entry }
-{
-    *slots = [0; 15];
-    let mut count = 0;
-    for source in sources {
-        slots[usize::from(count)] = source;
-        count += 1;
-    }
-    count
-}
-
 // Puts what C is told of the values that the packet's block gives under the map.
 #[inline(always)]
 fn put_values_of(packet: &RtpPacket<'_>, map: &StoredMap, view: &mut ValuesView)
@@ -84,7 +67,6 @@ fn put_values_of(packet: &RtpPacket<'_>, map: &StoredMap, view: &mut ValuesView)
 // Puts what C is told of the packet's header, with the values that its block gives under the map.
 #[inline(always)]
 fn put_header(packet: &RtpPacket<'_>, map: &StoredMap, view: &mut HeaderView)
-    requires sources { length (parts_of packet.now).sources ≤ 15 }
     ensures { (values : ExtensionValues)
         × HasValues (numbered_slots map.now.kind) (parts_of packet.now).block values
         × IsViewOfHeader (header_of (parts_of packet.now) values) view.new }
@@ -92,7 +74,7 @@ fn put_header(packet: &RtpPacket<'_>, map: &StoredMap, view: &mut HeaderView)
     view.header_len = packet.header_len();
     view.timestamp = packet.timestamp();
     view.ssrc = packet.ssrc().get();
-    view.csrc_count = put_sources(packet.csrc(), &mut view.csrc);
+    view.csrc_count = packet.put_csrc(&mut view.csrc) as u8;
     view.sequence_number = packet.sequence_number();
     view.payload_type = packet.payload_type().get();
     view.marker = flag_number(packet.marker());
@@ -101,8 +83,8 @@ fn put_header(packet: &RtpPacket<'_>, map: &StoredMap, view: &mut HeaderView)
     put_values_of(packet, map, &mut view.values);
 }
 
-// Puts what C is told of the layers that the packet's block gives under the map. It stays out of line,
-// so that the layers aren't on the stack while the header is read.
+// Puts what C is told of the layers that the packet's block gives under the map. It stays out of
+// line, so that the layers aren't on the stack while the header is read.
 #[inline(never)]
 fn put_layers_of(packet: &RtpPacket<'_>, map: &StoredMap, view: &mut Layers)
     ensures { (values : ExtensionValues)
@@ -120,7 +102,7 @@ fn put_layers_of(packet: &RtpPacket<'_>, map: &StoredMap, view: &mut Layers)
 
 // The status of the first cause for which no header begins the bytes, and `OK` where one does.
 fn refusal_of(buf: &[u8]) -> i32
-    ensures { NotAHeader buf.now → IsHeaderStatus buf.now result }
+    ensures { HasNoHeader buf.now → IsHeaderStatus buf.now result }
 {
     match RtpHeader::refusal(buf) {
         Some(cause) => header_status_of(cause),
@@ -128,13 +110,14 @@ fn refusal_of(buf: &[u8]) -> i32
     }
 }
 
-// The packet whose header the bytes begin with, or the status of the first cause for which none does.
+// The packet whose header the bytes begin with, or the status of the first cause for which none
+// does.
 #[inline(always)]
 fn packet_in(buf: &[u8]) -> Result<RtpPacket<'_>, i32>
     ensures found { IfOk result (λ packet. IsPacket buf.now (parts_of packet)) }
     ensures known { IfOk result (λ packet. (parts_of packet).other_block ≡ None) }
     ensures cause { IfErr result (IsHeaderStatus buf.now) }
-    ensures refused { NotAHeader buf.now → IsErr result }
+    ensures refused { HasNoHeader buf.now → IsErr result }
 {
     let Ok(packet) = RtpPacket::parse(buf) else {
         return Err(refusal_of(buf));
@@ -146,14 +129,15 @@ fn packet_in(buf: &[u8]) -> Result<RtpPacket<'_>, i32>
 }
 
 /// Reads the header that the bytes begin with, with the values that its block gives under the map
-/// (RFC 3550, 5.1 and 5.3.1; RFC 8285, 4.2 and 4.3). Whatever follows the header isn't looked at. `OK`,
-/// or the status of the first cause for which no header begins there, and then nothing is written.
+/// (RFC 3550, 5.1 and 5.3.1; RFC 8285, 4.2 and 4.3). Whatever follows the header isn't looked at.
+/// `OK`, or the status of the first cause for which no header begins there, and then nothing is
+/// written.
 #[unsafe(no_mangle)]
 pub extern "C" fn rtpw_parse(buf: &[u8], map: &StoredMap, header: &mut HeaderView) -> i32
     ensures found { result ≡ ok → IsParsedAs map.now.kind buf.now header.new }
 
     // The causes for which no header is read, and there are no others.
-    ensures refused { IsHeaderStatus buf.now result ↔ NotAHeader buf.now }
+    ensures refused { IsHeaderStatus buf.now result ↔ HasNoHeader buf.now }
     ensures statuses { (result ≡ ok) ⊎ IsHeaderStatus buf.now result }
     ensures unchanged { result ≢ ok → header.new ≡ header.old }
 {
@@ -166,9 +150,9 @@ pub extern "C" fn rtpw_parse(buf: &[u8], map: &StoredMap, header: &mut HeaderVie
     }
 }
 
-/// Reads the header as [`rtpw_parse`] does, and with it the layer allocation of its block. Where the
-/// block gives none, as `has_layers` of the header's values tells, the layers are those of a sender
-/// that sends nothing: each number is 0. Where it isn't `OK` nothing is written.
+/// Reads the header as [`rtpw_parse`] does, and with it the layer allocation of its block. Where
+/// the block gives none, as `has_layers` of the header's values tells, the layers are those of a
+/// sender that sends nothing: each number is 0. Where it isn't `OK` nothing is written.
 #[unsafe(no_mangle)]
 pub extern "C" fn rtpw_parse_layers(
     buf: &[u8],
@@ -180,7 +164,7 @@ pub extern "C" fn rtpw_parse_layers(
         IsParsedWithLayersAs map.now.kind buf.now header.new layers.new }
 
     // The causes for which no header is read, and there are no others.
-    ensures refused { IsHeaderStatus buf.now result ↔ NotAHeader buf.now }
+    ensures refused { IsHeaderStatus buf.now result ↔ HasNoHeader buf.now }
     ensures statuses { (result ≡ ok) ⊎ IsHeaderStatus buf.now result }
     ensures unchanged { result ≢ ok → (header.new ≡ header.old) × (layers.new ≡ layers.old) }
 {

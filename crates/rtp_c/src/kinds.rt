@@ -1,6 +1,7 @@
 //! The map that C fills, as it stands, as a map of kinds.
 
 ghost use Rattle.std.specs.Prelude.{◌≡◌, ◌+◌, ℕ, ◌<◌, ◌≤◌, slice_index, None};
+ghost use Rattle.std.specs.Bool.{OnTrue};
 ghost use Rattle.rtp_c.specs.KindNumbers.{kind_numbered};
 ghost use Rattle.rtp_c.specs.StoredMap.{IsNumberAt, IsIdOf};
 
@@ -11,9 +12,10 @@ use super::numbers::{
 use rtp_ext::Kinds;
 use rtp_values::KnownKind;
 
-/// The extensions by their ids (RFC 8285, 5): `rtpw_map` in C, 256 bytes, which C may fill itself. Each
-/// value is one: a number from 128 on is one of the caller's own, whose id is mapped to no kind; any
-/// other that is no kind's maps its id to nothing, and what stands at index 0 is passed over.
+/// The extensions by their ids (RFC 8285, 5): `rtpw_map` in C, 256 bytes, which C may fill itself.
+/// Each value is one: a number from 128 on is one of the caller's own, whose id is mapped to no
+/// kind; any other that is no kind's maps its id to nothing, and what stands at index 0 is passed
+/// over.
 #[repr(C)]
 #[derive(Clone, Copy)]
 pub struct StoredMap {
@@ -43,16 +45,25 @@ impl StoredMap {
         }
     }
 
+    // Whether no id from 16 on means a number, as under most maps.
+    #[inline(always)]
+    fn has_low_ids_alone(&self) -> bool
+        ensures { OnTrue result ((id : ℕ) → 16 ≤ id → slice_index self.now.kind id ≡ 0) }
+    {
+        are_zeros(&self.kind[16..])
+    }
+
     // The index from which on each number is 0: 16 where all from there on are, or the end.
     pub(super) fn numbers_end(&self) -> usize
         ensures zeros { (id : ℕ) → result ≤ id → id < 256 → slice_index self.now.kind id ≡ 0 }
         ensures few { result ≤ 256 }
     {
-        if are_zeros(&self.kind[16..]) { 16 } else { 256 }
+        if self.has_low_ids_alone() { 16 } else { 256 }
     }
 
-    // A slot such that each from the given one up to it is mapped to no kind: the first behind which one of
-    // 16 is, or fewer than 16 are left. The slot of an id stands at the index below it.
+    // A slot such that each from the given one up to it is mapped to no kind: the first behind
+    // which one of 16 is, or fewer than 16 are left. The slot of an id stands at the index below
+    // it.
     #[inline(never)]
     fn past_unmapped(&self, from: usize) -> usize
         requires { from < 255 }
@@ -93,7 +104,8 @@ impl Kinds for StoredMap {
 
     ghost known = { λ map. numbered_slots map.kind };
 
-    // A walk that ends within the slots of the one-byte form ends there, and any other at the last slot.
+    // A walk that ends within the slots of the one-byte form ends there, and any other at the last
+    // slot.
     ghost left = { λ map at end.
         items_from at (drop at (take (last_end end) (numbered_slots map.kind))) };
 
@@ -105,11 +117,12 @@ impl Kinds for StoredMap {
         kind_numbered(self.kind[usize::from(id)])
     }
 
-    // The end is that of the slots that are looked at one by one: where only low ids are mapped all up to
-    // the last of these, and else the first 15, behind which those without a kind are passed over.
+    // The end is that of the slots that are looked at one by one: where only low ids are mapped all
+    // up to the last of these, and else the first 15, behind which those without a kind are passed
+    // over.
     #[inline(always)]
     fn walk_end(&self) -> usize {
-        let is_low = are_zeros(&self.kind[16..]);
+        let is_low = self.has_low_ids_alone();
         let is_few = are_zeros(&self.kind[8..16]);
         if is_low {
             if is_few {
@@ -155,12 +168,6 @@ impl Kinds for StoredMap {
     #[inline(always)]
     fn at_most(&self, end: usize) -> usize {
         if end <= LOW_SLOTS { end } else { ALL_SLOTS }
-    }
-
-    fn id_under(&self, other: &Self, id: u8) -> Option<u8> {
-        let kind = self.get(id)?;
-        let index = index_of(&other.kind[1..], number_of(kind))?;
-        Some(index as u8 + 1)
     }
 
     // By the numbers, so that many are looked at at once. What stands at index 0 is that of no id.

@@ -55,7 +55,8 @@ impl Stream {
     };
 }
 
-/// What a sender of video keeps active (`video-layers-allocation00`): `rtpw_layers` in C, 680 bytes.
+/// What a sender of video keeps active (`video-layers-allocation00`): `rtpw_layers` in C, 680
+/// bytes.
 #[repr(C)]
 #[derive(Clone, Copy)]
 pub struct Layers {

@@ -1,7 +1,7 @@
 //! The library for C: what crosses to it is numbers and structs of numbers in the caller's memory.
 //!
-//! Each exported function may be called with any values. It returns a status, or a value, and writes
-//! its outputs whole or not at all.
+//! Each exported function may be called with any values. It returns a status, or a value, and
+//! writes its outputs whole or not at all.
 #![tactic(auto)]
 
 ghost use Rattle.std.specs.Prelude.{◌≡◌};
@@ -31,8 +31,8 @@ mod wide_receiver;
 mod writing;
 mod writing_layers;
 
-/// The version of the library: 65,536 times its major number, 256 times the minor one, and the patch.
-/// That of the header file is `RTPW_VERSION`.
+/// The version of the library: 65,536 times its major number, 256 times the minor one, and the
+/// patch. That of the header file is `RTPW_VERSION`.
 #[unsafe(no_mangle)]
 pub extern "C" fn rtpw_version() -> u32
     ensures { result ≡ 256 }

@@ -1,4 +1,5 @@
-//! Which id means which extension, and the ids that elements get where packets go from one map to another.
+//! Which id means which extension, and the ids that elements get where packets go from one map to
+//! another.
 
 ghost use Rattle.std.specs.Prelude.{◌≡◌, ◌≢◌, ◌↔◌, ◌⊎◌, ℕ, ◌<◌, ◌≤◌, List, All, IfSome, IfNone, slice_index, slice_set};
 ghost use Rattle.rtp_values.specs.declared.known_kind.KnownKind.{KnownKind};
@@ -26,10 +27,10 @@ use rtp_values::KnownKind;
 use rtp_wire::RtpPacketMut;
 use std::str;
 
-/// Maps the id to the kind of this number, to an extension of the caller's own that it numbers so, from
-/// 128 to 255, or to nothing where the number is 0, instead of what it was mapped to (RFC 8285, 5).
-/// `OK`; `BAD_FIELD` where the id is 0, which is that of padding, or the number is one of 16 to 127:
-/// then nothing changes.
+/// Maps the id to the kind of this number, to an extension of the caller's own that it numbers so,
+/// from 128 to 255, or to nothing where the number is 0, instead of what it was mapped to (RFC
+/// 8285, 5). `OK`; `BAD_FIELD` where the id is 0, which is that of padding, or the number is one of
+/// 16 to 127: then nothing changes.
 #[unsafe(no_mangle)]
 pub extern "C" fn rtpw_map_set(map: &mut StoredMap, id: u8, kind: u8) -> i32
     ensures set { 1 ≤ id → (kind ≡ 0) ⊎ IsNamed kind →
@@ -45,8 +46,8 @@ pub extern "C" fn rtpw_map_set(map: &mut StoredMap, id: u8, kind: u8) -> i32
     OK
 }
 
-/// The number of the kind that the id is mapped to, or the caller's own number that it has; 0 where it
-/// is mapped to nothing: where its number is one of 16 to 127, and always for the id 0.
+/// The number of the kind that the id is mapped to, or the caller's own number that it has; 0 where
+/// it is mapped to nothing: where its number is one of 16 to 127, and always for the id 0.
 #[unsafe(no_mangle)]
 pub extern "C" fn rtpw_map_get(map: &StoredMap, id: u8) -> u8
     ensures { IsNumberAt map.now.kind id result }
@@ -54,8 +55,8 @@ pub extern "C" fn rtpw_map_get(map: &StoredMap, id: u8) -> u8
     map.number_at(id)
 }
 
-/// The lowest id that is mapped to the kind of this number, or to the caller's own extension of it; 0
-/// where none is, and where the number is that of no extension.
+/// The lowest id that is mapped to the kind of this number, or to the caller's own extension of it;
+/// 0 where none is, and where the number is that of no extension.
 #[unsafe(no_mangle)]
 pub extern "C" fn rtpw_id_of(map: &StoredMap, kind: u8) -> u8
     ensures { IsIdOf map.now.kind kind result }
@@ -83,8 +84,8 @@ pub extern "C" fn rtpw_map_standard(map: &mut StoredMap)
     map.kind = numbers;
 }
 
-/// The number of the kind that this URI names in SDP (`a=extmap`; RFC 8285, 5), and 0 where it names
-/// none that this library knows. Takes no memory.
+/// The number of the kind that this URI names in SDP (`a=extmap`; RFC 8285, 5), and 0 where it
+/// names none that this library knows. Takes no memory.
 #[unsafe(no_mangle)]
 pub extern "C" fn rtpw_kind_of_uri(uri: &[u8]) -> u8
     ensures kind { (kind : KnownKind) → (result ≡ kind_number kind) ↔ (uri_of kind ≡ uri.now) }
@@ -99,9 +100,9 @@ pub extern "C" fn rtpw_kind_of_uri(uri: &[u8]) -> u8
     }
 }
 
-/// The ids that elements get where packets go from one map to another (RFC 8285, 5): `rtpw_new_ids` in
-/// C, 256 bytes, which C may fill itself. Each value is one: 0 says that an id has no new one, and
-/// what stands at index 0 is passed over.
+/// The ids that elements get where packets go from one map to another (RFC 8285, 5): `rtpw_new_ids`
+/// in C, 256 bytes, which C may fill itself. Each value is one: 0 says that an id has no new one,
+/// and what stands at index 0 is passed over.
 #[repr(C)]
 #[derive(Clone, Copy)]
 pub struct StoredNewIds {
@@ -109,9 +110,9 @@ pub struct StoredNewIds {
     pub id: [u8; 256],
 }
 
-/// For each id that `from` maps to a kind, or to an extension of the caller's own, the lowest id that
-/// `to` has for the same number. Every other id has no new one, and neither has 0. Made once for two
-/// maps.
+/// For each id that `from` maps to a kind, or to an extension of the caller's own, the lowest id
+/// that `to` has for the same number. Every other id has no new one, and neither has 0. Made once
+/// for two maps.
 #[unsafe(no_mangle)]
 pub extern "C" fn rtpw_new_ids_between(from: &StoredMap, to: &StoredMap, ids: &mut StoredNewIds)
     ensures ids { AreNewIdsOf from.now.kind to.now.kind ids.new.id }
@@ -129,9 +130,9 @@ pub extern "C" fn rtpw_new_ids_between(from: &StoredMap, to: &StoredMap, ids: &m
 
 /// Gives each element of the packet in the buffer its new id where it lies, and makes an element
 /// whose id has no new one zeros, which are padding; all other bytes stay (RFC 8285, 4.2 and 4.3).
-/// `OK`, also where X is clear or the form of the block is another; `BAD_FIELD` where the form can't carry
-/// the new id of an element: one above 14 in the one-byte form; or the status of the first cause for which
-/// the buffer holds no packet. Where it isn't `OK` nothing changes.
+/// `OK`, also where X is clear or the form of the block is another; `BAD_FIELD` where the form
+/// can't carry the new id of an element: one above 14 in the one-byte form; or the status of the
+/// first cause for which the buffer holds no packet. Where it isn't `OK` nothing changes.
 ///
 /// The packet then says under the second map what it said under the first, of the kinds that the
 /// second maps and no other.

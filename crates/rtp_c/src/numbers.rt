@@ -49,8 +49,8 @@ pub fn kind_numbered(number: u8) -> Option<KnownKind>
     }
 }
 
-// The kind that the number names, `Some(None)` where it is one of the caller's own, and `None` where it
-// names nothing.
+// The kind that the number names, `Some(None)` where it is one of the caller's own, and `None`
+// where it names nothing.
 #[inline(always)]
 #[tactic(auto, using(crate::proofs::KindNumberLemmas::kind_low))]
 pub fn named(number: u8) -> Option<Option<KnownKind>>
@@ -99,8 +99,8 @@ pub(super) fn are_zeros(numbers: &[u8]) -> bool
     any == 0
 }
 
-// An index after which each of the first eight numbers is 0: that of the last other one, where this is
-// below 128 as the number of a kind is.
+// An index after which each of the first eight numbers is 0: that of the last other one, where this
+// is below 128 as the number of a kind is.
 #[inline(always)]
 pub(super) fn last_of_few(numbers: &[u8; 8]) -> usize
     ensures zeros { (i : ℕ) → result < i → i < 8 → slice_index numbers.now i ≡ 0 }
@@ -110,8 +110,8 @@ pub(super) fn last_of_few(numbers: &[u8; 8]) -> usize
     len as usize / 8
 }
 
-// The new byte of an id of this number in a table: `lowest` where it is the first of two, 0 where it is the
-// second, and else the old one.
+// The new byte of an id of this number in a table: `lowest` where it is the first of two, 0 where
+// it is the second, and else the old one.
 #[inline(always)]
 pub(super) fn renamed(number: u8, from: u8, to: u8, lowest: u8, old: u8) -> u8
     ensures renamed { number ≡ from → result ≡ lowest }

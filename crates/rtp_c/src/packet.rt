@@ -48,11 +48,11 @@ pub struct PacketView {
     pub marker: u8,
     /// P, 0 or 1.
     pub has_padding: u8,
-    /// 1, and 0 where P is set and the payload's last byte counts more bytes than the payload has. A last
-    /// byte of 0 takes nothing away, and neither does P of an empty payload.
+    /// 1, and 0 where P is set and the payload's last byte counts more bytes than the payload has.
+    /// A last byte of 0 takes nothing away, and neither does P of an empty payload.
     pub padding_fits: u8,
-    /// The form of the block: 1 the one-byte form, 2 the two-byte form, 3 another one, and 0 where X is
-    /// clear.
+    /// The form of the block: 1 the one-byte form, 2 the two-byte form, 3 another one, and 0 where
+    /// X is clear.
     pub block_form: u8,
     /// The 16 bits that the block begins with, and 0 where X is clear.
     pub block_profile: u16,
@@ -88,7 +88,8 @@ pub fn form_of(number: u8) -> Option<ExtensionsForm>
 // The form that alone is allowed by this number, and none where both are.
 pub fn allowed_of(number: u8) -> Option<Option<ExtensionsForm>>
     ensures found { IfSome result (λ allowed. form_number allowed ≡ number) }
-    ensures none { IfNone result ((allowed : Option ExtensionsForm) → form_number allowed ≢ number) }
+    ensures none { IfNone result ((allowed : Option ExtensionsForm) →
+        form_number allowed ≢ number) }
 {
     if number == 0 {
         return Some(None);
@@ -162,9 +163,9 @@ fn view_of(packet: &RtpPacket<'_>) -> PacketView
     }
 }
 
-/// Reads the header of the packet that the datagram is, with a block of any form; where RTCP comes to the
-/// same port, after `rtpw_is_rtcp`. `OK`, or the status of the first cause for which it is none, and then
-/// nothing is written.
+/// Reads the header of the packet that the datagram is, with a block of any form; where RTCP comes
+/// to the same port, after `rtpw_is_rtcp`. `OK`, or the status of the first cause for which it is
+/// none, and then nothing is written.
 #[unsafe(no_mangle)]
 pub extern "C" fn rtpw_packet_parse(datagram: &[u8], packet: &mut PacketView) -> i32
     // Of a packet of these parts all of them are told, and bytes are a packet of such parts where
@@ -185,10 +186,10 @@ pub extern "C" fn rtpw_packet_parse(datagram: &[u8], packet: &mut PacketView) ->
     }
 }
 
-/// Finds the first element of a block's body from an offset on (RFC 8285, 4.2 and 4.3). A walk begins
-/// at 0, and goes on at the `end` of the element before. `OK`; `NONE` where reading ends before an
-/// element; `BAD_FIELD` where the form is neither of the two, or the offset is past the body's end.
-/// Where it isn't `OK` nothing is written.
+/// Finds the first element of a block's body from an offset on (RFC 8285, 4.2 and 4.3). A walk
+/// begins at 0, and goes on at the `end` of the element before. `OK`; `NONE` where reading ends
+/// before an element; `BAD_FIELD` where the form is neither of the two, or the offset is past the
+/// body's end. Where it isn't `OK` nothing is written.
 #[unsafe(no_mangle)]
 pub extern "C" fn rtpw_next_element(
     body: &[u8],
@@ -230,9 +231,9 @@ pub extern "C" fn rtpw_next_element(
     OK
 }
 
-/// Finds the last element of this id in a block's body (RFC 8285, 4.2 and 4.3), which is the one whose
-/// value counts. `OK`; `NONE` where no element has the id; `BAD_FIELD` where the form is neither of
-/// the two. Where it isn't `OK` nothing is written.
+/// Finds the last element of this id in a block's body (RFC 8285, 4.2 and 4.3), which is the one
+/// whose value counts. `OK`; `NONE` where no element has the id; `BAD_FIELD` where the form is
+/// neither of the two. Where it isn't `OK` nothing is written.
 #[unsafe(no_mangle)]
 pub extern "C" fn rtpw_last_element(body: &[u8], form: u8, id: u8, element: &mut ElementView) -> i32
     ensures found { result ≡ ok → (f : ExtensionsForm) × (form_number (Some f) ≡ form)

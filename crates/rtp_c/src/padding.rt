@@ -11,9 +11,9 @@ use super::changing::layout_of;
 use super::status::{BAD_FIELD, OK};
 use rtp_wire::RtpPacketMut;
 
-/// Sets or clears P of the packet in the buffer, and no other bit: the padding itself is the caller's
-/// to write, or to keep. `OK`, or the status of the first cause for which the buffer holds no packet,
-/// and then nothing changes.
+/// Sets or clears P of the packet in the buffer, and no other bit: the padding itself is the
+/// caller's to write, or to keep. `OK`, or the status of the first cause for which the buffer holds
+/// no packet, and then nothing changes.
 #[unsafe(no_mangle)]
 pub extern "C" fn rtpw_set_padding(datagram: &mut [u8], has_padding: bool) -> i32
     ensures set { (parts : PacketParts) → IsPacket datagram.old parts →
@@ -33,10 +33,11 @@ pub extern "C" fn rtpw_set_padding(datagram: &mut [u8], has_padding: bool) -> i3
     }
 }
 
-/// Takes the padding off the packet in the buffer: clears P, and writes how many bytes the packet then
-/// has, which are the first ones of the buffer. Where P is clear nothing changes, and they are all of
-/// them. `OK`; `BAD_FIELD` where the padding's last byte counts more bytes than the payload has; or the
-/// status of the first cause for which the buffer holds no packet. Where it isn't `OK` nothing changes.
+/// Takes the padding off the packet in the buffer: clears P, and writes how many bytes the packet
+/// then has, which are the first ones of the buffer. Where P is clear nothing changes, and they are
+/// all of them. `OK`; `BAD_FIELD` where the padding's last byte counts more bytes than the payload
+/// has; or the status of the first cause for which the buffer holds no packet. Where it isn't `OK`
+/// nothing changes.
 #[unsafe(no_mangle)]
 pub extern "C" fn rtpw_remove_padding(datagram: &mut [u8], len: &mut usize) -> i32
     ensures unpadded { (parts : PacketParts) → IsPacket datagram.old parts → result ≡ ok →

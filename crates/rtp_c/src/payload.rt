@@ -1,6 +1,6 @@
 //! What follows the header: the padding at the payload's end, and the original number at its front.
 
-ghost use Rattle.std.specs.Prelude.{◌≡◌, ◌≢◌, ◌+◌, ◌%◌, ◌<◌, ◌≤◌, ◌++◌, ℕ, List, length, drop};
+ghost use Rattle.std.specs.Prelude.{◌≡◌, ◌≢◌, ◌+◌, ◌%◌, ◌<◌, ◌≤◌, ◌++◌, ℕ, length, drop};
 ghost use Rattle.std.specs.Int.{w16, to_be_bytes};
 ghost use Rattle.rtp_base.specs.Overwriting.{overwritten};
 ghost use Rattle.rtp_wire.specs.OriginalNumber.{HasOriginalNumber};
@@ -30,8 +30,8 @@ pub extern "C" fn rtpw_read_original(payload: &[u8], number: &mut u16) -> i32
 }
 
 /// Writes the low 16 bits of the original sequence number to the front of the payload of a
-/// retransmission packet (RFC 4588, 4). `OK`, or `SHORT_BUFFER` where there are fewer than two bytes,
-/// and then nothing is written.
+/// retransmission packet (RFC 4588, 4). `OK`, or `SHORT_BUFFER` where there are fewer than two
+/// bytes, and then nothing is written.
 #[unsafe(no_mangle)]
 pub extern "C" fn rtpw_write_original(payload: &mut [u8], number: u64) -> i32
     ensures done { 2 ≤ length payload.old → result ≡ ok }
@@ -50,9 +50,9 @@ pub extern "C" fn rtpw_write_original(payload: &mut [u8], number: u64) -> i32
 /// Makes a packet of padding alone after its header (RFC 3550, 5.1): sets P, and writes the padding
 /// from `header_len` on, zeros and in the last byte their count. It is `pad_len` rounded up to a
 /// multiple of `block_size`, but at most 240; with a `pad_len` of 0 nothing changes, and no room is
-/// wanted. `OK`, and how many bytes of padding there are is written too; `BAD_FIELD` where `block_size`
-/// is 0; `SHORT_BUFFER` where there isn't room for the header and the padding. Where it isn't `OK`
-/// nothing is written.
+/// wanted. `OK`, and how many bytes of padding there are is written too; `BAD_FIELD` where
+/// `block_size` is 0; `SHORT_BUFFER` where there isn't room for the header and the padding. Where
+/// it isn't `OK` nothing is written.
 #[unsafe(no_mangle)]
 pub extern "C" fn rtpw_pad(
     datagram: &mut [u8],
@@ -64,16 +64,15 @@ pub extern "C" fn rtpw_pad(
     ensures length { result ≡ ok → 0 < pad_len → IsPaddingLength pad_len block_size count.new }
     ensures padded { result ≡ ok → 0 < pad_len → datagram.new
         ≡ overwritten (with_padding_bit datagram.old) header_len (padding_bytes count.new) }
-    ensures nothing { result ≡ ok → pad_len ≡ 0 → count.new ≡ 0 }
+    ensures nothing { 1 ≤ block_size → pad_len ≡ 0 → (result ≡ ok) × (count.new ≡ 0) }
     ensures same { pad_len ≡ 0 → datagram.new ≡ datagram.old }
     ensures no_block { block_size ≡ 0 → result ≡ bad_field }
     ensures short { 1 ≤ block_size → 0 < pad_len → (n : ℕ) → IsPaddingLength pad_len block_size n →
         length datagram.old < header_len + n → result ≡ short_buffer }
     ensures done { 1 ≤ block_size → 0 < pad_len → (n : ℕ) → IsPaddingLength pad_len block_size n →
         header_len + n ≤ length datagram.old → result ≡ ok }
-    ensures none_wanted { 1 ≤ block_size → pad_len ≡ 0 → result ≡ ok }
-    ensures unchanged { result ≢ ok → datagram.new ≡ datagram.old }
-    ensures unwritten { result ≢ ok → count.new ≡ count.old }
+    ensures unchanged { result ≢ ok →
+        (datagram.new ≡ datagram.old) × (count.new ≡ count.old) }
 {
     if block_size == 0 {
         return BAD_FIELD;

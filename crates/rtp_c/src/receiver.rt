@@ -16,16 +16,16 @@ use rtp_wire::{Receiver, extend_u8, extend_u15, extend_u16, extend_u32};
 // How many numbers a half of the window's bits stands for, as the worth of the bit above it.
 const HALF: u128 = 1 << 64;
 
-/// The receive state of one stream: `rtpw_receiver` in C, 32 bytes. Each value is one; all zeros have
-/// taken nothing yet, and the first packet has the rollover count 0.
+/// The receive state of one stream: `rtpw_receiver` in C, 32 bytes. Each value is one; all zeros
+/// have taken nothing yet, and the first packet has the rollover count 0.
 ///
-/// Each `started` but 0 counts as 1, and the highest number as taken whatever bit 0 says. Where nothing
-/// is taken yet, the low 16 bits of `highest` and the recorded bits are not looked at.
+/// Each `started` but 0 counts as 1, and the highest number as taken whatever bit 0 says. Where
+/// nothing is taken yet, the low 16 bits of `highest` and the recorded bits are not looked at.
 #[repr(C)]
 #[derive(Clone, Copy)]
 pub struct StoredReceiver {
-    /// The highest number taken. Where nothing is taken yet, the first packet's rollover count stands
-    /// in the bits above the low sixteen.
+    /// The highest number taken. Where nothing is taken yet, the first packet's rollover count
+    /// stands in the bits above the low sixteen.
     pub highest: u64,
     /// Bit i says whether the highest number minus i is taken: bit 0 is set once one is taken.
     pub recorded_low: u64,
@@ -73,8 +73,8 @@ fn store(receiver: &Receiver, stored: &mut StoredReceiver)
     stored.highest = highest.get();
     stored.recorded_low = (recorded % HALF) as u64;
     stored.recorded_high = (recorded / HALF) as u64;
-    // `rtpw_receiver_receive` has seen that it is 1 where the next number comes, and by this test stores
-    // nothing there.
+    // `rtpw_receiver_receive` has seen that it is 1 where the next number comes, and by this test
+    // stores nothing there.
     if stored.started != 1 {
         stored.started = 1;
     }
@@ -111,10 +111,10 @@ fn receive_any(receiver: &mut StoredReceiver, sequence_number: u16, number: &mut
 }
 
 /// Makes the receiver one that has taken nothing yet, whose first packet has this rollover count:
-/// below 2^48, and 0 for a stream that is received from its beginning. `highest` becomes 65,536 times
-/// the count, and all else 0. With a count of 1 or more a
-/// packet from before the first one has a number too. `OK`, or `BAD_FIELD` where the count is 2^48 or
-/// more, and then nothing is written.
+/// below 2^48, and 0 for a stream that is received from its beginning. `highest` becomes 65,536
+/// times the count, and all else 0. With a count of 1 or more a packet from before the first one
+/// has a number too. `OK`, or `BAD_FIELD` where the count is 2^48 or more, and then nothing is
+/// written.
 #[unsafe(no_mangle)]
 pub extern "C" fn rtpw_receiver_start(receiver: &mut StoredReceiver, rollover_count: u64) -> i32
     ensures started { rollover_count < 2 ^ 48 → (taken : Numbers) → IsNothing taken →
@@ -132,8 +132,8 @@ pub extern "C" fn rtpw_receiver_start(receiver: &mut StoredReceiver, rollover_co
 }
 
 /// The extended sequence number of a packet of this sequence number: the one nearest to the highest
-/// number taken (RFC 3711, 3.3.1). Where nothing is taken yet, it is the one with the rollover count
-/// at which the receiver starts.
+/// number taken (RFC 3711, 3.3.1). Where nothing is taken yet, it is the one with the rollover
+/// count at which the receiver starts.
 #[unsafe(no_mangle)]
 pub extern "C" fn rtpw_receiver_number_of(receiver: &StoredReceiver, sequence_number: u16) -> u64
     ensures nearest { (count : ℕ) (taken : Numbers) → HoldsNumbers receiver.now count taken →
@@ -156,8 +156,8 @@ pub extern "C" fn rtpw_receiver_accepts(receiver: &StoredReceiver, number: u64) 
 }
 
 /// Records that the number is taken, once its packet is known to be authentic. One that
-/// `rtpw_receiver_accepts` refuses changes nothing, except that `started` and bit 0 of `recorded_low`
-/// become 1 where they were not.
+/// `rtpw_receiver_accepts` refuses changes nothing, except that `started` and bit 0 of
+/// `recorded_low` become 1 where they were not.
 #[unsafe(no_mangle)]
 pub extern "C" fn rtpw_receiver_record(receiver: &mut StoredReceiver, number: u64)
     ensures recorded { (count : ℕ) (taken : Numbers) → HoldsNumbers receiver.old count taken →
@@ -176,8 +176,8 @@ pub extern "C" fn rtpw_receiver_record(receiver: &mut StoredReceiver, number: u6
 
 /// Takes a packet of this sequence number, where its extended number may be taken: `OK`, and the
 /// number is written and recorded. `REFUSED` where it may not, and then nothing is written. It is
-/// `rtpw_receiver_number_of`, `rtpw_receiver_accepts` and `rtpw_receiver_record` in one, where nothing is
-/// authenticated.
+/// `rtpw_receiver_number_of`, `rtpw_receiver_accepts` and `rtpw_receiver_record` in one, where
+/// nothing is authenticated.
 #[unsafe(no_mangle)]
 pub extern "C" fn rtpw_receiver_receive(
     receiver: &mut StoredReceiver,

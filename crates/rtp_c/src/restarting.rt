@@ -13,8 +13,8 @@ use rtp_wire::{RestartingReceiver, RestartingVerdict, WideReceiver};
 // RFC 3550's MAX_DROPOUT.
 const MAX_DROPOUT: u16 = 3000;
 
-/// The receive state of one stream: `rtpw_restarting_receiver` in C, 32 bytes. Each value is one; all
-/// zeros have taken nothing yet, and have RFC 3550's bounds.
+/// The receive state of one stream: `rtpw_restarting_receiver` in C, 32 bytes. Each value is one;
+/// all zeros have taken nothing yet, and have RFC 3550's bounds.
 ///
 /// Each `started` but 0 counts as 1, and the highest number as taken whatever its bit says. Where
 /// nothing is taken yet neither `highest` nor the words are looked at.
@@ -23,8 +23,8 @@ const MAX_DROPOUT: u16 = 3000;
 pub struct StoredRestarting {
     /// The highest number taken in the epoch.
     pub highest: u64,
-    /// Bit n % 64 of word n / 64 % 2 says whether the number n is taken, for the highest one and each
-    /// of the 127 below it.
+    /// Bit n % 64 of word n / 64 % 2 says whether the number n is taken, for the highest one and
+    /// each of the 127 below it.
     pub words: [u64; 2],
     /// A packet of the stream is less than this above the highest number taken; 0 stands for 3,000.
     pub max_dropout: u16,
@@ -61,7 +61,8 @@ fn receiver_of(stored: &StoredRestarting) -> RestartingReceiver<2>
 
 // Stores what the receiver holds of the packets that came.
 fn store(receiver: &RestartingReceiver<2>, stored: &mut StoredRestarting)
-    ensures held { (taken : Numbers) → HoldsEpoch 2 receiver.now 1 taken → HoldsIn stored.new taken }
+    ensures held { (taken : Numbers) → HoldsEpoch 2 receiver.now 1 taken →
+        HoldsIn stored.new taken }
     ensures started { 0 < stored.new.started → IsStartedIn stored.new }
     ensures row { (stored.new.in_row ≡ receiver.now.in_row)
         × (stored.new.next ≡ receiver.now.next) }
@@ -81,10 +82,10 @@ fn store(receiver: &RestartingReceiver<2>, stored: &mut StoredRestarting)
 }
 
 /// The verdict on the next packet of the source, by its sequence number, where nothing is
-/// authenticated (RFC 3550, appendix A.1). `OK`: it is of the stream and is taken, or it is the first
-/// one of the source. `RESTARTED`: the sender has started again, and it is taken as the first one of a
-/// new epoch. In both cases its extended number is written. `REFUSED`: it is a replay, or outside of
-/// the stream; the number isn't written.
+/// authenticated (RFC 3550, appendix A.1). `OK`: it is of the stream and is taken, or it is the
+/// first one of the source. `RESTARTED`: the sender has started again, and it is taken as the first
+/// one of a new epoch. In both cases its extended number is written. `REFUSED`: it is a replay, or
+/// outside of the stream; the number isn't written.
 #[unsafe(no_mangle)]
 pub extern "C" fn rtpw_restarting_receive(
     receiver: &mut StoredRestarting,

@@ -18,10 +18,10 @@ use rtp_wire::{
     NotRetransmitted, OriginalFields, RetransmissionFields, from_retransmission, to_retransmission,
 };
 
-/// The ids that elements get where a packet becomes a retransmission (RFC 4588, 4; RFC 8852, 3): where
-/// the map has both a stream id and a repaired one, each id of the first becomes the lowest of the
-/// second, and the ids of the second have no new one. Every other id keeps itself, and so does each
-/// where the map hasn't both; 0 has no new one. Made once for a map.
+/// The ids that elements get where a packet becomes a retransmission (RFC 4588, 4; RFC 8852, 3):
+/// where the map has both a stream id and a repaired one, each id of the first becomes the lowest
+/// of the second, and the ids of the second have no new one. Every other id keeps itself, and so
+/// does each where the map hasn't both; 0 has no new one. Made once for a map.
 #[unsafe(no_mangle)]
 pub extern "C" fn rtpw_new_ids_to_retransmission(map: &StoredMap, ids: &mut StoredNewIds)
     ensures kinds { RenameKinds RtpStreamId RepairedRtpStreamId map.now.kind ids.new.id }
@@ -55,15 +55,16 @@ fn refusal(cause: NotRetransmitted) -> i32
     }
 }
 
-/// Makes the packet in the first `len` bytes of the buffer a retransmission, in place, and writes the
-/// length of that to `len` (RFC 4588, 4): it has this SSRC, payload type, 0 to 127, and sequence number,
-/// its elements have their new ids, and its payload is the original sequence number in two bytes and
-/// the original payload without its padding. All other parts stay, and so do the bytes behind it.
+/// Makes the packet in the first `len` bytes of the buffer a retransmission, in place, and writes
+/// the length of that to `len` (RFC 4588, 4): it has this SSRC, payload type, 0 to 127, and
+/// sequence number, its elements have their new ids, and its payload is the original sequence
+/// number in two bytes and the original payload without its padding. All other parts stay, and so
+/// do the bytes behind it.
 ///
-/// `OK`; `BAD_FIELD` where the payload type is above 127, the length is greater than the buffer's, the
-/// padding's last byte counts more bytes than the payload has, or the form of the block can't carry a
-/// new id; the status of the first cause for which the bytes are no packet; or `SHORT_BUFFER` where
-/// there is no room for the number. Where it isn't `OK` nothing changes.
+/// `OK`; `BAD_FIELD` where the payload type is above 127, the length is greater than the buffer's,
+/// the padding's last byte counts more bytes than the payload has, or the form of the block can't
+/// carry a new id; the status of the first cause for which the bytes are no packet; or
+/// `SHORT_BUFFER` where there is no room for the number. Where it isn't `OK` nothing changes.
 #[unsafe(no_mangle)]
 pub extern "C" fn rtpw_to_retransmission(
     buf: &mut [u8],
@@ -81,8 +82,8 @@ pub extern "C" fn rtpw_to_retransmission(
         IsWithoutPadding original.has_padding original.payload payload →
         len.new ≡ header_len_of original + 2 + length payload }
     ensures block_header { result ≡ ok → KeepsBlockHeader buf.old buf.new }
-    ensures within { result ≡ ok → len.new ≤ length buf.old }
-    ensures behind { result ≡ ok → drop len.new buf.new ≡ drop len.new buf.old }
+    ensures behind { result ≡ ok → (len.new ≤ length buf.old)
+        × (drop len.new buf.new ≡ drop len.new buf.old) }
     ensures too_high { 127 < payload_type → result ≡ bad_field }
     ensures refusal { payload_type ≤ 127 → result ≢ ok →
         IsRefusal (KeepsFromSending (new_id (ids_in_bytes ids.now.id)) buf.old len.old) result }
@@ -107,15 +108,16 @@ pub extern "C" fn rtpw_to_retransmission(
     }
 }
 
-/// Makes the retransmission in the first `len` bytes of the buffer the packet that it repeats, in place,
-/// and writes the length of that to `len` (RFC 4588, 4): it has this SSRC and payload type, 0 to 127,
-/// and the original sequence number, its elements have their new ids, and its payload is what follows
-/// that number, without any padding. All other parts stay, and so do the bytes behind it.
+/// Makes the retransmission in the first `len` bytes of the buffer the packet that it repeats, in
+/// place, and writes the length of that to `len` (RFC 4588, 4): it has this SSRC and payload type,
+/// 0 to 127, and the original sequence number, its elements have their new ids, and its payload is
+/// what follows that number, without any padding. All other parts stay, and so do the bytes behind
+/// it.
 ///
-/// `OK`; `BAD_FIELD` where the payload type is above 127, the length is greater than the buffer's, the
-/// padding's last byte counts more bytes than the payload has, or the form of the block can't carry a
-/// new id; the status of the first cause for which the bytes are no packet; or `NONE` where the payload
-/// has no original number. Where it isn't `OK` nothing changes.
+/// `OK`; `BAD_FIELD` where the payload type is above 127, the length is greater than the buffer's,
+/// the padding's last byte counts more bytes than the payload has, or the form of the block can't
+/// carry a new id; the status of the first cause for which the bytes are no packet; or `NONE` where
+/// the payload has no original number. Where it isn't `OK` nothing changes.
 #[unsafe(no_mangle)]
 pub extern "C" fn rtpw_from_retransmission(
     buf: &mut [u8],
@@ -132,8 +134,8 @@ pub extern "C" fn rtpw_from_retransmission(
         IsWithoutPadding sent.has_padding sent.payload payload →
         len.new + 2 ≡ header_len_of sent + length payload }
     ensures block_header { result ≡ ok → KeepsBlockHeader buf.old buf.new }
-    ensures within { result ≡ ok → len.new ≤ length buf.old }
-    ensures behind { result ≡ ok → drop len.new buf.new ≡ drop len.new buf.old }
+    ensures behind { result ≡ ok → (len.new ≤ length buf.old)
+        × (drop len.new buf.new ≡ drop len.new buf.old) }
     ensures too_high { 127 < payload_type → result ≡ bad_field }
     ensures refusal { payload_type ≤ 127 → result ≢ ok →
         IsRefusal (KeepsFromRestoring (new_id (ids_in_bytes ids.now.id)) buf.old len.old) result }

@@ -19,7 +19,8 @@ use super::status::{BAD_FIELD, OK};
 use rtp_base::put;
 use rtp_ext::{ExtensionsForm, read_values};
 
-/// A time as a number of ticks of a clock: `rtpw_time` in C, 16 bytes. It is `ticks / hertz` seconds.
+/// A time as a number of ticks of a clock: `rtpw_time` in C, 16 bytes. It is `ticks / hertz`
+/// seconds.
 #[repr(C)]
 #[derive(Clone, Copy, Default)]
 pub struct Time {
@@ -126,7 +127,8 @@ pub fn told<T: Copy + Default>(value: Option<T>) -> (u8, T)
 // Puts what C is told of the values that the elements of a block's body give under the map.
 pub fn put_values(body: &[u8], form: ExtensionsForm, map: &StoredMap, view: &mut ValuesView)
     ensures { (elements : List Element) → AreElements form body.now elements →
-        (values : ExtensionValues) × AreValues (numbered_slots map.now.kind) elements no_values values
+        (values : ExtensionValues)
+        × AreValues (numbered_slots map.now.kind) elements no_values values
         × IsViewOfValues values view.new }
 {
     put_no_values(view);

@@ -15,16 +15,16 @@ use rtp_wire::extend_u16;
 const MOST_WORDS: usize = 512;
 
 /// The receive state of one stream: `rtpw_wide_receiver` in C, 16 bytes, beside the words of its
-/// window. Each value is one; all zeros have taken nothing yet, and the first packet has the rollover
-/// count 0.
+/// window. Each value is one; all zeros have taken nothing yet, and the first packet has the
+/// rollover count 0.
 ///
 /// Each `started` but 0 counts as 1, and the highest number as taken whatever its bit says. Where
 /// nothing is taken yet, neither the low 16 bits of `highest` nor the words are looked at.
 #[repr(C)]
 #[derive(Clone, Copy)]
 pub struct StoredWideReceiver {
-    /// The highest number taken. Where nothing is taken yet, the first packet's rollover count stands
-    /// in the bits above the low sixteen.
+    /// The highest number taken. Where nothing is taken yet, the first packet's rollover count
+    /// stands in the bits above the low sixteen.
     pub highest: u64,
     /// 0 where nothing is taken yet, and 1 afterwards.
     pub started: u8,
@@ -50,7 +50,8 @@ fn accepts(receiver: &StoredWideReceiver, words: &[u64], number: u64) -> bool
     number != receiver.highest && ring_accepts(words, highest, SeqNo::from(number))
 }
 
-// Whether the number is the next one after the highest and has its bit in the same word, as most do.
+// Whether the number is the next one after the highest and has its bit in the same word, as most
+// do.
 fn is_usual(highest: u64, number: u64) -> bool
     ensures { IsTrue result ↔ ((number ≡ highest + 1) × (number / 64 ≡ highest / 64)) }
 {
@@ -131,9 +132,10 @@ fn receive_other(
 }
 
 /// Makes the receiver one that has taken nothing yet, whose first packet has this rollover count:
-/// below 2^48, and 0 for a stream that is received from its beginning. `highest` becomes 65,536 times
-/// the count, and `started` 0. With a count of 1 or more a packet from before the first one has a
-/// number too. `OK`, or `BAD_FIELD` where the count is 2^48 or more, and then nothing is written.
+/// below 2^48, and 0 for a stream that is received from its beginning. `highest` becomes 65,536
+/// times the count, and `started` 0. With a count of 1 or more a packet from before the first one
+/// has a number too. `OK`, or `BAD_FIELD` where the count is 2^48 or more, and then nothing is
+/// written.
 #[unsafe(no_mangle)]
 pub extern "C" fn rtpw_wide_receiver_start(
     receiver: &mut StoredWideReceiver,
@@ -157,8 +159,8 @@ pub extern "C" fn rtpw_wide_receiver_start(
 }
 
 /// The extended sequence number of a packet of this sequence number: the one nearest to the highest
-/// number taken (RFC 3711, 3.3.1). Where nothing is taken yet, it is the one with the rollover count
-/// at which the receiver starts.
+/// number taken (RFC 3711, 3.3.1). Where nothing is taken yet, it is the one with the rollover
+/// count at which the receiver starts.
 #[unsafe(no_mangle)]
 pub extern "C" fn rtpw_wide_receiver_number_of(
     receiver: &StoredWideReceiver,
@@ -167,7 +169,8 @@ pub extern "C" fn rtpw_wide_receiver_number_of(
     ensures nearest { (words : List ℕ) (count : ℕ) (taken : Numbers) →
         HoldsIn receiver.now words count taken → IsNumberOf count taken sequence_number result }
 
-    // With any words each value of the struct holds some set, so the clauses always speak of something.
+    // With any words each value of the struct holds some set, so the clauses always speak of
+    // something.
     ensures some { (words : List ℕ) → 0 < length words →
         ((count : ℕ) × (taken : Numbers) × HoldsIn receiver.now words count taken) }
 {
@@ -177,9 +180,9 @@ pub extern "C" fn rtpw_wide_receiver_number_of(
     extend_u16(Some(receiver.highest), sequence_number)
 }
 
-/// Whether the number may be taken: nothing is taken yet, or it is above the highest number taken, or
-/// less than 64 times the number of words below it and not taken. False where the words are none, or
-/// more than 512.
+/// Whether the number may be taken: nothing is taken yet, or it is above the highest number taken,
+/// or less than 64 times the number of words below it and not taken. False where the words are
+/// none, or more than 512.
 #[unsafe(no_mangle)]
 pub extern "C" fn rtpw_wide_receiver_accepts(
     receiver: &StoredWideReceiver,
@@ -194,9 +197,9 @@ pub extern "C" fn rtpw_wide_receiver_accepts(
     is_window(words) && accepts(receiver, words, number)
 }
 
-/// Records that the number is taken, once its packet is known to be authentic: `OK`. `REFUSED` where
-/// it may not be taken, and `BAD_FIELD` where the words are none or more than 512; then nothing is
-/// written.
+/// Records that the number is taken, once its packet is known to be authentic: `OK`. `REFUSED`
+/// where it may not be taken, and `BAD_FIELD` where the words are none or more than 512; then
+/// nothing is written.
 #[unsafe(no_mangle)]
 pub extern "C" fn rtpw_wide_receiver_record(
     receiver: &mut StoredWideReceiver,
@@ -223,8 +226,8 @@ pub extern "C" fn rtpw_wide_receiver_record(
 }
 
 /// Takes a packet of this sequence number, where its extended number may be taken: `OK`, and the
-/// number is written and recorded. `REFUSED` where it may not, and `BAD_FIELD` where the words are none
-/// or more than 512; then nothing is written. It is `rtpw_wide_receiver_number_of` and
+/// number is written and recorded. `REFUSED` where it may not, and `BAD_FIELD` where the words are
+/// none or more than 512; then nothing is written. It is `rtpw_wide_receiver_number_of` and
 /// `rtpw_wide_receiver_record` in one, where nothing is authenticated.
 #[unsafe(no_mangle)]
 pub extern "C" fn rtpw_wide_receiver_receive(

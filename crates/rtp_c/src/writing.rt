@@ -24,8 +24,8 @@ use std::mem::ManuallyDrop;
 // The most bytes that the body of a block has: 65,535 words (RFC 3550, 5.3.1).
 const MAX_BODY_LEN: usize = 4 * 65_535;
 
-// Writes the header and a block with these elements as `rtpw_write_with` does, in the form that serves,
-// or that alone is allowed.
+// Writes the header and a block with these elements as `rtpw_write_with` does, in the form that
+// serves, or that alone is allowed.
 fn write_header_with(
     header: &HeaderView,
     bytes: &[u8],
@@ -62,17 +62,18 @@ fn write_header_with(
     }
 }
 
-/// Writes the fixed part and the CSRC list of the header, and a block with these elements, to the front
-/// of the buffer (RFC 3550, 5.1; RFC 8285, 4.2 and 4.3). X is set whatever `has_extension` holds, and
-/// the values of the header are not looked at. An element has its id and the `data_len` bytes of
-/// `bytes` from its `data_at` on; its `end` is not looked at, and `data_at` is also where `data_len` is
-/// 0. The block is in the one-byte form exactly
-/// where that can carry every element, ids 1 to 14 with 1 to 16 bytes of data; zeros fill its last word.
+/// Writes the fixed part and the CSRC list of the header, and a block with these elements, to the
+/// front of the buffer (RFC 3550, 5.1; RFC 8285, 4.2 and 4.3). X is set whatever `has_extension`
+/// holds, and the values of the header are not looked at. An element has its id and the `data_len`
+/// bytes of `bytes` from its `data_at` on; its `end` is not looked at, and `data_at` is also where
+/// `data_len` is 0. The block is in the one-byte form exactly where that can carry every element,
+/// ids 1 to 14 with 1 to 16 bytes of data; zeros fill its last word.
 ///
-/// `OK`, and how many bytes they take is written too. `BAD_FIELD` where the payload type is above 127,
-/// there are more than 15 contributing sources, `data_at + data_len` of an element is past `bytes`, it
-/// has the id 0 or more than 255 bytes of data, or the elements take more than the 65,535 words that a
-/// block can have; `SHORT_BUFFER` where only the room is short. Where it isn't `OK` nothing is written.
+/// `OK`, and how many bytes they take is written too. `BAD_FIELD` where the payload type is above
+/// 127, there are more than 15 contributing sources, `data_at + data_len` of an element is past
+/// `bytes`, it has the id 0 or more than 255 bytes of data, or the elements take more than the
+/// 65,535 words that a block can have; `SHORT_BUFFER` where only the room is short. Where it isn't
+/// `OK` nothing is written.
 #[unsafe(no_mangle)]
 pub extern "C" fn rtpw_write_with(
     header: &HeaderView,
@@ -94,10 +95,10 @@ pub extern "C" fn rtpw_write_with(
     write_header_with(header, bytes, elements, None, buf, len)
 }
 
-/// Writes as [`rtpw_write_with`] does, in the one form that is allowed: 1 is the one-byte form, 2 the
-/// two-byte form, as for a peer that hasn't agreed to both forms in one stream (RFC 8285, 4.1.2); 0
-/// allows any, and then the two do the same. The one-byte form carries ids 1 to 14 with 1 to 16 bytes of
-/// data, the two-byte form ids 1 to 255 with 0 to 255 bytes.
+/// Writes as [`rtpw_write_with`] does, in the one form that is allowed: 1 is the one-byte form, 2
+/// the two-byte form, as for a peer that hasn't agreed to both forms in one stream (RFC 8285,
+/// 4.1.2); 0 allows any, and then the two do the same. The one-byte form carries ids 1 to 14 with 1
+/// to 16 bytes of data, the two-byte form ids 1 to 255 with 0 to 255 bytes.
 ///
 /// The same statuses; `BAD_FIELD` also where the form is another number, or can't carry an element.
 #[unsafe(no_mangle)]
@@ -128,8 +129,8 @@ pub extern "C" fn rtpw_write_with_form(
 }
 
 /// How many bytes [`rtpw_write`] writes of the header: a multiple of four, 12 without CSRC list and
-/// block. `OK`, and the number is written; `BAD_FIELD` for the causes of [`rtpw_write`], and then nothing
-/// is written.
+/// block. `OK`, and the number is written; `BAD_FIELD` for the causes of [`rtpw_write`], and then
+/// nothing is written.
 #[unsafe(no_mangle)]
 pub extern "C" fn rtpw_wire_len(map: &StoredMap, header: &HeaderView, len: &mut usize) -> i32
     ensures length { result ≡ ok → IsLengthOf map.now.kind (IsGivenHeader header.now) len.new }
@@ -146,18 +147,19 @@ pub extern "C" fn rtpw_wire_len(map: &StoredMap, header: &HeaderView, len: &mut 
     OK
 }
 
-/// Writes the header to the front of the buffer (RFC 3550, 5.1; RFC 8285, 4.2 and 4.3). A flag counts
-/// as set where it isn't 0, and a value as absent where its `has_` is 0; `header_len` and `has_layers`
-/// are not looked at. Where `has_extension` is set a block is written, with an element for each mapped
-/// id, by rising id, whose value is there: in the two-byte form exactly where an id above 14 is mapped,
-/// the layer allocation is mapped, or a text that is written is empty. Zeros fill its last word. Where
-/// `has_extension` is clear nothing is written of the values, which are looked at all the same.
+/// Writes the header to the front of the buffer (RFC 3550, 5.1; RFC 8285, 4.2 and 4.3). A flag
+/// counts as set where it isn't 0, and a value as absent where its `has_` is 0; `header_len` and
+/// `has_layers` are not looked at. Where `has_extension` is set a block is written, with an element
+/// for each mapped id, by rising id, whose value is there: in the two-byte form exactly where an id
+/// above 14 is mapped, the layer allocation is mapped, or a text that is written is empty. Zeros
+/// fill its last word. Where `has_extension` is clear nothing is written of the values, which are
+/// looked at all the same.
 ///
-/// `OK`, and how many bytes the header takes is written too. `BAD_FIELD` where the payload type is above
-/// 127, there are more than 15 contributing sources, a text has another character than letters, digits
-/// and underscores before its first zero or has no zero, an orientation is none of 0, 90, 180 and 270,
-/// or a delay has 0 ticks in a second; of these values only where they are there. `SHORT_BUFFER` where
-/// only the room is short. Where it isn't `OK` nothing is written.
+/// `OK`, and how many bytes the header takes is written too. `BAD_FIELD` where the payload type is
+/// above 127, there are more than 15 contributing sources, a text has another character than
+/// letters, digits and underscores before its first zero or has no zero, an orientation is none of
+/// 0, 90, 180 and 270, or a delay has 0 ticks in a second; of these values only where they are
+/// there. `SHORT_BUFFER` where only the room is short. Where it isn't `OK` nothing is written.
 #[unsafe(no_mangle)]
 pub extern "C" fn rtpw_write(
     map: &StoredMap,
@@ -199,15 +201,15 @@ fn can_carry_all<L: ElementList>(form: ExtensionsForm, elements: L) -> bool
     true
 }
 
-/// Writes the elements to the front of the buffer, as they stand in the body of a block of this form
-/// (RFC 8285, 4.2 and 4.3): each has its id and the `data_len` bytes of `bytes` from its `data_at` on,
-/// and its `end` is not looked at. So the elements of another body are written under new ids from
-/// where they lie. The one-byte form carries ids 1 to 14 with 1 to 16 bytes of data, the two-byte form
-/// ids 1 to 255 with 0 to 255 bytes.
+/// Writes the elements to the front of the buffer, as they stand in the body of a block of this
+/// form (RFC 8285, 4.2 and 4.3): each has its id and the `data_len` bytes of `bytes` from its
+/// `data_at` on, and its `end` is not looked at. So the elements of another body are written under
+/// new ids from where they lie. The one-byte form carries ids 1 to 14 with 1 to 16 bytes of data,
+/// the two-byte form ids 1 to 255 with 0 to 255 bytes.
 ///
-/// `OK`, and how many bytes they take is written too. `BAD_FIELD` where the form is neither of the two
-/// or can't carry one of them, or where `data_at + data_len` of one is past `bytes`; `SHORT_BUFFER` where only
-/// the room is short. Where it isn't `OK` nothing is written.
+/// `OK`, and how many bytes they take is written too. `BAD_FIELD` where the form is neither of the
+/// two or can't carry one of them, or where `data_at + data_len` of one is past `bytes`;
+/// `SHORT_BUFFER` where only the room is short. Where it isn't `OK` nothing is written.
 #[unsafe(no_mangle)]
 pub extern "C" fn rtpw_write_elements(
     bytes: &[u8],

@@ -1,5 +1,5 @@
-//! What C gives to be written with its layer allocation, a header, from fields, values and layers to
-//! bytes.
+//! What C gives to be written with its layer allocation, a header, from fields, values and layers
+//! to bytes.
 
 ghost use Rattle.std.specs.Prelude.{◌≡◌, ◌≢◌, ◌↔◌, ◌≤◌, ◌⊎◌, [], length, Some, IfSome, IfNone};
 ghost use Rattle.rtp_values.specs.Values.{no_values};
@@ -55,8 +55,8 @@ fn put_given_with_layers(
     put_carried_streams(layers_view, layers)
 }
 
-/// How many bytes [`rtpw_write_layers`] writes: a multiple of four. `OK`, and the number is written;
-/// `BAD_FIELD` for the causes of [`rtpw_write_layers`], and then nothing is written.
+/// How many bytes [`rtpw_write_layers`] writes: a multiple of four. `OK`, and the number is
+/// written; `BAD_FIELD` for the causes of [`rtpw_write_layers`], and then nothing is written.
 #[unsafe(no_mangle)]
 pub extern "C" fn rtpw_wire_len_layers(
     map: &StoredMap,
@@ -83,13 +83,13 @@ pub extern "C" fn rtpw_wire_len_layers(
     OK
 }
 
-/// Writes the header as [`rtpw_write`](crate::writing::rtpw_write) does, and these layers as its layer
-/// allocation (`video-layers-allocation00`): an element for each id that the map has for it. So what
-/// `rtpw_parse_layers` read is written again. `has_layers` isn't looked at, and of the layers those
-/// that count alone.
+/// Writes the header as [`rtpw_write`](crate::writing::rtpw_write) does, and these layers as its
+/// layer allocation (`video-layers-allocation00`): an element for each id that the map has for it.
+/// So what `rtpw_parse_layers` read is written again. `has_layers` isn't looked at, and of the
+/// layers those that count alone.
 ///
-/// The same statuses; `BAD_FIELD` also where a count of the layers is above 4, or no element can carry
-/// them: they can't be written, or take more than 255 bytes.
+/// The same statuses; `BAD_FIELD` also where a count of the layers is above 4, or no element can
+/// carry them: they can't be written, or take more than 255 bytes.
 #[unsafe(no_mangle)]
 pub extern "C" fn rtpw_write_layers(
     map: &StoredMap,

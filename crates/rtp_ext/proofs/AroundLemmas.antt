@@ -6,7 +6,7 @@ use Rattle.std.proofs.lemmas.Slice.{drop-append-drop, take-put_mid_below, betwee
 use borrow.Rule.Slice.PartMut.{put_mid}
 use Rattle.rtp_ext.specs.declared.form.ExtensionsForm.{ExtensionsForm}
 use Rattle.rtp_ext.specs.declared.place.Place.{Place}
-use Rattle.rtp_ext.specs.declared.growing.Survey.{Survey}
+use Rattle.rtp_ext.specs.declared.survey.Survey.{Survey}
 use Rattle.rtp_ext.specs.Elements.{Element, AreElements, element_bytes, ended}
 use Rattle.rtp_ext.specs.ElementsInPlace.{HasNone}
 use Rattle.rtp_ext.specs.ElementPlaces.{IsLastPlace, LiesLast, AreWhole}

@@ -6,10 +6,10 @@ use Rattle.std.proofs.lemmas.List.{get_or-set_same, get_or-set_other, get_or_pas
 use Rattle.std.proofs.lemmas.List.Elements.{All-head, All-tail}
 use Rattle.std.proofs.Math.Seq.{drop-cons}
 use Rattle.rtp_values.specs.declared.kind.Extension.{Extension}
-use Rattle.rtp_ext.specs.ExtensionMap.{Entry, Slots, IsEmpty, IsId, IsListing, Sets, entry_at, extension_at, extension_of, is_of_medium, of_medium, unlocked, items_from}
+use Rattle.rtp_ext.specs.ExtensionMap.{Entry, Slots, IsEmpty, IsId, ListsItems, Sets, entry_at, extension_at, extension_of, is_of_medium, of_medium, unlocked, items_from}
 use Rattle.rtp_ext.specs.MapSlots.{IsMapped, mapped_ids}
 use Rattle.rtp_ext.proofs.MapLemmas.{entry_at-slot, entry_at-mapped, entry_at-other}
-use Rattle.rtp_ext.proofs.ListingLemmas.{IsListing-from_slots}
+use Rattle.rtp_ext.proofs.ListingLemmas.{ListsItems-from_slots}
 use Rattle.rtp_ext.proofs.MappedIdLemmas.{all_mapped}
 
 -- ---- of one medium
@@ -41,7 +41,7 @@ medium_of audio (Some entry) extension is tested =
     subst (λ (e : Extension). of_medium audio (Some entry) ≡ Some (unlocked e)) same
     (ap (λ (b : Bool). if b then Some (unlocked entry.extension) else None) (ap (is_of_medium audio) same ∙ tested))
 
-pub IsOfMediumBut-start : (audio : Bool) (from : Slots) (left : List (ℕ × Extension)) (to : Slots) → IsListing from (is_of_medium audio) left → IsEmpty to
+pub IsOfMediumBut-start : (audio : Bool) (from : Slots) (left : List (ℕ × Extension)) (to : Slots) → ListsItems from (is_of_medium audio) left → IsEmpty to
     → IsOfMediumBut audio from left to
 IsOfMediumBut-start audio from left to listing empty = record {
   mapped = listing.mapped;
@@ -116,7 +116,7 @@ IsCopiedBut-start from left to long are empty =
   where
     each : (id : ℕ) (slot : Option Entry) → entry_at from id ≡ slot → (entry_at to id ≡ entry_at from id) ⊎ Contains (mapped_ids from) id
     each id None is = inl (empty id ∙ sym is)
-    each id (Some entry) is = inr (listed (items_from 0 from) (id, entry.extension) ((IsListing-from_slots from).all id entry.extension (ap extension_of is) refl))
+    each id (Some entry) is = inr (listed (items_from 0 from) (id, entry.extension) ((ListsItems-from_slots from).all id entry.extension (ap extension_of is) refl))
 
 next_id : (ids : List ℕ) (i n : ℕ) → i < length ids → n ≡ get_or ids i 0 → drop i ids ≡ n ∷ drop (i + 1) ids
 next_id ids i n within is =

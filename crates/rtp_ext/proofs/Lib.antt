@@ -1,52 +1,59 @@
+-- The elements of a body, as they are read.
 pub mod ElementLemmas
+pub mod ElementLemmasOfBodies
+pub mod FirstElementLemmas
+mod PieceLemmas
+pub mod PlaceLemmas
+pub mod LastPlaceLemmas
+-- The values that they give under a map.
 pub mod ValuesLaws
 mod ValueFacts
-pub mod ElementLemmasOfBodies
 pub mod ValuesFound
-pub mod FirstElementLemmas
-pub mod PlaceLemmas
-mod PieceLemmas
-pub mod LastPlaceLemmas
-mod RenumberingLemmas
-pub mod NewIdLemmas
-mod NewBytesLemmas
-mod CopiedLemmas
-mod RenamedIdLemmas
-pub mod RenamesLemmas
-mod ExchangedLemmas
-pub mod MemoryLemmas
-mod MemoryFacts
 pub mod LastAllocationLemmas
+pub mod MemoryLemmas
+-- What each id is mapped to.
 mod MapLemmas
 pub mod ListingLemmas
 mod MappedIdLemmas
 mod RisingIdLemmas
 mod PaddedIdLemmas
-mod ShortBlockLemmas
-pub mod KindsByIdLemmas
-mod TableLemmas
 mod UpdatedIdLemmas
 mod RemovedIdLemmas
 mod ReplacedLemmas
-mod FormLemmas
+mod ExchangedLemmas
+mod CopiedLemmas
+mod MemoryFacts
+-- The known extensions of a map, and walks over them.
+pub mod KindsByIdLemmas
+mod TableLemmas
 pub mod KnownItemsLemmas
+pub mod KnownWritingLemmas
+-- Elements as they are written.
+mod FormLemmas
+mod ShortBlockLemmas
 pub mod WrittenBlockLemmas
-pub mod CursorLemmas
 pub mod WrittenElementsLemmas
 mod WrittenValuesLemmas
-pub mod RenumberedValuesLemmas
-mod SetValuesLemmas
 pub mod RawWritingLemmas
 pub mod ServingFormLemmas
-pub mod GatheredLemmas
+-- The ids that elements get under another map.
+pub mod NewIdLemmas
+mod NewBytesLemmas
+mod RenamedIdLemmas
+pub mod RenamesLemmas
+mod RenumberingLemmas
+pub mod RenumberedValuesLemmas
+-- An element that is set where it lies, or put into a body that is made anew.
+mod SetValuesLemmas
 mod SurveyLemmas
-pub mod PutLemmas
-mod BetweenLemmas
-mod AroundLemmas
-mod RowLemmas
 mod LeftLemmas
+pub mod GatheredLemmas
+mod RowLemmas
+mod AroundLemmas
+mod BetweenLemmas
 mod WidenLemmas
 mod WidenAroundLemmas
-pub mod AnewLemmas
+pub mod PutLemmas
 pub mod PutLengthLemmas
+pub mod AnewLemmas
 pub mod SameFormLemmas

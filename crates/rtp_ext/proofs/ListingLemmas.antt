@@ -7,7 +7,7 @@ use Rattle.std.proofs.lemmas.List.Elements.{All-append, All-cons, All-nil, Conta
 use Rattle.std.specs.Option.{unwrap_or}
 use Rattle.rtp_values.specs.declared.kind.Extension.{Extension}
 use Rattle.rtp_ext.proofs.MapLemmas.{entry_at-slot}
-use Rattle.rtp_ext.specs.ExtensionMap.{Entry, Slots, IsEmpty, entry_at, extension_at, extension_of, unlocked, Sets, IsLocked, IsUnlocked, IsRising, IsListing, items_from, mapped_count, HasNoIdAbove}
+use Rattle.rtp_ext.specs.ExtensionMap.{Entry, Slots, IsEmpty, entry_at, extension_at, extension_of, unlocked, Sets, IsLocked, IsUnlocked, IsRising, ListsItems, items_from, mapped_count, HasNoIdAbove}
 
 -- the parts of a list of which all hold
 pub All-head : {X : Type 0} (P : X → Type 0) (x : X) (xs : List X) → All P (x ∷ xs) → P x
@@ -30,7 +30,7 @@ IsRising-snoc (i ∷ items) item rising below = (
 
 -- the items are those of the map, all below a bound and none locked
 pub record IsListed (slots : Slots) (items : List (ℕ × Extension)) (bound : ℕ) : Type 0 where
-  pub listing : IsListing slots (λ _. true) items
+  pub listing : ListsItems slots (λ _. true) items
   pub below : All (λ item. item.0 < bound) items
   pub unlocked : IsUnlocked slots
 
@@ -188,8 +188,8 @@ pub mapped_count-few : (greatest : ℕ) (slots : Slots) → HasNoIdAbove greates
 mapped_count-few greatest slots none = omega (arith, items_from-few greatest 0 slots (λ i above. none (suc i) (omega arith)))
 
 -- the slots of a map give its listing
-pub IsListing-from_slots : (slots : Slots) → IsListing slots (λ _. true) (items_from 0 slots)
-IsListing-from_slots slots =
+pub ListsItems-from_slots : (slots : Slots) → ListsItems slots (λ _. true) (items_from 0 slots)
+ListsItems-from_slots slots =
     let items = items_from-items 0 slots in
     record {
       rising = items.rising;
@@ -251,9 +251,9 @@ IsRising-filter p (item ∷ items) rising =
     ]
 
 -- those that pass a test
-pub IsListing-filter : (slots : Slots) (passes : Extension → Bool) (items : List (ℕ × Extension)) → IsListing slots (λ _. true) items
-    → IsListing slots passes (filter (λ item. passes item.1) items)
-IsListing-filter slots passes items listing = record {
+pub ListsItems-filter : (slots : Slots) (passes : Extension → Bool) (items : List (ℕ × Extension)) → ListsItems slots (λ _. true) items
+    → ListsItems slots passes (filter (λ item. passes item.1) items)
+ListsItems-filter slots passes items listing = record {
   rising = IsRising-filter (λ item. passes item.1) items listing.rising;
   mapped = All-weaker (λ item. ((extension_at slots item.0 ≡ Some item.1) × (true ≡ true)) × (passes item.1 ≡ true))
       (λ item. (extension_at slots item.0 ≡ Some item.1) × (passes item.1 ≡ true)) (filter (λ item. passes item.1) items) (λ item both. (both.0.0, both.1))
@@ -263,7 +263,7 @@ IsListing-filter slots passes items listing = record {
 
 -- each item is of an id that is mapped so
 pub items_mapped : (slots : Slots) → All (λ item. extension_at slots item.0 ≡ Some item.1) (items_from 0 slots)
-items_mapped slots = λ k d here. ((IsListing-from_slots slots).mapped k d here).0
+items_mapped slots = λ k d here. ((ListsItems-from_slots slots).mapped k d here).0
 
 -- an id is mapped to nothing, or there is an item of it
 pub unmapped_or_item : (slots : Slots) (id : ℕ) → (extension_at slots id ≡ None) ⊎ ((extension : Extension) × Contains (items_from 0 slots) (id, extension))
@@ -271,4 +271,4 @@ unmapped_or_item slots id = found (extension_at slots id) refl
   where
     found : (at : Option Extension) → extension_at slots id ≡ at → (extension_at slots id ≡ None) ⊎ ((extension : Extension) × Contains (items_from 0 slots) (id, extension))
     found None missing = inl missing
-    found (Some extension) mapped = inr (extension, (IsListing-from_slots slots).all id extension mapped refl)
+    found (Some extension) mapped = inr (extension, (ListsItems-from_slots slots).all id extension mapped refl)

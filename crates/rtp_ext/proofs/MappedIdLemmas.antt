@@ -9,7 +9,7 @@ use Rattle.rtp_values.specs.declared.kind.Extension.{Extension}
 use Rattle.rtp_ext.specs.ExtensionMap.{items_from}
 use Rattle.rtp_ext.specs.MapSlots.{mapped_ids, items_at, inserted, IsMapped}
 use Rattle.rtp_ext.specs.ExtensionMap.{Entry, Slots, IsEmpty, entry_at, extension_of}
-use Rattle.rtp_ext.proofs.ListingLemmas.{All-head, above_passed, items_from-empty, IsListing-from_slots}
+use Rattle.rtp_ext.proofs.ListingLemmas.{All-head, above_passed, items_from-empty, ListsItems-from_slots}
 use Rattle.rtp_ext.proofs.MapLemmas.{entry_at-slot}
 use Rattle.std.specs.Prelude.{◌↔◌, ◌==◌, IsTrue}
 use Rattle.std.specs.Option.{option_map}
@@ -65,7 +65,7 @@ IsEmpty-no_ids slots none id = nothing_at (entry_at slots id) refl
     nothing_at : (slot : Option Entry) → entry_at slots id ≡ slot → entry_at slots id ≡ None
     nothing_at None is = is
     nothing_at (Some entry) is =
-        let found = (IsListing-from_slots slots).all id entry.extension (ap extension_of is) refl in
+        let found = (ListsItems-from_slots slots).all id entry.extension (ap extension_of is) refl in
         absurd (omega (arith, found.1, ap length no_items))
 
 pub no_ids-IsEmpty : (slots : Slots) → IsEmpty slots → mapped_ids slots ≡ []

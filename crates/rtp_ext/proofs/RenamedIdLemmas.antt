@@ -17,7 +17,7 @@ use Rattle.rtp_ext.specs.ExtensionMap.{Slots, IsId, IsLowest, IsUnmapped, IsRisi
 use Rattle.rtp_ext.specs.KindsById.{known_slots}
 use Rattle.rtp_ext.specs.NewIds.{new_id, IsRenamedId, AreRenamedIds, Renames, id_in_byte}
 use Rattle.rtp_ext.proofs.KindsByIdLemmas.{known_slots-keep, known_slots-back}
-use Rattle.rtp_ext.proofs.ListingLemmas.{IsListing-from_slots, above_passed}
+use Rattle.rtp_ext.proofs.ListingLemmas.{ListsItems-from_slots, above_passed}
 use Rattle.rtp_ext.proofs.NewIdLemmas.{new_id-byte}
 
 -- ---- the kinds by themselves
@@ -77,7 +77,7 @@ pub record AreLeft (exts : Slots) (kind : Extension) (left : List (ℕ × Extens
 
 pub AreLeft-start : (exts : Slots) (kind : Extension) (left : List (ℕ × Extension)) → left ≡ items_from 0 exts → AreLeft exts kind left
 AreLeft-start exts kind left is =
-    let listing = IsListing-from_slots exts in
+    let listing = ListsItems-from_slots exts in
     subst (AreLeft exts kind) (sym is) (record {
       rising = listing.rising;
       mapped = λ k d here. (listing.mapped k d here).0;

@@ -16,7 +16,7 @@ use Rattle.rtp_ext.specs.NewIds.{IsNewId, new_id, CarriesExtensions}
 use Rattle.rtp_ext.specs.BlockValues.{Carries, AreFields, last, none, AreValues}
 use Rattle.rtp_ext.specs.WrittenBlock.{fields_of_items, mapped_fields}
 use Rattle.rtp_ext.proofs.FormLemmas.{Item}
-use Rattle.rtp_ext.proofs.ListingLemmas.{IsListing-from_slots}
+use Rattle.rtp_ext.proofs.ListingLemmas.{ListsItems-from_slots}
 use Rattle.rtp_ext.proofs.WrittenValuesLemmas.{LastItem, find_last, found-mapped, fields-there, fields-absent, All-cons_option}
 
 -- an element carries a kind under its new id only where it did before
@@ -40,7 +40,7 @@ carried_never from to ids kind (element ∷ elements) are never =
 unmapped : (exts : Slots) (kind : Extension) → AllByRecursion (λ (item : Item). item.1 ≢ kind) (items_from 0 exts) → IsUnmapped exts kind
 unmapped exts kind others = λ id is.
     All-contains (λ (item : Item). item.1 ≢ kind) (items_from 0 exts) (id, kind) (All-from_recursion (λ (item : Item). item.1 ≢ kind) (items_from 0 exts) others)
-    ((IsListing-from_slots exts).all id kind is refl) refl
+    ((ListsItems-from_slots exts).all id kind is refl) refl
 
 -- the fields of a kind that the new map has
 AreFields-mapped : (from to : Slots) (ids : List (Option ℕ)) (elements : List Element) (values : ExtensionValues) (kind : Extension) → CarriesExtensions from to ids

@@ -6,7 +6,7 @@ use Rattle.std.proofs.lemmas.List.{take_at, drop_at, take-append-le, drop-append
 use Rattle.std.proofs.lemmas.List.Elements.{filter-append}
 use Rattle.rtp_ext.specs.declared.form.ExtensionsForm.{ExtensionsForm}
 use Rattle.rtp_ext.specs.declared.place.Place.{Place}
-use Rattle.rtp_ext.specs.declared.growing.Survey.{Survey}
+use Rattle.rtp_ext.specs.declared.survey.Survey.{Survey}
 use Rattle.rtp_ext.specs.Elements.{Element, AreElements, element_bytes, elements_bytes, piece_bytes}
 use Rattle.rtp_ext.specs.ElementPlaces.{LiesLast, AreWhole, IsLastOrNone}
 use Rattle.rtp_ext.specs.BodySurvey.{IsSurvey, HasRows}

@@ -19,7 +19,7 @@ use Rattle.rtp_ext.specs.KindsById.{known_slots, is_long_item}
 use Rattle.rtp_ext.specs.WrittenBlock.{TakesAtMost17Each, HasFewData, written_elements}
 use Rattle.rtp_ext.proofs.FormLemmas.{Item, at_most, long_kind}
 use Rattle.rtp_ext.proofs.KnownItemsLemmas.{written_known, count_known}
-use Rattle.rtp_ext.proofs.CursorLemmas.{known_bytes}
+use Rattle.rtp_ext.proofs.KnownWritingLemmas.{known_bytes}
 use Rattle.rtp_ext.proofs.WrittenBlockLemmas.{items_bytes-nil, items_bytes-cons, items_bytes-written}
 
 short-element : (id : ℕ) (kind : Extension) (bytes : Option (List ℕ)) → IfSome bytes (λ b. length b ≤ longest kind) → is_long_item (id, kind) ≡ false

@@ -15,7 +15,7 @@ use Rattle.rtp_values.specs.Spelling.{spelled_data, carried_values, element_allo
 use Rattle.rtp_values.specs.Values.{no_values, with_fields, Reads, SameFields}
 use Rattle.rtp_ext.specs.BlockValues.{Carries, AreFields, last, none, AreValues}
 use Rattle.rtp_ext.specs.WrittenBlock.{written_elements, fields_of_items, image_values}
-use Rattle.rtp_ext.proofs.ListingLemmas.{IsListing-from_slots}
+use Rattle.rtp_ext.proofs.ListingLemmas.{ListsItems-from_slots}
 use Rattle.rtp_values.proofs.FieldLemmas.{AreSame, Reads-same, SameFields-from_each, SameFields-refl, SameFields-trans, SameFields-taken, SameFields-others}
 use Rattle.rtp_values.proofs.KindLemmas.{same_or_not}
 use Rattle.rtp_ext.proofs.FormLemmas.{Item, element_of, elements_of}
@@ -130,7 +130,7 @@ IsMappedItem exts item = extension_at exts item.0 ≡ Some item.1
 
 items-mapped : (exts : Slots) → AllByRecursion (IsMappedItem exts) (items_from 0 exts)
 items-mapped exts =
-    recursion_from_All (IsMappedItem exts) (items_from 0 exts) (λ k d here. ((IsListing-from_slots exts).mapped k d here).0)
+    recursion_from_All (IsMappedItem exts) (items_from 0 exts) (λ k d here. ((ListsItems-from_slots exts).mapped k d here).0)
 
 all-after : {A : Type 0} (P : A → Type 0) (xs ys : List A) → AllByRecursion P (xs ++ ys) → AllByRecursion P ys
 all-after P [] ys all = all

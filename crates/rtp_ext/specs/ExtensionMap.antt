@@ -121,7 +121,7 @@ IsRising [] = Unit {0}
 IsRising (item ∷ items) = All (λ later. item.0 < later.0) items × IsRising items
 
 -- the mapped ids whose extension passes the test, each once and rising, with their extensions
-pub record IsListing (map : Slots) (passes : Extension → Bool) (items : List (ℕ × Extension)) : Type 0 where
+pub record ListsItems (map : Slots) (passes : Extension → Bool) (items : List (ℕ × Extension)) : Type 0 where
   pub rising : IsRising items
   pub mapped : All (λ item. (extension_at map item.0 ≡ Some item.1) × (passes item.1 ≡ true)) items
   pub all : (id : ℕ) (extension : Extension) → extension_at map id ≡ Some extension → passes extension ≡ true

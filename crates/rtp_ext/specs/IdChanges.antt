@@ -5,9 +5,9 @@ use Rattle.rtp_ext.specs.declared.form.ExtensionsForm.{ExtensionsForm}
 use Rattle.rtp_ext.specs.declared.form.ExtensionsForm.TheVariants.{OneByte, TwoByte}
 use Rattle.rtp_ext.specs.declared.place.IdChange.{IdChange}
 use Rattle.rtp_ext.specs.declared.place.IdChange.TheVariants.{AllBut, Table}
-use Rattle.rtp_ext.specs.Elements.{Element, IsElement, IsPiece, piece_bytes}
+use Rattle.rtp_ext.specs.Elements.{Element, AreElements, IsElement, IsPiece, piece_bytes}
 use Rattle.rtp_ext.specs.ElementReading.{elements_left}
-use Rattle.rtp_ext.specs.ElementsInPlace.{all_but, renumbered_bytes, CanRenumber}
+use Rattle.rtp_ext.specs.ElementsInPlace.{all_but, renumbered_bytes, CanRenumber, ChangesIds}
 use Rattle.rtp_ext.specs.NewIds.{new_id}
 
 -- the new id of each id
@@ -20,6 +20,15 @@ abbrev pub carries_id : ExtensionsForm → Option ℕ → Bool
 carries_id form None = true
 carries_id OneByte (Some id) = nat_le id 14
 carries_id TwoByte (Some id) = true
+
+-- the form can carry the new id of each element of a body, where it has one
+abbrev pub CanChangeIds : ExtensionsForm → (ℕ → Option ℕ) → List ℕ → Type 0
+CanChangeIds form ids body = All (λ element. IsElement form element → CanRenumber form ids element) (elements_left form body)
+
+-- each element of a body has its new id or has become padding, and whether one has become that
+pub record HasOtherIds (form : ExtensionsForm) (ids : ℕ → Option ℕ) (old new : List ℕ) (is_lost : Bool) : Type 0 where
+  pub changed : ChangesIds form ids old new
+  pub lost : (elements : List Element) → AreElements form old elements → is_lost ≡ list_any (λ element. is_none (ids element.0)) elements
 
 -- the bytes of a body up to an offset are whole pieces, whose elements have their new ids or are padding, and the others are as they were; and whether an element has become padding
 pub record HasOtherIdsTo (form : ExtensionsForm) (ids : ℕ → Option ℕ) (old new : List ℕ) (at : ℕ) (lost : Bool) : Type 0 where

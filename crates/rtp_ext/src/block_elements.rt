@@ -15,7 +15,7 @@ ghost use Rattle.rtp_ext.specs.BlockValues.{AreValues};
 ghost use Rattle.rtp_values.specs.Values.{no_values};
 ghost use Rattle.rtp_ext.specs.WrittenBlock.{written_elements, form_of, needs_two, image_values, HasFewData, TakesAtMost17Each};
 
-use super::form::{header_len, write_header};
+use super::form::{element_header_len, write_header};
 use super::kinds::Kinds;
 use super::known_ids::{KnownIds, KnownItems};
 use super::{ExtensionMap, ExtensionsForm};
@@ -28,7 +28,7 @@ fn element_len<V: ElementValues>(kind: KnownKind, ev: &V, form: ExtensionsForm) 
     ensures few { result ≤ 257 }
 {
     match ev.data_len(kind) {
-        Some(len) => header_len(form) + len,
+        Some(len) => element_header_len(form) + len,
         None => 0,
     }
 }
@@ -56,7 +56,7 @@ fn write_element<V: ElementValues>(
         (element_or_nothing form id (spelled_data (extension_of_kind kind) (V.values ev.now))) }
     ensures carried { IsCarried form (V.values ev.now) (id, extension_of_kind kind) }
 {
-    let start = at + header_len(form);
+    let start = at + element_header_len(form);
     if start > buf.len() {
         return at;
     }
@@ -67,8 +67,8 @@ fn write_element<V: ElementValues>(
     start + len
 }
 
-// Whether a text is written that is empty. It stays out of line, since few values have an empty text
-// and its loop would make every other call save registers.
+// Whether a text is written that is empty. It stays out of line, since few values have an empty
+// text and its loop would make every other call save registers.
 #[inline(never)]
 fn has_empty_data<K: Kinds, V: ElementValues>(ids: &KnownIds<'_, K>, ev: &V) -> bool
     ensures { result ≡ has_empty (items_from 0 (known_slots ids.now)) (V.values ev.now) }
@@ -135,8 +135,8 @@ fn most_in_two_byte_form<K: Kinds>(mut items: KnownItems<'_, K>) -> usize
     most
 }
 
-/// An upper bound of how many bytes [`write_values`] writes in the form, told by the mapped kinds and by
-/// whether there are layers, so that no other value is looked at. The form is what
+/// An upper bound of how many bytes [`write_values`] writes in the form, told by the mapped kinds
+/// and by whether there are layers, so that no other value is looked at. The form is what
 /// [`values_form`] returned.
 #[inline(always)]
 pub fn values_len_at_most<K: Kinds, V: ElementValues>(

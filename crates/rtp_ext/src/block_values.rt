@@ -74,9 +74,10 @@ fn read_in<K: Kinds, V: SetValues>(
     Ok(())
 }
 
-// The data that count where layer allocations follow one another: the last well-formed ones of those that
-// follow an allocation of these data, or else these. Those that follow are passed over, so that of a row of
-// allocations one alone takes memory. Data that take none are read by themselves.
+// The data that count where layer allocations follow one another: the last well-formed ones of
+// those that follow an allocation of these data, or else these. Those that follow are passed over,
+// so that of a row of allocations one alone takes memory. Data that take none are read by
+// themselves.
 #[inline(always)]
 fn last_in_row<'a, K: Kinds>(exts: &K, first: &'a [u8], elements: &mut Elements<'a>) -> &'a [u8]
     ensures row { EndsRow (K.known exts.now) first.now elements.old elements.new result.now }
@@ -108,9 +109,10 @@ fn is_another_allocation(data: &[u8]) -> bool
     vla::is_allocation(data)
 }
 
-/// Reads the layer allocation among the values that the elements of a block's body give into a value
-/// of fixed size, which takes no memory: that of the last element whose id is mapped to it and whose
-/// data mean one. `false` exactly where the elements give none, and then nothing is changed.
+/// Reads the layer allocation among the values that the elements of a block's body give into a
+/// value of fixed size, which takes no memory: that of the last element whose id is mapped to it
+/// and whose data mean one. `false` exactly where the elements give none, and then nothing is
+/// changed.
 pub fn read_layers<K: Kinds>(
     exts: &K,
     buf: &[u8],
@@ -132,8 +134,8 @@ pub fn read_layers<K: Kinds>(
 
 impl ExtensionMap {
     /// Reads the elements of a block's body, the bytes that follow its length word, into the values
-    /// (RFC 8285, 4.2 and 4.3). The fields of each kind become those of the last element whose id is
-    /// mapped to the kind and whose data are well-formed for it. Where there is no such element,
+    /// (RFC 8285, 4.2 and 4.3). The fields of each kind become those of the last element whose id
+    /// is mapped to the kind and whose data are well-formed for it. Where there is no such element,
     /// they stay as they were. An element that is malformed for its kind, is cut short at the end
     /// of the body, or has an id that is mapped to nothing changes no field, and its neighbours are
     /// read all the same.
@@ -142,8 +144,8 @@ impl ExtensionMap {
     /// memory. Where the call returns the error, the values are those that the elements before one
     /// such element give.
     ///
-    /// With id 1 mapped to the audio level, the body `10 AA 37 00` of the one-byte form sets a level
-    /// of -42 with voice. The element of id 3 is cut short.
+    /// With id 1 mapped to the audio level, the body `10 AA 37 00` of the one-byte form sets a
+    /// level of -42 with voice. The element of id 3 is cut short.
     pub fn parse(
         &self,
         alloc: Global,

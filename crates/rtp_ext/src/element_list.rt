@@ -3,8 +3,8 @@
 ghost use Rattle.std.specs.Prelude.{◌≡◌, ◌<◌, List, length, Some, slice_get};
 ghost use Rattle.rtp_ext.specs.ElementsInARow.{elements_of};
 
-/// Elements in order, each an id and its data, that are given to be written. A slice of pairs of an id
-/// and its data is such a list.
+/// Elements in order, each an id and its data, that are given to be written. A slice of pairs of an
+/// id and its data is such a list.
 pub trait ElementList: Copy {
     ghost use Rattle.rtp_ext.specs.Elements.{Element};
 

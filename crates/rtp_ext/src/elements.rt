@@ -78,9 +78,9 @@ impl<'a> Iterator for Elements<'a> {
     }
 }
 
-// The first element of bytes, and what follows it; None where reading ends before one. It is inlined,
-// since each walk calls it for every element. An element is split off with its header, so that a walk
-// counts what is left once an element.
+// The first element of bytes, and what follows it; None where reading ends before one. It is
+// inlined, since each walk calls it for every element. An element is split off with its header, so
+// that a walk counts what is left once an element.
 #[inline(always)]
 pub(super) fn first_element(bytes: &[u8], form: ExtensionsForm) -> Option<(u8, &[u8], &[u8])>
     ensures { IsFirstElement form bytes.now result }
@@ -124,8 +124,8 @@ fn unpadded(bytes: &[u8]) -> Option<&[u8]>
     }
 }
 
-// Whether these bytes are at most two zeros: with one before them they are the padding of most blocks, which
-// ends in a whole word.
+// Whether these bytes are at most two zeros: with one before them they are the padding of most
+// blocks, which ends in a whole word.
 #[inline(always)]
 fn ends_in_zeros(bytes: &[u8]) -> bool
     ensures { OnTrue result (length (without_padding bytes.now) ≡ 0) }

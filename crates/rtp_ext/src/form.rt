@@ -77,7 +77,7 @@ impl ExtensionsForm {
 }
 
 // How many bytes stand before an element's data.
-pub(super) fn header_len(form: ExtensionsForm) -> usize
+pub(super) fn element_header_len(form: ExtensionsForm) -> usize
     ensures { (id len : ℕ) → result ≡ length (element_header form id len) }
 {
     match form {
@@ -93,7 +93,8 @@ pub(super) fn write_header(buf: &mut [u8], at: usize, form: ExtensionsForm, id: 
     ensures { buf.new ≡ overwritten buf.old at (element_header form id len) }
 {
     match form {
-        // By a rotation, since a compiler would count the products of ids along with the ids of a walk.
+        // By a rotation, since a compiler would count the products of ids along with the ids of a
+        // walk.
         ExtensionsForm::OneByte => buf[at] = id.rotate_left(4) + (len - 1),
         ExtensionsForm::TwoByte => {
             buf[at] = id;
@@ -113,10 +114,11 @@ pub(super) fn form_with(form: ExtensionsForm, id: u8, bytes: &[u8]) -> Extension
     }
 }
 
-/// The form that a block gets with an element put into it, where it has this form or there is none yet
-/// (RFC 8285, 4.1.2): the one that it needs, which is the two-byte form where it has that, or the
-/// one-byte form can't carry the element; or the one form that is allowed, where that serves. `None`
-/// where it doesn't: the block needs the two-byte form, and only the one-byte form is allowed.
+/// The form that a block gets with an element put into it, where it has this form or there is none
+/// yet (RFC 8285, 4.1.2): the one that it needs, which is the two-byte form where it has that, or
+/// the one-byte form can't carry the element; or the one form that is allowed, where that serves.
+/// `None` where it doesn't: the block needs the two-byte form, and only the one-byte form is
+/// allowed.
 pub fn form_to_put(
     block: Option<ExtensionsForm>,
     allowed: Option<ExtensionsForm>,
@@ -148,8 +150,8 @@ fn longer_by(form: ExtensionsForm, count: usize) -> usize
 
 impl ExtensionsForm {
     /// The form that these elements are written in (RFC 8285, 4.1.2, 4.2 and 4.3): the one that is
-    /// allowed, where one alone is; else the one that serves, which is the one-byte form exactly where
-    /// that can carry every element, ids 1 to 14 with 1 to 16 bytes of data.
+    /// allowed, where one alone is; else the one that serves, which is the one-byte form exactly
+    /// where that can carry every element, ids 1 to 14 with 1 to 16 bytes of data.
     ///
     /// `None` where the form can't carry one of them, or where they take more than `room` bytes in
     /// it. Neither form carries the id 0 or more than 255 bytes of data.
@@ -159,7 +161,8 @@ impl ExtensionsForm {
         room: usize,
     ) -> Option<Self>
         ensures refused { IsNone result
-            ↔ AreNotWritableIn (form_given allowed (L.elements elements)) (L.elements elements) room }
+            ↔ AreNotWritableIn (form_given allowed (L.elements elements))
+            (L.elements elements) room }
         ensures form { IfSome result (λ form. form ≡ form_given allowed (L.elements elements)) }
         ensures fit { IfSome result (λ form. AreWritableIn form (L.elements elements) room) }
     {

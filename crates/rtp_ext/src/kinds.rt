@@ -5,9 +5,9 @@ ghost use Rattle.std.specs.Option.{option_map};
 ghost use Rattle.std.specs.List.{list_any};
 ghost use Rattle.rtp_values.specs.declared.kind.Extension.{Extension};
 ghost use Rattle.rtp_values.specs.KnownKind.{extension_of_kind};
-ghost use Rattle.rtp_ext.specs.ExtensionMap.{IsId, Slots, HasNoIdAbove, extension_at, items_from};
+ghost use Rattle.rtp_ext.specs.ExtensionMap.{Slots, extension_at, items_from};
 ghost use Rattle.rtp_ext.specs.KindsById.{is_long_item, known_slots};
-ghost use Rattle.rtp_ext.specs.NewIds.{IsNewId, AreNewBytes, Renames};
+ghost use Rattle.rtp_ext.specs.NewIds.{Renames};
 
 use super::renamed_ids::renamed;
 use rtp_values::KnownKind;
@@ -28,8 +28,8 @@ pub trait Kinds {
     fn get(&self, id: u8) -> Option<KnownKind>
         ensures { option_map extension_of_kind result ≡ extension_at (known self.now) id };
 
-    /// The end with which a walk over all ids that are mapped to a known extension begins at 0. `next` may
-    /// move it.
+    /// The end with which a walk over all ids that are mapped to a known extension begins at 0.
+    /// `next` may move it.
     fn walk_end(&self) -> usize
         ensures all { left self.now 0 result ≡ items_from 0 (known self.now) }
         ensures few { length (items_from 0 (known self.now)) ≤ 255 }
@@ -43,43 +43,27 @@ pub trait Kinds {
         ensures none { IfNone result (left self.now at.old end.old ≡ []) }
         ensures within { end.new ≤ 255 };
 
-    /// Whether the one-byte form can't carry a mapped id or the longest data of a mapped kind. The end is
-    /// that of a walk over all of them.
+    /// Whether the one-byte form can't carry a mapped id or the longest data of a mapped kind. The
+    /// end is that of a walk over all of them.
     fn has_long(&self, end: usize) -> bool
         requires all { left self.now 0 end ≡ items_from 0 (known self.now) }
         requires within { end ≤ 255 }
         ensures { result ≡ list_any is_long_item (items_from 0 (slots self.now)) };
 
-    /// At most so many ids are mapped to a known extension. The end is that of a walk over all of them.
+    /// At most so many ids are mapped to a known extension. The end is that of a walk over all of
+    /// them.
     fn at_most(&self, end: usize) -> usize
         requires all { left self.now 0 end ≡ items_from 0 (known self.now) }
         requires within { end ≤ 255 }
         ensures most { length (items_from 0 (known self.now)) ≤ result }
         ensures few { result ≤ 255 };
 
-    /// The lowest id that the other map has for the extension of this id.
-    fn id_under(&self, other: &Self, id: u8) -> Option<u8>
-        ensures new { IsNewId (slots self.now) (slots other.now) id result }
-        ensures valid { IfSome result IsId }
-        ensures no_others { HasNoIdAbove 255 (slots self.now) };
-
-    /// The new id of each id where elements go from this map to the other, each at the index of the
-    /// old one: the lowest id that the other map has for its extension, and 0 where it has none.
-    fn new_ids(&self, other: &Self) -> [u8; 256]
-        ensures { AreNewBytes (slots self.now) (slots other.now) result }
-    {
-        let mut ids = [0; 256];
-        for (id, new) in ids.iter_mut().enumerate() {
-            *new = self.id_under(other, id as u8).unwrap_or(0);
-        }
-        ids
-    }
-
-    /// Puts `lowest` at the index of each id that is mapped to the first kind, and 0 at that of each id
-    /// that is mapped to the second. Precondition: the kinds are two.
+    /// Puts `lowest` at the index of each id that is mapped to the first kind, and 0 at that of
+    /// each id that is mapped to the second. Precondition: the kinds are two.
     fn rename(&self, from: KnownKind, to: KnownKind, lowest: u8, ids: &mut [u8; 256])
         requires { from ≢ to }
-        ensures { Renames (known self.now) (extension_of_kind from) (extension_of_kind to) lowest ids.old ids.new }
+        ensures { Renames (known self.now) (extension_of_kind from)
+            (extension_of_kind to) lowest ids.old ids.new }
     {
         for (id, new) in ids.iter_mut().enumerate() {
             *new = renamed(self.get(id as u8), from, to, lowest, *new);

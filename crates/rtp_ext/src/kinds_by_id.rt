@@ -18,15 +18,16 @@ use std::marker::Model;
 // How many ids there are, with that of padding.
 pub(super) const IDS: usize = MAX_ID as usize + 1;
 
-// The known extensions of a map by their ids (RFC 8285, 5): what reading and writing the elements of a
-// packet needs of it.
+// The known extensions of a map by their ids (RFC 8285, 5): what reading and writing the elements
+// of a packet needs of it.
 #[derive(Clone, Copy)]
 pub(super) struct KindsById {
     // What each id is mapped to, the id 0 to nothing.
     kinds: [Option<KnownKind>; IDS],
     // The mapped ids, so that a walk goes over these alone.
     mapped: MappedIds,
-    // How many ids are mapped to the layer allocation, the one kind that may have more than 16 bytes of data.
+    // How many ids are mapped to the layer allocation, the one kind that may have more than 16
+    // bytes of data.
     layers: u16,
 }
 
@@ -134,11 +135,12 @@ impl KindsById {
         None
     }
 
-    // Puts `lowest` at the index of each id that is mapped to the first kind, and 0 at that of each id
-    // that is mapped to the second.
+    // Puts `lowest` at the index of each id that is mapped to the first kind, and 0 at that of each
+    // id that is mapped to the second.
     pub(super) fn rename(&self, from: KnownKind, to: KnownKind, lowest: u8, ids: &mut [u8; 256])
         requires { from ≢ to }
-        ensures { Renames (slots_of self.now) (extension_of_kind from) (extension_of_kind to) lowest ids.old ids.new }
+        ensures { Renames (slots_of self.now) (extension_of_kind from)
+            (extension_of_kind to) lowest ids.old ids.new }
     {
         let mut place = 0;
         while let Some((id, kind)) = self.item(place) {
@@ -151,9 +153,12 @@ impl KindsById {
     // The id at this place among the mapped ids, which rise, and its kind.
     #[inline(always)]
     pub(super) fn item(&self, place: usize) -> Option<(u8, KnownKind)>
-        ensures some { IfSome result (λ item. items_at (slots_of self.now) (drop place (mapped_ids (slots_of self.now)))
-            ≡ (item.0, extension_of_kind item.1) ∷ items_at (slots_of self.now) (drop (place + 1) (mapped_ids (slots_of self.now)))) }
-        ensures none { IfNone result (items_at (slots_of self.now) (drop place (mapped_ids (slots_of self.now))) ≡ []) }
+        ensures some { IfSome result
+            (λ item. items_at (slots_of self.now) (drop place (mapped_ids (slots_of self.now)))
+            ≡ (item.0, extension_of_kind item.1) ∷ items_at (slots_of self.now)
+            (drop (place + 1) (mapped_ids (slots_of self.now)))) }
+        ensures none { IfNone result
+            (items_at (slots_of self.now) (drop place (mapped_ids (slots_of self.now))) ≡ []) }
         ensures within { IfSome result (λ _. place < MAX_ID) }
     {
         let id = *self.mapped.as_slice().get(place)?;

@@ -11,8 +11,8 @@ use super::kinds::Kinds;
 use rtp_values::KnownKind;
 use std::marker::Model;
 
-/// The ids that a map maps to a known extension (RFC 8285, 5), found once for several walks over them.
-/// A clause sees what the map maps.
+/// The ids that a map maps to a known extension (RFC 8285, 5), found once for several walks over
+/// them. A clause sees what the map maps.
 #[derive(Drop)]
 pub struct KnownIds<'a, K: Kinds> {
     exts: &'a K,
@@ -33,8 +33,8 @@ impl<'a, K: Kinds> Model for KnownIds<'a, K> {
         × (ids.end ≤ 255) };
 }
 
-/// A walk over the ids of [`KnownIds`], each higher than the one before it, with its kind. A clause sees
-/// those that are left.
+/// A walk over the ids of [`KnownIds`], each higher than the one before it, with its kind. A clause
+/// sees those that are left.
 #[derive(Drop)]
 pub struct KnownItems<'a, K: Kinds> {
     exts: &'a K,

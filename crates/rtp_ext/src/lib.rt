@@ -4,39 +4,43 @@
 
 mod block_elements;
 mod block_values;
+mod element_data;
 mod element_list;
 mod elements;
 mod form;
-mod growing;
+mod gathering;
 mod iter;
 mod kinds;
 mod kinds_by_id;
 mod known_ids;
 mod map;
 mod mapped_ids;
+mod new_body;
 mod new_ids;
 mod place;
 mod raw_writing;
 mod renamed_ids;
 mod slots;
-mod widening;
+mod survey;
+mod two_byte_rows;
 
 pub use block_elements::{values_form, values_len, values_len_at_most, write_values};
 pub use block_values::{read_layers, read_values};
+pub use element_data::{element_of, set_element, set_sole};
 pub use element_list::ElementList;
 pub use elements::Elements;
 pub use form::{ExtensionsForm, MAX_ID_ONE_BYTE_FORM, form_to_put};
-pub use growing::{Survey, put_anew, put_len, set_sole, survey_of, take_out};
+pub use gathering::take_out;
 pub use iter::{Iter, IterByMediaType};
 pub use kinds::Kinds;
 pub use known_ids::{KnownIds, KnownItems};
 pub use map::{ExtensionMap, MAX_ID};
+pub use new_body::{put_anew, put_len};
 pub use new_ids::NewIds;
-pub use place::{
-    Place, can_renumber, element_of, last_place, next_place, remove_element, renumber, set_element,
-};
+pub use place::{Place, can_renumber, last_place, next_place, remove_element, renumber};
 pub use raw_writing::{put_elements, write_elements};
 pub use rtp_values::{
     AbsCaptureTime, CarriedLayers, ElementValues, Extension, ExtensionValues, KnownKind, Uri,
     VideoOrientation, VideoTiming, WithLayers, standard,
 };
+pub use survey::{Survey, survey_of};

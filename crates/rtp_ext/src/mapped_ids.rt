@@ -100,7 +100,8 @@ impl MappedIds {
 
     // The place of an id among the others, and `None` where it isn't listed.
     fn place_listed(&self, id: u8) -> Option<usize>
-        ensures found { IfSome result (λ place. (place < length self.now) × (slice_index self.now place ≡ id)) }
+        ensures found { IfSome result (λ place. (place < length self.now)
+            × (slice_index self.now place ≡ id)) }
         ensures none { IfNone result ((k : ℕ) → k < length self.now → slice_index self.now k ≢ id) }
     {
         self.as_slice().iter().position(|listed| *listed == id)

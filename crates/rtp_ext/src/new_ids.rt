@@ -7,12 +7,12 @@ ghost use Rattle.rtp_values.specs.KnownKind.{extension_of_kind};
 ghost use Rattle.rtp_ext.specs.declared.form.ExtensionsForm.TheVariants.{OneByte};
 ghost use Rattle.rtp_ext.specs.ElementReading.{elements_left};
 ghost use Rattle.rtp_ext.specs.ElementsInPlace.{CanRenumber};
-ghost use Rattle.rtp_ext.specs.NewIds.{new_id, AreNewIds, CarriesExtensions, AreRenamedIds, id_in_byte, ids_in_bytes};
+ghost use Rattle.rtp_ext.specs.NewIds.{new_id, AreNewIds, AreNewBytes, CarriesExtensions, AreRenamedIds, id_in_byte, ids_in_bytes};
 ghost use Rattle.rtp_ext.specs.IdChanges.{carries_id};
 
 use super::kinds::Kinds;
 use super::renamed_ids::renamed_ids;
-use super::{Elements, ExtensionsForm, MAX_ID, MAX_ID_ONE_BYTE_FORM};
+use super::{Elements, ExtensionMap, ExtensionsForm, MAX_ID, MAX_ID_ONE_BYTE_FORM};
 use rtp_values::KnownKind;
 use std::marker::Model;
 use std::simd::prelude::*;
@@ -53,8 +53,8 @@ fn fits_one_byte_form(byte: u8) -> bool
     byte <= MAX_ID_ONE_BYTE_FORM
 }
 
-// Whether each of these eight bytes is at most the greatest id of the one-byte form. They are looked at at
-// once.
+// Whether each of these eight bytes is at most the greatest id of the one-byte form. They are
+// looked at at once.
 #[inline(always)]
 fn are_short(ids: &[u8]) -> bool
     requires { length ids.now ≡ 8 }
@@ -64,23 +64,35 @@ fn are_short(ids: &[u8]) -> bool
     above.to_bitmask() == 0
 }
 
+// The new ids of one map's ids under another, each at the index of the old one, with 0 where an id
+// has none, as one that isn't mapped.
+fn bytes_between(from: &ExtensionMap, to: &ExtensionMap) -> [u8; IDS]
+    ensures { AreNewBytes from.now to.now result }
+{
+    let mut ids = [0; IDS];
+    for (id, ext) in from.iter() {
+        ids[usize::from(id)] = to.lowest_id(ext).unwrap_or(0);
+    }
+    ids
+}
+
 impl NewIds {
     /// For each id that `from` maps to an extension that `to` maps as well, the lowest id that `to`
     /// has for it (RFC 8285, 5). Every other id has no new one. Takes no memory.
-    pub fn between<K: Kinds>(from: &K, to: &K) -> Self
-        ensures ids { AreNewIds (K.slots from.now) (K.slots to.now) result }
-        ensures carries { CarriesExtensions (K.slots from.now) (K.slots to.now) result }
+    pub fn between(from: &ExtensionMap, to: &ExtensionMap) -> Self
+        ensures ids { AreNewIds from.now to.now result }
+        ensures carries { CarriesExtensions from.now to.now result }
     {
         NewIds {
-            ids: from.new_ids(to),
+            ids: bytes_between(from, to),
         }
     }
 
-    /// The ids that elements get where a packet becomes a retransmission (RFC 4588, 4; RFC 8852, 3):
-    /// the element of an RTP stream id becomes that of a repaired RTP stream id, and one that was
-    /// there before goes. So where the map has both, each id of the first becomes the lowest of the
-    /// second, and the ids of the second have no new one. Every other id keeps itself, also one that
-    /// is mapped to nothing; so does each where the map hasn't both. Takes no memory.
+    /// The ids that elements get where a packet becomes a retransmission (RFC 4588, 4; RFC 8852,
+    /// 3): the element of an RTP stream id becomes that of a repaired RTP stream id, and one that
+    /// was there before goes. So where the map has both, each id of the first becomes the lowest of
+    /// the second, and the ids of the second have no new one. Every other id keeps itself, also one
+    /// that is mapped to nothing; so does each where the map hasn't both. Takes no memory.
     ///
     /// With 10 mapped to the RTP stream id and 11 to the repaired one, 10 becomes 11, 11 has no new
     /// id, and 4 stays 4.
@@ -91,19 +103,21 @@ impl NewIds {
     }
 
     /// The ids that elements get on the way back, where a retransmission becomes the packet that it
-    /// repeats: as with [`to_retransmission`](Self::to_retransmission), but the element of a repaired
-    /// RTP stream id becomes that of an RTP stream id.
+    /// repeats: as with [`to_retransmission`](Self::to_retransmission), but the element of a
+    /// repaired RTP stream id becomes that of an RTP stream id.
     pub fn from_retransmission<K: Kinds>(exts: &K) -> Self
         ensures { AreRenamedIds (K.slots exts.now) RepairedRtpStreamId RtpStreamId result }
     {
         Self::renaming(exts, KnownKind::RepairedRtpStreamId, KnownKind::RtpStreamId)
     }
 
-    // The table in which the ids of one kind become the lowest id of another, where both are mapped.
+    // The table in which the ids of one kind become the lowest id of another, where both are
+    // mapped.
     #[inline(always)]
     fn renaming<K: Kinds>(exts: &K, from: KnownKind, to: KnownKind) -> Self
         requires { from ≢ to }
-        ensures { AreRenamedIds (K.slots exts.now) (extension_of_kind from) (extension_of_kind to) result }
+        ensures { AreRenamedIds (K.slots exts.now) (extension_of_kind from)
+            (extension_of_kind to) result }
     {
         NewIds {
             ids: renamed_ids(exts, from, to),

@@ -1,27 +1,25 @@
-//! Where the elements of a body lie, and elements that are changed there, without memory.
+//! Where the elements of a body lie, and other ids that they get there, without memory.
 
-ghost use Rattle.std.specs.Prelude.{◌≡◌, ◌↔◌, ◌+◌, ◌<◌, ◌≤◌, ◌++◌, ℕ, List, length, drop, IsTrue, Some, IfSome, IfNone, All, is_none};
+ghost use Rattle.std.specs.Prelude.{◌≡◌, ◌↔◌, ◌+◌, ◌<◌, ◌≤◌, ◌++◌, List, length, drop, IsTrue, IfSome, IfNone, All};
 ghost use Rattle.rtp_ext.specs.declared.form.ExtensionsForm.TheVariants.{OneByte};
-ghost use Rattle.rtp_ext.specs.Elements.{Element, AreElements, IsElement};
+ghost use Rattle.rtp_ext.specs.Elements.{Element, AreElements};
 ghost use Rattle.rtp_ext.specs.ElementReading.{BeginsWithNoElement, elements_left};
 ghost use Rattle.rtp_ext.specs.ElementWriting.{element_header};
-ghost use Rattle.rtp_ext.specs.ElementsInPlace.{HasNone, bytes_under, HasLast, HasLastOf, SetsLast, ChangesIds, CanRenumber, renumbered, all_but};
-ghost use Rattle.rtp_ext.specs.ElementPlaces.{LiesAt, IsNextPlace, IsLastPlace, LiesLast, WritesLast};
+ghost use Rattle.rtp_ext.specs.ElementsInPlace.{HasNone, bytes_under, ChangesIds, CanRenumber, renumbered, all_but};
+ghost use Rattle.rtp_ext.specs.ElementPlaces.{LiesAt, IsNextPlace, IsLastPlace, LiesLast};
 ghost use Rattle.std.specs.Bool.{OnTrue, OnFalse};
-ghost use Rattle.rtp_ext.specs.ExtensionMap.{Slots, extension_at, IsOnlyId};
+ghost use Rattle.rtp_ext.specs.ExtensionMap.{Slots};
 ghost use Rattle.rtp_ext.specs.BlockValues.{SaysValues};
-ghost use Rattle.rtp_values.specs.declared.kind.Extension.{Extension};
 ghost use Rattle.rtp_values.specs.declared.value.values.ExtensionValues.{ExtensionValues};
-ghost use Rattle.rtp_values.specs.Values.{Reads, with_fields, IsWellFormed};
-ghost use Rattle.std.specs.List.{filter_map, list_any};
+ghost use Rattle.std.specs.List.{filter_map};
 ghost use Rattle.rtp_ext.specs.NewIds.{new_id, CarriesExtensions};
-ghost use Rattle.rtp_ext.specs.IdChanges.{ids_of};
+ghost use Rattle.rtp_ext.specs.IdChanges.{ids_of, CanChangeIds, HasOtherIds};
 ghost use Rattle.rtp_ext.specs.WrittenBlock.{mapped_fields};
 
 use super::elements::first_element;
-use super::form::{header_len, write_header};
-use super::growing::survey_of;
-use super::raw_writing::{clear, put_data};
+use super::form::{element_header_len, write_header};
+use super::raw_writing::clear;
+use super::survey::survey_of;
 use super::{ExtensionsForm, NewIds};
 
 /// Where an element lies in the body of a block, as offsets from the body's first byte.
@@ -55,7 +53,7 @@ pub(super) fn place_before(
 {
     let end = body_len - left;
     let data_start = end - data_len;
-    let start = data_start - header_len(form);
+    let start = data_start - element_header_len(form);
     Place {
         id,
         start,
@@ -64,9 +62,9 @@ pub(super) fn place_before(
     }
 }
 
-/// The place of the first element of a block's body from the offset on, and `None` where reading ends
-/// before one (RFC 8285, 4.2 and 4.3). The elements of the body are found one after another from the
-/// offset 0 on, each from the end of the one before it.
+/// The place of the first element of a block's body from the offset on, and `None` where reading
+/// ends before one (RFC 8285, 4.2 and 4.3). The elements of the body are found one after another
+/// from the offset 0 on, each from the end of the one before it.
 ///
 /// Requires an offset within the body.
 pub fn next_place(form: ExtensionsForm, body: &[u8], at: usize) -> Option<Place>
@@ -113,53 +111,6 @@ fn write_id(form: ExtensionsForm, body: &mut [u8], place: &Place, id: Option<u8>
     }
 }
 
-/// The data of the last element of the id in a block's body, and `None` exactly where no element
-/// has it (RFC 8285, 4.2 and 4.3). An element of the two-byte form may be without data, and then
-/// they are `Some` of no bytes.
-///
-/// The last element of id 1 in the body `10 AA 21 BB CC 10 DD 00` (hexadecimal) of the one-byte
-/// form has the data `DD`.
-pub fn element_of(form: ExtensionsForm, body: &[u8], id: u8) -> Option<&[u8]>
-    ensures found { (elements : List Element) → AreElements form body.now elements →
-        IfSome result (λ bytes. HasLast elements id bytes.now) }
-    ensures none { (elements : List Element) → AreElements form body.now elements →
-        IfNone result (HasNone elements id) }
-{
-    let place = last_place(form, body, id)?;
-    Some(&body[place.data_start..place.end])
-}
-
-/// Gives the last element of the id in a block's body these data, where it has as many bytes of
-/// them, and returns whether it has; all other bytes stay. Else nothing changes.
-///
-/// Under a map in which a kind has this id and no other, the body then says what it said, except for
-/// the fields of that kind; these are what the data say, where they are well-formed for it.
-///
-/// In the body `10 AA 21 BB CC 10 DD 00` (hexadecimal) of the one-byte form the data `EE` of id 1
-/// give `10 AA 21 BB CC 10 EE 00`.
-pub fn set_element(form: ExtensionsForm, body: &mut [u8], id: u8, data: &[u8]) -> bool
-    ensures set { OnTrue result (SetsLast form id «data».now body.old body.new) }
-    ensures written { OnTrue result (WritesLast form id «data».now body.old body.new) }
-    ensures unchanged { OnFalse result (body.new ≡ body.old) }
-    ensures answer { (elements : List Element) → AreElements form body.old elements →
-        IsTrue result ↔ HasLastOf elements id (length «data».now) }
-    ensures other_values { (exts : Slots) (kind : Extension) (old new : ExtensionValues) →
-        extension_at exts id ≡ Some kind → SaysValues form exts body.old old →
-        SaysValues form exts body.new new → OnTrue result (new ≡ with_fields kind old new) }
-    ensures values { (exts : Slots) (kind : Extension) (new : ExtensionValues) → IsOnlyId exts kind id →
-        IsWellFormed kind «data».now → SaysValues form exts body.new new →
-        OnTrue result (Reads kind «data».now new) }
-{
-    let Some(place) = last_place(form, body, id) else {
-        return false;
-    };
-    if place.end - place.data_start != data.len() {
-        return false;
-    }
-    put_data(body, place.data_start, data);
-    true
-}
-
 // Which id each element gets.
 #[derive(Clone, Copy, Drop)]
 enum IdChange<'a> {
@@ -182,8 +133,8 @@ impl IdChange<'_> {
     }
 }
 
-// Whether the form can carry the new ids of a body's elements. These aren't looked at where it can carry
-// those of all ids that they can have, as with most tables.
+// Whether the form can carry the new ids of a body's elements. These aren't looked at where it can
+// carry those of all ids that they can have, as with most tables.
 fn carries_new_ids(form: ExtensionsForm, body: &[u8], ids: &NewIds) -> bool
     ensures { IsTrue result
         ↔ All (CanRenumber form (new_id ids.now)) (elements_left form body.now) }
@@ -194,15 +145,12 @@ fn carries_new_ids(form: ExtensionsForm, body: &[u8], ids: &NewIds) -> bool
     }
 }
 
-// Gives each element its new id, or makes it padding, and returns whether one has become padding. It is
-// inlined, so that a removal and a table have loops of their own.
+// Gives each element its new id, or makes it padding, and returns whether one has become padding.
+// It is inlined, so that a removal and a table have loops of their own.
 #[inline(always)]
 fn change_ids(form: ExtensionsForm, body: &mut [u8], change: IdChange<'_>) -> bool
-    requires { All (λ element. IsElement form element → CanRenumber form (ids_of change) element)
-        (elements_left form body.old) }
-    ensures changed { ChangesIds form (ids_of change.entry) body.old body.new }
-    ensures lost { (elements : List Element) → AreElements form body.old elements →
-        result ≡ list_any (λ element. is_none (ids_of change.entry element.0)) elements }
+    requires { CanChangeIds form (ids_of change) body.old }
+    ensures { HasOtherIds form (ids_of change.entry) body.old body.new result }
 {
     match form {
         ExtensionsForm::OneByte => change_ids_in(ExtensionsForm::OneByte, body, change),
@@ -213,11 +161,8 @@ fn change_ids(form: ExtensionsForm, body: &mut [u8], change: IdChange<'_>) -> bo
 // The same. It is inlined, so that each form has a loop of its own.
 #[inline(always)]
 fn change_ids_in(form: ExtensionsForm, body: &mut [u8], change: IdChange<'_>) -> bool
-    requires { All (λ element. IsElement form element → CanRenumber form (ids_of change) element)
-        (elements_left form body.old) }
-    ensures changed { ChangesIds form (ids_of change.entry) body.old body.new }
-    ensures lost { (elements : List Element) → AreElements form body.old elements →
-        result ≡ list_any (λ element. is_none (ids_of change.entry element.0)) elements }
+    requires { CanChangeIds form (ids_of change) body.old }
+    ensures { HasOtherIds form (ids_of change.entry) body.old body.new result }
 {
     let mut lost = false;
     let mut at = 0;
@@ -274,7 +219,8 @@ pub fn renumber(form: ExtensionsForm, body: &mut [u8], ids: &NewIds) -> bool
     ensures unchanged { OnFalse result (body.new ≡ body.old) }
     ensures answer { (elements : List Element) → AreElements form body.old elements →
         IsTrue result ↔ All (CanRenumber form (new_id ids.now)) elements }
-    ensures elements { (elements : List Element) → AreElements form body.old elements → OnTrue result
+    ensures elements { (elements : List Element) → AreElements form body.old elements →
+        OnTrue result
         (AreElements form body.new (filter_map (renumbered (new_id ids.now)) elements)) }
     ensures values { (from to : Slots) (values : ExtensionValues) →
         CarriesExtensions from to ids.now → SaysValues form from body.old values →

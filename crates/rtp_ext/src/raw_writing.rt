@@ -5,7 +5,7 @@ ghost use Rattle.rtp_base.specs.Overwriting.{overwritten};
 ghost use Rattle.rtp_ext.specs.Elements.{AreElements, element_bytes, elements_bytes};
 ghost use Rattle.rtp_ext.specs.ElementsInARow.{IsWritable, AreWritableIn};
 
-use super::form::{header_len, write_header};
+use super::form::{element_header_len, write_header};
 use super::{ElementList, ExtensionsForm};
 use rtp_base::{put, put_zeros};
 
@@ -19,7 +19,7 @@ fn room_after(room: usize, form: ExtensionsForm, id: u8, bytes: &[u8]) -> Option
     if !form.can_carry(id, bytes) {
         return None;
     }
-    room.checked_sub(header_len(form) + bytes.len())
+    room.checked_sub(element_header_len(form) + bytes.len())
 }
 
 // Whether the elements can be written in the form, and in the room.
@@ -37,8 +37,8 @@ fn fit<L: ElementList>(room: usize, form: ExtensionsForm, elements: L) -> bool
     true
 }
 
-// Puts the data of an element at the offset. Up to three bytes, as most elements have, are put one by
-// one, since a copy of so few takes longer.
+// Puts the data of an element at the offset. Up to three bytes, as most elements have, are put one
+// by one, since a copy of so few takes longer.
 #[inline(always)]
 pub(super) fn put_data(buf: &mut [u8], at: usize, data: &[u8])
     requires { at + length «data».now ≤ length buf.old }
@@ -61,8 +61,8 @@ pub(super) fn put_data(buf: &mut [u8], at: usize, data: &[u8])
     }
 }
 
-// Puts zeros at the offset. Up to four, as most elements and the rest of most words take, are put one by
-// one, since a call that clears so few takes longer.
+// Puts zeros at the offset. Up to four, as most elements and the rest of most words take, are put
+// one by one, since a call that clears so few takes longer.
 #[inline(always)]
 pub(super) fn clear(buf: &mut [u8], at: usize, count: usize)
     requires { at + count ≤ length buf.old }
@@ -114,7 +114,7 @@ pub(super) fn put_element(
     ensures end { result ≡ at + length (element_bytes form (id, bytes.now)) }
 {
     write_header(buf, at, form, id, bytes.len() as u8);
-    let data_at = at + header_len(form);
+    let data_at = at + element_header_len(form);
     put_data(buf, data_at, bytes);
     data_at + bytes.len()
 }

@@ -37,8 +37,8 @@ fn lowest_beside<K: Kinds>(ids: &KnownIds<'_, K>, from: KnownKind, to: KnownKind
     lowest_id(ids, to)
 }
 
-// The new byte of an id of this kind in a table: `lowest` where the kind is the first, 0 where it is the
-// second, and else the old one.
+// The new byte of an id of this kind in a table: `lowest` where the kind is the first, 0 where it
+// is the second, and else the old one.
 #[inline(always)]
 pub(super) fn renamed(
     kind: Option<KnownKind>,
@@ -74,7 +74,8 @@ fn same_ids() -> [u8; 256]
 #[inline(always)]
 pub(super) fn renamed_ids<K: Kinds>(exts: &K, from: KnownKind, to: KnownKind) -> [u8; 256]
     requires { from ≢ to }
-    ensures { AreRenamedIds (K.slots exts.now) (extension_of_kind from) (extension_of_kind to) (map id_in_byte result) }
+    ensures { AreRenamedIds (K.slots exts.now) (extension_of_kind from) (extension_of_kind to)
+        (map id_in_byte result) }
 {
     let mut ids = same_ids();
     if let Some(lowest) = lowest_beside(&KnownIds::of(exts), from, to) {

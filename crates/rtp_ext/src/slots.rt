@@ -132,7 +132,8 @@ impl Slot {
     // The same slot.
     pub(super) fn clone(&self, alloc: Global) -> Result<Self, AllocError>
         ensures same { IfOk result (λ copy. copy ≡ self.now) }
-        ensures known { ((ext : Extension) → spec.extension_of self.now ≡ Some ext → IsKnown ext) → IsOk result }
+        ensures known { ((ext : Extension) → spec.extension_of self.now ≡ Some ext → IsKnown ext) →
+            IsOk result }
     {
         let mapping = match &self.mapping {
             Mapping::Unmapped => Mapping::Unmapped,

@@ -5,7 +5,7 @@ use Rattle.std.specs.Str.Lines.{lines}
 use Rattle.hex.specs.Hex.{decode_of}
 use Rattle.rtp_values.specs.declared.kind.Extension.{Extension}
 use Rattle.rtp_values.specs.Kind.{IsNamedBy}
-use Rattle.rtp_ext.specs.ExtensionMap.{Entry, Slots, entry_at, unlocked, IsListing, IsUnlocked, standard_items}
+use Rattle.rtp_ext.specs.ExtensionMap.{Entry, Slots, entry_at, unlocked, ListsItems, IsUnlocked, standard_items}
 use Rattle.rtp_listing.specs.MapLine.{IsMapLine}
 
 -- an id, and the URI that a map line gives it
@@ -43,7 +43,7 @@ AreMapped items exts = (id : ℕ) → IsEntryOf (last_for id items) (entry_at ex
 
 -- the standard map: its listing, and nothing locked
 abbrev pub IsStandardMap : Slots → Type 0
-IsStandardMap exts = IsListing exts (λ _. true) standard_items × IsUnlocked exts
+IsStandardMap exts = ListsItems exts (λ _. true) standard_items × IsUnlocked exts
 
 -- the map that the items make, and without any the standard one
 abbrev pub IsMapOf : List Item → Slots → Type 0

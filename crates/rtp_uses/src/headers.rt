@@ -4,7 +4,7 @@ ghost use Rattle.std.specs.Prelude.{◌≡◌, ◌↔◌, ◌≤◌, length, dro
 ghost use Rattle.rtp_wire.specs.Header.{IsWire};
 ghost use Rattle.rtp_values.specs.Values.{TakesNoMemory, orientation_of};
 ghost use Rattle.rtp_wire.specs.RefusedMemory.{HeaderHasAllocation};
-ghost use Rattle.rtp_wire.specs.NotAHeader.{NotAHeader};
+ghost use Rattle.rtp_wire.specs.NotAHeader.{HasNoHeader};
 ghost use Rattle.rtp_wire.specs.Written.{wire_bytes, image_of};
 
 use rtp_wire::{ExtensionMap, RtpHeader, VideoOrientation};
@@ -27,7 +27,7 @@ pub fn payload<'a>(
     ensures found { IfOk result (λ answer. IfSome answer (λ payload.
         (header : RtpHeader) × IsWire exts.now packet.now header
         × (payload.now ≡ drop header.header_len packet.now))) }
-    ensures refused { (result ≡ Ok None) ↔ NotAHeader packet.now }
+    ensures refused { (result ≡ Ok None) ↔ HasNoHeader packet.now }
 {
     let Some(header) = RtpHeader::parse(alloc, packet, exts)? else {
         return Ok(None);
@@ -47,7 +47,7 @@ pub fn payload_with<'a>(
     ensures found { IfOk result (λ answer. IfSome answer (λ payload.
         IsWire exts.now packet.now header.new
         × (payload.now ≡ drop header.new.header_len packet.now))) }
-    ensures refused { (result ≡ Ok None) ↔ NotAHeader packet.now }
+    ensures refused { (result ≡ Ok None) ↔ HasNoHeader packet.now }
     ensures same { IfOk result (λ answer. IfNone answer (header.new ≡ header.old)) }
 {
     if !header.parse_into(alloc, packet, exts)? {

@@ -7,7 +7,7 @@ use Rattle.rtp_wire.specs.declared.header.rtp_header.RtpHeader.{RtpHeader}
 use Rattle.rtp_ext.specs.Elements.{Element}
 use Rattle.rtp_ext.specs.BlockValues.{AreValues}
 use Rattle.rtp_values.specs.Values.{no_values}
-use Rattle.rtp_wire.specs.NotAHeader.{NotAHeader}
+use Rattle.rtp_wire.specs.NotAHeader.{HasNoHeader}
 use Rattle.rtp_wire.specs.Packet.{PacketParts, IsPacket}
 use Rattle.rtp_wire.specs.PacketElements.{AreElementsOf, HasValues}
 use Rattle.rtp_wire.specs.Header.{header_of, IsHeaderOf, IsWire}
@@ -41,7 +41,7 @@ one_header exts bytes h g wire-h wire-g =
     one_header-parts exts wire-g.parts h g (subst (λ (parts : PacketParts). IsHeaderOf exts parts h) same wire-h.is_header) wire-g.is_header
 
 -- bytes that are refused begin with no header
-pub no_header : (exts : ExtensionMap) (bytes : List ℕ) (h : RtpHeader) → NotAHeader bytes → IsWire exts bytes h → ⊥
+pub no_header : (exts : ExtensionMap) (bytes : List ℕ) (h : RtpHeader) → HasNoHeader bytes → IsWire exts bytes h → ⊥
 no_header exts bytes h none wire = header_there bytes wire.parts wire.is_packet wire.no_other none
 
 -- what `parse` and `parse_into` promise of the header of a packet without a block of another form

@@ -10,7 +10,7 @@ use Rattle.rtp_wire.specs.declared.header.not_a_header.NotAHeader as not_a_heade
 use Rattle.rtp_wire.specs.declared.packet.not_a_packet.NotAPacket.{NotAPacket}
 use Rattle.rtp_wire.specs.declared.packet.not_a_packet.NotAPacket.TheVariants.{CutFixedPart, OtherVersion, CutSources, CutBlockHeader, CutBlock}
 use Rattle.rtp_wire.specs.Block.{word_at}
-use Rattle.rtp_wire.specs.NotAHeader.{IsNoPacket, cut_fixed, other_version, cut_sources, cut_block, cut_words, HasUnknownForm, NotAHeader, no_packet, unknown_form, sources_end}
+use Rattle.rtp_wire.specs.NotAHeader.{IsNoPacket, cut_fixed, other_version, cut_sources, cut_block, cut_words, HasUnknownForm, HasNoHeader, no_packet, unknown_form, sources_end}
 use Rattle.rtp_wire.specs.NotAPacket.{place_of, IsFirstCause}
 use Rattle.rtp_wire.specs.NoHeaderCause.{AppliesToHeader, header_place_of, IsFirstHeaderCause}
 use Rattle.rtp_wire.specs.Packet.{PacketParts, IsPacket, HasOtherForm}
@@ -51,7 +51,7 @@ module _ (bytes : List ℕ) (parts : PacketParts) (is : IsPacket bytes parts) (n
   known_form : HasUnknownForm bytes → ⊥
   known_form unknown = none-some _ (sym none ∙ ap (λ (p : PacketParts). p.other_block) (sym (one_packet bytes parts is)) ∙ other_block-unknown bytes unknown)
 
-  pub header_there : NotAHeader bytes → ⊥
+  pub header_there : HasNoHeader bytes → ⊥
   header_there (no_packet refused) = no_packet-refused bytes parts refused is
   header_there (unknown_form unknown) = known_form unknown
 
@@ -79,14 +79,14 @@ unknown_form-parted bytes small unknown =
     ]
 
 -- no header begins exactly where the bytes are no packet, or one whose block is of another form
-pub NotAHeader-parted : (bytes : List ℕ) → slice_index bytes 1 < 256 → NotAHeader bytes ↔ (IsNoPacket bytes ⊎ HasOtherForm bytes)
-NotAHeader-parted bytes small = (parted, joined)
+pub HasNoHeader-parted : (bytes : List ℕ) → slice_index bytes 1 < 256 → HasNoHeader bytes ↔ (IsNoPacket bytes ⊎ HasOtherForm bytes)
+HasNoHeader-parted bytes small = (parted, joined)
   where
-    parted : NotAHeader bytes → IsNoPacket bytes ⊎ HasOtherForm bytes
+    parted : HasNoHeader bytes → IsNoPacket bytes ⊎ HasOtherForm bytes
     parted (no_packet refused) = inl refused
     parted (unknown_form unknown) = unknown_form-parted bytes small unknown
 
-    joined : IsNoPacket bytes ⊎ HasOtherForm bytes → NotAHeader bytes
+    joined : IsNoPacket bytes ⊎ HasOtherForm bytes → HasNoHeader bytes
     joined (inl refused) = no_packet refused
     joined (inr found) = unknown_form (HasUnknownForm-packet bytes found.parts found.other found.is_packet found.other_is)
 
@@ -98,7 +98,7 @@ pub not_a_packet-read : (datagram : List ℕ) (first : NotAPacket) → IsFirstCa
   cause : IsFirstCause datagram first;
   refused : (true ≡ true → IsNoPacket datagram) × (IsNoPacket datagram → true ≡ true);
   header : Unit {0};
-  none : (Unit {0} → NotAHeader datagram) × (NotAHeader datagram → Unit {0});
+  none : (Unit {0} → HasNoHeader datagram) × (HasNoHeader datagram → Unit {0});
 }
 not_a_packet-read datagram first is = record {
   found = tt;
@@ -126,7 +126,7 @@ module _ (datagram : List ℕ) (len : ℕ) (form : Option ExtensionsForm) (heade
   other x known is unknown = other_there known is ∙ ap (λ (b : Bool). not b && has_block datagram) unknown ∙ eq-eqb (slice_index datagram 0 / 16 % 2) 1 x
 
   begins : (known : Bool) → (known ≡ true → (parts_at datagram).other_block ≡ None) → (known ≡ false → is_some (parts_at datagram).other_block ≡ true)
-      → (known ≡ false → NotAHeader datagram) × (NotAHeader datagram → known ≡ false)
+      → (known ≡ false → HasNoHeader datagram) × (HasNoHeader datagram → known ≡ false)
   begins true none some = (λ wrong. absurd (false≢true (sym wrong)), λ not. absurd (header_there datagram (parts_at datagram) packet_is (none refl) not))
   begins false none some =
       let other = some_there (parts_at datagram).other_block (some refl) in
@@ -139,7 +139,7 @@ module _ (datagram : List ℕ) (len : ℕ) (form : Option ExtensionsForm) (heade
     cause : Unit {0};
     refused : (false ≡ true → IsNoPacket datagram) × (IsNoPacket datagram → false ≡ true);
     header : known ≡ true → (parts_at datagram).other_block ≡ None;
-    none : (known ≡ false → NotAHeader datagram) × (NotAHeader datagram → known ≡ false);
+    none : (known ≡ false → HasNoHeader datagram) × (HasNoHeader datagram → known ≡ false);
   }
   packet-read known none some = record {
     found = packet_is;
@@ -195,7 +195,7 @@ block_header-there bytes first = elim (cases_lt (length bytes) (sources_end byte
 
 -- what is told of a packet: nothing, or that its form is unknown
 pub told_of_packet : (bytes : List ℕ) (parts : PacketParts) (test : Bool) (told : Option not_a_header.NotAHeader) → IsPacket bytes parts → test ≡ is_some parts.other_block
-    → told ≡ then_some test not_a_header.TheVariants.UnknownForm → IfSome told (IsFirstHeaderCause bytes) × (IsSome told ↔ NotAHeader bytes)
+    → told ≡ then_some test not_a_header.TheVariants.UnknownForm → IfSome told (IsFirstHeaderCause bytes) × (IsSome told ↔ HasNoHeader bytes)
 told_of_packet bytes parts false told is test-is told-is =
     rw told-is (tt, (λ some. absurd (false≢true some), λ none. absurd (header_there bytes parts is (none_there parts.other_block (sym test-is)) none)))
 told_of_packet bytes parts true told is test-is told-is =

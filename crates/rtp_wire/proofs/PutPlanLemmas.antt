@@ -13,7 +13,7 @@ use Rattle.std.proofs.lemmas.Option.{none-some, same_Some}
 use Rattle.rtp_ext.specs.declared.form.ExtensionsForm.{ExtensionsForm}
 use Rattle.rtp_ext.specs.declared.form.ExtensionsForm.TheVariants.{OneByte, TwoByte}
 use Rattle.rtp_ext.specs.Elements.{Element, AreElements, elements_bytes, ended}
-use Rattle.rtp_ext.specs.declared.growing.Survey.{Survey}
+use Rattle.rtp_ext.specs.declared.survey.Survey.{Survey}
 use Rattle.rtp_ext.specs.BodySurvey.{IsSurvey}
 use Rattle.rtp_ext.specs.WrittenBlock.{whole_words}
 use Rattle.rtp_ext.specs.ElementsInARow.{IsWritable, serves_one_byte}

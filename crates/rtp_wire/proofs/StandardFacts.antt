@@ -6,7 +6,7 @@ use Rattle.rtp_ext.specs.declared.map.ExtensionMap.{ExtensionMap}
 use Rattle.rtp_ext.specs.Form.{IsFormWord}
 use Rattle.rtp_wire.specs.Header.{IsWire, default_header}
 use Rattle.rtp_wire.specs.Packet.{IsPacket}
-use Rattle.rtp_wire.specs.NotAHeader.{cut_header, cut_words, IsNoPacket, cut_fixed, other_version, cut_sources, cut_block, NotAHeader, unknown_form}
+use Rattle.rtp_wire.specs.NotAHeader.{cut_header, cut_words, IsNoPacket, cut_fixed, other_version, cut_sources, cut_block, HasNoHeader, unknown_form}
 use Rattle.rtp_ext.specs.ExtensionMap.{Slots}
 use Rattle.rtp_values.specs.Spelling.{carried_values}
 use Rattle.rtp_ext.specs.WrittenBlock.{block_bytes, image_values}
@@ -105,7 +105,7 @@ no_form : (form : ExtensionsForm) → IsFormWord 8192 form → ⊥
 no_form OneByte is = omega arith
 no_form TwoByte is = omega arith
 
-unknown_form_row : NotAHeader (144 ∷ zeros 11 ++ 32 ∷ 0 ∷ 0 ∷ 0 ∷ [])
+unknown_form_row : HasNoHeader (144 ∷ zeros 11 ++ 32 ∷ 0 ∷ 0 ∷ 0 ∷ [])
 unknown_form_row = unknown_form (refl, no_form)
 
 -- the packet of these bytes, whose block is of a form of the profile's own

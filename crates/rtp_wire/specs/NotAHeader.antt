@@ -23,6 +23,6 @@ abbrev pub HasUnknownForm : List ℕ → Type 0
 HasUnknownForm bytes = (slice_index bytes 0 / 16 % 2 ≡ 1) × IsNoFormWord (word_at (drop (sources_end bytes) bytes) 0)
 
 -- no header begins here: the bytes are no packet, or the form of their block is unknown
-pub data NotAHeader (bytes : List ℕ) : Type 0 where
-  no_packet : IsNoPacket bytes → NotAHeader bytes
-  unknown_form : HasUnknownForm bytes → NotAHeader bytes
+pub data HasNoHeader (bytes : List ℕ) : Type 0 where
+  no_packet : IsNoPacket bytes → HasNoHeader bytes
+  unknown_form : HasUnknownForm bytes → HasNoHeader bytes

@@ -29,9 +29,13 @@ pub record AreValuesStopped (exts : Slots) (block : Option (ExtensionsForm × Li
   pub are_elements : AreElementsOf block elements
   pub is_stopped : IsStopped exts elements no_values values
 
--- reading the bytes ended so: they are a packet, and the header has its fields and these values
+-- reading the block of these parts ended so: the header has their fields and these values
+pub record IsHeaderStopped (exts : Slots) (parts : PacketParts) (h : RtpHeader) : Type 0 where
+  pub fields_are : h ≡ header_of parts h.ext_vals
+  pub values_are : AreValuesStopped exts parts.block h.ext_vals
+
+-- reading the bytes ended so: they are a packet, and the header is that of its parts
 pub record IsWireStopped (exts : Slots) (bytes : List ℕ) (h : RtpHeader) : Type 0 where
   pub parts : PacketParts
   pub is_packet : IsPacket bytes parts
-  pub fields_are : h ≡ header_of parts h.ext_vals
-  pub values_are : AreValuesStopped exts parts.block h.ext_vals
+  pub is_stopped : IsHeaderStopped exts parts h

@@ -3,8 +3,8 @@
 ghost use Rattle.std.specs.Prelude.{true, false};
 
 use super::ExtensionMap;
+use crate::MAX_ID_ONE_BYTE_FORM;
 use crate::kinds::Kinds;
-use crate::{MAX_ID_ONE_BYTE_FORM, slots};
 use rtp_values::KnownKind;
 
 impl Kinds for ExtensionMap {
@@ -16,7 +16,8 @@ impl Kinds for ExtensionMap {
 
     ghost known = { λ map. known_slots map };
 
-    ghost left = { λ map at end. items_at (known_slots map) (drop at (mapped_ids (known_slots map))) };
+    ghost left = { λ map at end. items_at (known_slots map)
+        (drop at (mapped_ids (known_slots map))) };
 
     #[inline(always)]
     fn get(&self, id: u8) -> Option<KnownKind> {
@@ -45,19 +46,6 @@ impl Kinds for ExtensionMap {
     #[inline(always)]
     fn at_most(&self, _end: usize) -> usize {
         self.kinds.len()
-    }
-
-    fn id_under(&self, other: &Self, id: u8) -> Option<u8> {
-        other.lowest_id(slots::extension(&self.slots, id)?)
-    }
-
-    // An id that isn't mapped has no new one.
-    fn new_ids(&self, other: &Self) -> [u8; 256] {
-        let mut ids = [0; 256];
-        for (id, ext) in self.iter() {
-            ids[usize::from(id)] = other.lowest_id(ext).unwrap_or(0);
-        }
-        ids
     }
 
     fn rename(&self, from: KnownKind, to: KnownKind, lowest: u8, ids: &mut [u8; 256]) {

@@ -92,7 +92,7 @@ impl ExtensionMap {
     /// time, 3 transport sequence number, 4 mid, 10 stream id, 11 repaired stream id, 13 video
     /// orientation. Nothing is locked. Takes no memory.
     pub fn standard() -> Self
-        ensures items { spec.IsListing result (λ _. true) spec.standard_items }
+        ensures items { spec.ListsItems result (λ _. true) spec.standard_items }
         ensures unlocked { spec.IsUnlocked result }
     {
         let mut exts = Self::empty();
@@ -169,7 +169,7 @@ impl ExtensionMap {
     }
 
     // The lowest id that is mapped to the extension.
-    fn lowest_id(&self, ext: &Extension) -> Option<u8>
+    pub(crate) fn lowest_id(&self, ext: &Extension) -> Option<u8>
         ensures found { IfSome result (spec.IsLowest self.now ext.now) }
         ensures valid { IfSome result spec.IsId }
         ensures none { IfNone result (spec.IsUnmapped self.now ext.now) }
@@ -196,7 +196,7 @@ impl ExtensionMap {
 
     /// The mapped ids by rising id, each with its extension.
     pub fn iter(&self) -> Iter<'_>
-        ensures listing { spec.IsListing self.now (λ _. true) result }
+        ensures listing { spec.ListsItems self.now (λ _. true) result }
         ensures items { result ≡ items_from 0 self.now }
     {
         Iter::new(&self.slots, self.mapped.as_slice())
@@ -205,21 +205,21 @@ impl ExtensionMap {
     /// The ids whose extensions are for audio, or else for video, by rising id, each with its
     /// extension. Most extensions are for both, and an unknown one is for neither.
     pub fn iter_by_media_type(&self, audio: bool) -> IterByMediaType<'_>
-        ensures { spec.IsListing self.now (spec.is_of_medium audio) result }
+        ensures { spec.ListsItems self.now (spec.is_of_medium audio) result }
     {
         IterByMediaType::new(self.iter(), audio)
     }
 
     /// The ids whose extensions are for audio, by rising id, each with its extension.
     pub fn iter_audio(&self) -> IterByMediaType<'_>
-        ensures { spec.IsListing self.now (spec.is_of_medium true) result }
+        ensures { spec.ListsItems self.now (spec.is_of_medium true) result }
     {
         self.iter_by_media_type(true)
     }
 
     /// The ids whose extensions are for video, by rising id, each with its extension.
     pub fn iter_video(&self) -> IterByMediaType<'_>
-        ensures { spec.IsListing self.now (spec.is_of_medium false) result }
+        ensures { spec.ListsItems self.now (spec.is_of_medium false) result }
     {
         self.iter_by_media_type(false)
     }

@@ -12,14 +12,16 @@ impl ExtensionMap {
     /// Takes up the pairs of a renegotiation, one step after another: for each pair the peer maps
     /// the id to the extension. A pair whose id is 0, or whose extension isn't mapped, changes
     /// nothing. The lowest id of the extension counts. Where that is the id, its entry is locked.
-    /// Where it is another and locked, nothing changes. Else the entry moves to the id and is locked
-    /// there, and the entry of that id, locked or not, moves to the other.
+    /// Where it is another and locked, nothing changes. Else the entry moves to the id and is
+    /// locked there, and the entry of that id, locked or not, moves to the other.
     ///
-    /// A map of 3 to the transport number, 4 to the video orientation and 5 to the content type, after
-    /// the pairs of 12 and the video orientation, and of 14 and the transport number, maps 5 to the
-    /// content type, 12 to the video orientation and 14 to the transport number, the last two locked.
+    /// A map of 3 to the transport number, 4 to the video orientation and 5 to the content type,
+    /// after the pairs of 12 and the video orientation, and of 14 and the transport number, maps 5
+    /// to the content type, 12 to the video orientation and 14 to the transport number, the last
+    /// two locked.
     pub fn remap(&mut self, steps: &[(u8, &Extension)])
-        ensures steps { spec.AreRemapped self.old (map (λ step. (step.0, step.1.now)) steps.now) self.new }
+        ensures steps { spec.AreRemapped self.old
+            (map (λ step. (step.0, step.1.now)) steps.now) self.new }
         ensures renumbered { spec.IsRenumbered self.old self.new }
     {
         for (id, ext) in steps {

@@ -47,7 +47,7 @@ pub(super) fn data_len(ev: &ExtensionValues) -> Option<usize>
     carried_len(vla::checked_wire_len(ev.video_layers_allocation.as_ref()?))
 }
 
-// It stays out of line for the same reason.
+// It stays out of line, since few packets have it and the other kinds need the registers.
 #[inline(never)]
 pub(super) fn write(buf: &mut [u8], ev: &ExtensionValues) -> Option<usize>
     requires room { HasRoom kind.VideoLayersAllocation ev.now buf.old }
@@ -66,7 +66,7 @@ pub(super) fn held_len(ev: &WithLayers) -> Option<usize>
     carried_len(ev.layers?.checked_wire_len())
 }
 
-// It stays out of line for the same reason.
+// It stays out of line, since few packets have it and the other kinds need the registers.
 #[inline(never)]
 pub(super) fn write_held(buf: &mut [u8], ev: &WithLayers) -> Option<usize>
     requires room { HasRoom kind.VideoLayersAllocation (values_with_layers ev.now) buf.old }

@@ -1,5 +1,5 @@
-//! A block of header extensions as it is written: the word of its form, the number of its words, and
-//! its body.
+//! A block of header extensions as it is written: the word of its form, the number of its words,
+//! and its body.
 
 ghost use Rattle.std.specs.Prelude.{◌≡◌, ◌⊎◌, ℕ, ◌+◌, ◌*◌, ◌≤◌, ◌<◌, List, ◌++◌, length, drop, replicate, true, IsTrue, ◌↔◌, IfSome, IfNone};
 ghost use Rattle.std.specs.Int.{w16, to_be_bytes};
@@ -21,10 +21,10 @@ use rtp_ext::{
 };
 
 // How many bytes stand before a block's body.
-pub(super) const HEADER_LEN: usize = 4;
+pub(super) const BLOCK_HEADER_LEN: usize = 4;
 
 // The four bytes before a body of `words` words.
-fn block_header(form: ExtensionsForm, words: u16) -> [u8; HEADER_LEN]
+fn block_header(form: ExtensionsForm, words: u16) -> [u8; BLOCK_HEADER_LEN]
     ensures { result ≡ to_be_bytes w16 (form_word form) ++ to_be_bytes w16 words }
 {
     let [form_high, form_low] = form.serialize();
@@ -67,13 +67,13 @@ pub(super) fn block_len<K: Kinds, V: ElementValues>(
     ensures few { IsWithinMap ids.now result }
 {
     if ids.are_none() {
-        return HEADER_LEN;
+        return BLOCK_HEADER_LEN;
     }
-    HEADER_LEN + in_words(values_len(ids, ev, form))
+    BLOCK_HEADER_LEN + in_words(values_len(ids, ev, form))
 }
 
-// Whether the block that `write_block` writes has room. Most buffers have it whatever the values are,
-// so that no length is asked for.
+// Whether the block that `write_block` writes has room. Most buffers have it whatever the values
+// are, so that no length is asked for.
 #[inline(always)]
 pub(super) fn block_fits<K: Kinds, V: ElementValues>(
     ids: &KnownIds<'_, K>,
@@ -86,7 +86,7 @@ pub(super) fn block_fits<K: Kinds, V: ElementValues>(
     ensures { IsTrue result
         ↔ (length (block_bytes_in form ids.now (V.values ev.now)) ≤ room) }
 {
-    if HEADER_LEN + in_words(values_len_at_most(ids, ev, form)) <= room {
+    if BLOCK_HEADER_LEN + in_words(values_len_at_most(ids, ev, form)) <= room {
         return true;
     }
     block_len(ids, ev, form) <= room
@@ -103,7 +103,11 @@ fn close_block(buf: &mut [u8], form: ExtensionsForm, elements_len: usize) -> usi
     ensures length { result ≡ 4 + whole_words elements_len }
 {
     let body_len = in_words(elements_len);
-    let len = fill_word(buf, HEADER_LEN + elements_len, body_len - elements_len);
+    let len = fill_word(
+        buf,
+        BLOCK_HEADER_LEN + elements_len,
+        body_len - elements_len,
+    );
     put(buf, 0, &block_header(form, (body_len / 4) as u16));
     len
 }
@@ -129,11 +133,12 @@ pub(super) fn write_block<K: Kinds, V: ElementValues>(
         (block_bytes_in form ids.now (V.values ev.now))
         (image_values ids.now (V.values ev.now)) }
 {
-    let elements_len = write_values(ids, ev, form, &mut buf[HEADER_LEN..]);
+    let elements_len = write_values(ids, ev, form, &mut buf[BLOCK_HEADER_LEN..]);
     close_block(buf, form, elements_len)
 }
 
-// Writes the block of these elements in the form to the front of the buffer, and returns its length.
+// Writes the block of these elements in the form to the front of the buffer, and returns its
+// length.
 pub(super) fn write_block_of<L: ElementList>(
     buf: &mut [u8],
     form: ExtensionsForm,
@@ -150,11 +155,12 @@ pub(super) fn write_block_of<L: ElementList>(
     ensures elements { AreElements form (filled (elements_bytes form (L.elements elements)))
         (L.elements elements) }
 {
-    let elements_len = put_elements(&mut buf[HEADER_LEN..], form, elements);
+    let elements_len = put_elements(&mut buf[BLOCK_HEADER_LEN..], form, elements);
     close_block(buf, form, elements_len)
 }
 
-// The form of a block of these elements that has room: the one that serves, or that alone is allowed.
+// The form of a block of these elements that has room: the one that serves, or that alone is
+// allowed.
 pub(super) fn block_form<L: ElementList>(
     room: usize,
     elements: L,

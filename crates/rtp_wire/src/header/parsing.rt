@@ -1,10 +1,10 @@
 //! From bytes to a header.
 
-ghost use Rattle.std.specs.Prelude.{◌↔◌, ◌≡◌, ◌≤◌, length, true, false, None, IsOk, IfOk, OnOk, OnErr, IfSome};
+ghost use Rattle.std.specs.Prelude.{◌↔◌, ◌≡◌, ◌≤◌, ◌-◌, ◌++◌, length, replicate, true, false, None, IsOk, IfOk, OnOk, OnErr, IfSome};
 ghost use Rattle.std.specs.Bool.{OnTrue};
 ghost use Rattle.rtp_wire.specs.PacketElements.{HasValues};
-ghost use Rattle.rtp_wire.specs.RefusedMemory.{AreValuesStopped, BlockHasAllocation, HeaderHasAllocation, IsWireStopped};
-ghost use Rattle.rtp_wire.specs.NotAHeader.{NotAHeader};
+ghost use Rattle.rtp_wire.specs.RefusedMemory.{AreValuesStopped, BlockHasAllocation, HeaderHasAllocation, IsHeaderStopped, IsWireStopped};
+ghost use Rattle.rtp_wire.specs.NotAHeader.{HasNoHeader};
 ghost use Rattle.rtp_wire.specs.Header.{header_of, IsHeaderOf, IsWire};
 ghost use Rattle.rtp_values.specs.declared.value.values.ExtensionValues.{ExtensionValues};
 ghost use Rattle.rtp_values.specs.Values.{no_values};
@@ -19,8 +19,8 @@ impl RtpHeader {
     /// map (RFC 3550, 5.1 and 5.3.1; RFC 8285, 4.2 and 4.3). Whatever follows the header is not
     /// looked at.
     ///
-    /// Nothing is allocated except the lists of a layer allocation: an element of two bytes or
-    /// more whose id is mapped to it. An error says that this memory was refused, and nothing else is
+    /// Nothing is allocated except the lists of a layer allocation: an element of two bytes or more
+    /// whose id is mapped to it. An error says that this memory was refused, and nothing else is
     /// returned then.
     ///
     /// Returns `None` exactly when no header begins there: under 12 bytes, a version other than 2,
@@ -53,15 +53,14 @@ impl RtpHeader {
 
         // The causes for which no header is returned, and there are no others. That they are those
         // of a packet, and another form of its block, is `either` of `refusal`.
-        ensures refused { (result ≡ Ok None) ↔ NotAHeader buf.now }
+        ensures refused { (result ≡ Ok None) ↔ HasNoHeader buf.now }
     {
         let Ok((packet, true)) = RtpPacket::read(buf) else {
             return Ok(None);
         };
-        // As `RtpPacket::header` does it, whose result would be moved once more.
+        // What `RtpPacket::header` returns would be moved once more.
         let mut header = RtpHeader::default();
-        packet.put_fields(&mut header);
-        packet.read_values(alloc, exts, &mut header.ext_vals)?;
+        packet.put_header(alloc, exts, &mut header)?;
         Ok(Some(header))
     }
 
@@ -99,15 +98,14 @@ impl RtpHeader {
             OnTrue found (self.new.header_len ≤ length buf.now)) }
 
         // The causes for which no header is read, and there are no others: see `refusal`.
-        ensures refused { (result ≡ Ok false) ↔ NotAHeader buf.now }
-        ensures same { NotAHeader buf.now → self.new ≡ self.old }
+        ensures refused { (result ≡ Ok false) ↔ HasNoHeader buf.now }
+        ensures same { HasNoHeader buf.now → self.new ≡ self.old }
     {
         let Ok((packet, true)) = RtpPacket::read(buf) else {
             return Ok(false);
         };
-        packet.put_fields(self);
         clear(&mut self.ext_vals);
-        packet.read_values(alloc, exts, &mut self.ext_vals)?;
+        packet.put_header(alloc, exts, self)?;
         Ok(true)
     }
 }
@@ -116,31 +114,65 @@ impl<'a> RtpPacket<'a> {
     ghost use Rattle.rtp_wire.specs.declared.header.rtp_header.RtpHeader.{RtpHeader};
     ghost use Rattle.rtp_wire.specs.PartsOf.{parts_of};
 
-    // Gives the header the fields of the packet. Its values stay.
+    /// Puts the contributing sources into the first slots and zeros into the others, and returns
+    /// how many sources there are.
     #[inline(always)]
-    pub(crate) fn put_fields(&self, header: &mut RtpHeader)
-        ensures { header.new ≡ header_of (parts_of self.now) header.old.ext_vals }
+    pub fn put_csrc(&self, slots: &mut [u32; 15]) -> usize
+        ensures sources { slots.new ≡ (parts_of self.now).sources
+            ++ replicate (15 - length (parts_of self.now).sources) 0 }
+        ensures count { result ≡ length (parts_of self.now).sources }
+        ensures few { result ≤ 15 }
     {
         let groups = self.groups();
+        *slots = [0; 15];
+        for (slot, group) in groups.iter().enumerate() {
+            slots[slot] = u32::from_be_bytes(*group);
+        }
+        groups.len()
+    }
+
+    // Gives the header the fields of the packet. Its values stay.
+    #[inline(always)]
+    fn put_fields(&self, header: &mut RtpHeader)
+        ensures { header.new ≡ header_of (parts_of self.now) header.old.ext_vals }
+    {
         header.version = 2;
         header.has_padding = self.has_padding();
         header.has_extension = self.has_extension();
-        header.csrc_count = groups.len();
+        header.csrc_count = self.put_csrc(&mut header.csrc);
         header.marker = self.marker();
         header.payload_type = self.payload_type();
         header.sequence_number = self.sequence_number();
         header.timestamp = self.timestamp();
         header.ssrc = self.ssrc();
         header.header_len = self.header_len();
-        let slots = &mut header.csrc;
-        *slots = [0; 15];
-        for (slot, group) in groups.iter().enumerate() {
-            slots[slot] = u32::from_be_bytes(*group);
-        }
     }
 
-    /// Returns the header, with the values that the elements of the block give under the map, or the
-    /// error that memory was refused to a layer allocation.
+    // Gives the header the fields of the packet and the values of its block, where it holds no
+    // values before.
+    #[inline(always)]
+    fn put_header<K: Kinds>(
+        &self,
+        alloc: Global,
+        exts: &K,
+        header: &mut RtpHeader,
+    ) -> Result<(), AllocError>
+        requires { header.old.ext_vals ≡ no_values }
+        ensures found { OnOk result
+            (IsHeaderOf (K.slots exts.now) (parts_of self.now) header.new) }
+        ensures memory { OnErr result
+            (BlockHasAllocation (K.slots exts.now) (parts_of self.now).block) }
+        ensures stopped { OnErr result
+            (IsHeaderStopped (K.slots exts.now) (parts_of self.now) header.new) }
+        ensures succeeds { (BlockHasAllocation (K.slots exts.now) (parts_of self.now).block → ⊥) →
+            IsOk result }
+    {
+        self.put_fields(header);
+        self.read_values(alloc, exts, &mut header.ext_vals)
+    }
+
+    /// Returns the header, with the values that the elements of the block give under the map, or
+    /// the error that memory was refused to a layer allocation.
     ///
     /// Where the form of the block is another ([`has_other_form`](Self::has_other_form)), the
     /// header has X set and no values, and [`RtpHeader::write_to`] writes an empty block for it, of
@@ -159,14 +191,13 @@ impl<'a> RtpPacket<'a> {
             IsOk result }
     {
         let mut header = RtpHeader::default();
-        self.put_fields(&mut header);
-        self.read_values(alloc, exts, &mut header.ext_vals)?;
+        self.put_header(alloc, exts, &mut header)?;
         Ok(header)
     }
 
     // Reads the values of the block, where none are held before.
     #[inline(always)]
-    pub(crate) fn read_values<K: Kinds>(
+    fn read_values<K: Kinds>(
         &self,
         alloc: Global,
         exts: &K,

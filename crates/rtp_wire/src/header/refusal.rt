@@ -2,7 +2,7 @@
 
 ghost use Rattle.std.specs.Prelude.{◌≡◌, ◌↔◌, ◌⊎◌, ◌+◌, ◌≤◌, ◌/◌, ◌%◌, length, slice_index, IfSome, IsSome, IsTrue};
 ghost use Rattle.rtp_wire.specs.NoHeaderCause.{IsFirstHeaderCause};
-ghost use Rattle.rtp_wire.specs.NotAHeader.{sources_end, IsNoPacket, HasUnknownForm, NotAHeader as BeginsWithNone};
+ghost use Rattle.rtp_wire.specs.NotAHeader.{sources_end, IsNoPacket, HasUnknownForm, HasNoHeader};
 ghost use Rattle.rtp_wire.specs.Packet.{HasOtherForm};
 
 use super::{NotAHeader, RtpHeader};
@@ -17,11 +17,11 @@ impl RtpHeader {
     /// header begins there: 0xABAC is the word of neither form.
     pub fn refusal(buf: &[u8]) -> Option<NotAHeader>
         ensures cause { IfSome result (IsFirstHeaderCause buf.now) }
-        ensures refused { IsSome result ↔ BeginsWithNone buf.now }
+        ensures refused { IsSome result ↔ HasNoHeader buf.now }
 
         // No header begins exactly where the bytes are no packet, or one whose block is of another
         // form than the two.
-        ensures either { BeginsWithNone buf.now ↔ (IsNoPacket buf.now ⊎ HasOtherForm buf.now) }
+        ensures either { HasNoHeader buf.now ↔ (IsNoPacket buf.now ⊎ HasOtherForm buf.now) }
     {
         match RtpPacket::parse(buf) {
             Ok(packet) => packet.has_other_form().then_some(NotAHeader::UnknownForm),

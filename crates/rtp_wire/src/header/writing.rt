@@ -66,49 +66,54 @@ impl RtpHeader {
 
         // What was written, followed by anything, is read as the header's image.
         ensures read_back { (rest : List ℕ) →
-            IsWire (K.slots exts.now) (wire_bytes (K.slots exts.now) self.now ++ rest) (image_of (K.slots exts.now) self.now) }
+            IsWire (K.slots exts.now) (wire_bytes (K.slots exts.now) self.now ++ rest)
+            (image_of (K.slots exts.now) self.now) }
     {
         let ids = KnownIds::of(exts);
         let form = self.form(&ids, &self.ext_vals);
         self.write_in(&ids, &self.ext_vals, form, buf)
     }
 
-    /// Writes the header as [`write_to`](Self::write_to) does, whatever it holds and however long the
-    /// buffer is. `None` where the payload type is above 127, there are more than 15 contributing
-    /// sources, or the buffer has fewer than [`wire_len`](Self::wire_len) bytes, and then nothing is
-    /// written.
+    /// Writes the header as [`write_to`](Self::write_to) does, whatever it holds and however long
+    /// the buffer is. `None` where the payload type is above 127, there are more than 15
+    /// contributing sources, or the buffer has fewer than [`wire_len`](Self::wire_len) bytes, and
+    /// then nothing is written.
     pub fn try_write_to<K: Kinds>(&self, buf: &mut [u8], exts: &K) -> Option<usize>
-        ensures refused { IsNone result ↔ CannotBeWritten (K.slots exts.now) self.now (length buf.old) }
+        ensures refused { IsNone result
+            ↔ CannotBeWritten (K.slots exts.now) self.now (length buf.old) }
         ensures unchanged { IfNone result (buf.new ≡ buf.old) }
         ensures written { IfSome result (λ len.
             buf.new ≡ wire_bytes (K.slots exts.now) self.now ++ drop len buf.old) }
-        ensures length { IfSome result (λ len. len ≡ length (wire_bytes (K.slots exts.now) self.now)) }
+        ensures length { IfSome result (λ len.
+            len ≡ length (wire_bytes (K.slots exts.now) self.now)) }
 
         // What was written, followed by anything, is read as the header's image.
         ensures read_back { IfSome result (λ _. (rest : List ℕ) →
-            IsWire (K.slots exts.now) (wire_bytes (K.slots exts.now) self.now ++ rest) (image_of (K.slots exts.now) self.now)) }
+            IsWire (K.slots exts.now) (wire_bytes (K.slots exts.now) self.now ++ rest)
+            (image_of (K.slots exts.now) self.now)) }
     {
         self.try_write_values(buf, &self.ext_vals, exts)
     }
 
-    /// Writes the fixed part and the CSRC list of this header, and a block with these elements, to the
-    /// front of the buffer and returns how many bytes they take; the bytes after them stay as they were
-    /// (RFC 3550, 5.1; RFC 8285, 4.2 and 4.3). X is set whatever `has_extension` holds, and nothing is
-    /// written of `ext_vals`. Zeros fill the last word of the block. Nothing is allocated.
+    /// Writes the fixed part and the CSRC list of this header, and a block with these elements, to
+    /// the front of the buffer and returns how many bytes they take; the bytes after them stay as
+    /// they were (RFC 3550, 5.1; RFC 8285, 4.2 and 4.3). X is set whatever `has_extension` holds,
+    /// and nothing is written of `ext_vals`. Zeros fill the last word of the block. Nothing is
+    /// allocated.
     ///
-    /// Where `allowed` is `None` the block is in the one-byte form exactly where that can carry every
-    /// element, ids 1 to 14 with 1 to 16 bytes of data. `Some` is the one form that it may have, as for
-    /// a peer that hasn't agreed to both forms in one stream (RFC 8285, 4.1.2).
+    /// Where `allowed` is `None` the block is in the one-byte form exactly where that can carry
+    /// every element, ids 1 to 14 with 1 to 16 bytes of data. `Some` is the one form that it may
+    /// have, as for a peer that hasn't agreed to both forms in one stream (RFC 8285, 4.1.2).
     ///
-    /// `None`, and then nothing is written, where the payload type is above 127, there are more than
-    /// 15 contributing sources, an element has the id 0 or more than 255 bytes of data, the form that
-    /// is allowed can't carry one, the elements take more than the 65,535 words that a block can have,
-    /// or the buffer is too short.
+    /// `None`, and then nothing is written, where the payload type is above 127, there are more
+    /// than 15 contributing sources, an element has the id 0 or more than 255 bytes of data, the
+    /// form that is allowed can't carry one, the elements take more than the 65,535 words that a
+    /// block can have, or the buffer is too short.
     ///
-    /// With the elements 1 of `AA` and 2 of `BB CC`, the payload type 33, the sequence number 47,000,
-    /// the timestamp 10,000 and the SSRC 44, the 24 bytes are
-    /// `90 21 B7 98 00 00 27 10 00 00 00 2C BE DE 00 02 10 AA 21 BB CC 00 00 00`. Where the two-byte
-    /// form alone is allowed the last twelve are `10 00 00 02 01 01 AA 02 02 BB CC 00`.
+    /// With the elements 1 of `AA` and 2 of `BB CC`, the payload type 33, the sequence number
+    /// 47,000, the timestamp 10,000 and the SSRC 44, the 24 bytes are
+    /// `90 21 B7 98 00 00 27 10 00 00 00 2C BE DE 00 02 10 AA 21 BB CC 00 00 00`. Where the
+    /// two-byte form alone is allowed the last twelve are `10 00 00 02 01 01 AA 02 02 BB CC 00`.
     pub fn write_with<L: ElementList>(
         &self,
         buf: &mut [u8],
@@ -123,13 +128,15 @@ impl RtpHeader {
         ensures length { IfSome result (λ len.
             len ≡ length (wire_bytes_with self.now allowed (L.elements elements))) }
 
-        // What was written, followed by anything, is a packet of the header's fields and this block.
+        // What was written, followed by anything, is a packet of the header's fields and this
+        // block.
         ensures read_back { IfSome result (λ _. (rest : List ℕ) →
             IsPacket (wire_bytes_with self.now allowed (L.elements elements) ++ rest)
             (parts_with self.now allowed (L.elements elements) rest)) }
 
         // The block has these elements.
-        ensures elements { IfSome result (λ _. AreElements (form_given allowed (L.elements elements))
+        ensures elements { IfSome result (λ _.
+            AreElements (form_given allowed (L.elements elements))
             (body_with allowed (L.elements elements)) (L.elements elements)) }
     {
         if self.payload_type.get() > 127 || self.csrc_count > 15 {
@@ -142,8 +149,8 @@ impl RtpHeader {
         Some(end + write_block_of(&mut buf[end..], form, elements))
     }
 
-    // The twelve bytes that every header begins with, with this X. The ranges are those of the types,
-    // of which a caller is told that doesn't read the fields itself.
+    // The twelve bytes that every header begins with, with this X. The ranges are those of the
+    // types, of which a caller is told that doesn't read the fields itself.
     pub(super) fn fixed_bytes(&self, has_extension: bool) -> [u8; 12]
         requires payload_type { self.now.payload_type ≤ 127 }
         requires sources { self.now.csrc_count ≤ 15 }

@@ -11,7 +11,7 @@ ghost use Rattle.rtp_wire.specs.Written.{extension_bytes, wire_bytes, image_of, 
 ghost use Rattle.rtp_wire.specs.WrittenInForm.{announced_form, IsWithinMap};
 
 use super::RtpHeader;
-use super::block::{HEADER_LEN, block_fits, block_len, write_block};
+use super::block::{BLOCK_HEADER_LEN, block_fits, block_len, write_block};
 use super::writing::put_sources;
 use rtp_base::put;
 use rtp_ext::{ElementValues, ExtensionsForm, Kinds, KnownIds, values_form};
@@ -85,7 +85,7 @@ impl RtpHeader {
     {
         let before = 12 + 4 * self.csrc_count;
         if self.has_extension {
-            before + HEADER_LEN
+            before + BLOCK_HEADER_LEN
         } else {
             before
         }
@@ -110,7 +110,8 @@ impl RtpHeader {
         Some(values_form(ids, values))
     }
 
-    // Whether the header has room, with its block in this form, where what stands before the block has it.
+    // Whether the header has room, with its block in this form, where what stands before the block
+    // has it.
     #[inline(always)]
     fn fits<K: Kinds, V: ElementValues>(
         &self,

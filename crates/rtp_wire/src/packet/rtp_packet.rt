@@ -4,7 +4,7 @@ ghost use Rattle.std.specs.Prelude.{◌≡◌, ◌↔◌, ◌+◌, ◌*◌, ◌/
 ghost use Rattle.std.specs.Int.{w32, from_be_bytes};
 ghost use Rattle.std.specs.Option.{option_map};
 ghost use Rattle.rtp_ext.specs.Elements.{Element};
-ghost use Rattle.rtp_wire.specs.NotAHeader.{IsNoPacket, NotAHeader};
+ghost use Rattle.rtp_wire.specs.NotAHeader.{IsNoPacket, HasNoHeader};
 ghost use Rattle.rtp_wire.specs.NotAPacket.{IsFirstCause};
 ghost use Rattle.rtp_wire.specs.Packet.{PacketParts, IsPacket, header_len_of};
 ghost use Rattle.rtp_wire.specs.PacketElements.{AreElementsOf, IsLast};
@@ -72,7 +72,7 @@ impl<'a> RtpPacket<'a> {
         ensures refused { IsErr result ↔ IsNoPacket datagram.now }
         ensures header { IfOk result (λ read.
             read.1 ≡ true → (parts_of read.0).other_block ≡ None) }
-        ensures none { IfOk result (λ read. read.1 ≡ false) ↔ NotAHeader datagram.now }
+        ensures none { IfOk result (λ read. read.1 ≡ false) ↔ HasNoHeader datagram.now }
     {
         if datagram.len() < 12 {
             return Err(NotAPacket::CutFixedPart);

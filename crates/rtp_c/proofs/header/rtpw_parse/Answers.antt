@@ -4,12 +4,8 @@ use Rattle.rtp_wire.specs.PartsOf.{parts_of}
 use Rattle.rtp_wire.proofs.NoHeaderLemmas.{header_there}
 use Rattle.rtp_c.specs.StoredMap.{numbered_slots}
 use Rattle.rtp_c.proofs.NumberedLemmas.{HasKinds-numbered}
-use Rattle.rtp_c.proofs.HeaderViewLemmas.{few_sources}
-use Rattle.rtp_c.proofs.HeaderStatusLemmas.{NotAHeader-status}
+use Rattle.rtp_c.proofs.HeaderStatusLemmas.{HasNoHeader-status}
 use Rattle.rtp_c.proofs.header.rtpw_parse.Goals as goal
-
-pub put_header-requires : goal.put_header-requires
-put_header-requires c = record { sources = few_sources c.args.buf.now _ c.in-Ok.ensures.found }
 
 pub returns-in-Ok-clause-found : goal.returns-in-Ok-clause-found
 returns-in-Ok-clause-found c _ =
@@ -32,7 +28,7 @@ returns-in-Ok-clause-found c _ =
 
 pub returns-in-Ok-clause-refused : goal.returns-in-Ok-clause-refused
 returns-in-Ok-clause-refused c =
-    (λ is. NotAHeader-status c.args.buf.now _ is, λ none. absurd (header_there c.args.buf.now (parts_of c.in-Ok.packet) c.in-Ok.ensures.found c.in-Ok.ensures.known none))
+    (λ is. HasNoHeader-status c.args.buf.now _ is, λ none. absurd (header_there c.args.buf.now (parts_of c.in-Ok.packet) c.in-Ok.ensures.found c.in-Ok.ensures.known none))
 
 pub returns-in-Err-clause-refused : goal.returns-in-Err-clause-refused
-returns-in-Err-clause-refused c = (λ is. NotAHeader-status c.args.buf.now _ is, λ none. search (rules, c.in-Err.ensures.cause))
+returns-in-Err-clause-refused c = (λ is. HasNoHeader-status c.args.buf.now _ is, λ none. search (rules, c.in-Err.ensures.cause))

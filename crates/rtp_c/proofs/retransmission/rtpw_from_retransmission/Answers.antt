@@ -8,8 +8,8 @@ use Rattle.rtp_c.proofs.retransmission.rtpw_from_retransmission.Goals as goal
 pub returns-in-Err-clause-length : goal.returns-in-Err-clause-length
 returns-in-Err-clause-length c sent payload done is without = absurd (refused_not_ok c.in-Err.cause c.refusal.result c.refusal.ensures done)
 
-pub returns-in-Err-clause-within : goal.returns-in-Err-clause-within
-returns-in-Err-clause-within c done = absurd (refused_not_ok c.in-Err.cause c.refusal.result c.refusal.ensures done)
+pub returns-in-Err-clause-behind : goal.returns-in-Err-clause-behind
+returns-in-Err-clause-behind c done = absurd (refused_not_ok c.in-Err.cause c.refusal.result c.refusal.ensures done)
 
 pub returns-in-Err-clause-block_header : goal.returns-in-Err-clause-block_header
 returns-in-Err-clause-block_header c done = absurd (refused_not_ok c.in-Err.cause c.refusal.result c.refusal.ensures done)

@@ -3,7 +3,7 @@ use Rattle.rtp_values.specs.KnownKind.{extension_of_kind}
 use Rattle.rtp_values.specs.Spelling.{spelled_data}
 use Rattle.rtp_ext.specs.ElementWriting.{items_bytes, element_or_nothing}
 use Rattle.rtp_ext.proofs.WrittenBlockLemmas.{items_bytes-nil, items_bytes-cons}
-use Rattle.rtp_ext.proofs.CursorLemmas.{known_bytes}
+use Rattle.rtp_ext.proofs.KnownWritingLemmas.{known_bytes}
 use Rattle.rtp_ext.proofs.KnownItemsLemmas.{count_known}
 use Rattle.rtp_ext.specs.KindsById.{known_slots}
 use Rattle.rtp_ext.proofs.block_elements.values_len.Goals as goal

@@ -14,8 +14,8 @@ use Rattle.rtp_ext.proofs.block_elements.write_element.Goals as goal
 -- there are no data
 without_room : (g : _) (c : goal.Then-start-buf g) → HasNone c.args.form (g.V.ElementValues.values c.args.ev.now) c.args.buf.now c.args.at (c.args.id, (extension_of_kind c.args.kind))
 without_room g c =
-    HasNone-from_none _ _ _ _ _ _ (none-without_room c.args.form c.args.id (spelled_data (extension_of_kind c.args.kind) (g.V.ElementValues.values c.args.ev.now)) c.header_len.result
-    (length c.args.buf.now - c.args.at) c.header_len.ensures (omega (arith, c.requires.room)) (omega (arith, c.requires.room, c.if-start-buf.true)))
+    HasNone-from_none _ _ _ _ _ _ (none-without_room c.args.form c.args.id (spelled_data (extension_of_kind c.args.kind) (g.V.ElementValues.values c.args.ev.now)) c.element_header_len.result
+    (length c.args.buf.now - c.args.at) c.element_header_len.ensures (omega (arith, c.requires.room)) (omega (arith, c.requires.room, c.if-start-buf.true)))
 
 pub returns-then-start-buf-clause-written : goal.returns-then-start-buf-clause-written
 returns-then-start-buf-clause-written g c = (without_room g c).written
@@ -29,23 +29,23 @@ returns-then-start-buf-clause-carried g c = (without_room g c).carried
 pub write_data-requires : goal.write_data-requires
 write_data-requires g c = record {
   room = λ short bytes is.
-      let start = c.args.at + c.header_len.result in
-      let room = room-for_data c.args.form c.args.id (spelled_data (extension_of_kind c.args.kind) (g.V.ElementValues.values c.args.ev.now)) c.header_len.result
-      (length c.args.buf.now - c.args.at) c.header_len.ensures (omega (arith, c.requires.room)) (omega (arith, c.if-start-buf.false)) in
+      let start = c.args.at + c.element_header_len.result in
+      let room = room-for_data c.args.form c.args.id (spelled_data (extension_of_kind c.args.kind) (g.V.ElementValues.values c.args.ev.now)) c.element_header_len.result
+      (length c.args.buf.now - c.args.at) c.element_header_len.ensures (omega (arith, c.requires.room)) (omega (arith, c.if-start-buf.false)) in
       let long = rw is at room in
       rw (take_rest c.args.buf.now start) (omega (arith, length-drop start c.args.buf.now, long, c.if-start-buf.false));
 }
 
 pub returns-in_default-clause-written : goal.returns-in_default-clause-written
 returns-in_default-clause-written g c =
-    let start = c.args.at + c.header_len.result in
+    let start = c.args.at + c.element_header_len.result in
     let none = none-from_map (spelled_data (extension_of_kind c.args.kind) (g.V.ElementValues.values c.args.ev.now)) (sym c.in_default.is ∙ c.write_data.ensures.length) in
     let back = HasNone-from_none c.args.form (g.V.ElementValues.values c.args.ev.now) c.args.buf.now c.args.at c.args.id (extension_of_kind c.args.kind) none in
     let data_put = overwritten-rest c.args.buf.now c.write_data.new.buf (unwrap_or (spelled_data (extension_of_kind c.args.kind) (g.V.ElementValues.values c.args.ev.now)) [])
     start (omega (
       arith,
-      room-for_data c.args.form c.args.id (spelled_data (extension_of_kind c.args.kind) (g.V.ElementValues.values c.args.ev.now)) c.header_len.result
-          (length c.args.buf.now - c.args.at) c.header_len.ensures (omega (arith, c.requires.room)) (omega (arith, c.if-start-buf.false)),
+      room-for_data c.args.form c.args.id (spelled_data (extension_of_kind c.args.kind) (g.V.ElementValues.values c.args.ev.now)) c.element_header_len.result
+          (length c.args.buf.now - c.args.at) c.element_header_len.ensures (omega (arith, c.requires.room)) (omega (arith, c.if-start-buf.false)),
     )) c.write_data.ensures.written in
     data_put ∙ (ap (λ bytes. overwritten c.args.buf.now start (unwrap_or bytes [])) none
     ∙ (overwritten-nil c.args.buf.now start ∙ back.written))
@@ -53,15 +53,15 @@ returns-in_default-clause-written g c =
 -- the data are put after the header, and it in front of them
 element_put : (g : _) (c : goal.After-slice_known-3-1 g) →
     (c.write_header.new.buf ≡ overwritten c.args.buf.now c.args.at (element_or_nothing c.args.form c.args.id (spelled_data (extension_of_kind c.args.kind) (g.V.ElementValues.values c.args.ev.now))))
-    × (c.args.at + c.header_len.result + c.in-Some.len ≡ c.args.at + length (element_or_nothing c.args.form c.args.id (spelled_data (extension_of_kind c.args.kind) (g.V.ElementValues.values c.args.ev.now))))
+    × (c.args.at + c.element_header_len.result + c.in-Some.len ≡ c.args.at + length (element_or_nothing c.args.form c.args.id (spelled_data (extension_of_kind c.args.kind) (g.V.ElementValues.values c.args.ev.now))))
 element_put g c =
     let bytes = spelled_data (extension_of_kind c.args.kind) (g.V.ElementValues.values c.args.ev.now) in
-    let start = c.args.at + c.header_len.result in
-    let room : c.header_len.result + length (unwrap_or bytes []) ≤ length c.args.buf.now - c.args.at =
-    room-for_data c.args.form c.args.id bytes c.header_len.result
-    (length c.args.buf.now - c.args.at) c.header_len.ensures (omega (arith, c.requires.room)) (omega (arith, c.if-start-buf.false)) in
+    let start = c.args.at + c.element_header_len.result in
+    let room : c.element_header_len.result + length (unwrap_or bytes []) ≤ length c.args.buf.now - c.args.at =
+    room-for_data c.args.form c.args.id bytes c.element_header_len.result
+    (length c.args.buf.now - c.args.at) c.element_header_len.ensures (omega (arith, c.requires.room)) (omega (arith, c.if-start-buf.false)) in
     element_or_nothing-put c.args.form c.args.id c.in-Some.len c.args.at start c.args.buf.now _ c.write_header.new.buf bytes
-    (sym c.in-Some.is ∙ c.write_data.ensures.length) (ap (λ (h : ℕ). c.args.at + h) (c.header_len.ensures c.args.id c.in-Some.len)) c.requires.room
+    (sym c.in-Some.is ∙ c.write_data.ensures.length) (ap (λ (h : ℕ). c.args.at + h) (c.element_header_len.ensures c.args.id c.in-Some.len)) c.requires.room
     (overwritten-rest c.args.buf.now c.write_data.new.buf (unwrap_or bytes []) start (omega (arith, room, c.if-start-buf.false)) c.write_data.ensures.written)
     c.write_header.ensures
 
@@ -82,4 +82,4 @@ few OneByte header is = omega (arith, is 0 0)
 few TwoByte header is = omega (arith, is 0 0)
 
 pub overflow_add-start : goal.overflow_add-start
-overflow_add-start g c = omega (arith, few c.args.form c.header_len.result c.header_len.ensures, c.requires.room)
+overflow_add-start g c = omega (arith, few c.args.form c.element_header_len.result c.element_header_len.ensures, c.requires.room)

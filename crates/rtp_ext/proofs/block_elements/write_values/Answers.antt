@@ -7,7 +7,7 @@ use Rattle.rtp_ext.specs.Elements.{elements_bytes}
 use Rattle.rtp_ext.specs.WrittenBlock.{written_elements}
 use Rattle.rtp_ext.proofs.FormLemmas.{all_fit}
 use Rattle.rtp_ext.proofs.WrittenBlockLemmas.{IsUnderWay, IsUnderWay-start, IsUnderWay-next, IsUnderWay-step, IsUnderWay-end, length-items}
-use Rattle.rtp_ext.proofs.CursorLemmas.{known_bytes, AreValues_by}
+use Rattle.rtp_ext.proofs.KnownWritingLemmas.{known_bytes, AreValues_by}
 use Rattle.rtp_ext.proofs.KnownItemsLemmas.{chosen_known, written_known, count_known}
 use Rattle.rtp_ext.specs.Elements.{Element, AreElements}
 use Rattle.rtp_ext.proofs.WrittenElementsLemmas.{AreElements-written}

@@ -29,10 +29,10 @@ loop-place-preserved c =
     (HasOtherIdsTo-next c.args.form (ids_of c.args.change) c.args.body.now c.loop-place.body c.write_id.new.body c.loop-place.at c.loop-place.lost c.in-Some.place c.new_id-id.result
     (omega (arith, c.in-Some.ensures.further)) c.loop-place.invariant c.in-Some.ensures.found c.new_id-id.ensures c.write_id.ensures)
 
-pub returns-clause-changed : goal.returns-clause-changed
-returns-clause-changed c =
-    HasOtherIdsTo-end c.args.form (ids_of c.args.change) c.args.body.now c.loop-place.body c.loop-place.at c.loop-place.lost c.loop-place.invariant c.in_default.ensures.none
-
-pub returns-clause-lost : goal.returns-clause-lost
-returns-clause-lost c = λ elements are.
-    lost-end c.args.form (ids_of c.args.change) c.args.body.now c.loop-place.body c.loop-place.at c.loop-place.lost elements c.loop-place.invariant c.in_default.ensures.none are
+pub returns : goal.returns
+returns c = record {
+  changed =
+      HasOtherIdsTo-end c.args.form (ids_of c.args.change) c.args.body.now c.loop-place.body c.loop-place.at c.loop-place.lost c.loop-place.invariant c.in_default.ensures.none;
+  lost = λ elements are.
+      lost-end c.args.form (ids_of c.args.change) c.args.body.now c.loop-place.body c.loop-place.at c.loop-place.lost elements c.loop-place.invariant c.in_default.ensures.none are;
+}

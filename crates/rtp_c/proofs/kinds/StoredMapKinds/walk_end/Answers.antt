@@ -1,35 +1,34 @@
 use Rattle.std.specs.Array.{IsFirstChunk}
 use Rattle.std.specs.Option.{MatchOption}
 use Rattle.std.proofs.Common.{◌≡◌, ℕ, List, Bor, Option, subst, ◌+◌, ◌-◌, ◌<◌, ◌≤◌, arith, sym, ap, ◌∙◌, length, take, get_or, rules, drop, inl, inr}
-use Rattle.std.proofs.lemmas.Bool.{cases_lt}
+use Rattle.std.proofs.lemmas.Bool.{cases_lt, OnTrue_at}
 use Rattle.std.proofs.lemmas.List.{get_or-take}
 use Rattle.rtp_ext.specs.ExtensionMap.{items_from}
 use Rattle.rtp_c.specs.StoredMap.{numbered_slots}
-use Rattle.rtp_c.proofs.FewSlotsLemmas.{zeros_in, zeros_past}
+use Rattle.rtp_c.proofs.FewSlotsLemmas.{zeros_in}
 use Rattle.rtp_c.proofs.NumberedLemmas.{numbered-low, numbered-all, numbered-few}
 use Rattle.rtp_c.proofs.WalkLemmas.{last_end-low}
 use Rattle.rtp_c.proofs.kinds.StoredMapKinds.walk_end.Goals as goal
 
 zeros_from : (numbers : List ℕ) (n m l i : ℕ) → m + l ≡ length numbers → n ≤ m
     → ((k : ℕ) → k < length (take (m - n) (drop n numbers)) → get_or (take (m - n) (drop n numbers)) k 0 ≡ 0)
-    → ((k : ℕ) → k < length (take l (drop m numbers)) → get_or (take l (drop m numbers)) k 0 ≡ 0) → n ≤ i → get_or numbers i 0 ≡ 0
+    → ((k : ℕ) → m ≤ k → get_or numbers k 0 ≡ 0) → n ≤ i → get_or numbers i 0 ≡ 0
 zeros_from numbers n m l i all order middle high above = elim (cases_lt i m) [
   | inl here ↦ zeros_in numbers n (m - n) i (omega arith) middle above (omega (arith, here))
-  | inr past ↦ zeros_past numbers m l i all high past
+  | inr past ↦ high i past
 ]
 
 -- one number, and those past it
-zero_and : (numbers : List ℕ) (n l i : ℕ) → n + 1 + l ≡ length numbers → get_or numbers n 0 ≡ 0
-    → ((k : ℕ) → k < length (take l (drop (n + 1) numbers)) → get_or (take l (drop (n + 1) numbers)) k 0 ≡ 0) → n ≤ i → get_or numbers i 0 ≡ 0
-zero_and numbers n l i all one high above = elim (cases_lt n i) [
-  | inl past ↦ zeros_past numbers (n + 1) l i all high (omega (arith, past))
+zero_and : (numbers : List ℕ) (n i : ℕ) → get_or numbers n 0 ≡ 0 → ((k : ℕ) → n + 1 ≤ k → get_or numbers k 0 ≡ 0) → n ≤ i → get_or numbers i 0 ≡ 0
+zero_and numbers n i one high above = elim (cases_lt n i) [
+  | inl past ↦ high i (omega (arith, past))
   | inr here ↦ let same : i ≡ n = omega (arith, here) in ap (λ (k : ℕ). get_or numbers k 0) same ∙ one
 ]
 
 -- the first eight numbers past an index, and those past the eighth
 zeros_after : (numbers first : List ℕ) (end i : ℕ) → 256 ≡ length numbers → first ≡ take 8 numbers → ((k : ℕ) → end < k → k < 8 → get_or first k 0 ≡ 0)
     → ((k : ℕ) → k < length (take 8 (drop 8 numbers)) → get_or (take 8 (drop 8 numbers)) k 0 ≡ 0)
-    → ((k : ℕ) → k < length (take 240 (drop 16 numbers)) → get_or (take 240 (drop 16 numbers)) k 0 ≡ 0) → end < i → get_or numbers i 0 ≡ 0
+    → ((k : ℕ) → 16 ≤ k → get_or numbers k 0 ≡ 0) → end < i → get_or numbers i 0 ≡ 0
 zeros_after numbers first end i all first_is few middle high past = elim (cases_lt i 8) [
   | inl here ↦ sym (get_or-take 8 numbers i 0 here) ∙ ap (λ (ns : List ℕ). get_or ns i 0) (sym first_is) ∙ few i past here
   | inr there ↦ zeros_from numbers 8 16 240 i all (omega arith) middle high (omega (arith, there))
@@ -44,13 +43,13 @@ returns-then-is_few-clause-all c =
     ap (λ (end : ℕ). items_from 0 (take end (numbered_slots numbers))) (last_end-low c.last_of_few.result (omega (arith, c.last_of_few.ensures.few)))
     ∙ numbered-low numbers c.last_of_few.result (λ i above.
     zeros_after numbers c.unwrap.result.now c.last_of_few.result i (sym many) first.same
-    c.last_of_few.ensures.zeros (c.are_zeros-is_few.ensures.0 c.if-is_few.true) (c.are_zeros-is_low.ensures.0 c.if-is_low.true) (omega (arith, above)))
+    c.last_of_few.ensures.zeros (c.are_zeros-is_few.ensures.0 c.if-is_few.true) (OnTrue_at c.if-is_low.true c.has_low_ids_alone-is_low.ensures) (omega (arith, above)))
 
 pub returns-then-self-eq0-clause-all : goal.returns-then-self-eq0-clause-all
 returns-then-self-eq0-clause-all c =
     let numbers = c.args.self.now.kind in
     let many : length numbers ≡ 256 = search rules in
-    numbered-low numbers 14 (λ i above. zero_and numbers 15 240 i (sym many) (omega (arith, c.if-self-eq0.true)) (c.are_zeros-is_low.ensures.0 c.if-is_low.true) above)
+    numbered-low numbers 14 (λ i above. zero_and numbers 15 i (omega (arith, c.if-self-eq0.true)) (OnTrue_at c.if-is_low.true c.has_low_ids_alone-is_low.ensures) above)
 
 pub returns-else-self-eq0-clause-all : goal.returns-else-self-eq0-clause-all
 returns-else-self-eq0-clause-all c = let many : length c.args.self.now.kind ≡ 256 = search rules in numbered-all c.args.self.now.kind many

@@ -6,7 +6,7 @@ use Rattle.rtp_ext.proofs.map.ExtensionMap.cloned_with_type.Goals as goal
 pub loop-id-init : goal.loop-id-init
 loop-id-init c =
     IsOfMediumBut-start c.args.audio c.args.self.now _ _
-    (subst (spec.IsListing c.args.self.now (spec.is_of_medium c.args.audio)) (sym c.into_iter-id-iterator.ensures.into_iter_gives) c.iter_by_media_type-id-items.ensures)
+    (subst (spec.ListsItems c.args.self.now (spec.is_of_medium c.args.audio)) (sym c.into_iter-id-iterator.ensures.into_iter_gives) c.iter_by_media_type-id-items.ensures)
     c.empty-exts.ensures
 
 pub loop-id-preserved-in-Some-known_kind : goal.loop-id-preserved-in-Some-known_kind

@@ -3,7 +3,7 @@ use Rattle.std.specs.List.{AllByRecursion}
 use Rattle.rtp_ext.specs.ExtensionMap as spec
 use Rattle.rtp_ext.specs.ExtensionMap.{items_from}
 use Rattle.rtp_ext.specs.MapSlots.{items_at, IsMapped}
-use Rattle.rtp_ext.proofs.ListingLemmas.{IsListing-from_slots}
+use Rattle.rtp_ext.proofs.ListingLemmas.{ListsItems-from_slots}
 use Rattle.rtp_ext.proofs.MappedIdLemmas.{items_at-mapped, all_mapped}
 use Rattle.rtp_ext.proofs.map.ExtensionMap.iter.Goals as goal
 
@@ -20,4 +20,4 @@ pub returns-clause-items : goal.returns-clause-items
 returns-clause-items c = items c
 
 pub returns-clause-listing : goal.returns-clause-listing
-returns-clause-listing c = subst (spec.IsListing c.args.self.now (λ _. true)) (sym (items c)) (IsListing-from_slots c.args.self.now)
+returns-clause-listing c = subst (spec.ListsItems c.args.self.now (λ _. true)) (sym (items c)) (ListsItems-from_slots c.args.self.now)

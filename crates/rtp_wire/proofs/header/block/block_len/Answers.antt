@@ -5,7 +5,7 @@ use Rattle.rtp_ext.specs.KindsById.{known_slots}
 use Rattle.rtp_ext.specs.WrittenBlock.{written_elements}
 use Rattle.rtp_ext.specs.ElementWriting.{items_bytes}
 use Rattle.rtp_ext.proofs.WrittenBlockLemmas.{items_bytes-nil}
-use Rattle.rtp_ext.proofs.CursorLemmas.{known_bytes}
+use Rattle.rtp_ext.proofs.KnownWritingLemmas.{known_bytes}
 use Rattle.rtp_wire.proofs.BlockWriting.{length-block}
 use Rattle.rtp_wire.proofs.header.block.block_len.Goals as goal
 

@@ -1,7 +1,7 @@
 use Rattle.std.proofs.Common.{rules, ap, Some}
 use Rattle.rtp_wire.specs.PartsOf.{parts_of}
 use Rattle.rtp_ext.proofs.MemoryLemmas.{OnErr-from}
-use Rattle.rtp_wire.proofs.HeaderLemmas.{no_header, IsRead, IsRead-packet, IsHeaderOf-read}
+use Rattle.rtp_wire.proofs.HeaderLemmas.{no_header, IsRead, IsRead-packet}
 use Rattle.rtp_wire.proofs.header.rtp_header.RtpHeader.parse.Goals as goal
 use Rattle.rtp_wire.proofs.header.rtp_header.RtpHeader.parse.Goals.{in_default-via-in-Ok+else-read, in_default-via-in_default}
 
@@ -11,36 +11,28 @@ returns-in_default-clause-only g c header wire = elim c.in_default.branch [
   | in_default-via-in_default w ↦ absurd (no_header (g.K.Kinds.slots c.args.exts.now) c.args.buf.now header (c.read.ensures.none.0 (search rules)) wire)
 ]
 
-pub returns-in_err-read_values-clause-memory : goal.returns-in_err-read_values-clause-memory
-returns-in_err-read_values-clause-memory g c = OnErr-from c.from_residual.result _ (record {
+pub returns-in_err-put_header-clause-memory : goal.returns-in_err-put_header-clause-memory
+returns-in_err-put_header-clause-memory g c = OnErr-from c.from_residual.result _ (record {
   parts = parts_of c.in-Ok-default-true.packet;
   is_packet = c.in-Ok-default-true.ensures.found;
-  has_allocation = c.in_err-read_values.ensures.memory;
+  has_allocation = c.in_err-put_header.ensures.memory;
 })
 
-pub returns-in_err-read_values-clause-succeeds : goal.returns-in_err-read_values-clause-succeeds
-returns-in_err-read_values-clause-succeeds g c none = absurd (none (record {
+pub returns-in_err-put_header-clause-succeeds : goal.returns-in_err-put_header-clause-succeeds
+returns-in_err-put_header-clause-succeeds g c none = absurd (none (record {
   parts = parts_of c.in-Ok-default-true.packet;
   is_packet = c.in-Ok-default-true.ensures.found;
-  has_allocation = c.in_err-read_values.ensures.memory;
+  has_allocation = c.in_err-put_header.ensures.memory;
 }))
 
 -- the header is that of the bytes
-read : (g : _) (c : goal.In_ok-read_values g) → IsRead (g.K.Kinds.slots c.args.exts.now) c.args.buf.now (record c.put_fields.new.header { ext_vals = c.read_values.new.values })
+read : (g : _) (c : goal.In_ok-put_header g) → IsRead (g.K.Kinds.slots c.args.exts.now) c.args.buf.now c.put_header.new.header
 read g c =
-    let exts = g.K.Kinds.slots c.args.exts.now in
-    let parts = parts_of c.in-Ok-default-true.packet in
-    IsRead-packet exts c.args.buf.now parts _ c.in-Ok-default-true.ensures.found (c.in-Ok-default-true.ensures.header c.in-Ok-default-true.field-0-1-test)
-    (IsHeaderOf-read exts parts _ c.read_values.new.values _ c.put_fields.ensures c.in_ok-read_values.ensures.found)
+    IsRead-packet (g.K.Kinds.slots c.args.exts.now) c.args.buf.now (parts_of c.in-Ok-default-true.packet) _ c.in-Ok-default-true.ensures.found
+    (c.in-Ok-default-true.ensures.header c.in-Ok-default-true.field-0-1-test) c.in_ok-put_header.ensures.found
 
 pub returns-clause-found : goal.returns-clause-found
-returns-clause-found g c = record {
-  parts = parts_of c.in-Ok-default-true.packet;
-  is_packet = c.in-Ok-default-true.ensures.found;
-  no_other = c.in-Ok-default-true.ensures.header c.in-Ok-default-true.field-0-1-test;
-  is_header = IsHeaderOf-read (g.K.Kinds.slots c.args.exts.now) (parts_of c.in-Ok-default-true.packet) _ c.read_values.new.values _ c.put_fields.ensures
-      c.in_ok-read_values.ensures.found;
-}
+returns-clause-found g c = (read g c).wire
 
 pub returns-clause-only : goal.returns-clause-only
 returns-clause-only g c header is = ap Some ((read g c).only header is)

@@ -1,7 +1,7 @@
 use Rattle.std.proofs.Common.{arith, subst}
 use Rattle.rtp_wire.specs.NotAPacket.{IsFirstCause}
 use Rattle.rtp_wire.specs.PartsOf.{parts_of}
-use Rattle.rtp_wire.proofs.NoHeaderLemmas.{NotAHeader-parted, block_header-there, told_of_packet}
+use Rattle.rtp_wire.proofs.NoHeaderLemmas.{HasNoHeader-parted, block_header-there, told_of_packet}
 use Rattle.rtp_wire.proofs.header.rtp_header.RtpHeader.refusal.Goals as goal
 
 pub has_unknown_form-requires-clause-header : goal.has_unknown_form-requires-clause-header
@@ -16,4 +16,4 @@ returns-in-Ok-clause-refused c =
     (told_of_packet c.args.buf.now (parts_of c.in-Ok.packet) c.has_other_form.result c.then_some.result c.in-Ok.ensures.found c.has_other_form.ensures c.then_some.ensures).1
 
 pub returns-in-Ok-clause-either : goal.returns-in-Ok-clause-either
-returns-in-Ok-clause-either c = NotAHeader-parted c.args.buf.now (omega (arith, c.type_inv.buf 1))
+returns-in-Ok-clause-either c = HasNoHeader-parted c.args.buf.now (omega (arith, c.type_inv.buf 1))

@@ -1,0 +1,27 @@
+-- What a map writes is what its known extensions do.
+use Rattle.std.proofs.Common.{◌≡◌, List, ap, ◌∙◌, subst}
+use Rattle.rtp_ext.specs.ExtensionMap.{Slots, items_from}
+use Rattle.rtp_ext.specs.KindsById.{known_slots}
+use Rattle.rtp_ext.specs.Elements.{Element, elements_bytes}
+use Rattle.rtp_ext.specs.ElementWriting.{items_bytes}
+use Rattle.rtp_ext.specs.WrittenBlock.{written_elements, image_values}
+use Rattle.rtp_ext.specs.BlockValues.{AreValues}
+use Rattle.rtp_values.specs.Values.{no_values}
+use Rattle.rtp_ext.specs.declared.form.ExtensionsForm.{ExtensionsForm}
+use Rattle.rtp_values.specs.declared.value.values.ExtensionValues.{ExtensionValues}
+use Rattle.rtp_ext.proofs.WrittenBlockLemmas.{items_bytes-written}
+use Rattle.rtp_ext.proofs.KnownItemsLemmas.{written_known, image_known}
+use Rattle.rtp_ext.proofs.KindsByIdLemmas.{AreValues-known}
+
+pub known_bytes : (form : ExtensionsForm) (exts known : Slots) (values : ExtensionValues) → known ≡ known_slots exts
+    → items_bytes form values (items_from 0 known) ≡ elements_bytes form (written_elements exts values)
+known_bytes form exts known values is =
+    items_bytes-written form known values ∙ ap (λ (elements : List Element). elements_bytes form elements) (written_known exts known values is)
+
+pub AreValues_by : (exts known : Slots) (values : ExtensionValues) → known ≡ known_slots exts
+    → AreValues known (written_elements known values) no_values (image_values known values)
+    → AreValues exts (written_elements exts values) no_values (image_values exts values)
+AreValues_by exts known values is are =
+    subst (λ (elements : List Element). AreValues exts elements no_values (image_values exts values)) (written_known exts known values is)
+    (subst (λ (image : ExtensionValues). AreValues exts (written_elements known values) no_values image) (image_known exts known values is)
+    (AreValues-known exts known (written_elements known values) no_values (image_values known values) is are))

@@ -1,0 +1,85 @@
+use Rattle.std.proofs.Common.{◌≡◌, ◌-◌, ◌≤◌, ℕ, List, length, take, replicate, arith, sym, ap, ◌∙◌, subst}
+use Rattle.rtp_ext.specs.declared.form.ExtensionsForm.{ExtensionsForm}
+use Rattle.rtp_ext.proofs.SameFormLemmas.{same_form, other_form}
+use Rattle.rtp_ext.specs.Elements.{Element, AreElements}
+use Rattle.rtp_ext.specs.ElementsInARow.{IsWritable}
+use Rattle.rtp_base.specs.Overwriting.{overwritten}
+use Rattle.rtp_ext.specs.PutElement.{put_element, carried_in, row_to}
+use Rattle.rtp_ext.proofs.PutLengthLemmas.{row_to-read}
+use Rattle.rtp_ext.proofs.AroundLemmas.{IsSplit-surveyed}
+use Rattle.rtp_ext.proofs.AnewLemmas.{room_between, row_between, len_between, narrow_rows, wide_rows, forms_differ, row_to-zeros, IsRow, row_from}
+use Rattle.rtp_ext.proofs.new_body.put_anew.Goals as goal
+use Rattle.rtp_ext.proofs.new_body.put_anew.Goals.{Joined-eq, then-eq, else-eq}
+
+pub put_between-len-requires-clause-room : goal.put_between-len-requires-clause-room
+put_between-len-requires-clause-room c =
+    let s = c.requires.survey in
+    room_between c.args.form c.args.new_form c.args.body.now c.put_in_rows-front.new.body c.args.body_len c.args.id c.around-start.result.0 c.around-start.result.1
+    c.put_in_rows-front.result.0 c.put_in_rows-front.result.1 c.args.data.now c.requires.within (IsSplit-surveyed c.args.form (take c.args.body_len c.args.body.now) c.args.id c.args.survey.now c.around-start.result.0 c.around-start.result.1 c.requires.survey c.around-start.ensures.some c.around-start.ensures.none) c.put_in_rows-front.ensures c.requires.writable
+    s.elements s.are_elements (c.requires.room s.elements s.are_elements) (same_form c.args.new_form c.args.form (sym c.eq.ensures ∙ c.if-eq.true))
+
+pub put_widened-len-requires-clause-rows : goal.put_widened-len-requires-clause-rows
+put_widened-len-requires-clause-rows c =
+    let s = c.requires.survey in
+    let forms = forms_differ c.args.form c.args.new_form c.requires.forms (other_form c.args.new_form c.args.form (sym c.eq.ensures ∙ c.if-eq.false)) in
+    narrow_rows c.args.form c.args.new_form c.args.body.now c.put_in_rows-front.new.body c.args.body_len c.args.id c.around-start.result.0 c.around-start.result.1
+    c.put_in_rows-front.result.0 c.put_in_rows-front.result.1 c.args.data.now c.requires.within (IsSplit-surveyed c.args.form (take c.args.body_len c.args.body.now) c.args.id c.args.survey.now c.around-start.result.0 c.around-start.result.1 c.requires.survey c.around-start.ensures.some c.around-start.ensures.none) c.put_in_rows-front.ensures c.requires.writable
+    s.elements s.are_elements (c.requires.room s.elements s.are_elements) forms.0 forms.1
+
+pub put_widened-len-requires-clause-writable : goal.put_widened-len-requires-clause-writable
+put_widened-len-requires-clause-writable c =
+    let forms = forms_differ c.args.form c.args.new_form c.requires.forms (other_form c.args.new_form c.args.form (sym c.eq.ensures ∙ c.if-eq.false)) in
+    subst (λ (f : ExtensionsForm). IsWritable f (c.args.id, c.args.data.now)) forms.1 c.requires.writable
+
+-- the row, in either case
+row_len : (c : goal.Joined-eq) (elements : List Element) → AreElements c.args.form (take c.args.body_len c.args.body.now) elements
+    → IsRow c.args.new_form (put_element (c.args.id, c.args.data.now) (carried_in c.args.new_form elements)) c.if-eq.body c.if-eq.len
+row_len c elements are =
+    let room = c.requires.room elements are in
+    elim c.if-eq.branch [
+      | then-eq w ↦
+          let same = same_form c.args.new_form c.args.form (sym c.eq.ensures ∙ w.if-eq.true) in
+          row_from c.args.new_form _ c.if-eq.body w.put_between-len.new.body c.if-eq.len w.put_between-len.result w.body-is w.len-is
+          (w.put_between-len.ensures.row ∙ row_between c.args.form c.args.new_form c.args.body.now c.put_in_rows-front.new.body c.args.body_len c.args.id c.around-start.result.0 c.around-start.result.1
+          c.put_in_rows-front.result.0 c.put_in_rows-front.result.1 c.args.data.now c.requires.within (IsSplit-surveyed c.args.form (take c.args.body_len c.args.body.now) c.args.id c.args.survey.now c.around-start.result.0 c.around-start.result.1 c.requires.survey c.around-start.ensures.some c.around-start.ensures.none) c.put_in_rows-front.ensures c.requires.writable elements are room same)
+          (w.put_between-len.ensures.end ∙ len_between c.args.form c.args.new_form c.args.body.now c.put_in_rows-front.new.body c.args.body_len c.args.id c.around-start.result.0 c.around-start.result.1
+          c.put_in_rows-front.result.0 c.put_in_rows-front.result.1 c.args.data.now c.requires.within (IsSplit-surveyed c.args.form (take c.args.body_len c.args.body.now) c.args.id c.args.survey.now c.around-start.result.0 c.around-start.result.1 c.requires.survey c.around-start.ensures.some c.around-start.ensures.none) c.put_in_rows-front.ensures c.requires.writable elements are room same)
+      | else-eq w ↦
+          let forms = forms_differ c.args.form c.args.new_form c.requires.forms (other_form c.args.new_form c.args.form (sym c.eq.ensures ∙ w.if-eq.false)) in
+          let rows = narrow_rows c.args.form c.args.new_form c.args.body.now c.put_in_rows-front.new.body c.args.body_len c.args.id c.around-start.result.0 c.around-start.result.1
+          c.put_in_rows-front.result.0 c.put_in_rows-front.result.1 c.args.data.now c.requires.within (IsSplit-surveyed c.args.form (take c.args.body_len c.args.body.now) c.args.id c.args.survey.now c.around-start.result.0 c.around-start.result.1 c.requires.survey c.around-start.ensures.some c.around-start.ensures.none) c.put_in_rows-front.ensures c.requires.writable elements are room forms.0 forms.1 in
+          let wide = wide_rows c.args.form c.args.new_form c.args.body.now c.put_in_rows-front.new.body c.args.body_len c.args.id c.around-start.result.0 c.around-start.result.1
+          c.put_in_rows-front.result.0 c.put_in_rows-front.result.1 c.args.data.now c.requires.within (IsSplit-surveyed c.args.form (take c.args.body_len c.args.body.now) c.args.id c.args.survey.now c.around-start.result.0 c.around-start.result.1 c.requires.survey c.around-start.ensures.some c.around-start.ensures.none) c.put_in_rows-front.ensures c.requires.writable elements are room forms.0 forms.1 in
+          row_from c.args.new_form _ c.if-eq.body w.put_widened-len.new.body c.if-eq.len w.put_widened-len.result w.body-is w.len-is
+          (w.put_widened-len.ensures.row rows ∙ wide)
+          (w.put_widened-len.ensures.end rows ∙ ap length wide)
+    ]
+
+fits : (c : goal.Joined-eq) → c.if-eq.len ≤ length c.if-eq.body
+fits c =
+    let s = c.requires.survey in
+    let row = row_len c s.elements s.are_elements in
+    omega (arith, row.len_is, c.requires.room s.elements s.are_elements, c.if-eq.auto.body, c.put_in_rows-front.ensures.length_is)
+
+pub clear_after-requires : goal.clear_after-requires
+clear_after-requires c = let f = fits (goal.at.clear_after-requires c).Joined-eq in omega arith
+
+written : (c : goal.Joined-eq) (new : List ℕ) → new ≡ overwritten c.if-eq.body c.if-eq.len (replicate (length c.if-eq.body - c.if-eq.len) 0)
+    → (elements : List Element) → AreElements c.args.form (take c.args.body_len c.args.body.now) elements
+    → new ≡ row_to c.args.new_form (put_element (c.args.id, c.args.data.now) (carried_in c.args.new_form elements)) (length c.args.body.now)
+written c new new_is elements are =
+    let row = row_len c elements are in
+    let f = fits c in
+    let long : length c.if-eq.body ≡ length c.args.body.now = c.if-eq.auto.body ∙ c.put_in_rows-front.ensures.length_is in
+    new_is
+    ∙ row_to-zeros c.args.new_form (put_element (c.args.id, c.args.data.now) (carried_in c.args.new_form elements)) c.if-eq.body c.if-eq.len (length c.args.body.now) long
+    row.row_is row.len_is (omega arith)
+
+pub returns-clause-row : goal.returns-clause-row
+returns-clause-row c = λ elements are. written (goal.at.returns-clause-row c).Joined-eq c.clear_after.new.buf c.clear_after.ensures elements are
+
+pub returns-clause-elements : goal.returns-clause-elements
+returns-clause-elements c = λ elements are.
+    subst (λ (b : List ℕ). AreElements c.args.new_form b (put_element (c.args.id, c.args.data.now) (carried_in c.args.new_form elements)))
+    (sym (written (goal.at.returns-clause-elements c).Joined-eq c.clear_after.new.buf c.clear_after.ensures elements are))
+    (row_to-read c.args.form c.args.new_form (take c.args.body_len c.args.body.now) elements (c.args.id, c.args.data.now) (length c.args.body.now) c.requires.forms are c.requires.writable)

@@ -1,0 +1,19 @@
+use Rattle.std.proofs.Common.{ℕ, None, subst}
+use Rattle.rtp_ext.specs.BodySurvey.{IsSurveyedTo}
+use Rattle.rtp_ext.proofs.SurveyLemmas.{IsSurveyedTo-start, IsSurvey-end}
+use Rattle.rtp_ext.proofs.LeftLemmas.{none_passed, IsLeft-all}
+use Rattle.rtp_ext.proofs.survey.survey_in.Goals as goal
+
+pub loop-place-init : goal.loop-place-init
+loop-place-init c = (
+  IsLeft-all c.args.body.now,
+  subst (λ (at : ℕ). IsSurveyedTo c.args.form c.args.body.now at c.args.id None 0 0) (none_passed c.args.body.now) (IsSurveyedTo-start c.args.form c.args.body.now c.args.id),
+)
+
+pub loop-place-preserved : goal.loop-place-preserved
+loop-place-preserved c = (c.in-Some.ensures.left, c.in-Some.ensures.some c.loop-place.last c.loop-place.count c.loop-place.invariant.1)
+
+pub returns : goal.returns
+returns c =
+    IsSurvey-end c.args.form c.args.body.now _ c.args.id c.loop-place.last c.loop-place.count c.next_of.new.self.others_len
+    (c.in_default.ensures.none c.loop-place.last c.loop-place.count c.loop-place.invariant.1) c.in_default.ensures.end

@@ -1,0 +1,71 @@
+//! The elements of a body without those of an id, in a row at its front.
+
+ghost use Rattle.std.specs.Prelude.{◌≤◌, length};
+ghost use Rattle.rtp_ext.specs.BodySurvey.{IsGathered, HasRows, IsTakenOut};
+
+use super::ExtensionsForm;
+use super::place::next_place;
+use super::raw_writing::clear_after;
+
+// Puts the elements of other ids in a row at the front, in order, and returns how many bytes they
+// take.
+fn gather(form: ExtensionsForm, body: &mut [u8], id: u8) -> usize
+    ensures { IsGathered form id body.old body.new result }
+{
+    match form {
+        ExtensionsForm::OneByte => gather_in(ExtensionsForm::OneByte, body, id),
+        ExtensionsForm::TwoByte => gather_in(ExtensionsForm::TwoByte, body, id),
+    }
+}
+
+// The same. It is inlined, so that each form has a loop of its own.
+#[inline(always)]
+fn gather_in(form: ExtensionsForm, body: &mut [u8], id: u8) -> usize
+    ensures { IsGathered form id body.old body.new result }
+{
+    let mut len = 0;
+    let mut at = 0;
+    while let Some(place) = next_place(form, body, at) {
+        at = place.end;
+        if place.id == id {
+            continue;
+        }
+        if len < place.start {
+            body.copy_within(place.start..place.end, len);
+        }
+        len += place.end - place.start;
+    }
+    len
+}
+
+// Puts the elements of other ids before an offset in a row at the front, and those between two
+// further offsets in a row from the first of these on. Returns how many bytes they take, there and
+// there. It stays out of line, since the elements of most blocks stand in a row.
+#[inline(never)]
+pub(super) fn gather_around(
+    form: ExtensionsForm,
+    body: &mut [u8],
+    start: usize,
+    end: usize,
+    body_len: usize,
+    id: u8,
+) -> (usize, usize)
+    requires order { start ≤ end }
+    requires after { end ≤ body_len }
+    requires within { body_len ≤ length body.old }
+    ensures { HasRows form id body.old body.new start end body_len result.0 result.1 }
+{
+    let front = gather(form, &mut body[..start], id);
+    let count = gather(form, &mut body[end..body_len], id);
+    (front, count)
+}
+
+/// Makes a body anew without the elements of the id (RFC 8285, 4.2 and 4.3): the others in a row,
+/// and zeros to its end. Returns how many bytes the row takes.
+pub fn take_out(form: ExtensionsForm, body: &mut [u8], id: u8) -> usize
+    ensures { IsTakenOut form id body.old body.new result }
+{
+    let len = gather(form, body, id);
+    clear_after(body, len);
+    len
+}
