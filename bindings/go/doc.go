@@ -6,7 +6,7 @@
 // what its contract says. Its assembly text is in this package, which go build builds by cgo and a C compiler,
 // for Linux on x86-64 and ARM. The Go code around it isn't proved: it is tested.
 //
-// A call of the library costs some 70 nanoseconds more than one of Go. So there is one call for a whole packet:
+// A call of the library takes 100 nanoseconds and more, by the machine. So there is one call for a whole packet:
 // [Packet.Parse] reads all fields, values and places, and [Receiver.ReceivePacket] judges the packet too.
 // What is a look at these needs no call: the fields, the values, [Packet.Payload], [Header.CSRC].
 //

@@ -266,7 +266,8 @@ class Packet:
 
     @property
     def values(self) -> Values:
-        """What the elements say under the map that the packet was parsed with; nothing without a map."""
+        """What the elements say under the map that the packet was parsed with; without a map each field is
+        None."""
         if self._values is None:
             self._values = values_of(self._raw.values)
         return self._values
