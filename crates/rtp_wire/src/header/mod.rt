@@ -8,5 +8,6 @@ mod rtp_header;
 mod writing;
 mod writing_values;
 
+pub(crate) use block::in_words;
 pub use not_a_header::NotAHeader;
 pub use rtp_header::RtpHeader;
