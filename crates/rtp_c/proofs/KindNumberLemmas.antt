@@ -79,6 +79,16 @@ numbered_is number = of_found (kind_numbered number) refl
     of_found None none = λ kind is. let wrong : None ≡ Some kind = sym none ∙ ap kind_numbered (sym is) ∙ number_of_kind kind in cc
     of_found (Some kind) some = eqb-true (kind_number kind) number (numbered_passes _ all_numbered number kind some)
 
+-- the numbers of the kinds are 1 to 15
+all_low : all_pass (λ number kind. nat_le 1 number && nat_le number 15) 0 numbered_kinds ≡ true
+unfolding all_pass
+all_low = refl
+
+pub kind_low : (number : ℕ) (kind : KnownKind) → kind_numbered number ≡ Some kind → (1 ≤ number) × (number ≤ 15)
+kind_low number kind is =
+    let parts = and_parts _ _ (numbered_passes _ all_low number kind is) in
+    (leb-true 1 number parts.0, leb-true number 15 parts.1)
+
 -- each URI is a text of ASCII
 all_ascii : List ℕ → Bool
 all_ascii [] = true

@@ -8,7 +8,7 @@ ghost use Rattle.rtp_c.specs.ElementData.{IsNothingAskedFor, HasNoData, AreWritt
 ghost use Rattle.rtp_c.specs.Status.{ok, short_buffer, bad_field, none};
 
 use super::given::put_given_values;
-use super::numbers::{is_named, kind_numbered};
+use super::numbers::named;
 use super::status::{BAD_FIELD, NONE, OK, SHORT_BUFFER};
 use super::values::ValuesView;
 use rtp_values::{ExtensionValues, KnownKind};
@@ -47,24 +47,24 @@ pub extern "C" fn rtpw_data_of(
         ⊎ (result ≡ bad_field))) }
     ensures unchanged { result ≢ ok → (buf.new ≡ buf.old) × (len.new ≡ len.old) }
 {
-    if !is_named(kind) {
+    let Some(known) = named(kind) else {
         return BAD_FIELD;
-    }
+    };
     let mut unfreed = ManuallyDrop::new(ExtensionValues::default());
     let given = &mut *unfreed;
     let Some(()) = put_given_values(values, given) else {
         return BAD_FIELD;
     };
-    let Some(known) = kind_numbered(kind) else {
+    let Some(kind) = known else {
         return NONE;
     };
-    let Some(data_len) = len_of(known, given) else {
+    let Some(data_len) = len_of(kind, given) else {
         return NONE;
     };
     if buf.len() < data_len {
         return SHORT_BUFFER;
     }
-    known.write_to(buf, given);
+    kind.write_to(buf, given);
     *len = data_len;
     OK
 }

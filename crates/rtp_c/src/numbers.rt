@@ -49,6 +49,21 @@ pub fn kind_numbered(number: u8) -> Option<KnownKind>
     }
 }
 
+// The kind that the number names, `Some(None)` where it is one of the caller's own, and `None` where it
+// names nothing.
+#[inline(always)]
+#[tactic(auto, using(crate::proofs::KindNumberLemmas::kind_low))]
+pub fn named(number: u8) -> Option<Option<KnownKind>>
+    ensures named { IfSome result (λ kind. IsNamed number × (kind ≡ kind_numbered number)) }
+    ensures none { IfNone result (IsNamed number → ⊥) }
+{
+    match kind_numbered(number) {
+        Some(kind) => Some(Some(kind)),
+        None if is_named(number) => Some(None),
+        None => None,
+    }
+}
+
 // The number of the kind.
 pub fn number_of(kind: KnownKind) -> u8
     ensures { result ≡ kind_number kind }
