@@ -49,8 +49,8 @@ fn fill_word(buf: &mut [u8], at: usize, count: usize) -> usize
 
 // So many bytes, with the zeros that fill their last word.
 #[inline(always)]
-fn in_words(len: usize) -> usize
-    requires { len ≤ 262140 }
+pub(crate) fn in_words(len: usize) -> usize
+    requires { len ≤ 1048576 }
     ensures { result ≡ whole_words len }
 {
     (len + 3) / 4 * 4
@@ -72,8 +72,12 @@ pub(super) fn block_len<K: Kinds, V: ElementValues>(
     BLOCK_HEADER_LEN + in_words(values_len(ids, ev, form))
 }
 
+// How many bytes a block of the longest layer allocation alone has at least.
+const LAYERS_LEN: usize = BLOCK_HEADER_LEN + 257;
+
 // Whether the block that `write_block` writes has room. Most buffers have it whatever the values
-// are, so that no length is asked for.
+// are, so that no length is asked for. Where layers may be written, those that are too short for the
+// longest ones aren't such.
 #[inline(always)]
 pub(super) fn block_fits<K: Kinds, V: ElementValues>(
     ids: &KnownIds<'_, K>,
@@ -86,7 +90,11 @@ pub(super) fn block_fits<K: Kinds, V: ElementValues>(
     ensures { IsTrue result
         ↔ (length (block_bytes_in form ids.now (V.values ev.now)) ≤ room) }
 {
-    if BLOCK_HEADER_LEN + in_words(values_len_at_most(ids, ev, form)) <= room {
+    let may_be_long = form == ExtensionsForm::TwoByte && ev.may_have_layers();
+    // At most three zeros fill the last word.
+    if !(may_be_long && room < LAYERS_LEN)
+        && BLOCK_HEADER_LEN + values_len_at_most(ids, ev, form) + 3 <= room
+    {
         return true;
     }
     block_len(ids, ev, form) <= room

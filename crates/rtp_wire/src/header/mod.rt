@@ -9,5 +9,6 @@ mod sequence_number;
 mod writing;
 mod writing_values;
 
+pub(crate) use block::in_words;
 pub use not_a_header::NotAHeader;
 pub use rtp_header::RtpHeader;

@@ -13,6 +13,7 @@ ghost use Rattle.rtp_wire.specs.PutIntoPacket.{IsSetInPlace, PutsElement, Applie
 
 use super::rtp_packet::sources_end;
 use super::{NotPut, RtpPacket};
+use crate::header::in_words;
 use rtp_base::put;
 use rtp_ext::{ExtensionsForm, Survey, form_to_put, put_anew, put_len, set_sole, survey_of};
 
@@ -112,7 +113,7 @@ impl Plan {
     {
         let body = &datagram[self.payload_at - self.body_len..self.payload_at];
         let elements_len = put_len(self.form, self.new_form, body, &self.survey, id, data);
-        elements_len.next_multiple_of(4).max(self.body_len)
+        in_words(elements_len).max(self.body_len)
     }
 
     // Makes the block of the packet in the first bytes of the buffer anew, with the element in it, and a body

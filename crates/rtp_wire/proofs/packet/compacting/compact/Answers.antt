@@ -1,6 +1,7 @@
-use Rattle.std.proofs.Common.{◌+◌, ◌≤◌, length, arith, rules, sym, ◌∙◌}
+use Rattle.std.proofs.Common.{◌+◌, ◌≤◌, length, arith, rules, refl, sym, ◌∙◌}
+use Rattle.rtp_ext.specs.WrittenBlock.{whole_words}
 use Rattle.rtp_wire.specs.PartsOf.{parts_of}
-use Rattle.rtp_wire.proofs.PutPlanLemmas.{short-body}
+use Rattle.rtp_wire.proofs.PutPlanLemmas.{short-body, words-low, words-high, words-whole}
 use Rattle.rtp_wire.proofs.SetInPlaceLemmas.{body-ends}
 use Rattle.rtp_wire.proofs.CompactLemmas.{n-within, room, length-moved, Compacts-made, Compacts-nothing}
 use Rattle.rtp_wire.proofs.packet.compacting.compact.Goals as goal
@@ -26,8 +27,19 @@ resize-requires-clause-order c =
 pub resize-requires-clause-room : goal.resize-requires-clause-room
 resize-requires-clause-room c =
     room c.args.datagram.now (parts_of c.in_ok-packet.packet) c.in_ok-packet.ensures.found c.in-Some.form (sym c.form-form.ensures ∙ c.in-Some.is)
-    c.sources_end-block_at.result c.header_len-payload_at.result c.sources_end-block_at.ensures c.header_len-payload_at.ensures c.id_of_none.result c.take_out-elements_len.result c.next_multiple_of-body_len.result
-    c.id_of_none.ensures c.take_out-elements_len.new.body c.take_out-elements_len.ensures c.next_multiple_of-body_len.ensures.lower_bound c.next_multiple_of-body_len.ensures.upper_bound c.next_multiple_of-body_len.ensures.multiple
+    c.sources_end-block_at.result c.header_len-payload_at.result c.sources_end-block_at.ensures c.header_len-payload_at.ensures c.id_of_none.result c.take_out-elements_len.result c.in_words-body_len.result
+    c.id_of_none.ensures c.take_out-elements_len.new.body c.take_out-elements_len.ensures (words-low _ _ c.in_words-body_len.ensures) (words-high _ _ c.in_words-body_len.ensures) (words-whole _ _ c.in_words-body_len.ensures)
+
+pub in_words-body_len-requires : goal.in_words-body_len-requires
+in_words-body_len-requires c =
+    omega (
+      arith,
+      words-low c.take_out-elements_len.result _ refl,
+      short-body c.in_ok-packet.packet,
+      n-within c.args.datagram.now (parts_of c.in_ok-packet.packet) c.in_ok-packet.ensures.found c.in-Some.form (sym c.form-form.ensures ∙ c.in-Some.is)
+          c.sources_end-block_at.result c.header_len-payload_at.result c.sources_end-block_at.ensures c.header_len-payload_at.ensures c.id_of_none.result c.take_out-elements_len.result (whole_words c.take_out-elements_len.result)
+          c.id_of_none.ensures c.take_out-elements_len.new.body c.take_out-elements_len.ensures (words-low _ _ refl) (words-high _ _ refl) (words-whole _ _ refl),
+    )
 
 pub resize-requires-clause-few : goal.resize-requires-clause-few
 resize-requires-clause-few c =
@@ -35,8 +47,8 @@ resize-requires-clause-few c =
       arith,
       short-body c.in_ok-packet.packet,
       n-within c.args.datagram.now (parts_of c.in_ok-packet.packet) c.in_ok-packet.ensures.found c.in-Some.form (sym c.form-form.ensures ∙ c.in-Some.is)
-          c.sources_end-block_at.result c.header_len-payload_at.result c.sources_end-block_at.ensures c.header_len-payload_at.ensures c.id_of_none.result c.take_out-elements_len.result c.next_multiple_of-body_len.result
-          c.id_of_none.ensures c.take_out-elements_len.new.body c.take_out-elements_len.ensures c.next_multiple_of-body_len.ensures.lower_bound c.next_multiple_of-body_len.ensures.upper_bound c.next_multiple_of-body_len.ensures.multiple,
+          c.sources_end-block_at.result c.header_len-payload_at.result c.sources_end-block_at.ensures c.header_len-payload_at.ensures c.id_of_none.result c.take_out-elements_len.result c.in_words-body_len.result
+          c.id_of_none.ensures c.take_out-elements_len.new.body c.take_out-elements_len.ensures (words-low _ _ c.in_words-body_len.ensures) (words-high _ _ c.in_words-body_len.ensures) (words-whole _ _ c.in_words-body_len.ensures),
     )
 
 pub overflow_add-result-2 : goal.overflow_add-result-2
@@ -46,8 +58,8 @@ overflow_add-result-2 c =
     c.sources_end-block_at.result c.header_len-payload_at.result c.sources_end-block_at.ensures c.header_len-payload_at.ensures in
     let within =
     n-within c.args.datagram.now (parts_of c.in_ok-packet.packet) c.in_ok-packet.ensures.found c.in-Some.form (sym c.form-form.ensures ∙ c.in-Some.is)
-    c.sources_end-block_at.result c.header_len-payload_at.result c.sources_end-block_at.ensures c.header_len-payload_at.ensures c.id_of_none.result c.take_out-elements_len.result c.next_multiple_of-body_len.result
-    c.id_of_none.ensures c.take_out-elements_len.new.body c.take_out-elements_len.ensures c.next_multiple_of-body_len.ensures.lower_bound c.next_multiple_of-body_len.ensures.upper_bound c.next_multiple_of-body_len.ensures.multiple in
+    c.sources_end-block_at.result c.header_len-payload_at.result c.sources_end-block_at.ensures c.header_len-payload_at.ensures c.id_of_none.result c.take_out-elements_len.result c.in_words-body_len.result
+    c.id_of_none.ensures c.take_out-elements_len.new.body c.take_out-elements_len.ensures (words-low _ _ c.in_words-body_len.ensures) (words-high _ _ c.in_words-body_len.ensures) (words-whole _ _ c.in_words-body_len.ensures) in
     omega (arith, ends.0, ends.2, within, c.header_len-payload_at.type_inv)
 
 pub overflow_sub-result : goal.overflow_sub-result
@@ -58,14 +70,14 @@ overflow_sub-result c =
 pub returns-clause-compacted : goal.returns-clause-compacted
 returns-clause-compacted c =
     Compacts-made c.args.datagram.now (parts_of c.in_ok-packet.packet) c.in_ok-packet.ensures.found c.in-Some.form (sym c.form-form.ensures ∙ c.in-Some.is)
-    c.sources_end-block_at.result c.header_len-payload_at.result c.sources_end-block_at.ensures c.header_len-payload_at.ensures c.id_of_none.result c.take_out-elements_len.result c.next_multiple_of-body_len.result
-    c.id_of_none.ensures c.take_out-elements_len.new.body c.take_out-elements_len.ensures c.next_multiple_of-body_len.ensures.lower_bound c.next_multiple_of-body_len.ensures.upper_bound c.next_multiple_of-body_len.ensures.multiple
+    c.sources_end-block_at.result c.header_len-payload_at.result c.sources_end-block_at.ensures c.header_len-payload_at.ensures c.id_of_none.result c.take_out-elements_len.result c.in_words-body_len.result
+    c.id_of_none.ensures c.take_out-elements_len.new.body c.take_out-elements_len.ensures (words-low _ _ c.in_words-body_len.ensures) (words-high _ _ c.in_words-body_len.ensures) (words-whole _ _ c.in_words-body_len.ensures)
     c.resize.new.buf c.resize.ensures (omega (
       arith,
       short-body c.in_ok-packet.packet,
       n-within c.args.datagram.now (parts_of c.in_ok-packet.packet) c.in_ok-packet.ensures.found c.in-Some.form (sym c.form-form.ensures ∙ c.in-Some.is)
-          c.sources_end-block_at.result c.header_len-payload_at.result c.sources_end-block_at.ensures c.header_len-payload_at.ensures c.id_of_none.result c.take_out-elements_len.result c.next_multiple_of-body_len.result
-          c.id_of_none.ensures c.take_out-elements_len.new.body c.take_out-elements_len.ensures c.next_multiple_of-body_len.ensures.lower_bound c.next_multiple_of-body_len.ensures.upper_bound c.next_multiple_of-body_len.ensures.multiple,
+          c.sources_end-block_at.result c.header_len-payload_at.result c.sources_end-block_at.ensures c.header_len-payload_at.ensures c.id_of_none.result c.take_out-elements_len.result c.in_words-body_len.result
+          c.id_of_none.ensures c.take_out-elements_len.new.body c.take_out-elements_len.ensures (words-low _ _ c.in_words-body_len.ensures) (words-high _ _ c.in_words-body_len.ensures) (words-whole _ _ c.in_words-body_len.ensures),
     ))
 
 pub returns-clause-within : goal.returns-clause-within
@@ -73,9 +85,9 @@ returns-clause-within c =
     omega (
       arith,
       room c.args.datagram.now (parts_of c.in_ok-packet.packet) c.in_ok-packet.ensures.found c.in-Some.form (sym c.form-form.ensures ∙ c.in-Some.is)
-          c.sources_end-block_at.result c.header_len-payload_at.result c.sources_end-block_at.ensures c.header_len-payload_at.ensures c.id_of_none.result c.take_out-elements_len.result c.next_multiple_of-body_len.result
-          c.id_of_none.ensures c.take_out-elements_len.new.body c.take_out-elements_len.ensures c.next_multiple_of-body_len.ensures.lower_bound c.next_multiple_of-body_len.ensures.upper_bound c.next_multiple_of-body_len.ensures.multiple,
+          c.sources_end-block_at.result c.header_len-payload_at.result c.sources_end-block_at.ensures c.header_len-payload_at.ensures c.id_of_none.result c.take_out-elements_len.result c.in_words-body_len.result
+          c.id_of_none.ensures c.take_out-elements_len.new.body c.take_out-elements_len.ensures (words-low _ _ c.in_words-body_len.ensures) (words-high _ _ c.in_words-body_len.ensures) (words-whole _ _ c.in_words-body_len.ensures),
       length-moved c.args.datagram.now (parts_of c.in_ok-packet.packet) c.in_ok-packet.ensures.found c.in-Some.form (sym c.form-form.ensures ∙ c.in-Some.is)
-          c.sources_end-block_at.result c.header_len-payload_at.result c.sources_end-block_at.ensures c.header_len-payload_at.ensures c.id_of_none.result c.take_out-elements_len.result c.next_multiple_of-body_len.result
-          c.id_of_none.ensures c.take_out-elements_len.new.body c.take_out-elements_len.ensures c.next_multiple_of-body_len.ensures.lower_bound c.next_multiple_of-body_len.ensures.upper_bound c.next_multiple_of-body_len.ensures.multiple,
+          c.sources_end-block_at.result c.header_len-payload_at.result c.sources_end-block_at.ensures c.header_len-payload_at.ensures c.id_of_none.result c.take_out-elements_len.result c.in_words-body_len.result
+          c.id_of_none.ensures c.take_out-elements_len.new.body c.take_out-elements_len.ensures (words-low _ _ c.in_words-body_len.ensures) (words-high _ _ c.in_words-body_len.ensures) (words-whole _ _ c.in_words-body_len.ensures),
     )

@@ -5,7 +5,7 @@ use Rattle.rtp_ext.specs.BodySurvey.{IsSurvey}
 use Rattle.rtp_wire.specs.PutIntoPacket.{body_of_block, elements_with}
 use Rattle.rtp_wire.proofs.PartsLemmas.{length-packet}
 use Rattle.rtp_wire.proofs.ResizedLemmas.{block_len-body}
-use Rattle.rtp_wire.proofs.PutPlanLemmas.{body-elements, body_len-reckoned}
+use Rattle.rtp_wire.proofs.PutPlanLemmas.{body-elements, body_len-reckoned, words-low, words-high, words-whole}
 use Rattle.rtp_wire.proofs.SetInPlaceLemmas.{body-before}
 use Rattle.rtp_wire.proofs.packet.putting.Plan.new_body_len.Goals as goal
 
@@ -39,6 +39,6 @@ returns c = λ allowed plan.
     c.put_len-elements_len.ensures.length growth.elements are
     ∙ ap (λ (f : ExtensionsForm). length (elements_bytes f (elements_with f (c.args.id, c.args.data.now) growth.elements))) plan.form_is in
     let reckoned =
-    body_len-reckoned c.args.datagram.now (c.args.id, c.args.data.now) allowed growth c.put_len-elements_len.result c.next_multiple_of.result count
-    c.next_multiple_of.ensures.lower_bound c.next_multiple_of.ensures.upper_bound c.next_multiple_of.ensures.multiple in
+    body_len-reckoned c.args.datagram.now (c.args.id, c.args.data.now) allowed growth c.put_len-elements_len.result c.in_words.result count
+    (words-low _ _ c.in_words.ensures) (words-high _ _ c.in_words.ensures) (words-whole _ _ c.in_words.ensures) in
     omega (arith, reckoned, plan.body_is, c.max.ensures)
