@@ -14,3 +14,4 @@ pub mod AllocationSpelling
 pub mod AllocationWriting
 pub mod UpToLemmas
 pub mod LentLemmas
+mod SettingLemmas

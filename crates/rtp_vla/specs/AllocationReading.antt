@@ -3,7 +3,7 @@ use Rattle.std.specs.Prelude.{◌≡◌, ℕ, zero, suc, ◌+◌, ◌-◌, ◌*�
 use Rattle.std.specs.List.{AllByRecursion}
 use Rattle.rtp_vla.specs.declared.allocation.ResolutionAndFramerate.{ResolutionAndFramerate}
 use Rattle.rtp_vla.specs.LebReading.{leb_value, leb_rest}
-use Rattle.rtp_vla.specs.Allocation.{Layer, Stream, AreMasks}
+use Rattle.rtp_vla.specs.Allocation.{Layer, Stream, Allocation, AreMasks}
 
 -- two masks of each byte, and four counts of each
 abbrev pub halves : List ℕ → List ℕ
@@ -39,6 +39,16 @@ active_in mask = marked (marks_of mask)
 -- a layer that isn't active
 abbrev pub idle_layer : Layer
 idle_layer = record { temporal_layers = []; resolution_and_framerate = None }
+
+-- an allocation with one more stream
+abbrev pub and_stream : Allocation → Stream → Allocation
+and_stream a stream = record a { simulcast_streams = a.simulcast_streams ++ stream ∷ [] }
+
+-- how many layers more the last of the streams can have, where a stream has at most four
+abbrev pub layer_room : List Stream → ℕ
+layer_room [] = 0
+layer_room (stream ∷ []) = 4 - length stream
+layer_room (stream ∷ next ∷ streams) = layer_room (next ∷ streams)
 
 -- a stream with the next of the active layers wherever one is marked
 abbrev pub dealt : List Bool → List Layer → Stream

@@ -11,6 +11,7 @@ mod lent;
 mod measuring;
 mod parsing;
 mod parts;
+mod set_layers;
 mod streams;
 mod up_to;
 mod video_layers;
@@ -24,7 +25,8 @@ pub mod vla {
         TemporalLayerAllocation, URI, VideoLayersAllocation,
     };
     pub use crate::leb::{encode_leb_u63, parse_leb_u63};
-    pub use crate::parsing::{is_allocation, parse};
+    pub use crate::parsing::{is_allocation, parse, read_into};
+    pub use crate::set_layers::SetLayers;
     pub use crate::video_layers::{VideoLayer, VideoLayers, VideoStream};
     pub use crate::writing::{checked_wire_len, is_writable, wire_len, write_to};
 }

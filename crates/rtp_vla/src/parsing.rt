@@ -9,6 +9,7 @@ use super::allocation::VideoLayersAllocation;
 use super::counts::Counts;
 use super::layers::LayerReader;
 use super::parts::{active_count, after_rates, half_at, resolutions_fit};
+use super::set_layers::SetLayers;
 use super::streams::{put_streams, streams_of};
 use super::video_layers::VideoLayers;
 use std::alloc::{AllocError, Global};
@@ -96,6 +97,34 @@ pub fn is_allocation(buf: &[u8]) -> bool
     layout_of(buf, &mut [0; 4]).is_some()
 }
 
+/// Reads an allocation, as [`parse`] reads it, into what the caller gives, and takes no memory. Nothing of the
+/// allocation as it was stays. Returns `false` exactly where the bytes mean no allocation, and then nothing
+/// changes.
+#[inline(always)]
+pub fn read_into<L: SetLayers>(buf: &[u8], layers: &mut L) -> bool
+    // The bytes mean what is shown, and what they mean is shown.
+    ensures found { OnTrue result ((a : Allocation) × Means buf.now a × L.shows layers.new a) }
+    ensures only { (a : Allocation) → Means buf.now a → (result ≡ true) × L.shows layers.new a }
+    ensures unchanged { result ≡ false → layers.new ≡ layers.old }
+{
+    if says_nothing(buf) {
+        layers.begin(0);
+        return true;
+    }
+    let mut masks = [0; 4];
+    let Some(layout) = layout_of(buf, &mut masks) else {
+        return false;
+    };
+    let Layout {
+        index,
+        streams,
+        layers: left,
+    } = layout;
+    layers.begin(index);
+    put_streams(layers, &masks[..streams], left);
+    true
+}
+
 impl VideoLayers {
     /// Reads an allocation, as [`parse`] reads it, and takes no memory.
     #[inline(always)]
@@ -120,22 +149,7 @@ impl VideoLayers {
         ensures only { (a : Allocation) → Means buf.now a → (result ≡ true) × (self.new ≡ a) }
         ensures same { result ≡ false → self.new ≡ self.old }
     {
-        if says_nothing(buf) {
-            *self = VideoLayers::default();
-            return true;
-        }
-        let mut masks = [0; 4];
-        let Some(layout) = layout_of(buf, &mut masks) else {
-            return false;
-        };
-        let Layout {
-            index,
-            streams,
-            layers,
-        } = layout;
-        *self = VideoLayers::new(index);
-        put_streams(self, &masks[..streams], layers);
-        true
+        read_into(buf, self)
     }
 }
 

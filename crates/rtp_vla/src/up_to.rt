@@ -1,7 +1,10 @@
 //! Lists of at most so many items, without memory.
 
-ghost use Rattle.std.specs.Prelude.{◌≡◌, ◌<◌, ◌≤◌, ◌∷◌, ◌++◌, [], length};
+ghost use Rattle.std.specs.Prelude.{◌≡◌, ◌<◌, ◌≤◌, ◌∷◌, ◌++◌, List, [], length};
+ghost use Rattle.rtp_vla.specs.Allocation.{Stream};
+ghost use Rattle.rtp_vla.specs.AllocationReading.{layer_room};
 
+use super::video_layers::{VideoLayer, VideoStream};
 use std::alloc::AllocError;
 use std::marker::Model;
 
@@ -81,5 +84,17 @@ impl<T: Unused, const N: usize> UpTo<T, N> {
         ensures few { length result.now ≤ N }
     {
         &self.items[..self.len]
+    }
+}
+
+impl UpTo<VideoStream, 4> {
+    // Puts a layer after the others of the last stream.
+    #[inline(always)]
+    pub(super) fn push_layer(&mut self, layer: &VideoLayer)
+        requires { 1 ≤ layer_room self.old }
+        ensures { (before : List Stream) (stream : Stream) → self.old ≡ before ++ stream ∷ [] →
+            self.new ≡ before ++ (stream ++ layer.now ∷ []) ∷ [] }
+    {
+        self.items[self.len - 1].push(*layer);
     }
 }

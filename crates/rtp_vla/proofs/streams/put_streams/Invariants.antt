@@ -1,12 +1,14 @@
-use Rattle.std.proofs.Common.{◌≡◌, ◌≤◌, ◌++◌, drop, length}
+use Rattle.std.proofs.Common.{◌≡◌, ◌≤◌, ◌++◌, List, drop, length}
+use Rattle.rtp_vla.specs.Allocation.{Allocation, Stream}
 use Rattle.rtp_vla.specs.AllocationReading.{dealt_streams, active_count}
 use Rattle.rtp_vla.proofs.streams.put_streams.Given as goal
 
--- the streams so far and those of the masks that are left are all of them
+-- the streams so far stand after the others, and with those of the masks that are left they are all of them
 abbrev pub invariant-loop-mask : goal.invariant-loop-mask
-invariant-loop-mask l = record {
-  index : l.layers.current_simulcast_stream_index ≡ l.initial.layers.current_simulcast_stream_index;
-  streams : l.layers.simulcast_streams ++ dealt_streams (drop l.mask-index l.masks) l.left ≡ dealt_streams l.masks l.initial.left;
-  enough : active_count (drop l.mask-index l.masks) ≤ length l.left;
-  len : length l.layers.simulcast_streams ≡ l.mask-index;
-}
+invariant-loop-mask g l =
+    (done : List Stream)
+    × ((a : Allocation) → g.L.SetLayers.shows l.initial.layers a
+    → g.L.SetLayers.shows l.layers (record a { simulcast_streams = a.simulcast_streams ++ done }))
+    × (done ++ dealt_streams (drop l.mask-index l.masks) l.left ≡ dealt_streams l.masks l.initial.left)
+    × (active_count (drop l.mask-index l.masks) ≤ length l.left)
+    × (length (drop l.mask-index l.masks) ≤ g.L.SetLayers.stream_room l.layers)
