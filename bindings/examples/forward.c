@@ -7,6 +7,7 @@
  *        OFFSET is added to each sequence number; the first packet goes at SECONDS, each other one 20
  *        milliseconds after the one before it
  */
+#define _POSIX_C_SOURCE 200809L
 #include <rtp_wire.h>
 
 #include <stdio.h>
@@ -40,14 +41,16 @@ static size_t bytes_of(char *line) {
 }
 
 int main(int argc, char **argv) {
-    static char line[2 * 65536 + 2];
-    uint8_t *datagram = (uint8_t *)line;
+    static char *line;
+    size_t room = 0;
+    ssize_t read;
     rtpw_new_ids ids;
     rtpw_packet packet;
     rtpw_new_ids_between(&PUBLISHER, &SUBSCRIBER, &ids);
     uint64_t microseconds = argc == 4 ? strtoull(argv[3], NULL, 10) * 1000000 : 0;
-    while (argc == 4 && fgets(line, sizeof line, stdin) != NULL) {
-        size_t len = bytes_of(line);
+    while (argc == 4 && (read = getline(&line, &room, stdin)) > 0) {
+        uint8_t *datagram = (uint8_t *)line;
+        size_t len = strlen(line) == (size_t)read ? bytes_of(line) : 0; /* a zero byte is no digit */
         if (rtpw_packet_parse(datagram, len, &packet) == RTPW_OK && forward(datagram, len, &ids, microseconds) &&
             rtpw_set_ssrc(datagram, len, (uint32_t)strtoul(argv[1], NULL, 10)) == RTPW_OK &&
             rtpw_set_sequence_number(datagram, len, (uint16_t)(packet.sequence_number + strtol(argv[2], NULL, 10))) == RTPW_OK) {

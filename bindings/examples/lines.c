@@ -3,14 +3,15 @@
  * values of its extensions, and whether a receiver takes it. Each SSRC has a receiver of its own. Lines
  * `map ID URI` before the first datagram say which extension an id means.
  */
+#define _POSIX_C_SOURCE 200809L
+#include "utf8.h"
+
 #include <rtp_wire.h>
 
 #include <inttypes.h>
 #include <stdio.h>
 #include <stdlib.h>
 #include <string.h>
-
-#define LONGEST_LINE (2 * 65536 + 2)
 
 static rtpw_map map;
 
@@ -19,9 +20,8 @@ typedef struct {
     rtpw_receiver receiver;
 } stream;
 
-/* How long a line is without its end: a line feed, and a carriage return before that. */
-static size_t len_of(const char *line) {
-    size_t len = strlen(line);
+/* How long a line of so many bytes is without its end: a line feed, and a carriage return before that. */
+static size_t len_of(const char *line, size_t len) {
     if (len != 0 && line[len - 1] == '\n') {
         len -= len >= 2 && line[len - 2] == '\r' ? 2 : 1;
     }
@@ -29,7 +29,7 @@ static size_t len_of(const char *line) {
 }
 
 /* Whether the line maps an id, of one to three digits, which is done. */
-static int is_map_line(const char *line) {
+static int is_map_line(const char *line, size_t len) {
     if (strncmp(line, "map ", 4) != 0) {
         return 0;
     }
@@ -38,15 +38,14 @@ static int is_map_line(const char *line) {
         return 0;
     }
     unsigned long id = strtoul(line + 4, NULL, 10);
-    const char *uri = line + 4 + digits + 1;
-    size_t len = len_of(uri);
-    return id <= 255 && len != 0 &&
-           rtpw_map_set(&map, (uint8_t)id, rtpw_kind_of_uri((const uint8_t *)uri, len)) == RTPW_OK;
+    const uint8_t *uri = (const uint8_t *)line + 4 + digits + 1;
+    size_t uri_len = len - 4 - digits - 1;
+    return id <= 255 && uri_len != 0 && is_utf8(uri, uri_len) &&
+           rtpw_map_set(&map, (uint8_t)id, rtpw_kind_of_uri(uri, uri_len)) == RTPW_OK;
 }
 
 /* How many bytes the line spells, which then stand at its beginning; -1 where it isn't hexadecimal. */
-static long bytes_of(char *line) {
-    size_t len = len_of(line);
+static long bytes_of(char *line, size_t len) {
     if (len % 2 != 0 || strspn(line, "0123456789abcdefABCDEF") != len) {
         return -1;
     }
@@ -136,14 +135,17 @@ static int print_packet(unsigned long count, const uint8_t *datagram, size_t len
 }
 
 int main(void) {
-    static char line[LONGEST_LINE];
+    static char *line;
+    size_t room = 0;
+    ssize_t read;
     unsigned long packets = 0, lines = 0;
-    while (fgets(line, sizeof line, stdin) != NULL) {
+    while ((read = getline(&line, &room, stdin)) > 0) {
+        size_t line_len = len_of(line, (size_t)read);
         lines++;
-        if (packets == 0 && is_map_line(line)) {
+        if (packets == 0 && is_map_line(line, line_len)) {
             continue;
         }
-        long len = bytes_of(line);
+        long len = bytes_of(line, line_len);
         if (len < 0) {
             printf("line %lu: neither a map line nor hex\n", lines);
             return 2;

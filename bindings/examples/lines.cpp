@@ -1,9 +1,12 @@
 // Reads datagrams from standard input, one a line in hexadecimal, and prints of each its header, the
 // values of its extensions, and whether a receiver takes it. Each SSRC has a receiver of its own. Lines
 // `map ID URI` before the first datagram say which extension an id means.
+#include "utf8.h"
+
 #include <rtp_wire.h>
 
 #include <cstdint>
+#include <cstdio>
 #include <iostream>
 #include <map>
 #include <string>
@@ -19,10 +22,10 @@ bool map_line(const std::string &line, rtpw_map &map) {
     }
     const unsigned long id = std::stoul(line.substr(4, end - 4));
     const std::string uri = line.substr(end + 1);
-    if (id > 255 || uri.empty()) {
+    const auto *bytes = reinterpret_cast<const std::uint8_t *>(uri.data());
+    if (id > 255 || uri.empty() || !is_utf8(bytes, uri.size())) {
         return false;
     }
-    const auto *bytes = reinterpret_cast<const std::uint8_t *>(uri.data());
     return rtpw_map_set(&map, static_cast<std::uint8_t>(id), rtpw_kind_of_uri(bytes, uri.size())) == RTPW_OK;
 }
 
@@ -115,5 +118,5 @@ int main() {
         print_values(header.values);
         print_verdict(packets, receivers[header.ssrc], header.sequence_number);
     }
-    return std::cin.bad() || !std::cout.flush();
+    return std::ferror(stdin) || !std::cout.flush(); // std::cin takes what can't be read for the end
 }

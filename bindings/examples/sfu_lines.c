@@ -8,6 +8,7 @@
  *        With REPEATS the datagrams are taken so many times, each time with sequence numbers that are higher
  *        by 1,000. No packet is printed, and of the time only that of the processor which this takes.
  */
+#define _POSIX_C_SOURCE 200809L
 #include "sfu_peers.h"
 
 #include <stdlib.h>
@@ -21,8 +22,7 @@ typedef struct {
 } datagram;
 
 /* How many bytes the line spells, which then stand at its beginning; -1 where it isn't hexadecimal. */
-static long bytes_of(char *line) {
-    size_t len = len_of(line);
+static long bytes_of(char *line, size_t len) {
     if (len % 2 != 0 || strspn(line, "0123456789abcdefABCDEF") != len) {
         return -1;
     }
@@ -75,17 +75,20 @@ static void repeat(sfu *sfu, datagram *datagrams, size_t count, unsigned long re
 }
 
 int main(int argc, char **argv) {
-    static char line[2 * 65536 + 2];
+    static char *line;
     static datagram datagrams[MOST];
     static sfu sfu;
     unsigned long count = 0, lines = 0, repeats = argc == 2 ? strtoul(argv[1], NULL, 10) : 0;
     rtpw_map sender = {{0}};
-    while (fgets(line, sizeof line, stdin) != NULL) {
+    size_t room = 0;
+    ssize_t read;
+    while ((read = getline(&line, &room, stdin)) > 0) {
+        size_t line_len = len_of(line, (size_t)read);
         lines++;
-        if (count == 0 && is_map_line(&sender, line)) {
+        if (count == 0 && is_map_line(&sender, line, line_len)) {
             continue;
         }
-        long len = bytes_of(line);
+        long len = bytes_of(line, line_len);
         if (len < 0 || (count == 0 && !add_peers(&sfu, &sender))) {
             printf("line %lu: neither a map line nor hex\n", lines);
             return 2;

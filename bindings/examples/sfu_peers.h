@@ -3,6 +3,7 @@
 #define SFU_PEERS_H
 
 #include "sfu.h"
+#include "utf8.h"
 
 #include <stdio.h>
 #include <stdlib.h>
@@ -22,9 +23,8 @@ static inline bool add_peers(sfu *sfu, const rtpw_map *sender) {
     return sfu_add(sfu, sender, &PEERS[0]) && sfu_add(sfu, sender, &PEERS[1]) && sfu_add(sfu, sender, &PEERS[2]);
 }
 
-/* How long a line is without its end: a line feed, and a carriage return before that. */
-static inline size_t len_of(const char *line) {
-    size_t len = strlen(line);
+/* How long a line of so many bytes is without its end: a line feed, and a carriage return before that. */
+static inline size_t len_of(const char *line, size_t len) {
     if (len != 0 && line[len - 1] == '\n') {
         len -= len >= 2 && line[len - 2] == '\r' ? 2 : 1;
     }
@@ -32,7 +32,7 @@ static inline size_t len_of(const char *line) {
 }
 
 /* Whether the line maps an id of the sender, of one to three digits, which is done: `map ID URI`. */
-static inline bool is_map_line(rtpw_map *map, const char *line) {
+static inline bool is_map_line(rtpw_map *map, const char *line, size_t len) {
     if (strncmp(line, "map ", 4) != 0) {
         return false;
     }
@@ -41,10 +41,10 @@ static inline bool is_map_line(rtpw_map *map, const char *line) {
         return false;
     }
     unsigned long id = strtoul(line + 4, NULL, 10);
-    const char *uri = line + 4 + digits + 1;
-    size_t len = len_of(uri);
-    return id <= 255 && len != 0 &&
-           rtpw_map_set(map, (uint8_t)id, rtpw_kind_of_uri((const uint8_t *)uri, len)) == RTPW_OK;
+    const uint8_t *uri = (const uint8_t *)line + 4 + digits + 1;
+    size_t uri_len = len - 4 - digits - 1;
+    return id <= 255 && uri_len != 0 && is_utf8(uri, uri_len) &&
+           rtpw_map_set(map, (uint8_t)id, rtpw_kind_of_uri(uri, uri_len)) == RTPW_OK;
 }
 
 static inline void print_counts(const sfu_counts *it) {

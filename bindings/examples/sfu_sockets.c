@@ -74,11 +74,13 @@ static void take(sfu *sfu, network *network) {
 
 int main(int argc, char **argv) {
     static sfu sfu;
-    char line[1000];
+    static char *line;
+    size_t room = 0;
+    ssize_t read;
     rtpw_map sender = {{0}};
     network network = {0};
-    while (fgets(line, sizeof line, stdin) != NULL && line[0] != '\n') {
-        if (!is_map_line(&sender, line)) {
+    while ((read = getline(&line, &room, stdin)) > 0 && line[0] != '\n') {
+        if (!is_map_line(&sender, line, len_of(line, (size_t)read))) {
             return 2;
         }
     }

@@ -20,8 +20,14 @@ fail() {
 bad_maps=('map 0 urn:x' 'map 000 urn:x' 'map 256 urn:x' 'map 300 urn:x' 'map +3 urn:x' 'map -3 urn:x' 'map 0x3 urn:x'
     'map 0003 urn:x' 'map 1234 urn:x' 'map 3a urn:x' 'map 3' 'map 3 ' 'map 3 \r' 'map' 'map ' 'map  3 urn:x'
     'map\t3 urn:x' 'map 3\turn:x' ' map 3 urn:x' 'mop 3 urn:x' 'MAP 3 urn:x' 'map urn:x 3')
-# No hexadecimal: an odd number of digits, another letter, and a carriage return that isn't before the line feed.
-bad_hex=(802 8G '80\rGG' '80\r80' '80\r\r' '\r80')
+# No URI, since it is no UTF-8: a byte that goes on or begins nothing, one too few or another, one that has to be
+# greater or less as the second one (U+0800, D7FF, 10000, 10FFFF are the ends), and more than are in one character.
+bad_uris=('map 3 \x80' 'map 3 urn:\xff' 'map 3 \xc1\xbf' 'map 3 \xc3' 'map 3 \xc3x' 'map 3 \xc3\xc3' 'map 3 \xe2\x82'
+    'map 3 \xe2\x82x' 'map 3 \xf0\x9f\x98' 'map 3 \xf0\x9f\x98\xc0' 'map 3 \xe0\x9f\xbf' 'map 3 \xed\xa0\x80' 'map 3 \xf0\x8f\xbf\xbf'
+    'map 3 \xf4\x90\x80\x80' 'map 3 \xf5\x80\x80\x80' 'map 3 \xf8\x88\x80\x80\x80' 'map 3 \xc3\xa9\xa9')
+# No hexadecimal: an odd number of digits, another letter, a carriage return that isn't before the line feed, and a
+# zero byte.
+bad_hex=(802 8G '80\rGG' '80\r80' '80\r\r' '\r80' '80\x00' '80\x0080' '80\x00GG' '\x0080')
 printf 'packet 1: unreadable\nverdict 1: unreadable\nline 2: neither a map line nor hex\n' >"$scratch/second"
 echo 'line 1: neither a map line nor hex' >"$scratch/first"
 echo 'line 2: neither a map line nor hex' >"$scratch/later"
@@ -29,6 +35,12 @@ is_bad() { # what is printed, the lines, the program
     local status=0
     printf '%b\n' "$2" | "${@:3}" >"$scratch/said" || status=$?
     [ $status -eq 2 ] && cmp "$scratch/said" "$scratch/$1" >&2 || fail "${*:3}, the bad line $2"
+}
+is_bad_uri() { # the line, the program: in Rust text that is no UTF-8 can't be read
+    local status=0
+    [[ $* == *_rust ]] || { is_bad first "$@"; return; }
+    printf '%b\n' "$1" | "${@:2}" >"$scratch/said" 2>"$scratch/told" || status=$?
+    [ $status -eq 1 ] && [ ! -s "$scratch/said" ] || fail "${*:2}, the bad line $1"
 }
 is_bad_at_the_end() { # the program, of a line that ends with the input, behind a carriage return
     local status=0
@@ -53,9 +65,12 @@ compare() {
     echo 'verdict 1: taken 1' >>"$scratch/long"
     printf '80000001000000010000002C%0131048d\n' 0 | "$@" | cmp - "$scratch/long" >&2 || fail "$*, a long line"
     for bad in "${bad_hex[@]}" "${bad_maps[@]}"; do is_bad first "$bad" "$@"; done
+    for bad in "${bad_uris[@]}"; do is_bad_uri "$bad" "$@"; done
     for bad in "${bad_hex[@]}" 'map 3 urn:x'; do is_bad second "80\n$bad" "$@"; done
-    # One to three digits, and a URI is the rest of the line.
-    for good in 'map 3 urn:x' 'map 03 urn:x' 'map 003 urn:x' 'map 255 urn:x y' 'map 7  '; do
+    printf '80000001000000010000002C%0131048d\r\n' 0 | "$@" | cmp - "$scratch/long" >&2 || fail "$*, a long line, CR LF"
+    # One to three digits, and a URI is the rest of the line, with characters of one to four bytes.
+    for good in 'map 3 urn:x' 'map 03 urn:x' 'map 003 urn:x' 'map 255 urn:x y' 'map 7  ' 'map 3 \x00' 'map 3 \x7f\xc2\x80' \
+        'map 3 \xdf\xbf\xe0\xa0\x80' 'map 3 \xed\x9f\xbf\xee\x80\x80' 'map 3 \xef\xbf\xbf\xf0\x90\x80\x80' 'map 3 \xf4\x8f\xbf\xbfx'; do
         printf '%b\n80\n' "$good" | "$@" | cmp - <(head -n 2 "$scratch/second") >&2 || fail "$*, the line $good"
     done
     is_bad_at_the_end "$@"
@@ -63,19 +78,21 @@ compare() {
     tells_a_full_device 80 "$@"
     "$@" <"$scratch/far.lines" | tail -n 1 >"$scratch/said"
     echo 'verdict 196609: taken 4294967296' | cmp - "$scratch/said" >&2 || fail "$*, a number past 2^32"
-    # A carriage return within a URI is a part of it: of this one no kind is known, and the mid isn't told.
-    printf '%b\n' 'map 1 urn:ietf:params:rtp-hdrext:sdes:mid\rx' 90000001000000010000002CBEDE000110410000 | "$@" |
-        head -n 1 >"$scratch/said"
-    echo 'packet 1: pt 0 seq 1 ts 1 ssrc 44 marker no padding no extension yes csrc 0 header 20' |
-        cmp - "$scratch/said" >&2 || fail "$*, a URI with a carriage return"
+    # A carriage return or a zero byte within a URI is a part of it: no kind is known, and the mid isn't told.
+    for it in '\r' '\x00'; do
+        printf '%b\n' "map 1 urn:ietf:params:rtp-hdrext:sdes:mid${it}x" 90000001000000010000002CBEDE000110410000 | "$@" |
+            head -n 1 >"$scratch/said"
+        echo 'packet 1: pt 0 seq 1 ts 1 ssrc 44 marker no padding no extension yes csrc 0 header 20' |
+            cmp - "$scratch/said" >&2 || fail "$*, a URI with $it"
+    done
     [ -z "$("$@" </dev/null)" ] || fail "$*, no line"
-    # What can't be written, and what can't be read, as a folder, which C++ takes for the end of the input.
+    # What can't be written, and what can't be read, as a folder.
     status=0
     echo 80 | "$@" >/dev/full 2>"$scratch/said" || status=$?
     [ $status -eq 1 ] || fail "$*, a full disk"
     status=0
     "$@" <"$scratch" >"$scratch/said" 2>&1 || status=$?
-    [ $status -eq 1 ] || [[ $* == *_cpp ]] || fail "$*, a folder"
+    [ $status -eq 1 ] || fail "$*, a folder"
 }
 for program in "$folder"/lines_*; do
     [ ! -e "$program" ] || compare "${emulator[@]}" "$program"
@@ -97,9 +114,10 @@ forwards() {
     diff "$scratch/expected" "$scratch/forwarded" >&2 || fail 'the forwarder'
     # 65,530 + 70,000 = 2 * 65,536 + 4,458 (0x116A), and 1 and 255 become 4,465 and 4,719; 6,400,000,063 s are 63 s
     # modulo 64, and 63.02 s are 16,520,314.9 units of 2^-18 s: 0xFC147A. P, M, X, the source, the application bits and
-    # the payload stay; the ids 2 and 1 mean nothing to the publisher. The second to the sixth line are no packets.
+    # the payload stay; the ids 2 and 1 mean nothing to the publisher. The second to the eleventh line are no packets.
     printf '%b\n' 80000001000000010000002C 80000001000000010000002C0 80000001000000010000002CGG \
-        '80000001000000010000002C\rGG' '80000001000000010000002C\r\r' '' \
+        '80000001000000010000002C\rGG' '80000001000000010000002C\r\r' '80000001000000010000002C\x00' \
+        '80000001000000010000002C\x00GG' '80000001000000010000002C\x00\n' '\x00' '' \
         B1E0FFFAABCDEF0112345678000000091002000304030102030202AABB0101FF4142434445464748494A000003\\r \
         800000ff000000000000002c |
         "$folder/forward" 4294967290 70000 6400000063 >"$scratch/forwarded"
@@ -212,6 +230,7 @@ sends_on() {
     is_bad later 'map 3 urn:x\n8G' "$@"
     tells_a_full_device 80 "$@"
     for bad in "${bad_hex[@]}" "${bad_maps[@]}"; do is_bad first "$bad" "$@"; done
+    for bad in "${bad_uris[@]}"; do is_bad_uri "$bad" "$@"; done
     is_bad_at_the_end "$@"
     "$@" <"$scratch/many.lines" | tail -n 4 | diff "$scratch/many.expected" - >&2 || fail "$*, many datagrams"
     # All print the same.
@@ -255,7 +274,7 @@ if [ -e "$folder/sockets" ]; then
         "$folder/sockets" "$@" >"$scratch/said" || status=$?
         [ $status -eq 2 ] && [ ! -s "$scratch/said" ] || fail "the SFU with sockets, $*"
     }
-    for bad in "${bad_maps[@]}"; do ends_at_once 1 2 3 < <(printf '%b\n' "$bad"); done
+    for bad in "${bad_maps[@]}" "${bad_uris[@]}"; do ends_at_once 1 2 3 < <(printf '%b\n' "$bad"); done
     for ports in '' '1 2' '1 2 3 4'; do
         # shellcheck disable=SC2086
         ends_at_once $ports </dev/null

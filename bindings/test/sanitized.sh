@@ -2,16 +2,17 @@
 # Builds the examples in C and C++ so that what is undefined, and what is outside of a buffer, ends the program:
 # then bindings/test/examples.sh compares what they print.
 #
-# usage: bindings/test/sanitized.sh FOLDER INCLUDE LIBRARY [FILE]
+# usage: bindings/test/sanitized.sh FOLDER INCLUDE LIBRARY [FILE [PROGRAM]]
 #        FOLDER is made, INCLUDE has rtp_wire.h, and LIBRARY is what to link, also an assembly text. Of FILE, a name
-#        in bindings/examples, only the programs that it is a part of.
+#        in bindings/examples, only the programs that it is a part of, and of these only PROGRAM where it is named.
 set -euo pipefail
-folder=$1 include=$2 library=$3 file=${4-}
+folder=$1 include=$2 library=$3 file=${4-} program=${5-}
 examples=$(cd -- "$(dirname -- "$0")/../examples" && pwd)
 built=(-O1 -g -Wall -Wextra -Wpedantic -Werror -fsanitize=address,undefined -fno-sanitize-recover=all -I "$include")
 mkdir -p -- "$folder"
 build() { # program, standard, files
     [ -z "$file" ] || [[ " ${*:3} " = *" $file "* ]] || return 0
+    [ -z "$program" ] || [ "$program" = "$1" ] || return 0
     local it sources=()
     for it in "${@:3}"; do
         case $it in *.c | *.cpp) sources+=("$examples/$it") ;; esac
@@ -21,11 +22,11 @@ build() { # program, standard, files
     *) cc "-std=$2" "${built[@]}" "${sources[@]}" "$library" -o "$folder/$1" ;;
     esac
 }
-build lines_c c99 lines.c
-build lines_cpp c++11 lines.cpp
+build lines_c c99 lines.c utf8.h
+build lines_cpp c++11 lines.cpp utf8.h
 build receive c99 receive.c
 build forward c99 forward.c
-build sfu_c c99 sfu.c sfu_lines.c sfu.h sfu_peers.h
+build sfu_c c99 sfu.c sfu_lines.c sfu.h sfu_peers.h utf8.h
 build ends c99 ../test/sfu_ends.c sfu.c sfu.h
-build sockets c99 sfu.c sfu_sockets.c sfu.h sfu_peers.h
-[ ! -e "$folder/sockets" ] || file='' build udp c99 ../test/sfu_udp.c
+build sockets c99 sfu.c sfu_sockets.c sfu.h sfu_peers.h utf8.h
+[ ! -e "$folder/sockets" ] || file='' program='' build udp c99 ../test/sfu_udp.c

@@ -13,6 +13,7 @@ import (
 	"os"
 	"strconv"
 	"strings"
+	"unicode/utf8"
 
 	"rtpwire"
 )
@@ -78,7 +79,7 @@ func isMapped(m *rtpwire.Map, line string) bool {
 		return false
 	}
 	id, err := strconv.ParseUint(words[1], 10, 8)
-	if err != nil {
+	if err != nil || !utf8.ValidString(words[2]) {
 		return false
 	}
 	_, err = m.SetURI(uint8(id), words[2])
