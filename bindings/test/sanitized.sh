@@ -28,5 +28,6 @@ build receive c99 receive.c
 build forward c99 forward.c
 build sfu_c c99 sfu.c sfu_lines.c sfu.h sfu_peers.h utf8.h
 build ends c99 ../test/sfu_ends.c sfu.c sfu.h
+[ ! -e "$folder/ends" ] || cc -std=c99 -O1 -I "$include" -c "$examples/sfu.c" -o "$folder/sfu.o"
 build sockets c99 sfu.c sfu_sockets.c sfu.h sfu_peers.h utf8.h
 [ ! -e "$folder/sockets" ] || file='' program='' build udp c99 ../test/sfu_udp.c

@@ -15,9 +15,12 @@
         }                                                                                                              \
     } while (0)
 
+/* So many receivers and streams at most, and so many bytes of a header that is sent on. */
+enum { RECEIVERS = 8, STREAMS = 16, HEADER = 2048 };
+
 typedef struct {
     size_t count, receiver, header_len, payload_len;
-    uint8_t header[SFU_HEADER];
+    uint8_t header[HEADER];
     const uint8_t *payload;
 } sent;
 
@@ -85,6 +88,21 @@ static int times(void) {
     CHECK(is(&it, "\xBE\xDE\0\1\x32\0\x14\x7A", 8));
     it = sent_to(3, RTPW_KIND_ABS_SEND_TIME, "", 6400000000u * 1000 + 64020000);
     CHECK(is(&it, "\xBE\xDE\0\1\x32\0\x14\x7A", 8));
+    /* Of a clock of today, which has counted 26,562,500 * 64 s; and of the last moment that there is: 2^64 - 1 are
+     * 288,230,376,151 * 64,000,000 and 45,551,615, which are 11,941,082.56 units. */
+    it = sent_to(3, RTPW_KIND_ABS_SEND_TIME, "", 1700000000000000u + 63990000);
+    CHECK(is(&it, "\xBE\xDE\0\1\x32\xFF\xF5\xC2", 8));
+    it = sent_to(3, RTPW_KIND_ABS_SEND_TIME, "", UINT64_MAX);
+    CHECK(is(&it, "\xBE\xDE\0\1\x32\xB6\x34\xDA", 8));
+    /* A unit is 3.8 microseconds. */
+    it = sent_to(3, RTPW_KIND_ABS_SEND_TIME, "", 3);
+    CHECK(is(&it, "\xBE\xDE\0\1\x32\0\0\0", 8));
+    it = sent_to(3, RTPW_KIND_ABS_SEND_TIME, "", 4);
+    CHECK(is(&it, "\xBE\xDE\0\1\x32\0\0\1", 8));
+    it = sent_to(3, RTPW_KIND_ABS_SEND_TIME, "", 63999999);
+    CHECK(is(&it, "\xBE\xDE\0\1\x32\xFF\xFF\xFF", 8));
+    it = sent_to(3, RTPW_KIND_ABS_SEND_TIME, "", 64000000);
+    CHECK(is(&it, "\xBE\xDE\0\1\x32\0\0\0", 8));
     return 0;
 }
 
@@ -129,24 +147,24 @@ static int room(void) {
     CHECK(!sfu_add(&sfu, &NOTHING, &peer) && sfu.route_count == 0);
     peer.mid = LONGEST;
     peer.map.kind[2] = RTPW_KIND_MID;
-    for (int i = 0; i < SFU_RECEIVERS; i++) {
+    for (int i = 0; i < RECEIVERS; i++) {
         CHECK(sfu_add(&sfu, &NOTHING, &peer));
     }
-    CHECK(!sfu_add(&sfu, &NOTHING, &peer) && sfu.route_count == SFU_RECEIVERS);
+    CHECK(!sfu_add(&sfu, &NOTHING, &peer) && sfu.route_count == RECEIVERS);
     sent last = {0};
     uint8_t packet[12] = {0x80, 0, 0, 5};
-    for (uint8_t stream = 0; stream <= SFU_STREAMS; stream++) {
+    for (uint8_t stream = 0; stream <= STREAMS; stream++) {
         packet[11] = stream;
         sfu_receive(&sfu, packet, sizeof packet, 0, keep, &last);
-        bool is_known = stream < SFU_STREAMS;
-        CHECK(last.count == SFU_RECEIVERS * (is_known ? stream + 1u : SFU_STREAMS));
-        CHECK(last.receiver == SFU_RECEIVERS - 1 && last.payload_len == 0);
+        bool is_known = stream < STREAMS;
+        CHECK(last.count == RECEIVERS * (is_known ? stream + 1u : STREAMS));
+        CHECK(last.receiver == RECEIVERS - 1 && last.payload_len == 0);
         /* 1,000 and the stream's number, and the mid ends in this, a hexadecimal digit. */
         CHECK(!is_known || (last.header[10] == (1000 + stream) >> 8 && last.header[11] == ((1000 + stream) & 0xFF)));
         CHECK(!is_known || last.header[12 + 4 + 2 + 31] == (uint8_t)"0123456789ABCDEF"[stream]);
     }
-    CHECK(sfu.counts.strangers == 1 && sfu.counts.taken == SFU_STREAMS && sfu.counts.unsent == 0);
-    CHECK(sfu.counts.sent == SFU_STREAMS * SFU_RECEIVERS);
+    CHECK(sfu.counts.strangers == 1 && sfu.counts.taken == STREAMS && sfu.counts.unsent == 0);
+    CHECK(sfu.counts.sent == STREAMS * RECEIVERS);
     /* Each receiver counts its own packets, over all streams. */
     peer.map.kind[3] = RTPW_KIND_TRANSPORT_NUMBER;
     memset(&sfu, 0, sizeof sfu);
@@ -155,11 +173,78 @@ static int room(void) {
         packet[2] = (uint8_t)(i / 2 >> 8), packet[3] = (uint8_t)(i / 2), packet[11] = (uint8_t)(i % 2);
         sfu_receive(&sfu, packet, sizeof packet, 0, keep, &last);
     }
-    CHECK(last.count == SFU_RECEIVERS * SFU_STREAMS + 1200 && last.header_len == 12 + 4 + 40);
+    CHECK(last.count == RECEIVERS * STREAMS + 1200 && last.header_len == 12 + 4 + 40);
     CHECK(memcmp(last.header + 12 + 4 + 34, "\3\2\2\x57", 4) == 0); /* 599 */
     return 0;
 }
 
+/* A sender that goes on, while it is sent, with a datagram of another SFU's sender. */
+typedef struct {
+    sfu *other;
+    sent own, others;
+} both;
+
+static const uint8_t FIRST[] = {0x90, 1, 0, 5, 0, 0, 0, 1, 0, 0, 0, 0x2C, 0xBE, 0xDE, 0, 1, 0x10, 0x8A, 0, 0, 1, 2, 3};
+static const uint8_t OTHER[] = {0x80, 2, 0, 9, 0, 0, 0, 2, 0, 0, 0, 0x2D, 4, 5, 6, 7};
+
+static void goes_on(void *context, size_t receiver, const uint8_t *header, size_t header_len, const uint8_t *payload,
+                    size_t payload_len) {
+    both *it = context;
+    sfu_receive(it->other, OTHER, sizeof OTHER, 1, keep, &it->others);
+    keep(&it->own, receiver, header, header_len, payload, payload_len);
+}
+
+/* An SFU has all that it knows in itself: another one that takes a datagram meanwhile, as in another thread, changes
+ * nothing of what it sends to each receiver. */
+static int apart(void) {
+    static sfu sfus[2];
+    static both it;
+    sfu_peer peer = {{{0}}, "m", 1000, 0};
+    rtpw_map sender = {{0}};
+    sender.kind[1] = peer.map.kind[2] = RTPW_KIND_AUDIO_LEVEL;
+    peer.map.kind[3] = RTPW_KIND_MID;
+    it.other = &sfus[1];
+    for (int i = 0; i < 3; i++) {
+        CHECK(sfu_add(&sfus[0], &sender, &peer));
+    }
+    CHECK(sfu_add(&sfus[1], &NOTHING, &peer));
+    sfu_receive(&sfus[0], FIRST, sizeof FIRST, 0, goes_on, &it);
+    CHECK(it.own.count == 3 && it.own.receiver == 2 && it.own.payload == FIRST + 20 && it.own.payload_len == 3);
+    CHECK(it.own.header_len == 24 && memcmp(it.own.header, "\x90\1\0\5\0\0\0\1\0\0\x03\xE8", 12) == 0);
+    CHECK(is(&it.own, "\xBE\xDE\0\2\x20\x8A\x31m0\0\0\0", 12));
+    /* The other one got its datagram three times. */
+    CHECK(it.others.count == 1 && it.others.payload == OTHER + 12 && it.others.payload_len == 4);
+    CHECK(sfus[0].counts.taken == 1 && sfus[1].counts.taken == 1 && sfus[1].counts.replays == 2);
+    return 0;
+}
+
+/* A block of another form stays, and uses up no number of the transport; nor does what isn't sent on at all. */
+static int numbers(void) {
+    static sfu sfu;
+    uint8_t camera[] = {0x90, 0, 0, 5, 0, 0, 0, 1, 0, 0, 0, 0x2C, 0xAB, 0xAC, 0, 1, 1, 2, 3, 4, 9};
+    uint8_t plain[] = {0x80, 0, 0, 6, 0, 0, 0, 1, 0, 0, 0, 0x2C};
+    sfu_peer peer = {{{0}}, "", 0xFFFFFFFE, 65535};
+    sent it = {0};
+    peer.map.kind[3] = RTPW_KIND_TRANSPORT_NUMBER;
+    CHECK(sfu_add(&sfu, &NOTHING, &peer));
+    sfu_receive(&sfu, camera, sizeof camera, 0, keep, &it);
+    CHECK(it.count == 1 && it.header_len == 20 && it.payload == camera + 20 && it.payload_len == 1);
+    CHECK(memcmp(it.header, "\x90\0\0\4\0\0\0\1\xFF\xFF\xFF\xFE\xAB\xAC\0\1\1\2\3\4", 20) == 0);
+    sfu_receive(&sfu, camera, sizeof camera, 0, keep, &it); /* a replay */
+    sfu_receive(&sfu, camera, 15, 0, keep, &it);            /* no packet */
+    camera[1] = 200, camera[3] = 7;
+    sfu_receive(&sfu, camera, sizeof camera, 0, keep, &it); /* RTCP */
+    CHECK(it.count == 1);
+    sfu_receive(&sfu, plain, sizeof plain, 0, keep, &it);
+    CHECK(it.count == 2 && is(&it, "\xBE\xDE\0\1\x31\0\0\0", 8));
+    plain[3] = 7;
+    sfu_receive(&sfu, plain, sizeof plain, 0, keep, &it);
+    CHECK(it.count == 3 && is(&it, "\xBE\xDE\0\1\x31\0\1\0", 8));
+    CHECK(sfu.stream_count == 1 && sfu.counts.taken == 3 && sfu.counts.replays == 1 && sfu.counts.late == 0);
+    CHECK(sfu.counts.unreadable == 1 && sfu.counts.rtcp == 1 && sfu.counts.strangers == 0);
+    return 0;
+}
+
 int main(void) {
-    return forms() || times() || spare() || two_byte() || room();
+    return forms() || times() || spare() || two_byte() || room() || apart() || numbers();
 }
