@@ -23,8 +23,9 @@ bad_maps=('map 0 urn:x' 'map 000 urn:x' 'map 256 urn:x' 'map 300 urn:x' 'map +3 
 # No URI, since it is no UTF-8: a byte that goes on or begins nothing, one too few or another, one that has to be
 # greater or less as the second one (U+0800, D7FF, 10000, 10FFFF are the ends), and more than are in one character.
 bad_uris=('map 3 \x80' 'map 3 urn:\xff' 'map 3 \xc1\xbf' 'map 3 \xc3' 'map 3 \xc3x' 'map 3 \xc3\xc3' 'map 3 \xe2\x82'
-    'map 3 \xe2\x82x' 'map 3 \xf0\x9f\x98' 'map 3 \xf0\x9f\x98\xc0' 'map 3 \xe0\x9f\xbf' 'map 3 \xed\xa0\x80' 'map 3 \xf0\x8f\xbf\xbf'
-    'map 3 \xf4\x90\x80\x80' 'map 3 \xf5\x80\x80\x80' 'map 3 \xf8\x88\x80\x80\x80' 'map 3 \xc3\xa9\xa9')
+    'map 3 \xe2\x82x' 'map 3 \xf0\x9f\x98' 'map 3 \xf0\x9f\x98\xc0' 'map 3 \xe0\x9f\xbf' 'map 3 \xed\xa0\x80'
+    'map 3 \xf0\x8f\xbf\xbf' 'map 3 \xf4\x90\x80\x80' 'map 3 \xf5\x80\x80\x80' 'map 3 \xf8\x88\x80\x80\x80'
+    'map 3 \xc3\xa9\xa9')
 # No hexadecimal: an odd number of digits, another letter, a carriage return that isn't before the line feed, and a
 # zero byte.
 bad_hex=(802 8G '80\rGG' '80\r80' '80\r\r' '\r80' '80\x00' '80\x0080' '80\x00GG' '\x0080')
@@ -129,8 +130,9 @@ compare() {
     for bad in "${bad_hex[@]}" 'map 3 urn:x'; do is_bad second "80\n$bad" "$@"; done
     printf '80000001000000010000002C%0131048d\r\n' 0 | "$@" | cmp - "$scratch/long" >&2 || fail "$*, a long line, CR LF"
     # One to three digits, and a URI is the rest of the line, with characters of one to four bytes.
-    for good in 'map 3 urn:x' 'map 03 urn:x' 'map 003 urn:x' 'map 255 urn:x y' 'map 7  ' 'map 3 \x00' 'map 3 \x7f\xc2\x80' \
-        'map 3 \xdf\xbf\xe0\xa0\x80' 'map 3 \xed\x9f\xbf\xee\x80\x80' 'map 3 \xef\xbf\xbf\xf0\x90\x80\x80' 'map 3 \xf4\x8f\xbf\xbfx'; do
+    for good in 'map 3 urn:x' 'map 03 urn:x' 'map 003 urn:x' 'map 255 urn:x y' 'map 7  ' 'map 3 \x00' \
+        'map 3 \x7f\xc2\x80' 'map 3 \xdf\xbf\xe0\xa0\x80' 'map 3 \xed\x9f\xbf\xee\x80\x80' \
+        'map 3 \xef\xbf\xbf\xf0\x90\x80\x80' 'map 3 \xf4\x8f\xbf\xbfx'; do
         printf '%b\n80\n' "$good" | "$@" | cmp - <(head -n 2 "$scratch/second") >&2 || fail "$*, the line $good"
     done
     is_bad_at_the_end "$@"
