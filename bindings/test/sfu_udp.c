@@ -183,8 +183,8 @@ static void go_on_for_years(void) {
     }
 }
 
-/* How many datagrams of 1,212 bytes, for each of which Linux counts 2,304, fill three quarters of a room of 4 MiB, or of
- * the largest that a program may ask for: more than fit in the room that a socket has by itself. */
+/* How many datagrams of 1,212 bytes, for each of which Linux counts 2,304, fill three quarters of a room of 4 MiB, or
+ * of the largest that a program may ask for: more than fit in the room that a socket has by itself. */
 static unsigned long burst(void) {
     unsigned long room = 0;
     FILE *largest = fopen("/proc/sys/net/core/rmem_max", "r");
@@ -195,19 +195,14 @@ static unsigned long burst(void) {
     return room * 2 * 3 / 4 / 2304; /* Linux doubles what is asked for */
 }
 
-int main(int argc, char **argv) {
-    static uint8_t datagram[LONG] = {0x80, 0x6F, 0, 6, 0, 0, 0, 0xA1, 0, 0, 0, 0x2C};
-    unsigned ports[RECEIVERS], own;
-    int sockets[RECEIVERS], sender = opened(&own);
-    CHECK(argc == 2);
-    for (int i = 0; i < RECEIVERS; i++) {
-        sockets[i] = opened(&ports[i]);
-    }
-    for (size_t i = FIXED; i < LONG; i++) {
-        datagram[i] = (uint8_t)(i * 7 + i / 256);
-    }
-    go_on_for_years();
-    running it = started(argv[1], ports);
+/* The sender's socket, and those of the receivers with their ports; a long datagram, the packet 6 without a block. */
+static int sender, sockets[RECEIVERS];
+static unsigned ports[RECEIVERS];
+static uint8_t datagram[LONG] = {0x80, 0x6F, 0, 6, 0, 0, 0, 0xA1, 0, 0, 0, 0x2C};
+
+/* Each receiver gets a short packet and a long one. */
+static void of_each_length(const char *program) {
+    running it = started(program, ports);
     uint32_t since = now();
     sends(sender, it.port, LEVEL, sizeof LEVEL);
     for (int i = 0; i < RECEIVERS; i++) {
@@ -219,65 +214,92 @@ int main(int argc, char **argv) {
         comes_to(sockets[i], it.port, 1, i, datagram + FIXED, LONG - FIXED, since);
     }
     ends(&it, "taken 2 replays 0 late 0 rtcp 0 unreadable 0 strangers 0 sent 6 unsent 0\n", 0);
+}
 
-    /* Nothing can be sent to the port 0: the other receivers get their packets, and the status says it. */
-    unsigned others = ports[1];
-    ports[1] = 0;
-    it = started(argv[1], ports);
-    since = now();
+/* Nothing can be sent to the port 0: the other receivers get their packets, and the status says it. */
+static void to_no_port(const char *program) {
+    const unsigned to[RECEIVERS] = {ports[0], 0, ports[2]};
+    running it = started(program, to);
+    uint32_t since = now();
     sends(sender, it.port, LEVEL, sizeof LEVEL);
     comes_to(sockets[0], it.port, 0, 0, LEVEL + 20, 3, since);
     comes_to(sockets[2], it.port, 0, 2, LEVEL + 20, 3, since);
     ends(&it, "taken 1 replays 0 late 0 rtcp 0 unreadable 0 strangers 0 sent 3 unsent 0\n", 1);
+}
 
-    /* While it is stopped a datagram of no bytes comes, a packet, and the end of its input: all are taken. */
-    it = started(argv[1], ports);
-    stop(&it);
-    sends(sender, it.port, LEVEL, 0);
-    sends(sender, it.port, LEVEL, sizeof LEVEL);
-    CHECK(fclose(it.in) == 0 && kill(it.process, SIGCONT) == 0);
-    has_ended(&it, "taken 1 replays 0 late 0 rtcp 0 unreadable 1 strangers 0 sent 3 unsent 0\n", 1);
-
-    /* Its lines may be long, end in a carriage return and a line feed, and have zeros before an id, which is decimal. */
+/* Its lines may be long, end in a carriage return and a line feed, and have zeros before an id, which is decimal. It
+ * takes nothing that is sent to another address, and no replay. */
+static void with_other_lines(const char *program) {
     static char maps[70000];
-    static uint8_t thirteen[sizeof LEVEL];
+    uint8_t thirteen[sizeof LEVEL];
     memset(maps, 'x', sizeof maps - 1);
     memcpy(maps, "map 7 ", 6);
     strcpy(maps + 65000, "\r\nmap 013 " LEVEL_URI "\r\nmap 09 " LEVEL_URI "\r\nmap 9 x\r\n");
     memcpy(thirteen, LEVEL, sizeof thirteen);
     thirteen[16] = 0xD0;
-    ports[1] = others;
-    it = started_with(argv[1], ports, maps, "\r\n");
-    since = now();
+    running it = started_with(program, ports, maps, "\r\n");
+    uint32_t since = now();
     sends(sender, it.port, thirteen, sizeof thirteen);
     for (int i = 0; i < RECEIVERS; i++) {
         comes_to(sockets[i], it.port, 0, i, LEVEL + 20, 3, since);
     }
-    /* It takes nothing that is sent to another address, and no replay. */
     struct sockaddr_in elsewhere = local(it.port);
     elsewhere.sin_addr.s_addr = htonl(INADDR_LOOPBACK + 1);
     (void)!sendto(sender, datagram, 100, 0, (struct sockaddr *)&elsewhere, sizeof elsewhere);
     sends(sender, it.port, LEVEL, sizeof LEVEL);
     ends(&it, "taken 1 replays 1 late 0 rtcp 0 unreadable 0 strangers 0 sent 3 unsent 0\n", 0);
+}
 
-    /* What comes while it is stopped waits, as much as its room holds. */
+/* While it is stopped a datagram of no bytes comes, a packet, and the end of its input: all are taken. */
+static void while_it_is_stopped(const char *program) {
+    running it = started(program, ports);
+    stop(&it);
+    sends(sender, it.port, LEVEL, 0);
+    sends(sender, it.port, LEVEL, sizeof LEVEL);
+    CHECK(fclose(it.in) == 0 && kill(it.process, SIGCONT) == 0);
+    has_ended(&it, "taken 1 replays 0 late 0 rtcp 0 unreadable 1 strangers 0 sent 3 unsent 0\n", 0);
+}
+
+/* What comes while it is stopped waits, as much as its room holds. */
+static void in_its_room(const char *program) {
     char expected[200];
     unsigned long count = burst();
-    it = started(argv[1], ports);
+    running it = started(program, ports);
     stop(&it);
     for (unsigned long i = 0; i < count; i++) {
         datagram[2] = (uint8_t)(i >> 8), datagram[3] = (uint8_t)i;
         sends(sender, it.port, datagram, 1212);
     }
     CHECK(fclose(it.in) == 0 && kill(it.process, SIGCONT) == 0);
-    snprintf(expected, sizeof expected, "taken %lu replays 0 late 0 rtcp 0 unreadable 0 strangers 0 sent %lu unsent 0\n",
-             count, 3 * count);
+    snprintf(expected, sizeof expected,
+             "taken %lu replays 0 late 0 rtcp 0 unreadable 0 strangers 0 sent %lu unsent 0\n", count, 3 * count);
     has_ended(&it, expected, 0);
+}
 
-    /* What it can't print is told by its status. */
+/* What it can't print is told by its status. */
+static void unprinted(const char *program) {
     int status;
-    it = started(argv[1], ports);
+    running it = started(program, ports);
     CHECK(fclose(it.out) == 0 && fclose(it.in) == 0);
     CHECK(waitpid(it.process, &status, 0) == it.process && WIFEXITED(status) && WEXITSTATUS(status) == 1);
+}
+
+int main(int argc, char **argv) {
+    unsigned own;
+    CHECK(argc == 2);
+    sender = opened(&own);
+    for (int i = 0; i < RECEIVERS; i++) {
+        sockets[i] = opened(&ports[i]);
+    }
+    for (size_t i = FIXED; i < LONG; i++) {
+        datagram[i] = (uint8_t)(i * 7 + i / 256);
+    }
+    go_on_for_years();
+    of_each_length(argv[1]);
+    to_no_port(argv[1]);
+    with_other_lines(argv[1]);
+    while_it_is_stopped(argv[1]);
+    in_its_room(argv[1]);
+    unprinted(argv[1]);
     return 0;
 }
