@@ -201,6 +201,49 @@ func TestLengthsOfNoBuffer(t *testing.T) {
 	same(t, "unchanged", buf, before)
 }
 
+// The bytes behind a slice aren't the caller's, though its capacity goes on.
+func TestNothingBehindASliceIsRead(t *testing.T) {
+	buf := append(sample(), make([]byte, 27)...)
+	before := append([]byte(nil), buf...)
+	for length := 0; length < 2; length++ {
+		number, original, err := rtpwire.ReadOriginal(buf[:length])
+		same(t, "no number", []any{number, original, err}, []any{uint16(0), []byte(nil), rtpwire.ErrShortBuffer})
+		same(t, "no number", rtpwire.WriteOriginal(buf[:length], 0x1234), rtpwire.ErrShortBuffer)
+	}
+	for _, length := range []int{36, 20, 0} {
+		for _, err := range []error{
+			func() error { _, err := rtpwire.PutElement(buf[:length], 37, 1, nil, rtpwire.AnyForm); return err }(),
+			func() error {
+				_, err := rtpwire.ToRetransmission(buf[:length], 37, 1, 2, 3, new(rtpwire.NewIDs))
+				return err
+			}(),
+			func() error {
+				_, err := rtpwire.FromRetransmission(buf[:length], 37, 1, 2, new(rtpwire.NewIDs))
+				return err
+			}(),
+		} {
+			same(t, "no length", err, rtpwire.ErrBadField)
+		}
+	}
+	_, err := rtpwire.Pad(buf[:36], 36, 1, 1)
+	same(t, "no room", err, rtpwire.ErrShortBuffer)
+	var v rtpwire.Values
+	v.SetTransportNumber(7)
+	_, err = v.DataOf(rtpwire.KindTransportNumber, buf[:1])
+	same(t, "no room", err, rtpwire.ErrShortBuffer)
+	for _, n := range []int{0, 4} {
+		places := []rtpwire.Place{{ID: 1, At: n, Len: 1}}
+		_, err = rtpwire.WriteElements(buf, rtpwire.OneByteForm, []byte{1, 2, 3, 4, 5}[:n], places)
+		same(t, "data behind", err, rtpwire.ErrBadField)
+		_, err = new(rtpwire.Header).WriteWith(buf, []byte{1, 2, 3, 4, 5}[:n], places)
+		same(t, "data behind", err, rtpwire.ErrBadField)
+	}
+	_, ok := rtpwire.PeekSSRC(buf[:11])
+	same(t, "no SSRC", ok, false)
+	same(t, "no RTCP", rtpwire.IsRTCP([]byte{0x80, 200}[:1]), false)
+	same(t, "unchanged", buf, before)
+}
+
 // Each change of what is no packet says why, and changes nothing.
 func TestChangesOfNoPackets(t *testing.T) {
 	for length, cause := range map[int]rtpwire.Cause{
