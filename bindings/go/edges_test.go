@@ -190,6 +190,13 @@ func TestLengthsOfNoBuffer(t *testing.T) {
 		same(t, "no source", rtpwire.SetCSRC(buf, index, 9), rtpwire.ErrNotFound)
 	}
 	same(t, "unchanged", buf, before)
+	// Data whose length has the low bits of another one: 1 byte, 2 bytes, and none.
+	for _, length := range []int{256, 257, 258, 65536, 65537, 65538} {
+		for id := uint8(1); id <= 2; id++ {
+			same(t, "another length", rtpwire.SetElement(buf, id, make([]byte, length)), rtpwire.ErrNotFound)
+		}
+	}
+	same(t, "unchanged", buf, before)
 	// All forms that may be allowed, and all others. The id 0 is none.
 	for form := 0; form < 256; form++ {
 		_, err := rtpwire.PutElement(append([]byte(nil), buf...), 37, 1, []byte{9}, rtpwire.Form(form))

@@ -373,6 +373,11 @@ if [ -e "$folder/sfu_c" ]; then
     printf '806F%s000000A00000002C\n' 0005 0069 000F | "$folder/sfu_c" 2 | tail -n 1 >"$scratch/said"
     echo 'taken 6 replays 0 late 0 rtcp 0 unreadable 0 strangers 0 sent 18 unsent 0' | diff - "$scratch/said" >&2 ||
         fail 'the SFU, twice with higher numbers'
+    # Once again is as much as without a number, also of headers of 2,048 bytes.
+    for it in unsent full payload; do
+        bytes=$("$folder/sfu_c" <"$scratch/$it.lines" | awk 'NF == 2 { bytes += length($2) / 2 } END { print bytes }')
+        "$folder/sfu_c" 1 <"$scratch/$it.lines" | grep -q " datagrams, $bytes bytes to receivers" || fail "the SFU, once, $it"
+    done
     # 1,000 is the highest number the second time: 127 below 1,127, 128 below 1,128, and taken where it came itself. After
     # 65,535 comes 999, and ten times is a decimal number.
     again() { # the numbers, how often, what is counted
@@ -403,6 +408,12 @@ if [ -e "$folder/sfu_c" ]; then
     sed -n 's/.* receivers, \(.*\) seconds of .*/\1/p' "$scratch/took" | cat - "$scratch/took_all" |
         awk 'NR == 1 { it = $1 / 5 } NR == 2 { all = $1 + $2 } END { exit !(it <= all + 0.02 && it >= all / 2 - 0.02) }' ||
         fail "the SFU, the time that it took 200 times: $(cat "$scratch/took" "$scratch/took_all")"
+    # Reading the lines isn't counted: of 40,000 bytes each that takes nearly all of what the process took.
+    awk 'BEGIN { for (i = 0; i < 100; i++) printf "8000%04X000000000000002C%079976d\n", i, 0 }' >"$scratch/reading.lines"
+    { time "$folder/sfu_c" 1 <"$scratch/reading.lines" >"$scratch/took"; } 2>"$scratch/took_all"
+    sed -n 's/.* receivers, \(.*\) seconds of .*/\1/p' "$scratch/took" | cat - "$scratch/took_all" |
+        awk 'NR == 1 { it = $1 / 10000 } NR == 2 { all = $1 + $2 } END { exit !(it <= all / 4) }' ||
+        fail "the SFU, the time of long lines: $(cat "$scratch/took" "$scratch/took_all")"
     status=0
     head -n 1001 "$scratch/many.lines" | "$folder/sfu_c" 1 >"$scratch/said" || status=$?
     [ $status -eq 3 ] && [ ! -s "$scratch/said" ] || fail 'the SFU, 1,001 datagrams again'
