@@ -304,6 +304,9 @@ printf '%s\n' 1\ 90E000CE00015F90000003E8ABAC0001E58B3C40 \
 printf '\n\r\n\n80000001000000010000002C%s%s' "$lowercase" "$uppercase" >"$scratch/payload.lines"
 # 60 ms are 15,728.64 units (0x3D70).
 echo "1 9000000100000001000003E8BEDE0003216D3051000072003D700000$uppercase$uppercase" >"$scratch/payload.expected"
+# Sources differ in any of their bits, and each sends a packet twice.
+printf '80000005000000A0%s\n' {00000001,00000101,00010001,01000001,80000001,7FFFFFFF,FFFFFFFF,00000000}{,} >"$scratch/sources.lines"
+echo 'taken 8 replays 8 late 0 rtcp 0 unreadable 0 strangers 0 sent 24 unsent 0' >"$scratch/sources.expected"
 # The 214,750th datagram goes at 4,294.98 s, which are 2^32 microseconds and 12,704 more: modulo 64 s 6.98 s, which are
 # 1,829,765.12 units (0x1BEB85).
 awk 'BEGIN { for (i = 0; i < 214749; i++) print "80"; print "80000001000000010000002C" }' >"$scratch/hour.lines"
@@ -324,7 +327,7 @@ sends_on() {
     reads_a_folder "$@"
     "$@" <"$scratch/sfu.lines" | diff "$scratch/sfu.expected" - >&2 || fail "$*, what is sent on"
     "$@" <"$scratch/window.lines" | grep -v '^[23] ' | diff "$scratch/window.expected" - >&2 || fail "$*, the window"
-    for it in full before counted; do
+    for it in full before counted sources; do
         "$@" <"$scratch/$it.lines" | tail -n 1 | diff "$scratch/$it.expected" - >&2 || fail "$*, what is counted, $it"
     done
     "$@" <"$scratch/spare.lines" | grep '^2 ' | diff "$scratch/spare.expected" - >&2 || fail "$*, the id to spare"
