@@ -177,10 +177,13 @@ static void stop(const running *it) {
 /* Where the system lets it, the clock of the programs that are started has counted 54 years more, 27,000,000 * 64 s:
  * its microseconds need more than 32 bits, and 2^18 times as much more than 64. */
 static void go_on_for_years(void) {
+#ifdef CLONE_NEWTIME
     FILE *offsets = unshare(CLONE_NEWTIME) == 0 ? fopen("/proc/self/timens_offsets", "w") : NULL;
     if (offsets != NULL) {
-        CHECK(fputs("monotonic 1728000000 0\n", offsets) >= 0 && fclose(offsets) == 0);
+        fputs("monotonic 1728000000 0\n", offsets);
+        fclose(offsets);
     }
+#endif
 }
 
 /* How many datagrams of 1,212 bytes, for each of which Linux counts 2,304, fill three quarters of a room of 4 MiB, or
