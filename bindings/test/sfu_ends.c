@@ -138,6 +138,10 @@ static int two_byte(void) {
     CHECK(sfu_add(&sfu, &sender, &peer));
     sfu_receive(&sfu, packet, sizeof packet, 0, keep, &it);
     CHECK(is(&it, "\x10\0\0\1\x14\1\x8A\0", 8));
+    /* Without a block, and without an element for it, a packet gets none. */
+    static const uint8_t plain[] = {0x80, 0, 0, 6, 0, 0, 0, 1, 0, 0, 0, 0x2C, 9};
+    sfu_receive(&sfu, plain, sizeof plain, 0, keep, &it);
+    CHECK(it.count == 2 && it.header_len == 12 && it.header[0] == 0x80 && it.payload == plain + 12);
     return 0;
 }
 
@@ -249,6 +253,27 @@ static int numbers(void) {
     return 0;
 }
 
+/* Three numbers for each 65,536, up to one past 2^32: the same again is a replay, and 128 below it is too late. */
+static int past_32_bits(void) {
+    static sfu sfu;
+    uint8_t plain[] = {0x80, 0, 0, 0, 0, 0, 0, 1, 0x12, 0x34, 0x56, 0x78};
+    for (unsigned long i = 0; i <= 3 * 65536; i++) {
+        unsigned number = i % 3 * 21845;
+        plain[2] = (uint8_t)(number >> 8), plain[3] = (uint8_t)number;
+        sfu_receive(&sfu, plain, sizeof plain, 0, keep, NULL);
+    }
+    CHECK(sfu.counts.taken == 3 * 65536 + 1 && sfu.counts.replays == 0 && sfu.counts.late == 0);
+    sfu_receive(&sfu, plain, sizeof plain, 0, keep, NULL);
+    plain[2] = 0xFF, plain[3] = 0xFF; /* one below it */
+    sfu_receive(&sfu, plain, sizeof plain, 0, keep, NULL);
+    sfu_receive(&sfu, plain, sizeof plain, 0, keep, NULL);
+    plain[3] = 0x80; /* 128 below it */
+    sfu_receive(&sfu, plain, sizeof plain, 0, keep, NULL);
+    CHECK(sfu.counts.taken == 3 * 65536 + 2 && sfu.counts.replays == 2 && sfu.counts.late == 1);
+    CHECK(sfu.counts.sent == 0 && sfu.counts.unsent == 0 && sfu.stream_count == 1);
+    return 0;
+}
+
 int main(void) {
-    return forms() || times() || spare() || two_byte() || room() || apart() || numbers();
+    return forms() || times() || spare() || two_byte() || room() || apart() || numbers() || past_32_bits();
 }
