@@ -292,10 +292,13 @@ echo "2 906F9C45000000A0000007D0100000081415${second}30C8020000FF03000000" >"$sc
 } >"$scratch/unsent.lines"
 echo 1\ 906F0002000000A0000003E8BEDE0003216D305100017200147A0000 >"$scratch/unsent.expected"
 echo 'taken 2 replays 0 late 0 rtcp 0 unreadable 0 strangers 0 sent 4 unsent 2' >>"$scratch/unsent.expected"
-# The level of the sender's id 10 goes on under the first receiver's id 9; an element of the id 8 or 9 doesn't.
+# The level of the sender's id 10 goes on under the first receiver's id 9; an element of the id 8 or 9 doesn't. That of
+# 255 does in the two-byte form, 20 ms later.
 printf '%s\n' "map 9 $audio_level" "map 010 $audio_level" 'map 08 urn:x' 'map 099 urn:x' 'map 09 urn:x' \
-    90000001000000010000002CBEDE0002A08A808B908C0000 >"$scratch/spelled.lines"
-echo 1\ 9000000100000001000003E8BEDE0003908A216D3051000072000000 >"$scratch/spelled.expected"
+    "map 255 $audio_level" 'map 127 urn:x' 90000001000000010000002CBEDE0002A08A808B908C0000 \
+    90000002000000010000002C10000001FF018A00 >"$scratch/spelled.lines"
+printf '%s\n' 1\ 9000000100000001000003E8BEDE0003908A216D3051000072000000 \
+    1\ 9000000200000001000003E81000000409018A02026D3005020001070300147A >"$scratch/spelled.expected"
 # A camera's block of another form stays, and uses up no number of the transport: the next packet has the first one.
 printf '%s\n' 90E000CE00015F900000002CABAC0001E58B3C40 806F00CF000000A00000002C >"$scratch/camera.lines"
 printf '%s\n' 1\ 90E000CE00015F90000003E8ABAC0001E58B3C40 \
