@@ -149,6 +149,7 @@ for it in forward receive; do
 done
 cc -std=c99 "${strict[@]}" "${include[@]}" bindings/examples/sfu{,_lines}.c "$library" -o "$scratch/sfu_c"
 cc -std=c99 "${strict[@]}" "${include[@]}" bindings/examples/sfu{,_sockets}.c "$library" -o "$scratch/sockets"
+cc -std=c99 "${strict[@]}" "${include[@]}" -c bindings/examples/sfu.c -o "$scratch/sfu.o"
 cc -std=c99 "${strict[@]}" bindings/test/sfu_udp.c -o "$scratch/udp"
 if has cargo; then
     "${cargo[@]}" build "${crate[@]}" --example sfu

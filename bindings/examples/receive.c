@@ -1,4 +1,5 @@
 /* Receives the packets of one stream, and refuses replays. */
+#include <inttypes.h>
 #include <rtp_wire.h>
 #include <stdio.h>
 
@@ -10,12 +11,13 @@ static void receive(rtpw_receiver *receiver, const rtpw_map *map, const uint8_t 
     } else if (rtpw_receiver_receive(receiver, header.sequence_number, &number) != RTPW_OK) {
         puts("a replay, or too old");
     } else if (header.values.has_audio_level) {
-        printf("%d dB, and %d bytes of payload\n", header.values.audio_level, (int)(len - header.header_len));
+        printf("%" PRIu64 ": %d dB, %zu bytes\n", number, header.values.audio_level, len - header.header_len);
     }
 }
 
 int main(void) {
     static const uint8_t packet[] = {0x90, 111, 0, 5, 0, 0, 0, 160, 0, 0, 0, 7, 0xBE, 0xDE, 0, 1, 0x10, 0x8A, 0, 0, 1, 2};
+    static const uint8_t report[] = {0x80, 204, 0, 2, 0, 0, 0, 7, 'R', 'T', 'C', 'P'}; /* at the same port */
     rtpw_map map; /* of the ids that SDP negotiated; here the usual ones */
     rtpw_map_standard(&map);
     rtpw_receiver receiver; /* one for each SSRC */
@@ -25,4 +27,5 @@ int main(void) {
     receive(&receiver, &map, packet, sizeof packet);
     receive(&receiver, &map, packet, sizeof packet);
     receive(&receiver, &map, packet, 11);
+    receive(&receiver, &map, report, sizeof report);
 }

@@ -56,7 +56,7 @@ static bool put(header *header, uint8_t id, const uint8_t *data, size_t len) {
 /* Gives the packet the ids of the receiver. A one-byte block can't carry ids above 14: so it first gets an
  * element that makes it a two-byte one, and that becomes padding with all that has no id there. */
 static bool renumber(header *header, const sfu_route *route, uint8_t form) {
-    return (!route->wide || form == RTPW_TWO_BYTE_FORM || put(header, route->spare_id, NULL, 0)) &&
+    return (!route->wide || form != RTPW_ONE_BYTE_FORM || put(header, route->spare_id, NULL, 0)) &&
            rtpw_renumber(header->bytes, header->len, &route->ids) == RTPW_OK;
 }
 

@@ -75,12 +75,12 @@ static void take(sfu *sfu, network *network) {
 int main(int argc, char **argv) {
     static sfu sfu;
     static char *line;
-    size_t room = 0;
+    size_t room = 0, len;
     ssize_t read;
     rtpw_map sender = {{0}};
     network network = {0};
-    while ((read = getline(&line, &room, stdin)) > 0 && line[0] != '\n') {
-        if (!is_map_line(&sender, line, len_of(line, (size_t)read))) {
+    while ((read = getline(&line, &room, stdin)) > 0 && (len = len_of(line, (size_t)read)) != 0) {
+        if (!is_map_line(&sender, line, len)) {
             return 2;
         }
     }
@@ -99,5 +99,5 @@ int main(int argc, char **argv) {
         take(&sfu, &network);
     }
     print_counts(&sfu.counts);
-    return network.socket < 0 || network.failed != 0 || fflush(stdout) != 0;
+    return network.socket < 0 || network.failed != 0 || ferror(stdin) || fflush(stdout) != 0;
 }

@@ -310,6 +310,11 @@ func TestHeaderIsReplaced(t *testing.T) {
 	for _, header := range []rtpwire.Header{{}, parsed(t, camera(), nil).Header} {
 		packet.Header = header
 		same(t, "lengths", []int{packet.HeaderLen(), len(packet.Payload())}, []int{32, 5})
+		unpadded, fits := packet.UnpaddedPayload()
+		form, body := packet.Block()
+		element, is := packet.Element(2)
+		same(t, "parts", []any{unpadded, fits, form, body, element, is, packet.BlockProfile()},
+			[]any{[]byte{1, 2, 3}, true, rtpwire.OneByteForm, sample()[24:32], []byte{0xBB, 0xCC}, true, uint16(0xBEDE)})
 	}
 }
 

@@ -106,4 +106,9 @@ func TestEpochsPastTwoToThe32(t *testing.T) {
 		}
 	}
 	judges(t, &r, []judged{{20002, 1<<32 + 5<<16 + 20002, rtpwire.Taken}})
+	highest, ok := r.Highest()
+	same(t, "highest", []any{highest, ok}, []any{uint64(1<<32 + 5<<16 + 20002), true})
+	var packet rtpwire.Packet
+	number, verdict, err := r.ReceivePacket(plain(20003), nil, &packet)
+	same(t, "taken", []any{number, verdict, err}, []any{uint64(1<<32 + 5<<16 + 20003), rtpwire.Taken, nil})
 }

@@ -17,7 +17,7 @@ fail() {
 }
 
 # No map lines: of an id that none has or that no one to three digits spell, without a URI, or with other spaces.
-bad_maps=('map 0 urn:x' 'map 000 urn:x' 'map 256 urn:x' 'map 300 urn:x' 'map +3 urn:x' 'map -3 urn:x' 'map 0x3 urn:x'
+bad_maps=('map 0 urn:x' 'map 000 urn:x' 'map 256 urn:x' 'map 257 urn:x' 'map 300 urn:x' 'map 512 urn:x' 'map 999 urn:x' 'map +3 urn:x' 'map -3 urn:x' 'map 0x3 urn:x'
     'map 0003 urn:x' 'map 1234 urn:x' 'map 3a urn:x' 'map 3' 'map 3 ' 'map 3 \r' 'map' 'map ' 'map  3 urn:x'
     'map\t3 urn:x' 'map 3\turn:x' ' map 3 urn:x' 'mop 3 urn:x' 'MAP 3 urn:x' 'map urn:x 3')
 # No URI, since it is no UTF-8: a byte that goes on or begins nothing, one too few or another, one that has to be
@@ -50,21 +50,86 @@ is_bad_at_the_end() { # the program, of a line that ends with the input, behind 
 }
 # Three numbers for each 65,536, and at last one: 2^32.
 awk 'BEGIN { for (i = 0; i <= 3 * 65536; i++) printf "8000%04X000000000000002C\n", i % 3 * 21845 }' >"$scratch/far.lines"
+reads_a_folder() { # the program: its status is 1
+    local status=0
+    "$@" <"$scratch" >"$scratch/said" 2>"$scratch/told" || status=$?
+    [ $status -eq 1 ] || fail "$*, a folder"
+    says_why "$@"
+}
+says_why() { # the program: what the system said of a file; in C and C++ the status is all
+    [[ $* != *_@(go|rust) ]] || [ -s "$scratch/told" ] || fail "$*, without a word"
+}
 tells_a_full_device() { # the line, the program
     local status=0
     echo "$1" | "${@:2}" >/dev/full 2>"$scratch/told" || status=$?
     [ $status -eq 1 ] || fail "${*:2}, what can't be written"
+    says_why "${@:2}"
 }
+# Ids are decimal numbers, also with zeros before them, and the last line of an id counts. In the two-byte form: the mid
+# a of the id 10, the rid b of 8, the repaired rid c of 77, -10 dB with voice of 99, 258 of 255; and a mid of 9 and a
+# level of 64, which mean nothing in the end.
+audio_level=urn:ietf:params:rtp-hdrext:ssrc-audio-level
+cat >"$scratch/spelled.lines" <<END
+map 9 urn:ietf:params:rtp-hdrext:sdes:mid
+map 064 $audio_level
+map 010 urn:ietf:params:rtp-hdrext:sdes:mid
+map 08 urn:ietf:params:rtp-hdrext:sdes:rtp-stream-id
+map 077 urn:ietf:params:rtp-hdrext:sdes:repaired-rtp-stream-id
+map 099 $audio_level
+map 255 http://www.ietf.org/id/draft-holmer-rmcat-transport-wide-cc-extensions-01
+map 009 urn:x
+map 64 ${audio_level}s
+90000001000000010000002C100000060A01610801624D016363018AFF02010209015A40018B0000
+END
+cat >"$scratch/spelled.expected" <<'END'
+packet 1: pt 0 seq 1 ts 1 ssrc 44 marker no padding no extension yes csrc 0 header 40 mid a rid b repaired c level -10 voice yes transport 258
+verdict 1: taken 1
+END
+# The greatest values: -127 dB without voice, and 16,777,215 units of 2^-18 s, which are 63,999,996.2 microseconds; and a
+# header of 16 and 4 * 16,385 bytes.
+{
+    printf '%s\n' "map 1 $audio_level" 'map 2 http://www.webrtc.org/experiments/rtp-hdrext/abs-send-time'
+    printf '90000001000000010000002CBEDE4001107F22FFFFFF%0131068d\n' 0
+} >"$scratch/greatest.lines"
+cat >"$scratch/greatest.expected" <<'END'
+packet 1: pt 0 seq 1 ts 1 ssrc 44 marker no padding no extension yes csrc 0 header 65556 level -127 voice no send 63999996
+verdict 1: taken 1
+END
+# Each byte in lowercase and uppercase, as the timestamp; and 300 sources, of which each sends one packet twice.
+awk 'BEGIN {
+    for (i = 0; i < 256; i++) {
+        byte = sprintf(i % 2 ? "%02X" : "%02x", i)
+        printf "8000%04x%s%s%s%s0000002c\n", i, byte, byte, byte, byte
+        byte = sprintf(i % 2 ? "%02x" : "%02X", i)
+        printf "8000%04X%s%s%s%s0000002D\n", i, byte, byte, byte, byte
+    }
+    for (i = 0; i < 600; i++) printf "8000000500000000%08X\n", i % 300 * 65537
+}' >"$scratch/bytes.lines"
+awk 'BEGIN {
+    rest = "marker no padding no extension no csrc 0 header 12"
+    for (i = 0; i < 512; i++) {
+        printf "packet %d: pt 0 seq %d ts %.0f ssrc %d %s\n", i + 1, int(i / 2), int(i / 2) * 16843009, 44 + i % 2, rest
+        printf "verdict %d: taken %d\n", i + 1, int(i / 2)
+    }
+    for (i = 0; i < 600; i++) {
+        printf "packet %d: pt 0 seq 5 ts 0 ssrc %d %s\n", i + 513, i % 300 * 65537, rest
+        printf "verdict %d: %s\n", i + 513, i < 300 ? "taken 5" : "refused"
+    }
+}' >"$scratch/bytes.expected"
 compare() {
     # by_hand.lines has what no capture has: padding, sources, no extension, a replay, a rollover, no packet, zeros
     # as values, an empty text, a URI without a kind, CR LF.
     for lines in captures/*.lines bindings/test/by_hand.lines; do
         "$@" <"$lines" | cmp - "${lines%.lines}.expected" >&2 || fail "$*, $lines"
     done
+    for it in spelled greatest bytes; do
+        "$@" <"$scratch/$it.lines" | cmp - "$scratch/$it.expected" >&2 || fail "$*, $it"
+    done
     # 65,536 bytes
     echo 'packet 1: pt 0 seq 1 ts 1 ssrc 44 marker no padding no extension no csrc 0 header 12' >"$scratch/long"
     echo 'verdict 1: taken 1' >>"$scratch/long"
     printf '80000001000000010000002C%0131048d\n' 0 | "$@" | cmp - "$scratch/long" >&2 || fail "$*, a long line"
+    printf '80000001000000010000002C%0999976d' 0 | "$@" | cmp - "$scratch/long" >&2 || fail "$*, a longer line without an end"
     for bad in "${bad_hex[@]}" "${bad_maps[@]}"; do is_bad first "$bad" "$@"; done
     for bad in "${bad_uris[@]}"; do is_bad_uri "$bad" "$@"; done
     for bad in "${bad_hex[@]}" 'map 3 urn:x'; do is_bad second "80\n$bad" "$@"; done
@@ -88,23 +153,21 @@ compare() {
             cmp - "$scratch/said" >&2 || fail "$*, a URI with $it"
     done
     [ -z "$("$@" </dev/null)" ] || fail "$*, no line"
-    # What can't be written, and what can't be read, as a folder.
-    status=0
-    echo 80 | "$@" >/dev/full 2>"$scratch/said" || status=$?
-    [ $status -eq 1 ] || fail "$*, a full disk"
-    status=0
-    "$@" <"$scratch" >"$scratch/said" 2>&1 || status=$?
-    [ $status -eq 1 ] || fail "$*, a folder"
+    reads_a_folder "$@"
+    [ ! -s "$scratch/said" ] || fail "$*, what is said of a folder"
 }
 for program in "$folder"/lines_*; do
     [ ! -e "$program" ] || compare "${emulator[@]}" "$program"
 done
 
 if [ -e "$folder/receive" ]; then
-    printf '%s\n' '-10 dB, and 2 bytes of payload' 'a replay, or too old' 'no RTP packet' >"$scratch/expected"
+    # 5 with the rollover count 1 is 65,541.
+    printf '%s\n' '65541: -10 dB, 2 bytes' 'a replay, or too old' 'no RTP packet' 'no RTP packet' >"$scratch/expected"
     "$folder/receive" | diff "$scratch/expected" - >&2 || fail receive
 fi
 
+lowercase=$(printf %02x {0..255})
+uppercase=$(printf %02X {0..255})
 forwards() {
     # SSRC 44 -> 77; 47,000 - 46,000 = 1,000; at 5 s the send time is 5 * 2^18 = 0x140000, and 40 ms later
     # 1,321,205 = 0x1428F5; its id 4 becomes 2, and the mid (id 3) becomes padding. The second packet says no send
@@ -127,18 +190,34 @@ forwards() {
         B1E0116AABCDEF01FFFFFFFA00000009100200030203FC147A000000000000004142434445464748494A000003 \
         8000126F00000000FFFFFFFA >"$scratch/expected"
     diff "$scratch/expected" "$scratch/forwarded" >&2 || fail 'the forwarder, near the ends'
-    printf '80000001000000010000002C%0131048d\n' 0 | "$folder/forward" 4294967290 70000 5 >"$scratch/forwarded"
-    printf '8000117100000001FFFFFFFA%0131048d\n' 0 | cmp - "$scratch/forwarded" >&2 || fail 'the forwarder, a long line'
-    # The SSRC is a decimal number, also with zeros before it: 77 is 0x4D.
-    echo 80000001000000010000002C | "$folder/forward" 0077 0 0 >"$scratch/forwarded"
-    echo 80000001000000010000004D | cmp - "$scratch/forwarded" >&2 || fail 'the forwarder, an SSRC with zeros'
+    for end in '\n' '\r\n' ''; do
+        printf "80000001000000010000002C%0131048d$end" 0 | "$folder/forward" 4294967290 70000 5 >"$scratch/forwarded"
+        printf '8000117100000001FFFFFFFA%0131048d\n' 0 | cmp - "$scratch/forwarded" >&2 || fail "the forwarder, a long line, $end"
+    done
+    # Each is a decimal number, also with zeros before it: 77 is 0x4D, and 10 s are 0x280000. Of each packet that goes on
+    # the time is 20 ms (5,242.88 units, 0x147A) later: also of one with a send time of another length, and of one whose
+    # block has another form, which both stay. One that is cut short goes nowhere.
+    printf '%s\n' 90000001000000010000002CBEDE000142AABBCC 90000001000000010000002CBEDE000243AABBCCDD000000 \
+        90000001000000010000002CBEDE000242AABBCC \
+        90000001000000010000002CABAC000142AABBCC 90000001000000010000002CBEDE000142AABBCC | "$folder/forward" 0077 010 010 >"$scratch/forwarded"
+    printf '%s\n' 9000000B000000010000004DBEDE000122280000 9000000B000000010000004DBEDE000223AABBCCDD000000 \
+        9000000B000000010000004DABAC000142AABBCC 9000000B000000010000004DBEDE000122283D70 |
+        diff - "$scratch/forwarded" >&2 || fail 'the forwarder, numbers with zeros'
+    # Each byte.
+    printf '%s' 80000001000000010000002C "$lowercase" "$uppercase" | "$folder/forward" 44 0 0 >"$scratch/forwarded"
+    echo "80000001000000010000002C$uppercase$uppercase" | cmp - "$scratch/forwarded" >&2 || fail 'the forwarder, each byte'
     # The last line needs no line feed.
     printf 80000001000000010000002C | "$folder/forward" 77 0 0 >"$scratch/forwarded"
     echo 80000001000000010000004D | cmp - "$scratch/forwarded" >&2 || fail 'the forwarder, a line without an end'
     tells_a_full_device 80000001000000010000002C "$folder/forward" 77 0 0
-    status=0
-    "$folder/forward" 77 -46000 </dev/null >"$scratch/forwarded" || status=$?
-    [ $status -eq 2 ] && [ ! -s "$scratch/forwarded" ] || fail 'the forwarder without all its arguments'
+    [ -z "$("$folder/forward" 77 0 0 </dev/null)" ] || fail 'the forwarder, no line'
+    reads_a_folder "$folder/forward" 77 0 0
+    for given in '' 77 '77 0' '77 0 0 0'; do
+        status=0
+        # shellcheck disable=SC2086
+        echo 80000001000000010000002C | "$folder/forward" $given >"$scratch/forwarded" || status=$?
+        [ $status -eq 2 ] && [ ! -s "$scratch/forwarded" ] || fail "the forwarder with the arguments '$given'"
+    done
 }
 [ ! -e "$folder/forward" ] || forwards
 
@@ -213,10 +292,45 @@ echo "2 906F9C45000000A0000007D0100000081415${second}30C8020000FF03000000" >"$sc
 } >"$scratch/unsent.lines"
 echo 1\ 906F0002000000A0000003E8BEDE0003216D305100017200147A0000 >"$scratch/unsent.expected"
 echo 'taken 2 replays 0 late 0 rtcp 0 unreadable 0 strangers 0 sent 4 unsent 2' >>"$scratch/unsent.expected"
+# The level of the sender's id 10 goes on under the first receiver's id 9; an element of the id 8 or 9 doesn't. That of
+# 255 does in the two-byte form, 20 ms later.
+printf '%s\n' "map 9 $audio_level" "map 010 $audio_level" 'map 08 urn:x' 'map 099 urn:x' 'map 09 urn:x' \
+    "map 255 $audio_level" 'map 127 urn:x' 90000001000000010000002CBEDE0002A08A808B908C0000 \
+    90000002000000010000002C10000001FF018A00 >"$scratch/spelled.lines"
+printf '%s\n' 1\ 9000000100000001000003E8BEDE0003908A216D3051000072000000 \
+    1\ 9000000200000001000003E81000000409018A02026D3005020001070300147A >"$scratch/spelled.expected"
+# A camera's block of another form stays, and uses up no number of the transport: the next packet has the first one.
+printf '%s\n' 90E000CE00015F900000002CABAC0001E58B3C40 806F00CF000000A00000002C >"$scratch/camera.lines"
+printf '%s\n' 1\ 90E000CE00015F90000003E8ABAC0001E58B3C40 \
+    1\ 906F00CF000000A0000003E8BEDE0003216D305100007200147A0000 >"$scratch/camera.expected"
+# No bytes are no packet. The last line needs no line feed, and each byte of a payload stays.
+printf '\n\r\n\n80000001000000010000002C%s%s' "$lowercase" "$uppercase" >"$scratch/payload.lines"
+# 60 ms are 15,728.64 units (0x3D70).
+echo "1 9000000100000001000003E8BEDE0003216D3051000072003D700000$uppercase$uppercase" >"$scratch/payload.expected"
+# Sources differ in any of their bits, and each sends a packet twice.
+printf '80000005000000A0%s\n' {00000001,00000101,00010001,01000001,80000001,7FFFFFFF,FFFFFFFF,00000000}{,} >"$scratch/sources.lines"
+echo 'taken 8 replays 8 late 0 rtcp 0 unreadable 0 strangers 0 sent 24 unsent 0' >"$scratch/sources.expected"
+# The 214,750th datagram goes at 4,294.98 s, which are 2^32 microseconds and 12,704 more: modulo 64 s 6.98 s, which are
+# 1,829,765.12 units (0x1BEB85).
+awk 'BEGIN { for (i = 0; i < 214749; i++) print "80"; print "80000001000000010000002C" }' >"$scratch/hour.lines"
+echo 1\ 9000000100000001000003E8BEDE0003216D30510000721BEB850000 >"$scratch/hour.expected"
 sends_on() {
+    for it in spelled camera payload hour; do
+        "$@" <"$scratch/$it.lines" | grep '^1 ' | diff "$scratch/$it.expected" - >&2 || fail "$*, what is sent on, $it"
+    done
+    "$@" <"$scratch/payload.lines" | tail -n 1 >"$scratch/said"
+    echo 'taken 1 replays 0 late 0 rtcp 0 unreadable 3 strangers 0 sent 3 unsent 0' | cmp - "$scratch/said" >&2 ||
+        fail "$*, what is counted, payload"
+    for none in '' 'map 3 urn:x\n'; do
+        # shellcheck disable=SC2059
+        printf "$none" | "$@" >"$scratch/said"
+        echo 'taken 0 replays 0 late 0 rtcp 0 unreadable 0 strangers 0 sent 0 unsent 0' | cmp - "$scratch/said" >&2 ||
+            fail "$*, no datagram"
+    done
+    reads_a_folder "$@"
     "$@" <"$scratch/sfu.lines" | diff "$scratch/sfu.expected" - >&2 || fail "$*, what is sent on"
     "$@" <"$scratch/window.lines" | grep -v '^[23] ' | diff "$scratch/window.expected" - >&2 || fail "$*, the window"
-    for it in full before counted; do
+    for it in full before counted sources; do
         "$@" <"$scratch/$it.lines" | tail -n 1 | diff "$scratch/$it.expected" - >&2 || fail "$*, what is counted, $it"
     done
     "$@" <"$scratch/spare.lines" | grep '^2 ' | diff "$scratch/spare.expected" - >&2 || fail "$*, the id to spare"
@@ -224,10 +338,14 @@ sends_on() {
     # The mids of the sixteen streams end in their hexadecimal digits.
     "$@" <"$scratch/full.lines" | sed -n 's/^1 .\{24\}BEDE0003216D\(..\).*/\1/p' | diff <(printf '%s\n' 3{0..9} 4{1..6}) - >&2 ||
         fail "$*, the digits of the streams"
-    # 65,536 bytes, of which each receiver gets the payload; and a map line behind a datagram.
-    printf '80000001000000010000002C%0131048d\n' 0 | "$@" |
-        awk '/^[1-3] / { n += length($2) } END { print n }' >"$scratch/said"
-    [ "$(cat "$scratch/said")" -gt $((3 * 131048)) ] || fail "$*, a long line"
+    # 65,536 bytes, of which each receiver gets the payload.
+    printf '1 9000000100000001000003E8BEDE0003216D30510000720000000000%0131048d\n' 0 >"$scratch/long"
+    for end in '\n' '\r\n' ''; do
+        printf "80000001000000010000002C%0131048d$end" 0 | "$@" | grep -v '^[23] ' >"$scratch/said"
+        { cat "$scratch/long"; echo 'taken 1 replays 0 late 0 rtcp 0 unreadable 0 strangers 0 sent 3 unsent 0'; } |
+            cmp - "$scratch/said" >&2 || fail "$*, a long line, $end"
+    done
+    # A map line behind a datagram.
     is_bad later '80\nmap 3 urn:x' "$@"
     is_bad later 'map 3 urn:x\n8G' "$@"
     tells_a_full_device 80 "$@"
@@ -246,6 +364,11 @@ for program in "$folder"/sfu_*; do
     [ ! -e "$program" ] || sends_on "$program"
 done
 if [ -e "$folder/ends" ]; then "$folder/ends" >&2 || fail 'the SFU at the ends of its room'; fi
+# It has no memory of its own that threads would share: no data that are written.
+if [ -e "$folder/sfu.o" ]; then
+    nm "$folder/sfu.o" >"$scratch/symbols"
+    ! grep -E ' [BbCDdGgSs] ' "$scratch/symbols" >&2 || fail 'the SFU has memory of its own'
+fi
 # Taken twice, with numbers that are higher by 1,000 the second time: twice as much of everything.
 if [ -e "$folder/sfu_c" ]; then
     bytes=$(awk 'NF == 2 { bytes += length($2) } END { print bytes }' "$scratch/sfu.expected")
@@ -256,14 +379,47 @@ if [ -e "$folder/sfu_c" ]; then
     printf '806F%s000000A00000002C\n' 0005 0069 000F | "$folder/sfu_c" 2 | tail -n 1 >"$scratch/said"
     echo 'taken 6 replays 0 late 0 rtcp 0 unreadable 0 strangers 0 sent 18 unsent 0' | diff - "$scratch/said" >&2 ||
         fail 'the SFU, twice with higher numbers'
+    # Once again is as much as without a number, also of headers of 2,048 bytes.
+    for it in unsent full payload; do
+        bytes=$("$folder/sfu_c" <"$scratch/$it.lines" | awk 'NF == 2 { bytes += length($2) / 2 } END { print bytes }')
+        "$folder/sfu_c" 1 <"$scratch/$it.lines" | grep -q " datagrams, $bytes bytes to receivers" || fail "the SFU, once, $it"
+    done
+    # 1,000 is the highest number the second time: 127 below 1,127, 128 below 1,128, and taken where it came itself. After
+    # 65,535 comes 999, and ten times is a decimal number.
+    again() { # the numbers, how often, what is counted
+        # shellcheck disable=SC2086
+        printf '806F%04X000000A00000002C\n' $1 | "$folder/sfu_c" "$2" >"$scratch/took"
+        echo "$3 rtcp 0 unreadable 0 strangers 0" | cmp - <(tail -n 1 "$scratch/took" | sed 's/ sent.*//') >&2 ||
+            fail "the SFU, the numbers $1, $2 times"
+    }
+    again '0 1127' 2 'taken 4 replays 0 late 0'
+    again '0 1128' 2 'taken 3 replays 0 late 1'
+    again '0 1000' 2 'taken 3 replays 1 late 0'
+    again 65535 3 'taken 3 replays 0 late 0'
+    again 65535 010 'taken 10 replays 0 late 0'
+    # Not once again is as it is without a number.
+    "$folder/sfu_c" 0 <"$scratch/sfu.lines" | diff "$scratch/sfu.expected" - >&2 || fail 'the SFU, not again'
     # 1,000 datagrams are taken again, and not one more. Of each the receivers get 28, 48 and 40 bytes. A million takes
     # less than ten thousand seconds.
-    head -n 1000 "$scratch/many.lines" | "$folder/sfu_c" 1 >"$scratch/took"
+    head -n 1000 "$scratch/many.lines" >"$scratch/thousand.lines"
+    "$folder/sfu_c" 1 <"$scratch/thousand.lines" >"$scratch/took"
     grep -qE ' receivers, [0-9]{1,4}\.[0-9]{2} seconds of ' "$scratch/took" || fail 'the SFU, the time that it took'
     sed <"$scratch/took" 's/receivers, .*/receivers/' >"$scratch/said"
     printf '%s\n' '1000 datagrams, 116000 bytes to receivers' \
         'taken 1000 replays 0 late 0 rtcp 0 unreadable 0 strangers 0 sent 3000 unsent 0' | diff - "$scratch/said" >&2 ||
         fail 'the SFU, 1,000 datagrams again'
+    # Taken 200 times they take a fifth of what a million does: at most what the process took, and at least half of it.
+    TIMEFORMAT='%U %S'
+    { time "$folder/sfu_c" 200 <"$scratch/thousand.lines" >"$scratch/took"; } 2>"$scratch/took_all"
+    sed -n 's/.* receivers, \(.*\) seconds of .*/\1/p' "$scratch/took" | cat - "$scratch/took_all" |
+        awk 'NR == 1 { it = $1 / 5 } NR == 2 { all = $1 + $2 } END { exit !(it <= all + 0.02 && it >= all / 2 - 0.02) }' ||
+        fail "the SFU, the time that it took 200 times: $(cat "$scratch/took" "$scratch/took_all")"
+    # Reading the lines isn't counted: of 40,000 bytes each that takes nearly all of what the process took.
+    awk 'BEGIN { for (i = 0; i < 100; i++) printf "8000%04X000000000000002C%079976d\n", i, 0 }' >"$scratch/reading.lines"
+    { time "$folder/sfu_c" 1 <"$scratch/reading.lines" >"$scratch/took"; } 2>"$scratch/took_all"
+    sed -n 's/.* receivers, \(.*\) seconds of .*/\1/p' "$scratch/took" | cat - "$scratch/took_all" |
+        awk 'NR == 1 { it = $1 / 10000 } NR == 2 { all = $1 + $2 } END { exit !(it <= all / 4) }' ||
+        fail "the SFU, the time of long lines: $(cat "$scratch/took" "$scratch/took_all")"
     status=0
     head -n 1001 "$scratch/many.lines" | "$folder/sfu_c" 1 >"$scratch/said" || status=$?
     [ $status -eq 3 ] && [ ! -s "$scratch/said" ] || fail 'the SFU, 1,001 datagrams again'
@@ -276,6 +432,11 @@ if [ -e "$folder/sockets" ]; then
         "$folder/sockets" "$@" >"$scratch/said" || status=$?
         [ $status -eq 2 ] && [ ! -s "$scratch/said" ] || fail "the SFU with sockets, $*"
     }
+    # Without a line it ends as soon as its input has; a folder can't be read.
+    "$folder/sockets" 1 2 3 </dev/null | sed 's/^port [1-9][0-9]*$/port/' >"$scratch/said"
+    printf '%s\n' port 'taken 0 replays 0 late 0 rtcp 0 unreadable 0 strangers 0 sent 0 unsent 0' |
+        diff - "$scratch/said" >&2 || fail 'the SFU with sockets, no line'
+    reads_a_folder "$folder/sockets" 1 2 3
     for bad in "${bad_maps[@]}" "${bad_uris[@]}"; do ends_at_once 1 2 3 < <(printf '%b\n' "$bad"); done
     for ports in '' '1 2' '1 2 3 4'; do
         # shellcheck disable=SC2086

@@ -17,8 +17,9 @@ build() { # program, standard, files
     for it in "${@:3}"; do
         case $it in *.c | *.cpp) sources+=("$examples/$it") ;; esac
     done
-    case $2 in
-    c++*) c++ "-std=$2" "${built[@]}" "${sources[@]}" "$library" -o "$folder/$1" ;;
+    case $1,$2 in
+    *.o,*) cc "-std=$2" -O1 -I "$include" -c "${sources[@]}" -o "$folder/$1" ;; # its own symbols alone
+    *,c++*) c++ "-std=$2" "${built[@]}" "${sources[@]}" "$library" -o "$folder/$1" ;;
     *) cc "-std=$2" "${built[@]}" "${sources[@]}" "$library" -o "$folder/$1" ;;
     esac
 }
@@ -28,5 +29,6 @@ build receive c99 receive.c
 build forward c99 forward.c
 build sfu_c c99 sfu.c sfu_lines.c sfu.h sfu_peers.h utf8.h
 build ends c99 ../test/sfu_ends.c sfu.c sfu.h
+build sfu.o c99 sfu.c sfu.h
 build sockets c99 sfu.c sfu_sockets.c sfu.h sfu_peers.h utf8.h
 [ ! -e "$folder/sockets" ] || file='' program='' build udp c99 ../test/sfu_udp.c

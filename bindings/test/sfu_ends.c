@@ -15,9 +15,12 @@
         }                                                                                                              \
     } while (0)
 
+/* So many receivers and streams at most, and so many bytes of a header that is sent on. */
+enum { RECEIVERS = 8, STREAMS = 16, HEADER = 2048 };
+
 typedef struct {
     size_t count, receiver, header_len, payload_len;
-    uint8_t header[SFU_HEADER];
+    uint8_t header[HEADER];
     const uint8_t *payload;
 } sent;
 
@@ -85,6 +88,21 @@ static int times(void) {
     CHECK(is(&it, "\xBE\xDE\0\1\x32\0\x14\x7A", 8));
     it = sent_to(3, RTPW_KIND_ABS_SEND_TIME, "", 6400000000u * 1000 + 64020000);
     CHECK(is(&it, "\xBE\xDE\0\1\x32\0\x14\x7A", 8));
+    /* Of a clock of today, which has counted 26,562,500 * 64 s; and of the last moment that there is: 2^64 - 1 are
+     * 288,230,376,151 * 64,000,000 and 45,551,615, which are 11,941,082.56 units. */
+    it = sent_to(3, RTPW_KIND_ABS_SEND_TIME, "", 1700000000000000u + 63990000);
+    CHECK(is(&it, "\xBE\xDE\0\1\x32\xFF\xF5\xC2", 8));
+    it = sent_to(3, RTPW_KIND_ABS_SEND_TIME, "", UINT64_MAX);
+    CHECK(is(&it, "\xBE\xDE\0\1\x32\xB6\x34\xDA", 8));
+    /* A unit is 3.8 microseconds. */
+    it = sent_to(3, RTPW_KIND_ABS_SEND_TIME, "", 3);
+    CHECK(is(&it, "\xBE\xDE\0\1\x32\0\0\0", 8));
+    it = sent_to(3, RTPW_KIND_ABS_SEND_TIME, "", 4);
+    CHECK(is(&it, "\xBE\xDE\0\1\x32\0\0\1", 8));
+    it = sent_to(3, RTPW_KIND_ABS_SEND_TIME, "", 63999999);
+    CHECK(is(&it, "\xBE\xDE\0\1\x32\xFF\xFF\xFF", 8));
+    it = sent_to(3, RTPW_KIND_ABS_SEND_TIME, "", 64000000);
+    CHECK(is(&it, "\xBE\xDE\0\1\x32\0\0\0", 8));
     return 0;
 }
 
@@ -120,6 +138,10 @@ static int two_byte(void) {
     CHECK(sfu_add(&sfu, &sender, &peer));
     sfu_receive(&sfu, packet, sizeof packet, 0, keep, &it);
     CHECK(is(&it, "\x10\0\0\1\x14\1\x8A\0", 8));
+    /* Without a block, and without an element for it, a packet gets none. */
+    static const uint8_t plain[] = {0x80, 0, 0, 6, 0, 0, 0, 1, 0, 0, 0, 0x2C, 9};
+    sfu_receive(&sfu, plain, sizeof plain, 0, keep, &it);
+    CHECK(it.count == 2 && it.header_len == 12 && it.header[0] == 0x80 && it.payload == plain + 12);
     return 0;
 }
 
@@ -129,24 +151,24 @@ static int room(void) {
     CHECK(!sfu_add(&sfu, &NOTHING, &peer) && sfu.route_count == 0);
     peer.mid = LONGEST;
     peer.map.kind[2] = RTPW_KIND_MID;
-    for (int i = 0; i < SFU_RECEIVERS; i++) {
+    for (int i = 0; i < RECEIVERS; i++) {
         CHECK(sfu_add(&sfu, &NOTHING, &peer));
     }
-    CHECK(!sfu_add(&sfu, &NOTHING, &peer) && sfu.route_count == SFU_RECEIVERS);
+    CHECK(!sfu_add(&sfu, &NOTHING, &peer) && sfu.route_count == RECEIVERS);
     sent last = {0};
     uint8_t packet[12] = {0x80, 0, 0, 5};
-    for (uint8_t stream = 0; stream <= SFU_STREAMS; stream++) {
+    for (uint8_t stream = 0; stream <= STREAMS; stream++) {
         packet[11] = stream;
         sfu_receive(&sfu, packet, sizeof packet, 0, keep, &last);
-        bool is_known = stream < SFU_STREAMS;
-        CHECK(last.count == SFU_RECEIVERS * (is_known ? stream + 1u : SFU_STREAMS));
-        CHECK(last.receiver == SFU_RECEIVERS - 1 && last.payload_len == 0);
+        bool is_known = stream < STREAMS;
+        CHECK(last.count == RECEIVERS * (is_known ? stream + 1u : STREAMS));
+        CHECK(last.receiver == RECEIVERS - 1 && last.payload_len == 0);
         /* 1,000 and the stream's number, and the mid ends in this, a hexadecimal digit. */
         CHECK(!is_known || (last.header[10] == (1000 + stream) >> 8 && last.header[11] == ((1000 + stream) & 0xFF)));
         CHECK(!is_known || last.header[12 + 4 + 2 + 31] == (uint8_t)"0123456789ABCDEF"[stream]);
     }
-    CHECK(sfu.counts.strangers == 1 && sfu.counts.taken == SFU_STREAMS && sfu.counts.unsent == 0);
-    CHECK(sfu.counts.sent == SFU_STREAMS * SFU_RECEIVERS);
+    CHECK(sfu.counts.strangers == 1 && sfu.counts.taken == STREAMS && sfu.counts.unsent == 0);
+    CHECK(sfu.counts.sent == STREAMS * RECEIVERS);
     /* Each receiver counts its own packets, over all streams. */
     peer.map.kind[3] = RTPW_KIND_TRANSPORT_NUMBER;
     memset(&sfu, 0, sizeof sfu);
@@ -155,11 +177,103 @@ static int room(void) {
         packet[2] = (uint8_t)(i / 2 >> 8), packet[3] = (uint8_t)(i / 2), packet[11] = (uint8_t)(i % 2);
         sfu_receive(&sfu, packet, sizeof packet, 0, keep, &last);
     }
-    CHECK(last.count == SFU_RECEIVERS * SFU_STREAMS + 1200 && last.header_len == 12 + 4 + 40);
+    CHECK(last.count == RECEIVERS * STREAMS + 1200 && last.header_len == 12 + 4 + 40);
     CHECK(memcmp(last.header + 12 + 4 + 34, "\3\2\2\x57", 4) == 0); /* 599 */
     return 0;
 }
 
+/* Two SFUs, of which the other one takes a datagram while the first one sends. */
+typedef struct {
+    sfu first, other;
+    unsigned own, others;
+} both;
+
+static const uint8_t FIRST[] = {0x90, 1, 0, 5, 0, 0, 0, 1, 0, 0, 0, 0x2C, 0xBE, 0xDE, 0, 1, 0x10, 0x8A, 0, 0, 1, 2, 3};
+
+/* Counts the packets that are as they have to be. */
+static void as_other(void *context, size_t receiver, const uint8_t *header, size_t header_len, const uint8_t *payload,
+                     size_t payload_len) {
+    both *it = context;
+    it->others += receiver == 0 && header_len == 20 && payload_len == 5 && memcmp(payload, "other", 5) == 0 &&
+                  memcmp(header + 1, "\2\0\0\0\0\0\2\0\0\x03\xE8\xBE\xDE\0\1\x31m0\0", 19) == 0;
+}
+
+static void goes_on(void *context, size_t receiver, const uint8_t *header, size_t header_len, const uint8_t *payload,
+                    size_t payload_len) {
+    both *it = context;
+    uint8_t other[] = {0x80, 2, 0, 0, 0, 0, 0, 2, 0, 0, 0, (uint8_t)receiver, 'o', 't', 'h', 'e', 'r'};
+    it->other.stream_count = 0; /* each is of its first stream */
+    sfu_receive(&it->other, other, sizeof other, 1, as_other, it);
+    it->own += header_len == 24 && payload == FIRST + 20 && payload_len == 3 &&
+               memcmp(header, "\x90\1\0\5\0\0\0\1\0\0\x03\xE8\xBE\xDE\0\2\x20\x8A\x31m0\0\0\0", 24) == 0;
+}
+
+/* An SFU has all that it knows in itself: another one that takes a datagram meanwhile, as in another thread, changes
+ * nothing of what it sends to each receiver. */
+static int apart(void) {
+    static both it;
+    sfu_peer peer = {{{0}}, "m", 1000, 0};
+    rtpw_map sender = {{0}};
+    sender.kind[1] = peer.map.kind[2] = RTPW_KIND_AUDIO_LEVEL;
+    peer.map.kind[3] = RTPW_KIND_MID;
+    for (int i = 0; i < 3; i++) {
+        CHECK(sfu_add(&it.first, &sender, &peer));
+    }
+    CHECK(sfu_add(&it.other, &NOTHING, &peer));
+    sfu_receive(&it.first, FIRST, sizeof FIRST, 0, goes_on, &it);
+    CHECK(it.own == 3 && it.others == 3);
+    CHECK(it.first.counts.taken == 1 && it.first.counts.sent == 3 && it.other.counts.taken == 3);
+    return 0;
+}
+
+/* A block of another form stays, and uses up no number of the transport; nor does what isn't sent on at all. */
+static int numbers(void) {
+    static sfu sfu;
+    uint8_t camera[] = {0x90, 0, 0, 5, 0, 0, 0, 1, 0, 0, 0, 0x2C, 0xAB, 0xAC, 0, 1, 1, 2, 3, 4, 9};
+    uint8_t plain[] = {0x80, 0, 0, 6, 0, 0, 0, 1, 0, 0, 0, 0x2C};
+    sfu_peer peer = {{{0}}, "", 0xFFFFFFFE, 65535};
+    sent it = {0};
+    peer.map.kind[3] = RTPW_KIND_TRANSPORT_NUMBER;
+    CHECK(sfu_add(&sfu, &NOTHING, &peer));
+    sfu_receive(&sfu, camera, sizeof camera, 0, keep, &it);
+    CHECK(it.count == 1 && it.header_len == 20 && it.payload == camera + 20 && it.payload_len == 1);
+    CHECK(memcmp(it.header, "\x90\0\0\4\0\0\0\1\xFF\xFF\xFF\xFE\xAB\xAC\0\1\1\2\3\4", 20) == 0);
+    sfu_receive(&sfu, camera, sizeof camera, 0, keep, &it); /* a replay */
+    sfu_receive(&sfu, camera, 15, 0, keep, &it);            /* no packet */
+    camera[1] = 200, camera[3] = 7;
+    sfu_receive(&sfu, camera, sizeof camera, 0, keep, &it); /* RTCP */
+    CHECK(it.count == 1);
+    sfu_receive(&sfu, plain, sizeof plain, 0, keep, &it);
+    CHECK(it.count == 2 && is(&it, "\xBE\xDE\0\1\x31\0\0\0", 8));
+    plain[3] = 7;
+    sfu_receive(&sfu, plain, sizeof plain, 0, keep, &it);
+    CHECK(it.count == 3 && is(&it, "\xBE\xDE\0\1\x31\0\1\0", 8));
+    CHECK(sfu.stream_count == 1 && sfu.counts.taken == 3 && sfu.counts.replays == 1 && sfu.counts.late == 0);
+    CHECK(sfu.counts.unreadable == 1 && sfu.counts.rtcp == 1 && sfu.counts.strangers == 0);
+    return 0;
+}
+
+/* Three numbers for each 65,536, up to one past 2^32: the same again is a replay, and 128 below it is too late. */
+static int past_32_bits(void) {
+    static sfu sfu;
+    uint8_t plain[] = {0x80, 0, 0, 0, 0, 0, 0, 1, 0x12, 0x34, 0x56, 0x78};
+    for (unsigned long i = 0; i <= 3 * 65536; i++) {
+        unsigned number = i % 3 * 21845;
+        plain[2] = (uint8_t)(number >> 8), plain[3] = (uint8_t)number;
+        sfu_receive(&sfu, plain, sizeof plain, 0, keep, NULL);
+    }
+    CHECK(sfu.counts.taken == 3 * 65536 + 1 && sfu.counts.replays == 0 && sfu.counts.late == 0);
+    sfu_receive(&sfu, plain, sizeof plain, 0, keep, NULL);
+    plain[2] = 0xFF, plain[3] = 0xFF; /* one below it */
+    sfu_receive(&sfu, plain, sizeof plain, 0, keep, NULL);
+    sfu_receive(&sfu, plain, sizeof plain, 0, keep, NULL);
+    plain[3] = 0x80; /* 128 below it */
+    sfu_receive(&sfu, plain, sizeof plain, 0, keep, NULL);
+    CHECK(sfu.counts.taken == 3 * 65536 + 2 && sfu.counts.replays == 2 && sfu.counts.late == 1);
+    CHECK(sfu.counts.sent == 0 && sfu.counts.unsent == 0 && sfu.stream_count == 1);
+    return 0;
+}
+
 int main(void) {
-    return forms() || times() || spare() || two_byte() || room();
+    return forms() || times() || spare() || two_byte() || room() || apart() || numbers() || past_32_bits();
 }

@@ -5,10 +5,11 @@
  *
  * usage: udp PROGRAM
  */
-#define _DEFAULT_SOURCE
+#define _GNU_SOURCE
 #include <arpa/inet.h>
 #include <netinet/in.h>
 #include <poll.h>
+#include <sched.h>
 #include <signal.h>
 #include <stdint.h>
 #include <stdio.h>
@@ -56,12 +57,15 @@ typedef struct {
     unsigned port;
 } running;
 
-static running started(const char *program, const unsigned *ports) {
+#define LEVEL_URI "urn:ietf:params:rtp-hdrext:ssrc-audio-level"
+
+/* With these lines, and what ends them. */
+static running started_with(const char *program, const unsigned *ports, const char *maps, const char *end) {
     running it;
     char words[RECEIVERS][8];
     int in[2], out[2];
-    for (int i = 0; i < RECEIVERS; i++) {
-        snprintf(words[i], sizeof words[i], "%u", ports[i] & 0xFFFF);
+    for (int i = 0; i < RECEIVERS; i++) { /* a decimal number, also with a zero before it */
+        snprintf(words[i], sizeof words[i], "0%u", ports[i] & 0xFFFF);
     }
     CHECK(pipe(in) == 0 && pipe(out) == 0);
     it.process = fork();
@@ -77,9 +81,13 @@ static running started(const char *program, const unsigned *ports) {
     close(in[0]), close(out[1]);
     it.in = fdopen(in[1], "w"), it.out = fdopen(out[0], "r");
     CHECK(it.in != NULL && it.out != NULL);
-    CHECK(fputs("map 3 urn:ietf:params:rtp-hdrext:ssrc-audio-level\n\n", it.in) >= 0 && fflush(it.in) == 0);
+    CHECK(fputs(maps, it.in) >= 0 && fputs(end, it.in) >= 0 && fflush(it.in) == 0);
     CHECK(fscanf(it.out, "port %u", &it.port) == 1 && fgetc(it.out) == '\n');
     return it;
+}
+
+static running started(const char *program, const unsigned *ports) {
+    return started_with(program, ports, "map 3 " LEVEL_URI "\n", "\n");
 }
 
 /* The input of the program has ended: what it prints then, and its status, are these. */
@@ -97,7 +105,7 @@ static void ends(running *it, const char *expected, int expected_status) {
     has_ended(it, expected, expected_status);
 }
 
-/* What comes from the program within the time; what others send isn't looked at. */
+/* What comes from the program, which sends from 127.0.0.1, within the time; what others send isn't looked at. */
 static size_t received(int socket, unsigned port, uint8_t *bytes, size_t size) {
     for (;;) {
         struct pollfd waits = {socket, POLLIN, 0};
@@ -106,7 +114,7 @@ static size_t received(int socket, unsigned port, uint8_t *bytes, size_t size) {
         CHECK(poll(&waits, 1, PATIENCE) == 1);
         ssize_t len = recvfrom(socket, bytes, size, 0, (struct sockaddr *)&from, &from_len);
         CHECK(len >= 0);
-        if (ntohs(from.sin_port) == port) {
+        if (ntohs(from.sin_port) == port && from.sin_addr.s_addr == htonl(INADDR_LOOPBACK)) {
             return (size_t)len;
         }
     }
@@ -160,18 +168,44 @@ static void sends(int socket, unsigned port, const uint8_t *datagram, size_t len
     CHECK(sendto(socket, datagram, len, 0, (struct sockaddr *)&to, sizeof to) == (ssize_t)len);
 }
 
-int main(int argc, char **argv) {
-    static uint8_t datagram[LONG] = {0x80, 0x6F, 0, 6, 0, 0, 0, 0xA1, 0, 0, 0, 0x2C};
-    unsigned ports[RECEIVERS], own;
-    int sockets[RECEIVERS], sender = opened(&own);
-    CHECK(argc == 2);
-    for (int i = 0; i < RECEIVERS; i++) {
-        sockets[i] = opened(&ports[i]);
+static void stop(const running *it) {
+    int status;
+    CHECK(kill(it->process, SIGSTOP) == 0);
+    CHECK(waitpid(it->process, &status, WUNTRACED) == it->process && WIFSTOPPED(status));
+}
+
+/* Where the system lets it, the clock of the programs that are started has counted 54 years more, 27,000,000 * 64 s:
+ * its microseconds need more than 32 bits, and 2^18 times as much more than 64. */
+static void go_on_for_years(void) {
+#ifdef CLONE_NEWTIME
+    FILE *offsets = unshare(CLONE_NEWTIME) == 0 ? fopen("/proc/self/timens_offsets", "w") : NULL;
+    if (offsets != NULL) {
+        fputs("monotonic 1728000000 0\n", offsets);
+        fclose(offsets);
     }
-    for (size_t i = FIXED; i < LONG; i++) {
-        datagram[i] = (uint8_t)(i * 7 + i / 256);
+#endif
+}
+
+/* How many datagrams of 1,212 bytes, for each of which Linux counts 2,304, fill three quarters of a room of 4 MiB, or
+ * of the largest that a program may ask for: more than fit in the room that a socket has by itself. */
+static unsigned long burst(void) {
+    unsigned long room = 0;
+    FILE *largest = fopen("/proc/sys/net/core/rmem_max", "r");
+    if (largest == NULL || fscanf(largest, "%lu", &room) != 1 || room > 4 << 20) {
+        room = 4 << 20;
     }
-    running it = started(argv[1], ports);
+    CHECK(largest == NULL || fclose(largest) == 0);
+    return room * 2 * 3 / 4 / 2304; /* Linux doubles what is asked for */
+}
+
+/* The sender's socket, and those of the receivers with their ports; a long datagram, the packet 6 without a block. */
+static int sender, sockets[RECEIVERS];
+static unsigned ports[RECEIVERS];
+static uint8_t datagram[LONG] = {0x80, 0x6F, 0, 6, 0, 0, 0, 0xA1, 0, 0, 0, 0x2C};
+
+/* Each receiver gets a short packet and a long one. */
+static void of_each_length(const char *program) {
+    running it = started(program, ports);
     uint32_t since = now();
     sends(sender, it.port, LEVEL, sizeof LEVEL);
     for (int i = 0; i < RECEIVERS; i++) {
@@ -183,29 +217,92 @@ int main(int argc, char **argv) {
         comes_to(sockets[i], it.port, 1, i, datagram + FIXED, LONG - FIXED, since);
     }
     ends(&it, "taken 2 replays 0 late 0 rtcp 0 unreadable 0 strangers 0 sent 6 unsent 0\n", 0);
+}
 
-    /* Nothing can be sent to the port 0: the other receivers get their packets, and the status says it. */
-    ports[1] = 0;
-    it = started(argv[1], ports);
-    since = now();
+/* Nothing can be sent to the port 0: the other receivers get their packets, and the status says it. */
+static void to_no_port(const char *program) {
+    const unsigned to[RECEIVERS] = {ports[0], 0, ports[2]};
+    running it = started(program, to);
+    uint32_t since = now();
     sends(sender, it.port, LEVEL, sizeof LEVEL);
     comes_to(sockets[0], it.port, 0, 0, LEVEL + 20, 3, since);
     comes_to(sockets[2], it.port, 0, 2, LEVEL + 20, 3, since);
     ends(&it, "taken 1 replays 0 late 0 rtcp 0 unreadable 0 strangers 0 sent 3 unsent 0\n", 1);
+}
 
-    /* While it is stopped a datagram of no bytes comes, a packet, and the end of its input: all are taken. */
-    int status;
-    it = started(argv[1], ports);
-    CHECK(kill(it.process, SIGSTOP) == 0);
-    CHECK(waitpid(it.process, &status, WUNTRACED) == it.process && WIFSTOPPED(status));
+/* Its lines may be long, end in a carriage return and a line feed, and have zeros before an id, which is decimal. It
+ * takes nothing that is sent to another address, and no replay. */
+static void with_other_lines(const char *program) {
+    static char maps[70000];
+    uint8_t thirteen[sizeof LEVEL];
+    memset(maps, 'x', sizeof maps - 1);
+    memcpy(maps, "map 7 ", 6);
+    strcpy(maps + 65000, "\r\nmap 013 " LEVEL_URI "\r\nmap 09 " LEVEL_URI "\r\nmap 9 x\r\n");
+    memcpy(thirteen, LEVEL, sizeof thirteen);
+    thirteen[16] = 0xD0;
+    running it = started_with(program, ports, maps, "\r\n");
+    uint32_t since = now();
+    sends(sender, it.port, thirteen, sizeof thirteen);
+    for (int i = 0; i < RECEIVERS; i++) {
+        comes_to(sockets[i], it.port, 0, i, LEVEL + 20, 3, since);
+    }
+    struct sockaddr_in elsewhere = local(it.port);
+    elsewhere.sin_addr.s_addr = htonl(INADDR_LOOPBACK + 1);
+    (void)!sendto(sender, datagram, 100, 0, (struct sockaddr *)&elsewhere, sizeof elsewhere);
+    sends(sender, it.port, LEVEL, sizeof LEVEL);
+    ends(&it, "taken 1 replays 1 late 0 rtcp 0 unreadable 0 strangers 0 sent 3 unsent 0\n", 0);
+}
+
+/* While it is stopped a datagram of no bytes comes, a packet, and the end of its input: all are taken. */
+static void while_it_is_stopped(const char *program) {
+    running it = started(program, ports);
+    stop(&it);
     sends(sender, it.port, LEVEL, 0);
     sends(sender, it.port, LEVEL, sizeof LEVEL);
     CHECK(fclose(it.in) == 0 && kill(it.process, SIGCONT) == 0);
-    has_ended(&it, "taken 1 replays 0 late 0 rtcp 0 unreadable 1 strangers 0 sent 3 unsent 0\n", 1);
+    has_ended(&it, "taken 1 replays 0 late 0 rtcp 0 unreadable 1 strangers 0 sent 3 unsent 0\n", 0);
+}
 
-    /* What it can't print is told by its status. */
-    it = started(argv[1], ports);
+/* What comes while it is stopped waits, as much as its room holds. */
+static void in_its_room(const char *program) {
+    char expected[200];
+    unsigned long count = burst();
+    running it = started(program, ports);
+    stop(&it);
+    for (unsigned long i = 0; i < count; i++) {
+        datagram[2] = (uint8_t)(i >> 8), datagram[3] = (uint8_t)i;
+        sends(sender, it.port, datagram, 1212);
+    }
+    CHECK(fclose(it.in) == 0 && kill(it.process, SIGCONT) == 0);
+    snprintf(expected, sizeof expected,
+             "taken %lu replays 0 late 0 rtcp 0 unreadable 0 strangers 0 sent %lu unsent 0\n", count, 3 * count);
+    has_ended(&it, expected, 0);
+}
+
+/* What it can't print is told by its status. */
+static void unprinted(const char *program) {
+    int status;
+    running it = started(program, ports);
     CHECK(fclose(it.out) == 0 && fclose(it.in) == 0);
     CHECK(waitpid(it.process, &status, 0) == it.process && WIFEXITED(status) && WEXITSTATUS(status) == 1);
+}
+
+int main(int argc, char **argv) {
+    unsigned own;
+    CHECK(argc == 2);
+    sender = opened(&own);
+    for (int i = 0; i < RECEIVERS; i++) {
+        sockets[i] = opened(&ports[i]);
+    }
+    for (size_t i = FIXED; i < LONG; i++) {
+        datagram[i] = (uint8_t)(i * 7 + i / 256);
+    }
+    go_on_for_years();
+    of_each_length(argv[1]);
+    to_no_port(argv[1]);
+    with_other_lines(argv[1]);
+    while_it_is_stopped(argv[1]);
+    in_its_room(argv[1]);
+    unprinted(argv[1]);
     return 0;
 }

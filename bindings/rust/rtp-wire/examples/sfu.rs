@@ -148,7 +148,7 @@ impl Route {
     /// Gives the packet the ids of the receiver. A one-byte block can't carry ids above 14: so it first gets an
     /// element that makes it a two-byte one, and that becomes padding with all that has no id there.
     fn renumber(&self, header: &mut Header, form: Option<Form>) -> Option<()> {
-        if self.wide && form != Some(Form::TwoByte) {
+        if self.wide && form == Some(Form::OneByte) {
             header.put(Some(self.spare_id), &[])?;
         }
         let mut packet = PacketMut::parse(header.bytes()).ok()?;
