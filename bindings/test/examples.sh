@@ -3,8 +3,8 @@
 # what was worked out by hand. Ends at the first that prints other things.
 #
 # usage: bindings/test/examples.sh FOLDER [EMULATOR]
-#        FOLDER has those of the programs lines_*, receive, forward, sfu_*, ends, and sockets with udp that are to be
-#        compared.
+#        FOLDER has those of the programs lines_*, receive, receive_rust, forward, sfu_*, ends, and sockets with udp that
+#        are to be compared.
 set -euo pipefail
 folder=$(cd -- "$1" && pwd)
 emulator=("${@:2}")
@@ -84,6 +84,11 @@ done
 if [ -e "$folder/receive" ]; then
     printf '%s\n' '-10 dB, and 2 bytes of payload' 'a replay, or too old' 'no RTP packet' >"$scratch/expected"
     "$folder/receive" | diff "$scratch/expected" - >&2 || fail receive
+fi
+if [ -e "$folder/receive_rust" ]; then
+    # 65,536 and 5: the first packet has the rollover count 1. The third one is no packet.
+    printf '%s\n' '65541: Some(-10) dB, [1, 2]' 'no RTP packet' >"$scratch/expected"
+    "$folder/receive_rust" | diff "$scratch/expected" - >&2 || fail receive_rust
 fi
 
 forwards() {
