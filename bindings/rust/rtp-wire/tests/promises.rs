@@ -21,8 +21,12 @@ use rtp_wire::{
 };
 
 /// What every type has: it goes to another thread, and may be moved and logged.
-trait Plain: Debug + Send + Sync + Unpin + UnwindSafe + RefUnwindSafe {}
-impl<T: Debug + Send + Sync + Unpin + UnwindSafe + RefUnwindSafe> Plain for T {}
+trait Logged: Debug + Send + Sync + Unpin + RefUnwindSafe {}
+impl<T: Debug + Send + Sync + Unpin + RefUnwindSafe> Logged for T {}
+
+/// And every one that isn't changed through an exclusive reference.
+trait Plain: Logged + UnwindSafe {}
+impl<T: Logged + UnwindSafe> Plain for T {}
 
 trait Copied: Plain + Copy + Clone {}
 impl<T: Plain + Copy + Clone> Copied for T {}
@@ -38,19 +42,34 @@ impl<T: Plain + Clone + Iterator + FusedIterator> Listed for T {}
 trait Failure: Value + Display + Error + 'static {}
 impl<T: Value + Display + Error + 'static> Failure for T {}
 
-macro_rules! have {
-    ($($bound:path: $($it:ty),+;)+) => {$({
-        fn has<T: $bound>() {}
-        $(has::<$it>();)+
-    })+};
+#[allow(dead_code)] // where each type has its traits
+trait Otherwise {
+    const HAS: bool = false;
+}
+
+/// The types that don't have the trait, by name: of a type that has it the constant `HAS` is that of `Of` itself, and else
+/// that of `Otherwise`.
+macro_rules! lack {
+    ($($bound:path: $($it:ty),+;)+) => {{
+        let mut lacking: Vec<&str> = Vec::new();
+        $({
+            struct Of<T>(std::marker::PhantomData<T>);
+            impl<T> Otherwise for Of<T> {}
+            #[allow(dead_code)] // where no type has the trait
+            impl<T: $bound> Of<T> {
+                const HAS: bool = true;
+            }
+            $(if !<Of<$it>>::HAS {
+                lacking.push(concat!(stringify!($it), ": ", stringify!($bound)));
+            })+
+        })+
+        lacking
+    }};
 }
 
 #[test]
 fn each_type_has_its_traits() {
-    // A thing that is changed through an exclusive reference is no `UnwindSafe`.
-    fn goes_on<T: Debug + Send + Sync + Unpin + RefUnwindSafe>() {}
-    goes_on::<PacketMut<'_>>();
-    have! {
+    let lacking = lack! {
         Value: Element<'_>, Place, Form, Header, Resolution, Layer, Stream, Layers, Kind, OwnKind, Map, NewIds,
             Fields, Receiver, Values, VideoTiming, Mid, Rid, Text<3>;
         Copied: Packet<'_>, Arrival, RestartingReceiver, WideReceiver<1>, WideReceiver<512>;
@@ -64,7 +83,9 @@ fn each_type_has_its_traits() {
         DoubleEndedIterator: Csrcs<'_>;
         ExactSizeIterator: Csrcs<'_>;
         Display: Mid, Rid, Text<3>;
-    }
+        Logged: PacketMut<'_>;
+    };
+    assert_eq!(lacking, [""; 0]);
 }
 
 #[test]
