@@ -153,6 +153,10 @@ class Ranges(unittest.TestCase):
             ]
         )
         self.assertRaises(BadField, put_element, put, 1 << 32, 1, b"a")
+        # None alone leaves the form open: what is false, but no whole number, is no form
+        other: Any
+        for other in ("", b"", 0.0, ()):
+            self.assertRaises(TypeError, put_element, put, 38, 1, b"a", other)
 
     def test_maps(self) -> None:
         map, ids = Map({4: Kind.MID}), NewIds({4: 5})

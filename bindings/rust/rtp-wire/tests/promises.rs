@@ -414,3 +414,10 @@ fn the_crate_needs_no_operating_system() {
     }
     assert!(!crate_root.contains("extern crate"));
 }
+
+#[test]
+fn values_may_get_more_fields() {
+    // That a program can't have a literal of all of them is seen in the text alone: it would have to be refused.
+    let text = include_str!("../src/values.rs");
+    assert!(text.contains("#[non_exhaustive]\npub struct Values {"));
+}
