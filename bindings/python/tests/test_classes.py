@@ -234,6 +234,75 @@ class Calls(unittest.TestCase):
         self.assertFalse(Receiver() == OwnReceiver() or OwnReceiver() == Receiver())
         self.assertTrue(OwnReceiver(2) == OwnReceiver(2) and OwnReceiver(2) != OwnReceiver(3))
 
+    def test_each_makes_one_of_its_own(self) -> None:
+        # one for each call, which doesn't follow what it was made of
+        map = Map({1: Kind.RID, 2: Kind.REPAIRED_RID, 4: Kind.MID})
+        makes: Any = [
+            Map.standard,
+            lambda: Map.from_uris({4: MID}),
+            lambda: NewIds.between(map, map),
+            lambda: NewIds.to_retransmission(map),
+            lambda: NewIds.from_retransmission(map),
+            lambda: Map(map),
+            lambda: Packet.parse(PLAIN).values,
+            lambda: Header.parse(PLAIN).values,
+            lambda: Header().values,
+        ]
+        for make in makes:
+            one, other = make(), make()
+            self.assertEqual(one, other)
+            if isinstance(one, Values):
+                one.mid = "a"
+            else:
+                del one[4]
+            self.assertNotEqual(one, other)
+            self.assertEqual(make(), other)
+        ids = NewIds.between(map, map)
+        map.clear()
+        self.assertEqual((ids, NewIds.between(map, map)), (NewIds({1: 1, 2: 2, 4: 4}), NewIds()))
+
+    def test_iterations_are_apart(self) -> None:
+        body = b"\x10\xAA\x21\xBB\xCC\x30\xDD"
+        wanted = [(1, b"\xAA"), (2, b"\xBB\xCC"), (3, b"\xDD")]
+        first, second = rtp_wire.elements(body, 1), rtp_wire.elements(body, 1)
+        self.assertEqual(next(first).id, 1)
+        self.assertEqual([(it.id, bytes(it.data)) for it in second], wanted)
+        self.assertEqual([(it.id, bytes(it.data)) for it in first], wanted[1:])
+        packet = Packet.parse(b"\x90" + PLAIN[1:] + b"\xBE\xDE\0\2" + body + b"\0")
+        pairs = zip(packet.elements(), packet.elements())
+        self.assertEqual([(one.id, bytes(other.data)) for one, other in pairs], wanted)
+        # and so are packets, headers and states that live side by side
+        map = Map({1: Kind.AUDIO_LEVEL, 3: Kind.VIDEO_CONTENT_TYPE})
+        packet, header = Packet.parse(bytes(packet), map), Header.parse(bytes(packet), map)
+        states: Any = [Receiver(), WideReceiver(), RestartingReceiver()]
+        others: Any = [Receiver(), WideReceiver(), RestartingReceiver()]
+        plain, short = Packet.parse(b"\x80" + bytes(11)), Header.parse(b"\x80" + bytes(11))
+        for state in others:
+            state.receive(9)
+        self.assertEqual((packet.ssrc, packet.body, header.ssrc, header.header_len), (44, body + b"\0", 44, 24))
+        self.assertEqual((plain.ssrc, plain.body, short.ssrc, short.header_len), (0, b"", 0, 12))
+        said = Values(audio_level=-0x2A, voice_activity=True, video_content_type=0xDD)
+        self.assertEqual((packet.values, header.values, plain.values, short.values), (said, said, Values(), Values()))
+        self.assertEqual([it.highest for it in states], [None] * 3)
+
+    def test_what_is_said_of_what_is_refused(self) -> None:
+        table: Any
+        for table in (Map(), NewIds()):
+            for id in (9, 0, 256):
+                for call in (table.__getitem__, table.__delitem__):
+                    with self.assertRaises(KeyError) as raised:
+                        call(id)
+                    self.assertEqual(raised.exception.args, (id,))
+        with self.assertRaises(TypeError) as refused:
+            Packet()
+        self.assertEqual(str(refused.exception), "a packet is read by Packet.parse")
+        with self.assertRaises(NotAPacket) as cut:
+            Packet.parse(PLAIN[:11])
+        self.assertEqual(str(cut.exception), "fewer than twelve bytes")
+        with self.assertRaises(BadField) as bad:
+            Map({5: 16})  # type: ignore[arg-type]
+        self.assertEqual(str(bad.exception), "an argument is out of its range")
+
     def test_what_they_are(self) -> None:
         for kind in (Map, NewIds):
             self.assertTrue(issubclass(kind, collections.abc.MutableMapping))
