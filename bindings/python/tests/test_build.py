@@ -144,7 +144,8 @@ class Build(unittest.TestCase):
         self.assertEqual(files["rtp_wire/librtp_wire.so"][:5], b"\x7fELF\x02")
         with zipfile.ZipFile(wheel) as archive:
             for item in archive.infolist():
-                self.assertEqual((item.date_time, item.compress_type), ((1980, 1, 1, 0, 0, 0), zipfile.ZIP_DEFLATED))
+                self.assertEqual(item.date_time, (1980, 1, 1, 0, 0, 0))
+                self.assertEqual(item.compress_type, zipfile.ZIP_DEFLATED)
                 mode = 0o100755 if item.filename.endswith(".so") else 0o100644
                 self.assertEqual(item.external_attr >> 16, mode, item.filename)
         # what pip asks for before it builds is what it then gets
@@ -159,10 +160,12 @@ class Build(unittest.TestCase):
         folder = f"rtp_wire-{self.backend.version()}"
         self.assertEqual(file.name, f"{folder}.tar.gz")
         # RFC 1952: the bytes 4 to 7 are the time, here none
-        self.assertEqual((file.read_bytes()[:4], file.read_bytes()[4:8]), (b"\x1f\x8b\x08\x00", bytes(4)))
+        packed = file.read_bytes()
+        self.assertEqual((packed[:4], packed[4:8]), (b"\x1f\x8b\x08\0", bytes(4)))
         parts = ["PKG-INFO", "pyproject.toml", "README.md", "backend/rtp_wire_backend.py", "src/whole_packet.c"]
         parts += ["src/rtp_wire/py.typed", "examples/lines.py", "examples/times.py"]
-        parts += [str(it.relative_to(HERE)) for place in ("src/rtp_wire", "tests") for it in (HERE / place).glob("*.py")]
+        for inner in ("src/rtp_wire", "tests"):
+            parts += [str(it.relative_to(HERE)) for it in (HERE / inner).glob("*.py")]
         parts += [f"texts/{name}" for name in self.backend.TEXTS]
         with tarfile.open(file) as archive:
             items = archive.getmembers()
@@ -230,7 +233,8 @@ class Build(unittest.TestCase):
         rows = {"x86_64": "x86_64", "AMD64": "x86_64", "aarch64": "aarch64", "arm64": "aarch64"}
         for said, machine in rows.items():
             with unittest.mock.patch("platform.machine", lambda said=said: said):
-                self.assertEqual((self.backend.this_machine(), self.backend.tag()), (machine, f"py3-none-linux_{machine}"))
+                self.assertEqual(self.backend.this_machine(), machine)
+                self.assertEqual(self.backend.tag(), f"py3-none-linux_{machine}")
         for place, value in (("platform.machine", lambda: "riscv64"), ("struct.calcsize", lambda _: 4)):
             with unittest.mock.patch(place, value), self.assertRaises(SystemExit):
                 self.backend.this_machine()
