@@ -95,7 +95,7 @@ class Captures(unittest.TestCase):
         self.assertEqual((found, made["four elements"].payload), ([(1, 1), (2, 3), (3, 2), (4, 1)], b"payload"))
         of_values = [made["four elements, and their values"], made["the same of a bytearray"]]
         self.assertEqual([*of_values, made["the same as a header"].values], [values] * 3)
-        self.assertEqual((made["a number taken"], len(made)), (65537, 6))
+        self.assertEqual((made["a number taken"], names["receiver"].highest, len(made)), (65537, 65537, 6))
         said = io.StringIO()
         with unittest.mock.patch("timeit.repeat", lambda *_, **__: [0.00025]), contextlib.redirect_stdout(said):
             runpy.run_path(str(HERE / "examples/times.py"), run_name="__main__")
