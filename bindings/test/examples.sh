@@ -3,8 +3,8 @@
 # what was worked out by hand. Ends at the first that prints other things.
 #
 # usage: bindings/test/examples.sh FOLDER [EMULATOR]
-#        FOLDER has those of the programs lines_*, receive, receive_rust, forward, sfu_*, ends, and sockets with udp that
-#        are to be compared.
+#        FOLDER has those of the programs lines_*, receive, receive_rust, forward, sfu_*, ends, and sockets with udp
+#        that are to be compared.
 set -euo pipefail
 folder=$(cd -- "$1" && pwd)
 emulator=("${@:2}")
@@ -37,6 +37,16 @@ is_bad_at_the_end() { # the program, of a line that ends with the input, behind 
 }
 # Three numbers for each 65,536, and at last one: 2^32.
 awk 'BEGIN { for (i = 0; i <= 3 * 65536; i++) printf "8000%04X000000000000002C\n", i % 3 * 21845 }' >"$scratch/far.lines"
+# Each of P, X and M with and without each of the others: a block, where there is one, has no word.
+no_or_yes=(no yes)
+for flags in {0..7}; do
+    block=$([ $((flags & 2)) -eq 0 ] || echo BEDE0000)
+    printf '%02X%02X000%d000000010000002C%s\n' $((0x80 | (flags & 1) << 5 | (flags & 2) << 3)) \
+        $((96 | (flags & 4) << 5)) "$flags" "$block" >>"$scratch/flags.lines"
+    echo "packet $((flags + 1)): pt 96 seq $flags ts 1 ssrc 44 marker ${no_or_yes[flags >> 2]}" \
+        "padding ${no_or_yes[flags & 1]} extension ${no_or_yes[flags >> 1 & 1]} csrc 0 header $((12 + 2 * (flags & 2)))"
+    echo "verdict $((flags + 1)): taken $flags"
+done >"$scratch/flags.expected"
 tells_a_full_device() { # the line, the program
     local status=0
     echo "$1" | "${@:2}" >/dev/full 2>"$scratch/told" || status=$?
@@ -52,6 +62,7 @@ compare() {
     echo 'packet 1: pt 0 seq 1 ts 1 ssrc 44 marker no padding no extension no csrc 0 header 12' >"$scratch/long"
     echo 'verdict 1: taken 1' >>"$scratch/long"
     printf '80000001000000010000002C%0131048d\n' 0 | "$@" | cmp - "$scratch/long" >&2 || fail "$*, a long line"
+    "$@" <"$scratch/flags.lines" | cmp - "$scratch/flags.expected" >&2 || fail "$*, the flags"
     for bad in "${bad_hex[@]}" "${bad_maps[@]}"; do is_bad first "$bad" "$@"; done
     for bad in "${bad_hex[@]}" 'map 3 urn:x'; do is_bad second "80\n$bad" "$@"; done
     # One to three digits, and a URI is the rest of the line.

@@ -66,6 +66,18 @@ class Captures(unittest.TestCase):
         told = b"packet 1: pt 0 seq 1 ts 1 ssrc 44 marker no padding no extension yes csrc 0 header 20\n"
         self.assertEqual(said.stdout, told + b"verdict 1: taken 1\n")
 
+    def test_flags(self) -> None:
+        # each of P, X and M with and without each of the others: a block, where there is one, has no word
+        lines, told = "", ""
+        for number in range(8):
+            padding, extension, marker = number & 1, number >> 1 & 1, number >> 2
+            lines += f"{0x80 | padding << 5 | extension << 4:02X}{96 | marker << 7:02X}{number:04X}000000010000002C"
+            lines += "BEDE0000\n" if extension else "\n"
+            m, p, x = ("yes" if flag else "no" for flag in (marker, padding, extension))
+            told += f"packet {number + 1}: pt 96 seq {number} ts 1 ssrc 44 marker {m} padding {p} extension {x} csrc 0"
+            told += f" header {16 if extension else 12}\nverdict {number + 1}: taken {number}\n"
+        self.assertEqual(self.lines(lines.encode()).stdout.decode(), told)
+
     def test_nanoseconds(self) -> None:
         # the least of the runs: 250 calls in 0.00025 seconds are 1,000 nanoseconds each
         times = runpy.run_path(str(HERE / "examples/times.py"))
@@ -83,7 +95,7 @@ class Captures(unittest.TestCase):
     def test_what_is_measured(self) -> None:
         # each row does what its name says, and each has a line
         times = runpy.run_path(str(HERE / "examples/times.py"))
-        names = {"WRITABLE": bytearray(times["DATAGRAM"]), "receiver": rtp_wire.Receiver(1), **times}
+        names: Any = {"WRITABLE": bytearray(times["DATAGRAM"]), "receiver": rtp_wire.Receiver(1), **times}
         made = {name: eval(call, names) for name, call in times["ROWS"].items()}
         # 66,051 units of 2^-18 seconds are 251,964.6 microseconds
         values = rtp_wire.Values(
