@@ -3,6 +3,7 @@ metadata, and RFC 1952 for gzip."""
 
 import base64
 import email
+import gzip
 import hashlib
 import importlib.util
 import os
@@ -162,6 +163,8 @@ class Build(unittest.TestCase):
         # RFC 1952: the bytes 4 to 7 are the time, here none
         packed = file.read_bytes()
         self.assertEqual((packed[:4], packed[4:8]), (b"\x1f\x8b\x08\0", bytes(4)))
+        # PEP 517: in the format of POSIX, whose magic and version these are
+        self.assertEqual(gzip.decompress(packed)[257:265], b"ustar\x0000")
         parts = ["PKG-INFO", "pyproject.toml", "README.md", "backend/rtp_wire_backend.py", "src/whole_packet.c"]
         parts += ["src/rtp_wire/py.typed", "examples/lines.py", "examples/times.py"]
         for inner in ("src/rtp_wire", "tests"):
@@ -188,6 +191,8 @@ class Build(unittest.TestCase):
             "Metadata-Version": "2.1",
             "Name": "rtp-wire",
             "Version": self.backend.version(),
+            "Summary": "RTP packets, their header extensions and receive state:"
+            " read, written, and changed where they lie",
             "License": "MIT OR Apache-2.0",
             "Keywords": "rtp,rfc3550,rfc8285,webrtc,srtp",
             "Requires-Python": ">=3.9",
@@ -196,17 +201,18 @@ class Build(unittest.TestCase):
         self.assertEqual({name: said[name] for name in told}, told)
         self.assertRegex(said["Version"], r"\A[0-9]+\.[0-9]+\.[0-9]+\Z")
         self.assertEqual(said.get_all("License-File"), ["LICENSE-APACHE", "LICENSE-MIT", "NOTICE"])
-        listed = said.get_all("Classifier") or []
-        self.assertEqual(len(listed), len(set(listed)))
-        for name in (
+        classifiers = [
+            "Development Status :: 4 - Beta",
+            "Intended Audience :: Developers",
             "License :: OSI Approved :: Apache Software License",
             "License :: OSI Approved :: MIT License",
             "Operating System :: POSIX :: Linux",
             "Programming Language :: Python :: 3",
             "Programming Language :: Python :: Implementation :: CPython",
+            "Topic :: Multimedia",
             "Typing :: Typed",
-        ):
-            self.assertIn(name, listed)
+        ]
+        self.assertEqual(said.get_all("Classifier"), classifiers)
         self.assertEqual(said.get_payload().strip(), (HERE / "README.md").read_text("utf-8").strip())
         self.assertIsNone(said["Requires-Dist"])
 
@@ -226,8 +232,15 @@ class Build(unittest.TestCase):
                 compiler()
             self.assertIn("there is no C compiler", str(raised.exception))
         with unittest.mock.patch.dict(os.environ, CC="false"), self.assertRaises(SystemExit) as raised:
-            self.backend.library(self.backend.this_machine())
+            self.backend.library("aarch64")
         self.assertIn("this failed: false -shared ", str(raised.exception))
+        # what other compilers don't do by themselves
+        asked = str(raised.exception).split()
+        for option in ("-fPIC", "-std=c99", "-O2", "-s"):
+            self.assertIn(option, asked)
+        for option in ("--no-undefined", "-z,noexecstack", "-z,relro", "-z,now", "-soname,librtp_wire.so"):
+            self.assertIn(f"-Wl,{option}", asked)
+        self.assertIn(str(self.backend.texts()["rtp_wire-aarch64.s"]), asked)
 
     def test_the_machine(self) -> None:
         rows = {"x86_64": "x86_64", "AMD64": "x86_64", "aarch64": "aarch64", "arm64": "aarch64"}

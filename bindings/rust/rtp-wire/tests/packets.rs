@@ -282,12 +282,14 @@ fn elements_are_put() {
     assert_eq!(NotPut::ShortBuffer.to_string(), "a buffer is too short");
 }
 
+/// What is put, with which form, and the block and the payload that are then there.
+type Put<'a> = (u8, &'a [u8], Option<Form>, &'a [u8]);
+
 #[test]
 fn a_block_has_the_form_that_alone_is_allowed() {
     // V=2, X; a block of one word: 1 (AA); the payload 1
     let packet = *b"\x90\x60\0\x05\0\0\0\x64\0\0\0\x2C\xBE\xDE\0\x01\x10\xAA\0\0\x01";
-    // what is put, with which form, and the block and the payload that are then there
-    let rows: [(u8, &[u8], Option<Form>, &[u8]); 6] = [
+    let rows: [Put; 6] = [
         (2, &[7], None, b"\xBE\xDE\0\x01\x10\xAA\x20\x07\x01"),
         (
             2,
