@@ -152,8 +152,9 @@ cc -std=c99 "${strict[@]}" "${include[@]}" bindings/examples/sfu{,_sockets}.c "$
 cc -std=c99 "${strict[@]}" "${include[@]}" -c bindings/examples/sfu.c -o "$scratch/sfu.o"
 cc -std=c99 "${strict[@]}" bindings/test/sfu_udp.c -o "$scratch/udp"
 if has cargo; then
-    "${cargo[@]}" build "${crate[@]}" --example sfu
+    "${cargo[@]}" build "${crate[@]}" --example sfu --example receive
     cp -- "$CARGO_TARGET_DIR/debug/examples/sfu" "$scratch/sfu_rust"
+    cp -- "$CARGO_TARGET_DIR/debug/examples/receive" "$scratch/receive_rust"
 fi
 bindings/test/examples.sh "$scratch"
 said "the examples in $languages (in C static, shared and all static) against captures/*.expected and by hand"

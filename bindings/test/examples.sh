@@ -3,8 +3,8 @@
 # what was worked out by hand. Ends at the first that prints other things.
 #
 # usage: bindings/test/examples.sh FOLDER [EMULATOR]
-#        FOLDER has those of the programs lines_*, receive, forward, sfu_*, ends, and sockets with udp that are to be
-#        compared.
+#        FOLDER has those of the programs lines_*, receive, receive_rust, forward, sfu_*, ends, and sockets with udp
+#        that are to be compared.
 set -euo pipefail
 folder=$(cd -- "$1" && pwd)
 emulator=("${@:2}")
@@ -59,6 +59,16 @@ reads_a_folder() { # the program: its status is 1
 says_why() { # the program: what the system said of a file; in C and C++ the status is all
     [[ $* != *_@(go|rust) ]] || [ -s "$scratch/told" ] || fail "$*, without a word"
 }
+# Each of P, X and M with and without each of the others: a block, where there is one, has no word.
+no_or_yes=(no yes)
+for flags in {0..7}; do
+    block=$([ $((flags & 2)) -eq 0 ] || echo BEDE0000)
+    printf '%02X%02X000%d000000010000002C%s\n' $((0x80 | (flags & 1) << 5 | (flags & 2) << 3)) \
+        $((96 | (flags & 4) << 5)) "$flags" "$block" >>"$scratch/flags.lines"
+    echo "packet $((flags + 1)): pt 96 seq $flags ts 1 ssrc 44 marker ${no_or_yes[flags >> 2]}" \
+        "padding ${no_or_yes[flags & 1]} extension ${no_or_yes[flags >> 1 & 1]} csrc 0 header $((12 + 2 * (flags & 2)))"
+    echo "verdict $((flags + 1)): taken $flags"
+done >"$scratch/flags.expected"
 tells_a_full_device() { # the line, the program
     local status=0
     echo "$1" | "${@:2}" >/dev/full 2>"$scratch/told" || status=$?
@@ -130,6 +140,7 @@ compare() {
     echo 'verdict 1: taken 1' >>"$scratch/long"
     printf '80000001000000010000002C%0131048d\n' 0 | "$@" | cmp - "$scratch/long" >&2 || fail "$*, a long line"
     printf '80000001000000010000002C%0999976d' 0 | "$@" | cmp - "$scratch/long" >&2 || fail "$*, a longer line without an end"
+    "$@" <"$scratch/flags.lines" | cmp - "$scratch/flags.expected" >&2 || fail "$*, the flags"
     for bad in "${bad_hex[@]}" "${bad_maps[@]}"; do is_bad first "$bad" "$@"; done
     for bad in "${bad_uris[@]}"; do is_bad_uri "$bad" "$@"; done
     for bad in "${bad_hex[@]}" 'map 3 urn:x'; do is_bad second "80\n$bad" "$@"; done
@@ -164,6 +175,11 @@ if [ -e "$folder/receive" ]; then
     # 5 with the rollover count 1 is 65,541.
     printf '%s\n' '65541: -10 dB, 2 bytes' 'a replay, or too old' 'no RTP packet' 'no RTP packet' >"$scratch/expected"
     "$folder/receive" | diff "$scratch/expected" - >&2 || fail receive
+fi
+if [ -e "$folder/receive_rust" ]; then
+    # 65,536 and 5: the first packet has the rollover count 1. The third one is no packet.
+    printf '%s\n' '65541: Some(-10) dB, [1, 2]' 'no RTP packet' >"$scratch/expected"
+    "$folder/receive_rust" | diff "$scratch/expected" - >&2 || fail receive_rust
 fi
 
 lowercase=$(printf %02x {0..255})
@@ -281,6 +297,11 @@ echo 'taken 1 replays 2 late 3 rtcp 4 unreadable 5 strangers 0 sent 3 unsent 0' 
 # The ids to spare are those that the sender's have no part in: 254 is the level's, which the packet doesn't have.
 printf '%s\n' 'map 254 urn:ietf:params:rtp-hdrext:ssrc-audio-level' 806F0005000000A00000002C >"$scratch/spare.lines"
 echo "2 906F9C45000000A0000007D0100000081415${second}30C8020000FF03000000" >"$scratch/spare.expected"
+# And where each id from 16 on has a part in them, it is 15.
+{
+    printf 'map %s urn:ietf:params:rtp-hdrext:ssrc-audio-level\n' {16..255}
+    echo 806F0005000000A00000002C
+} >"$scratch/last.lines"
 # 119 levels of 16 bytes and one of 4 fill a block of 2,032 bytes up to 4: the first receiver's mid has room there, and
 # the number of its transport hasn't, which is used up; the ids of the second one need more, and the third one has no
 # levels. Then one that is sent to all: the first receiver gets the number 1, 20 ms later.
@@ -333,7 +354,9 @@ sends_on() {
     for it in full before counted sources; do
         "$@" <"$scratch/$it.lines" | tail -n 1 | diff "$scratch/$it.expected" - >&2 || fail "$*, what is counted, $it"
     done
-    "$@" <"$scratch/spare.lines" | grep '^2 ' | diff "$scratch/spare.expected" - >&2 || fail "$*, the id to spare"
+    for it in spare last; do
+        "$@" <"$scratch/$it.lines" | grep '^2 ' | diff "$scratch/spare.expected" - >&2 || fail "$*, the id to spare, $it"
+    done
     "$@" <"$scratch/unsent.lines" | grep -v '^[23] ' | cmp "$scratch/unsent.expected" - >&2 || fail "$*, one that isn't sent"
     # The mids of the sixteen streams end in their hexadecimal digits.
     "$@" <"$scratch/full.lines" | sed -n 's/^1 .\{24\}BEDE0003216D\(..\).*/\1/p' | diff <(printf '%s\n' 3{0..9} 4{1..6}) - >&2 ||

@@ -8,9 +8,13 @@ import re
 import runpy
 import subprocess
 import sys
+import time
 import unittest
+import unittest.mock
 from pathlib import Path
-from typing import List
+from typing import Any, List
+
+import rtp_wire
 
 HERE = Path(__file__).resolve().parent.parent
 README = (HERE / "README.md").read_text("utf-8")
@@ -62,12 +66,53 @@ class Captures(unittest.TestCase):
         told = b"packet 1: pt 0 seq 1 ts 1 ssrc 44 marker no padding no extension yes csrc 0 header 20\n"
         self.assertEqual(said.stdout, told + b"verdict 1: taken 1\n")
 
+    def test_flags(self) -> None:
+        # each of P, X and M with and without each of the others: a block, where there is one, has no word
+        lines, told = "", ""
+        for number in range(8):
+            padding, extension, marker = number & 1, number >> 1 & 1, number >> 2
+            lines += f"{0x80 | padding << 5 | extension << 4:02X}{96 | marker << 7:02X}{number:04X}000000010000002C"
+            lines += "BEDE0000\n" if extension else "\n"
+            m, p, x = ("yes" if flag else "no" for flag in (marker, padding, extension))
+            told += f"packet {number + 1}: pt 96 seq {number} ts 1 ssrc 44 marker {m} padding {p} extension {x} csrc 0"
+            told += f" header {16 if extension else 12}\nverdict {number + 1}: taken {number}\n"
+        self.assertEqual(self.lines(lines.encode()).stdout.decode(), told)
+
     def test_nanoseconds(self) -> None:
         # the least of the runs: 250 calls in 0.00025 seconds are 1,000 nanoseconds each
         times = runpy.run_path(str(HERE / "examples/times.py"))
         self.assertEqual(times["CALLS"], 250)
-        times["nanoseconds"].__globals__["repeat"] = lambda *_, **__: [0.0005, 0.00025, 0.0003]
+        asked: List[Any] = []
+
+        def repeat(call: str, **how: Any) -> List[float]:
+            asked.append((call, how["timer"], how["repeat"], how["number"], how["globals"]["receiver"].number_of(1)))
+            return [0.0005, 0.00025, 0.0003]
+
+        times["nanoseconds"].__globals__["repeat"] = repeat
         self.assertEqual(times["nanoseconds"]("None"), 1000)
+        self.assertEqual(asked, [("None", time.process_time, 400, 250, 65537)])
+
+    def test_what_is_measured(self) -> None:
+        # each row does what its name says, and each has a line
+        times = runpy.run_path(str(HERE / "examples/times.py"))
+        names: Any = {"WRITABLE": bytearray(times["DATAGRAM"]), "receiver": rtp_wire.Receiver(1), **times}
+        made = {name: eval(call, names) for name, call in times["ROWS"].items()}
+        # 66,051 units of 2^-18 seconds are 251,964.6 microseconds
+        values = rtp_wire.Values(
+            mid="0", audio_level=-10, voice_activity=True, transport_number=12, send_time=251_964
+        )
+        self.assertEqual(list(made["a header alone"].elements()), [])
+        self.assertEqual((len(made["a header alone"]), made["a header alone"].sequence_number), (12, 47000))
+        found = [(it.id, len(it.data)) for it in made["four elements"].elements()]
+        self.assertEqual((found, made["four elements"].payload), ([(1, 1), (2, 3), (3, 2), (4, 1)], b"payload"))
+        of_values = [made["four elements, and their values"], made["the same of a bytearray"]]
+        self.assertEqual([*of_values, made["the same as a header"].values], [values] * 3)
+        self.assertEqual((made["a number taken"], names["receiver"].highest, len(made)), (65537, 65537, 6))
+        said = io.StringIO()
+        with unittest.mock.patch("timeit.repeat", lambda *_, **__: [0.00025]), contextlib.redirect_stdout(said):
+            runpy.run_path(str(HERE / "examples/times.py"), run_name="__main__")
+        lines = [f"  1000 ns  {name}: {call}\n" for name, call in times["ROWS"].items()]
+        self.assertEqual(said.getvalue(), "".join(lines))
 
     def test_the_table_of_the_readme(self) -> None:
         program = blocks("python")[0]

@@ -370,6 +370,29 @@ class Changing(unittest.TestCase):
         with self.assertRaises(NotAPacket):
             compact(buffer[:11])
 
+    def test_a_block_has_the_form_that_alone_is_allowed(self) -> None:
+        # V=2, X; a block of one word: 1 (AA); the payload 1
+        packet = bytes.fromhex("90600005 00000064 0000002C BEDE0001 10AA0000 01")
+        one, two = Form.ONE_BYTE, Form.TWO_BYTE
+        rows: "list[tuple[int, bytes, Any, str]]" = [
+            (2, b"\7", None, "BEDE0001 10AA2007 01"),
+            (2, b"\7", Form.NONE, "BEDE0001 10AA2007 01"),
+            (2, b"\7", one, "BEDE0001 10AA2007 01"),
+            (2, b"\7", two, "10000002 0101AA02 01070000 01"),
+            (1, b"\7", two, "10000001 01010700 01"),
+            (1, b"\7\x08", two, "10000001 01020708 01"),
+            (15, b"", two, "10000002 0101AA0F 00000000 01"),
+        ]
+        for id, data, allowed, text in rows:
+            buf, due = bytearray(packet + bytes(20)), bytes.fromhex(text)
+            self.assertEqual(put_element(buf, 21, id, data, allowed), 12 + len(due))
+            self.assertEqual(buf[: 12 + len(due)], packet[:12] + due)
+        # a packet without a block gets one
+        for allowed, text in ((None, "BEDE0001 10070000"), (one, "BEDE0001 10070000"), (two, "10000001 01010700")):
+            buf = bytearray(b"\x80" + bytes(19))
+            self.assertEqual(put_element(buf, 12, 1, b"\7", allowed), 20)
+            self.assertEqual((buf[0], buf[12:]), (0x90, bytes.fromhex(text)))
+
     def test_padding_is_taken_off(self) -> None:
         self.assertEqual(self.packet.remove_padding(), 35)
         self.is_changed(0)

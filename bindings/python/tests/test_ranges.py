@@ -127,7 +127,13 @@ class Ranges(unittest.TestCase):
                 (lambda: setattr(self.packet, "ssrc", 1 << 32), past("ssrc", 32)),
                 (lambda: self.packet.set_csrc(0, 1 << 32), past("source", 32)),
                 (lambda: self.packet.set_csrc(1 << 64, 0), past("index", 64)),
+                (lambda: setattr(self.packet, "sequence_number", 65536), past("sequence_number", 16)),
+                (lambda: setattr(self.packet, "timestamp", 1 << 32), past("timestamp", 32)),
                 (lambda: self.packet.set_fields(ssrc=1, sequence_number=65536), past("sequence_number", 16)),
+                (lambda: self.packet.set_fields(payload_type=128), past("payload_type", 7)),
+                (lambda: self.packet.set_fields(timestamp=1 << 32), past("timestamp", 32)),
+                (lambda: self.packet.set_fields(ssrc=1 << 32), past("ssrc", 32)),
+                (lambda: self.packet.set_fields(marker=2), past("marker", 1, 2)),
             ]
         )
         self.assertRaises(NoElement, self.packet.set_csrc, 1 << 32, 0)
@@ -153,6 +159,10 @@ class Ranges(unittest.TestCase):
             ]
         )
         self.assertRaises(BadField, put_element, put, 1 << 32, 1, b"a")
+        # None alone leaves the form open: what is false, but no whole number, is no form
+        other: Any
+        for other in ("", b"", 0.0, ()):
+            self.assertRaises(TypeError, put_element, put, 38, 1, b"a", other)
 
     def test_maps(self) -> None:
         map, ids = Map({4: Kind.MID}), NewIds({4: 5})

@@ -751,6 +751,39 @@ class States(unittest.TestCase):
         self.assertEqual(values.data_of(Kind.ABS_SEND_TIME).hex(), "de82d7")
         self.assertEqual(values.data_of(Kind.ABS_CAPTURE_TIME).hex(), "1000000000000000" + "8000000000000000")
 
+    def test_the_greatest_numbers(self) -> None:
+        last, far = (1 << 64) - 1, 0x0123456789ABCDEF
+        # one below, and the next one that ends in zeros: modulo 2^64 that is 0
+        rows = [
+            (rtp_wire.extend_u8, 0xFE, 0xEE),
+            (rtp_wire.extend_u15, 0x7FFE, 0x4DEE),
+            (rtp_wire.extend_u16, 0xFFFE, 0xCDEE),
+            (rtp_wire.extend_u32, 0xFFFFFFFE, 0x89ABCDEE),
+        ]
+        for extend, below, near in rows:
+            self.assertEqual([extend(last, below), extend(last, 0), extend(far, near)], [last - 1, 0, far - 1])
+        buf = bytearray(300)
+        rtp_wire.write_original(buf, last - 1)
+        self.assertEqual(buf[:3], b"\xFF\xFE\0")
+        self.assertEqual(rtp_wire.pad(buf, 12, 255, last), 240)
+        self.assertRaises(ShortBuffer, rtp_wire.pad, buf, last, 1)
+        self.assertRaises(BadField, rtp_wire.put_element, buf, last, 1, b"")
+        self.assertRaises(NoElement, Packet.parse(bytearray(SAMPLE)).set_csrc, last, 1)
+        # 2^64 - 1 microseconds are 288,230,376,151 * 64 s and 45.551615 s, 11,941,082.6 units of 2^-18 s; as
+        # nanoseconds 1,844,674,407,370 hundredths, modulo 4,096 they are 3,018; half a second and more are 50
+        self.assertEqual(Values(send_time=last).data_of(Kind.ABS_SEND_TIME).hex(), "b634da")
+        delays = Values(playout_delay_min=Time(last, 10**9), playout_delay_max=Time(1 << 31, (1 << 32) - 1))
+        self.assertEqual(delays.data_of(Kind.PLAYOUT_DELAY).hex(), "bca032")
+        rates = Layers(((Layer(((1 << 63) - 1, 0), None),),), 0)
+        map = Map({5: Kind.LAYERS})
+        written = Header(has_extension=True, values=Values(layers=rates)).write(map)
+        self.assertEqual(Header.parse(written, map).values.layers, rates)
+        receiver: Any
+        for receiver in (Receiver(), WideReceiver()):
+            receiver.record(last)
+            self.assertEqual([receiver.accepts(it) for it in (last, last - 1)], [False, True])
+            self.assertEqual(receiver.highest, last)
+
 
 class Errors(unittest.TestCase):
     def test_each_is_copied_with_its_text(self) -> None:

@@ -23,6 +23,14 @@ use crate::views::WideState;
 /// ```compile_fail
 /// rtp_wire::WideReceiver::<513>::new();
 /// ```
+///
+/// ```compile_fail
+/// let _ = rtp_wire::WideReceiver::<0>::starting_at(1);
+/// ```
+///
+/// ```compile_fail
+/// let _ = rtp_wire::WideReceiver::<513>::starting_at(1);
+/// ```
 #[derive(Clone, Copy, Debug)]
 pub struct WideReceiver<const WORDS: usize> {
     state: WideState,

@@ -239,6 +239,10 @@ fn new_ids_lead_from_one_map_to_the_other() {
         .collect();
     assert_eq!(known, [(1, 255), (255, 1)]);
     assert_eq!(format!("{by_hand:?}"), "{1: 255, 255: 1}");
+    // an id that keeps itself is told too
+    let kept = NewIds::new().with(4, 4).with(1, 2).with(255, 255);
+    assert_eq!(format!("{kept:?}"), "{1: 2, 4: 4, 255: 255}");
+    assert_eq!(format!("{:?}", NewIds::new()), "{}");
     assert_eq!(by_hand, NewIds::new().with(255, 1).with(1, 255));
     assert_ne!(by_hand, by_hand.with(255, 2));
 }

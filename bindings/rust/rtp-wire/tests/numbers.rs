@@ -57,6 +57,28 @@ fn numbers_have_other_widths() {
     );
 }
 
+#[test]
+fn numbers_of_each_width_are_extended_to_64_bits() {
+    const MAX: u64 = u64::MAX;
+    let far = 0x0123_4567_89AB_CDEF;
+    // one below, and the next one that ends in zeros: modulo 2^64 that is 0
+    assert_eq!((extend_u8(MAX, 0xFE), extend_u8(MAX, 0)), (MAX - 1, 0));
+    assert_eq!((extend_u15(MAX, 0x7FFE), extend_u15(MAX, 0)), (MAX - 1, 0));
+    assert_eq!((extend_u16(MAX, 0xFFFE), extend_u16(MAX, 0)), (MAX - 1, 0));
+    assert_eq!(
+        (extend_u32(MAX, 0xFFFF_FFFE), extend_u32(MAX, 0)),
+        (MAX - 1, 0)
+    );
+    assert_eq!(
+        (extend_u8(far, 0xEE), extend_u15(far, 0x4DEE)),
+        (far - 1, far - 1)
+    );
+    assert_eq!(
+        (extend_u16(far, 0xCDEE), extend_u32(far, 0x89AB_CDEE)),
+        (far - 1, far - 1)
+    );
+}
+
 /// A receiver that has taken this number alone.
 fn at(number: u64) -> Receiver {
     let mut receiver = Receiver::starting_at(number >> 16).unwrap();

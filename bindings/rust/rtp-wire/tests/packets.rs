@@ -282,6 +282,69 @@ fn elements_are_put() {
     assert_eq!(NotPut::ShortBuffer.to_string(), "a buffer is too short");
 }
 
+/// What is put, with which form, and the block and the payload that are then there.
+type Put<'a> = (u8, &'a [u8], Option<Form>, &'a [u8]);
+
+#[test]
+fn a_block_has_the_form_that_alone_is_allowed() {
+    // V=2, X; a block of one word: 1 (AA); the payload 1
+    let packet = *b"\x90\x60\0\x05\0\0\0\x64\0\0\0\x2C\xBE\xDE\0\x01\x10\xAA\0\0\x01";
+    let rows: [Put; 6] = [
+        (2, &[7], None, b"\xBE\xDE\0\x01\x10\xAA\x20\x07\x01"),
+        (
+            2,
+            &[7],
+            Some(Form::OneByte),
+            b"\xBE\xDE\0\x01\x10\xAA\x20\x07\x01",
+        ),
+        (
+            2,
+            &[7],
+            Some(Form::TwoByte),
+            b"\x10\0\0\x02\x01\x01\xAA\x02\x01\x07\0\0\x01",
+        ),
+        (
+            1,
+            &[7],
+            Some(Form::TwoByte),
+            b"\x10\0\0\x01\x01\x01\x07\0\x01",
+        ),
+        (
+            1,
+            &[7, 8],
+            Some(Form::TwoByte),
+            b"\x10\0\0\x01\x01\x02\x07\x08\x01",
+        ),
+        (
+            15,
+            &[],
+            Some(Form::TwoByte),
+            b"\x10\0\0\x02\x01\x01\xAA\x0F\0\0\0\0\x01",
+        ),
+    ];
+    for (id, data, allowed, due) in rows {
+        let mut buf = [0xEE; 40];
+        buf[..21].copy_from_slice(&packet);
+        let len = 12 + due.len();
+        assert_eq!(put_element(&mut buf, 21, id, data, allowed), Ok(len));
+        assert_eq!(
+            (&buf[..12], &buf[12..len]),
+            (&packet[..12], due),
+            "{id} {allowed:?}"
+        );
+    }
+    // a packet without a block gets one
+    for (allowed, due) in [
+        (None, b"\xBE\xDE\0\x01\x10\x07\0\0"),
+        (Some(Form::OneByte), b"\xBE\xDE\0\x01\x10\x07\0\0"),
+        (Some(Form::TwoByte), b"\x10\0\0\x01\x01\x01\x07\0"),
+    ] {
+        let mut buf = [0x80; 20];
+        assert_eq!(put_element(&mut buf, 12, 1, &[7], allowed), Ok(20));
+        assert_eq!((buf[0], &buf[12..]), (0x90, &due[..]), "{allowed:?}");
+    }
+}
+
 #[test]
 fn padding_is_taken_off() {
     let mut bytes = SAMPLE;
