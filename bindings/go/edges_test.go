@@ -202,6 +202,12 @@ func TestLengthsOfNoBuffer(t *testing.T) {
 		_, err := rtpwire.PutElement(append([]byte(nil), buf...), 37, 1, []byte{9}, rtpwire.Form(form))
 		same(t, "form", err == nil, form <= 2)
 		same(t, "no form", err == rtpwire.ErrBadField, form > 2)
+		places := []rtpwire.Place{{ID: 1, Len: 1}}
+		_, err = new(rtpwire.Header).WriteWithForm(make([]byte, 64), rtpwire.Form(form), []byte{9}, places)
+		same(t, "form of a header", []bool{err == nil, err == rtpwire.ErrBadField}, []bool{form <= 2, form > 2})
+		_, err = rtpwire.WriteElements(make([]byte, 64), rtpwire.Form(form), []byte{9}, places)
+		is := form == 1 || form == 2
+		same(t, "form of elements", []bool{err == nil, err == rtpwire.ErrBadField}, []bool{is, !is})
 	}
 	_, err := rtpwire.PutElement(buf, 37, 0, nil, rtpwire.AnyForm)
 	same(t, "the id 0", err, rtpwire.ErrBadField)
