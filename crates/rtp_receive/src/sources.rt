@@ -1,6 +1,6 @@
 //! A receiver for each source, and how it is found.
 
-ghost use Rattle.std.specs.Prelude.{◌≡◌, ◌≢◌, ◌↔◌, ◌+◌, ◌<◌, ◌≤◌, ◌++◌, ◌∷◌, [], ℕ, length, Some, None, IsTrue, IsSome, OnOk, OnErr, IfSome, IfNone};
+ghost use Rattle.std.specs.Prelude.{◌≡◌, ◌≢◌, ◌+◌, ◌<◌, ◌≤◌, ◌++◌, ◌∷◌, [], ℕ, length, Some, None, IsSome, OnOk, OnErr, IfSome, IfNone};
 ghost use Rattle.std.specs.Option.{option_copied};
 ghost use Rattle.std.specs.Ordering.{nat_cmp};
 ghost use Rattle.std.specs.BTreeMap.{get, Updates};
@@ -61,9 +61,17 @@ impl Sources {
         ensures { result ≡ get nat_cmp self.now.places ssrc }
     {
         let last = self.hints.last_place;
-        if stands_at(&self.list, last, ssrc) {
-            return Some(last);
+        match self.list.get(last) {
+            Some((source, _)) if *source == ssrc => Some(last),
+            _ => self.place_of_another(ssrc),
         }
+    }
+
+    // The same, where the source isn't the last packet's.
+    fn place_of_another(&self, ssrc: Ssrc) -> Option<usize>
+        requires { ArePlaces self.now.places self.now.list.items }
+        ensures { result ≡ get nat_cmp self.now.places ssrc }
+    {
         if self.list.len() > MANY {
             if let Some(place) = hinted_place(&self.hints, &self.list, ssrc) {
                 return Some(place);
@@ -86,12 +94,10 @@ impl Sources {
         requires { ArePlaces places.now list.now.items }
         ensures { result ≡ get nat_cmp places.now ssrc }
     {
-        if stands_at(list, hints.last_place, ssrc) {
-            return Some(hints.last_place);
+        match list.get(hints.last_place) {
+            Some((source, _)) if *source == ssrc => Some(hints.last_place),
+            _ => Self::find_another(hints, list, places, ssrc),
         }
-        let place = Self::find_another(hints, list, places, ssrc)?;
-        hints.last_place = place;
-        Some(place)
     }
 
     // The same, where the source isn't the last packet's. What the map says becomes a hint.
@@ -107,12 +113,18 @@ impl Sources {
     {
         if hints.has_rows() {
             if let Some(place) = hinted_place(hints, list, ssrc) {
+                hints.last_place = place;
                 return Some(place);
             }
         } else if list.len() <= FEW {
-            return place_among(list, ssrc);
+            let found = place_among(list, ssrc);
+            if let Some(place) = found {
+                hints.last_place = place;
+            }
+            return found;
         }
         let place = *places.get(&ssrc)?;
+        hints.last_place = place;
         hints.learn(list, ssrc, place);
         Some(place)
     }
@@ -180,15 +192,6 @@ impl Sources {
     }
 }
 
-// Whether the source stands at this place of the list.
-#[inline(always)]
-fn stands_at(list: &Vec<(Ssrc, Receiver)>, place: usize, ssrc: Ssrc) -> bool
-    ensures { IsTrue result ↔ ((place < length list.now.items)
-        × (source_at list.now.items place ≡ ssrc)) }
-{
-    list.get(place).is_some_and(|(source, _)| *source == ssrc)
-}
-
 // The place of the source in the list, and `None` where it has none. The list is gone through.
 #[inline(always)]
 fn place_among(list: &Vec<(Ssrc, Receiver)>, ssrc: Ssrc) -> Option<usize>
@@ -207,5 +210,8 @@ fn hinted_place(hints: &Hints, list: &Vec<(Ssrc, Receiver)>, ssrc: Ssrc) -> Opti
         × (source_at list.now.items place ≡ ssrc)) }
 {
     let place = hints.place_of(ssrc)?;
-    stands_at(list, place, ssrc).then_some(place)
+    match list.get(place) {
+        Some((source, _)) if *source == ssrc => Some(place),
+        _ => None,
+    }
 }

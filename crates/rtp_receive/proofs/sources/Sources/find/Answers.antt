@@ -1,6 +1,12 @@
-use Rattle.std.proofs.Common.{sym}
-use Rattle.rtp_receive.proofs.PlacesLemmas.{get-place}
+use Rattle.std.proofs.Common.{rules, ℕ, ◌<◌, length, sym, subst, ◌≡◌}
+use Rattle.std.specs.Prelude.{Some}
+use Rattle.std.specs.BTreeMap.{get}
+use Rattle.std.specs.Ordering.{nat_cmp}
+use Rattle.rtp_receive.specs.SourcePlaces.{source_at}
 use Rattle.rtp_receive.proofs.sources.Sources.find.Goals as goal
 
-pub returns-then-stands_at : goal.returns-then-stands_at
-returns-then-stands_at c = sym (get-place c.args.places.now c.args.list.now.items c.args.ssrc c.args.hints.now.last_place c.requires (c.stands_at.ensures.0 c.if-stands_at.true))
+pub returns-in-Some : goal.returns-in-Some
+returns-in-Some c =
+    let below : c.args.hints.now.last_place < length c.args.list.now.items = search rules in
+    let same : source_at c.args.list.now.items c.args.hints.now.last_place ≡ c.args.ssrc = search rules in
+    sym (subst (λ (s : ℕ). get nat_cmp c.args.places.now s ≡ Some c.args.hints.now.last_place) same (c.requires.placed c.args.hints.now.last_place below))
