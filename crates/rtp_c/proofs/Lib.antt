@@ -12,6 +12,7 @@ mod LongLemmas
 mod MeantLemmas
 mod FewSlotsLemmas
 mod PlacesLemmas
+mod HeaderViewLemmas
 mod GivenLayersLemmas
 mod GivenLemmas
 mod ElementDataLemmas

@@ -1,6 +1,6 @@
 //! A whole header, and how it is read from bytes.
 
-ghost use Rattle.std.specs.Prelude.{◌≡◌, ◌≢◌, ◌⊎◌, ◌↔◌, unwrap_or, None, IfOk, IfErr, IsErr};
+ghost use Rattle.std.specs.Prelude.{◌≡◌, ◌≢◌, ◌⊎◌, ◌↔◌, ◌≤◌, ◌-◌, ◌++◌, length, replicate, unwrap_or, None, IfOk, IfErr, IsErr};
 ghost use Rattle.rtp_values.specs.declared.value.values.ExtensionValues.{ExtensionValues};
 ghost use Rattle.rtp_wire.specs.PacketElements.{HasValues};
 ghost use Rattle.rtp_c.specs.StoredMap.{numbered_slots};
@@ -20,7 +20,7 @@ use super::status::{OK, UNKNOWN_FORM, header_status_of};
 use super::values::{ValuesView, flag_number, put_no_values, put_values};
 use rtp_ext::read_layers;
 use rtp_vla::vla::VideoLayers;
-use rtp_wire::{RtpHeader, RtpPacket};
+use rtp_wire::{Csrcs, RtpHeader, RtpPacket};
 
 /// The header of a packet (RFC 3550, 5.1), with the values of its block: `rtpw_header` in C, 224
 /// bytes.
@@ -51,6 +51,23 @@ pub struct HeaderView {
     pub values: ValuesView,
 }
 
+// Puts the sources into the first slots and zeros into the others, and returns how many sources
+// there are.
+fn put_sources(sources: Csrcs<'_>, slots: &mut [u32; 15]) -> u8
+    requires { length sources ≤ 15 }
+    ensures sources { slots.new
+        ≡ sources.entry ++ replicate (15 - length sources.entry) 0 }
+    ensures count { result ≡ length sources.entry }
+{
+    *slots = [0; 15];
+    let mut count = 0;
+    for source in sources {
+        slots[usize::from(count)] = source;
+        count += 1;
+    }
+    count
+}
+
 // Puts what C is told of the values that the packet's block gives under the map.
 #[inline(always)]
 fn put_values_of(packet: &RtpPacket<'_>, map: &StoredMap, view: &mut ValuesView)
@@ -67,6 +84,7 @@ fn put_values_of(packet: &RtpPacket<'_>, map: &StoredMap, view: &mut ValuesView)
 // Puts what C is told of the packet's header, with the values that its block gives under the map.
 #[inline(always)]
 fn put_header(packet: &RtpPacket<'_>, map: &StoredMap, view: &mut HeaderView)
+    requires sources { length (parts_of packet.now).sources ≤ 15 }
     ensures { (values : ExtensionValues)
         × HasValues (numbered_slots map.now.kind) (parts_of packet.now).block values
         × IsViewOfHeader (header_of (parts_of packet.now) values) view.new }
@@ -74,7 +92,7 @@ fn put_header(packet: &RtpPacket<'_>, map: &StoredMap, view: &mut HeaderView)
     view.header_len = packet.header_len();
     view.timestamp = packet.timestamp();
     view.ssrc = packet.ssrc().get();
-    view.csrc_count = packet.put_csrc(&mut view.csrc) as u8;
+    view.csrc_count = put_sources(packet.csrc(), &mut view.csrc);
     view.sequence_number = packet.sequence_number();
     view.payload_type = packet.payload_type().get();
     view.marker = flag_number(packet.marker());

@@ -4,8 +4,12 @@ use Rattle.rtp_wire.specs.PartsOf.{parts_of}
 use Rattle.rtp_wire.proofs.NoHeaderLemmas.{header_there}
 use Rattle.rtp_c.specs.StoredMap.{numbered_slots}
 use Rattle.rtp_c.proofs.NumberedLemmas.{HasKinds-numbered}
+use Rattle.rtp_c.proofs.HeaderViewLemmas.{few_sources}
 use Rattle.rtp_c.proofs.HeaderStatusLemmas.{HasNoHeader-status}
 use Rattle.rtp_c.proofs.header.rtpw_parse.Goals as goal
+
+pub put_header-requires : goal.put_header-requires
+put_header-requires c = record { sources = few_sources c.args.buf.now _ c.in-Ok.ensures.found }
 
 pub returns-in-Ok-clause-found : goal.returns-in-Ok-clause-found
 returns-in-Ok-clause-found c _ =

@@ -8,9 +8,13 @@ use Rattle.rtp_c.specs.HeaderView.{BeginsWithHeader}
 use Rattle.rtp_c.specs.LayersView.{IsViewOfLayers}
 use Rattle.rtp_c.specs.StoredMap.{numbered_slots}
 use Rattle.rtp_c.proofs.NumberedLemmas.{HasKinds-numbered}
+use Rattle.rtp_c.proofs.HeaderViewLemmas.{few_sources}
 use Rattle.rtp_c.proofs.HeaderStatusLemmas.{HasNoHeader-status}
 use Rattle.rtp_c.proofs.header.rtpw_parse_layers.Goals as goal
 use Rattle.rtp_c.proofs.header.rtpw_parse_layers.Goals.{After-put_header}
+
+pub put_header-requires : goal.put_header-requires
+put_header-requires c = record { sources = few_sources c.args.buf.now _ c.in-Ok.ensures.found }
 
 -- the header that was told
 begins : (c : After-put_header) → BeginsWithHeader c.args.map.now.kind c.args.buf.now (header_of (parts_of c.in-Ok.packet) c.put_header.ensures.0)
