@@ -1,7 +1,6 @@
 -- A packet in a buffer that gets padding: its bytes, and what they say.
 use Rattle.std.proofs.Common.{◌≡◌, ℕ, zero, suc, ◌+◌, ◌-◌, ◌*◌, ◌/◌, ◌%◌, ◌<◌, ◌≤◌, true, List, [], ◌∷◌, ◌++◌, length, take, drop, inl, inr, refl, sym, ap, subst, ◌∙◌, arith, append_assoc, length-append, length-take-le, take_at, drop_at}
 use Rattle.std.specs.Prelude.{slice_index, replicate}
-use Rattle.std.specs.List.{concat}
 use Rattle.std.proofs.lemmas.Bool.{cases_lt}
 use Rattle.std.proofs.lemmas.List.{length-replicate}
 use Rattle.rtp_base.specs.Overwriting.{overwritten}
@@ -14,7 +13,7 @@ use Rattle.rtp_wire.proofs.FlagLemmas.{bit-once}
 use Rattle.rtp_wire.proofs.HeaderFound.{HasHeader, IsWhole-header}
 use Rattle.rtp_wire.proofs.PacketLemmas.{bit-is_set, IsPacket-whole, whole_and_parts}
 use Rattle.rtp_wire.proofs.PartsLemmas.{length-packet}
-use Rattle.rtp_wire.proofs.PaddingChanges.{HasPadding, parts-padding, HasHeader-padding}
+use Rattle.rtp_wire.proofs.PaddingChanges.{HasPadding, parts-padding, HasHeader-padding, IsPacket-longer}
 
 -- the bit alone
 first-set : (bytes : List ℕ) → slice_index bytes 0 / 64 ≡ 2 → 1 ≤ length bytes → HasPadding (slice_index bytes 0) (slice_index (with_padding_bit bytes) 0) true
@@ -53,29 +52,6 @@ IsPacket-set bytes fits is =
     let new = HasHeader-padding bytes (with_padding_bit bytes) true (only-first bytes) has (header_end bytes) (form_in bytes) header in
     subst (λ (parts : PacketParts). IsPacket (with_padding_bit bytes) parts) (parts-padding bytes (with_padding_bit bytes) true (only-first bytes) has)
     (IsPacket-whole (with_padding_bit bytes) (omega (arith, fits, second-stays bytes)) (IsWhole-header (with_padding_bit bytes) (header_end bytes) (form_in bytes) new))
-
--- bytes behind a packet are behind its payload
-IsPacket-longer : (bytes more : List ℕ) (parts : PacketParts) → IsPacket bytes parts → IsPacket (bytes ++ more) (record parts { payload = parts.payload ++ more })
-IsPacket-longer bytes more parts is = record {
-  fixed = is.fixed;
-  groups = is.groups;
-  part = is.part;
-  in_order =
-      ap (λ (xs : List ℕ). xs ++ more) is.in_order
-      ∙ append_assoc is.fixed (concat is.groups ++ (is.part ++ parts.payload)) more
-      ∙ ap (λ (xs : List ℕ). is.fixed ++ xs) (append_assoc (concat is.groups) (is.part ++ parts.payload) more)
-      ∙ ap (λ (xs : List ℕ). is.fixed ++ (concat is.groups ++ xs)) (append_assoc is.part parts.payload more);
-  fixed_is = record {
-    twelve = is.fixed_is.twelve;
-    first_is = is.fixed_is.first_is;
-    second_is = is.fixed_is.second_is;
-    number_is = is.fixed_is.number_is;
-    timestamp_is = is.fixed_is.timestamp_is;
-    ssrc_is = is.fixed_is.ssrc_is;
-  };
-  sources_are = is.sources_are;
-  part_is = is.part_is;
-}
 
 length-padding : (n : ℕ) → length (padding_bytes (suc n)) ≡ suc n
 length-padding n = length-append (replicate (suc n - 1) 0) (suc n ∷ []) ∙ omega (arith, length-replicate {A = ℕ} (suc n - 1) 0)

@@ -1,5 +1,5 @@
 -- Bytes that are changed between two offsets, while all before and after them stay.
-use Rattle.std.proofs.Common.{◌≡◌, ℕ, ◌+◌, ◌-◌, ◌<◌, ◌≤◌, List, [], ◌∷◌, ◌++◌, length, take, drop, refl, sym, ap, ◌∙◌, arith, subst, Option, Some, append_assoc, length-append, length-drop, length-take-le, take_at, drop_at, add-zero}
+use Rattle.std.proofs.Common.{◌≡◌, ℕ, ◌+◌, ◌-◌, ◌<◌, ◌≤◌, List, [], ◌∷◌, ◌++◌, length, take, drop, refl, sym, ap, ◌∙◌, arith, subst, Option, None, Some, append_assoc, length-append, length-drop, length-take-le, take_at, drop_at, add-zero}
 use Rattle.std.specs.Prelude.{slice_index, slice_range}
 use Rattle.std.specs.Option.{IfSome}
 use Rattle.std.proofs.lemmas.List.{drop-drop, take-take, take-append-le, get_or-take, get_or-drop}
@@ -7,7 +7,9 @@ use Rattle.std.proofs.lemmas.Slice.{take-put_mid_below, drop-put_mid}
 use borrow.Rule.Slice.PartMut.{put_mid}
 use Rattle.rtp_base.specs.Overwriting.{overwritten}
 use Rattle.rtp_base.proofs.OverwritingLemmas.{length-overwritten}
+use Rattle.rtp_wire.specs.declared.packet.fields.Fields.{Fields}
 use Rattle.rtp_wire.specs.ChangedPacket.{ChangesOnly}
+use Rattle.rtp_wire.specs.GivenFields.{LieBetween}
 use Rattle.rtp_wire.proofs.BlockLemmas.{slice_range-take}
 
 -- bytes after those that were put
@@ -94,3 +96,18 @@ pub ChangesOnly-given : {T : Type 0} (asked : Option T) (value : T) (start end s
     → IfSome asked (λ _. (start ≤ s) × (e ≤ end)) → ChangesOnly s e middle last → ChangesOnly start end first last
 ChangesOnly-given asked value start end s e first middle last is before within after =
     ChangesOnly-then start end s e first middle last before (subst (λ (given : Option _). IfSome given (λ _. (start ≤ s) × (e ≤ end))) is within) after
+
+-- what holds anyway
+pub if_some : {X : Type 0} (o : Option X) (P : Type 0) → P → IfSome o (λ _. P)
+if_some None P holds = tt
+if_some (Some x) P holds = holds
+
+-- the fields lie in the fixed part, after its first byte
+pub in_fixed_part : (fields : Fields) → LieBetween fields 1 12
+in_fixed_part fields = record {
+  marker_lies = if_some fields.marker _ (omega arith, omega arith);
+  payload_type_lies = if_some fields.payload_type _ (omega arith, omega arith);
+  sequence_number_lies = if_some fields.sequence_number _ (omega arith, omega arith);
+  timestamp_lies = if_some fields.timestamp _ (omega arith, omega arith);
+  ssrc_lies = if_some fields.ssrc _ (omega arith, omega arith);
+}

@@ -9,15 +9,16 @@ use Rattle.rtp_values.specs.declared.value.values.ExtensionValues.{ExtensionValu
 use Rattle.rtp_ext.specs.Elements.{Element, AreElements}
 use Rattle.rtp_ext.specs.ExtensionMap.{Slots}
 use Rattle.rtp_ext.specs.BlockValues.{SaysValues}
+use Rattle.rtp_wire.specs.declared.packet.rtp_packet.RtpPacket.{RtpPacket}
 use Rattle.rtp_wire.specs.declared.packet.rtp_packet_mut.RtpPacketMut.{RtpPacketMut}
 use Rattle.rtp_wire.specs.NotAHeader.{sources_end}
 use Rattle.rtp_wire.specs.Packet.{PacketParts, IsPacket}
 use Rattle.rtp_wire.specs.PartsAt.{HasLayout, form_in, profile_in, other_in, header_end, parts_at}
-use Rattle.rtp_wire.specs.PartsOf.{parts_in}
+use Rattle.rtp_wire.specs.PartsOf.{parts_of, parts_in}
 use Rattle.rtp_wire.specs.PacketElements.{AreElementsOf, HasValues}
 use Rattle.rtp_wire.specs.ChangedPacket.{ChangesBlock, ChangesOnly, ChangesOnlyBody}
 use Rattle.rtp_wire.proofs.PacketLemmas.{whole_and_parts}
-use Rattle.rtp_wire.proofs.HeaderFound.{HasHeader, HasHeader-packet_mut}
+use Rattle.rtp_wire.proofs.HeaderFound.{HasHeader, HasHeader-packet, HasHeader-packet_mut}
 use Rattle.rtp_wire.proofs.PartsLemmas.{has_block-form, body_within, block-header}
 use Rattle.rtp_wire.proofs.BytesBetween.{ChangesOnly-part}
 use Rattle.rtp_wire.proofs.PacketChanges.{block_by, HasHeader-stays, stays-in_body}
@@ -58,6 +59,12 @@ HasLayout-header bytes header_len form is header =
       len_is = omega (arith, length-drop (header_end bytes) bytes);
     }
 
+-- and the bytes that a packet was read from
+pub HasLayout-read : (packet : RtpPacket) (bytes : List ℕ) → packet.datagram.now ≡ bytes → IsPacket bytes (parts_of packet) → HasLayout bytes packet.header_len packet.form
+HasLayout-read packet bytes same is =
+    HasLayout-header bytes packet.header_len packet.form (subst (λ (b : List ℕ). IsPacket bytes (parts_at b)) same is)
+    (subst (λ (b : List ℕ). HasHeader b packet.header_len packet.form) same (HasHeader-packet packet))
+
 -- without a form there is no block, and without a block there are no elements
 pub no_block : (packet : RtpPacketMut) → packet.form ≡ None → (parts_in packet).block ≡ None
 no_block packet none =
@@ -65,10 +72,6 @@ no_block packet none =
     ∙ ap (option_map {U = ExtensionsForm × List ℕ} (λ f. (f, slice_range packet.datagram.now (sources_end packet.datagram.now + 4) packet.header_len))) none
 
 -- what is said of a block, and of a packet without one
-pub if_some : (block : Option (ExtensionsForm × List ℕ)) (P : Type 0) → P → IfSome block (λ _. P)
-if_some None P holds = tt
-if_some (Some block) P holds = holds
-
 pub if_none : {X : Type 0} (block : Option X) (P : X → Type 0) → block ≡ None → IfSome block P
 if_none None P none = tt
 if_none (Some block) P none = absurd cc

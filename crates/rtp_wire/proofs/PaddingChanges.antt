@@ -161,45 +161,14 @@ pub unpadded_front : (has_padding : Bool) (payload front : List ℕ) → IsWitho
 unpadded_front false payload front is = ([], sym is ∙ sym (append-nil front))
 unpadded_front true payload front is = (is.padding, is.in_order)
 
--- a packet with a shorter payload is the front of its bytes
-pub IsPacket-front : (bytes : List ℕ) (parts : PacketParts) (payload padding : List ℕ) (len : ℕ) → IsPacket bytes parts → parts.payload ≡ payload ++ padding
-    → len + length padding ≡ length bytes → IsPacket (take len bytes) (record parts { payload = payload })
-IsPacket-front bytes parts payload padding len is payload-is len-is =
-    let front = is.fixed ++ (concat is.groups ++ (is.part ++ payload)) in
-    let split : bytes ≡ front ++ padding =
-    is.in_order ∙ ap (λ (xs : List ℕ). is.fixed ++ (concat is.groups ++ (is.part ++ xs))) payload-is
-    ∙ ap (λ (xs : List ℕ). is.fixed ++ (concat is.groups ++ xs)) (sym (append_assoc is.part payload padding))
-    ∙ ap (λ (xs : List ℕ). is.fixed ++ xs) (sym (append_assoc (concat is.groups) (is.part ++ payload) padding))
-    ∙ sym (append_assoc is.fixed (concat is.groups ++ (is.part ++ payload)) padding) in
-    let long : length front ≡ len = omega (arith, ap length split, length-append front padding, len-is) in
-    record {
-      fixed = is.fixed;
-      groups = is.groups;
-      part = is.part;
-      in_order = ap (take len) split ∙ take_at front padding len long;
-      fixed_is = record {
-        twelve = is.fixed_is.twelve;
-        first_is = is.fixed_is.first_is;
-        second_is = is.fixed_is.second_is;
-        number_is = is.fixed_is.number_is;
-        timestamp_is = is.fixed_is.timestamp_is;
-        ssrc_is = is.fixed_is.ssrc_is;
-      };
-      sources_are = is.sources_are;
-      part_is = is.part_is;
-    }
-
--- and so is one with a payload in place of none
-pub IsPacket-behind : (header payload : List ℕ) (parts : PacketParts) → IsPacket header (record parts { payload = [] }) → IsPacket (header ++ payload) (record parts { payload = payload })
-IsPacket-behind header payload parts is = record {
+-- the same header with another payload behind it
+IsPacket-payload : (bytes new payload : List ℕ) (parts : PacketParts) → (is : IsPacket bytes parts) → new ≡ is.fixed ++ (concat is.groups ++ (is.part ++ payload))
+    → IsPacket new (record parts { payload = payload })
+IsPacket-payload bytes new payload parts is in_order = record {
   fixed = is.fixed;
   groups = is.groups;
   part = is.part;
-  in_order =
-      ap (λ (xs : List ℕ). xs ++ payload) is.in_order
-      ∙ append_assoc is.fixed (concat is.groups ++ (is.part ++ [])) payload
-      ∙ ap (λ (xs : List ℕ). is.fixed ++ xs) (append_assoc (concat is.groups) (is.part ++ []) payload)
-      ∙ ap (λ (xs : List ℕ). is.fixed ++ (concat is.groups ++ (xs ++ payload))) (append-nil is.part);
+  in_order = in_order;
   fixed_is = record {
     twelve = is.fixed_is.twelve;
     first_is = is.fixed_is.first_is;
@@ -212,7 +181,30 @@ IsPacket-behind header payload parts is = record {
   part_is = is.part_is;
 }
 
-second_fits : (bytes : List ℕ) (parts : PacketParts) → IsPacket bytes parts → slice_index bytes 1 < 256
+-- bytes behind the payload
+behind_payload : (fixed groups part payload more : List ℕ) → (fixed ++ (groups ++ (part ++ payload))) ++ more ≡ fixed ++ (groups ++ (part ++ (payload ++ more)))
+behind_payload fixed groups part payload more =
+    append_assoc fixed (groups ++ (part ++ payload)) more
+    ∙ ap (λ (xs : List ℕ). fixed ++ xs) (append_assoc groups (part ++ payload) more)
+    ∙ ap (λ (xs : List ℕ). fixed ++ (groups ++ xs)) (append_assoc part payload more)
+
+-- a packet with a shorter payload is the front of its bytes
+pub IsPacket-front : (bytes : List ℕ) (parts : PacketParts) (payload padding : List ℕ) (len : ℕ) → IsPacket bytes parts → parts.payload ≡ payload ++ padding
+    → len + length padding ≡ length bytes → IsPacket (take len bytes) (record parts { payload = payload })
+IsPacket-front bytes parts payload padding len is payload-is len-is =
+    let front = is.fixed ++ (concat is.groups ++ (is.part ++ payload)) in
+    let split : bytes ≡ front ++ padding =
+    is.in_order ∙ ap (λ (xs : List ℕ). is.fixed ++ (concat is.groups ++ (is.part ++ xs))) payload-is ∙ sym (behind_payload is.fixed (concat is.groups) is.part payload padding) in
+    let long : length front ≡ len = omega (arith, ap length split, length-append front padding, len-is) in
+    IsPacket-payload bytes (take len bytes) payload parts is (ap (take len) split ∙ take_at front padding len long)
+
+-- and bytes behind a packet are behind its payload
+pub IsPacket-longer : (bytes more : List ℕ) (parts : PacketParts) → IsPacket bytes parts → IsPacket (bytes ++ more) (record parts { payload = parts.payload ++ more })
+IsPacket-longer bytes more parts is =
+    IsPacket-payload bytes (bytes ++ more) (parts.payload ++ more) parts is
+    (ap (λ (xs : List ℕ). xs ++ more) is.in_order ∙ behind_payload is.fixed (concat is.groups) is.part parts.payload more)
+
+pub second_fits : (bytes : List ℕ) (parts : PacketParts) → IsPacket bytes parts → slice_index bytes 1 < 256
 second_fits bytes parts is =
     let fixed : take 12 bytes ≡ is.fixed = ap (take 12) is.in_order ∙ take_at is.fixed _ 12 is.fixed_is.twelve in
     let second : slice_index bytes 1 ≡ slice_index is.fixed 1 = sym (get_or-take 12 bytes 1 0 (omega arith)) ∙ ap (λ (xs : List ℕ). slice_index xs 1) fixed in

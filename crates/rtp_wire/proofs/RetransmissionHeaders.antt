@@ -1,6 +1,6 @@
 -- A header that gets new ids and fields, and whether its block can carry the ids.
 use Rattle.std.proofs.Common.{◌≡◌, ℕ, ◌<◌, Bool, true, false, List, [], ◌++◌, length, take, drop, Option, Some, None, IfSome, All, ◌↔◌, refl, sym, ap, subst, ◌∙◌, arith, Fits, w8}
-use Rattle.std.specs.Prelude.{slice_index}
+use Rattle.std.specs.Prelude.{slice_index, ◌+◌, slice_range}
 use Rattle.std.specs.Option.{IfNone}
 use Rattle.std.specs.List.{concat}
 use Rattle.std.proofs.lemmas.List.{take-append-drop}
@@ -15,22 +15,18 @@ use Rattle.rtp_ext.proofs.ValuesFound.{AreBytes-front, AreBytes-back}
 use Rattle.rtp_wire.specs.declared.packet.fields.Fields.{Fields}
 use Rattle.rtp_wire.specs.declared.packet.retransmission.Layout.{Layout}
 use Rattle.rtp_wire.specs.declared.packet.rtp_packet_mut.RtpPacketMut.{RtpPacketMut}
-use Rattle.rtp_wire.specs.ChangedPacket.{ChangesBlock}
-use Rattle.rtp_wire.specs.GivenFields.{with_header_fields}
+use Rattle.rtp_wire.specs.ChangedPacket.{ChangesBlock, ChangesOnly, ChangesOnlyBody}
+use Rattle.rtp_wire.specs.GivenFields.{with_header_fields, LieBetween}
 use Rattle.rtp_wire.specs.Packet.{PacketParts, IsAnnouncedBlock, IsPacket}
 use Rattle.rtp_wire.specs.PacketElements.{AreElementsOf}
 use Rattle.rtp_wire.specs.PartsAt.{parts_at}
 use Rattle.rtp_wire.specs.PartsOf.{parts_in}
-use Rattle.rtp_wire.specs.Retransmission.{IsBlockUnder, IsPacketWith, HasHighId}
+use Rattle.rtp_wire.specs.Retransmission.{IsBlockUnder, IsPacketWith, HasHighId, KeepsBlockHeader}
 use Rattle.rtp_wire.specs.RetransmissionParts.{IsChangedHeader}
 use Rattle.rtp_wire.proofs.HeaderFound.{HasHeader-packet_mut, IsWhole-header}
 use Rattle.rtp_wire.proofs.PacketLemmas.{one_packet, IsPacket-whole}
-use Rattle.std.specs.Prelude.{◌+◌, slice_range}
 use Rattle.rtp_wire.specs.NotAHeader.{sources_end}
-use Rattle.rtp_wire.specs.ChangedPacket.{ChangesOnly, ChangesOnlyBody}
-use Rattle.rtp_wire.specs.GivenFields.{LieBetween}
-use Rattle.rtp_wire.specs.Retransmission.{KeepsBlockHeader}
-use Rattle.rtp_wire.proofs.BytesBetween.{range_after}
+use Rattle.rtp_wire.proofs.BytesBetween.{range_after, in_fixed_part}
 use Rattle.rtp_wire.proofs.BlockLemmas.{slice_range-take}
 
 -- ---- the elements
@@ -130,20 +126,6 @@ high-told ids told block bytes parts all is same tells not_all =
       are_elements = found.1;
       high = λ carried. false≢true (sym not_all ∙ (answer found.1).1 carried);
     }
-
--- the fields lie in the fixed part, after its first byte
-some_any : {X : Type 0} (o : Option X) (P : Type 0) → P → IfSome o (λ _. P)
-some_any None P holds = tt
-some_any (Some x) P holds = holds
-
-in_fixed_part : (fields : Fields) → LieBetween fields 1 12
-in_fixed_part fields = record {
-  marker_lies = some_any fields.marker _ (omega arith, omega arith);
-  payload_type_lies = some_any fields.payload_type _ (omega arith, omega arith);
-  sequence_number_lies = some_any fields.sequence_number _ (omega arith, omega arith);
-  timestamp_lies = some_any fields.timestamp _ (omega arith, omega arith);
-  ssrc_lies = some_any fields.ssrc _ (omega arith, omega arith);
-}
 
 -- the four bytes before the body stay, call by call
 pub KeepsBlockHeader-made : (fields : Fields) (old first second third last new : List ℕ) → first ≡ old → ChangesOnlyBody first second → ChangesOnly 0 1 second third

@@ -13,22 +13,20 @@ use Rattle.rtp_wire.specs.declared.packet.retransmission.OriginalFields.{Origina
 use Rattle.rtp_wire.specs.GivenFields.{with_header_fields}
 use Rattle.rtp_wire.specs.OriginalNumber.{HasOriginalNumber}
 use Rattle.rtp_wire.specs.Packet.{PacketParts, IsPacket, IsWithoutPadding, header_len_of}
-use Rattle.rtp_wire.specs.Retransmission.{IsBlockUnder, IsRetransmissionOf, IsOriginalOf, IsRestored, IsPacketWith, Becomes}
+use Rattle.rtp_wire.specs.Retransmission.{IsBlockUnder, IsRetransmissionOf, IsOriginalOf, IsRestored, IsPacketWith, Becomes, Sends, Restores}
 use Rattle.rtp_wire.specs.RetransmissionParts.{IsLaidOut, IsChangedHeader}
 use Rattle.rtp_wire.proofs.PacketLemmas.{one_packet, same_parts}
-use Rattle.rtp_wire.proofs.PaddingChanges.{IsPacket-behind}
-use Rattle.rtp_wire.proofs.RetransmissionBytes.{moved_on, moved_back, in_row, header_front, header_alone_in}
+use Rattle.rtp_wire.proofs.PaddingChanges.{IsPacket-longer}
+use Rattle.rtp_wire.proofs.RetransmissionBytes.{moved_on, moved_back, in_row, header_front, header_alone_in, lie_within, KeepsBlockHeader-front}
 use Rattle.rtp_wire.proofs.RetransmissionCauses.{length-unpadded}
 use Rattle.rtp_wire.proofs.RetransmissionHeaders.{IsChangedFront, given_fields}
-use Rattle.rtp_wire.specs.Retransmission.{KeepsBlockHeader}
-use Rattle.rtp_wire.proofs.RetransmissionBytes.{KeepsBlockHeader-front}
 
 module _ (ids : ℕ → Option ℕ) (buf : List ℕ) (len : ℕ) (layout : Layout) (is : IsLaidOut buf len layout) where
   -- the header after the change, with a payload
   pub IsPacket-changed : (fields : Fields) (header payload : List ℕ) → (changed : IsPacketWith (IsChangedHeader ids fields (record is.parts { payload = [] })) header)
       → IsPacket (header ++ payload) (record (with_header_fields fields (record is.parts { has_padding = false; block = changed.parts.block })) { payload = payload })
   IsPacket-changed fields header payload changed =
-      IsPacket-behind header payload (record (with_header_fields fields (record is.parts { has_padding = false; block = changed.parts.block })) { payload = payload })
+      IsPacket-longer header payload (with_header_fields fields (record is.parts { has_padding = false; block = changed.parts.block; payload = [] }))
       (subst (IsPacket header) changed.fact.parts_are changed.is_packet)
 
   -- the header with these fields, and its length
@@ -47,16 +45,20 @@ module _ (ids : ℕ → Option ℕ) (buf : List ℕ) (len : ℕ) (layout : Layou
         front.length_is ∙ ap length bytes ∙ row.header_is,
       )
 
-  -- the buffer with a retransmission in front
-  pub record IsSent (stream : RetransmissionFields) (new : List ℕ) : Type 0 where
-    pub sent : Becomes (λ original. IsRetransmissionOf original stream ids) (take len buf) (take (layout.end + 2) new)
-    pub behind : drop (layout.end + 2) new ≡ drop (layout.end + 2) buf
-    pub kept : KeepsBlockHeader buf new
+  -- the length of the packet without its padding
+  pub end_of : (parts : PacketParts) (payload : List ℕ) → IsPacket (take len buf) parts → IsWithoutPadding parts.has_padding parts.payload payload
+      → header_len_of parts + length payload ≡ layout.end
+  end_of parts payload found without =
+      let same : is.parts ≡ parts = sym (one_packet (take len buf) is.parts is.is_packet) ∙ one_packet (take len buf) parts found in
+      let mine : IsWithoutPadding is.parts.has_padding is.parts.payload payload =
+      subst (λ (p : PacketParts). IsWithoutPadding p.has_padding p.payload payload) (sym same) without in
+      omega (arith, is.end_is, ap header_len_of same, length-unpadded is.parts.has_padding is.parts.payload payload is.payload mine is.payload_is)
 
+  -- the buffer with a retransmission in front
   pub sent_made : (stream : RetransmissionFields) (fields : Fields) (header moved number new : List ℕ) → fields ≡ given_fields stream.payload_type stream.sequence_number stream.ssrc
       → IsChangedFront ids buf layout fields header → layout.end + 2 ≤ length buf
       → moved ≡ copy_within (header ++ drop layout.header_len buf) layout.header_len layout.end (layout.header_len + 2)
-      → new ≡ overwritten moved layout.header_len number → number ≡ to_be_bytes w16 layout.sequence_number → IsSent stream new
+      → new ≡ overwritten moved layout.header_len number → number ≡ to_be_bytes w16 layout.sequence_number → Sends stream ids buf len new (layout.end + 2)
   sent_made stream fields header moved number new given front room moved_is new_is number_is =
       let row = in_row buf len layout is in
       let tail = is.payload ++ row.rest in
@@ -79,7 +81,7 @@ module _ (ids : ℕ → Option ℕ) (buf : List ℕ) (len : ℕ) (layout : Layou
       ∙ drop_at (row.header ++ is.payload) row.rest layout.end (omega (arith, length-append row.header is.payload, row.header_is, row.end_is)) in
       let parts : PacketParts = record is.parts { has_padding = false; payload_type = stream.payload_type; sequence_number = stream.sequence_number; ssrc = stream.ssrc; block = made.0; payload = to_be_bytes w16 is.parts.sequence_number ++ is.payload } in
       record {
-        sent = record {
+        becomes = record {
           parts = is.parts;
           is_packet = is.is_packet;
           fact = record {
@@ -88,23 +90,20 @@ module _ (ids : ℕ → Option ℕ) (buf : List ℕ) (len : ℕ) (layout : Layou
             fact = record { payload = is.payload; payload_is = is.payload_is; block_is = made.1; parts_are = refl };
           };
         };
-        behind =
+        length_is = λ original payload found without. omega (arith, end_of original payload found without);
+        within = room;
+        behind_is =
             ap (drop (layout.end + 2)) whole ∙ drop_at (header ++ (to_be_bytes w16 is.parts.sequence_number ++ is.payload)) (drop 2 row.rest) (layout.end + 2) size
             ∙ sym (ap (λ (k : ℕ). drop k buf) (omega arith) ∙ sym (drop-drop 2 layout.end buf) ∙ ap (drop 2) old_rest);
-        kept = KeepsBlockHeader-front buf len layout header new is
+        block_header_is = KeepsBlockHeader-front buf len layout header new is
             (ap (take layout.header_len) (whole ∙ append_assoc header (to_be_bytes w16 is.parts.sequence_number ++ is.payload) (drop 2 row.rest))
             ∙ take_at header ((to_be_bytes w16 is.parts.sequence_number ++ is.payload) ++ drop 2 row.rest) layout.header_len long) front.kept;
       }
 
   -- the buffer with the packet in front
-  pub record IsBack (stream : OriginalFields) (new : List ℕ) : Type 0 where
-    pub restored : Becomes (λ sent. IsOriginalOf sent stream ids) (take len buf) (take (layout.end - 2) new)
-    pub behind : drop (layout.end - 2) new ≡ drop (layout.end - 2) buf
-    pub kept : KeepsBlockHeader buf new
-
   pub restored_made : (stream : OriginalFields) (fields : Fields) (number : ℕ) (header new : List ℕ) → fields ≡ given_fields stream.payload_type number stream.ssrc
       → IsChangedFront ids buf layout fields header → HasOriginalNumber is.payload number
-      → new ≡ copy_within (header ++ drop layout.header_len buf) (layout.header_len + 2) layout.end layout.header_len → IsBack stream new
+      → new ≡ copy_within (header ++ drop layout.header_len buf) (layout.header_len + 2) layout.end layout.header_len → Restores stream ids buf len new (layout.end - 2)
   restored_made stream fields number header new given front has new_is =
       let row = in_row buf len layout is in
       let two : length (take 2 is.payload) ≡ 2 = length-take-le 2 is.payload has.long in
@@ -127,7 +126,7 @@ module _ (ids : ℕ → Option ℕ) (buf : List ℕ) (len : ℕ) (layout : Layou
       ∙ drop-drop (layout.end - 2 - layout.header_len) layout.header_len buf ∙ ap (λ (k : ℕ). drop k buf) (omega arith ∙ past) in
       let parts : PacketParts = record is.parts { has_padding = false; payload_type = stream.payload_type; sequence_number = number; ssrc = stream.ssrc; block = made.0; payload = rest } in
       record {
-        restored = record {
+        becomes = record {
           parts = is.parts;
           is_packet = is.is_packet;
           fact = record {
@@ -136,20 +135,13 @@ module _ (ids : ℕ → Option ℕ) (buf : List ℕ) (len : ℕ) (layout : Layou
             fact = record { payload = is.payload; payload_is = is.payload_is; number_is = has; block_is = made.1; parts_are = refl };
           };
         };
-        behind = ap (drop (layout.end - 2)) whole ∙ moved.behind_is ∙ same_rest;
-        kept = KeepsBlockHeader-front buf len layout header new is
+        length_is = λ sent payload found without. omega (arith, end, end_of sent payload found without);
+        within = let fits = lie_within buf len layout is in omega (arith, fits.end_within);
+        behind_is = ap (drop (layout.end - 2)) whole ∙ moved.behind_is ∙ same_rest;
+        block_header_is = KeepsBlockHeader-front buf len layout header new is
             (sym (take-take layout.header_len (layout.end - 2) new (omega (arith, end))) ∙ ap (take layout.header_len) (ap (take (layout.end - 2)) whole ∙ moved.front_is)
             ∙ take_at header rest layout.header_len made.3) front.kept;
       }
-
-  -- the length of the packet without its padding
-  pub end_of : (parts : PacketParts) (payload : List ℕ) → IsPacket (take len buf) parts → IsWithoutPadding parts.has_padding parts.payload payload
-      → header_len_of parts + length payload ≡ layout.end
-  end_of parts payload found without =
-      let same : is.parts ≡ parts = sym (one_packet (take len buf) is.parts is.is_packet) ∙ one_packet (take len buf) parts found in
-      let mine : IsWithoutPadding is.parts.has_padding is.parts.payload payload =
-      subst (λ (p : PacketParts). IsWithoutPadding p.has_padding p.payload payload) (sym same) without in
-      omega (arith, is.end_is, ap header_len_of same, length-unpadded is.parts.has_padding is.parts.payload payload is.payload mine is.payload_is)
 
 -- ---- there and back
 

@@ -3,7 +3,7 @@
 -- |                         RTP header                            |
 -- |            OSN                |                               |
 -- |                     original payload                          |
-use Rattle.std.specs.Prelude.{◌≡◌, ℕ, ◌+◌, ◌<◌, List, ◌++◌, length, take, drop, slice_range, Option, Some, None, IfSome, true, false, All}
+use Rattle.std.specs.Prelude.{◌≡◌, ℕ, ◌+◌, ◌<◌, ◌≤◌, List, ◌++◌, length, take, drop, slice_range, Option, Some, None, IfSome, true, false, All}
 use Rattle.std.specs.Int.{w16, to_be_bytes}
 use Rattle.rtp_ext.specs.declared.form.ExtensionsForm.{ExtensionsForm}
 use Rattle.rtp_ext.specs.Elements.{Element}
@@ -82,6 +82,22 @@ pub record IsPacketWith (Fact : PacketParts → Type 0) (bytes : List ℕ) : Typ
 -- the bytes were a packet, and these are a packet that it has become
 abbrev pub Becomes : (PacketParts → PacketParts → Type 0) → List ℕ → List ℕ → Type 0
 Becomes Change old new = IsPacketWith (λ was. IsPacketWith (Change was) new) old
+
+-- the packet in the first bytes of a buffer, so many of them, has become its retransmission, which has two bytes more than the packet without its padding; the bytes behind it stay
+pub record Sends (stream : RetransmissionFields) (ids : ℕ → Option ℕ) (old : List ℕ) (len : ℕ) (new : List ℕ) (end : ℕ) : Type 0 where
+  pub becomes : Becomes (λ original. IsRetransmissionOf original stream ids) (take len old) (take end new)
+  pub length_is : (original : PacketParts) (payload : List ℕ) → IsPacket (take len old) original → IsWithoutPadding original.has_padding original.payload payload → end ≡ header_len_of original + 2 + length payload
+  pub block_header_is : KeepsBlockHeader old new
+  pub within : end ≤ length old
+  pub behind_is : drop end new ≡ drop end old
+
+-- the retransmission in the first bytes of a buffer, so many of them, has become the packet that it repeats, which has two bytes fewer than the retransmission without its padding; the bytes behind it stay
+pub record Restores (stream : OriginalFields) (ids : ℕ → Option ℕ) (old : List ℕ) (len : ℕ) (new : List ℕ) (end : ℕ) : Type 0 where
+  pub becomes : Becomes (λ sent. IsOriginalOf sent stream ids) (take len old) (take end new)
+  pub length_is : (sent : PacketParts) (payload : List ℕ) → IsPacket (take len old) sent → IsWithoutPadding sent.has_padding sent.payload payload → end + 2 ≡ header_len_of sent + length payload
+  pub block_header_is : KeepsBlockHeader old new
+  pub within : end ≤ length old
+  pub behind_is : drop end new ≡ drop end old
 
 -- the padding counts more bytes than the payload has
 abbrev pub HasLongPadding : PacketParts → Type 0

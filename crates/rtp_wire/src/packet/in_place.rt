@@ -4,73 +4,79 @@ ghost use Rattle.std.specs.Prelude.{◌≡◌, ◌↔◌, ◌<◌, ◌≤◌, le
 ghost use Rattle.std.specs.Bool.{OnTrue, OnFalse};
 ghost use Rattle.rtp_wire.specs.ChangedPacket.{ChangesOnly, HasUnpadded};
 ghost use Rattle.rtp_wire.specs.InPlace.{SetsFields, SetsElement, RemovesElement, RenumbersElements, RemovesPadding};
-ghost use Rattle.rtp_wire.specs.NotAHeader.{IsNoPacket};
 ghost use Rattle.rtp_wire.specs.Padding.{padding_count};
 ghost use Rattle.rtp_wire.specs.PartsAt.{HasLayout};
 
-use super::{Fields, RtpPacket, RtpPacketBuf, RtpPacketMut};
+use super::{Fields, RtpPacketBuf, RtpPacketMut};
 use rtp_ext::{ExtensionsForm, NewIds};
 
-// The length of a packet's header, and the form of its block where it is one of the two.
-fn layout(datagram: &[u8]) -> (usize, Option<ExtensionsForm>)
-    requires { IsNoPacket datagram.now → ⊥ }
-    ensures { HasLayout datagram.now result.0 result.1 }
-{
-    let packet = RtpPacket::parse(datagram).unwrap();
-    (packet.header_len, packet.form)
-}
-
-// Sets the given fields of the packet of these bytes.
-fn set_fields(datagram: &mut [u8], fields: &Fields)
-    requires packet { IsNoPacket datagram.old → ⊥ }
+// Sets the given fields of the packet of these bytes, whose header has this length and whose block
+// this form.
+fn set_fields(datagram: &mut [u8], header_len: usize, form: Option<ExtensionsForm>, fields: &Fields)
+    requires held { HasLayout datagram.old header_len form }
     requires payload_type { IfSome fields.now.payload_type (λ pt. pt ≤ 127) }
     ensures set { SetsFields fields.now datagram.old datagram.new }
-    ensures packet { IsNoPacket datagram.new → ⊥ }
+    ensures held { HasLayout datagram.new header_len form }
 {
-    let (header_len, form) = layout(datagram);
     let mut packet = RtpPacketMut::new(datagram, header_len, form);
     packet.set_fields(fields);
 }
 
-// Sets the last element of this id in the packet of these bytes.
-fn set_element(datagram: &mut [u8], id: u8, data: &[u8]) -> bool
-    requires { IsNoPacket datagram.old → ⊥ }
+// Sets the last element of this id in such a packet.
+fn set_element(
+    datagram: &mut [u8],
+    header_len: usize,
+    form: Option<ExtensionsForm>,
+    id: u8,
+    data: &[u8],
+) -> bool
+    requires { HasLayout datagram.old header_len form }
     ensures set { SetsElement id «data».now result datagram.old datagram.new }
-    ensures packet { IsNoPacket datagram.new → ⊥ }
+    ensures held { HasLayout datagram.new header_len form }
 {
-    let (header_len, form) = layout(datagram);
     let mut packet = RtpPacketMut::new(datagram, header_len, form);
     packet.set_element(id, data)
 }
 
-// Removes each element of this id from the packet of these bytes.
-fn remove_element(datagram: &mut [u8], id: u8) -> bool
-    requires { IsNoPacket datagram.old → ⊥ }
+// Removes each element of this id from such a packet.
+fn remove_element(
+    datagram: &mut [u8],
+    header_len: usize,
+    form: Option<ExtensionsForm>,
+    id: u8,
+) -> bool
+    requires { HasLayout datagram.old header_len form }
     ensures removed { RemovesElement id result datagram.old datagram.new }
-    ensures packet { IsNoPacket datagram.new → ⊥ }
+    ensures held { HasLayout datagram.new header_len form }
 {
-    let (header_len, form) = layout(datagram);
     let mut packet = RtpPacketMut::new(datagram, header_len, form);
     packet.remove_element(id)
 }
 
-// Gives the elements of the packet of these bytes their new ids.
-fn renumber(datagram: &mut [u8], ids: &NewIds) -> bool
-    requires { IsNoPacket datagram.old → ⊥ }
+// Gives the elements of such a packet their new ids.
+fn renumber(
+    datagram: &mut [u8],
+    header_len: usize,
+    form: Option<ExtensionsForm>,
+    ids: &NewIds,
+) -> bool
+    requires { HasLayout datagram.old header_len form }
     ensures renumbered { RenumbersElements ids.now result datagram.old datagram.new }
-    ensures packet { IsNoPacket datagram.new → ⊥ }
+    ensures held { HasLayout datagram.new header_len form }
 {
-    let (header_len, form) = layout(datagram);
     let mut packet = RtpPacketMut::new(datagram, header_len, form);
     packet.renumber(ids)
 }
 
-// Takes the padding off the packet of these bytes.
-fn remove_padding(datagram: &mut [u8]) -> Option<usize>
-    requires { IsNoPacket datagram.old → ⊥ }
+// Takes the padding off such a packet.
+fn remove_padding(
+    datagram: &mut [u8],
+    header_len: usize,
+    form: Option<ExtensionsForm>,
+) -> Option<usize>
+    requires { HasLayout datagram.old header_len form }
     ensures { RemovesPadding result datagram.old datagram.new }
 {
-    let (header_len, form) = layout(datagram);
     let mut packet = RtpPacketMut::new(datagram, header_len, form);
     packet.remove_padding()
 }
@@ -89,7 +95,8 @@ impl<'a> RtpPacketBuf<'a> {
         ensures kept { KeepsLength self.old self.new }
         ensures same_buffer { (whole_of self.new).ghost_name ≡ (whole_of self.old).ghost_name }
     {
-        set_fields(&mut self.buf[..self.len], fields);
+        let datagram = &mut self.buf[..self.len];
+        set_fields(datagram, self.header_len, self.form, fields);
     }
 
     /// Gives the last element of this id these data, where it has as many bytes of them, and returns
@@ -100,7 +107,8 @@ impl<'a> RtpPacketBuf<'a> {
         ensures kept { KeepsLength self.old self.new }
         ensures same_buffer { (whole_of self.new).ghost_name ≡ (whole_of self.old).ghost_name }
     {
-        set_element(&mut self.buf[..self.len], id, data)
+        let datagram = &mut self.buf[..self.len];
+        set_element(datagram, self.header_len, self.form, id, data)
     }
 
     /// Makes each element of this id padding, and returns whether there is one, as
@@ -111,7 +119,8 @@ impl<'a> RtpPacketBuf<'a> {
         ensures kept { KeepsLength self.old self.new }
         ensures same_buffer { (whole_of self.new).ghost_name ≡ (whole_of self.old).ghost_name }
     {
-        remove_element(&mut self.buf[..self.len], id)
+        let datagram = &mut self.buf[..self.len];
+        remove_element(datagram, self.header_len, self.form, id)
     }
 
     /// Gives each element its new id, and makes an element without one padding, as
@@ -123,7 +132,8 @@ impl<'a> RtpPacketBuf<'a> {
         ensures kept { KeepsLength self.old self.new }
         ensures same_buffer { (whole_of self.new).ghost_name ≡ (whole_of self.old).ghost_name }
     {
-        renumber(&mut self.buf[..self.len], ids)
+        let datagram = &mut self.buf[..self.len];
+        renumber(datagram, self.header_len, self.form, ids)
     }
 
     /// Takes the padding off, and clears P; where P is clear nothing changes (RFC 3550, 5.1).
@@ -143,7 +153,8 @@ impl<'a> RtpPacketBuf<'a> {
         ensures unchanged { OnFalse result (StaysWhole self.old self.new) }
         ensures same_buffer { (whole_of self.new).ghost_name ≡ (whole_of self.old).ghost_name }
     {
-        let Some(len) = remove_padding(&mut self.buf[..self.len]) else {
+        let datagram = &mut self.buf[..self.len];
+        let Some(len) = remove_padding(datagram, self.header_len, self.form) else {
             return false;
         };
         self.len = len;

@@ -1,13 +1,13 @@
 //! Retransmissions, which are made of packets where these lie, and become them again (RFC 4588, 4).
 
-ghost use Rattle.std.specs.Prelude.{◌≡◌, ◌↔◌, ℕ, ◌+◌, ◌<◌, ◌≤◌, List, Option, length, take, drop, IsErr, OnErr, IfOk, IfErr, IfSome};
+ghost use Rattle.std.specs.Prelude.{◌≡◌, ◌↔◌, ℕ, ◌<◌, ◌≤◌, Option, length, take, IsErr, OnErr, IfOk, IfErr, IfSome};
 ghost use Rattle.std.specs.Bool.{OnTrue, OnFalse};
 ghost use Rattle.rtp_ext.specs.NewIds.{new_id};
-ghost use Rattle.rtp_wire.specs.Packet.{PacketParts, IsPacket, IsWithoutPadding, header_len_of};
+ghost use Rattle.rtp_wire.specs.Packet.{PacketParts, IsPacket};
 ghost use Rattle.rtp_wire.specs.PartsAt.{HasLayout};
 ghost use Rattle.rtp_wire.specs.declared.packet.not_retransmitted.NotRetransmitted.{NotRetransmitted};
 ghost use Rattle.rtp_wire.specs.declared.packet.retransmission.RetransmissionFields.{RetransmissionFields};
-ghost use Rattle.rtp_wire.specs.Retransmission.{IsRetransmissionOf, IsOriginalOf, IsRestored, IsPacketWith, Becomes, HasHighId, KeepsBlockHeader, KeepsFromSending, KeepsFromRestoring, IsFirstOf};
+ghost use Rattle.rtp_wire.specs.Retransmission.{IsRetransmissionOf, IsRestored, IsPacketWith, HasHighId, Sends, Restores, KeepsBlockHeader, KeepsFromSending, KeepsFromRestoring, IsFirstOf};
 ghost use Rattle.rtp_wire.specs.RetransmissionParts.{IsLaidOut, HasNoLayout, IsChangedHeader};
 
 use super::{Fields, NotRetransmitted, RtpPacket, RtpPacketMut};
@@ -137,16 +137,7 @@ pub fn to_retransmission(
     ids: &NewIds,
 ) -> Result<usize, NotRetransmitted>
     requires { stream.now.payload_type ≤ 127 }
-    ensures sent { IfOk result (λ end. Becomes
-        (λ original. IsRetransmissionOf original stream.now (new_id ids.now))
-        (take len buf.old) (take end buf.new)) }
-    ensures length { (original : PacketParts) (payload : List ℕ) →
-        IsPacket (take len buf.old) original →
-        IsWithoutPadding original.has_padding original.payload payload →
-        IfOk result (λ end. end ≡ header_len_of original + 2 + length payload) }
-    ensures block_header { IfOk result (λ _. KeepsBlockHeader buf.old buf.new) }
-    ensures within { IfOk result (λ end. end ≤ length buf.old) }
-    ensures behind { IfOk result (λ end. drop end buf.new ≡ drop end buf.old) }
+    ensures sent { IfOk result (Sends stream.now (new_id ids.now) buf.old len buf.new) }
     ensures cause { IfErr result (IsFirstOf (KeepsFromSending (new_id ids.now) buf.old len)) }
     ensures refused { IsErr result
         ↔ ((cause : NotRetransmitted) × KeepsFromSending (new_id ids.now) buf.old len cause) }
@@ -197,15 +188,7 @@ pub fn from_retransmission(
     ids: &NewIds,
 ) -> Result<usize, NotRetransmitted>
     requires { stream.now.payload_type ≤ 127 }
-    ensures restored { IfOk result (λ end. Becomes
-        (λ sent. IsOriginalOf sent stream.now (new_id ids.now))
-        (take len buf.old) (take end buf.new)) }
-    ensures length { (sent : PacketParts) (payload : List ℕ) → IsPacket (take len buf.old) sent →
-        IsWithoutPadding sent.has_padding sent.payload payload →
-        IfOk result (λ end. end + 2 ≡ header_len_of sent + length payload) }
-    ensures block_header { IfOk result (λ _. KeepsBlockHeader buf.old buf.new) }
-    ensures within { IfOk result (λ end. end ≤ length buf.old) }
-    ensures behind { IfOk result (λ end. drop end buf.new ≡ drop end buf.old) }
+    ensures restored { IfOk result (Restores stream.now (new_id ids.now) buf.old len buf.new) }
     ensures cause { IfErr result (IsFirstOf (KeepsFromRestoring (new_id ids.now) buf.old len)) }
     ensures refused { IsErr result
         ↔ ((cause : NotRetransmitted) × KeepsFromRestoring (new_id ids.now) buf.old len cause) }

@@ -1,21 +1,21 @@
 //! The packet in a buffer that it may grow in.
 
-ghost use Rattle.std.specs.Prelude.{◌≡◌, ◌↔◌, ℕ, ◌+◌, ◌<◌, ◌≤◌, List, Option, length, take, drop, IsErr, IfOk, IfErr, OnOk, OnErr};
+ghost use Rattle.std.specs.Prelude.{◌≡◌, ◌↔◌, ℕ, ◌/◌, ◌<◌, ◌≤◌, Option, length, take, drop, slice_index, IsErr, IfOk, IfErr, OnOk, OnErr};
 ghost use Rattle.rtp_ext.specs.NewIds.{new_id};
 ghost use Rattle.rtp_wire.specs.declared.packet.not_put.NotPut.{NotPut};
 ghost use Rattle.rtp_wire.specs.declared.packet.not_in_buffer.NotInBuffer.{NotInBuffer};
 ghost use Rattle.rtp_wire.specs.declared.packet.not_retransmitted.NotRetransmitted.{NotRetransmitted};
 ghost use Rattle.rtp_wire.specs.declared.packet.retransmission.RetransmissionFields.{RetransmissionFields};
-ghost use Rattle.rtp_wire.specs.NotAHeader.{IsNoPacket};
-ghost use Rattle.rtp_wire.specs.Packet.{PacketParts, IsPacket, IsWithoutPadding, header_len_of};
+ghost use Rattle.rtp_wire.specs.Packet.{PacketParts, IsPacket};
+ghost use Rattle.rtp_wire.specs.PartsAt.{form_in, header_end};
 ghost use Rattle.rtp_wire.specs.PutIntoPacket.{PutsElement, AppliesToPut, IsFirstNotPut, Compacts};
-ghost use Rattle.rtp_wire.specs.Retransmission.{IsRetransmissionOf, IsOriginalOf, IsRestored, IsPacketWith, Becomes, KeepsBlockHeader, KeepsFromSending, KeepsFromRestoring, IsFirstOf};
+ghost use Rattle.rtp_wire.specs.Retransmission.{IsRetransmissionOf, IsRestored, IsPacketWith, Sends, Restores, KeepsFromSending, KeepsFromRestoring, IsFirstOf};
 
 use super::{
     NotInBuffer, NotPut, NotRetransmitted, OriginalFields, RetransmissionFields, RtpPacket,
     compact, from_retransmission, put_element, to_retransmission,
 };
-use rtp_ext::{ExtensionsForm, NewIds};
+use rtp_ext::{ExtensionsForm, NewIds, form_to_put};
 
 /// An RTP packet in the first bytes of a buffer, into whose other bytes it may grow (RFC 3550, 5.1;
 /// RFC 8285, 4). Each call that changes the length of the packet keeps count of it; one that is
@@ -25,8 +25,17 @@ pub struct RtpPacketBuf<'a> {
     pub(super) buf: &'a mut [u8],
     // How many of its first bytes are the packet.
     pub(super) len: usize,
-    ghost within: { len ≤ length buf.now },
-    ghost held: { IsNoPacket (take len buf.now) → ⊥ },
+    // How many bytes the header takes.
+    pub(super) header_len: usize,
+    // The form of the block, where it is one of the two.
+    pub(super) form: Option<ExtensionsForm>,
+    ghost room: { len ≤ length buf.now },
+    ghost fixed: { 12 ≤ length (take len buf.now) },
+    ghost version: { slice_index (take len buf.now) 0 / 64 ≡ 2 },
+    ghost second: { slice_index (take len buf.now) 1 < 256 },
+    ghost announced: { form ≡ form_in (take len buf.now) },
+    ghost ends: { header_len ≡ header_end (take len buf.now) },
+    ghost within: { header_len ≤ length (take len buf.now) },
 }
 
 impl<'a> RtpPacketBuf<'a> {
@@ -47,8 +56,15 @@ impl<'a> RtpPacketBuf<'a> {
         if len > buf.len() {
             return Err(NotInBuffer::CutPacket);
         }
-        RtpPacket::parse(&buf[..len])?;
-        Ok(RtpPacketBuf { buf, len })
+        let packet = RtpPacket::parse(&buf[..len])?;
+        let header_len = packet.header_len;
+        let form = packet.form;
+        Ok(RtpPacketBuf {
+            buf,
+            len,
+            header_len,
+            form,
+        })
     }
 
     /// The packet as it stands in the buffer.
@@ -57,7 +73,7 @@ impl<'a> RtpPacketBuf<'a> {
         ensures bytes { datagram_of result ≡ bytes_of self.now }
         ensures is_packet { IsPacket (bytes_of self.now) (parts_within self.now) }
     {
-        RtpPacket::parse(self.as_bytes()).unwrap()
+        RtpPacket::new(self.as_bytes(), self.header_len, self.form)
     }
 
     /// The bytes of the packet, to be sent, say.
@@ -88,7 +104,12 @@ impl<'a> RtpPacketBuf<'a> {
         ensures same_buffer { result.ghost_name ≡ (whole_of self.entry).ghost_name }
         ensures same_bytes { result.now ≡ (whole_of self.entry).now }
     {
-        let RtpPacketBuf { buf, len: _ } = self;
+        let RtpPacketBuf {
+            buf,
+            len: _,
+            header_len: _,
+            form: _,
+        } = self;
         buf
     }
 
@@ -117,7 +138,11 @@ impl<'a> RtpPacketBuf<'a> {
         ensures unchanged { OnErr result (StaysWhole self.old self.new) }
         ensures same_buffer { (whole_of self.new).ghost_name ≡ (whole_of self.old).ghost_name }
     {
-        self.len = put_element(self.buf, self.len, id, data, allowed)?;
+        let form = form_to_put(self.form, allowed, id, data);
+        let len = put_element(self.buf, self.len, id, data, allowed)?;
+        self.header_len += len - self.len;
+        self.form = form;
+        self.len = len;
         Ok(())
     }
 
@@ -134,7 +159,9 @@ impl<'a> RtpPacketBuf<'a> {
             ≡ drop (len_of self.old) (whole_of self.old).now }
         ensures same_buffer { (whole_of self.new).ghost_name ≡ (whole_of self.old).ghost_name }
     {
-        self.len = compact(&mut self.buf[..self.len]).unwrap();
+        let len = compact(&mut self.buf[..self.len]).unwrap();
+        self.header_len -= self.len - len;
+        self.len = len;
     }
 
     /// Makes the packet a retransmission, whose payload is the original sequence number and the
@@ -150,17 +177,8 @@ impl<'a> RtpPacketBuf<'a> {
         ids: &NewIds,
     ) -> Result<(), NotRetransmitted>
         requires { stream.now.payload_type ≤ 127 }
-        ensures sent { OnOk result (Becomes
-            (λ original. IsRetransmissionOf original stream.now (new_id ids.now))
-            (bytes_of self.old) (bytes_of self.new)) }
-        ensures length { (original : PacketParts) (payload : List ℕ) →
-            IsPacket (bytes_of self.old) original →
-            IsWithoutPadding original.has_padding original.payload payload →
-            OnOk result (len_of self.new ≡ header_len_of original + 2 + length payload) }
-        ensures block_header { OnOk result
-            (KeepsBlockHeader (whole_of self.old).now (whole_of self.new).now) }
-        ensures behind { OnOk result (drop (len_of self.new) (whole_of self.new).now
-            ≡ drop (len_of self.new) (whole_of self.old).now) }
+        ensures sent { OnOk result (Sends stream.now (new_id ids.now)
+            (whole_of self.old).now (len_of self.old) (whole_of self.new).now (len_of self.new)) }
         ensures cause { IfErr result (IsFirstOf
             (KeepsFromSending (new_id ids.now) (whole_of self.old).now (len_of self.old))) }
         ensures refused { IsErr result ↔ ((cause : NotRetransmitted)
@@ -184,17 +202,8 @@ impl<'a> RtpPacketBuf<'a> {
         ids: &NewIds,
     ) -> Result<(), NotRetransmitted>
         requires { stream.now.payload_type ≤ 127 }
-        ensures restored { OnOk result (Becomes
-            (λ sent. IsOriginalOf sent stream.now (new_id ids.now))
-            (bytes_of self.old) (bytes_of self.new)) }
-        ensures length { (sent : PacketParts) (payload : List ℕ) →
-            IsPacket (bytes_of self.old) sent →
-            IsWithoutPadding sent.has_padding sent.payload payload →
-            OnOk result (len_of self.new + 2 ≡ header_len_of sent + length payload) }
-        ensures block_header { OnOk result
-            (KeepsBlockHeader (whole_of self.old).now (whole_of self.new).now) }
-        ensures behind { OnOk result (drop (len_of self.new) (whole_of self.new).now
-            ≡ drop (len_of self.new) (whole_of self.old).now) }
+        ensures restored { OnOk result (Restores stream.now (new_id ids.now)
+            (whole_of self.old).now (len_of self.old) (whole_of self.new).now (len_of self.new)) }
         ensures cause { IfErr result (IsFirstOf
             (KeepsFromRestoring (new_id ids.now) (whole_of self.old).now (len_of self.old))) }
         ensures refused { IsErr result ↔ ((cause : NotRetransmitted)

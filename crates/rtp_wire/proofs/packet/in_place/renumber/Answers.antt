@@ -1,12 +1,12 @@
-use Rattle.std.proofs.Common.{rules}
+use Rattle.std.proofs.Common.{rules, arith}
 use Rattle.rtp_wire.specs.InPlace.{RenumbersElements}
-use Rattle.rtp_wire.proofs.PacketBufLemmas.{moved, held-mut}
+use Rattle.rtp_wire.proofs.PacketBufLemmas.{moved, HasLayout-stays}
+use Rattle.rtp_wire.proofs.PacketChanges.{stays-in_body}
 use Rattle.rtp_wire.proofs.packet.in_place.renumber.Goals as goal
 
 pub returns-clause-renumbered : goal.returns-clause-renumbered
 returns-clause-renumbered c =
-    moved (RenumbersElements c.args.ids.now c.renumber.result) c.new-packet.result.datagram.now c.renumber.new.self.datagram.now _ _ c.new-packet.ensures.same_bytes (search rules)
-    (record {
+    moved (RenumbersElements c.args.ids.now c.renumber.result) c.new-packet.result.datagram.now c.renumber.new.self.datagram.now _ _ c.new-packet.ensures.same_bytes (search rules) (record {
       renumbers = c.renumber.ensures.renumbered;
       unchanged = c.renumber.ensures.unchanged;
       only_body = c.renumber.ensures.bytes;
@@ -16,5 +16,7 @@ returns-clause-renumbered c =
       values = c.renumber.ensures.values;
     })
 
-pub returns-clause-packet : goal.returns-clause-packet
-returns-clause-packet c = held-mut c.renumber.new.self _ (search rules)
+pub returns-clause-held : goal.returns-clause-held
+returns-clause-held c =
+    HasLayout-stays c.new-packet.result.datagram.now c.renumber.new.self.datagram.now _ _ _ _ c.new-packet.ensures.same_bytes (search rules) c.requires
+    (stays-in_body _ _ c.renumber.ensures.bytes) (omega (arith, c.type_inv.datagram 1))

@@ -1,12 +1,12 @@
-use Rattle.std.proofs.Common.{rules}
+use Rattle.std.proofs.Common.{rules, arith}
 use Rattle.rtp_wire.specs.InPlace.{SetsElement}
-use Rattle.rtp_wire.proofs.PacketBufLemmas.{moved, held-mut}
+use Rattle.rtp_wire.proofs.PacketBufLemmas.{moved, HasLayout-stays}
+use Rattle.rtp_wire.proofs.PacketChanges.{stays-in_body}
 use Rattle.rtp_wire.proofs.packet.in_place.set_element.Goals as goal
 
 pub returns-clause-set : goal.returns-clause-set
 returns-clause-set c =
-    moved (SetsElement c.args.id c.args.data.now c.set_element.result) c.new-packet.result.datagram.now c.set_element.new.self.datagram.now _ _ c.new-packet.ensures.same_bytes (search rules)
-    (record {
+    moved (SetsElement c.args.id c.args.data.now c.set_element.result) c.new-packet.result.datagram.now c.set_element.new.self.datagram.now _ _ c.new-packet.ensures.same_bytes (search rules) (record {
       set = c.set_element.ensures.set;
       written = c.set_element.ensures.written;
       unchanged = c.set_element.ensures.unchanged;
@@ -16,5 +16,7 @@ returns-clause-set c =
       values = c.set_element.ensures.values;
     })
 
-pub returns-clause-packet : goal.returns-clause-packet
-returns-clause-packet c = held-mut c.set_element.new.self _ (search rules)
+pub returns-clause-held : goal.returns-clause-held
+returns-clause-held c =
+    HasLayout-stays c.new-packet.result.datagram.now c.set_element.new.self.datagram.now _ _ _ _ c.new-packet.ensures.same_bytes (search rules) c.requires
+    (stays-in_body _ _ c.set_element.ensures.bytes) (omega (arith, c.type_inv.datagram 1))

@@ -5,10 +5,11 @@ use Rattle.rtp_ext.specs.NewIds.{new_id}
 use Rattle.rtp_wire.specs.declared.packet.fields.Fields.{Fields}
 use Rattle.rtp_wire.specs.declared.packet.not_retransmitted.NotRetransmitted.TheVariants.{NewIdTooHigh}
 use Rattle.rtp_wire.specs.OriginalNumber.{HasOriginalNumber}
+use Rattle.rtp_wire.specs.Retransmission.{Restores}
 use Rattle.rtp_wire.proofs.RetransmissionBytes.{lie_within, HasLayout-front, payload_part}
 use Rattle.rtp_wire.proofs.RetransmissionCauses.{HasHighId-whole, no_high_id-whole, restoring_unread, restoring_no_number, restoring_high, restoring_not_kept}
 use Rattle.rtp_wire.proofs.RetransmissionHeaders.{fields-given}
-use Rattle.rtp_wire.proofs.RetransmissionLemmas.{IsBack, restored_made, end_of, restored_back}
+use Rattle.rtp_wire.proofs.RetransmissionLemmas.{restored_made, restored_back}
 use Rattle.rtp_wire.proofs.packet.retransmission.from_retransmission.Goals as goal
 use Rattle.rtp_wire.proofs.packet.retransmission.from_retransmission.Goals.{After-read_original_sequence_number, After-copy_within}
 
@@ -78,7 +79,7 @@ returns-then-not-change_header-clause-refused c = (λ _. (NewIdTooHigh, (returns
 
 -- the buffer has the packet in front
 made : (c : After-copy_within) → HasOriginalNumber c.in_ok-layout.ensures.found.payload c.read_original_sequence_number.new.seq
-    → IsBack (new_id c.args.ids.now) c.args.buf.now c.args.len c.in_ok-layout.layout c.in_ok-layout.ensures.found c.args.stream.now c.copy_within.new.self
+    → Restores c.args.stream.now (new_id c.args.ids.now) c.args.buf.now c.args.len c.copy_within.new.self (c.in_ok-layout.layout.end - 2)
 made c has =
     let stream = c.args.stream.now in
     let number = c.read_original_sequence_number.new.seq in
@@ -97,23 +98,7 @@ made c has =
 pub returns-clause-restored : goal.returns-clause-restored
 returns-clause-restored c =
     let at = goal.at.returns-clause-restored c in
-    (made at.After-copy_within (numbered at.After-read_original_sequence_number c.if-read_original_sequence_number-eq0.false)).restored
-
-pub returns-clause-length : goal.returns-clause-length
-returns-clause-length c sent payload is without =
-    let found = c.in_ok-layout.ensures.found in
-    let enough = long (goal.at.returns-clause-length c).After-read_original_sequence_number c.if-read_original_sequence_number-eq0.false in
-    omega (arith, end_of (new_id c.args.ids.now) _ _ _ found sent payload is without, found.end_is, enough)
-
-pub returns-clause-behind : goal.returns-clause-behind
-returns-clause-behind c =
-    let at = goal.at.returns-clause-behind c in
-    (made at.After-copy_within (numbered at.After-read_original_sequence_number c.if-read_original_sequence_number-eq0.false)).behind
-
-pub returns-clause-block_header : goal.returns-clause-block_header
-returns-clause-block_header c =
-    let at = goal.at.returns-clause-block_header c in
-    (made at.After-copy_within (numbered at.After-read_original_sequence_number c.if-read_original_sequence_number-eq0.false)).kept
+    made at.After-copy_within (numbered at.After-read_original_sequence_number c.if-read_original_sequence_number-eq0.false)
 
 pub returns-clause-refused : goal.returns-clause-refused
 returns-clause-refused c = (
@@ -128,4 +113,4 @@ pub returns-clause-undone : goal.returns-clause-undone
 returns-clause-undone c original sent fields there fits went is =
     let at = goal.at.returns-clause-undone c in
     restored_back original sent fields c.args.stream.now there (new_id c.args.ids.now) (take c.args.len c.args.buf.now) _ fits went is
-    (made at.After-copy_within (numbered at.After-read_original_sequence_number c.if-read_original_sequence_number-eq0.false)).restored
+    (made at.After-copy_within (numbered at.After-read_original_sequence_number c.if-read_original_sequence_number-eq0.false)).becomes

@@ -7,9 +7,8 @@ use Rattle.rtp_wire.specs.declared.packet.not_retransmitted.NotRetransmitted.The
 use Rattle.rtp_wire.proofs.RetransmissionBytes.{lie_within, HasLayout-front}
 use Rattle.rtp_wire.proofs.RetransmissionCauses.{HasHighId-whole, no_high_id-whole, sending_unread, sending_high, sending_no_room, sending_not_kept}
 use Rattle.rtp_wire.proofs.RetransmissionHeaders.{fields-given}
-use Rattle.rtp_wire.proofs.RetransmissionLemmas.{IsSent, sent_made, end_of}
+use Rattle.rtp_wire.proofs.RetransmissionLemmas.{sent_made}
 use Rattle.rtp_wire.proofs.packet.retransmission.to_retransmission.Goals as goal
-use Rattle.rtp_wire.proofs.packet.retransmission.to_retransmission.Goals.{After-put}
 
 pub returns-in_err-layout-clause-cause : goal.returns-in_err-layout-clause-cause
 returns-in_err-layout-clause-cause c =
@@ -65,9 +64,8 @@ returns-then-not-change_header-clause-cause c =
 pub returns-then-not-change_header-clause-refused : goal.returns-then-not-change_header-clause-refused
 returns-then-not-change_header-clause-refused c = (λ _. (NewIdTooHigh, (returns-then-not-change_header-clause-cause c).applies), λ _. refl)
 
--- the buffer has the retransmission in front
-made : (c : After-put) → IsSent (new_id c.args.ids.now) c.args.buf.now c.args.len c.in_ok-layout.layout c.in_ok-layout.ensures.found c.args.stream.now c.put.new.buf
-made c =
+pub returns-clause-sent : goal.returns-clause-sent
+returns-clause-sent c =
     let stream = c.args.stream.now in
     let others = c.default.ensures in
     let fields : Fields = record {
@@ -81,19 +79,6 @@ made c =
     (fields-given fields stream.payload_type stream.sequence_number stream.ssrc others.0 refl refl others.1.1.1.0 refl)
     (record { changed = c.if-not-change_header.ensures.changed; length_is = c.change_header.auto.header; kept = c.if-not-change_header.ensures.block_header })
     (omega arith) c.copy_within.ensures.after c.put.ensures.written c.to_be_bytes.ensures
-
-pub returns-clause-sent : goal.returns-clause-sent
-returns-clause-sent c = (made (goal.at.returns-clause-sent c).After-put).sent
-
-pub returns-clause-length : goal.returns-clause-length
-returns-clause-length c original payload is without =
-    omega (arith, end_of (new_id c.args.ids.now) _ _ _ c.in_ok-layout.ensures.found original payload is without)
-
-pub returns-clause-behind : goal.returns-clause-behind
-returns-clause-behind c = (made (goal.at.returns-clause-behind c).After-put).behind
-
-pub returns-clause-block_header : goal.returns-clause-block_header
-returns-clause-block_header c = (made (goal.at.returns-clause-block_header c).After-put).kept
 
 pub returns-clause-refused : goal.returns-clause-refused
 returns-clause-refused c = (

@@ -1,9 +1,9 @@
-use Rattle.std.proofs.Common.{arith, refl, sym, ap, ◌∙◌, ◌++◌, ℕ, take, drop, length-drop}
+use Rattle.std.proofs.Common.{arith, refl, sym, ap, ◌∙◌, [], ◌++◌, ℕ, take, drop, length-drop}
 use Rattle.std.proofs.lemmas.List.{take-append-drop}
 use Rattle.rtp_wire.specs.PartsAt.{header_end, parts_at}
 use Rattle.rtp_wire.specs.PartsOf.{parts_of}
 use Rattle.rtp_wire.proofs.PartsLemmas.{IsPacket-found}
-use Rattle.rtp_wire.proofs.PaddingChanges.{IsPacket-front, IsPacket-behind}
+use Rattle.rtp_wire.proofs.PaddingChanges.{IsPacket-front, IsPacket-longer}
 use Rattle.rtp_wire.proofs.packet.rtp_packet.RtpPacket.header_bytes.Goals as goal
 
 pub returns-clause-front : goal.returns-clause-front
@@ -23,4 +23,4 @@ returns-clause-alone c =
     (omega (arith, length-drop (header_end packet.datagram.now) packet.datagram.now))
 
 pub returns-clause-sent : goal.returns-clause-sent
-returns-clause-sent c header parts is = IsPacket-behind header (parts_of c.args.self.now).payload parts is
+returns-clause-sent c header parts is = IsPacket-longer header (parts_of c.args.self.now).payload (record parts { payload = [] }) is

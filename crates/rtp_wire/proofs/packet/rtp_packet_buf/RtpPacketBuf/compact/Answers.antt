@@ -1,17 +1,35 @@
-use Rattle.std.proofs.Common.{◌≤◌, length, take, drop, arith}
+use Rattle.std.proofs.Common.{rules, ◌≤◌, length, take, drop, arith}
 use Rattle.rtp_wire.specs.PutIntoPacket.{Compacts}
 use Rattle.rtp_wire.proofs.CompactLemmas.{Compacts-front}
-use Rattle.rtp_wire.proofs.PacketBufLemmas.{IsHeld-compact}
+use Rattle.rtp_wire.specs.NotAHeader.{IsNoPacket}
+use Rattle.rtp_wire.proofs.NotAPacketLemmas.{no_packet-refused}
+use Rattle.rtp_wire.proofs.PacketBufLemmas.{held, IsKept-compact, shorter}
 use Rattle.rtp_wire.proofs.packet.rtp_packet_buf.RtpPacketBuf.compact.Goals as goal
+
+pub unwrap-len-requires : goal.unwrap-len-requires
+unwrap-len-requires c =
+    let packet = c.args.self.now in
+    let layout = held packet in
+    let refused : IsNoPacket (take packet.len packet.buf.now) → ⊥ = λ none. no_packet-refused _ layout.parts none layout.is_packet in
+    search rules
+
+pub overflow_sub-self-2 : goal.overflow_sub-self-2
+overflow_sub-self-2 c =
+    let packet = c.args.self.now in
+    let is : Compacts (take packet.len packet.buf.now) c.compact.new.datagram c.unwrap-len.result = rw c.unwrap-len.ensures at c.compact.ensures.compacted in
+    let within : c.unwrap-len.result ≤ length (take packet.len packet.buf.now) = rw c.unwrap-len.ensures at c.compact.ensures.within in
+    shorter packet c.compact.new.datagram c.unwrap-len.result (omega (arith, within, c.compact.auto.datagram)) is
 
 pub invariant_of-self : goal.invariant_of-self
 invariant_of-self c =
-    let is : Compacts (take c.args.self.now.len c.args.self.now.buf.now) c.compact.new.datagram c.unwrap-self.result = rw c.unwrap-self.ensures at c.compact.ensures.compacted in
-    let within : c.unwrap-self.result ≤ length (take c.args.self.now.len c.args.self.now.buf.now) = rw c.unwrap-self.ensures at c.compact.ensures.within in
-    IsHeld-compact _ _ (drop c.args.self.now.len c.args.self.now.buf.now) _ (omega (arith, within, c.compact.auto.datagram)) is
+    let packet = c.args.self.now in
+    let is : Compacts (take packet.len packet.buf.now) c.compact.new.datagram c.unwrap-len.result = rw c.unwrap-len.ensures at c.compact.ensures.compacted in
+    let within : c.unwrap-len.result ≤ length (take packet.len packet.buf.now) = rw c.unwrap-len.ensures at c.compact.ensures.within in
+    IsKept-compact packet c.compact.new.datagram c.unwrap-len.result (omega (arith, within, c.compact.auto.datagram)) within is
 
 pub returns-clause-compacted : goal.returns-clause-compacted
 returns-clause-compacted c =
-    let is : Compacts (take c.args.self.now.len c.args.self.now.buf.now) c.compact.new.datagram c.unwrap-self.result = rw c.unwrap-self.ensures at c.compact.ensures.compacted in
-    let within : c.unwrap-self.result ≤ length (take c.args.self.now.len c.args.self.now.buf.now) = rw c.unwrap-self.ensures at c.compact.ensures.within in
-    Compacts-front _ _ (drop c.args.self.now.len c.args.self.now.buf.now) _ (omega (arith, within, c.compact.auto.datagram)) is
+    let packet = c.args.self.now in
+    let is : Compacts (take packet.len packet.buf.now) c.compact.new.datagram c.unwrap-len.result = rw c.unwrap-len.ensures at c.compact.ensures.compacted in
+    let within : c.unwrap-len.result ≤ length (take packet.len packet.buf.now) = rw c.unwrap-len.ensures at c.compact.ensures.within in
+    Compacts-front _ _ (drop packet.len packet.buf.now) _ (omega (arith, within, c.compact.auto.datagram)) is

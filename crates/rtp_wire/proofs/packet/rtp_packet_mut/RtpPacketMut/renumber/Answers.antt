@@ -12,8 +12,8 @@ use Rattle.rtp_ext.proofs.RenumberedValuesLemmas.{AreValues-renumbered}
 use Rattle.rtp_wire.specs.NotAHeader.{sources_end}
 use Rattle.rtp_wire.specs.PartsOf.{parts_in}
 use Rattle.rtp_wire.specs.PacketElements.{AreElementsOf}
-use Rattle.rtp_wire.proofs.BytesBetween.{ChangesOnly-nothing}
-use Rattle.rtp_wire.proofs.ChangedPackets.{no_block, no_elements, if_some, if_none, if_not_none, body_in, block_in, HasValues-in, HasValues-out, AreElements-in, AreElements-out, HasHeader-body, ChangesBlock-body, between}
+use Rattle.rtp_wire.proofs.BytesBetween.{ChangesOnly-nothing, if_some}
+use Rattle.rtp_wire.proofs.ChangedPackets.{no_block, no_elements, if_none, if_not_none, body_in, block_in, HasValues-in, HasValues-out, AreElements-in, AreElements-out, HasHeader-body, ChangesBlock-body, between}
 use Rattle.rtp_wire.proofs.packet.rtp_packet_mut.RtpPacketMut.renumber.Goals as goal
 
 pub returns-in_default-clause-renumbered : goal.returns-in_default-clause-renumbered

@@ -1,0 +1,8 @@
+use Rattle.std.proofs.Common.{◌∙◌, subst, List, ℕ}
+use Rattle.rtp_wire.specs.PartsAt.{parts_at}
+use Rattle.rtp_wire.specs.Packet.{IsPacket}
+use Rattle.rtp_wire.proofs.PartsLemmas.{IsPacket-found}
+use Rattle.rtp_wire.proofs.packet.rtp_packet_buf.RtpPacketBuf.as_packet.Goals as goal
+
+pub returns-clause-is_packet : goal.returns-clause-is_packet
+returns-clause-is_packet c = subst (λ (bytes : List ℕ). IsPacket bytes (parts_at bytes)) (c.new.ensures ∙ c.as_bytes.ensures) (IsPacket-found c.new.result)
